@@ -1,0 +1,12 @@
+pub mod Ascii
+pub mod DigestOrder
+pub mod Grammar
+pub mod HexText
+pub mod KeyOrders
+pub mod MapSums
+pub mod NameGrammar
+pub mod NameTexts
+pub mod RangeTexts
+pub mod RowLemmas
+pub mod SetLemmas
+pub mod Trees

@@ -1,0 +1,12 @@
+pub mod Checksums
+pub mod Digests
+pub mod Hashing
+pub mod Keys
+pub mod NameMachine
+pub mod Names
+pub mod Outcomes
+pub mod Ranges
+pub mod Rows
+pub mod Sets
+pub mod Tenants
+pub mod Trees

@@ -1,0 +1,69 @@
+ghost use Rattle.std.specs.Prelude.{◌≡◌, ◌↔◌, IsOk, IfOk, IfErr, ℕ, List, true};
+ghost use Rattle.blob_digest.specs.Digests.{is_digest_of};
+ghost use Rattle.blob_digest.specs.Hashing.{Hashes};
+
+use crate::digest::Digest;
+use crate::running::Running;
+use std::marker::Model;
+
+/// Bytes and a digest that agree.
+#[derive(Debug, Drop)]
+pub struct Blob {
+    bytes: Vec<u8>,
+    digest: Digest,
+}
+
+impl Model for Blob {
+    ghost use Rattle.std.specs.Prelude.{List, ℕ, ◌≡◌, true};
+    ghost use Rattle.blob_digest.specs.Digests.{is_digest_of};
+
+    ghost Value = { List ℕ × List ℕ };
+
+    ghost view = { λ a. (a.digest, a.bytes.items) };
+
+    ghost invariant = { λ a. is_digest_of a.digest a.bytes.items ≡ true };
+}
+
+impl Blob {
+    /// The bytes with their digest, or the bytes back where the digest isn't theirs.
+    pub fn seal(bytes: Vec<u8>, running: Running, digest: &Digest) -> Result<Blob, Vec<u8>>
+        requires { Hashes running bytes.items }
+        ensures agrees { IsOk result ↔ (is_digest_of digest.now bytes.items ≡ true) }
+        ensures blob { IfOk result (λ b. b ≡ (digest.now, bytes.items)) }
+        ensures back { IfErr result (λ v. v.items ≡ bytes.items) }
+    {
+        let found = running.finish();
+        if *digest == found {
+            Ok(Blob {
+                bytes,
+                digest: *digest,
+            })
+        } else {
+            Err(bytes)
+        }
+    }
+
+    /// The digest.
+    pub fn digest(&self) -> Digest
+        ensures value { result ≡ self.now.0 }
+        ensures agrees { is_digest_of self.now.0 self.now.1 ≡ true }
+    {
+        self.digest
+    }
+
+    /// The bytes.
+    pub fn bytes(&self) -> &[u8]
+        ensures value { result.now ≡ self.now.1 }
+        ensures agrees { is_digest_of self.now.0 self.now.1 ≡ true }
+    {
+        self.bytes.as_slice()
+    }
+
+    /// The bytes alone.
+    pub fn into_bytes(self) -> Vec<u8>
+        ensures { result.items ≡ self.1 }
+    {
+        let Blob { bytes, digest: _ } = self;
+        bytes
+    }
+}

@@ -1,0 +1,214 @@
+ghost use Rattle.std.specs.Prelude.{◌≡◌, ◌*◌, true, ◌↔◌, ◌++◌, ◌≤◌, IsOk, IfOk, IfErr, OnOk, OnErr, ℕ, is_ok, length, drop, string_bytes, bytes_eq, codes, Some, refl};
+ghost use Rattle.hex.specs.Hex.{encode_lower};
+ghost use Rattle.std.specs.List.{list_all};
+ghost use Rattle.std.specs.Ordering.{nat_cmp};
+ghost use Rattle.std.specs.Cmp.{partial_equiv_from_equiv};
+ghost use Rattle.std.specs.Cmp.Lexicographic.{slice_cmp, bytes_decides, nat_list_eq_equiv, nat_list_cmp_total, texts_ties, texts_po};
+ghost use Rattle.std.specs.Hash.{same_Alike};
+ghost use Rattle.blob_digest.specs.Checksums.{checksum_of, text_of, value_of};
+ghost use Rattle.blob_digest.specs.Digests.{IsDigestText, is_digest_text, is_lower_hex, is_spelled};
+
+use crate::checksum::Checksum;
+use crate::refusal::Refusal;
+use std::alloc::Global;
+use std::cmp::Ordering;
+use std::hash::{Hash, Hasher};
+use std::marker::Model;
+use std::{fmt, str};
+
+/// A digest: an algorithm with a value. Contracts see its text.
+#[derive(Clone, Copy, Debug)]
+pub struct Digest {
+    checksum: Checksum,
+}
+
+impl Model for Digest {
+    ghost use Rattle.std.specs.Prelude.{List, ℕ};
+    ghost use Rattle.blob_digest.specs.Checksums.{text_of, IsChecksum, checksum_of, checksum_of-text_of};
+
+    ghost Value = { List ℕ };
+
+    ghost view = { λ a. text_of a.checksum };
+
+    ghost invariant = { λ a. IsChecksum a.checksum };
+
+    ghost inverse = { λ t. record { checksum = checksum_of t } };
+
+    ghost inverse_ok = { λ a h i. record { checksum = checksum_of-text_of a.checksum h i } };
+}
+
+/// A digit of the encoded part, which has no upper case.
+fn is_digit(c: u8) -> bool
+    ensures { result ≡ is_lower_hex c }
+{
+    matches!(c, b'0'..=b'9' | b'a'..=b'f')
+}
+
+fn all_digits(text: &[u8]) -> bool
+    ensures { result ≡ list_all is_lower_hex text.now }
+{
+    text.iter().all(|c| is_digit(*c))
+}
+
+/// Whether a text is this name and then so many digits.
+fn is_spelled_by(text: &[u8], name: &[u8], size: usize) -> bool
+    requires { (length name.now ≡ 7) × (size ≤ 128) }
+    ensures { result ≡ is_spelled name.now size text.now }
+{
+    text.len() == 7 + size && text.starts_with(name) && all_digits(&text[7..])
+}
+
+/// What stands after the name of the algorithm and the colon.
+fn encoded_part(text: &[u8]) -> &[u8]
+    requires { 7 ≤ length text.now }
+    ensures { result.now ≡ drop 7 text.now }
+{
+    &text[7..]
+}
+
+/// The bytes that digits in lower case spell.
+fn decode(encoded: &[u8], value: &mut [u8])
+    requires digits { list_all is_lower_hex encoded.now ≡ true }
+    requires size { length encoded.now ≡ 2 * length value.old }
+    ensures { encode_lower value.new ≡ encoded.now }
+{
+    match hex::decode_to_slice(encoded, value) {
+        Ok(()) => {}
+        Err(_) => unreachable!(),
+    }
+}
+
+impl Digest {
+    /// The digest that a text spells.
+    pub fn parse(text: &[u8]) -> Result<Digest, Refusal>
+        ensures accepts { IsOk result ↔ IsDigestText text.now }
+        ensures tested { is_ok result ≡ is_digest_text text.now }
+        ensures value { IfOk result (λ d. d ≡ text.now) }
+        ensures refused { IfErr result (λ e. e ≡ Refusal.DigestInvalid) }
+    {
+        if is_spelled_by(text, b"sha256:", 64) {
+            let mut value = [0u8; 32];
+            decode(encoded_part(text), &mut value);
+            return Ok(Digest::of_sha256(value));
+        }
+        Err(Refusal::DigestInvalid)
+    }
+
+    /// The digest of a value of SHA-256.
+    pub(crate) fn of_sha256(value: [u8; 32]) -> Digest
+        ensures { result ≡ codes "sha256:" ++ encode_lower value }
+    {
+        Digest {
+            checksum: Checksum::Sha256(value),
+        }
+    }
+
+    /// What the text spells.
+    fn checksum(&self) -> &Checksum
+        ensures text { text_of result.now ≡ self.now }
+        ensures whole { IsDigestText self.now }
+        ensures size { length (value_of result.now) ≡ 32 }
+    {
+        &self.checksum
+    }
+
+    /// Appends the text of the digest.
+    pub fn write(&self, alloc: Global, out: &mut String) -> Result<(), Refusal>
+        ensures whole { IsDigestText self.now }
+        ensures ok { OnOk result (string_bytes out.new ≡ string_bytes out.old ++ self.now) }
+        ensures err { OnErr result (string_bytes out.new ≡ string_bytes out.old) }
+        ensures refused { IfErr result (λ e. e ≡ Refusal.Memory) }
+    {
+        let checksum = self.checksum();
+        let encoded = hex::encode(alloc, checksum.value())?;
+        let algorithm = checksum.prefix();
+        let text = format!(in alloc; "{algorithm}{encoded}")?;
+        out.push_str(text.as_str())?;
+        Ok(())
+    }
+}
+
+/// A digest's text spells that digest.
+pub fn spelled_again(alloc: Global, digest: &Digest) -> Result<Digest, Refusal>
+    ensures same { IfOk result (λ d. d ≡ digest.now) }
+    ensures refused { IfErr result (λ e. e ≡ Refusal.Memory) }
+{
+    let mut text = String::new(alloc);
+    digest.write(alloc, &mut text)?;
+    Digest::parse(text.as_bytes())
+}
+
+impl PartialEq for Digest {
+    ghost eq = { bytes_eq };
+
+    ghost laws = { partial_equiv_from_equiv nat_list_eq_equiv };
+
+    fn eq(&self, other: &Digest) -> bool {
+        self.checksum == other.checksum
+    }
+}
+
+impl Eq for Digest {
+    ghost laws = { nat_list_eq_equiv };
+}
+
+impl PartialOrd for Digest {
+    ghost partial_cmp = { λ a b. Some (slice_cmp nat_cmp a b) };
+
+    ghost laws = { texts_po };
+
+    fn partial_cmp(&self, other: &Digest) -> Option<Ordering> {
+        Some(self.cmp(other))
+    }
+}
+
+impl Ord for Digest {
+    ghost cmp = { slice_cmp nat_cmp };
+
+    ghost total = { nat_list_cmp_total };
+
+    ghost matches_partial_cmp = { λ a b. refl };
+
+    ghost matches_eq = { texts_ties };
+
+    fn cmp(&self, other: &Digest) -> Ordering {
+        self.checksum.cmp(&other.checksum)
+    }
+}
+
+impl Hash for Digest {
+    ghost hash_input = { λ t. ⟦<Checksum as Hash>⟧.hash_input (checksum_of t) };
+
+    ghost respects_eq = { (same_Alike (λ t. ⟦<Checksum as Hash>⟧.hash_input (checksum_of t)) bytes_decides).fed };
+
+    fn hash<H: Hasher>(&self, state: &mut H) {
+        self.checksum.hash(state);
+    }
+}
+
+/// The digits of bytes, two each.
+fn encode<'b>(value: &[u8], buffer: &'b mut [u8]) -> &'b str
+    requires { length buffer.old ≡ 2 * length value.now }
+    ensures { result.now ≡ encode_lower value.now }
+{
+    match hex::encode_to_slice(value, buffer) {
+        Ok(()) => {}
+        Err(_) => unreachable!(),
+    }
+    match str::from_utf8(buffer) {
+        Ok(text) => text,
+        Err(_) => unreachable!(),
+    }
+}
+
+impl fmt::Display for Digest {
+    ghost output = { λ t. Some t };
+
+    fn fmt<W: fmt::Write>(&self, f: &mut fmt::Formatter<W>) -> fmt::Result {
+        let mut buffer = [0u8; 64];
+        let checksum = self.checksum();
+        let encoded = encode(checksum.value(), &mut buffer);
+        f.write_str(checksum.prefix())?;
+        f.write_str(encoded)
+    }
+}

@@ -1,0 +1,40 @@
+ghost use Rattle.std.specs.Prelude.{◌≡◌, ℕ, List, [], ◌++◌};
+ghost use Rattle.blob_digest.specs.Digests.{sha256_text};
+ghost use Rattle.blob_digest.specs.Hashing.{Hashes};
+
+use crate::digest::Digest;
+use sha2::{Digest as _, Sha256};
+
+/// The hash of the bytes so far.
+#[derive(Drop)]
+pub struct Running {
+    sha256: Sha256,
+}
+
+impl Running {
+    /// The hash of no bytes.
+    #[tactic(auto, unfolding(crate::specs::Hashing::Hashes))]
+    pub fn new() -> Running
+        ensures { Hashes result [] }
+    {
+        Running {
+            sha256: Sha256::new(),
+        }
+    }
+
+    /// Takes in more bytes.
+    #[tactic(auto, unfolding(crate::specs::Hashing::Hashes))]
+    pub fn update(&mut self, bytes: &[u8])
+        ensures { (before : List ℕ) → Hashes self.old before → Hashes self.new (before ++ bytes.now) }
+    {
+        self.sha256.update(bytes);
+    }
+
+    /// The digest of the bytes that were taken in.
+    #[tactic(auto, unfolding(crate::specs::Hashing::Hashes, crate::specs::Digests::sha256_text))]
+    pub fn finish(self) -> Digest
+        ensures { (bytes : List ℕ) → Hashes self bytes → result ≡ sha256_text bytes }
+    {
+        Digest::of_sha256(self.sha256.finalize())
+    }
+}
