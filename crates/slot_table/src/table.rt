@@ -1,0 +1,242 @@
+//! The slots of a store, found by scanning.
+
+ghost use Rattle.std.specs.Prelude.{◌≡◌, ◌≢◌, ◌+◌, ◌<◌, ◌≤◌, ◌^◌, length, drop, None, IfOk, IfErr, OnErr, position, true, false, ◌⊎◌};
+ghost use Rattle.std.specs.Option.{option_map};
+ghost use Rattle.blob_digest.specs.Outcomes.{Answers};
+ghost use Rattle.blob_digest.specs.declared.refusal.Refusal.TheVariants.{Memory, StoreFull};
+ghost use Rattle.slot_table.specs.Slots.{slot_of, held_at, phase_at, links_at, generation_at, free_slots, is_free, is_orphan, orphan_from, has_digest, opening, with_slot, fill, on_held, raise, lower, mark, emptied, spent, IsDistinct, IsUnlinked};
+ghost use Rattle.slot_table.specs.declared.phase.Phase.TheVariants as phase;
+
+use crate::phase::Phase;
+use crate::row::Row;
+use blob_digest::{Blob, Digest, Refusal};
+use std::alloc::Global;
+use std::marker::Model;
+use std::sync::Arc;
+
+/// The slots of a store, 1 to 65,536, each with its generation and what it holds. Contracts see
+/// the list of the slots. No digest has two slots, and a condemned blob has no links.
+///
+/// A slot is named by its number, from 0 on. Finding a slot goes over the slots; the other calls
+/// take a few steps.
+#[derive(Drop)]
+pub struct SlotTable {
+    alloc: Global,
+    rows: Vec<Row>,
+}
+
+impl Model for SlotTable {
+    ghost use Rattle.std.specs.Prelude.{List};
+    ghost use Rattle.slot_table.specs.Slots.{Slot, IsTable};
+
+    ghost Value = { List Slot };
+
+    ghost view = { λ a. a.rows.items };
+
+    ghost invariant = { λ a. IsTable a.rows.items };
+}
+
+/// Where the blob of a digest is.
+fn place_of(rows: &[Row], digest: &Digest) -> Option<usize>
+    ensures { result ≡ position (has_digest digest.now) rows.now }
+{
+    rows.iter().position(|row| row.holds(digest))
+}
+
+/// The first free slot.
+fn free_place(rows: &[Row]) -> Option<usize>
+    ensures { result ≡ position is_free rows.now }
+{
+    rows.iter().position(|row| row.is_free())
+}
+
+/// How many slots are free.
+fn free_rows(rows: &[Row]) -> usize
+    ensures { result ≡ free_slots rows.now }
+{
+    rows.iter().filter(|row| row.is_free()).count()
+}
+
+/// The first slot that holds a blob without links.
+fn orphan_place(rows: &[Row]) -> Option<usize>
+    ensures { result ≡ position is_orphan rows.now }
+{
+    rows.iter().position(|row| row.is_orphan())
+}
+
+impl SlotTable {
+    /// Makes a table of free slots, each of the first generation. It keeps the allocator for the
+    /// blobs that are placed.
+    ///
+    /// Refused with `LimitReached` outside 1 to 65,536 slots, and with `Memory` only within, where
+    /// the rows find none.
+    pub fn new(alloc: Global, slots: u32, first_generation: u32) -> Result<SlotTable, Refusal>
+        ensures answers { Answers (λ t. t) result (opening slots first_generation) }
+        ensures memory { IfErr result (λ e. e ≡ Memory → (1 ≤ slots) × (slots ≤ 65536)) }
+    {
+        if slots < 1 {
+            return Err(Refusal::LimitReached);
+        }
+        if slots > 65536 {
+            return Err(Refusal::LimitReached);
+        }
+        let mut rows = Vec::new(alloc);
+        for _ in 0..slots {
+            rows.push(Row::empty(first_generation))?;
+        }
+        Ok(SlotTable { alloc, rows })
+    }
+
+    /// The number of slots.
+    pub fn len(&self) -> u32
+        ensures value { result ≡ length self.now }
+        ensures few { length self.now ≤ 65536 }
+        ensures distinct { IsDistinct self.now }
+        ensures unlinked { IsUnlinked self.now }
+    {
+        self.rows.len() as u32
+    }
+
+    /// The slot that holds the blob of a digest. There is no second one.
+    pub fn find(&self, digest: &Digest) -> Option<u32>
+        ensures slot { result ≡ slot_of self.now digest.now }
+        ensures alone { IsDistinct self.now }
+    {
+        match place_of(&self.rows, digest) {
+            Some(slot) => Some(slot as u32),
+            None => None,
+        }
+    }
+
+    /// How many slots are free.
+    pub fn free_count(&self) -> u32
+        ensures { result ≡ free_slots self.now }
+    {
+        free_rows(&self.rows) as u32
+    }
+
+    /// What a slot is.
+    pub fn phase(&self, slot: u32) -> Phase
+        requires { slot < length self.now }
+        ensures { result ≡ phase_at self.now slot }
+    {
+        self.rows[slot as usize].phase()
+    }
+
+    /// A slot's generation: the first one plus how often the slot was freed.
+    pub fn generation(&self, slot: u32) -> u32
+        requires { slot < length self.now }
+        ensures { result ≡ generation_at self.now slot }
+    {
+        self.rows[slot as usize].generation()
+    }
+
+    /// How many links of a slot's blob are counted; 0 where the slot holds none.
+    pub fn links(&self, slot: u32) -> u32
+        requires { slot < length self.now }
+        ensures { result ≡ links_at self.now slot }
+    {
+        self.rows[slot as usize].links()
+    }
+
+    /// A slot's blob, where it holds one.
+    pub fn blob(&self, slot: u32) -> Option<&Arc<Blob, Global>>
+        requires { slot < length self.now }
+        ensures { option_map (λ b. b.now.value) result ≡ option_map (λ h. (h.digest, h.bytes)) (held_at self.now slot) }
+    {
+        self.rows[slot as usize].blob()
+    }
+
+    /// The least slot, from a slot on, that holds a blob without links, condemned ones among them.
+    /// It may be asked past the last slot.
+    pub fn orphans_from(&self, slot: u32) -> Option<u32>
+        ensures { result ≡ orphan_from self.now slot }
+    {
+        let first = slot as usize;
+        if first >= self.rows.len() {
+            return None;
+        }
+        match orphan_place(&self.rows[first..]) {
+            Some(further) => Some((first + further) as u32),
+            None => None,
+        }
+    }
+
+    /// Puts a blob into a free slot, live and without links, and answers the slot. Which free slot
+    /// it gets isn't promised.
+    ///
+    /// Refused with `StoreFull` exactly where no slot is free, and with `Memory` only where one is.
+    /// A refusal hands the blob back and changes nothing.
+    pub fn place(&mut self, blob: Blob) -> Result<u32, (Refusal, Blob)>
+        requires { slot_of self.old blob.0 ≡ None }
+        ensures free { IfOk result (λ k. phase_at self.old k ≡ phase.Free) }
+        ensures ok { IfOk result (λ k. self.new ≡ with_slot self.old k (fill blob)) }
+        ensures back { IfErr result (λ e. e.1 ≡ blob) }
+        ensures refused { IfErr result (λ e. e.0 ≢ Memory → (e.0 ≡ StoreFull) × (free_slots self.old ≡ 0)) }
+        ensures memory { IfErr result (λ e. e.0 ≡ Memory → 0 < free_slots self.old) }
+        ensures err { OnErr result (self.new ≡ self.old) }
+    {
+        let Some(slot) = free_place(&self.rows) else {
+            return Err((Refusal::StoreFull, blob));
+        };
+        match Arc::new(self.alloc, blob) {
+            Ok(blob) => {
+                self.rows[slot].fill(blob);
+                Ok(slot as u32)
+            }
+            Err(failed) => Err((Refusal::Memory, failed.value)),
+        }
+    }
+
+    /// Counts one more link of a live blob.
+    pub fn link_up(&mut self, slot: u32)
+        requires live { phase_at self.old slot ≡ phase.Live }
+        requires room { links_at self.old slot + 1 < 2 ^ 32 }
+        ensures { self.new ≡ with_slot self.old slot (on_held raise) }
+    {
+        self.rows[slot as usize].raise_links();
+    }
+
+    /// Counts one link less of a live blob.
+    pub fn link_down(&mut self, slot: u32)
+        requires live { phase_at self.old slot ≡ phase.Live }
+        requires linked { 0 < links_at self.old slot }
+        ensures { self.new ≡ with_slot self.old slot (on_held lower) }
+    {
+        self.rows[slot as usize].lower_links();
+    }
+
+    /// Condemns a live blob without links.
+    pub fn condemn(&mut self, slot: u32)
+        requires live { phase_at self.old slot ≡ phase.Live }
+        requires unlinked { links_at self.old slot ≡ 0 }
+        ensures { self.new ≡ with_slot self.old slot (on_held (mark true)) }
+    {
+        self.rows[slot as usize].mark(true);
+    }
+
+    /// Makes a condemned blob live again.
+    pub fn revive(&mut self, slot: u32)
+        requires { phase_at self.old slot ≡ phase.Condemned }
+        ensures { self.new ≡ with_slot self.old slot (on_held (mark false)) }
+    {
+        self.rows[slot as usize].mark(false);
+    }
+
+    /// Frees a condemned slot, in its next generation. The slot's share of the blob is dropped.
+    pub fn free(&mut self, slot: u32)
+        requires condemned { phase_at self.old slot ≡ phase.Condemned }
+        requires room { generation_at self.old slot + 1 < 2 ^ 32 }
+        ensures { self.new ≡ with_slot self.old slot emptied }
+    {
+        self.rows[slot as usize].free();
+    }
+
+    /// Retires a condemned slot. The slot's share of the blob is dropped.
+    pub fn retire(&mut self, slot: u32)
+        requires { phase_at self.old slot ≡ phase.Condemned }
+        ensures { self.new ≡ with_slot self.old slot spent }
+    {
+        self.rows[slot as usize].retire();
+    }
+}
