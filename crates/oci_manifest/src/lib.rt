@@ -12,3 +12,6 @@ mod manifest;
 mod references;
 
 pub use manifest::{MAX_MANIFEST, Manifest, read};
+
+#[cfg(test)]
+mod tests;
