@@ -84,9 +84,13 @@ add_new seen text = if list_any (same_text text) seen then seen else seen ++ tex
 abbrev pub once : List Text → List Text
 once texts = fold add_new [] texts
 
+-- the JSON value that bytes read as; none where they are not UTF-8, or where `serde_json` refuses the text
+abbrev pub document_of : List ℕ → Option Data
+document_of bytes = if is_utf8 bytes then read bytes else None
+
 -- the references of a manifest's bytes; none where they are no manifest
 unfoldable pub refs_of : List ℕ → Option (List Text)
-refs_of bytes = if is_utf8 bytes then option_map once (option_and_then named (read bytes)) else None
+refs_of bytes = option_map once (option_and_then named (document_of bytes))
 
 -- the most bytes of a manifest: 4 MiB
 abbrev pub max_manifest : ℕ
