@@ -38,10 +38,14 @@ pub record IsWhole (u : Upload) : Type 0 where
   pub lengths : sum u.lens.items ≡ length u.bytes.items
   pub hash : Hashes u.running u.bytes.items
 
--- a tenant's later rows have greater numbers
-abbrev pub IsRising : List Upload → Type 0
+-- a tenant's later numbers are greater
+abbrev pub IsRising : List Number → Type 0
 IsRising [] = Unit {0}
-IsRising (u ∷ rows) = AllByRecursion (λ v. v.tenant ≡ u.tenant → u.number < v.number) rows × IsRising rows
+IsRising (k ∷ keys) = AllByRecursion (λ j. j.0 ≡ k.0 → k.1 < j.1) keys × IsRising keys
+
+-- numbers are below their tenant's next
+abbrev pub AreBelow : List ℕ → List Number → Type 0
+AreBelow next keys = AllByRecursion (λ k. k.1 < slice_index next k.0) keys
 
 -- what a row adds to a tenant's sum
 abbrev pub row_share : ℕ → Upload → ℕ
@@ -52,8 +56,8 @@ pub record IsCounted (totals : List ℕ) (rows : List Upload) : Type 0 where
   pub each : (t : ℕ) → slice_index totals t ≡ sum_by (row_share t) rows
 
 pub record IsSound (next totals : List ℕ) (rows : List Upload) (closing : Option ℕ) : Type 0 where
-  pub rising : IsRising rows
-  pub below : AllByRecursion (λ u. u.number < slice_index next u.tenant) rows
+  pub rising : IsRising (map key_of rows)
+  pub below : AreBelow next (map key_of rows)
   pub whole : (i : ℕ) (d : Upload) → i < length rows → (closing ≡ Some i → ⊥) → IsWhole (slice_index_or rows i d)
   pub counted : IsCounted totals rows
   pub lengths : length totals ≡ length next

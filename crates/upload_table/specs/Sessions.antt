@@ -49,6 +49,10 @@ is_of_repo t repo e = e.0.0 == t && same_text e.1.repo repo
 abbrev pub sessions_of : Sessions → ℕ → Text → List (Number × Session)
 sessions_of sessions t repo = filter (is_of_repo t repo) (fmap.entries sessions)
 
+-- a session's number and what it has received
+abbrev pub listed : Number × Session → ℕ × ℕ
+listed e = (e.0.1, received e.1)
+
 -- ---- what is checked
 
 -- the session, where there is one and it is for this repository
