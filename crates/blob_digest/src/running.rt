@@ -30,6 +30,18 @@ impl Running {
         self.sha256.update(bytes);
     }
 
+    /// A second hash that has taken in the same bytes. It costs a copy of the state, of some hundred
+    /// bytes, however many bytes were taken in.
+    #[tactic(auto, unfolding(crate::specs::Hashing::Hashes))]
+    pub fn fork(&self) -> Running
+        ensures { (bytes : List ℕ) → Hashes self.now bytes → Hashes result bytes }
+    {
+        match self.sha256.clone() {
+            Ok(sha256) => Running { sha256 },
+            Err(_) => unreachable!(),
+        }
+    }
+
     /// The digest of the bytes that were taken in.
     #[tactic(auto, unfolding(crate::specs::Hashing::Hashes, crate::specs::Digests::sha256_text))]
     pub fn finish(self) -> Digest

@@ -1,0 +1,78 @@
+ghost use Rattle.std.specs.Prelude.{◌≡◌, ℕ, ◌+◌, ◌<◌, ◌≤◌, ◌==◌, ◌&&◌, ◌||◌, ◌^◌, length, count_by, filter, nat_le, position, sum, slice_get, slice_index, slice_index_or};
+ghost use Rattle.std.specs.Option.{option_copied};
+ghost use Rattle.std.specs.List.{find, remove};
+ghost use Rattle.blob_digest.specs.Keys.{same_text};
+ghost use Rattle.upload_table.specs.Rows.{IsCounted};
+ghost use Rattle.upload_table.specs.declared.upload.Upload.{Upload as Row};
+
+use crate::upload::{is_for, sum_of, Upload};
+use blob_digest::RepoName;
+
+/// How many sessions a tenant has.
+fn count_of(rows: &[Upload], tenant: u16) -> usize
+    ensures { result ≡ count_by (λ u. u.tenant == tenant) rows.now }
+{
+    rows.iter().filter(|u| u.tenant == tenant).count()
+}
+
+/// Where a session stands.
+pub(crate) fn place_of(rows: &[Upload], tenant: u16, number: u32) -> Option<usize>
+    ensures { result ≡ position (λ u. u.tenant == tenant && u.number == number) rows.now }
+{
+    rows.iter()
+        .position(|u| u.tenant == tenant && u.number == number)
+}
+
+/// A session.
+pub(crate) fn row_of(rows: &[Upload], tenant: u16, number: u32) -> Option<&Upload>
+    ensures { option_copied result ≡ find (λ u. u.tenant == tenant && u.number == number) rows.now }
+{
+    rows.iter()
+        .find(|u| u.tenant == tenant && u.number == number)
+}
+
+/// A repository's i-th session, in the order of the rows.
+pub(crate) fn nth_of<'r>(rows: &'r [Upload], tenant: u16, repo: &RepoName, i: usize) -> Option<&'r Upload>
+    ensures { option_copied result ≡ slice_get (filter (λ u. u.tenant == tenant && same_text u.repo repo.now) rows.now) i }
+{
+    let mut before = 0;
+    for row in rows {
+        if is_for(row, tenant, repo) {
+            if before == i {
+                return Some(row);
+            }
+            before += 1;
+        }
+    }
+    None
+}
+
+/// Whether a tenant can open no further session.
+pub(crate) fn is_spent(next: &[u64], rows: &[Upload], tenant: u16) -> bool
+    requires { tenant < length next.now }
+    ensures { result ≡ (nat_le 64 (count_by (λ u. u.tenant == tenant) rows.now) || nat_le (2 ^ 32) (slice_index next.now tenant)) }
+{
+    count_of(rows, tenant) >= 64 || next[tenant as usize] >= 0x1_0000_0000
+}
+
+/// The tenant's next number.
+pub(crate) fn number_of(next: &[u64], tenant: u16) -> u32
+    requires there { tenant < length next.now }
+    requires small { slice_index next.now tenant < 2 ^ 32 }
+    ensures { result ≡ slice_index next.now tenant }
+{
+    next[tenant as usize] as u32
+}
+
+/// Takes a row out, and its length out of its tenant's sum.
+pub(crate) fn take_out(rows: &mut Vec<Upload>, totals: &mut [u64], i: usize)
+    requires inside { i < length rows.old.items }
+    requires counted { IsCounted totals.old rows.old.items }
+    requires there { (d : Row) → (slice_index_or rows.old.items i d).tenant < length totals.old }
+    ensures rows { rows.new.items ≡ remove rows.old.items i }
+    ensures counted { IsCounted totals.new rows.new.items }
+{
+    let row = rows.remove(i);
+    let len = sum_of(row.lens.as_slice());
+    totals[row.tenant as usize] -= len;
+}
