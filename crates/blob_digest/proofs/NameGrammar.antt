@@ -1,5 +1,5 @@
 -- A machine for names, and that it takes what the grammar has.
-use Rattle.std.proofs.Common.{◌≡◌, ◌<◌, ◌≤◌, ◌+◌, ◌++◌, ◌∷◌, ◌==◌, ◌&&◌, ◌||◌, [], ◌∙◌, ◌⊎◌, inl, inr, ℕ, suc, List, Bool, true, false, ap, sym, refl, arith, length, codes, nat_le, subst}
+use Rattle.std.proofs.Common.{◌≡◌, ◌<◌, ◌++◌, ◌∷◌, ◌==◌, [], ◌∙◌, inl, inr, ℕ, List, true, false, ap, sym, refl, arith, length, codes, subst}
 use Rattle.std.proofs.lemmas.Bool.{eqb-true}
 use Rattle.std.proofs.lemmas.Bool.Decides.{nat_tests}
 use Rattle.std.proofs.lemmas.List.{length-append}

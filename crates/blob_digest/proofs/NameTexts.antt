@@ -1,5 +1,5 @@
 -- What the bytes of a name are, and where its first component ends.
-use Rattle.std.proofs.Common.{◌≡◌, ◌<◌, ◌≤◌, ◌+◌, ◌++◌, ◌∷◌, ◌==◌, ◌&&◌, [], ◌∙◌, ◌⊎◌, inl, inr, ℕ, List, Bool, true, false, cond, Option, Some, None, not, ap, sym, refl, arith, length, take, codes, nat_lt}
+use Rattle.std.proofs.Common.{◌≡◌, ◌<◌, ◌≤◌, ◌++◌, ◌∷◌, ◌==◌, ◌&&◌, [], ◌∙◌, inl, inr, ℕ, List, Bool, true, false, cond, Some, None, not, ap, sym, refl, arith, length, take, nat_lt}
 use Rattle.std.proofs.Math.Seq.{take-append_seam}
 use Rattle.std.proofs.lemmas.Bool.{and_parts, ltb-false}
 use Rattle.std.proofs.lemmas.Bool.Decides.{nat_tests}
@@ -7,10 +7,10 @@ use Rattle.std.proofs.lemmas.List.{length-take, length-take-le, take_all}
 use Rattle.std.proofs.lemmas.List.Folds.{list_all-append}
 use Rattle.std.proofs.lemmas.List.Quantifiers.{position-Some}
 use Rattle.std.proofs.lemmas.List.Sums.{position_or_len_is}
-use Rattle.std.proofs.lemmas.Str.Ascii.{IsAscii-nil, IsAscii-cons}
 use Rattle.std.specs.List.{list_all, before_first, position, position_or_len, prefix_len}
 use Rattle.std.specs.Str.{IsAscii}
-use Rattle.blob_digest.specs.Names.{IsComponent, IsPath, IsRun, IsSeparator, component, is_alnum, is_dash, joined, run, slashed, tenant_name}
+use Rattle.blob_digest.proofs.Ascii.{IsAscii-from_test}
+use Rattle.blob_digest.specs.Names.{IsComponent, IsPath, IsSeparator, component, is_alnum, is_dash, joined, run, slashed, tenant_name}
 
 -- a test that the bytes of a component pass
 record Passes (p : ℕ → Bool) : Type 0 where
@@ -62,15 +62,9 @@ small = record {
   low = refl;
 }
 
-ascii_tested : (bs : List ℕ) → list_all (λ b. nat_lt b 128) bs ≡ true → IsAscii bs
-ascii_tested [] h = IsAscii-nil
-ascii_tested (b ∷ bs) h =
-    let parts = and_parts (nat_lt b 128) (list_all (λ b. nat_lt b 128) bs) h in
-    IsAscii-cons b bs (grind (arith, nat_tests, parts.0)) (ascii_tested bs parts.1)
-
 -- a name is ASCII
 pub IsAscii-path : (text : List ℕ) → IsPath text → IsAscii text
-IsAscii-path text h = ascii_tested text (path_all (λ b. nat_lt b 128) small refl text h)
+IsAscii-path text h = IsAscii-from_test text (path_all (λ b. nat_lt b 128) small refl text h)
 
 no_slash : Passes (λ b. not (b == 47))
 no_slash = record {

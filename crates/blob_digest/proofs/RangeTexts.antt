@@ -1,13 +1,11 @@
 -- A range's text: the test for it and its grammar agree.
-use Rattle.std.proofs.Common.{◌≡◌, ◌<◌, ◌≤◌, ◌^◌, ◌+◌, ◌-◌, ◌++◌, ◌∷◌, ◌==◌, ◌&&◌, [], ◌∙◌, inl, inr, ℕ, List, Bool, true, false, cond, Option, Some, None, not, ap, sym, refl, arith, length, take, drop, nat_lt, nat_le, option_and_then, get_or, length-append, append_assoc}
+use Rattle.std.proofs.Common.{◌≡◌, ◌<◌, ◌≤◌, ◌^◌, ◌+◌, ◌++◌, ◌∷◌, ◌==◌, ◌&&◌, [], ◌∙◌, ℕ, List, Bool, true, false, cond, Option, Some, None, not, ap, sym, refl, arith, length, take, drop, nat_lt, nat_le, option_and_then, get_or, length-append, append_assoc}
 use Rattle.std.proofs.Math.Seq.{take-append_seam, drop-append_seam}
-use Rattle.std.proofs.lemmas.Bool.{and_parts, cases_Bool, lt-ltb, ltb-true, ltb-false, leb-true, le-leb, eqb-true}
+use Rattle.std.proofs.lemmas.Bool.{and_parts, lt-ltb, ltb-true, leb-true, le-leb, eqb-true}
 use Rattle.std.proofs.lemmas.Bool.Decides.{nat_tests}
-use Rattle.std.proofs.lemmas.List.{take-append-drop}
-use Rattle.std.proofs.lemmas.List.Quantifiers.{position-Some}
 use Rattle.std.proofs.lemmas.List.Sums.{AllPass-from_list_all, list_all-from_AllPass, split_at_first, passes_at_first}
 use Rattle.std.specs.Char.{is_ascii_digit}
-use Rattle.std.specs.List.{AllPass, list_all, position, position_or_len, prefix_len}
+use Rattle.std.specs.List.{list_all, position, position_or_len}
 use Rattle.std.specs.Str.Parse.{digits_value}
 use Rattle.blob_digest.specs.Ranges.{IsNumber, IsRangeText, is_digits, number_of, ordered, range_at, range_of}
 use Rattle.blob_digest.proofs.NameTexts.{prefix_seam}

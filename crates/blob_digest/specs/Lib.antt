@@ -6,6 +6,7 @@ pub mod NameMachine
 pub mod Names
 pub mod Outcomes
 pub mod Ranges
+pub mod Refusals
 pub mod Rows
 pub mod Sets
 pub mod Tenants

@@ -1,3 +1,4 @@
+//! Sealed blobs: bytes whose digest was compared with the one that was asked for.
 ghost use Rattle.std.specs.Prelude.{◌≡◌, ◌↔◌, IsOk, IfOk, IfErr, ℕ, List, true};
 ghost use Rattle.blob_digest.specs.Digests.{is_digest_of};
 ghost use Rattle.blob_digest.specs.Hashing.{Hashes};
@@ -6,7 +7,9 @@ use crate::digest::Digest;
 use crate::running::Running;
 use std::marker::Model;
 
-/// Bytes and a digest that agree.
+/// The content of a blob, with the digest that it is named by (OCI Image Specification 1.1, "Content
+/// Descriptors", "Verification"). The two agree by the type: no blob has bytes of another digest.
+/// Contracts see it as the pair of the digest's text and the bytes.
 #[derive(Debug, Drop)]
 pub struct Blob {
     bytes: Vec<u8>,
@@ -25,7 +28,8 @@ impl Model for Blob {
 }
 
 impl Blob {
-    /// The bytes with their digest, or the bytes back where the digest isn't theirs.
+    /// The bytes with their digest, or the bytes back where the digest is not theirs. The hash was
+    /// computed while the bytes came in, so the call reads none of them again, and it takes no memory.
     pub fn seal(bytes: Vec<u8>, running: Running, digest: &Digest) -> Result<Blob, Vec<u8>>
         requires { Hashes running bytes.items }
         ensures agrees { IsOk result ↔ (is_digest_of digest.now bytes.items ≡ true) }
@@ -43,7 +47,7 @@ impl Blob {
         }
     }
 
-    /// The digest.
+    /// The digest of the bytes.
     pub fn digest(&self) -> Digest
         ensures value { result ≡ self.now.0 }
         ensures agrees { is_digest_of self.now.0 self.now.1 ≡ true }
@@ -51,7 +55,7 @@ impl Blob {
         self.digest
     }
 
-    /// The bytes.
+    /// The content, in bytes.
     pub fn bytes(&self) -> &[u8]
         ensures value { result.now ≡ self.now.1 }
         ensures agrees { is_digest_of self.now.0 self.now.1 ≡ true }
@@ -59,7 +63,7 @@ impl Blob {
         self.bytes.as_slice()
     }
 
-    /// The bytes alone.
+    /// The content alone, without a copy.
     pub fn into_bytes(self) -> Vec<u8>
         ensures { result.items ≡ self.1 }
     {

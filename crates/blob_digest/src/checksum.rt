@@ -1,14 +1,17 @@
+//! What a digest holds: an algorithm of the OCI Image Specification 1.1, "Digests", "Registered
+//! algorithms", with the value that it gave.
 ghost use Rattle.std.specs.Prelude.{◌≡◌};
 ghost use Rattle.blob_digest.specs.Checksums.{prefix_of, value_of};
 
-/// An algorithm with a value.
+/// A digest function with its value.
 #[derive(Clone, Copy, Debug, PartialEq, Eq, PartialOrd, Ord, Hash)]
 pub enum Checksum {
+    /// SHA-256 (FIPS 180-4, section 6.2).
     Sha256([u8; 32]),
 }
 
 impl Checksum {
-    /// The name of the algorithm, and a colon.
+    /// The identifier of the algorithm, and a colon.
     pub fn prefix(&self) -> &'static str
         ensures { result.now ≡ prefix_of self.now }
     {
@@ -17,7 +20,7 @@ impl Checksum {
         }
     }
 
-    /// The bytes that the function gave.
+    /// The value, in bytes.
     pub fn value(&self) -> &[u8]
         ensures { result.now ≡ value_of self.now }
     {

@@ -1,4 +1,5 @@
-ghost use Rattle.std.specs.Prelude.{◌≡◌, ◌*◌, true, ◌↔◌, ◌++◌, ◌≤◌, IsOk, IfOk, IfErr, OnOk, OnErr, ℕ, is_ok, length, drop, string_bytes, bytes_eq, codes, Some, refl};
+//! Digests: the texts by which blobs and manifests are named.
+ghost use Rattle.std.specs.Prelude.{◌≡◌, ◌*◌, true, ◌↔◌, ◌++◌, ◌+◌, ◌≤◌, IsOk, IfOk, IfErr, OnOk, OnErr, ℕ, is_ok, length, take, drop, string_bytes, bytes_eq, codes, Some, refl};
 ghost use Rattle.hex.specs.Hex.{encode_lower};
 ghost use Rattle.std.specs.List.{list_all};
 ghost use Rattle.std.specs.Ordering.{nat_cmp};
@@ -10,13 +11,14 @@ ghost use Rattle.blob_digest.specs.Digests.{IsDigestText, is_digest_text, is_low
 
 use crate::checksum::Checksum;
 use crate::refusal::Refusal;
-use std::alloc::Global;
 use std::cmp::Ordering;
 use std::hash::{Hash, Hasher};
 use std::marker::Model;
 use std::{fmt, str};
 
-/// A digest: an algorithm with a value. Contracts see its text.
+/// A digest: an algorithm with a value (OCI Image Specification 1.1, "Digests"). It is a plain value
+/// of 33 bytes and takes no memory of its own. Contracts see it as its text, and digests are equal and
+/// ordered as their texts are, by bytes.
 #[derive(Clone, Copy, Debug)]
 pub struct Digest {
     checksum: Checksum,
@@ -44,6 +46,7 @@ fn is_digit(c: u8) -> bool
     matches!(c, b'0'..=b'9' | b'a'..=b'f')
 }
 
+/// Whether each byte is a digit of the encoded part.
 fn all_digits(text: &[u8]) -> bool
     ensures { result ≡ list_all is_lower_hex text.now }
 {
@@ -79,7 +82,9 @@ fn decode(encoded: &[u8], value: &mut [u8])
 }
 
 impl Digest {
-    /// The digest that a text spells.
+    /// The digest that a text spells: `sha256:` and 64 digits of `0-9a-f`, and nothing else (OCI Image
+    /// Specification 1.1, "Digests", "SHA-256"). Any other text is refused as `DigestInvalid`, one with
+    /// a digit in upper case among them. It takes no memory.
     pub fn parse(text: &[u8]) -> Result<Digest, Refusal>
         ensures accepts { IsOk result ↔ IsDigestText text.now }
         ensures tested { is_ok result ≡ is_digest_text text.now }
@@ -103,7 +108,7 @@ impl Digest {
         }
     }
 
-    /// What the text spells.
+    /// The algorithm and the value.
     fn checksum(&self) -> &Checksum
         ensures text { text_of result.now ≡ self.now }
         ensures whole { IsDigestText self.now }
@@ -112,30 +117,18 @@ impl Digest {
         &self.checksum
     }
 
-    /// Appends the text of the digest.
-    pub fn write(&self, alloc: Global, out: &mut String) -> Result<(), Refusal>
+    /// Appends the text of the digest to a text. Refused, as `Memory`, is a growth of that text, which
+    /// is then as it was.
+    pub fn write(&self, out: &mut String) -> Result<(), Refusal>
         ensures whole { IsDigestText self.now }
         ensures ok { OnOk result (string_bytes out.new ≡ string_bytes out.old ++ self.now) }
         ensures err { OnErr result (string_bytes out.new ≡ string_bytes out.old) }
         ensures refused { IfErr result (λ e. e ≡ Refusal.Memory) }
     {
-        let checksum = self.checksum();
-        let encoded = hex::encode(alloc, checksum.value())?;
-        let algorithm = checksum.prefix();
-        let text = format!(in alloc; "{algorithm}{encoded}")?;
-        out.push_str(text.as_str())?;
+        let mut buffer = [0u8; 71];
+        out.push_str(spell(self.checksum(), &mut buffer))?;
         Ok(())
     }
-}
-
-/// A digest's text spells that digest.
-pub fn spelled_again(alloc: Global, digest: &Digest) -> Result<Digest, Refusal>
-    ensures same { IfOk result (λ d. d ≡ digest.now) }
-    ensures refused { IfErr result (λ e. e ≡ Refusal.Memory) }
-{
-    let mut text = String::new(alloc);
-    digest.write(alloc, &mut text)?;
-    Digest::parse(text.as_bytes())
 }
 
 impl PartialEq for Digest {
@@ -186,29 +179,52 @@ impl Hash for Digest {
     }
 }
 
-/// The digits of bytes, two each.
-fn encode<'b>(value: &[u8], buffer: &'b mut [u8]) -> &'b str
-    requires { length buffer.old ≡ 2 * length value.now }
-    ensures { result.now ≡ encode_lower value.now }
+/// Puts the name of the algorithm and the colon at the head of a buffer.
+fn put_name(name: &str, buffer: &mut [u8])
+    requires { (length name.now ≡ 7) × (7 ≤ length buffer.old) }
+    ensures { buffer.new ≡ name.now ++ drop 7 buffer.old }
 {
-    match hex::encode_to_slice(value, buffer) {
+    buffer[..7].copy_from_slice(name.as_bytes());
+}
+
+/// Puts the digits of bytes, two each, behind the name.
+fn put_digits(value: &[u8], buffer: &mut [u8])
+    requires { length buffer.old ≡ 7 + 2 * length value.now }
+    ensures { buffer.new ≡ take 7 buffer.old ++ encode_lower value.now }
+{
+    match hex::encode_to_slice(value, &mut buffer[7..]) {
         Ok(()) => {}
         Err(_) => unreachable!(),
     }
-    match str::from_utf8(buffer) {
+}
+
+/// The text that bytes of the grammar are.
+fn ascii(text: &[u8]) -> &str
+    requires { IsDigestText text.now }
+    ensures { result.now ≡ text.now }
+{
+    match str::from_utf8(text) {
         Ok(text) => text,
         Err(_) => unreachable!(),
     }
+}
+
+/// The text of a digest, made in a buffer of its length.
+fn spell<'b>(checksum: &Checksum, buffer: &'b mut [u8]) -> &'b str
+    requires text { IsDigestText (text_of checksum.now) }
+    requires size { length buffer.old ≡ 7 + 2 * length (value_of checksum.now) }
+    ensures { result.now ≡ text_of checksum.now }
+{
+    put_name(checksum.prefix(), buffer);
+    put_digits(checksum.value(), buffer);
+    ascii(buffer)
 }
 
 impl fmt::Display for Digest {
     ghost output = { λ t. Some t };
 
     fn fmt<W: fmt::Write>(&self, f: &mut fmt::Formatter<W>) -> fmt::Result {
-        let mut buffer = [0u8; 64];
-        let checksum = self.checksum();
-        let encoded = encode(checksum.value(), &mut buffer);
-        f.write_str(checksum.prefix())?;
-        f.write_str(encoded)
+        let mut buffer = [0u8; 71];
+        f.write_str(spell(self.checksum(), &mut buffer))
     }
 }

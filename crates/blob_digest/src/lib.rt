@@ -1,9 +1,11 @@
 //! The texts and values that every layer of the store speaks of: digests, repository names, byte
 //! ranges, hashes computed piece by piece, sealed blobs, and the one enum of refusals.
 //!
-//! It stands on `sha2` for the hash, `hex` for digits and `thiserror` for the messages. It promises
-//! that a text is taken exactly where its grammar has it (OCI Distribution Specification 1.1, OCI
-//! Image Specification 1.1), and that a blob's bytes have its digest (FIPS 180-4).
+//! It stands on `sha2` for the hash and on `hex` for digits. It promises that a text is taken exactly
+//! where its grammar has it (OCI Distribution Specification 1.1, "Pulling manifests" and "Pushing a
+//! blob in chunks"; OCI Image Specification 1.1, "Digests"), that a digest's text is that of the value
+//! which the standard gives to the bytes (FIPS 180-4), however they came in, and that a sealed blob's
+//! bytes have its digest.
 #![tactic(auto)]
 
 mod blob;

@@ -1,3 +1,4 @@
+//! The byte ranges of chunks.
 ghost use Rattle.std.specs.Prelude.{ℕ, ◌↔◌, IsOk, MatchResult, ◌≡◌, ◌≤◌, ◌+◌, ◌-◌, ◌<◌, ◌^◌, IfOk, IfErr, Some, None, min, true, length, position, ◌==◌, IfSome};
 ghost use Rattle.std.specs.Char.{is_ascii_digit};
 ghost use Rattle.std.specs.List.{list_all};
@@ -11,14 +12,18 @@ use crate::refusal::Refusal;
 /// end is at most 2^63 - 1.
 #[derive(Clone, Copy, Debug, PartialEq, Eq)]
 pub struct ByteRange {
+    /// The place of the first byte, from 0.
     pub start: u64,
+    /// The place of the last byte, not before the first.
     pub end: u64,
     pub ghost ordered: { start ≤ end },
     pub ghost small: { end < 2 ^ 63 },
 }
 
+/// 2^63: each end of a range is below it.
 const LIMIT: u64 = 9_223_372_036_854_775_808;
 
+/// Whether each byte is a decimal digit.
 fn all_digits(text: &[u8]) -> bool
     ensures { result ≡ list_all is_ascii_digit text.now }
 {
@@ -84,7 +89,7 @@ fn ends(text: &[u8]) -> Option<(u64, u64)>
 impl ByteRange {
     /// The range that a text spells: one or more decimal digits, `-`, and one or more decimal
     /// digits, leading zeros allowed. Refused, as `SizeInvalid`, is any other text, a number above
-    /// 2^63 - 1, and a start past the end.
+    /// 2^63 - 1, and a start past the end. It takes no memory.
     pub fn parse(text: &[u8]) -> Result<ByteRange, Refusal>
         ensures accepts { IsOk result ↔ ((start : ℕ) × (end : ℕ) × IsRangeText text.now start end) }
         ensures value { IfOk result (λ r. IsRangeText text.now r.start r.end) }
@@ -97,7 +102,7 @@ impl ByteRange {
         }
     }
 
-    /// How many bytes the range has.
+    /// How many bytes the range has: at least 1, and at most 2^63.
     pub fn len(&self) -> u64
         ensures { result ≡ (self.now.end - self.now.start) + 1 }
     {

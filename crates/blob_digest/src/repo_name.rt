@@ -1,3 +1,4 @@
+//! Repository names.
 ghost use Rattle.std.specs.Prelude.{◌≡◌, ◌≤◌, ◌⊎◌, ◌==◌, length, position, IfOk, IfErr, Some, refl, nat_eq, bytes_eq};
 ghost use Rattle.std.specs.List.{before_first};
 ghost use Rattle.std.specs.Ordering.{nat_cmp};
@@ -62,7 +63,7 @@ fn ascii(text: &[u8]) -> &str
 
 impl RepoName {
     /// The name that a text spells. Refused are a text that is no name of at most 255 bytes
-    /// (`NameInvalid`), and want of memory.
+    /// (`NameInvalid`), and then want of memory for a copy of it (`Memory`).
     pub fn parse(alloc: Global, text: &[u8]) -> Result<RepoName, Refusal>
         ensures value { IfOk result (λ name. (name ≡ text.now) × IsRepoName text.now) }
         ensures refused { IfErr result (λ e. ((e ≡ Refusal.NameInvalid) × ¬ IsRepoName text.now) ⊎ ((e ≡ Refusal.Memory) × IsRepoName text.now)) }
@@ -78,7 +79,7 @@ impl RepoName {
         Ok(RepoName { text, tenant_len })
     }
 
-    /// The whole name.
+    /// The whole name, of 1 to 255 bytes.
     pub fn text(&self) -> &str
         ensures value { result.now ≡ self.now }
         ensures grammar { IsRepoName self.now }
@@ -86,7 +87,8 @@ impl RepoName {
         self.text.as_str()
     }
 
-    /// The tenant that the repository belongs to: the first component of its name.
+    /// The tenant that the repository belongs to: the first component of its name. Its end is kept, and
+    /// so is not looked for again.
     pub fn tenant(&self) -> &str
         ensures value { result.now ≡ tenant_name self.now }
         ensures grammar { IsComponent (tenant_name self.now) }

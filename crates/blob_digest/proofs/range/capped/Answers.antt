@@ -1,4 +1,4 @@
-use Rattle.std.proofs.Common.{◌≡◌, ◌≤◌, true, ◌<◌, ◌^◌, ◌+◌, ◌*◌, ◌-◌, ℕ, length, arith, get_or, take}
+use Rattle.std.proofs.Common.{◌≡◌, ◌≤◌, true, ◌<◌, ◌-◌, ℕ, length, arith, get_or}
 use Rattle.std.proofs.lemmas.Int.Digits.{digits_value_more}
 use Rattle.std.proofs.lemmas.Bool.Decides.{nat_tests}
 use Rattle.std.proofs.lemmas.List.Sums.{AllPass-from_list_all}

@@ -1,4 +1,4 @@
-use Rattle.std.proofs.Common.{rules, ◌≡◌, ◌∙◌, Some, None, sym}
+use Rattle.std.proofs.Common.{rules, ◌≡◌, Some, None}
 use Rattle.blob_digest.specs.Ranges.{range_of}
 use Rattle.blob_digest.proofs.RangeTexts.{range_found, range_is}
 use Rattle.blob_digest.proofs.range.ByteRange.parse.Goals as goal

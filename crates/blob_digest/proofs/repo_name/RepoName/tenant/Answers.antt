@@ -1,8 +1,5 @@
-use Rattle.std.proofs.Common.{◌≡◌, ◌≤◌, ◌∙◌, length, string_bytes, arith, min}
-use Rattle.std.proofs.lemmas.List.{length-take}
+use Rattle.std.proofs.Common.{◌≤◌, length, string_bytes, arith}
 use Rattle.std.proofs.lemmas.Str.{IsCharBoundary-from_ascii}
-use Rattle.std.specs.Str.{IsCharBoundary}
-use Rattle.blob_digest.specs.Names.{tenant_name}
 use Rattle.blob_digest.proofs.NameTexts.{IsAscii-path, tenant_is_component, length-tenant_name}
 use Rattle.blob_digest.proofs.repo_name.RepoName.tenant.Goals as goal
 
