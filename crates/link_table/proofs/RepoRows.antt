@@ -1,13 +1,12 @@
 -- The rows of repositories, in the order of their names, as a set.
-use Rattle.std.proofs.Common.{◌≡◌, ◌≢◌, ℕ, ◌<◌, ◌≤◌, Bool, true, false, cond, not, List, [], ◌∷◌, ◌++◌, length, map, filter, get_or, take, drop, Option, Some, None, is_some, Ok, Err, refl, sym, ap, ◌∙◌, arith}
-use Prim.Native.Nat.{zero, suc}
-use Rattle.std.specs.Ordering.{eq_by_cmp, is_eq}
-use Rattle.std.specs.declared.cmp.Ordering.TheVariants.{Less, Equal, Greater}
-use Rattle.std.specs.Cmp.{Equal-is, tied_itself}
+use Rattle.std.proofs.Common.{◌≡◌, ℕ, ◌<◌, ◌≤◌, Bool, true, false, cond, not, List, [], ◌∷◌, ◌++◌, length, map, get_or, take, drop, Option, Some, None, is_some, Ok, Err, refl, sym, ap, ◌∙◌}
+use Prim.Native.Nat.{suc}
+use Rattle.std.specs.Ordering.{eq_by_cmp}
+use Rattle.std.specs.declared.cmp.Ordering.TheVariants.{Equal}
 use Rattle.std.specs.Cmp.Lexicographic.{nat_list_cmp_total}
 use Rattle.std.specs.List.{count_by, insert, remove, HoldsAt, take-map, drop-map}
 use Rattle.std.specs.List.Sorted.{IsBinarySearchResult}
-use Rattle.std.specs.FinMap.{FinMap, get, entries, from_entries, is_sorted, get-from_entries, get-insert, get-remove}
+use Rattle.std.specs.FinMap.{get, from_entries, is_sorted, get-from_entries, get-insert, get-remove}
 use Rattle.std.proofs.lemmas.Bool.{le-leb, lt-leb, and_from, and_left, and_right}
 use Rattle.std.proofs.lemmas.List.{map-append, length-map}
 use Rattle.std.proofs.lemmas.Map.Lookups.{exact_bytes}

@@ -1,5 +1,5 @@
 -- The links of one repository stand together: to read the i-th is to read the i-th from the first on.
-use Rattle.std.proofs.Common.{◌≡◌, ◌≢◌, ℕ, ◌+◌, ◌<◌, ◌≤◌, Bool, true, false, cond, List, [], ◌∷◌, length, map, filter, get_or, drop, Option, Some, None, refl, sym, ap, ◌∙◌, arith, add-one}
+use Rattle.std.proofs.Common.{◌≡◌, ℕ, ◌+◌, ◌<◌, ◌≤◌, Bool, true, false, List, [], ◌∷◌, length, map, filter, get_or, drop, None, refl, sym, ap, ◌∙◌, arith, add-one}
 use Prim.Native.Nat.{zero, suc}
 use Rattle.std.specs.Prelude.{slice_get}
 use Rattle.std.specs.declared.cmp.Ordering.{Ordering}
@@ -54,7 +54,7 @@ module _ {A : Type 0} (p : A → Bool) where
   slice_get-filter xs j le before run i =
       ap (λ ys. slice_get ys i) (skip_filter xs j before le)
       ∙ run_filter (drop j xs) (λ a b d order lt h.
-          rw (get_or-drop j xs a d) (run (j + a) (j + b) d (omega arith) (omega arith) (omega (arith, length-drop j xs)) (rw (get_or-drop j xs b d) at h))) i
+      rw (get_or-drop j xs a d) (run (j + a) (j + b) d (omega arith) (omega arith) (omega (arith, length-drop j xs)) (rw (get_or-drop j xs b d) at h))) i
 
 module _ (rows : List LinkRow) (sorted : is_sorted link_cmp (map link_shown rows) ≡ true) (repo : Text) where
   abbrev side : LinkRow → ℕ
@@ -111,7 +111,7 @@ module _ (rows : List LinkRow) (sorted : is_sorted link_cmp (map link_shown rows
   nth j le at i = slice_get-filter (λ l. same_text l.repo repo) rows j le
       (λ k d lt. lower_differs (get_or rows k d).repo (text_cmp (get_or rows k d).repo repo) refl (at.0 k d (omega arith) lt))
       (λ a b d from order lt h.
-          let above = at.1 a d from (omega arith) in
-          let one = equal_side (text_cmp (get_or rows b d).repo repo) (sym (texts_ties (get_or rows b d).repo repo) ∙ h) in
-          let risen = up a b d order lt in
-          texts_ties (get_or rows a d).repo repo ∙ side_equal (text_cmp (get_or rows a d).repo repo) above (omega arith)) i
+      let above = at.1 a d from (omega arith) in
+      let one = equal_side (text_cmp (get_or rows b d).repo repo) (sym (texts_ties (get_or rows b d).repo repo) ∙ h) in
+      let risen = up a b d order lt in
+      texts_ties (get_or rows a d).repo repo ∙ side_equal (text_cmp (get_or rows a d).repo repo) above (omega arith)) i

@@ -1,14 +1,14 @@
 -- Rows in the order of their keys as a finite map: a look-up, an insertion at the place and a removal there.
-use Rattle.std.proofs.Common.{◌≡◌, ◌≢◌, ℕ, ◌+◌, ◌<◌, ◌≤◌, Bool, true, false, cond, List, [], ◌∷◌, ◌++◌, length, map, get_or, take, drop, Option, Some, None, is_some, Err, refl, sym, ap, ◌∙◌, subst, arith, add-one, inl, inr}
+use Rattle.std.proofs.Common.{◌≡◌, ◌≢◌, ℕ, ◌<◌, ◌≤◌, Bool, true, false, cond, List, [], ◌∷◌, length, map, get_or, Some, None, Err, refl, sym, ap, ◌∙◌, arith, add-one, inl, inr}
 use Prim.Native.Nat.{zero, suc}
 use Rattle.std.specs.Prelude.{T}
 use Rattle.std.specs.declared.cmp.Ordering.{Ordering}
 use Rattle.std.specs.declared.cmp.Ordering.TheVariants.{Less, Equal, Greater}
-use Rattle.std.specs.Ordering.{is_lt, is_eq, ordering_reverse, ordering_index, eq_by_cmp}
+use Rattle.std.specs.Ordering.{is_lt, is_eq, ordering_reverse, eq_by_cmp}
 use Rattle.std.specs.Cmp.{IsTotalOrder, eq_by_cmp_equiv}
-use Rattle.std.specs.List.{insert, remove, AllWithin, HoldsAt}
-use Rattle.std.specs.List.Sorted.{IsSortedBy, IsBinarySearchResult, IsSearchInRange, IsPartitionPoint, IsNonDecreasingBy}
-use Rattle.std.specs.FinMap.{FinMap, find, put, is_sorted, get, entries, from_entries, from_sorted, get-from_entries, get-from_sorted, entries-from_sorted, get-insert, same_map, IsAntisymmetric}
+use Rattle.std.specs.List.{insert, remove, HoldsAt}
+use Rattle.std.specs.List.Sorted.{IsSortedBy, IsBinarySearchResult, IsPartitionPoint}
+use Rattle.std.specs.FinMap.{find, put, is_sorted, entries, from_entries, from_sorted, get-from_entries, get-from_sorted, entries-from_sorted, get-insert, same_map, IsAntisymmetric}
 use Rattle.std.specs.FinMap.{insert as finsert}
 use Rattle.std.specs.FinMap.Entries.{below_all, find-put, is_sorted-put}
 use Rattle.std.proofs.lemmas.Bool.{and_parts, and_from, cases_lt}

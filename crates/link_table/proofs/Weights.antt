@@ -1,16 +1,15 @@
 -- What a set of repositories holds, each digest once, after a link more or less.
-use Rattle.std.proofs.Common.{◌≡◌, ◌≢◌, ℕ, ◌+◌, Bool, true, false, cond, not, List, [], ◌∷◌, Option, Some, None, is_some, refl, sym, ap, ◌∙◌, subst, arith, inl, inr}
-use Rattle.std.specs.Prelude.{◌&&◌, ◌||◌, ◌⊎◌, if◌then◌else◌, map}
-use Rattle.std.specs.List.{sum_by, list_any}
+use Rattle.std.proofs.Common.{◌≡◌, ℕ, ◌+◌, Bool, true, false, cond, List, [], ◌∷◌, Option, Some, None, is_some, refl, sym, ap, ◌∙◌, arith, inl, inr}
+use Rattle.std.specs.Prelude.{◌⊎◌, if◌then◌else◌}
 use Rattle.std.specs.Ordering.{eq_by_cmp, is_eq}
-use Rattle.std.specs.Cmp.{Equal-is, tied_itself, eq_by_cmp_equiv}
-use Rattle.std.specs.Cmp.Lexicographic.{nat_list_cmp_total, texts_ties, same_text as text_is}
+use Rattle.std.specs.Cmp.{Equal-is, tied_itself}
+use Rattle.std.specs.Cmp.Lexicographic.{nat_list_cmp_total}
 use Rattle.std.specs.FinMap.{FinMap, entries, find, get, insert, remove, from_entries, get-entries, get-from_entries, get-insert, get-remove, same_map}
-use Rattle.std.proofs.lemmas.Bool.{true≢false, and_from, not-false, not-true}
+use Rattle.std.proofs.lemmas.Bool.{true≢false}
 use Rattle.std.proofs.lemmas.Map.Lookups.{exact_bytes}
-use Rattle.blob_digest.specs.Keys.{Text, Link, text_cmp, link_cmp, same_text}
+use Rattle.blob_digest.specs.Keys.{Text, Link, text_cmp, link_cmp}
 use Rattle.blob_digest.proofs.KeyOrders.{link_cmp_total, exact_link}
-use Rattle.blob_digest.proofs.RowLemmas.{no_tie, insert_same}
+use Rattle.blob_digest.proofs.RowLemmas.{no_tie}
 use Rattle.blob_digest.proofs.MapSums.{sum_new, insert-remove, insert_back}
 use Rattle.link_table.specs.Linked.{sizes, blobs, total_size, HasOneSize, IsSizeOf}
 

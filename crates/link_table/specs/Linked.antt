@@ -1,12 +1,11 @@
 -- What a table of links stands for: tenants with quotas, repositories, links with the sizes of their blobs, and charges.
-use Rattle.std.specs.Prelude.{◌≡◌, ◌≢◌, ℕ, ◌+◌, ◌-◌, ◌<◌, ◌≤◌, ◌^◌, ◌==◌, ◌&&◌, ◌||◌, not, nat_le, nat_lt, nat_eq, Bool, true, false, Option, Some, None, Result, Ok, Err, List, [], ◌∷◌, length, map, filter, sum_by, count_by, position, slice_get, slice_index, slice_set, is_some, replicate, if◌then◌else◌}
+use Rattle.std.specs.Prelude.{◌≡◌, ℕ, ◌+◌, ◌-◌, ◌&&◌, not, nat_le, nat_lt, Bool, Some, None, Result, Ok, Err, List, [], ◌∷◌, length, map, filter, sum_by, slice_get, slice_index, slice_set, replicate, if◌then◌else◌}
 use Rattle.std.proofs.Common.{refl}
-use Rattle.std.specs.Option.{option_eq, option_map_or, ok_or}
-use Rattle.std.specs.List.{list_any, AllByRecursion}
+use Rattle.std.specs.Option.{option_map_or, ok_or}
 use Rattle.std.specs.FinMap as fmap
 use Rattle.std.specs.Coded.{Coded, code_by, coded×, coded_ℕ, coded_list}
 use Rattle.blob_digest.specs.Sets as set
-use Rattle.blob_digest.specs.Keys.{Text, Link, text_cmp, link_cmp, same_text, tenant_name, coded_text, coded_link}
+use Rattle.blob_digest.specs.Keys.{Text, Link, text_cmp, link_cmp, same_text, coded_text, coded_link}
 use Rattle.blob_digest.specs.Outcomes.{OutcomeIn, refuse, ◌>>=◌}
 use Rattle.blob_digest.specs.declared.refusal.Refusal.{Refusal}
 use Rattle.blob_digest.specs.declared.refusal.Refusal.TheVariants.{LimitReached, NameUnknown, Quota}

@@ -1,5 +1,5 @@
 -- Tests on the rows of repositories and links by the name of a tenant.
-use Rattle.std.specs.Prelude.{Bool, ◌&&◌}
+use Rattle.std.specs.Prelude.{Bool}
 use Rattle.blob_digest.specs.Keys.{Text, same_text, tenant_name}
 
 -- the repository belongs to the tenant of this name

@@ -6,7 +6,10 @@ ghost use Rattle.blob_digest.specs.Outcomes.{Does};
 ghost use Rattle.link_table.specs.Linked.{is_tenants, known_tenant, used_in, quota_in, blobs_of, repos_of, blobs_in, link, unlink, charge, discharge, appear, vanish, IsSizeOf, HasNoLinks};
 ghost use Rattle.link_table.specs.Tenancy.{Opens, AreTenants, RefusesTenants, tenants_shown};
 
-use crate::rows::{LinkRow, has_blob, link_place, nth_named, nth_of, repo_place, repos_named, weight_with, weight_without};
+use crate::rows::{
+    LinkRow, has_blob, link_place, nth_named, nth_of, repo_place, repos_named, weight_with,
+    weight_without,
+};
 use crate::tenants::{in_order, tenant_at};
 use blob_digest::{Digest, Refusal, RepoName};
 use std::alloc::Global;

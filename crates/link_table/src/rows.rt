@@ -67,11 +67,7 @@ fn order_of(row: &LinkRow, repo: &RepoName, digest: &Digest) -> Ordering
 }
 
 /// Where a link stands among rows in order, or where it would go.
-pub fn link_place(
-    links: &[LinkRow],
-    repo: &RepoName,
-    digest: &Digest,
-) -> Result<usize, usize>
+pub fn link_place(links: &[LinkRow], repo: &RepoName, digest: &Digest) -> Result<usize, usize>
     ensures within { IsSearchInRange result (length links.now) }
     ensures place { IsBinarySearchResult (λ l. link_cmp (l.repo, l.digest) (repo.now, digest.now)) links.now result }
 {

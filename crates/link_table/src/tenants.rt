@@ -8,7 +8,7 @@ ghost use Rattle.blob_digest.specs.Keys.{text_cmp, same_text};
 ghost use Rattle.blob_digest.specs.Names.{IsComponent};
 ghost use Rattle.link_table.specs.Tenancy.{AreTenants, HasNames, IsWithinLimits, RefusesTenants, tenants_shown};
 
-use blob_digest::{is_component, Refusal};
+use blob_digest::{Refusal, is_component};
 
 /// The most tenants that a table may have.
 const MOST_TENANTS: usize = 256;

@@ -1,4 +1,4 @@
-use Rattle.std.proofs.Common.{◌≡◌, ◌≤◌, drop, filter, slice_get}
+use Rattle.std.proofs.Common.{◌≡◌, drop, filter, slice_get}
 use Rattle.link_table.specs.Lookups.{has_tenant}
 use Rattle.link_table.proofs.rows.nth_named.Given as goal
 

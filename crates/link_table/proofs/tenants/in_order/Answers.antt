@@ -1,4 +1,3 @@
-use Rattle.std.proofs.Common.{◌≡◌}
 use Rattle.std.proofs.lemmas.Bool.{false≢true}
 use Rattle.link_table.proofs.TenantLists.{no_component, comes_twice, have_names, limited, beyond, ordered, shown_moved}
 use Rattle.link_table.proofs.tenants.in_order.Goals as goal

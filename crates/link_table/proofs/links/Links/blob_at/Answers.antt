@@ -1,4 +1,4 @@
-use Rattle.std.proofs.Common.{◌≡◌, ap, sym, ◌∙◌, refl, slice_get}
+use Rattle.std.proofs.Common.{ap, sym, ◌∙◌, refl, slice_get}
 use Rattle.link_table.specs.Linked.{Linked, blobs_in}
 use Rattle.link_table.specs.Tenancy.{tenants_shown}
 use Rattle.link_table.proofs.LinkRows.{blobs_in-sorted}

@@ -1,4 +1,4 @@
-use Rattle.std.proofs.Common.{◌≡◌, ap, sym, ◌∙◌}
+use Rattle.std.proofs.Common.{ap, ◌∙◌}
 use Rattle.std.specs.FinMap as fmap
 use Rattle.link_table.specs.Linked.{Linked}
 use Rattle.link_table.proofs.LinkRows.{is_ok-place}

@@ -1,4 +1,4 @@
-use Rattle.std.proofs.Common.{◌≡◌, ap, sym, ◌∙◌, filter, slice_get}
+use Rattle.std.proofs.Common.{ap, sym, ◌∙◌, filter, slice_get}
 use Rattle.link_table.specs.Linked.{Linked, repos_of}
 use Rattle.link_table.proofs.TenantLists.{is_tenants-read}
 use Rattle.link_table.proofs.RepoRows.{items-sorted}

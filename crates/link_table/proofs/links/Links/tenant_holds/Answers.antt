@@ -1,4 +1,4 @@
-use Rattle.std.proofs.Common.{◌≡◌, ap, sym, ◌∙◌}
+use Rattle.std.proofs.Common.{ap, ◌∙◌}
 use Rattle.std.specs.FinMap as fmap
 use Rattle.link_table.specs.Linked.{Linked, blobs_of}
 use Rattle.link_table.proofs.TenantLists.{is_tenants-read}
