@@ -11,3 +11,6 @@ mod rows;
 mod tenants;
 
 pub use links::Links;
+
+#[cfg(test)]
+mod tests;
