@@ -1,0 +1,7 @@
+pub mod LinkRows
+pub mod RepoRows
+pub mod Runs
+pub mod SortedRows
+pub mod Soundness
+pub mod TenantLists
+pub mod Weights

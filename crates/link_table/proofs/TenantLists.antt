@@ -1,0 +1,248 @@
+-- Lists of tenants: sorted, moved about, and with names that differ.
+use Rattle.std.proofs.Common.{◌≡◌, ℕ, ◌+◌, ◌<◌, ◌≤◌, ◌^◌, Bool, true, false, cond, List, [], ◌∷◌, length, map, get_or, Option, Some, None, is_some, refl, sym, ap, ◌∙◌, arith, add-one, inl, inr}
+use Prim.Native.Nat.{zero, suc}
+use Rattle.std.specs.Prelude.{nat_eq, ◌||◌, String, string_bytes}
+use Rattle.std.specs.declared.cmp.Ordering.{Ordering}
+use Rattle.std.specs.declared.alloc.Global.{Global}
+use Rattle.std.specs.declared.cmp.Ordering.TheVariants.{Less, Equal, Greater}
+use Rattle.std.specs.Ordering.{is_lt, is_eq, ordering_then, ordering_reverse, nat_cmp}
+use Rattle.std.specs.Option.{option_eq}
+use Rattle.std.specs.Cmp.{IsTotalOrder, tied_itself}
+use Rattle.std.specs.Cmp.Lexicographic.{nat_list_cmp_total, texts_ties}
+use Rattle.std.specs.Cmp.Lexicographic.{same_text as text_is}
+use Rattle.std.specs.List.{All, AllByRecursion, AllAdjacentBelow, list_any, count_by, position}
+use Rattle.std.specs.List.Sorted.{IsPermutation, IsSortedBy, IsStrictlySortedBy}
+use Rattle.std.proofs.lemmas.Bool.{cases_order, true≢false, eqb-true}
+use Rattle.std.proofs.lemmas.Bool.Decides.{nat_tests}
+use Rattle.std.proofs.lemmas.List.Elements.{All-map}
+use Rattle.std.proofs.lemmas.List.Quantifiers.{position-Some}
+use Rattle.std.proofs.lemmas.List.Sorted.{All-permutation, length_permutation, sum_by-IsPermutation, IsPermutation-sym, IsPermutation-map}
+use Rattle.std.proofs.lemmas.List.Sums.{sum_by-cons}
+use Rattle.blob_digest.specs.Keys.{Text, text_cmp, same_text, tenant_name}
+use Rattle.blob_digest.specs.Names.{IsComponent}
+use Rattle.blob_digest.specs.Tenants.{Tenant, tenant_of, is_tenants}
+use Rattle.blob_digest.proofs.RowLemmas.{is_some-position, position-map, sum_by-map}
+use Rattle.link_table.specs.Lookups.{has_tenant}
+use Rattle.link_table.proofs.SortedRows.{map_at}
+use Rattle.link_table.specs.Tenancy.{HasNames, IsWithinLimits, AreTenants, tenant_shown, tenants_shown}
+
+-- ---- how many pass a test
+
+count_by-cons : {A : Type 0} (p : A → Bool) (x : A) (xs : List A) → count_by p (x ∷ xs) ≡ cond (p x) 1 0 + count_by p xs
+count_by-cons p x xs = sum_by-cons (λ y. cond (p y) 1 0) x xs
+
+-- an element that passes is counted
+one_place : {A : Type 0} (p : A → Bool) (xs : List A) (j : ℕ) (d : A) → j < length xs → p (get_or xs j d) ≡ true → 1 ≤ count_by p xs
+one_place p [] j d lt h = absurd (omega arith)
+one_place p (x ∷ xs) zero d lt h = rw (count_by-cons p x xs, h) (omega arith)
+one_place p (x ∷ xs) (suc j) d lt h = let rest = one_place p xs j d (omega arith) h in rw (count_by-cons p x xs) (omega arith)
+
+-- and two are counted both
+pub two_places : {A : Type 0} (p : A → Bool) (xs : List A) (i j : ℕ) (d : A) → i < j → j < length xs → p (get_or xs i d) ≡ true → p (get_or xs j d) ≡ true → 2 ≤ count_by p xs
+two_places p [] i j d below lt g h = absurd (omega arith)
+two_places p (x ∷ xs) i zero d below lt g h = absurd (omega arith)
+two_places p (x ∷ xs) zero (suc j) d below lt g h = let rest = one_place p xs j d (omega arith) h in rw (count_by-cons p x xs, g) (omega arith)
+two_places p (x ∷ xs) (suc i) (suc j) d below lt g h = let rest = two_places p xs i j d (omega arith) (omega arith) g h in rw (count_by-cons p x xs) (omega arith)
+
+-- ---- names that strictly rise
+
+module _ {K : Type 0} (R : K → K → Ordering) (o : IsTotalOrder R) where
+  below_all : (x y : K) (zs : List K) → R x y ≡ Less → AllByRecursion (λ z. R y z ≡ Less) zs → AllByRecursion (λ z. R x z ≡ Less) zs
+  below_all x y [] less all = tt
+  below_all x y (z ∷ zs) less all = (o.trans x y z less all.0, below_all x y zs less all.1)
+
+  -- keys each of which is below the next
+  pub rising_by : {A B : Type 0} (g : B → K) (h : A → B) (xs : List A) → ((k : ℕ) (d : A) → suc k < length xs → R (g (h (get_or xs k d))) (g (h (get_or xs (suc k) d))) ≡ Less) → IsStrictlySortedBy R (map g (map h xs))
+  unfolding IsStrictlySortedBy
+  rising_by g h [] next = tt
+  rising_by g h (x ∷ []) next = (tt, tt)
+  rising_by g h (x ∷ y ∷ ys) next =
+      let rest = rising_by g h (y ∷ ys) (λ k d lt. next (suc k) d (omega arith)) in
+      let first = next 0 x (omega arith) in
+      ((first, below_all (g (h x)) (g (h y)) (map g (map h ys)) first rest.0), rest)
+
+same_as : (a b : Text) → same_text a b ≡ true → a ≡ b
+same_as a b h = text_is a b (sym h)
+
+same_itself : (a : Text) → same_text a a ≡ true
+same_itself a = texts_ties a a ∙ ap is_eq (tied_itself nat_list_cmp_total a)
+
+not_same : (a b : Text) (r : Bool) → same_text a b ≡ r → text_cmp a b ≡ Less → r ≡ false
+not_same a b r is less = sym is ∙ texts_ties a b ∙ ap is_eq less
+
+-- a name below all others is none of them
+unnamed : (a : Text) (ts : List Tenant) → AllByRecursion (λ b. text_cmp a b ≡ Less) (map (λ t. t.name) ts) → count_by (λ t. same_text t.name a) ts ≡ 0
+unnamed a [] all = refl
+unnamed a (t ∷ ts) all =
+    let reversed : text_cmp t.name a ≡ Greater = nat_list_cmp_total.antisymm t.name a ∙ ap ordering_reverse all.0 in
+    count_by-cons (λ t. same_text t.name a) t ts ∙ rw (texts_ties t.name a ∙ ap is_eq reversed) (rw (unnamed a ts all.1) refl)
+
+-- names that strictly rise come once
+pub once : (ts : List Tenant) → IsStrictlySortedBy text_cmp (map (λ t. t.name) ts) → (name : Text) → count_by (λ t. same_text t.name name) ts ≤ 1
+unfolding IsStrictlySortedBy
+once [] up name = omega arith
+once (t ∷ ts) up name = rw (count_by-cons (λ t. same_text t.name name) t ts) (elim (same_text t.name name) as (λ b. same_text t.name name ≡ b → cond b 1 0 + count_by (λ t. same_text t.name name) ts ≤ 1) [
+  | true ↦ λ is.
+      let none : count_by (λ t. same_text t.name name) ts ≡ 0 = ap (λ a. count_by (λ t. same_text t.name a) ts) (sym (same_as t.name name is)) ∙ unnamed t.name ts up.0 in
+      omega arith
+  | false ↦ λ is. (let rest = once ts up.1 name in omega arith)
+] refl)
+
+-- ---- the same tenants in another order
+
+module _ (xs ys : List Tenant) (moved : IsPermutation xs ys) where
+  pub HasNames-moved : HasNames xs → HasNames ys
+  HasNames-moved h = record {
+    components = All-permutation (λ t. IsComponent t.name) xs ys moved h.components;
+    apart = λ name. (let same = sum_by-IsPermutation (λ t. cond (same_text t.name name) 1 0) xs ys moved in let few = h.apart name in omega arith);
+  }
+
+  pub IsWithinLimits-moved : IsWithinLimits xs → IsWithinLimits ys
+  IsWithinLimits-moved h =
+      let same = length_permutation xs ys moved in
+      record { some = (let some = h.some in omega arith); few = (let few = h.few in omega arith); quotas = All-permutation (λ t. t.quota ≤ 2 ^ 50) xs ys moved h.quotas }
+
+-- ---- whose a repository is
+
+any_place : {A : Type 0} (p : A → Bool) (xs : List A) (j : ℕ) (d : A) → j < length xs → p (get_or xs j d) ≡ true → list_any p xs ≡ true
+any_place p [] j d lt h = absurd (omega arith)
+any_place p (x ∷ xs) zero d lt h = rw h refl
+any_place p (x ∷ xs) (suc j) d lt h = rw (any_place p xs j d (omega arith) h) (or_true (p x))
+  where
+    or_true : (b : Bool) → (b || true) ≡ true
+    or_true true = refl
+    or_true false = refl
+
+differ : (i t : ℕ) (r : Bool) → nat_eq i t ≡ r → (i ≡ t → ⊥) → r ≡ false
+differ i t true e h = absurd (h (eqb-true i t e))
+differ i t false e h = refl
+
+itself : (t : ℕ) → nat_eq t t ≡ true
+itself t = grind (arith, nat_tests)
+
+fails : (b : Bool) → (b ≡ true → ⊥) → b ≡ false
+fails true h = absurd (h refl)
+fails false h = refl
+
+module _ (ts : List Tenant) (names : HasNames ts) (t : ℕ) (lt : t < length ts) (d : Tenant) (q : Text) where
+  abbrev named : Tenant → Bool
+  named x = same_text x.name q
+
+  -- no two places have the name
+  alone : (i j : ℕ) → i < j → j < length ts → named (get_or ts i d) ≡ true → named (get_or ts j d) ≡ true → ⊥
+  alone i j below within g h = let two = two_places named ts i j d below within g h in let few = names.apart q in omega arith
+
+  at_place : (o : Option ℕ) → position named ts ≡ o → (b : Bool) → named (get_or ts t d) ≡ b → option_eq nat_eq o (Some t) ≡ b
+  at_place None none true is = absurd (true≢false (sym (any_place named ts t d lt is) ∙ sym (is_some-position named ts) ∙ ap is_some none))
+  at_place None none false is = refl
+  at_place (Some i) some b is =
+      let first = position-Some named ts i d some in
+      elim (cases_order i t) [
+        | inl e ↦ rw e (itself t ∙ sym (sym is ∙ ap (λ k. named (get_or ts k d)) (sym e) ∙ first.1))
+        | inr (inl below) ↦ differ i t (nat_eq i t) refl (λ e. omega arith) ∙ sym (fails b (λ h. alone i t below lt first.1 (is ∙ h)))
+        | inr (inr above) ↦ differ i t (nat_eq i t) refl (λ e. omega arith) ∙ sym (fails b (λ h. alone t i above first.0 (is ∙ h) first.1))
+      ]
+
+-- a repository is a tenant's where its name begins with the tenant's
+pub is_tenants-named : (ts : List Tenant) → HasNames ts → (t : ℕ) → t < length ts → (d : Tenant) → is_tenants ts t ≡ has_tenant (get_or ts t d).name
+is_tenants-named ts names t lt d = λ i repo. at_place ts names t lt d (tenant_name repo) (position (λ x. same_text x.name (tenant_name repo)) ts) refl (same_text (get_or ts t d).name (tenant_name repo)) refl i
+
+pub names_of : (ts : List Tenant) → AreTenants ts → HasNames ts
+names_of ts tenants = record { components = tenants.components; apart = once ts tenants.rising }
+
+-- the same where the tenant is read from the rows
+pub is_tenants-read : (rows : List (String Global × ℕ)) → AreTenants (tenants_shown rows) → (t : ℕ) → t < length (tenants_shown rows) → (x : String Global × ℕ) → x ≡ get_or rows t x → (name : Text) → name ≡ string_bytes x.0 →
+    is_tenants (tenants_shown rows) t ≡ has_tenant name
+is_tenants-read rows tenants t lt x is name named =
+    is_tenants-named (tenants_shown rows) (names_of (tenants_shown rows) tenants) t lt (tenant_shown x)
+    ∙ ap (λ (y : Tenant). has_tenant y.name) (map_at tenant_shown rows t x ∙ ap tenant_shown (sym is)) ∙ ap has_tenant (sym named)
+
+-- a repository's tenant is looked up in the rows
+pub tenant_of-rows : (rows : List (String Global × ℕ)) (repo name : Text) → name ≡ tenant_name repo → tenant_of (tenants_shown rows) repo ≡ position (λ t. same_text (string_bytes t.0) name) rows
+tenant_of-rows rows repo name is = position-map (λ t. same_text t.name (tenant_name repo)) tenant_shown rows ∙ ap (λ n. position (λ t. same_text (string_bytes t.0) n) rows) (sym is)
+
+pub is_tenants-found : (ts : List Tenant) (repo : Text) (t : ℕ) → tenant_of ts repo ≡ Some t → is_tenants ts t repo ≡ true
+is_tenants-found ts repo t found = ap (λ o. option_eq nat_eq o (Some t)) found ∙ itself t
+
+-- ---- what the checks find
+
+-- what holds of all that rows show holds of what each shows
+pub All-unmap : {A B : Type 0} (P : B → Type 0) (f : A → B) (xs : List A) → All P (map f xs) → All (λ x. P (f x)) xs
+All-unmap P f [] all k d lt = absurd (omega arith)
+All-unmap P f (x ∷ xs) all zero d lt = all 0 (f x) (omega arith)
+All-unmap P f (x ∷ xs) all (suc k) d lt = All-unmap P f xs (λ j e below. all (suc j) e (omega arith)) k d (omega arith)
+
+abbrev pub row_cmp : String Global × ℕ → String Global × ℕ → Ordering
+row_cmp x y = ordering_then (text_cmp (string_bytes x.0) (string_bytes y.0)) (nat_cmp x.1 y.1)
+
+-- neighbours in order of which the first name isn't below the second have one name
+tied : (x y : String Global × ℕ) → is_lt (row_cmp y x) ≡ false → false ≡ is_lt (text_cmp (string_bytes x.0) (string_bytes y.0)) → same_text (string_bytes x.0) (string_bytes y.0) ≡ true
+tied x y up not_below = texts_ties (string_bytes x.0) (string_bytes y.0) ∙ by_cases (text_cmp (string_bytes x.0) (string_bytes y.0)) refl
+  where
+    by_cases : (r : Ordering) → text_cmp (string_bytes x.0) (string_bytes y.0) ≡ r → is_eq r ≡ true
+    by_cases Less e = absurd (true≢false (sym (not_below ∙ ap is_lt e)))
+    by_cases Equal e = refl
+    by_cases Greater e =
+        let back : text_cmp (string_bytes y.0) (string_bytes x.0) ≡ Less = nat_list_cmp_total.antisymm (string_bytes y.0) (string_bytes x.0) ∙ ap ordering_reverse e in
+        absurd (true≢false (sym (ap (λ r. is_lt (ordering_then r (nat_cmp y.1 x.1))) back) ∙ up))
+
+abbrev pub name_of : String Global × ℕ → Text
+name_of x = string_bytes x.0
+
+some_row : (ts : List (String Global × ℕ)) → 0 < length ts → String Global × ℕ
+some_row [] some = absurd (omega arith)
+some_row (x ∷ ts) some = x
+
+is_less : (r : Ordering) → true ≡ is_lt r → r ≡ Less
+is_less Less e = refl
+is_less Equal e = cc
+is_less Greater e = cc
+
+-- two neighbours of one name
+abbrev pub HasNeighbours : List (String Global × ℕ) → Type 0
+HasNeighbours ts = (k : ℕ) × (k + 1 < length ts) × ((d : String Global × ℕ) → false ≡ is_lt (text_cmp (name_of (get_or ts k d)) (name_of (get_or ts (k + 1) d))))
+
+twice : (ts : List (String Global × ℕ)) → IsSortedBy (λ x y. is_lt (row_cmp x y)) ts → HasNeighbours ts → HasNames (tenants_shown ts) → ⊥
+twice ts up at names =
+    let k = at.0 in
+    let d = some_row ts (let lt = at.1 in omega arith) in
+    let name = name_of (get_or ts (k + 1) d) in
+    let low : 0 ≤ k = omega arith in
+    let two = two_places (λ x. same_text (name_of x) name) ts k (k + 1) d (omega arith) at.1 (tied (get_or ts k d) (get_or ts (k + 1) d) (up k d low at.1) (at.2 d)) (same_itself name) in
+    let few = names.apart name in
+    let shown = sum_by-map (λ t. cond (same_text t.name name) 1 0) tenant_shown ts in
+    omega arith
+
+module _ (given ts : List (String Global × ℕ)) (moved : IsPermutation given ts) where
+  pub shown_moved : IsPermutation (tenants_shown given) (tenants_shown ts)
+  shown_moved = IsPermutation-map tenant_shown given ts moved
+
+  back : IsPermutation (tenants_shown ts) (tenants_shown given)
+  back = IsPermutation-sym (tenants_shown given) (tenants_shown ts) shown_moved
+
+  pub no_component : (All (λ t. IsComponent (string_bytes t.0)) ts → ⊥) → HasNames (tenants_shown given) → ⊥
+  no_component none names = none (All-unmap (λ t. IsComponent t.name) tenant_shown ts (HasNames-moved (tenants_shown given) (tenants_shown ts) shown_moved names).components)
+
+  pub comes_twice : IsSortedBy (λ x y. is_lt (row_cmp x y)) ts → HasNeighbours ts → HasNames (tenants_shown given) → ⊥
+  comes_twice up at names = twice ts up at (HasNames-moved (tenants_shown given) (tenants_shown ts) shown_moved names)
+
+  module _ (next : AllAdjacentBelow (λ x y. true ≡ is_lt (text_cmp (name_of x) (name_of y))) ts (length ts)) (components : All (λ t. IsComponent (string_bytes t.0)) ts) where
+    rises : IsStrictlySortedBy text_cmp (map (λ t. t.name) (tenants_shown ts))
+    rises = rising_by text_cmp nat_list_cmp_total (λ t. t.name) tenant_shown ts (λ k d lt.
+        let lt' : k + 1 < length ts = omega arith in
+        is_less (text_cmp (name_of (get_or ts k d)) (name_of (get_or ts (suc k) d))) (rw add-one at (next k d lt')))
+
+    shown_components : All (λ t. IsComponent t.name) (tenants_shown ts)
+    shown_components = All-map (λ t. IsComponent t.name) tenant_shown ts components
+
+    pub have_names : HasNames (tenants_shown given)
+    have_names = HasNames-moved (tenants_shown ts) (tenants_shown given) back (record { components = shown_components; apart = once (tenants_shown ts) rises })
+
+    pub limited : IsWithinLimits (tenants_shown ts) → IsWithinLimits (tenants_shown given)
+    limited = IsWithinLimits-moved (tenants_shown ts) (tenants_shown given) back
+
+    pub beyond : (IsWithinLimits (tenants_shown ts) → ⊥) → IsWithinLimits (tenants_shown given) → ⊥
+    beyond not_within limits = not_within (IsWithinLimits-moved (tenants_shown given) (tenants_shown ts) shown_moved limits)
+
+    pub ordered : IsWithinLimits (tenants_shown ts) → AreTenants (tenants_shown ts)
+    ordered limits = record { rising = rises; components = shown_components; limits = limits }

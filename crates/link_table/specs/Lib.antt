@@ -1,0 +1,4 @@
+pub mod Linked
+pub mod Lookups
+pub mod Rows
+pub mod Tenancy

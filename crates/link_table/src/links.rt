@@ -1,0 +1,269 @@
+ghost use Rattle.std.specs.Prelude.{◌≡◌, ◌≢◌, ℕ, ◌+◌, ◌<◌, ◌≤◌, ◌^◌, length, map, true, false, slice_index, slice_get, string_bytes, Some, Ok, IfOk, IfErr};
+ghost use Rattle.std.specs.Option.{option_copied, option_map};
+ghost use Rattle.std.specs.FinMap as fmap;
+ghost use Rattle.blob_digest.specs.Sets as set;
+ghost use Rattle.blob_digest.specs.Outcomes.{Does};
+ghost use Rattle.link_table.specs.Linked.{is_tenants, known_tenant, used_in, quota_in, blobs_of, repos_of, blobs_in, link, unlink, charge, discharge, appear, vanish, IsSizeOf, HasNoLinks};
+ghost use Rattle.link_table.specs.Tenancy.{Opens, AreTenants, RefusesTenants, tenants_shown};
+
+use crate::rows::{
+    LinkRow, has_blob, link_place, nth_named, nth_of, repo_place, repos_named, weight_with,
+    weight_without,
+};
+use crate::tenants::{in_order, tenant_at};
+use blob_digest::{Digest, Refusal, RepoName};
+use std::alloc::Global;
+use std::marker::Model;
+
+/// The most repositories that a tenant may have.
+const MOST_REPOS: usize = 1024;
+
+/// Tenants with quotas, their repositories, the links of repositories to blobs, and what each tenant
+/// is charged. Contracts see these four; what a tenant uses follows from them.
+///
+/// Tenants are numbered from 0 in the order of their names. Sizes, quotas, charges and uses are in
+/// bytes. A table keeps its repositories and its links in the order of their names and digests:
+/// to find one takes the logarithm of their number, to add or to remove one their number.
+#[derive(Drop)]
+pub struct Links {
+    tenants: Vec<(String, u64)>,
+    repos: Vec<RepoName>,
+    links: Vec<LinkRow>,
+    weights: Vec<u64>,
+    charges: Vec<u64>,
+}
+
+impl Model for Links {
+    ghost use Rattle.blob_digest.specs.Sets as set;
+    ghost use Rattle.link_table.specs.Linked.{Linked, coded_linked};
+
+    ghost Value = { Linked };
+
+    ghost coded = { coded_linked };
+
+    ghost use Rattle.link_table.specs.Tenancy.{tenants_shown};
+    ghost use Rattle.link_table.specs.Rows.{links_shown, IsSound};
+
+    ghost view = { λ a. record { tenants = tenants_shown a.tenants.items; repos = set.from_list a.repos.items; links = links_shown a.links.items; charges = a.charges.items } };
+
+    ghost invariant = { λ a. IsSound (tenants_shown a.tenants.items) a.repos.items a.links.items a.weights.items a.charges.items };
+}
+
+impl Links {
+    /// A table of these tenants, each a name with a quota, with nothing in it. It numbers them in
+    /// the order of their names.
+    ///
+    /// Refused are, in this order, a name that is no component of a repository's name or comes twice
+    /// (`NameInvalid`); no tenant, more than 256, or a quota above 2^50 bytes (`LimitReached`); and
+    /// want of memory.
+    pub fn new(alloc: Global, tenants: Vec<(String, u64)>) -> Result<Links, Refusal>
+        ensures opened { IfOk result (λ l. Opens (tenants_shown tenants.items) l) }
+        ensures refused { IfErr result (λ e. RefusesTenants e (tenants_shown tenants.items)) }
+    {
+        let tenants = in_order(tenants)?;
+        let count = tenants.as_slice().len();
+        let weights = vec![in alloc; 0u64; count]?;
+        let charges = vec![in alloc; 0u64; count]?;
+        Ok(Links {
+            tenants,
+            repos: Vec::new(alloc),
+            links: Vec::new(alloc),
+            weights,
+            charges,
+        })
+    }
+
+    /// The number of the tenant that a repository belongs to, or `NameUnknown`.
+    pub fn tenant(&self, repo: &RepoName) -> Result<u16, Refusal>
+        ensures known { result ≡ known_tenant self.now repo.now }
+        ensures there { IfOk result (λ t. t < length self.now.tenants) }
+        ensures own { IfOk result (λ t. is_tenants self.now.tenants t repo.now ≡ true) }
+        ensures short { length repo.now ≤ 255 }
+        ensures tenants { AreTenants self.now.tenants }
+    {
+        let _text = repo.text();
+        match tenant_at(self.tenants.as_slice(), repo.tenant()) {
+            Some(t) => Ok(t as u16),
+            None => Err(Refusal::NameUnknown),
+        }
+    }
+
+    /// How many tenants there are.
+    pub fn tenants(&self) -> u16
+        ensures count { result ≡ length self.now.tenants }
+        ensures kept { AreTenants self.now.tenants }
+    {
+        self.tenants.as_slice().len() as u16
+    }
+
+    /// The name of a tenant.
+    pub fn tenant_name(&self, tenant: u16) -> &str
+        requires { tenant < length self.now.tenants }
+        ensures { option_map (λ t. t.name) (slice_get self.now.tenants tenant) ≡ Some result.now }
+    {
+        self.tenants[tenant as usize].0.as_str()
+    }
+
+    /// How much a tenant may use, in bytes.
+    pub fn quota(&self, tenant: u16) -> u64
+        requires { tenant < length self.now.tenants }
+        ensures { result ≡ quota_in self.now.tenants tenant }
+    {
+        self.tenants[tenant as usize].1
+    }
+
+    /// What a tenant uses, in bytes: the size of each blob that its repositories hold, counted once,
+    /// and what was charged besides. It is kept at hand.
+    pub fn used(&self, tenant: u16) -> u64
+        requires { tenant < length self.now.tenants }
+        ensures { result ≡ used_in self.now tenant }
+    {
+        self.weights[tenant as usize] + self.charges[tenant as usize]
+    }
+
+    /// Charges a tenant with some bytes, or answers `Quota` where its use and they pass its quota.
+    pub fn charge(&mut self, tenant: u16, n: u64) -> Result<(), Refusal>
+        requires { tenant < length self.old.tenants }
+        ensures { Does (λ u. u) result self.old self.new (charge self.old tenant n) }
+    {
+        let used = self.used(tenant);
+        let quota = self.quota(tenant);
+        if used > quota {
+            return Err(Refusal::Quota { used, quota });
+        }
+        if n > quota - used {
+            return Err(Refusal::Quota { used, quota });
+        }
+        self.charges[tenant as usize] += n;
+        Ok(())
+    }
+
+    /// Takes back some of the bytes that a tenant was charged with.
+    pub fn discharge(&mut self, tenant: u16, n: u64)
+        requires there { tenant < length self.old.tenants }
+        requires charged { n ≤ slice_index self.old.charges tenant }
+        ensures { self.new ≡ discharge self.old tenant n }
+    {
+        self.charges[tenant as usize] -= n;
+    }
+
+    /// Makes a repository of a tenant known, and answers whether it is new. A tenant has at most
+    /// 1,024 repositories: one more is refused (`LimitReached`), and so is want of memory.
+    pub fn appear(&mut self, tenant: u16, repo: &RepoName) -> Result<bool, Refusal>
+        requires { tenant < length self.old.tenants }
+        ensures { Does (λ b. b) result self.old self.new (appear self.old tenant repo.now) }
+    {
+        let Err(place) = repo_place(self.repos.as_slice(), repo) else {
+            return Ok(false);
+        };
+        let name = self.tenants[tenant as usize].0.as_str();
+        if repos_named(self.repos.as_slice(), name) >= MOST_REPOS {
+            return Err(Refusal::LimitReached);
+        }
+        let copy = repo.clone()?;
+        self.repos.insert(place, copy)?;
+        Ok(true)
+    }
+
+    /// Takes back that a repository without links is known.
+    pub fn vanish(&mut self, repo: &RepoName)
+        requires there { set.contains self.old.repos repo.now ≡ true }
+        requires unlinked { HasNoLinks self.old.links repo.now }
+        ensures { self.new ≡ vanish self.old repo.now }
+    {
+        match repo_place(self.repos.as_slice(), repo) {
+            Ok(place) => {
+                self.repos.remove(place);
+            }
+            Err(_) => unreachable!(),
+        }
+    }
+
+    /// Links a blob of this digest and size in a repository of a tenant, and answers whether the
+    /// link is new. Want of memory is refused. It looks at each link once.
+    pub fn link(
+        &mut self,
+        tenant: u16,
+        repo: &RepoName,
+        digest: &Digest,
+        size: u64,
+    ) -> Result<bool, Refusal>
+        requires there { tenant < length self.old.tenants }
+        requires own { is_tenants self.old.tenants tenant repo.now ≡ true }
+        requires known { set.contains self.old.repos repo.now ≡ true }
+        requires size { IsSizeOf self.old.links digest.now size }
+        requires room { used_in self.old tenant + size < 2 ^ 64 }
+        ensures { Does (λ b. b) result self.old self.new (link self.old repo.now digest.now size) }
+    {
+        let Err(place) = link_place(self.links.as_slice(), repo, digest) else {
+            return Ok(false);
+        };
+        let name = self.tenants[tenant as usize].0.as_str();
+        let held = has_blob(self.links.as_slice(), name, digest);
+        let weight = weight_with(self.weights[tenant as usize], held, size);
+        let row = LinkRow {
+            repo: repo.clone()?,
+            digest: *digest,
+            size,
+        };
+        self.links.insert(place, row)?;
+        self.weights[tenant as usize] = weight;
+        Ok(true)
+    }
+
+    /// Takes a link out of a repository of a tenant. It looks at each link once.
+    pub fn unlink(&mut self, tenant: u16, repo: &RepoName, digest: &Digest)
+        requires there { tenant < length self.old.tenants }
+        requires own { is_tenants self.old.tenants tenant repo.now ≡ true }
+        requires linked { fmap.contains_key self.old.links (repo.now, digest.now) ≡ true }
+        ensures { self.new ≡ unlink self.old repo.now digest.now }
+    {
+        match link_place(self.links.as_slice(), repo, digest) {
+            Ok(place) => {
+                let row = self.links.remove(place);
+                let name = self.tenants[tenant as usize].0.as_str();
+                let held = has_blob(self.links.as_slice(), name, digest);
+                self.weights[tenant as usize] = weight_without(
+                    self.weights[tenant as usize],
+                    held,
+                    row.size,
+                );
+            }
+            Err(_) => unreachable!(),
+        }
+    }
+
+    /// Whether a repository holds the blob of a digest.
+    pub fn holds(&self, repo: &RepoName, digest: &Digest) -> bool
+        ensures { result ≡ fmap.contains_key self.now.links (repo.now, digest.now) }
+    {
+        link_place(self.links.as_slice(), repo, digest).is_ok()
+    }
+
+    /// Whether some repository of a tenant holds the blob of a digest. It looks at each link.
+    pub fn tenant_holds(&self, tenant: u16, digest: &Digest) -> bool
+        requires { tenant < length self.now.tenants }
+        ensures { result ≡ fmap.contains_key (blobs_of self.now tenant) digest.now }
+    {
+        let name = self.tenants[tenant as usize].0.as_str();
+        has_blob(self.links.as_slice(), name, digest)
+    }
+
+    /// The i-th repository of a tenant, in the order of their names, from 0. It looks at each
+    /// repository up to that one.
+    pub fn repo_at(&self, tenant: u16, i: usize) -> Option<&RepoName>
+        requires { tenant < length self.now.tenants }
+        ensures { option_copied result ≡ slice_get (repos_of self.now tenant) i }
+    {
+        let name = self.tenants[tenant as usize].0.as_str();
+        nth_named(self.repos.as_slice(), name, i)
+    }
+
+    /// The i-th blob that a repository holds, in the order of their digests, from 0, with its size
+    /// in bytes. It takes the logarithm of the number of links.
+    pub fn blob_at(&self, repo: &RepoName, i: usize) -> Option<(Digest, u64)>
+        ensures { result ≡ slice_get (blobs_in self.now repo.now) i }
+    {
+        nth_of(self.links.as_slice(), repo, i)
+    }
+}

@@ -1,0 +1,77 @@
+//! Which lists of tenants make a table.
+
+ghost use Rattle.std.specs.Prelude.{◌≡◌, ◌≤◌, ◌<◌, ◌^◌, ◌↔◌, IsTrue, IfOk, IfErr, length, position, string_bytes};
+ghost use Rattle.std.specs.List.{All, IsAllAdjacentAnswer};
+ghost use Rattle.std.specs.List.Sorted.{IsPermutation};
+ghost use Rattle.std.specs.Ordering.{is_lt};
+ghost use Rattle.blob_digest.specs.Keys.{text_cmp, same_text};
+ghost use Rattle.blob_digest.specs.Names.{IsComponent};
+ghost use Rattle.link_table.specs.Tenancy.{AreTenants, HasNames, IsWithinLimits, RefusesTenants, tenants_shown};
+
+use blob_digest::{Refusal, is_component};
+
+/// The most tenants that a table may have.
+const MOST_TENANTS: usize = 256;
+
+/// The greatest quota, in bytes.
+const MOST_BYTES: u64 = 1 << 50;
+
+/// Which of the tenants has a name.
+pub fn tenant_at(tenants: &[(String, u64)], name: &str) -> Option<usize>
+    ensures { result ≡ position (λ t. same_text (string_bytes t.0) name.now) tenants.now }
+{
+    tenants.iter().position(|t| t.0.as_str() == name)
+}
+
+/// Whether each name is one component of a repository's name.
+fn are_components(tenants: &[(String, u64)]) -> bool
+    ensures { IsTrue result ↔ All (λ t. IsComponent (string_bytes t.0)) tenants.now }
+{
+    tenants.iter().all(|t| is_component(t.0.as_bytes()))
+}
+
+/// Whether each name is below the next.
+fn names_rise(tenants: &[(String, u64)]) -> bool
+    ensures { IsAllAdjacentAnswer (λ x y b. b ≡ is_lt (text_cmp (string_bytes x.0) (string_bytes y.0))) tenants.now result }
+{
+    tenants.is_sorted_by(|a, b| a.0.cmp(&b.0).is_lt())
+}
+
+/// Whether no quota is beyond the limit.
+fn are_quotas(tenants: &[(String, u64)]) -> bool
+    ensures { IsTrue result ↔ All (λ t. t.1 ≤ 2 ^ 50) tenants.now }
+{
+    tenants.iter().all(|t| t.1 <= MOST_BYTES)
+}
+
+/// Whether number and quotas of the tenants are within the limits.
+fn are_within_limits(tenants: &[(String, u64)]) -> bool
+    ensures { IsTrue result ↔ IsWithinLimits (tenants_shown tenants.now) }
+{
+    if tenants.is_empty() || tenants.len() > MOST_TENANTS {
+        return false;
+    }
+    are_quotas(tenants)
+}
+
+/// The tenants in the order of their names. Refused are a name that is no component or comes twice
+/// (`NameInvalid`), and else no tenant, too many, or a quota beyond the limit (`LimitReached`).
+pub fn in_order(mut tenants: Vec<(String, u64)>) -> Result<Vec<(String, u64)>, Refusal>
+    ensures names { IfOk result (λ ts. HasNames (tenants_shown tenants.items)) }
+    ensures limits { IfOk result (λ ts. IsWithinLimits (tenants_shown tenants.items)) }
+    ensures same { IfOk result (λ ts. IsPermutation (tenants_shown tenants.items) (tenants_shown ts.items)) }
+    ensures kept { IfOk result (λ ts. AreTenants (tenants_shown ts.items)) }
+    ensures refused { IfErr result (λ e. RefusesTenants e (tenants_shown tenants.items)) }
+{
+    tenants.sort_unstable();
+    if !are_components(tenants.as_slice()) {
+        return Err(Refusal::NameInvalid);
+    }
+    if !names_rise(tenants.as_slice()) {
+        return Err(Refusal::NameInvalid);
+    }
+    if !are_within_limits(tenants.as_slice()) {
+        return Err(Refusal::LimitReached);
+    }
+    Ok(tenants)
+}
