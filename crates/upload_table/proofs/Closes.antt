@@ -5,7 +5,7 @@ use Rattle.std.specs.Option.{option_map, option_map_or}
 use Rattle.std.specs.List.{remove, concat}
 use Rattle.std.specs.FinMap.{get, insert}
 use Rattle.std.specs.FinMap.{remove as fremove}
-use Rattle.std.proofs.lemmas.List.{set-get_or}
+use Rattle.std.proofs.lemmas.List.{length-take-le, set-get_or}
 use Rattle.std.proofs.lemmas.Option.{slice_get-get_or}
 use Rattle.blob_digest.specs.Keys.{Text, Number, number_cmp}
 use Rattle.blob_digest.specs.Hashing.{Hashes}
@@ -46,6 +46,19 @@ shown-refill next rows i old new bytes rising lt is same within taken =
     let v : Uploaded = shown next rows (Some i) in
     (λ j. record { next = next; sessions = back j; closing = None })
     ∙ sym (ap (λ o. option_map_or (λ (c : Closing). record v { sessions = insert v.sessions c.key (record { repo = c.repo; chunks = cut c.lens bytes }); closing = None }) o v) (shows_closing rows i old lt is))
+
+-- what a call to open it again asks of the row
+pub can_row : (next : List ℕ) (rows : List Upload) (closing : Option ℕ) (i : ℕ) (row : Upload) (v : Uploaded) (bytes : List ℕ) → closing ≡ Some i → i < length rows → row ≡ get_or rows i row → shown next rows closing ≡ v → CanReopen v.closing bytes →
+    (sum row.lens.items ≤ length bytes) × Hashes row.running (take (sum row.lens.items) bytes)
+can_row next rows closing i row v bytes is_closing lt is view can =
+    subst (λ (c : Option Closing). CanReopen c bytes) (sym (ap (λ (x : Uploaded). x.closing) view) ∙ ap (λ (k : Option ℕ). closing_in k rows) is_closing ∙ shows_closing rows i row lt is) can
+
+-- a row with its bytes again is whole
+pub refill_whole : (old new : Upload) (bytes : List ℕ) → IsSame old new → sum old.lens.items ≤ length bytes → Hashes old.running (take (sum old.lens.items) bytes) → new.bytes.items ≡ take (sum old.lens.items) bytes → IsWhole new
+refill_whole old new bytes same within hash taken = record {
+  lengths = rw (same.lens, taken) (sym (length-take-le (sum old.lens.items) bytes within));
+  hash = rw (same.running, taken) hash;
+}
 
 module _ (next totals : List ℕ) (rows : List Upload) (i : ℕ) (old new : Upload) (sound : IsSound next totals rows None) (lt : i < length rows) (is : old ≡ get_or rows i old) (same : IsSame old new) where
   here : new ≡ get_or (set rows i new) i new
