@@ -1,5 +1,5 @@
 -- Sessions looked up, counted and summed, in the rows and in the map that they stand for.
-use Rattle.std.proofs.Common.{◌≡◌, ℕ, zero, suc, ◌+◌, ◌^◌, ◌<◌, ◌≤◌, Bool, true, false, cond, List, [], ◌∷◌, length, map, get_or, Option, Some, None, is_some, Result, Ok, Err, refl, sym, ap, ◌∙◌, subst, arith}
+use Rattle.std.proofs.Common.{◌≡◌, ℕ, zero, suc, ◌+◌, ◌^◌, ◌<◌, ◌≤◌, Bool, true, false, cond, List, [], ◌∷◌, length, map, take, get_or, Option, Some, None, is_some, Result, Ok, Err, refl, sym, ap, ◌∙◌, subst, arith}
 use Rattle.std.specs.Prelude.{◌==◌, ◌&&◌, ◌||◌, nat_le, slice_get, slice_index, option_map, sum}
 use Rattle.std.specs.Ordering.{eq_by_cmp}
 use Rattle.std.specs.List.{sum_by, count_by, filter, AllByRecursion, position, list_any}
@@ -169,3 +169,12 @@ sessions_are rows rising t repo =
     let of_tenant : (e : Number × Session) → is_of_repo t repo e ≡ true → e.0.0 ≡ t = λ e h. eqb-true e.0.0 t (and_parts (e.0.0 == t) (same_text e.1.repo repo) h).0 in
     filter-entries number_cmp (is_of_repo t repo) number_cmp_total (map entry_of rows) (apart rows rising) (PassRising-rising (is_of_repo t repo) t of_tenant (map entry_of rows) (rising_entries rows rising))
     ∙ filter-map (is_of_repo t repo) entry_of rows
+
+-- the row that passes, after so many that do
+pub nth_passing : {A : Type 0} (p : A → Bool) (xs : List A) (k : ℕ) (x : A) → k < length xs → x ≡ get_or xs k x → p x ≡ true → Some x ≡ slice_get (filter p xs) (length (filter p (take k xs)))
+nth_passing p [] k x lt is pass = absurd (omega arith)
+nth_passing p (y ∷ xs) zero x lt is pass = let h : p y ≡ true = ap p (sym is) ∙ pass in rw h (ap (λ z. Some z) is)
+nth_passing {A = A} p (y ∷ xs) (suc k) x lt is pass = step p y xs (take k xs) x (nth_passing p xs k x (omega arith) is pass)
+  where
+    step : (p : A → Bool) (y : A) (xs ys : List A) (x : A) → Some x ≡ slice_get (filter p xs) (length (filter p ys)) → Some x ≡ slice_get (filter p (y ∷ xs)) (length (filter p (y ∷ ys)))
+    step p y xs ys x h = elim (p y) as (λ b. Some x ≡ slice_get (cond b (y ∷ filter p xs) (filter p xs)) (length (cond b (y ∷ filter p ys) (filter p ys)))) [ true ↦ h | false ↦ h ]
