@@ -178,3 +178,23 @@ nth_passing {A = A} p (y ∷ xs) (suc k) x lt is pass = step p y xs (take k xs) 
   where
     step : (p : A → Bool) (y : A) (xs ys : List A) (x : A) → Some x ≡ slice_get (filter p xs) (length (filter p ys)) → Some x ≡ slice_get (filter p (y ∷ xs)) (length (filter p (y ∷ ys)))
     step p y xs ys x h = elim (p y) as (λ b. Some x ≡ slice_get (cond b (y ∷ filter p xs) (filter p xs)) (length (cond b (y ∷ filter p ys) (filter p ys)))) [ true ↦ h | false ↦ h ]
+
+all-filter : {A : Type 0} (P : A → Type 0) (p : A → Bool) (xs : List A) → AllByRecursion P xs → AllByRecursion P (filter p xs)
+all-filter P p [] all = tt
+all-filter P p (x ∷ xs) all = elim (p x) as (λ b. AllByRecursion P (cond b (x ∷ filter p xs) (filter p xs))) [ true ↦ (all.0, all-filter P p xs all.1) | false ↦ all-filter P p xs all.1 ]
+
+-- a row's number, and the length of its bytes
+abbrev pub row_listed : Upload → ℕ × ℕ
+row_listed u = (u.number, length u.bytes.items)
+
+all_listed : (rows : List Upload) → AllByRecursion IsWhole rows → map listed (map entry_of rows) ≡ map row_listed rows
+all_listed [] all = refl
+all_listed (u ∷ rows) all = λ i. (u.number, received_is u all.0 i) ∷ all_listed rows all.1 i
+
+-- a repository's i-th session is the i-th of the rows
+pub listed_at : (next totals : List ℕ) (rows : List Upload) → IsSound next totals rows None → (t : ℕ) (repo : Text) (i : ℕ) →
+    slice_get (map listed (sessions_of (map_of rows) t repo)) i ≡ option_map row_listed (slice_get (filter (λ u. u.tenant == t && same_text u.repo repo) rows) i)
+listed_at next totals rows sound t repo i =
+    let p : Upload → Bool = λ u. u.tenant == t && same_text u.repo repo in
+    let whole = all-filter IsWhole p rows (all_from IsWhole rows (all_whole next totals rows sound)) in
+    ap (λ es. slice_get (map listed es) i) (sessions_are rows sound.rising t repo) ∙ ap (λ xs. slice_get xs i) (all_listed (filter p rows) whole) ∙ slice_get-map row_listed (filter p rows) i
