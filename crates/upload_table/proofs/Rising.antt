@@ -108,11 +108,13 @@ IsRising-push (j ∷ keys) k less rising = (push j k keys less.0 rising.0, IsRis
     push j k (i ∷ keys) here all = (all.0, push j k keys here all.1)
 
 pub All-remove : {A : Type 0} (P : A → Type 0) (xs : List A) (i : ℕ) → AllByRecursion P xs → AllByRecursion P (remove xs i)
-All-remove P [] i all = tt
+All-remove P [] zero all = tt
+All-remove P [] (suc i) all = tt
 All-remove P (x ∷ xs) zero all = all.1
 All-remove P (x ∷ xs) (suc i) all = (all.0, All-remove P xs i all.1)
 
 pub IsRising-remove : (keys : List Number) (i : ℕ) → IsRising keys → IsRising (remove keys i)
-IsRising-remove [] i rising = tt
+IsRising-remove [] zero rising = tt
+IsRising-remove [] (suc i) rising = tt
 IsRising-remove (k ∷ keys) zero rising = rising.1
 IsRising-remove (k ∷ keys) (suc i) rising = (All-remove (λ j. j.0 ≡ k.0 → k.1 < j.1) keys i rising.0, IsRising-remove keys i rising.1)

@@ -39,12 +39,14 @@ map-push f [] x = refl
 map-push f (y ∷ xs) x = ap (λ ys. f y ∷ ys) (map-push f xs x)
 
 pub map-remove : {A B : Type 0} (f : A → B) (xs : List A) (i : ℕ) → map f (remove xs i) ≡ remove (map f xs) i
-map-remove f [] i = refl
+map-remove f [] zero = refl
+map-remove f [] (suc i) = refl
 map-remove f (x ∷ xs) zero = refl
 map-remove f (x ∷ xs) (suc i) = ap (λ ys. f x ∷ ys) (map-remove f xs i)
 
 pub remove-set : {A : Type 0} (xs : List A) (i : ℕ) (x : A) → remove (set xs i x) i ≡ remove xs i
-remove-set [] i x = refl
+remove-set [] zero x = refl
+remove-set [] (suc i) x = refl
 remove-set (y ∷ xs) zero x = refl
 remove-set (y ∷ xs) (suc i) x = ap (λ ys. y ∷ ys) (remove-set xs i x)
 
@@ -55,7 +57,8 @@ set-set (z ∷ xs) (suc i) x y = ap (λ ys. z ∷ ys) (set-set xs i x y)
 
 -- what holds at all places but one holds once that one is taken out
 but-remove : {A : Type 0} (P : A → Type 0) (xs : List A) (i : ℕ) → ((j : ℕ) (d : A) → j < length xs → (j ≡ i → ⊥) → P (get_or xs j d)) → (j : ℕ) (d : A) → j < length (remove xs i) → P (get_or (remove xs i) j d)
-but-remove P [] i h j d lt = absurd (omega arith)
+but-remove P [] zero h j d lt = absurd (omega arith)
+but-remove P [] (suc i) h j d lt = absurd (omega arith)
 but-remove P (x ∷ xs) zero h j d lt = h (suc j) d (omega arith) (λ e. omega arith)
 but-remove P (x ∷ xs) (suc i) h zero d lt = h 0 d (omega arith) (λ e. omega arith)
 but-remove P (x ∷ xs) (suc i) h (suc j) d lt =
@@ -113,6 +116,10 @@ IsSound-start next totals rows rows' u m pushed one_more sound there number empt
       lengths = sound.lengths ∙ sym (length-set next u.tenant m);
       inside = tt;
     })
+
+-- each row's tenant has a sum
+pub tenants_counted : (next totals : List ℕ) (rows : List Upload) (closing : Option ℕ) → IsSound next totals rows closing → (i : ℕ) (d : Upload) → i < length rows → (get_or rows i d).tenant < length totals
+tenants_counted next totals rows closing sound i d lt = omega (arith, tenant_there next rows i d sound.below lt, sound.lengths)
 
 -- ---- a row changed
 

@@ -65,12 +65,13 @@ pub(crate) fn number_of(next: &[u64], tenant: u16) -> u32
 }
 
 /// Takes a row out, and its length out of its tenant's sum.
-pub(crate) fn take_out(rows: &mut Vec<Upload>, totals: &mut [u64], i: usize)
+pub(crate) fn take_out(rows: &mut Vec<Upload>, totals: &mut Vec<u64>, i: usize)
     requires inside { i < length rows.old.items }
-    requires counted { IsCounted totals.old rows.old.items }
-    requires there { (d : Row) → (slice_index_or rows.old.items i d).tenant < length totals.old }
+    requires counted { IsCounted totals.old.items rows.old.items }
+    requires there { (d : Row) → (slice_index_or rows.old.items i d).tenant < length totals.old.items }
     ensures rows { rows.new.items ≡ remove rows.old.items i }
-    ensures counted { IsCounted totals.new rows.new.items }
+    ensures counted { IsCounted totals.new.items rows.new.items }
+    ensures lengths { length totals.new.items ≡ length totals.old.items }
 {
     let row = rows.remove(i);
     let len = sum_of(row.lens.as_slice());

@@ -1,4 +1,4 @@
-ghost use Rattle.std.specs.Prelude.{◌≡◌, ◌≢◌, ◌+◌, ◌<◌, ◌≤◌, ◌^◌, ◌++◌, ◌==◌, ◌&&◌, IfOk, IfErr, OnOk, OnErr, false, length, sum, take};
+ghost use Rattle.std.specs.Prelude.{◌≡◌, ◌≢◌, ◌+◌, ◌<◌, ◌≤◌, ◌^◌, ◌++◌, ◌==◌, ◌&&◌, IfOk, IfErr, OnOk, OnErr, false, true, length, sum, take};
 ghost use Rattle.blob_digest.specs.Digests.{is_digest_of};
 ghost use Rattle.blob_digest.specs.Keys.{same_text};
 ghost use Rattle.upload_table.specs.Sessions.{length_after as length_after_chunk};
@@ -82,6 +82,7 @@ pub(crate) fn seal_row(
 ) -> Result<Blob, Refusal>
     requires { IsWhole upload.old }
     ensures blob { IfOk result (λ b. b ≡ (digest.now, upload.old.bytes.items ++ last.now)) }
+    ensures agrees { OnOk result (is_digest_of digest.now (upload.old.bytes.items ++ last.now) ≡ true) }
     ensures kept { OnOk result (IsSame upload.old upload.new) }
     ensures refused { IfErr result (λ e. e ≢ Refusal.Memory → (e ≡ Refusal.DigestInvalid) × (is_digest_of digest.now (upload.old.bytes.items ++ last.now) ≡ false)) }
     ensures err { OnErr result (IsUnchanged upload.old upload.new) }
