@@ -1,0 +1,14 @@
+//! `blobctl` plays a script of uploads on a store that lies in memory, and prints the replies and the
+//! book. It reads the script from standard input as CSV records (RFC 4180) of seven fields, and checks
+//! the whole script before it plays the first row.
+#![tactic(auto)]
+
+mod fault;
+mod fields;
+mod number;
+mod row;
+mod script;
+
+fn main(rt: HostRuntime) {
+    let _ = rt;
+}
