@@ -5,9 +5,12 @@
 
 mod fault;
 mod fields;
+mod input;
 mod number;
+mod reply;
 mod row;
 mod script;
+mod watched;
 
 fn main(rt: HostRuntime) {
     let _ = rt;
