@@ -1,5 +1,7 @@
+pub mod Commands
 pub mod Inputs
 pub mod Lines
+pub mod Plays
 pub mod Reading
 pub mod Replies
 pub mod Rows

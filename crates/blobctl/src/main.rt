@@ -3,10 +3,12 @@
 //! the whole script before it plays the first row.
 #![tactic(auto)]
 
+mod board;
 mod fault;
 mod fields;
 mod input;
 mod number;
+mod player;
 mod reply;
 mod row;
 mod script;
