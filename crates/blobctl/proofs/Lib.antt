@@ -1,3 +1,4 @@
 pub mod Inputs
 pub mod PlayedRows
 pub mod Records
+pub mod TenantLists

@@ -6,5 +6,7 @@ pub mod Reading
 pub mod Replies
 pub mod Rows
 pub mod Script
+pub mod Stops
+pub mod Tenants
 pub mod Texts
 pub mod Watching

@@ -8,10 +8,12 @@ mod fault;
 mod fields;
 mod input;
 mod number;
+mod options;
 mod player;
 mod reply;
 mod row;
 mod script;
+mod tenants;
 mod watched;
 
 fn main(rt: HostRuntime) {
