@@ -1,6 +1,7 @@
 pub mod Commands
 pub mod Inputs
 pub mod Lines
+pub mod Options
 pub mod Plays
 pub mod Reading
 pub mod Replies

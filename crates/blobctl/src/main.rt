@@ -3,6 +3,7 @@
 //! the whole script before it plays the first row.
 #![tactic(auto)]
 
+mod arguments;
 mod board;
 mod fault;
 mod fields;
