@@ -1,39 +1,46 @@
 -- Lists of tenants that grow.
-use Rattle.std.proofs.Common.{add-one, ◌≡◌, ◌≢◌, ◌⊎◌, ◌≤◌, ◌<◌, ◌+◌, ◌∙◌, ◌++◌, ◌∷◌, ◌||◌, [], ℕ, List, Bool, true, false, Option, Some, None, ap, cond, get_or, inl, inr, length, map, refl, sym, take, string_bytes, String, drop, drop-cons}
+use Rattle.std.proofs.Common.{add-one, ◌≡◌, ◌⊎◌, ◌≤◌, ◌<◌, ◌+◌, ◌∙◌, ◌++◌, ◌∷◌, ◌||◌, [], ℕ, List, Bool, true, false, ap, arith, cond, count_by, drop, drop-cons, get_or, inl, inr, length, map, refl, string_bytes, String, sym, take, zero-add, add-zero}
 use Rattle.std.proofs.lemmas.List.{map-append, take_more, take-append-drop}
+use Rattle.std.proofs.lemmas.List.Elements.{All-append, All-cons}
+use Rattle.std.proofs.lemmas.List.Sums.{sum_by-append, sum_by-cons}
+use Rattle.std.proofs.lemmas.Bool.{or_parts}
 use Rattle.std.specs.Borrow.{Bor}
-use Rattle.std.proofs.lemmas.Map.Text.{is_eq-slice_cmp}
-use Rattle.std.specs.FinMap.{find}
-use Rattle.std.specs.List.{AllByRecursion, list_any}
-use Rattle.std.specs.Option.{is_some}
-use Rattle.std.specs.Str.{bytes_eq}
-use Rattle.blob_digest.specs.Keys.{Text, text_cmp}
+use Rattle.std.specs.declared.alloc.Global.{Global}
+use Rattle.std.specs.List.{All, list_any}
+use Rattle.blob_digest.specs.Keys.{Text, same_text}
+use Rattle.blob_digest.specs.Tenants.{Tenant}
+use Rattle.blob_digest.proofs.KeyOrders.{text_is_same}
 use Rattle.blobctl.specs.Tenants.{HasBadTenant, IsRefusedAfter, IsTenantWord, SpellTenants, tenants_of}
 use Rattle.blobctl.specs.declared.options.Stop.{Stop}
 use Rattle.blobctl.specs.declared.options.Stop.TheVariants.{BadTenant, Memory}
 
--- a name is found exactly where some tenant has it
-pub found_any : {A : Type 0} (tenants : List (String A × ℕ)) (name : Text) → is_some (find text_cmp name (tenants_of tenants)) ≡ list_any (λ t. bytes_eq name (string_bytes t.0)) tenants
-found_any [] name = refl
-found_any (t ∷ ts) name = rw is_eq-slice_cmp (elim (bytes_eq name (string_bytes t.0)) as (λ b. is_some (cond b (Some t.1) (find text_cmp name (tenants_of ts))) ≡ (b || list_any (λ t. bytes_eq name (string_bytes t.0)) ts)) [
-  | true ↦ refl
-  | false ↦ found_any ts name
-])
+-- a name is among the tenants as it is among those that the program keeps
+pub any_named : (tenants : List (String Global × ℕ)) (name : Text) → list_any (λ t. same_text t.name name) (tenants_of tenants) ≡ list_any (λ t. same_text (string_bytes t.0) name) tenants
+any_named [] name = refl
+any_named (t ∷ ts) name = ap (λ b. same_text (string_bytes t.0) name || b) (any_named ts name)
 
-none_of : {A : Type 0} (o : Option A) → is_some o ≡ false → o ≡ None
-none_of None e = refl
-none_of (Some x) e = cc
+-- what passes nowhere is counted nowhere
+none_counted : (name : Text) (ts : List Tenant) → list_any (λ t. same_text t.name name) ts ≡ false → count_by (λ t. same_text t.name name) ts ≡ 0
+none_counted name [] none = refl
+none_counted name (t ∷ ts) none =
+    let parts = or_parts (same_text t.name name) (list_any (λ t. same_text t.name name) ts) none in
+    sum_by-cons (λ t. cond (same_text t.name name) 1 0) t ts ∙ rw parts.0 (zero-add (count_by (λ t. same_text t.name name) ts) ∙ none_counted name ts parts.1)
 
--- a name that no tenant has is not found
-pub absent : {A : Type 0} (tenants : List (String A × ℕ)) (name : Text) → list_any (λ t. bytes_eq name (string_bytes t.0)) tenants ≡ false → find text_cmp name (tenants_of tenants) ≡ None
-absent tenants name none = none_of (find text_cmp name (tenants_of tenants)) (found_any tenants name ∙ none)
-
--- a name that some tenant has is found
-pub present : {A : Type 0} (tenants : List (String A × ℕ)) (name : Text) → list_any (λ t. bytes_eq name (string_bytes t.0)) tenants ≡ true → find text_cmp name (tenants_of tenants) ≢ None
-present tenants name some e = let both : false ≡ true = sym (ap is_some e) ∙ (found_any tenants name ∙ some) in cc
+-- a name more, which no tenant has, is there once
+pub once_more : (ts : List Tenant) (t : Tenant) → ((name : Text) → count_by (λ t. same_text t.name name) ts ≤ 1) → list_any (λ x. same_text x.name t.name) ts ≡ false
+    → (name : Text) → count_by (λ t. same_text t.name name) (ts ++ t ∷ []) ≤ 1
+once_more ts t once none name =
+    let split : count_by (λ t. same_text t.name name) (ts ++ t ∷ []) ≡ count_by (λ t. same_text t.name name) ts + cond (same_text t.name name) 1 0 =
+    sum_by-append (λ t. cond (same_text t.name name) 1 0) ts (t ∷ []) ∙ ap (λ n. count_by (λ t. same_text t.name name) ts + n) (sum_by-cons (λ t. cond (same_text t.name name) 1 0) t [] ∙ add-zero (cond (same_text t.name name) 1 0)) in
+    let before = once name in
+    let case : (b : Bool) → same_text t.name name ≡ b → count_by (λ t. same_text t.name name) ts + cond b 1 0 ≤ 1 = elim [
+      | true ↦ λ same. (let none_there : count_by (λ t. same_text t.name name) ts ≡ 0 = ap (λ n. count_by (λ t. same_text t.name n) ts) (sym (text_is_same t.name name same)) ∙ none_counted t.name ts none in omega arith)
+      | false ↦ λ same. omega arith
+    ] in
+    rw split (case (same_text t.name name) refl)
 
 -- one word more spells one tenant more
-pub one_spelled : (words : List Text) (tenants : List (Text × ℕ)) (word : Text) (tenant : Text × ℕ) → SpellTenants words tenants → IsTenantWord word tenant
+pub one_spelled : (words : List Text) (tenants : List Tenant) (word : Text) (tenant : Tenant) → SpellTenants words tenants → IsTenantWord word tenant
     → SpellTenants (words ++ word ∷ []) (tenants ++ tenant ∷ [])
 one_spelled [] [] word tenant before here = (here, tt)
 one_spelled [] (t ∷ ts) word tenant before here = absurd before
@@ -41,9 +48,8 @@ one_spelled (w ∷ ws) [] word tenant before here = absurd before
 one_spelled (w ∷ ws) (t ∷ ts) word tenant before here = (before.0, one_spelled ws ts word tenant before.1 here)
 
 -- one element more
-pub all_more : {A : Type 0} (P : A → Type 0) (xs : List A) (x : A) → AllByRecursion P xs → P x → AllByRecursion P (xs ++ x ∷ [])
-all_more P [] x all here = (here, tt)
-all_more P (y ∷ ys) x all here = (all.0, all_more P ys x all.1 here)
+pub all_more : {A : Type 0} (P : A → Type 0) (xs : List A) (x : A) → All P xs → P x → All P (xs ++ x ∷ [])
+all_more P xs x all here = All-append P xs (x ∷ []) all (All-cons P x [] here (λ k d lt. absurd (omega arith)))
 
 -- one word more
 pub words_more : (words : List (Bor Text)) (i : ℕ) (d : Bor Text) → i < length words
@@ -59,7 +65,7 @@ words_round words i d within =
     ∙ map-append (λ (w : Bor Text). w.now) (take i words) (get_or words i d ∷ drop (i + 1) words)
 
 -- a word that names no tenant after those before it is a bad one
-pub bad_word : (words : List Text) (before after : List Text) (tenants : List (Text × ℕ)) (word : Text) (stop : Stop) → words ≡ before ++ word ∷ after → SpellTenants before tenants
+pub bad_word : (words : List Text) (before after : List Text) (tenants : List Tenant) (word : Text) (stop : Stop) → words ≡ before ++ word ∷ after → SpellTenants before tenants
     → (stop ≡ Memory) ⊎ ((stop ≡ BadTenant) × IsRefusedAfter tenants word) → (stop ≡ Memory) ⊎ ((stop ≡ BadTenant) × HasBadTenant words)
 bad_word words before after tenants word stop whole spelled why =
     elim why [

@@ -4,7 +4,7 @@ ghost use Rattle.blobctl.specs.Texts.{fault_status, fault_text};
 ghost use Rattle.blobctl.specs.declared.fault.Fault.TheVariants.{Memory};
 
 use blob_digest::Refusal;
-use std::alloc::{AllocError, AllocFailed, Global};
+use std::alloc::{AllocError, AllocFailed};
 use std::fmt;
 
 /// Why a run stops. Only after `Write` may something have been written.
@@ -65,12 +65,13 @@ impl Fault {
 
     /// Appends the line that the program prints, its line feed included. Refused is want of memory
     /// alone, and then the text is as it was.
-    pub fn write(&self, alloc: Global, out: &mut String) -> Result<(), Refusal>
+    pub fn write(&self, out: &mut String) -> Result<(), Refusal>
         ensures ok { OnOk result (string_bytes out.new ≡ string_bytes out.old ++ fault_text self.now) }
         ensures err { OnErr result (string_bytes out.new ≡ string_bytes out.old) }
         ensures refused { IfErr result (λ e. e ≡ Refusal.Memory) }
     {
         let fault = *self;
+        let alloc = *out.allocator();
         let text = format!(in alloc; "{fault}")?;
         out.push_str(text.as_str())?;
         Ok(())

@@ -17,6 +17,9 @@ mod script;
 mod tenants;
 mod watched;
 
+#[cfg(test)]
+mod tests;
+
 fn main(rt: HostRuntime) {
     let _ = rt;
 }

@@ -4,7 +4,7 @@ ghost use Rattle.blobctl.specs.Stops.{stop_status, stop_text};
 ghost use Rattle.blobctl.specs.declared.options.Stop.TheVariants.{Memory};
 
 use blob_digest::Refusal;
-use std::alloc::{AllocError, AllocFailed, Global};
+use std::alloc::{AllocError, AllocFailed};
 
 /// What the program runs on.
 #[derive(Debug, Drop)]
@@ -74,7 +74,7 @@ impl Stop {
 
     /// Appends what the program prints. Refused is want of memory alone, and then the text is as it
     /// was.
-    pub fn write(&self, _alloc: Global, out: &mut String) -> Result<(), Refusal>
+    pub fn write(&self, out: &mut String) -> Result<(), Refusal>
         ensures ok { OnOk result (string_bytes out.new ≡ string_bytes out.old ++ stop_text self.now) }
         ensures err { OnErr result (string_bytes out.new ≡ string_bytes out.old) }
         ensures refused { IfErr result (λ e. e ≡ Refusal.Memory) }

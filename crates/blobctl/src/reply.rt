@@ -1,9 +1,8 @@
 //! Replies, and their texts.
 ghost use Rattle.std.specs.Prelude.{◌≡◌, ◌++◌, Some, IfErr, OnErr, OnOk, string_bytes};
-ghost use Rattle.blobctl.specs.Replies.{refusal_text, reply_text};
+ghost use Rattle.blobctl.specs.Replies.{reply_text};
 
 use blob_digest::Refusal;
-use std::alloc::Global;
 use std::fmt;
 
 /// The reply to a row.
@@ -19,36 +18,6 @@ pub enum Reply {
     Refused(Refusal),
 }
 
-/// A refusal as a reply names it.
-#[derive(Drop)]
-struct Named(Refusal);
-
-impl fmt::Display for Named {
-    ghost output = { λ n. Some (refusal_text n.0) };
-
-    fn fmt<W: fmt::Write>(&self, f: &mut fmt::Formatter<W>) -> fmt::Result {
-        match &self.0 {
-            Refusal::NameInvalid => f.write_str("NameInvalid"),
-            Refusal::DigestInvalid => f.write_str("DigestInvalid"),
-            Refusal::NameUnknown => f.write_str("NameUnknown"),
-            Refusal::UploadUnknown => f.write_str("UploadUnknown"),
-            Refusal::SizeInvalid => f.write_str("SizeInvalid"),
-            Refusal::RangeInvalid { received } => write!(f, "RangeInvalid received {received}"),
-            Refusal::BlobUnknown => f.write_str("BlobUnknown"),
-            Refusal::ManifestInvalid => f.write_str("ManifestInvalid"),
-            Refusal::ManifestUnknown => f.write_str("ManifestUnknown"),
-            Refusal::ManifestBlobUnknown { digest } => write!(f, "ManifestBlobUnknown {digest}"),
-            Refusal::Quota { used, quota } => write!(f, "Quota used {used} quota {quota}"),
-            Refusal::Referenced { manifest } => write!(f, "Referenced {manifest}"),
-            Refusal::StoreFull => f.write_str("StoreFull"),
-            Refusal::TooManyReaders => f.write_str("TooManyReaders"),
-            Refusal::LimitReached => f.write_str("LimitReached"),
-            Refusal::WeightSpent => f.write_str("WeightSpent"),
-            Refusal::Memory => f.write_str("Memory"),
-        }
-    }
-}
-
 impl fmt::Display for Reply {
     ghost output = { λ r. Some (reply_text r) };
 
@@ -57,10 +26,7 @@ impl fmt::Display for Reply {
             Reply::Session(number) => write!(f, "session {number}"),
             Reply::Received(length) => write!(f, "received {length}"),
             Reply::Stored(size) => write!(f, "stored {size}"),
-            Reply::Refused(refusal) => {
-                let refusal = Named(*refusal);
-                write!(f, "refused {refusal}")
-            }
+            Reply::Refused(refusal) => write!(f, "refused {refusal}"),
         }
     }
 }
@@ -68,12 +34,13 @@ impl fmt::Display for Reply {
 impl Reply {
     /// Appends the text of the reply, without the row's number and without a line feed. Refused is
     /// want of memory alone, and then the text is as it was.
-    pub fn write(&self, alloc: Global, out: &mut String) -> Result<(), Refusal>
+    pub fn write(&self, out: &mut String) -> Result<(), Refusal>
         ensures ok { OnOk result (string_bytes out.new ≡ string_bytes out.old ++ reply_text self.now) }
         ensures err { OnErr result (string_bytes out.new ≡ string_bytes out.old) }
         ensures refused { IfErr result (λ e. e ≡ Refusal.Memory) }
     {
         let reply = *self;
+        let alloc = *out.allocator();
         let text = format!(in alloc; "{reply}")?;
         out.push_str(text.as_str())?;
         Ok(())

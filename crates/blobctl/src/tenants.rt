@@ -1,9 +1,8 @@
 //! Reads the tenants that the arguments name.
-ghost use Rattle.std.specs.Prelude.{◌≡◌, ◌≢◌, ◌⊎◌, ◌<◌, ◌++◌, ◌∷◌, [], ℕ, None, IfOk, IfErr, OnOk, MatchOption, length, map, string_bytes};
-ghost use Rattle.std.specs.FinMap.{find};
+ghost use Rattle.std.specs.Prelude.{◌≡◌, ◌≢◌, ◌⊎◌, ◌<◌, ◌++◌, ◌∷◌, [], false, IfOk, IfErr, OnOk, MatchOption, length, map, string_bytes};
 ghost use Rattle.std.specs.List.{list_any};
-ghost use Rattle.std.specs.Str.{bytes_eq};
-ghost use Rattle.blob_digest.specs.Keys.{Text, text_cmp};
+ghost use Rattle.blob_digest.specs.Keys.{Text, same_text};
+ghost use Rattle.blob_digest.specs.Tenants.{Tenant};
 ghost use Rattle.blobctl.specs.Tenants.{AreTenants, HasBadTenant, IsRefusedAfter, IsTenantWord, SpellTenants, most_tenants, tenant_of, tenants_of};
 
 use crate::number::decimal;
@@ -19,7 +18,7 @@ const MAX_QUOTA: u64 = 1_125_899_906_842_624;
 
 /// The tenant that a word spells: a name, `=`, and a quota of one or more decimal digits.
 fn read_tenant(word: &str) -> Option<(&str, u64)>
-    ensures { MatchOption result ((tenant : Text × ℕ) → IsTenantWord word.now tenant → ⊥) (λ t. IsTenantWord word.now (t.0.now, t.1)) }
+    ensures { MatchOption result ((tenant : Tenant) → IsTenantWord word.now tenant → ⊥) (λ t. IsTenantWord word.now (record { name = t.0.now; quota = t.1 })) }
 {
     let (name, digits) = word.split_once('=')?;
     if !is_component(name.as_bytes()) {
@@ -35,14 +34,14 @@ fn read_tenant(word: &str) -> Option<(&str, u64)>
 
 /// Whether a tenant of this name is there.
 fn has_name(tenants: &[(String, u64)], name: &str) -> bool
-    ensures { result ≡ list_any (λ t. bytes_eq name.now (string_bytes t.0)) tenants.now }
+    ensures { result ≡ list_any (λ t. same_text (string_bytes t.0) name.now) tenants.now }
 {
-    tenants.iter().any(|t| name == t.0.as_str())
+    tenants.iter().any(|t| t.0.as_str() == name)
 }
 
 /// Adds the tenant that a word spells.
 fn add_tenant(alloc: Global, word: &str, tenants: &mut Vec<(String, u64)>) -> Result<(), Stop>
-    ensures added { OnOk result ((tenant : Text × ℕ) × IsTenantWord word.now tenant × (find text_cmp tenant.0 (tenants_of tenants.old.items) ≡ None) × (length tenants.old.items < most_tenants) × (tenants_of tenants.new.items ≡ tenants_of tenants.old.items ++ tenant ∷ [])) }
+    ensures added { OnOk result ((tenant : Tenant) × IsTenantWord word.now tenant × (list_any (λ t. same_text t.name tenant.name) (tenants_of tenants.old.items) ≡ false) × (length tenants.old.items < most_tenants) × (tenants_of tenants.new.items ≡ tenants_of tenants.old.items ++ tenant ∷ [])) }
     ensures refused { IfErr result (λ e. (e ≡ Stop.Memory) ⊎ ((e ≡ Stop.BadTenant) × IsRefusedAfter (tenants_of tenants.old.items) word.now)) }
 {
     let Some((name, quota)) = read_tenant(word) else {

@@ -1,13 +1,12 @@
-use Rattle.std.proofs.Common.{◌≡◌, ◌≤◌, ◌+◌, ◌∙◌, ◌∷◌, [], ℕ, ap, arith, drop, get_or, length, length-append, map, sym, take}
+use Rattle.std.proofs.Common.{◌≡◌, ◌≤◌, ◌+◌, ◌∙◌, ◌∷◌, [], ap, arith, drop, get_or, length, length-append, map, sym, take}
 use Rattle.std.specs.Borrow.{Bor}
 use Rattle.std.proofs.lemmas.List.{length-map}
 use Rattle.std.proofs.lemmas.Result.{err_from_is_err_and}
-use Rattle.blob_digest.specs.Keys.{Text, text_cmp}
+use Rattle.blob_digest.specs.Keys.{Text}
+use Rattle.blob_digest.specs.Tenants.{Tenant}
 use Rattle.blob_digest.specs.Names.{IsComponent}
-use Rattle.blob_digest.proofs.RowLemmas.{IsApart-push}
-use Rattle.std.specs.Cmp.Lexicographic.{nat_list_cmp_total}
 use Rattle.blobctl.specs.Tenants.{most_quota, tenant_of, tenants_of}
-use Rattle.blobctl.proofs.TenantLists.{all_more, bad_word, one_spelled, words_more, words_round}
+use Rattle.blobctl.proofs.TenantLists.{all_more, bad_word, once_more, one_spelled, words_more, words_round}
 use Rattle.blobctl.proofs.tenants.read_tenants.Goals as goal
 
 nothing : Bor Text
@@ -38,7 +37,7 @@ loop-word-preserved c =
       spelled = rw (words_more words i nothing c.loop-word-test.true, added.4) (one_spelled (map (λ (w : Bor Text). w.now) (take i words)) old word added.0 inv.spelled added.1);
       few = omega (arith, count, added.3);
       count = omega (arith, count, inv.count);
-      names = rw added.4 (all_more (λ (t : Text × ℕ). IsComponent t.0) old added.0 inv.names added.1.component);
-      quotas = rw added.4 (all_more (λ (t : Text × ℕ). t.1 ≤ most_quota) old added.0 inv.quotas added.1.small);
-      apart = rw added.4 (IsApart-push text_cmp nat_list_cmp_total old added.0.0 added.0.1 inv.apart added.2);
+      components = rw added.4 (all_more (λ (t : Tenant). IsComponent t.name) old added.0 inv.components added.1.component);
+      quotas = rw added.4 (all_more (λ (t : Tenant). t.quota ≤ most_quota) old added.0 inv.quotas added.1.small);
+      apart = rw added.4 (once_more old added.0 inv.apart added.2);
     }
