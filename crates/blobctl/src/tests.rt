@@ -90,6 +90,7 @@ fn a_row_too_many_is_bad(rt: HostRuntime) {
 }
 
 /// A reader of two bytes at a time that fails at one of its calls.
+#[derive(Drop)]
 struct Failing<'s> {
     left: &'s [u8],
     call: u32,
