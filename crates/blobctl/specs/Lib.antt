@@ -1,7 +1,9 @@
 pub mod Commands
+pub mod Ending
 pub mod Inputs
 pub mod Lines
 pub mod Options
+pub mod Played
 pub mod Plays
 pub mod Reading
 pub mod Replies

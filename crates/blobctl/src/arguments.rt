@@ -7,6 +7,7 @@ use crate::tenants::read_tenants;
 use clap::error::ErrorKind;
 use clap::{Arg, ArgAction, ArgMatches, Command};
 use std::alloc::{AllocError, Global};
+use store_book::Config;
 
 /// The most slots that a store has.
 const MAX_SLOTS: u32 = 65536;
@@ -73,11 +74,13 @@ fn options_of(alloc: Global, matches: &ArgMatches<'_>) -> Result<Options, Stop>
     let none: &[&str] = &[];
     let words = matches.get_strs("tenants").unwrap_or(none);
     let tenants = read_tenants(alloc, words)?;
-    Ok(Options {
+    let store = Config {
         slots,
         max_blob,
         tenants,
-    })
+        first_generation: 0,
+    };
+    Ok(Options { store })
 }
 
 /// The options that the words spell. The first word is the program's own name. `clap`'s faults come

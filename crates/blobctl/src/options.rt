@@ -5,17 +5,13 @@ ghost use Rattle.blobctl.specs.declared.options.Stop.TheVariants.{Memory};
 
 use blob_digest::Refusal;
 use std::alloc::{AllocError, AllocFailed};
+use store_book::Config;
 
 /// What the program runs on.
 #[derive(Debug, Drop)]
 pub struct Options {
-    /// How many blobs the store has room for: 1 to 65,536.
-    pub slots: u32,
-    /// The longest session and blob, in bytes: 0 to 2^40.
-    pub max_blob: u64,
-    /// The tenants, 1 to 256, each with its quota in bytes, 0 to 2^50. A name is one component of a
-    /// repository's name (OCI Distribution Specification 1.1, "Pulling manifests"), and none comes twice.
-    pub tenants: Vec<(String, u64)>,
+    /// What the store is made with: its slots, its limit on blobs, and its tenants with their quotas.
+    pub store: Config,
 }
 
 /// Why the program stops before it runs.

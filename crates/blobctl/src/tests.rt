@@ -26,7 +26,8 @@ fn bad_row(alloc: Global, script: &[u8]) -> u32 {
 #[test]
 fn rows_are_read(rt: HostRuntime) {
     let alloc = rt.alloc();
-    let script = b"0,start,acme/one,,,,\n007,append,acme/one,1,,0-0,a\n\n255,close,acme/one,4294967295,d,,\"x,\"\"y\"\n";
+    let script =
+        b"0,start,acme/one,,,,\n007,append,acme/one,1,,0-0,a\n\n255,close,acme/one,4294967295,d,,\"x,\"\"y\"\n";
     match read_rows(alloc, script) {
         Ok(rows) => {
             assert_eq!(rt; rows.len(), 3);
@@ -167,19 +168,22 @@ fn options_are_read(rt: HostRuntime) {
     let alloc = rt.alloc();
     match options_of(alloc, &["zeta=5", "acme=0001000"]) {
         Ok(options) => {
-            assert_eq!(rt; options.slots, 64);
-            assert_eq!(rt; options.max_blob, 1_048_576);
-            assert_eq!(rt; options.tenants.len(), 2);
-            assert_eq!(rt; options.tenants[0].0.as_str(), "zeta");
-            assert_eq!(rt; options.tenants[1].0.as_str(), "acme");
-            assert_eq!(rt; options.tenants[1].1, 1000);
+            assert_eq!(rt; options.store.slots, 64);
+            assert_eq!(rt; options.store.max_blob, 1_048_576);
+            assert_eq!(rt; options.store.tenants.len(), 2);
+            assert_eq!(rt; options.store.tenants[0].0.as_str(), "zeta");
+            assert_eq!(rt; options.store.tenants[1].0.as_str(), "acme");
+            assert_eq!(rt; options.store.tenants[1].1, 1000);
         }
         Err(_) => assert!(rt; false),
     }
-    match options_of(alloc, &["--slots", "65536", "--max-blob=0", "a=1125899906842624"]) {
+    match options_of(
+        alloc,
+        &["--slots", "65536", "--max-blob=0", "a=1125899906842624"],
+    ) {
         Ok(options) => {
-            assert_eq!(rt; options.slots, 65536);
-            assert_eq!(rt; options.max_blob, 0);
+            assert_eq!(rt; options.store.slots, 65536);
+            assert_eq!(rt; options.store.max_blob, 0);
         }
         Err(_) => assert!(rt; false),
     }
@@ -189,8 +193,17 @@ fn options_are_read(rt: HostRuntime) {
 fn wrong_tenant_words_are_bad_tenants(rt: HostRuntime) {
     let alloc = rt.alloc();
     for word in [
-        "acme", "=5", "acme=", "Acme=5", "ac/me=5", "acme=5x", "acme=-5", "acme=+5", "acme==5",
-        "acme=1125899906842625", "acme=99999999999999999999999",
+        "acme",
+        "=5",
+        "acme=",
+        "Acme=5",
+        "ac/me=5",
+        "acme=5x",
+        "acme=-5",
+        "acme=+5",
+        "acme==5",
+        "acme=1125899906842625",
+        "acme=99999999999999999999999",
     ] {
         match options_of(alloc, &["other=1", word]) {
             Err(Stop::BadTenant) => {}
@@ -250,7 +263,13 @@ fn replies_are_printed(rt: HostRuntime) {
     assert!(rt; prints(alloc, &Reply::Session(4_294_967_295), "session 4294967295"));
     assert!(rt; prints(alloc, &Reply::Received(0), "received 0"));
     assert!(rt; prints(alloc, &Reply::Stored(3), "stored 3"));
-    assert!(rt; prints(alloc, &Reply::Refused(Refusal::NameUnknown), "refused NameUnknown"));
+    assert!(rt;
+        prints(
+            alloc,
+            &Reply::Refused(Refusal::NameUnknown),
+            "refused NameUnknown"
+        )
+    );
     let received = Reply::Refused(Refusal::RangeInvalid { received: 2 });
     assert!(rt; prints(alloc, &received, "refused RangeInvalid received 2"));
     let quota = Reply::Refused(Refusal::Quota { used: 3, quota: 5 });
