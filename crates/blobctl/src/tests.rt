@@ -5,6 +5,7 @@ use crate::input::read_script;
 use crate::options::{Options, Stop};
 use crate::reply::Reply;
 use crate::row::Verb;
+use crate::run::run;
 use crate::script::read_rows;
 use crate::watched::Watched;
 use blob_digest::{Digest, Refusal};
@@ -294,5 +295,141 @@ fn faults_are_printed(rt: HostRuntime) {
         fault.write(&mut out).expect(&rt, "memory");
         assert_eq!(rt; out.as_str(), text);
         assert_eq!(rt; fault.status(), status);
+    }
+}
+
+const UPLOAD: &[u8] =
+    b"0,start,acme/one,,,,\n0,append,acme/one,1,,0-0,a\n0,append,acme/one,1,,1-2,bc\n0,close,acme/one,1,sha256:ba7816bf8f01cfea414140de5dae2223b00361a396177a9cb410ff61f20015ad,,\n";
+
+const UPLOADED: &str =
+    "1 session 1\n2 received 1\n3 received 3\n4 stored 3\nbook\ntenant acme used 3 quota 1000 next 2\nrepository acme/one\nblob sha256:ba7816bf8f01cfea414140de5dae2223b00361a396177a9cb410ff61f20015ad size 3 links 1\nend\n";
+
+/// A writer of at most four bytes at a time that fails at one of its calls.
+#[derive(Drop)]
+struct Full {
+    held: Vec<u8>,
+    call: u32,
+    fails_at: u32,
+}
+
+impl Write for Full {
+    fn write(&mut self, buf: &[u8]) -> io::Result<usize> {
+        if self.call == self.fails_at {
+            return Err(io::Error::from(ErrorKind::StorageFull));
+        }
+        self.call = self.call.saturating_add(1);
+        let mut count = 0;
+        for byte in buf {
+            if count == 4 {
+                return Ok(count);
+            }
+            if self.held.push(*byte).is_err() {
+                return Err(io::Error::from(ErrorKind::OutOfMemory));
+            }
+            count += 1;
+        }
+        Ok(count)
+    }
+
+    fn flush(&mut self) -> io::Result<()> {
+        Ok(())
+    }
+}
+
+/// What a run writes by these arguments from this script, or its fault, with how many calls of the
+/// writer there were.
+fn run_on(
+    alloc: Global,
+    words: &[&str],
+    script: &[u8],
+    fails_at: u32,
+) -> Result<(Vec<u8>, u32), Fault> {
+    let Ok(options) = options_of(alloc, words) else {
+        return Err(Fault::Memory);
+    };
+    let mut reader = Watched::new(script);
+    let mut writer = Full {
+        held: Vec::new(alloc),
+        call: 0,
+        fails_at,
+    };
+    match run(alloc, &mut reader, &mut writer, &options) {
+        Ok(()) => {
+            let Full {
+                held,
+                call,
+                fails_at: _,
+            } = writer;
+            Ok((held, call))
+        }
+        Err(fault) => {
+            if fault != Fault::Write && writer.call > 0 {
+                return Err(Fault::BadRow(0));
+            }
+            Err(fault)
+        }
+    }
+}
+
+/// Whether a run writes this text.
+fn writes(alloc: Global, words: &[&str], script: &[u8], text: &str) -> bool {
+    match run_on(alloc, words, script, u32::MAX) {
+        Ok((held, _)) => held.as_slice() == text.as_bytes(),
+        Err(_) => false,
+    }
+}
+
+#[test]
+fn an_empty_script_prints_the_book(rt: HostRuntime) {
+    let text =
+        "book\ntenant acme used 0 quota 1000 next 1\ntenant zeta used 0 quota 5 next 1\nend\n";
+    assert!(rt; writes(rt.alloc(), &["acme=1000", "zeta=5"], b"", text));
+    assert!(rt; writes(rt.alloc(), &["zeta=5", "acme=1000"], b"", text));
+}
+
+#[test]
+fn an_upload_is_played(rt: HostRuntime) {
+    assert!(rt; writes(rt.alloc(), &["acme=1000"], UPLOAD, UPLOADED));
+}
+
+#[test]
+fn an_empty_blob_is_stored(rt: HostRuntime) {
+    let script =
+        b"0,start,acme/one,,,,\n0,close,acme/one,1,sha256:e3b0c44298fc1c149afbf4c8996fb92427ae41e4649b934ca495991b7852b855,,\n";
+    let text =
+        "1 session 1\n2 stored 0\nbook\ntenant acme used 0 quota 1000 next 2\nrepository acme/one\nblob sha256:e3b0c44298fc1c149afbf4c8996fb92427ae41e4649b934ca495991b7852b855 size 0 links 1\nend\n";
+    assert!(rt; writes(rt.alloc(), &["acme=1000"], script, text));
+}
+
+#[test]
+fn fields_that_spell_nothing_are_refused_in_order(rt: HostRuntime) {
+    let script =
+        b"0,start,Acme,,,,\n0,close,Acme,1,d,x,\n0,close,acme/one,1,d,x,\n0,append,acme/one,1,,2-1,c\n0,start,nobody/x,,,,\n";
+    let text =
+        "1 refused NameInvalid\n2 refused NameInvalid\n3 refused DigestInvalid\n4 refused SizeInvalid\n5 refused NameUnknown\nbook\ntenant acme used 0 quota 1 next 1\nend\n";
+    assert!(rt; writes(rt.alloc(), &["acme=1"], script, text));
+}
+
+#[test]
+fn a_bad_row_writes_nothing(rt: HostRuntime) {
+    let script = b"0,start,acme/one,,,,\n0,fly,acme/one,,,,\n";
+    match run_on(rt.alloc(), &["acme=1000"], script, u32::MAX) {
+        Ok(_) => assert!(rt; false),
+        Err(fault) => assert_eq!(rt; fault, Fault::BadRow(2)),
+    }
+}
+
+#[test]
+fn a_failed_write_is_a_write_fault(rt: HostRuntime) {
+    let alloc = rt.alloc();
+    let Ok((_, calls)) = run_on(alloc, &["acme=1000"], UPLOAD, u32::MAX) else {
+        assert!(rt; false);
+        return;
+    };
+    for fails_at in 0..calls {
+        match run_on(alloc, &["acme=1000"], UPLOAD, fails_at) {
+            Ok(_) => assert!(rt; false),
+            Err(fault) => assert_eq!(rt; fault, Fault::Write),
+        }
     }
 }
