@@ -1,4 +1,7 @@
 //! Worked examples, by values that stand outside the program.
+ghost use Rattle.std.specs.Prelude.{IfOk};
+ghost use Rattle.blobctl.specs.Options.{IsWithin};
+
 use crate::arguments::read_options;
 use crate::fault::Fault;
 use crate::input::read_script;
@@ -105,19 +108,8 @@ impl<'s> Read for Failing<'s> {
             return Err(io::Error::from(ErrorKind::Interrupted));
         }
         self.call = self.call.saturating_add(1);
-        let mut count = 0;
-        for place in buf.iter_mut() {
-            if count == 2 {
-                return Ok(count);
-            }
-            let Some((first, rest)) = self.left.split_first() else {
-                return Ok(count);
-            };
-            *place = *first;
-            self.left = rest;
-            count += 1;
-        }
-        Ok(count)
+        let most = buf.len().min(2);
+        self.left.read(&mut buf[..most])
     }
 }
 
@@ -157,7 +149,9 @@ fn words_of(alloc: Global, words: &[&str]) -> Option<Vec<String>> {
 }
 
 /// What a command line gives.
-fn options_of(alloc: Global, words: &[&str]) -> Result<Options, Stop> {
+fn options_of(alloc: Global, words: &[&str]) -> Result<Options, Stop>
+    ensures { IfOk result IsWithin }
+{
     match words_of(alloc, words) {
         Some(words) => read_options(alloc, words.as_slice()),
         None => Err(Stop::Memory),
@@ -318,17 +312,11 @@ impl Write for Full {
             return Err(io::Error::from(ErrorKind::StorageFull));
         }
         self.call = self.call.saturating_add(1);
-        let mut count = 0;
-        for byte in buf {
-            if count == 4 {
-                return Ok(count);
-            }
-            if self.held.push(*byte).is_err() {
-                return Err(io::Error::from(ErrorKind::OutOfMemory));
-            }
-            count += 1;
+        let count = buf.len().min(4);
+        match self.held.extend_from_slice(&buf[..count]) {
+            Ok(()) => Ok(count),
+            Err(_) => Err(io::Error::from(ErrorKind::OutOfMemory)),
         }
-        Ok(count)
     }
 
     fn flush(&mut self) -> io::Result<()> {
