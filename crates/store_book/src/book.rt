@@ -1,0 +1,146 @@
+ghost use Rattle.std.specs.Prelude.{◌≡◌, ◌+◌, ◌<◌, ℕ, List, length, map, Some, nat_lt, IfOk, IfErr, replicate};
+ghost use Rattle.blob_digest.specs.Outcomes.{Does, refuse};
+ghost use Rattle.link_table.specs.Linked.{quota_in, used_in};
+ghost use Rattle.store_book.specs.Laws.{Sound};
+ghost use Rattle.store_book.specs.Steps.{start, append, close};
+
+use crate::keep::keep;
+use blob_digest::{ByteRange, Digest, Refusal, RepoName};
+use link_table::Links;
+use slot_table::SlotTable;
+use std::marker::Model;
+use upload_table::Uploads;
+
+/// The book: what every tenant's repositories hold, and what is being uploaded to them.
+#[derive(Drop)]
+pub struct Book {
+    pub(crate) links: Links,
+    pub(crate) uploads: Uploads,
+    pub(crate) slots: SlotTable,
+    max_blob: u64,
+}
+
+impl Model for Book {
+    ghost use Rattle.store_book.specs.BookState.{BookState, coded_state};
+
+    ghost Value = { BookState };
+
+    ghost coded = { coded_state };
+
+    ghost use Rattle.store_book.specs.Layers.{book_state, IsBook};
+
+    ghost view = { λ a. book_state a.links a.uploads a.slots a.max_blob };
+
+    ghost invariant = { λ a. IsBook a.links a.uploads a.slots a.max_blob };
+}
+
+/// Whether a tenant may use so many bytes more. Refused is a use past the quota (`Quota`).
+fn check_quota(links: &Links, tenant: u16, n: u64) -> Result<(), Refusal>
+    requires { tenant < length links.now.tenants }
+    ensures { result ≡ refuse (nat_lt (quota_in links.now.tenants tenant) (used_in links.now tenant + n)) (Refusal.Quota (used_in links.now tenant) (quota_in links.now.tenants tenant)) }
+{
+    let used = links.used(tenant);
+    let quota = links.quota(tenant);
+    match used.checked_add(n) {
+        Some(after) if after <= quota => Ok(()),
+        _ => Err(Refusal::Quota { used, quota }),
+    }
+}
+
+impl Book {
+    /// Opens a session in a repository, and answers its number (OCI Distribution Specification 1.1,
+    /// "Pushing a blob in chunks", the opening POST). The repository appears with it.
+    ///
+    /// Refused, in this order: a tenant that is not there (`NameUnknown`); a tenant that has 1,024
+    /// repositories where this one is new, or 64 sessions, or no session number left
+    /// (`LimitReached`); want of memory.
+    pub fn start(&mut self, repo: &RepoName) -> Result<u32, Refusal>
+        ensures does { Does (λ n. n) result self.old.catalog self.new.catalog (start self.old.catalog repo.now) }
+        ensures slots { self.new.slots ≡ self.old.slots }
+    {
+        let tenant = self.links.tenant(repo)?;
+        let is_new = self.links.appear(tenant, repo)?;
+        match self.uploads.start(tenant, repo) {
+            Ok(number) => Ok(number),
+            Err(refusal) => {
+                if is_new {
+                    self.links.vanish(repo);
+                }
+                Err(refusal)
+            }
+        }
+    }
+
+    /// Adds a chunk to a session, and answers the received length (OCI Distribution Specification 1.1,
+    /// "Pushing a blob in chunks"). A chunk without a range goes at the end; one without bytes and
+    /// range is accepted and changes nothing.
+    ///
+    /// Refused, in this order: a tenant that is not there (`NameUnknown`); a session that is not there
+    /// or another repository's (`UploadUnknown`); a range of another length than the bytes, or a
+    /// session past the size limit (`SizeInvalid`); a range that does not start at the received length
+    /// (`RangeInvalid`); a use past the quota (`Quota`); want of memory.
+    pub fn append(
+        &mut self,
+        repo: &RepoName,
+        number: u32,
+        range: Option<ByteRange>,
+        bytes: &[u8],
+    ) -> Result<u64, Refusal>
+        ensures does { Does (λ n. n) result self.old.catalog self.new.catalog (append self.old.catalog repo.now number range bytes.now) }
+        ensures slots { self.new.slots ≡ self.old.slots }
+    {
+        let tenant = self.links.tenant(repo)?;
+        let len = bytes.len() as u64;
+        let after = self
+            .uploads
+            .check(tenant, repo, number, range, len, self.max_blob)?;
+        self.links.charge(tenant, len)?;
+        match self.uploads.append(tenant, number, bytes) {
+            Ok(()) => Ok(after),
+            Err(refusal) => {
+                self.links.discharge(tenant, len);
+                Err(refusal)
+            }
+        }
+    }
+
+    /// Closes a session with its last chunk, which may be empty: its bytes become the blob of this
+    /// digest, linked in the repository. Answers the blob's size (OCI Distribution Specification 1.1,
+    /// "Pushing a blob in chunks", the closing PUT). The session's bytes move into the blob, and only
+    /// the last chunk is hashed.
+    ///
+    /// Refused, in this order: what `append` refuses of the last chunk; a digest that is not that of
+    /// the whole, or that is kept with other bytes (`DigestInvalid`); a store that has no slot free
+    /// for a digest that is not kept (`StoreFull`); want of memory. A refusal leaves the session
+    /// without the last chunk.
+    pub fn close(
+        &mut self,
+        repo: &RepoName,
+        number: u32,
+        digest: &Digest,
+        range: Option<ByteRange>,
+        bytes: &[u8],
+    ) -> Result<u64, Refusal>
+        ensures does { Does (λ n. n) result self.old.catalog self.new.catalog (close self.old.catalog repo.now number digest.now range bytes.now) }
+        ensures slots { self.new.slots ≡ self.old.slots }
+    {
+        let tenant = self.links.tenant(repo)?;
+        let len = bytes.len() as u64;
+        let size = self
+            .uploads
+            .check(tenant, repo, number, range, len, self.max_blob)?;
+        check_quota(&self.links, tenant, len)?;
+        let blob = self.uploads.seal(tenant, number, bytes, digest)?;
+        match keep(&mut self.links, &mut self.slots, tenant, repo, blob) {
+            Ok(()) => {
+                self.uploads.finish();
+                self.links.discharge(tenant, size - len);
+                Ok(size)
+            }
+            Err((refusal, blob)) => {
+                self.uploads.reopen(blob);
+                Err(refusal)
+            }
+        }
+    }
+}
