@@ -16,7 +16,7 @@ use Rattle.pin_core.specs.declared.world.PinEntry.{PinEntry}
 use Rattle.pin_core.specs.declared.event.Event.{Event}
 use Rattle.pin_core.specs.declared.event.Event.TheVariants.{Give, Lend, Share, Leave, Condemn, Revive, Reclaim, Look, Verify}
 use Rattle.blob_digest.specs.Keys.{Text}
-use Rattle.pin_core.specs.World.{PinWorld, Keeps, Held, HasDigest, IsNamed, IsState, IsUsed, hold_named, holds_of, opening, row, no_row, weight_on, most_weight}
+use Rattle.pin_core.specs.World.{PinWorld, Keeps, HasDigest, IsState, IsUsed, hold_named, holds_of, opening, row, no_row}
 use Rattle.pin_core.specs.Events.{Can, after, half, halve, second, entry, lent_hold, digest_or, given_row, in_phase, reclaimed_row}
 use Rattle.pin_core.proofs.Names.{hold_in, all_named, all_map, all_filter, all_push, clear_holds, named_push, named_filter, named_shared}
 use Rattle.pin_core.proofs.Weights.{lent_fits, shared_fits, filter_fits}

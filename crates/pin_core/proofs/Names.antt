@@ -1,5 +1,5 @@
 -- Pins by their names.
-use Rattle.std.proofs.Common.{◌≡◌, ◌≢◌, ℕ, List, [], ◌∷◌, ◌++◌, map, Bool, true, false, cond, not, Option, Some, None, refl, sym, ap, ◌∙◌, subst, eq-eqb, ne_eqb, take, drop, length, get_or, ◌+◌, ◌<◌, zero, suc, arith}
+use Rattle.std.proofs.Common.{◌≡◌, ◌≢◌, ℕ, List, [], ◌∷◌, ◌++◌, map, Bool, true, false, cond, not, Option, Some, None, refl, sym, ap, ◌∙◌, subst, eq-eqb, ne_eqb, take, drop, length, get_or, ◌<◌, zero, suc, arith}
 use Rattle.std.specs.Prelude.{◌==◌, ◌||◌}
 use Rattle.std.proofs.lemmas.List.{map-append}
 use Rattle.std.specs.List.{All, filter, list_any}

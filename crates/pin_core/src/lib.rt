@@ -21,3 +21,8 @@ pub use state::PinState;
 pub use steps::{run, step};
 pub use word::{CONDEMNED, LAST_GENERATION, MOST_WEIGHT, NEW_WEIGHT, USED, WordRow, pack, unpack};
 pub use world::{Hold, Phase, PinEntry, PinRow};
+
+#[cfg(test)]
+mod recount;
+#[cfg(test)]
+mod tests;

@@ -1,6 +1,6 @@
 //! A pin world that a program holds.
 
-ghost use Rattle.std.specs.Prelude.{◌≡◌, ◌⊎◌, ◌+◌, ◌<◌, ◌≤◌, ◌↔◌, length, slice_get, None, IfOk, IfErr, OnOk, OnErr, IsTrue};
+ghost use Rattle.std.specs.Prelude.{◌≡◌, ◌⊎◌, ◌+◌, ◌<◌, ◌≤◌, ◌↔◌, length, slice_get, None, IfOk, IfErr, OnOk, OnErr, IfSome, IsTrue, ◌^◌};
 ghost use Rattle.std.specs.Option.{option_map, option_map_or};
 ghost use Rattle.blob_digest.specs.declared.refusal.Refusal.TheVariants.{LimitReached, Memory};
 ghost use Rattle.pin_core.specs.World.{IsState, holds_of, hold_named, opening, row, weight_on, word_row};
@@ -61,7 +61,8 @@ impl PinState {
 
     /// What the word of a slot says, where the slot is there. Goes over the pins.
     pub fn row(&self, slot: u32) -> Option<WordRow>
-        ensures { result ≡ option_map (λ r. word_row r (weight_on slot (holds_of self.now))) (slice_get self.now.rows slot) }
+        ensures value { result ≡ option_map (λ r. word_row r (weight_on slot (holds_of self.now))) (slice_get self.now.rows slot) }
+        ensures fits { IfSome result (λ r. r.weight < 2 ^ 30) }
     {
         let row = self.rows.get(slot as usize)?;
         Some(WordRow {
@@ -128,13 +129,15 @@ impl PinState {
         ensures { IsTrue result ↔ Can self.now event.now }
     {
         match *event {
-            Event::Give { slot, digest } => self.is_in(slot, Phase::Free) && is_new(&self.rows, digest),
+            Event::Give { slot, digest } => self.is_in(slot, Phase::Free)
+                && is_new(&self.rows, digest),
             Event::Lend { slot, pin } => self.can_lend(slot, pin),
             Event::Share { pin, second } => self.can_share(pin, second),
             Event::Leave { pin } | Event::Verify { pin } => find(&self.pins, pin).is_some(),
             Event::Condemn { slot } => self.is_in(slot, Phase::Live),
             Event::Revive { slot } => self.is_in(slot, Phase::Condemned),
-            Event::Reclaim { slot } => self.is_in(slot, Phase::Condemned) && is_clear(&self.pins, slot),
+            Event::Reclaim { slot } => self.is_in(slot, Phase::Condemned)
+                && is_clear(&self.pins, slot),
             Event::Look { slot } => (slot as usize) < self.rows.len(),
         }
     }

@@ -2,7 +2,7 @@
 //! condemned, bit 31 used, bits 32 to 63 the generation. A retired slot has bit 30 alone.
 
 ghost use Rattle.std.specs.Prelude.{◌≡◌, ◌<◌, ◌^◌};
-ghost use Rattle.pin_core.specs.World.{word_of};
+ghost use Rattle.pin_core.specs.World.{phase_bits, word_of};
 
 use crate::world::Phase;
 
@@ -34,7 +34,7 @@ pub struct WordRow {
 
 /// The bits of a phase.
 fn phase_bits(phase: Phase) -> u64
-    ensures { result ≡ word_of 0 phase 0 }
+    ensures { result ≡ phase_bits phase }
 {
     match phase {
         Phase::Free => 0,

@@ -1,4 +1,4 @@
-use Rattle.std.proofs.Common.{◌≡◌, get_or, sym, ◌∙◌, ap, add-one, eqb-true, is_some, List}
+use Rattle.std.proofs.Common.{sym, ◌∙◌, ap, add-one, eqb-true, is_some, List}
 use Rattle.std.specs.Prelude.{◌==◌}
 use Rattle.std.proofs.lemmas.List.Quantifiers.{position-Some}
 use Rattle.blob_digest.proofs.RowLemmas.{is_some-position}

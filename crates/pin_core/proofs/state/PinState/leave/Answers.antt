@@ -1,5 +1,5 @@
-use Rattle.std.proofs.Common.{◌≡◌, sym, subst}
-use Rattle.pin_core.specs.World.{PinWorld, IsState}
+use Rattle.std.proofs.Common.{sym, subst}
+use Rattle.pin_core.specs.World.{PinWorld}
 use Rattle.pin_core.specs.Events.{Can}
 use Rattle.pin_core.specs.declared.event.Event.TheVariants.{Leave}
 use Rattle.pin_core.proofs.Held.{state_after}

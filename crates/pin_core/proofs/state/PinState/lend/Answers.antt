@@ -1,7 +1,6 @@
-use Rattle.std.proofs.Common.{◌≡◌, List, ◌∷◌, [], ◌++◌, sym, ◌∙◌, ap, subst}
-use Rattle.pin_core.specs.World.{PinWorld, IsState, row}
+use Rattle.std.proofs.Common.{List, ◌∷◌, [], ◌++◌, sym, ◌∙◌, ap, subst}
+use Rattle.pin_core.specs.World.{PinWorld, IsState}
 use Rattle.pin_core.specs.Events.{Can, lent_hold, entry}
-use Rattle.pin_core.specs.declared.world.PinRow.{PinRow}
 use Rattle.pin_core.specs.declared.world.PinEntry.{PinEntry}
 use Rattle.pin_core.specs.declared.event.Event.TheVariants.{Lend}
 use Rattle.pin_core.proofs.Held.{state_after, row_read, lent_is}
