@@ -28,4 +28,5 @@ pub mod Closing
 pub mod KeepCalls
 pub mod Keepable
 pub mod CloseCalls
+pub mod Opening
 pub mod WorkedExamples

@@ -1,13 +1,16 @@
 ghost use Rattle.std.specs.Prelude.{◌≡◌, ◌+◌, ◌<◌, ℕ, List, length, map, Some, nat_lt, IfOk, IfErr, replicate};
 ghost use Rattle.blob_digest.specs.Outcomes.{Does, refuse};
 ghost use Rattle.link_table.specs.Linked.{quota_in, used_in};
-ghost use Rattle.store_book.specs.Laws.{Sound};
+ghost use Rattle.link_table.specs.Tenancy.{tenants_shown};
+ghost use Rattle.store_book.specs.Openings.{OpensBook, RefusesBook};
 ghost use Rattle.store_book.specs.Steps.{start, append, close};
 
+use crate::config::{Config, copied};
 use crate::keep::keep;
 use blob_digest::{ByteRange, Digest, Refusal, RepoName};
 use link_table::Links;
 use slot_table::SlotTable;
+use std::alloc::Global;
 use std::marker::Model;
 use upload_table::Uploads;
 
@@ -47,7 +50,34 @@ fn check_quota(links: &Links, tenant: u16, n: u64) -> Result<(), Refusal>
     }
 }
 
+const MOST_BYTES: u64 = 0x100_0000_0000;
+
 impl Book {
+    /// The book of a new store: its tenants in the order of their names, no repository, and every slot
+    /// free.
+    ///
+    /// Refused, in this order: a tenant's name that is no component of a repository's name or comes
+    /// twice (`NameInvalid`); a count, a quota or a size beyond its limit (`LimitReached`); want of
+    /// memory.
+    pub fn new(alloc: Global, config: &Config) -> Result<Book, Refusal>
+        ensures opened { IfOk result (OpensBook (tenants_shown config.now.tenants.items) config.now.slots config.now.max_blob config.now.first_generation) }
+        ensures refused { IfErr result (λ e. RefusesBook e (tenants_shown config.now.tenants.items) config.now.slots config.now.max_blob) }
+    {
+        let tenants = copied(alloc, &config.tenants)?;
+        let links = Links::new(alloc, tenants)?;
+        if config.max_blob > MOST_BYTES {
+            return Err(Refusal::LimitReached);
+        }
+        let slots = SlotTable::new(alloc, config.slots, config.first_generation)?;
+        let uploads = Uploads::new(alloc, links.tenants(), 1)?;
+        Ok(Book {
+            links,
+            uploads,
+            slots,
+            max_blob: config.max_blob,
+        })
+    }
+
     /// Opens a session in a repository, and answers its number (OCI Distribution Specification 1.1,
     /// "Pushing a blob in chunks", the opening POST). The repository appears with it.
     ///

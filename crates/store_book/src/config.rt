@@ -1,3 +1,8 @@
+ghost use Rattle.std.specs.Prelude.{◌≡◌, IfOk};
+ghost use Rattle.link_table.specs.Tenancy.{tenants_shown};
+
+use std::alloc::{AllocError, Global};
+
 /// What a store is made with. Nothing of it changes later.
 #[derive(Debug, Drop)]
 pub struct Config {
@@ -10,4 +15,19 @@ pub struct Config {
     pub tenants: Vec<(String, u64)>,
     /// The generation that each slot has at first.
     pub first_generation: u32,
+}
+
+/// The same tenants with the same quotas.
+pub(crate) fn copied(
+    alloc: Global,
+    tenants: &[(String, u64)],
+) -> Result<Vec<(String, u64)>, AllocError>
+    ensures { IfOk result (λ v. tenants_shown v.items ≡ tenants_shown tenants.now) }
+{
+    let mut copies = Vec::new(alloc);
+    for tenant in tenants {
+        let name = tenant.0.clone()?;
+        copies.push((name, tenant.1))?;
+    }
+    Ok(copies)
 }
