@@ -81,7 +81,7 @@ fn come_and_go(rt: &impl Abort, links: &mut Links, repo: &RepoName)
 {
     let tenant = links.tenant(repo).expect(rt, "a tenant");
     links.appear(tenant, repo).expect(rt, "memory");
-    links.vanish(repo);
+    links.vanish(tenant, repo);
 }
 
 #[test]

@@ -1,4 +1,4 @@
-use Rattle.std.proofs.Common.{◌≡◌, ◌∙◌}
+use Rattle.std.proofs.Common.{◌∙◌}
 use Rattle.link_table.proofs.Accepted.{appear-contains, appear-links, empty-HasNoLinks}
 use Rattle.link_table.proofs.tests.come_and_go.Goals as goal
 

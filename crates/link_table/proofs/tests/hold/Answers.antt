@@ -1,4 +1,4 @@
-use Rattle.std.proofs.Common.{◌≡◌, ap, sym, ◌∙◌}
+use Rattle.std.proofs.Common.{ap, sym, ◌∙◌}
 use Rattle.std.specs.FinMap.{get}
 use Rattle.link_table.proofs.Accepted.{appear-contains, appear-links, link-sizes}
 use Rattle.link_table.proofs.tests.hold.Goals as goal
