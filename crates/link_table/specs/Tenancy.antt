@@ -46,5 +46,6 @@ pub record Opens (given : List Tenant) (l : Linked) : Type 0 where
 abbrev pub tenant_shown : String Global × ℕ → Tenant
 tenant_shown t = record { name = string_bytes t.0; quota = t.1 }
 
+-- rows of tenants, as tenants
 abbrev pub tenants_shown : List (String Global × ℕ) → List Tenant
 tenants_shown ts = map tenant_shown ts

@@ -22,8 +22,9 @@ const MOST_REPOS: usize = 1024;
 /// is charged. Contracts see these four; what a tenant uses follows from them.
 ///
 /// Tenants are numbered from 0 in the order of their names. Sizes, quotas, charges and uses are in
-/// bytes. A table keeps its repositories and its links in the order of their names and digests:
-/// to find one takes the logarithm of their number, to add or to remove one their number.
+/// bytes. A table keeps its repositories in the order of their names, and its links in that of
+/// repository and digest: to find one takes the logarithm of their number, and to add or to remove
+/// one moves those behind it.
 #[derive(Drop)]
 pub struct Links {
     tenants: Vec<(String, u64)>,
@@ -73,7 +74,8 @@ impl Links {
         })
     }
 
-    /// The number of the tenant that a repository belongs to, or `NameUnknown`.
+    /// The number of the tenant that a repository belongs to: the one of its name's first component.
+    /// Where there is none, `NameUnknown`. It takes a look at each tenant.
     pub fn tenant(&self, repo: &RepoName) -> Result<u16, Refusal>
         ensures known { result ≡ known_tenant self.now repo.now }
         ensures there { IfOk result (λ t. t < length self.now.tenants) }
@@ -148,7 +150,8 @@ impl Links {
     }
 
     /// Makes a repository of a tenant known, and answers whether it is new. A tenant has at most
-    /// 1,024 repositories: one more is refused (`LimitReached`), and so is want of memory.
+    /// 1,024 repositories: one more is refused (`LimitReached`), and so is want of memory. A new one
+    /// takes a look at each repository of the table.
     pub fn appear(&mut self, tenant: u16, repo: &RepoName) -> Result<bool, Refusal>
         requires { tenant < length self.old.tenants }
         ensures { Does (λ b. b) result self.old self.new (appear self.old tenant repo.now) }
@@ -165,8 +168,9 @@ impl Links {
         Ok(true)
     }
 
-    /// Takes back that a repository without links is known.
-    pub fn vanish(&mut self, repo: &RepoName)
+    /// Takes back that a repository of a tenant, which has no links, is known.
+    pub fn vanish(&mut self, tenant: u16, repo: &RepoName)
+        requires own { is_tenants self.old.tenants tenant repo.now ≡ true }
         requires there { set.contains self.old.repos repo.now ≡ true }
         requires unlinked { HasNoLinks self.old.links repo.now }
         ensures { self.new ≡ vanish self.old repo.now }
@@ -180,7 +184,7 @@ impl Links {
     }
 
     /// Links a blob of this digest and size in a repository of a tenant, and answers whether the
-    /// link is new. Want of memory is refused. It looks at each link once.
+    /// link is new. Want of memory is refused. A new link takes a look at each link of the table.
     pub fn link(
         &mut self,
         tenant: u16,
@@ -211,7 +215,7 @@ impl Links {
         Ok(true)
     }
 
-    /// Takes a link out of a repository of a tenant. It looks at each link once.
+    /// Takes a link out of a repository of a tenant. It takes a look at each link of the table.
     pub fn unlink(&mut self, tenant: u16, repo: &RepoName, digest: &Digest)
         requires there { tenant < length self.old.tenants }
         requires own { is_tenants self.old.tenants tenant repo.now ≡ true }
@@ -233,14 +237,15 @@ impl Links {
         }
     }
 
-    /// Whether a repository holds the blob of a digest.
+    /// Whether a repository holds the blob of a digest. It takes the logarithm of the number of links.
     pub fn holds(&self, repo: &RepoName, digest: &Digest) -> bool
         ensures { result ≡ fmap.contains_key self.now.links (repo.now, digest.now) }
     {
         link_place(self.links.as_slice(), repo, digest).is_ok()
     }
 
-    /// Whether some repository of a tenant holds the blob of a digest. It looks at each link.
+    /// Whether some repository of a tenant holds the blob of a digest. It takes a look at each link of
+    /// the table.
     pub fn tenant_holds(&self, tenant: u16, digest: &Digest) -> bool
         requires { tenant < length self.now.tenants }
         ensures { result ≡ fmap.contains_key (blobs_of self.now tenant) digest.now }
@@ -249,8 +254,8 @@ impl Links {
         has_blob(self.links.as_slice(), name, digest)
     }
 
-    /// The i-th repository of a tenant, in the order of their names, from 0. It looks at each
-    /// repository up to that one.
+    /// The i-th repository of a tenant, in the order of their names, from 0. It takes a look at each
+    /// repository of the table up to that one.
     pub fn repo_at(&self, tenant: u16, i: usize) -> Option<&RepoName>
         requires { tenant < length self.now.tenants }
         ensures { option_copied result ≡ slice_get (repos_of self.now tenant) i }
