@@ -1,4 +1,4 @@
-ghost use Rattle.std.specs.Prelude.{◌≡◌, ◌≢◌, ℕ, ◌+◌, ◌<◌, ◌≤◌, ◌^◌, length, map, true, false, slice_index, slice_get, string_bytes, Some, Ok, IfOk, IfErr};
+ghost use Rattle.std.specs.Prelude.{◌≡◌, ◌≢◌, ℕ, ◌+◌, ◌<◌, ◌≤◌, ◌^◌, length, map, true, false, slice_index, slice_get, string_bytes, Some, Ok, IfOk, IfErr, IfSome};
 ghost use Rattle.std.specs.Option.{option_copied, option_map};
 ghost use Rattle.std.specs.FinMap as fmap;
 ghost use Rattle.blob_digest.specs.Sets as set;
@@ -267,7 +267,8 @@ impl Links {
     /// The i-th blob that a repository holds, in the order of their digests, from 0, with its size
     /// in bytes. It takes the logarithm of the number of links.
     pub fn blob_at(&self, repo: &RepoName, i: usize) -> Option<(Digest, u64)>
-        ensures { result ≡ slice_get (blobs_in self.now repo.now) i }
+        ensures value { result ≡ slice_get (blobs_in self.now repo.now) i }
+        ensures next { IfSome result (λ _. i + 1 < 2 ^ 64) }
     {
         nth_of(self.links.as_slice(), repo, i)
     }

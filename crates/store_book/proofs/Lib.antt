@@ -29,4 +29,6 @@ pub mod KeepCalls
 pub mod Keepable
 pub mod CloseCalls
 pub mod Opening
+pub mod Listing
+pub mod BookTexts
 pub mod WorkedExamples

@@ -1,16 +1,20 @@
-ghost use Rattle.std.specs.Prelude.{◌≡◌, ◌+◌, ◌<◌, ℕ, List, length, map, Some, nat_lt, IfOk, IfErr, replicate};
+ghost use Rattle.std.specs.Prelude.{◌≡◌, ◌+◌, ◌<◌, ℕ, List, length, map, Some, nat_lt, IfOk, IfErr, OnOk, replicate};
 ghost use Rattle.blob_digest.specs.Outcomes.{Does, refuse};
 ghost use Rattle.link_table.specs.Linked.{quota_in, used_in};
 ghost use Rattle.link_table.specs.Tenancy.{tenants_shown};
 ghost use Rattle.store_book.specs.Openings.{OpensBook, RefusesBook};
+ghost use Rattle.store_book.specs.Printed.{book_text};
 ghost use Rattle.store_book.specs.Steps.{start, append, close};
+ghost use Rattle.std.specs.Io.KnownBytes.{Appends};
 
 use crate::config::{Config, copied};
 use crate::keep::keep;
+use crate::print::print_book;
 use blob_digest::{ByteRange, Digest, Refusal, RepoName};
 use link_table::Links;
 use slot_table::SlotTable;
 use std::alloc::Global;
+use std::io::{self, Write};
 use std::marker::Model;
 use upload_table::Uploads;
 
@@ -94,7 +98,7 @@ impl Book {
             Ok(number) => Ok(number),
             Err(refusal) => {
                 if is_new {
-                    self.links.vanish(repo);
+                    self.links.vanish(tenant, repo);
                 }
                 Err(refusal)
             }
@@ -172,5 +176,16 @@ impl Book {
                 Err(refusal)
             }
         }
+    }
+
+    /// Writes the text of the book, without taking memory: `book`; each tenant in the order of the
+    /// names with its use, its quota and its next session number; after it each of its repositories
+    /// with its blobs, its manifests and its sessions, each in their orders; and `end`.
+    ///
+    /// Refused is what the writer refuses.
+    pub fn print<W: Write>(&self, writer: &mut W) -> io::Result<()>
+        ensures { OnOk result (Appends (W.contents writer.old) (W.contents writer.new) (book_text self.now.catalog)) }
+    {
+        print_book(writer, &self.links, &self.uploads, &self.slots)
     }
 }

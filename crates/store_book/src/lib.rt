@@ -14,6 +14,7 @@ mod book;
 mod config;
 mod keep;
 pub mod laws;
+mod print;
 
 pub use book::Book;
 pub use config::Config;
