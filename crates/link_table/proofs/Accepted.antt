@@ -9,7 +9,7 @@ use Rattle.blob_digest.specs.Keys.{Text, Link, link_cmp}
 use Rattle.blob_digest.specs.declared.refusal.Refusal.{Refusal}
 use Rattle.blob_digest.specs.declared.refusal.Refusal.TheVariants.{LimitReached}
 use Rattle.blob_digest.proofs.KeyOrders.{link_cmp_total}
-use Rattle.link_table.specs.Linked.{Linked, Tenant, HasNoLinks, appear, cannot_appear, link}
+use Rattle.link_table.specs.Linked.{Linked, Tenant, is_tenants, HasNoLinks, appear, cannot_appear, link}
 use Rattle.link_table.specs.Tenancy.{Opens}
 
 same_state : {S : Type 0} (a b : Bool) (x y : S) → ◌≡◌ {A = Result (Bool × S) Refusal} (Ok (a, x)) (Ok (b, y)) → y ≡ x
@@ -28,6 +28,10 @@ module _ (l m : Linked) (t : ℕ) (repo : Text) (b : Bool) (done : appear l t re
   appear-contains =
       ap (λ (x : Linked). set.contains x.repos repo) appeared
       ∙ ap is_some (get-insert nat_list_cmp_total l.repos repo (tt {0}) repo ∙ ap (λ r. cond (is_eq r) (Some tt) (get l.repos repo)) (tied_itself nat_list_cmp_total repo))
+
+  -- tenants and links stay
+  pub appear-own : is_tenants l.tenants t repo ≡ true → is_tenants m.tenants t repo ≡ true
+  appear-own own = ap (λ (x : Linked). is_tenants x.tenants t repo) appeared ∙ own
 
   pub appear-links : m.links ≡ l.links
   appear-links = ap (λ (x : Linked). x.links) appeared

@@ -54,9 +54,9 @@ impl Links {
     /// A table of these tenants, each a name with a quota, with nothing in it. It numbers them in
     /// the order of their names.
     ///
-    /// Refused are, in this order, a name that is no component of a repository's name or comes twice
-    /// (`NameInvalid`); no tenant, more than 256, or a quota above 2^50 bytes (`LimitReached`); and
-    /// want of memory.
+    /// Refused are, in this order, a name that is no component of a repository's name (OCI
+    /// Distribution Specification 1.1, "Pulling manifests") or comes twice (`NameInvalid`); no
+    /// tenant, more than 256, or a quota above 2^50 bytes (`LimitReached`); and want of memory.
     pub fn new(alloc: Global, tenants: Vec<(String, u64)>) -> Result<Links, Refusal>
         ensures opened { IfOk result (λ l. Opens (tenants_shown tenants.items) l) }
         ensures refused { IfErr result (λ e. RefusesTenants e (tenants_shown tenants.items)) }
