@@ -218,7 +218,7 @@ impl Uploads {
         requires { tenant < length self.now.next }
         ensures { result ≡ slice_index self.now.next tenant }
     {
-        self.next[tenant as usize]
+        self.next.as_slice()[tenant as usize]
     }
 
     /// A repository's i-th session, in the order of the numbers: its number and how many bytes it has
