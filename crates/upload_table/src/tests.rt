@@ -104,9 +104,18 @@ fn chunks_come_in_order(rt: HostRuntime) {
     let next = ByteRange::parse(b"2-2").expect(&rt, "a range");
     assert_eq!(rt; uploads.check(0, &repo, 1, Some(first), 2, 9), Ok(2));
     assert_eq!(rt; append(&mut uploads, &repo, 1, b"ab"), Ok(()));
-    assert_eq!(rt; uploads.check(0, &repo, 1, Some(late), 1, 9), Err(Refusal::RangeInvalid { received: 2 }));
-    assert_eq!(rt; uploads.check(0, &repo, 1, Some(first), 1, 9), Err(Refusal::SizeInvalid));
-    assert_eq!(rt; uploads.check(0, &repo, 1, Some(next), 1, 2), Err(Refusal::SizeInvalid));
+    assert_eq!(rt;
+        uploads.check(0, &repo, 1, Some(late), 1, 9),
+        Err(Refusal::RangeInvalid { received: 2 })
+    );
+    assert_eq!(rt;
+        uploads.check(0, &repo, 1, Some(first), 1, 9),
+        Err(Refusal::SizeInvalid)
+    );
+    assert_eq!(rt;
+        uploads.check(0, &repo, 1, Some(next), 1, 2),
+        Err(Refusal::SizeInvalid)
+    );
     assert_eq!(rt; uploads.received(0, &repo, 1), Ok(2));
     assert_eq!(rt; uploads.check(0, &repo, 1, Some(next), 1, 9), Ok(3));
     assert_eq!(rt; append(&mut uploads, &repo, 1, b"c"), Ok(()));
@@ -129,14 +138,26 @@ fn a_session_is_sealed_opened_again_and_finished(rt: HostRuntime) {
     let mut uploads = Uploads::new(alloc, 1, 1).expect(&rt, "memory");
     assert_eq!(rt; start(&mut uploads, &repo), Ok(1));
     assert_eq!(rt; append(&mut uploads, &repo, 1, b"ab"), Ok(()));
-    assert_eq!(rt; close(&mut uploads, &repo, 1, b"c", &obj, Then::Finish), Err(Refusal::DigestInvalid));
+    assert_eq!(rt;
+        close(&mut uploads, &repo, 1, b"c", &obj, Then::Finish),
+        Err(Refusal::DigestInvalid)
+    );
     assert_eq!(rt; uploads.received(0, &repo, 1), Ok(2));
     assert_eq!(rt; uploads.received(0, &other, 1), Err(Refusal::UploadUnknown));
-    assert_eq!(rt; close(&mut uploads, &repo, 1, b"c", &abc, Then::Reopen), Ok(3));
+    assert_eq!(rt;
+        close(&mut uploads, &repo, 1, b"c", &abc, Then::Reopen),
+        Ok(3)
+    );
     assert_eq!(rt; uploads.received(0, &repo, 1), Ok(2));
     assert_eq!(rt; uploads.total(0), 2);
-    assert_eq!(rt; close(&mut uploads, &repo, 1, b"c", &abc, Then::Finish), Ok(3));
-    assert_eq!(rt; close(&mut uploads, &repo, 1, b"c", &abc, Then::Finish), Err(Refusal::UploadUnknown));
+    assert_eq!(rt;
+        close(&mut uploads, &repo, 1, b"c", &abc, Then::Finish),
+        Ok(3)
+    );
+    assert_eq!(rt;
+        close(&mut uploads, &repo, 1, b"c", &abc, Then::Finish),
+        Err(Refusal::UploadUnknown)
+    );
     assert_eq!(rt; uploads.total(0), 0);
 }
 

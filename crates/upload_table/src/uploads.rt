@@ -145,7 +145,13 @@ impl Uploads {
     /// Moves a session's bytes, and then the last ones, into a blob of this digest. The session is
     /// then closing, until `finish` or `reopen`. Hashes the last bytes alone. Refused are other bytes
     /// than the digest's (`DigestInvalid`), and want of memory.
-    pub fn seal(&mut self, tenant: u16, number: u32, last: &[u8], digest: &Digest) -> Result<Blob, Refusal>
+    pub fn seal(
+        &mut self,
+        tenant: u16,
+        number: u32,
+        last: &[u8],
+        digest: &Digest,
+    ) -> Result<Blob, Refusal>
         requires open { self.old.closing ≡ None }
         requires there { IsSome (fmap.get self.old.sessions (tenant, number)) }
         ensures blob { IfOk result (λ b. b ≡ (digest.now, whole_in self.old.sessions (tenant, number) last.now)) }

@@ -1,10 +1,10 @@
-use Rattle.std.proofs.Common.{◌≡◌, ◌+◌, ◌<◌, ◌^◌, ap, sym, ◌∙◌, None, Some, Ok, is_some, ℕ, set, subst, length, slice_index, arith, refl}
+use Rattle.std.proofs.Common.{◌≡◌, ◌+◌, ◌<◌, ◌^◌, ap, sym, ◌∙◌, None, Ok, is_some, ℕ, set, subst, length, slice_index, arith, refl}
 use Rattle.std.proofs.lemmas.Bool.{false≢true}
 use Rattle.std.proofs.lemmas.List.{get_or_default}
 use Rattle.std.proofs.lemmas.Result.{err_from_is_err_and}
 use Rattle.std.specs.FinMap.{get as fget}
 use Rattle.upload_table.specs.Rows.{shown, IsSound}
-use Rattle.upload_table.specs.Sessions.{append_in, in_sessions}
+use Rattle.upload_table.specs.Sessions.{in_sessions}
 use Rattle.upload_table.specs.Uploaded.{Uploaded}
 use Rattle.upload_table.proofs.Sound.{opened, tenants_counted, IsSound-append, IsSound-unchanged}
 use Rattle.upload_table.proofs.Lookups.{map_of, placed, placed_at, total_is}
@@ -74,7 +74,7 @@ invariant_of-self-in-Some c =
     let at : c.index_mut.result.now ≡ slice_index c.self.inside.totals.items c.args.tenant = c.index_mut.ensures.value ∙ get_or_default c.self.inside.totals.items c.args.tenant c.index_mut.result.now 0 there in
     let more : c.index_mut.result.now + length c.args.bytes.now ≡ slice_index c.self.inside.totals.items row.tenant + length c.args.bytes.now = ap (λ n. n + length c.args.bytes.now) (at ∙ ap (slice_index c.self.inside.totals.items) (sym p.tenant)) in
     rw o.none (subst (λ (t : ℕ). IsSound c.self.inside.next.items (set c.self.inside.totals.items t (c.index_mut.result.now + length c.args.bytes.now)) (set c.self.inside.rows.items c.in-Some.i c.add_chunk.new.upload) None) p.tenant
-      (IsSound-append c.self.inside.next.items c.self.inside.totals.items c.self.inside.rows.items c.in-Some.i row c.add_chunk.new.upload o.sound p.within value c.args.bytes.now (c.index_mut.result.now + length c.args.bytes.now) c.in_ok-add_chunk-in-Some.ensures.ok more))
+    (IsSound-append c.self.inside.next.items c.self.inside.totals.items c.self.inside.rows.items c.in-Some.i row c.add_chunk.new.upload o.sound p.within value c.args.bytes.now (c.index_mut.result.now + length c.args.bytes.now) c.in_ok-add_chunk-in-Some.ensures.ok more))
 
 pub returns : goal.returns
 returns c =

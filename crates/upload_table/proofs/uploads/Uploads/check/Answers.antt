@@ -1,4 +1,4 @@
-use Rattle.std.proofs.Common.{◌≡◌, Bool, true, false, not, ℕ, Ok, refl, ap, sym, ◌∙◌, length}
+use Rattle.std.proofs.Common.{◌≡◌, Bool, true, false, not, refl, ap, sym, ◌∙◌, length}
 use Rattle.blob_digest.specs.Keys.{same_text}
 use Rattle.upload_table.specs.Sessions.{length_after}
 use Rattle.upload_table.proofs.Sound.{opened}

@@ -1,7 +1,7 @@
-use Rattle.std.proofs.Common.{◌≡◌, ap, sym, ◌∙◌, None, Some, is_some, length, arith, subst}
+use Rattle.std.proofs.Common.{ap, sym, ◌∙◌, None, is_some}
 use Rattle.std.proofs.lemmas.Bool.{false≢true}
 use Rattle.std.specs.FinMap.{get as fget, remove as fremove}
-use Rattle.upload_table.specs.Rows.{IsSound, shown}
+use Rattle.upload_table.specs.Rows.{shown}
 use Rattle.upload_table.specs.Uploaded.{Uploaded}
 use Rattle.upload_table.proofs.Sound.{opened, IsSound-remove, all_whole, tenants_counted}
 use Rattle.upload_table.proofs.Lookups.{placed, placed_row}

@@ -7,8 +7,7 @@ use Rattle.upload_table.proofs.uploads.Uploads.start.Goals as goal
 
 pub returns-then-is_spent : goal.returns-then-is_spent
 returns-then-is_spent c =
-    let o = opened c.self.inside.next.items c.self.inside.totals.items c.self.inside.rows.items c.self.inside.closing c.args.self.now c.self.invariant c.self.view_is c.requires.open in
-    (
+    let o = opened c.self.inside.next.items c.self.inside.totals.items c.self.inside.rows.items c.self.inside.closing c.args.self.now c.self.invariant c.self.view_is c.requires.open in (
       λ _. rw (← o.view) (cannot_is c.self.inside.next.items c.self.inside.totals.items c.self.inside.rows.items c.args.tenant c.args.repo.now o.sound (rw (c.deref.ensures.value, c.deref-2.ensures.value) at c.is_spent.ensures) c.if-is_spent.true),
       refl,
     )
