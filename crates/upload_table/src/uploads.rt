@@ -216,7 +216,8 @@ impl Uploads {
         requires open { self.now.closing ≡ None }
         ensures { result ≡ in_sessions self.now.sessions tenant }
     {
-        self.totals[tenant as usize]
+        let sums = &self.totals;
+        sums[tenant as usize]
     }
 
     /// The number of the tenant's next session, at most 2^32.
