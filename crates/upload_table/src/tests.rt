@@ -15,18 +15,18 @@ enum Then {
 }
 
 fn start(uploads: &mut Uploads, repo: &RepoName) -> Result<u32, Refusal>
-    requires open { uploads.old.closing ≡ None }
+    requires settled { uploads.old.closing ≡ None }
     requires one { length uploads.old.next ≡ 1 }
-    ensures open { uploads.new.closing ≡ None }
+    ensures settled { uploads.new.closing ≡ None }
     ensures one { length uploads.new.next ≡ 1 }
 {
     uploads.start(0, repo)
 }
 
 fn append(uploads: &mut Uploads, repo: &RepoName, number: u32, bytes: &[u8]) -> Result<(), Refusal>
-    requires open { uploads.old.closing ≡ None }
+    requires settled { uploads.old.closing ≡ None }
     requires one { length uploads.old.next ≡ 1 }
-    ensures open { uploads.new.closing ≡ None }
+    ensures settled { uploads.new.closing ≡ None }
     ensures one { length uploads.new.next ≡ 1 }
 {
     let _ = uploads.received(0, repo, number)?;
@@ -37,9 +37,9 @@ fn append(uploads: &mut Uploads, repo: &RepoName, number: u32, bytes: &[u8]) -> 
 }
 
 fn remove(uploads: &mut Uploads, repo: &RepoName, number: u32) -> Result<(), Refusal>
-    requires open { uploads.old.closing ≡ None }
+    requires settled { uploads.old.closing ≡ None }
     requires one { length uploads.old.next ≡ 1 }
-    ensures open { uploads.new.closing ≡ None }
+    ensures settled { uploads.new.closing ≡ None }
     ensures one { length uploads.new.next ≡ 1 }
 {
     let _ = uploads.received(0, repo, number)?;
@@ -55,9 +55,9 @@ fn close(
     digest: &Digest,
     then: Then,
 ) -> Result<usize, Refusal>
-    requires open { uploads.old.closing ≡ None }
+    requires settled { uploads.old.closing ≡ None }
     requires one { length uploads.old.next ≡ 1 }
-    ensures open { uploads.new.closing ≡ None }
+    ensures settled { uploads.new.closing ≡ None }
     ensures one { length uploads.new.next ≡ 1 }
 {
     let _ = uploads.received(0, repo, number)?;

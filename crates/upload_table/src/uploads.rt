@@ -60,7 +60,7 @@ impl Uploads {
     /// sessions or has given all numbers below 2^32; and want of memory.
     pub fn start(&mut self, tenant: u16, repo: &RepoName) -> Result<u32, Refusal>
         requires there { tenant < length self.old.next }
-        requires open { self.old.closing ≡ None }
+        requires settled { self.old.closing ≡ None }
         ensures { Does (λ n. n) result self.old self.new (start_upload self.old tenant repo.now) }
     {
         if is_spent(&self.next, &self.rows, tenant) {
@@ -123,7 +123,7 @@ impl Uploads {
 
     /// Adds a chunk to a session. A chunk without bytes is not recorded. Refused is want of memory.
     pub fn append(&mut self, tenant: u16, number: u32, bytes: &[u8]) -> Result<(), Refusal>
-        requires open { self.old.closing ≡ None }
+        requires settled { self.old.closing ≡ None }
         requires there { IsSome (fmap.get self.old.sessions (tenant, number)) }
         requires room { in_sessions self.old.sessions tenant + length bytes.now < 2 ^ 64 }
         ensures { Does (λ u. u) result self.old self.new (append_upload self.old (tenant, number) bytes.now) }
@@ -152,7 +152,7 @@ impl Uploads {
         last: &[u8],
         digest: &Digest,
     ) -> Result<Blob, Refusal>
-        requires open { self.old.closing ≡ None }
+        requires settled { self.old.closing ≡ None }
         requires there { IsSome (fmap.get self.old.sessions (tenant, number)) }
         ensures blob { IfOk result (λ b. b ≡ (digest.now, whole_in self.old.sessions (tenant, number) last.now)) }
         ensures agrees { OnOk result (is_digest_of digest.now (whole_in self.old.sessions (tenant, number) last.now) ≡ true) }
@@ -200,7 +200,7 @@ impl Uploads {
 
     /// Drops a session with its bytes.
     pub fn remove(&mut self, tenant: u16, number: u32)
-        requires open { self.old.closing ≡ None }
+        requires settled { self.old.closing ≡ None }
         requires there { IsSome (fmap.get self.old.sessions (tenant, number)) }
         ensures { self.new ≡ record self.old { sessions = fmap.remove self.old.sessions (tenant, number) } }
     {
@@ -213,7 +213,7 @@ impl Uploads {
     /// How many bytes a tenant's sessions have received. Reads a sum that is kept.
     pub fn total(&self, tenant: u16) -> u64
         requires there { tenant < length self.now.next }
-        requires open { self.now.closing ≡ None }
+        requires settled { self.now.closing ≡ None }
         ensures { result ≡ in_sessions self.now.sessions tenant }
     {
         let sums = &self.totals;

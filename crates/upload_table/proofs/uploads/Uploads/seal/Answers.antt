@@ -1,26 +1,22 @@
-use Rattle.std.proofs.Common.{◌≡◌, ap, sym, ◌∙◌, ℕ, List, ◌++◌, is_some}
-use Rattle.std.proofs.lemmas.Bool.{false≢true}
+use Rattle.std.proofs.Common.{◌≡◌, ap, sym, ◌∙◌, ℕ, List, ◌++◌}
 use Rattle.std.proofs.lemmas.Result.{err_from_is_err_and}
-use Rattle.std.specs.FinMap.{get as fget, remove as fremove}
+use Rattle.std.specs.FinMap.{remove as fremove}
 use Rattle.upload_table.specs.Sessions.{whole_in}
 use Rattle.upload_table.specs.Uploaded.{Uploaded}
 use Rattle.upload_table.proofs.Sound.{opened, IsSound-seal, IsSound-unchanged}
-use Rattle.upload_table.proofs.Lookups.{placed, placed_at}
+use Rattle.upload_table.proofs.Lookups.{nowhere, placed_at}
 use Rattle.upload_table.proofs.Views.{shown-unchanged}
 use Rattle.upload_table.proofs.Closes.{sealed_back, sealed_can, sealed_left, whole_is}
 use Rattle.upload_table.proofs.uploads.Uploads.seal.Goals as goal
 
 pub unreachable-requires : goal.unreachable-requires
 unreachable-requires c =
-    let o = opened c.self.inside.next.items c.self.inside.totals.items c.self.inside.rows.items c.self.inside.closing c.args.self.now c.self.invariant c.self.view_is c.requires.open in
-    let nowhere = rw c.deref.ensures.value at c.place_of.ensures in
-    let there = ap (λ (u : Uploaded). is_some (fget u.sessions (c.args.tenant, c.args.number))) o.view ∙ c.requires.there in
-    let found = placed c.self.inside.rows.items c.args.tenant c.args.number in
-    absurd (false≢true (ap is_some (sym c.in-None.is ∙ nowhere) ∙ sym found ∙ there))
+    let o = opened c.self.inside.next.items c.self.inside.totals.items c.self.inside.rows.items c.self.inside.closing c.args.self.now c.self.invariant c.self.view_is c.requires.settled in
+    nowhere c.self.inside.next.items c.self.inside.rows.items c.args.self.now c.args.tenant c.args.number o.view c.requires.there (sym c.in-None.is ∙ rw c.deref.ensures.value at c.place_of.ensures)
 
 pub invariant_of-self : goal.invariant_of-self
 invariant_of-self c =
-    let o = opened c.self.inside.next.items c.self.inside.totals.items c.self.inside.rows.items c.self.inside.closing c.args.self.now c.self.invariant c.self.view_is c.requires.open in
+    let o = opened c.self.inside.next.items c.self.inside.totals.items c.self.inside.rows.items c.self.inside.closing c.args.self.now c.self.invariant c.self.view_is c.requires.settled in
     let row = c.index_mut-row.result.now in
     let value = c.index_mut-row.ensures.value in
     let p = placed_at c.self.inside.rows.items c.args.tenant c.args.number c.in-Some.i row (rw c.deref.ensures.value at c.in-Some.ensures) value in
@@ -28,7 +24,7 @@ invariant_of-self c =
 
 pub returns-in_err-blob-in-Some-clause-refused : goal.returns-in_err-blob-in-Some-clause-refused
 returns-in_err-blob-in-Some-clause-refused c =
-    let o = opened c.self.inside.next.items c.self.inside.totals.items c.self.inside.rows.items c.self.inside.closing c.args.self.now c.self.invariant c.self.view_is c.requires.open in
+    let o = opened c.self.inside.next.items c.self.inside.totals.items c.self.inside.rows.items c.self.inside.closing c.args.self.now c.self.invariant c.self.view_is c.requires.settled in
     let row = c.index_mut-row.result.now in
     let value = c.index_mut-row.ensures.value in
     let p = placed_at c.self.inside.rows.items c.args.tenant c.args.number c.in-Some.i row (rw c.deref.ensures.value at c.in-Some.ensures) value in
@@ -40,7 +36,7 @@ returns-in_err-blob-in-Some-clause-refused c =
 
 pub returns-in_err-blob-in-Some-clause-err : goal.returns-in_err-blob-in-Some-clause-err
 returns-in_err-blob-in-Some-clause-err c =
-    let o = opened c.self.inside.next.items c.self.inside.totals.items c.self.inside.rows.items c.self.inside.closing c.args.self.now c.self.invariant c.self.view_is c.requires.open in
+    let o = opened c.self.inside.next.items c.self.inside.totals.items c.self.inside.rows.items c.self.inside.closing c.args.self.now c.self.invariant c.self.view_is c.requires.settled in
     let row = c.index_mut-row.result.now in
     let value = c.index_mut-row.ensures.value in
     let p = placed_at c.self.inside.rows.items c.args.tenant c.args.number c.in-Some.i row (rw c.deref.ensures.value at c.in-Some.ensures) value in
@@ -49,7 +45,7 @@ returns-in_err-blob-in-Some-clause-err c =
 
 pub invariant_of-self-in-Some : goal.invariant_of-self-in-Some
 invariant_of-self-in-Some c =
-    let o = opened c.self.inside.next.items c.self.inside.totals.items c.self.inside.rows.items c.self.inside.closing c.args.self.now c.self.invariant c.self.view_is c.requires.open in
+    let o = opened c.self.inside.next.items c.self.inside.totals.items c.self.inside.rows.items c.self.inside.closing c.args.self.now c.self.invariant c.self.view_is c.requires.settled in
     let row = c.index_mut-row.result.now in
     let value = c.index_mut-row.ensures.value in
     let p = placed_at c.self.inside.rows.items c.args.tenant c.args.number c.in-Some.i row (rw c.deref.ensures.value at c.in-Some.ensures) value in
@@ -57,7 +53,7 @@ invariant_of-self-in-Some c =
 
 pub returns-clause-blob : goal.returns-clause-blob
 returns-clause-blob c =
-    let o = opened c.self.inside.next.items c.self.inside.totals.items c.self.inside.rows.items c.self.inside.closing c.args.self.now c.self.invariant c.self.view_is c.requires.open in
+    let o = opened c.self.inside.next.items c.self.inside.totals.items c.self.inside.rows.items c.self.inside.closing c.args.self.now c.self.invariant c.self.view_is c.requires.settled in
     let row = c.index_mut-row.result.now in
     let value = c.index_mut-row.ensures.value in
     let p = placed_at c.self.inside.rows.items c.args.tenant c.args.number c.in-Some.i row (rw c.deref.ensures.value at c.in-Some.ensures) value in
@@ -68,7 +64,7 @@ returns-clause-blob c =
 
 pub returns-clause-agrees : goal.returns-clause-agrees
 returns-clause-agrees c =
-    let o = opened c.self.inside.next.items c.self.inside.totals.items c.self.inside.rows.items c.self.inside.closing c.args.self.now c.self.invariant c.self.view_is c.requires.open in
+    let o = opened c.self.inside.next.items c.self.inside.totals.items c.self.inside.rows.items c.self.inside.closing c.args.self.now c.self.invariant c.self.view_is c.requires.settled in
     let row = c.index_mut-row.result.now in
     let value = c.index_mut-row.ensures.value in
     let p = placed_at c.self.inside.rows.items c.args.tenant c.args.number c.in-Some.i row (rw c.deref.ensures.value at c.in-Some.ensures) value in
@@ -79,7 +75,7 @@ returns-clause-agrees c =
 
 pub returns-clause-left : goal.returns-clause-left
 returns-clause-left c =
-    let o = opened c.self.inside.next.items c.self.inside.totals.items c.self.inside.rows.items c.self.inside.closing c.args.self.now c.self.invariant c.self.view_is c.requires.open in
+    let o = opened c.self.inside.next.items c.self.inside.totals.items c.self.inside.rows.items c.self.inside.closing c.args.self.now c.self.invariant c.self.view_is c.requires.settled in
     let row = c.index_mut-row.result.now in
     let value = c.index_mut-row.ensures.value in
     let p = placed_at c.self.inside.rows.items c.args.tenant c.args.number c.in-Some.i row (rw c.deref.ensures.value at c.in-Some.ensures) value in (
@@ -90,7 +86,7 @@ returns-clause-left c =
 
 pub returns-clause-restores : goal.returns-clause-restores
 returns-clause-restores c =
-    let o = opened c.self.inside.next.items c.self.inside.totals.items c.self.inside.rows.items c.self.inside.closing c.args.self.now c.self.invariant c.self.view_is c.requires.open in
+    let o = opened c.self.inside.next.items c.self.inside.totals.items c.self.inside.rows.items c.self.inside.closing c.args.self.now c.self.invariant c.self.view_is c.requires.settled in
     let row = c.index_mut-row.result.now in
     let value = c.index_mut-row.ensures.value in
     let p = placed_at c.self.inside.rows.items c.args.tenant c.args.number c.in-Some.i row (rw c.deref.ensures.value at c.in-Some.ensures) value in
