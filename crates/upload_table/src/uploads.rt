@@ -14,7 +14,11 @@ use std::marker::Model;
 /// The open sessions of all tenants. Sessions are named by the tenant's place and by a number, which a
 /// tenant gives once. A tenant has at most 64 sessions at a time.
 ///
-/// Calls look a session up by going over all that are open.
+/// Contracts see, for each tenant, its next number; the open sessions with their chunks; and the
+/// session that is closing, if one is. Between `seal` and `finish` or `reopen` one is, and then the
+/// calls that look at sessions may not be made.
+///
+/// A call looks its session up by going over all that are open.
 #[derive(Drop)]
 pub struct Uploads {
     alloc: Global,
@@ -56,8 +60,9 @@ impl Uploads {
         })
     }
 
-    /// Opens a session, and answers its number. Refused, as `LimitReached`, is a tenant that has 64
-    /// sessions or has given all numbers below 2^32; and want of memory.
+    /// Opens a session without chunks for a repository of the tenant's, and answers its number (OCI
+    /// Distribution Specification 1.1, "Pushing blobs"). Refused, as `LimitReached`, is a tenant that
+    /// has 64 sessions or has given all numbers below 2^32; and want of memory.
     pub fn start(&mut self, tenant: u16, repo: &RepoName) -> Result<u32, Refusal>
         requires there { tenant < length self.old.next }
         requires settled { self.old.closing ≡ None }
@@ -121,7 +126,9 @@ impl Uploads {
         length_after(row.bytes.as_slice().len() as u64, range, len, max_blob)
     }
 
-    /// Adds a chunk to a session. A chunk without bytes is not recorded. Refused is want of memory.
+    /// Adds a chunk to a session. A chunk without bytes is not recorded. Refused is want of memory. The
+    /// session is there, and the bytes of all the tenant's sessions stay below 2^64, as under any
+    /// quota. Hashes the chunk.
     pub fn append(&mut self, tenant: u16, number: u32, bytes: &[u8]) -> Result<(), Refusal>
         requires settled { self.old.closing ≡ None }
         requires there { IsSome (fmap.get self.old.sessions (tenant, number)) }
@@ -142,9 +149,11 @@ impl Uploads {
         }
     }
 
-    /// Moves a session's bytes, and then the last ones, into a blob of this digest. The session is
-    /// then closing, until `finish` or `reopen`. Hashes the last bytes alone. Refused are other bytes
-    /// than the digest's (`DigestInvalid`), and want of memory.
+    /// Moves a session's bytes, and then the last ones, into a blob of this digest. The session has
+    /// then left the others and is closing, until `finish` or `reopen`; `reopen` with this blob leads
+    /// back to where this call began. Refused are other bytes than the digest's (`DigestInvalid`), and
+    /// want of memory; the session is then as before, without the last bytes. Hashes the last bytes
+    /// alone, and grows the session's bytes at most once.
     pub fn seal(
         &mut self,
         tenant: u16,
@@ -172,8 +181,8 @@ impl Uploads {
         }
     }
 
-    /// Takes back the blob that a session was sealed into: the session is as before. Takes no memory,
-    /// and hashes nothing.
+    /// Takes back the blob that the closing session was sealed into: the session has its chunks again.
+    /// Takes no memory, and hashes nothing.
     pub fn reopen(&mut self, blob: Blob)
         requires { CanReopen self.old.closing blob.1 }
         ensures { self.new ≡ reopened self.old blob.1 }
@@ -210,7 +219,7 @@ impl Uploads {
         }
     }
 
-    /// How many bytes a tenant's sessions have received. Reads a sum that is kept.
+    /// How many bytes a tenant's sessions have received. Reads a sum that is kept, in one step.
     pub fn total(&self, tenant: u16) -> u64
         requires there { tenant < length self.now.next }
         requires settled { self.now.closing ≡ None }
