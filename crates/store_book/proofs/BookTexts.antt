@@ -1,5 +1,5 @@
 -- The lines that the layers give are the book's text.
-use Rattle.std.proofs.Common.{◌≡◌, ℕ, ◌+◌, ◌<◌, ◌≤◌, Bool, true, false, cond, List, [], ◌∷◌, ◌++◌, length, map, get_or, codes, Option, Some, None, refl, sym, ap, ◌∙◌, arith, inl, inr}
+use Rattle.std.proofs.Common.{◌≡◌, ℕ, ◌+◌, ◌<◌, ◌≤◌, Bool, true, false, cond, List, [], ◌∷◌, ◌++◌, length, map, get_or, codes, Option, Some, None, refl, sym, ap, ◌∙◌, arith, append-nil}
 use Prim.Native.Nat.{zero, suc}
 use Rattle.std.specs.Prelude.{filter, ◌==◌, ◌&&◌, slice_index, T}
 use Rattle.std.specs.declared.cmp.Ordering.{Ordering}
@@ -114,6 +114,11 @@ blobs_same f g repo (e ∷ es) same = by_test (same_text e.0.0 repo) (blobs_same
 
 -- ---- the book
 
+-- a text without manifests
+without_manifests : {b b' m s s' : Text} (a : Text) → b ≡ b' → m ≡ [] → s ≡ s' → a ++ b ++ s ≡ a ++ b' ++ m ++ s'
+without_manifests {b' = b'} {s' = s'} a blobs nothing sessions =
+    (λ i. a ++ blobs i ++ sessions i) ∙ ap (λ t. t ++ s') (sym (append-nil (a ++ b'))) ∙ (λ i. a ++ b' ++ sym nothing i ++ s')
+
 module _ (l : Linked) (u : Uploaded) (slots : List Slot) (max_blob : ℕ) (book : IsBook l u slots max_blob) where
   abbrev C : Catalog
   C = book_catalog l u slots max_blob
@@ -144,9 +149,7 @@ module _ (l : Linked) (u : Uploaded) (slots : List Slot) (max_blob : ℕ) (book 
 
   repo_is : (t : ℕ) (repo : Text) → repo_rows l u slots t repo ≡ repo_text C t repo
   repo_is t repo =
-      let sessions_are : flat_map session_row (map listed (sessions_of u.sessions t repo)) ≡ flat_map manifest_line (filter (λ e. same_text e.0.0 repo) (entries C.manifests)) ++ flat_map session_line (sessions_of u.sessions t repo) =
-        flat_map-map session_row listed (sessions_of u.sessions t repo) ∙ ap (λ (text : Text). text ++ flat_map session_line (sessions_of u.sessions t repo)) (sym (manifests_are repo)) in
-      λ i. line (codes "repository " ++ repo) ++ blobs_are repo i ++ sessions_are i
+      without_manifests (line (codes "repository " ++ repo)) (blobs_are repo) (manifests_are repo) (flat_map-map session_row listed (sessions_of u.sessions t repo))
 
   tenant_is : (e : ℕ × Tenant) → e.0 < length l.tenants → tenant_rows l u slots e ≡ tenant_text C e
   tenant_is e there =

@@ -2,6 +2,7 @@ use Rattle.std.proofs.Common.{◌≡◌, ℕ, List, true, ap, sym, ◌∙◌, su
 use Rattle.std.proofs.lemmas.Result.{err_from_is_err_and}
 use Rattle.slot_table.specs.Slots.{Slot}
 use Rattle.link_table.specs.Linked.{Linked}
+use Rattle.link_table.proofs.Accepted.{appear-own}
 use Rattle.upload_table.specs.Uploaded.{Uploaded}
 use Rattle.store_book.specs.BookState.{BookState}
 use Rattle.store_book.specs.Layers.{book_catalog, IsBook}
@@ -19,6 +20,9 @@ returns-in_err-is_new-clause-does c =
       (λ other. rw (← c.self.view_is) (start_refused_first c.self.inside.links c.self.inside.links c.self.inside.uploads c.self.inside.slots c.self.inside.max_blob c.in_ok-tenant.tenant c.args.repo.now true _ (sym c.in_ok-tenant.ensures.known) (c.in_err-is_new.ensures.0 other))),
       ap (λ l. book_catalog l c.self.inside.uploads c.self.inside.slots c.self.inside.max_blob) c.in_err-is_new.ensures.1 ∙ ap (λ (s : BookState). s.catalog) c.self.view_is,
     )
+
+pub vanish-requires-clause-own : goal.vanish-requires-clause-own
+vanish-requires-clause-own c = appear-own c.self.inside.links c.appear.new.self c.in_ok-tenant.tenant c.args.repo.now c.in_ok-is_new.is_new c.in_ok-is_new.ensures c.in_ok-tenant.ensures.own
 
 pub vanish-requires-clause-there : goal.vanish-requires-clause-there
 vanish-requires-clause-there c = appeared_there c.self.inside.links c.appear.new.self c.in_ok-tenant.tenant c.args.repo.now c.in_ok-is_new.is_new c.in_ok-is_new.ensures
