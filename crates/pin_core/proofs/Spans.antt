@@ -10,7 +10,7 @@ use Rattle.pin_core.specs.declared.event.Event.TheVariants.{Give, Lend, Share, L
 use Rattle.pin_core.specs.World.{PinWorld, Keeps, IsState, IsUsed, hold_named, opening, row, row_word, word}
 use Rattle.pin_core.proofs.Shares.{shared_sum}
 use Rattle.pin_core.specs.Events.{Can, after, Happens, half, halve, second, entry, lent_hold}
-use Rattle.pin_core.specs.Laws.{world_at, Given, Spanned, begun, lent, shared, generation_at, Reclamation}
+use Rattle.pin_core.specs.Laws.{world_at, Given, Spanned, begun, lent, shared, generation_at, Reclaims, Reclamation}
 use Rattle.pin_core.proofs.Names.{IsOn, all_named, on_push, named_last, on_halved, on_filter, none_halved}
 use Rattle.pin_core.proofs.Held.{state_after, state_opening, rises_after, Past, past_after, given_past}
 
@@ -131,15 +131,15 @@ steady p es h g i k n m at =
     let s = state_at p es i h (omega arith) g in
     ap (λ q. word q k) t.next ∙ ap (row_word (row w.rows k)) (shared_sum k n m w.pins s.named t.can.0 s.weights)
 
+reclaims : (p : PinWorld) (es : List Event) → IsState p → Happens p es → Reclaims p es
+reclaims p es good h = record {
+  held = λ i l. (state_at p es i h l good).held;
+  states = λ i l. state_at p es i h l good;
+  apart = apart p es h good;
+  steady = steady p es h good;
+  rises = rises p es h;
+  once = once p es h;
+}
+
 pub reclamation : Reclamation
-reclamation n g es h =
-    let p = opening n g in
-    let good = state_opening n g in
-    record {
-      held = λ i l. (state_at p es i h l good).held;
-      states = λ i l. state_at p es i h l good;
-      apart = apart p es h good;
-      steady = steady p es h good;
-      rises = rises p es h;
-      once = once p es h;
-    }
+reclamation = record { from_opening = λ n g es h. reclaims (opening n g) es (state_opening n g) h; from_any = reclaims }

@@ -40,9 +40,10 @@ pub record Reclaims (p : PinWorld) (es : List Event) : Type 0 where
   pub rises : (i j k : ℕ) → i ≤ j → j ≤ length es → generation_at p es i k ≤ generation_at p es j k
   pub once : (i j k : ℕ) → Given es k i → Given es k j → generation_at p es i k ≡ generation_at p es j k → i ≡ j
 
--- it holds of every list of events that can happen in their turn, from any number of free slots of any generation on
-abbrev pub Reclamation : Type 0
-Reclamation = (n g : ℕ) (es : List Event) → Happens (opening n g) es → Reclaims (opening n g) es
+-- It holds of every list of events that can happen in their turn, from any number of free slots of any generation on, and from any world on that keeps what every state keeps.
+pub record Reclamation : Type 0 where
+  pub from_opening : (n g : ℕ) (es : List Event) → Happens (opening n g) es → Reclaims (opening n g) es
+  pub from_any : (p : PinWorld) (es : List Event) → IsState p → Happens p es → Reclaims p es
 
 -- a word tells its generation, phase and sum of weights
 abbrev pub Packing : Type 0
