@@ -16,10 +16,11 @@ use Rattle.pin_core.specs.declared.world.PinEntry.{PinEntry}
 use Rattle.pin_core.specs.declared.event.Event.{Event}
 use Rattle.pin_core.specs.declared.event.Event.TheVariants.{Give, Lend, Share, Leave, Condemn, Revive, Reclaim, Look, Verify}
 use Rattle.blob_digest.specs.Keys.{Text}
-use Rattle.pin_core.specs.World.{PinWorld, Keeps, HasDigest, IsState, IsUsed, hold_named, holds_of, opening, row, no_row}
-use Rattle.pin_core.specs.Events.{Can, after, half, halve, second, entry, lent_hold, digest_or, given_row, in_phase, reclaimed_row}
+use Rattle.pin_core.specs.World.{PinWorld, Keeps, HasDigest, IsState, IsUsed, IsWeight, most_weight, hold_named, holds_of, opening, row, no_row}
+use Rattle.pin_core.specs.Events.{Can, after, with_row, half, halve, second, entry, lent_hold, digest_or, given_row, in_phase, reclaimed_row}
 use Rattle.pin_core.proofs.Names.{hold_in, all_named, all_map, all_filter, all_push, clear_holds, named_push, named_filter, named_shared}
-use Rattle.pin_core.proofs.Weights.{lent_fits, shared_fits, filter_fits}
+use Rattle.pin_core.proofs.Weights.{lent_fits, filter_fits}
+use Rattle.pin_core.proofs.Shares.{shared_weights, shared_sum}
 
 module _ {X : Type 0} (P : X → Type 0) where
   pub all_each : (Q : X → Type 0) → ((x : X) → P x → Q x) → (xs : List X) → All P xs → All Q xs
@@ -83,38 +84,38 @@ dead_used p e = subst (λ (x : Phase). IsUsed x) (sym e) tt
 new_keeps : (rs : List PinRow) (k : ℕ) → k < length rs → (row rs k).phase ≡ Live → All HasDigest rs → Keeps rs (lent_hold k (row rs k))
 new_keeps rs k l live all =
     let u = live_used (row rs k).phase live in
-    let d = All-get_or HasDigest rs k no_row l all u in
+    let d = (All-get_or HasDigest rs k no_row l all).0 u in
     record { there = l; used = u; generation = refl; digest = d.1 ∙ ap (λ o. Some (digest_or o)) (sym d.1) }
 
 reclaimed_unused : (r : PinRow) → HasDigest (reclaimed_row r)
 reclaimed_unused r = by_test (r.generation == 4294967295)
   where
     by_test : (b : Bool) → HasDigest (cond b (record { generation = r.generation; phase = Retired; digest = None }) (record { generation = r.generation + 1; phase = Free; digest = None }))
-    by_test true = λ u. absurd u
-    by_test false = λ u. absurd u
+    by_test true = ((λ u. absurd u), (λ _. refl))
+    by_test false = ((λ u. absurd u), (λ _. refl))
 
-phased : (rs : List PinRow) (k : ℕ) (p : Phase) → k < length rs → IsUsed (row rs k).phase → All HasDigest rs → HasDigest (in_phase p (row rs k))
-phased rs k p l u all = λ _. All-get_or HasDigest rs k no_row l all u
+phased : (rs : List PinRow) (k : ℕ) (p : Phase) → k < length rs → IsUsed p → IsUsed (row rs k).phase → All HasDigest rs → HasDigest (in_phase p (row rs k))
+phased rs k p l used u all = ((λ _. (All-get_or HasDigest rs k no_row l all).0 u), (λ never. absurd (never used)))
 
 pub state_after : (p : PinWorld) (e : Event) → Can p e → IsState p → IsState (after p e)
 state_after p (Give k d) can g = let r = given_row d (row p.rows k) in
-    record { held = keeps_else p.rows k r (holds_of p) (unused p.rows k (holds_of p) (is_free (row p.rows k).phase can.0.1) g.held) g.held; named = g.named; fits = g.fits; digests = All-set HasDigest p.rows k r (λ _. (d, refl)) g.digests }
+    record { held = keeps_else p.rows k r (holds_of p) (unused p.rows k (holds_of p) (is_free (row p.rows k).phase can.0.1) g.held) g.held; named = g.named; weights = g.weights; fits = g.fits; digests = All-set HasDigest p.rows k r ((λ _. (d, refl)), (λ never. absurd (never tt))) g.digests }
 state_after p (Lend k n) can g = let h = lent_hold k (row p.rows k) in
-    record { held = all_push (Keeps p.rows) p.pins (entry n h ∷ []) g.held (All-cons (Keeps p.rows) h [] (new_keeps p.rows k can.0.0 can.0.1 g.digests) (All-nil (Keeps p.rows))); named = named_push p.pins n h g.named can.1; fits = lent_fits p.pins k n h refl refl g.fits can.2; digests = g.digests }
+    record { held = all_push (Keeps p.rows) p.pins (entry n h ∷ []) g.held (All-cons (Keeps p.rows) h [] (new_keeps p.rows k can.0.0 can.0.1 g.digests) (All-nil (Keeps p.rows))); named = named_push p.pins n h g.named can.1; weights = all_push IsWeight p.pins (entry n h ∷ []) g.weights (All-cons IsWeight h [] (10, omega arith, refl) (All-nil IsWeight)); fits = lent_fits p.pins k n h refl refl g.fits can.2; digests = g.digests }
 state_after p (Share n m) can g =
-    record { held = all_push (Keeps p.rows) (map (halve n) p.pins) (second m (hold_named n p.pins)) (all_map (Keeps p.rows) (halve n) (halve_keeps p.rows n) p.pins g.held) (second_keeps p.rows n m p.pins g.held (hold_named n p.pins) refl); named = named_shared p.pins n m g.named can.1; fits = shared_fits p.pins n m g.fits; digests = g.digests }
-state_after p (Leave n) can g = record { held = all_filter (Keeps p.rows) (λ e. not (e.name == n)) p.pins g.held; named = named_filter (λ e. not (e.name == n)) p.pins g.named; fits = filter_fits (λ e. not (e.name == n)) p.pins g.fits; digests = g.digests }
+    record { held = all_push (Keeps p.rows) (map (halve n) p.pins) (second m (hold_named n p.pins)) (all_map (Keeps p.rows) (halve n) (halve_keeps p.rows n) p.pins g.held) (second_keeps p.rows n m p.pins g.held (hold_named n p.pins) refl); named = named_shared p.pins n m g.named can.1; weights = shared_weights p.pins n m g.named can.0 g.weights; fits = λ k. subst (λ s. s ≤ most_weight) (sym (shared_sum k n m p.pins g.named can.0 g.weights)) (g.fits k); digests = g.digests }
+state_after p (Leave n) can g = record { held = all_filter (Keeps p.rows) (λ e. not (e.name == n)) p.pins g.held; named = named_filter (λ e. not (e.name == n)) p.pins g.named; weights = all_filter IsWeight (λ e. not (e.name == n)) p.pins g.weights; fits = filter_fits (λ e. not (e.name == n)) p.pins g.fits; digests = g.digests }
 state_after p (Condemn k) can g = let r = in_phase Condemned (row p.rows k) in let u = live_used (row p.rows k).phase can.1 in
-    record { held = keeps_same p.rows k r (holds_of p) can.0 (record { used = λ _. tt; generation = refl; digest = refl }) g.held; named = g.named; fits = g.fits; digests = All-set HasDigest p.rows k r (phased p.rows k Condemned can.0 u g.digests) g.digests }
+    record { held = keeps_same p.rows k r (holds_of p) can.0 (record { used = λ _. tt; generation = refl; digest = refl }) g.held; named = g.named; weights = g.weights; fits = g.fits; digests = All-set HasDigest p.rows k r (phased p.rows k Condemned can.0 tt u g.digests) g.digests }
 state_after p (Revive k) can g = let r = in_phase Live (row p.rows k) in let u = dead_used (row p.rows k).phase can.1 in
-    record { held = keeps_same p.rows k r (holds_of p) can.0 (record { used = λ _. tt; generation = refl; digest = refl }) g.held; named = g.named; fits = g.fits; digests = All-set HasDigest p.rows k r (phased p.rows k Live can.0 u g.digests) g.digests }
+    record { held = keeps_same p.rows k r (holds_of p) can.0 (record { used = λ _. tt; generation = refl; digest = refl }) g.held; named = g.named; weights = g.weights; fits = g.fits; digests = All-set HasDigest p.rows k r (phased p.rows k Live can.0 tt u g.digests) g.digests }
 state_after p (Reclaim k) can g = let r = reclaimed_row (row p.rows k) in
-    record { held = keeps_else p.rows k r (holds_of p) (clear_holds k p.pins can.1) g.held; named = g.named; fits = g.fits; digests = All-set HasDigest p.rows k r (reclaimed_unused (row p.rows k)) g.digests }
+    record { held = keeps_else p.rows k r (holds_of p) (clear_holds k p.pins can.1) g.held; named = g.named; weights = g.weights; fits = g.fits; digests = All-set HasDigest p.rows k r (reclaimed_unused (row p.rows k)) g.digests }
 state_after p (Look k) can g = g
 state_after p (Verify n) can g = g
 
 pub state_opening : (n g : ℕ) → IsState (opening n g)
-state_opening n g = record { held = All-nil (Keeps (opening n g).rows); named = tt; fits = λ k. omega arith; digests = All-replicate HasDigest n (record { generation = g; phase = Free; digest = None }) (λ u. absurd u) }
+state_opening n g = record { held = All-nil (Keeps (opening n g).rows); named = tt; weights = All-nil IsWeight; fits = λ k. omega arith; digests = All-replicate HasDigest n (record { generation = g; phase = Free; digest = None }) ((λ u. absurd u), (λ _. refl)) }
 
 -- generations rise, and a slot that was given in a generation is free again only in a later one
 reclaimed_rises : (r : PinRow) → r.generation ≤ (reclaimed_row r).generation
@@ -184,3 +185,9 @@ row_read (x ∷ rs) (suc k) r l is = row_read rs k r (omega arith) is
 -- a new pin has the row's digest
 pub lent_is : (k : ℕ) (r : PinRow) (d : Text) → r.digest ≡ Some d → record { slot = k; generation = r.generation; digest = d; weight = 1024 } ≡ lent_hold k r
 lent_is k r d e = ap (λ o. record { slot = k; generation = r.generation; digest = digest_or o; weight = 1024 }) (sym e)
+
+-- a row that is read, changed and written
+pub row_set : (w v : PinWorld) (k : ℕ) (f : PinRow → PinRow) (old new : PinRow) → w ≡ v → k < length w.rows → old ≡ get_or w.rows k old → new ≡ f old → IsState (with_row k (f (row w.rows k)) w) → IsState (with_row k new v)
+row_set w v k f old new same l is to state =
+    let e : new ≡ f (row w.rows k) = to ∙ ap f (row_read w.rows k old l is) in
+    subst (λ (x : PinWorld). IsState (with_row k new x)) same (subst (λ (r : PinRow). IsState (with_row k r w)) (sym e) state)

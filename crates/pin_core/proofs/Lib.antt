@@ -1,5 +1,6 @@
 pub mod Names
 pub mod Weights
+pub mod Shares
 pub mod Held
 pub mod Spans
 pub mod Changes

@@ -125,7 +125,7 @@ none_push (x ∷ es) a n h e ne = by_name (x.name == a) e (λ f. none_push es a 
     by_name false e rest = rest e
 
 -- what isn't found isn't the first, nor behind it
-none_cons : (x : PinEntry) (es : List PinEntry) (n : ℕ) → hold_named n (x ∷ es) ≡ None → (x.name ≢ n) × (hold_named n es ≡ None)
+pub none_cons : (x : PinEntry) (es : List PinEntry) (n : ℕ) → hold_named n (x ∷ es) ≡ None → (x.name ≢ n) × (hold_named n es ≡ None)
 none_cons x es n e = by_name (x.name == n) refl e
   where
     by_name : (b : Bool) → (x.name == n) ≡ b → cond b (Some x.hold) (hold_named n es) ≡ None → (x.name ≢ n) × (hold_named n es ≡ None)

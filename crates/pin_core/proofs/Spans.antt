@@ -7,9 +7,10 @@ use Rattle.pin_core.specs.declared.world.Phase.{Phase}
 use Rattle.pin_core.specs.declared.world.Phase.TheVariants.{Free}
 use Rattle.pin_core.specs.declared.event.Event.{Event}
 use Rattle.pin_core.specs.declared.event.Event.TheVariants.{Give, Lend, Share, Leave, Condemn, Revive, Reclaim, Look, Verify}
-use Rattle.pin_core.specs.World.{PinWorld, Keeps, IsState, IsUsed, hold_named, opening, row}
+use Rattle.pin_core.specs.World.{PinWorld, Keeps, IsState, IsUsed, hold_named, opening, row, row_word, word}
+use Rattle.pin_core.proofs.Shares.{shared_sum}
 use Rattle.pin_core.specs.Events.{Can, after, Happens, half, halve, second, entry, lent_hold}
-use Rattle.pin_core.specs.Laws.{world_at, Given, Spanned, begun, lent, shared, generation_at, Reclamation}
+use Rattle.pin_core.specs.Laws.{world_at, Given, Spanned, begun, lent, shared, generation_at, Reclaims, Reclamation}
 use Rattle.pin_core.proofs.Names.{IsOn, all_named, on_push, named_last, on_halved, on_filter, none_halved}
 use Rattle.pin_core.proofs.Held.{state_after, state_opening, rises_after, Past, past_after, given_past}
 
@@ -121,15 +122,24 @@ once p es h i j k first again same = dite (dec_le (suc i) j)
     (λ (l : suc j ≤ i). absurd (not_again p es h j i k (omega arith) again first (sym same)))
     (λ (b : ¬ (suc j ≤ i)). omega arith))
 
+-- a Share changes no word
+steady : (p : PinWorld) (es : List Event) → Happens p es → IsState p → (i k n m : ℕ) → slice_get es i ≡ Some (Share n m) → word (world_at p es (suc i)) k ≡ word (world_at p es i) k
+steady p es h g i k n m at =
+    let t = turn p es i (Share n m) h at in
+    let l = t.within in
+    let w = world_at p es i in
+    let s = state_at p es i h (omega arith) g in
+    ap (λ q. word q k) t.next ∙ ap (row_word (row w.rows k)) (shared_sum k n m w.pins s.named t.can.0 s.weights)
+
+reclaims : (p : PinWorld) (es : List Event) → IsState p → Happens p es → Reclaims p es
+reclaims p es good h = record {
+  held = λ i l. (state_at p es i h l good).held;
+  states = λ i l. state_at p es i h l good;
+  apart = apart p es h good;
+  steady = steady p es h good;
+  rises = rises p es h;
+  once = once p es h;
+}
+
 pub reclamation : Reclamation
-reclamation n g es h =
-    let p = opening n g in
-    let good = state_opening n g in
-    record {
-      held = λ i l. (state_at p es i h l good).held;
-      named = λ i l. (state_at p es i h l good).named;
-      fits = λ i k l. (state_at p es i h l good).fits k;
-      apart = apart p es h good;
-      rises = rises p es h;
-      once = once p es h;
-    }
+reclamation = record { from_opening = λ n g es h. reclaims (opening n g) es (state_opening n g) h; from_any = reclaims }

@@ -1,5 +1,5 @@
 -- Slots with generations, and the pins on them: reference counts with weights.
-use Rattle.std.specs.Prelude.{◌≡◌, ℕ, ◌+◌, ◌*◌, ◌==◌, cond, ◌<◌, ◌≤◌, List, [], ◌∷◌, map, length, replicate, sum_by, slice_index_or, Option, Some, None}
+use Rattle.std.specs.Prelude.{◌≡◌, ℕ, ◌+◌, ◌*◌, ◌^◌, ◌==◌, cond, ◌<◌, ◌≤◌, List, [], ◌∷◌, map, length, replicate, sum_by, slice_index_or, Option, Some, None}
 use Rattle.std.specs.List.{All}
 use Rattle.blob_digest.specs.Keys.{Text}
 use Rattle.pin_core.specs.declared.world.Phase.{Phase}
@@ -62,9 +62,13 @@ pub record Keeps (rows : List PinRow) (h : Hold) : Type 0 where
 abbrev pub Held : PinWorld → Type 0
 Held p = All (Keeps p.rows) (holds_of p)
 
--- a used slot has a digest
+-- a slot has a digest exactly where it is used
 abbrev pub HasDigest : PinRow → Type 0
-HasDigest r = IsUsed r.phase → (d : Text) × (r.digest ≡ Some d)
+HasDigest r = (IsUsed r.phase → (d : Text) × (r.digest ≡ Some d)) × (¬ IsUsed r.phase → r.digest ≡ None)
+
+-- the weight is a power of two from 1 to 1024
+abbrev pub IsWeight : Hold → Type 0
+IsWeight h = (e : ℕ) × (e ≤ 10) × (h.weight ≡ 2 ^ e)
 
 -- n free slots of generation g, and no pin
 abbrev pub opening : ℕ → ℕ → PinWorld
@@ -87,10 +91,11 @@ word_of generation phase weight = generation * 0x1_0000_0000 + phase_bits phase 
 abbrev pub most_weight : ℕ
 most_weight = 0x3fff_ffff
 
--- what every state keeps: used slots have digests, pins have names of their own, sums fit their words, and each pin's slot is used and its own
+-- What every state keeps: slots have digests exactly where they are used; pins have names of their own, and powers of two for weights; sums fit their words; the slot of each pin is used and its own.
 pub record IsState (p : PinWorld) : Type 0 where
   pub digests : All HasDigest p.rows
   pub named : IsNamed p.pins
+  pub weights : All IsWeight (holds_of p)
   pub fits : (k : ℕ) → weight_on k (holds_of p) ≤ most_weight
   pub held : Held p
 

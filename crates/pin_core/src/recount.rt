@@ -271,7 +271,7 @@ impl Tally {
 #[test]
 fn random_events_agree_with_a_recount(rt: HostRuntime) {
     let alloc = rt.alloc();
-    let first_generation = u32::MAX - 9;
+    let first_generation = u32::MAX - 15;
     let mut state = PinState::new(alloc, 8, first_generation).expect(&rt, "memory");
     let free = Slot {
         generation: first_generation,
@@ -300,4 +300,6 @@ fn random_events_agree_with_a_recount(rt: HostRuntime) {
         assert!(rt; tally.has_pins(&state));
     }
     assert!(rt; happened > 3_000);
+    let last = state.row(0).expect(&rt, "a slot");
+    assert_eq!(rt; last.phase, Phase::Retired);
 }

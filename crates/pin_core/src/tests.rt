@@ -1,4 +1,4 @@
-use crate::{Event, Hold, Phase, PinState, WordRow, pack, run, step, unpack};
+use crate::{Event, Hold, Phase, PinState, WordRow, laws, pack, run, step, unpack};
 use blob_digest::{Digest, Refusal, Running};
 use std::alloc::Global;
 use std::process::Abort;
@@ -284,4 +284,21 @@ fn words_at_the_ends_of_the_numbers(rt: HostRuntime) {
     assert!(rt; is_word_of(0xffff_ffff_4000_0000, u32::MAX, Phase::Retired, 0));
     assert!(rt; is_word_of(0xffff_ffff_7fff_ffff, u32::MAX, Phase::Retired, most));
     assert!(rt; is_word_of(0x0000_0000_c000_0400, 0, Phase::Condemned, 1024));
+}
+
+#[test]
+fn words_are_read_back(rt: HostRuntime) {
+    laws::reclamation();
+    laws::packing();
+    let row = WordRow {
+        generation: 3,
+        phase: Phase::Condemned,
+        weight: 2048,
+    };
+    assert_eq!(rt; laws::unpack_pack(row), row);
+    assert_eq!(rt;
+        laws::pack_unpack(0x0000_0003_c000_0800),
+        0x0000_0003_c000_0800
+    );
+    assert_eq!(rt; pack(row), 0x0000_0003_c000_0800);
 }
