@@ -1,0 +1,6 @@
+pub mod BookPlays
+pub mod Inputs
+pub mod PlayedRows
+pub mod Records
+pub mod Replies
+pub mod TenantLists

@@ -1,0 +1,51 @@
+-- Records taken one by one from a reader.
+use Rattle.std.proofs.Common.{◌≡◌, ◌⊎◌, ◌≤◌, ◌+◌, ◌++◌, ◌∷◌, [], ◌∙◌, ℕ, List, Some, None, true, map, length, inl, inr, ap, sym}
+use Rattle.std.proofs.lemmas.List.{map-append}
+use Rattle.std.specs.Borrow.{Bor}
+use Rattle.csv.specs.Reading.{ReadRecord, default_config, strip_bom, took_first}
+use Rattle.csv.specs.declared.parser.State.TheVariants as st
+use Rattle.csv.specs.declared.reader.Reader.{Reader}
+use Rattle.csv.proofs.ReadFacts.{rows-more}
+use Rattle.blob_digest.specs.Keys.{Text}
+use Rattle.blobctl.specs.Reading.{IsAfter}
+use Rattle.blobctl.specs.Rows.{Line, Record, row_of}
+use Rattle.blobctl.specs.Script.{AreGood, BeginsWith, ExplainsRows, most_rows}
+use Rattle.blobctl.specs.declared.fault.Fault.{Fault}
+use Rattle.blobctl.specs.declared.fault.Fault.TheVariants.{BadRow, Memory}
+
+-- a record more was taken
+pub one_taken : (old new : Reader (Bor Text)) (fields : Record) (script : Text) (before : List Record) → IsAfter script before old
+    → ReadRecord (λ s. Some s.now) old new true fields → took_first new ≡ true → IsAfter script (before ++ fields ∷ []) new
+one_taken old new fields script before h read first =
+    let more = rows-more (λ (s : Bor Text). Some s.now) old new fields default_config st.StartRecord (strip_bom script) h.rest before h.config h.source h.reached read in
+    record {
+      untrimmed = read.3 ∙ h.untrimmed;
+      ready = inl first;
+      config = read.2 ∙ h.config;
+      rest = more.0;
+      source = more.1;
+      reached = more.2;
+    }
+
+-- records that were taken are the script's first
+pub begins : (reader : Reader (Bor Text)) (script : Text) (before : List Record) → IsAfter script before reader → BeginsWith script before
+begins reader script before h = (reader.state, h.rest, h.reached)
+
+-- a good record after good ones
+pub one_good : (before : List Record) (rows : List Line) (fields : Record) (line : Line) → AreGood before rows → row_of fields ≡ Some line
+    → AreGood (before ++ fields ∷ []) (rows ++ line ∷ [])
+one_good before rows fields line good here =
+    map-append row_of before (fields ∷ [])
+    ∙ ap (λ x. x ++ row_of fields ∷ []) good
+    ∙ ap (λ x. map Some rows ++ x ∷ []) here
+    ∙ sym (map-append Some rows (line ∷ []))
+
+-- a record after good ones that has no row is the first bad one
+pub explained : (script : Text) (before : List Record) (rows : List Line) (fields : Record) (number : ℕ) (fault : Fault) → BeginsWith script (before ++ fields ∷ [])
+    → AreGood before rows → number ≡ length before + 1 → length before ≤ most_rows
+    → (fault ≡ Memory) ⊎ ((fault ≡ BadRow number) × (row_of fields ≡ None)) → ExplainsRows script fault
+explained script before rows fields number fault first good place few why =
+    elim why [
+      | inl e ↦ rw e tt
+      | inr b ↦ rw b.0 (record { before = before; rows = rows; bad = fields; begins = first; good = good; place = place; few = few; why = inl b.1 })
+    ]

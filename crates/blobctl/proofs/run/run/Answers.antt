@@ -1,0 +1,26 @@
+use Rattle.std.proofs.Common.{◌++◌, map, refl}
+use Rattle.store_book.specs.Printed.{book_text}
+use Rattle.blobctl.specs.Lines.{line_of}
+use Rattle.blobctl.specs.Replies.{replies_text}
+use Rattle.blobctl.proofs.run.run.Goals as goal
+
+pub returns-clause-played : goal.returns-clause-played
+returns-clause-played g c =
+    let rows = c.in_ok-rows.ensures.rows in
+    let played = c.in-Ok.ensures.played in
+    record {
+      script = rows.0;
+      read = rows.1;
+      text = replies_text c.in-Ok.replies.items ++ book_text c.in-Ok.book.catalog;
+      written = rw c.as_slice-2.ensures.value at c.in_ok-write_played.ensures.written;
+      played = record {
+        first = played.0;
+        opened = played.1;
+        rows = map line_of c.in_ok-rows.rows.items;
+        all = rows.2;
+        replies = c.in-Ok.replies.items;
+        last = c.in-Ok.book.catalog;
+        run = rw c.as_slice.ensures.value at played.2;
+        written = refl;
+      };
+    }

@@ -1,0 +1,10 @@
+use Rattle.std.proofs.Common.{◌≡◌, List, length, map}
+use Rattle.blobctl.specs.Lines.{line_of}
+use Rattle.blobctl.specs.Reading.{IsAfter}
+use Rattle.blobctl.specs.Rows.{Record}
+use Rattle.blobctl.specs.Script.{AreGood}
+use Rattle.blobctl.proofs.script.read_rows.Given as goal
+
+-- the records before this place are good, and their rows are kept
+abbrev pub invariant-loop-place : goal.invariant-loop-place
+invariant-loop-place l = (before : List Record) × IsAfter l.script before l.reader × AreGood before (map line_of l.rows.items) × (length before ≡ l.place)

@@ -1,0 +1,18 @@
+use Rattle.std.proofs.Common.{◌∙◌, sym, refl, inr}
+use Rattle.csv.specs.Reading.{Reached, strip_bom}
+use Rattle.blobctl.proofs.script.reader_of.Goals as goal
+
+pub returns : goal.returns
+unfolding Reached
+returns c =
+    let fr = c.from_reader.ensures in
+    let e = c.has_headers.ensures in
+    let f = c.flexible.ensures in
+    record {
+      untrimmed = rw (f, e) at fr.trim ∙ c.new.ensures.trim;
+      ready = inr (inr (rw (f, e) at fr.has_headers, fr.headers));
+      config = rw (f, e) at fr.config ∙ c.new.ensures.config;
+      rest = strip_bom c.args.script.now;
+      source = fr.source;
+      reached = (sym fr.state, refl);
+    }

@@ -1,0 +1,15 @@
+pub mod Commands
+pub mod Ending
+pub mod Inputs
+pub mod Lines
+pub mod Options
+pub mod Played
+pub mod Plays
+pub mod Reading
+pub mod Replies
+pub mod Rows
+pub mod Script
+pub mod Stops
+pub mod Tenants
+pub mod Texts
+pub mod Watching

@@ -1,0 +1,55 @@
+-- What a script does to a store, and the text that is written then.
+use Rattle.std.specs.Prelude.{◌≡◌, ℕ, List, ◌++◌, Result, Ok, Err, map}
+use Rattle.std.specs.List.Sorted.{IsPermutation, IsStrictlySortedBy}
+use Rattle.blob_digest.specs.Keys.{Text, text_cmp}
+use Rattle.blob_digest.specs.Outcomes.{Refuses}
+use Rattle.blob_digest.specs.Tenants.{Tenant}
+use Rattle.store_book.specs.Catalog.{Catalog, opening}
+use Rattle.store_book.specs.Printed.{book_text}
+use Rattle.store_book.specs.Steps as steps
+use Rattle.blobctl.specs.Commands.{Command, Start, Append, Close}
+use Rattle.blobctl.specs.Plays.{Plays}
+use Rattle.blobctl.specs.Replies.{replies_text}
+use Rattle.blobctl.specs.Rows.{Line}
+use Rattle.blobctl.specs.Script.{AreRowsOf}
+use Rattle.blobctl.specs.declared.reply.Reply.{Reply}
+use Rattle.blobctl.specs.declared.reply.Reply.TheVariants.{Session, Received, Stored, Refused}
+
+-- an answer as a reply tells it
+abbrev pub told : {A : Type 0} → (A → Reply) → steps.Outcome A → steps.Outcome Reply
+told reply (Ok x) = Ok (reply x.0, x.1)
+told reply (Err refusal) = Err refusal
+
+-- what a command replies and leaves
+abbrev pub outcome : Catalog → Command → steps.Outcome Reply
+outcome C (Start repo) = told Session (steps.start C repo)
+outcome C (Append repo number range bytes) = told Received (steps.append C repo number range bytes)
+outcome C (Close repo number digest range bytes) = told Stored (steps.close C repo number digest range bytes)
+
+-- a command leads from one catalog to another with its reply; a refused one changes nothing
+abbrev pub Happens : Catalog → Command → Reply → Catalog → Type 0
+Happens C command (Refused refusal) C' = (outcome C command ≡ Err refusal) × (C' ≡ C)
+Happens C command reply C' = outcome C command ≡ Ok (reply, C')
+
+-- the same of a book, which may refuse for want of memory in place of any reply
+abbrev pub Acts : Catalog → Command → Reply → Catalog → Type 0
+Acts C command (Refused refusal) C' = Refuses refusal C C' (outcome C command)
+Acts C command reply C' = outcome C command ≡ Ok (reply, C')
+
+-- the catalog has the tenants in the order of their names, and nothing else
+pub record Opened (tenants : List Tenant) (slots max_blob : ℕ) (C : Catalog) : Type 0 where
+  pub same : IsPermutation tenants C.tenants
+  pub rising : IsStrictlySortedBy text_cmp (map (λ t. t.name) C.tenants)
+  pub empty : C ≡ opening C.tenants slots max_blob
+
+-- Playing a script on a store that is made with these tenants writes this text: the replies to all its rows, in their order,
+-- and then the book as it is after the last of them. Want of memory is never a reply.
+pub record Played (tenants : List Tenant) (slots max_blob : ℕ) (script text : Text) : Type 0 where
+  pub first : Catalog
+  pub opened : Opened tenants slots max_blob first
+  pub rows : List Line
+  pub all : AreRowsOf script rows
+  pub replies : List Reply
+  pub last : Catalog
+  pub run : Plays Happens first rows replies last
+  pub written : text ≡ replies_text replies ++ book_text last

@@ -1,0 +1,50 @@
+-- The rows of a script, and its first bad row.
+use Rattle.std.specs.Prelude.{⊤, ◌≡◌, ◌⊎◌, ◌≤◌, ℕ, ◌+◌, List, [], ◌∷◌, ◌++◌, length, map, Some, None}
+use Rattle.csv.specs.Reading.{AreRecords, Reached, default_config, strip_bom}
+use Rattle.csv.specs.declared.parser.State.{State}
+use Rattle.csv.specs.declared.parser.State.TheVariants as st
+use Rattle.blob_digest.specs.Keys.{Text}
+use Rattle.blobctl.specs.declared.fault.Fault.{Fault}
+use Rattle.blobctl.specs.declared.fault.Fault.TheVariants.{BadRow, Read, Write, Memory}
+use Rattle.blobctl.specs.Rows.{Line, Record, row_of}
+
+-- these are all the records of the script (RFC 4180): no header row, no trimming, a byte order mark left out
+abbrev pub AreRecordsOf : Text → List Record → Type 0
+AreRecordsOf script records = AreRecords default_config st.StartRecord (strip_bom script) records
+
+-- the script begins with these records
+abbrev pub BeginsWith : Text → List Record → Type 0
+BeginsWith script records = (s : State) × (rest : Text) × Reached default_config st.StartRecord (strip_bom script) records s rest
+
+-- each of these records is good, and these are their rows
+abbrev pub AreGood : List Record → List Line → Type 0
+AreGood records rows = map row_of records ≡ map Some rows
+
+-- how many rows a script may have
+abbrev pub most_rows : ℕ
+most_rows = 65536
+
+-- these rows are the script's, one for each of its records
+pub record AreRowsOf (script : Text) (rows : List Line) : Type 0 where
+  pub records : List Record
+  pub all : AreRecordsOf script records
+  pub good : AreGood records rows
+  pub few : length records ≤ most_rows
+
+-- the record of this number, counted from 1, is the script's first bad one: it is no row, or one too many
+pub record IsFirstBad (script : Text) (number : ℕ) : Type 0 where
+  pub before : List Record
+  pub rows : List Line
+  pub bad : Record
+  pub begins : BeginsWith script (before ++ bad ∷ [])
+  pub good : AreGood before rows
+  pub place : number ≡ length before + 1
+  pub few : length before ≤ most_rows
+  pub why : (row_of bad ≡ None) ⊎ (number ≡ most_rows + 1)
+
+-- what a fault of the rows says: a number is that of the first bad row
+abbrev pub ExplainsRows : Text → Fault → Type 0
+ExplainsRows script (BadRow n) = IsFirstBad script n
+ExplainsRows script Memory = ⊤
+ExplainsRows script Read = ⊥
+ExplainsRows script Write = ⊥

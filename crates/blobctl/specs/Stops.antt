@@ -1,0 +1,19 @@
+-- What is printed where the program stops before it runs, and its exit statuses then.
+use Rattle.std.specs.Prelude.{ℕ, codes, string_bytes}
+use Rattle.blob_digest.specs.Keys.{Text}
+use Rattle.blobctl.specs.declared.options.Stop.{Stop}
+use Rattle.blobctl.specs.declared.options.Stop.TheVariants.{Help, Usage, BadTenant, Memory}
+
+-- what is printed
+abbrev pub stop_text : Stop → Text
+stop_text (Help text) = string_bytes text
+stop_text (Usage text) = string_bytes text
+stop_text BadTenant = codes "blobctl: bad tenant\n"
+stop_text Memory = codes "blobctl: out of memory\n"
+
+-- the exit status
+abbrev pub stop_status : Stop → ℕ
+stop_status (Help text) = 0
+stop_status (Usage text) = 2
+stop_status BadTenant = 2
+stop_status Memory = 5

@@ -1,0 +1,57 @@
+-- The tenants that the arguments name.
+use Rattle.std.specs.Prelude.{◌≡◌, ◌⊎◌, ◌<◌, ◌≤◌, ◌^◌, ◌==◌, ℕ, List, [], ◌∷◌, ◌++◌, Some, count_by, length, map, string_bytes, String, true}
+use Rattle.std.specs.declared.alloc.Global.{Global}
+use Rattle.std.specs.List.{All, after_first, before_first, list_any, position_or_len}
+use Rattle.blob_digest.specs.Keys.{Text, same_text}
+use Rattle.blob_digest.specs.Names.{IsComponent}
+use Rattle.blob_digest.specs.Ranges.{number_of}
+use Rattle.blob_digest.specs.Tenants.{Tenant}
+
+-- the most tenants that a store has, and the largest quota in bytes
+abbrev pub most_tenants : ℕ
+most_tenants = 256
+
+abbrev pub most_quota : ℕ
+most_quota = 2 ^ 50
+
+-- what stands before the first `=` is a tenant's name, and what stands after it a quota in decimal digits
+pub record IsTenantWord (word : Text) (tenant : Tenant) : Type 0 where
+  pub parted : position_or_len (λ b. b == 61) word < length word
+  pub name : tenant.name ≡ before_first (λ b. b == 61) word
+  pub component : IsComponent tenant.name
+  pub quota : number_of (after_first (λ b. b == 61) word) ≡ Some tenant.quota
+  pub small : tenant.quota ≤ most_quota
+
+-- the words spell these tenants, one each
+abbrev pub SpellTenants : List Text → List Tenant → Type 0
+SpellTenants [] [] = Unit {0}
+SpellTenants (word ∷ words) (tenant ∷ tenants) = IsTenantWord word tenant × SpellTenants words tenants
+SpellTenants words tenants = ⊥
+
+-- after these tenants the word names none: it spells none, or one whose name is there, or it is one too many
+abbrev pub IsRefusedAfter : List Tenant → Text → Type 0
+IsRefusedAfter tenants word =
+    ((tenant : Tenant) → IsTenantWord word tenant → ⊥)
+    ⊎ ((tenant : Tenant) × IsTenantWord word tenant × (list_any (λ t. same_text t.name tenant.name) tenants ≡ true))
+    ⊎ (most_tenants ≤ length tenants)
+
+-- some word names no tenant after those before it, or there is no word
+abbrev pub HasBadTenant : List Text → Type 0
+HasBadTenant words =
+    (words ≡ [])
+    ⊎ ((before : List Text) × (tenants : List Tenant) × (word : Text) × (after : List Text) × (words ≡ before ++ word ∷ after) × SpellTenants before tenants × IsRefusedAfter tenants word)
+
+-- a store can have these tenants: from 1 to 256, each named by a component of its own, with quotas up to 2^50
+pub record AreTenants (tenants : List Tenant) : Type 0 where
+  pub some : 0 < length tenants
+  pub few : length tenants ≤ most_tenants
+  pub components : All (λ t. IsComponent t.name) tenants
+  pub quotas : All (λ t. t.quota ≤ most_quota) tenants
+  pub apart : (name : Text) → count_by (λ t. same_text t.name name) tenants ≤ 1
+
+-- a tenant as contracts see it
+abbrev pub tenant_of : String Global × ℕ → Tenant
+tenant_of t = record { name = string_bytes t.0; quota = t.1 }
+
+abbrev pub tenants_of : List (String Global × ℕ) → List Tenant
+tenants_of tenants = map tenant_of tenants

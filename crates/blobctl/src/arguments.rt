@@ -1,0 +1,96 @@
+//! Reads the arguments.
+ghost use Rattle.std.specs.Prelude.{◌≤◌, ◌^◌, IfOk, IfSome};
+ghost use Rattle.blobctl.specs.Options.{IsWithin};
+
+use crate::options::{Options, Stop};
+use crate::tenants::read_tenants;
+use clap::error::ErrorKind;
+use clap::{Arg, ArgAction, ArgMatches, Command};
+use std::alloc::{AllocError, Global};
+use store_book::Config;
+
+/// The most slots that a store has.
+const MAX_SLOTS: u32 = 65536;
+
+/// The largest limit on a blob's size, in bytes.
+const MAX_BLOB: u64 = 1_099_511_627_776;
+
+/// What the program takes.
+fn command<'a>(alloc: Global) -> Result<Command<'a>, AllocError> {
+    let slots = Arg::new(alloc, "slots")
+        .long("slots")
+        .value_name("N")
+        .value_parser(clap::value_parser!(u32).range(1..=65536))
+        .default_value("64");
+    let max_blob = Arg::new(alloc, "max-blob")
+        .long("max-blob")
+        .value_name("N")
+        .value_parser(clap::value_parser!(u64).range(0..=1_099_511_627_776))
+        .default_value("1048576");
+    let tenants = Arg::new(alloc, "tenants")
+        .value_name("TENANT=QUOTA")
+        .required(true)
+        .num_args(1..)
+        .action(ArgAction::Append);
+    Command::new(alloc, "blobctl")
+        .arg(slots)?
+        .arg(max_blob)?
+        .arg(tenants)
+}
+
+/// Why the words were not taken.
+fn stopped(alloc: Global, error: clap::Error) -> Stop {
+    let kind = error.kind();
+    match error.to_string(alloc) {
+        Err(_) => Stop::Memory,
+        Ok(text) => match kind {
+            ErrorKind::OutOfMemory => Stop::Memory,
+            ErrorKind::DisplayHelp => Stop::Help(text),
+            _ => Stop::Usage(text),
+        },
+    }
+}
+
+/// The numbers of the options, or none where one is past its limit.
+fn numbers(matches: &ArgMatches<'_>) -> Option<(u32, u64)>
+    ensures { IfSome result (λ n. (1 ≤ n.0) × (n.0 ≤ 65536) × (n.1 ≤ 2 ^ 40)) }
+{
+    let slots = matches.get_one::<u32>("slots").unwrap_or(64);
+    let max_blob = matches.get_one::<u64>("max-blob").unwrap_or(1_048_576);
+    if 1 <= slots && slots <= MAX_SLOTS && max_blob <= MAX_BLOB {
+        Some((slots, max_blob))
+    } else {
+        None
+    }
+}
+
+/// The options that the matches give.
+fn options_of(alloc: Global, matches: &ArgMatches<'_>) -> Result<Options, Stop>
+    ensures { IfOk result IsWithin }
+{
+    let Some((slots, max_blob)) = numbers(matches) else {
+        return Err(Stop::Usage(String::new(alloc)));
+    };
+    let none: &[&str] = &[];
+    let words = matches.get_strs("tenants").unwrap_or(none);
+    let tenants = read_tenants(alloc, words)?;
+    let store = Config {
+        slots,
+        max_blob,
+        tenants,
+        first_generation: 0,
+    };
+    Ok(Options { store })
+}
+
+/// The options that the words spell. The first word is the program's own name. `clap`'s faults come
+/// before those of the tenants' words.
+pub fn read_options(alloc: Global, words: &[String]) -> Result<Options, Stop>
+    ensures { IfOk result IsWithin }
+{
+    let command = command(alloc)?;
+    match command.try_get_matches_from(words) {
+        Ok(matches) => options_of(alloc, &matches),
+        Err(error) => Err(stopped(alloc, error)),
+    }
+}

@@ -1,0 +1,79 @@
+//! Why a run ends before its end.
+ghost use Rattle.std.specs.Prelude.{◌≡◌, ◌++◌, Some, IfErr, OnErr, OnOk, string_bytes};
+ghost use Rattle.blobctl.specs.Texts.{fault_status, fault_text};
+ghost use Rattle.blobctl.specs.declared.fault.Fault.TheVariants.{Memory};
+
+use blob_digest::Refusal;
+use std::alloc::{AllocError, AllocFailed};
+use std::fmt;
+
+/// Why a run stops. Only after `Write` may something have been written.
+#[derive(Clone, Copy, Debug, PartialEq, Eq, Drop)]
+pub enum Fault {
+    /// The script's first bad row, by its number from 1.
+    BadRow(u32),
+    /// A read failed, or the script is longer than 268,435,456 bytes.
+    Read,
+    /// A write failed, or took no bytes.
+    Write,
+    /// A growth was refused for want of memory, in the program or in a command's answer.
+    Memory,
+}
+
+impl From<AllocError> for Fault {
+    ghost from_gives = { λ _ e. e ≡ Memory };
+
+    fn from(_error: AllocError) -> Fault {
+        Fault::Memory
+    }
+}
+
+impl<T: Drop> From<AllocFailed<T>> for Fault {
+    ghost from_gives = { λ _ e. e ≡ Memory };
+
+    fn from(_error: AllocFailed<T>) -> Fault {
+        Fault::Memory
+    }
+}
+
+impl fmt::Display for Fault {
+    ghost output = { λ fault. Some (fault_text fault) };
+
+    fn fmt<W: fmt::Write>(&self, f: &mut fmt::Formatter<W>) -> fmt::Result {
+        match self {
+            Fault::BadRow(number) => write!(f, "blobctl: bad row {number}\n"),
+            Fault::Read => f.write_str("blobctl: read fault\n"),
+            Fault::Write => f.write_str("blobctl: write fault\n"),
+            Fault::Memory => f.write_str("blobctl: out of memory\n"),
+        }
+    }
+}
+
+impl Fault {
+    /// The program's exit status: 1 for a bad row, 3 for a read fault, 4 for a write fault, 5 for
+    /// want of memory.
+    pub fn status(&self) -> u8
+        ensures { result ≡ fault_status self.now }
+    {
+        match self {
+            Fault::BadRow(_) => 1,
+            Fault::Read => 3,
+            Fault::Write => 4,
+            Fault::Memory => 5,
+        }
+    }
+
+    /// Appends the line that the program prints, its line feed included. Refused is want of memory
+    /// alone, and then the text is as it was.
+    pub fn write(&self, out: &mut String) -> Result<(), Refusal>
+        ensures ok { OnOk result (string_bytes out.new ≡ string_bytes out.old ++ fault_text self.now) }
+        ensures err { OnErr result (string_bytes out.new ≡ string_bytes out.old) }
+        ensures refused { IfErr result (λ e. e ≡ Refusal.Memory) }
+    {
+        let fault = *self;
+        let alloc = *out.allocator();
+        let text = format!(in alloc; "{fault}")?;
+        out.push_str(text.as_str())?;
+        Ok(())
+    }
+}

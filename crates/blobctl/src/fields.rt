@@ -1,0 +1,111 @@
+//! The row that a record's fields spell.
+ghost use Rattle.std.specs.Prelude.{◌≡◌, IfOk, option_map};
+ghost use Rattle.csv.specs.Records.{fields_of};
+ghost use Rattle.blobctl.specs.Lines.{line_of};
+ghost use Rattle.blobctl.specs.Rows.{field, fits, head_of, lane_of, row_of, session_number, verb_of};
+
+use crate::number::decimal;
+use crate::row::{Row, Verb};
+use csv::ByteRecord;
+use std::alloc::{AllocError, Global};
+
+/// The command of a name.
+fn verb_named(name: &[u8]) -> Option<Verb>
+    ensures { result ≡ verb_of name.now }
+{
+    if name == b"start".as_slice() {
+        Some(Verb::Start)
+    } else if name == b"append".as_slice() {
+        Some(Verb::Append)
+    } else if name == b"close".as_slice() {
+        Some(Verb::Close)
+    } else {
+        None
+    }
+}
+
+/// The lane that a field names.
+fn lane(text: &[u8]) -> Option<u8>
+    ensures { result ≡ lane_of text.now }
+{
+    let value = decimal(text)?;
+    if text.len() <= 3 && value <= 255 {
+        Some(value as u8)
+    } else {
+        None
+    }
+}
+
+/// The number of a session that a field names.
+pub fn session(text: &[u8]) -> Option<u32>
+    ensures { result ≡ session_number text.now }
+{
+    let value = decimal(text)?;
+    if text.len() <= 10 && 1 <= value && value <= 4_294_967_295 {
+        Some(value as u32)
+    } else {
+        None
+    }
+}
+
+/// The bytes of a record's field, which are none where it has no such field.
+fn field_at(fields: &ByteRecord, place: usize) -> &[u8]
+    ensures { result.now ≡ field (fields_of fields.now) place }
+{
+    fields.get(place).unwrap_or(&[])
+}
+
+/// The lane and the command of a record of seven fields.
+fn head(fields: &ByteRecord) -> Option<(u8, Verb)>
+    ensures { result ≡ head_of (fields_of fields.now) }
+{
+    if fields.len() != 7 {
+        return None;
+    }
+    let lane = lane(field_at(fields, 0))?;
+    let verb = verb_named(field_at(fields, 1))?;
+    Some((lane, verb))
+}
+
+/// Whether a command has the fields that it needs, and none that it doesn't use.
+fn has_fields(verb: Verb, key: &[u8], digest: &[u8], range: &[u8], body: &[u8]) -> bool
+    ensures { result ≡ fits verb key.now digest.now range.now body.now }
+{
+    match verb {
+        Verb::Start => {
+            key.is_empty() && digest.is_empty() && range.is_empty() && body.is_empty()
+        }
+        Verb::Append => session(key).is_some() && digest.is_empty(),
+        Verb::Close => session(key).is_some(),
+    }
+}
+
+/// The row of a record, or none where the record is bad.
+pub fn read_row(alloc: Global, fields: &ByteRecord) -> Result<Option<Row>, AllocError>
+    ensures { IfOk result (λ r. option_map line_of r ≡ row_of (fields_of fields.now)) }
+{
+    let Some((lane, verb)) = head(fields) else {
+        return Ok(None);
+    };
+    let key = field_at(fields, 3);
+    let digest = field_at(fields, 4);
+    let range = field_at(fields, 5);
+    let body = field_at(fields, 6);
+    if !has_fields(verb, key, digest, range, body) {
+        return Ok(None);
+    }
+    let repo = Vec::from_slice(alloc, field_at(fields, 2))?;
+    let key = Vec::from_slice(alloc, key)?;
+    let digest = Vec::from_slice(alloc, digest)?;
+    let range = Vec::from_slice(alloc, range)?;
+    let body = Vec::from_slice(alloc, body)?;
+    Ok(Some(Row {
+        lane,
+        verb,
+        repo,
+        key,
+        digest,
+        range,
+        body,
+    }))
+}

@@ -1,0 +1,58 @@
+//! Reads a script to its end.
+ghost use Rattle.std.specs.Prelude.{◌≡◌, ◌⊎◌, ◌<◌, ◌≤◌, ◌++◌, true, IfOk, IfErr, IfSome, OnErr, length, take};
+ghost use Rattle.std.specs.Io.KnownBytes.{Consumes, IsAtEnd};
+ghost use Rattle.blobctl.specs.Inputs.{IsTooLong, TakesAtMost, most_bytes};
+ghost use Rattle.blobctl.specs.Watching.{has_failed, inner_of};
+
+use crate::fault::Fault;
+use crate::watched::Watched;
+use std::alloc::Global;
+use std::io::Read;
+
+/// The longest script, in bytes.
+const MAX_SCRIPT: usize = 268_435_456;
+
+/// Adds the bytes of one read, as many as fit the buffer, and says how many there were.
+fn add_piece<R: Read>(
+    reader: &mut Watched<R>,
+    buffer: &mut [u8],
+    bytes: &mut Vec<u8>,
+) -> Result<usize, Fault>
+    requires { 0 < length buffer.old }
+    ensures added { IfOk result (λ n. (bytes.new.items ≡ bytes.old.items ++ take n buffer.new) × Consumes (R.remaining (inner_of reader.old)) (R.remaining (inner_of reader.new)) (take n buffer.new) × (n ≤ length buffer.new)) }
+    ensures end { IfOk result (λ n. n ≡ 0 → IsAtEnd (R.remaining (inner_of reader.new))) }
+    ensures refused { IfErr result (λ e. (e ≡ Fault.Memory) ⊎ ((e ≡ Fault.Read) × (has_failed reader.new ≡ true))) }
+    ensures most { OnErr result (TakesAtMost (R.remaining (inner_of reader.old)) (R.remaining (inner_of reader.new)) (length buffer.old)) }
+{
+    let Ok(count) = reader.read(buffer) else {
+        return Err(Fault::Read);
+    };
+    bytes.extend_from_slice(&buffer[..count])?;
+    Ok(count)
+}
+
+/// The bytes of a reader up to its end. Any failure of a read ends the reading, an interrupted read
+/// too, and no more than one byte past the longest script is taken. `Read` comes only where a read
+/// failed or the script is too long, and want of memory is never told as `Read`.
+pub fn read_script<R: Read>(alloc: Global, reader: &mut Watched<R>) -> Result<Vec<u8>, Fault>
+    ensures taken { IfOk result (λ v. Consumes (R.remaining (inner_of reader.old)) (R.remaining (inner_of reader.new)) v.items) }
+    ensures whole { IfOk result (λ v. IfSome (R.remaining (inner_of reader.old)) (λ xs. v.items ≡ xs)) }
+    ensures fits { IfOk result (λ v. length v.items ≤ most_bytes) }
+    ensures most { TakesAtMost (R.remaining (inner_of reader.old)) (R.remaining (inner_of reader.new)) 268435457 }
+    ensures refused { IfErr result (λ e. (e ≡ Fault.Memory) ⊎ ((e ≡ Fault.Read) × ((has_failed reader.new ≡ true) ⊎ IsTooLong (R.remaining (inner_of reader.old)) (R.remaining (inner_of reader.new))))) }
+{
+    let mut bytes = Vec::new(alloc);
+    let mut buffer = [0u8; 65536];
+    for _turn in 0..MAX_SCRIPT + 1 {
+        let room = MAX_SCRIPT + 1 - bytes.len();
+        let wanted = room.min(65536);
+        let count = add_piece(reader, &mut buffer[..wanted], &mut bytes)?;
+        if count == 0 {
+            return Ok(bytes);
+        }
+        if bytes.len() > MAX_SCRIPT {
+            return Err(Fault::Read);
+        }
+    }
+    Err(Fault::Read)
+}

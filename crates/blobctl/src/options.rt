@@ -1,0 +1,81 @@
+//! What the program runs on, and why it may stop before it runs.
+ghost use Rattle.std.specs.Prelude.{◌≡◌, ◌++◌, Some, IfErr, OnErr, OnOk, string_bytes};
+ghost use Rattle.blobctl.specs.Stops.{stop_status, stop_text};
+ghost use Rattle.blobctl.specs.declared.options.Stop.TheVariants.{Memory};
+
+use blob_digest::Refusal;
+use std::alloc::{AllocError, AllocFailed};
+use store_book::Config;
+
+/// What the program runs on.
+#[derive(Debug, Drop)]
+pub struct Options {
+    /// What the store is made with: its slots, its limit on blobs, and its tenants with their quotas.
+    pub store: Config,
+}
+
+/// Why the program stops before it runs.
+#[derive(Debug, Drop)]
+pub enum Stop {
+    /// Help was asked for: the text for standard output.
+    Help(String),
+    /// The arguments are wrong: the text for standard error.
+    Usage(String),
+    /// A tenant's word is no name, `=` and quota, or its name came before, or it is the 257th.
+    BadTenant,
+    /// A growth was refused for want of memory.
+    Memory,
+}
+
+impl From<AllocError> for Stop {
+    ghost from_gives = { λ _ e. e ≡ Memory };
+
+    fn from(_error: AllocError) -> Stop {
+        Stop::Memory
+    }
+}
+
+impl<T: Drop> From<AllocFailed<T>> for Stop {
+    ghost from_gives = { λ _ e. e ≡ Memory };
+
+    fn from(_error: AllocFailed<T>) -> Stop {
+        Stop::Memory
+    }
+}
+
+impl Stop {
+    /// The program's exit status: 0 for help, 2 for wrong arguments, 5 for want of memory.
+    pub fn status(&self) -> u8
+        ensures { result ≡ stop_status self.now }
+    {
+        match self {
+            Stop::Help(_) => 0,
+            Stop::Usage(_) => 2,
+            Stop::BadTenant => 2,
+            Stop::Memory => 5,
+        }
+    }
+
+    /// What the program prints, its last line feed included.
+    pub fn text(&self) -> &str
+        ensures { result.now ≡ stop_text self.now }
+    {
+        match self {
+            Stop::Help(text) => text.as_str(),
+            Stop::Usage(text) => text.as_str(),
+            Stop::BadTenant => "blobctl: bad tenant\n",
+            Stop::Memory => "blobctl: out of memory\n",
+        }
+    }
+
+    /// Appends what the program prints. Refused is want of memory alone, and then the text is as it
+    /// was.
+    pub fn write(&self, out: &mut String) -> Result<(), Refusal>
+        ensures ok { OnOk result (string_bytes out.new ≡ string_bytes out.old ++ stop_text self.now) }
+        ensures err { OnErr result (string_bytes out.new ≡ string_bytes out.old) }
+        ensures refused { IfErr result (λ e. e ≡ Refusal.Memory) }
+    {
+        out.push_str(self.text())?;
+        Ok(())
+    }
+}

@@ -1,0 +1,116 @@
+//! Plays the rows of a script.
+ghost use Rattle.std.specs.Prelude.{◌≡◌, ◌≢◌, ◌⊎◌, ◌≤◌, true, Some, IfOk, IfErr, MatchResult, IsTrue, ◌↔◌, map, is_some};
+ghost use Rattle.blobctl.specs.Commands.{IsNoRange, SpellsRange};
+ghost use Rattle.blobctl.specs.Lines.{line_of};
+ghost use Rattle.blobctl.specs.Plays.{AnswersRow, Plays, RowStep};
+ghost use Rattle.blobctl.specs.Rows.{session_number};
+
+use crate::board::Board;
+use crate::fields::session;
+use crate::reply::Reply;
+use crate::row::{Row, Verb};
+use blob_digest::{ByteRange, Digest, Refusal, RepoName};
+use std::alloc::Global;
+
+/// The range that a field spells, which is none where the field is empty.
+fn range_in(text: &[u8]) -> Result<Option<ByteRange>, Refusal>
+    ensures { MatchResult result (λ r. SpellsRange text.now r) (λ e. (e ≡ Refusal.SizeInvalid) × IsNoRange text.now) }
+{
+    if text.is_empty() {
+        return Ok(None);
+    }
+    let range = ByteRange::parse(text)?;
+    Ok(Some(range))
+}
+
+/// The number of the session that a row names.
+fn number_in(row: &Row) -> u32
+    requires { row.now.verb ≢ Verb.Start }
+    ensures { session_number row.now.key.items ≡ Some result }
+{
+    match session(row.key.as_slice()) {
+        Some(number) => number,
+        None => unreachable!(),
+    }
+}
+
+/// Plays a row that opens a session.
+fn play_start<B: Board>(alloc: Global, board: &mut B, row: &Row) -> Result<Reply, Refusal>
+    requires { row.now.verb ≡ Verb.Start }
+    ensures { AnswersRow B.acts board.old (line_of row.now) result board.new }
+{
+    let repo = RepoName::parse(alloc, row.repo.as_slice())?;
+    let number = board.start(&repo)?;
+    Ok(Reply::Session(number))
+}
+
+/// Plays a row that adds a chunk.
+fn play_append<B: Board>(alloc: Global, board: &mut B, row: &Row) -> Result<Reply, Refusal>
+    requires { row.now.verb ≡ Verb.Append }
+    ensures { AnswersRow B.acts board.old (line_of row.now) result board.new }
+{
+    let repo = RepoName::parse(alloc, row.repo.as_slice())?;
+    let range = range_in(row.range.as_slice())?;
+    let number = number_in(row);
+    let length = board.append(&repo, number, range, row.body.as_slice())?;
+    Ok(Reply::Received(length))
+}
+
+/// Plays a row that closes a session.
+fn play_close<B: Board>(alloc: Global, board: &mut B, row: &Row) -> Result<Reply, Refusal>
+    requires { row.now.verb ≡ Verb.Close }
+    ensures { AnswersRow B.acts board.old (line_of row.now) result board.new }
+{
+    let repo = RepoName::parse(alloc, row.repo.as_slice())?;
+    let digest = Digest::parse(row.digest.as_slice())?;
+    let range = range_in(row.range.as_slice())?;
+    let number = number_in(row);
+    let size = board.close(&repo, number, &digest, range, row.body.as_slice())?;
+    Ok(Reply::Stored(size))
+}
+
+/// Plays a row.
+fn play_row<B: Board>(alloc: Global, board: &mut B, row: &Row) -> Result<Reply, Refusal>
+    ensures { AnswersRow B.acts board.old (line_of row.now) result board.new }
+{
+    match row.verb {
+        Verb::Start => play_start(alloc, board, row),
+        Verb::Append => play_append(alloc, board, row),
+        Verb::Close => play_close(alloc, board, row),
+    }
+}
+
+/// Plays a row, and answers its reply. Fields are refused in the order repository, digest, range, and
+/// then the call itself may refuse. Want of memory before the call changes nothing.
+pub fn act<B: Board>(alloc: Global, board: &mut B, row: &Row) -> Reply
+    ensures { ((result ≡ Reply.Refused Refusal.Memory) × (board.new ≡ board.old)) ⊎ RowStep B.acts board.old (line_of row.now) result board.new }
+{
+    match play_row(alloc, board, row) {
+        Ok(reply) => reply,
+        Err(refusal) => Reply::Refused(refusal),
+    }
+}
+
+/// Whether a reply tells of want of memory.
+fn is_memory(reply: &Reply) -> bool
+    ensures { IsTrue result ↔ (reply.now ≡ Reply.Refused Refusal.Memory) }
+{
+    matches!(reply, Reply::Refused(Refusal::Memory))
+}
+
+/// Plays all rows in their order, and answers one reply for each. It ends at the first want of
+/// memory; the rows that were accepted before it stand.
+pub fn play<B: Board>(alloc: Global, board: &mut B, rows: &[Row]) -> Result<Vec<Reply>, Refusal>
+    ensures played { IfOk result (λ replies. Plays B.acts board.old (map line_of rows.now) replies.items board.new) }
+    ensures refused { IfErr result (λ e. e ≡ Refusal.Memory) }
+{
+    let mut replies = Vec::new(alloc);
+    for row in rows {
+        let reply = act(alloc, board, row);
+        if is_memory(&reply) {
+            return Err(Refusal::Memory);
+        }
+        replies.push(reply)?;
+    }
+    Ok(replies)
+}

@@ -1,0 +1,35 @@
+//! The rows of a script.
+ghost use Rattle.std.specs.Prelude.{◌≡◌, true};
+ghost use Rattle.blobctl.specs.Rows.{fits};
+
+/// A command of the script.
+#[derive(Clone, Copy, Debug, PartialEq, Eq)]
+pub enum Verb {
+    /// Opens an upload session.
+    Start,
+    /// Adds a chunk to a session.
+    Append,
+    /// Ends a session and links its blob.
+    Close,
+}
+
+/// A row of the script, which is no bad one by its type. The last five fields are the bytes of the
+/// record's fields; those that the command doesn't use are empty.
+#[derive(Debug, Drop)]
+pub struct Row {
+    /// The lane that plays the row.
+    pub lane: u8,
+    /// The command.
+    pub verb: Verb,
+    /// A repository's name.
+    pub repo: Vec<u8>,
+    /// The number of a session, where the command names one: 1 to 4294967295.
+    pub key: Vec<u8>,
+    /// A digest's text.
+    pub digest: Vec<u8>,
+    /// The text of a byte range.
+    pub range: Vec<u8>,
+    /// The bytes of a chunk.
+    pub body: Vec<u8>,
+    pub ghost fit: { fits verb key.items digest.items range.items body.items ≡ true },
+}

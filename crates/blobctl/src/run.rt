@@ -1,0 +1,55 @@
+//! A run: reads a script, plays it, and writes the replies and the book.
+ghost use Rattle.std.specs.Prelude.{◌≡◌, ◌≢◌, IfOk, IfErr, OnOk, map};
+ghost use Rattle.blob_digest.specs.Keys.{Text};
+ghost use Rattle.blobctl.specs.Ending.{EndsWell, Explains, IsReadWhole};
+ghost use Rattle.blobctl.specs.Lines.{line_of};
+ghost use Rattle.blobctl.specs.Options.{IsWithin};
+ghost use Rattle.blobctl.specs.Script.{AreRowsOf};
+ghost use Rattle.blobctl.specs.Tenants.{tenants_of};
+
+use crate::alone::play_alone;
+use crate::fault::Fault;
+use crate::input::read_script;
+use crate::options::Options;
+use crate::output::write_played;
+use crate::row::Row;
+use crate::script::read_rows;
+use crate::watched::Watched;
+use std::alloc::Global;
+use std::io::{Read, Write};
+
+/// The rows of the script that a reader gives. The script is let go with the last of them.
+fn read_all<R: Read>(alloc: Global, reader: &mut Watched<R>) -> Result<Vec<Row>, Fault>
+    ensures rows { IfOk result (λ v. (script : Text) × IsReadWhole R.remaining reader.old reader.new script × AreRowsOf script (map line_of v.items)) }
+    ensures fault { IfErr result (λ e. (e ≢ Fault.Write) × Explains R.remaining reader.old reader.new e) }
+{
+    let script = read_script(alloc, reader)?;
+    read_rows(alloc, script.as_slice())
+}
+
+/// Reads a script to its end, checks all of it, plays it row after row on a new book, and writes the
+/// replies in the order of the rows, and then the book.
+///
+/// A bad row, a read fault and want of memory write nothing. A bad row is the script's first one, and
+/// a read fault comes only where a read failed or the script is longer than 268,435,456 bytes. After
+/// a write fault nothing is known of what was written. Writing takes no memory. While it plays, the
+/// run holds the rows, the replies and the book; the script's text is held only until its rows are
+/// made.
+pub fn run<R: Read, W: Write>(
+    alloc: Global,
+    reader: &mut Watched<R>,
+    writer: &mut W,
+    options: &Options,
+) -> Result<(), Fault>
+    requires { IsWithin options.now }
+    ensures played { OnOk result (EndsWell R.remaining reader.old reader.new (W.contents writer.old) (W.contents writer.new) (tenants_of options.now.store.tenants.items) options.now.store.slots options.now.store.max_blob) }
+    ensures silent { IfErr result (λ e. e ≢ Fault.Write → writer.new ≡ writer.old) }
+    ensures fault { IfErr result (λ e. Explains R.remaining reader.old reader.new e) }
+{
+    let rows = read_all(alloc, reader)?;
+    let Ok((book, replies)) = play_alone(alloc, options, rows.as_slice()) else {
+        return Err(Fault::Memory);
+    };
+    write_played(writer, replies.as_slice(), &book)?;
+    Ok(())
+}

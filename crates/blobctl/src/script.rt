@@ -1,0 +1,80 @@
+//! Reads the rows of a script.
+ghost use Rattle.std.specs.Prelude.{◌≡◌, ◌⊎◌, ◌++◌, ◌∷◌, [], List, ℕ, true, false, IfOk, IfErr, OnOk, Some, None, map};
+ghost use Rattle.csv.specs.Records.{fields_of};
+ghost use Rattle.blob_digest.specs.Keys.{Text};
+ghost use Rattle.blobctl.specs.Lines.{line_of};
+ghost use Rattle.blobctl.specs.Reading.{IsAfter};
+ghost use Rattle.blobctl.specs.Rows.{Line, Record, row_of};
+ghost use Rattle.blobctl.specs.Script.{AreRecordsOf, AreRowsOf, ExplainsRows};
+
+use crate::fault::Fault;
+use crate::fields::read_row;
+use crate::row::Row;
+use csv::{ByteRecord, Reader, ReaderBuilder};
+use std::alloc::Global;
+
+/// The most rows that a script may have.
+const MAX_ROWS: u32 = 65536;
+
+/// A reader of the script's records. It takes no header row, and leaves it to the caller how many
+/// fields a record has.
+fn reader_of(alloc: Global, script: &[u8]) -> Reader<&[u8]>
+    ensures { IsAfter script.now [] result }
+{
+    ReaderBuilder::new()
+        .has_headers(false)
+        .flexible(true)
+        .from_reader(alloc, script)
+}
+
+/// Takes the next record, and says whether there was one.
+fn take_record(reader: &mut Reader<&[u8]>, fields: &mut ByteRecord) -> Result<bool, Fault>
+    ensures more { IfOk result (λ found. (script : Text) → (before : List Record) → IsAfter script before reader.old → found ≡ true → IsAfter script (before ++ fields_of fields.new ∷ []) reader.new) }
+    ensures end { IfOk result (λ found. (script : Text) → (before : List Record) → IsAfter script before reader.old → found ≡ false → AreRecordsOf script before) }
+    ensures refused { IfErr result (λ e. e ≡ Fault.Memory) }
+{
+    let Ok(found) = reader.read_byte_record(fields) else {
+        return Err(Fault::Memory);
+    };
+    Ok(found)
+}
+
+/// Adds the row of a record.
+fn add_row(
+    alloc: Global,
+    fields: &ByteRecord,
+    number: u32,
+    rows: &mut Vec<Row>,
+) -> Result<(), Fault>
+    ensures added { OnOk result ((line : Line) × (row_of (fields_of fields.now) ≡ Some line) × (map line_of rows.new.items ≡ map line_of rows.old.items ++ line ∷ [])) }
+    ensures refused { IfErr result (λ e. (e ≡ Fault.Memory) ⊎ ((e ≡ Fault.BadRow number) × (row_of (fields_of fields.now) ≡ None))) }
+{
+    match read_row(alloc, fields)? {
+        Some(row) => {
+            rows.push(row)?;
+            Ok(())
+        }
+        None => Err(Fault::BadRow(number)),
+    }
+}
+
+/// The rows of a script, or its first bad row. Want of memory is told apart from a bad row. The
+/// records are let go one by one as their rows are made.
+pub fn read_rows(alloc: Global, script: &[u8]) -> Result<Vec<Row>, Fault>
+    ensures rows { IfOk result (λ v. AreRowsOf script.now (map line_of v.items)) }
+    ensures fault { IfErr result (λ e. ExplainsRows script.now e) }
+{
+    let mut reader = reader_of(alloc, script);
+    let mut fields = ByteRecord::new(alloc);
+    let mut rows = Vec::new(alloc);
+    for place in 0..MAX_ROWS {
+        if !take_record(&mut reader, &mut fields)? {
+            return Ok(rows);
+        }
+        add_row(alloc, &fields, place + 1, &mut rows)?;
+    }
+    if take_record(&mut reader, &mut fields)? {
+        return Err(Fault::BadRow(MAX_ROWS + 1));
+    }
+    Ok(rows)
+}

@@ -1,0 +1,435 @@
+//! Worked examples, by values that stand outside the program.
+use crate::arguments::read_options;
+use crate::fault::Fault;
+use crate::input::read_script;
+use crate::options::{Options, Stop};
+use crate::reply::Reply;
+use crate::row::Verb;
+use crate::run::run;
+use crate::script::read_rows;
+use crate::watched::Watched;
+use blob_digest::{Digest, Refusal};
+use std::alloc::Global;
+use std::io;
+use std::io::{ErrorKind, Read, Write};
+
+const ABC: &str = "sha256:ba7816bf8f01cfea414140de5dae2223b00361a396177a9cb410ff61f20015ad";
+
+/// The fault of a script's rows, or 0 for none; else the number of the bad row.
+fn bad_row(alloc: Global, script: &[u8]) -> u32 {
+    match read_rows(alloc, script) {
+        Ok(_) => 0,
+        Err(Fault::BadRow(number)) => number,
+        Err(_) => u32::MAX,
+    }
+}
+
+#[test]
+fn rows_are_read(rt: HostRuntime) {
+    let alloc = rt.alloc();
+    let script =
+        b"0,start,acme/one,,,,\n007,append,acme/one,1,,0-0,a\n\n255,close,acme/one,4294967295,d,,\"x,\"\"y\"\n";
+    match read_rows(alloc, script) {
+        Ok(rows) => {
+            assert_eq!(rt; rows.len(), 3);
+            assert_eq!(rt; rows[0].verb, Verb::Start);
+            assert_eq!(rt; rows[0].repo.as_slice(), b"acme/one".as_slice());
+            assert_eq!(rt; rows[1].lane, 7);
+            assert_eq!(rt; rows[1].range.as_slice(), b"0-0".as_slice());
+            assert_eq!(rt; rows[2].lane, 255);
+            assert_eq!(rt; rows[2].verb, Verb::Close);
+            assert_eq!(rt; rows[2].digest.as_slice(), b"d".as_slice());
+            assert_eq!(rt; rows[2].body.as_slice(), b"x,\"y".as_slice());
+        }
+        Err(_) => assert!(rt; false),
+    }
+}
+
+#[test]
+fn a_bad_row_is_named(rt: HostRuntime) {
+    let alloc = rt.alloc();
+    for script in [
+        b"0,start,acme/one".as_slice(),
+        b"0,fly,acme/one,,,,".as_slice(),
+        b"256,start,acme/one,,,,".as_slice(),
+        b"0000,start,acme/one,,,,".as_slice(),
+        b",start,acme/one,,,,".as_slice(),
+        b"x,start,acme/one,,,,".as_slice(),
+        b"0,Start,acme/one,,,,".as_slice(),
+        b"0,start,acme/one,1,,,".as_slice(),
+        b"0,start,acme/one,,,,x".as_slice(),
+        b"0,start,acme/one,,,,,".as_slice(),
+        b"0,append,acme/one,0,,,".as_slice(),
+        b"0,append,acme/one,4294967296,,,".as_slice(),
+        b"0,append,acme/one,00000000001,,,".as_slice(),
+        b"0,append,acme/one,,,,".as_slice(),
+        b"0,append,acme/one,1,d,,".as_slice(),
+        b"0,close,acme/one,x,d,,".as_slice(),
+    ] {
+        assert_eq!(rt; bad_row(alloc, script), 1);
+    }
+}
+
+#[test]
+fn a_bad_row_after_a_good_one_is_the_second(rt: HostRuntime) {
+    let script = b"0,start,acme/one,,,,\n0,fly,acme/one,,,,\n0,fly,,,,,\n";
+    assert_eq!(rt; bad_row(rt.alloc(), script), 2);
+    let good = b"0,start,acme/one,,,,\n0,append,acme/one,0000000001,,,\n0,close,,1,,,\n";
+    assert_eq!(rt; bad_row(rt.alloc(), good), 0);
+}
+
+#[test]
+fn a_row_too_many_is_bad(rt: HostRuntime) {
+    let alloc = rt.alloc();
+    let row = b"0,start,a,,,,\n".as_slice();
+    let mut script = Vec::new(alloc);
+    for _ in 0..65536u32 {
+        script.extend_from_slice(row).expect(&rt, "memory");
+    }
+    assert_eq!(rt; bad_row(alloc, script.as_slice()), 0);
+    script.extend_from_slice(row).expect(&rt, "memory");
+    assert_eq!(rt; bad_row(alloc, script.as_slice()), 65537);
+}
+
+/// A reader of two bytes at a time that fails at one of its calls.
+#[derive(Drop)]
+struct Failing<'s> {
+    left: &'s [u8],
+    call: u32,
+    fails_at: u32,
+}
+
+impl<'s> Read for Failing<'s> {
+    fn read(&mut self, buf: &mut [u8]) -> io::Result<usize> {
+        if self.call == self.fails_at {
+            return Err(io::Error::from(ErrorKind::Interrupted));
+        }
+        self.call = self.call.saturating_add(1);
+        let mut count = 0;
+        for place in buf.iter_mut() {
+            if count == 2 {
+                return Ok(count);
+            }
+            let Some((first, rest)) = self.left.split_first() else {
+                return Ok(count);
+            };
+            *place = *first;
+            self.left = rest;
+            count += 1;
+        }
+        Ok(count)
+    }
+}
+
+#[test]
+fn a_failed_read_is_a_read_fault(rt: HostRuntime) {
+    let alloc = rt.alloc();
+    for fails_at in 0..4 {
+        let mut reader = Watched::new(Failing {
+            left: b"abcde".as_slice(),
+            call: 0,
+            fails_at,
+        });
+        match read_script(alloc, &mut reader) {
+            Ok(_) => assert!(rt; false),
+            Err(fault) => assert_eq!(rt; fault, Fault::Read),
+        }
+    }
+    let mut reader = Watched::new(Failing {
+        left: b"abcde".as_slice(),
+        call: 0,
+        fails_at: 9,
+    });
+    match read_script(alloc, &mut reader) {
+        Ok(script) => assert_eq!(rt; script.as_slice(), b"abcde".as_slice()),
+        Err(_) => assert!(rt; false),
+    }
+}
+
+/// The words of a command line, after the program's name.
+fn words_of(alloc: Global, words: &[&str]) -> Option<Vec<String>> {
+    let mut all = Vec::new(alloc);
+    all.push(String::from_str(alloc, "blobctl").ok()?).ok()?;
+    for word in words {
+        all.push(String::from_str(alloc, word).ok()?).ok()?;
+    }
+    Some(all)
+}
+
+/// What a command line gives.
+fn options_of(alloc: Global, words: &[&str]) -> Result<Options, Stop> {
+    match words_of(alloc, words) {
+        Some(words) => read_options(alloc, words.as_slice()),
+        None => Err(Stop::Memory),
+    }
+}
+
+#[test]
+fn options_are_read(rt: HostRuntime) {
+    let alloc = rt.alloc();
+    match options_of(alloc, &["zeta=5", "acme=0001000"]) {
+        Ok(options) => {
+            assert_eq!(rt; options.store.slots, 64);
+            assert_eq!(rt; options.store.max_blob, 1_048_576);
+            assert_eq!(rt; options.store.tenants.len(), 2);
+            assert_eq!(rt; options.store.tenants[0].0.as_str(), "zeta");
+            assert_eq!(rt; options.store.tenants[1].0.as_str(), "acme");
+            assert_eq!(rt; options.store.tenants[1].1, 1000);
+        }
+        Err(_) => assert!(rt; false),
+    }
+    match options_of(
+        alloc,
+        &["--slots", "65536", "--max-blob=0", "a=1125899906842624"],
+    ) {
+        Ok(options) => {
+            assert_eq!(rt; options.store.slots, 65536);
+            assert_eq!(rt; options.store.max_blob, 0);
+        }
+        Err(_) => assert!(rt; false),
+    }
+}
+
+#[test]
+fn wrong_tenant_words_are_bad_tenants(rt: HostRuntime) {
+    let alloc = rt.alloc();
+    for word in [
+        "acme",
+        "=5",
+        "acme=",
+        "Acme=5",
+        "ac/me=5",
+        "acme=5x",
+        "acme=-5",
+        "acme=+5",
+        "acme==5",
+        "acme=1125899906842625",
+        "acme=99999999999999999999999",
+    ] {
+        match options_of(alloc, &["other=1", word]) {
+            Err(Stop::BadTenant) => {}
+            _ => assert!(rt; false, "{word}"),
+        }
+    }
+    match options_of(alloc, &["acme=1", "acme=2"]) {
+        Err(stop) => {
+            let mut text = String::new(alloc);
+            stop.write(&mut text).expect(&rt, "memory");
+            assert_eq!(rt; text.as_str(), "blobctl: bad tenant\n");
+            assert_eq!(rt; stop.status(), 2);
+        }
+        Ok(_) => assert!(rt; false),
+    }
+}
+
+#[test]
+fn wrong_arguments_come_before_wrong_tenants(rt: HostRuntime) {
+    let alloc = rt.alloc();
+    for words in [
+        ["--slots", "0", "acme"],
+        ["--slots", "65537", "acme"],
+        ["--max-blob", "1099511627777", "acme"],
+        ["--fly", "1", "acme"],
+    ] {
+        match options_of(alloc, words.as_slice()) {
+            Err(stop) => {
+                assert!(rt; matches!(&stop, Stop::Usage(_)));
+                assert_eq!(rt; stop.status(), 2);
+            }
+            Ok(_) => assert!(rt; false),
+        }
+    }
+    match options_of(alloc, &["--help"]) {
+        Err(stop) => {
+            assert!(rt; matches!(&stop, Stop::Help(_)));
+            assert_eq!(rt; stop.status(), 0);
+        }
+        Ok(_) => assert!(rt; false),
+    }
+    match options_of(alloc, &[]) {
+        Err(stop) => assert!(rt; matches!(&stop, Stop::Usage(_))),
+        Ok(_) => assert!(rt; false),
+    }
+}
+
+/// Whether a reply prints this text.
+fn prints(alloc: Global, reply: &Reply, text: &str) -> bool {
+    let mut out = String::new(alloc);
+    reply.write(&mut out).is_ok() && out.as_str() == text
+}
+
+#[test]
+fn replies_are_printed(rt: HostRuntime) {
+    let alloc = rt.alloc();
+    assert!(rt; prints(alloc, &Reply::Session(4_294_967_295), "session 4294967295"));
+    assert!(rt; prints(alloc, &Reply::Received(0), "received 0"));
+    assert!(rt; prints(alloc, &Reply::Stored(3), "stored 3"));
+    assert!(rt;
+        prints(
+            alloc,
+            &Reply::Refused(Refusal::NameUnknown),
+            "refused NameUnknown"
+        )
+    );
+    let received = Reply::Refused(Refusal::RangeInvalid { received: 2 });
+    assert!(rt; prints(alloc, &received, "refused RangeInvalid received 2"));
+    let quota = Reply::Refused(Refusal::Quota { used: 3, quota: 5 });
+    assert!(rt; prints(alloc, &quota, "refused Quota used 3 quota 5"));
+    let digest = Digest::parse(ABC.as_bytes()).expect(&rt, "a digest");
+    let missing = Reply::Refused(Refusal::ManifestBlobUnknown { digest });
+    let mut text = String::new(alloc);
+    missing.write(&mut text).expect(&rt, "memory");
+    assert!(rt; text.as_str().ends_with(ABC));
+}
+
+#[test]
+fn faults_are_printed(rt: HostRuntime) {
+    let alloc = rt.alloc();
+    for (fault, text, status) in [
+        (Fault::BadRow(12), "blobctl: bad row 12\n", 1),
+        (Fault::Read, "blobctl: read fault\n", 3),
+        (Fault::Write, "blobctl: write fault\n", 4),
+        (Fault::Memory, "blobctl: out of memory\n", 5),
+    ] {
+        let mut out = String::new(alloc);
+        fault.write(&mut out).expect(&rt, "memory");
+        assert_eq!(rt; out.as_str(), text);
+        assert_eq!(rt; fault.status(), status);
+    }
+}
+
+const UPLOAD: &[u8] =
+    b"0,start,acme/one,,,,\n0,append,acme/one,1,,0-0,a\n0,append,acme/one,1,,1-2,bc\n0,close,acme/one,1,sha256:ba7816bf8f01cfea414140de5dae2223b00361a396177a9cb410ff61f20015ad,,\n";
+
+const UPLOADED: &str =
+    "1 session 1\n2 received 1\n3 received 3\n4 stored 3\nbook\ntenant acme used 3 quota 1000 next 2\nrepository acme/one\nblob sha256:ba7816bf8f01cfea414140de5dae2223b00361a396177a9cb410ff61f20015ad size 3 links 1\nend\n";
+
+/// A writer of at most four bytes at a time that fails at one of its calls.
+#[derive(Drop)]
+struct Full {
+    held: Vec<u8>,
+    call: u32,
+    fails_at: u32,
+}
+
+impl Write for Full {
+    fn write(&mut self, buf: &[u8]) -> io::Result<usize> {
+        if self.call == self.fails_at {
+            return Err(io::Error::from(ErrorKind::StorageFull));
+        }
+        self.call = self.call.saturating_add(1);
+        let mut count = 0;
+        for byte in buf {
+            if count == 4 {
+                return Ok(count);
+            }
+            if self.held.push(*byte).is_err() {
+                return Err(io::Error::from(ErrorKind::OutOfMemory));
+            }
+            count += 1;
+        }
+        Ok(count)
+    }
+
+    fn flush(&mut self) -> io::Result<()> {
+        Ok(())
+    }
+}
+
+/// What a run writes by these arguments from this script, or its fault, with how many calls of the
+/// writer there were.
+fn run_on(
+    alloc: Global,
+    words: &[&str],
+    script: &[u8],
+    fails_at: u32,
+) -> Result<(Vec<u8>, u32), Fault> {
+    let Ok(options) = options_of(alloc, words) else {
+        return Err(Fault::Memory);
+    };
+    let mut reader = Watched::new(script);
+    let mut writer = Full {
+        held: Vec::new(alloc),
+        call: 0,
+        fails_at,
+    };
+    match run(alloc, &mut reader, &mut writer, &options) {
+        Ok(()) => {
+            let Full {
+                held,
+                call,
+                fails_at: _,
+            } = writer;
+            Ok((held, call))
+        }
+        Err(fault) => {
+            if fault != Fault::Write && writer.call > 0 {
+                return Err(Fault::BadRow(0));
+            }
+            Err(fault)
+        }
+    }
+}
+
+/// Whether a run writes this text.
+fn writes(alloc: Global, words: &[&str], script: &[u8], text: &str) -> bool {
+    match run_on(alloc, words, script, u32::MAX) {
+        Ok((held, _)) => held.as_slice() == text.as_bytes(),
+        Err(_) => false,
+    }
+}
+
+#[test]
+fn an_empty_script_prints_the_book(rt: HostRuntime) {
+    let text =
+        "book\ntenant acme used 0 quota 1000 next 1\ntenant zeta used 0 quota 5 next 1\nend\n";
+    assert!(rt; writes(rt.alloc(), &["acme=1000", "zeta=5"], b"", text));
+    assert!(rt; writes(rt.alloc(), &["zeta=5", "acme=1000"], b"", text));
+}
+
+#[test]
+fn an_upload_is_played(rt: HostRuntime) {
+    assert!(rt; writes(rt.alloc(), &["acme=1000"], UPLOAD, UPLOADED));
+}
+
+#[test]
+fn an_empty_blob_is_stored(rt: HostRuntime) {
+    let script =
+        b"0,start,acme/one,,,,\n0,close,acme/one,1,sha256:e3b0c44298fc1c149afbf4c8996fb92427ae41e4649b934ca495991b7852b855,,\n";
+    let text =
+        "1 session 1\n2 stored 0\nbook\ntenant acme used 0 quota 1000 next 2\nrepository acme/one\nblob sha256:e3b0c44298fc1c149afbf4c8996fb92427ae41e4649b934ca495991b7852b855 size 0 links 1\nend\n";
+    assert!(rt; writes(rt.alloc(), &["acme=1000"], script, text));
+}
+
+#[test]
+fn fields_that_spell_nothing_are_refused_in_order(rt: HostRuntime) {
+    let script =
+        b"0,start,Acme,,,,\n0,close,Acme,1,d,x,\n0,close,acme/one,1,d,x,\n0,append,acme/one,1,,2-1,c\n0,start,nobody/x,,,,\n";
+    let text =
+        "1 refused NameInvalid\n2 refused NameInvalid\n3 refused DigestInvalid\n4 refused SizeInvalid\n5 refused NameUnknown\nbook\ntenant acme used 0 quota 1 next 1\nend\n";
+    assert!(rt; writes(rt.alloc(), &["acme=1"], script, text));
+}
+
+#[test]
+fn a_bad_row_writes_nothing(rt: HostRuntime) {
+    let script = b"0,start,acme/one,,,,\n0,fly,acme/one,,,,\n";
+    match run_on(rt.alloc(), &["acme=1000"], script, u32::MAX) {
+        Ok(_) => assert!(rt; false),
+        Err(fault) => assert_eq!(rt; fault, Fault::BadRow(2)),
+    }
+}
+
+#[test]
+fn a_failed_write_is_a_write_fault(rt: HostRuntime) {
+    let alloc = rt.alloc();
+    let Ok((_, calls)) = run_on(alloc, &["acme=1000"], UPLOAD, u32::MAX) else {
+        assert!(rt; false);
+        return;
+    };
+    for fails_at in 0..calls {
+        match run_on(alloc, &["acme=1000"], UPLOAD, fails_at) {
+            Ok(_) => assert!(rt; false),
+            Err(fault) => assert_eq!(rt; fault, Fault::Write),
+        }
+    }
+}
