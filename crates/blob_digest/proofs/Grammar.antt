@@ -16,9 +16,6 @@ use Rattle.blob_digest.specs.declared.checksum.Checksum.{Checksum}
 use Rattle.blob_digest.specs.declared.checksum.Checksum.TheVariants.{Sha256}
 use Rattle.blob_digest.proofs.HexText.{whole_of}
 
-both : (a b : Bool) → a ≡ true → b ≡ true → (a && b) ≡ true
-both a b h k = rw (h, k) refl
-
 same_number : (n : ℕ) → (n == n) ≡ true
 same_number n = grind (arith, nat_tests)
 

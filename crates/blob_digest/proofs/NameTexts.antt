@@ -1,7 +1,7 @@
 -- What the bytes of a name are, and where its first component ends.
-use Rattle.std.proofs.Common.{◌≡◌, ◌<◌, ◌≤◌, ◌++◌, ◌∷◌, ◌==◌, ◌&&◌, [], ◌∙◌, inl, inr, ℕ, List, Bool, true, false, cond, Some, None, not, ap, sym, refl, arith, length, take, nat_lt}
+use Rattle.std.proofs.Common.{◌≡◌, ◌<◌, ◌≤◌, ◌++◌, ◌∷◌, ◌==◌, [], ◌∙◌, inl, inr, ℕ, List, Bool, true, false, cond, Some, None, not, ap, sym, refl, arith, length, take, nat_lt}
 use Rattle.std.proofs.Math.Seq.{take-append_seam}
-use Rattle.std.proofs.lemmas.Bool.{and_parts, ltb-false}
+use Rattle.std.proofs.lemmas.Bool.{and_from, and_parts, ltb-false}
 use Rattle.std.proofs.lemmas.Bool.Decides.{nat_tests}
 use Rattle.std.proofs.lemmas.List.{length-take, length-take-le, take_all}
 use Rattle.std.proofs.lemmas.List.Folds.{list_all-append}
@@ -19,21 +19,18 @@ record Passes (p : ℕ → Bool) : Type 0 where
   dash : p 45 ≡ true
   low : p 95 ≡ true
 
-both : (a b : Bool) → a ≡ true → b ≡ true → (a && b) ≡ true
-both a b h k = rw (h, k) refl
-
 run_all : (p : ℕ → Bool) → Passes p → (r : List ℕ) → list_all is_alnum r ≡ true → list_all p r ≡ true
 run_all p may [] h = refl
 run_all p may (c ∷ r) h =
     let parts = and_parts (is_alnum c) (list_all is_alnum r) h in
-    both (p c) (list_all p r) (may.letters c parts.0) (run_all p may r parts.1)
+    and_from (p c) (list_all p r) (may.letters c parts.0) (run_all p may r parts.1)
 
 dashes_all : (p : ℕ → Bool) → Passes p → (s : List ℕ) → list_all is_dash s ≡ true → list_all p s ≡ true
 dashes_all p may [] h = refl
 dashes_all p may (c ∷ s) h =
     let parts = and_parts (is_dash c) (list_all is_dash s) h in
     let is : c ≡ 45 = grind (arith, nat_tests, parts.0) in
-    both (p c) (list_all p s) (ap p is ∙ may.dash) (dashes_all p may s parts.1)
+    and_from (p c) (list_all p s) (ap p is ∙ may.dash) (dashes_all p may s parts.1)
 
 separator_all : (p : ℕ → Bool) → Passes p → (s : List ℕ) → IsSeparator s → list_all p s ≡ true
 separator_all p may s (inl dot) = rw (dot, may.dot) refl
@@ -45,14 +42,14 @@ component_all : (p : ℕ → Bool) → Passes p → (c : List ℕ) → IsCompone
 component_all p may c (run r h) = run_all p may r h.1
 component_all p may c (joined r s d h sep rest) =
     list_all-append p r (s ++ d)
-    ∙ both (list_all p r) (list_all p (s ++ d)) (run_all p may r h.1)
-    (list_all-append p s d ∙ both (list_all p s) (list_all p d) (separator_all p may s sep) (component_all p may d rest))
+    ∙ and_from (list_all p r) (list_all p (s ++ d)) (run_all p may r h.1)
+    (list_all-append p s d ∙ and_from (list_all p s) (list_all p d) (separator_all p may s sep) (component_all p may d rest))
 
 path_all : (p : ℕ → Bool) → Passes p → p 47 ≡ true → (text : List ℕ) → IsPath text → list_all p text ≡ true
 path_all p may slash text (component c h) = component_all p may c h
 path_all p may slash text (slashed c q h rest) =
     list_all-append p c (47 ∷ q)
-    ∙ both (list_all p c) (list_all p (47 ∷ q)) (component_all p may c h) (both (p 47) (list_all p q) slash (path_all p may slash q rest))
+    ∙ and_from (list_all p c) (list_all p (47 ∷ q)) (component_all p may c h) (and_from (p 47) (list_all p q) slash (path_all p may slash q rest))
 
 small : Passes (λ b. nat_lt b 128)
 small = record {

@@ -6,6 +6,7 @@ use Rattle.std.specs.List.{list_all, before_first}
 abbrev pub is_alnum : ℕ → Bool
 is_alnum c = (nat_le 97 c && nat_le c 122) || (nat_le 48 c && nat_le c 57)
 
+-- a `-`
 abbrev pub is_dash : ℕ → Bool
 is_dash c = c == 45
 

@@ -24,12 +24,15 @@ pub record IsRangeText (text : List ℕ) (start end : ℕ) : Type 0 where
 abbrev pub is_digits : List ℕ → Bool
 is_digits text = nat_lt 0 (length text) && list_all is_ascii_digit text
 
+-- the number that digits spell
 abbrev pub number_of : List ℕ → Option ℕ
 number_of text = if is_digits text && nat_lt (digits_value 10 text) (2 ^ 63) then Some (digits_value 10 text) else None
 
+-- two ends in order
 abbrev pub ordered : ℕ → ℕ → Option (ℕ × ℕ)
 ordered start end = if nat_le start end then Some (start, end) else None
 
+-- the ends on both sides of a place
 abbrev pub range_at : List ℕ → ℕ → Option (ℕ × ℕ)
 range_at text dash = option_and_then (λ start. option_and_then (ordered start) (number_of (drop (dash + 1) text))) (number_of (take dash text))
 

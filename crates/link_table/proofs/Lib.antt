@@ -1,3 +1,4 @@
+pub mod Accepted
 pub mod LinkRows
 pub mod RepoRows
 pub mod Runs

@@ -2,7 +2,8 @@
 use Rattle.std.proofs.Common.{◌≡◌, ℕ, ◌+◌, ◌-◌, ◌^◌, ◌<◌, ◌≤◌, Bool, true, false, cond, List, [], length, map, set, get_or, Option, Some, None, is_some, Ok, refl, sym, ap, ◌∙◌, arith, inl, inr, get_or-set_same, get_or-set_other, length-set}
 use Rattle.std.specs.Prelude.{if◌then◌else◌, slice_index, nat_eq, replicate}
 use Rattle.std.specs.Option.{option_eq}
-use Rattle.std.specs.List.{list_any}
+use Rattle.std.specs.List.{list_any, remove, HoldsAt}
+use Rattle.std.specs.declared.cmp.Ordering.TheVariants.{Equal}
 use Rattle.std.specs.Ordering.{eq_by_cmp}
 use Rattle.std.specs.Cmp.{Equal-is}
 use Rattle.std.specs.FinMap.{FinMap, get, insert, is_sorted, get-empty, get-insert}
@@ -17,11 +18,12 @@ use Rattle.blob_digest.proofs.KeyOrders.{link_cmp_total, exact_link}
 use Rattle.blob_digest.proofs.RowLemmas.{entries-empty}
 use Rattle.blob_digest.proofs.MapSums.{insert_back}
 use Rattle.link_table.specs.Linked.{Tenant, Linked, blobs, total_size, is_tenants, tenant_of, HasOneSize, HasNoLinks, IsSizeOf, link, used_in}
+use Rattle.link_table.specs.Lookups.{has_tenant}
 use Rattle.link_table.specs.Tenancy.{AreTenants}
 use Rattle.link_table.specs.Rows.{link_shown, links_shown, IsSound}
 use Rattle.link_table.specs.declared.rows.LinkRow.{LinkRow}
 use Rattle.link_table.proofs.RepoRows.{contains-insert, contains-remove}
-use Rattle.link_table.proofs.LinkRows.{contains-blob, holds_row}
+use Rattle.link_table.proofs.LinkRows.{contains-blob, holds_row, link-there, links-remove, links_sorted-remove}
 use Rattle.link_table.proofs.Weights.{HasOneSize-insert, HasOneSize-remove, get_before_remove, total-insert, total-other, total-remove, total-remove_other}
 
 option_eq_some : (o : Option ℕ) (t : ℕ) → option_eq nat_eq o (Some t) ≡ true → o ≡ Some t
@@ -161,6 +163,29 @@ module _ (tenants : List Tenant) (repos : List Text) (rows : List LinkRow) (weig
                 | inr other ↦ rw (get_or-set_other weights t u w 0 other) (sound.small u below)
               ];
             }
+
+-- ---- a row taken out
+
+module _ (tenants : List Tenant) (repos : List Text) (rows : List LinkRow) (weights charges : List ℕ) (sound : IsSound tenants repos rows weights charges) (t : ℕ) (lt : t < length tenants) (r d : Text) (own : is_tenants tenants t r ≡ true)
+    (i : ℕ) (within : i < length rows) (is : HoldsAt (λ l. link_cmp (l.repo, l.digest) (r, d) ≡ Equal) rows i) (row : LinkRow) (value : row ≡ get_or rows i row) (rows' : List LinkRow) (gone : rows' ≡ remove rows i)
+    (name : Text) (named : is_tenants tenants t ≡ has_tenant name) (held : Bool) (told : held ≡ list_any (holds_row (has_tenant name) d) rows') (x : ℕ) (read : x ≡ get_or weights t x) where
+  sorted : is_sorted link_cmp (map link_shown rows') ≡ true
+  sorted = links_sorted-remove rows sound.links_sorted r d i row within is rows' gone
+
+  shown : links_shown rows' ≡ fremove (links_shown rows) (r, d)
+  shown = links-remove rows sound.links_sorted r d i row within is rows' gone
+
+  linked : get (links_shown rows) (r, d) ≡ Some row.size
+  linked = link-there rows sound.links_sorted r d i row within is ∙ ap (λ (l : LinkRow). Some l.size) (sym value)
+
+  is_held : held ≡ is_some (get (blobs (is_tenants tenants t) (links_shown rows')) d)
+  is_held = held_by (is_tenants tenants t) (has_tenant name) named rows' d (one_size-unlink tenants repos rows weights charges sound t lt r d row.size rows' sorted own shown linked) held told
+
+  pub light_taken : (if held then 0 else row.size) ≤ x
+  light_taken = light_enough tenants repos rows weights charges sound t lt r d row.size rows' sorted own shown linked held is_held x read
+
+  pub IsSound-taken : (w : ℕ) → w ≡ x - (if held then 0 else row.size) → IsSound tenants repos rows' (set weights t w) charges
+  IsSound-taken w is_w = IsSound-unlink tenants repos rows weights charges sound t lt r d row.size rows' sorted own shown linked held is_held x read w is_w
 
 -- ---- what `link` gives
 

@@ -11,17 +11,20 @@ use Rattle.blob_digest.specs.declared.refusal.Refusal.{Refusal}
 use Rattle.blob_digest.specs.declared.refusal.Refusal.TheVariants.{LimitReached, NameUnknown, Quota}
 pub use Rattle.blob_digest.specs.Tenants.{Tenant, tenant_of, is_tenants, repos_in, coded_tenant}
 
+-- tenants in the order of their names, the repositories that are there, the links with the sizes of their blobs, and each tenant's charge in bytes
 pub record Linked : Type 0 where
   pub tenants : List Tenant
   pub repos : set.Set text_cmp
   pub links : fmap.FinMap link_cmp ℕ
   pub charges : List ℕ
 
+-- a table's code, as a model's value has one
 abbrev pub coded_linked : Coded Linked
 coded_linked = code_by (List Tenant × (set.Set text_cmp × (fmap.FinMap link_cmp ℕ × List ℕ))) (coded× (coded_list coded_tenant) (coded× (set.code coded_text) (coded× (fmap.code coded_link coded_ℕ) (coded_list coded_ℕ)))) (λ l. (l.tenants, (l.repos, (l.links, l.charges)))) (λ p. record { tenants = p.0; repos = p.1.0; links = p.1.1.0; charges = p.1.1.1 }) (λ _. refl)
 
 -- ---- whose a repository is
 
+-- how much a tenant may use, in bytes
 abbrev pub quota_in : List Tenant → ℕ → ℕ
 quota_in tenants t = option_map_or (λ x. x.quota) (slice_get tenants t) 0
 
@@ -36,9 +39,11 @@ sizes passes (e ∷ es) = if passes e.0.0 then (e.0.1, e.1) ∷ sizes passes es 
 abbrev pub blobs : (Text → Bool) → fmap.FinMap link_cmp ℕ → fmap.FinMap text_cmp ℕ
 blobs passes links = fmap.from_entries (sizes passes (fmap.entries links))
 
+-- the sum of the sizes
 abbrev pub total_size : fmap.FinMap text_cmp ℕ → ℕ
 total_size m = sum_by (λ e. e.1) (fmap.entries m)
 
+-- each digest that a tenant's repositories hold, once, with its size
 abbrev pub blobs_of : Linked → ℕ → fmap.FinMap text_cmp ℕ
 blobs_of l t = blobs (is_tenants l.tenants t) l.links
 
@@ -70,34 +75,44 @@ blobs_in l repo = map (λ e. (e.0.1, e.1)) (filter (λ e. same_text e.0.0 repo) 
 
 -- ---- what the calls do
 
+-- a table with nothing in it
 abbrev pub opening : List Tenant → Linked
 opening tenants = record { tenants = tenants; repos = set.none; links = fmap.empty; charges = replicate (length tenants) 0 }
 
+-- the number of a repository's tenant, or that there is none
 abbrev pub known_tenant : Linked → Text → Result ℕ Refusal
 known_tenant l repo = ok_or (tenant_of l.tenants repo) NameUnknown
 
+-- a repository is new, and its tenant has as many as it may
 abbrev pub cannot_appear : Linked → ℕ → Text → Bool
 cannot_appear l t repo = not (set.contains l.repos repo) && nat_le 1024 (repos_in l.tenants l.repos t)
 
+-- a repository more, and whether it is new
 abbrev pub appear : Linked → ℕ → Text → OutcomeIn Linked Bool
 appear l t repo = if cannot_appear l t repo then Err LimitReached else Ok (not (set.contains l.repos repo), record l { repos = set.insert l.repos repo })
 
+-- a repository less
 abbrev pub vanish : Linked → Text → Linked
 vanish l repo = record l { repos = set.remove l.repos repo }
 
+-- a link more, and whether it is new
 abbrev pub link : Linked → Text → Text → ℕ → OutcomeIn Linked Bool
 link l repo digest size = Ok (not (fmap.contains_key l.links (repo, digest)), record l { links = fmap.insert l.links (repo, digest) size })
 
+-- a link less
 abbrev pub unlink : Linked → Text → Text → Linked
 unlink l repo digest = record l { links = fmap.remove l.links (repo, digest) }
 
+-- a tenant's charge, raised
 abbrev pub charged : Linked → ℕ → ℕ → Linked
 charged l t n = record l { charges = slice_set l.charges t (slice_index l.charges t + n) }
 
+-- a charge, unless use and charge together pass the quota
 abbrev pub charge : Linked → ℕ → ℕ → OutcomeIn Linked (Unit {0})
 charge l t n = do
   _ ← refuse (nat_lt (quota_in l.tenants t) (used_in l t + n)) (Quota (used_in l t) (quota_in l.tenants t))
   Ok (tt {0}, charged l t n)
 
+-- a tenant's charge, lowered
 abbrev pub discharge : Linked → ℕ → ℕ → Linked
 discharge l t n = record l { charges = slice_set l.charges t (slice_index l.charges t - n) }

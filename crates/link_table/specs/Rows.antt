@@ -8,9 +8,11 @@ use Rattle.link_table.specs.Linked.{Tenant, HasOneSize, blobs, total_size, is_te
 use Rattle.link_table.specs.Tenancy.{AreTenants}
 use Rattle.link_table.specs.declared.rows.LinkRow.{LinkRow}
 
+-- a row of a link, as key and value
 abbrev pub link_shown : LinkRow → Link × ℕ
 link_shown l = ((l.repo, l.digest), l.size)
 
+-- the map that rows of links stand for
 abbrev pub links_shown : List LinkRow → fmap.FinMap link_cmp ℕ
 links_shown links = fmap.from_entries (map link_shown links)
 

@@ -10,7 +10,7 @@ use Rattle.blob_digest.specs.declared.refusal.Refusal.{Refusal}
 use Rattle.blob_digest.specs.declared.refusal.Refusal.TheVariants.{NameInvalid, LimitReached, Memory}
 use Rattle.link_table.specs.Linked.{Linked, opening}
 
--- each name is one component of a repository's name, and no name comes twice
+-- each name is one component of a repository's name (OCI Distribution Specification 1.1, "Pulling manifests"), and no name comes twice
 pub record HasNames (ts : List Tenant) : Type 0 where
   pub components : All (λ t. IsComponent t.name) ts
   pub apart : (name : Text) → count_by (λ t. same_text t.name name) ts ≤ 1
@@ -46,5 +46,6 @@ pub record Opens (given : List Tenant) (l : Linked) : Type 0 where
 abbrev pub tenant_shown : String Global × ℕ → Tenant
 tenant_shown t = record { name = string_bytes t.0; quota = t.1 }
 
+-- rows of tenants, as tenants
 abbrev pub tenants_shown : List (String Global × ℕ) → List Tenant
 tenants_shown ts = map tenant_shown ts

@@ -1,4 +1,4 @@
-ghost use Rattle.std.specs.Prelude.{◌≡◌, ◌≢◌, ℕ, ◌+◌, ◌<◌, ◌≤◌, ◌^◌, length, map, true, false, slice_index, slice_get, string_bytes, Some, Ok, IfOk, IfErr};
+ghost use Rattle.std.specs.Prelude.{◌≡◌, ◌≢◌, ℕ, ◌+◌, ◌<◌, ◌≤◌, ◌^◌, length, map, true, false, slice_index, slice_get, string_bytes, Some, Ok, IfOk, IfErr, IfSome};
 ghost use Rattle.std.specs.Option.{option_copied, option_map};
 ghost use Rattle.std.specs.FinMap as fmap;
 ghost use Rattle.blob_digest.specs.Sets as set;
@@ -22,8 +22,9 @@ const MOST_REPOS: usize = 1024;
 /// is charged. Contracts see these four; what a tenant uses follows from them.
 ///
 /// Tenants are numbered from 0 in the order of their names. Sizes, quotas, charges and uses are in
-/// bytes. A table keeps its repositories and its links in the order of their names and digests:
-/// to find one takes the logarithm of their number, to add or to remove one their number.
+/// bytes. A table keeps its repositories in the order of their names, and its links in that of
+/// repository and digest: to find one takes the logarithm of their number, and to add or to remove
+/// one moves those behind it.
 #[derive(Drop)]
 pub struct Links {
     tenants: Vec<(String, u64)>,
@@ -53,9 +54,9 @@ impl Links {
     /// A table of these tenants, each a name with a quota, with nothing in it. It numbers them in
     /// the order of their names.
     ///
-    /// Refused are, in this order, a name that is no component of a repository's name or comes twice
-    /// (`NameInvalid`); no tenant, more than 256, or a quota above 2^50 bytes (`LimitReached`); and
-    /// want of memory.
+    /// Refused are, in this order, a name that is no component of a repository's name (OCI
+    /// Distribution Specification 1.1, "Pulling manifests") or comes twice (`NameInvalid`); no
+    /// tenant, more than 256, or a quota above 2^50 bytes (`LimitReached`); and want of memory.
     pub fn new(alloc: Global, tenants: Vec<(String, u64)>) -> Result<Links, Refusal>
         ensures opened { IfOk result (λ l. Opens (tenants_shown tenants.items) l) }
         ensures refused { IfErr result (λ e. RefusesTenants e (tenants_shown tenants.items)) }
@@ -73,7 +74,8 @@ impl Links {
         })
     }
 
-    /// The number of the tenant that a repository belongs to, or `NameUnknown`.
+    /// The number of the tenant that a repository belongs to: the one of its name's first component.
+    /// Where there is none, `NameUnknown`. It takes a look at each tenant.
     pub fn tenant(&self, repo: &RepoName) -> Result<u16, Refusal>
         ensures known { result ≡ known_tenant self.now repo.now }
         ensures there { IfOk result (λ t. t < length self.now.tenants) }
@@ -148,7 +150,8 @@ impl Links {
     }
 
     /// Makes a repository of a tenant known, and answers whether it is new. A tenant has at most
-    /// 1,024 repositories: one more is refused (`LimitReached`), and so is want of memory.
+    /// 1,024 repositories: one more is refused (`LimitReached`), and so is want of memory. A new one
+    /// takes a look at each repository of the table.
     pub fn appear(&mut self, tenant: u16, repo: &RepoName) -> Result<bool, Refusal>
         requires { tenant < length self.old.tenants }
         ensures { Does (λ b. b) result self.old self.new (appear self.old tenant repo.now) }
@@ -165,8 +168,9 @@ impl Links {
         Ok(true)
     }
 
-    /// Takes back that a repository without links is known.
-    pub fn vanish(&mut self, repo: &RepoName)
+    /// Takes back that a repository of a tenant, which has no links, is known.
+    pub fn vanish(&mut self, tenant: u16, repo: &RepoName)
+        requires own { is_tenants self.old.tenants tenant repo.now ≡ true }
         requires there { set.contains self.old.repos repo.now ≡ true }
         requires unlinked { HasNoLinks self.old.links repo.now }
         ensures { self.new ≡ vanish self.old repo.now }
@@ -180,7 +184,7 @@ impl Links {
     }
 
     /// Links a blob of this digest and size in a repository of a tenant, and answers whether the
-    /// link is new. Want of memory is refused. It looks at each link once.
+    /// link is new. Want of memory is refused. A new link takes a look at each link of the table.
     pub fn link(
         &mut self,
         tenant: u16,
@@ -211,7 +215,7 @@ impl Links {
         Ok(true)
     }
 
-    /// Takes a link out of a repository of a tenant. It looks at each link once.
+    /// Takes a link out of a repository of a tenant. It takes a look at each link of the table.
     pub fn unlink(&mut self, tenant: u16, repo: &RepoName, digest: &Digest)
         requires there { tenant < length self.old.tenants }
         requires own { is_tenants self.old.tenants tenant repo.now ≡ true }
@@ -233,14 +237,15 @@ impl Links {
         }
     }
 
-    /// Whether a repository holds the blob of a digest.
+    /// Whether a repository holds the blob of a digest. It takes the logarithm of the number of links.
     pub fn holds(&self, repo: &RepoName, digest: &Digest) -> bool
         ensures { result ≡ fmap.contains_key self.now.links (repo.now, digest.now) }
     {
         link_place(self.links.as_slice(), repo, digest).is_ok()
     }
 
-    /// Whether some repository of a tenant holds the blob of a digest. It looks at each link.
+    /// Whether some repository of a tenant holds the blob of a digest. It takes a look at each link of
+    /// the table.
     pub fn tenant_holds(&self, tenant: u16, digest: &Digest) -> bool
         requires { tenant < length self.now.tenants }
         ensures { result ≡ fmap.contains_key (blobs_of self.now tenant) digest.now }
@@ -249,8 +254,8 @@ impl Links {
         has_blob(self.links.as_slice(), name, digest)
     }
 
-    /// The i-th repository of a tenant, in the order of their names, from 0. It looks at each
-    /// repository up to that one.
+    /// The i-th repository of a tenant, in the order of their names, from 0. It takes a look at each
+    /// repository of the table up to that one.
     pub fn repo_at(&self, tenant: u16, i: usize) -> Option<&RepoName>
         requires { tenant < length self.now.tenants }
         ensures { option_copied result ≡ slice_get (repos_of self.now tenant) i }
@@ -262,7 +267,8 @@ impl Links {
     /// The i-th blob that a repository holds, in the order of their digests, from 0, with its size
     /// in bytes. It takes the logarithm of the number of links.
     pub fn blob_at(&self, repo: &RepoName, i: usize) -> Option<(Digest, u64)>
-        ensures { result ≡ slice_get (blobs_in self.now repo.now) i }
+        ensures value { result ≡ slice_get (blobs_in self.now repo.now) i }
+        ensures next { IfSome result (λ _. i + 1 < 2 ^ 64) }
     {
         nth_of(self.links.as_slice(), repo, i)
     }

@@ -1,6 +1,6 @@
 //! The rows of repositories and links, in the order of their keys, and the look-ups in them.
 
-ghost use Rattle.std.specs.Prelude.{◌≡◌, ◌+◌, ◌-◌, ◌<◌, ◌≤◌, ◌^◌, ◌&&◌, true, false, length, map, filter, count_by, slice_get, if◌then◌else◌};
+ghost use Rattle.std.specs.Prelude.{◌≡◌, IfSome, ◌+◌, ◌-◌, ◌<◌, ◌≤◌, ◌^◌, ◌&&◌, true, false, length, map, filter, count_by, slice_get, if◌then◌else◌};
 ghost use Rattle.std.specs.List.{list_any};
 ghost use Rattle.std.specs.List.Sorted.{IsBinarySearchResult, IsSearchInRange, IsPartitionedBy, IsPartitionPoint};
 ghost use Rattle.std.specs.FinMap.{is_sorted};
@@ -84,15 +84,21 @@ fn first_of(links: &[LinkRow], repo: &RepoName) -> usize
 
 /// The i-th row.
 fn row_at(links: &[LinkRow], i: usize) -> Option<&LinkRow>
-    ensures { option_copied result ≡ slice_get links.now i }
+    ensures value { option_copied result ≡ slice_get links.now i }
+    ensures next { IfSome result (λ _. i + 1 < 2 ^ 64) }
 {
-    links.get(i)
+    if i < links.len() {
+        Some(&links[i])
+    } else {
+        None
+    }
 }
 
 /// The i-th link of a repository, of links in order: its digest and its size.
 pub fn nth_of(links: &[LinkRow], repo: &RepoName, i: usize) -> Option<(Digest, u64)>
     requires { is_sorted link_cmp (map link_shown links.now) ≡ true }
-    ensures { result ≡ option_map (λ l. (l.digest, l.size)) (slice_get (filter (λ l. same_text l.repo repo.now) links.now) i) }
+    ensures value { result ≡ option_map (λ l. (l.digest, l.size)) (slice_get (filter (λ l. same_text l.repo repo.now) links.now) i) }
+    ensures next { IfSome result (λ _. i + 1 < 2 ^ 64) }
 {
     let first = first_of(links, repo);
     let row = row_at(&links[first..], i)?;

@@ -32,10 +32,14 @@ fn given(rt: &impl Abort, alloc: Global, tenants: &[(&str, u64)]) -> Vec<(String
 }
 
 fn refused(rt: &impl Abort, alloc: Global, tenants: &[(&str, u64)]) -> Option<Refusal> {
-    match Links::new(alloc, given(rt, alloc, tenants)) {
-        Ok(_) => None,
-        Err(refusal) => Some(refusal),
-    }
+    Links::new(alloc, given(rt, alloc, tenants)).err()
+}
+
+fn opened(rt: &impl Abort, alloc: Global, tenants: &[(&str, u64)]) -> Links
+    ensures sizes { (k : Link) (n : ℕ) → fmap.get result.links k ≡ Some n → n ≡ 3 }
+    ensures empty { result.links ≡ fmap.empty }
+{
+    Links::new(alloc, given(rt, alloc, tenants)).expect(rt, "tenants")
 }
 
 fn used(rt: &impl Abort, links: &Links, repo: &RepoName) -> u64 {
@@ -71,13 +75,18 @@ fn charge(rt: &impl Abort, links: &mut Links, repo: &RepoName, n: u64) -> Result
     links.charge(tenant, n)
 }
 
+/// Makes a repository known, and takes that back.
+fn come_and_go(rt: &impl Abort, links: &mut Links, repo: &RepoName)
+    requires { links.old.links ≡ fmap.empty }
+{
+    let tenant = links.tenant(repo).expect(rt, "a tenant");
+    links.appear(tenant, repo).expect(rt, "memory");
+    links.vanish(tenant, repo);
+}
+
 #[test]
 fn tenants_are_numbered_by_name(rt: HostRuntime) {
-    let links = Links::new(
-        rt.alloc(),
-        given(&rt, rt.alloc(), &[("zeta", 5), ("acme", 1000)]),
-    )
-    .expect(&rt, "tenants");
+    let links = opened(&rt, rt.alloc(), &[("zeta", 5), ("acme", 1000)]);
     assert_eq!(rt; links.tenants(), 2);
     let acme = links
         .tenant(&name(&rt, rt.alloc(), "acme/one"))
@@ -146,8 +155,7 @@ fn there_are_at_most_256_tenants(rt: HostRuntime) {
 #[test]
 fn a_blob_counts_once_for_each_tenant(rt: HostRuntime) {
     let alloc = rt.alloc();
-    let tenants = given(&rt, alloc, &[("acme", 1000), ("other", 1000)]);
-    let mut links = Links::new(alloc, tenants).expect(&rt, "tenants");
+    let mut links = opened(&rt, alloc, &[("acme", 1000), ("other", 1000)]);
     let abc = digest(&rt, ABC);
     let one = name(&rt, alloc, "acme/one");
     let two = name(&rt, alloc, "acme/two");
@@ -171,7 +179,7 @@ fn a_blob_counts_once_for_each_tenant(rt: HostRuntime) {
 #[test]
 fn a_charge_stays_within_the_quota(rt: HostRuntime) {
     let alloc = rt.alloc();
-    let mut links = Links::new(alloc, given(&rt, alloc, &[("acme", 3)])).expect(&rt, "tenants");
+    let mut links = opened(&rt, alloc, &[("acme", 3)]);
     let abc = digest(&rt, ABC);
     let one = name(&rt, alloc, "acme/one");
     assert!(rt; hold(&rt, &mut links, &one, &abc));
@@ -194,8 +202,7 @@ fn a_charge_stays_within_the_quota(rt: HostRuntime) {
 #[test]
 fn repositories_and_blobs_are_read_in_order(rt: HostRuntime) {
     let alloc = rt.alloc();
-    let tenants = given(&rt, alloc, &[("acme", 1000), ("acme-x", 1000)]);
-    let mut links = Links::new(alloc, tenants).expect(&rt, "tenants");
+    let mut links = opened(&rt, alloc, &[("acme", 1000), ("acme-x", 1000)]);
     let abc = digest(&rt, ABC);
     let empty = digest(&rt, EMPTY);
     let one = name(&rt, alloc, "acme/one");
@@ -220,8 +227,7 @@ fn repositories_and_blobs_are_read_in_order(rt: HostRuntime) {
 #[test]
 fn a_tenant_has_at_most_1024_repositories(rt: HostRuntime) {
     let alloc = rt.alloc();
-    let tenants = given(&rt, alloc, &[("acme", 1000), ("other", 1000)]);
-    let mut links = Links::new(alloc, tenants).expect(&rt, "tenants");
+    let mut links = opened(&rt, alloc, &[("acme", 1000), ("other", 1000)]);
     for i in 0..1024u32 {
         let text = format!(in alloc; "acme/{i}").expect(&rt, "memory");
         let repo = name(&rt, alloc, text.as_str());
@@ -244,10 +250,8 @@ fn a_tenant_has_at_most_1024_repositories(rt: HostRuntime) {
 #[test]
 fn a_repository_comes_and_goes(rt: HostRuntime) {
     let alloc = rt.alloc();
-    let mut links = Links::new(alloc, given(&rt, alloc, &[("acme", 1000)])).expect(&rt, "tenants");
+    let mut links = opened(&rt, alloc, &[("acme", 1000)]);
     let one = name(&rt, alloc, "acme/one");
-    let tenant = links.tenant(&one).expect(&rt, "a tenant");
-    links.appear(tenant, &one).expect(&rt, "memory");
-    links.vanish(&one);
+    come_and_go(&rt, &mut links, &one);
     assert_eq!(rt; appear(&rt, &mut links, &one), Ok(true));
 }

@@ -25,10 +25,7 @@ fn has_refs(alloc: Global, text: &str, count: usize) -> bool {
 
 /// Whether a text is refused as no manifest.
 fn is_refused(alloc: Global, text: &str) -> bool {
-    matches!(
-        read(alloc, text.as_bytes()),
-        Err(Refusal::ManifestInvalid)
-    )
+    matches!(read(alloc, text.as_bytes()), Err(Refusal::ManifestInvalid))
 }
 
 /// An image manifest with this config and these layers, each as JSON.
@@ -112,7 +109,9 @@ fn layers_with_urls_are_skipped(rt: HostRuntime) -> Result<(), Fail> {
 fn members_that_are_not_looked_at(rt: HostRuntime) -> Result<(), Fail> {
     let alloc = rt.alloc();
     let config = descriptor(alloc, OBJ)?;
-    let text = format!(in alloc; "{{\"subject\":{{\"digest\":\"gone\"}},\"mediaType\":[],\"schemaVersion\":2,\"config\":{config},\"x\":1}}")?;
+    let text = format!(in alloc;
+        "{{\"subject\":{{\"digest\":\"gone\"}},\"mediaType\":[],\"schemaVersion\":2,\"config\":{config},\"x\":1}}"
+    )?;
     assert!(rt; has_refs(alloc, &text, 1));
     Ok(())
 }
@@ -143,7 +142,12 @@ fn what_is_no_manifest(rt: HostRuntime) -> Result<(), Fail> {
         assert!(rt; is_refused(alloc, text), "{text}");
     }
     let bad_utf8 = b"{\"schemaVersion\":2,\"manifests\":[],\"x\":\"\xFF\"}";
-    assert!(rt; matches!(read(alloc, bad_utf8.as_slice()), Err(Refusal::ManifestInvalid)));
+    assert!(rt;
+        matches!(
+            read(alloc, bad_utf8.as_slice()),
+            Err(Refusal::ManifestInvalid)
+        )
+    );
     Ok(())
 }
 

@@ -1,19 +1,19 @@
 -- What the table shows after a session was removed, sealed into a blob, and opened again.
-use Rattle.std.proofs.Common.{◌≡◌, ℕ, ◌+◌, ◌<◌, ◌≤◌, List, [], ◌∷◌, ◌++◌, length, map, set, get_or, take, Option, Some, None, refl, sym, ap, ◌∙◌, subst, arith, get_or-set_same, length-set, length-append}
-use Rattle.std.specs.Prelude.{slice_get, sum}
+use Rattle.std.proofs.Common.{◌≡◌, ℕ, ◌<◌, ◌≤◌, List, ◌++◌, length, map, set, get_or, take, Option, Some, None, refl, sym, ap, ◌∙◌, subst, arith, get_or-set_same, length-set, length-append}
+use Rattle.std.specs.Prelude.{sum}
 use Rattle.std.specs.Option.{option_map, option_map_or}
 use Rattle.std.specs.List.{remove, concat}
-use Rattle.std.specs.FinMap.{get, insert}
+use Rattle.std.specs.FinMap.{insert}
 use Rattle.std.specs.FinMap.{remove as fremove}
 use Rattle.std.proofs.lemmas.List.{length-take-le, set-get_or}
 use Rattle.std.proofs.lemmas.Option.{slice_get-get_or}
-use Rattle.blob_digest.specs.Keys.{Text, Number, number_cmp}
+use Rattle.blob_digest.specs.Keys.{Number}
 use Rattle.blob_digest.specs.Hashing.{Hashes}
 use Rattle.blob_digest.proofs.KeyOrders.{number_cmp_total, exact_number}
 use Rattle.blob_digest.proofs.MapSums.{insert-remove}
 use Rattle.upload_table.specs.Sessions.{Session, Sessions, whole_in}
 use Rattle.upload_table.specs.Uploaded.{CanReopen, Closing, Uploaded, cut, reopened}
-use Rattle.upload_table.specs.Rows.{closing_in, closing_of, entry_of, key_of, left, session_of, shown, IsRising, IsSame, IsSound, IsWhole}
+use Rattle.upload_table.specs.Rows.{closing_in, closing_of, key_of, left, session_of, shown, IsRising, IsSame, IsSound, IsWhole}
 use Rattle.upload_table.specs.declared.upload.Upload.{Upload}
 use Rattle.upload_table.proofs.Cuts.{concat-cut, cut-take, front}
 use Rattle.upload_table.proofs.Sound.{IsSound-seal, remove-set, set-set, whole_row}
@@ -37,12 +37,12 @@ pub shown-refill : (next : List ℕ) (rows : List Upload) (i : ℕ) (old new : U
 shown-refill next rows i old new bytes rising lt is same within taken =
     let key : key_of new ≡ key_of old = λ j. (same.tenant j, same.number j) in
     let again : session_of new ≡ record { repo = old.repo; chunks = cut old.lens.items bytes } =
-        (λ j. record { repo = same.repo j; chunks = cut (same.lens j) (taken j) }) ∙ ap (λ cs. record { repo = old.repo; chunks = cs }) (cut-take old.lens.items bytes within) in
+    (λ j. record { repo = same.repo j; chunks = cut (same.lens j) (taken j) }) ∙ ap (λ cs. record { repo = old.repo; chunks = cs }) (cut-take old.lens.items bytes within) in
     let back : map_of (set rows i new) ≡ insert (map_of (remove rows i)) (key_of old) (record { repo = old.repo; chunks = cut old.lens.items bytes }) =
-        written rows i old lt is rising new (key_of old) refl key
-        ∙ ap (insert (map_of rows) (key_of old)) again
-        ∙ sym (insert-remove number_cmp_total exact_number (map_of rows) (key_of old) (record { repo = old.repo; chunks = cut old.lens.items bytes }))
-        ∙ ap (λ (m : Sessions). insert m (key_of old) (record { repo = old.repo; chunks = cut old.lens.items bytes })) (sym (removed rows i old lt is rising (key_of old) refl)) in
+    written rows i old lt is rising new (key_of old) refl key
+    ∙ ap (insert (map_of rows) (key_of old)) again
+    ∙ sym (insert-remove number_cmp_total exact_number (map_of rows) (key_of old) (record { repo = old.repo; chunks = cut old.lens.items bytes }))
+    ∙ ap (λ (m : Sessions). insert m (key_of old) (record { repo = old.repo; chunks = cut old.lens.items bytes })) (sym (removed rows i old lt is rising (key_of old) refl)) in
     let v : Uploaded = shown next rows (Some i) in
     (λ j. record { next = next; sessions = back j; closing = None })
     ∙ sym (ap (λ o. option_map_or (λ (c : Closing). record v { sessions = insert v.sessions c.key (record { repo = c.repo; chunks = cut c.lens bytes }); closing = None }) o v) (shows_closing rows i old lt is))

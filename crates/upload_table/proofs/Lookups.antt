@@ -1,24 +1,24 @@
 -- Sessions looked up, counted and summed, in the rows and in the map that they stand for.
-use Rattle.std.proofs.Common.{◌≡◌, ℕ, zero, suc, ◌+◌, ◌^◌, ◌<◌, ◌≤◌, Bool, true, false, cond, List, [], ◌∷◌, length, map, take, get_or, Option, Some, None, is_some, Result, Ok, Err, refl, sym, ap, ◌∙◌, subst, arith}
-use Rattle.std.specs.Prelude.{◌==◌, ◌&&◌, ◌||◌, nat_le, slice_get, slice_index, option_map, sum}
+use Rattle.std.proofs.Common.{◌≡◌, ℕ, zero, suc, ◌+◌, ◌<◌, ◌≤◌, Bool, true, false, cond, List, [], ◌∷◌, length, map, take, get_or, Option, Some, None, is_some, Result, Ok, Err, refl, sym, ap, ◌∙◌, subst, arith}
+use Rattle.std.specs.Prelude.{◌==◌, ◌&&◌, ◌||◌, slice_get, slice_index, option_map, sum}
 use Rattle.std.specs.Ordering.{eq_by_cmp}
 use Rattle.std.specs.List.{sum_by, count_by, filter, AllByRecursion, position, list_any}
 use Rattle.std.specs.List.{find as lfind}
-use Rattle.std.specs.FinMap.{find, get, from_entries, entries, get-from_entries}
+use Rattle.std.specs.FinMap.{find, get, from_entries, get-from_entries}
 use Rattle.std.proofs.lemmas.Bool.{and_parts, eqb-true, false≢true}
 use Rattle.std.proofs.lemmas.Bool.Decides.{nat_tests}
 use Rattle.std.proofs.lemmas.List.Sums.{sum_by-cons}
 use Rattle.std.proofs.lemmas.List.Quantifiers.{position-Some}
 use Rattle.std.proofs.lemmas.Option.{slice_get-map}
 use Rattle.blob_digest.specs.Keys.{Text, Number, number_cmp, same_text}
-use Rattle.blob_digest.specs.Rows.{IsApart}
 use Rattle.blob_digest.specs.declared.range.ByteRange.{ByteRange}
 use Rattle.blob_digest.specs.declared.refusal.Refusal.{Refusal}
 use Rattle.blob_digest.specs.declared.refusal.Refusal.TheVariants.{UploadUnknown}
 use Rattle.blob_digest.proofs.KeyOrders.{number_cmp_total}
 use Rattle.blob_digest.proofs.RowLemmas.{sum_by-from_entries, sum_by-map, is_some-position}
 use Rattle.upload_table.specs.Sessions.{Session, Sessions, received, received_in, share, in_sessions, open_in, is_of_repo, sessions_of, listed, check_in, length_after}
-use Rattle.upload_table.specs.Rows.{entry_of, key_of, session_of, row_share, IsCounted, IsRising, IsSound, IsWhole}
+use Rattle.upload_table.specs.Rows.{entry_of, key_of, session_of, row_share, shown, IsRising, IsSound, IsWhole}
+use Rattle.upload_table.specs.Uploaded.{Uploaded}
 use Rattle.upload_table.specs.declared.upload.Upload.{Upload}
 use Rattle.upload_table.proofs.Cuts.{sum_by-cut}
 use Rattle.upload_table.proofs.Rising.{PassRising-rising, filter-entries}
@@ -101,10 +101,14 @@ is_some-option_map f None = refl
 is_some-option_map f (Some x) = refl
 
 -- a session that the table has is somewhere in the rows
-pub placed : (rows : List Upload) (t n : ℕ) → is_some (get (map_of rows) (t, n)) ≡ is_some (position (λ u. u.tenant == t && u.number == n) rows)
+placed : (rows : List Upload) (t n : ℕ) → is_some (get (map_of rows) (t, n)) ≡ is_some (position (λ u. u.tenant == t && u.number == n) rows)
 placed rows t n =
     ap is_some (get_row rows t n) ∙ is_some-option_map session_of (lfind (λ u. u.tenant == t && u.number == n) rows)
     ∙ is_some-find (λ u. u.tenant == t && u.number == n) rows ∙ sym (is_some-position (λ u. u.tenant == t && u.number == n) rows)
+
+-- so a session that is there stands somewhere
+pub nowhere : (next : List ℕ) (rows : List Upload) (v : Uploaded) (t n : ℕ) → shown next rows None ≡ v → is_some (get v.sessions (t, n)) ≡ true → None ≡ position (λ u. u.tenant == t && u.number == n) rows → ⊥
+nowhere next rows v t n view there none = false≢true (ap is_some none ∙ sym (placed rows t n) ∙ ap (λ (x : Uploaded). is_some (get x.sessions (t, n))) view ∙ there)
 
 pub record IsPlaced (rows : List Upload) (t n i : ℕ) (u : Upload) : Type 0 where
   pub within : i < length rows

@@ -2,11 +2,10 @@
 use Rattle.std.proofs.Common.{◌≡◌, ℕ, zero, suc, ◌<◌, Bool, true, false, cond, List, [], ◌∷◌, ◌++◌, map, None, refl, sym, ap, ◌∙◌, arith}
 use Rattle.std.specs.declared.cmp.Ordering.{Ordering}
 use Rattle.std.specs.declared.cmp.Ordering.TheVariants.{Less, Equal, Greater}
-use Rattle.std.specs.Ordering.{eq_by_cmp, is_eq}
-use Rattle.std.specs.Cmp.{IsTotalOrder, Equal-is}
+use Rattle.std.specs.Cmp.{IsTotalOrder}
 use Rattle.std.proofs.lemmas.Bool.Decides.{nat_tests}
 use Rattle.std.specs.List.{AllByRecursion, filter, remove}
-use Rattle.std.specs.FinMap.{find, put, entries, from_entries, entries-insert, get-entries, get-from_entries, IsAntisymmetric}
+use Rattle.std.specs.FinMap.{find, put, entries, from_entries, entries-insert, get-entries, get-from_entries}
 use Rattle.blob_digest.specs.Rows.{IsApart}
 use Rattle.blob_digest.specs.Keys.{Number, number_cmp}
 use Rattle.blob_digest.proofs.KeyOrders.{exact_number}
@@ -87,11 +86,12 @@ less_number t a b lt = grind (arith, nat_tests)
 module _ {X : Type 0} (p : Number × X → Bool) (t : ℕ) (tenants : (e : Number × X) → p e ≡ true → e.0.0 ≡ t) where
   after : (k : Number) → k.0 ≡ t → (es : List (Number × X)) → AllByRecursion (λ j. j.0 ≡ k.0 → k.1 < j.1) (map (λ e. e.0) es) → AllByRecursion (λ f. p f ≡ true → number_cmp k f.0 ≡ Less) es
   after k is [] all = tt
-  after k is (e ∷ es) all =
-      ((λ h.
-          let less : k.1 < e.0.1 = all.0 (tenants e h ∙ sym is) in
-          (λ i. number_cmp (is i, k.1) (tenants e h i, e.0.1)) ∙ less_number t k.1 e.0.1 less),
-        after k is es all.1)
+  after k is (e ∷ es) all = (
+    (λ h.
+        let less : k.1 < e.0.1 = all.0 (tenants e h ∙ sym is) in
+        (λ i. number_cmp (is i, k.1) (tenants e h i, e.0.1)) ∙ less_number t k.1 e.0.1 less),
+    after k is es all.1,
+  )
 
   -- one tenant's rows rise
   pub PassRising-rising : (es : List (Number × X)) → IsRising (map (λ e. e.0) es) → PassRising number_cmp p es

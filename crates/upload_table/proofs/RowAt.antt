@@ -1,5 +1,5 @@
 -- A row, and its key in the map that the rows stand for.
-use Rattle.std.proofs.Common.{◌≡◌, ℕ, ◌<◌, List, length, map, set, get_or, Some, refl, sym, ap, ◌∙◌}
+use Rattle.std.proofs.Common.{◌≡◌, ℕ, ◌<◌, List, length, map, set, get_or, Some, sym, ap, ◌∙◌}
 use Rattle.std.specs.List.{remove}
 use Rattle.std.specs.FinMap.{get, insert, from_entries, get-from_entries}
 use Rattle.std.specs.FinMap.{remove as fremove}

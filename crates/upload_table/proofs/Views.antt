@@ -1,22 +1,21 @@
 -- What the table shows after a session was opened, and after a chunk came.
-use Rattle.std.proofs.Common.{◌≡◌, ℕ, ◌+◌, ◌^◌, ◌<◌, ◌≤◌, Bool, true, false, cond, List, [], ◌∷◌, ◌++◌, length, map, set, get_or, Option, Some, None, Ok, Err, refl, sym, ap, ◌∙◌, arith}
+use Rattle.std.proofs.Common.{◌≡◌, ℕ, ◌+◌, ◌^◌, ◌<◌, Bool, true, false, List, [], ◌∷◌, ◌++◌, length, map, set, get_or, Option, Some, None, Ok, Err, refl, sym, ap, ◌∙◌, arith}
 use Rattle.std.specs.Prelude.{◌==◌, ◌||◌, nat_le, slice_index}
 use Rattle.std.specs.Option.{option_map_or}
-use Rattle.std.specs.List.{count_by, AllByRecursion}
-use Rattle.std.specs.FinMap.{FinMap, find, get, insert, from_entries, from_entries_push, get-from_entries}
+use Rattle.std.specs.List.{count_by}
+use Rattle.std.specs.FinMap.{FinMap, find, get, insert, from_entries, from_entries_push}
 use Rattle.std.proofs.lemmas.Bool.{eqb-true, false≢true}
-use Rattle.std.proofs.lemmas.List.{map-set}
 use Rattle.std.proofs.Math.Seq.{map-set_same}
 use Rattle.blob_digest.specs.Keys.{Text, Number, number_cmp}
 use Rattle.blob_digest.specs.declared.refusal.Refusal.TheVariants.{LimitReached}
 use Rattle.blob_digest.proofs.KeyOrders.{number_cmp_total, exact_number}
-use Rattle.blob_digest.proofs.RowLemmas.{found_value, from_entries-set, insert_same, no_tie}
+use Rattle.blob_digest.proofs.RowLemmas.{insert_same, no_tie}
 use Rattle.upload_table.specs.Sessions.{Session, append_in, with_chunk}
-use Rattle.upload_table.specs.Uploaded.{Uploaded, cut, started, start_upload, cannot_start}
+use Rattle.upload_table.specs.Uploaded.{cut, started, start_upload, cannot_start}
 use Rattle.upload_table.specs.Rows.{entry_of, key_of, session_of, shown, AddsChunk, AreBelow, IsSound, IsUnchanged, IsWhole}
 use Rattle.upload_table.specs.declared.upload.Upload.{Upload}
 use Rattle.upload_table.proofs.Cuts.{cut-push}
-use Rattle.upload_table.proofs.Sound.{apart, map-push, whole_row}
+use Rattle.upload_table.proofs.Sound.{map-push, whole_row}
 use Rattle.upload_table.proofs.Lookups.{count_by-rows, map_of}
 use Rattle.upload_table.proofs.RowAt.{found_row, written}
 

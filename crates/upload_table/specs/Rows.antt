@@ -1,10 +1,10 @@
 -- What the rows of the table stand for, and what is true of them. No public contract cites this.
-use Rattle.std.specs.Prelude.{◌≡◌, ℕ, ◌+◌, ◌<◌, ◌==◌, ◌++◌, List, [], ◌∷◌, Option, Some, None, IfSome, length, map, sum, sum_by, slice_get, slice_index, slice_index_or, option_and_then, if◌then◌else◌}
+use Rattle.std.specs.Prelude.{◌≡◌, ℕ, ◌<◌, ◌==◌, ◌++◌, List, [], ◌∷◌, Option, Some, None, IfSome, length, map, sum, sum_by, slice_get, slice_index, slice_index_or, option_and_then, if◌then◌else◌}
 use Rattle.std.specs.Option.{option_map}
 use Rattle.std.specs.List.{AllByRecursion, remove}
 use Rattle.std.specs.FinMap as fmap
 use Rattle.blob_digest.specs.Hashing.{Hashes}
-use Rattle.blob_digest.specs.Keys.{Number, Text}
+use Rattle.blob_digest.specs.Keys.{Number}
 use Rattle.upload_table.specs.Sessions.{Session}
 use Rattle.upload_table.specs.Uploaded.{Closing, Uploaded, cut}
 use Rattle.upload_table.specs.declared.upload.Upload.{Upload}

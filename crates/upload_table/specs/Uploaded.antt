@@ -1,5 +1,5 @@
 -- What a table of upload sessions shows, and what its calls do.
-use Rattle.std.specs.Prelude.{◌≡◌, ℕ, ◌+◌, ◌^◌, ◌≤◌, nat_le, ◌||◌, Bool, Option, Some, None, Ok, Err, List, [], ◌∷◌, length, sum, take, drop, replicate, slice_index, slice_set, if◌then◌else◌}
+use Rattle.std.specs.Prelude.{ℕ, ◌+◌, ◌^◌, ◌≤◌, nat_le, ◌||◌, Bool, Option, Some, None, Ok, Err, List, [], ◌∷◌, length, sum, take, drop, replicate, slice_index, slice_set, if◌then◌else◌}
 use Rattle.std.specs.Option.{option_map_or}
 use Rattle.std.proofs.Common.{refl}
 use Rattle.std.specs.FinMap as fmap
@@ -8,9 +8,9 @@ use Rattle.blob_digest.specs.declared.refusal.Refusal.TheVariants.{LimitReached}
 use Rattle.blob_digest.specs.declared.running.Running.{Running}
 use Rattle.blob_digest.specs.contracts.running.Running as running
 use Rattle.blob_digest.specs.Hashing.{Hashes}
-use Rattle.blob_digest.specs.Keys.{Text, Number, number_cmp, coded_text}
+use Rattle.blob_digest.specs.Keys.{Text, Number, coded_text}
 use Rattle.blob_digest.specs.Outcomes.{OutcomeIn}
-use Rattle.upload_table.specs.Sessions.{Session, Sessions, coded_session, open_in, append_in}
+use Rattle.upload_table.specs.Sessions.{Sessions, coded_session, open_in, append_in}
 
 -- bytes as chunks of given lengths, one after another
 abbrev pub cut : List ℕ → List ℕ → List (List ℕ)

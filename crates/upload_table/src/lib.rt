@@ -15,3 +15,6 @@ mod upload;
 mod uploads;
 
 pub use uploads::Uploads;
+
+#[cfg(test)]
+mod tests;

@@ -5,7 +5,7 @@ ghost use Rattle.blob_digest.specs.Keys.{same_text};
 ghost use Rattle.upload_table.specs.Rows.{IsCounted};
 ghost use Rattle.upload_table.specs.declared.upload.Upload.{Upload as Row};
 
-use crate::upload::{is_for, sum_of, Upload};
+use crate::upload::{Upload, is_for, sum_of};
 use blob_digest::RepoName;
 
 /// How many sessions a tenant has.
@@ -32,7 +32,12 @@ pub(crate) fn row_of(rows: &[Upload], tenant: u16, number: u32) -> Option<&Uploa
 }
 
 /// A repository's i-th session, in the order of the rows.
-pub(crate) fn nth_of<'r>(rows: &'r [Upload], tenant: u16, repo: &RepoName, i: usize) -> Option<&'r Upload>
+pub(crate) fn nth_of<'r>(
+    rows: &'r [Upload],
+    tenant: u16,
+    repo: &RepoName,
+    i: usize,
+) -> Option<&'r Upload>
     ensures { option_copied result ≡ slice_get (filter (λ u. u.tenant == tenant && same_text u.repo repo.now) rows.now) i }
 {
     let mut before = 0;

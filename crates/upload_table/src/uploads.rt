@@ -14,7 +14,11 @@ use std::marker::Model;
 /// The open sessions of all tenants. Sessions are named by the tenant's place and by a number, which a
 /// tenant gives once. A tenant has at most 64 sessions at a time.
 ///
-/// Calls look a session up by going over all that are open.
+/// Contracts see, for each tenant, its next number; the open sessions with their chunks; and the
+/// session that is closing, if one is. Between `seal` and `finish` or `reopen` one is, and then the
+/// calls that look at sessions may not be made.
+///
+/// A call looks its session up by going over all that are open.
 #[derive(Drop)]
 pub struct Uploads {
     alloc: Global,
@@ -56,11 +60,12 @@ impl Uploads {
         })
     }
 
-    /// Opens a session, and answers its number. Refused, as `LimitReached`, is a tenant that has 64
-    /// sessions or has given all numbers below 2^32; and want of memory.
+    /// Opens a session without chunks for a repository of the tenant's, and answers its number (OCI
+    /// Distribution Specification 1.1, "Pushing blobs"). Refused, as `LimitReached`, is a tenant that
+    /// has 64 sessions or has given all numbers below 2^32; and want of memory.
     pub fn start(&mut self, tenant: u16, repo: &RepoName) -> Result<u32, Refusal>
         requires there { tenant < length self.old.next }
-        requires open { self.old.closing ≡ None }
+        requires settled { self.old.closing ≡ None }
         ensures { Does (λ n. n) result self.old self.new (start_upload self.old tenant repo.now) }
     {
         if is_spent(&self.next, &self.rows, tenant) {
@@ -121,9 +126,11 @@ impl Uploads {
         length_after(row.bytes.as_slice().len() as u64, range, len, max_blob)
     }
 
-    /// Adds a chunk to a session. A chunk without bytes is not recorded. Refused is want of memory.
+    /// Adds a chunk to a session. A chunk without bytes is not recorded. Refused is want of memory. The
+    /// session is there, and the bytes of all the tenant's sessions stay below 2^64, as under any
+    /// quota. Hashes the chunk.
     pub fn append(&mut self, tenant: u16, number: u32, bytes: &[u8]) -> Result<(), Refusal>
-        requires open { self.old.closing ≡ None }
+        requires settled { self.old.closing ≡ None }
         requires there { IsSome (fmap.get self.old.sessions (tenant, number)) }
         requires room { in_sessions self.old.sessions tenant + length bytes.now < 2 ^ 64 }
         ensures { Does (λ u. u) result self.old self.new (append_upload self.old (tenant, number) bytes.now) }
@@ -142,11 +149,19 @@ impl Uploads {
         }
     }
 
-    /// Moves a session's bytes, and then the last ones, into a blob of this digest. The session is
-    /// then closing, until `finish` or `reopen`. Hashes the last bytes alone. Refused are other bytes
-    /// than the digest's (`DigestInvalid`), and want of memory.
-    pub fn seal(&mut self, tenant: u16, number: u32, last: &[u8], digest: &Digest) -> Result<Blob, Refusal>
-        requires open { self.old.closing ≡ None }
+    /// Moves a session's bytes, and then the last ones, into a blob of this digest. The session has
+    /// then left the others and is closing, until `finish` or `reopen`; `reopen` with this blob leads
+    /// back to where this call began. Refused are other bytes than the digest's (`DigestInvalid`), and
+    /// want of memory; the session is then as before, without the last bytes. Hashes the last bytes
+    /// alone, and grows the session's bytes at most once.
+    pub fn seal(
+        &mut self,
+        tenant: u16,
+        number: u32,
+        last: &[u8],
+        digest: &Digest,
+    ) -> Result<Blob, Refusal>
+        requires settled { self.old.closing ≡ None }
         requires there { IsSome (fmap.get self.old.sessions (tenant, number)) }
         ensures blob { IfOk result (λ b. b ≡ (digest.now, whole_in self.old.sessions (tenant, number) last.now)) }
         ensures agrees { OnOk result (is_digest_of digest.now (whole_in self.old.sessions (tenant, number) last.now) ≡ true) }
@@ -166,8 +181,8 @@ impl Uploads {
         }
     }
 
-    /// Takes back the blob that a session was sealed into: the session is as before. Takes no memory,
-    /// and hashes nothing.
+    /// Takes back the blob that the closing session was sealed into: the session has its chunks again.
+    /// Takes no memory, and hashes nothing.
     pub fn reopen(&mut self, blob: Blob)
         requires { CanReopen self.old.closing blob.1 }
         ensures { self.new ≡ reopened self.old blob.1 }
@@ -194,7 +209,7 @@ impl Uploads {
 
     /// Drops a session with its bytes.
     pub fn remove(&mut self, tenant: u16, number: u32)
-        requires open { self.old.closing ≡ None }
+        requires settled { self.old.closing ≡ None }
         requires there { IsSome (fmap.get self.old.sessions (tenant, number)) }
         ensures { self.new ≡ record self.old { sessions = fmap.remove self.old.sessions (tenant, number) } }
     {
@@ -204,13 +219,14 @@ impl Uploads {
         }
     }
 
-    /// How many bytes a tenant's sessions have received. Reads a sum that is kept.
+    /// How many bytes a tenant's sessions have received. Reads a sum that is kept, in one step.
     pub fn total(&self, tenant: u16) -> u64
         requires there { tenant < length self.now.next }
-        requires open { self.now.closing ≡ None }
+        requires settled { self.now.closing ≡ None }
         ensures { result ≡ in_sessions self.now.sessions tenant }
     {
-        self.totals[tenant as usize]
+        let sums = &self.totals;
+        sums[tenant as usize]
     }
 
     /// The number of the tenant's next session, at most 2^32.
@@ -218,7 +234,7 @@ impl Uploads {
         requires { tenant < length self.now.next }
         ensures { result ≡ slice_index self.now.next tenant }
     {
-        self.next[tenant as usize]
+        self.next.as_slice()[tenant as usize]
     }
 
     /// A repository's i-th session, in the order of the numbers: its number and how many bytes it has

@@ -6,23 +6,23 @@ use Rattle.blob_digest.specs.Keys.{same_text}
 use Rattle.link_table.proofs.Runs.{nth, partitioned}
 use Rattle.link_table.proofs.rows.nth_of.Goals as goal
 
-pub returns-in_err-row : goal.returns-in_err-row
-returns-in_err-row c =
+pub returns-in_err-row-clause-value : goal.returns-in_err-row-clause-value
+returns-in_err-row-clause-value c =
     let place = c.first_of-first.ensures.place (partitioned c.args.links.now c.requires c.args.repo.now) in
     let rest = take_rest c.args.links.now c.first_of-first.result in
     rw (nth c.args.links.now c.requires c.args.repo.now c.first_of-first.result c.first_of-first.ensures.within place c.args.i)
-    (c.from_residual.ensures ∙ ap (λ o. option_map (λ l. (l.digest, l.size)) (option_filter (λ l. same_text l.repo c.args.repo.now) o)) (rw rest at c.in_err-row.ensures))
+    (c.from_residual.ensures ∙ ap (λ o. option_map (λ l. (l.digest, l.size)) (option_filter (λ l. same_text l.repo c.args.repo.now) o)) (rw rest at c.in_err-row.ensures.value))
 
-pub returns-then-eq : goal.returns-then-eq
-returns-then-eq c =
+pub returns-then-eq-clause-value : goal.returns-then-eq-clause-value
+returns-then-eq-clause-value c =
     let place = c.first_of-first.ensures.place (partitioned c.args.links.now c.requires c.args.repo.now) in
     let rest = take_rest c.args.links.now c.first_of-first.result in
     rw (nth c.args.links.now c.requires c.args.repo.now c.first_of-first.result c.first_of-first.ensures.within place c.args.i)
-    (rw (← (rw rest at c.in_ok-row.ensures)) (rw (← c.if-eq.ensures) refl))
+    (rw (← (rw rest at c.in_ok-row.ensures.value)) (rw (← c.if-eq.ensures) refl))
 
-pub returns-else-eq : goal.returns-else-eq
-returns-else-eq c =
+pub returns-else-eq-clause-value : goal.returns-else-eq-clause-value
+returns-else-eq-clause-value c =
     let place = c.first_of-first.ensures.place (partitioned c.args.links.now c.requires c.args.repo.now) in
     let rest = take_rest c.args.links.now c.first_of-first.result in
     rw (nth c.args.links.now c.requires c.args.repo.now c.first_of-first.result c.first_of-first.ensures.within place c.args.i)
-    (rw (← (rw rest at c.in_ok-row.ensures)) (rw (← c.if-eq.ensures) refl))
+    (rw (← (rw rest at c.in_ok-row.ensures.value)) (rw (← c.if-eq.ensures) refl))

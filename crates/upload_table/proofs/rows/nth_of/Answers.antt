@@ -1,4 +1,4 @@
-use Rattle.std.proofs.Common.{◌≡◌, ◌≤◌, ap, sym, ◌∙◌, arith, length, take, refl, Some}
+use Rattle.std.proofs.Common.{◌≡◌, ap, sym, ◌∙◌, arith, length, take}
 use Rattle.std.specs.Prelude.{◌==◌, ◌&&◌, filter, slice_get}
 use Rattle.std.proofs.Math.Seq.{take-length}
 use Rattle.std.proofs.lemmas.Option.{slice_get_past}

@@ -1,40 +1,27 @@
-use Rattle.std.proofs.Common.{ap, sym, ◌∙◌, is_some, Some}
+use Rattle.std.proofs.Common.{ap, sym, ◌∙◌, is_some}
 use Rattle.std.proofs.lemmas.Bool.{false≢true}
 use Rattle.link_table.specs.Linked.{Linked, unlink}
 use Rattle.link_table.specs.Tenancy.{tenants_shown}
-use Rattle.link_table.specs.declared.rows.LinkRow.{LinkRow}
 use Rattle.link_table.proofs.TenantLists.{is_tenants-read}
-use Rattle.link_table.proofs.LinkRows.{link-there, link-absent, links-remove, links_sorted-remove}
-use Rattle.link_table.proofs.Soundness.{IsSound-unlink, light_enough, one_size-unlink, held_by, linked_of}
+use Rattle.link_table.proofs.LinkRows.{link-absent, links-remove}
+use Rattle.link_table.proofs.Soundness.{IsSound-taken, light_taken, linked_of}
 use Rattle.link_table.proofs.links.Links.unlink.Goals as goal
 
 pub weight_without-requires : goal.weight_without-requires
 weight_without-requires c =
-    let is = rw c.as_slice.ensures.value at c.in-Ok.ensures.place in
-    let within = rw c.as_slice.ensures.value at c.in-Ok.ensures.within in
-    let sorted = links_sorted-remove c.self.inside.links.items c.self.invariant.links_sorted c.args.repo.now c.args.digest.now c.in-Ok.place c.remove-row.result within is c.remove-row.new.self.items c.remove-row.ensures.items in
-    let shown = links-remove c.self.inside.links.items c.self.invariant.links_sorted c.args.repo.now c.args.digest.now c.in-Ok.place c.remove-row.result within is c.remove-row.new.self.items c.remove-row.ensures.items in
-    let linked = link-there c.self.inside.links.items c.self.invariant.links_sorted c.args.repo.now c.args.digest.now c.in-Ok.place c.remove-row.result within is ∙ ap (λ (l : LinkRow). Some l.size) (sym c.remove-row.ensures.value) in
     let there = rw (← c.self.view_is) at c.requires.there in
-    let own = rw (← c.self.view_is) at c.requires.own in
-    let one = one_size-unlink (tenants_shown c.self.inside.tenants.items) c.self.inside.repos.items c.self.inside.links.items c.self.inside.weights.items c.self.inside.charges.items c.self.invariant c.args.tenant there c.args.repo.now c.args.digest.now c.remove-row.result.size c.remove-row.new.self.items sorted own shown linked in
     let named = is_tenants-read c.self.inside.tenants.items c.self.invariant.ordered c.args.tenant there c.index.result.now c.index.ensures c.as_str-name.result.now c.as_str-name.ensures.value in
-    let held = held_by _ _ named c.remove-row.new.self.items c.args.digest.now one c.has_blob-held.result (rw c.as_slice-in-Ok.ensures.value at c.has_blob-held.ensures) in
-    light_enough (tenants_shown c.self.inside.tenants.items) c.self.inside.repos.items c.self.inside.links.items c.self.inside.weights.items c.self.inside.charges.items c.self.invariant c.args.tenant there c.args.repo.now c.args.digest.now c.remove-row.result.size c.remove-row.new.self.items sorted own shown linked c.has_blob-held.result held c.index-in-Ok.result.now c.index-in-Ok.ensures
+    light_taken (tenants_shown c.self.inside.tenants.items) c.self.inside.repos.items c.self.inside.links.items c.self.inside.weights.items c.self.inside.charges.items c.self.invariant c.args.tenant there c.args.repo.now c.args.digest.now (rw (← c.self.view_is) at c.requires.own)
+    c.in-Ok.place (rw c.as_slice.ensures.value at c.in-Ok.ensures.within) (rw c.as_slice.ensures.value at c.in-Ok.ensures.place) c.remove-row.result c.remove-row.ensures.value c.remove-row.new.self.items c.remove-row.ensures.items
+    c.as_str-name.result.now named c.has_blob-held.result (rw c.as_slice-in-Ok.ensures.value at c.has_blob-held.ensures) c.index-in-Ok.result.now c.index-in-Ok.ensures
 
 pub invariant_of-self : goal.invariant_of-self
 invariant_of-self c =
-    let is = rw c.as_slice.ensures.value at c.in-Ok.ensures.place in
-    let within = rw c.as_slice.ensures.value at c.in-Ok.ensures.within in
-    let sorted = links_sorted-remove c.self.inside.links.items c.self.invariant.links_sorted c.args.repo.now c.args.digest.now c.in-Ok.place c.remove-row.result within is c.remove-row.new.self.items c.remove-row.ensures.items in
-    let shown = links-remove c.self.inside.links.items c.self.invariant.links_sorted c.args.repo.now c.args.digest.now c.in-Ok.place c.remove-row.result within is c.remove-row.new.self.items c.remove-row.ensures.items in
-    let linked = link-there c.self.inside.links.items c.self.invariant.links_sorted c.args.repo.now c.args.digest.now c.in-Ok.place c.remove-row.result within is ∙ ap (λ (l : LinkRow). Some l.size) (sym c.remove-row.ensures.value) in
     let there = rw (← c.self.view_is) at c.requires.there in
-    let own = rw (← c.self.view_is) at c.requires.own in
-    let one = one_size-unlink (tenants_shown c.self.inside.tenants.items) c.self.inside.repos.items c.self.inside.links.items c.self.inside.weights.items c.self.inside.charges.items c.self.invariant c.args.tenant there c.args.repo.now c.args.digest.now c.remove-row.result.size c.remove-row.new.self.items sorted own shown linked in
     let named = is_tenants-read c.self.inside.tenants.items c.self.invariant.ordered c.args.tenant there c.index.result.now c.index.ensures c.as_str-name.result.now c.as_str-name.ensures.value in
-    let held = held_by _ _ named c.remove-row.new.self.items c.args.digest.now one c.has_blob-held.result (rw c.as_slice-in-Ok.ensures.value at c.has_blob-held.ensures) in
-    IsSound-unlink (tenants_shown c.self.inside.tenants.items) c.self.inside.repos.items c.self.inside.links.items c.self.inside.weights.items c.self.inside.charges.items c.self.invariant c.args.tenant there c.args.repo.now c.args.digest.now c.remove-row.result.size c.remove-row.new.self.items sorted own shown linked c.has_blob-held.result held c.index-in-Ok.result.now c.index-in-Ok.ensures c.weight_without.result c.weight_without.ensures
+    IsSound-taken (tenants_shown c.self.inside.tenants.items) c.self.inside.repos.items c.self.inside.links.items c.self.inside.weights.items c.self.inside.charges.items c.self.invariant c.args.tenant there c.args.repo.now c.args.digest.now (rw (← c.self.view_is) at c.requires.own)
+    c.in-Ok.place (rw c.as_slice.ensures.value at c.in-Ok.ensures.within) (rw c.as_slice.ensures.value at c.in-Ok.ensures.place) c.remove-row.result c.remove-row.ensures.value c.remove-row.new.self.items c.remove-row.ensures.items
+    c.as_str-name.result.now named c.has_blob-held.result (rw c.as_slice-in-Ok.ensures.value at c.has_blob-held.ensures) c.index-in-Ok.result.now c.index-in-Ok.ensures c.weight_without.result c.weight_without.ensures
 
 pub unreachable-requires : goal.unreachable-requires
 unreachable-requires c =

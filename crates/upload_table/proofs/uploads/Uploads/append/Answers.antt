@@ -1,13 +1,11 @@
-use Rattle.std.proofs.Common.{◌≡◌, ◌+◌, ◌<◌, ◌^◌, ap, sym, ◌∙◌, None, Some, Ok, is_some, ℕ, set, subst, length, slice_index, arith, refl}
-use Rattle.std.proofs.lemmas.Bool.{false≢true}
+use Rattle.std.proofs.Common.{◌≡◌, ◌+◌, ◌<◌, ◌^◌, ap, sym, ◌∙◌, None, Ok, ℕ, set, subst, length, slice_index, arith, refl}
 use Rattle.std.proofs.lemmas.List.{get_or_default}
 use Rattle.std.proofs.lemmas.Result.{err_from_is_err_and}
-use Rattle.std.specs.FinMap.{get as fget}
 use Rattle.upload_table.specs.Rows.{shown, IsSound}
-use Rattle.upload_table.specs.Sessions.{append_in, in_sessions}
+use Rattle.upload_table.specs.Sessions.{in_sessions}
 use Rattle.upload_table.specs.Uploaded.{Uploaded}
 use Rattle.upload_table.proofs.Sound.{opened, tenants_counted, IsSound-append, IsSound-unchanged}
-use Rattle.upload_table.proofs.Lookups.{map_of, placed, placed_at, total_is}
+use Rattle.upload_table.proofs.Lookups.{nowhere, map_of, placed_at, total_is}
 use Rattle.upload_table.proofs.Views.{append_none, shown-appended, shown-unchanged}
 use Rattle.upload_table.proofs.uploads.Uploads.append.Goals as goal
 
@@ -16,15 +14,12 @@ returns-then-is_empty c = λ i. Ok (tt {0}, record c.args.self.now { sessions = 
 
 pub unreachable-requires : goal.unreachable-requires
 unreachable-requires c =
-    let o = opened c.self.inside.next.items c.self.inside.totals.items c.self.inside.rows.items c.self.inside.closing c.args.self.now c.self.invariant c.self.view_is c.requires.open in
-    let nowhere = rw c.deref.ensures.value at c.place_of.ensures in
-    let there = ap (λ (u : Uploaded). is_some (fget u.sessions (c.args.tenant, c.args.number))) o.view ∙ c.requires.there in
-    let found = placed c.self.inside.rows.items c.args.tenant c.args.number in
-    absurd (false≢true (ap is_some (sym c.in-None.is ∙ nowhere) ∙ sym found ∙ there))
+    let o = opened c.self.inside.next.items c.self.inside.totals.items c.self.inside.rows.items c.self.inside.closing c.args.self.now c.self.invariant c.self.view_is c.requires.settled in
+    nowhere c.self.inside.next.items c.self.inside.rows.items c.args.self.now c.args.tenant c.args.number o.view c.requires.there (sym c.in-None.is ∙ rw c.deref.ensures.value at c.place_of.ensures)
 
 pub invariant_of-self : goal.invariant_of-self
 invariant_of-self c =
-    let o = opened c.self.inside.next.items c.self.inside.totals.items c.self.inside.rows.items c.self.inside.closing c.args.self.now c.self.invariant c.self.view_is c.requires.open in
+    let o = opened c.self.inside.next.items c.self.inside.totals.items c.self.inside.rows.items c.self.inside.closing c.args.self.now c.self.invariant c.self.view_is c.requires.settled in
     let row = c.index_mut-row.result.now in
     let value = c.index_mut-row.ensures.value in
     let p = placed_at c.self.inside.rows.items c.args.tenant c.args.number c.in-Some.i row (rw c.deref.ensures.value at c.in-Some.ensures) value in
@@ -32,7 +27,7 @@ invariant_of-self c =
 
 pub returns-in_err-add_chunk-in-Some : goal.returns-in_err-add_chunk-in-Some
 returns-in_err-add_chunk-in-Some c =
-    let o = opened c.self.inside.next.items c.self.inside.totals.items c.self.inside.rows.items c.self.inside.closing c.args.self.now c.self.invariant c.self.view_is c.requires.open in
+    let o = opened c.self.inside.next.items c.self.inside.totals.items c.self.inside.rows.items c.self.inside.closing c.args.self.now c.self.invariant c.self.view_is c.requires.settled in
     let row = c.index_mut-row.result.now in
     let value = c.index_mut-row.ensures.value in
     let p = placed_at c.self.inside.rows.items c.args.tenant c.args.number c.in-Some.i row (rw c.deref.ensures.value at c.in-Some.ensures) value in
@@ -44,7 +39,7 @@ returns-in_err-add_chunk-in-Some c =
 
 pub index_mut-requires : goal.index_mut-requires
 index_mut-requires c =
-    let o = opened c.self.inside.next.items c.self.inside.totals.items c.self.inside.rows.items c.self.inside.closing c.args.self.now c.self.invariant c.self.view_is c.requires.open in
+    let o = opened c.self.inside.next.items c.self.inside.totals.items c.self.inside.rows.items c.self.inside.closing c.args.self.now c.self.invariant c.self.view_is c.requires.settled in
     let row = c.index_mut-row.result.now in
     let value = c.index_mut-row.ensures.value in
     let p = placed_at c.self.inside.rows.items c.args.tenant c.args.number c.in-Some.i row (rw c.deref.ensures.value at c.in-Some.ensures) value in
@@ -53,7 +48,7 @@ index_mut-requires c =
 
 pub overflow_add-index_mut : goal.overflow_add-index_mut
 overflow_add-index_mut c =
-    let o = opened c.self.inside.next.items c.self.inside.totals.items c.self.inside.rows.items c.self.inside.closing c.args.self.now c.self.invariant c.self.view_is c.requires.open in
+    let o = opened c.self.inside.next.items c.self.inside.totals.items c.self.inside.rows.items c.self.inside.closing c.args.self.now c.self.invariant c.self.view_is c.requires.settled in
     let row = c.index_mut-row.result.now in
     let value = c.index_mut-row.ensures.value in
     let p = placed_at c.self.inside.rows.items c.args.tenant c.args.number c.in-Some.i row (rw c.deref.ensures.value at c.in-Some.ensures) value in
@@ -66,7 +61,7 @@ overflow_add-index_mut c =
 
 pub invariant_of-self-in-Some : goal.invariant_of-self-in-Some
 invariant_of-self-in-Some c =
-    let o = opened c.self.inside.next.items c.self.inside.totals.items c.self.inside.rows.items c.self.inside.closing c.args.self.now c.self.invariant c.self.view_is c.requires.open in
+    let o = opened c.self.inside.next.items c.self.inside.totals.items c.self.inside.rows.items c.self.inside.closing c.args.self.now c.self.invariant c.self.view_is c.requires.settled in
     let row = c.index_mut-row.result.now in
     let value = c.index_mut-row.ensures.value in
     let p = placed_at c.self.inside.rows.items c.args.tenant c.args.number c.in-Some.i row (rw c.deref.ensures.value at c.in-Some.ensures) value in
@@ -74,11 +69,11 @@ invariant_of-self-in-Some c =
     let at : c.index_mut.result.now ≡ slice_index c.self.inside.totals.items c.args.tenant = c.index_mut.ensures.value ∙ get_or_default c.self.inside.totals.items c.args.tenant c.index_mut.result.now 0 there in
     let more : c.index_mut.result.now + length c.args.bytes.now ≡ slice_index c.self.inside.totals.items row.tenant + length c.args.bytes.now = ap (λ n. n + length c.args.bytes.now) (at ∙ ap (slice_index c.self.inside.totals.items) (sym p.tenant)) in
     rw o.none (subst (λ (t : ℕ). IsSound c.self.inside.next.items (set c.self.inside.totals.items t (c.index_mut.result.now + length c.args.bytes.now)) (set c.self.inside.rows.items c.in-Some.i c.add_chunk.new.upload) None) p.tenant
-      (IsSound-append c.self.inside.next.items c.self.inside.totals.items c.self.inside.rows.items c.in-Some.i row c.add_chunk.new.upload o.sound p.within value c.args.bytes.now (c.index_mut.result.now + length c.args.bytes.now) c.in_ok-add_chunk-in-Some.ensures.ok more))
+    (IsSound-append c.self.inside.next.items c.self.inside.totals.items c.self.inside.rows.items c.in-Some.i row c.add_chunk.new.upload o.sound p.within value c.args.bytes.now (c.index_mut.result.now + length c.args.bytes.now) c.in_ok-add_chunk-in-Some.ensures.ok more))
 
 pub returns : goal.returns
 returns c =
-    let o = opened c.self.inside.next.items c.self.inside.totals.items c.self.inside.rows.items c.self.inside.closing c.args.self.now c.self.invariant c.self.view_is c.requires.open in
+    let o = opened c.self.inside.next.items c.self.inside.totals.items c.self.inside.rows.items c.self.inside.closing c.args.self.now c.self.invariant c.self.view_is c.requires.settled in
     let row = c.index_mut-row.result.now in
     let value = c.index_mut-row.ensures.value in
     let p = placed_at c.self.inside.rows.items c.args.tenant c.args.number c.in-Some.i row (rw c.deref.ensures.value at c.in-Some.ensures) value in

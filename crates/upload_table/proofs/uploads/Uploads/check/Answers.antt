@@ -1,17 +1,10 @@
-use Rattle.std.proofs.Common.{◌≡◌, Bool, true, false, not, ℕ, Ok, refl, ap, sym, ◌∙◌, length}
+use Rattle.std.proofs.Common.{ap, sym, ◌∙◌, length}
+use Rattle.std.proofs.lemmas.Bool.{not-true, not-false}
 use Rattle.blob_digest.specs.Keys.{same_text}
 use Rattle.upload_table.specs.Sessions.{length_after}
 use Rattle.upload_table.proofs.Sound.{opened}
 use Rattle.upload_table.proofs.Lookups.{check_unknown, check_other, check_known}
 use Rattle.upload_table.proofs.uploads.Uploads.check.Goals as goal
-
-differs : (b : Bool) → not b ≡ true → b ≡ false
-differs true e = sym e
-differs false e = refl
-
-agrees : (b : Bool) → not b ≡ false → b ≡ true
-agrees true e = refl
-agrees false e = sym e
 
 pub returns-in_default : goal.returns-in_default
 returns-in_default c =
@@ -21,9 +14,9 @@ returns-in_default c =
 pub returns-then-ne : goal.returns-then-ne
 returns-then-ne c =
     let o = opened c.self.inside.next.items c.self.inside.totals.items c.self.inside.rows.items c.self.inside.closing c.args.self.now c.self.invariant c.self.view_is c.requires in
-    rw (← o.view) (check_other c.self.inside.next.items c.self.inside.totals.items c.self.inside.rows.items o.sound c.args.tenant c.args.number c.args.repo.now c.args.max_blob c.args.range c.args.len c.in-Some.row.now (rw c.deref.ensures.value at c.in-Some.ensures) (differs (same_text c.in-Some.row.now.repo c.args.repo.now) (sym c.ne.ensures ∙ c.if-ne.true)))
+    rw (← o.view) (check_other c.self.inside.next.items c.self.inside.totals.items c.self.inside.rows.items o.sound c.args.tenant c.args.number c.args.repo.now c.args.max_blob c.args.range c.args.len c.in-Some.row.now (rw c.deref.ensures.value at c.in-Some.ensures) (not-true (same_text c.in-Some.row.now.repo c.args.repo.now) (sym c.ne.ensures ∙ c.if-ne.true)))
 
 pub returns : goal.returns
 returns c =
     let o = opened c.self.inside.next.items c.self.inside.totals.items c.self.inside.rows.items c.self.inside.closing c.args.self.now c.self.invariant c.self.view_is c.requires in
-    rw (← o.view) (c.length_after.ensures ∙ ap (λ n. length_after c.args.max_blob n c.args.range c.args.len) (ap length c.as_slice.ensures.value) ∙ check_known c.self.inside.next.items c.self.inside.totals.items c.self.inside.rows.items o.sound c.args.tenant c.args.number c.args.repo.now c.args.max_blob c.args.range c.args.len c.in-Some.row.now (rw c.deref.ensures.value at c.in-Some.ensures) (agrees (same_text c.in-Some.row.now.repo c.args.repo.now) (sym c.ne.ensures ∙ c.if-ne.false)))
+    rw (← o.view) (c.length_after.ensures ∙ ap (λ n. length_after c.args.max_blob n c.args.range c.args.len) (ap length c.as_slice.ensures.value) ∙ check_known c.self.inside.next.items c.self.inside.totals.items c.self.inside.rows.items o.sound c.args.tenant c.args.number c.args.repo.now c.args.max_blob c.args.range c.args.len c.in-Some.row.now (rw c.deref.ensures.value at c.in-Some.ensures) (not-false (same_text c.in-Some.row.now.repo c.args.repo.now) (sym c.ne.ensures ∙ c.if-ne.false)))

@@ -1,4 +1,4 @@
-use Rattle.std.proofs.Common.{◌≡◌, ◌<◌, None, Some, length, arith, sym, subst}
+use Rattle.std.proofs.Common.{Some, subst}
 use Rattle.upload_table.specs.Rows.{IsSound}
 use Rattle.upload_table.proofs.Sound.{IsSound-remove, others_closing, tenants_counted}
 use Rattle.upload_table.proofs.uploads.Uploads.finish.Goals as goal

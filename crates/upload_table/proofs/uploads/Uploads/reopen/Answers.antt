@@ -1,4 +1,4 @@
-use Rattle.std.proofs.Common.{◌≡◌, ap, sym, ◌∙◌, set, subst, None, Some}
+use Rattle.std.proofs.Common.{ap, sym, ◌∙◌, subst}
 use Rattle.upload_table.specs.Rows.{shown, IsSound}
 use Rattle.upload_table.specs.Uploaded.{Uploaded, reopened}
 use Rattle.upload_table.proofs.Sound.{IsSound-refill}
@@ -12,7 +12,7 @@ invariant_of-self c =
     let value = c.index_mut-row.ensures.value in
     let can = can_row c.self.inside.next.items c.self.inside.rows.items c.self.inside.closing c.in-Some.i row c.args.self.now c.args.blob.1 c.in-Some.is sound.inside value c.self.view_is c.requires in
     IsSound-refill c.self.inside.next.items c.self.inside.totals.items c.self.inside.rows.items c.in-Some.i row c.refill.new.upload sound sound.inside value c.refill.ensures.same
-      (refill_whole row c.refill.new.upload c.args.blob.1 c.refill.ensures.same can.0 can.1 c.refill.ensures.bytes)
+    (refill_whole row c.refill.new.upload c.args.blob.1 c.refill.ensures.same can.0 can.1 c.refill.ensures.bytes)
 
 pub returns : goal.returns
 returns c =

@@ -1,4 +1,4 @@
-use Rattle.std.proofs.Common.{◌≡◌, ℕ, Option, Some, ap, sym, ◌∙◌, length}
+use Rattle.std.proofs.Common.{Some, ap, sym, ◌∙◌, length}
 use Rattle.std.specs.Prelude.{option_map}
 use Rattle.upload_table.proofs.Sound.{opened}
 use Rattle.upload_table.proofs.Lookups.{listed_at, row_listed}

@@ -1,0 +1,108 @@
+-- What a share keeps: the weights are powers of two, and their sum is the same.
+use Rattle.std.proofs.Common.{◌≡◌, ℕ, zero, suc, ◌+◌, ◌*◌, ◌/◌, ◌^◌, ◌≤◌, ◌<◌, List, [], ◌∷◌, ◌++◌, map, Bool, true, false, cond, Option, Some, None, refl, sym, ap, ◌∙◌, subst, ne_eqb, eqb-true, ◌⊎◌, inl, inr, arith}
+use Rattle.std.specs.Prelude.{◌==◌}
+use Rattle.std.specs.List.{All}
+use Rattle.std.specs.Option.{IsSomeAnd}
+use Rattle.std.proofs.Math.Nat.{pow-suc}
+use Rattle.std.proofs.lemmas.List.Elements.{All-nil, All-cons, All-head, All-tail}
+use Rattle.pin_core.specs.declared.world.Hold.{Hold}
+use Rattle.pin_core.specs.declared.world.PinEntry.{PinEntry}
+use Rattle.pin_core.specs.World.{IsNamed, IsWeight, hold_named, weight_at}
+use Rattle.pin_core.specs.Events.{half, halve, second, entry}
+use Rattle.pin_core.proofs.Names.{hold_in, all_named, all_push, none_cons}
+use Rattle.pin_core.proofs.Weights.{sum_of, sum_of-cons, sum_of-append}
+
+-- the pin that is shared
+pub shared_pin : (o : Option Hold) → IsSomeAnd o (λ h. 1 < h.weight) → (h : Hold) × (o ≡ Some h) × (1 < h.weight)
+shared_pin None big = absurd big
+shared_pin (Some h) big = (h, refl, big)
+
+-- a power of two above 1 has a half, which is a power of two
+half_power : (w e : ℕ) → e ≤ 10 → w ≡ 2 ^ e → 1 < w → ((f : ℕ) × (f ≤ 10) × (w / 2 ≡ 2 ^ f)) × (w / 2 + w / 2 ≡ w)
+half_power w zero le is big = absurd (omega arith)
+half_power w (suc e) le is big =
+    let p : w ≡ 2 ^ e * 2 = is ∙ pow-suc 2 e in
+    ((e, omega arith, omega arith), omega arith)
+
+pub half_weight : (h : Hold) → IsWeight h → 1 < h.weight → IsWeight (half h) × (h.weight / 2 + h.weight / 2 ≡ h.weight)
+half_weight h is big = half_power h.weight is.0 is.1 is.2 big
+
+-- where no pin has the name, none is halved
+none_halved_at_all : (n : ℕ) (es : List PinEntry) → hold_named n es ≡ None → map (halve n) es ≡ es
+none_halved_at_all n [] none = refl
+none_halved_at_all n (x ∷ es) none =
+    let c = none_cons x es n none in
+    ap (λ b. cond b (entry x.name (half x.hold)) x ∷ map (halve n) es) (ne_eqb x.name n c.0) ∙ ap (λ l. x ∷ l) (none_halved_at_all n es c.1)
+
+-- the pin of the name is first, or it stands behind the first
+named_cases : (n : ℕ) (x : PinEntry) (es : List PinEntry) (h : Hold) → IsNamed (x ∷ es) → hold_named n (x ∷ es) ≡ Some h
+    → (((x.name == n) ≡ true) × (x.hold ≡ h) × (map (halve n) es ≡ es)) ⊎ (((x.name == n) ≡ false) × (hold_named n es ≡ Some h))
+named_cases n x es h all there = by_name (x.name == n) refl there
+  where
+    by_name : (b : Bool) → (x.name == n) ≡ b → cond b (Some x.hold) (hold_named n es) ≡ Some h
+        → (((x.name == n) ≡ true) × (x.hold ≡ h) × (map (halve n) es ≡ es)) ⊎ (((x.name == n) ≡ false) × (hold_named n es ≡ Some h))
+    by_name true is e =
+        let name : x.name ≡ n = eqb-true x.name n is in
+        inl (is, cc, none_halved_at_all n es (ap (λ m. hold_named m es) (sym name) ∙ all.0))
+    by_name false is e = inr (is, e)
+
+halved_first : (n : ℕ) (x : PinEntry) → (x.name == n) ≡ true → halve n x ≡ entry x.name (half x.hold)
+halved_first n x is = ap (λ b. cond b (entry x.name (half x.hold)) x) is
+
+halved_other : (n : ℕ) (x : PinEntry) → (x.name == n) ≡ false → halve n x ≡ x
+halved_other n x is = ap (λ b. cond b (entry x.name (half x.hold)) x) is
+
+-- the pins with one halved
+halved_weights : (n : ℕ) (es : List PinEntry) (h : Hold) → IsNamed es → hold_named n es ≡ Some h → IsWeight (half h) → All IsWeight (map hold_in es) → All IsWeight (map hold_in (map (halve n) es))
+halved_weights n [] h all there is a = a
+halved_weights n (x ∷ es) h all there is a = elim (named_cases n x es h all there) [
+  | inl f ↦
+      subst (λ l. All IsWeight (map hold_in l)) (sym (ap (λ y. y ∷ map (halve n) es) (halved_first n x f.0) ∙ ap (λ l. entry x.name (half x.hold) ∷ l) f.2))
+      (All-cons IsWeight (half x.hold) (map hold_in es) (subst (λ (g : Hold). IsWeight (half g)) (sym f.1) is) (All-tail IsWeight x.hold (map hold_in es) a))
+  | inr b ↦
+      subst (λ l. All IsWeight (map hold_in l)) (sym (ap (λ y. y ∷ map (halve n) es) (halved_other n x b.0)))
+      (All-cons IsWeight x.hold (map hold_in (map (halve n) es)) (All-head IsWeight x.hold (map hold_in es) a) (halved_weights n es h all.1 b.1 is (All-tail IsWeight x.hold (map hold_in es) a)))
+]
+
+-- the weights after a Share
+pub shared_weights : (es : List PinEntry) (n m : ℕ) → IsNamed es → IsSomeAnd (hold_named n es) (λ h. 1 < h.weight) → All IsWeight (map hold_in es) → All IsWeight (map hold_in (map (halve n) es ++ second m (hold_named n es)))
+shared_weights es n m all big a =
+    let s = shared_pin (hold_named n es) big in
+    let is = (half_weight s.0 (all_named IsWeight es n s.0 s.1 a) s.2).0 in
+    subst (λ o. All IsWeight (map hold_in (map (halve n) es ++ second m o))) (sym s.1)
+    (all_push IsWeight (map (halve n) es) (entry m (half s.0) ∷ []) (halved_weights n es s.0 all s.1 is a) (All-cons IsWeight (half s.0) [] is (All-nil IsWeight)))
+
+-- two halves weigh what the whole does
+twice_at : (k : ℕ) (h : Hold) → h.weight / 2 + h.weight / 2 ≡ h.weight → weight_at k (half h) + weight_at k (half h) ≡ weight_at k h
+twice_at k h e = by_slot (h.slot == k)
+  where
+    by_slot : (b : Bool) → cond b (h.weight / 2) 0 + cond b (h.weight / 2) 0 ≡ cond b h.weight 0
+    by_slot true = e
+    by_slot false = omega arith
+
+halved_sum : (k n : ℕ) (es : List PinEntry) (h : Hold) → IsNamed es → hold_named n es ≡ Some h → h.weight / 2 + h.weight / 2 ≡ h.weight → sum_of k (map (halve n) es) + weight_at k (half h) ≡ sum_of k es
+halved_sum k n [] h all there e = absurd cc
+halved_sum k n (x ∷ es) h all there e = elim (named_cases n x es h all there) [
+  | inl f ↦
+      let a : sum_of k (map (halve n) (x ∷ es)) ≡ sum_of k (entry x.name (half x.hold) ∷ es) = ap (λ y. sum_of k (y ∷ map (halve n) es)) (halved_first n x f.0) ∙ ap (λ l. sum_of k (entry x.name (half x.hold) ∷ l)) f.2 in
+      let b = sum_of-cons k (entry x.name (half x.hold)) es in
+      let c = sum_of-cons k x es in
+      let d : weight_at k (half x.hold) ≡ weight_at k (half h) = ap (λ (g : Hold). weight_at k (half g)) f.1 in
+      let i : weight_at k x.hold ≡ weight_at k h = ap (λ (g : Hold). weight_at k g) f.1 in
+      let j = twice_at k h e in omega arith
+  | inr g ↦
+      let a : sum_of k (map (halve n) (x ∷ es)) ≡ sum_of k (x ∷ map (halve n) es) = ap (λ y. sum_of k (y ∷ map (halve n) es)) (halved_other n x g.0) in
+      let b = sum_of-cons k x (map (halve n) es) in
+      let c = sum_of-cons k x es in
+      let d = halved_sum k n es h all.1 g.1 e in omega arith
+]
+
+-- the sums after a Share are those before it
+pub shared_sum : (k n m : ℕ) (es : List PinEntry) → IsNamed es → IsSomeAnd (hold_named n es) (λ h. 1 < h.weight) → All IsWeight (map hold_in es) → sum_of k (map (halve n) es ++ second m (hold_named n es)) ≡ sum_of k es
+shared_sum k n m es all big a =
+    let s = shared_pin (hold_named n es) big in
+    let e = (half_weight s.0 (all_named IsWeight es n s.0 s.1 a) s.2).1 in
+    let i : sum_of k (map (halve n) es ++ second m (hold_named n es)) ≡ sum_of k (map (halve n) es ++ entry m (half s.0) ∷ []) = ap (λ o. sum_of k (map (halve n) es ++ second m o)) s.1 in
+    let b = sum_of-append k (map (halve n) es) (entry m (half s.0) ∷ []) in
+    let c = sum_of-cons k (entry m (half s.0)) [] in
+    let d = halved_sum k n es s.0 all s.1 e in omega arith

@@ -1,0 +1,75 @@
+//! A slot as one word of 64 bits: bits 0 to 29 the sum of the weights of the pins on it, bit 30
+//! condemned, bit 31 used, bits 32 to 63 the generation. A retired slot has bit 30 alone.
+
+ghost use Rattle.std.specs.Prelude.{◌≡◌, ◌<◌, ◌^◌};
+ghost use Rattle.pin_core.specs.World.{phase_bits, word_of};
+
+use crate::world::Phase;
+
+/// The bit of a used slot.
+pub const USED: u64 = 0x8000_0000;
+
+/// The bit of a condemned slot, and of a retired one.
+pub const CONDEMNED: u64 = 0x4000_0000;
+
+/// One generation.
+const GENERATION: u64 = 0x1_0000_0000;
+
+/// The largest sum of weights that a word can hold.
+pub const MOST_WEIGHT: u32 = 0x3fff_ffff;
+
+/// The weight of a new pin.
+pub const NEW_WEIGHT: u32 = 1024;
+
+/// The generation after which a slot is retired.
+pub const LAST_GENERATION: u32 = u32::MAX;
+
+/// What a word says of its slot. The weight is the sum over the pins on it.
+#[derive(Clone, Copy, Debug, PartialEq, Eq)]
+pub struct WordRow {
+    pub generation: u32,
+    pub phase: Phase,
+    pub weight: u32,
+}
+
+/// The bits of a phase.
+fn phase_bits(phase: Phase) -> u64
+    ensures { result ≡ phase_bits phase }
+{
+    match phase {
+        Phase::Free => 0,
+        Phase::Live => USED,
+        Phase::Condemned => USED + CONDEMNED,
+        Phase::Retired => CONDEMNED,
+    }
+}
+
+/// The word of a slot.
+pub fn pack(row: WordRow) -> u64
+    requires { row.weight < 2 ^ 30 }
+    ensures { result ≡ word_of row.generation row.phase row.weight }
+{
+    u64::from(row.generation) * GENERATION + phase_bits(row.phase) + u64::from(row.weight)
+}
+
+/// What a word says. Every number of 64 bits is the word of exactly one slot.
+pub fn unpack(word: u64) -> WordRow
+    ensures weight { result.weight < 2 ^ 30 }
+    ensures inverse { word ≡ word_of result.generation result.phase result.weight }
+{
+    let low = word % GENERATION;
+    let (phase, weight) = if low >= USED + CONDEMNED {
+        (Phase::Condemned, low - USED - CONDEMNED)
+    } else if low >= USED {
+        (Phase::Live, low - USED)
+    } else if low >= CONDEMNED {
+        (Phase::Retired, low - CONDEMNED)
+    } else {
+        (Phase::Free, low)
+    };
+    WordRow {
+        generation: (word / GENERATION) as u32,
+        phase,
+        weight: weight as u32,
+    }
+}

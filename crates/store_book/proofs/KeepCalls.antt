@@ -1,0 +1,86 @@
+-- Linking a sealed blob, from what the calls of the links and the slots did.
+use Rattle.std.proofs.Common.{◌≡◌, ◌≢◌, ℕ, Bool, true, false, cond, not, List, length, Option, Some, None, Result, Ok, Err, is_some, refl, sym, ap, ◌∙◌, bytes_eq}
+use Rattle.std.specs.Prelude.{if◌then◌else◌}
+use Rattle.std.specs.Option.{option_map_or}
+use Rattle.std.specs.Ordering.{eq_by_cmp}
+use Rattle.std.specs.Cmp.{Equal-is}
+use Rattle.std.specs.Cmp.Lexicographic.{bytes_decides}
+use Rattle.std.specs.FinMap.{FinMap, get, insert, remove, contains_key, get-insert, get-remove, get_tied, same_map}
+use Rattle.std.proofs.lemmas.Bool.{not-true, not-false}
+use Rattle.blob_digest.specs.Keys.{Text, Link, link_cmp}
+use Rattle.blob_digest.specs.declared.refusal.Refusal.{Refusal}
+use Rattle.blob_digest.specs.declared.refusal.Refusal.TheVariants.{DigestInvalid}
+use Rattle.blob_digest.proofs.KeyOrders.{link_cmp_total, exact_link}
+use Rattle.slot_table.specs.declared.phase.Phase.TheVariants as phase
+use Rattle.slot_table.specs.Slots.{Slot, Held, slot_of, held_at, phase_at, with_slot, fill, on_held, raise}
+use Rattle.link_table.specs.Linked.{Linked, link, unlink}
+use Rattle.store_book.specs.Keeping.{CanKeep, IsKept, IsUnkept, again, anew, differs, linked}
+use Rattle.store_book.proofs.MapLemmas.{get-insert_at}
+use Rattle.store_book.proofs.Ties.{held_of}
+
+-- what a link answered, and left
+module _ (l l' : Linked) (repo digest : Text) (n : ℕ) (b : Bool) (made : link l repo digest n ≡ Ok (b, l')) where
+  pub link_new : not (contains_key l.links (repo, digest)) ≡ b
+  link_new = let p : ◌≡◌ {A = Bool × Linked} (not (contains_key l.links (repo, digest)), record l { links = insert l.links (repo, digest) n }) (b, l') = cc in λ i. (p i).0
+
+  pub link_left : record l { links = insert l.links (repo, digest) n } ≡ l'
+  link_left = let p : ◌≡◌ {A = Bool × Linked} (not (contains_key l.links (repo, digest)), record l { links = insert l.links (repo, digest) n }) (b, l') = cc in λ i. (p i).1
+
+  -- the link is there, and can be taken out again where it is new
+  pub link_there : contains_key l'.links (repo, digest) ≡ true
+  link_there = ap (λ (x : Linked). contains_key x.links (repo, digest)) (sym link_left) ∙ ap is_some (get-insert_at link_cmp_total exact_link l.links (repo, digest) n)
+
+  absent_at : (q : Link) (t : Bool) → eq_by_cmp link_cmp q (repo, digest) ≡ t → get l.links (repo, digest) ≡ None → cond t None (cond t (Some n) (get l.links q)) ≡ get l.links q
+  absent_at q true tie none = sym (sym (get_tied link_cmp_total l.links q (repo, digest) ((Equal-is (link_cmp q (repo, digest))).0 tie)) ∙ none)
+  absent_at q false tie none = refl
+
+  pub unlink-link : get l.links (repo, digest) ≡ None → unlink l' repo digest ≡ l
+  unlink-link none =
+      let back : remove (insert l.links (repo, digest) n) (repo, digest) ≡ l.links =
+      same_map link_cmp_total exact_link (remove (insert l.links (repo, digest) n) (repo, digest)) l.links (λ q.
+      get-remove link_cmp_total (insert l.links (repo, digest) n) (repo, digest) q
+      ∙ ap (cond (eq_by_cmp link_cmp q (repo, digest)) None) (get-insert link_cmp_total l.links (repo, digest) n q)
+      ∙ absent_at q (eq_by_cmp link_cmp q (repo, digest)) refl none) in
+      ap (λ (x : Linked). unlink x repo digest) (sym link_left) ∙ (λ i. record l { links = back i })
+
+-- whether the slot that a digest has holds these bytes
+abbrev test_at : List Slot → ℕ → Text → Bool
+test_at slots k bytes = option_map_or (λ h. bytes_eq h.bytes bytes) (held_at slots k) false
+
+not_same : (x y : Text) → bytes_eq x y ≡ false → x ≢ y
+not_same x y no_match same = let e : bytes_eq x y ≡ true = (bytes_decides x y).1 same in cc
+
+module _ (slots : List Slot) (k : ℕ) (blob : Text × Text) (found : slot_of slots blob.0 ≡ Some k) where
+  -- a slot with other bytes
+  pub differs_by_test : test_at slots k blob.1 ≡ false → IsUnkept slots blob DigestInvalid
+  differs_by_test test =
+      let h = held_of slots blob.0 k found in
+      differs k h.0 found h.1 (not_same h.0.bytes blob.1 (ap (λ o. option_map_or (λ (x : Held). bytes_eq x.bytes blob.1) o false) (sym h.1) ∙ test)) refl
+
+  same_by_test : test_at slots k blob.1 ≡ true → (h : Held) × (held_at slots k ≡ Some h) × (h.digest ≡ blob.0) × (h.bytes ≡ blob.1)
+  same_by_test test =
+      let h = held_of slots blob.0 k found in
+      (h.0, h.1, h.2, (bytes_decides h.0.bytes blob.1).0 (ap (λ o. option_map_or (λ (x : Held). bytes_eq x.bytes blob.1) o false) (sym h.1) ∙ test))
+
+  -- the size of a link of what a slot holds
+  pub size_by_test : (l : Linked) (t : ℕ) (repo : Text) → CanKeep l slots t repo blob → test_at slots k blob.1 ≡ true → (r : Text) (m : ℕ) → get l.links (r, blob.0) ≡ Some m → m ≡ length blob.1
+  size_by_test l t repo can test r m at =
+      let h = same_by_test test in
+      can.sizes k h.0 r m h.1 (ap (λ (d : Text). get l.links (r, d)) h.2 ∙ at) ∙ ap length h.3
+
+  pub again_new : (l l' : Linked) (slots' : List Slot) (repo : Text) → test_at slots k blob.1 ≡ true → link l repo blob.0 (length blob.1) ≡ Ok (true, l') → slots' ≡ with_slot slots k (on_held raise) → IsKept l slots repo blob l' slots'
+  again_new l l' slots' repo test made raised =
+      let h = same_by_test test in
+      let new = not-true _ (link_new l l' repo blob.0 (length blob.1) true made) in
+      again k h.0 found h.1 h.3 (sym (link_left l l' repo blob.0 (length blob.1) true made)) (raised ∙ ap (λ b. if b then slots else with_slot slots k (on_held raise)) (sym new))
+
+  pub again_old : (l l' : Linked) (repo : Text) → test_at slots k blob.1 ≡ true → link l repo blob.0 (length blob.1) ≡ Ok (false, l') → IsKept l slots repo blob l' slots
+  again_old l l' repo test made =
+      let h = same_by_test test in
+      let old = not-false _ (link_new l l' repo blob.0 (length blob.1) false made) in
+      again k h.0 found h.1 h.3 (sym (link_left l l' repo blob.0 (length blob.1) false made)) (ap (λ b. if b then slots else with_slot slots k (on_held raise)) (sym old))
+
+pub kept_anew : (l l' : Linked) (slots slots1 slots' : List Slot) (repo : Text) (blob : Text × Text) (k : ℕ) (b : Bool) → slot_of slots blob.0 ≡ None → phase_at slots k ≡ phase.Free → link l repo blob.0 (length blob.1) ≡ Ok (b, l') →
+    slots1 ≡ with_slot slots k (fill blob) → slots' ≡ with_slot slots1 k (on_held raise) → IsKept l slots repo blob l' slots'
+kept_anew l l' slots slots1 slots' repo blob k b none free made filled raised =
+    anew k none free (sym (link_left l l' repo blob.0 (length blob.1) b made)) (raised ∙ ap (λ xs. with_slot xs k (on_held raise)) filled)

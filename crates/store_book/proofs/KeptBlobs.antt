@@ -1,0 +1,269 @@
+-- A blob that was linked: what the catalog keeps then, and that the layers agree.
+use Rattle.std.proofs.Common.{◌≡◌, ◌≢◌, ℕ, ◌+◌, ◌<◌, ◌≤◌, Bool, true, false, cond, not, List, [], ◌∷◌, length, map, Option, Some, None, is_some, refl, sym, ap, ◌∙◌, ◌⊎◌, subst, arith, inl, inr}
+use Prim.Native.Nat.{zero, suc}
+use Rattle.std.specs.Prelude.{slice_get, nat_le, ◌&&◌, if◌then◌else◌}
+use Rattle.std.specs.Option.{option_map, option_map_or}
+use Rattle.std.specs.List.{count_by}
+use Rattle.std.proofs.lemmas.List.Sums.{sum_by-cons}
+use Rattle.std.proofs.lemmas.Bool.Decides.{nat_tests}
+use Rattle.std.specs.Cmp.Lexicographic.{nat_list_cmp_total}
+use Rattle.std.specs.FinMap.{FinMap, get, insert, len, contains_key}
+use Rattle.std.proofs.lemmas.Bool.{cases_eq, true≢false}
+use Rattle.std.proofs.lemmas.Map.Lookups.{exact_bytes}
+use Rattle.blob_digest.specs.Sets as set
+use Rattle.blob_digest.proofs.KeyOrders.{link_cmp_total, exact_link, same_text_is, text_is_same}
+use Rattle.blob_digest.proofs.MapSums.{insert_back}
+use Rattle.blob_digest.proofs.SetLemmas.{insert_there}
+use Rattle.slot_table.specs.declared.phase.Phase.TheVariants as phase
+use Rattle.slot_table.specs.Slots.{Slot, Held, Content, Free, Used, Retired, phase_in, held_in, is_free, is_retired, with_slot, fill, on_held, raise, phase_at, held_at, slot_of, free_slots}
+use Rattle.link_table.specs.Linked.{Linked}
+use Rattle.upload_table.specs.Uploaded.{Uploaded}
+use Rattle.store_book.specs.Catalog.{Text, Link, Resident, Catalog, text_cmp, holds}
+use Rattle.store_book.specs.Steps.{was_lent, same_bytes, is_full_for}
+use Rattle.store_book.specs.Laws.{Lawful}
+use Rattle.store_book.specs.Layers.{links_of, residents_of, unlent, catalog_from, book_catalog, IsTied, AreLive}
+use Rattle.store_book.specs.Keeping.{linked, counted, IsKept, again, anew}
+use Rattle.store_book.proofs.MapLemmas.{get-insert_at, some_same}
+use Rattle.store_book.proofs.SlotLemmas.{map-with_slot, held_at-other, slot_of_held}
+use Rattle.store_book.proofs.Bridge.{get-links_of, mark, holds_is}
+use Rattle.store_book.proofs.Ties.{links_of-insert, catalog-relink, IsTied-link, held_at-on, raise-KeepsBlob, held_of, slot_is_resident, not_resident, rooms}
+use Rattle.store_book.proofs.Fills.{stored}
+use Rattle.store_book.proofs.Placing.{Holds, catalog-fill, IsTied-fill, held_at-fill, held_then, free_slot}
+use Rattle.store_book.proofs.LawLink.{unlinked}
+
+-- no mark depends on what a slot holds
+pub unlent-with_slot : (slots : List Slot) (k : ℕ) (f : Slot → Slot) → unlent (with_slot slots k f) ≡ unlent slots
+unlent-with_slot slots k f = map-with_slot (λ _. false) slots k f (λ s at. refl)
+
+pub length-unlent : (slots : List Slot) → length (unlent slots) ≡ length slots
+length-unlent [] = refl
+length-unlent (s ∷ slots) = ap suc (length-unlent slots)
+
+mark_at : (slots : List Slot) (k : ℕ) (s : Slot) → slice_get slots k ≡ Some s → slice_get (unlent slots) k ≡ Some false
+mark_at [] k s e = cc
+mark_at (x ∷ slots) zero s e = refl
+mark_at (x ∷ slots) (suc k) s e = mark_at slots k s e
+
+value_of : (o : Option ℕ) → is_some o ≡ true → (n : ℕ) × (o ≡ Some n)
+value_of None e = cc
+value_of (Some n) e = (n, refl)
+
+-- a count that rises leaves all blobs as they are
+live_raised : (slots : List Slot) (k : ℕ) (h : Held) → held_at slots k ≡ Some h → AreLive slots → AreLive (with_slot slots k (on_held raise))
+live_raised slots k h at live j x here = elim (cases_eq j k) [
+  | inl e ↦
+      let is : raise h ≡ x = some_same (sym (held_at-on raise raise-KeepsBlob slots k h at) ∙ ap (held_at (with_slot slots k (on_held raise))) (sym e) ∙ here) in
+      ap (λ (y : Held). y.condemned) (sym is) ∙ live k h at
+  | inr other ↦ live j x (sym (held_at-other slots k (on_held raise) j other) ∙ here)
+]
+
+-- where an element passes, some are counted
+counted_there : {A : Type 0} (p : A → Bool) (xs : List A) (k : ℕ) (x : A) → slice_get xs k ≡ Some x → p x ≡ true → 0 < count_by p xs
+counted_there p [] k x at passes = cc
+counted_there p (y ∷ xs) zero x at passes =
+    let same : y ≡ x = cc in
+    let sum : count_by p (y ∷ xs) ≡ cond (p y) 1 0 + count_by p xs = sum_by-cons (λ z. cond (p z) 1 0) y xs in
+    let one : cond {A = ℕ} (p y) 1 0 ≡ 1 = ap (λ b. cond b 1 0) (ap p same ∙ passes) in
+    omega arith
+counted_there p (y ∷ xs) (suc k) x at passes =
+    let sum : count_by p (y ∷ xs) ≡ cond (p y) 1 0 + count_by p xs = sum_by-cons (λ z. cond (p z) 1 0) y xs in
+    let rest = counted_there p xs k x at passes in
+    omega arith
+
+free_is : (slots : List Slot) (k : ℕ) (s : Slot) → slice_get slots k ≡ Some s → phase_at slots k ≡ phase.Free → is_free s ≡ true
+free_is slots k s at free = by_content s.content refl (sym (ap (λ o. option_map_or (λ x. phase_in x.content) o phase.Retired) at) ∙ free)
+  where
+    by_content : (c : Content) → s.content ≡ c → phase_in c ≡ phase.Free → is_free (record s { content = c }) ≡ true
+    by_content Free e f = refl
+    by_content (Used h) e f = elim h.condemned as (λ b. cond b phase.Condemned phase.Live ≡ phase.Free → is_free (record s { content = Used h }) ≡ true) [ true ↦ λ g. cc | false ↦ λ g. cc ] f
+    by_content Retired e f = cc
+
+le-false : (a b : ℕ) → b < a → nat_le a b ≡ false
+le-false a b h = grind (arith, nat_tests)
+
+-- what was lent is not
+abbrev blob_of : Catalog → Text × Text → Resident
+blob_of C blob = record { bytes = blob.1; condemned = false; lent = was_lent (get C.residents blob.0) }
+
+-- the catalog with the blob, linked
+abbrev pub keeping : Catalog → Text → Text × Text → Catalog
+keeping C repo blob = record C { links = set.insert C.links (repo, blob.0); residents = insert C.residents blob.0 (blob_of C blob) }
+
+module _ (l : Linked) (u : Uploaded) (slots : List Slot) (max_blob : ℕ) (repo : Text) (blob : Text × Text) where
+  abbrev C : Catalog
+  C = book_catalog l u slots max_blob
+
+  -- what is known where a blob was linked
+  pub record Keeps (l' : Linked) (slots' : List Slot) : Type 0 where
+    pub catalog : book_catalog l' u slots' max_blob ≡ keeping C repo blob
+    pub tied : IsTied l' slots' (unlent slots') (book_catalog l' u slots' max_blob)
+    pub live : AreLive slots'
+    pub links : l' ≡ linked l repo blob
+    pub same : same_bytes (get C.residents blob.0) blob.1 ≡ true
+    pub housed : is_full_for C blob.0 ≡ false
+
+  module _ (tied : IsTied l slots (unlent slots) C) (lawful : Lawful C) (live : AreLive slots) (there : set.contains l.repos repo ≡ true) where
+    named : (k : Link) → set.contains (links_of l.links) k ≡ true → set.contains l.repos k.0 ≡ true
+    named k h = (lawful.links k h).repo
+
+    module _ (k : ℕ) (h : Held) (at : held_at slots k ≡ Some h) (digest : h.digest ≡ blob.0) (bytes : h.bytes ≡ blob.1) where
+      resident : (b : Resident) × (get C.residents h.digest ≡ Some b) × (b.bytes ≡ h.bytes) × (b.condemned ≡ h.condemned)
+      resident = slot_is_resident slots (unlent slots) (length-unlent slots) tied.distinct k h at
+
+      kept : get C.residents blob.0 ≡ Some resident.0
+      kept = ap (get C.residents) (sym digest) ∙ resident.1
+
+      whole_blob : (b : Resident) → get C.residents blob.0 ≡ Some b → b.bytes ≡ blob.1 → b.condemned ≡ false → blob_of C blob ≡ b
+      whole_blob b found bytes live = λ i. record { bytes = sym bytes i; condemned = sym live i; lent = was_lent (found i) }
+
+      same_residents : insert C.residents blob.0 (blob_of C blob) ≡ C.residents
+      same_residents = ap (insert C.residents blob.0) (whole_blob resident.0 kept (resident.2 ∙ bytes) (resident.3 ∙ live k h at)) ∙ insert_back nat_list_cmp_total exact_bytes C.residents blob.0 resident.0 kept
+
+      size : length blob.1 ≡ length resident.0.bytes
+      size = ap length (sym (resident.2 ∙ bytes))
+
+      same_there : same_bytes (get C.residents blob.0) blob.1 ≡ true
+      same_there = ap (λ o. same_bytes o blob.1) kept ∙ same_text_is resident.0.bytes blob.1 (resident.2 ∙ bytes)
+
+      housed_there : is_full_for C blob.0 ≡ false
+      housed_there = ap (λ o. not (is_some o) && nat_le C.slots (len C.residents + C.retired)) kept
+
+      module _ (old : contains_key l.links (repo, blob.0) ≡ true) where
+        found : (n : ℕ) × (get l.links (repo, blob.0) ≡ Some n)
+        found = value_of (get l.links (repo, blob.0)) old
+
+        same_links : insert l.links (repo, blob.0) (length blob.1) ≡ l.links
+        same_links =
+            let b = tied.sizes (repo, blob.0) found.0 found.1 in
+            let is : b.0 ≡ resident.0 = some_same (sym b.1 ∙ kept) in
+            let n : found.0 ≡ length blob.1 = b.2 ∙ ap (λ (x : Resident). length x.bytes) is ∙ sym size in
+            insert_back link_cmp_total exact_link l.links (repo, blob.0) (length blob.1) (found.1 ∙ ap Some n)
+
+        held_before : set.contains C.links (repo, blob.0) ≡ true
+        held_before = holds_is l u slots (unlent slots) max_blob tied named repo blob.0 ∙ old
+
+        -- a link that was there leaves all as it was
+        Keeps-old : Keeps (linked l repo blob) slots
+        Keeps-old =
+            let same_l : linked l repo blob ≡ l = λ i. record l { links = same_links i } in
+            let links : set.insert C.links (repo, blob.0) ≡ C.links = insert_there link_cmp_total exact_link C.links (repo, blob.0) held_before in
+            record {
+              catalog = (λ i. book_catalog (same_l i) u slots max_blob) ∙ (λ i. record C { links = sym links i; residents = sym same_residents i });
+              tied = subst (λ (x : Linked). IsTied x slots (unlent slots) (book_catalog x u slots max_blob)) (sym same_l) tied;
+              live = live;
+              links = refl;
+              same = same_there;
+              housed = housed_there;
+            }
+
+      module _ (new : contains_key l.links (repo, blob.0) ≡ false) where
+        abbrev raised : List Slot
+        raised = with_slot slots k (on_held raise)
+
+        not_held_before : holds C repo h.digest ≡ false
+        not_held_before = ap (holds C repo) digest ∙ holds_is l u slots (unlent slots) max_blob tied named repo blob.0 ∙ new
+
+        relinked : catalog_from (linked l repo blob) u raised (unlent slots) max_blob ≡ record C { links = set.insert C.links (repo, blob.0) }
+        relinked =
+            catalog-relink l (insert l.links (repo, blob.0) (length blob.1)) u slots (unlent slots) max_blob k h at raise raise-KeepsBlob tied
+            ∙ (λ i. record C { links = links_of-insert l.links (repo, blob.0) (length blob.1) i })
+
+        tied_then : IsTied (linked l repo blob) raised (unlent slots) (catalog_from (linked l repo blob) u raised (unlent slots) max_blob)
+        tied_then =
+            subst (λ (d : Text). IsTied (record l { links = insert l.links (repo, d) (length blob.1) }) raised (unlent slots) (catalog_from (record l { links = insert l.links (repo, d) (length blob.1) }) u raised (unlent slots) max_blob))
+            digest (IsTied-link l u slots (unlent slots) max_blob k h at tied repo there (length blob.1) resident.0 resident.1 size not_held_before)
+
+        -- a new link counts in its slot
+        Keeps-new : Keeps (linked l repo blob) raised
+        Keeps-new =
+            let marks : unlent slots ≡ unlent raised = sym (unlent-with_slot slots k (on_held raise)) in
+            record {
+              catalog = (λ i. catalog_from (linked l repo blob) u raised (sym marks i) max_blob) ∙ relinked ∙ (λ i. record C { links = set.insert C.links (repo, blob.0); residents = sym same_residents i });
+              tied = subst (λ (m : List Bool). IsTied (linked l repo blob) raised m (catalog_from (linked l repo blob) u raised m max_blob)) marks tied_then;
+              live = live_raised slots k h at live;
+              links = refl;
+              same = same_there;
+              housed = housed_there;
+            }
+
+    module _ (k : ℕ) (none : slot_of slots blob.0 ≡ None) (free : phase_at slots k ≡ phase.Free) where
+      abbrev slots1 : List Slot
+      slots1 = with_slot slots k (fill blob)
+
+      abbrev slots2 : List Slot
+      slots2 = with_slot slots1 k (on_held raise)
+
+      slot_there : (s : Slot) × (slice_get slots k ≡ Some s) × (held_in s.content ≡ None) × (is_retired s ≡ false)
+      slot_there = free_slot slots k free
+
+      unmarked : slice_get (unlent slots) k ≡ Some false
+      unmarked = mark_at slots k slot_there.0 slot_there.1
+
+      abbrev C1 : Catalog
+      C1 = catalog_from l u slots1 (unlent slots) max_blob
+
+      filled_catalog : C1 ≡ record C { residents = insert C.residents blob.0 (stored blob false) }
+      filled_catalog = catalog-fill l u slots (unlent slots) max_blob k blob false free unmarked none
+
+      filled_tied : IsTied l slots1 (unlent slots) C1
+      filled_tied = IsTied-fill l u slots (unlent slots) max_blob k blob false free unmarked none tied lawful
+
+      absent : get C.residents blob.0 ≡ None
+      absent = not_resident slots (unlent slots) blob.0 none
+
+      abbrev filled : Held
+      filled = record { digest = blob.0; bytes = blob.1; condemned = false; links = 0 }
+
+      in_slot : held_at slots1 k ≡ Some filled
+      in_slot = held_at-fill l u slots (unlent slots) max_blob k blob false free unmarked none
+
+      kept_now : get C1.residents blob.0 ≡ Some (stored blob false)
+      kept_now = ap (λ (D : Catalog). get D.residents blob.0) filled_catalog ∙ get-insert_at nat_list_cmp_total exact_bytes C.residents blob.0 (stored blob false)
+
+      tied_now : IsTied (linked l repo blob) slots2 (unlent slots) (catalog_from (linked l repo blob) u slots2 (unlent slots) max_blob)
+      tied_now = IsTied-link l u slots1 (unlent slots) max_blob k filled in_slot filled_tied repo there (length blob.1) (stored blob false) kept_now refl (unlinked C lawful blob.0 absent repo)
+
+      catalog_now : catalog_from (linked l repo blob) u slots2 (unlent slots) max_blob ≡ keeping C repo blob
+      catalog_now =
+          catalog-relink l (insert l.links (repo, blob.0) (length blob.1)) u slots1 (unlent slots) max_blob k filled in_slot raise raise-KeepsBlob filled_tied
+          ∙ (λ i. record C1 { links = links_of-insert l.links (repo, blob.0) (length blob.1) i })
+          ∙ (λ i. record (filled_catalog i) { links = set.insert C.links (repo, blob.0) })
+          ∙ (λ i. record C { links = set.insert C.links (repo, blob.0); residents = insert C.residents blob.0 (record { bytes = blob.1; condemned = false; lent = was_lent (sym absent i) }) })
+
+      -- a blob that filled a free slot is kept, with one link
+      Keeps-filled : Keeps (linked l repo blob) slots2
+      Keeps-filled =
+          let marks : unlent slots ≡ unlent slots2 = sym (unlent-with_slot slots1 k (on_held raise) ∙ unlent-with_slot slots k (fill blob)) in
+          record {
+            catalog = (λ i. catalog_from (linked l repo blob) u slots2 (sym marks i) max_blob) ∙ catalog_now;
+            tied = subst (λ (m : List Bool). IsTied (linked l repo blob) slots2 m (catalog_from (linked l repo blob) u slots2 m max_blob)) marks tied_now;
+            live = live_raised slots1 k filled in_slot (λ j x here. live_at j x (held_then l u slots (unlent slots) max_blob k blob false free unmarked none j x here));
+            links = refl;
+            same = ap (λ o. same_bytes o blob.1) absent;
+            housed = ap (λ o. not (is_some o) && nat_le C.slots (len C.residents + C.retired)) absent ∙ has_room;
+          }
+        where
+          live_at : (j : ℕ) (x : Held) → Holds l u slots (unlent slots) max_blob k blob false free unmarked none j x → x.condemned ≡ false
+          live_at j x (inl p) = ap (λ (y : Held). y.condemned) (sym p.1)
+          live_at j x (inr p) = live j x p.1
+
+          has_room : nat_le C.slots (len C.residents + C.retired) ≡ false
+          has_room =
+              let sum = rooms l u slots (unlent slots) max_blob (length-unlent slots) tied.distinct in
+              let some = counted_there is_free slots k slot_there.0 slot_there.1 (free_is slots k slot_there.0 slot_there.1 free) in
+              le-false C.slots (len C.residents + C.retired) (omega arith)
+
+    -- what linking a blob left
+    pub IsKept-Keeps : (l' : Linked) (slots' : List Slot) → IsKept l slots repo blob l' slots' → Keeps l' slots'
+    IsKept-Keeps l' slots' (again k h place at bytes links slots_are) =
+        let held = held_of slots blob.0 k place in
+        let same : held.0 ≡ h = some_same (sym held.1 ∙ at) in
+        let digest : h.digest ≡ blob.0 = ap (λ (x : Held). x.digest) (sym same) ∙ held.2 in
+        subst (λ (x : Linked). Keeps x slots') (sym links) (subst (λ (x : List Slot). Keeps (linked l repo blob) x) (sym slots_are) (by_link k h at digest bytes (contains_key l.links (repo, blob.0)) refl))
+      where
+        by_link : (k : ℕ) (h : Held) (at : held_at slots k ≡ Some h) (digest : h.digest ≡ blob.0) (bytes : h.bytes ≡ blob.1) (b : Bool) → contains_key l.links (repo, blob.0) ≡ b →
+            Keeps (linked l repo blob) (if b then slots else with_slot slots k (on_held raise))
+        by_link k h at digest bytes true is = Keeps-old k h at digest bytes is
+        by_link k h at digest bytes false is = Keeps-new k h at digest bytes is
+    IsKept-Keeps l' slots' (anew k none free links slots_are) =
+        subst (λ (x : Linked). Keeps x slots') (sym links) (subst (λ (x : List Slot). Keeps (linked l repo blob) x) (sym slots_are) (Keeps-filled k none free))

@@ -1,0 +1,63 @@
+-- What a change of one slot does to the list of slots.
+use Rattle.std.proofs.Common.{◌≡◌, ℕ, ◌+◌, Bool, true, false, cond, List, [], ◌∷◌, length, map, set as write, Option, Some, None, refl, sym, ap, ◌∙◌}
+use Prim.Native.Nat.{zero, suc}
+use Rattle.std.specs.Prelude.{slice_get}
+use Rattle.std.specs.Option.{option_map_or}
+use Rattle.std.specs.List.{count_by}
+use Rattle.std.proofs.lemmas.List.Sums.{sum_by-cons}
+use Rattle.slot_table.specs.Slots.{Slot, Held, held_at, held_in, with_slot}
+
+pub with_slot-suc : (s : Slot) (slots : List Slot) (k : ℕ) (f : Slot → Slot) → with_slot (s ∷ slots) (suc k) f ≡ s ∷ with_slot slots k f
+with_slot-suc s slots k f = at (slice_get slots k)
+  where
+    at : (o : Option Slot) → option_map_or (λ x. write (s ∷ slots) (suc k) (f x)) o (s ∷ slots) ≡ s ∷ option_map_or (λ x. write slots k (f x)) o slots
+    at None = refl
+    at (Some x) = refl
+
+pub length-with_slot : (slots : List Slot) (k : ℕ) (f : Slot → Slot) → length (with_slot slots k f) ≡ length slots
+length-with_slot [] k f = refl
+length-with_slot (s ∷ slots) zero f = refl
+length-with_slot (s ∷ slots) (suc k) f = ap length (with_slot-suc s slots k f) ∙ ap suc (length-with_slot slots k f)
+
+pub slot-same : (slots : List Slot) (k : ℕ) (f : Slot → Slot) (s : Slot) → slice_get slots k ≡ Some s → slice_get (with_slot slots k f) k ≡ Some (f s)
+slot-same [] k f s at = cc
+slot-same (x ∷ slots) zero f s at = let e : x ≡ s = cc in ap (λ (y : Slot). Some (f y)) e
+slot-same (x ∷ slots) (suc k) f s at = ap (λ xs. slice_get xs (suc k)) (with_slot-suc x slots k f) ∙ slot-same slots k f s at
+
+pub slot-other : (slots : List Slot) (k : ℕ) (f : Slot → Slot) (m : ℕ) → (m ≡ k → ⊥) → slice_get (with_slot slots k f) m ≡ slice_get slots m
+slot-other [] k f m differ = refl
+slot-other (s ∷ slots) zero f zero differ = absurd (differ refl)
+slot-other (s ∷ slots) zero f (suc m) differ = refl
+slot-other (s ∷ slots) (suc k) f zero differ = ap (λ xs. slice_get xs 0) (with_slot-suc s slots k f)
+slot-other (s ∷ slots) (suc k) f (suc m) differ = ap (λ xs. slice_get xs (suc m)) (with_slot-suc s slots k f) ∙ slot-other slots k f m (λ e. differ (ap suc e))
+
+-- a change that a reading doesn't see
+pub map-with_slot : {A : Type 0} (g : Slot → A) (slots : List Slot) (k : ℕ) (f : Slot → Slot) → ((s : Slot) → slice_get slots k ≡ Some s → g (f s) ≡ g s) → map g (with_slot slots k f) ≡ map g slots
+map-with_slot g [] k f same = refl
+map-with_slot g (s ∷ slots) zero f same = ap (λ x. x ∷ map g slots) (same s refl)
+map-with_slot g (s ∷ slots) (suc k) f same = ap (map g) (with_slot-suc s slots k f) ∙ ap (λ xs. g s ∷ xs) (map-with_slot g slots k f same)
+
+pub count_by-with_slot : (p : Slot → Bool) (slots : List Slot) (k : ℕ) (f : Slot → Slot) → ((s : Slot) → slice_get slots k ≡ Some s → p (f s) ≡ p s) → count_by p (with_slot slots k f) ≡ count_by p slots
+count_by-with_slot p [] k f same = refl
+count_by-with_slot p (s ∷ slots) zero f same =
+    sum_by-cons (λ x. cond (p x) 1 0) (f s) slots ∙ ap (λ b. cond b 1 0 + count_by p slots) (same s refl) ∙ sym (sum_by-cons (λ x. cond (p x) 1 0) s slots)
+count_by-with_slot p (s ∷ slots) (suc k) f same =
+    ap (count_by p) (with_slot-suc s slots k f) ∙ sum_by-cons (λ x. cond (p x) 1 0) s (with_slot slots k f)
+    ∙ ap (λ n. cond (p s) 1 0 + n) (count_by-with_slot p slots k f same) ∙ sym (sum_by-cons (λ x. cond (p x) 1 0) s slots)
+
+abbrev held_by : Option Slot → Option Held
+held_by o = option_map_or (λ s. held_in s.content) o None
+
+pub held_at-other : (slots : List Slot) (k : ℕ) (f : Slot → Slot) (m : ℕ) → (m ≡ k → ⊥) → held_at (with_slot slots k f) m ≡ held_at slots m
+held_at-other slots k f m differ = ap held_by (slot-other slots k f m differ)
+
+pub held_at-same : (slots : List Slot) (k : ℕ) (f : Slot → Slot) (s : Slot) → slice_get slots k ≡ Some s → held_at (with_slot slots k f) k ≡ held_in (f s).content
+held_at-same slots k f s at = ap held_by (slot-same slots k f s at)
+
+-- a slot that holds a blob is there
+pub slot_of_held : (slots : List Slot) (k : ℕ) (h : Held) → held_at slots k ≡ Some h → (s : Slot) × (slice_get slots k ≡ Some s) × (held_in s.content ≡ Some h)
+slot_of_held slots k h at = there (slice_get slots k) refl at
+  where
+    there : (o : Option Slot) → slice_get slots k ≡ o → held_by o ≡ Some h → (s : Slot) × (slice_get slots k ≡ Some s) × (held_in s.content ≡ Some h)
+    there None e f = cc
+    there (Some s) e f = (s, e, f)

@@ -1,0 +1,87 @@
+-- The definitions on small literals.
+use Rattle.std.proofs.Common.{◌≡◌, false, List, [], ◌∷◌, Some, None, Ok, Err, refl, arith}
+use Rattle.std.specs.Prelude.{codes}
+use Rattle.std.specs.FinMap.{get-empty, get-insert, get-remove, entries-insert, empty, insert}
+use Rattle.std.specs.Cmp.Lexicographic.{nat_list_cmp_total}
+use Rattle.blob_digest.specs.declared.refusal.Refusal.TheVariants.{NameUnknown, UploadUnknown, RangeInvalid, SizeInvalid, Quota}
+use Rattle.std.specs.Fmt.{digits}
+use Rattle.blob_digest.specs.Sets as set
+use Rattle.upload_table.specs.Sessions.{Session, append_in}
+use Rattle.store_book.specs.Catalog.{Text, Tenant, Catalog, Resident, used, count, opening}
+use Rattle.store_book.specs.Steps.{start, append, new_session}
+use Rattle.store_book.specs.Printed.{book_text}
+use Rattle.blob_digest.proofs.KeyOrders.{number_cmp_total, link_cmp_total}
+use Rattle.blob_digest.proofs.RowLemmas.{entries-empty}
+
+-- two tenants of 1,000 and 5 bytes, as they are printed before anything is done
+abbrev two_tenants : Catalog
+two_tenants = opening (record { name = codes "acme"; quota = 1000 } ∷ record { name = codes "zeta"; quota = 5 } ∷ []) 64 1048576
+
+opening_text : book_text two_tenants ≡ codes "book\ntenant acme used 0 quota 1000 next 1\ntenant zeta used 0 quota 5 next 1\nend\n"
+unfolding digits
+opening_text = simp (get-empty, entries-empty) refl
+
+abbrev acme : List Tenant
+acme = record { name = codes "acme"; quota = 3 } ∷ []
+
+abbrev one : Text
+one = codes "acme/one"
+
+abbrev two : Text
+two = codes "acme/two"
+
+-- a tenant of 3 bytes in a store of blobs of at most 10
+abbrev empty_book : Catalog
+empty_book = opening acme 64 10
+
+unknown_tenant : start empty_book (codes "nobody/x") ≡ Err NameUnknown
+unknown_tenant = refl
+
+first_session : start empty_book one ≡ Ok (1, new_session empty_book 0 one)
+first_session = simp (get-empty, entries-empty) refl
+
+unknown_session : append empty_book one 1 None (codes "ab") ≡ Err UploadUnknown
+unknown_session = simp get-empty refl
+
+abbrev opened : Catalog
+opened = new_session empty_book 0 one
+
+session_of_another_repository : append opened two 1 None (codes "ab") ≡ Err UploadUnknown
+session_of_another_repository = simp (get-insert {X = Session} number_cmp_total) refl
+
+first_chunk : append opened one 1 None (codes "ab") ≡ Ok (2, record opened { sessions = append_in opened.sessions (0, 1) (codes "ab") })
+first_chunk = simp (get-insert {X = Session} number_cmp_total, get-empty, entries-insert {X = Session} number_cmp_total, entries-empty) refl
+
+chunk_out_of_order : append opened one 1 (Some (record { start = 1; end = 2; ordered = omega arith; small = omega arith })) (codes "ab") ≡ Err (RangeInvalid 0)
+chunk_out_of_order = simp (get-insert {X = Session} number_cmp_total, get-empty, entries-insert {X = Session} number_cmp_total, entries-empty) refl
+
+range_of_another_length : append opened one 1 (Some (record { start = 1; end = 3; ordered = omega arith; small = omega arith })) (codes "ab") ≡ Err SizeInvalid
+range_of_another_length = simp (get-insert {X = Session} number_cmp_total, get-empty, entries-insert {X = Session} number_cmp_total, entries-empty) refl
+
+chunk_past_the_quota : append opened one 1 None (codes "abcd") ≡ Err (Quota 0 3)
+chunk_past_the_quota = simp (get-insert {X = Session} number_cmp_total, get-empty, entries-insert {X = Session} number_cmp_total, entries-empty) refl
+
+chunk_past_the_size : append opened one 1 None (codes "abcdefghijkl") ≡ Err SizeInvalid
+chunk_past_the_size = simp (get-insert {X = Session} number_cmp_total, get-empty, entries-insert {X = Session} number_cmp_total, entries-empty) refl
+
+opened_text : book_text opened ≡ codes "book\ntenant acme used 0 quota 3 next 2\nrepository acme/one\nsession 1 received 0\nend\n"
+unfolding digits
+opened_text = simp (entries-insert {X = Session} number_cmp_total, entries-insert {X = Unit {0}} nat_list_cmp_total, entries-empty) refl
+
+-- two repositories of one tenant hold one blob of three bytes
+abbrev shared : Catalog
+shared = record empty_book {
+  repos = set.insert (set.insert set.none one) two;
+  links = set.insert (set.insert set.none (one, codes "d")) (two, codes "d");
+  residents = insert empty (codes "d") (record { bytes = codes "abc"; condemned = false; lent = false });
+}
+
+used_once : used shared 0 ≡ 3
+used_once = simp (entries-insert {X = Unit {0}} nat_list_cmp_total, entries-insert {X = Resident} nat_list_cmp_total, get-insert {X = Unit {0}} link_cmp_total, get-empty, entries-empty) refl
+
+counted_twice : count shared (codes "d") ≡ 2
+counted_twice = simp (entries-insert {X = Unit {0}} nat_list_cmp_total, get-insert {X = Unit {0}} link_cmp_total, get-empty, entries-empty) refl
+
+shared_text : book_text shared ≡ codes "book\ntenant acme used 3 quota 3 next 1\nrepository acme/one\nblob d size 3 links 2\nrepository acme/two\nblob d size 3 links 2\nend\n"
+unfolding digits
+shared_text = simp (entries-insert {X = Unit {0}} nat_list_cmp_total, entries-insert {X = Unit {0}} link_cmp_total, entries-insert {X = Resident} nat_list_cmp_total, get-insert {X = Unit {0}} link_cmp_total, get-insert {X = Resident} nat_list_cmp_total, get-empty, entries-empty) refl

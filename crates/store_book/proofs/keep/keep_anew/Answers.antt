@@ -1,0 +1,17 @@
+use Rattle.std.proofs.Common.{rules, ◌∙◌, ap, sym, length}
+use Rattle.store_book.proofs.KeepCalls.{link_there, unlink-link, kept_anew}
+use Rattle.store_book.proofs.keep.keep_anew.Goals as goal
+
+pub unlink-requires-clause-linked : goal.unlink-requires-clause-linked
+unlink-requires-clause-linked c = link_there c.args.links.now c.link.new.self c.args.repo.now c.digest-digest.result (length c.bytes.result.now) c.in_default.field-0 c.in_default.ensures
+
+pub returns-in-Ok-clause-ok : goal.returns-in-Ok-clause-ok
+returns-in-Ok-clause-ok c =
+    kept_anew c.args.links.now c.link.new.self c.args.slots.now c.place.new.self c.link_up.new.self c.args.repo.now c.args.blob c.in-Ok.slot c.in_default.field-0 c.requires.absent c.in-Ok.ensures.free
+    (rw (c.digest-digest.ensures.value, c.bytes.ensures.value) at c.in_default.ensures) c.in-Ok.ensures.ok c.link_up.ensures
+
+pub returns-in-Err-place-clause-err : goal.returns-in-Err-place-clause-err
+returns-in-Err-place-clause-err c = (
+    c.unlink.ensures ∙ unlink-link c.args.links.now c.link.new.self c.args.repo.now c.digest-digest.result (length c.bytes.result.now) c.in_default.field-0 c.in_default.ensures (rw c.digest-digest.ensures.value (c.requires.can.held c.args.blob.0 c.requires.absent c.args.repo.now)),
+    c.in-Err-place.ensures.err,
+  )

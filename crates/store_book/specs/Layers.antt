@@ -1,0 +1,87 @@
+-- The catalog that the layers of the book stand for together, and what ties them.
+use Rattle.std.specs.Prelude.{◌≡◌, ℕ, ◌<◌, Bool, false, Option, Some, None, List, [], ◌∷◌, length, map, count_by, slice_index}
+use Rattle.std.specs.FinMap as fmap
+use Rattle.blob_digest.specs.Sets as set
+use Rattle.slot_table.specs.Slots.{Slot, Held, Content, Free, Used, Retired, is_retired, held_at, IsDistinct}
+use Rattle.link_table.specs.Linked.{Linked}
+use Rattle.upload_table.specs.Uploaded.{Uploaded}
+use Rattle.store_book.specs.BookState.{BookState, SlotShown}
+use Rattle.store_book.specs.Catalog.{Text, Link, Resident, Catalog, text_cmp, link_cmp, in_sessions_of, count}
+use Rattle.store_book.specs.Laws.{Sound}
+
+-- the links without their sizes
+abbrev pub links_of : fmap.FinMap link_cmp ℕ → set.Set link_cmp
+links_of links = set.from_list (fmap.keys links)
+
+abbrev pub resident_of : Bool → Held → Resident
+resident_of lent h = record { bytes = h.bytes; condemned = h.condemned; lent = lent }
+
+abbrev pub with_resident : Content → Bool → List (Text × Resident) → List (Text × Resident)
+with_resident Free lent rest = rest
+with_resident (Used h) lent rest = (h.digest, resident_of lent h) ∷ rest
+with_resident Retired lent rest = rest
+
+-- the blobs of the used slots; `marks` has a lent mark for each slot
+abbrev pub resident_rows : List Slot → List Bool → List (Text × Resident)
+resident_rows [] marks = []
+resident_rows (s ∷ slots) [] = []
+resident_rows (s ∷ slots) (m ∷ marks) = with_resident s.content m (resident_rows slots marks)
+
+abbrev pub residents_of : List Slot → List Bool → fmap.FinMap text_cmp Resident
+residents_of slots lent = fmap.from_entries (resident_rows slots lent)
+
+-- no slot was lent (leases are not there yet)
+abbrev pub unlent : List Slot → List Bool
+unlent slots = map (λ _. false) slots
+
+abbrev pub catalog_from : Linked → Uploaded → List Slot → List Bool → ℕ → Catalog
+catalog_from l u slots lent max_blob = record {
+  tenants = l.tenants;
+  slots = length slots;
+  max_blob = max_blob;
+  repos = l.repos;
+  links = links_of l.links;
+  manifests = fmap.empty;
+  sessions = u.sessions;
+  next = u.next;
+  residents = residents_of slots lent;
+  retired = count_by is_retired slots;
+}
+
+-- what the layers stand for together
+abbrev pub book_catalog : Linked → Uploaded → List Slot → ℕ → Catalog
+book_catalog l u slots max_blob = catalog_from l u slots (unlent slots) max_blob
+
+abbrev pub slot_shown : Slot → SlotShown
+slot_shown s = record { generation = s.generation }
+
+abbrev pub book_state : Linked → Uploaded → List Slot → ℕ → BookState
+book_state l u slots max_blob = record { catalog = book_catalog l u slots max_blob; slots = map slot_shown slots }
+
+-- What the book keeps of its layers, besides that their catalog is sound.
+pub record IsTied (l : Linked) (slots : List Slot) (lent : List Bool) (C : Catalog) : Type 0 where
+  -- one mark for each slot
+  pub marks : length lent ≡ length slots
+  -- no digest has two slots
+  pub distinct : IsDistinct slots
+  -- the size of a link is the length of the resident blob
+  pub sizes : (k : Link) (n : ℕ) → fmap.get l.links k ≡ Some n → (b : Resident) × (fmap.get C.residents k.1 ≡ Some b) × (n ≡ length b.bytes)
+  -- the count of a slot is that of the repositories that hold its digest
+  pub counts : (k : ℕ) (h : Held) → held_at slots k ≡ Some h → h.links ≡ count C h.digest
+
+-- each tenant is charged what its sessions have received
+pub record AreCharges (l : Linked) (C : Catalog) : Type 0 where
+  pub one_each : length l.charges ≡ length l.tenants
+  pub sums : (t : ℕ) → t < length l.tenants → slice_index l.charges t ≡ in_sessions_of C t
+
+-- no slot is condemned (nothing condemns one yet)
+abbrev pub AreLive : List Slot → Type 0
+AreLive slots = (k : ℕ) (h : Held) → held_at slots k ≡ Some h → h.condemned ≡ false
+
+-- What a book keeps: its catalog is sound, its layers agree, and no session is being closed.
+pub record IsBook (l : Linked) (u : Uploaded) (slots : List Slot) (max_blob : ℕ) : Type 0 where
+  pub sound : Sound (book_catalog l u slots max_blob)
+  pub tied : IsTied l slots (unlent slots) (book_catalog l u slots max_blob)
+  pub charges : AreCharges l (book_catalog l u slots max_blob)
+  pub live : AreLive slots
+  pub whole : u.closing ≡ None

@@ -1,0 +1,9 @@
+pub mod BookState
+pub mod Catalog
+pub mod Keeping
+pub mod Laws
+pub mod Layers
+pub mod Lines
+pub mod Openings
+pub mod Printed
+pub mod Steps

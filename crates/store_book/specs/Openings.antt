@@ -1,0 +1,31 @@
+-- What a book is opened with, and why it is refused.
+use Rattle.std.specs.Prelude.{◌≡◌, ◌<◌, ◌≤◌, ◌^◌, ℕ, List, map, replicate}
+use Rattle.std.specs.List.Sorted.{IsPermutation, IsStrictlySortedBy}
+use Rattle.blob_digest.specs.declared.refusal.Refusal.{Refusal}
+use Rattle.blob_digest.specs.declared.refusal.Refusal.TheVariants.{NameInvalid, LimitReached, Memory}
+use Rattle.link_table.specs.Tenancy.{HasNames, IsWithinLimits}
+use Rattle.store_book.specs.BookState.{BookState}
+use Rattle.store_book.specs.Catalog.{Tenant, text_cmp, opening}
+
+-- 1 to 65,536 slots, and blobs of at most 2^40 bytes
+pub record IsSized (slots max_blob : ℕ) : Type 0 where
+  pub some : 0 < slots
+  pub few : slots ≤ 65536
+  pub blobs : max_blob ≤ 2 ^ 40
+
+-- The book has the given tenants in the order of their names, its slots in their first generation, and nothing else.
+pub record OpensBook (given : List Tenant) (count max_blob first : ℕ) (book : BookState) : Type 0 where
+  pub names : HasNames given
+  pub limits : IsWithinLimits given
+  pub sized : IsSized count max_blob
+  pub same : IsPermutation given book.catalog.tenants
+  pub rising : IsStrictlySortedBy text_cmp (map (λ t. t.name) book.catalog.tenants)
+  pub catalog : book.catalog ≡ opening book.catalog.tenants count max_blob
+  pub slots : book.slots ≡ replicate count (record { generation = first })
+
+-- Why a book isn't opened: for a tenant's name, and else for a limit. Want of memory may come in place of either.
+abbrev pub RefusesBook : Refusal → List Tenant → ℕ → ℕ → Type 0
+RefusesBook NameInvalid given slots max_blob = ¬ (HasNames given)
+RefusesBook LimitReached given slots max_blob = HasNames given × (¬ (IsWithinLimits given × IsSized slots max_blob))
+RefusesBook Memory given slots max_blob = Unit {0}
+RefusesBook _ given slots max_blob = ⊥

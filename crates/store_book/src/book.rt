@@ -1,0 +1,191 @@
+ghost use Rattle.std.specs.Prelude.{◌≡◌, ◌+◌, ◌<◌, ℕ, List, length, map, Some, nat_lt, IfOk, IfErr, OnOk, replicate};
+ghost use Rattle.blob_digest.specs.Outcomes.{Does, refuse};
+ghost use Rattle.link_table.specs.Linked.{quota_in, used_in};
+ghost use Rattle.link_table.specs.Tenancy.{tenants_shown};
+ghost use Rattle.store_book.specs.Openings.{OpensBook, RefusesBook};
+ghost use Rattle.store_book.specs.Printed.{book_text};
+ghost use Rattle.store_book.specs.Steps.{start, append, close};
+ghost use Rattle.std.specs.Io.KnownBytes.{Appends};
+
+use crate::config::{Config, copied};
+use crate::keep::keep;
+use crate::print::print_book;
+use blob_digest::{ByteRange, Digest, Refusal, RepoName};
+use link_table::Links;
+use slot_table::SlotTable;
+use std::alloc::Global;
+use std::io::{self, Write};
+use std::marker::Model;
+use upload_table::Uploads;
+
+/// The book: what every tenant's repositories hold, and what is being uploaded to them.
+#[derive(Drop)]
+pub struct Book {
+    pub(crate) links: Links,
+    pub(crate) uploads: Uploads,
+    pub(crate) slots: SlotTable,
+    max_blob: u64,
+}
+
+impl Model for Book {
+    ghost use Rattle.store_book.specs.BookState.{BookState, coded_state};
+
+    ghost Value = { BookState };
+
+    ghost coded = { coded_state };
+
+    ghost use Rattle.store_book.specs.Layers.{book_state, IsBook};
+
+    ghost view = { λ a. book_state a.links a.uploads a.slots a.max_blob };
+
+    ghost invariant = { λ a. IsBook a.links a.uploads a.slots a.max_blob };
+}
+
+/// Whether a tenant may use so many bytes more. Refused is a use past the quota (`Quota`).
+fn check_quota(links: &Links, tenant: u16, n: u64) -> Result<(), Refusal>
+    requires { tenant < length links.now.tenants }
+    ensures { result ≡ refuse (nat_lt (quota_in links.now.tenants tenant) (used_in links.now tenant + n)) (Refusal.Quota (used_in links.now tenant) (quota_in links.now.tenants tenant)) }
+{
+    let used = links.used(tenant);
+    let quota = links.quota(tenant);
+    match used.checked_add(n) {
+        Some(after) if after <= quota => Ok(()),
+        _ => Err(Refusal::Quota { used, quota }),
+    }
+}
+
+const MOST_BYTES: u64 = 0x100_0000_0000;
+
+impl Book {
+    /// The book of a new store: its tenants in the order of their names, no repository, and every slot
+    /// free.
+    ///
+    /// Refused, in this order: a tenant's name that is no component of a repository's name or comes
+    /// twice (`NameInvalid`); a count, a quota or a size beyond its limit (`LimitReached`); want of
+    /// memory.
+    pub fn new(alloc: Global, config: &Config) -> Result<Book, Refusal>
+        ensures opened { IfOk result (OpensBook (tenants_shown config.now.tenants.items) config.now.slots config.now.max_blob config.now.first_generation) }
+        ensures refused { IfErr result (λ e. RefusesBook e (tenants_shown config.now.tenants.items) config.now.slots config.now.max_blob) }
+    {
+        let tenants = copied(alloc, &config.tenants)?;
+        let links = Links::new(alloc, tenants)?;
+        if config.max_blob > MOST_BYTES {
+            return Err(Refusal::LimitReached);
+        }
+        let slots = SlotTable::new(alloc, config.slots, config.first_generation)?;
+        let uploads = Uploads::new(alloc, links.tenants(), 1)?;
+        Ok(Book {
+            links,
+            uploads,
+            slots,
+            max_blob: config.max_blob,
+        })
+    }
+
+    /// Opens a session in a repository, and answers its number (OCI Distribution Specification 1.1,
+    /// "Pushing a blob in chunks", the opening POST). The repository appears with it.
+    ///
+    /// Refused, in this order: a tenant that is not there (`NameUnknown`); a tenant that has 1,024
+    /// repositories where this one is new, or 64 sessions, or no session number left
+    /// (`LimitReached`); want of memory.
+    pub fn start(&mut self, repo: &RepoName) -> Result<u32, Refusal>
+        ensures does { Does (λ n. n) result self.old.catalog self.new.catalog (start self.old.catalog repo.now) }
+        ensures slots { self.new.slots ≡ self.old.slots }
+    {
+        let tenant = self.links.tenant(repo)?;
+        let is_new = self.links.appear(tenant, repo)?;
+        match self.uploads.start(tenant, repo) {
+            Ok(number) => Ok(number),
+            Err(refusal) => {
+                if is_new {
+                    self.links.vanish(tenant, repo);
+                }
+                Err(refusal)
+            }
+        }
+    }
+
+    /// Adds a chunk to a session, and answers the received length (OCI Distribution Specification 1.1,
+    /// "Pushing a blob in chunks"). A chunk without a range goes at the end; one without bytes and
+    /// range is accepted and changes nothing.
+    ///
+    /// Refused, in this order: a tenant that is not there (`NameUnknown`); a session that is not there
+    /// or another repository's (`UploadUnknown`); a range of another length than the bytes, or a
+    /// session past the size limit (`SizeInvalid`); a range that does not start at the received length
+    /// (`RangeInvalid`); a use past the quota (`Quota`); want of memory.
+    pub fn append(
+        &mut self,
+        repo: &RepoName,
+        number: u32,
+        range: Option<ByteRange>,
+        bytes: &[u8],
+    ) -> Result<u64, Refusal>
+        ensures does { Does (λ n. n) result self.old.catalog self.new.catalog (append self.old.catalog repo.now number range bytes.now) }
+        ensures slots { self.new.slots ≡ self.old.slots }
+    {
+        let tenant = self.links.tenant(repo)?;
+        let len = bytes.len() as u64;
+        let after = self
+            .uploads
+            .check(tenant, repo, number, range, len, self.max_blob)?;
+        self.links.charge(tenant, len)?;
+        match self.uploads.append(tenant, number, bytes) {
+            Ok(()) => Ok(after),
+            Err(refusal) => {
+                self.links.discharge(tenant, len);
+                Err(refusal)
+            }
+        }
+    }
+
+    /// Closes a session with its last chunk, which may be empty: its bytes become the blob of this
+    /// digest, linked in the repository. Answers the blob's size (OCI Distribution Specification 1.1,
+    /// "Pushing a blob in chunks", the closing PUT). The session's bytes move into the blob, and only
+    /// the last chunk is hashed.
+    ///
+    /// Refused, in this order: what `append` refuses of the last chunk; a digest that is not that of
+    /// the whole, or that is kept with other bytes (`DigestInvalid`); a store that has no slot free
+    /// for a digest that is not kept (`StoreFull`); want of memory. A refusal leaves the session
+    /// without the last chunk.
+    pub fn close(
+        &mut self,
+        repo: &RepoName,
+        number: u32,
+        digest: &Digest,
+        range: Option<ByteRange>,
+        bytes: &[u8],
+    ) -> Result<u64, Refusal>
+        ensures does { Does (λ n. n) result self.old.catalog self.new.catalog (close self.old.catalog repo.now number digest.now range bytes.now) }
+        ensures slots { self.new.slots ≡ self.old.slots }
+    {
+        let tenant = self.links.tenant(repo)?;
+        let len = bytes.len() as u64;
+        let size = self
+            .uploads
+            .check(tenant, repo, number, range, len, self.max_blob)?;
+        check_quota(&self.links, tenant, len)?;
+        let blob = self.uploads.seal(tenant, number, bytes, digest)?;
+        match keep(&mut self.links, &mut self.slots, tenant, repo, blob) {
+            Ok(()) => {
+                self.uploads.finish();
+                self.links.discharge(tenant, size - len);
+                Ok(size)
+            }
+            Err((refusal, blob)) => {
+                self.uploads.reopen(blob);
+                Err(refusal)
+            }
+        }
+    }
+
+    /// Writes the text of the book, without taking memory: `book`; each tenant in the order of the
+    /// names with its use, its quota and its next session number; after it each of its repositories
+    /// with its blobs, its manifests and its sessions, each in their orders; and `end`.
+    ///
+    /// Refused is what the writer refuses.
+    pub fn print<W: Write>(&self, writer: &mut W) -> io::Result<()>
+        ensures { OnOk result (Appends (W.contents writer.old) (W.contents writer.new) (book_text self.now.catalog)) }
+    {
+        print_book(writer, &self.links, &self.uploads, &self.slots)
+    }
+}

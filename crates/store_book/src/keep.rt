@@ -1,0 +1,112 @@
+//! Linking a sealed blob: the links and the slots together.
+
+ghost use Rattle.std.specs.Prelude.{◌≡◌, ◌≢◌, ◌⊎◌, ℕ, ◌+◌, ◌<◌, ◌^◌, length, true, false, Some, None, IfOk, IfErr, OnOk, OnErr, bytes_eq};
+ghost use Rattle.std.specs.Option.{option_map, option_map_or};
+ghost use Rattle.slot_table.specs.Slots.{held_at, links_at, phase_at, slot_of};
+ghost use Rattle.slot_table.specs.declared.phase.Phase.TheVariants as phase;
+ghost use Rattle.link_table.specs.Linked.{is_tenants, used_in};
+ghost use Rattle.store_book.specs.Keeping.{CanKeep, IsKept, IsUnkept};
+
+use blob_digest::{Blob, Refusal, RepoName};
+use link_table::Links;
+use slot_table::SlotTable;
+
+/// Whether a slot holds these bytes.
+fn holds(slots: &SlotTable, slot: u32, bytes: &[u8]) -> bool
+    requires { slot < length slots.now }
+    ensures { result ≡ option_map_or (λ h. bytes_eq h.bytes bytes.now) (held_at slots.now slot) false }
+{
+    match slots.blob(slot) {
+        Some(blob) => blob.bytes() == bytes,
+        None => false,
+    }
+}
+
+/// Links a blob whose digest has a slot. Refused are other bytes there (`DigestInvalid`) and want of
+/// memory; a refusal hands the blob back.
+fn keep_again(
+    links: &mut Links,
+    slots: &mut SlotTable,
+    tenant: u16,
+    repo: &RepoName,
+    slot: u32,
+    blob: Blob,
+) -> Result<(), (Refusal, Blob)>
+    requires can { CanKeep links.old slots.old tenant repo.now blob }
+    requires there { slot_of slots.old blob.0 ≡ Some slot }
+    ensures ok { OnOk result (IsKept links.old slots.old repo.now blob links.new slots.new) }
+    ensures back { IfErr result (λ e. e.1 ≡ blob) }
+    ensures refused { IfErr result (λ e. e.0 ≢ Refusal.Memory → IsUnkept slots.old blob e.0) }
+    ensures err { OnErr result ((links.new ≡ links.old) × (slots.new ≡ slots.old)) }
+{
+    if !holds(slots, slot, blob.bytes()) {
+        return Err((Refusal::DigestInvalid, blob));
+    }
+    let size = blob.bytes().len() as u64;
+    match links.link(tenant, repo, &blob.digest(), size) {
+        Ok(true) => {
+            slots.link_up(slot);
+            Ok(())
+        }
+        Ok(false) => Ok(()),
+        Err(refusal) => Err((refusal, blob)),
+    }
+}
+
+/// Links a blob whose digest has no slot, and puts it into one. Refused are a store without a free
+/// slot (`StoreFull`) and want of memory; a refusal hands the blob back.
+fn keep_anew(
+    links: &mut Links,
+    slots: &mut SlotTable,
+    tenant: u16,
+    repo: &RepoName,
+    blob: Blob,
+) -> Result<(), (Refusal, Blob)>
+    requires can { CanKeep links.old slots.old tenant repo.now blob }
+    requires absent { slot_of slots.old blob.0 ≡ None }
+    ensures ok { OnOk result (IsKept links.old slots.old repo.now blob links.new slots.new) }
+    ensures back { IfErr result (λ e. e.1 ≡ blob) }
+    ensures refused { IfErr result (λ e. e.0 ≢ Refusal.Memory → IsUnkept slots.old blob e.0) }
+    ensures err { OnErr result ((links.new ≡ links.old) × (slots.new ≡ slots.old)) }
+{
+    if slots.free_count() == 0 {
+        return Err((Refusal::StoreFull, blob));
+    }
+    let digest = blob.digest();
+    let size = blob.bytes().len() as u64;
+    if let Err(refusal) = links.link(tenant, repo, &digest, size) {
+        return Err((refusal, blob));
+    }
+    match slots.place(blob) {
+        Ok(slot) => {
+            slots.link_up(slot);
+            Ok(())
+        }
+        Err(refused) => {
+            links.unlink(tenant, repo, &digest);
+            Err(refused)
+        }
+    }
+}
+
+/// Links a sealed blob in a repository, and keeps it where it is new. Refused are a kept blob of the
+/// same digest with other bytes (`DigestInvalid`), a store without a free slot (`StoreFull`) and want
+/// of memory; a refusal hands the blob back and changes nothing.
+pub(crate) fn keep(
+    links: &mut Links,
+    slots: &mut SlotTable,
+    tenant: u16,
+    repo: &RepoName,
+    blob: Blob,
+) -> Result<(), (Refusal, Blob)>
+    requires { CanKeep links.old slots.old tenant repo.now blob }
+    ensures ok { OnOk result (IsKept links.old slots.old repo.now blob links.new slots.new) }
+    ensures back { IfErr result (λ e. e.1 ≡ blob) }
+    ensures refused { IfErr result (λ e. e.0 ≢ Refusal.Memory → IsUnkept slots.old blob e.0) }
+    ensures err { OnErr result ((links.new ≡ links.old) × (slots.new ≡ slots.old)) }
+{
+    match slots.find(&blob.digest()) {
+        Some(slot) => keep_again(links, slots, tenant, repo, slot, blob),
+        None => keep_anew(links, slots, tenant, repo, blob),
+    }
+}

@@ -1,0 +1,184 @@
+//! The text of a book, written line by line without taking memory.
+
+ghost use Rattle.std.specs.Prelude.{◌≡◌, ◌≤◌, ◌<◌, ℕ, ◌++◌, length, map, Some, None, OnOk, slice_get, codes};
+ghost use Rattle.std.specs.List.{flat_map};
+ghost use Rattle.std.specs.Io.KnownBytes.{Appends};
+ghost use Rattle.link_table.specs.Linked.{blobs_in, repos_of};
+ghost use Rattle.upload_table.specs.Sessions.{listed, sessions_of};
+ghost use Rattle.std.specs.Fmt.{decimal};
+ghost use Rattle.store_book.specs.Printed.{line};
+ghost use Rattle.store_book.specs.Lines.{CanPrint, blob_row, book_rows, links_to as links_counted, repo_rows, session_row, tenant_in, tenant_rows};
+
+use blob_digest::{Digest, RepoName};
+use link_table::Links;
+use slot_table::SlotTable;
+use std::io::{self, Write};
+use upload_table::Uploads;
+
+/// How many links the slots count of a digest; 0 where no slot holds it.
+fn links_to(slots: &SlotTable, digest: &Digest) -> u32
+    ensures { result ≡ links_counted slots.now digest.now }
+{
+    match slots.find(digest) {
+        Some(slot) => slots.links(slot),
+        None => 0,
+    }
+}
+
+/// A blob's line.
+fn print_blob_line<W: Write>(
+    writer: &mut W,
+    digest: Digest,
+    size: u64,
+    links: u32,
+) -> io::Result<()>
+    ensures { OnOk result (Appends (W.contents writer.old) (W.contents writer.new) (line (codes "blob " ++ digest ++ codes " size " ++ decimal size ++ codes " links " ++ decimal links))) }
+{
+    writeln!(writer, "blob {digest} size {size} links {links}")
+}
+
+/// The line of a blob, by its digest and its size.
+fn print_blob<W: Write>(writer: &mut W, slots: &SlotTable, blob: (Digest, u64)) -> io::Result<()>
+    ensures { OnOk result (Appends (W.contents writer.old) (W.contents writer.new) (blob_row slots.now blob)) }
+{
+    let links = links_to(slots, &blob.0);
+    print_blob_line(writer, blob.0, blob.1, links)
+}
+
+/// A session's line.
+fn print_session<W: Write>(writer: &mut W, number: u32, received: u64) -> io::Result<()>
+    ensures { OnOk result (Appends (W.contents writer.old) (W.contents writer.new) (session_row (number, received))) }
+{
+    writeln!(writer, "session {number} received {received}")
+}
+
+/// The lines of a repository's blobs.
+fn print_blobs<W: Write>(
+    writer: &mut W,
+    links: &Links,
+    slots: &SlotTable,
+    repo: &RepoName,
+) -> io::Result<()>
+    ensures { OnOk result (Appends (W.contents writer.old) (W.contents writer.new) (flat_map (blob_row slots.now) (blobs_in links.now repo.now))) }
+{
+    let mut i = 0;
+    while let Some(blob) = links.blob_at(repo, i) {
+        print_blob(writer, slots, blob)?;
+        i += 1;
+    }
+    Ok(())
+}
+
+/// The lines of a repository's sessions.
+fn print_sessions<W: Write>(
+    writer: &mut W,
+    uploads: &Uploads,
+    tenant: u16,
+    repo: &RepoName,
+) -> io::Result<()>
+    requires open { uploads.now.closing ≡ None }
+    requires few { length (sessions_of uploads.now.sessions tenant repo.now) ≤ 64 }
+    ensures { OnOk result (Appends (W.contents writer.old) (W.contents writer.new) (flat_map session_row (map listed (sessions_of uploads.now.sessions tenant repo.now)))) }
+{
+    let mut i = 0;
+    while let Some((number, received)) = uploads.session_at(tenant, repo, i) {
+        print_session(writer, number, received)?;
+        i += 1;
+    }
+    Ok(())
+}
+
+/// A repository's line.
+fn print_name<W: Write>(writer: &mut W, repo: &RepoName) -> io::Result<()>
+    ensures { OnOk result (Appends (W.contents writer.old) (W.contents writer.new) (line (codes "repository " ++ repo.now))) }
+{
+    writeln!(writer, "repository {repo}")
+}
+
+/// A repository's line, and those of its blobs and sessions.
+fn print_repo<W: Write>(
+    writer: &mut W,
+    links: &Links,
+    uploads: &Uploads,
+    slots: &SlotTable,
+    tenant: u16,
+    repo: &RepoName,
+) -> io::Result<()>
+    requires open { uploads.now.closing ≡ None }
+    requires few { length (sessions_of uploads.now.sessions tenant repo.now) ≤ 64 }
+    ensures { OnOk result (Appends (W.contents writer.old) (W.contents writer.new) (repo_rows links.now uploads.now slots.now tenant repo.now)) }
+{
+    print_name(writer, repo)?;
+    print_blobs(writer, links, slots, repo)?;
+    print_sessions(writer, uploads, tenant, repo)
+}
+
+/// The repositories of a tenant.
+fn print_repos<W: Write>(
+    writer: &mut W,
+    links: &Links,
+    uploads: &Uploads,
+    slots: &SlotTable,
+    tenant: u16,
+) -> io::Result<()>
+    requires can { CanPrint links.now uploads.now }
+    requires there { tenant < length links.now.tenants }
+    ensures { OnOk result (Appends (W.contents writer.old) (W.contents writer.new) (flat_map (repo_rows links.now uploads.now slots.now tenant) (repos_of links.now tenant))) }
+{
+    let mut i = 0;
+    while let Some(repo) = links.repo_at(tenant, i) {
+        print_repo(writer, links, uploads, slots, tenant, repo)?;
+        i += 1;
+    }
+    Ok(())
+}
+
+/// A tenant's line.
+fn print_use<W: Write>(
+    writer: &mut W,
+    name: &str,
+    used: u64,
+    quota: u64,
+    next: u64,
+) -> io::Result<()>
+    ensures { OnOk result (Appends (W.contents writer.old) (W.contents writer.new) (line (codes "tenant " ++ name.now ++ codes " used " ++ decimal used ++ codes " quota " ++ decimal quota ++ codes " next " ++ decimal next))) }
+{
+    writeln!(writer, "tenant {name} used {used} quota {quota} next {next}")
+}
+
+/// A tenant's line, and its repositories.
+fn print_tenant<W: Write>(
+    writer: &mut W,
+    links: &Links,
+    uploads: &Uploads,
+    slots: &SlotTable,
+    tenant: u16,
+) -> io::Result<()>
+    requires can { CanPrint links.now uploads.now }
+    requires there { tenant < length links.now.tenants }
+    ensures { OnOk result (Appends (W.contents writer.old) (W.contents writer.new) (tenant_rows links.now uploads.now slots.now (tenant, tenant_in links.now.tenants tenant))) }
+{
+    let name = links.tenant_name(tenant);
+    let used = links.used(tenant);
+    let quota = links.quota(tenant);
+    let next = uploads.next(tenant);
+    print_use(writer, name, used, quota, next)?;
+    print_repos(writer, links, uploads, slots, tenant)
+}
+
+/// The whole book.
+pub(crate) fn print_book<W: Write>(
+    writer: &mut W,
+    links: &Links,
+    uploads: &Uploads,
+    slots: &SlotTable,
+) -> io::Result<()>
+    requires { CanPrint links.now uploads.now }
+    ensures { OnOk result (Appends (W.contents writer.old) (W.contents writer.new) (book_rows links.now uploads.now slots.now)) }
+{
+    writer.write_all(b"book\n")?;
+    for tenant in 0..links.tenants() {
+        print_tenant(writer, links, uploads, slots, tenant)?;
+    }
+    writer.write_all(b"end\n")
+}
