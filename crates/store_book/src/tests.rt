@@ -56,7 +56,8 @@ fn prints(rt: &impl Abort, alloc: Global, book: &Book, text: &str) -> bool {
 fn a_new_book_has_its_tenants_in_the_order_of_their_names(rt: HostRuntime) {
     let alloc = rt.alloc();
     let book = book(&rt, alloc, &[("zeta", 5), ("acme", 1000)]);
-    let text = "book\ntenant acme used 0 quota 1000 next 1\ntenant zeta used 0 quota 5 next 1\nend\n";
+    let text =
+        "book\ntenant acme used 0 quota 1000 next 1\ntenant zeta used 0 quota 5 next 1\nend\n";
     assert!(rt; prints(&rt, alloc, &book, text));
 }
 
@@ -64,7 +65,10 @@ fn a_new_book_has_its_tenants_in_the_order_of_their_names(rt: HostRuntime) {
 fn a_book_that_cannot_be_opened_is_refused(rt: HostRuntime) {
     let alloc = rt.alloc();
     for tenants in [[("acme", 1), ("acme", 2)], [("Acme", 1), ("b", 2)]] {
-        assert_eq!(rt; refused(alloc, &config(&rt, alloc, &tenants)), Some(Refusal::NameInvalid));
+        assert_eq!(rt;
+            refused(alloc, &config(&rt, alloc, &tenants)),
+            Some(Refusal::NameInvalid)
+        );
     }
     let none = config(&rt, alloc, &[]);
     assert_eq!(rt; refused(alloc, &none), Some(Refusal::LimitReached));
@@ -85,11 +89,13 @@ fn an_upload_in_two_chunks_is_kept(rt: HostRuntime) {
     let mut book = book(&rt, alloc, &[("acme", 1000)]);
     assert_eq!(rt; book.start(&one), Ok(1));
     assert_eq!(rt; book.append(&one, 1, range(&rt, "0-0"), b"a"), Ok(1));
-    let text = "book\ntenant acme used 1 quota 1000 next 2\nrepository acme/one\nsession 1 received 1\nend\n";
+    let text =
+        "book\ntenant acme used 1 quota 1000 next 2\nrepository acme/one\nsession 1 received 1\nend\n";
     assert!(rt; prints(&rt, alloc, &book, text));
     assert_eq!(rt; book.append(&one, 1, range(&rt, "1-2"), b"bc"), Ok(3));
     assert_eq!(rt; book.close(&one, 1, &digest(&rt, ABC), None, b""), Ok(3));
-    let text = "book\ntenant acme used 3 quota 1000 next 2\nrepository acme/one\nblob sha256:ba7816bf8f01cfea414140de5dae2223b00361a396177a9cb410ff61f20015ad size 3 links 1\nend\n";
+    let text =
+        "book\ntenant acme used 3 quota 1000 next 2\nrepository acme/one\nblob sha256:ba7816bf8f01cfea414140de5dae2223b00361a396177a9cb410ff61f20015ad size 3 links 1\nend\n";
     assert!(rt; prints(&rt, alloc, &book, text));
 }
 
@@ -100,7 +106,8 @@ fn an_empty_blob_is_kept(rt: HostRuntime) {
     let mut book = book(&rt, alloc, &[("acme", 1000)]);
     assert_eq!(rt; book.start(&one), Ok(1));
     assert_eq!(rt; book.close(&one, 1, &digest(&rt, EMPTY), None, b""), Ok(0));
-    let text = "book\ntenant acme used 0 quota 1000 next 2\nrepository acme/one\nblob sha256:e3b0c44298fc1c149afbf4c8996fb92427ae41e4649b934ca495991b7852b855 size 0 links 1\nend\n";
+    let text =
+        "book\ntenant acme used 0 quota 1000 next 2\nrepository acme/one\nblob sha256:e3b0c44298fc1c149afbf4c8996fb92427ae41e4649b934ca495991b7852b855 size 0 links 1\nend\n";
     assert!(rt; prints(&rt, alloc, &book, text));
 }
 
@@ -113,7 +120,10 @@ fn a_chunk_comes_where_the_last_one_ended(rt: HostRuntime) {
     assert_eq!(rt; book.append(&one, 1, range(&rt, "0-1"), b"ab"), Ok(2));
     let late = Err(Refusal::RangeInvalid { received: 2 });
     assert_eq!(rt; book.append(&one, 1, range(&rt, "3-3"), b"c"), late);
-    assert_eq!(rt; book.append(&one, 1, range(&rt, "2-3"), b"c"), Err(Refusal::SizeInvalid));
+    assert_eq!(rt;
+        book.append(&one, 1, range(&rt, "2-3"), b"c"),
+        Err(Refusal::SizeInvalid)
+    );
     assert_eq!(rt; book.append(&one, 1, None, b""), Ok(2));
     assert_eq!(rt; book.append(&one, 1, range(&rt, "2-2"), b"c"), Ok(3));
 }
@@ -127,7 +137,10 @@ fn a_blob_past_the_limit_is_refused(rt: HostRuntime) {
     let mut book = Book::new(alloc, &small).expect(&rt, "a book");
     assert_eq!(rt; book.start(&one), Ok(1));
     assert_eq!(rt; book.append(&one, 1, None, b"ab"), Ok(2));
-    assert_eq!(rt; book.append(&one, 1, range(&rt, "2-2"), b"c"), Err(Refusal::SizeInvalid));
+    assert_eq!(rt;
+        book.append(&one, 1, range(&rt, "2-2"), b"c"),
+        Err(Refusal::SizeInvalid)
+    );
 }
 
 #[test]
@@ -139,12 +152,21 @@ fn a_refused_close_leaves_the_session_as_it_was(rt: HostRuntime) {
     let mut book = book(&rt, alloc, &[("acme", 1000)]);
     assert_eq!(rt; book.start(&one), Ok(1));
     assert_eq!(rt; book.append(&one, 1, None, b"ab"), Ok(2));
-    assert_eq!(rt; book.close(&one, 1, &digest(&rt, OBJ), last, b"c"), Err(Refusal::DigestInvalid));
+    assert_eq!(rt;
+        book.close(&one, 1, &digest(&rt, OBJ), last, b"c"),
+        Err(Refusal::DigestInvalid)
+    );
     assert_eq!(rt; book.append(&one, 1, None, b""), Ok(2));
     let two = name(&rt, alloc, "acme/two");
-    assert_eq!(rt; book.close(&two, 1, &abc, last, b"c"), Err(Refusal::UploadUnknown));
+    assert_eq!(rt;
+        book.close(&two, 1, &abc, last, b"c"),
+        Err(Refusal::UploadUnknown)
+    );
     assert_eq!(rt; book.close(&one, 1, &abc, last, b"c"), Ok(3));
-    assert_eq!(rt; book.close(&one, 1, &abc, last, b"c"), Err(Refusal::UploadUnknown));
+    assert_eq!(rt;
+        book.close(&one, 1, &abc, last, b"c"),
+        Err(Refusal::UploadUnknown)
+    );
 }
 
 #[test]
@@ -157,7 +179,8 @@ fn a_use_past_the_quota_is_refused(rt: HostRuntime) {
     let over = Err(Refusal::Quota { used: 2, quota: 2 });
     assert_eq!(rt; book.append(&one, 1, None, b"c"), over);
     assert_eq!(rt; book.close(&one, 1, &digest(&rt, ABC), None, b"c"), over);
-    let text = "book\ntenant acme used 2 quota 2 next 2\nrepository acme/one\nsession 1 received 2\nend\n";
+    let text =
+        "book\ntenant acme used 2 quota 2 next 2\nrepository acme/one\nsession 1 received 2\nend\n";
     assert!(rt; prints(&rt, alloc, &book, text));
 }
 
@@ -172,7 +195,8 @@ fn a_blob_that_is_kept_is_counted_once(rt: HostRuntime) {
         assert_eq!(rt; book.append(&repo, number, None, b"abc"), Ok(3));
         assert_eq!(rt; book.close(&repo, number, &abc, None, b""), Ok(3));
     }
-    let text = "book\ntenant acme used 3 quota 6 next 4\nrepository acme/one\nblob sha256:ba7816bf8f01cfea414140de5dae2223b00361a396177a9cb410ff61f20015ad size 3 links 2\nrepository acme/two\nblob sha256:ba7816bf8f01cfea414140de5dae2223b00361a396177a9cb410ff61f20015ad size 3 links 2\nend\n";
+    let text =
+        "book\ntenant acme used 3 quota 6 next 4\nrepository acme/one\nblob sha256:ba7816bf8f01cfea414140de5dae2223b00361a396177a9cb410ff61f20015ad size 3 links 2\nrepository acme/two\nblob sha256:ba7816bf8f01cfea414140de5dae2223b00361a396177a9cb410ff61f20015ad size 3 links 2\nend\n";
     assert!(rt; prints(&rt, alloc, &book, text));
 }
 
@@ -188,7 +212,10 @@ fn a_store_without_a_free_slot_keeps_the_session(rt: HostRuntime) {
     assert_eq!(rt; book.close(&one, 1, &digest(&rt, ABC), None, b"abc"), Ok(3));
     assert_eq!(rt; book.start(&one), Ok(2));
     assert_eq!(rt; book.append(&one, 2, None, b"{}"), Ok(2));
-    assert_eq!(rt; book.close(&one, 2, &obj, None, b""), Err(Refusal::StoreFull));
+    assert_eq!(rt;
+        book.close(&one, 2, &obj, None, b""),
+        Err(Refusal::StoreFull)
+    );
     assert_eq!(rt; book.append(&one, 2, None, b""), Ok(2));
 }
 
@@ -198,14 +225,20 @@ fn a_repository_without_a_session_is_not_left_behind(rt: HostRuntime) {
     let one = name(&rt, alloc, "acme/one");
     let two = name(&rt, alloc, "acme/two");
     let mut book = book(&rt, alloc, &[("acme", 1000), ("other", 0)]);
-    assert_eq!(rt; book.start(&name(&rt, alloc, "nobody/x")), Err(Refusal::NameUnknown));
+    assert_eq!(rt;
+        book.start(&name(&rt, alloc, "nobody/x")),
+        Err(Refusal::NameUnknown)
+    );
     for number in 1..65u32 {
         assert_eq!(rt; book.start(&one), Ok(number));
     }
     assert_eq!(rt; book.start(&two), Err(Refusal::LimitReached));
     assert_eq!(rt; book.close(&one, 1, &digest(&rt, EMPTY), None, b""), Ok(0));
     assert_eq!(rt; book.start(&two), Ok(65));
-    assert_eq!(rt; book.append(&two, 2, None, b"a"), Err(Refusal::UploadUnknown));
+    assert_eq!(rt;
+        book.append(&two, 2, None, b"a"),
+        Err(Refusal::UploadUnknown)
+    );
 }
 
 #[test]
