@@ -1,5 +1,5 @@
 -- `Book::append`, from what its calls of the layers did.
-use Rattle.std.proofs.Common.{◌≡◌, ◌≢◌, ℕ, ◌+◌, ◌-◌, ◌^◌, ◌<◌, ◌≤◌, Bool, true, false, List, [], ◌∷◌, length, Option, Some, None, is_some, Result, Ok, Err, refl, sym, ap, ◌∙◌, subst, arith, inl, inr}
+use Rattle.std.proofs.Common.{◌≡◌, ℕ, ◌+◌, ◌-◌, ◌^◌, ◌<◌, true, List, [], ◌∷◌, length, Option, Some, None, is_some, Result, Ok, Err, refl, sym, ap, ◌∙◌, subst, arith, inl, inr}
 use Prim.Native.Nat.{zero, suc}
 use Rattle.std.specs.Prelude.{nat_lt, slice_index, slice_set}
 use Rattle.std.specs.FinMap.{FinMap, get}
@@ -14,8 +14,7 @@ use Rattle.link_table.specs.Linked.{Linked, known_tenant, charge, charged, disch
 use Rattle.upload_table.specs.Sessions.{Session, received, check_in, session_in, length_after, append_in, in_sessions}
 use Rattle.upload_table.specs.Uploaded.{Uploaded, append_upload}
 use Rattle.store_book.specs.Catalog.{Text, Number, Catalog, tenant_of, used, quota_of, in_sessions_of, number_cmp}
-use Rattle.store_book.specs.Steps.{◌>>=◌, refuse, append, check, within_quota}
-use Rattle.store_book.specs.Laws.{Sound}
+use Rattle.store_book.specs.Steps.{◌>>=◌, refuse, append, within_quota}
 use Rattle.store_book.specs.Layers.{book_catalog, unlent, AreCharges, IsBook}
 use Rattle.store_book.proofs.Bridge.{used_is}
 use Rattle.store_book.proofs.LawAppend.{used-append, used_other-append}

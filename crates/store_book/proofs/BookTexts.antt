@@ -1,14 +1,13 @@
 -- The lines that the layers give are the book's text.
 use Rattle.std.proofs.Common.{◌≡◌, ℕ, ◌+◌, ◌<◌, ◌≤◌, Bool, true, false, cond, List, [], ◌∷◌, ◌++◌, length, map, get_or, codes, Option, Some, None, refl, sym, ap, ◌∙◌, arith, append-nil}
-use Prim.Native.Nat.{zero, suc}
+use Prim.Native.Nat.{suc}
 use Rattle.std.specs.Prelude.{filter, ◌==◌, ◌&&◌, slice_index, T}
 use Rattle.std.specs.declared.cmp.Ordering.{Ordering}
 use Rattle.std.specs.Fmt.{decimal}
 use Rattle.std.specs.List.{flat_map, enumerate_from, count_by, AllByRecursion}
 use Rattle.std.specs.Ordering.{is_lt}
 use Rattle.std.specs.Option.{option_map_or}
-use Rattle.std.specs.Cmp.Lexicographic.{nat_list_cmp_total}
-use Rattle.std.specs.FinMap.{FinMap, empty, entries, entries_sorted, from_entries, get, get-entries, is_sorted, keys}
+use Rattle.std.specs.FinMap.{FinMap, entries, entries_sorted, get, get-entries, is_sorted, keys}
 use Rattle.std.specs.FinMap.Entries.{below_all}
 use Rattle.std.proofs.lemmas.List.Concat.{flat_map-cons}
 use Rattle.std.proofs.lemmas.List.Folds.{flat_map-map}
@@ -16,16 +15,16 @@ use Rattle.std.proofs.lemmas.List.Sums.{length-filter, sum_by-cons}
 use Rattle.blob_digest.specs.Sets as set
 use Rattle.blob_digest.proofs.KeyOrders.{link_cmp_total, exact_link}
 use Rattle.blob_digest.proofs.RowLemmas.{entries-empty, found_value}
-use Rattle.slot_table.specs.Slots.{Slot, Held, held_at, slot_of, links_at}
+use Rattle.slot_table.specs.Slots.{Slot, Held, slot_of, links_at}
 use Rattle.link_table.specs.Linked.{Linked, Tenant, used_in, blobs_in, repos_of}
 use Rattle.link_table.proofs.SortedRows.{IsApart-sorted, entries-sorted}
-use Rattle.upload_table.specs.Sessions.{Session, is_of_repo, listed, received, sessions_of}
+use Rattle.upload_table.specs.Sessions.{is_of_repo, listed, sessions_of}
 use Rattle.std.proofs.lemmas.Bool.{and_parts, false≢true}
 use Rattle.upload_table.specs.Uploaded.{Uploaded}
-use Rattle.store_book.specs.Catalog.{Text, Link, Number, Resident, Catalog, is_of, text_cmp, link_cmp, same_text, used, size, count}
-use Rattle.store_book.specs.Layers.{links_of, unlent, residents_of, book_catalog, IsBook}
+use Rattle.store_book.specs.Catalog.{Text, Link, Resident, Catalog, is_of, link_cmp, same_text, used, size, count}
+use Rattle.store_book.specs.Layers.{links_of, unlent, book_catalog, IsBook}
 use Rattle.store_book.specs.Lines.{CanPrint, blob_row, links_to, session_row, repo_rows, tenant_rows, book_rows}
-use Rattle.store_book.specs.Printed.{line, blob_line, manifest_line, session_line, repo_text, tenant_text, book_text}
+use Rattle.store_book.specs.Printed.{line, blob_line, manifest_line, repo_text, tenant_text, book_text}
 use Rattle.store_book.proofs.Appending.{use_is}
 use Rattle.store_book.proofs.Ties.{held_of, not_resident}
 
@@ -79,8 +78,8 @@ no_link = (([], []), 0)
 each_found : (links : FinMap link_cmp ℕ) → AllByRecursion (λ e. get links e.0 ≡ Some e.1) (entries links)
 each_found links =
     all_by_index (λ e. get links e.0 ≡ Some e.1) no_link (entries links) (λ i lt.
-      get-entries links (get_or (entries links) i no_link).0
-      ∙ found_value link_cmp link_cmp_total (entries links) i no_link (get_or (entries links) i no_link).0 (IsApart-sorted link_cmp (entries links) (is_true (entries_sorted links))) lt refl)
+    get-entries links (get_or (entries links) i no_link).0
+    ∙ found_value link_cmp link_cmp_total (entries links) i no_link (get_or (entries links) i no_link).0 (IsApart-sorted link_cmp (entries links) (is_true (entries_sorted links))) lt refl)
 
 module _ {K X : Type 0} (R : K → K → Ordering) where
   below_all-marked : (q : K) (es : List (K × X)) → below_all R q (set.marked (map (λ e. e.0) es)) ≡ below_all R q es
@@ -154,18 +153,18 @@ module _ (l : Linked) (u : Uploaded) (slots : List Slot) (max_blob : ℕ) (book 
   tenant_is : (e : ℕ × Tenant) → e.0 < length l.tenants → tenant_rows l u slots e ≡ tenant_text C e
   tenant_is e there =
       let repos_are : flat_map (repo_rows l u slots e.0) (repos_of l e.0) ≡ flat_map (repo_text C e.0) (repos_of l e.0) =
-        flat_map-same (repo_rows l u slots e.0) (repo_text C e.0) (repos_of l e.0) (all_same (λ r. repo_rows l u slots e.0 r ≡ repo_text C e.0 r) (repo_is e.0) (repos_of l e.0)) in
+      flat_map-same (repo_rows l u slots e.0) (repo_text C e.0) (repos_of l e.0) (all_same (λ r. repo_rows l u slots e.0 r ≡ repo_text C e.0 r) (repo_is e.0) (repos_of l e.0)) in
       let used_is : used_in l e.0 ≡ used C e.0 = use_is l u slots max_blob e.0 book there in
       λ i.
-        line (codes "tenant " ++ e.1.name ++ codes " used " ++ decimal (used_is i) ++ codes " quota " ++ decimal e.1.quota ++ codes " next " ++ decimal (slice_index u.next e.0))
-        ++ repos_are i
+      line (codes "tenant " ++ e.1.name ++ codes " used " ++ decimal (used_is i) ++ codes " quota " ++ decimal e.1.quota ++ codes " next " ++ decimal (slice_index u.next e.0))
+      ++ repos_are i
 
   -- the layers' lines are the book's text
   pub text_is : book_rows l u slots ≡ book_text C
   text_is =
       ap (λ (t : Text). line (codes "book") ++ t ++ line (codes "end"))
-        (flat_map-same (tenant_rows l u slots) (tenant_text C) (enumerate_from 0 l.tenants)
-          (all_from (λ e. e.0 < length l.tenants) (λ e. tenant_rows l u slots e ≡ tenant_text C e) tenant_is (enumerate_from 0 l.tenants) (numbers_below l.tenants 0 (length l.tenants) (omega arith))))
+      (flat_map-same (tenant_rows l u slots) (tenant_text C) (enumerate_from 0 l.tenants)
+      (all_from (λ e. e.0 < length l.tenants) (λ e. tenant_rows l u slots e ≡ tenant_text C e) tenant_is (enumerate_from 0 l.tenants) (numbers_below l.tenants 0 (length l.tenants) (omega arith))))
 
   -- a book can be printed
   pub can_print : CanPrint l u

@@ -1,7 +1,7 @@
 -- The numbers that a sound book keeps are small.
 use Rattle.std.proofs.Common.{◌≡◌, ℕ, ◌+◌, ◌*◌, ◌<◌, ◌≤◌, ◌^◌, Bool, true, false, cond, not, List, [], ◌∷◌, length, Option, Some, None, is_some, refl, sym, ap, ◌∙◌, subst, arith}
 use Prim.Native.Nat.{zero, suc}
-use Rattle.std.specs.Prelude.{slice_get, nat_lt, nat_eq, ◌||◌, IsSome}
+use Rattle.std.specs.Prelude.{slice_get, nat_lt, nat_eq, ◌||◌}
 use Rattle.std.specs.Option.{option_eq, option_map_or}
 use Rattle.std.specs.Cmp.Lexicographic.{nat_list_cmp_total}
 use Rattle.std.specs.List.{count_by, list_any, AllByRecursion}
@@ -10,7 +10,7 @@ use Rattle.std.proofs.lemmas.Bool.Decides.{nat_tests}
 use Rattle.std.proofs.lemmas.List.Sums.{sum_by-cons, count_by-le-length}
 use Rattle.std.proofs.lemmas.Map.Lookups.{exact_bytes}
 use Rattle.blob_digest.specs.Sets as set
-use Rattle.store_book.specs.Catalog.{Text, Tenant, Catalog, tenant_of, is_tenants, quota_of, used, count, repos_of}
+use Rattle.store_book.specs.Catalog.{Text, Tenant, Catalog, tenant_of, is_tenants, quota_of, used, count}
 use Rattle.store_book.specs.Laws.{Lawful, Sound}
 use Rattle.store_book.proofs.DistinctUse.{some_member}
 use Rattle.store_book.proofs.MapLemmas.{list_any_count}

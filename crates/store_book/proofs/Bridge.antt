@@ -1,28 +1,27 @@
 -- The sums and counts that the layers keep are those of the catalog.
-use Rattle.std.proofs.Common.{◌≡◌, ◌≢◌, ℕ, ◌+◌, ◌<◌, Bool, true, false, cond, not, List, [], ◌∷◌, length, Option, Some, None, is_some, refl, sym, ap, ◌∙◌, subst, arith}
-use Prim.Native.Nat.{zero, suc}
-use Rattle.std.specs.Prelude.{◌==◌, ◌&&◌, ◌||◌, ◌≤◌, if◌then◌else◌, slice_index, map, slice_get}
-use Rattle.std.specs.Option.{option_map, option_map_or}
-use Rattle.std.specs.List.{sum_by, count_by, list_any}
-use Rattle.std.specs.declared.cmp.Ordering.{Ordering}
-use Rattle.std.specs.Ordering.{eq_by_cmp, is_eq}
-use Rattle.std.specs.Cmp.{IsTotalOrder, Equal-is, tied_itself}
+use Rattle.std.proofs.Common.{◌≡◌, ℕ, ◌+◌, ◌<◌, Bool, true, false, cond, List, [], ◌∷◌, length, Option, Some, None, is_some, refl, sym, ap, ◌∙◌, subst, arith}
+use Prim.Native.Nat.{suc}
+use Rattle.std.specs.Prelude.{◌&&◌, ◌||◌, if◌then◌else◌, map}
+use Rattle.std.specs.Option.{option_map}
+use Rattle.std.specs.List.{sum_by, list_any}
+use Rattle.std.specs.Ordering.{eq_by_cmp}
+use Rattle.std.specs.Cmp.{Equal-is}
 use Rattle.std.specs.Cmp.Lexicographic.{nat_list_cmp_total}
-use Rattle.std.specs.FinMap.{FinMap, find, entries, get, insert, remove, from_entries, keys, get-entries, get-from_entries, get-insert, get-remove, same_map, IsAntisymmetric, contains_key-keys}
+use Rattle.std.specs.FinMap.{FinMap, find, entries, get, from_entries, keys, get-entries, get-from_entries, same_map, contains_key-keys}
 use Rattle.std.proofs.lemmas.List.Sums.{sum_by-cons}
-use Rattle.std.proofs.lemmas.Bool.{true≢false, false≢true, not-true, not-false, and_from, and_parts}
+use Rattle.std.proofs.lemmas.Bool.{false≢true, and_from, and_parts}
 use Rattle.std.proofs.lemmas.Map.Lookups.{exact_bytes}
 use Rattle.blob_digest.specs.Sets as set
 use Rattle.blob_digest.specs.Rows.{IsApart}
-use Rattle.blob_digest.proofs.KeyOrders.{link_cmp_total, exact_link}
-use Rattle.blob_digest.proofs.RowLemmas.{no_tie, sum_by-from_entries, sum_by-map}
-use Rattle.blob_digest.proofs.MapSums.{sum_split, entries-remove, sum_by-where_key, list_any_weaker}
-use Rattle.slot_table.specs.Slots.{Slot, Held, Content, Free, Used, Retired, held_at, held_in, IsDistinct}
-use Rattle.link_table.specs.Linked.{Linked, blobs, blobs_of, total_size, used_in, HasOneSize}
+use Rattle.blob_digest.proofs.KeyOrders.{link_cmp_total}
+use Rattle.blob_digest.proofs.RowLemmas.{sum_by-from_entries}
+use Rattle.blob_digest.proofs.MapSums.{list_any_weaker}
+use Rattle.slot_table.specs.Slots.{Slot, Held, Free, Used, Retired, held_at, held_in, IsDistinct}
+use Rattle.link_table.specs.Linked.{Linked, blobs_of, total_size, used_in}
 use Rattle.link_table.proofs.Weights.{IsBlobs-blobs}
-use Rattle.store_book.specs.Catalog.{Text, Link, Resident, Catalog, text_cmp, link_cmp, is_of, is_tenants, holds, tenant_holds, blob_share, used, in_sessions_of, count}
+use Rattle.store_book.specs.Catalog.{Text, Link, Resident, Catalog, text_cmp, link_cmp, is_of, is_tenants, holds, tenant_holds, used}
 use Rattle.upload_table.specs.Uploaded.{Uploaded}
-use Rattle.store_book.specs.Layers.{links_of, resident_of, with_resident, resident_rows, residents_of, catalog_from, AreCharges, IsTied}
+use Rattle.store_book.specs.Layers.{links_of, resident_of, with_resident, resident_rows, catalog_from, AreCharges, IsTied}
 
 -- ---- a sum over some keys of a map
 
@@ -190,8 +189,8 @@ module _ (l : Linked) (u : Uploaded) (slots : List Slot) (marks : List Bool) (ma
     held_by r d n own at =
         let here : holds C r d ≡ true = holds_is r d ∙ ap is_some at in
         list_any_weaker (eq_by_cmp text_cmp r) (λ q. is_of C t q && holds C q d)
-          (λ q tie. subst (λ (x : Text). (is_of C t x && holds C x d) ≡ true) (exact_bytes r q ((Equal-is (text_cmp r q)).0 tie)) (and_from (is_of C t r) (holds C r d) own here))
-          (set.items C.repos) (sym (contains_key-keys C.repos r) ∙ named (r, d) here)
+        (λ q tie. subst (λ (x : Text). (is_of C t x && holds C x d) ≡ true) (exact_bytes r q ((Equal-is (text_cmp r q)).0 tie)) (and_from (is_of C t r) (holds C r d) own here))
+        (set.items C.repos) (sym (contains_key-keys C.repos r) ∙ named (r, d) here)
 
     size_at : (q : Text) (o : Option ℕ) → get (blobs_of l t) q ≡ o → o ≡ cond (tenant_holds C t q) (option_map (λ b. length b.bytes) (find text_cmp q rows)) None
     size_at q None is = sym (none_at (tenant_holds C t q) refl)

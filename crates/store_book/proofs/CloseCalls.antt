@@ -1,5 +1,5 @@
 -- What a close knows between its calls.
-use Rattle.std.proofs.Common.{◌≡◌, ◌≢◌, ℕ, ◌+◌, ◌-◌, ◌<◌, ◌≤◌, Bool, true, false, List, length, map, Option, Some, None, Result, Ok, Err, refl, sym, ap, ◌∙◌, subst, arith, length-append}
+use Rattle.std.proofs.Common.{◌≡◌, ℕ, ◌+◌, ◌-◌, ◌<◌, ◌≤◌, Bool, true, false, List, length, map, Option, Some, None, Result, Ok, refl, sym, ap, ◌∙◌, subst, arith, length-append}
 use Rattle.std.specs.Prelude.{slice_index, nat_lt, ◌||◌, if◌then◌else◌}
 use Rattle.std.specs.List.{concat}
 use Rattle.std.specs.FinMap.{get, remove, contains_key}
@@ -9,12 +9,12 @@ use Rattle.blob_digest.specs.declared.refusal.Refusal.TheVariants.{NameUnknown, 
 use Rattle.blob_digest.specs.Digests.{is_digest_of}
 use Rattle.slot_table.specs.Slots.{Slot, with_slot, fill, on_held, raise}
 use Rattle.link_table.specs.Linked.{Linked, known_tenant, discharge}
-use Rattle.upload_table.specs.Sessions.{Sessions, Session, received, check_in, has_other_length, session_in, starts_elsewhere, length_after, whole_in}
+use Rattle.upload_table.specs.Sessions.{Session, received, check_in, has_other_length, session_in, starts_elsewhere, length_after, whole_in}
 use Rattle.upload_table.specs.Uploaded.{Uploaded}
-use Rattle.store_book.specs.Catalog.{Text, Number, Catalog, in_sessions_of, tenant_of}
+use Rattle.store_book.specs.Catalog.{Text, Number, Catalog, tenant_of}
 use Rattle.store_book.specs.Steps.{close, refuse, within_quota}
 use Rattle.store_book.specs.Layers.{book_catalog, slot_shown, IsBook}
-use Rattle.store_book.specs.Keeping.{CanKeep, IsKept, again, anew, counted, linked}
+use Rattle.store_book.specs.Keeping.{CanKeep, IsKept, again, anew}
 use Rattle.store_book.proofs.Closing.{session_there, repo_there, close_ok, IsBook-close}
 use Rattle.store_book.proofs.Keepable.{CanKeep-book}
 use Rattle.store_book.proofs.LawSession.{used-gone}

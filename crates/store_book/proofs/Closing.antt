@@ -1,9 +1,9 @@
 -- `Book::close`, from what its calls of the layers did.
-use Rattle.std.proofs.Common.{◌≡◌, ◌≢◌, ℕ, ◌+◌, ◌-◌, ◌<◌, ◌≤◌, Bool, true, false, not, List, length, Option, Some, None, is_some, Result, Ok, Err, refl, sym, ap, ◌∙◌, subst, arith, inl, inr}
+use Rattle.std.proofs.Common.{◌≡◌, ℕ, ◌+◌, ◌-◌, ◌<◌, Bool, true, false, not, List, length, Option, Some, is_some, Ok, Err, refl, sym, ap, ◌∙◌, arith, inl, inr}
 use Rattle.std.specs.Prelude.{nat_le, ◌&&◌, slice_index, slice_set}
-use Rattle.std.specs.FinMap.{get, remove, len, contains_key}
+use Rattle.std.specs.FinMap.{get, remove, len}
 use Rattle.std.proofs.Math.ListN.{length-set}
-use Rattle.std.proofs.lemmas.Bool.{cases_eq, cases_Bool, le-leb}
+use Rattle.std.proofs.lemmas.Bool.{cases_eq, le-leb}
 use Rattle.std.proofs.lemmas.List.{get_or-set_same, get_or-set_other}
 use Rattle.blob_digest.specs.declared.range.ByteRange.{ByteRange}
 use Rattle.blob_digest.specs.declared.refusal.Refusal.{Refusal}
@@ -11,14 +11,13 @@ use Rattle.blob_digest.specs.declared.refusal.Refusal.TheVariants.{DigestInvalid
 use Rattle.blob_digest.specs.Digests.{is_digest_of}
 use Rattle.blob_digest.specs.Sets as set
 use Rattle.blob_digest.proofs.KeyOrders.{text_is_same}
-use Rattle.slot_table.specs.Slots.{Slot, Held, free_slots}
+use Rattle.slot_table.specs.Slots.{Slot, Held}
 use Rattle.link_table.specs.Linked.{Linked, known_tenant, discharge}
 use Rattle.upload_table.specs.Sessions.{Session, received, check_in, whole_in}
 use Rattle.upload_table.specs.Uploaded.{Uploaded}
-use Rattle.store_book.specs.Catalog.{Text, Resident, Catalog, tenant_of, in_sessions_of}
-use Rattle.store_book.specs.Steps.{close, check, within_quota, same_bytes, is_full_for}
-use Rattle.store_book.specs.Laws.{Sound}
-use Rattle.store_book.specs.Layers.{unlent, book_catalog, AreCharges, IsBook}
+use Rattle.store_book.specs.Catalog.{Text, Catalog, tenant_of, in_sessions_of}
+use Rattle.store_book.specs.Steps.{close, within_quota, same_bytes, is_full_for}
+use Rattle.store_book.specs.Layers.{unlent, book_catalog, IsBook}
 use Rattle.store_book.specs.Keeping.{IsKept, IsUnkept, differs, full}
 use Rattle.store_book.proofs.KeptBlobs.{Keeps, IsKept-Keeps, length-unlent}
 use Rattle.store_book.proofs.LawSession.{used-gone, used_other-gone}

@@ -1,16 +1,14 @@
 -- The residents after a blob was placed in a free slot.
-use Rattle.std.proofs.Common.{◌≡◌, ℕ, ◌+◌, Bool, true, false, cond, List, [], ◌∷◌, length, set as write, Option, Some, None, refl, sym, ap, ◌∙◌}
+use Rattle.std.proofs.Common.{◌≡◌, ℕ, Bool, true, false, cond, List, [], ◌∷◌, Option, Some, None, refl, sym, ap, ◌∙◌}
 use Prim.Native.Nat.{zero, suc}
 use Rattle.std.specs.Prelude.{slice_get}
-use Rattle.std.specs.Option.{option_map_or}
 use Rattle.std.specs.Ordering.{eq_by_cmp}
-use Rattle.std.specs.Cmp.{Equal-is, eq_by_cmp_equiv, tied_itself}
-use Rattle.std.specs.Ordering.{is_eq}
+use Rattle.std.specs.Cmp.{Equal-is}
 use Rattle.std.specs.Cmp.Lexicographic.{nat_list_cmp_total}
-use Rattle.std.specs.FinMap.{FinMap, find, get, insert, from_entries, get-from_entries, get-insert, same_map}
+use Rattle.std.specs.FinMap.{find, get, insert, get-from_entries, get-insert, same_map}
 use Rattle.std.proofs.lemmas.Map.Lookups.{exact_bytes}
 use Rattle.slot_table.specs.declared.phase.Phase.TheVariants as phase
-use Rattle.slot_table.specs.Slots.{Slot, Held, Content, Free, Used, Retired, with_slot, fill, phase_at, phase_in}
+use Rattle.slot_table.specs.Slots.{Slot, Content, Free, Used, Retired, with_slot, fill, phase_at, phase_in}
 use Rattle.store_book.specs.Catalog.{Text, Resident, text_cmp}
 use Rattle.store_book.proofs.SlotLemmas.{with_slot-suc}
 use Rattle.store_book.specs.Layers.{resident_of, with_resident, resident_rows, residents_of}

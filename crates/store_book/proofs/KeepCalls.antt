@@ -1,20 +1,19 @@
 -- Linking a sealed blob, from what the calls of the links and the slots did.
-use Rattle.std.proofs.Common.{◌≡◌, ◌≢◌, ℕ, Bool, true, false, cond, not, List, length, Option, Some, None, Result, Ok, Err, is_some, refl, sym, ap, ◌∙◌, bytes_eq}
+use Rattle.std.proofs.Common.{◌≡◌, ◌≢◌, ℕ, Bool, true, false, cond, not, List, length, Some, None, Ok, is_some, refl, sym, ap, ◌∙◌, bytes_eq}
 use Rattle.std.specs.Prelude.{if◌then◌else◌}
 use Rattle.std.specs.Option.{option_map_or}
 use Rattle.std.specs.Ordering.{eq_by_cmp}
 use Rattle.std.specs.Cmp.{Equal-is}
 use Rattle.std.specs.Cmp.Lexicographic.{bytes_decides}
-use Rattle.std.specs.FinMap.{FinMap, get, insert, remove, contains_key, get-insert, get-remove, get_tied, same_map}
+use Rattle.std.specs.FinMap.{get, insert, remove, contains_key, get-insert, get-remove, get_tied, same_map}
 use Rattle.std.proofs.lemmas.Bool.{not-true, not-false}
 use Rattle.blob_digest.specs.Keys.{Text, Link, link_cmp}
-use Rattle.blob_digest.specs.declared.refusal.Refusal.{Refusal}
 use Rattle.blob_digest.specs.declared.refusal.Refusal.TheVariants.{DigestInvalid}
 use Rattle.blob_digest.proofs.KeyOrders.{link_cmp_total, exact_link}
 use Rattle.slot_table.specs.declared.phase.Phase.TheVariants as phase
 use Rattle.slot_table.specs.Slots.{Slot, Held, slot_of, held_at, phase_at, with_slot, fill, on_held, raise}
 use Rattle.link_table.specs.Linked.{Linked, link, unlink}
-use Rattle.store_book.specs.Keeping.{CanKeep, IsKept, IsUnkept, again, anew, differs, linked}
+use Rattle.store_book.specs.Keeping.{CanKeep, IsKept, IsUnkept, again, anew, differs}
 use Rattle.store_book.proofs.MapLemmas.{get-insert_at}
 use Rattle.store_book.proofs.Ties.{held_of}
 

@@ -1,10 +1,10 @@
 -- In a book, a sealed blob of a session can be linked.
-use Rattle.std.proofs.Common.{◌≡◌, ℕ, ◌+◌, ◌<◌, ◌≤◌, ◌^◌, true, List, length, Option, Some, None, Ok, refl, sym, ap, ◌∙◌, arith}
+use Rattle.std.proofs.Common.{◌≡◌, ℕ, ◌<◌, ◌≤◌, true, List, length, Option, Some, None, Ok, refl, sym, ap, ◌∙◌, arith}
 use Rattle.std.specs.FinMap.{get}
 use Rattle.blob_digest.specs.declared.refusal.Refusal.TheVariants.{NameUnknown}
 use Rattle.blob_digest.specs.Sets as set
-use Rattle.slot_table.specs.Slots.{Slot, Held, slot_of, held_at}
-use Rattle.link_table.specs.Linked.{Linked, known_tenant, is_tenants, used_in}
+use Rattle.slot_table.specs.Slots.{Slot}
+use Rattle.link_table.specs.Linked.{Linked, known_tenant}
 use Rattle.upload_table.specs.Uploaded.{Uploaded}
 use Rattle.store_book.specs.Catalog.{Text, Resident, Catalog, tenant_of}
 use Rattle.store_book.specs.Layers.{unlent, book_catalog, IsBook}

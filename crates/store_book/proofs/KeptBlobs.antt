@@ -1,31 +1,31 @@
 -- A blob that was linked: what the catalog keeps then, and that the layers agree.
-use Rattle.std.proofs.Common.{◌≡◌, ◌≢◌, ℕ, ◌+◌, ◌<◌, ◌≤◌, Bool, true, false, cond, not, List, [], ◌∷◌, length, map, Option, Some, None, is_some, refl, sym, ap, ◌∙◌, ◌⊎◌, subst, arith, inl, inr}
+use Rattle.std.proofs.Common.{◌≡◌, ℕ, ◌+◌, ◌<◌, Bool, true, false, cond, not, List, [], ◌∷◌, length, Option, Some, None, is_some, refl, sym, ap, ◌∙◌, subst, arith, inl, inr}
 use Prim.Native.Nat.{zero, suc}
 use Rattle.std.specs.Prelude.{slice_get, nat_le, ◌&&◌, if◌then◌else◌}
-use Rattle.std.specs.Option.{option_map, option_map_or}
+use Rattle.std.specs.Option.{option_map_or}
 use Rattle.std.specs.List.{count_by}
 use Rattle.std.proofs.lemmas.List.Sums.{sum_by-cons}
 use Rattle.std.proofs.lemmas.Bool.Decides.{nat_tests}
 use Rattle.std.specs.Cmp.Lexicographic.{nat_list_cmp_total}
-use Rattle.std.specs.FinMap.{FinMap, get, insert, len, contains_key}
-use Rattle.std.proofs.lemmas.Bool.{cases_eq, true≢false}
+use Rattle.std.specs.FinMap.{get, insert, len, contains_key}
+use Rattle.std.proofs.lemmas.Bool.{cases_eq}
 use Rattle.std.proofs.lemmas.Map.Lookups.{exact_bytes}
 use Rattle.blob_digest.specs.Sets as set
-use Rattle.blob_digest.proofs.KeyOrders.{link_cmp_total, exact_link, same_text_is, text_is_same}
+use Rattle.blob_digest.proofs.KeyOrders.{link_cmp_total, exact_link, same_text_is}
 use Rattle.blob_digest.proofs.MapSums.{insert_back}
 use Rattle.blob_digest.proofs.SetLemmas.{insert_there}
 use Rattle.slot_table.specs.declared.phase.Phase.TheVariants as phase
-use Rattle.slot_table.specs.Slots.{Slot, Held, Content, Free, Used, Retired, phase_in, held_in, is_free, is_retired, with_slot, fill, on_held, raise, phase_at, held_at, slot_of, free_slots}
+use Rattle.slot_table.specs.Slots.{Slot, Held, Content, Free, Used, Retired, phase_in, held_in, is_free, is_retired, with_slot, fill, on_held, raise, phase_at, held_at, slot_of}
 use Rattle.link_table.specs.Linked.{Linked}
 use Rattle.upload_table.specs.Uploaded.{Uploaded}
-use Rattle.store_book.specs.Catalog.{Text, Link, Resident, Catalog, text_cmp, holds}
+use Rattle.store_book.specs.Catalog.{Text, Link, Resident, Catalog, holds}
 use Rattle.store_book.specs.Steps.{was_lent, same_bytes, is_full_for}
 use Rattle.store_book.specs.Laws.{Lawful}
-use Rattle.store_book.specs.Layers.{links_of, residents_of, unlent, catalog_from, book_catalog, IsTied, AreLive}
-use Rattle.store_book.specs.Keeping.{linked, counted, IsKept, again, anew}
+use Rattle.store_book.specs.Layers.{links_of, unlent, catalog_from, book_catalog, IsTied, AreLive}
+use Rattle.store_book.specs.Keeping.{linked, IsKept, again, anew}
 use Rattle.store_book.proofs.MapLemmas.{get-insert_at, some_same}
-use Rattle.store_book.proofs.SlotLemmas.{map-with_slot, held_at-other, slot_of_held}
-use Rattle.store_book.proofs.Bridge.{get-links_of, mark, holds_is}
+use Rattle.store_book.proofs.SlotLemmas.{map-with_slot, held_at-other}
+use Rattle.store_book.proofs.Bridge.{holds_is}
 use Rattle.store_book.proofs.Ties.{links_of-insert, catalog-relink, IsTied-link, held_at-on, raise-KeepsBlob, held_of, slot_is_resident, not_resident, rooms}
 use Rattle.store_book.proofs.Fills.{stored}
 use Rattle.store_book.proofs.Placing.{Holds, catalog-fill, IsTied-fill, held_at-fill, held_then, free_slot}

@@ -1,8 +1,7 @@
 -- An accepted append keeps all that is kept.
-use Rattle.std.proofs.Common.{◌≡◌, ℕ, ◌+◌, ◌≤◌, length, Option, Some, Result, Ok, sym, ap, ◌∙◌, subst}
+use Rattle.std.proofs.Common.{◌≡◌, ℕ, ◌+◌, ◌≤◌, length, Option, Some, Ok, sym, ap, ◌∙◌, subst}
 use Rattle.std.proofs.lemmas.Bool.{ltb-false}
 use Rattle.blob_digest.specs.declared.range.ByteRange.{ByteRange}
-use Rattle.blob_digest.specs.declared.refusal.Refusal.{Refusal}
 use Rattle.blob_digest.specs.declared.refusal.Refusal.TheVariants.{NameUnknown}
 use Rattle.store_book.specs.Catalog.{Text, Catalog, tenant_of, used, quota_of}
 use Rattle.store_book.specs.Steps.{tenant, check, append, within_quota, append_in}

@@ -1,5 +1,5 @@
 -- A new book is sound, and its layers agree.
-use Rattle.std.proofs.Common.{◌≡◌, ◌≢◌, ℕ, ◌+◌, ◌<◌, ◌≤◌, Bool, true, false, cond, List, [], ◌∷◌, length, map, get_or, Option, Some, None, refl, sym, ap, ◌∙◌, subst, arith}
+use Rattle.std.proofs.Common.{◌≡◌, ℕ, ◌+◌, ◌≤◌, Bool, true, false, cond, List, [], ◌∷◌, length, map, get_or, None, refl, sym, ap, ◌∙◌, subst, arith}
 use Prim.Native.Nat.{zero, suc}
 use Rattle.std.specs.Prelude.{replicate, nat_le, ◌&&◌, ◌^◌, Result, Ok, Err, if◌then◌else◌}
 use Rattle.std.specs.List.{count_by, sum_by}
@@ -13,7 +13,7 @@ use Rattle.std.proofs.lemmas.List.Elements.{recursion_from_All}
 use Rattle.std.proofs.lemmas.List.Sums.{sum_by-cons}
 use Rattle.blob_digest.specs.Sets as set
 use Rattle.blob_digest.proofs.RowLemmas.{entries-empty}
-use Rattle.slot_table.specs.Slots.{Slot, Held, held_at, empty_slot, is_retired}
+use Rattle.slot_table.specs.Slots.{Slot, held_at, empty_slot, is_retired}
 use Rattle.slot_table.specs.Slots.{opening as slots_opening}
 use Rattle.link_table.specs.Linked.{Linked}
 use Rattle.link_table.specs.Linked as links
@@ -23,8 +23,8 @@ use Rattle.upload_table.specs.Uploaded.{Uploaded}
 use Rattle.upload_table.specs.Uploaded as uploads
 use Rattle.store_book.specs.Catalog.{Text, Tenant, Resident, Catalog, text_cmp, link_cmp, number_cmp, opening}
 use Rattle.store_book.specs.Laws.{Sound}
-use Rattle.store_book.specs.BookState.{BookState, SlotShown}
-use Rattle.store_book.specs.Layers.{links_of, resident_rows, residents_of, unlent, slot_shown, book_catalog, book_state, IsBook}
+use Rattle.store_book.specs.BookState.{SlotShown}
+use Rattle.store_book.specs.Layers.{links_of, resident_rows, unlent, slot_shown, book_catalog, book_state, IsBook}
 use Rattle.store_book.specs.Openings.{IsSized, OpensBook}
 use Rattle.store_book.proofs.KeptBlobs.{length-unlent}
 use Rattle.store_book.proofs.LawfulOpening.{Sound-opening}

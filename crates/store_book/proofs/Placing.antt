@@ -1,22 +1,22 @@
 -- A blob placed in a free slot: the catalog keeps it, and the layers agree.
-use Rattle.std.proofs.Common.{◌≡◌, ℕ, ◌+◌, ◌<◌, Bool, true, false, cond, List, [], ◌∷◌, length, Option, Some, None, is_some, refl, sym, ap, ◌∙◌, ◌⊎◌, subst, arith, inl, inr}
+use Rattle.std.proofs.Common.{◌≡◌, ℕ, ◌+◌, Bool, true, false, cond, List, [], ◌∷◌, length, Option, Some, None, refl, sym, ap, ◌∙◌, ◌⊎◌, subst, inl, inr}
 use Rattle.std.specs.Prelude.{slice_get}
 use Rattle.std.specs.Option.{option_map_or}
 use Rattle.std.specs.Cmp.Lexicographic.{nat_list_cmp_total}
 use Rattle.std.specs.List.{count_by}
-use Rattle.std.specs.FinMap.{FinMap, get, insert}
+use Rattle.std.specs.FinMap.{get, insert}
 use Rattle.std.proofs.lemmas.Bool.{cases_eq}
 use Rattle.std.proofs.lemmas.List.Sums.{sum_by-cons}
 use Rattle.std.proofs.lemmas.Map.Lookups.{exact_bytes}
 use Rattle.slot_table.specs.declared.phase.Phase.{Phase}
 use Rattle.slot_table.specs.declared.phase.Phase.TheVariants as phase
-use Rattle.slot_table.specs.Slots.{Slot, Held, Content, Free, Used, Retired, with_slot, fill, phase_at, phase_in, held_at, held_in, slot_of, is_retired, IsDistinct}
+use Rattle.slot_table.specs.Slots.{Slot, Held, Content, Free, Used, Retired, with_slot, fill, phase_at, phase_in, held_at, held_in, slot_of, is_retired}
 use Rattle.blob_digest.specs.Sets as set
 use Rattle.link_table.specs.Linked.{Linked}
 use Rattle.upload_table.specs.Uploaded.{Uploaded}
 use Rattle.store_book.specs.Catalog.{Text, Link, Resident, Catalog, holds, count}
 use Rattle.store_book.specs.Laws.{Lawful}
-use Rattle.store_book.specs.Layers.{residents_of, catalog_from, IsTied}
+use Rattle.store_book.specs.Layers.{catalog_from, IsTied}
 use Rattle.store_book.proofs.MapLemmas.{cases_key, get-insert_other, some_same}
 use Rattle.store_book.proofs.LawLink.{unlinked}
 use Rattle.store_book.proofs.SlotLemmas.{length-with_slot, count_by-with_slot, held_at-other, held_at-same}

@@ -1,5 +1,5 @@
 -- What a change of one slot does to the list of slots.
-use Rattle.std.proofs.Common.{◌≡◌, ℕ, ◌+◌, Bool, true, false, cond, List, [], ◌∷◌, length, map, set as write, Option, Some, None, refl, sym, ap, ◌∙◌}
+use Rattle.std.proofs.Common.{◌≡◌, ℕ, ◌+◌, Bool, cond, List, [], ◌∷◌, length, map, set as write, Option, Some, None, refl, sym, ap, ◌∙◌}
 use Prim.Native.Nat.{zero, suc}
 use Rattle.std.specs.Prelude.{slice_get}
 use Rattle.std.specs.Option.{option_map_or}

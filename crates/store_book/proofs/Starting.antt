@@ -1,5 +1,5 @@
 -- `Book::start`, from what its calls of the layers did.
-use Rattle.std.proofs.Common.{◌≡◌, ℕ, ◌≤◌, Bool, true, false, List, length, Option, None, Result, Ok, Err, Some, is_some, refl, sym, ap, ◌∙◌, subst, arith}
+use Rattle.std.proofs.Common.{◌≡◌, ℕ, ◌≤◌, Bool, true, false, List, length, Option, None, Ok, Err, Some, is_some, refl, sym, ap, ◌∙◌, subst, arith}
 use Rattle.std.specs.Prelude.{if◌then◌else◌}
 use Rattle.std.specs.Cmp.Lexicographic.{nat_list_cmp_total}
 use Rattle.std.specs.FinMap.{get}
@@ -12,9 +12,9 @@ use Rattle.blob_digest.proofs.SetLemmas.{insert_there, remove-insert}
 use Rattle.slot_table.specs.Slots.{Slot}
 use Rattle.link_table.specs.Linked.{Linked, HasNoLinks, known_tenant, appear, vanish}
 use Rattle.upload_table.specs.Uploaded.{Uploaded, start_upload, started}
-use Rattle.store_book.specs.Catalog.{Text, Catalog, tenant_of, in_sessions_of}
+use Rattle.store_book.specs.Catalog.{Text, Catalog, in_sessions_of}
 use Rattle.store_book.specs.Steps.{start}
-use Rattle.store_book.specs.Laws.{Lawful, Sound}
+use Rattle.store_book.specs.Laws.{Sound}
 use Rattle.store_book.specs.Layers.{book_catalog, IsBook}
 use Rattle.store_book.proofs.Bridge.{get-links_of, mark}
 use Rattle.store_book.proofs.Counts.{count-appear}
@@ -117,7 +117,7 @@ appeared_unlinked l l' u slots max_blob t repo b book appeared new d =
     let absent : set.contains l.repos repo ≡ false = not-true _ ((λ i. (a.1 i).0) ∙ new) in
     let unheld = holds_none (book_catalog l u slots max_blob) repo book.sound.lawful absent d in
     ap (λ (x : Linked). get x.links (repo, d)) (sym (λ i. (a.1 i).1)) ∙ none_of (get l.links (repo, d)) (λ n at.
-      true≢false (sym (ap is_some (get-links_of l.links (repo, d) ∙ ap (option_map mark) at)) ∙ unheld))
+    true≢false (sym (ap is_some (get-links_of l.links (repo, d) ∙ ap (option_map mark) at)) ∙ unheld))
   where
     none_of : (o : Option ℕ) → ((n : ℕ) → o ≡ Some n → ⊥) → o ≡ None
     none_of None no_value = refl

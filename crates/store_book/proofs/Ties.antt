@@ -1,9 +1,9 @@
 -- The ties between the layers after a link more or less.
-use Rattle.std.proofs.Common.{◌≡◌, ◌≢◌, ℕ, ◌+◌, ◌-◌, ◌<◌, Bool, true, false, cond, not, List, [], ◌∷◌, length, get_or, set as write, Option, Some, None, is_some, refl, sym, ap, ◌∙◌, subst, arith, inl, inr}
+use Rattle.std.proofs.Common.{◌≡◌, ℕ, ◌+◌, ◌-◌, ◌<◌, Bool, true, false, cond, List, [], ◌∷◌, length, get_or, Option, Some, None, is_some, refl, sym, ap, ◌∙◌, subst, arith, inl, inr}
 use Prim.Native.Nat.{zero, suc}
-use Rattle.std.specs.Prelude.{if◌then◌else◌, slice_get, ◌⊎◌, ◌||◌}
+use Rattle.std.specs.Prelude.{slice_get}
 use Rattle.std.specs.Option.{option_map, option_map_or}
-use Rattle.std.specs.List.{sum_by, count_by, list_any, position}
+use Rattle.std.specs.List.{count_by, list_any}
 use Rattle.std.specs.Ordering.{eq_by_cmp, is_eq}
 use Rattle.std.specs.Cmp.{tied_itself, Equal-is}
 use Rattle.std.specs.FinMap.{FinMap, get, insert, remove, from_entries, get-insert, get-remove, get-from_entries, find, len, len-empty, len-insert, same_map}
@@ -12,7 +12,7 @@ use Rattle.std.proofs.lemmas.List.Sums.{sum_by-cons}
 use Rattle.blob_digest.specs.Sets as set
 use Rattle.blob_digest.proofs.KeyOrders.{link_cmp_total, exact_link}
 use Rattle.blob_digest.proofs.SetLemmas.{insert_there}
-use Rattle.blob_digest.proofs.MapSums.{insert-remove, insert_back, get-remove_same}
+use Rattle.blob_digest.proofs.MapSums.{insert-remove, get-remove_same}
 use Rattle.blob_digest.proofs.RowLemmas.{is_some-position}
 use Rattle.blob_digest.specs.Rows.{IsApart}
 use Rattle.blob_digest.specs.Keys.{same_text}
@@ -119,8 +119,16 @@ module _ (l : Linked) (links' : FinMap link_cmp ℕ) (u : Uploaded) (slots : Lis
   -- a change of links and of one count is one of the catalog's links alone
   pub catalog-relink : catalog_from l' u slots' marks max_blob ≡ after
   catalog-relink = λ i. record {
-    tenants = l.tenants; slots = length-with_slot slots k (on_held g) i; max_blob = max_blob; repos = l.repos; links = links_of links'; manifests = before.manifests;
-    sessions = u.sessions; next = u.next; residents = from_entries {R = text_cmp} (rows-with_slot g keeps slots k marks i); retired = retired-with_slot g keeps slots k i;
+    tenants = l.tenants;
+    slots = length-with_slot slots k (on_held g) i;
+    max_blob = max_blob;
+    repos = l.repos;
+    links = links_of links';
+    manifests = before.manifests;
+    sessions = u.sessions;
+    next = u.next;
+    residents = from_entries {R = text_cmp} (rows-with_slot g keeps slots k marks i);
+    retired = retired-with_slot g keeps slots k i;
   }
 
   abbrev Origin : ℕ → Held → Type 0
@@ -174,9 +182,9 @@ module _ (l : Linked) (u : Uploaded) (slots : List Slot) (marks : List Bool) (ma
       let after : count D h.digest ≡ 1 + count C h.digest = ap (λ (X : Catalog). count X h.digest) same ∙ more in
       let counted : h.links + 1 ≡ count D h.digest = omega arith in
       IsTied-relink l (insert l.links (r, h.digest) n) u slots marks max_blob k h at raise raise-KeepsBlob tied
-        (λ key m found. sized key m (eq_by_cmp link_cmp key (r, h.digest)) refl (sym (get-insert link_cmp_total l.links (r, h.digest) n key) ∙ found))
-        counted
-        (λ x differ. ap (λ (X : Catalog). count X x) same ∙ count_other-link C r h.digest x differ)
+      (λ key m found. sized key m (eq_by_cmp link_cmp key (r, h.digest)) refl (sym (get-insert link_cmp_total l.links (r, h.digest) n key) ∙ found))
+      counted
+      (λ x differ. ap (λ (X : Catalog). count X x) same ∙ count_other-link C r h.digest x differ)
     where
       sized : (key : Link) (m : ℕ) (t : Bool) → eq_by_cmp link_cmp key (r, h.digest) ≡ t → cond t (Some n) (get l.links key) ≡ Some m → (c : Resident) × (get C.residents key.1 ≡ Some c) × (m ≡ length c.bytes)
       sized key m true tie found = (b, ap (λ (q : Link). get C.residents q.1) (same_key key (r, h.digest) tie) ∙ kept, sym (some_same found) ∙ size)
@@ -196,9 +204,9 @@ module _ (l : Linked) (u : Uploaded) (slots : List Slot) (marks : List Bool) (ma
       let one_more : count C h.digest ≡ 1 + count E h.digest = sym (ap (λ (X : Catalog). count X h.digest) again) ∙ count-link E r h.digest there gone in
       let less : h.links - 1 ≡ count E h.digest = omega arith in
       IsTied-relink l (remove l.links (r, h.digest)) u slots marks max_blob k h at lower lower-KeepsBlob tied
-        (λ key m found. tied.sizes key m (kept_at key m (eq_by_cmp link_cmp key (r, h.digest)) (sym (get-remove link_cmp_total l.links (r, h.digest) key) ∙ found)))
-        (less ∙ sym (ap (λ (X : Catalog). count X h.digest) same))
-        (λ x differ. ap (λ (X : Catalog). count X x) same ∙ sym (sym (ap (λ (X : Catalog). count X x) again) ∙ count_other-link E r h.digest x differ))
+      (λ key m found. tied.sizes key m (kept_at key m (eq_by_cmp link_cmp key (r, h.digest)) (sym (get-remove link_cmp_total l.links (r, h.digest) key) ∙ found)))
+      (less ∙ sym (ap (λ (X : Catalog). count X h.digest) same))
+      (λ x differ. ap (λ (X : Catalog). count X x) same ∙ sym (sym (ap (λ (X : Catalog). count X x) again) ∙ count_other-link E r h.digest x differ))
     where
       kept_at : (key : Link) (m : ℕ) (b : Bool) → cond b None (get l.links key) ≡ Some m → get l.links key ≡ Some m
       kept_at key m true e = cc

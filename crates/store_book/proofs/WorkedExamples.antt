@@ -1,7 +1,7 @@
 -- The definitions on small literals.
 use Rattle.std.proofs.Common.{◌≡◌, false, List, [], ◌∷◌, Some, None, Ok, Err, refl, arith}
 use Rattle.std.specs.Prelude.{codes}
-use Rattle.std.specs.FinMap.{get-empty, get-insert, get-remove, entries-insert, empty, insert}
+use Rattle.std.specs.FinMap.{get-empty, get-insert, entries-insert, empty, insert}
 use Rattle.std.specs.Cmp.Lexicographic.{nat_list_cmp_total}
 use Rattle.blob_digest.specs.declared.refusal.Refusal.TheVariants.{NameUnknown, UploadUnknown, RangeInvalid, SizeInvalid, Quota}
 use Rattle.std.specs.Fmt.{digits}

@@ -1,5 +1,5 @@
 -- What linking a sealed blob does to the links and the slots.
-use Rattle.std.specs.Prelude.{◌≡◌, ◌≢◌, ℕ, ◌+◌, ◌<◌, ◌^◌, true, false, Option, Some, None, List, length, if◌then◌else◌}
+use Rattle.std.specs.Prelude.{◌≡◌, ◌≢◌, ℕ, ◌+◌, ◌<◌, ◌^◌, true, false, Some, None, List, length, if◌then◌else◌}
 use Rattle.std.specs.FinMap as fmap
 use Rattle.blob_digest.specs.Keys.{Text}
 use Rattle.blob_digest.specs.Sets as set

@@ -1,5 +1,5 @@
 -- The catalog that the layers of the book stand for together, and what ties them.
-use Rattle.std.specs.Prelude.{◌≡◌, ℕ, ◌<◌, Bool, false, Option, Some, None, List, [], ◌∷◌, length, map, count_by, slice_index}
+use Rattle.std.specs.Prelude.{◌≡◌, ℕ, ◌<◌, Bool, false, Some, None, List, [], ◌∷◌, length, map, count_by, slice_index}
 use Rattle.std.specs.FinMap as fmap
 use Rattle.blob_digest.specs.Sets as set
 use Rattle.slot_table.specs.Slots.{Slot, Held, Content, Free, Used, Retired, is_retired, held_at, IsDistinct}

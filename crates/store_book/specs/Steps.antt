@@ -1,7 +1,7 @@
 -- What each command answers and leaves. A command's outcome is the first refusal that applies, in the order in which they stand,
 -- or its answer with the catalog after it. Want of memory may come in place of any outcome, and changes nothing (`Does`).
-use Rattle.std.specs.Prelude.{◌≡◌, ℕ, ◌+◌, ◌^◌, nat_le, nat_lt, ◌&&◌, ◌||◌, not, Bool, true, false, Option, Some, None, Result, Ok, Err, [], length, slice_set}
-use Rattle.std.specs.Option.{option_map_or, ok_or}
+use Rattle.std.specs.Prelude.{ℕ, ◌+◌, ◌^◌, nat_le, nat_lt, ◌&&◌, ◌||◌, not, Bool, true, false, Option, Some, None, Result, Ok, [], length, slice_set}
+use Rattle.std.specs.Option.{ok_or}
 use Rattle.std.specs.FinMap as fmap
 use Rattle.blob_digest.specs.Sets as set
 use Rattle.blob_digest.specs.declared.range.ByteRange.{ByteRange}
@@ -10,7 +10,7 @@ use Rattle.blob_digest.specs.declared.refusal.Refusal.TheVariants.{NameUnknown, 
 use Rattle.blob_digest.specs.Digests.{is_digest_of}
 pub use Rattle.blob_digest.specs.Outcomes.{OutcomeIn, ◌>>=◌, refuse}
 pub use Rattle.upload_table.specs.Sessions.{session_in, length_after, check_in, append_in, whole_in}
-use Rattle.store_book.specs.Catalog.{Text, Catalog, Session, Resident, same_text, tenant_of, quota_of, received, used, next_of, open_sessions, repos_of}
+use Rattle.store_book.specs.Catalog.{Text, Catalog, Session, Resident, same_text, tenant_of, quota_of, used, next_of, open_sessions, repos_of}
 
 -- what a command answers, with the catalog after it, or its refusal
 abbrev pub Outcome : Type 0 → Type 0

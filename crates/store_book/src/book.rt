@@ -2,6 +2,7 @@ ghost use Rattle.std.specs.Prelude.{◌≡◌, ◌+◌, ◌<◌, ℕ, List, leng
 ghost use Rattle.blob_digest.specs.Outcomes.{Does, refuse};
 ghost use Rattle.link_table.specs.Linked.{quota_in, used_in};
 ghost use Rattle.link_table.specs.Tenancy.{tenants_shown};
+ghost use Rattle.store_book.specs.Laws.{Sound};
 ghost use Rattle.store_book.specs.Openings.{OpensBook, RefusesBook};
 ghost use Rattle.store_book.specs.Printed.{book_text};
 ghost use Rattle.store_book.specs.Steps.{start, append, close};
@@ -182,9 +183,10 @@ impl Book {
     /// names with its use, its quota and its next session number; after it each of its repositories
     /// with its blobs, its manifests and its sessions, each in their orders; and `end`.
     ///
-    /// Refused is what the writer refuses.
+    /// Refused is what the writer refuses. What is printed is a sound catalog.
     pub fn print<W: Write>(&self, writer: &mut W) -> io::Result<()>
-        ensures { OnOk result (Appends (W.contents writer.old) (W.contents writer.new) (book_text self.now.catalog)) }
+        ensures sound { Sound self.now.catalog }
+        ensures text { OnOk result (Appends (W.contents writer.old) (W.contents writer.new) (book_text self.now.catalog)) }
     {
         print_book(writer, &self.links, &self.uploads, &self.slots)
     }

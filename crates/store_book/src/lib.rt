@@ -15,6 +15,8 @@ mod config;
 mod keep;
 pub mod laws;
 mod print;
+#[cfg(test)]
+mod tests;
 
 pub use book::Book;
 pub use config::Config;

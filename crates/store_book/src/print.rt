@@ -143,7 +143,10 @@ fn print_use<W: Write>(
 ) -> io::Result<()>
     ensures { OnOk result (Appends (W.contents writer.old) (W.contents writer.new) (line (codes "tenant " ++ name.now ++ codes " used " ++ decimal used ++ codes " quota " ++ decimal quota ++ codes " next " ++ decimal next))) }
 {
-    writeln!(writer, "tenant {name} used {used} quota {quota} next {next}")
+    writeln!(
+        writer,
+        "tenant {name} used {used} quota {quota} next {next}"
+    )
 }
 
 /// A tenant's line, and its repositories.

@@ -1,4 +1,4 @@
-use Rattle.std.proofs.Common.{rules, ◌∙◌, ap, sym, length}
+use Rattle.std.proofs.Common.{rules}
 use Rattle.store_book.proofs.KeepCalls.{differs_by_test, size_by_test, again_new, again_old}
 use Rattle.store_book.proofs.keep.keep_again.Goals as goal
 

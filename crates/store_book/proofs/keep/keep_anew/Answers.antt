@@ -1,4 +1,4 @@
-use Rattle.std.proofs.Common.{rules, ◌∙◌, ap, sym, length}
+use Rattle.std.proofs.Common.{◌∙◌, length}
 use Rattle.store_book.proofs.KeepCalls.{link_there, unlink-link, kept_anew}
 use Rattle.store_book.proofs.keep.keep_anew.Goals as goal
 
@@ -12,6 +12,6 @@ returns-in-Ok-clause-ok c =
 
 pub returns-in-Err-place-clause-err : goal.returns-in-Err-place-clause-err
 returns-in-Err-place-clause-err c = (
-    c.unlink.ensures ∙ unlink-link c.args.links.now c.link.new.self c.args.repo.now c.digest-digest.result (length c.bytes.result.now) c.in_default.field-0 c.in_default.ensures (rw c.digest-digest.ensures.value (c.requires.can.held c.args.blob.0 c.requires.absent c.args.repo.now)),
-    c.in-Err-place.ensures.err,
-  )
+  c.unlink.ensures ∙ unlink-link c.args.links.now c.link.new.self c.args.repo.now c.digest-digest.result (length c.bytes.result.now) c.in_default.field-0 c.in_default.ensures (rw c.digest-digest.ensures.value (c.requires.can.held c.args.blob.0 c.requires.absent c.args.repo.now)),
+  c.in-Err-place.ensures.err,
+)

@@ -1,4 +1,4 @@
-use Rattle.std.proofs.Common.{◌≡◌, ◌<◌, ◌≤◌, ◌++◌, List, ℕ, codes, length, arith, subst, ap}
+use Rattle.std.proofs.Common.{◌<◌, ◌≤◌, ◌++◌, List, ℕ, codes, length, arith, subst}
 use Rattle.std.specs.Io.KnownBytes.{Appends}
 use Rattle.std.specs.List.{flat_map, enumerate_from}
 use Rattle.store_book.specs.Lines.{tenant_in, tenant_rows}

@@ -1,10 +1,10 @@
-use Rattle.std.proofs.Common.{ap, sym, ◌∙◌, length, subst, refl, Ok, Err}
+use Rattle.std.proofs.Common.{ap, sym, ◌∙◌, length, subst, refl, Err}
 use Rattle.std.proofs.lemmas.Result.{err_from_is_err_and}
 use Rattle.blob_digest.specs.Keys.{Text}
 use Rattle.upload_table.specs.Uploaded.{reopened}
 use Rattle.store_book.specs.BookState.{BookState}
 use Rattle.store_book.specs.Keeping.{IsUnkept}
-use Rattle.store_book.specs.Layers.{book_catalog, IsBook}
+use Rattle.store_book.specs.Layers.{book_catalog}
 use Rattle.store_book.proofs.Appending.{metered}
 use Rattle.store_book.proofs.Closing.{close_over, close_other_digest, close_unkept}
 use Rattle.store_book.proofs.CloseCalls.{CanKeep-sealed, closed_ok, closed_book, generations-kept, uploads_left, was_charged}
@@ -49,8 +49,7 @@ returns-in-Ok-clause-does c =
 pub returns-in-Err-clause-does : goal.returns-in-Err-clause-does
 returns-in-Err-clause-does c =
     let within = metered c.self.inside.links c.self.inside.uploads c.self.inside.slots c.self.inside.max_blob c.in_ok-tenant.tenant c.self.invariant (length c.args.bytes.now) c.in_ok-tenant.ensures.there ∙ sym c.in_ok-check_quota.ensures in
-    let uploads = c.reopen.ensures ∙ ap (λ (b : Text × Text). reopened c.seal.new.self b.1) c.in-Err.ensures.back ∙ c.in_ok-blob.ensures.restores.1 in
-    (
+    let uploads = c.reopen.ensures ∙ ap (λ (b : Text × Text). reopened c.seal.new.self b.1) c.in-Err.ensures.back ∙ c.in_ok-blob.ensures.restores.1 in (
       (λ other. rw (← c.self.view_is) (close_unkept c.self.inside.links c.self.inside.uploads c.self.inside.slots c.self.inside.max_blob c.in_ok-tenant.tenant c.args.number c.in_ok-size.size c.args.repo.now c.args.digest.now c.args.range c.args.bytes.now c.self.invariant (sym c.in_ok-tenant.ensures.known) (sym c.in_ok-size.ensures) within c.in_ok-blob.ensures.agrees c.in-Err.refusal (subst (λ (b : Text × Text). IsUnkept c.self.inside.slots b c.in-Err.refusal) c.in_ok-blob.ensures.blob (c.in-Err.ensures.refused other)))),
       (λ i. book_catalog (c.in-Err.ensures.err.0 i) (uploads i) (c.in-Err.ensures.err.1 i) c.self.inside.max_blob) ∙ ap (λ (s : BookState). s.catalog) c.self.view_is,
     )

@@ -1,5 +1,5 @@
-use Rattle.std.proofs.Common.{◌∙◌, ◌≡◌, ◌≤◌, ◌^◌, ap, sym, arith, rules, subst}
-use Rattle.link_table.specs.Tenancy.{Opens, tenants_shown}
+use Rattle.std.proofs.Common.{◌≤◌, ◌^◌, arith}
+use Rattle.link_table.specs.Tenancy.{tenants_shown}
 use Rattle.store_book.proofs.Opening.{opened_book, opens_book}
 use Rattle.store_book.proofs.book.Book.new.Goals as goal
 
