@@ -2,7 +2,7 @@
 ghost use Rattle.std.specs.Prelude.{◌≡◌, ◌↔◌, ◌==◌, IsTrue, not};
 ghost use Rattle.std.specs.List.{list_all};
 ghost use Rattle.blob_digest.specs.Names.{IsPath, IsComponent, is_alnum};
-ghost use Rattle.blob_digest.specs.NameMachine.{accepts, after, is_end};
+ghost use Rattle.blob_digest.specs.NameMachine.{accepts, after};
 ghost use Rattle.blob_digest.specs.declared.name.State.TheVariants.{Start};
 
 /// What was read last, and so what may come next.

@@ -1,5 +1,5 @@
 //! What the program runs on, and why it may stop before it runs.
-ghost use Rattle.std.specs.Prelude.{◌≡◌, ◌++◌, Some, IfErr, OnErr, OnOk, string_bytes};
+ghost use Rattle.std.specs.Prelude.{◌≡◌, ◌++◌, IfErr, OnErr, OnOk, string_bytes};
 ghost use Rattle.blobctl.specs.Stops.{stop_status, stop_text};
 ghost use Rattle.blobctl.specs.declared.options.Stop.TheVariants.{Memory};
 

@@ -1,5 +1,5 @@
 //! Plays the rows of a script.
-ghost use Rattle.std.specs.Prelude.{◌≡◌, ◌≢◌, ◌⊎◌, ◌≤◌, true, Some, IfOk, IfErr, MatchResult, IsTrue, ◌↔◌, map, is_some};
+ghost use Rattle.std.specs.Prelude.{◌≡◌, ◌≢◌, ◌⊎◌, Some, IfOk, IfErr, MatchResult, IsTrue, ◌↔◌, map};
 ghost use Rattle.blobctl.specs.Commands.{IsNoRange, SpellsRange};
 ghost use Rattle.blobctl.specs.Lines.{line_of};
 ghost use Rattle.blobctl.specs.Plays.{AnswersRow, Plays, RowStep};

@@ -1,5 +1,5 @@
 //! Reads the rows of a script.
-ghost use Rattle.std.specs.Prelude.{◌≡◌, ◌⊎◌, ◌++◌, ◌∷◌, [], List, ℕ, true, false, IfOk, IfErr, OnOk, Some, None, map};
+ghost use Rattle.std.specs.Prelude.{◌≡◌, ◌⊎◌, ◌++◌, ◌∷◌, [], List, true, false, IfOk, IfErr, OnOk, Some, None, map};
 ghost use Rattle.csv.specs.Records.{fields_of};
 ghost use Rattle.blob_digest.specs.Keys.{Text};
 ghost use Rattle.blobctl.specs.Lines.{line_of};

@@ -1,9 +1,9 @@
 //! Reads the tenants that the arguments name.
-ghost use Rattle.std.specs.Prelude.{◌≡◌, ◌≢◌, ◌⊎◌, ◌<◌, ◌++◌, ◌∷◌, [], false, IfOk, IfErr, OnOk, MatchOption, length, map, string_bytes};
+ghost use Rattle.std.specs.Prelude.{◌≡◌, ◌⊎◌, ◌<◌, ◌++◌, ◌∷◌, [], false, IfOk, IfErr, OnOk, MatchOption, length, map, string_bytes};
 ghost use Rattle.std.specs.List.{list_any};
-ghost use Rattle.blob_digest.specs.Keys.{Text, same_text};
+ghost use Rattle.blob_digest.specs.Keys.{same_text};
 ghost use Rattle.blob_digest.specs.Tenants.{Tenant};
-ghost use Rattle.blobctl.specs.Tenants.{AreTenants, HasBadTenant, IsRefusedAfter, IsTenantWord, SpellTenants, most_tenants, tenant_of, tenants_of};
+ghost use Rattle.blobctl.specs.Tenants.{AreTenants, HasBadTenant, IsRefusedAfter, IsTenantWord, SpellTenants, most_tenants, tenants_of};
 
 use crate::number::decimal;
 use crate::options::Stop;

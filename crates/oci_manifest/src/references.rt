@@ -1,6 +1,6 @@
 //! The references of a manifest: those that `specs/Manifests.antt` defines, one function for each of
 //! its definitions.
-ghost use Rattle.std.specs.Prelude.{◌≡◌, IfOk, IfErr, option_map, option_and_then, ◌⊎◌, Some, None};
+ghost use Rattle.std.specs.Prelude.{◌≡◌, IfOk, IfErr, option_map, ◌⊎◌, Some, None};
 ghost use Rattle.serde_json.specs.View.{view, items_view};
 ghost use Rattle.oci_manifest.specs.Manifests.{described, document_of, is_filled, is_skipped, is_version_2, image_refs, layer_refs, listed, named, once, refs_of};
 

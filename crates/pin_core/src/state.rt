@@ -1,6 +1,6 @@
 //! A pin world that a program holds.
 
-ghost use Rattle.std.specs.Prelude.{◌≡◌, ◌⊎◌, ◌+◌, ◌<◌, ◌≤◌, ◌↔◌, length, slice_get, None, IfOk, IfErr, OnOk, OnErr, IfSome, IsTrue, ◌^◌};
+ghost use Rattle.std.specs.Prelude.{◌≡◌, ◌⊎◌, ◌+◌, ◌<◌, ◌↔◌, length, slice_get, None, IfOk, IfErr, OnOk, OnErr, IfSome, IsTrue, ◌^◌};
 ghost use Rattle.std.specs.Option.{option_map, option_map_or};
 ghost use Rattle.blob_digest.specs.declared.refusal.Refusal.TheVariants.{LimitReached, Memory};
 ghost use Rattle.pin_core.specs.World.{IsState, holds_of, hold_named, opening, row, weight_on, word_row};

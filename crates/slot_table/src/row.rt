@@ -1,7 +1,7 @@
 //! One slot's row: its generation and what the slot holds.
 
 ghost use Rattle.std.specs.Prelude.{◌≡◌, ◌+◌, ◌<◌, ◌^◌};
-ghost use Rattle.std.specs.Option.{option_map, option_map_or};
+ghost use Rattle.std.specs.Option.{option_map};
 ghost use Rattle.slot_table.specs.Slots.{empty_slot, held_in, is_free, is_orphan, phase_in, has_digest, links_in, fill, on_held, raise, lower, mark, emptied, spent};
 
 use crate::phase::Phase;

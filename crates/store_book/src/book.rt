@@ -1,4 +1,4 @@
-ghost use Rattle.std.specs.Prelude.{◌≡◌, ◌+◌, ◌<◌, ℕ, List, length, map, Some, nat_lt, IfOk, IfErr, OnOk, replicate};
+ghost use Rattle.std.specs.Prelude.{◌≡◌, ◌+◌, ◌<◌, length, Some, nat_lt, IfOk, IfErr, OnOk};
 ghost use Rattle.blob_digest.specs.Outcomes.{Does, refuse};
 ghost use Rattle.link_table.specs.Linked.{quota_in, used_in};
 ghost use Rattle.link_table.specs.Tenancy.{tenants_shown};

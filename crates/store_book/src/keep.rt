@@ -1,10 +1,8 @@
 //! Linking a sealed blob: the links and the slots together.
 
-ghost use Rattle.std.specs.Prelude.{◌≡◌, ◌≢◌, ◌⊎◌, ℕ, ◌+◌, ◌<◌, ◌^◌, length, true, false, Some, None, IfOk, IfErr, OnOk, OnErr, bytes_eq};
-ghost use Rattle.std.specs.Option.{option_map, option_map_or};
-ghost use Rattle.slot_table.specs.Slots.{held_at, links_at, phase_at, slot_of};
-ghost use Rattle.slot_table.specs.declared.phase.Phase.TheVariants as phase;
-ghost use Rattle.link_table.specs.Linked.{is_tenants, used_in};
+ghost use Rattle.std.specs.Prelude.{◌≡◌, ◌≢◌, ◌<◌, length, true, false, Some, None, IfErr, OnOk, OnErr, bytes_eq};
+ghost use Rattle.std.specs.Option.{option_map_or};
+ghost use Rattle.slot_table.specs.Slots.{held_at, slot_of};
 ghost use Rattle.store_book.specs.Keeping.{CanKeep, IsKept, IsUnkept};
 
 use blob_digest::{Blob, Refusal, RepoName};

@@ -1,7 +1,7 @@
-ghost use Rattle.std.specs.Prelude.{◌≡◌, ◌≢◌, ℕ, ◌+◌, ◌<◌, ◌^◌, None, Some, IsSome, IfOk, IfErr, OnOk, OnErr, true, false, length, map, slice_get, slice_index};
+ghost use Rattle.std.specs.Prelude.{◌≡◌, ◌≢◌, ◌+◌, ◌<◌, ◌^◌, None, Some, IsSome, IfOk, IfErr, OnOk, OnErr, true, false, length, map, slice_get, slice_index};
 ghost use Rattle.std.specs.FinMap as fmap;
 ghost use Rattle.blob_digest.specs.Digests.{is_digest_of};
-ghost use Rattle.blob_digest.specs.Outcomes.{Answers, Does};
+ghost use Rattle.blob_digest.specs.Outcomes.{Does};
 ghost use Rattle.upload_table.specs.Sessions.{check_in, in_sessions, received_in, sessions_of, listed, whole_in};
 ghost use Rattle.upload_table.specs.Uploaded.{append_upload, opening, start_upload, CanReopen, reopened};
 
