@@ -10,12 +10,13 @@ use Rattle.std.specs.List.{All, list_any}
 use Rattle.blob_digest.specs.Keys.{Text, same_text}
 use Rattle.blob_digest.specs.Tenants.{Tenant}
 use Rattle.blob_digest.proofs.KeyOrders.{text_is_same}
-use Rattle.blobctl.specs.Tenants.{HasBadTenant, IsRefusedAfter, IsTenantWord, SpellTenants, tenants_of}
+use Rattle.store_book.specs.Openings.{tenants_shown}
+use Rattle.blobctl.specs.Tenants.{HasBadTenant, IsRefusedAfter, IsTenantWord, SpellTenants}
 use Rattle.blobctl.specs.declared.options.Stop.{Stop}
 use Rattle.blobctl.specs.declared.options.Stop.TheVariants.{BadTenant, Memory}
 
 -- a name is among the tenants as it is among those that the program keeps
-pub any_named : (tenants : List (String Global × ℕ)) (name : Text) → list_any (λ t. same_text t.name name) (tenants_of tenants) ≡ list_any (λ t. same_text (string_bytes t.0) name) tenants
+pub any_named : (tenants : List (String Global × ℕ)) (name : Text) → list_any (λ t. same_text t.name name) (tenants_shown tenants) ≡ list_any (λ t. same_text (string_bytes t.0) name) tenants
 any_named [] name = refl
 any_named (t ∷ ts) name = ap (λ b. same_text (string_bytes t.0) name || b) (any_named ts name)
 

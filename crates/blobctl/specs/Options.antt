@@ -1,10 +1,9 @@
 -- The options that a run can have.
-use Rattle.std.specs.Prelude.{◌≤◌, ◌^◌}
-use Rattle.blobctl.specs.Tenants.{AreTenants, tenants_of}
+use Rattle.store_book.specs.Openings.{HasNames, IsSized, IsWithinLimits, tenants_shown}
 use Rattle.blobctl.specs.declared.options.Options.{Options}
 
 -- the numbers are within their limits, and a store can have the tenants
 pub record IsWithin (options : Options) : Type 0 where
-  pub slots : (1 ≤ options.store.slots) × (options.store.slots ≤ 65536)
-  pub max_blob : options.store.max_blob ≤ 2 ^ 40
-  pub tenants : AreTenants (tenants_of options.store.tenants.items)
+  pub sized : IsSized options.store.slots options.store.max_blob
+  pub names : HasNames (tenants_shown options.store.tenants.items)
+  pub limits : IsWithinLimits (tenants_shown options.store.tenants.items)

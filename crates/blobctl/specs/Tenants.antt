@@ -1,7 +1,6 @@
 -- The tenants that the arguments name.
-use Rattle.std.specs.Prelude.{◌≡◌, ◌⊎◌, ◌<◌, ◌≤◌, ◌^◌, ◌==◌, ℕ, List, [], ◌∷◌, ◌++◌, Some, count_by, length, map, string_bytes, String, true}
-use Rattle.std.specs.declared.alloc.Global.{Global}
-use Rattle.std.specs.List.{All, after_first, before_first, list_any, position_or_len}
+use Rattle.std.specs.Prelude.{◌≡◌, ◌⊎◌, ◌<◌, ◌≤◌, ◌^◌, ◌==◌, ℕ, List, [], ◌∷◌, ◌++◌, Some, length, true}
+use Rattle.std.specs.List.{after_first, before_first, list_any, position_or_len}
 use Rattle.blob_digest.specs.Keys.{Text, same_text}
 use Rattle.blob_digest.specs.Names.{IsComponent}
 use Rattle.blob_digest.specs.Ranges.{number_of}
@@ -40,18 +39,3 @@ abbrev pub HasBadTenant : List Text → Type 0
 HasBadTenant words =
     (words ≡ [])
     ⊎ ((before : List Text) × (tenants : List Tenant) × (word : Text) × (after : List Text) × (words ≡ before ++ word ∷ after) × SpellTenants before tenants × IsRefusedAfter tenants word)
-
--- a store can have these tenants: from 1 to 256, each named by a component of its own, with quotas up to 2^50
-pub record AreTenants (tenants : List Tenant) : Type 0 where
-  pub some : 0 < length tenants
-  pub few : length tenants ≤ most_tenants
-  pub components : All (λ t. IsComponent t.name) tenants
-  pub quotas : All (λ t. t.quota ≤ most_quota) tenants
-  pub apart : (name : Text) → count_by (λ t. same_text t.name name) tenants ≤ 1
-
--- a tenant as contracts see it
-abbrev pub tenant_of : String Global × ℕ → Tenant
-tenant_of t = record { name = string_bytes t.0; quota = t.1 }
-
-abbrev pub tenants_of : List (String Global × ℕ) → List Tenant
-tenants_of tenants = map tenant_of tenants

@@ -5,7 +5,7 @@ ghost use Rattle.blobctl.specs.Ending.{EndsWell, Explains, IsReadWhole};
 ghost use Rattle.blobctl.specs.Lines.{line_of};
 ghost use Rattle.blobctl.specs.Options.{IsWithin};
 ghost use Rattle.blobctl.specs.Script.{AreRowsOf};
-ghost use Rattle.blobctl.specs.Tenants.{tenants_of};
+ghost use Rattle.store_book.specs.Openings.{tenants_shown};
 
 use crate::alone::play_alone;
 use crate::fault::Fault;
@@ -42,7 +42,7 @@ pub fn run<R: Read, W: Write>(
     options: &Options,
 ) -> Result<(), Fault>
     requires { IsWithin options.now }
-    ensures played { OnOk result (EndsWell R.remaining reader.old reader.new (W.contents writer.old) (W.contents writer.new) (tenants_of options.now.store.tenants.items) options.now.store.slots options.now.store.max_blob) }
+    ensures played { OnOk result (EndsWell R.remaining reader.old reader.new (W.contents writer.old) (W.contents writer.new) (tenants_shown options.now.store.tenants.items) options.now.store.slots options.now.store.max_blob) }
     ensures silent { IfErr result (λ e. e ≢ Fault.Write → writer.new ≡ writer.old) }
     ensures fault { IfErr result (λ e. Explains R.remaining reader.old reader.new e) }
 {

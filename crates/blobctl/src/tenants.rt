@@ -3,7 +3,8 @@ ghost use Rattle.std.specs.Prelude.{◌≡◌, ◌⊎◌, ◌<◌, ◌++◌, ◌
 ghost use Rattle.std.specs.List.{list_any};
 ghost use Rattle.blob_digest.specs.Keys.{same_text};
 ghost use Rattle.blob_digest.specs.Tenants.{Tenant};
-ghost use Rattle.blobctl.specs.Tenants.{AreTenants, HasBadTenant, IsRefusedAfter, IsTenantWord, SpellTenants, most_tenants, tenants_of};
+ghost use Rattle.store_book.specs.Openings.{HasNames, IsWithinLimits, tenants_shown};
+ghost use Rattle.blobctl.specs.Tenants.{HasBadTenant, IsRefusedAfter, IsTenantWord, SpellTenants, most_tenants};
 
 use crate::number::decimal;
 use crate::options::Stop;
@@ -41,8 +42,8 @@ fn has_name(tenants: &[(String, u64)], name: &str) -> bool
 
 /// Adds the tenant that a word spells.
 fn add_tenant(alloc: Global, word: &str, tenants: &mut Vec<(String, u64)>) -> Result<(), Stop>
-    ensures added { OnOk result ((tenant : Tenant) × IsTenantWord word.now tenant × (list_any (λ t. same_text t.name tenant.name) (tenants_of tenants.old.items) ≡ false) × (length tenants.old.items < most_tenants) × (tenants_of tenants.new.items ≡ tenants_of tenants.old.items ++ tenant ∷ [])) }
-    ensures refused { IfErr result (λ e. (e ≡ Stop.Memory) ⊎ ((e ≡ Stop.BadTenant) × IsRefusedAfter (tenants_of tenants.old.items) word.now)) }
+    ensures added { OnOk result ((tenant : Tenant) × IsTenantWord word.now tenant × (list_any (λ t. same_text t.name tenant.name) (tenants_shown tenants.old.items) ≡ false) × (length tenants.old.items < most_tenants) × (tenants_shown tenants.new.items ≡ tenants_shown tenants.old.items ++ tenant ∷ [])) }
+    ensures refused { IfErr result (λ e. (e ≡ Stop.Memory) ⊎ ((e ≡ Stop.BadTenant) × IsRefusedAfter (tenants_shown tenants.old.items) word.now)) }
 {
     let Some((name, quota)) = read_tenant(word) else {
         return Err(Stop::BadTenant);
@@ -60,8 +61,9 @@ fn add_tenant(alloc: Global, word: &str, tenants: &mut Vec<(String, u64)>) -> Re
 
 /// The tenants that the words spell, in their order.
 pub fn read_tenants(alloc: Global, words: &[&str]) -> Result<Vec<(String, u64)>, Stop>
-    ensures spelled { IfOk result (λ v. SpellTenants (map (λ w. w.now) words.now) (tenants_of v.items)) }
-    ensures allowed { IfOk result (λ v. AreTenants (tenants_of v.items)) }
+    ensures spelled { IfOk result (λ v. SpellTenants (map (λ w. w.now) words.now) (tenants_shown v.items)) }
+    ensures names { IfOk result (λ v. HasNames (tenants_shown v.items)) }
+    ensures limits { IfOk result (λ v. IsWithinLimits (tenants_shown v.items)) }
     ensures refused { IfErr result (λ e. (e ≡ Stop.Memory) ⊎ ((e ≡ Stop.BadTenant) × HasBadTenant (map (λ w. w.now) words.now))) }
 {
     if words.is_empty() {

@@ -2,7 +2,7 @@ use Rattle.std.proofs.Common.{◌≡◌, ◌<◌, ◌∙◌, ◌∷◌, [], arit
 use Rattle.std.proofs.lemmas.List.{map-append}
 use Rattle.std.specs.List.{list_any}
 use Rattle.blob_digest.specs.Keys.{same_text}
-use Rattle.blobctl.specs.Tenants.{tenant_of}
+use Rattle.store_book.specs.Openings.{tenant_shown}
 use Rattle.blobctl.proofs.TenantLists.{any_named}
 use Rattle.blobctl.proofs.tenants.add_tenant.Goals as goal
 
@@ -17,4 +17,4 @@ returns-clause-added c =
     let size : length c.args.tenants.now.items ≡ vec_len c.args.tenants.now = search rules in
     let few : length c.args.tenants.now.items < 256 = omega (arith, size, c.if-len-ge-MAX_TENANTS.false, c.len.ensures) in
     let name : string_bytes c.in_ok-name.name ≡ c.in-Some.name.now = search rules in
-    (record { name = c.in-Some.name.now; quota = c.in-Some.quota }, c.in-Some.ensures, any_named c.args.tenants.now.items c.in-Some.name.now ∙ none, few, rw c.in_ok-push.ensures.items (map-append tenant_of c.args.tenants.now.items ((c.in_ok-name.name, c.in-Some.quota) ∷ []) ∙ rw name refl))
+    (record { name = c.in-Some.name.now; quota = c.in-Some.quota }, c.in-Some.ensures, any_named c.args.tenants.now.items c.in-Some.name.now ∙ none, few, rw c.in_ok-push.ensures.items (map-append tenant_shown c.args.tenants.now.items ((c.in_ok-name.name, c.in-Some.quota) ∷ []) ∙ rw name refl))

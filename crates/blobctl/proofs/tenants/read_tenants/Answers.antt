@@ -5,7 +5,8 @@ use Rattle.std.proofs.lemmas.Result.{err_from_is_err_and}
 use Rattle.blob_digest.specs.Keys.{Text}
 use Rattle.blob_digest.specs.Tenants.{Tenant}
 use Rattle.blob_digest.specs.Names.{IsComponent}
-use Rattle.blobctl.specs.Tenants.{most_quota, tenant_of, tenants_of}
+use Rattle.store_book.specs.Openings.{tenant_shown, tenants_shown}
+use Rattle.blobctl.specs.Tenants.{most_quota}
 use Rattle.blobctl.proofs.TenantLists.{all_more, bad_word, once_more, one_spelled, words_more, words_round}
 use Rattle.blobctl.proofs.tenants.read_tenants.Goals as goal
 
@@ -20,7 +21,7 @@ returns-in_err-add_tenant-clause-refused c =
     let words = c.args.words.now in
     let whole = words_round words i nothing c.loop-word-test.true in
     rw (p.1, p.2) (bad_word (map (λ (w : Bor Text). w.now) words) (map (λ (w : Bor Text). w.now) (take i words)) (map (λ (w : Bor Text). w.now) (drop (i + 1) words))
-    (tenants_of c.loop-word.tenants.items) (get_or words i nothing).now c.in_err-add_tenant.field-0.0 whole c.loop-word.invariant.spelled c.in_err-add_tenant.ensures.refused)
+    (tenants_shown c.loop-word.tenants.items) (get_or words i nothing).now c.in_err-add_tenant.field-0.0 whole c.loop-word.invariant.spelled c.in_err-add_tenant.ensures.refused)
 
 pub loop-word-preserved : goal.loop-word-preserved
 unfolding nothing
@@ -29,10 +30,10 @@ loop-word-preserved c =
     let inv = c.loop-word.invariant in
     let i = c.loop-word.word-index in
     let words = c.args.words.now in
-    let old = tenants_of c.loop-word.tenants.items in
+    let old = tenants_shown c.loop-word.tenants.items in
     let word = (get_or words i nothing).now in
     let count : length c.add_tenant.new.tenants.items ≡ length c.loop-word.tenants.items + 1 =
-    sym (length-map c.add_tenant.new.tenants.items tenant_of) ∙ ap length added.4 ∙ length-append old (added.0 ∷ []) ∙ ap (λ n. n + 1) (length-map c.loop-word.tenants.items tenant_of) in
+    sym (length-map c.add_tenant.new.tenants.items tenant_shown) ∙ ap length added.4 ∙ length-append old (added.0 ∷ []) ∙ ap (λ n. n + 1) (length-map c.loop-word.tenants.items tenant_shown) in
     record {
       spelled = rw (words_more words i nothing c.loop-word-test.true, added.4) (one_spelled (map (λ (w : Bor Text). w.now) (take i words)) old word added.0 inv.spelled added.1);
       few = omega (arith, count, added.3);
