@@ -5,9 +5,8 @@ ghost use Rattle.blob_digest.specs.Keys.{Text, same_text};
 ghost use Rattle.blob_digest.specs.Tenants.{Tenant};
 ghost use Rattle.blobctl.specs.Tenants.{AreTenants, HasBadTenant, IsRefusedAfter, IsTenantWord, SpellTenants, most_tenants, tenant_of, tenants_of};
 
-use crate::number::decimal;
 use crate::options::Stop;
-use blob_digest::is_component;
+use blob_digest::{decimal, is_component};
 use std::alloc::Global;
 
 /// The most tenants that a store has.
