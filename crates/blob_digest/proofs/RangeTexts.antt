@@ -20,7 +20,8 @@ chained : {A B : Type 0} (f : A → Option B) (o : Option A) (y : B) → option_
 chained f None y h = cc
 chained f (Some x) y h = (x, refl, h)
 
-number_found : (text : List ℕ) (n : ℕ) → number_of text ≡ Some n → IsNumber text n
+-- a number that the test finds is of the grammar
+pub number_found : (text : List ℕ) (n : ℕ) → number_of text ≡ Some n → IsNumber text n
 number_found text n h =
     let test = passed (is_digits text && nat_lt (digits_value 10 text) (2 ^ 63)) (digits_value 10 text) n h in
     let parts = and_parts (is_digits text) (nat_lt (digits_value 10 text) (2 ^ 63)) test.0 in
@@ -33,7 +34,8 @@ number_found text n h =
       small = omega (arith, test.1, below);
     }
 
-number_is : (text : List ℕ) (n : ℕ) → IsNumber text n → number_of text ≡ Some n
+-- the test finds each number of the grammar
+pub number_is : (text : List ℕ) (n : ℕ) → IsNumber text n → number_of text ≡ Some n
 number_is text n h =
     let below : digits_value 10 text < 2 ^ 63 = omega (arith, h.value, h.small) in
     rw (lt-ltb 0 (length text) h.some, list_all-from_AllPass is_ascii_digit text h.digits, lt-ltb (digits_value 10 text) (2 ^ 63) below) (ap Some h.value)

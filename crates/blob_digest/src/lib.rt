@@ -1,5 +1,5 @@
 //! The texts and values that every layer of the store speaks of: digests, repository names, byte
-//! ranges, hashes computed piece by piece, sealed blobs, and the one enum of refusals.
+//! ranges, numbers, hashes computed piece by piece, sealed blobs, and the one enum of refusals.
 //!
 //! It stands on `sha2` for the hash and on `hex` for digits. It promises that a text is taken exactly
 //! where its grammar has it (OCI Distribution Specification 1.1, "Pulling manifests" and "Pushing a
@@ -12,6 +12,7 @@ mod blob;
 mod checksum;
 mod digest;
 mod name;
+mod number;
 mod range;
 mod refusal;
 mod repo_name;
@@ -20,6 +21,7 @@ mod running;
 pub use blob::Blob;
 pub use digest::Digest;
 pub use name::is_component;
+pub use number::decimal;
 pub use range::ByteRange;
 pub use refusal::Refusal;
 pub use repo_name::RepoName;

@@ -1,10 +1,8 @@
 //! The byte ranges of chunks.
-ghost use Rattle.std.specs.Prelude.{ℕ, ◌↔◌, IsOk, MatchResult, ◌≡◌, ◌≤◌, ◌+◌, ◌-◌, ◌<◌, ◌^◌, IfOk, IfErr, Some, None, min, true, length, position, ◌==◌, IfSome};
-ghost use Rattle.std.specs.Char.{is_ascii_digit};
-ghost use Rattle.std.specs.List.{list_all};
-ghost use Rattle.std.specs.Str.Parse.{digits_value};
-ghost use Rattle.blob_digest.specs.Ranges.{IsRangeText, is_digits, number_of, range_of};
+ghost use Rattle.std.specs.Prelude.{ℕ, ◌↔◌, IsOk, MatchResult, ◌≡◌, ◌≤◌, ◌+◌, ◌-◌, ◌<◌, ◌^◌, IfOk, IfErr, Some, None, length, position, ◌==◌, IfSome};
+ghost use Rattle.blob_digest.specs.Ranges.{IsRangeText, range_of};
 
+use crate::number::decimal;
 use crate::refusal::Refusal;
 
 /// The bytes from `start` to `end`, both of them included, as a chunk's `Content-Range` has them
@@ -18,49 +16,6 @@ pub struct ByteRange {
     pub end: u64,
     pub ghost ordered: { start ≤ end },
     pub ghost small: { end < 2 ^ 63 },
-}
-
-/// 2^63: each end of a range is below it.
-const LIMIT: u64 = 9_223_372_036_854_775_808;
-
-/// Whether each byte is a decimal digit.
-fn all_digits(text: &[u8]) -> bool
-    ensures { result ≡ list_all is_ascii_digit text.now }
-{
-    text.iter().all(|c| c.is_ascii_digit())
-}
-
-/// One or more decimal digits.
-fn is_number(text: &[u8]) -> bool
-    ensures { result ≡ is_digits text.now }
-{
-    let digits = all_digits(text);
-    !text.is_empty() && digits
-}
-
-/// The value of digits, or the limit where it is past that.
-fn capped(text: &[u8]) -> u64
-    requires { list_all is_ascii_digit text.now ≡ true }
-    ensures { result ≡ min (digits_value 10 text.now) (2 ^ 63) }
-{
-    let mut value = 0u64;
-    for c in text {
-        let digit = u64::from(c.saturating_sub(b'0'));
-        value = value.saturating_mul(10).saturating_add(digit).min(LIMIT);
-    }
-    value
-}
-
-/// A decimal number of any length, below the limit.
-fn number(text: &[u8]) -> Option<u64>
-    ensures value { result ≡ number_of text.now }
-    ensures small { IfSome result (λ n. n < 2 ^ 63) }
-{
-    if !is_number(text) {
-        return None;
-    }
-    let value = capped(text);
-    if value < LIMIT { Some(value) } else { None }
 }
 
 /// The place of the first `-`.
@@ -77,8 +32,8 @@ fn ends(text: &[u8]) -> Option<(u64, u64)>
     ensures small { IfSome result (λ r. (r.0 ≤ r.1) × (r.1 < 2 ^ 63)) }
 {
     let dash = dash(text)?;
-    let start = number(&text[..dash])?;
-    let end = number(&text[dash + 1..])?;
+    let start = decimal(&text[..dash])?;
+    let end = decimal(&text[dash + 1..])?;
     if start <= end {
         Some((start, end))
     } else {

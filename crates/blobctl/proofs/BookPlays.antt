@@ -1,6 +1,5 @@
 -- Rows played on a book are played on its catalog.
-use Rattle.std.proofs.Common.{◌≡◌, ◌≢◌, ◌⊎◌, ◌∷◌, [], List, ap, inl, inr}
-use Rattle.blob_digest.specs.declared.refusal.Refusal.{Refusal}
+use Rattle.std.proofs.Common.{◌≢◌, ◌∷◌, [], List, ap, inl, inr}
 use Rattle.blob_digest.specs.declared.refusal.Refusal.TheVariants.{Memory}
 use Rattle.store_book.specs.BookState.{BookState}
 use Rattle.store_book.specs.Catalog.{Catalog}

@@ -1,5 +1,5 @@
 -- What a script does to a store, and the text that is written then.
-use Rattle.std.specs.Prelude.{◌≡◌, ℕ, List, ◌++◌, Result, Ok, Err, map}
+use Rattle.std.specs.Prelude.{◌≡◌, ℕ, List, ◌++◌, Ok, Err, map}
 use Rattle.std.specs.List.Sorted.{IsPermutation, IsStrictlySortedBy}
 use Rattle.blob_digest.specs.Keys.{Text, text_cmp}
 use Rattle.blob_digest.specs.Outcomes.{Refuses}

@@ -1,5 +1,5 @@
 -- The texts that the program prints beside the book, and its exit statuses.
-use Rattle.std.specs.Prelude.{ℕ, ◌++◌, codes, string_bytes}
+use Rattle.std.specs.Prelude.{ℕ, ◌++◌, codes}
 use Rattle.std.specs.Fmt.{decimal}
 use Rattle.blob_digest.specs.Keys.{Text}
 use Rattle.blobctl.specs.declared.fault.Fault.{Fault}

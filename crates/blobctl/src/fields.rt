@@ -4,8 +4,8 @@ ghost use Rattle.csv.specs.Records.{fields_of};
 ghost use Rattle.blobctl.specs.Lines.{line_of};
 ghost use Rattle.blobctl.specs.Rows.{field, fits, head_of, lane_of, row_of, session_number, verb_of};
 
-use crate::number::decimal;
 use crate::row::{Row, Verb};
+use blob_digest::decimal;
 use csv::ByteRecord;
 use std::alloc::{AllocError, Global};
 

@@ -21,7 +21,6 @@ mod board;
 mod fault;
 mod fields;
 mod input;
-mod number;
 mod options;
 mod output;
 mod player;

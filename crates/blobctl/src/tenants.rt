@@ -6,9 +6,8 @@ ghost use Rattle.blob_digest.specs.Tenants.{Tenant};
 ghost use Rattle.store_book.specs.Openings.{HasNames, IsWithinLimits, tenants_shown};
 ghost use Rattle.blobctl.specs.Tenants.{HasBadTenant, IsRefusedAfter, IsTenantWord, SpellTenants, most_tenants};
 
-use crate::number::decimal;
 use crate::options::Stop;
-use blob_digest::is_component;
+use blob_digest::{decimal, is_component};
 use std::alloc::Global;
 
 /// The most tenants that a store has.

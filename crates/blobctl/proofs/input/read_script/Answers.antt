@@ -1,4 +1,4 @@
-use Rattle.std.proofs.Common.{◌≡◌, ◌≤◌, ◌<◌, ◌+◌, length, take, vec_len, arith, inr, refl, rules, length-append, length-take}
+use Rattle.std.proofs.Common.{◌≡◌, ◌≤◌, ◌+◌, length, take, vec_len, arith, inr, refl, rules, length-append, length-take}
 use Rattle.blobctl.proofs.Inputs.{few_more, one_more}
 use Rattle.blobctl.proofs.input.read_script.Goals as goal
 

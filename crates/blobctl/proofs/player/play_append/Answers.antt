@@ -1,7 +1,6 @@
 use Rattle.std.proofs.Common.{◌≡◌, inr, refl, rules}
 use Rattle.std.proofs.lemmas.Bool.{false≢true}
 use Rattle.std.proofs.lemmas.Result.{err_from_is_err_and}
-use Rattle.blob_digest.specs.Digests.{IsDigestText}
 use Rattle.blob_digest.specs.Names.{IsRepoName}
 use Rattle.blob_digest.specs.declared.refusal.Refusal.TheVariants.{SizeInvalid}
 use Rattle.blobctl.specs.Commands.{IsNoRange}

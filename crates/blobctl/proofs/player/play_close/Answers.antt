@@ -1,5 +1,4 @@
 use Rattle.std.proofs.Common.{◌≡◌, inr, refl, rules}
-use Rattle.std.proofs.lemmas.Bool.{false≢true}
 use Rattle.std.proofs.lemmas.Result.{err_from_is_err_and}
 use Rattle.blob_digest.specs.Digests.{IsDigestText}
 use Rattle.blob_digest.specs.Names.{IsRepoName}

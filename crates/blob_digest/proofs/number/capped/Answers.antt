@@ -3,7 +3,7 @@ use Rattle.std.proofs.lemmas.Int.Digits.{digits_value_more}
 use Rattle.std.proofs.lemmas.Bool.Decides.{nat_tests}
 use Rattle.std.proofs.lemmas.List.Sums.{AllPass-from_list_all}
 use Rattle.std.specs.Char.{is_ascii_digit, digit_value}
-use Rattle.blob_digest.proofs.range.capped.Goals as goal
+use Rattle.blob_digest.proofs.number.capped.Goals as goal
 
 tens : (c : ℕ) → is_ascii_digit c ≡ true → (digit_value c ≡ c - 48) × (c - 48 ≤ 9)
 tens c h = (grind (arith, nat_tests), grind (arith, nat_tests))

@@ -1,12 +1,14 @@
-//! Decimal numbers in the fields of a script and in the arguments.
-ghost use Rattle.std.specs.Prelude.{◌≡◌, ◌<◌, ◌^◌, Some, None, min, true, IfSome};
+//! Decimal numbers.
+ghost use Rattle.std.specs.Prelude.{◌≡◌, ◌<◌, ◌^◌, ℕ, min, true, IfSome, MatchOption};
 ghost use Rattle.std.specs.Char.{is_ascii_digit};
 ghost use Rattle.std.specs.List.{list_all};
 ghost use Rattle.std.specs.Str.Parse.{digits_value};
-ghost use Rattle.blob_digest.specs.Ranges.{is_digits, number_of};
+ghost use Rattle.blob_digest.specs.Ranges.{IsNumber, is_digits, number_of};
 
+/// 2^63: a number is below it.
 const LIMIT: u64 = 9_223_372_036_854_775_808;
 
+/// Whether each byte is a decimal digit.
 fn all_digits(text: &[u8]) -> bool
     ensures { result ≡ list_all is_ascii_digit text.now }
 {
@@ -34,8 +36,10 @@ fn capped(text: &[u8]) -> u64
     value
 }
 
-/// The value of one or more decimal digits, leading zeros allowed, where it is below 2^63.
+/// The number that a text spells: one or more decimal digits, leading zeros allowed. None is any
+/// other text, and a number above 2^63 - 1. It reads each byte at most twice, and takes no memory.
 pub fn decimal(text: &[u8]) -> Option<u64>
+    ensures number { MatchOption result ((n : ℕ) → IsNumber text.now n → ⊥) (λ n. IsNumber text.now n) }
     ensures value { result ≡ number_of text.now }
     ensures small { IfSome result (λ n. n < 2 ^ 63) }
 {
