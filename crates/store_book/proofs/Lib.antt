@@ -11,6 +11,7 @@ pub mod LawLink
 pub mod LawfulOpening
 pub mod LawfulStart
 pub mod LawfulAppend
+pub mod LawfulAbandon
 pub mod LawfulClose
 pub mod Counts
 pub mod DistinctUse
@@ -23,6 +24,7 @@ pub mod Placing
 pub mod Starting
 pub mod Bounds
 pub mod Appending
+pub mod Abandoning
 pub mod KeptBlobs
 pub mod Closing
 pub mod KeepCalls

@@ -1,16 +1,20 @@
 -- What each command answers and leaves. A command's outcome is the first refusal that applies, in the order in which they stand,
 -- or its answer with the catalog after it. Want of memory may come in place of any outcome, and changes nothing (`Does`).
-use Rattle.std.specs.Prelude.{ℕ, ◌+◌, ◌^◌, nat_le, nat_lt, ◌&&◌, ◌||◌, not, Bool, true, false, Option, Some, None, Result, Ok, [], length, slice_set}
-use Rattle.std.specs.Option.{ok_or}
+use Rattle.std.specs.Prelude.{ℕ, ◌+◌, ◌^◌, nat_le, nat_lt, ◌&&◌, ◌||◌, not, if◌then◌else◌, Bool, true, false, Option, Some, None, Result, Ok, Err, [], length, slice_set}
+use Rattle.std.specs.Option.{ok_or, option_map, option_map_or}
+use Rattle.std.specs.List.{list_any, find}
 use Rattle.std.specs.FinMap as fmap
 use Rattle.blob_digest.specs.Sets as set
 use Rattle.blob_digest.specs.declared.range.ByteRange.{ByteRange}
 use Rattle.blob_digest.specs.declared.refusal.Refusal.{Refusal}
-use Rattle.blob_digest.specs.declared.refusal.Refusal.TheVariants.{NameUnknown, DigestInvalid, Quota, StoreFull, LimitReached}
+use Rattle.blob_digest.specs.declared.refusal.Refusal.TheVariants.{NameUnknown, DigestInvalid, BlobUnknown, Quota, Referenced, StoreFull, LimitReached}
 use Rattle.blob_digest.specs.Digests.{is_digest_of}
 pub use Rattle.blob_digest.specs.Outcomes.{OutcomeIn, ◌>>=◌, refuse}
+use Rattle.oci_manifest.specs.Manifests.{refs_of}
 pub use Rattle.upload_table.specs.Sessions.{session_in, length_after, check_in, append_in, whole_in}
-use Rattle.store_book.specs.Catalog.{Text, Catalog, Session, Resident, same_text, tenant_of, quota_of, used, next_of, open_sessions, repos_of}
+use Rattle.store_book.specs.Catalog.{Text, Catalog, Session, Resident, same_text, tenant_of, is_of, quota_of, holds, tenant_holds, used, received, next_of, open_sessions, repos_of}
+use Rattle.store_book.specs.declared.mount.Mount.{Mount}
+use Rattle.store_book.specs.declared.mount.Mount.TheVariants as mounting
 
 -- what a command answers, with the catalog after it, or its refusal
 abbrev pub Outcome : Type 0 → Type 0
@@ -60,6 +64,13 @@ start C repo = do
   _ ← refuse (cannot_open C t) LimitReached
   Ok (next_of C t, new_session C t repo)
 
+-- how many bytes a session has received
+abbrev pub status : Catalog → Text → ℕ → Result ℕ Refusal
+status C repo number = do
+  t ← tenant C repo
+  s ← session C t repo number
+  Ok (received s)
+
 -- adds a chunk at a session's end, and answers the received length
 abbrev pub append : Catalog → Text → ℕ → Option ByteRange → Text → Outcome ℕ
 append C repo number range bytes = do
@@ -107,3 +118,68 @@ close C repo number digest range last = do
   _ ← refuse (not (names C digest whole)) DigestInvalid
   _ ← has_slot C digest
   Ok (length whole, stored C t repo number digest whole)
+
+-- a session is gone, with its bytes
+abbrev pub without_session : Catalog → ℕ → ℕ → Catalog
+without_session C t number = record C { sessions = fmap.remove C.sessions (t, number) }
+
+-- gives a session up, and answers the number of bytes that it had received
+abbrev pub abandon : Catalog → Text → ℕ → Outcome ℕ
+abandon C repo number = do
+  t ← tenant C repo
+  s ← session C t repo number
+  Ok (received s, without_session C t number)
+
+-- ---- links (OCI Distribution Specification 1.1, "Mounting a blob from another repository", "Deleting Blobs")
+
+-- whether a tenant holds a digest in the repository that was named or, where none was, in any of its own
+abbrev pub has_source : Catalog → ℕ → Text → Option Text → Bool
+has_source C t digest None = tenant_holds C t digest
+has_source C t digest (Some from) = is_of C t from && holds C from digest
+
+-- a digest is linked in a repository, which is there from now on
+abbrev pub with_link : Catalog → Text → Text → Catalog
+with_link C repo digest = record C { repos = set.insert C.repos repo; links = set.insert C.links (repo, digest) }
+
+-- links a digest that the tenant holds
+abbrev pub link_held : Catalog → ℕ → Text → Text → Outcome Mount
+link_held C t repo digest = do
+  _ ← refuse (lacks_room_for C t repo) LimitReached
+  Ok (mounting.Mounted, with_link C repo digest)
+
+-- opens a session in place of a mount
+abbrev pub start_instead : Catalog → Text → Outcome Mount
+start_instead C repo = do
+  s ← start C repo
+  Ok (mounting.Session s.0, s.1)
+
+-- links a blob that the tenant holds in a source, and opens a session where the source doesn't hold it
+abbrev pub mount : Catalog → Text → Text → Option Text → Outcome Mount
+mount C repo digest from = do
+  t ← tenant C repo
+  if has_source C t digest from then link_held C t repo digest else start_instead C repo
+
+-- the digest is linked in the repository
+abbrev pub linked : Catalog → Text → Text → Result (Unit {0}) Refusal
+linked C repo digest = refuse (not (holds C repo digest)) BlobUnknown
+
+-- whether these bytes are a manifest that refers to a digest
+abbrev pub refers : Text → Text → Bool
+refers manifest digest = option_map_or (list_any (same_text digest)) (refs_of manifest) false
+
+-- the least digest of a manifest of a repository that refers to a digest
+abbrev pub referrer : Catalog → Text → Text → Option Text
+referrer C repo digest = option_map (λ e. e.0.1) (find (λ e. same_text e.0.0 repo && refers e.1 digest) (fmap.entries C.manifests))
+
+-- no manifest refers to it
+abbrev pub unreferenced : Option Text → Result (Unit {0}) Refusal
+unreferenced None = Ok tt
+unreferenced (Some manifest) = Err (Referenced manifest)
+
+-- takes a link out of a repository
+abbrev pub delete : Catalog → Text → Text → Outcome (Unit {0})
+delete C repo digest = do
+  _ ← tenant C repo
+  _ ← linked C repo digest
+  _ ← unreferenced (referrer C repo digest)
+  Ok (tt, record C { links = set.remove C.links (repo, digest) })

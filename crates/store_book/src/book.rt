@@ -1,11 +1,11 @@
 ghost use Rattle.std.specs.Prelude.{◌≡◌, ◌+◌, ◌<◌, length, Some, nat_lt, IfOk, IfErr, OnOk};
-ghost use Rattle.blob_digest.specs.Outcomes.{Does, refuse};
+ghost use Rattle.blob_digest.specs.Outcomes.{Does, DoesExactly, refuse};
 ghost use Rattle.link_table.specs.Linked.{quota_in, used_in};
 ghost use Rattle.link_table.specs.Tenancy.{tenants_shown};
 ghost use Rattle.store_book.specs.Laws.{Sound};
 ghost use Rattle.store_book.specs.Openings.{OpensBook, RefusesBook};
 ghost use Rattle.store_book.specs.Printed.{book_text};
-ghost use Rattle.store_book.specs.Steps.{start, append, close};
+ghost use Rattle.store_book.specs.Steps.{start, status, append, close, abandon};
 ghost use Rattle.std.specs.Io.KnownBytes.{Appends};
 
 use crate::config::{Config, copied};
@@ -106,6 +106,18 @@ impl Book {
         }
     }
 
+    /// How many bytes a session has received (OCI Distribution Specification 1.1, "Pushing a blob in
+    /// chunks", the GET of a session's location). It takes no memory.
+    ///
+    /// Refused, in this order: a tenant that is not there (`NameUnknown`); a session that is not there
+    /// or another repository's (`UploadUnknown`).
+    pub fn status(&self, repo: &RepoName, number: u32) -> Result<u64, Refusal>
+        ensures { result ≡ status self.now.catalog repo.now number }
+    {
+        let tenant = self.links.tenant(repo)?;
+        self.uploads.received(tenant, repo, number)
+    }
+
     /// Adds a chunk to a session, and answers the received length (OCI Distribution Specification 1.1,
     /// "Pushing a blob in chunks"). A chunk without a range goes at the end; one without bytes and
     /// range is accepted and changes nothing.
@@ -177,6 +189,22 @@ impl Book {
                 Err(refusal)
             }
         }
+    }
+
+    /// Gives a session up with its bytes, and answers how many it had received. Its number is not
+    /// given again. It takes no memory.
+    ///
+    /// Refused, in this order: a tenant that is not there (`NameUnknown`); a session that is not there
+    /// or another repository's (`UploadUnknown`).
+    pub fn abandon(&mut self, repo: &RepoName, number: u32) -> Result<u64, Refusal>
+        ensures does { DoesExactly (λ n. n) result self.old.catalog self.new.catalog (abandon self.old.catalog repo.now number) }
+        ensures slots { self.new.slots ≡ self.old.slots }
+    {
+        let tenant = self.links.tenant(repo)?;
+        let received = self.uploads.received(tenant, repo, number)?;
+        self.uploads.remove(tenant, number);
+        self.links.discharge(tenant, received);
+        Ok(received)
     }
 
     /// Writes the text of the book, without taking memory: `book`; each tenant in the order of the

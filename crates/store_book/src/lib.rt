@@ -14,9 +14,11 @@ mod book;
 mod config;
 mod keep;
 pub mod laws;
+mod mount;
 mod print;
 #[cfg(test)]
 mod tests;
 
 pub use book::Book;
 pub use config::Config;
+pub use mount::Mount;
