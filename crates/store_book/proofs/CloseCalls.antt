@@ -17,8 +17,8 @@ use Rattle.store_book.specs.Layers.{book_catalog, slot_shown, IsBook}
 use Rattle.store_book.specs.Keeping.{CanKeep, IsKept, again, anew}
 use Rattle.store_book.proofs.Closing.{session_there, repo_there, close_ok, IsBook-close}
 use Rattle.store_book.proofs.Keepable.{CanKeep-book}
-use Rattle.store_book.proofs.LawSession.{used-gone}
 use Rattle.store_book.proofs.Outcomes.{bound_ok, check_passed, length-concat, session_found, some_of_ok, tenant_there}
+use Rattle.store_book.proofs.SessionCharges.{session_charged}
 use Rattle.store_book.proofs.SlotLemmas.{map-with_slot}
 
 -- a length that was checked is the sum
@@ -92,8 +92,7 @@ module _ (l : Linked) (u : Uploaded) (slots : List Slot) (max_blob t number afte
   pub was_charged : (l' : Linked) (slots' : List Slot) (blob : Text × Text) → IsKept l slots repo blob l' slots' → after - length last ≤ slice_index l'.charges t
   was_charged l' slots' blob kept =
       let there : t < length l.tenants = tenant_there l.tenants repo t (some_of_ok (tenant_of l.tenants repo) NameUnknown t known) in
-      let sum = book.charges.sums t there in
-      let fall = used-gone C (t, number) here.0 here.1 in
+      let charged = session_charged l u slots max_blob t number book there here.0 here.1 in
       let length_was = left_length in
       rw (charges-kept l l' slots slots' repo blob kept) (omega arith)
 

@@ -1,10 +1,9 @@
 -- `Book::close`, from what its calls of the layers did.
-use Rattle.std.proofs.Common.{◌≡◌, ℕ, ◌+◌, ◌-◌, ◌<◌, Bool, true, false, not, List, length, Option, Some, is_some, Ok, Err, refl, sym, ap, ◌∙◌, arith, inl, inr}
+use Rattle.std.proofs.Common.{◌≡◌, ℕ, ◌+◌, ◌-◌, ◌<◌, Bool, true, false, not, List, length, Option, Some, is_some, Ok, Err, refl, sym, ap, ◌∙◌, arith}
 use Rattle.std.specs.Prelude.{nat_le, ◌&&◌, slice_index, slice_set}
 use Rattle.std.specs.FinMap.{get, remove, len}
 use Rattle.std.proofs.Math.ListN.{length-set}
-use Rattle.std.proofs.lemmas.Bool.{cases_eq, le-leb}
-use Rattle.std.proofs.lemmas.List.{get_or-set_same, get_or-set_other}
+use Rattle.std.proofs.lemmas.Bool.{le-leb}
 use Rattle.blob_digest.specs.declared.range.ByteRange.{ByteRange}
 use Rattle.blob_digest.specs.declared.refusal.Refusal.{Refusal}
 use Rattle.blob_digest.specs.declared.refusal.Refusal.TheVariants.{DigestInvalid, StoreFull, NameUnknown}
@@ -20,10 +19,10 @@ use Rattle.store_book.specs.Steps.{close, within_quota, same_bytes, is_full_for}
 use Rattle.store_book.specs.Layers.{unlent, book_catalog, IsBook}
 use Rattle.store_book.specs.Keeping.{IsKept, IsUnkept, differs, full}
 use Rattle.store_book.proofs.KeptBlobs.{Keeps, IsKept-Keeps, length-unlent}
-use Rattle.store_book.proofs.LawSession.{used-gone, used_other-gone}
 use Rattle.store_book.proofs.LawfulClose.{Sound-after_close}
 use Rattle.store_book.proofs.MapLemmas.{some_same}
 use Rattle.store_book.proofs.Outcomes.{check_passed, some_of_ok, tenant_there}
+use Rattle.store_book.proofs.SessionCharges.{sums-gone}
 use Rattle.store_book.proofs.Ties.{held_of, slot_is_resident, not_resident, rooms}
 
 false_of : (b : Bool) → (b ≡ true → ⊥) → b ≡ false
@@ -103,18 +102,7 @@ module _ (l : Linked) (u : Uploaded) (slots : List Slot) (max_blob t number afte
         same_tenants = ap (λ (x : Linked). length x.tenants) keeps.links
 
         sums_after : (v : ℕ) → v < length l.tenants → slice_index (slice_set l.charges t (slice_index l.charges t - r)) v ≡ in_sessions_of C1 v
-        sums_after v lt = elim (cases_eq v t) [
-          | inl e ↦
-              let fall = used-gone C (t, number) session_there.0 session_there.1 in
-              let mine = book.charges.sums t there in
-              let in_charges : t < length l.charges = let same = book.charges.one_each in let lt = there in omega arith in
-              let size = length_was in
-              rw (e, get_or-set_same l.charges t (slice_index l.charges t - r) 0 in_charges) (omega arith)
-          | inr other ↦
-              let same = used_other-gone C (t, number) session_there.0 session_there.1 v other in
-              let old = book.charges.sums v lt in
-              rw (get_or-set_other l.charges t v (slice_index l.charges t - r) 0 other) (omega arith)
-        ]
+        sums_after v lt = ap (λ n. slice_index (slice_set l.charges t (slice_index l.charges t - n)) v) length_was ∙ sums-gone l u slots max_blob t number book there session_there.0 session_there.1 v lt
 
         -- a session that was closed leaves a book
         pub IsBook-close : IsBook l1 u1 slots' max_blob

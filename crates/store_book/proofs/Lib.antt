@@ -24,6 +24,7 @@ pub mod Placing
 pub mod Starting
 pub mod Bounds
 pub mod Appending
+pub mod SessionCharges
 pub mod Abandoning
 pub mod KeptBlobs
 pub mod Closing

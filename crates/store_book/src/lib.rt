@@ -17,6 +17,8 @@ pub mod laws;
 mod mount;
 mod print;
 #[cfg(test)]
+mod refusal_tests;
+#[cfg(test)]
 mod tests;
 
 pub use book::Book;

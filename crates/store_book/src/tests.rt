@@ -5,26 +5,26 @@ use blob_digest::{ByteRange, Digest, Refusal, RepoName};
 use std::alloc::Global;
 use std::process::Abort;
 
-const ABC: &str = "sha256:ba7816bf8f01cfea414140de5dae2223b00361a396177a9cb410ff61f20015ad";
+pub const ABC: &str = "sha256:ba7816bf8f01cfea414140de5dae2223b00361a396177a9cb410ff61f20015ad";
 
-const OBJ: &str = "sha256:44136fa355b3678a1146ad16f7e8649e94fb4fc21fe77e8310c060f61caaff8a";
+pub const OBJ: &str = "sha256:44136fa355b3678a1146ad16f7e8649e94fb4fc21fe77e8310c060f61caaff8a";
 
-const EMPTY: &str = "sha256:e3b0c44298fc1c149afbf4c8996fb92427ae41e4649b934ca495991b7852b855";
+pub const EMPTY: &str = "sha256:e3b0c44298fc1c149afbf4c8996fb92427ae41e4649b934ca495991b7852b855";
 
-fn digest(rt: &impl Abort, text: &str) -> Digest {
+pub fn digest(rt: &impl Abort, text: &str) -> Digest {
     Digest::parse(text.as_bytes()).expect(rt, "a digest")
 }
 
-fn name(rt: &impl Abort, alloc: Global, text: &str) -> RepoName {
+pub fn name(rt: &impl Abort, alloc: Global, text: &str) -> RepoName {
     RepoName::parse(alloc, text.as_bytes()).expect(rt, "a name")
 }
 
-fn range(rt: &impl Abort, text: &str) -> Option<ByteRange> {
+pub fn range(rt: &impl Abort, text: &str) -> Option<ByteRange> {
     Some(ByteRange::parse(text.as_bytes()).expect(rt, "a range"))
 }
 
 /// A store of 64 slots and blobs of at most 1 MiB.
-fn config(rt: &impl Abort, alloc: Global, tenants: &[(&str, u64)]) -> Config {
+pub fn config(rt: &impl Abort, alloc: Global, tenants: &[(&str, u64)]) -> Config {
     let mut rows = Vec::new(alloc);
     for (name, quota) in tenants {
         let name = String::from_str(alloc, name).expect(rt, "memory");
@@ -46,7 +46,7 @@ fn refused(alloc: Global, config: &Config) -> Option<Refusal> {
     Book::new(alloc, config).err()
 }
 
-fn prints(rt: &impl Abort, alloc: Global, book: &Book, text: &str) -> bool {
+pub fn prints(rt: &impl Abort, alloc: Global, book: &Book, text: &str) -> bool {
     let mut written: Vec<u8> = Vec::new(alloc);
     book.print(&mut written).expect(rt, "memory");
     written.as_slice() == text.as_bytes()
@@ -233,12 +233,30 @@ fn a_repository_without_a_session_is_not_left_behind(rt: HostRuntime) {
         assert_eq!(rt; book.start(&one), Ok(number));
     }
     assert_eq!(rt; book.start(&two), Err(Refusal::LimitReached));
-    assert_eq!(rt; book.close(&one, 1, &digest(&rt, EMPTY), None, b""), Ok(0));
+    assert_eq!(rt; book.abandon(&one, 1), Ok(0));
     assert_eq!(rt; book.start(&two), Ok(65));
     assert_eq!(rt;
         book.append(&two, 2, None, b"a"),
         Err(Refusal::UploadUnknown)
     );
+}
+
+#[test]
+fn a_session_is_asked_for_and_given_up(rt: HostRuntime) {
+    let alloc = rt.alloc();
+    let one = name(&rt, alloc, "acme/one");
+    let two = name(&rt, alloc, "acme/two");
+    let mut book = book(&rt, alloc, &[("acme", 3)]);
+    assert_eq!(rt; book.start(&one), Ok(1));
+    assert_eq!(rt; book.status(&one, 1), Ok(0));
+    assert_eq!(rt; book.append(&one, 1, None, b"abc"), Ok(3));
+    assert_eq!(rt; book.status(&one, 1), Ok(3));
+    assert_eq!(rt; book.status(&two, 1), Err(Refusal::UploadUnknown));
+    assert_eq!(rt; book.abandon(&two, 1), Err(Refusal::UploadUnknown));
+    assert_eq!(rt; book.abandon(&one, 1), Ok(3));
+    assert_eq!(rt; book.abandon(&one, 1), Err(Refusal::UploadUnknown));
+    assert_eq!(rt; book.start(&one), Ok(2));
+    assert_eq!(rt; book.append(&one, 2, None, b"abc"), Ok(3));
 }
 
 #[test]
