@@ -8,13 +8,16 @@ use Rattle.blobctl.specs.Played.{Acts, Happens}
 use Rattle.blobctl.specs.Plays.{Plays, RowStep}
 use Rattle.blobctl.specs.Rows.{Line}
 use Rattle.blobctl.specs.declared.reply.Reply.{Reply}
-use Rattle.blobctl.specs.declared.reply.Reply.TheVariants.{Session, Received, Stored, Refused}
+use Rattle.blobctl.specs.declared.reply.Reply.TheVariants.{Session, Received, Stored, Abandoned, Mounted, Deleted, Refused}
 
 -- a book does what its catalog has happen, want of memory apart
 happens : (C : Catalog) (command : Command) (reply : Reply) (C' : Catalog) → reply ≢ Refused Memory → Acts C command reply C' → Happens C command reply C'
 happens C command (Session n) C' not_memory h = h
 happens C command (Received n) C' not_memory h = h
 happens C command (Stored n) C' not_memory h = h
+happens C command Abandoned C' not_memory h = h
+happens C command Mounted C' not_memory h = h
+happens C command Deleted C' not_memory h = h
 happens C command (Refused refusal) C' not_memory h = (h.0 (λ e. not_memory (ap Refused e)), h.1)
 
 abbrev pub BookActs : BookState → Command → Reply → BookState → Type 0

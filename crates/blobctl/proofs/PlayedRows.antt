@@ -1,10 +1,11 @@
 -- Rows that are played.
-use Rattle.std.proofs.Common.{◌≡◌, ◌≢◌, ◌<◌, ◌+◌, ◌∙◌, ◌++◌, ◌∷◌, [], ℕ, List, ap, get_or, inl, length, map, refl, sym, take}
+use Rattle.std.proofs.Common.{◌≡◌, ◌≢◌, ◌<◌, ◌+◌, ◌∙◌, ◌++◌, ◌∷◌, [], ℕ, List, ap, get_or, inl, length, map, refl, sym, take, true}
 use Rattle.std.proofs.lemmas.List.{map-append, take_more}
+use Rattle.blob_digest.specs.Digests.{IsDigestText}
 use Rattle.blob_digest.specs.Names.{IsRepoName}
 use Rattle.blob_digest.specs.declared.refusal.Refusal.{Refusal}
-use Rattle.blob_digest.specs.declared.refusal.Refusal.TheVariants.{SizeInvalid, Memory}
-use Rattle.blobctl.specs.Commands.{Command, HasDigest, IsNoRange}
+use Rattle.blob_digest.specs.declared.refusal.Refusal.TheVariants.{DigestInvalid, SizeInvalid, Memory}
+use Rattle.blobctl.specs.Commands.{Command, HasDigest, HasSource, IsNoRange, uses_digest}
 use Rattle.blobctl.specs.Lines.{line_of}
 use Rattle.blobctl.specs.Plays.{Plays, RowStep}
 use Rattle.blobctl.specs.Rows.{Line}
@@ -12,10 +13,15 @@ use Rattle.blobctl.specs.declared.row.Row.{Row}
 use Rattle.blobctl.specs.declared.reply.Reply.{Reply}
 use Rattle.blobctl.specs.declared.reply.Reply.TheVariants.{Refused}
 
+-- a row whose digest is none is refused for it
+pub digest_refused : {S : Type 0} (acts : S → Command → Reply → S → Type 0) (s t : S) (line : Line) (refusal : Refusal) → IsRepoName line.repo → HasSource line → uses_digest line.verb ≡ true
+    → (refusal ≡ DigestInvalid) × ¬ IsDigestText line.digest → t ≡ s → RowStep acts s line (Refused refusal) t
+digest_refused acts s t line refusal repo source uses why same = rw why.0 (inl (DigestInvalid, (repo, source, uses, why.1), refl, same))
+
 -- a row whose range is none is refused for it
-pub range_refused : {S : Type 0} (acts : S → Command → Reply → S → Type 0) (s t : S) (line : Line) (refusal : Refusal) → IsRepoName line.repo → HasDigest line
+pub range_refused : {S : Type 0} (acts : S → Command → Reply → S → Type 0) (s t : S) (line : Line) (refusal : Refusal) → IsRepoName line.repo → HasSource line → HasDigest line
     → (refusal ≡ SizeInvalid) × IsNoRange line.range → t ≡ s → RowStep acts s line (Refused refusal) t
-range_refused acts s t line refusal repo digest why same = rw why.0 (inl (SizeInvalid, (repo, digest, why.1), refl, same))
+range_refused acts s t line refusal repo source digest why same = rw why.0 (inl (SizeInvalid, (repo, source, digest, why.1), refl, same))
 
 -- one row more is played
 pub one_played : {S : Type 0} (acts : S → Command → Reply → S → Type 0) (old mid new : S) (lines : List Line) (replies : List Reply) (line : Line) (reply : Reply)

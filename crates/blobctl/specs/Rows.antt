@@ -5,13 +5,13 @@ use Rattle.csv.specs.Records.{field_at}
 use Rattle.blob_digest.specs.Keys.{Text}
 use Rattle.blob_digest.specs.Ranges.{number_of}
 use Rattle.blobctl.specs.declared.row.Verb.{Verb}
-use Rattle.blobctl.specs.declared.row.Verb.TheVariants.{Start, Append, Close}
+use Rattle.blobctl.specs.declared.row.Verb.TheVariants.{Start, Status, Append, Close, Abandon, Mount, Delete}
 
 -- a record: the bytes of its fields
 abbrev pub Record : Type 0
 Record = List Text
 
--- a row: lane, command, repository, session number, digest, range and body
+-- a row: lane, command, repository, session number or source, digest, range and body
 pub record Line : Type 0 where
   pub lane : ℕ
   pub verb : Verb
@@ -27,7 +27,15 @@ field fields i = unwrap_or (field_at fields i) []
 
 -- the command of a name
 abbrev pub verb_of : Text → Option Verb
-verb_of name = if bytes_eq name (codes "start") then Some Start else if bytes_eq name (codes "append") then Some Append else if bytes_eq name (codes "close") then Some Close else None
+verb_of name =
+    if bytes_eq name (codes "start") then Some Start
+    else if bytes_eq name (codes "status") then Some Status
+    else if bytes_eq name (codes "append") then Some Append
+    else if bytes_eq name (codes "close") then Some Close
+    else if bytes_eq name (codes "abandon") then Some Abandon
+    else if bytes_eq name (codes "mount") then Some Mount
+    else if bytes_eq name (codes "delete") then Some Delete
+    else None
 
 -- a lane: one to three decimal digits of a value up to 255
 abbrev pub lane_of : Text → Option ℕ
@@ -43,8 +51,12 @@ is_empty text = length text == 0
 -- whether a command has the fields that it needs, and none that it doesn't use
 abbrev pub fits : Verb → Text → Text → Text → Text → Bool
 fits Start key digest range body = is_empty key && is_empty digest && is_empty range && is_empty body
+fits Status key digest range body = is_some (session_number key) && is_empty digest && is_empty range && is_empty body
 fits Append key digest range body = is_some (session_number key) && is_empty digest
 fits Close key digest range body = is_some (session_number key)
+fits Abandon key digest range body = is_some (session_number key) && is_empty digest && is_empty range && is_empty body
+fits Mount key digest range body = is_empty range && is_empty body
+fits Delete key digest range body = is_empty key && is_empty range && is_empty body
 
 -- the lane and the command of a record of seven fields
 abbrev pub head_of : Record → Option (ℕ × Verb)

@@ -15,10 +15,18 @@ fn verb_named(name: &[u8]) -> Option<Verb>
 {
     if name == b"start".as_slice() {
         Some(Verb::Start)
+    } else if name == b"status".as_slice() {
+        Some(Verb::Status)
     } else if name == b"append".as_slice() {
         Some(Verb::Append)
     } else if name == b"close".as_slice() {
         Some(Verb::Close)
+    } else if name == b"abandon".as_slice() {
+        Some(Verb::Abandon)
+    } else if name == b"mount".as_slice() {
+        Some(Verb::Mount)
+    } else if name == b"delete".as_slice() {
+        Some(Verb::Delete)
     } else {
         None
     }
@@ -75,8 +83,13 @@ fn has_fields(verb: Verb, key: &[u8], digest: &[u8], range: &[u8], body: &[u8]) 
         Verb::Start => {
             key.is_empty() && digest.is_empty() && range.is_empty() && body.is_empty()
         }
+        Verb::Status | Verb::Abandon => {
+            session(key).is_some() && digest.is_empty() && range.is_empty() && body.is_empty()
+        }
         Verb::Append => session(key).is_some() && digest.is_empty(),
         Verb::Close => session(key).is_some(),
+        Verb::Mount => range.is_empty() && body.is_empty(),
+        Verb::Delete => key.is_empty() && range.is_empty() && body.is_empty(),
     }
 }
 

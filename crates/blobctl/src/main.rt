@@ -31,6 +31,8 @@ mod script;
 mod seat;
 mod tenants;
 #[cfg(test)]
+mod script_tests;
+#[cfg(test)]
 mod tests;
 mod watched;
 

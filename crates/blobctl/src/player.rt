@@ -1,13 +1,13 @@
 //! Plays the rows of a script.
-ghost use Rattle.std.specs.Prelude.{◌≡◌, ◌≢◌, ◌⊎◌, Some, IfOk, IfErr, MatchResult, IsTrue, ◌↔◌, map};
-ghost use Rattle.blobctl.specs.Commands.{IsNoRange, SpellsRange};
+ghost use Rattle.std.specs.Prelude.{◌≡◌, ◌⊎◌, true, Some, IfOk, IfErr, MatchResult, IsTrue, ◌↔◌, map};
+ghost use Rattle.blobctl.specs.Commands.{IsNoRange, SpellsRange, uses_session};
 ghost use Rattle.blobctl.specs.Lines.{line_of};
 ghost use Rattle.blobctl.specs.Plays.{AnswersRow, Plays, RowStep};
 ghost use Rattle.blobctl.specs.Rows.{session_number};
 
 use crate::board::Board;
 use crate::fields::session;
-use crate::reply::Reply;
+use crate::reply::{Reply, mount_reply};
 use crate::row::{Row, Verb};
 use blob_digest::{ByteRange, Digest, Refusal, RepoName};
 use std::alloc::Global;
@@ -25,7 +25,7 @@ fn range_in(text: &[u8]) -> Result<Option<ByteRange>, Refusal>
 
 /// The number of the session that a row names.
 fn number_in(row: &Row) -> u32
-    requires { row.now.verb ≢ Verb.Start }
+    requires { uses_session row.now.verb ≡ true }
     ensures { session_number row.now.key.items ≡ Some result }
 {
     match session(row.key.as_slice()) {
@@ -42,6 +42,17 @@ fn play_start<B: Board>(alloc: Global, board: &mut B, row: &Row) -> Result<Reply
     let repo = RepoName::parse(alloc, row.repo.as_slice())?;
     let number = board.start(&repo)?;
     Ok(Reply::Session(number))
+}
+
+/// Plays a row that asks for a session's length.
+fn play_status<B: Board>(alloc: Global, board: &mut B, row: &Row) -> Result<Reply, Refusal>
+    requires { row.now.verb ≡ Verb.Status }
+    ensures { AnswersRow B.acts board.old (line_of row.now) result board.new }
+{
+    let repo = RepoName::parse(alloc, row.repo.as_slice())?;
+    let number = number_in(row);
+    let length = board.status(&repo, number)?;
+    Ok(Reply::Received(length))
 }
 
 /// Plays a row that adds a chunk.
@@ -69,19 +80,57 @@ fn play_close<B: Board>(alloc: Global, board: &mut B, row: &Row) -> Result<Reply
     Ok(Reply::Stored(size))
 }
 
+/// Plays a row that gives a session up.
+fn play_abandon<B: Board>(alloc: Global, board: &mut B, row: &Row) -> Result<Reply, Refusal>
+    requires { row.now.verb ≡ Verb.Abandon }
+    ensures { AnswersRow B.acts board.old (line_of row.now) result board.new }
+{
+    let repo = RepoName::parse(alloc, row.repo.as_slice())?;
+    let number = number_in(row);
+    board.abandon(&repo, number)?;
+    Ok(Reply::Abandoned)
+}
+
+/// Plays a row that mounts a blob.
+fn play_mount<B: Board>(alloc: Global, board: &mut B, row: &Row) -> Result<Reply, Refusal>
+    requires { row.now.verb ≡ Verb.Mount }
+    ensures { AnswersRow B.acts board.old (line_of row.now) result board.new }
+{
+    let repo = RepoName::parse(alloc, row.repo.as_slice())?;
+    let from = RepoName::parse(alloc, row.key.as_slice())?;
+    let digest = Digest::parse(row.digest.as_slice())?;
+    let mount = board.mount(&repo, &digest, &from)?;
+    Ok(mount_reply(mount))
+}
+
+/// Plays a row that takes a link out.
+fn play_delete<B: Board>(alloc: Global, board: &mut B, row: &Row) -> Result<Reply, Refusal>
+    requires { row.now.verb ≡ Verb.Delete }
+    ensures { AnswersRow B.acts board.old (line_of row.now) result board.new }
+{
+    let repo = RepoName::parse(alloc, row.repo.as_slice())?;
+    let digest = Digest::parse(row.digest.as_slice())?;
+    board.delete(&repo, &digest)?;
+    Ok(Reply::Deleted)
+}
+
 /// Plays a row.
 fn play_row<B: Board>(alloc: Global, board: &mut B, row: &Row) -> Result<Reply, Refusal>
     ensures { AnswersRow B.acts board.old (line_of row.now) result board.new }
 {
     match row.verb {
         Verb::Start => play_start(alloc, board, row),
+        Verb::Status => play_status(alloc, board, row),
         Verb::Append => play_append(alloc, board, row),
         Verb::Close => play_close(alloc, board, row),
+        Verb::Abandon => play_abandon(alloc, board, row),
+        Verb::Mount => play_mount(alloc, board, row),
+        Verb::Delete => play_delete(alloc, board, row),
     }
 }
 
-/// Plays a row, and answers its reply. Fields are refused in the order repository, digest, range, and
-/// then the call itself may refuse. Want of memory before the call changes nothing.
+/// Plays a row, and answers its reply. Fields are refused in the order repository, source, digest,
+/// range, and then the call itself may refuse. Want of memory before the call changes nothing.
 pub fn act<B: Board>(alloc: Global, board: &mut B, row: &Row) -> Reply
     ensures { ((result ≡ Reply.Refused Refusal.Memory) × (board.new ≡ board.old)) ⊎ RowStep B.acts board.old (line_of row.now) result board.new }
 {

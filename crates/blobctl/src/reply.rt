@@ -1,9 +1,10 @@
 //! Replies, and their texts.
 ghost use Rattle.std.specs.Prelude.{◌≡◌, ◌++◌, Some, IfErr, OnErr, OnOk, string_bytes};
-ghost use Rattle.blobctl.specs.Replies.{reply_text};
+ghost use Rattle.blobctl.specs.Replies.{mount_reply as reply_to_mount, reply_text};
 
 use blob_digest::Refusal;
 use std::fmt;
+use store_book::Mount;
 
 /// The reply to a row.
 #[derive(Clone, Copy, Debug, PartialEq, Eq)]
@@ -14,8 +15,24 @@ pub enum Reply {
     Received(u64),
     /// A session was closed: the blob's size in bytes.
     Stored(u64),
+    /// A session was given up.
+    Abandoned,
+    /// A blob was linked from another repository.
+    Mounted,
+    /// A link was taken out.
+    Deleted,
     /// The row was refused.
     Refused(Refusal),
+}
+
+/// The reply to a mount.
+pub fn mount_reply(mount: Mount) -> Reply
+    ensures { result ≡ reply_to_mount mount }
+{
+    match mount {
+        Mount::Mounted => Reply::Mounted,
+        Mount::Session(number) => Reply::Session(number),
+    }
 }
 
 impl fmt::Display for Reply {
@@ -26,6 +43,9 @@ impl fmt::Display for Reply {
             Reply::Session(number) => write!(f, "session {number}"),
             Reply::Received(length) => write!(f, "received {length}"),
             Reply::Stored(size) => write!(f, "stored {size}"),
+            Reply::Abandoned => f.write_str("abandoned"),
+            Reply::Mounted => f.write_str("mounted"),
+            Reply::Deleted => f.write_str("deleted"),
             Reply::Refused(refusal) => write!(f, "refused {refusal}"),
         }
     }

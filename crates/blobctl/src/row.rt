@@ -7,10 +7,18 @@ ghost use Rattle.blobctl.specs.Rows.{fits};
 pub enum Verb {
     /// Opens an upload session.
     Start,
+    /// Asks how many bytes a session has received.
+    Status,
     /// Adds a chunk to a session.
     Append,
     /// Ends a session and links its blob.
     Close,
+    /// Gives a session up.
+    Abandon,
+    /// Links a blob of another repository of the tenant.
+    Mount,
+    /// Takes a blob's link out of a repository.
+    Delete,
 }
 
 /// A row of the script, which is no bad one by its type. The last five fields are the bytes of the
@@ -23,7 +31,8 @@ pub struct Row {
     pub verb: Verb,
     /// A repository's name.
     pub repo: Vec<u8>,
-    /// The number of a session, where the command names one: 1 to 4294967295.
+    /// The number of a session, where the command names one: 1 to 4294967295. For a mount the name of
+    /// the repository that it is from.
     pub key: Vec<u8>,
     /// A digest's text.
     pub digest: Vec<u8>,

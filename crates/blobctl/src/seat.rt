@@ -1,7 +1,7 @@
 //! A book as what rows are played on.
 use crate::board::Board;
 use blob_digest::{ByteRange, Digest, Refusal, RepoName};
-use store_book::Book;
+use store_book::{Book, Mount};
 
 impl Board for Book {
     ghost use Rattle.blobctl.specs.Played.{Acts};
@@ -10,6 +10,10 @@ impl Board for Book {
 
     fn start(&mut self, repo: &RepoName) -> Result<u32, Refusal> {
         Book::start(self, repo)
+    }
+
+    fn status(&mut self, repo: &RepoName, number: u32) -> Result<u64, Refusal> {
+        Book::status(self, repo, number)
     }
 
     fn append(
@@ -31,5 +35,17 @@ impl Board for Book {
         bytes: &[u8],
     ) -> Result<u64, Refusal> {
         Book::close(self, repo, number, digest, range, bytes)
+    }
+
+    fn abandon(&mut self, repo: &RepoName, number: u32) -> Result<u64, Refusal> {
+        Book::abandon(self, repo, number)
+    }
+
+    fn mount(&mut self, repo: &RepoName, digest: &Digest, from: &RepoName) -> Result<Mount, Refusal> {
+        Book::mount(self, repo, digest, from)
+    }
+
+    fn delete(&mut self, repo: &RepoName, digest: &Digest) -> Result<(), Refusal> {
+        Book::delete(self, repo, digest)
     }
 }

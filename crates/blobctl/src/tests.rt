@@ -8,13 +8,12 @@ use crate::input::read_script;
 use crate::options::{Options, Stop};
 use crate::reply::Reply;
 use crate::row::Verb;
-use crate::run::run;
 use crate::script::read_rows;
 use crate::watched::Watched;
 use blob_digest::{Digest, Refusal};
 use std::alloc::Global;
 use std::io;
-use std::io::{ErrorKind, Read, Write};
+use std::io::{ErrorKind, Read};
 
 const ABC: &str = "sha256:ba7816bf8f01cfea414140de5dae2223b00361a396177a9cb410ff61f20015ad";
 
@@ -68,6 +67,11 @@ fn a_bad_row_is_named(rt: HostRuntime) {
         b"0,append,acme/one,,,,".as_slice(),
         b"0,append,acme/one,1,d,,".as_slice(),
         b"0,close,acme/one,x,d,,".as_slice(),
+        b"0,status,acme/one,,,,".as_slice(),
+        b"0,status,acme/one,1,d,,".as_slice(),
+        b"0,abandon,acme/one,1,,,x".as_slice(),
+        b"0,mount,acme/two,acme/one,d,0-1,".as_slice(),
+        b"0,delete,acme/one,1,d,,".as_slice(),
     ] {
         assert_eq!(rt; bad_row(alloc, script), 1);
     }
@@ -77,7 +81,7 @@ fn a_bad_row_is_named(rt: HostRuntime) {
 fn a_bad_row_after_a_good_one_is_the_second(rt: HostRuntime) {
     let script = b"0,start,acme/one,,,,\n0,fly,acme/one,,,,\n0,fly,,,,,\n";
     assert_eq!(rt; bad_row(rt.alloc(), script), 2);
-    let good = b"0,start,acme/one,,,,\n0,append,acme/one,0000000001,,,\n0,close,,1,,,\n";
+    let good = b"0,start,acme/one,,,,\n0,append,acme/one,0000000001,,,\n0,close,,1,,,\n0,status,,1,,,\n0,abandon,,1,,,\n0,mount,,,,,\n0,delete,,,,,\n";
     assert_eq!(rt; bad_row(rt.alloc(), good), 0);
 }
 
@@ -149,7 +153,7 @@ fn words_of(alloc: Global, words: &[&str]) -> Option<Vec<String>> {
 }
 
 /// What a command line gives.
-fn options_of(alloc: Global, words: &[&str]) -> Result<Options, Stop>
+pub fn options_of(alloc: Global, words: &[&str]) -> Result<Options, Stop>
     ensures { IfOk result IsWithin }
 {
     match words_of(alloc, words) {
@@ -258,6 +262,9 @@ fn replies_are_printed(rt: HostRuntime) {
     assert!(rt; prints(alloc, &Reply::Session(4_294_967_295), "session 4294967295"));
     assert!(rt; prints(alloc, &Reply::Received(0), "received 0"));
     assert!(rt; prints(alloc, &Reply::Stored(3), "stored 3"));
+    assert!(rt; prints(alloc, &Reply::Abandoned, "abandoned"));
+    assert!(rt; prints(alloc, &Reply::Mounted, "mounted"));
+    assert!(rt; prints(alloc, &Reply::Deleted, "deleted"));
     assert!(rt;
         prints(
             alloc,
@@ -289,135 +296,5 @@ fn faults_are_printed(rt: HostRuntime) {
         fault.write(&mut out).expect(&rt, "memory");
         assert_eq!(rt; out.as_str(), text);
         assert_eq!(rt; fault.status(), status);
-    }
-}
-
-const UPLOAD: &[u8] =
-    b"0,start,acme/one,,,,\n0,append,acme/one,1,,0-0,a\n0,append,acme/one,1,,1-2,bc\n0,close,acme/one,1,sha256:ba7816bf8f01cfea414140de5dae2223b00361a396177a9cb410ff61f20015ad,,\n";
-
-const UPLOADED: &str =
-    "1 session 1\n2 received 1\n3 received 3\n4 stored 3\nbook\ntenant acme used 3 quota 1000 next 2\nrepository acme/one\nblob sha256:ba7816bf8f01cfea414140de5dae2223b00361a396177a9cb410ff61f20015ad size 3 links 1\nend\n";
-
-/// A writer of at most four bytes at a time that fails at one of its calls.
-#[derive(Drop)]
-struct Full {
-    held: Vec<u8>,
-    call: u32,
-    fails_at: u32,
-}
-
-impl Write for Full {
-    fn write(&mut self, buf: &[u8]) -> io::Result<usize> {
-        if self.call == self.fails_at {
-            return Err(io::Error::from(ErrorKind::StorageFull));
-        }
-        self.call = self.call.saturating_add(1);
-        let count = buf.len().min(4);
-        match self.held.extend_from_slice(&buf[..count]) {
-            Ok(()) => Ok(count),
-            Err(_) => Err(io::Error::from(ErrorKind::OutOfMemory)),
-        }
-    }
-
-    fn flush(&mut self) -> io::Result<()> {
-        Ok(())
-    }
-}
-
-/// What a run writes by these arguments from this script, or its fault, with how many calls of the
-/// writer there were.
-fn run_on(
-    alloc: Global,
-    words: &[&str],
-    script: &[u8],
-    fails_at: u32,
-) -> Result<(Vec<u8>, u32), Fault> {
-    let Ok(options) = options_of(alloc, words) else {
-        return Err(Fault::Memory);
-    };
-    let mut reader = Watched::new(script);
-    let mut writer = Full {
-        held: Vec::new(alloc),
-        call: 0,
-        fails_at,
-    };
-    match run(alloc, &mut reader, &mut writer, &options) {
-        Ok(()) => {
-            let Full {
-                held,
-                call,
-                fails_at: _,
-            } = writer;
-            Ok((held, call))
-        }
-        Err(fault) => {
-            if fault != Fault::Write && writer.call > 0 {
-                return Err(Fault::BadRow(0));
-            }
-            Err(fault)
-        }
-    }
-}
-
-/// Whether a run writes this text.
-fn writes(alloc: Global, words: &[&str], script: &[u8], text: &str) -> bool {
-    match run_on(alloc, words, script, u32::MAX) {
-        Ok((held, _)) => held.as_slice() == text.as_bytes(),
-        Err(_) => false,
-    }
-}
-
-#[test]
-fn an_empty_script_prints_the_book(rt: HostRuntime) {
-    let text =
-        "book\ntenant acme used 0 quota 1000 next 1\ntenant zeta used 0 quota 5 next 1\nend\n";
-    assert!(rt; writes(rt.alloc(), &["acme=1000", "zeta=5"], b"", text));
-    assert!(rt; writes(rt.alloc(), &["zeta=5", "acme=1000"], b"", text));
-}
-
-#[test]
-fn an_upload_is_played(rt: HostRuntime) {
-    assert!(rt; writes(rt.alloc(), &["acme=1000"], UPLOAD, UPLOADED));
-}
-
-#[test]
-fn an_empty_blob_is_stored(rt: HostRuntime) {
-    let script =
-        b"0,start,acme/one,,,,\n0,close,acme/one,1,sha256:e3b0c44298fc1c149afbf4c8996fb92427ae41e4649b934ca495991b7852b855,,\n";
-    let text =
-        "1 session 1\n2 stored 0\nbook\ntenant acme used 0 quota 1000 next 2\nrepository acme/one\nblob sha256:e3b0c44298fc1c149afbf4c8996fb92427ae41e4649b934ca495991b7852b855 size 0 links 1\nend\n";
-    assert!(rt; writes(rt.alloc(), &["acme=1000"], script, text));
-}
-
-#[test]
-fn fields_that_spell_nothing_are_refused_in_order(rt: HostRuntime) {
-    let script =
-        b"0,start,Acme,,,,\n0,close,Acme,1,d,x,\n0,close,acme/one,1,d,x,\n0,append,acme/one,1,,2-1,c\n0,start,nobody/x,,,,\n";
-    let text =
-        "1 refused NameInvalid\n2 refused NameInvalid\n3 refused DigestInvalid\n4 refused SizeInvalid\n5 refused NameUnknown\nbook\ntenant acme used 0 quota 1 next 1\nend\n";
-    assert!(rt; writes(rt.alloc(), &["acme=1"], script, text));
-}
-
-#[test]
-fn a_bad_row_writes_nothing(rt: HostRuntime) {
-    let script = b"0,start,acme/one,,,,\n0,fly,acme/one,,,,\n";
-    match run_on(rt.alloc(), &["acme=1000"], script, u32::MAX) {
-        Ok(_) => assert!(rt; false),
-        Err(fault) => assert_eq!(rt; fault, Fault::BadRow(2)),
-    }
-}
-
-#[test]
-fn a_failed_write_is_a_write_fault(rt: HostRuntime) {
-    let alloc = rt.alloc();
-    let Ok((_, calls)) = run_on(alloc, &["acme=1000"], UPLOAD, u32::MAX) else {
-        assert!(rt; false);
-        return;
-    };
-    for fails_at in 0..calls {
-        match run_on(alloc, &["acme=1000"], UPLOAD, fails_at) {
-            Ok(_) => assert!(rt; false),
-            Err(fault) => assert_eq!(rt; fault, Fault::Write),
-        }
     }
 }

@@ -1,0 +1,211 @@
+//! Worked scripts: what is written for them, by values that stand outside the program.
+
+use crate::fault::Fault;
+use crate::run::run;
+use crate::tests::options_of;
+use crate::watched::Watched;
+use std::alloc::Global;
+use std::io;
+use std::io::{ErrorKind, Write};
+
+const UPLOAD: &[u8] =
+    b"0,start,acme/one,,,,\n0,append,acme/one,1,,0-0,a\n0,append,acme/one,1,,1-2,bc\n0,close,acme/one,1,sha256:ba7816bf8f01cfea414140de5dae2223b00361a396177a9cb410ff61f20015ad,,\n";
+
+const UPLOADED: &str =
+    "1 session 1\n2 received 1\n3 received 3\n4 stored 3\nbook\ntenant acme used 3 quota 1000 next 2\nrepository acme/one\nblob sha256:ba7816bf8f01cfea414140de5dae2223b00361a396177a9cb410ff61f20015ad size 3 links 1\nend\n";
+
+/// A writer of at most four bytes at a time that fails at one of its calls.
+#[derive(Drop)]
+struct Full {
+    held: Vec<u8>,
+    call: u32,
+    fails_at: u32,
+}
+
+impl Write for Full {
+    fn write(&mut self, buf: &[u8]) -> io::Result<usize> {
+        if self.call == self.fails_at {
+            return Err(io::Error::from(ErrorKind::StorageFull));
+        }
+        self.call = self.call.saturating_add(1);
+        let count = buf.len().min(4);
+        match self.held.extend_from_slice(&buf[..count]) {
+            Ok(()) => Ok(count),
+            Err(_) => Err(io::Error::from(ErrorKind::OutOfMemory)),
+        }
+    }
+
+    fn flush(&mut self) -> io::Result<()> {
+        Ok(())
+    }
+}
+
+/// What a run writes by these arguments from this script, or its fault, with how many calls of the
+/// writer there were.
+fn run_on(
+    alloc: Global,
+    words: &[&str],
+    script: &[u8],
+    fails_at: u32,
+) -> Result<(Vec<u8>, u32), Fault> {
+    let Ok(options) = options_of(alloc, words) else {
+        return Err(Fault::Memory);
+    };
+    let mut reader = Watched::new(script);
+    let mut writer = Full {
+        held: Vec::new(alloc),
+        call: 0,
+        fails_at,
+    };
+    match run(alloc, &mut reader, &mut writer, &options) {
+        Ok(()) => {
+            let Full {
+                held,
+                call,
+                fails_at: _,
+            } = writer;
+            Ok((held, call))
+        }
+        Err(fault) => {
+            if fault != Fault::Write && writer.call > 0 {
+                return Err(Fault::BadRow(0));
+            }
+            Err(fault)
+        }
+    }
+}
+
+/// Whether a run writes this text.
+fn writes(alloc: Global, words: &[&str], script: &[u8], text: &str) -> bool {
+    match run_on(alloc, words, script, u32::MAX) {
+        Ok((held, _)) => held.as_slice() == text.as_bytes(),
+        Err(_) => false,
+    }
+}
+
+#[test]
+fn an_empty_script_prints_the_book(rt: HostRuntime) {
+    let text =
+        "book\ntenant acme used 0 quota 1000 next 1\ntenant zeta used 0 quota 5 next 1\nend\n";
+    assert!(rt; writes(rt.alloc(), &["acme=1000", "zeta=5"], b"", text));
+    assert!(rt; writes(rt.alloc(), &["zeta=5", "acme=1000"], b"", text));
+}
+
+#[test]
+fn an_upload_is_played(rt: HostRuntime) {
+    assert!(rt; writes(rt.alloc(), &["acme=1000"], UPLOAD, UPLOADED));
+}
+
+#[test]
+fn an_empty_blob_is_stored(rt: HostRuntime) {
+    let script =
+        b"0,start,acme/one,,,,\n0,close,acme/one,1,sha256:e3b0c44298fc1c149afbf4c8996fb92427ae41e4649b934ca495991b7852b855,,\n";
+    let text =
+        "1 session 1\n2 stored 0\nbook\ntenant acme used 0 quota 1000 next 2\nrepository acme/one\nblob sha256:e3b0c44298fc1c149afbf4c8996fb92427ae41e4649b934ca495991b7852b855 size 0 links 1\nend\n";
+    assert!(rt; writes(rt.alloc(), &["acme=1000"], script, text));
+}
+
+#[test]
+fn fields_that_spell_nothing_are_refused_in_order(rt: HostRuntime) {
+    let script =
+        b"0,start,Acme,,,,\n0,close,Acme,1,d,x,\n0,close,acme/one,1,d,x,\n0,append,acme/one,1,,2-1,c\n0,start,nobody/x,,,,\n0,mount,Acme,Acme,d,,\n0,mount,acme/one,Acme,d,,\n0,mount,acme/one,acme/two,d,,\n0,delete,Acme,,d,,\n0,delete,acme/one,,d,,\n";
+    let text =
+        "1 refused NameInvalid\n2 refused NameInvalid\n3 refused DigestInvalid\n4 refused SizeInvalid\n5 refused NameUnknown\n6 refused NameInvalid\n7 refused NameInvalid\n8 refused DigestInvalid\n9 refused NameInvalid\n10 refused DigestInvalid\nbook\ntenant acme used 0 quota 1 next 1\nend\n";
+    assert!(rt; writes(rt.alloc(), &["acme=1"], script, text));
+}
+
+#[test]
+fn a_bad_row_writes_nothing(rt: HostRuntime) {
+    let script = b"0,start,acme/one,,,,\n0,fly,acme/one,,,,\n";
+    match run_on(rt.alloc(), &["acme=1000"], script, u32::MAX) {
+        Ok(_) => assert!(rt; false),
+        Err(fault) => assert_eq!(rt; fault, Fault::BadRow(2)),
+    }
+}
+
+#[test]
+fn a_failed_write_is_a_write_fault(rt: HostRuntime) {
+    let alloc = rt.alloc();
+    let Ok((_, calls)) = run_on(alloc, &["acme=1000"], UPLOAD, u32::MAX) else {
+        assert!(rt; false);
+        return;
+    };
+    for fails_at in 0..calls {
+        match run_on(alloc, &["acme=1000"], UPLOAD, fails_at) {
+            Ok(_) => assert!(rt; false),
+            Err(fault) => assert_eq!(rt; fault, Fault::Write),
+        }
+    }
+}
+
+#[test]
+fn an_upload_is_resumed_and_abandoned(rt: HostRuntime) {
+    let script =
+        b"0,start,acme/one,,,,\n0,append,acme/one,1,,0-1,ab\n0,append,acme/one,1,,3-3,c\n0,status,acme/one,1,,,\n0,append,acme/one,1,,2-2,c\n0,abandon,acme/one,1,,,\n0,status,acme/one,1,,,\n";
+    let text =
+        "1 session 1\n2 received 2\n3 refused RangeInvalid received 2\n4 received 2\n5 received 3\n6 abandoned\n7 refused UploadUnknown\nbook\ntenant acme used 0 quota 1000 next 2\nrepository acme/one\nend\n";
+    assert!(rt; writes(rt.alloc(), &["acme=1000"], script, text));
+}
+
+#[test]
+fn a_size_limit_comes_before_the_place_of_a_range(rt: HostRuntime) {
+    let script =
+        b"0,start,acme/one,,,,\n0,append,acme/one,1,,0-2,ab\n0,status,acme/one,1,,,\n0,append,acme/one,1,,,ab\n0,append,acme/one,1,,,\n0,append,acme/one,1,,2-2,c\n0,append,acme/one,1,,2-1,c\n";
+    let text =
+        "1 session 1\n2 refused SizeInvalid\n3 received 0\n4 received 2\n5 received 2\n6 refused SizeInvalid\n7 refused SizeInvalid\nbook\ntenant acme used 2 quota 1000 next 2\nrepository acme/one\nsession 1 received 2\nend\n";
+    assert!(rt; writes(rt.alloc(), &["--max-blob", "2", "acme=1000"], script, text));
+}
+
+#[test]
+fn a_refused_close_leaves_what_was_received(rt: HostRuntime) {
+    let script =
+        b"0,start,acme/one,,,,\n0,append,acme/one,1,,,ab\n0,close,acme/one,1,sha256:44136fa355b3678a1146ad16f7e8649e94fb4fc21fe77e8310c060f61caaff8a,2-2,c\n0,status,acme/one,1,,,\n0,status,acme/two,1,,,\n0,close,acme/one,1,sha256:ba7816bf8f01cfea414140de5dae2223b00361a396177a9cb410ff61f20015ad,2-2,c\n0,close,acme/one,1,sha256:ba7816bf8f01cfea414140de5dae2223b00361a396177a9cb410ff61f20015ad,2-2,c\n0,start,nobody/x,,,,\n";
+    let text =
+        "1 session 1\n2 received 2\n3 refused DigestInvalid\n4 received 2\n5 refused UploadUnknown\n6 stored 3\n7 refused UploadUnknown\n8 refused NameUnknown\nbook\ntenant acme used 3 quota 1000 next 2\nrepository acme/one\nblob sha256:ba7816bf8f01cfea414140de5dae2223b00361a396177a9cb410ff61f20015ad size 3 links 1\nend\n";
+    assert!(rt; writes(rt.alloc(), &["acme=1000"], script, text));
+}
+
+#[test]
+fn a_tenant_at_its_quota_is_told_its_use(rt: HostRuntime) {
+    let script =
+        b"0,start,acme/one,,,,\n0,append,acme/one,1,,,ab\n0,append,acme/one,1,,3-3,cd\n0,append,acme/one,9,,3-3,cd\n0,append,acme/one,1,,,cd\n0,close,acme/one,1,sha256:ba7816bf8f01cfea414140de5dae2223b00361a396177a9cb410ff61f20015ad,,c\n0,start,acme/one,,,,\n0,append,acme/one,2,,,x\n0,append,acme/one,2,,,\n";
+    let text =
+        "1 session 1\n2 received 2\n3 refused SizeInvalid\n4 refused UploadUnknown\n5 refused Quota used 2 quota 3\n6 stored 3\n7 session 2\n8 refused Quota used 3 quota 3\n9 received 0\nbook\ntenant acme used 3 quota 3 next 3\nrepository acme/one\nblob sha256:ba7816bf8f01cfea414140de5dae2223b00361a396177a9cb410ff61f20015ad size 3 links 1\nsession 2 received 0\nend\n";
+    assert!(rt; writes(rt.alloc(), &["acme=3"], script, text));
+}
+
+#[test]
+fn a_close_past_the_quota_leaves_what_was_received(rt: HostRuntime) {
+    let script =
+        b"0,start,acme/one,,,,\n0,append,acme/one,1,,,ab\n0,close,acme/one,1,sha256:44136fa355b3678a1146ad16f7e8649e94fb4fc21fe77e8310c060f61caaff8a,,c\n0,status,acme/one,1,,,\n";
+    let text =
+        "1 session 1\n2 received 2\n3 refused Quota used 2 quota 2\n4 received 2\nbook\ntenant acme used 2 quota 2 next 2\nrepository acme/one\nsession 1 received 2\nend\n";
+    assert!(rt; writes(rt.alloc(), &["acme=2"], script, text));
+}
+
+#[test]
+fn a_blob_is_mounted_within_its_tenant(rt: HostRuntime) {
+    let script =
+        b"0,start,acme/one,,,,\n0,close,acme/one,1,sha256:ba7816bf8f01cfea414140de5dae2223b00361a396177a9cb410ff61f20015ad,,abc\n0,mount,acme/two,acme/one,sha256:ba7816bf8f01cfea414140de5dae2223b00361a396177a9cb410ff61f20015ad,,\n0,mount,other/x,acme/one,sha256:ba7816bf8f01cfea414140de5dae2223b00361a396177a9cb410ff61f20015ad,,\n0,start,acme/one,,,,\n0,close,acme/one,2,sha256:ba7816bf8f01cfea414140de5dae2223b00361a396177a9cb410ff61f20015ad,,abc\n0,close,other/x,1,sha256:ba7816bf8f01cfea414140de5dae2223b00361a396177a9cb410ff61f20015ad,,abc\n";
+    let text =
+        "1 session 1\n2 stored 3\n3 mounted\n4 session 1\n5 session 2\n6 stored 3\n7 stored 3\nbook\ntenant acme used 3 quota 1000 next 3\nrepository acme/one\nblob sha256:ba7816bf8f01cfea414140de5dae2223b00361a396177a9cb410ff61f20015ad size 3 links 3\nrepository acme/two\nblob sha256:ba7816bf8f01cfea414140de5dae2223b00361a396177a9cb410ff61f20015ad size 3 links 3\ntenant other used 3 quota 1000 next 2\nrepository other/x\nblob sha256:ba7816bf8f01cfea414140de5dae2223b00361a396177a9cb410ff61f20015ad size 3 links 3\nend\n";
+    assert!(rt; writes(rt.alloc(), &["acme=1000", "other=1000"], script, text));
+}
+
+#[test]
+fn a_mounted_blob_is_used_once(rt: HostRuntime) {
+    let script =
+        b"0,start,acme/one,,,,\n0,close,acme/one,1,sha256:ba7816bf8f01cfea414140de5dae2223b00361a396177a9cb410ff61f20015ad,,abc\n0,mount,acme/two,acme/one,sha256:ba7816bf8f01cfea414140de5dae2223b00361a396177a9cb410ff61f20015ad,,\n0,start,acme/one,,,,\n0,append,acme/one,2,,,x\n0,delete,acme/one,,sha256:ba7816bf8f01cfea414140de5dae2223b00361a396177a9cb410ff61f20015ad,,\n0,delete,acme/one,,sha256:ba7816bf8f01cfea414140de5dae2223b00361a396177a9cb410ff61f20015ad,,\n0,delete,acme/two,,sha256:ba7816bf8f01cfea414140de5dae2223b00361a396177a9cb410ff61f20015ad,,\n0,append,acme/one,2,,,x\n";
+    let text =
+        "1 session 1\n2 stored 3\n3 mounted\n4 session 2\n5 refused Quota used 3 quota 3\n6 deleted\n7 refused BlobUnknown\n8 deleted\n9 received 1\nbook\ntenant acme used 1 quota 3 next 3\nrepository acme/one\nsession 2 received 1\nrepository acme/two\nend\n";
+    assert!(rt; writes(rt.alloc(), &["acme=3"], script, text));
+}
+
+#[test]
+fn a_blob_without_links_keeps_its_slot(rt: HostRuntime) {
+    let script =
+        b"0,start,acme/one,,,,\n0,close,acme/one,1,sha256:ba7816bf8f01cfea414140de5dae2223b00361a396177a9cb410ff61f20015ad,,abc\n0,start,acme/one,,,,\n0,append,acme/one,2,,,{}\n0,close,acme/one,2,sha256:44136fa355b3678a1146ad16f7e8649e94fb4fc21fe77e8310c060f61caaff8a,,\n0,status,acme/one,2,,,\n0,delete,acme/one,,sha256:ba7816bf8f01cfea414140de5dae2223b00361a396177a9cb410ff61f20015ad,,\n0,close,acme/one,2,sha256:44136fa355b3678a1146ad16f7e8649e94fb4fc21fe77e8310c060f61caaff8a,,\n";
+    let text =
+        "1 session 1\n2 stored 3\n3 session 2\n4 received 2\n5 refused StoreFull\n6 received 2\n7 deleted\n8 refused StoreFull\nbook\ntenant acme used 2 quota 1000 next 3\nrepository acme/one\nsession 2 received 2\nend\n";
+    assert!(rt; writes(rt.alloc(), &["--slots", "1", "acme=1000"], script, text));
+}
