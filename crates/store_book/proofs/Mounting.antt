@@ -31,14 +31,6 @@ use Rattle.store_book.proofs.SetMembers.{now}
 use Rattle.store_book.proofs.Starting.{ok_of_if, err_of_if}
 use Rattle.store_book.proofs.Ties.{held_of, slot_is_resident}
 
--- equal links and slots
-module _ (l l' : Linked) (u : Uploaded) (slots slots' : List Slot) (max_blob : ℕ) (links : l' ≡ l) (slots_are : slots' ≡ slots) where
-  pub same_catalog : book_catalog l' u slots' max_blob ≡ book_catalog l u slots max_blob
-  same_catalog = λ i. book_catalog (links i) u (slots_are i) max_blob
-
-  pub IsBook-same : IsBook l u slots max_blob → IsBook l' u slots' max_blob
-  IsBook-same book = subst (λ (x : Linked). IsBook x u slots' max_blob) (sym links) (subst (λ (x : List Slot). IsBook l u x max_blob) (sym slots_are) book)
-
 module _ (l : Linked) (u : Uploaded) (slots : List Slot) (max_blob t : ℕ) (repo : Text) (book : IsBook l u slots max_blob) (known : known_tenant l repo ≡ Ok t) where
   abbrev C : Catalog
   C = book_catalog l u slots max_blob

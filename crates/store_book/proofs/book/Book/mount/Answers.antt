@@ -1,4 +1,4 @@
-use Rattle.std.proofs.Common.{ap, sym, ◌∙◌, subst}
+use Rattle.std.proofs.Common.{ap, sym, ◌∙◌, subst, refl}
 use Rattle.std.proofs.lemmas.Result.{err_from_is_err_and}
 use Rattle.blob_digest.specs.Sets as set
 use Rattle.link_table.specs.Linked.{Linked, HasNoLinks, vanish}
@@ -6,8 +6,8 @@ use Rattle.store_book.specs.BookState.{BookState}
 use Rattle.store_book.specs.Layers.{book_catalog}
 use Rattle.store_book.specs.Steps.{start}
 use Rattle.store_book.proofs.CloseCalls.{generations-kept}
-use Rattle.store_book.proofs.Mounting.{session_ok, session_refused, mount_refused_first, can_link, mount_ok, IsBook-mount, IsBook-same, same_catalog}
-use Rattle.store_book.proofs.Starting.{undone, unneeded, appeared_there, appeared_unlinked}
+use Rattle.store_book.proofs.Mounting.{session_ok, session_refused, mount_refused_first, can_link, mount_ok, IsBook-mount}
+use Rattle.store_book.proofs.Starting.{same_catalog, same_book, undone, unneeded, appeared_there, appeared_unlinked}
 use Rattle.store_book.proofs.book.Book.mount.Goals as goal
 use Rattle.store_book.proofs.book.Book.mount.Goals.{then-appeared, else-appeared}
 
@@ -56,12 +56,12 @@ vanish-requires-clause-unlinked c =
 pub invariant_of-self-then-appeared : goal.invariant_of-self-then-appeared
 invariant_of-self-then-appeared c =
     let links = c.vanish.ensures ∙ ap (λ (l : Linked). vanish l c.args.repo.now) c.in-Err.ensures.err.0 ∙ undone c.self.inside.links c.appear.new.self c.self.inside.uploads c.self.inside.slots c.self.inside.max_blob c.in_ok-tenant.tenant c.args.repo.now c.in_ok-appeared.appeared c.in_ok-appeared.ensures c.if-appeared.true in
-    IsBook-same c.self.inside.links c.vanish.new.self c.self.inside.uploads c.self.inside.slots c.link_slot.new.slots c.self.inside.max_blob links c.in-Err.ensures.err.1 c.self.invariant
+    same_book c.self.inside.links c.vanish.new.self c.self.inside.uploads c.self.inside.uploads c.self.inside.slots c.link_slot.new.slots c.self.inside.max_blob links refl c.in-Err.ensures.err.1 c.self.invariant
 
 pub invariant_of-self-else-appeared : goal.invariant_of-self-else-appeared
 invariant_of-self-else-appeared c =
     let links = c.in-Err.ensures.err.0 ∙ unneeded c.self.inside.links c.appear.new.self c.self.inside.uploads c.self.inside.slots c.self.inside.max_blob c.in_ok-tenant.tenant c.args.repo.now c.in_ok-appeared.appeared c.in_ok-appeared.ensures c.if-appeared.false in
-    IsBook-same c.self.inside.links c.link_slot.new.links c.self.inside.uploads c.self.inside.slots c.link_slot.new.slots c.self.inside.max_blob links c.in-Err.ensures.err.1 c.self.invariant
+    same_book c.self.inside.links c.link_slot.new.links c.self.inside.uploads c.self.inside.uploads c.self.inside.slots c.link_slot.new.slots c.self.inside.max_blob links refl c.in-Err.ensures.err.1 c.self.invariant
 
 pub returns-after-appeared-clause-does : goal.returns-after-appeared-clause-does
 returns-after-appeared-clause-does c = (
@@ -69,9 +69,9 @@ returns-after-appeared-clause-does c = (
   elim c.if-appeared.branch [
     | then-appeared w ↦
         let links = w.vanish.ensures ∙ ap (λ (l : Linked). vanish l c.args.repo.now) c.in-Err.ensures.err.0 ∙ undone c.self.inside.links c.appear.new.self c.self.inside.uploads c.self.inside.slots c.self.inside.max_blob c.in_ok-tenant.tenant c.args.repo.now c.in_ok-appeared.appeared c.in_ok-appeared.ensures w.if-appeared.true in
-        ap (λ (s : BookState). s.catalog) w.self-is ∙ same_catalog c.self.inside.links _ c.self.inside.uploads c.self.inside.slots _ c.self.inside.max_blob links c.in-Err.ensures.err.1 ∙ ap (λ (s : BookState). s.catalog) c.self.view_is
+        ap (λ (s : BookState). s.catalog) w.self-is ∙ same_catalog c.self.inside.links _ c.self.inside.uploads c.self.inside.uploads c.self.inside.slots _ c.self.inside.max_blob links refl c.in-Err.ensures.err.1 ∙ ap (λ (s : BookState). s.catalog) c.self.view_is
     | else-appeared w ↦
         let links = c.in-Err.ensures.err.0 ∙ unneeded c.self.inside.links c.appear.new.self c.self.inside.uploads c.self.inside.slots c.self.inside.max_blob c.in_ok-tenant.tenant c.args.repo.now c.in_ok-appeared.appeared c.in_ok-appeared.ensures w.if-appeared.false in
-        ap (λ (s : BookState). s.catalog) w.self-is ∙ same_catalog c.self.inside.links _ c.self.inside.uploads c.self.inside.slots _ c.self.inside.max_blob links c.in-Err.ensures.err.1 ∙ ap (λ (s : BookState). s.catalog) c.self.view_is
+        ap (λ (s : BookState). s.catalog) w.self-is ∙ same_catalog c.self.inside.links _ c.self.inside.uploads c.self.inside.uploads c.self.inside.slots _ c.self.inside.max_blob links refl c.in-Err.ensures.err.1 ∙ ap (λ (s : BookState). s.catalog) c.self.view_is
   ],
 )
