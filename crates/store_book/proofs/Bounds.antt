@@ -9,8 +9,10 @@ use Rattle.std.proofs.lemmas.Bool.{true≢false, false_from_ne_true, lt-ltb}
 use Rattle.std.proofs.lemmas.Bool.Decides.{nat_tests}
 use Rattle.std.proofs.lemmas.List.Sums.{sum_by-cons, count_by-le-length}
 use Rattle.std.proofs.lemmas.Map.Lookups.{exact_bytes}
+use Rattle.std.specs.FinMap.{get}
 use Rattle.blob_digest.specs.Sets as set
-use Rattle.store_book.specs.Catalog.{Text, Tenant, Catalog, tenant_of, is_tenants, quota_of, used, count}
+use Rattle.blob_digest.proofs.MapSums.{sum_split}
+use Rattle.store_book.specs.Catalog.{Text, Tenant, Resident, Catalog, tenant_of, is_tenants, quota_of, tenant_holds, blob_share, used, count}
 use Rattle.store_book.specs.Laws.{Lawful, Sound}
 use Rattle.store_book.proofs.DistinctUse.{some_member}
 use Rattle.store_book.proofs.MapLemmas.{list_any_count}
@@ -111,3 +113,10 @@ count_small C lawful d =
 -- a tenant's use is small, and leaves room for a blob
 pub used_small : (C : Catalog) → Sound C → (t : ℕ) → t < length C.tenants → used C t ≤ 2 ^ 50
 used_small C sound t there = let within = sound.quotas t there in let quota = quota_small C sound.lawful t in omega arith
+
+-- a blob that a tenant holds is within its use
+pub held_within : (C : Catalog) (t : ℕ) (d : Text) (b : Resident) → get C.residents d ≡ Some b → tenant_holds C t d ≡ true → length b.bytes ≤ used C t
+held_within C t d b kept held =
+    let sum = sum_split nat_list_cmp_total exact_bytes (blob_share C t) C.residents d b kept in
+    let share : blob_share C t (d, b) ≡ length b.bytes = rw held refl in
+    omega arith

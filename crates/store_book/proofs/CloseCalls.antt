@@ -1,5 +1,5 @@
 -- What a close knows between its calls.
-use Rattle.std.proofs.Common.{◌≡◌, ℕ, ◌+◌, ◌-◌, ◌<◌, ◌≤◌, Bool, true, false, List, length, map, Option, Some, None, Result, Ok, refl, sym, ap, ◌∙◌, subst, arith, length-append}
+use Rattle.std.proofs.Common.{◌≡◌, ℕ, ◌+◌, ◌-◌, ◌^◌, ◌<◌, ◌≤◌, Bool, true, false, List, length, map, Option, Some, None, Result, Ok, refl, sym, ap, ◌∙◌, subst, arith, length-append}
 use Rattle.std.specs.Prelude.{slice_index, nat_lt, ◌||◌, if◌then◌else◌}
 use Rattle.std.specs.List.{concat}
 use Rattle.std.specs.FinMap.{get, remove, contains_key}
@@ -72,13 +72,14 @@ module _ (l : Linked) (u : Uploaded) (slots : List Slot) (max_blob t number afte
   pub whole_long : length whole ≡ after
   whole_long = rw here.1 (length-append (concat here.0.chunks) last ∙ ap (λ m. m + length last) (length-concat here.0.chunks)) ∙ sym size_is
 
-  pub whole_small : length whole ≤ max_blob
+  pub whole_small : length whole ≤ 2 ^ 50
   whole_small =
       let p = check_passed C t number repo range (length last) after checked in
       let same : p.0 ≡ here.0 = let e : Some p.0 ≡ Some here.0 = sym p.1 ∙ here.1 in cc in
       let long = whole_long in
       let size = size_is in
       let lengths : received p.0 ≡ received here.0 = ap received same in
+      let most = book.sound.lawful.limits.max_blob in
       omega (arith, p.3)
 
   -- the sealed blob can be linked

@@ -62,7 +62,8 @@ module _ (C : Catalog) (r d : Text) where
       let same : (q : Text) → holds linked q x ≡ holds C q x = λ q. as_before-insert link_cmp_total exact_link C.links (r, d) (q, x) (λ e. differ (ap (λ p. p.1) e)) in
       λ i. count_by (λ q. same q i) (set.items C.repos)
 
-  back : holds C r d ≡ true → set.insert unlinked.links (r, d) ≡ C.links
+  -- a link that goes and comes back
+  pub back : holds C r d ≡ true → set.insert unlinked.links (r, d) ≡ C.links
   back there = insert-remove link_cmp_total exact_link C.links (r, d) tt ∙ insert_back link_cmp_total exact_link C.links (r, d) tt (a_unit (get C.links (r, d)) there)
 
 pub count-unlink : (C : Catalog) (r d : Text) → set.contains C.repos r ≡ true → holds C r d ≡ true → count C d ≡ 1 + count (record C { links = set.remove C.links (r, d) }) d

@@ -1,5 +1,5 @@
 -- Linking a sealed blob, from what the calls of the links and the slots did.
-use Rattle.std.proofs.Common.{◌≡◌, ◌≢◌, ℕ, Bool, true, false, cond, not, List, length, Some, None, Ok, is_some, refl, sym, ap, ◌∙◌, bytes_eq}
+use Rattle.std.proofs.Common.{◌≡◌, ◌≢◌, ℕ, Bool, true, false, cond, not, List, [], length, Some, None, Ok, is_some, refl, sym, ap, ◌∙◌, subst, bytes_eq}
 use Rattle.std.specs.Prelude.{if◌then◌else◌}
 use Rattle.std.specs.Option.{option_map_or}
 use Rattle.std.specs.Ordering.{eq_by_cmp}
@@ -13,7 +13,7 @@ use Rattle.blob_digest.proofs.KeyOrders.{link_cmp_total, exact_link}
 use Rattle.slot_table.specs.declared.phase.Phase.TheVariants as phase
 use Rattle.slot_table.specs.Slots.{Slot, Held, slot_of, held_at, phase_at, with_slot, fill, on_held, raise}
 use Rattle.link_table.specs.Linked.{Linked, link, unlink}
-use Rattle.store_book.specs.Keeping.{CanKeep, IsKept, IsUnkept, again, anew, differs}
+use Rattle.store_book.specs.Keeping.{bytes_at, CanKeep, IsKept, IsUnkept, again, anew, differs}
 use Rattle.store_book.proofs.MapLemmas.{get-insert_at}
 use Rattle.store_book.proofs.Ties.{held_of}
 
@@ -61,23 +61,40 @@ module _ (slots : List Slot) (k : ℕ) (blob : Text × Text) (found : slot_of sl
       let h = held_of slots blob.0 k found in
       (h.0, h.1, h.2, (bytes_decides h.0.bytes blob.1).0 (ap (λ o. option_map_or (λ (x : Held). bytes_eq x.bytes blob.1) o false) (sym h.1) ∙ test))
 
+  -- bytes that passed the test are those of the blob
+  blob_by_test : test_at slots k blob.1 ≡ true → ◌≡◌ {A = Text × Text} (blob.0, bytes_at slots k) blob
+  blob_by_test test = let h = same_by_test test in λ i. (blob.0, (ap (λ o. option_map_or (λ (x : Held). x.bytes) o []) h.1 ∙ h.3) i)
+
+  pub can_by_test : (l : Linked) (t : ℕ) (repo : Text) → CanKeep l slots t repo blob → test_at slots k blob.1 ≡ true → CanKeep l slots t repo (blob.0, bytes_at slots k)
+  can_by_test l t repo can test = subst (λ (b : Text × Text). CanKeep l slots t repo b) (sym (blob_by_test test)) can
+
+  pub kept_by_test : (l l' : Linked) (slots' : List Slot) (repo : Text) → test_at slots k blob.1 ≡ true → IsKept l slots repo (blob.0, bytes_at slots k) l' slots' → IsKept l slots repo blob l' slots'
+  kept_by_test l l' slots' repo test kept = subst (λ (b : Text × Text). IsKept l slots repo b l' slots') (blob_by_test test) kept
+
+module _ (slots : List Slot) (k : ℕ) (digest : Text) (found : slot_of slots digest ≡ Some k) where
+  abbrev blob_there : Text × Text
+  blob_there = (digest, bytes_at slots k)
+
+  pub bytes_there : bytes_at slots k ≡ (held_of slots digest k found).0.bytes
+  bytes_there = ap (λ o. option_map_or (λ (x : Held). x.bytes) o []) (held_of slots digest k found).1
+
   -- the size of a link of what a slot holds
-  pub size_by_test : (l : Linked) (t : ℕ) (repo : Text) → CanKeep l slots t repo blob → test_at slots k blob.1 ≡ true → (r : Text) (m : ℕ) → get l.links (r, blob.0) ≡ Some m → m ≡ length blob.1
-  size_by_test l t repo can test r m at =
-      let h = same_by_test test in
-      can.sizes k h.0 r m h.1 (ap (λ (d : Text). get l.links (r, d)) h.2 ∙ at) ∙ ap length h.3
+  pub size_there : (l : Linked) (t : ℕ) (repo : Text) → CanKeep l slots t repo blob_there → (r : Text) (m : ℕ) → get l.links (r, digest) ≡ Some m → m ≡ length (bytes_at slots k)
+  size_there l t repo can r m at =
+      let h = held_of slots digest k found in
+      can.sizes k h.0 r m h.1 (ap (λ (d : Text). get l.links (r, d)) h.2 ∙ at) ∙ ap length (sym bytes_there)
 
-  pub again_new : (l l' : Linked) (slots' : List Slot) (repo : Text) → test_at slots k blob.1 ≡ true → link l repo blob.0 (length blob.1) ≡ Ok (true, l') → slots' ≡ with_slot slots k (on_held raise) → IsKept l slots repo blob l' slots'
-  again_new l l' slots' repo test made raised =
-      let h = same_by_test test in
-      let new = not-true _ (link_new l l' repo blob.0 (length blob.1) true made) in
-      again k h.0 found h.1 h.3 (sym (link_left l l' repo blob.0 (length blob.1) true made)) (raised ∙ ap (λ b. if b then slots else with_slot slots k (on_held raise)) (sym new))
+  pub again_new : (l l' : Linked) (slots' : List Slot) (repo : Text) → link l repo digest (length (bytes_at slots k)) ≡ Ok (true, l') → slots' ≡ with_slot slots k (on_held raise) → IsKept l slots repo blob_there l' slots'
+  again_new l l' slots' repo made raised =
+      let h = held_of slots digest k found in
+      let new = not-true _ (link_new l l' repo digest (length (bytes_at slots k)) true made) in
+      again k h.0 found h.1 (sym bytes_there) (sym (link_left l l' repo digest (length (bytes_at slots k)) true made)) (raised ∙ ap (λ b. if b then slots else with_slot slots k (on_held raise)) (sym new))
 
-  pub again_old : (l l' : Linked) (repo : Text) → test_at slots k blob.1 ≡ true → link l repo blob.0 (length blob.1) ≡ Ok (false, l') → IsKept l slots repo blob l' slots
-  again_old l l' repo test made =
-      let h = same_by_test test in
-      let old = not-false _ (link_new l l' repo blob.0 (length blob.1) false made) in
-      again k h.0 found h.1 h.3 (sym (link_left l l' repo blob.0 (length blob.1) false made)) (ap (λ b. if b then slots else with_slot slots k (on_held raise)) (sym old))
+  pub again_old : (l l' : Linked) (repo : Text) → link l repo digest (length (bytes_at slots k)) ≡ Ok (false, l') → IsKept l slots repo blob_there l' slots
+  again_old l l' repo made =
+      let h = held_of slots digest k found in
+      let old = not-false _ (link_new l l' repo digest (length (bytes_at slots k)) false made) in
+      again k h.0 found h.1 (sym bytes_there) (sym (link_left l l' repo digest (length (bytes_at slots k)) false made)) (ap (λ b. if b then slots else with_slot slots k (on_held raise)) (sym old))
 
 pub kept_anew : (l l' : Linked) (slots slots1 slots' : List Slot) (repo : Text) (blob : Text × Text) (k : ℕ) (b : Bool) → slot_of slots blob.0 ≡ None → phase_at slots k ≡ phase.Free → link l repo blob.0 (length blob.1) ≡ Ok (b, l') →
     slots1 ≡ with_slot slots k (fill blob) → slots' ≡ with_slot slots1 k (on_held raise) → IsKept l slots repo blob l' slots'

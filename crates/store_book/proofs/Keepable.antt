@@ -1,5 +1,5 @@
--- In a book, a sealed blob of a session can be linked.
-use Rattle.std.proofs.Common.{◌≡◌, ℕ, ◌<◌, ◌≤◌, true, List, length, Option, Some, None, Ok, refl, sym, ap, ◌∙◌, arith}
+-- In a book, a blob that is not too long can be linked.
+use Rattle.std.proofs.Common.{◌≡◌, ℕ, ◌^◌, ◌<◌, ◌≤◌, true, List, length, Option, Some, None, Ok, refl, sym, ap, ◌∙◌, arith}
 use Rattle.std.specs.FinMap.{get}
 use Rattle.blob_digest.specs.declared.refusal.Refusal.TheVariants.{NameUnknown}
 use Rattle.blob_digest.specs.Sets as set
@@ -22,7 +22,7 @@ none_of None no_value = refl
 none_of (Some n) no_value = absurd (no_value n refl)
 
 module _ (l : Linked) (u : Uploaded) (slots : List Slot) (max_blob t : ℕ) (repo : Text) (blob : Text × Text) (book : IsBook l u slots max_blob)
-    (known : known_tenant l repo ≡ Ok t) (there : set.contains l.repos repo ≡ true) (small : length blob.1 ≤ max_blob) where
+    (known : known_tenant l repo ≡ Ok t) (there : set.contains l.repos repo ≡ true) (small : length blob.1 ≤ 2 ^ 50) where
   abbrev C : Catalog
   C = book_catalog l u slots max_blob
 
@@ -43,7 +43,6 @@ module _ (l : Linked) (u : Uploaded) (slots : List Slot) (max_blob t : ℕ) (rep
         room =
             (let used = use_is l u slots max_blob t book in_tenants in
             let few = used_small C book.sound t in_tenants in
-            let most = book.sound.lawful.limits.max_blob in
             omega arith);
         live = book.live;
         counts = λ k h at. (let n = book.tied.counts k h at in let few = count_small C book.sound.lawful h.digest in omega arith);

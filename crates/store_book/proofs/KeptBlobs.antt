@@ -26,7 +26,7 @@ use Rattle.store_book.specs.Keeping.{linked, IsKept, again, anew}
 use Rattle.store_book.proofs.MapLemmas.{get-insert_at, some_same}
 use Rattle.store_book.proofs.SlotLemmas.{map-with_slot, held_at-other}
 use Rattle.store_book.proofs.Bridge.{holds_is}
-use Rattle.store_book.proofs.Ties.{links_of-insert, catalog-relink, IsTied-link, held_at-on, raise-KeepsBlob, held_of, slot_is_resident, not_resident, rooms}
+use Rattle.store_book.proofs.Ties.{links_of-insert, catalog-relink, IsTied-link, held_at-on, KeepsBlob, raise-KeepsBlob, held_of, slot_is_resident, not_resident, rooms}
 use Rattle.store_book.proofs.Fills.{stored}
 use Rattle.store_book.proofs.Placing.{Holds, catalog-fill, IsTied-fill, held_at-fill, held_then, free_slot}
 use Rattle.store_book.proofs.LawLink.{unlinked}
@@ -44,17 +44,17 @@ mark_at [] k s e = cc
 mark_at (x ∷ slots) zero s e = refl
 mark_at (x ∷ slots) (suc k) s e = mark_at slots k s e
 
-value_of : (o : Option ℕ) → is_some o ≡ true → (n : ℕ) × (o ≡ Some n)
+pub value_of : (o : Option ℕ) → is_some o ≡ true → (n : ℕ) × (o ≡ Some n)
 value_of None e = cc
 value_of (Some n) e = (n, refl)
 
--- a count that rises leaves all blobs as they are
-live_raised : (slots : List Slot) (k : ℕ) (h : Held) → held_at slots k ≡ Some h → AreLive slots → AreLive (with_slot slots k (on_held raise))
-live_raised slots k h at live j x here = elim (cases_eq j k) [
+-- a count that changes condemns nothing
+pub live_counted : (g : Held → Held) → KeepsBlob g → (slots : List Slot) (k : ℕ) (h : Held) → held_at slots k ≡ Some h → AreLive slots → AreLive (with_slot slots k (on_held g))
+live_counted g keeps slots k h at live j x here = elim (cases_eq j k) [
   | inl e ↦
-      let is : raise h ≡ x = some_same (sym (held_at-on raise raise-KeepsBlob slots k h at) ∙ ap (held_at (with_slot slots k (on_held raise))) (sym e) ∙ here) in
-      ap (λ (y : Held). y.condemned) (sym is) ∙ live k h at
-  | inr other ↦ live j x (sym (held_at-other slots k (on_held raise) j other) ∙ here)
+      let is : g h ≡ x = some_same (sym (held_at-on g keeps slots k h at) ∙ ap (held_at (with_slot slots k (on_held g))) (sym e) ∙ here) in
+      ap (λ (y : Held). y.condemned) (sym is) ∙ ap (λ (r : Resident). r.condemned) (keeps.resident h false) ∙ live k h at
+  | inr other ↦ live j x (sym (held_at-other slots k (on_held g) j other) ∙ here)
 ]
 
 -- where an element passes, some are counted
@@ -116,7 +116,8 @@ module _ (l : Linked) (u : Uploaded) (slots : List Slot) (max_blob : ℕ) (repo 
       whole_blob : (b : Resident) → get C.residents blob.0 ≡ Some b → b.bytes ≡ blob.1 → b.condemned ≡ false → blob_of C blob ≡ b
       whole_blob b found bytes live = λ i. record { bytes = sym bytes i; condemned = sym live i; lent = was_lent (found i) }
 
-      same_residents : insert C.residents blob.0 (blob_of C blob) ≡ C.residents
+      -- a blob that is kept already changes no blob
+      pub same_residents : insert C.residents blob.0 (blob_of C blob) ≡ C.residents
       same_residents = ap (insert C.residents blob.0) (whole_blob resident.0 kept (resident.2 ∙ bytes) (resident.3 ∙ live k h at)) ∙ insert_back nat_list_cmp_total exact_bytes C.residents blob.0 resident.0 kept
 
       size : length blob.1 ≡ length resident.0.bytes
@@ -180,7 +181,7 @@ module _ (l : Linked) (u : Uploaded) (slots : List Slot) (max_blob : ℕ) (repo 
             record {
               catalog = (λ i. catalog_from (linked l repo blob) u raised (sym marks i) max_blob) ∙ relinked ∙ (λ i. record C { links = set.insert C.links (repo, blob.0); residents = sym same_residents i });
               tied = subst (λ (m : List Bool). IsTied (linked l repo blob) raised m (catalog_from (linked l repo blob) u raised m max_blob)) marks tied_then;
-              live = live_raised slots k h at live;
+              live = live_counted raise raise-KeepsBlob slots k h at live;
               links = refl;
               same = same_there;
               housed = housed_there;
@@ -237,7 +238,7 @@ module _ (l : Linked) (u : Uploaded) (slots : List Slot) (max_blob : ℕ) (repo 
           record {
             catalog = (λ i. catalog_from (linked l repo blob) u slots2 (sym marks i) max_blob) ∙ catalog_now;
             tied = subst (λ (m : List Bool). IsTied (linked l repo blob) slots2 m (catalog_from (linked l repo blob) u slots2 m max_blob)) marks tied_now;
-            live = live_raised slots1 k filled in_slot (λ j x here. live_at j x (held_then l u slots (unlent slots) max_blob k blob false free unmarked none j x here));
+            live = live_counted raise raise-KeepsBlob slots1 k filled in_slot (λ j x here. live_at j x (held_then l u slots (unlent slots) max_blob k blob false free unmarked none j x here));
             links = refl;
             same = ap (λ o. same_bytes o blob.1) absent;
             housed = ap (λ o. not (is_some o) && nat_le C.slots (len C.residents + C.retired)) absent ∙ has_room;

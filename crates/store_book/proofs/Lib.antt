@@ -8,10 +8,13 @@ pub mod LawAppend
 pub mod LawSession
 pub mod LawResident
 pub mod LawLink
+pub mod LawUnlink
 pub mod LawfulOpening
 pub mod LawfulStart
 pub mod LawfulAppend
 pub mod LawfulAbandon
+pub mod LawfulMount
+pub mod LawfulDelete
 pub mod LawfulClose
 pub mod Counts
 pub mod DistinctUse
@@ -31,6 +34,9 @@ pub mod Closing
 pub mod KeepCalls
 pub mod Keepable
 pub mod CloseCalls
+pub mod LinkedSlots
+pub mod Mounting
+pub mod Deleting
 pub mod Opening
 pub mod Listing
 pub mod BookTexts

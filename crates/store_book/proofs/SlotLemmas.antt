@@ -1,11 +1,12 @@
 -- What a change of one slot does to the list of slots.
-use Rattle.std.proofs.Common.{◌≡◌, ℕ, ◌+◌, Bool, cond, List, [], ◌∷◌, length, map, set as write, Option, Some, None, refl, sym, ap, ◌∙◌}
+use Rattle.std.proofs.Common.{◌≡◌, ℕ, ◌+◌, Bool, false, cond, List, [], ◌∷◌, length, map, set as write, Option, Some, None, refl, sym, ap, ◌∙◌}
 use Prim.Native.Nat.{zero, suc}
 use Rattle.std.specs.Prelude.{slice_get}
 use Rattle.std.specs.Option.{option_map_or}
 use Rattle.std.specs.List.{count_by}
 use Rattle.std.proofs.lemmas.List.Sums.{sum_by-cons}
-use Rattle.slot_table.specs.Slots.{Slot, Held, held_at, held_in, with_slot}
+use Rattle.slot_table.specs.declared.phase.Phase.TheVariants as phase
+use Rattle.slot_table.specs.Slots.{Slot, Held, Content, Free, Used, Retired, held_at, held_in, phase_at, phase_in, with_slot}
 
 pub with_slot-suc : (s : Slot) (slots : List Slot) (k : ℕ) (f : Slot → Slot) → with_slot (s ∷ slots) (suc k) f ≡ s ∷ with_slot slots k f
 with_slot-suc s slots k f = at (slice_get slots k)
@@ -61,3 +62,14 @@ slot_of_held slots k h at = there (slice_get slots k) refl at
     there : (o : Option Slot) → slice_get slots k ≡ o → held_by o ≡ Some h → (s : Slot) × (slice_get slots k ≡ Some s) × (held_in s.content ≡ Some h)
     there None e f = cc
     there (Some s) e f = (s, e, f)
+
+-- a slot with a blob that isn't condemned is live
+pub phase_live : (slots : List Slot) (k : ℕ) (h : Held) → held_at slots k ≡ Some h → h.condemned ≡ false → phase_at slots k ≡ phase.Live
+phase_live slots k h at live =
+    let s = slot_of_held slots k h at in
+    ap (λ o. option_map_or (λ (x : Slot). phase_in x.content) o phase.Retired) s.1 ∙ by_content s.0.content s.2
+  where
+    by_content : (c : Content) → held_in c ≡ Some h → phase_in c ≡ phase.Live
+    by_content Free e = cc
+    by_content (Used g) e = let same : g ≡ h = cc in ap (λ b. cond b phase.Condemned phase.Live) (ap (λ (x : Held). x.condemned) same ∙ live)
+    by_content Retired e = cc

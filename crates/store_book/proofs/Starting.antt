@@ -32,6 +32,14 @@ module _ {A E : Type 0} where
   err_of_if true d e x h = (refl, cc)
   err_of_if false d e x h = absurd cc
 
+-- layers that are as they were
+module _ (l l' : Linked) (u u' : Uploaded) (slots slots' : List Slot) (max_blob : ℕ) (links : l' ≡ l) (uploads : u' ≡ u) (slots_are : slots' ≡ slots) where
+  pub same_catalog : book_catalog l' u' slots' max_blob ≡ book_catalog l u slots max_blob
+  same_catalog = λ i. book_catalog (links i) (uploads i) (slots_are i) max_blob
+
+  pub same_book : IsBook l u slots max_blob → IsBook l' u' slots' max_blob
+  same_book book = subst (λ (x : Linked). IsBook x u' slots' max_blob) (sym links) (subst (λ (x : Uploaded). IsBook l x slots' max_blob) (sym uploads) (subst (λ (x : List Slot). IsBook l u x max_blob) (sym slots_are) book))
+
 module _ (l l' : Linked) (u : Uploaded) (slots : List Slot) (max_blob t : ℕ) (repo : Text) (b : Bool) where
   abbrev C : Catalog
   C = book_catalog l u slots max_blob

@@ -1,5 +1,6 @@
--- What linking a sealed blob does to the links and the slots.
-use Rattle.std.specs.Prelude.{◌≡◌, ◌≢◌, ℕ, ◌+◌, ◌<◌, ◌^◌, true, false, Some, None, List, length, if◌then◌else◌}
+-- What linking a blob does to the links and the slots, and which slot a repository's blob has.
+use Rattle.std.specs.Prelude.{◌≡◌, ◌≢◌, ℕ, ◌+◌, ◌<◌, ◌^◌, true, false, Option, Some, None, List, [], length, if◌then◌else◌}
+use Rattle.std.specs.Option.{option_map_or}
 use Rattle.std.specs.FinMap as fmap
 use Rattle.blob_digest.specs.Keys.{Text}
 use Rattle.blob_digest.specs.Sets as set
@@ -8,6 +9,18 @@ use Rattle.blob_digest.specs.declared.refusal.Refusal.TheVariants.{DigestInvalid
 use Rattle.slot_table.specs.Slots.{Slot, Held, slot_of, held_at, phase_at, free_slots, with_slot, fill, on_held, raise}
 use Rattle.slot_table.specs.declared.phase.Phase.TheVariants as phase
 use Rattle.link_table.specs.Linked.{Linked, is_tenants, used_in}
+
+-- the bytes that slot k holds
+abbrev pub bytes_at : List Slot → ℕ → Text
+bytes_at slots k = option_map_or (λ h. h.bytes) (held_at slots k) []
+
+-- the slot of a blob that a repository holds
+abbrev pub linked_slot : Linked → List Slot → Text → Text → Option ℕ
+linked_slot l slots repo digest = if fmap.contains_key l.links (repo, digest) then slot_of slots digest else None
+
+-- the same where the repository is this tenant's
+abbrev pub source_slot : Linked → List Slot → ℕ → Text → Text → Option ℕ
+source_slot l slots t from digest = if is_tenants l.tenants t from then linked_slot l slots from digest else None
 
 -- the links with one more
 abbrev pub linked : Linked → Text → Text × Text → Linked

@@ -5,11 +5,12 @@ ghost use Rattle.link_table.specs.Tenancy.{tenants_shown};
 ghost use Rattle.store_book.specs.Laws.{Sound};
 ghost use Rattle.store_book.specs.Openings.{OpensBook, RefusesBook};
 ghost use Rattle.store_book.specs.Printed.{book_text};
-ghost use Rattle.store_book.specs.Steps.{start, status, append, close, abandon};
+ghost use Rattle.store_book.specs.Steps.{start, status, append, close, abandon, mount, delete};
 ghost use Rattle.std.specs.Io.KnownBytes.{Appends};
 
 use crate::config::{Config, copied};
-use crate::keep::keep;
+use crate::keep::{find_linked, keep, link_slot};
+use crate::mount::{Mount, find_source};
 use crate::print::print_book;
 use blob_digest::{ByteRange, Digest, Refusal, RepoName};
 use link_table::Links;
@@ -205,6 +206,59 @@ impl Book {
         self.uploads.remove(tenant, number);
         self.links.discharge(tenant, received);
         Ok(received)
+    }
+
+    /// Links a blob that another repository of the tenant holds, without an upload (OCI Distribution
+    /// Specification 1.1, "Mounting a blob from another repository"). The repository appears with it.
+    /// Where the source is another tenant's, or isn't there, or doesn't hold the blob, this opens a
+    /// session in the repository, as `start` does. No bytes are copied.
+    ///
+    /// Refused, in this order: a tenant that is not there (`NameUnknown`); a tenant that has 1,024
+    /// repositories where this one is new, and, where a session is opened, 64 sessions or no session
+    /// number left (`LimitReached`); want of memory.
+    pub fn mount(
+        &mut self,
+        repo: &RepoName,
+        digest: &Digest,
+        from: &RepoName,
+    ) -> Result<Mount, Refusal>
+        ensures does { Does (λ m. m) result self.old.catalog self.new.catalog (mount self.old.catalog repo.now digest.now (Some from.now)) }
+        ensures slots { self.new.slots ≡ self.old.slots }
+    {
+        let tenant = self.links.tenant(repo)?;
+        let Some(slot) = find_source(&self.links, &self.slots, tenant, from, digest) else {
+            let number = self.start(repo)?;
+            return Ok(Mount::Session(number));
+        };
+        let appeared = self.links.appear(tenant, repo)?;
+        match link_slot(&mut self.links, &mut self.slots, tenant, repo, slot, digest) {
+            Ok(()) => Ok(Mount::Mounted),
+            Err(refusal) => {
+                if appeared {
+                    self.links.vanish(tenant, repo);
+                }
+                Err(refusal)
+            }
+        }
+    }
+
+    /// Takes the link to a blob out of a repository (OCI Distribution Specification 1.1, "Deleting
+    /// Blobs"). The blob stays in its slot, and other repositories keep their links. It takes no
+    /// memory.
+    ///
+    /// Refused, in this order: a tenant that is not there (`NameUnknown`); a digest that is not linked
+    /// in the repository (`BlobUnknown`).
+    pub fn delete(&mut self, repo: &RepoName, digest: &Digest) -> Result<(), Refusal>
+        ensures does { DoesExactly (λ u. u) result self.old.catalog self.new.catalog (delete self.old.catalog repo.now digest.now) }
+        ensures slots { self.new.slots ≡ self.old.slots }
+    {
+        let tenant = self.links.tenant(repo)?;
+        let Some(slot) = find_linked(&self.links, &self.slots, repo, digest) else {
+            return Err(Refusal::BlobUnknown);
+        };
+        self.links.unlink(tenant, repo, digest);
+        self.slots.link_down(slot);
+        Ok(())
     }
 
     /// Writes the text of the book, without taking memory: `book`; each tenant in the order of the

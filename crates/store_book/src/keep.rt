@@ -1,11 +1,11 @@
-//! Linking a sealed blob: the links and the slots together.
+//! Linking blobs: the links and the slots together.
 
 ghost use Rattle.std.specs.Prelude.{◌≡◌, ◌≢◌, ◌<◌, length, true, false, Some, None, IfErr, OnOk, OnErr, bytes_eq};
 ghost use Rattle.std.specs.Option.{option_map_or};
 ghost use Rattle.slot_table.specs.Slots.{held_at, slot_of};
-ghost use Rattle.store_book.specs.Keeping.{CanKeep, IsKept, IsUnkept};
+ghost use Rattle.store_book.specs.Keeping.{bytes_at, linked_slot, CanKeep, IsKept, IsUnkept};
 
-use blob_digest::{Blob, Refusal, RepoName};
+use blob_digest::{Blob, Digest, Refusal, RepoName};
 use link_table::Links;
 use slot_table::SlotTable;
 
@@ -18,6 +18,56 @@ fn holds(slots: &SlotTable, slot: u32, bytes: &[u8]) -> bool
         Some(blob) => blob.bytes() == bytes,
         None => false,
     }
+}
+
+/// How many bytes a slot holds.
+fn held_len(slots: &SlotTable, slot: u32) -> u64
+    requires { slot < length slots.now }
+    ensures { result ≡ length (bytes_at slots.now slot) }
+{
+    match slots.blob(slot) {
+        Some(blob) => blob.bytes().len() as u64,
+        None => 0,
+    }
+}
+
+/// The slot of a blob that a repository holds.
+pub(crate) fn find_linked(
+    links: &Links,
+    slots: &SlotTable,
+    repo: &RepoName,
+    digest: &Digest,
+) -> Option<u32>
+    ensures { result ≡ linked_slot links.now slots.now repo.now digest.now }
+{
+    if links.holds(repo, digest) {
+        slots.find(digest)
+    } else {
+        None
+    }
+}
+
+/// Links the blob that a slot holds in a repository, and counts the link where it is new. Refused is
+/// want of memory, which changes nothing.
+pub(crate) fn link_slot(
+    links: &mut Links,
+    slots: &mut SlotTable,
+    tenant: u16,
+    repo: &RepoName,
+    slot: u32,
+    digest: &Digest,
+) -> Result<(), Refusal>
+    requires there { slot_of slots.old digest.now ≡ Some slot }
+    requires can { CanKeep links.old slots.old tenant repo.now (digest.now, bytes_at slots.old slot) }
+    ensures ok { OnOk result (IsKept links.old slots.old repo.now (digest.now, bytes_at slots.old slot) links.new slots.new) }
+    ensures memory { IfErr result (λ e. e ≡ Refusal.Memory) }
+    ensures err { OnErr result ((links.new ≡ links.old) × (slots.new ≡ slots.old)) }
+{
+    let size = held_len(slots, slot);
+    if links.link(tenant, repo, digest, size)? {
+        slots.link_up(slot);
+    }
+    Ok(())
 }
 
 /// Links a blob whose digest has a slot. Refused are other bytes there (`DigestInvalid`) and want of
@@ -40,13 +90,8 @@ fn keep_again(
     if !holds(slots, slot, blob.bytes()) {
         return Err((Refusal::DigestInvalid, blob));
     }
-    let size = blob.bytes().len() as u64;
-    match links.link(tenant, repo, &blob.digest(), size) {
-        Ok(true) => {
-            slots.link_up(slot);
-            Ok(())
-        }
-        Ok(false) => Ok(()),
+    match link_slot(links, slots, tenant, repo, slot, &blob.digest()) {
+        Ok(()) => Ok(()),
         Err(refusal) => Err((refusal, blob)),
     }
 }

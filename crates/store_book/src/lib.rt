@@ -15,6 +15,8 @@ mod config;
 mod keep;
 pub mod laws;
 mod mount;
+#[cfg(test)]
+mod mount_tests;
 mod print;
 #[cfg(test)]
 mod refusal_tests;

@@ -38,7 +38,7 @@ pub fn config(rt: &impl Abort, alloc: Global, tenants: &[(&str, u64)]) -> Config
     }
 }
 
-fn book(rt: &impl Abort, alloc: Global, tenants: &[(&str, u64)]) -> Book {
+pub fn book(rt: &impl Abort, alloc: Global, tenants: &[(&str, u64)]) -> Book {
     Book::new(alloc, &config(rt, alloc, tenants)).expect(rt, "a book")
 }
 

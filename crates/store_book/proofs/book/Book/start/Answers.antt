@@ -1,17 +1,11 @@
-use Rattle.std.proofs.Common.{◌≡◌, ℕ, List, true, ap, sym, ◌∙◌, subst}
+use Rattle.std.proofs.Common.{true, ap, sym, ◌∙◌, refl}
 use Rattle.std.proofs.lemmas.Result.{err_from_is_err_and}
-use Rattle.slot_table.specs.Slots.{Slot}
-use Rattle.link_table.specs.Linked.{Linked}
 use Rattle.link_table.proofs.Accepted.{appear-own}
-use Rattle.upload_table.specs.Uploaded.{Uploaded}
 use Rattle.store_book.specs.BookState.{BookState}
-use Rattle.store_book.specs.Layers.{book_catalog, IsBook}
-use Rattle.store_book.proofs.Starting.{start_ok, start_refused, start_refused_first, undone, unneeded, IsBook-start, appeared_there, appeared_unlinked}
+use Rattle.store_book.specs.Layers.{book_catalog}
+use Rattle.store_book.proofs.Starting.{same_catalog, same_book, start_ok, start_refused, start_refused_first, undone, unneeded, IsBook-start, appeared_there, appeared_unlinked}
 use Rattle.store_book.proofs.book.Book.start.Goals as goal
 use Rattle.store_book.proofs.book.Book.start.Goals.{then-is_new, else-is_new}
-
-same_book : (l l' : Linked) (u u' : Uploaded) (slots : List Slot) (max_blob : ℕ) → l' ≡ l → u' ≡ u → book_catalog l' u' slots max_blob ≡ book_catalog l u slots max_blob
-same_book l l' u u' slots max_blob p q = λ i. book_catalog (p i) (q i) slots max_blob
 
 pub returns-in_err-is_new-clause-does : goal.returns-in_err-is_new-clause-does
 returns-in_err-is_new-clause-does c =
@@ -37,8 +31,8 @@ pub returns-after-is_new-clause-does : goal.returns-after-is_new-clause-does
 returns-after-is_new-clause-does c = (
   (λ other. rw (← c.self.view_is) (start_refused c.self.inside.links c.appear.new.self c.self.inside.uploads c.self.inside.slots c.self.inside.max_blob c.in_ok-tenant.tenant c.args.repo.now c.in_ok-is_new.is_new c.in-Err.refusal (sym c.in_ok-tenant.ensures.known) c.in_ok-is_new.ensures (c.in-Err.ensures.0 other))),
   elim c.if-is_new.branch [
-    | then-is_new w ↦ ap (λ (s : BookState). s.catalog) w.self-is ∙ same_book _ _ _ _ c.self.inside.slots c.self.inside.max_blob (w.vanish.ensures ∙ undone c.self.inside.links c.appear.new.self c.self.inside.uploads c.self.inside.slots c.self.inside.max_blob c.in_ok-tenant.tenant c.args.repo.now c.in_ok-is_new.is_new c.in_ok-is_new.ensures w.if-is_new.true) c.in-Err.ensures.1 ∙ ap (λ (s : BookState). s.catalog) c.self.view_is
-    | else-is_new w ↦ ap (λ (s : BookState). s.catalog) w.self-is ∙ same_book _ _ _ _ c.self.inside.slots c.self.inside.max_blob (unneeded c.self.inside.links c.appear.new.self c.self.inside.uploads c.self.inside.slots c.self.inside.max_blob c.in_ok-tenant.tenant c.args.repo.now c.in_ok-is_new.is_new c.in_ok-is_new.ensures w.if-is_new.false) c.in-Err.ensures.1 ∙ ap (λ (s : BookState). s.catalog) c.self.view_is
+    | then-is_new w ↦ ap (λ (s : BookState). s.catalog) w.self-is ∙ same_catalog _ _ _ _ c.self.inside.slots c.self.inside.slots c.self.inside.max_blob (w.vanish.ensures ∙ undone c.self.inside.links c.appear.new.self c.self.inside.uploads c.self.inside.slots c.self.inside.max_blob c.in_ok-tenant.tenant c.args.repo.now c.in_ok-is_new.is_new c.in_ok-is_new.ensures w.if-is_new.true) c.in-Err.ensures.1 refl ∙ ap (λ (s : BookState). s.catalog) c.self.view_is
+    | else-is_new w ↦ ap (λ (s : BookState). s.catalog) w.self-is ∙ same_catalog _ _ _ _ c.self.inside.slots c.self.inside.slots c.self.inside.max_blob (unneeded c.self.inside.links c.appear.new.self c.self.inside.uploads c.self.inside.slots c.self.inside.max_blob c.in_ok-tenant.tenant c.args.repo.now c.in_ok-is_new.is_new c.in_ok-is_new.ensures w.if-is_new.false) c.in-Err.ensures.1 refl ∙ ap (λ (s : BookState). s.catalog) c.self.view_is
   ],
 )
 
@@ -50,9 +44,9 @@ invariant_of-self-in-Ok c =
 pub invariant_of-self-then-is_new : goal.invariant_of-self-then-is_new
 invariant_of-self-then-is_new c =
     let links = c.vanish.ensures ∙ undone c.self.inside.links c.appear.new.self c.self.inside.uploads c.self.inside.slots c.self.inside.max_blob c.in_ok-tenant.tenant c.args.repo.now c.in_ok-is_new.is_new c.in_ok-is_new.ensures c.if-is_new.true in
-    subst (λ (x : Linked). IsBook x c.start.new.self c.self.inside.slots c.self.inside.max_blob) (sym links) (subst (λ (x : Uploaded). IsBook c.self.inside.links x c.self.inside.slots c.self.inside.max_blob) (sym c.in-Err.ensures.1) c.self.invariant)
+    same_book c.self.inside.links c.vanish.new.self c.self.inside.uploads c.start.new.self c.self.inside.slots c.self.inside.slots c.self.inside.max_blob links c.in-Err.ensures.1 refl c.self.invariant
 
 pub invariant_of-self-else-is_new : goal.invariant_of-self-else-is_new
 invariant_of-self-else-is_new c =
     let links = unneeded c.self.inside.links c.appear.new.self c.self.inside.uploads c.self.inside.slots c.self.inside.max_blob c.in_ok-tenant.tenant c.args.repo.now c.in_ok-is_new.is_new c.in_ok-is_new.ensures c.if-is_new.false in
-    subst (λ (x : Linked). IsBook x c.start.new.self c.self.inside.slots c.self.inside.max_blob) (sym links) (subst (λ (x : Uploaded). IsBook c.self.inside.links x c.self.inside.slots c.self.inside.max_blob) (sym c.in-Err.ensures.1) c.self.invariant)
+    same_book c.self.inside.links c.appear.new.self c.self.inside.uploads c.start.new.self c.self.inside.slots c.self.inside.slots c.self.inside.max_blob links c.in-Err.ensures.1 refl c.self.invariant

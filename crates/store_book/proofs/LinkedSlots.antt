@@ -1,0 +1,58 @@
+-- Which slot a blob has that a repository of the book holds.
+use Rattle.std.proofs.Common.{◌≡◌, ℕ, Bool, true, false, List, Option, Some, None, is_some, refl, sym, ap, ◌∙◌}
+use Rattle.std.specs.Prelude.{◌&&◌, if◌then◌else◌}
+use Rattle.std.specs.FinMap.{get, contains_key}
+use Rattle.std.proofs.lemmas.Bool.{and_from}
+use Rattle.slot_table.specs.Slots.{Slot, slot_of}
+use Rattle.link_table.specs.Linked.{Linked, is_tenants}
+use Rattle.upload_table.specs.Uploaded.{Uploaded}
+use Rattle.store_book.specs.Catalog.{Text, Resident, Catalog, is_of, holds}
+use Rattle.store_book.specs.Steps.{has_source}
+use Rattle.store_book.specs.Keeping.{linked_slot, source_slot}
+use Rattle.store_book.specs.Layers.{unlent, book_catalog, IsBook}
+use Rattle.store_book.proofs.Bridge.{holds_is}
+use Rattle.store_book.proofs.KeptBlobs.{value_of}
+use Rattle.store_book.proofs.SetMembers.{nothing}
+use Rattle.store_book.proofs.Ties.{not_resident}
+
+-- an answer that hangs on a test
+some_if : (b : Bool) (o : Option ℕ) (k : ℕ) → (if b then o else None) ≡ Some k → (b ≡ true) × (o ≡ Some k)
+some_if true o k e = (refl, e)
+some_if false o k e = absurd cc
+
+none_if : (b : Bool) (o : Option ℕ) → (if b then o else None) ≡ None → (b ≡ true → o ≡ None → ⊥) → b ≡ false
+none_if true o e clash = absurd (clash refl e)
+none_if false o e clash = refl
+
+none_both : (a b : Bool) (o : Option ℕ) → (if a then (if b then o else None) else None) ≡ None → (b ≡ true → o ≡ None → ⊥) → (a && b) ≡ false
+none_both true b o e clash = none_if b o e clash
+none_both false b o e clash = refl
+
+module _ (l : Linked) (u : Uploaded) (slots : List Slot) (max_blob : ℕ) (book : IsBook l u slots max_blob) where
+  abbrev C : Catalog
+  C = book_catalog l u slots max_blob
+
+  -- what a repository holds is linked in it
+  pub holds_linked : (r d : Text) → holds C r d ≡ contains_key l.links (r, d)
+  holds_linked r d = holds_is l u slots (unlent slots) max_blob book.tied (λ k h. (book.sound.lawful.links k h).repo) r d
+
+  has_slot : (r d : Text) → contains_key l.links (r, d) ≡ true → slot_of slots d ≡ None → ⊥
+  has_slot r d linked none =
+      let n = value_of (get l.links (r, d)) linked in
+      nothing (not_resident slots (unlent slots) d none) (book.tied.sizes (r, d) n.0 n.1).1
+
+  pub linked_some : (r d : Text) (k : ℕ) → linked_slot l slots r d ≡ Some k → (contains_key l.links (r, d) ≡ true) × (slot_of slots d ≡ Some k)
+  linked_some r d k e = some_if (contains_key l.links (r, d)) (slot_of slots d) k e
+
+  pub linked_none : (r d : Text) → linked_slot l slots r d ≡ None → holds C r d ≡ false
+  linked_none r d e = holds_linked r d ∙ none_if (contains_key l.links (r, d)) (slot_of slots d) e (has_slot r d)
+
+  -- a source is the tenant's and holds the digest
+  pub source_some : (t : ℕ) (from d : Text) (k : ℕ) → source_slot l slots t from d ≡ Some k → (is_of C t from ≡ true) × (holds C from d ≡ true) × (slot_of slots d ≡ Some k)
+  source_some t from d k e =
+      let own = some_if (is_tenants l.tenants t from) (linked_slot l slots from d) k e in
+      let there = linked_some from d k own.1 in
+      (own.0, holds_linked from d ∙ there.0, there.1)
+
+  pub source_none : (t : ℕ) (from d : Text) → source_slot l slots t from d ≡ None → has_source C t d (Some from) ≡ false
+  source_none t from d e = ap (λ b. is_tenants l.tenants t from && b) (holds_linked from d) ∙ none_both (is_tenants l.tenants t from) (contains_key l.links (from, d)) (slot_of slots d) e (has_slot from d)

@@ -1,0 +1,181 @@
+-- `Book::mount`, from what its calls of the layers did.
+use Rattle.std.proofs.Common.{◌≡◌, ℕ, ◌+◌, ◌^◌, ◌<◌, ◌≤◌, Bool, true, false, List, length, Some, None, Ok, Err, refl, sym, ap, ◌∙◌, subst, arith}
+use Rattle.std.specs.Prelude.{slice_index, if◌then◌else◌}
+use Rattle.std.specs.Cmp.Lexicographic.{nat_list_cmp_total}
+use Rattle.std.specs.FinMap.{get, insert}
+use Rattle.std.proofs.lemmas.Bool.{and_from}
+use Rattle.std.proofs.lemmas.Map.Lookups.{exact_bytes}
+use Rattle.blob_digest.specs.declared.refusal.Refusal.{Refusal}
+use Rattle.blob_digest.specs.declared.refusal.Refusal.TheVariants.{NameUnknown}
+use Rattle.blob_digest.specs.Sets as set
+use Rattle.slot_table.specs.Slots.{Slot, Held, slot_of, held_at}
+use Rattle.link_table.specs.Linked.{Linked, known_tenant, appear}
+use Rattle.upload_table.specs.Uploaded.{Uploaded}
+use Rattle.store_book.specs.declared.mount.Mount.TheVariants as mounting
+use Rattle.store_book.specs.Catalog.{Text, Resident, Catalog, tenant_of, is_of, holds, used}
+use Rattle.store_book.specs.Steps.{◌>>=◌, mount, has_source, start, start_instead, link_held, with_link, lacks_room_for}
+use Rattle.store_book.specs.Laws.{Sound}
+use Rattle.store_book.specs.Keeping.{bytes_at, source_slot, CanKeep, IsKept}
+use Rattle.store_book.specs.Layers.{unlent, book_catalog, AreCharges, IsBook}
+use Rattle.store_book.proofs.Bounds.{held_within, used_small}
+use Rattle.store_book.proofs.Counts.{count-appear}
+use Rattle.store_book.proofs.KeepCalls.{bytes_there}
+use Rattle.store_book.proofs.Keepable.{CanKeep-book}
+use Rattle.store_book.proofs.KeptBlobs.{Keeps, IsKept-Keeps, length-unlent, same_residents}
+use Rattle.store_book.proofs.LawAppear.{Lawful-appear, used-appear}
+use Rattle.store_book.proofs.LawLink.{is_held}
+use Rattle.store_book.proofs.LawfulMount.{Sound-after_mount}
+use Rattle.store_book.proofs.LinkedSlots.{source_some, source_none}
+use Rattle.store_book.proofs.Outcomes.{some_of_ok, tenant_there}
+use Rattle.store_book.proofs.SetMembers.{now}
+use Rattle.store_book.proofs.Starting.{ok_of_if, err_of_if}
+use Rattle.store_book.proofs.Ties.{held_of, slot_is_resident}
+
+module _ (l : Linked) (u : Uploaded) (slots : List Slot) (max_blob t : ℕ) (repo : Text) (book : IsBook l u slots max_blob) (known : known_tenant l repo ≡ Ok t) where
+  abbrev C : Catalog
+  C = book_catalog l u slots max_blob
+
+  name : tenant_of l.tenants repo ≡ Some t
+  name = some_of_ok (tenant_of l.tenants repo) NameUnknown t known
+
+  in_tenants : t < length l.tenants
+  in_tenants = tenant_there l.tenants repo t name
+
+  abbrev l0 : Linked
+  l0 = record l { repos = set.insert l.repos repo }
+
+  module _ (short : length repo ≤ 255) (room : lacks_room_for C t repo ≡ false) where
+    -- a repository that appears leaves a book
+    IsBook-appear : IsBook l0 u slots max_blob
+    IsBook-appear = record {
+      sound = record {
+        lawful = Lawful-appear C t repo book.sound.lawful name short room;
+        quotas = λ v lt. (let same = used-appear C t repo book.sound.lawful name v in let k = book.sound.quotas v lt in omega arith);
+        slots = record { some = book.sound.slots.some; few = book.sound.slots.few; fit = book.sound.slots.fit };
+      };
+      tied = record {
+        marks = book.tied.marks;
+        distinct = book.tied.distinct;
+        sizes = book.tied.sizes;
+        counts = λ k h at. book.tied.counts k h at ∙ sym (count-appear C repo h.digest book.sound.lawful);
+      };
+      charges = record { one_each = book.charges.one_each; sums = book.charges.sums };
+      live = book.live;
+      whole = book.whole;
+    }
+
+  module _ (digest from : Text) where
+    by_source : (b : Bool) → has_source C t digest (Some from) ≡ b → mount C repo digest (Some from) ≡ (if b then link_held C t repo digest else start_instead C repo)
+    by_source b is = rw (known, is) refl
+
+    module _ (none : source_slot l slots t from digest ≡ None) where
+      instead : mount C repo digest (Some from) ≡ start_instead C repo
+      instead = by_source false (source_none l u slots max_blob book t from digest none)
+
+      -- a session is opened where there is no source
+      pub session_ok : (n : ℕ) (D : Catalog) → start C repo ≡ Ok (n, D) → mount C repo digest (Some from) ≡ Ok (mounting.Session n, D)
+      session_ok n D started = instead ∙ rw started refl
+
+      pub session_refused : (e : Refusal) → start C repo ≡ Err e → mount C repo digest (Some from) ≡ Err e
+      session_refused e refused = instead ∙ rw refused refl
+
+    module _ (k : ℕ) (found : source_slot l slots t from digest ≡ Some k) where
+      abbrev source : (is_of C t from ≡ true) × (holds C from digest ≡ true) × (slot_of slots digest ≡ Some k)
+      source = source_some l u slots max_blob book t from digest k found
+
+      -- the source has a slot
+      pub source_slot_of : slot_of slots digest ≡ Some k
+      source_slot_of = source.2
+
+      links_it : mount C repo digest (Some from) ≡ link_held C t repo digest
+      links_it = by_source true (and_from (is_of C t from) (holds C from digest) source.0 source.1)
+
+      -- a repository that can't appear
+      pub mount_refused_first : (e : Refusal) → appear l t repo ≡ Err e → mount C repo digest (Some from) ≡ Err e
+      mount_refused_first e refused = let a = err_of_if _ _ _ _ refused in links_it ∙ rw a.0 (ap Err a.1)
+
+      abbrev blob : Text × Text
+      blob = (digest, bytes_at slots k)
+
+      abbrev held : (h : Held) × (held_at slots k ≡ Some h) × (h.digest ≡ digest)
+      held = held_of slots digest k source.2
+
+      same_bytes_there : held.0.bytes ≡ blob.1
+      same_bytes_there = sym (bytes_there slots k digest source.2)
+
+      abbrev resident : (b : Resident) × (get C.residents held.0.digest ≡ Some b) × (b.bytes ≡ held.0.bytes) × (b.condemned ≡ held.0.condemned)
+      resident = slot_is_resident slots (unlent slots) (length-unlent slots) book.tied.distinct k held.0 held.1
+
+      -- the tenant holds the blob, so that it is within its use
+      small : length blob.1 ≤ 2 ^ 50
+      small =
+          let kept : get C.residents digest ≡ Some resident.0 = ap (get C.residents) (sym held.2) ∙ resident.1 in
+          let holds_it = is_held C t from digest (book.sound.lawful.links (from, digest) source.1).repo source.0 source.1 in
+          let within = held_within C t digest resident.0 kept holds_it in
+          let long : length resident.0.bytes ≡ length blob.1 = ap length (resident.2 ∙ same_bytes_there) in
+          let few = used_small C book.sound t in_tenants in
+          omega arith
+
+      module _ (short : length repo ≤ 255) (room : lacks_room_for C t repo ≡ false) where
+        abbrev book0 : IsBook l0 u slots max_blob
+        book0 = IsBook-appear short room
+
+        there0 : set.contains l0.repos repo ≡ true
+        there0 = now nat_list_cmp_total exact_bytes l.repos repo
+
+        can0 : CanKeep l0 slots t repo blob
+        can0 = CanKeep-book l0 u slots max_blob t repo blob book0 known there0 small
+
+        module _ (l' : Linked) (slots' : List Slot) (kept : IsKept l0 slots repo blob l' slots') where
+          keeps : Keeps l0 u slots max_blob repo blob l' slots'
+          keeps = IsKept-Keeps l0 u slots max_blob repo blob book0.tied book0.sound.lawful book0.live there0 l' slots' kept
+
+          abbrev C' : Catalog
+          C' = book_catalog l' u slots' max_blob
+
+          left : C' ≡ with_link C repo digest
+          left = keeps.catalog ∙ (λ i. record (with_link C repo digest) { residents = same_residents l0 u slots max_blob repo blob book0.tied book0.sound.lawful book0.live there0 k held.0 held.1 held.2 same_bytes_there i })
+
+          mounted : mount C repo digest (Some from) ≡ Ok (mounting.Mounted, C')
+          mounted = links_it ∙ rw room (λ i. Ok (mounting.Mounted, sym left i))
+
+          same_charges : l'.charges ≡ l.charges
+          same_charges = ap (λ (x : Linked). x.charges) keeps.links
+
+          same_tenants : length l'.tenants ≡ length l.tenants
+          same_tenants = ap (λ (x : Linked). length x.tenants) keeps.links
+
+          mounted_book : IsBook l' u slots' max_blob
+          mounted_book = record {
+            sound = Sound-after_mount C C' repo digest (Some from) mounting.Mounted mounted short book.sound;
+            tied = keeps.tied;
+            charges = record {
+              one_each = ap length same_charges ∙ book.charges.one_each ∙ sym same_tenants;
+              sums = λ v lt. (λ i. slice_index (same_charges i) v) ∙ book.charges.sums v (let same = same_tenants in omega arith);
+            };
+            live = keeps.live;
+            whole = book.whole;
+          }
+
+      -- after the repository appeared
+      module _ (l1 : Linked) (is_new : Bool) (appeared : appear l t repo ≡ Ok (is_new, l1)) (short : length repo ≤ 255) where
+        room1 : lacks_room_for C t repo ≡ false
+        room1 = (ok_of_if _ _ _ _ appeared).0
+
+        appeared_is : l0 ≡ l1
+        appeared_is = let a = ok_of_if _ _ _ _ appeared in λ i. (a.1 i).1
+
+        -- the blob can be linked
+        pub can_link : CanKeep l1 slots t repo blob
+        can_link = subst (λ (x : Linked). CanKeep x slots t repo blob) appeared_is (can0 short room1)
+
+        module _ (l' : Linked) (slots' : List Slot) (kept : IsKept l1 slots repo blob l' slots') where
+          kept0 : IsKept l0 slots repo blob l' slots'
+          kept0 = subst (λ (x : Linked). IsKept x slots repo blob l' slots') (sym appeared_is) kept
+
+          pub mount_ok : mount C repo digest (Some from) ≡ Ok (mounting.Mounted, book_catalog l' u slots' max_blob)
+          mount_ok = mounted short room1 l' slots' kept0
+
+          -- a mounted blob leaves a book
+          pub IsBook-mount : IsBook l' u slots' max_blob
+          IsBook-mount = mounted_book short room1 l' slots' kept0
