@@ -1,17 +1,17 @@
 -- `Book::delete`, from what its calls of the layers did.
-use Rattle.std.proofs.Common.{◌≡◌, ℕ, ◌+◌, ◌<◌, true, false, List, length, map, Option, Some, None, Ok, Err, is_some, refl, sym, ap, ◌∙◌, subst, arith}
+use Rattle.std.proofs.Common.{◌≡◌, ℕ, ◌<◌, true, List, map, Some, None, Ok, Err, refl, sym, ap, ◌∙◌, subst, arith}
 use Rattle.std.specs.Prelude.{◌&&◌}
 use Rattle.std.specs.Option.{option_map, option_map_or}
 use Rattle.std.specs.List.{find}
-use Rattle.std.specs.FinMap.{FinMap, entries, empty, get, remove, contains_key}
-use Rattle.blob_digest.specs.declared.refusal.Refusal.TheVariants.{NameUnknown, BlobUnknown}
+use Rattle.std.specs.FinMap.{get, remove, contains_key}
+use Rattle.blob_digest.specs.declared.refusal.Refusal.TheVariants.{BlobUnknown}
 use Rattle.blob_digest.specs.Sets as set
 use Rattle.blob_digest.proofs.RowLemmas.{entries-empty}
 use Rattle.slot_table.specs.declared.phase.Phase.TheVariants as phase
 use Rattle.slot_table.specs.Slots.{Slot, Held, slot_of, held_at, phase_at, links_at, with_slot, on_held, lower}
 use Rattle.link_table.specs.Linked.{Linked, known_tenant, unlink}
 use Rattle.upload_table.specs.Uploaded.{Uploaded}
-use Rattle.store_book.specs.Catalog.{Text, Link, Catalog, link_cmp, same_text, count, holds}
+use Rattle.store_book.specs.Catalog.{Text, Catalog, link_cmp, same_text, count, holds}
 use Rattle.store_book.specs.Steps.{delete, refers, referrer}
 use Rattle.store_book.specs.Keeping.{linked_slot}
 use Rattle.store_book.specs.Layers.{unlent, catalog_from, book_catalog, slot_shown, IsTied, IsBook}

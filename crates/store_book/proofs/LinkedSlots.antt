@@ -1,12 +1,11 @@
 -- Which slot a blob has that a repository of the book holds.
-use Rattle.std.proofs.Common.{◌≡◌, ℕ, Bool, true, false, List, Option, Some, None, is_some, refl, sym, ap, ◌∙◌}
+use Rattle.std.proofs.Common.{◌≡◌, ℕ, Bool, true, false, List, Option, Some, None, refl, ap, ◌∙◌}
 use Rattle.std.specs.Prelude.{◌&&◌, if◌then◌else◌}
 use Rattle.std.specs.FinMap.{get, contains_key}
-use Rattle.std.proofs.lemmas.Bool.{and_from}
 use Rattle.slot_table.specs.Slots.{Slot, slot_of}
 use Rattle.link_table.specs.Linked.{Linked, is_tenants}
 use Rattle.upload_table.specs.Uploaded.{Uploaded}
-use Rattle.store_book.specs.Catalog.{Text, Resident, Catalog, is_of, holds}
+use Rattle.store_book.specs.Catalog.{Text, Catalog, is_of, holds}
 use Rattle.store_book.specs.Steps.{has_source}
 use Rattle.store_book.specs.Keeping.{linked_slot, source_slot}
 use Rattle.store_book.specs.Layers.{unlent, book_catalog, IsBook}

@@ -1,8 +1,8 @@
 -- `Book::mount`, from what its calls of the layers did.
-use Rattle.std.proofs.Common.{◌≡◌, ℕ, ◌+◌, ◌^◌, ◌<◌, ◌≤◌, Bool, true, false, List, length, Some, None, Ok, Err, refl, sym, ap, ◌∙◌, subst, arith}
+use Rattle.std.proofs.Common.{◌≡◌, ℕ, ◌^◌, ◌<◌, ◌≤◌, Bool, true, false, List, length, Some, None, Ok, Err, refl, sym, ap, ◌∙◌, subst, arith}
 use Rattle.std.specs.Prelude.{slice_index, if◌then◌else◌}
 use Rattle.std.specs.Cmp.Lexicographic.{nat_list_cmp_total}
-use Rattle.std.specs.FinMap.{get, insert}
+use Rattle.std.specs.FinMap.{get}
 use Rattle.std.proofs.lemmas.Bool.{and_from}
 use Rattle.std.proofs.lemmas.Map.Lookups.{exact_bytes}
 use Rattle.blob_digest.specs.declared.refusal.Refusal.{Refusal}
@@ -12,11 +12,10 @@ use Rattle.slot_table.specs.Slots.{Slot, Held, slot_of, held_at}
 use Rattle.link_table.specs.Linked.{Linked, known_tenant, appear}
 use Rattle.upload_table.specs.Uploaded.{Uploaded}
 use Rattle.store_book.specs.declared.mount.Mount.TheVariants as mounting
-use Rattle.store_book.specs.Catalog.{Text, Resident, Catalog, tenant_of, is_of, holds, used}
-use Rattle.store_book.specs.Steps.{◌>>=◌, mount, has_source, start, start_instead, link_held, with_link, lacks_room_for}
-use Rattle.store_book.specs.Laws.{Sound}
+use Rattle.store_book.specs.Catalog.{Text, Resident, Catalog, tenant_of, is_of, holds}
+use Rattle.store_book.specs.Steps.{mount, has_source, start, start_instead, link_held, with_link, lacks_room_for}
 use Rattle.store_book.specs.Keeping.{bytes_at, source_slot, CanKeep, IsKept}
-use Rattle.store_book.specs.Layers.{unlent, book_catalog, AreCharges, IsBook}
+use Rattle.store_book.specs.Layers.{unlent, book_catalog, IsBook}
 use Rattle.store_book.proofs.Bounds.{held_within, used_small}
 use Rattle.store_book.proofs.Counts.{count-appear}
 use Rattle.store_book.proofs.KeepCalls.{bytes_there}

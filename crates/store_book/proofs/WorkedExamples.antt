@@ -1,14 +1,15 @@
 -- The definitions on small literals.
 use Rattle.std.proofs.Common.{◌≡◌, false, List, [], ◌∷◌, Some, None, Ok, Err, refl, arith}
 use Rattle.std.specs.Prelude.{codes}
-use Rattle.std.specs.FinMap.{get-empty, get-insert, entries-insert, empty, insert}
+use Rattle.std.specs.FinMap.{get-empty, get-insert, get-remove, entries-insert, empty, insert}
 use Rattle.std.specs.Cmp.Lexicographic.{nat_list_cmp_total}
-use Rattle.blob_digest.specs.declared.refusal.Refusal.TheVariants.{NameUnknown, UploadUnknown, RangeInvalid, SizeInvalid, Quota}
+use Rattle.blob_digest.specs.declared.refusal.Refusal.TheVariants.{NameUnknown, UploadUnknown, BlobUnknown, RangeInvalid, SizeInvalid, Quota}
 use Rattle.std.specs.Fmt.{digits}
 use Rattle.blob_digest.specs.Sets as set
 use Rattle.upload_table.specs.Sessions.{Session, append_in}
+use Rattle.store_book.specs.declared.mount.Mount.TheVariants as mounting
 use Rattle.store_book.specs.Catalog.{Text, Tenant, Catalog, Resident, used, count, opening}
-use Rattle.store_book.specs.Steps.{start, append, new_session}
+use Rattle.store_book.specs.Steps.{start, append, new_session, mount, with_link, delete}
 use Rattle.store_book.specs.Printed.{book_text}
 use Rattle.blob_digest.proofs.KeyOrders.{number_cmp_total, link_cmp_total}
 use Rattle.blob_digest.proofs.RowLemmas.{entries-empty}
@@ -85,3 +86,47 @@ counted_twice = simp (entries-insert {X = Unit {0}} nat_list_cmp_total, get-inse
 shared_text : book_text shared ≡ codes "book\ntenant acme used 3 quota 3 next 1\nrepository acme/one\nblob d size 3 links 2\nrepository acme/two\nblob d size 3 links 2\nend\n"
 unfolding digits
 shared_text = simp (entries-insert {X = Unit {0}} nat_list_cmp_total, entries-insert {X = Unit {0}} link_cmp_total, entries-insert {X = Resident} nat_list_cmp_total, get-insert {X = Unit {0}} link_cmp_total, get-insert {X = Resident} nat_list_cmp_total, get-empty, entries-empty) refl
+
+-- ---- mounts and deletes
+
+-- of two tenants, a repository of the first holds a blob of three bytes
+abbrev one_link : Catalog
+one_link = record two_tenants {
+  repos = set.insert set.none one;
+  links = set.insert set.none (one, codes "d");
+  residents = insert empty (codes "d") (record { bytes = codes "abc"; condemned = false; lent = false });
+}
+
+abbrev two_links : Catalog
+two_links = with_link one_link two (codes "d")
+
+mounted : mount one_link two (codes "d") (Some one) ≡ Ok (mounting.Mounted, two_links)
+mounted = simp (get-insert {X = Unit {0}} link_cmp_total, get-insert {X = Unit {0}} nat_list_cmp_total, entries-insert {X = Unit {0}} nat_list_cmp_total, get-empty, entries-empty) refl
+
+mounted_without_a_name : mount one_link two (codes "d") None ≡ Ok (mounting.Mounted, two_links)
+mounted_without_a_name = simp (get-insert {X = Unit {0}} link_cmp_total, get-insert {X = Unit {0}} nat_list_cmp_total, entries-insert {X = Unit {0}} nat_list_cmp_total, get-empty, entries-empty) refl
+
+counted_after_the_mount : count two_links (codes "d") ≡ 2
+counted_after_the_mount = simp (entries-insert {X = Unit {0}} nat_list_cmp_total, get-insert {X = Unit {0}} link_cmp_total, get-empty, entries-empty) refl
+
+used_after_the_mount : used two_links 0 ≡ 3
+used_after_the_mount = simp (entries-insert {X = Unit {0}} nat_list_cmp_total, entries-insert {X = Resident} nat_list_cmp_total, get-insert {X = Unit {0}} link_cmp_total, get-empty, entries-empty) refl
+
+mounted_from_another_tenant : mount one_link (codes "zeta/x") (codes "d") (Some one) ≡ Ok (mounting.Session 1, new_session one_link 1 (codes "zeta/x"))
+mounted_from_another_tenant = simp (get-insert {X = Unit {0}} nat_list_cmp_total, entries-insert {X = Unit {0}} nat_list_cmp_total, get-empty, entries-empty) refl
+
+mounted_where_it_is_not_held : mount one_link two (codes "e") (Some one) ≡ Ok (mounting.Session 1, new_session one_link 0 two)
+mounted_where_it_is_not_held = simp (get-insert {X = Unit {0}} link_cmp_total, get-insert {X = Unit {0}} nat_list_cmp_total, entries-insert {X = Unit {0}} nat_list_cmp_total, get-empty, entries-empty) refl
+
+deleted_from_one : delete two_links one (codes "d") ≡ Ok (tt, record two_links { links = set.remove two_links.links (one, codes "d") })
+deleted_from_one = simp (get-insert {X = Unit {0}} link_cmp_total, entries-empty) refl
+
+deleted_where_it_is_not_linked : delete one_link two (codes "d") ≡ Err BlobUnknown
+deleted_where_it_is_not_linked = simp (get-insert {X = Unit {0}} link_cmp_total, get-empty, entries-empty) refl
+
+-- the use falls with the last link
+used_after_a_delete : used (record two_links { links = set.remove two_links.links (one, codes "d") }) 0 ≡ 3
+used_after_a_delete = simp (entries-insert {X = Unit {0}} nat_list_cmp_total, entries-insert {X = Resident} nat_list_cmp_total, get-remove {X = Unit {0}} link_cmp_total, get-insert {X = Unit {0}} link_cmp_total, entries-empty) refl
+
+used_after_both : used (record two_links { links = set.remove (set.remove two_links.links (one, codes "d")) (two, codes "d") }) 0 ≡ 0
+used_after_both = simp (entries-insert {X = Unit {0}} nat_list_cmp_total, entries-insert {X = Resident} nat_list_cmp_total, get-remove {X = Unit {0}} link_cmp_total, get-insert {X = Unit {0}} link_cmp_total, entries-empty) refl

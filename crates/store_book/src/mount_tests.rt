@@ -184,10 +184,12 @@ fn counts_and_uses_follow_two_tenants(rt: HostRuntime) {
 fn an_unknown_tenant_has_no_mounts(rt: HostRuntime) {
     let alloc = rt.alloc();
     let mut book = book(&rt, alloc, &[("acme", 1000)]);
-    let unknown = Refusal::NameUnknown;
     let mounted = mount(&rt, alloc, &mut book, "nobody/x", "acme/one");
-    assert_eq!(rt; mounted, Err(unknown));
-    assert_eq!(rt; delete(&rt, alloc, &mut book, "nobody/x"), Err(unknown));
+    assert_eq!(rt; mounted, Err(Refusal::NameUnknown));
+    assert_eq!(rt;
+        delete(&rt, alloc, &mut book, "nobody/x"),
+        Err(Refusal::NameUnknown)
+    );
 }
 
 #[test]
@@ -259,11 +261,13 @@ fn crowded(rt: &impl Abort, alloc: Global) -> Book {
 fn a_tenant_has_1024_repositories(rt: HostRuntime) {
     let alloc = rt.alloc();
     let mut book = crowded(&rt, alloc);
-    let limit = Refusal::LimitReached;
-    assert_eq!(rt; book.start(&name(&rt, alloc, "acme/new")), Err(limit));
+    assert_eq!(rt;
+        book.start(&name(&rt, alloc, "acme/new")),
+        Err(Refusal::LimitReached)
+    );
     for from in ["acme/one", "acme/last", "acme/none"] {
         let mounted = mount(&rt, alloc, &mut book, "acme/new", from);
-        assert_eq!(rt; mounted, Err(limit));
+        assert_eq!(rt; mounted, Err(Refusal::LimitReached));
     }
     assert!(rt; counts(&rt, alloc, &book, 3, 0, 1023).expect(&rt, "memory"));
     for (repo, result) in [
