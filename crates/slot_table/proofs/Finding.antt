@@ -1,19 +1,18 @@
 -- What is found in the slots of a table.
 use Rattle.std.proofs.Common.{◌≡◌, ℕ, ◌+◌, ◌<◌, ◌≤◌, Bool, true, false, cond, List, [], ◌∷◌, Ok, drop, take, length-drop, ◌-◌, length, get_or, Option, Some, None, is_some, refl, sym, ap, ◌∙◌, arith}
 use Prim.Native.Nat.{zero, suc}
-use Rattle.std.specs.Prelude.{slice_get, position, count_by, nat_le, ◌&&◌, ◌||◌, replicate}
+use Rattle.std.specs.Prelude.{slice_get, position, nat_le, ◌&&◌, ◌||◌, replicate}
 use Rattle.std.specs.Option.{option_map, option_map_or}
 use Rattle.std.specs.List.{list_any}
 use Rattle.std.proofs.lemmas.Bool.{and_from, le-leb}
 use Rattle.std.specs.Cmp.Lexicographic.{same_text as text_is, bytes_decides}
 use Rattle.std.proofs.Math.Seq.{take-length}
-use Rattle.std.proofs.lemmas.List.Sums.{sum_by-cons}
-use Rattle.std.proofs.lemmas.Option.{slice_get_read, slice_get-get_or}
+use Rattle.std.proofs.lemmas.Option.{slice_get-get_or}
 use Rattle.std.proofs.lemmas.List.Quantifiers.{position-Some}
 use Rattle.blob_digest.proofs.RowLemmas.{is_some-position}
 use Rattle.blob_digest.specs.Keys.{Text, same_text}
 use Rattle.slot_table.specs.declared.phase.Phase.TheVariants as phase
-use Rattle.slot_table.specs.Slots.{Slot, Held, Content, Free, Used, Retired, held_in, held_at, phase_in, slot_of, has_digest, is_free, is_orphan, orphan_from, free_slots, phase_at, opening, empty_slot}
+use Rattle.slot_table.specs.Slots.{Slot, Held, Content, Free, Used, Retired, held_in, held_at, phase_in, slot_of, has_digest, is_free, is_orphan, orphan_from, phase_at, opening, empty_slot}
 
 not_retired_live : phase.Retired ≡ phase.Live → {B : Type 0} → B
 not_retired_live e = cc
@@ -33,6 +32,23 @@ condemned_within [] k condemned = not_retired_condemned condemned
 condemned_within (s ∷ slots) zero condemned = omega arith
 condemned_within (s ∷ slots) (suc k) condemned = let h : k < length slots = condemned_within slots k condemned in omega arith
 
+live_by : (c : Content) (h : Held) → phase_in c ≡ phase.Live → held_in c ≡ Some h → h.condemned ≡ false
+live_by Free h live e = absurd cc
+live_by (Used g) h live e = marked g.condemned h.condemned live (ap (λ o. option_map_or (λ x. x.condemned) o g.condemned) e)
+  where
+    marked : (a b : Bool) → cond a phase.Condemned phase.Live ≡ phase.Live → a ≡ b → b ≡ false
+    marked true b l s = absurd cc
+    marked false b l s = sym s
+live_by Retired h live e = absurd cc
+
+live_in : (o : Option Slot) (h : Held) → option_map_or (λ s. phase_in s.content) o phase.Retired ≡ phase.Live → option_map_or (λ s. held_in s.content) o None ≡ Some h → h.condemned ≡ false
+live_in None h live e = absurd cc
+live_in (Some s) h live e = live_by s.content h live e
+
+-- a live slot's blob is not condemned
+pub live-marked : (slots : List Slot) (k : ℕ) (h : Held) → phase_at slots k ≡ phase.Live → held_at slots k ≡ Some h → h.condemned ≡ false
+live-marked slots k h live e = live_in (slice_get slots k) h live e
+
 -- a free slot's phase
 pub free_phase : (s : Slot) → is_free s ≡ true → phase_in s.content ≡ phase.Free
 free_phase s free = elim s.content as (λ c. elim c as (λ _. Bool) [ Free ↦ true | Used h ↦ false | Retired ↦ false ] ≡ true → phase_in c ≡ phase.Free) [
@@ -40,34 +56,6 @@ free_phase s free = elim s.content as (λ c. elim c as (λ _. Bool) [ Free ↦ t
   | Used h ↦ λ e. absurd cc
   | Retired ↦ λ e. absurd cc
 ] free
-
--- the free slot that is found
-pub free_at : (slots : List Slot) (k : ℕ) (old : Slot) → Some k ≡ position is_free slots → old ≡ get_or slots k old → phase_at slots k ≡ phase.Free
-free_at slots k old found is =
-    let p = position-Some is_free slots k old (sym found) in
-    ap (λ o. option_map_or (λ s. phase_in s.content) o phase.Retired) (slice_get_read slots (length slots) k old refl p.0 is) ∙ free_phase old (rw is p.1)
-
-none_count : {A : Type 0} (p : A → Bool) (xs : List A) → list_any p xs ≡ false → count_by p xs ≡ 0
-none_count p [] h = refl
-none_count p (x ∷ xs) h = elim (p x) as (λ b. p x ≡ b → (b || list_any p xs) ≡ false → count_by p (x ∷ xs) ≡ 0) [
-  | true ↦ λ e g. absurd cc
-  | false ↦ λ e g. sum_by-cons (λ y. cond (p y) 1 0) x xs ∙ (let rest : count_by p xs ≡ 0 = none_count p xs g in rw e (omega arith))
-] refl h
-
--- where no slot is found, none is free
-pub none_free : (slots : List Slot) → position is_free slots ≡ None → free_slots slots ≡ 0
-none_free slots none = none_count is_free slots (sym (is_some-position is_free slots) ∙ ap is_some none)
-
-some_count : {A : Type 0} (p : A → Bool) (xs : List A) → list_any p xs ≡ true → 0 < count_by p xs
-some_count p [] h = absurd cc
-some_count p (x ∷ xs) h = rw (sum_by-cons (λ y. cond (p y) 1 0) x xs) (elim (p x) as (λ b. p x ≡ b → (b || list_any p xs) ≡ true → 0 < cond b 1 0 + count_by p xs) [
-  | true ↦ λ e g. omega arith
-  | false ↦ λ e g. let rest : 0 < count_by p xs = some_count p xs g in omega arith
-] refl h)
-
--- where a slot is found, one is free
-pub some_free : (slots : List Slot) (k : ℕ) → position is_free slots ≡ Some k → 0 < free_slots slots
-some_free slots k found = some_count is_free slots (sym (is_some-position is_free slots) ∙ ap is_some found)
 
 -- within the limits a new table is made
 pub opening_in : (n first : ℕ) → 1 ≤ n → n ≤ 65536 → opening n first ≡ Ok (replicate n (empty_slot first))
@@ -102,7 +90,8 @@ not_held slots d none k h at_k e =
     let here : is_some (slot_of slots d) ≡ false = ap is_some none in
     absurd cc
 
-holding : (d : Text) (c : Content) → option_map_or (λ h. same_text h.digest d) (held_in c) false ≡ true → (h : Held) × (held_in c ≡ Some h) × (h.digest ≡ d)
+-- what a slot that has a digest holds
+pub holding : (d : Text) (c : Content) → option_map_or (λ h. same_text h.digest d) (held_in c) false ≡ true → (h : Held) × (held_in c ≡ Some h) × (h.digest ≡ d)
 holding d Free e = absurd cc
 holding d (Used h) e = (h, refl, text_is _ _ (sym e))
 holding d Retired e = absurd cc
@@ -115,3 +104,7 @@ held_of slots d k found =
     let is : slice_get slots k ≡ Some (get_or slots k none) = slice_get-get_or slots k none p.0 in
     let c = holding d (get_or slots k none).content (p.1) in
     (c.0, ap (λ o. option_map_or (λ s. held_in s.content) o None) is ∙ c.1, c.2)
+
+-- a mark that is not there
+pub not_marked : {b : Bool} {B : Type 0} → b ≡ false → b ≡ true → B
+not_marked unset isset = cc

@@ -1,2 +1,5 @@
 pub mod Finding
 pub mod Writes
+pub mod Indexing
+pub mod Stacking
+pub mod Changes

@@ -5,9 +5,9 @@ use Rattle.std.specs.Prelude.{slice_get}
 use Rattle.std.specs.Option.{option_map_or}
 use Rattle.std.proofs.Math.ListN.{length-set}
 use Rattle.std.proofs.lemmas.Bool.Decides.{eqb_tells}
-use Rattle.std.proofs.lemmas.Option.{slice_get_read}
+use Rattle.std.proofs.lemmas.Option.{slice_get_read, none-some}
 use Rattle.blob_digest.specs.Keys.{Text}
-use Rattle.slot_table.specs.Slots.{Slot, Held, Content, Free, Used, Retired, held_in, held_at, slot_of, with_slot, fill, on_held, content_with, mark, IsTable}
+use Rattle.slot_table.specs.Slots.{Slot, Held, Content, Free, Used, Retired, held_in, held_at, slot_of, with_slot, fill, on_held, content_with, IsTable}
 use Rattle.slot_table.proofs.Finding.{not_held}
 
 -- a slot that is read is written
@@ -30,12 +30,16 @@ slice_get-set_other (y ∷ ys) (suc k) zero x ne = refl
 slice_get-set_other (y ∷ ys) (suc k) (suc m) x ne = slice_get-set_other ys k m x (λ e. ne (ap suc e))
 
 -- the blob at a number after a write there
-held_at-set_same : (slots : List Slot) (k : ℕ) (s : Slot) → k < length slots → held_at (set slots k s) k ≡ held_in s.content
+pub held_at-set_same : (slots : List Slot) (k : ℕ) (s : Slot) → k < length slots → held_at (set slots k s) k ≡ held_in s.content
 held_at-set_same slots k s lt = ap (λ o. option_map_or (λ x. held_in x.content) o None) (slice_get-set_same slots k s lt)
 
 -- the blob at another number
-held_at-set_other : (slots : List Slot) (k m : ℕ) (s : Slot) → m ≢ k → held_at (set slots k s) m ≡ held_at slots m
+pub held_at-set_other : (slots : List Slot) (k m : ℕ) (s : Slot) → m ≢ k → held_at (set slots k s) m ≡ held_at slots m
 held_at-set_other slots k m s ne = ap (λ o. option_map_or (λ x. held_in x.content) o None) (slice_get-set_other slots k m s ne)
+
+-- the blob of a slot that is read
+pub held_at-read : (slots : List Slot) (k : ℕ) (s : Slot) → k < length slots → s ≡ get_or slots k s → held_at slots k ≡ held_in s.content
+held_at-read slots k s lt is = ap (λ o. option_map_or (λ x. held_in x.content) o None) (slice_get_read slots (length slots) k s refl lt is)
 
 -- what a slot holds afterwards is what it held, with its links and its mark changed, or nothing
 pub record Keeps (old new : Slot) : Type 0 where
@@ -50,7 +54,7 @@ blob_before slots k old new lt is keeps i h at_i = elim (eqb_tells i k) [
       let Q : ℕ → Type 0 = λ n. held_at (set slots k new) n ≡ Some h in
       let here : held_in new.content ≡ Some h = sym (held_at-set_same slots k new lt) ∙ subst Q e.1 at_i in
       let found = keeps.same h here in
-      let old_at : held_at slots k ≡ held_in old.content = ap (λ o. option_map_or (λ x. held_in x.content) o None) (slice_get_read slots (length slots) k old refl lt is) in
+      let old_at = held_at-read slots k old lt is in
       let R : ℕ → Type 0 = λ n. held_at slots n ≡ Some found.0 in
       (found.0, subst R (sym e.1) (old_at ∙ found.1), found.2)
   | inr ne ↦ (h, sym (held_at-set_other slots k i new ne.1) ∙ at_i, refl)
@@ -78,23 +82,33 @@ kept-set slots k old new table lt is keeps = record {
   unlinked = λ i h at_i c. unlinked_after slots k old new table lt keeps i h at_i c;
 }
 
--- a blob that is live again keeps its digest
-keeps-revived : (s : Slot) → Keeps s (on_held (mark false) s)
-keeps-revived s = record { same = λ h e. same s.content h e; unlinked = λ h e c. unlinked s.content h e c }
+-- a blob that is changed keeps its digest
+keeps-held : (s : Slot) (f : Held → Held) → ((h : Held) → (f h).digest ≡ h.digest) → ((h : Held) → held_in s.content ≡ Some h → (f h).condemned ≡ true → (f h).links ≡ 0) → Keeps s (on_held f s)
+keeps-held s f digest idle = record { same = λ h e. same s.content h e; unlinked = λ h e c. unlinked s.content h idle e c }
   where
-    same : (c : Content) (h : Held) → held_in (content_with (mark false) c) ≡ Some h → (g : Held) × (held_in c ≡ Some g) × (g.digest ≡ h.digest)
+    same : (c : Content) (h : Held) → held_in (content_with f c) ≡ Some h → (g : Held) × (held_in c ≡ Some g) × (g.digest ≡ h.digest)
     same Free h e = absurd cc
-    same (Used g) h e = (g, refl, ap (λ o. option_map_or (λ x. x.digest) o []) e)
+    same (Used g) h e = (g, refl, sym (digest g) ∙ ap (λ o. option_map_or (λ x. x.digest) o []) e)
     same Retired h e = absurd cc
 
-    unlinked : (c : Content) (h : Held) → held_in (content_with (mark false) c) ≡ Some h → h.condemned ≡ true → h.links ≡ 0
-    unlinked Free h e c = absurd cc
-    unlinked (Used g) h e c = let f : false ≡ h.condemned = ap (λ o. option_map_or (λ x. x.condemned) o false) e in absurd cc
-    unlinked Retired h e c = absurd cc
+    unlinked : (c : Content) (h : Held) → ((g : Held) → held_in c ≡ Some g → (f g).condemned ≡ true → (f g).links ≡ 0) → held_in (content_with f c) ≡ Some h → h.condemned ≡ true → h.links ≡ 0
+    unlinked Free h idle e c = absurd cc
+    unlinked (Used g) h idle e c =
+        let mark = ap (λ o. option_map_or (λ x. x.condemned) o false) e in
+        ap (λ o. option_map_or (λ x. x.links) o 0) (sym e) ∙ idle g refl (mark ∙ c)
+    unlinked Retired h idle e c = absurd cc
 
--- a slot is live again
-pub revived-table : (slots : List Slot) (k : ℕ) (old new : Slot) → IsTable slots → k < length slots → old ≡ get_or slots k old → new ≡ on_held (mark false) old → IsTable (set slots k new)
-revived-table slots k old new table lt is to = rw to (kept-set slots k old (on_held (mark false) old) table lt is (keeps-revived old))
+-- a blob is changed
+pub held-table : (slots : List Slot) (k : ℕ) (old : Slot) (f : Held → Held) → IsTable slots → k < length slots → old ≡ get_or slots k old → ((h : Held) → (f h).digest ≡ h.digest) →
+    ((h : Held) → held_at slots k ≡ Some h → (f h).condemned ≡ true → (f h).links ≡ 0) → IsTable (set slots k (on_held f old))
+held-table slots k old f table lt is digest idle = kept-set slots k old (on_held f old) table lt is (keeps-held old f digest (λ h e c. idle h (held_at-read slots k old lt is ∙ e) c))
+
+-- a slot holds nothing any more
+pub emptied-table : (slots : List Slot) (k : ℕ) (old new : Slot) → IsTable slots → k < length slots → old ≡ get_or slots k old → held_in new.content ≡ None → IsTable (set slots k new)
+emptied-table slots k old new table lt is empty = kept-set slots k old new table lt is (record {
+  same = λ h e. absurd (none-some h (sym empty ∙ e));
+  unlinked = λ h e c. absurd (none-some h (sym empty ∙ e));
+})
 
 -- the blob at a number after another one was placed
 held-placed : (slots : List Slot) (k : ℕ) (old : Slot) (blob : Text × Text) → k < length slots → (i : ℕ) (h : Held) → held_at (set slots k (fill blob old)) i ≡ Some h →

@@ -2,10 +2,10 @@
 
 ghost use Rattle.std.specs.Prelude.{◌≡◌, ◌+◌, ◌<◌, ◌^◌};
 ghost use Rattle.std.specs.Option.{option_map};
-ghost use Rattle.slot_table.specs.Slots.{empty_slot, held_in, is_free, is_orphan, phase_in, has_digest, links_in, fill, on_held, raise, lower, mark, emptied, spent};
+ghost use Rattle.slot_table.specs.Slots.{empty_slot, held_in, is_orphan, phase_in, links_in, fill, on_held, raise, lower, mark, emptied, spent};
 
 use crate::phase::Phase;
-use blob_digest::{Blob, Digest};
+use blob_digest::Blob;
 use std::alloc::Global;
 use std::marker::Model;
 use std::sync::Arc;
@@ -52,23 +52,6 @@ impl Row {
             generation,
             cell: Cell::Free,
         }
-    }
-
-    /// Whether the slot holds the blob of a digest.
-    pub fn holds(&self, digest: &Digest) -> bool
-        ensures { result ≡ has_digest digest.now self.now }
-    {
-        match &self.cell {
-            Cell::Used(filled) => filled.blob.digest() == *digest,
-            _ => false,
-        }
-    }
-
-    /// Whether the slot is free.
-    pub fn is_free(&self) -> bool
-        ensures { result ≡ is_free self.now }
-    {
-        matches!(self.cell, Cell::Free)
     }
 
     /// Whether the slot holds a blob without links.

@@ -1,60 +1,82 @@
-//! The slots of a store, found by scanning.
+//! The slots of a store, with an index of their digests and a stack of the free ones.
 
-ghost use Rattle.std.specs.Prelude.{◌≡◌, ◌≢◌, ◌+◌, ◌<◌, ◌≤◌, ◌^◌, length, None, IfOk, IfErr, OnErr, position, true, false};
+ghost use Rattle.std.specs.Prelude.{◌≡◌, ◌≢◌, ℕ, ◌+◌, ◌<◌, ◌≤◌, ◌^◌, ◌==◌, nat_lt, length, replicate, None, IfOk, IfErr, OnErr, position, count_by, if◌then◌else◌, true, false};
 ghost use Rattle.std.specs.Option.{option_map};
+ghost use Rattle.std.specs.Vec.{vec_len, vec_capacity};
+ghost use Rattle.std.specs.BTreeMap as tree;
+ghost use Rattle.blob_digest.specs.Keys.{Text, text_cmp};
 ghost use Rattle.blob_digest.specs.Outcomes.{Answers};
 ghost use Rattle.blob_digest.specs.declared.refusal.Refusal.TheVariants.{Memory, StoreFull};
-ghost use Rattle.slot_table.specs.Slots.{slot_of, held_at, phase_at, links_at, generation_at, free_slots, is_free, is_orphan, orphan_from, has_digest, opening, with_slot, fill, on_held, raise, lower, mark, emptied, spent, IsDistinct, IsUnlinked};
+ghost use Rattle.slot_table.specs.Slots.{slot_of, held_at, phase_at, links_at, generation_at, free_slots, empty_slot, is_orphan, orphan_from, has_digest, opening, with_slot, fill, on_held, raise, lower, mark, emptied, spent, IsDistinct, IsUnlinked};
 ghost use Rattle.slot_table.specs.declared.phase.Phase.TheVariants as phase;
 
 use crate::phase::Phase;
 use crate::row::Row;
 use blob_digest::{Blob, Digest, Refusal};
-use std::alloc::Global;
+use std::alloc::{AllocError, Global};
+use std::collections::BTreeMap;
 use std::marker::Model;
 use std::sync::Arc;
 
 /// The slots of a store, 1 to 65,536, each with its generation and what it holds. Contracts see
 /// the list of the slots. No digest has two slots, and a condemned blob has no links.
 ///
-/// A slot is named by its number, from 0 on. Finding a slot goes over the slots; the other calls
-/// take a few steps.
+/// A slot is named by its number, from 0 on. An index has the digest of each used slot, and a
+/// stack has the free slots, with room for all from the start. So `find`, `place`, `free` and
+/// `retire` take steps by the logarithm of the used slots, `orphans_from` goes over the slots, and
+/// each other call takes a few steps. Only `new` and `place` take memory.
 #[derive(Drop)]
 pub struct SlotTable {
     alloc: Global,
     rows: Vec<Row>,
+    index: BTreeMap<Digest, u32>,
+    free: Vec<u32>,
 }
 
 impl Model for SlotTable {
     ghost use Rattle.std.specs.Prelude.{List};
+    ghost use Rattle.std.specs.Vec.{vec_capacity};
     ghost use Rattle.slot_table.specs.Slots.{Slot, IsTable};
+    ghost use Rattle.slot_table.specs.Indexes.{IsIndexed};
 
     ghost Value = { List Slot };
 
     ghost view = { λ a. a.rows.items };
 
-    ghost invariant = { λ a. IsTable a.rows.items };
+    ghost invariant = { λ a. IsTable a.rows.items × IsIndexed a.rows.items a.index a.free.items (vec_capacity a.free) };
 }
 
-/// Where the blob of a digest is.
-fn place_of(rows: &[Row], digest: &Digest) -> Option<usize>
-    ensures { result ≡ position (has_digest digest.now) rows.now }
+/// The rows of free slots of one generation.
+fn empty_rows(alloc: Global, slots: u32, generation: u32) -> Result<Vec<Row>, AllocError>
+    ensures { IfOk result (λ v. v.items ≡ replicate slots (empty_slot generation)) }
 {
-    rows.iter().position(|row| row.holds(digest))
+    let mut rows = Vec::with_capacity(alloc, slots as usize)?;
+    for _ in 0..slots {
+        rows.push(Row::empty(generation))?;
+    }
+    Ok(rows)
 }
 
-/// The first free slot.
-fn free_place(rows: &[Row]) -> Option<usize>
-    ensures { result ≡ position is_free rows.now }
+/// The numbers of all slots, the first one on top.
+fn all_slots(alloc: Global, slots: u32) -> Result<Vec<u32>, AllocError>
+    ensures each { IfOk result (λ v. (k : ℕ) → count_by (λ n. n == k) v.items ≡ (if nat_lt k slots then 1 else 0)) }
+    ensures len { IfOk result (λ v. vec_len v ≡ slots) }
+    ensures room { IfOk result (λ v. slots ≤ vec_capacity v) }
 {
-    rows.iter().position(|row| row.is_free())
+    let mut stack = Vec::with_capacity(alloc, slots as usize)?;
+    for pushed in 0..slots {
+        stack.push(slots - 1 - pushed)?;
+    }
+    Ok(stack)
 }
 
-/// How many slots are free.
-fn free_rows(rows: &[Row]) -> usize
-    ensures { result ≡ free_slots rows.now }
+/// The index forgets the digest of what a slot holds.
+fn forget(index: &mut BTreeMap<Digest, u32>, row: &Row)
+    ensures { (d : Text) → tree.get text_cmp index.new d ≡ (if has_digest d row.now then None else tree.get text_cmp index.old d) }
 {
-    rows.iter().filter(|row| row.is_free()).count()
+    if let Some(blob) = row.blob() {
+        index.remove(&blob.digest());
+    }
 }
 
 /// The first slot that holds a blob without links.
@@ -65,11 +87,11 @@ fn orphan_place(rows: &[Row]) -> Option<usize>
 }
 
 impl SlotTable {
-    /// Makes a table of free slots, each of the first generation. It keeps the allocator for the
-    /// blobs that are placed.
+    /// Makes a table of free slots, each of the first generation, with a stack of them. It keeps the
+    /// allocator for the blobs that are placed.
     ///
     /// Refused with `LimitReached` outside 1 to 65,536 slots, and with `Memory` only within, where
-    /// the rows find none.
+    /// the rows or the stack find none.
     pub fn new(alloc: Global, slots: u32, first_generation: u32) -> Result<SlotTable, Refusal>
         ensures answers { Answers (λ t. t) result (opening slots first_generation) }
         ensures memory { IfErr result (λ e. e ≡ Memory → (1 ≤ slots) × (slots ≤ 65536)) }
@@ -80,11 +102,14 @@ impl SlotTable {
         if slots > 65536 {
             return Err(Refusal::LimitReached);
         }
-        let mut rows = Vec::new(alloc);
-        for _ in 0..slots {
-            rows.push(Row::empty(first_generation))?;
-        }
-        Ok(SlotTable { alloc, rows })
+        let rows = empty_rows(alloc, slots, first_generation)?;
+        let free = all_slots(alloc, slots)?;
+        Ok(SlotTable {
+            alloc,
+            rows,
+            index: BTreeMap::new(alloc),
+            free,
+        })
     }
 
     /// The number of slots.
@@ -97,22 +122,19 @@ impl SlotTable {
         self.rows.len() as u32
     }
 
-    /// The slot that holds the blob of a digest. There is no second one.
+    /// The slot that holds the blob of a digest. There is no second one. It is looked up in the index.
     pub fn find(&self, digest: &Digest) -> Option<u32>
         ensures slot { result ≡ slot_of self.now digest.now }
         ensures alone { IsDistinct self.now }
     {
-        match place_of(&self.rows, digest) {
-            Some(slot) => Some(slot as u32),
-            None => None,
-        }
+        self.index.get(digest).copied()
     }
 
-    /// How many slots are free.
+    /// How many slots are free, which is kept.
     pub fn free_count(&self) -> u32
         ensures { result ≡ free_slots self.now }
     {
-        free_rows(&self.rows) as u32
+        self.free.len() as u32
     }
 
     /// What a slot is.
@@ -148,7 +170,7 @@ impl SlotTable {
     }
 
     /// The least slot, from a slot on, that holds a blob without links, condemned ones among them.
-    /// It may be asked past the last slot.
+    /// It may be asked past the last slot, and goes over the slots up to the one that it answers.
     pub fn orphans_from(&self, slot: u32) -> Option<u32>
         ensures { result ≡ orphan_from self.now slot }
     {
@@ -163,7 +185,7 @@ impl SlotTable {
     }
 
     /// Puts a blob into a free slot, live and without links, and answers the slot. Which free slot
-    /// it gets isn't promised.
+    /// it gets isn't promised. It takes memory for the index and for the blob to be shared.
     ///
     /// Refused with `StoreFull` exactly where no slot is free, and with `Memory` only where one is.
     /// A refusal hands the blob back and changes nothing.
@@ -176,15 +198,23 @@ impl SlotTable {
         ensures memory { IfErr result (λ e. e.0 ≡ Memory → 0 < free_slots self.old) }
         ensures err { OnErr result (self.new ≡ self.old) }
     {
-        let Some(slot) = free_place(&self.rows) else {
+        let Some(slot) = self.free.last().copied() else {
             return Err((Refusal::StoreFull, blob));
         };
+        let digest = blob.digest();
+        if self.index.insert(digest, slot).is_err() {
+            return Err((Refusal::Memory, blob));
+        }
         match Arc::new(self.alloc, blob) {
             Ok(blob) => {
-                self.rows[slot].fill(blob);
-                Ok(slot as u32)
+                self.free.pop();
+                self.rows[slot as usize].fill(blob);
+                Ok(slot)
             }
-            Err(failed) => Err((Refusal::Memory, failed.value)),
+            Err(failed) => {
+                self.index.remove(&digest);
+                Err((Refusal::Memory, failed.value))
+            }
         }
     }
 
@@ -223,20 +253,29 @@ impl SlotTable {
         self.rows[slot as usize].mark(false);
     }
 
-    /// Frees a condemned slot, in its next generation. The slot's share of the blob is dropped.
+    /// Frees a condemned slot, in its next generation. The slot's share of the blob is dropped. It
+    /// takes no memory.
     pub fn free(&mut self, slot: u32)
         requires condemned { phase_at self.old slot ≡ phase.Condemned }
         requires room { generation_at self.old slot + 1 < 2 ^ 32 }
         ensures { self.new ≡ with_slot self.old slot emptied }
     {
-        self.rows[slot as usize].free();
+        let row = &mut self.rows[slot as usize];
+        forget(&mut self.index, row);
+        row.free();
+        match self.free.push(slot) {
+            Ok(()) => {}
+            Err(_) => unreachable!(),
+        }
     }
 
-    /// Retires a condemned slot. The slot's share of the blob is dropped.
+    /// Retires a condemned slot. The slot's share of the blob is dropped. It takes no memory.
     pub fn retire(&mut self, slot: u32)
         requires { phase_at self.old slot ≡ phase.Condemned }
         ensures { self.new ≡ with_slot self.old slot spent }
     {
-        self.rows[slot as usize].retire();
+        let row = &mut self.rows[slot as usize];
+        forget(&mut self.index, row);
+        row.retire();
     }
 }

@@ -90,26 +90,31 @@ fn links_are_counted(rt: HostRuntime) {
 }
 
 #[test]
-fn a_slot_goes_through_its_phases(rt: HostRuntime) {
+fn a_condemned_slot_is_revived(rt: HostRuntime) {
     let alloc = rt.alloc();
     let mut table = table_of(alloc, 2, 0, &[b"abc"]).expect(&rt, "memory");
     let slot = table.find(&digest_of(b"abc")).expect(&rt, "a slot");
-    if slot >= table.len() {
-        panic!(rt; "no such slot");
-    }
+    assert!(rt; slot < table.len());
     if table.phase(slot) == Phase::Live && table.links(slot) == 0 {
         table.condemn(slot);
-        assert_eq!(rt; table.phase(slot), Phase::Condemned);
-        table.revive(slot);
-        assert_eq!(rt; table.phase(slot), Phase::Live);
-        assert_eq!(rt; table.links(slot), 0);
-        if table.links(slot) == 0 {
-            table.condemn(slot);
-            if table.generation(slot) == 0 {
-                table.free(slot);
-            }
-        }
     }
+    assert!(rt; slot < table.len());
+    assert_eq!(rt; table.phase(slot), Phase::Condemned);
+    if table.phase(slot) == Phase::Condemned {
+        table.revive(slot);
+    }
+    assert!(rt; slot < table.len());
+    assert_eq!(rt; table.phase(slot), Phase::Live);
+    assert_eq!(rt; table.links(slot), 0);
+}
+
+#[test]
+fn a_condemned_slot_is_freed(rt: HostRuntime) {
+    let alloc = rt.alloc();
+    let mut table = table_of(alloc, 2, 0, &[b"abc"]).expect(&rt, "memory");
+    let slot = table.find(&digest_of(b"abc")).expect(&rt, "a slot");
+    free_all(&mut table);
+    assert!(rt; slot < table.len());
     assert_eq!(rt; table.phase(slot), Phase::Free);
     assert_eq!(rt; table.generation(slot), 1);
     assert_eq!(rt; table.free_count(), 2);
@@ -152,4 +157,83 @@ fn a_full_table_hands_the_blob_back(rt: HostRuntime) {
     }
     assert!(rt; table.find(&digest_of(b"{}")).is_none());
     assert_eq!(rt; table.free_count(), 0);
+}
+
+/// Places the blobs of so many numbers, from a first one on; false where one can't be placed.
+fn place_numbers(alloc: Global, table: &mut SlotTable, first: u32, count: u32) -> bool {
+    for further in 0..count {
+        let Some(blob) = blob_of(alloc, &first.wrapping_add(further).to_be_bytes()) else {
+            return false;
+        };
+        if table.find(&blob.digest()).is_some() {
+            return false;
+        }
+        if table.place(blob).is_err() {
+            return false;
+        }
+    }
+    true
+}
+
+/// How many of so many numbers, from a first one on, have a slot of their own that holds their blob.
+fn found_numbers(table: &SlotTable, first: u32, count: u32) -> u32 {
+    let mut found = 0u32;
+    for further in 0..count {
+        let bytes = first.wrapping_add(further).to_be_bytes();
+        if let Some(slot) = table.find(&digest_of(&bytes)) {
+            if slot < table.len() {
+                if let Some(blob) = table.blob(slot) {
+                    if blob.bytes() == bytes.as_slice() {
+                        found = found.saturating_add(1);
+                    }
+                }
+            }
+        }
+    }
+    found
+}
+
+/// Condemns and frees each slot that is live and has no links.
+fn free_all(table: &mut SlotTable) {
+    for slot in 0..table.len() {
+        if slot < table.len() {
+            if table.phase(slot) == Phase::Live && table.links(slot) == 0 {
+                table.condemn(slot);
+                if table.generation(slot) < u32::MAX {
+                    table.free(slot);
+                }
+            }
+        }
+    }
+}
+
+/// How many slots are of this phase, in this generation.
+fn slots_of(table: &SlotTable, phase: Phase, generation: u32) -> u32 {
+    let mut found = 0u32;
+    for slot in 0..table.len() {
+        if table.phase(slot) == phase && table.generation(slot) == generation {
+            found = found.saturating_add(1);
+        }
+    }
+    found
+}
+
+#[test]
+fn a_thousand_slots_are_filled_and_freed_and_filled_again(rt: HostRuntime) {
+    let alloc = rt.alloc();
+    let mut table = SlotTable::new(alloc, 1000, 0).expect(&rt, "memory");
+    assert!(rt; place_numbers(alloc, &mut table, 0, 1000));
+    assert_eq!(rt; table.free_count(), 0);
+    assert_eq!(rt; slots_of(&table, Phase::Live, 0), 1000);
+    assert_eq!(rt; found_numbers(&table, 0, 1000), 1000);
+    assert!(rt; !place_numbers(alloc, &mut table, 1000, 1));
+    free_all(&mut table);
+    assert_eq!(rt; table.free_count(), 1000);
+    assert_eq!(rt; slots_of(&table, Phase::Free, 1), 1000);
+    assert_eq!(rt; found_numbers(&table, 0, 1000), 0);
+    assert!(rt; place_numbers(alloc, &mut table, 1000, 1000));
+    assert_eq!(rt; table.free_count(), 0);
+    assert_eq!(rt; slots_of(&table, Phase::Live, 1), 1000);
+    assert_eq!(rt; found_numbers(&table, 0, 1000), 0);
+    assert_eq!(rt; found_numbers(&table, 1000, 1000), 1000);
 }

@@ -1,29 +1,59 @@
-use Rattle.std.proofs.Common.{sym, ◌∙◌, ap, refl}
-use Rattle.std.proofs.lemmas.List.Quantifiers.{position-Some}
-use Rattle.slot_table.specs.Slots.{fill, is_free}
-use Rattle.slot_table.proofs.Finding.{free_at, none_free, some_free}
-use Rattle.slot_table.proofs.Writes.{with_slot-set, placed-table}
+use Rattle.std.proofs.Common.{◌≡◌, ◌-◌, ◌<◌, ◌++◌, ◌∷◌, [], length, false, Result, Ok, Err, Some, sym, ◌∙◌, ap, arith}
+use Rattle.std.specs.Prelude.{slice_get}
+use Rattle.std.specs.Result.{is_err, OnOk}
+use Rattle.std.specs.Vec.{vec_len, vec_capacity}
+use Rattle.slot_table.specs.Slots.{fill}
+use Rattle.slot_table.specs.Indexes.{IsIndexed}
+use Rattle.slot_table.proofs.Stacking.{stacked_free, free_within, popped}
+use Rattle.slot_table.proofs.Writes.{with_slot-set}
+use Rattle.slot_table.proofs.Changes.{placed, taken_back}
 use Rattle.slot_table.proofs.table.SlotTable.place.Goals as goal
 
-pub returns-in_default-clause-refused : goal.returns-in_default-clause-refused
-returns-in_default-clause-refused c = λ _. (refl, rw (← c.self.view_is) (none_free c.self.inside.rows.items (sym (rw c.deref.ensures.value at c.in_default.ensures))))
+is_done : {T E P : Type 0} (r : Result T E) → is_err r ≡ false → OnOk r P → P
+is_done (Ok v) e p = p
+is_done (Err v) e p = absurd cc
 
-pub invariant_of-self : goal.invariant_of-self
-invariant_of-self c =
-    let found = rw c.deref.ensures.value at c.in-Some.ensures in
-    let p = position-Some is_free c.self.inside.rows.items c.in-Some.slot c.index_mut.result.now (sym found) in
-    placed-table c.self.inside.rows.items c.in-Some.slot c.index_mut.result.now c.fill.new.self c.args.blob c.self.invariant (rw c.self.view_is c.requires) p.0
-    (c.fill.ensures ∙ ap (λ b. fill b c.index_mut.result.now) c.in-Ok.ensures.ok)
+pub index_mut-requires : goal.index_mut-requires
+index_mut-requires c =
+    let slots = c.self.inside.rows.items in
+    let stack = c.self.inside.free.items in
+    let top : slice_get stack (length stack - 1) ≡ Some c.in-Some.slot = sym (c.in-Some.ensures ∙ c.last.ensures.value ∙ ap (λ xs. slice_get xs (length xs - 1)) c.deref.ensures.value) in
+    let within : c.in-Some.slot < length slots = free_within slots c.in-Some.slot (stacked_free slots stack (length stack - 1) c.in-Some.slot c.self.invariant.1.stacked top) in
+    omega arith
 
-pub returns-in-Ok-clause-free : goal.returns-in-Ok-clause-free
-returns-in-Ok-clause-free c = rw (← c.self.view_is) (free_at c.self.inside.rows.items c.in-Some.slot c.index_mut.result.now (rw c.deref.ensures.value at c.in-Some.ensures) c.index_mut.ensures.value)
+pub invariant_of-self-in-Ok : goal.invariant_of-self-in-Ok
+invariant_of-self-in-Ok c =
+    let slots = c.self.inside.rows.items in
+    let stack = c.self.inside.free.items in
+    let slot = c.in-Some.slot in
+    let top : slice_get stack (length stack - 1) ≡ Some slot = sym (c.in-Some.ensures ∙ c.last.ensures.value ∙ ap (λ xs. slice_get xs (length xs - 1)) c.deref.ensures.value) in
+    let free = stacked_free slots stack (length stack - 1) slot c.self.invariant.1.stacked top in
+    let items : stack ≡ c.pop.new.self.items ++ slot ∷ [] = popped stack c.pop.new.self.items (vec_len c.self.inside.free) slot c.pop.result (omega arith) top c.pop.ensures.value c.pop.ensures.items in
+    let put = (is_done c.insert.result (sym c.is_err.ensures.value ∙ c.if-is_err.false) c.insert.ensures.updates).0 in
+    let filled : c.fill.new.self ≡ fill c.args.blob c.index_mut.result.now = c.fill.ensures ∙ ap (λ b. fill b c.index_mut.result.now) c.in-Ok.ensures.ok in
+    let kept : IsIndexed slots c.self.inside.index (c.pop.new.self.items ++ slot ∷ []) (vec_capacity c.pop.new.self) = rw (← items, c.pop.ensures.capacity) c.self.invariant.1 in
+    rw filled (placed slots slot c.index_mut.result.now c.args.blob c.self.inside.index c.insert.new.self c.pop.new.self.items (vec_capacity c.pop.new.self)
+    c.self.invariant.0 kept (rw c.self.view_is c.requires) free c.index_mut.ensures.value (rw c.digest-digest.ensures.value at put))
+
+pub invariant_of-self-in-Err : goal.invariant_of-self-in-Err
+invariant_of-self-in-Err c =
+    let slots = c.self.inside.rows.items in
+    let kept = c.self.invariant.1 in
+    let put = (is_done c.insert.result (sym c.is_err.ensures.value ∙ c.if-is_err.false) c.insert.ensures.updates).0 in (
+      c.self.invariant.0,
+      record {
+        found = taken_back slots c.in-Some.slot c.digest-digest.result c.self.inside.index c.insert.new.self c.remove.new.self (rw (c.self.view_is, c.digest-digest.ensures.value) c.requires) kept.found put c.remove.ensures.updates.0;
+        stacked = kept.stacked;
+        counted = kept.counted;
+        roomy = kept.roomy;
+      },
+    )
 
 pub returns-in-Ok-clause-ok : goal.returns-in-Ok-clause-ok
 returns-in-Ok-clause-ok c =
-    let found = rw c.deref.ensures.value at c.in-Some.ensures in
-    let p = position-Some is_free c.self.inside.rows.items c.in-Some.slot c.index_mut.result.now (sym found) in
-    rw (← c.self.view_is) (with_slot-set c.self.inside.rows.items c.in-Some.slot c.index_mut.result.now c.fill.new.self (fill c.args.blob) p.0 c.index_mut.ensures.value
-    (c.fill.ensures ∙ ap (λ b. fill b c.index_mut.result.now) c.in-Ok.ensures.ok))
-
-pub returns-in-Err-clause-memory : goal.returns-in-Err-clause-memory
-returns-in-Err-clause-memory c = λ _. rw (← c.self.view_is) (some_free c.self.inside.rows.items c.in-Some.slot (sym (rw c.deref.ensures.value at c.in-Some.ensures)))
+    let slots = c.self.inside.rows.items in
+    let stack = c.self.inside.free.items in
+    let slot = c.in-Some.slot in
+    let top : slice_get stack (length stack - 1) ≡ Some slot = sym (c.in-Some.ensures ∙ c.last.ensures.value ∙ ap (λ xs. slice_get xs (length xs - 1)) c.deref.ensures.value) in
+    let within = free_within slots slot (stacked_free slots stack (length stack - 1) slot c.self.invariant.1.stacked top) in
+    rw (← c.self.view_is) (with_slot-set slots slot c.index_mut.result.now c.fill.new.self (fill c.args.blob) within c.index_mut.ensures.value (c.fill.ensures ∙ ap (λ b. fill b c.index_mut.result.now) c.in-Ok.ensures.ok))
