@@ -23,4 +23,8 @@ pub use pins::Pins;
 pub use reclaim::Reclaim;
 
 #[cfg(test)]
+mod desk;
+#[cfg(test)]
 mod tests;
+#[cfg(test)]
+mod thread_tests;
