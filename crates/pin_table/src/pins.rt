@@ -102,7 +102,8 @@ impl Pins {
     {
         let word = slot as usize;
         let found = self.table.shared.load::<Look>(&mut keeper.seat, word);
-        keeper.bounds[word] = unpack(found).weight;
+        let sum = unpack(found).weight;
+        keeper.bounds[word] = sum;
         found
     }
 
@@ -212,10 +213,8 @@ impl Pins {
         let old = clear_word(&row);
         let next = reclaimed(row);
         let new = clear_word(&next);
-        let found = self
-            .table
-            .shared
-            .compare_exchange::<Reclaiming>(&mut keeper.seat, word, old, new);
+        let shared = &self.table.shared;
+        let found = shared.compare_exchange::<Reclaiming>(&mut keeper.seat, word, old, new);
         if found != old {
             let weight = unpack(found).weight;
             keeper.bounds[word] = weight;
@@ -274,9 +273,8 @@ impl Pins {
         ensures { result ≡ seat_value self.now (LeftView (weightless pin.hold)) }
     {
         let Pin { hold, mut seat } = pin;
-        self.table
-            .shared
-            .fetch_sub::<Leave>(&mut seat, hold.slot as usize, u64::from(hold.weight));
+        let shared = &self.table.shared;
+        shared.fetch_sub::<Leave>(&mut seat, hold.slot as usize, u64::from(hold.weight));
         Left { seat }
     }
 }
