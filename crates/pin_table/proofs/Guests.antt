@@ -20,7 +20,7 @@ use Rattle.pin_table.specs.declared.view.Kept.{Kept}
 use Rattle.pin_table.specs.declared.view.View.{View}
 use Rattle.pin_table.specs.declared.view.View.TheVariants.{Keeper, Pin, Left, Spent}
 use Rattle.pin_table.specs.Rule.{Agrees, all_holds, holds_in, in_hand, kept, IsGuest, opening_view}
-use Rattle.pin_table.specs.Plays.{weightless, with_hand, seated}
+use Rattle.pin_table.specs.Plays.{weightless, with_hand, own_seat}
 use Rattle.pin_table.specs.Laws.{Leads}
 use Rattle.pin_table.proofs.Orders.{one, one_self, permutes}
 use Rattle.pin_table.proofs.Names.{fresh, unnamed, name_of, left_sum, shared_sums}
@@ -117,23 +117,23 @@ shares {ws} {vs} {p} {id} {h} c more =
 
 -- ---- the keeper's hand
 
-seated_sum : (f : Hold → ℕ) (o : Option Hold) → sum_by f (holds_in (seated o)) ≡ sum_by f (in_hand o)
-seated_sum f None = refl
-seated_sum f (Some h) = refl
+own_seat_sum : (f : Hold → ℕ) (o : Option Hold) → sum_by f (holds_in (own_seat o)) ≡ sum_by f (in_hand o)
+own_seat_sum f None = refl
+own_seat_sum f (Some h) = refl
 
-seated_guest : (o : Option Hold) → IsGuest (seated o)
-seated_guest None = tt
-seated_guest (Some h) = tt
+own_seat_guest : (o : Option Hold) → IsGuest (own_seat o)
+own_seat_guest None = tt
+own_seat_guest (Some h) = tt
 
-pub hands_out : {ws : List ℕ} {vs : List View} {p : PinWorld} (a : Agrees ws vs p) (v : Kept) → get_elem? vs 0 ≡ some (Keeper v) → Agrees ws (set vs 0 (Keeper (with_hand None v)) ++ seated v.hand ∷ []) p
+pub hands_out : {ws : List ℕ} {vs : List View} {p : PinWorld} (a : Agrees ws vs p) (v : Kept) → get_elem? vs 0 ≡ some (Keeper v) → Agrees ws (set vs 0 (Keeper (with_hand None v)) ++ own_seat v.hand ∷ []) p
 hands_out {ws} {vs} {p} a v at =
     let same = is_keeper a v at in
     let u = with_hand None v in
-    let others = a.others ++ seated v.hand ∷ [] in
+    let others = a.others ++ own_seat v.hand ∷ [] in
     let pins = permutes (all_holds (Keeper u ∷ others)) (holds_of p)
-    (λ f. omega (arith, seat_sums a f, ap (λ (x : Kept). sum_by f (in_hand x.hand)) same, sum_push f a.others (seated v.hand), seated_sum f v.hand)) in
-    subst (λ l. Agrees ws (set l 0 (Keeper u) ++ seated v.hand ∷ []) p) (sym a.seats)
-    (regrouped ws vs p p.pins a u others (All-push IsGuest a.others (seated v.hand) a.guests (seated_guest v.hand)) (sym (ap (λ (x : Kept). x.rows) same)) (sym (ap (λ (x : Kept). x.bounds) same)) pins a.state (λ j. refl))
+    (λ f. omega (arith, seat_sums a f, ap (λ (x : Kept). sum_by f (in_hand x.hand)) same, sum_push f a.others (own_seat v.hand), own_seat_sum f v.hand)) in
+    subst (λ l. Agrees ws (set l 0 (Keeper u) ++ own_seat v.hand ∷ []) p) (sym a.seats)
+    (regrouped ws vs p p.pins a u others (All-push IsGuest a.others (own_seat v.hand) a.guests (own_seat_guest v.hand)) (sym (ap (λ (x : Kept). x.rows) same)) (sym (ap (λ (x : Kept). x.bounds) same)) pins a.state (λ j. refl))
 
 -- a pin goes from its seat into the hand
 pub record Taken (ws : List ℕ) (vs : List View) (p : PinWorld) (v : Kept) (id : ℕ) (h : Hold) : Type 0 where

@@ -9,3 +9,4 @@ pub mod StepLaws
 pub mod Allowed
 pub mod Seats
 pub mod Told
+pub mod Moments

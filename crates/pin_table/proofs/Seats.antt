@@ -2,11 +2,9 @@
 use Rattle.std.proofs.Common.{◌≡◌, ℕ, ◌+◌, ◌%◌, ◌≤◌, ◌<◌, List, length, get_or, set, refl, sym, ap, ◌∙◌, subst, arith}
 use Rattle.std.proofs.lemmas.Option.{get_or_from_slice_get, slice_get_read}
 use Rattle.atomic_table.specs.Seated.{TableId}
-use Rattle.pin_core.specs.declared.world.Phase.{Phase}
-use Rattle.pin_core.specs.declared.world.Phase.TheVariants.{Free, Live, Condemned, Retired}
 use Rattle.pin_core.specs.declared.world.PinRow.{PinRow}
 use Rattle.pin_core.specs.declared.world.Hold.{Hold}
-use Rattle.pin_core.specs.World.{most_weight, no_row, row, word_of}
+use Rattle.pin_core.specs.World.{no_row, row}
 use Rattle.pin_table.specs.Calls.{KeeperValue, Verified, bounded}
 
 -- the keeper's table is t, and its rows are those that contracts see, the slot k among them
@@ -28,16 +26,6 @@ sits z t rs bs s k is named words l =
 -- a row that was read
 pub read_row : (rs : List PinRow) (k : ℕ) (r : PinRow) → k < length rs → r ≡ get_or rs k r → row rs k ≡ r
 read_row rs k r l is = get_or_from_slice_get rs k r no_row (slice_get_read rs (length rs) k r refl l is)
-
--- a word has one sum
-pub one_sum : (g g' w w' : ℕ) (p p' : Phase) → w < 1073741824 → w' ≤ most_weight → word_of g p w ≡ word_of g' p' w' → w ≡ w'
-one_sum g g' w w' p p' l l' e = sym (low_bits g w p l) ∙ ap (λ n. n % 1073741824) e ∙ low_bits g' w' p' (omega arith)
-  where
-    low_bits : (g w : ℕ) (p : Phase) → w < 1073741824 → word_of g p w % 1073741824 ≡ w
-    low_bits g w Free l = omega arith
-    low_bits g w Live l = omega arith
-    low_bits g w Condemned l = omega arith
-    low_bits g w Retired l = omega arith
 
 -- the keeper, after its table and lists were named anew
 pub keeper_is : (z y : TableId) (rs : List PinRow) (bs cs : List ℕ) (s : KeeperValue) (k b : ℕ) → record { table = z; rows = rs; bounds = bs } ≡ s → y ≡ z → cs ≡ set bs k b → record { table = y; rows = rs; bounds = cs } ≡ bounded k b s

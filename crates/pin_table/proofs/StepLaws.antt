@@ -12,13 +12,10 @@ use Rattle.pin_table.specs.declared.view.View.TheVariants.{Keeper}
 use Rattle.pin_table.specs.Rule.{Agrees}
 use Rattle.pin_table.specs.Plays.{Finds, Seated, with_bound}
 use Rattle.pin_table.specs.Laws.{Before, Leads, IsWord, LookLaw, GiveLaw, LendLaw, HandLaw, LeaveLaw, CondemnLaw, ReviveLaw, ReclaimLaw, ShareLaw, VerifyLaw, StepsAreEvents}
+use Rattle.pin_table.proofs.Bits.{one_sum}
 use Rattle.pin_table.proofs.Names.{fresh}
 use Rattle.pin_table.proofs.Steps.{Keeping, keeping, looks, gives, lends, condemns, revives, reclaims}
 use Rattle.pin_table.proofs.Guests.{pinned, leaves, shares, hands_out, takes_in, opens}
-
--- a row with two sums of one word
-one_sum : (r : PinRow) (n w w' : ℕ) → n ≡ row_word r w → n ≡ row_word r w' → w ≡ w'
-one_sum r n w w' a b = omega arith
 
 module _ (ws : List ℕ) (vs : List View) (p : PinWorld) where
   kept_by : (v : Kept) (k : ℕ) → Before ws vs p 0 (Keeper v) → IsWord ws k → Keeping ws vs p v k
@@ -31,7 +28,9 @@ module _ (ws : List ℕ) (vs : List View) (p : PinWorld) where
   -- a load, which found this sum
   looked_by : (v : Kept) (k weight : ℕ) (me : Seated) → Keeping ws vs p v k → Finds k (slice_index ws k) v weight → me ≡ (Keeper (with_bound k weight v), []) → Leads p (Look k) ws (set vs 0 me.0)
   looked_by v k weight me c finds is =
-      let same = one_sum (row v.rows k) (slice_index ws k) (weight_on k (holds_of p)) weight c.finds.word finds.word in
+      let r = row v.rows k in
+      let most = c.finds.fits in
+      let same = one_sum r.generation r.generation (weight_on k (holds_of p)) weight r.phase r.phase (omega arith) finds.fits (sym c.finds.word ∙ finds.word) in
       led (Look k) (set ws k (slice_index ws k)) ws 0 (Keeper (with_bound k weight v)) me (set-get_or ws k 0) is
       (subst (λ x. Leads p (Look k) (set ws k (slice_index ws k)) (set vs 0 (Keeper (with_bound k x v)))) same (looks c))
 

@@ -32,6 +32,7 @@ pub record Keeping (ws : List ℕ) (vs : List View) (p : PinWorld) (v : Kept) (k
   pub same : agrees.keeper ≡ v
   pub rows : p.rows ≡ v.rows
   pub within : k < length p.rows
+  pub limit : slice_index v.bounds k ≤ most_weight
   -- the word that is found, with the sum on the slot
   pub finds : Finds k (slice_index ws k) v (weight_on k (holds_of p))
 
@@ -45,6 +46,7 @@ keeping {ws} {vs} {p} a v k at l =
       same = same;
       rows = rows;
       within = l;
+      limit = limit;
       finds = record { word = a.at_words k l ∙ ap (λ rs. row_word (row rs k) (weight_on k (holds_of p))) rows; within = bound; fits = omega arith };
     }
 
@@ -152,11 +154,8 @@ condemns {ws} {vs} {p} {v} {k} c live =
       can,
       by_keeper c (bit_or n 1073741824) (slice_index v.bounds k) (with_row k (in_phase Condemned (row v.rows k)) v) (after p (Condemn k))
           (ap (λ rs. set rs k (in_phase Condemned (row rs k))) c.rows) (bound_kept v k) (λ f. refl) (state_after p (Condemn k) can c.agrees.state)
-          (row_changed p k (bit_or n 1073741824) (slice_index v.bounds k) r c.within made c.finds.within (limit c)),
+          (row_changed p k (bit_or n 1073741824) (slice_index v.bounds k) r c.within made c.finds.within c.limit),
     )
-  where
-    limit : Keeping ws vs p v k → slice_index v.bounds k ≤ most_weight
-    limit c = subst (λ (x : Kept). slice_index x.bounds k ≤ most_weight) c.same (c.agrees.limits k c.within)
 
 pub revives : {ws : List ℕ} {vs : List View} {p : PinWorld} {v : Kept} {k : ℕ} → Keeping ws vs p v k → slice_index ws k < 18446744073709551616 → (row v.rows k).phase ≡ Condemned
     → Leads p (Revive k) (set ws k (bit_and (slice_index ws k) 18446744072635809791)) (set vs 0 (Keeper (with_row k (in_phase Live (row v.rows k)) v)))
@@ -173,11 +172,8 @@ revives {ws} {vs} {p} {v} {k} c fits dead =
       can,
       by_keeper c (bit_and n 18446744072635809791) (slice_index v.bounds k) (with_row k (in_phase Live (row v.rows k)) v) (after p (Revive k))
           (ap (λ rs. set rs k (in_phase Live (row rs k))) c.rows) (bound_kept v k) (λ f. refl) (state_after p (Revive k) can c.agrees.state)
-          (row_changed p k (bit_and n 18446744072635809791) (slice_index v.bounds k) r c.within made c.finds.within (limit c)),
+          (row_changed p k (bit_and n 18446744072635809791) (slice_index v.bounds k) r c.within made c.finds.within c.limit),
     )
-  where
-    limit : Keeping ws vs p v k → slice_index v.bounds k ≤ most_weight
-    limit c = subst (λ (x : Kept). slice_index x.bounds k ≤ most_weight) c.same (c.agrees.limits k c.within)
 
 -- ---- Reclaim
 

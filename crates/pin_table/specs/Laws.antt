@@ -1,4 +1,4 @@
--- Each kind of step of a pin table is its event of the pin world. The names of pins are chosen with each event.
+-- Each kind of step of a pin table is its event of the pin world, and what that says of the words at any moment. The names of pins are chosen with each event.
 use Rattle.std.specs.Prelude.{◌≡◌, ◌≢◌, ℕ, ◌+◌, ◌-◌, ◌%◌, ◌^◌, ◌<◌, ◌≤◌, ◌⊎◌, List, [], ◌∷◌, ◌++◌, length, replicate, slice_set, slice_index, Some, None, bit_or, bit_and}
 use mathlib.Core.Option.{some}
 use lib.ListN.{get_elem?}
@@ -7,12 +7,13 @@ use Rattle.pin_core.specs.declared.world.Phase.TheVariants.{Free, Live, Condemne
 use Rattle.pin_core.specs.declared.world.Hold.{Hold}
 use Rattle.pin_core.specs.declared.event.Event.{Event}
 use Rattle.pin_core.specs.declared.event.Event.TheVariants.{Give, Lend, Share, Leave, Condemn, Revive, Reclaim, Look, Verify}
-use Rattle.pin_core.specs.World.{PinWorld, hold_named, opening, row, row_word, word_of, most_weight, used_bit, condemned_bit}
-use Rattle.pin_core.specs.Events.{Can, after, IsNew, new_weight, reclaimed_row}
+use Rattle.pin_core.specs.World.{PinWorld, Keeps, hold_named, opening, row, row_word, word_of, most_weight, used_bit, condemned_bit}
+use Rattle.pin_core.specs.Events.{Can, after, Happens, after_all, IsNew, new_weight, reclaimed_row}
+use Rattle.pin_core.specs.Laws.{Reclaims}
 use Rattle.pin_table.specs.declared.view.Kept.{Kept}
 use Rattle.pin_table.specs.declared.view.View.{View}
 use Rattle.pin_table.specs.declared.view.View.TheVariants.{Keeper, Pin, Spent}
-use Rattle.pin_table.specs.Rule.{Agrees, opening_view}
+use Rattle.pin_table.specs.Rule.{Agrees, Ruled, opening_view}
 use Rattle.pin_table.specs.Plays.{Move, Seated, looked, gave, lent, left, condemned, revived, reclaimed, empty_handed, handed, halved, taken_in}
 
 -- words and seats agree with the world, and the seat id has the view u
@@ -110,3 +111,19 @@ pub record StepsAreEvents : Type 0 where
   pub revive : (words : List ℕ) (views : List View) (p : PinWorld) → ReviveLaw words views p
   pub share : (words : List ℕ) (views : List View) (p : PinWorld) → ShareLaw words views p
   pub verify : (words : List ℕ) (views : List View) (p : PinWorld) → VerifyLaw words views p
+
+-- ---- what the rule says at any moment
+
+-- Of words and views under the rule, from n free slots of generation g: the law of the core holds of the events that led there; and the slot of each pin that a seat has is used and its own by the keeper's rows, and its word counts the pin.
+pub record Running (n g : ℕ) (words : List ℕ) (views : List View) : Type 0 where
+  pub events : List Event
+  pub happen : Happens (opening n g) events
+  pub reclaims : Reclaims (opening n g) events
+  pub agrees : Agrees words views (after_all (opening n g) events)
+  pub keeps : (v : Kept) (id : ℕ) (h : Hold) → get_elem? views 0 ≡ some (Keeper v) → get_elem? views id ≡ some (Pin h) → Keeps v.rows h
+  pub counts : (v : Kept) (id : ℕ) (h : Hold) → get_elem? views 0 ≡ some (Keeper v) → get_elem? views id ≡ some (Pin h)
+      → (weight : ℕ) × (slice_index words h.slot ≡ row_word (row v.rows h.slot) weight) × (h.weight ≤ weight) × (weight ≤ most_weight)
+
+-- At every moment, over every interleaving of the steps of any seats.
+abbrev pub RunningWords : Type 0
+RunningWords = (n g : ℕ) (words : List ℕ) (views : List View) → Ruled n g words views → Running n g words views

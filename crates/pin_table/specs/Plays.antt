@@ -92,12 +92,12 @@ abbrev pub empty_handed : View → View
 empty_handed (Keeper v) = Keeper (with_hand None v)
 empty_handed u = u
 
-abbrev pub seated : Option Hold → View
-seated None = Spent
-seated (Some h) = Pin h
+abbrev pub own_seat : Option Hold → View
+own_seat None = Spent
+own_seat (Some h) = Pin h
 
 abbrev pub handed : View → View
-handed (Keeper v) = seated v.hand
+handed (Keeper v) = own_seat v.hand
 handed u = Spent
 
 -- a pin becomes two of half its weight

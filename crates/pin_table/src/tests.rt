@@ -12,7 +12,10 @@ const OBJ: &[u8] = b"{}";
 fn the_number_of_slots_has_limits(rt: HostRuntime) {
     let alloc = rt.alloc();
     assert_eq!(rt; Pins::new(alloc, 0, 0).err(), Some(Refusal::LimitReached));
-    assert_eq!(rt; Pins::new(alloc, 65_537, 0).err(), Some(Refusal::LimitReached));
+    assert_eq!(rt;
+        Pins::new(alloc, 65_537, 0).err(),
+        Some(Refusal::LimitReached)
+    );
     let (pins, mut keeper) = Pins::new(alloc, 65_536, 9).expect(&rt, "memory");
     assert_eq!(rt; keeper.generation(65_535), 9);
     assert_eq!(rt; keeper.phase(65_535), Phase::Free);
@@ -38,7 +41,10 @@ fn the_words_of_one_slot(rt: HostRuntime) {
     pins.condemn(&mut keeper, 0);
     assert_eq!(rt; keeper.phase(0), Phase::Condemned);
     assert_eq!(rt; pins.look(&mut keeper, 0), 0x0000_0000_c000_0400);
-    assert_eq!(rt; pins.reclaim(&mut keeper, 0), Reclaim::Held { weight: 1024 });
+    assert_eq!(rt;
+        pins.reclaim(&mut keeper, 0),
+        Reclaim::Held { weight: 1024 }
+    );
     pins.leave(pin);
     assert_eq!(rt; pins.look(&mut keeper, 0), 0x0000_0000_c000_0000);
     assert_eq!(rt; pins.reclaim(&mut keeper, 0), Reclaim::Freed);
@@ -54,7 +60,10 @@ fn a_condemned_slot_is_revived_under_its_pin(rt: HostRuntime) {
     pins.give(&mut keeper, 0, digest_of(ABC));
     let pin = pins.lend(&mut keeper, 0).expect(&rt, "room");
     pins.condemn(&mut keeper, 0);
-    assert_eq!(rt; pins.reclaim(&mut keeper, 0), Reclaim::Held { weight: 1024 });
+    assert_eq!(rt;
+        pins.reclaim(&mut keeper, 0),
+        Reclaim::Held { weight: 1024 }
+    );
     pins.revive(&mut keeper, 0);
     assert_eq!(rt; keeper.phase(0), Phase::Live);
     assert_eq!(rt; pins.look(&mut keeper, 0), 0x0000_0000_8000_0400);
@@ -80,6 +89,7 @@ fn a_slot_that_was_never_lent_is_never_held(rt: HostRuntime) {
     assert_eq!(rt; keeper.digest(0), None);
     assert_eq!(rt; pins.look(&mut keeper, 0), 0xffff_ffff_4000_0000);
     laws::steps();
+    laws::running_words();
 }
 
 #[test]

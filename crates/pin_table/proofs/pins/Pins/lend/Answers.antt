@@ -3,7 +3,7 @@ use Rattle.std.proofs.lemmas.List.{set-set}
 use Rattle.pin_core.specs.World.{row}
 use Rattle.pin_core.specs.Events.{new_weight}
 use Rattle.pin_table.specs.Calls.{KeeperValue, bounded, lent_pin}
-use Rattle.pin_table.proofs.Seats.{one_sum}
+use Rattle.pin_table.proofs.Bits.{one_sum}
 use Rattle.pin_table.proofs.pins.Pins.lend.Goals as goal
 
 pub returns : goal.returns

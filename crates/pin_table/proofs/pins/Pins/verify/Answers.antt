@@ -6,7 +6,8 @@ use Rattle.pin_core.specs.World.{Keeps, row}
 use Rattle.pin_table.specs.Rule.{kept}
 use Rattle.pin_table.specs.Plays.{taken_in}
 use Rattle.pin_table.specs.declared.view.View.TheVariants.{Keeper}
-use Rattle.pin_table.proofs.Seats.{keeper_is, verified, one_sum}
+use Rattle.pin_table.proofs.Seats.{keeper_is, verified}
+use Rattle.pin_table.proofs.Bits.{one_sum}
 use Rattle.pin_table.proofs.Told.{looked_at}
 use Rattle.pin_table.proofs.Allowed.{look_allowed, hand_allowed, verify_allowed}
 use Rattle.pin_table.proofs.pins.Pins.verify.Goals as goal
