@@ -1,28 +1,28 @@
 -- What the table asks of each step: that the rule is kept, whatever the table is when the word changes.
-use Rattle.std.proofs.Common.{◌≡◌, ◌≢◌, ◌⊎◌, ℕ, ◌+◌, ◌-◌, ◌%◌, ◌≤◌, ◌<◌, List, [], ◌∷◌, ◌++◌, length, set, replicate, Some, None, inl, inr, refl, sym, ap, ◌∙◌, subst, arith}
+use Rattle.std.proofs.Common.{◌≡◌, ℕ, ◌+◌, ◌-◌, ◌%◌, ◌≤◌, ◌<◌, List, [], ◌∷◌, ◌++◌, length, set, replicate, Some, None, inl, inr, refl, sym, ap, subst, arith}
 use Rattle.std.specs.Prelude.{slice_index, slice_set, bit_or, bit_and, ◌==◌}
 use mathlib.Core.Option.{some, none}
 use lib.ListN.{get_elem?}
 use prog.Atomic.{either}
-use Rattle.atomic_table.specs.Table.{State, Me, Step, step, keeps, Allows, Splits, Joins}
+use Rattle.atomic_table.specs.Table.{State, Me, step, keeps, Allows, Splits, Joins}
 use Rattle.atomic_table.proofs.Lists.{exchanged}
 use Rattle.blob_digest.specs.Keys.{Text}
 use Rattle.pin_core.specs.declared.world.Phase.TheVariants.{Free, Live, Condemned}
 use Rattle.pin_core.specs.declared.world.Hold.{Hold}
 use Rattle.pin_core.specs.declared.event.Event.{Event}
 use Rattle.pin_core.specs.declared.event.Event.TheVariants.{Give, Lend, Leave, Share, Condemn, Revive, Reclaim, Look, Verify}
-use Rattle.pin_core.specs.World.{PinWorld, Keeps, holds_of, weight_on, row, row_word, word_of, most_weight, opening}
+use Rattle.pin_core.specs.World.{PinWorld, holds_of, weight_on, row, row_word, word_of, most_weight, opening}
 use Rattle.pin_core.specs.Events.{IsNew, new_weight, reclaimed_row, after_all, in_phase, given_row, lent_hold}
 use Rattle.pin_table.specs.declared.view.Kept.{Kept}
 use Rattle.pin_table.specs.declared.view.View.{View}
 use Rattle.pin_table.specs.declared.view.View.TheVariants.{Keeper, Pin, Left, Spent}
 use Rattle.pin_table.specs.Rule.{Ruled, Agrees, opening_view}
-use Rattle.pin_table.specs.Plays.{Finds, HandKept, with_bound, with_row, with_hand, looked, gave, lent, left, condemned, revived, reclaimed, empty_handed, handed, halved, weightless, taken_in}
+use Rattle.pin_table.specs.Plays.{with_bound, with_row, with_hand, looked, gave, lent, left, condemned, revived, reclaimed, empty_handed, handed, halved, weightless, taken_in}
 use Rattle.pin_table.specs.Laws.{Leads}
 use Rattle.pin_table.proofs.Names.{fresh}
 use Rattle.pin_table.proofs.Agreement.{advanced, is_keeper}
 use Rattle.pin_table.proofs.Steps.{Keeping, keeping, hand_kept, looks, gives, lends, condemns, revives, reclaims}
-use Rattle.pin_table.proofs.Guests.{Pinned, pinned, leaves, shares, hands_out, takes_in, opens}
+use Rattle.pin_table.proofs.Guests.{pinned, leaves, shares, hands_out, takes_in, opens}
 
 -- the rule, of a table of m slots that began in the generation g
 abbrev pub holds : ℕ → ℕ → State (Unit {0}) View → Type 0

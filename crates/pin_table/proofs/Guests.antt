@@ -1,5 +1,5 @@
 -- The steps of pins' seats, the splits and joins of seats, and a new table.
-use Rattle.std.proofs.Common.{◌≡◌, ◌≢◌, ℕ, zero, suc, ◌+◌, ◌-◌, ◌*◌, ◌%◌, ◌^◌, ◌≤◌, ◌<◌, List, [], ◌∷◌, ◌++◌, length, set, sum_by, replicate, is_some, Option, Some, None, refl, sym, ap, ◌∙◌, subst, arith, pow_mono}
+use Rattle.std.proofs.Common.{◌≡◌, ℕ, zero, suc, ◌+◌, ◌-◌, ◌*◌, ◌%◌, ◌^◌, ◌≤◌, ◌<◌, List, [], ◌∷◌, ◌++◌, length, set, sum_by, replicate, is_some, Option, Some, None, refl, sym, ap, ◌∙◌, subst, arith, pow_mono}
 use Rattle.std.specs.Prelude.{slice_index}
 use Rattle.std.specs.Option.{IsSomeAnd}
 use Rattle.std.proofs.lemmas.List.{length-replicate, get_or-replicate, set-get_or}
@@ -25,7 +25,7 @@ use Rattle.pin_table.specs.Laws.{Leads}
 use Rattle.pin_table.proofs.Orders.{one, one_self, permutes}
 use Rattle.pin_table.proofs.Names.{fresh, unnamed, name_of, left_sum, shared_sums}
 use Rattle.pin_table.proofs.Holds.{sum_set, sum_push, sum_one, sum_at, all_counted, weight_same, weight_apart}
-use Rattle.pin_table.proofs.Agreement.{is_keeper, sums, Change, changed, pins_changed, regrouped}
+use Rattle.pin_table.proofs.Agreement.{is_keeper, sums, changed, pins_changed, regrouped}
 
 -- what is known where the seat id has the pin h: its place among the others, and its name
 pub record Pinned (ws : List ℕ) (vs : List View) (p : PinWorld) (id : ℕ) (h : Hold) : Type 0 where

@@ -1,5 +1,5 @@
 -- The sums over the pins of the seats, after one seat's view has changed; and what a sum of weights says.
-use Rattle.std.proofs.Common.{◌≡◌, ◌≢◌, ℕ, zero, suc, ◌+◌, ◌^◌, ◌≤◌, ◌<◌, List, [], ◌∷◌, ◌++◌, set, map, cond, sum_by, refl, sym, ap, ◌∙◌, subst, arith, eq-eqb, ne_eqb, append-nil, pow_pos}
+use Rattle.std.proofs.Common.{◌≡◌, ◌≢◌, ℕ, zero, suc, ◌+◌, ◌≤◌, ◌<◌, List, [], ◌∷◌, ◌++◌, set, map, cond, sum_by, refl, sym, ap, subst, arith, eq-eqb, ne_eqb, append-nil, pow_pos}
 use Rattle.std.specs.List.{All}
 use Rattle.std.proofs.lemmas.List.Elements.{All-cons, All-nil, All-head, All-tail}
 use Rattle.std.proofs.lemmas.List.Sums.{sum_by-cons, sum_by-append}

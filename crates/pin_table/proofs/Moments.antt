@@ -1,5 +1,5 @@
 -- What the rule says at any moment.
-use Rattle.std.proofs.Common.{◌≡◌, ℕ, ◌+◌, ◌≤◌, List, sym, ap, ◌∙◌, subst, arith}
+use Rattle.std.proofs.Common.{◌≡◌, ℕ, ◌≤◌, List, ap, ◌∙◌, subst, arith}
 use Rattle.std.specs.Prelude.{slice_index}
 use mathlib.Core.Option.{some}
 use lib.ListN.{get_elem?}
@@ -10,8 +10,8 @@ use Rattle.pin_core.proofs.Spans.{reclamation}
 use Rattle.pin_table.specs.declared.view.Kept.{Kept}
 use Rattle.pin_table.specs.declared.view.View.{View}
 use Rattle.pin_table.specs.declared.view.View.TheVariants.{Keeper, Pin}
-use Rattle.pin_table.specs.Rule.{Agrees, Ruled}
-use Rattle.pin_table.specs.Laws.{Running, RunningWords}
+use Rattle.pin_table.specs.Rule.{Agrees}
+use Rattle.pin_table.specs.Laws.{RunningWords}
 use Rattle.pin_table.proofs.Holds.{sum_at, weight_same}
 use Rattle.pin_table.proofs.Agreement.{is_keeper}
 use Rattle.pin_table.proofs.Guests.{pinned, seat_sums}

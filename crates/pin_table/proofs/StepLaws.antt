@@ -1,15 +1,13 @@
 -- Each kind of step is its event: by what the step tells its seat.
-use Rattle.std.proofs.Common.{◌≡◌, ◌≢◌, ℕ, ◌+◌, ◌-◌, ◌%◌, ◌^◌, ◌<◌, ◌⊎◌, List, [], ◌∷◌, length, set, inl, inr, refl, sym, ap, ◌∙◌, subst, arith}
+use Rattle.std.proofs.Common.{◌≡◌, ℕ, ◌+◌, ◌-◌, ◌%◌, ◌<◌, List, [], set, inl, inr, refl, sym, ap, ◌∙◌, subst, arith}
 use Rattle.std.specs.Prelude.{slice_index, bit_or, bit_and}
 use Rattle.std.proofs.lemmas.List.{set-get_or}
-use Rattle.pin_core.specs.declared.world.PinRow.{PinRow}
 use Rattle.pin_core.specs.declared.event.Event.{Event}
 use Rattle.pin_core.specs.declared.event.Event.TheVariants.{Give, Lend, Leave, Condemn, Revive, Reclaim, Look}
-use Rattle.pin_core.specs.World.{PinWorld, holds_of, row, row_word, weight_on}
+use Rattle.pin_core.specs.World.{PinWorld, holds_of, row, weight_on}
 use Rattle.pin_table.specs.declared.view.Kept.{Kept}
 use Rattle.pin_table.specs.declared.view.View.{View}
 use Rattle.pin_table.specs.declared.view.View.TheVariants.{Keeper}
-use Rattle.pin_table.specs.Rule.{Agrees}
 use Rattle.pin_table.specs.Plays.{Finds, Seated, with_bound}
 use Rattle.pin_table.specs.Laws.{Before, Leads, IsWord, LookLaw, GiveLaw, LendLaw, HandLaw, LeaveLaw, CondemnLaw, ReviveLaw, ReclaimLaw, ShareLaw, VerifyLaw, StepsAreEvents}
 use Rattle.pin_table.proofs.Bits.{one_sum}

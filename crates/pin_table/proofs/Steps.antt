@@ -1,5 +1,5 @@
 -- Each kind of step of the keeper's seat: from a world with which words and seats agree, to the world after its event.
-use Rattle.std.proofs.Common.{◌≡◌, ◌≢◌, ℕ, ◌+◌, ◌*◌, ◌%◌, ◌≤◌, ◌<◌, List, [], ◌∷◌, ◌++◌, length, set, sum_by, Option, Some, None, refl, sym, ap, ◌∙◌, subst, arith}
+use Rattle.std.proofs.Common.{◌≡◌, ℕ, ◌+◌, ◌*◌, ◌%◌, ◌≤◌, ◌<◌, List, [], ◌∷◌, ◌++◌, length, set, sum_by, Option, Some, None, refl, sym, ap, ◌∙◌, subst, arith}
 use Rattle.std.specs.Prelude.{slice_index, bit_or, bit_and}
 use Rattle.std.proofs.lemmas.List.{set-get_or}
 use Rattle.std.proofs.lemmas.List.Sums.{sum_by-append}
@@ -8,16 +8,15 @@ use lib.ListN.{get_elem?}
 use Rattle.blob_digest.specs.Keys.{Text}
 use Rattle.pin_core.specs.declared.world.Phase.{Phase}
 use Rattle.pin_core.specs.declared.world.Phase.TheVariants.{Free, Live, Condemned}
-use Rattle.pin_core.specs.declared.world.PinRow.{PinRow}
 use Rattle.pin_core.specs.declared.world.Hold.{Hold}
 use Rattle.pin_core.specs.declared.event.Event.TheVariants.{Give, Lend, Condemn, Revive, Reclaim, Look}
-use Rattle.pin_core.specs.World.{PinWorld, IsUsed, IsState, Keeps, holds_of, weight_at, weight_on, row, row_word, word, word_of, most_weight}
-use Rattle.pin_core.specs.Events.{Can, after, IsNew, new_weight, given_row, in_phase, reclaimed_row, lent_hold, entry}
+use Rattle.pin_core.specs.World.{PinWorld, IsUsed, IsState, Keeps, holds_of, weight_at, weight_on, row, row_word, word_of, most_weight}
+use Rattle.pin_core.specs.Events.{Can, after, IsNew, new_weight, given_row, in_phase, reclaimed_row, lent_hold}
 use Rattle.pin_core.proofs.Held.{state_after, unused}
 use Rattle.pin_table.specs.declared.view.Kept.{Kept}
 use Rattle.pin_table.specs.declared.view.View.{View}
 use Rattle.pin_table.specs.declared.view.View.TheVariants.{Keeper}
-use Rattle.pin_table.specs.Rule.{Agrees, all_holds, in_hand, kept}
+use Rattle.pin_table.specs.Rule.{Agrees, all_holds, in_hand}
 use Rattle.pin_table.specs.Plays.{Finds, HandKept, with_bound, with_row, with_hand}
 use Rattle.pin_table.specs.Laws.{Leads}
 use Rattle.pin_table.proofs.Bits.{set_used, set_condemned, clear_condemned}

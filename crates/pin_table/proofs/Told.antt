@@ -1,13 +1,10 @@
 -- What a step told its seat, where the seat before it is known.
-use Rattle.std.proofs.Common.{◌≡◌, ℕ, ◌+◌, List, [], Some, None, subst}
+use Rattle.std.proofs.Common.{◌≡◌, ℕ, ◌+◌, [], Some, subst}
 use Rattle.std.specs.Prelude.{slice_index}
-use Rattle.pin_core.specs.declared.world.PinRow.{PinRow}
-use Rattle.pin_core.specs.declared.world.Hold.{Hold}
-use Rattle.pin_core.specs.World.{Keeps, row}
+use Rattle.pin_core.specs.World.{row}
 use Rattle.pin_core.specs.Events.{new_weight, lent_hold}
 use Rattle.pin_table.specs.declared.view.Kept.{Kept}
 use Rattle.pin_table.specs.declared.view.View.TheVariants.{Keeper}
-use Rattle.pin_table.specs.Rule.{kept}
 use Rattle.pin_table.specs.Plays.{Move, Seated, Finds, HandKept, with_bound, with_hand, looked, lent}
 
 -- the keeper found this sum, and the pin in its hand is kept

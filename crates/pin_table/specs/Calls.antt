@@ -1,7 +1,6 @@
 -- What contracts see of the keeper and of a pin, and what the calls change.
 use Rattle.std.specs.Prelude.{◌≡◌, ℕ, ◌+◌, ◌<◌, ◌≤◌, replicate, List, slice_set, slice_index, Some}
 use Rattle.atomic_table.specs.Seated.{TableId}
-use Rattle.blob_digest.specs.Keys.{Text}
 use Rattle.pin_core.specs.declared.world.PinRow.{PinRow}
 use Rattle.pin_core.specs.declared.world.Hold.{Hold}
 use Rattle.pin_core.specs.World.{Keeps, row, row_word, opening, most_weight}

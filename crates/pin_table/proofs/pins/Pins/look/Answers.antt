@@ -1,4 +1,4 @@
-use Rattle.std.proofs.Common.{None, sym, refl, ◌∙◌}
+use Rattle.std.proofs.Common.{None, sym, ◌∙◌}
 use Rattle.pin_table.specs.Rule.{kept}
 use Rattle.pin_table.proofs.Seats.{sits}
 use Rattle.pin_table.proofs.Allowed.{look_allowed}
