@@ -116,7 +116,7 @@ none_halved m (x ∷ es) n e = by_name (x.name == n) refl e (none_halved m es n)
 -- ---- names of their own
 
 -- a pin that isn't there isn't there behind another name
-none_push : (es : List PinEntry) (a n : ℕ) (h : Hold) → hold_named a es ≡ None → n ≢ a → hold_named a (es ++ entry n h ∷ []) ≡ None
+pub none_push : (es : List PinEntry) (a n : ℕ) (h : Hold) → hold_named a es ≡ None → n ≢ a → hold_named a (es ++ entry n h ∷ []) ≡ None
 none_push [] a n h e ne = ap (λ b. cond b (Some h) None) (ne_eqb n a ne)
 none_push (x ∷ es) a n h e ne = by_name (x.name == a) e (λ f. none_push es a n h f ne)
   where
@@ -183,7 +183,7 @@ clear_holds k (x ∷ es) a = All-cons (λ h. h.slot ≢ k) x.hold (map hold_in e
 -- ---- a pin goes
 
 -- a pin that isn't there is none of them
-none_any : (es : List PinEntry) (n : ℕ) → hold_named n es ≡ None → list_any (λ e. e.name == n) es ≡ false
+pub none_any : (es : List PinEntry) (n : ℕ) → hold_named n es ≡ None → list_any (λ e. e.name == n) es ≡ false
 none_any [] n e = refl
 none_any (x ∷ es) n e = let c = none_cons x es n e in ap (λ b. b || list_any (λ y. y.name == n) es) (ne_eqb x.name n c.0) ∙ none_any es n c.1
 

@@ -1,10 +1,11 @@
 -- What a share keeps: the weights are powers of two, and their sum is the same.
-use Rattle.std.proofs.Common.{◌≡◌, ℕ, zero, suc, ◌+◌, ◌*◌, ◌/◌, ◌^◌, ◌≤◌, ◌<◌, List, [], ◌∷◌, ◌++◌, map, Bool, true, false, cond, Option, Some, None, refl, sym, ap, ◌∙◌, subst, ne_eqb, eqb-true, ◌⊎◌, inl, inr, arith}
+use Rattle.std.proofs.Common.{◌≡◌, ℕ, zero, suc, ◌+◌, ◌*◌, ◌/◌, ◌^◌, ◌≤◌, ◌<◌, List, [], ◌∷◌, ◌++◌, map, Bool, true, false, cond, Option, Some, None, refl, sym, ap, ◌∙◌, subst, ne_eqb, eqb-true, ◌⊎◌, inl, inr, sum_by, arith}
 use Rattle.std.specs.Prelude.{◌==◌}
 use Rattle.std.specs.List.{All}
 use Rattle.std.specs.Option.{IsSomeAnd}
 use Rattle.std.proofs.Math.Nat.{pow-suc}
 use Rattle.std.proofs.lemmas.List.Elements.{All-nil, All-cons, All-head, All-tail}
+use Rattle.std.proofs.lemmas.List.Sums.{sum_by-cons}
 use Rattle.pin_core.specs.declared.world.Hold.{Hold}
 use Rattle.pin_core.specs.declared.world.PinEntry.{PinEntry}
 use Rattle.pin_core.specs.World.{IsNamed, IsWeight, hold_named, weight_at}
@@ -35,7 +36,7 @@ none_halved_at_all n (x ∷ es) none =
     ap (λ b. cond b (entry x.name (half x.hold)) x ∷ map (halve n) es) (ne_eqb x.name n c.0) ∙ ap (λ l. x ∷ l) (none_halved_at_all n es c.1)
 
 -- the pin of the name is first, or it stands behind the first
-named_cases : (n : ℕ) (x : PinEntry) (es : List PinEntry) (h : Hold) → IsNamed (x ∷ es) → hold_named n (x ∷ es) ≡ Some h
+pub named_cases : (n : ℕ) (x : PinEntry) (es : List PinEntry) (h : Hold) → IsNamed (x ∷ es) → hold_named n (x ∷ es) ≡ Some h
     → (((x.name == n) ≡ true) × (x.hold ≡ h) × (map (halve n) es ≡ es)) ⊎ (((x.name == n) ≡ false) × (hold_named n es ≡ Some h))
 named_cases n x es h all there = by_name (x.name == n) refl there
   where
@@ -80,21 +81,21 @@ twice_at k h e = by_slot (h.slot == k)
     by_slot true = e
     by_slot false = omega arith
 
-halved_sum : (k n : ℕ) (es : List PinEntry) (h : Hold) → IsNamed es → hold_named n es ≡ Some h → h.weight / 2 + h.weight / 2 ≡ h.weight → sum_of k (map (halve n) es) + weight_at k (half h) ≡ sum_of k es
-halved_sum k n [] h all there e = absurd cc
-halved_sum k n (x ∷ es) h all there e = elim (named_cases n x es h all there) [
-  | inl f ↦
-      let a : sum_of k (map (halve n) (x ∷ es)) ≡ sum_of k (entry x.name (half x.hold) ∷ es) = ap (λ y. sum_of k (y ∷ map (halve n) es)) (halved_first n x f.0) ∙ ap (λ l. sum_of k (entry x.name (half x.hold) ∷ l)) f.2 in
-      let b = sum_of-cons k (entry x.name (half x.hold)) es in
-      let c = sum_of-cons k x es in
-      let d : weight_at k (half x.hold) ≡ weight_at k (half h) = ap (λ (g : Hold). weight_at k (half g)) f.1 in
-      let i : weight_at k x.hold ≡ weight_at k h = ap (λ (g : Hold). weight_at k g) f.1 in
-      let j = twice_at k h e in omega arith
+-- any sum over the pins, with one of them halved
+pub halved_sum : (f : Hold → ℕ) (n : ℕ) (es : List PinEntry) (h : Hold) → IsNamed es → hold_named n es ≡ Some h → sum_by f (map hold_in (map (halve n) es)) + f h ≡ sum_by f (map hold_in es) + f (half h)
+halved_sum f n [] h all there = absurd cc
+halved_sum f n (x ∷ es) h all there = elim (named_cases n x es h all there) [
+  | inl c ↦
+      let a : sum_by f (map hold_in (map (halve n) (x ∷ es))) ≡ sum_by f (half x.hold ∷ map hold_in es) = ap (λ y. sum_by f (map hold_in (y ∷ map (halve n) es))) (halved_first n x c.0) ∙ ap (λ l. sum_by f (half x.hold ∷ map hold_in l)) c.2 in
+      let b = sum_by-cons f (half x.hold) (map hold_in es) in
+      let e = sum_by-cons f x.hold (map hold_in es) in
+      let d : f (half x.hold) ≡ f (half h) = ap (λ (g : Hold). f (half g)) c.1 in
+      let i : f x.hold ≡ f h = ap f c.1 in omega arith
   | inr g ↦
-      let a : sum_of k (map (halve n) (x ∷ es)) ≡ sum_of k (x ∷ map (halve n) es) = ap (λ y. sum_of k (y ∷ map (halve n) es)) (halved_other n x g.0) in
-      let b = sum_of-cons k x (map (halve n) es) in
-      let c = sum_of-cons k x es in
-      let d = halved_sum k n es h all.1 g.1 e in omega arith
+      let a : sum_by f (map hold_in (map (halve n) (x ∷ es))) ≡ sum_by f (x.hold ∷ map hold_in (map (halve n) es)) = ap (λ y. sum_by f (map hold_in (y ∷ map (halve n) es))) (halved_other n x g.0) in
+      let b = sum_by-cons f x.hold (map hold_in (map (halve n) es)) in
+      let c = sum_by-cons f x.hold (map hold_in es) in
+      let d = halved_sum f n es h all.1 g.1 in omega arith
 ]
 
 -- the sums after a Share are those before it
@@ -105,4 +106,5 @@ shared_sum k n m es all big a =
     let i : sum_of k (map (halve n) es ++ second m (hold_named n es)) ≡ sum_of k (map (halve n) es ++ entry m (half s.0) ∷ []) = ap (λ o. sum_of k (map (halve n) es ++ second m o)) s.1 in
     let b = sum_of-append k (map (halve n) es) (entry m (half s.0) ∷ []) in
     let c = sum_of-cons k (entry m (half s.0)) [] in
-    let d = halved_sum k n es s.0 all s.1 e in omega arith
+    let d = halved_sum (weight_at k) n es s.0 all s.1 in
+    let t = twice_at k s.0 e in omega arith

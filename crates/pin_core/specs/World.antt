@@ -76,12 +76,19 @@ opening n g = record { rows = replicate n (record { generation = g; phase = Free
 
 -- ---- words
 
+-- the bit of a used slot, and the bit of a condemned or retired one
+abbrev pub used_bit : ℕ
+used_bit = 0x8000_0000
+
+abbrev pub condemned_bit : ℕ
+condemned_bit = 0x4000_0000
+
 -- bit 31 is set where the slot is used, bit 30 where it is condemned or retired
 abbrev pub phase_bits : Phase → ℕ
 phase_bits Free = 0
-phase_bits Live = 0x8000_0000
-phase_bits Condemned = 0xc000_0000
-phase_bits Retired = 0x4000_0000
+phase_bits Live = used_bit
+phase_bits Condemned = used_bit + condemned_bit
+phase_bits Retired = condemned_bit
 
 -- the word of a generation, a phase and a sum of weights
 abbrev pub word_of : ℕ → Phase → ℕ → ℕ

@@ -5,9 +5,10 @@ ghost use Rattle.pin_core.specs.Laws.{Reclamation, Packing};
 
 use crate::word::{WordRow, pack, unpack};
 
-/// Over every list of events from free slots on: after each event every pin's slot is used and has
-/// the pin's generation and digest, and no word's sum overflows; no slot is given while a pin is on
-/// it; a slot's generation never falls; and a slot is given at most once in a generation.
+/// Over every list of events from free slots on, and from any world that keeps what every state
+/// keeps: after each event every pin's slot is used and has the pin's generation and digest, and no
+/// word's sum overflows; no slot is given while a pin is on it; a slot's generation never falls; and
+/// a slot is given at most once in a generation.
 pub fn reclamation()
     ensures { Reclamation }
 {}

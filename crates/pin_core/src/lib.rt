@@ -17,9 +17,13 @@ mod word;
 mod world;
 
 pub use event::Event;
+pub use pins::halved;
+pub use rows::{given, in_phase, reclaimed};
 pub use state::PinState;
 pub use steps::{run, step};
-pub use word::{CONDEMNED, LAST_GENERATION, MOST_WEIGHT, NEW_WEIGHT, USED, WordRow, pack, unpack};
+pub use word::{
+    CONDEMNED, LAST_GENERATION, MOST_SLOTS, MOST_WEIGHT, NEW_WEIGHT, USED, WordRow, pack, unpack,
+};
 pub use world::{Hold, Phase, PinEntry, PinRow};
 
 #[cfg(test)]

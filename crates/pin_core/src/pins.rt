@@ -40,8 +40,8 @@ pub fn is_clear(pins: &[PinEntry], slot: u32) -> bool
 }
 
 /// Half of a pin.
-pub fn halved(hold: Hold) -> Hold
-    ensures { result ≡ half hold }
+pub fn halved(hold: &Hold) -> Hold
+    ensures { result ≡ half hold.now }
 {
     Hold {
         slot: hold.slot,
@@ -58,7 +58,7 @@ fn kept_half(entry: PinEntry, name: u64) -> PinEntry
     if entry.name == name {
         return PinEntry {
             name: entry.name,
-            hold: halved(entry.hold),
+            hold: halved(&entry.hold),
         };
     }
     entry

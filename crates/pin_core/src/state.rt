@@ -10,14 +10,11 @@ ghost use Rattle.pin_core.specs.declared.event.Event.TheVariants.{Give, Lend, Sh
 use crate::event::Event;
 use crate::pins::{drop_named, find, halve_named, halved, is_clear, sum_on};
 use crate::rows::{given, in_phase, is_new, reclaimed};
-use crate::word::{MOST_WEIGHT, NEW_WEIGHT, WordRow};
+use crate::word::{MOST_SLOTS, MOST_WEIGHT, NEW_WEIGHT, WordRow};
 use crate::world::{Hold, Phase, PinEntry, PinRow};
 use blob_digest::{Digest, Refusal};
 use std::alloc::Global;
 use std::marker::Model;
-
-/// The most slots of a state.
-const MOST_SLOTS: u32 = 65_536;
 
 /// Slots and the pins on them. Contracts see the pin world: its rows by slot number and its pins.
 #[derive(Drop)]
@@ -214,7 +211,7 @@ impl PinState {
         };
         self.pins.push(PinEntry {
             name: second,
-            hold: halved(hold),
+            hold: halved(&hold),
         })?;
         halve_named(&mut self.pins, pin);
         Ok(())
@@ -227,10 +224,11 @@ impl PinState {
         drop_named(&mut self.pins, pin);
     }
 
-    /// Makes an event that can happen.
+    /// Makes an event that can happen. Refused with `Memory` alone, and then the state is as it was.
     pub fn change(&mut self, event: &Event) -> Result<(), Refusal>
         requires { Can self.old event.now }
         ensures ok { OnOk result (self.new ≡ after self.old event.now) }
+        ensures err { OnErr result (self.new ≡ self.old) }
         ensures refused { IfErr result (λ e. e ≡ Memory) }
     {
         match *event {

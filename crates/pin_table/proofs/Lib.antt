@@ -1,0 +1,12 @@
+pub mod Orders
+pub mod Bits
+pub mod Names
+pub mod Holds
+pub mod Agreement
+pub mod Steps
+pub mod Guests
+pub mod StepLaws
+pub mod Allowed
+pub mod Seats
+pub mod Told
+pub mod Moments

@@ -1,0 +1,97 @@
+-- What contracts see of the keeper and of a pin, and what the calls change.
+use Rattle.std.specs.Prelude.{◌≡◌, ℕ, ◌+◌, ◌<◌, ◌≤◌, replicate, List, slice_set, slice_index, Some}
+use Rattle.atomic_table.specs.Seated.{TableId}
+use Rattle.pin_core.specs.declared.world.PinRow.{PinRow}
+use Rattle.pin_core.specs.declared.world.Hold.{Hold}
+use Rattle.pin_core.specs.World.{Keeps, row, row_word, opening, most_weight}
+use Rattle.pin_core.specs.Events.{new_weight, last_generation, reclaimed_row, lent_hold, half}
+use Rattle.pin_table.specs.declared.view.View.{View}
+use Rattle.pin_table.specs.declared.reclaim.Reclaim.{Reclaim}
+use Rattle.pin_table.specs.declared.reclaim.Reclaim.TheVariants.{Freed, Retired, Held}
+
+-- the keeper: its table, and by slot number the rows and the bounds on the sums of weights
+pub record KeeperValue : Type 0 where
+  pub table : TableId
+  pub rows : List PinRow
+  pub bounds : List ℕ
+
+-- a pin: its table, and what it holds
+pub record PinValue : Type 0 where
+  pub table : TableId
+  pub hold : Hold
+
+-- a seat: its table, and its view
+pub record SeatValue : Type 0 where
+  pub table : TableId
+  pub view : View
+
+abbrev pub seat_value : TableId → View → SeatValue
+seat_value t u = record { table = t; view = u }
+
+-- the keeper of n free slots of generation g
+abbrev pub opened : TableId → ℕ → ℕ → KeeperValue
+opened t n g = record { table = t; rows = (opening n g).rows; bounds = replicate n 0 }
+
+-- the keeper with another row and bound for the slot k
+abbrev pub with_both : ℕ → PinRow → ℕ → KeeperValue → KeeperValue
+with_both k r b s = record { table = s.table; rows = slice_set s.rows k r; bounds = slice_set s.bounds k b }
+
+-- the keeper with another row for the slot k
+abbrev pub rowed : ℕ → PinRow → KeeperValue → KeeperValue
+rowed k r s = record { table = s.table; rows = slice_set s.rows k r; bounds = s.bounds }
+
+-- the keeper with another bound for the slot k
+abbrev pub bounded : ℕ → ℕ → KeeperValue → KeeperValue
+bounded k b s = record { table = s.table; rows = s.rows; bounds = slice_set s.bounds k b }
+
+-- the word n of the slot k was read: its row's, with a sum within the bound, which the bound becomes
+pub record Looked (k n : ℕ) (s t : KeeperValue) : Type 0 where
+  pub weight : ℕ
+  pub word : n ≡ row_word (row s.rows k) weight
+  pub within : weight ≤ slice_index s.bounds k
+  pub fits : weight ≤ most_weight
+  pub after : t ≡ bounded k weight s
+  pub bound : slice_index t.bounds k ≡ weight
+
+-- a new pin on the slot k
+abbrev pub lent_pin : ℕ → KeeperValue → PinValue
+lent_pin k s = record { table = s.table; hold = lent_hold k (row s.rows k) }
+
+-- a sum was found on the slot k, within the bound, and a pin with the row's generation and digest was lent beside it
+pub record Lent (k : ℕ) (s t : KeeperValue) (p : PinValue) : Type 0 where
+  pub weight : ℕ
+  pub within : weight ≤ slice_index s.bounds k
+  pub room : weight + new_weight ≤ most_weight
+  pub after : t ≡ bounded k (weight + new_weight) s
+  pub pin : p ≡ lent_pin k s
+  pub digest : (row s.rows k).digest ≡ Some p.hold.digest
+
+-- the sum that was found on the slot k, within the bound, leaves no room for a pin
+pub record Crowded (k : ℕ) (s t : KeeperValue) : Type 0 where
+  pub weight : ℕ
+  pub within : weight ≤ slice_index s.bounds k
+  pub full : most_weight < weight + new_weight
+  pub after : t ≡ bounded k weight s
+
+-- the slot k is free in the next generation, or retired in the last, or held by pins of this sum
+abbrev pub Reclaims : ℕ → KeeperValue → KeeperValue → Reclaim → Type 0
+Reclaims k s t Freed = ((row s.rows k).generation < last_generation) × (t ≡ with_both k (reclaimed_row (row s.rows k)) 0 s)
+Reclaims k s t Retired = ((row s.rows k).generation ≡ last_generation) × (t ≡ with_both k (reclaimed_row (row s.rows k)) 0 s)
+Reclaims k s t (Held weight) = (0 < weight) × (weight ≤ slice_index s.bounds k) × (t ≡ bounded k weight s)
+
+-- the answer isn't that pins hold the slot
+abbrev pub IsUnheld : Reclaim → Type 0
+IsUnheld Freed = Unit {0}
+IsUnheld Retired = Unit {0}
+IsUnheld (Held weight) = ⊥
+
+-- a pin of half the weight
+abbrev pub halved_pin : PinValue → PinValue
+halved_pin p = record { table = p.table; hold = half p.hold }
+
+-- the pin's slot is used and its own, and the sum found there is within the bound, which it becomes
+pub record Verified (h : Hold) (s t : KeeperValue) : Type 0 where
+  pub keeps : Keeps s.rows h
+  pub weight : ℕ
+  pub within : weight ≤ slice_index s.bounds h.slot
+  pub after : t ≡ bounded h.slot weight s

@@ -1,0 +1,117 @@
+-- What each kind of step finds, and what the seat knows after it.
+use Rattle.std.specs.Prelude.{◌≡◌, ◌≢◌, ℕ, ◌+◌, ◌≤◌, ◌⊎◌, List, slice_set, slice_index, Option, Some, None}
+use Rattle.atomic_table.specs.Table.{Me, Step}
+use Rattle.blob_digest.specs.Keys.{Text}
+use Rattle.pin_core.specs.declared.world.Phase.TheVariants.{Live, Condemned}
+use Rattle.pin_core.specs.declared.world.PinRow.{PinRow}
+use Rattle.pin_core.specs.declared.world.Hold.{Hold}
+use Rattle.pin_core.specs.World.{Keeps, row, row_word, most_weight}
+use Rattle.pin_core.specs.Events.{new_weight, given_row, in_phase, reclaimed_row, lent_hold, half}
+use Rattle.pin_table.specs.declared.view.Kept.{Kept}
+use Rattle.pin_table.specs.declared.view.View.{View}
+use Rattle.pin_table.specs.declared.view.View.TheVariants.{Keeper, Pin, Left, Spent}
+use Rattle.pin_table.specs.Rule.{kept}
+
+-- a seat: its view; no seat of a pin table holds a slot of memory
+abbrev pub Seated : Type 0
+Seated = Me (Unit {0}) View
+
+-- the step's word and operands
+abbrev pub Move : Type 0
+Move = Step (Unit {0})
+
+-- what the keeper knows, with another bound or another row for the slot k
+abbrev pub with_bound : ℕ → ℕ → Kept → Kept
+with_bound k b v = kept v.rows (slice_set v.bounds k b) v.hand
+
+abbrev pub with_row : ℕ → PinRow → Kept → Kept
+with_row k r v = kept (slice_set v.rows k r) v.bounds v.hand
+
+-- the same with this hand
+abbrev pub with_hand : Option Hold → Kept → Kept
+with_hand hand v = kept v.rows v.bounds hand
+
+-- the keeper found the word n of the slot k: its row's, with this sum, which is within the bound
+pub record Finds (k n : ℕ) (v : Kept) (weight : ℕ) : Type 0 where
+  pub word : n ≡ row_word (row v.rows k) weight
+  pub within : weight ≤ slice_index v.bounds k
+  pub fits : weight ≤ most_weight
+
+-- the slot of the pin in the hand is used, and has the pin's generation and digest
+abbrev pub HandKept : List PinRow → Option Hold → Type 0
+HandKept rows None = Unit {0}
+HandKept rows (Some h) = Keeps rows h
+
+-- ---- steps on a word
+
+-- the keeper looked: the bound is the sum that it found
+abbrev pub looked : Move → Seated → ℕ → Seated → Type 0
+looked s (Keeper v, c) n me = (weight : ℕ) × Finds s.word n v weight × HandKept v.rows v.hand × (me ≡ (Keeper (with_bound s.word weight v), c))
+looked s (u, c) n me = me ≡ (u, c)
+
+-- the keeper gave the slot this digest
+abbrev pub gave : Text → Move → Seated → ℕ → Seated → Type 0
+gave d s (Keeper v, c) n me = me ≡ (Keeper (with_bound s.word 0 (with_row s.word (given_row d (row v.rows s.word)) v)), c)
+gave d s (u, c) n me = me ≡ (u, c)
+
+-- the keeper has a new pin in its hand, and the bound is higher by the pin's weight
+abbrev pub lent : Move → Seated → ℕ → Seated → Type 0
+lent s (Keeper v, c) n me = me ≡ (Keeper (with_hand (Some (lent_hold s.word (row v.rows s.word))) (with_bound s.word (slice_index v.bounds s.word + new_weight) v)), c)
+lent s (u, c) n me = me ≡ (u, c)
+
+-- the same pin with no weight
+abbrev pub weightless : Hold → Hold
+weightless h = record { slot = h.slot; generation = h.generation; digest = h.digest; weight = 0 }
+
+-- the pin was left
+abbrev pub left : Move → Seated → ℕ → Seated → Type 0
+left s (Pin h, c) n me = me ≡ (Left (weightless h), c)
+left s (u, c) n me = me ≡ (u, c)
+
+-- the keeper condemned the slot
+abbrev pub condemned : Move → Seated → ℕ → Seated → Type 0
+condemned s (Keeper v, c) n me = me ≡ (Keeper (with_row s.word (in_phase Condemned (row v.rows s.word)) v), c)
+condemned s (u, c) n me = me ≡ (u, c)
+
+-- the keeper made the slot live again
+abbrev pub revived : Move → Seated → ℕ → Seated → Type 0
+revived s (Keeper v, c) n me = me ≡ (Keeper (with_row s.word (in_phase Live (row v.rows s.word)) v), c)
+revived s (u, c) n me = me ≡ (u, c)
+
+-- where the word was the one expected the slot is reclaimed, and else the keeper looked
+abbrev pub reclaimed : Move → Seated → ℕ → Seated → Type 0
+reclaimed s (Keeper v, c) n me =
+    ((n ≡ s.first) × (me ≡ (Keeper (with_bound s.word 0 (with_row s.word (reclaimed_row (row v.rows s.word)) v)), c)))
+    ⊎ ((n ≢ s.first) × ((weight : ℕ) × Finds s.word n v weight × (me ≡ (Keeper (with_bound s.word weight v), c))))
+reclaimed s (u, c) n me = me ≡ (u, c)
+
+-- ---- splits and joins of seats
+
+-- the pin in the keeper's hand gets a seat of its own
+abbrev pub empty_handed : View → View
+empty_handed (Keeper v) = Keeper (with_hand None v)
+empty_handed u = u
+
+abbrev pub own_seat : Option Hold → View
+own_seat None = Spent
+own_seat (Some h) = Pin h
+
+abbrev pub handed : View → View
+handed (Keeper v) = own_seat v.hand
+handed u = Spent
+
+-- a pin becomes two of half its weight
+abbrev pub halved : View → View
+halved (Pin h) = Pin (half h)
+halved u = u
+
+-- the pin of a seat goes into the keeper's hand
+abbrev pub pin_of : View → Option Hold
+pin_of (Pin h) = Some h
+pin_of (Keeper v) = None
+pin_of (Left h) = None
+pin_of Spent = None
+
+abbrev pub taken_in : View → View → View
+taken_in (Keeper v) u = Keeper (with_hand (pin_of u) v)
+taken_in w u = w

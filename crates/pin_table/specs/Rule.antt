@@ -1,0 +1,69 @@
+-- The rule of a pin table: between any two steps its words are those of a pin world, whose rows are the keeper's and whose pins are those of the seats.
+use Rattle.std.specs.Prelude.{◌≡◌, ℕ, ◌<◌, ◌≤◌, List, [], ◌∷◌, ◌++◌, length, replicate, slice_index, Option, Some, None, IsPermutation}
+use Rattle.std.specs.List.{All}
+use Rattle.pin_core.specs.declared.world.PinRow.{PinRow}
+use Rattle.pin_core.specs.declared.world.Hold.{Hold}
+use Rattle.pin_core.specs.declared.event.Event.{Event}
+use Rattle.pin_core.specs.World.{PinWorld, IsState, holds_of, weight_on, word, most_weight, opening}
+use Rattle.pin_core.specs.Events.{Happens, after_all}
+use Rattle.pin_table.specs.declared.view.Kept.{Kept}
+use Rattle.pin_table.specs.declared.view.View.{View}
+use Rattle.pin_table.specs.declared.view.View.TheVariants.{Keeper, Pin, Left, Spent}
+
+-- what the keeper knows: the rows, a bound on the sum of weights of each slot, and the pin in its hand
+abbrev pub kept : List PinRow → List ℕ → Option Hold → Kept
+kept rows bounds hand = record { rows = rows; bounds = bounds; hand = hand }
+
+-- the pin in the hand, if there is one
+abbrev pub in_hand : Option Hold → List Hold
+in_hand None = []
+in_hand (Some h) = h ∷ []
+
+-- the pins that a seat stands for: the one in the keeper's hand, or the seat's own
+abbrev pub holds_in : View → List Hold
+holds_in (Keeper v) = in_hand v.hand
+holds_in (Pin h) = h ∷ []
+holds_in (Left h) = []
+holds_in Spent = []
+
+-- the pins of all seats
+abbrev pub all_holds : List View → List Hold
+all_holds [] = []
+all_holds (v ∷ vs) = holds_in v ++ all_holds vs
+
+-- the seat isn't the keeper's, and a pin that was left weighs nothing
+abbrev pub IsGuest : View → Type 0
+IsGuest (Keeper v) = ⊥
+IsGuest (Pin h) = Unit {0}
+IsGuest (Left h) = h.weight ≡ 0
+IsGuest Spent = Unit {0}
+
+-- The words and what the seats know are those of the pin world w.
+pub record Agrees (words : List ℕ) (views : List View) (w : PinWorld) : Type 0 where
+  -- the first seat is the keeper's, and no other is
+  pub keeper : Kept
+  pub others : List View
+  pub seats : views ≡ Keeper keeper ∷ others
+  pub guests : All IsGuest others
+  -- the world's rows are the keeper's, and its pins are those of the seats, in any order
+  pub rows : w.rows ≡ keeper.rows
+  pub pins : IsPermutation (all_holds views) (holds_of w)
+  -- each pin is held, and has a name of its own and a power of two from 1 to 1024 for its weight
+  pub state : IsState w
+  -- there is a word for each slot, and it is the world's
+  pub all_words : length words ≡ length w.rows
+  pub at_words : (k : ℕ) → k < length w.rows → slice_index words k ≡ word w k
+  -- the sum of weights on a slot is at most the keeper's bound: its last look and what it lent since
+  pub all_bounds : length keeper.bounds ≡ length w.rows
+  pub at_bounds : (k : ℕ) → k < length w.rows → weight_on k (holds_of w) ≤ slice_index keeper.bounds k
+  pub limits : (k : ℕ) → k < length w.rows → slice_index keeper.bounds k ≤ most_weight
+
+-- The rule: from n free slots of generation g, events that can happen in their turn lead to a world with which words and seats agree.
+pub record Ruled (n g : ℕ) (words : List ℕ) (views : List View) : Type 0 where
+  pub events : List Event
+  pub happen : Happens (opening n g) events
+  pub agrees : Agrees words views (after_all (opening n g) events)
+
+-- what the keeper knows of n free slots of generation g
+abbrev pub opening_view : ℕ → ℕ → View
+opening_view n g = Keeper (kept (opening n g).rows (replicate n 0) None)

@@ -1,0 +1,17 @@
+//! Laws of the steps on words, and of the words at any moment.
+
+ghost use Rattle.pin_table.specs.Laws.{StepsAreEvents, RunningWords};
+
+/// Each kind of step is its event: from each pin world with which words and seats agree before the
+/// step, the event can happen, and after the step they agree with the world after it.
+pub fn steps()
+    ensures { StepsAreEvents }
+{}
+
+/// What the table's rule says at any moment, whichever threads have made whichever steps: events
+/// that can happen lead from free slots to a world with which words and seats agree, so that the law
+/// of those events holds; and the slot of each pin that is out is used, has the pin's generation and
+/// digest in the keeper's rows, and counts the pin in its word.
+pub fn running_words()
+    ensures { RunningWords }
+{}

@@ -1,0 +1,146 @@
+//! Leases that other threads give back while the keeper works.
+
+use crate::desk::{Desk, Lease, end, give_all, open};
+use crate::{Pins, Reclaim};
+use pin_core::{Phase, unpack};
+use std::alloc::{AllocFailed, Global};
+use std::thread;
+use std::thread::Threads;
+
+/// As many turns as a test waits for other threads.
+const MOST_TURNS: u32 = 1_000_000_000;
+
+/// Eight lists of so many leases each; fewer where there is no memory.
+fn eight_lists<'s>(desk: &mut Desk<'s>, alloc: Global, count: u32) -> Vec<Vec<Lease<'s>>> {
+    let mut lists = Vec::new(alloc);
+    for _ in 0..8_u32 {
+        let list = desk.lend_many(alloc, count);
+        if let Err(failed) = lists.push(list) {
+            let AllocFailed { value } = failed;
+            end(value);
+        }
+    }
+    lists
+}
+
+/// How many leases are in the lists.
+fn count_all(lists: &[Vec<Lease<'_>>]) -> usize {
+    let mut sum: usize = 0;
+    for list in lists {
+        sum = sum.saturating_add(list.len());
+    }
+    sum
+}
+
+/// Gives the lists back, each in a thread of its own.
+fn give_each<R: Threads + Sync>(rt: &R, lists: &mut [Vec<Lease<'_>>]) {
+    thread::for_each_mut(
+        rt,
+        lists,
+        8,
+        &|_: usize, leases: &mut Vec<Lease>| {
+            give_all(leases);
+        },
+    );
+}
+
+/// Ends the lists.
+fn end_all(mut lists: Vec<Vec<Lease<'_>>>) {
+    while let Some(list) = lists.pop() {
+        end(list);
+    }
+    lists.destroy_empty();
+}
+
+/// Reclaims the slot until no pin holds it. What became of it, or none within so many turns.
+fn reclaim_until_clear(desk: &mut Desk<'_>) -> Option<Reclaim> {
+    for _ in 0..MOST_TURNS {
+        match desk.reclaim()? {
+            Reclaim::Held { weight: _ } => {}
+            other => return Some(other),
+        }
+    }
+    None
+}
+
+#[test]
+fn a_slot_is_freed_while_eight_threads_leave_it(rt: HostRuntime) {
+    let alloc = rt.alloc();
+    let (pins, keeper) = Pins::new(alloc, 1, 0).expect(&rt, "memory");
+    let mut desk = open(&pins, keeper);
+    let mut lists = eight_lists(&mut desk, alloc, 100);
+    assert_eq!(rt; count_all(lists.as_slice()), 800);
+    assert!(rt; desk.condemn());
+    assert_eq!(rt; desk.reclaim(), Some(Reclaim::Held { weight: 819_200 }));
+    let (_, freed) = thread::join(
+        &rt,
+        || give_each(&rt, lists.as_mut_slice()),
+        || reclaim_until_clear(&mut desk),
+    );
+    assert_eq!(rt; freed, Some(Reclaim::Freed));
+    assert_eq!(rt; desk.generation(), 1);
+    assert_eq!(rt; desk.phase(), Phase::Free);
+    assert_eq!(rt; desk.digest(), None);
+    assert_eq!(rt; desk.word(), 0x0000_0001_0000_0000);
+    end_all(lists);
+}
+
+/// What the keeper saw while it lent at the limit.
+#[derive(Clone, Copy)]
+struct Seen {
+    lent: u32,
+    refused: u32,
+    condemned: u32,
+}
+
+/// Lends at the limit, so many times, and looks at the word after each. The leases go to the list.
+fn lend_at_the_limit<'s>(desk: &mut Desk<'s>, leases: &mut Vec<Lease<'s>>, times: u32) -> Seen {
+    let mut seen = Seen {
+        lent: 0,
+        refused: 0,
+        condemned: 0,
+    };
+    for _ in 0..times {
+        match desk.lend() {
+            Some(Ok(lease)) => {
+                seen.lent = seen.lent.saturating_add(1);
+                if let Err(failed) = leases.push(lease) {
+                    let AllocFailed { value } = failed;
+                    value.give_back();
+                }
+            }
+            Some(Err(_)) => seen.refused = seen.refused.saturating_add(1),
+            None => {}
+        }
+        if desk.word() & 0x4000_0000 != 0 {
+            seen.condemned = seen.condemned.saturating_add(1);
+        }
+    }
+    seen
+}
+
+#[test]
+fn no_sum_runs_into_the_condemned_bit(rt: HostRuntime) {
+    let alloc = rt.alloc();
+    let (pins, keeper) = Pins::new(alloc, 1, 0).expect(&rt, "memory");
+    let mut desk = open(&pins, keeper);
+    let mut lists = eight_lists(&mut desk, alloc, 131_071);
+    let mut more = desk.lend_many(alloc, 7);
+    assert_eq!(rt; count_all(lists.as_slice()), 1_048_568);
+    assert_eq!(rt; desk.word(), 0x0000_0000_bfff_fc00);
+    let (_, seen) = thread::join(
+        &rt,
+        || give_each(&rt, lists.as_mut_slice()),
+        || lend_at_the_limit(&mut desk, &mut more, 1_000_000),
+    );
+    assert_eq!(rt; seen.condemned, 0);
+    assert_eq!(rt; seen.lent.saturating_add(seen.refused), 1_000_000);
+    assert!(rt; seen.lent > 0);
+    assert_eq!(rt; count_all(lists.as_slice()), 0);
+    let weight = u64::from(unpack(desk.word()).weight);
+    assert_eq!(rt; weight, (more.len() as u64).saturating_mul(1024));
+    end_all(lists);
+    end(more);
+    assert_eq!(rt; desk.word(), 0x0000_0000_8000_0000);
+    assert_eq!(rt; desk.bound(), 0);
+}
