@@ -1,6 +1,8 @@
 //! Reads the arguments.
 ghost use Rattle.std.specs.Prelude.{◌≤◌, ◌^◌, IfOk, IfSome};
+ghost use Rattle.clap.specs.Words.{kind_of};
 ghost use Rattle.blobctl.specs.Options.{IsWithin};
+ghost use Rattle.blobctl.specs.Stops.{IsStopFor};
 
 use crate::options::{Options, Stop};
 use crate::tenants::read_tenants;
@@ -39,7 +41,9 @@ fn command<'a>(alloc: Global) -> Result<Command<'a>, AllocError> {
 }
 
 /// Why the words were not taken.
-fn stopped(alloc: Global, error: clap::Error) -> Stop {
+fn stopped(alloc: Global, error: clap::Error) -> Stop
+    ensures { IsStopFor (kind_of error) result }
+{
     let kind = error.kind();
     match error.to_string(alloc) {
         Err(_) => Stop::Memory,
