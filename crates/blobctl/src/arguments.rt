@@ -1,6 +1,7 @@
 //! Reads the arguments.
-ghost use Rattle.std.specs.Prelude.{◌≤◌, ◌^◌, IfOk, IfSome};
-ghost use Rattle.clap.specs.Words.{kind_of};
+ghost use Rattle.std.specs.Prelude.{◌≡◌, ℕ, IfOk, IfErr, MatchOption, map, string_bytes};
+ghost use Rattle.clap.specs.Words.{app_of, found_of, kind_of, rows_of};
+ghost use Rattle.blobctl.specs.Arguments.{AreFound, HaveNumbers, RefusesFound, RefusesWords, SpellOptions, program};
 ghost use Rattle.blobctl.specs.Options.{IsWithin};
 ghost use Rattle.blobctl.specs.Stops.{IsStopFor};
 
@@ -18,7 +19,9 @@ const MAX_SLOTS: u32 = 65536;
 const MAX_BLOB: u64 = 1_099_511_627_776;
 
 /// What the program takes.
-fn command<'a>(alloc: Global) -> Result<Command<'a>, AllocError> {
+fn command<'a>(alloc: Global) -> Result<Command<'a>, AllocError>
+    ensures { IfOk result (λ c. app_of c ≡ program) }
+{
     let slots = Arg::new(alloc, "slots")
         .long("slots")
         .value_name("N")
@@ -57,10 +60,10 @@ fn stopped(alloc: Global, error: clap::Error) -> Stop
 
 /// The numbers of the options, or none where one is past its limit.
 fn numbers(matches: &ArgMatches<'_>) -> Option<(u32, u64)>
-    ensures { IfSome result (λ n. (1 ≤ n.0) × (n.0 ≤ 65536) × (n.1 ≤ 2 ^ 40)) }
+    ensures { MatchOption result ((slots max_blob : ℕ) → HaveNumbers (rows_of (found_of matches.now)) slots max_blob → ⊥) (λ n. HaveNumbers (rows_of (found_of matches.now)) n.0 n.1) }
 {
-    let slots = matches.get_one::<u32>("slots").unwrap_or(64);
-    let max_blob = matches.get_one::<u64>("max-blob").unwrap_or(1_048_576);
+    let slots = matches.get_one::<u32>("slots")?;
+    let max_blob = matches.get_one::<u64>("max-blob")?;
     if 1 <= slots && slots <= MAX_SLOTS && max_blob <= MAX_BLOB {
         Some((slots, max_blob))
     } else {
@@ -70,7 +73,9 @@ fn numbers(matches: &ArgMatches<'_>) -> Option<(u32, u64)>
 
 /// The options that the matches give.
 fn options_of(alloc: Global, matches: &ArgMatches<'_>) -> Result<Options, Stop>
-    ensures { IfOk result IsWithin }
+    ensures found { IfOk result (AreFound (rows_of (found_of matches.now))) }
+    ensures within { IfOk result IsWithin }
+    ensures refused { IfErr result (RefusesFound (rows_of (found_of matches.now))) }
 {
     let Some((slots, max_blob)) = numbers(matches) else {
         return Err(Stop::Usage(String::new(alloc)));
@@ -90,7 +95,9 @@ fn options_of(alloc: Global, matches: &ArgMatches<'_>) -> Result<Options, Stop>
 /// The options that the words spell. The first word is the program's own name. `clap`'s faults come
 /// before those of the tenants' words.
 pub fn read_options(alloc: Global, words: &[String]) -> Result<Options, Stop>
-    ensures { IfOk result IsWithin }
+    ensures spelled { IfOk result (SpellOptions (map string_bytes words.now)) }
+    ensures within { IfOk result IsWithin }
+    ensures refused { IfErr result (RefusesWords (map string_bytes words.now)) }
 {
     let command = command(alloc)?;
     match command.try_get_matches_from(words) {
