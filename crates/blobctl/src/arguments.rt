@@ -10,13 +10,7 @@ use crate::tenants::read_tenants;
 use clap::error::ErrorKind;
 use clap::{Arg, ArgAction, ArgMatches, Command};
 use std::alloc::{AllocError, Global};
-use store_book::Config;
-
-/// The most slots that a store has.
-const MAX_SLOTS: u32 = 65536;
-
-/// The largest limit on a blob's size, in bytes.
-const MAX_BLOB: u64 = 1_099_511_627_776;
+use store_book::{Config, MAX_BLOB, MAX_SLOTS};
 
 /// What the program takes.
 fn command<'a>(alloc: Global) -> Result<Command<'a>, AllocError>

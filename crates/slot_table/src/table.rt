@@ -14,6 +14,9 @@ use std::alloc::Global;
 use std::marker::Model;
 use std::sync::Arc;
 
+/// The most slots that a table has.
+pub const MAX_SLOTS: u32 = 65_536;
+
 /// The slots of a store, 1 to 65,536, each with its generation and what it holds. Contracts see
 /// the list of the slots. No digest has two slots, and a condemned blob has no links.
 ///
@@ -77,7 +80,7 @@ impl SlotTable {
         if slots < 1 {
             return Err(Refusal::LimitReached);
         }
-        if slots > 65536 {
+        if slots > MAX_SLOTS {
             return Err(Refusal::LimitReached);
         }
         let mut rows = Vec::new(alloc);

@@ -3,7 +3,7 @@ use Rattle.std.specs.Prelude.{◌≡◌, ◌<◌, ◌≤◌, ◌^◌, ℕ, List,
 use Rattle.std.specs.List.Sorted.{IsPermutation, IsStrictlySortedBy}
 use Rattle.blob_digest.specs.declared.refusal.Refusal.{Refusal}
 use Rattle.blob_digest.specs.declared.refusal.Refusal.TheVariants.{NameInvalid, LimitReached, Memory}
-pub use Rattle.link_table.specs.Tenancy.{HasNames, IsWithinLimits, tenant_shown, tenants_shown}
+pub use Rattle.link_table.specs.Tenancy.{HasNames, IsWithinLimits, max_quota, max_tenants, tenant_shown, tenants_shown}
 use Rattle.store_book.specs.BookState.{BookState}
 use Rattle.store_book.specs.Catalog.{Tenant, Catalog, text_cmp, opening}
 
