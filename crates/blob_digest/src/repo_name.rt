@@ -94,6 +94,7 @@ impl RepoName {
     pub fn tenant(&self) -> &str
         ensures value { result.now ≡ tenant_name self.now }
         ensures grammar { IsComponent (tenant_name self.now) }
+        ensures name { IsRepoName self.now }
     {
         &self.text.as_str()[..self.tenant_len]
     }

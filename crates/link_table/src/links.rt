@@ -83,7 +83,6 @@ impl Links {
         ensures short { length repo.now ≤ 255 }
         ensures tenants { AreTenants self.now.tenants }
     {
-        let _text = repo.text();
         match tenant_at(self.tenants.as_slice(), repo.tenant()) {
             Some(t) => Ok(t as u16),
             None => Err(Refusal::NameUnknown),
