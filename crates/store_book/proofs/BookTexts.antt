@@ -11,12 +11,13 @@ use Rattle.std.specs.FinMap.Entries.{below_all}
 use Rattle.std.proofs.lemmas.List.Concat.{flat_map-cons}
 use Rattle.std.proofs.lemmas.List.Folds.{flat_map-map}
 use Rattle.std.proofs.lemmas.List.Sums.{length-filter, sum_by-cons}
+use Rattle.blob_digest.proofs.ListLemmas.{all_weaker}
 use Rattle.blob_digest.specs.Sets as set
 use Rattle.blob_digest.proofs.KeyOrders.{link_cmp_total, exact_link}
 use Rattle.blob_digest.proofs.RowLemmas.{entries-empty, found_value}
 use Rattle.slot_table.specs.Slots.{Slot, Held, slot_of, links_at}
 use Rattle.link_table.specs.Linked.{Linked, Tenant, used_in, blobs_in, repos_of}
-use Rattle.link_table.proofs.SortedRows.{IsApart-sorted, entries-sorted}
+use Rattle.blob_digest.proofs.SortedRows.{IsApart-sorted, entries-sorted}
 use Rattle.upload_table.specs.Sessions.{is_of_repo, listed, sessions_of}
 use Rattle.std.proofs.lemmas.Bool.{and_parts, false≢true}
 use Rattle.upload_table.specs.Uploaded.{Uploaded}
@@ -37,10 +38,6 @@ flat_map-same f g (x ∷ xs) same = flat_map-cons f x xs ∙ (λ i. same.0 i ++ 
 all_same : {X : Type 0} (P : X → Type 0) → ((x : X) → P x) → (xs : List X) → AllByRecursion P xs
 all_same P each [] = tt
 all_same P each (x ∷ xs) = (each x, all_same P each xs)
-
-all_from : {X : Type 0} (P Q : X → Type 0) → ((x : X) → P x → Q x) → (xs : List X) → AllByRecursion P xs → AllByRecursion Q xs
-all_from P Q each [] all = tt
-all_from P Q each (x ∷ xs) all = (each x all.0, all_from P Q each xs all.1)
 
 all_by_index : {X : Type 0} (P : X → Type 0) (d : X) (xs : List X) → ((i : ℕ) → i < length xs → P (get_or xs i d)) → AllByRecursion P xs
 all_by_index P d [] each = tt
@@ -139,7 +136,7 @@ module _ (l : Linked) (u : Uploaded) (slots : List Slot) (max_blob : ℕ) (book 
 
   blobs_are : (repo : Text) → flat_map (blob_row slots) (blobs_in l repo) ≡ flat_map (blob_text C) (filter (λ l. same_text l.0 repo) (set.items C.links))
   blobs_are repo =
-      blobs_same (blob_row slots) (blob_text C) repo (entries l.links) (all_from (λ e. get l.links e.0 ≡ Some e.1) (λ e. blob_row slots (e.0.1, e.1) ≡ blob_text C e.0) linked (entries l.links) (each_found l.links))
+      blobs_same (blob_row slots) (blob_text C) repo (entries l.links) (all_weaker (λ e. get l.links e.0 ≡ Some e.1) (λ e. blob_row slots (e.0.1, e.1) ≡ blob_text C e.0) linked (entries l.links) (each_found l.links))
       ∙ ap (λ (ls : List Link). flat_map (blob_text C) (filter (λ l. same_text l.0 repo) ls)) (sym (items_links l.links))
 
   manifests_are : (repo : Text) → flat_map manifest_text (filter (λ e. same_text e.0.0 repo) (entries C.manifests)) ≡ []
@@ -161,7 +158,7 @@ module _ (l : Linked) (u : Uploaded) (slots : List Slot) (max_blob : ℕ) (book 
   text_is =
       ap (λ (t : Text). book_line ++ t ++ end_line)
       (flat_map-same (tenant_rows l u slots) (tenant_text C) (enumerate_from 0 l.tenants)
-      (all_from (λ e. e.0 < length l.tenants) (λ e. tenant_rows l u slots e ≡ tenant_text C e) tenant_is (enumerate_from 0 l.tenants) (numbers_below l.tenants 0 (length l.tenants) (omega arith))))
+      (all_weaker (λ e. e.0 < length l.tenants) (λ e. tenant_rows l u slots e ≡ tenant_text C e) tenant_is (enumerate_from 0 l.tenants) (numbers_below l.tenants 0 (length l.tenants) (omega arith))))
 
   -- a book can be printed
   pub can_print : CanPrint l u

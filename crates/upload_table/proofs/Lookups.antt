@@ -10,6 +10,7 @@ use Rattle.std.proofs.lemmas.Bool.Decides.{nat_tests}
 use Rattle.std.proofs.lemmas.List.Sums.{sum_by-cons}
 use Rattle.std.proofs.lemmas.List.Quantifiers.{position-Some}
 use Rattle.std.proofs.lemmas.Option.{slice_get-map}
+use Rattle.blob_digest.proofs.ListLemmas.{filter-map}
 use Rattle.blob_digest.specs.Keys.{Text, Number, number_cmp, same_text}
 use Rattle.blob_digest.specs.declared.refusal.Refusal.TheVariants.{UploadUnknown}
 use Rattle.blob_digest.proofs.KeyOrders.{number_cmp_total}
@@ -143,14 +144,6 @@ total_is next totals rows sound t =
     ∙ sum_by-alike IsWhole (row_share t) (λ u. share t (entry_of u)) (λ u whole. ap (λ n. cond (u.tenant == t) n 0) (whole.lengths ∙ sym (received_is u whole))) rows (all_from IsWhole rows (all_whole next totals rows sound))
     ∙ sym (sum_by-map (share t) entry_of rows)
     ∙ sym (sum_by-from_entries number_cmp (share t) number_cmp_total (map entry_of rows) (apart rows sound.rising))
-
-filter-map : {A B : Type 0} (p : B → Bool) (f : A → B) (xs : List A) → filter p (map f xs) ≡ map f (filter (λ x. p (f x)) xs)
-filter-map p f [] = refl
-filter-map {A = A} {B = B} p f (x ∷ xs) = ap (λ ys. cond (p (f x)) (f x ∷ ys) ys) (filter-map p f xs) ∙ through (p (f x)) x (filter (λ y. p (f y)) xs)
-  where
-    through : (b : Bool) (x : A) (ys : List A) → cond b (f x ∷ map f ys) (map f ys) ≡ map f (cond b (x ∷ ys) ys)
-    through true x ys = refl
-    through false x ys = refl
 
 -- a repository's sessions, in the order of the rows
 pub sessions_are : (rows : List Upload) → IsRising (map key_of rows) → (t : ℕ) (repo : Text) → sessions_of (map_of rows) t repo ≡ map entry_of (filter (λ u. u.tenant == t && same_text u.repo repo) rows)
