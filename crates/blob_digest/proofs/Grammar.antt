@@ -1,11 +1,10 @@
 -- The grammar of a digest's text and its test.
 use Rattle.std.proofs.Math.Seq.{drop-append_seam, take-append_seam}
-use Rattle.std.proofs.lemmas.Bool.Decides.{nat_tests}
 use Rattle.std.proofs.lemmas.Slice.Eq.{bytes_eq-Decides}
-use Rattle.std.proofs.Common.{length-append, sym, nat_eq, ◌==◌, ◌+◌}
+use Rattle.std.proofs.Common.{length-append, sym, nat_eq, ◌+◌}
 use Rattle.std.specs.List.{starts_with}
 use Rattle.std.proofs.Common.{◌≡◌, ℕ, zero, suc, ◌*◌, ◌/◌, ◌%◌, ◌<◌, Bool, true, ◌&&◌, inl, inr, List, [], ◌∷◌, ◌++◌, codes, length, slice_index, drop, refl, ap, ◌∙◌, arith}
-use Rattle.std.proofs.lemmas.Bool.{and_parts, cases_lt}
+use Rattle.std.proofs.lemmas.Bool.{and_parts, cases_lt, eq-eqb}
 use Rattle.std.proofs.lemmas.List.Sums.{list_all-from_AllPass, AllPass-from_list_all}
 use Rattle.std.specs.List.{list_all}
 use Rattle.hex.specs.Hex.{IsBytes, encode_lower, encode_with, lower_digits}
@@ -16,16 +15,13 @@ use Rattle.blob_digest.specs.declared.checksum.Checksum.{Checksum}
 use Rattle.blob_digest.specs.declared.checksum.Checksum.TheVariants.{Sha256}
 use Rattle.blob_digest.proofs.HexText.{whole_of}
 
-same_number : (n : ℕ) → (n == n) ≡ true
-same_number n = grind (arith, nat_tests)
-
 -- a text that is spelled by a name passes the test
 spelled_passes : (name text : List ℕ) (n : ℕ) → length name ≡ 7 → IsSpelled name n text → is_spelled name n text ≡ true
 spelled_passes name text n seven h =
     let size : length (name ++ h.0) ≡ 7 + n = omega (arith, length-append name h.0, h.2, seven) in
     let front : starts_with nat_eq (name ++ h.0) name ≡ true = rw (take-append_seam name h.0) ((bytes_eq-Decides name name).1 refl) in
     let rest : drop 7 (name ++ h.0) ≡ h.0 = sym (ap (λ k. drop k (name ++ h.0)) seven) ∙ drop-append_seam name h.0 in
-    let whole : is_spelled name n (name ++ h.0) ≡ true = rw (size, front, rest, same_number (7 + n)) (list_all-from_AllPass is_lower_hex h.0 h.3) in
+    let whole : is_spelled name n (name ++ h.0) ≡ true = rw (size, front, rest, eq-eqb (7 + n) (7 + n) refl) (list_all-from_AllPass is_lower_hex h.0 h.3) in
     rw h.1 whole
 
 passes_spelled : (name text : List ℕ) (n : ℕ) → length name ≡ 7 → is_spelled name (2 * n) text ≡ true → IsSpelled name (2 * n) text

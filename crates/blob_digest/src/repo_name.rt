@@ -12,6 +12,9 @@ use std::cmp::Ordering;
 use std::marker::Model;
 use std::{fmt, str};
 
+/// The most bytes that a repository's name has.
+const MAX_NAME: usize = 255;
+
 /// The name of a repository: components joined by `/`, at most 255 bytes in all (OCI Distribution
 /// Specification 1.1, "Pulling manifests"). The first component names the tenant. Contracts see the
 /// name as its text, and names are ordered by the bytes of their texts.
@@ -67,7 +70,7 @@ impl RepoName {
         ensures value { IfOk result (λ name. (name ≡ text.now) × IsRepoName text.now) }
         ensures refused { IfErr result (λ e. ((e ≡ Refusal.NameInvalid) × ¬ IsRepoName text.now) ⊎ ((e ≡ Refusal.Memory) × IsRepoName text.now)) }
     {
-        if text.len() > 255 {
+        if text.len() > MAX_NAME {
             return Err(Refusal::NameInvalid);
         }
         if !is_path(text) {
@@ -91,6 +94,7 @@ impl RepoName {
     pub fn tenant(&self) -> &str
         ensures value { result.now ≡ tenant_name self.now }
         ensures grammar { IsComponent (tenant_name self.now) }
+        ensures name { IsRepoName self.now }
     {
         &self.text.as_str()[..self.tenant_len]
     }

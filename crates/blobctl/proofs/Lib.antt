@@ -1,4 +1,5 @@
 pub mod BookPlays
+pub mod CommandLines
 pub mod Inputs
 pub mod PlayedRows
 pub mod Records

@@ -9,7 +9,7 @@ use Rattle.csv.proofs.ReadFacts.{rows-more}
 use Rattle.blob_digest.specs.Keys.{Text}
 use Rattle.blobctl.specs.Reading.{IsAfter}
 use Rattle.blobctl.specs.Rows.{Line, Record, row_of}
-use Rattle.blobctl.specs.Script.{AreGood, BeginsWith, ExplainsRows, most_rows}
+use Rattle.blobctl.specs.Script.{AreGood, BeginsWith, ExplainsRows, max_rows}
 use Rattle.blobctl.specs.declared.fault.Fault.{Fault}
 use Rattle.blobctl.specs.declared.fault.Fault.TheVariants.{BadRow, Memory}
 
@@ -42,7 +42,7 @@ one_good before rows fields line good here =
 
 -- a record after good ones that has no row is the first bad one
 pub explained : (script : Text) (before : List Record) (rows : List Line) (fields : Record) (number : ℕ) (fault : Fault) → BeginsWith script (before ++ fields ∷ [])
-    → AreGood before rows → number ≡ length before + 1 → length before ≤ most_rows
+    → AreGood before rows → number ≡ length before + 1 → length before ≤ max_rows
     → (fault ≡ Memory) ⊎ ((fault ≡ BadRow number) × (row_of fields ≡ None)) → ExplainsRows script fault
 explained script before rows fields number fault first good place few why =
     elim why [

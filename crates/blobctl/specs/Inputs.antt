@@ -3,8 +3,8 @@ use Rattle.std.specs.Prelude.{ℕ, List, ◌<◌, ◌≤◌, length, Option}
 use Rattle.std.specs.Io.KnownBytes.{Consumes}
 
 -- the longest script, in bytes
-abbrev pub most_bytes : ℕ
-most_bytes = 268435456
+abbrev pub max_script : ℕ
+max_script = 268435456
 
 -- no more than n bytes were taken
 abbrev pub TakesAtMost : Option (List ℕ) → Option (List ℕ) → ℕ → Type 0
@@ -12,4 +12,4 @@ TakesAtMost old new n = (taken : List ℕ) × Consumes old new taken × (length 
 
 -- more bytes were taken than a script may have
 abbrev pub IsTooLong : Option (List ℕ) → Option (List ℕ) → Type 0
-IsTooLong old new = (taken : List ℕ) × Consumes old new taken × (most_bytes < length taken)
+IsTooLong old new = (taken : List ℕ) × Consumes old new taken × (max_script < length taken)

@@ -1,11 +1,11 @@
 -- What a script does to a store, and the text that is written then.
-use Rattle.std.specs.Prelude.{◌≡◌, ℕ, List, ◌++◌, Some, Result, Ok, Err, map}
-use Rattle.std.specs.List.Sorted.{IsPermutation, IsStrictlySortedBy}
-use Rattle.blob_digest.specs.Keys.{Text, text_cmp}
+use Rattle.std.specs.Prelude.{◌≡◌, ℕ, List, ◌++◌, Some, Result, Ok, Err}
+use Rattle.blob_digest.specs.Keys.{Text}
 use Rattle.blob_digest.specs.Outcomes.{Refuses}
 use Rattle.blob_digest.specs.Tenants.{Tenant}
 use Rattle.blob_digest.specs.declared.refusal.Refusal.{Refusal}
-use Rattle.store_book.specs.Catalog.{Catalog, opening}
+use Rattle.store_book.specs.Catalog.{Catalog}
+use Rattle.store_book.specs.Openings.{OpensCatalog}
 use Rattle.store_book.specs.Printed.{book_text}
 use Rattle.store_book.specs.Steps as steps
 use Rattle.blobctl.specs.Commands.{Command, Start, Status, Append, Close, Abandon, Mount, Delete}
@@ -46,17 +46,11 @@ abbrev pub Acts : Catalog → Command → Reply → Catalog → Type 0
 Acts C command (Refused refusal) C' = Refuses refusal C C' (outcome C command)
 Acts C command reply C' = outcome C command ≡ Ok (reply, C')
 
--- the catalog has the tenants in the order of their names, and nothing else
-pub record Opened (tenants : List Tenant) (slots max_blob : ℕ) (C : Catalog) : Type 0 where
-  pub same : IsPermutation tenants C.tenants
-  pub rising : IsStrictlySortedBy text_cmp (map (λ t. t.name) C.tenants)
-  pub empty : C ≡ opening C.tenants slots max_blob
-
 -- Playing a script on a store that is made with these tenants writes this text: the replies to all its rows, in their order,
 -- and then the book as it is after the last of them. Want of memory is never a reply.
 pub record Played (tenants : List Tenant) (slots max_blob : ℕ) (script text : Text) : Type 0 where
   pub first : Catalog
-  pub opened : Opened tenants slots max_blob first
+  pub opened : OpensCatalog tenants slots max_blob first
   pub rows : List Line
   pub all : AreRowsOf script rows
   pub replies : List Reply

@@ -21,15 +21,15 @@ abbrev pub AreGood : List Record → List Line → Type 0
 AreGood records rows = map row_of records ≡ map Some rows
 
 -- how many rows a script may have
-abbrev pub most_rows : ℕ
-most_rows = 65536
+abbrev pub max_rows : ℕ
+max_rows = 65536
 
 -- these rows are the script's, one for each of its records
 pub record AreRowsOf (script : Text) (rows : List Line) : Type 0 where
   pub records : List Record
   pub all : AreRecordsOf script records
   pub good : AreGood records rows
-  pub few : length records ≤ most_rows
+  pub few : length records ≤ max_rows
 
 -- the record of this number, counted from 1, is the script's first bad one: it is no row, or one too many
 pub record IsFirstBad (script : Text) (number : ℕ) : Type 0 where
@@ -39,8 +39,8 @@ pub record IsFirstBad (script : Text) (number : ℕ) : Type 0 where
   pub begins : BeginsWith script (before ++ bad ∷ [])
   pub good : AreGood before rows
   pub place : number ≡ length before + 1
-  pub few : length before ≤ most_rows
-  pub why : (row_of bad ≡ None) ⊎ (number ≡ most_rows + 1)
+  pub few : length before ≤ max_rows
+  pub why : (row_of bad ≡ None) ⊎ (number ≡ max_rows + 1)
 
 -- what a fault of the rows says: a number is that of the first bad row
 abbrev pub ExplainsRows : Text → Fault → Type 0

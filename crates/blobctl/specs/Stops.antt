@@ -1,5 +1,7 @@
 -- What is printed where the program stops before it runs, and its exit statuses then.
-use Rattle.std.specs.Prelude.{ℕ, codes, string_bytes}
+use Rattle.std.specs.Prelude.{⊤, ◌≡◌, ◌≢◌, ℕ, codes, string_bytes}
+use Rattle.clap.specs.declared.error.kind.ErrorKind.{ErrorKind}
+use Rattle.clap.specs.declared.error.kind.ErrorKind.TheVariants.{DisplayHelp, OutOfMemory}
 use Rattle.blob_digest.specs.Keys.{Text}
 use Rattle.blobctl.specs.declared.options.Stop.{Stop}
 use Rattle.blobctl.specs.declared.options.Stop.TheVariants.{Help, Usage, BadTenant, Memory}
@@ -17,3 +19,10 @@ stop_status (Help text) = 0
 stop_status (Usage text) = 2
 stop_status BadTenant = 2
 stop_status Memory = 5
+
+-- how the program stops where `clap` answers an error of this kind; want of memory may come in place of either text
+abbrev pub IsStopFor : ErrorKind → Stop → Type 0
+IsStopFor kind (Help text) = kind ≡ DisplayHelp
+IsStopFor kind (Usage text) = (kind ≢ DisplayHelp) × (kind ≢ OutOfMemory)
+IsStopFor kind BadTenant = ⊥
+IsStopFor kind Memory = ⊤

@@ -1,17 +1,11 @@
 -- The tenants that the arguments name.
-use Rattle.std.specs.Prelude.{◌≡◌, ◌⊎◌, ◌<◌, ◌≤◌, ◌^◌, ◌==◌, ℕ, List, [], ◌∷◌, ◌++◌, Some, length, true}
+use Rattle.std.specs.Prelude.{◌≡◌, ◌⊎◌, ◌<◌, ◌≤◌, ◌==◌, List, [], ◌∷◌, ◌++◌, Some, length, true}
 use Rattle.std.specs.List.{after_first, before_first, list_any, position_or_len}
 use Rattle.blob_digest.specs.Keys.{Text, same_text}
 use Rattle.blob_digest.specs.Names.{IsComponent}
 use Rattle.blob_digest.specs.Ranges.{number_of}
 use Rattle.blob_digest.specs.Tenants.{Tenant}
-
--- the most tenants that a store has, and the largest quota in bytes
-abbrev pub most_tenants : ℕ
-most_tenants = 256
-
-abbrev pub most_quota : ℕ
-most_quota = 2 ^ 50
+use Rattle.store_book.specs.Openings.{max_quota, max_tenants}
 
 -- what stands before the first `=` is a tenant's name, and what stands after it a quota in decimal digits
 pub record IsTenantWord (word : Text) (tenant : Tenant) : Type 0 where
@@ -19,7 +13,7 @@ pub record IsTenantWord (word : Text) (tenant : Tenant) : Type 0 where
   pub name : tenant.name ≡ before_first (λ b. b == 61) word
   pub component : IsComponent tenant.name
   pub quota : number_of (after_first (λ b. b == 61) word) ≡ Some tenant.quota
-  pub small : tenant.quota ≤ most_quota
+  pub small : tenant.quota ≤ max_quota
 
 -- the words spell these tenants, one each
 abbrev pub SpellTenants : List Text → List Tenant → Type 0
@@ -32,7 +26,7 @@ abbrev pub IsRefusedAfter : List Tenant → Text → Type 0
 IsRefusedAfter tenants word =
     ((tenant : Tenant) → IsTenantWord word tenant → ⊥)
     ⊎ ((tenant : Tenant) × IsTenantWord word tenant × (list_any (λ t. same_text t.name tenant.name) tenants ≡ true))
-    ⊎ (most_tenants ≤ length tenants)
+    ⊎ (max_tenants ≤ length tenants)
 
 -- some word names no tenant after those before it, or there is no word
 abbrev pub HasBadTenant : List Text → Type 0

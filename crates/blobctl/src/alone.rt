@@ -3,9 +3,9 @@ ghost use Rattle.std.specs.Prelude.{◌≡◌, IfOk, IfErr, map};
 ghost use Rattle.store_book.specs.Catalog.{Catalog};
 ghost use Rattle.blobctl.specs.Lines.{line_of};
 ghost use Rattle.blobctl.specs.Options.{IsWithin};
-ghost use Rattle.blobctl.specs.Played.{Happens, Opened};
+ghost use Rattle.blobctl.specs.Played.{Happens};
 ghost use Rattle.blobctl.specs.Plays.{Plays};
-ghost use Rattle.store_book.specs.Openings.{tenants_shown};
+ghost use Rattle.store_book.specs.Openings.{OpensCatalog, tenants_shown};
 
 use crate::options::Options;
 use crate::player::play;
@@ -18,7 +18,7 @@ use store_book::Book;
 /// A new book. Refused is want of memory alone.
 fn open(alloc: Global, options: &Options) -> Result<Book, Refusal>
     requires { IsWithin options.now }
-    ensures opened { IfOk result (λ book. Opened (tenants_shown options.now.store.tenants.items) options.now.store.slots options.now.store.max_blob book.catalog) }
+    ensures opened { IfOk result (λ book. OpensCatalog (tenants_shown options.now.store.tenants.items) options.now.store.slots options.now.store.max_blob book.catalog) }
     ensures refused { IfErr result (λ e. e ≡ Refusal.Memory) }
 {
     Book::new(alloc, &options.store)
@@ -32,7 +32,7 @@ pub fn play_alone(
     rows: &[Row],
 ) -> Result<(Book, Vec<Reply>), Refusal>
     requires { IsWithin options.now }
-    ensures played { IfOk result (λ p. (first : Catalog) × Opened (tenants_shown options.now.store.tenants.items) options.now.store.slots options.now.store.max_blob first × Plays Happens first (map line_of rows.now) p.1.items p.0.catalog) }
+    ensures played { IfOk result (λ p. (first : Catalog) × OpensCatalog (tenants_shown options.now.store.tenants.items) options.now.store.slots options.now.store.max_blob first × Plays Happens first (map line_of rows.now) p.1.items p.0.catalog) }
     ensures refused { IfErr result (λ e. e ≡ Refusal.Memory) }
 {
     let mut book = open(alloc, options)?;

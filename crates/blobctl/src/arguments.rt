@@ -1,22 +1,21 @@
 //! Reads the arguments.
-ghost use Rattle.std.specs.Prelude.{◌≤◌, ◌^◌, IfOk, IfSome};
+ghost use Rattle.std.specs.Prelude.{◌≡◌, ℕ, IfOk, IfErr, MatchOption, map, string_bytes};
+ghost use Rattle.clap.specs.Words.{app_of, found_of, kind_of, rows_of};
+ghost use Rattle.blobctl.specs.Arguments.{AreFound, HaveNumbers, RefusesFound, RefusesWords, SpellOptions, program};
 ghost use Rattle.blobctl.specs.Options.{IsWithin};
+ghost use Rattle.blobctl.specs.Stops.{IsStopFor};
 
 use crate::options::{Options, Stop};
 use crate::tenants::read_tenants;
 use clap::error::ErrorKind;
 use clap::{Arg, ArgAction, ArgMatches, Command};
 use std::alloc::{AllocError, Global};
-use store_book::Config;
-
-/// The most slots that a store has.
-const MAX_SLOTS: u32 = 65536;
-
-/// The largest limit on a blob's size, in bytes.
-const MAX_BLOB: u64 = 1_099_511_627_776;
+use store_book::{Config, MAX_BLOB, MAX_SLOTS};
 
 /// What the program takes.
-fn command<'a>(alloc: Global) -> Result<Command<'a>, AllocError> {
+fn command<'a>(alloc: Global) -> Result<Command<'a>, AllocError>
+    ensures { IfOk result (λ c. app_of c ≡ program) }
+{
     let slots = Arg::new(alloc, "slots")
         .long("slots")
         .value_name("N")
@@ -39,7 +38,9 @@ fn command<'a>(alloc: Global) -> Result<Command<'a>, AllocError> {
 }
 
 /// Why the words were not taken.
-fn stopped(alloc: Global, error: clap::Error) -> Stop {
+fn stopped(alloc: Global, error: clap::Error) -> Stop
+    ensures { IsStopFor (kind_of error) result }
+{
     let kind = error.kind();
     match error.to_string(alloc) {
         Err(_) => Stop::Memory,
@@ -53,10 +54,10 @@ fn stopped(alloc: Global, error: clap::Error) -> Stop {
 
 /// The numbers of the options, or none where one is past its limit.
 fn numbers(matches: &ArgMatches<'_>) -> Option<(u32, u64)>
-    ensures { IfSome result (λ n. (1 ≤ n.0) × (n.0 ≤ 65536) × (n.1 ≤ 2 ^ 40)) }
+    ensures { MatchOption result ((slots max_blob : ℕ) → HaveNumbers (rows_of (found_of matches.now)) slots max_blob → ⊥) (λ n. HaveNumbers (rows_of (found_of matches.now)) n.0 n.1) }
 {
-    let slots = matches.get_one::<u32>("slots").unwrap_or(64);
-    let max_blob = matches.get_one::<u64>("max-blob").unwrap_or(1_048_576);
+    let slots = matches.get_one::<u32>("slots")?;
+    let max_blob = matches.get_one::<u64>("max-blob")?;
     if 1 <= slots && slots <= MAX_SLOTS && max_blob <= MAX_BLOB {
         Some((slots, max_blob))
     } else {
@@ -66,7 +67,9 @@ fn numbers(matches: &ArgMatches<'_>) -> Option<(u32, u64)>
 
 /// The options that the matches give.
 fn options_of(alloc: Global, matches: &ArgMatches<'_>) -> Result<Options, Stop>
-    ensures { IfOk result IsWithin }
+    ensures found { IfOk result (AreFound (rows_of (found_of matches.now))) }
+    ensures within { IfOk result IsWithin }
+    ensures refused { IfErr result (RefusesFound (rows_of (found_of matches.now))) }
 {
     let Some((slots, max_blob)) = numbers(matches) else {
         return Err(Stop::Usage(String::new(alloc)));
@@ -86,7 +89,9 @@ fn options_of(alloc: Global, matches: &ArgMatches<'_>) -> Result<Options, Stop>
 /// The options that the words spell. The first word is the program's own name. `clap`'s faults come
 /// before those of the tenants' words.
 pub fn read_options(alloc: Global, words: &[String]) -> Result<Options, Stop>
-    ensures { IfOk result IsWithin }
+    ensures spelled { IfOk result (SpellOptions (map string_bytes words.now)) }
+    ensures within { IfOk result IsWithin }
+    ensures refused { IfErr result (RefusesWords (map string_bytes words.now)) }
 {
     let command = command(alloc)?;
     match command.try_get_matches_from(words) {

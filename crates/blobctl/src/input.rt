@@ -1,7 +1,7 @@
 //! Reads a script to its end.
-ghost use Rattle.std.specs.Prelude.{◌≡◌, ◌⊎◌, ◌<◌, ◌≤◌, ◌++◌, true, IfOk, IfErr, IfSome, OnErr, length, take};
+ghost use Rattle.std.specs.Prelude.{◌≡◌, ◌⊎◌, ◌+◌, ◌<◌, ◌≤◌, ◌++◌, true, IfOk, IfErr, IfSome, OnErr, length, take};
 ghost use Rattle.std.specs.Io.KnownBytes.{Consumes, IsAtEnd};
-ghost use Rattle.blobctl.specs.Inputs.{IsTooLong, TakesAtMost, most_bytes};
+ghost use Rattle.blobctl.specs.Inputs.{IsTooLong, TakesAtMost, max_script};
 ghost use Rattle.blobctl.specs.Watching.{has_failed, inner_of};
 
 use crate::fault::Fault;
@@ -11,6 +11,9 @@ use std::io::Read;
 
 /// The longest script, in bytes.
 const MAX_SCRIPT: usize = 268_435_456;
+
+/// The most bytes that are read at a time.
+const PIECE: usize = 65_536;
 
 /// Adds the bytes of one read, as many as fit the buffer, and says how many there were.
 fn add_piece<R: Read>(
@@ -37,15 +40,15 @@ fn add_piece<R: Read>(
 pub fn read_script<R: Read>(alloc: Global, reader: &mut Watched<R>) -> Result<Vec<u8>, Fault>
     ensures taken { IfOk result (λ v. Consumes (R.remaining (inner_of reader.old)) (R.remaining (inner_of reader.new)) v.items) }
     ensures whole { IfOk result (λ v. IfSome (R.remaining (inner_of reader.old)) (λ xs. v.items ≡ xs)) }
-    ensures fits { IfOk result (λ v. length v.items ≤ most_bytes) }
-    ensures most { TakesAtMost (R.remaining (inner_of reader.old)) (R.remaining (inner_of reader.new)) 268435457 }
+    ensures fits { IfOk result (λ v. length v.items ≤ max_script) }
+    ensures most { TakesAtMost (R.remaining (inner_of reader.old)) (R.remaining (inner_of reader.new)) (max_script + 1) }
     ensures refused { IfErr result (λ e. (e ≡ Fault.Memory) ⊎ ((e ≡ Fault.Read) × ((has_failed reader.new ≡ true) ⊎ IsTooLong (R.remaining (inner_of reader.old)) (R.remaining (inner_of reader.new))))) }
 {
     let mut bytes = Vec::new(alloc);
-    let mut buffer = [0u8; 65536];
+    let mut buffer = [0u8; PIECE];
     for _turn in 0..MAX_SCRIPT + 1 {
         let room = MAX_SCRIPT + 1 - bytes.len();
-        let wanted = room.min(65536);
+        let wanted = room.min(PIECE);
         let count = add_piece(reader, &mut buffer[..wanted], &mut bytes)?;
         if count == 0 {
             return Ok(bytes);

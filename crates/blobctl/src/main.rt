@@ -13,7 +13,9 @@
 //! failed or the script is too long.
 #![tactic(auto)]
 
+ghost use Rattle.std.specs.Prelude.{◌≡◌};
 ghost use Rattle.blobctl.specs.Options.{IsWithin};
+ghost use Rattle.blobctl.specs.Stops.{stop_status};
 
 mod alone;
 mod arguments;
@@ -61,7 +63,9 @@ fn run_here(rt: &HostRuntime, options: &Options) -> Result<(), Fault>
 }
 
 /// Prints why the program stops before it runs, and answers the exit status.
-fn stopped(rt: &HostRuntime, stop: &Stop) -> u8 {
+fn stopped(rt: &HostRuntime, stop: &Stop) -> u8
+    ensures { result ≡ stop_status stop.now }
+{
     let text = stop.text();
     let printed = match stop {
         Stop::Help(_) => print!(rt; "{text}"),

@@ -3,18 +3,13 @@ ghost use Rattle.std.specs.Prelude.{◌≡◌, ◌⊎◌, ◌<◌, ◌++◌, ◌
 ghost use Rattle.std.specs.List.{list_any};
 ghost use Rattle.blob_digest.specs.Keys.{same_text};
 ghost use Rattle.blob_digest.specs.Tenants.{Tenant};
-ghost use Rattle.store_book.specs.Openings.{HasNames, IsWithinLimits, tenants_shown};
-ghost use Rattle.blobctl.specs.Tenants.{HasBadTenant, IsRefusedAfter, IsTenantWord, SpellTenants, most_tenants};
+ghost use Rattle.store_book.specs.Openings.{HasNames, IsWithinLimits, max_tenants, tenants_shown};
+ghost use Rattle.blobctl.specs.Tenants.{HasBadTenant, IsRefusedAfter, IsTenantWord, SpellTenants};
 
 use crate::options::Stop;
 use blob_digest::{decimal, is_component};
 use std::alloc::Global;
-
-/// The most tenants that a store has.
-const MAX_TENANTS: usize = 256;
-
-/// The largest quota, in bytes.
-const MAX_QUOTA: u64 = 1_125_899_906_842_624;
+use store_book::{MAX_QUOTA, MAX_TENANTS};
 
 /// The tenant that a word spells: a name, `=`, and a quota of one or more decimal digits.
 fn read_tenant(word: &str) -> Option<(&str, u64)>
@@ -41,7 +36,7 @@ fn has_name(tenants: &[(String, u64)], name: &str) -> bool
 
 /// Adds the tenant that a word spells.
 fn add_tenant(alloc: Global, word: &str, tenants: &mut Vec<(String, u64)>) -> Result<(), Stop>
-    ensures added { OnOk result ((tenant : Tenant) × IsTenantWord word.now tenant × (list_any (λ t. same_text t.name tenant.name) (tenants_shown tenants.old.items) ≡ false) × (length tenants.old.items < most_tenants) × (tenants_shown tenants.new.items ≡ tenants_shown tenants.old.items ++ tenant ∷ [])) }
+    ensures added { OnOk result ((tenant : Tenant) × IsTenantWord word.now tenant × (list_any (λ t. same_text t.name tenant.name) (tenants_shown tenants.old.items) ≡ false) × (length tenants.old.items < max_tenants) × (tenants_shown tenants.new.items ≡ tenants_shown tenants.old.items ++ tenant ∷ [])) }
     ensures refused { IfErr result (λ e. (e ≡ Stop.Memory) ⊎ ((e ≡ Stop.BadTenant) × IsRefusedAfter (tenants_shown tenants.old.items) word.now)) }
 {
     let Some((name, quota)) = read_tenant(word) else {

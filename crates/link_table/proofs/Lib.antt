@@ -2,7 +2,6 @@ pub mod Accepted
 pub mod LinkRows
 pub mod RepoRows
 pub mod Runs
-pub mod SortedRows
 pub mod Soundness
 pub mod TenantLists
 pub mod Weights

@@ -12,14 +12,14 @@ use Rattle.std.specs.FinMap.{find, get, entries, from_entries, is_sorted, get-fr
 use Rattle.std.specs.FinMap.{insert as finsert, remove as fremove}
 use Rattle.std.proofs.lemmas.List.{length-map}
 use Rattle.std.proofs.lemmas.Option.{slice_get-map}
+use Rattle.blob_digest.proofs.ListLemmas.{filter-map, map-remove}
 use Rattle.blob_digest.specs.Keys.{Text, Link, text_cmp, link_cmp, same_text}
 use Rattle.blob_digest.proofs.KeyOrders.{link_cmp_total, exact_link}
 use Rattle.blob_digest.proofs.RowLemmas.{from_entries-remove}
 use Rattle.link_table.specs.Linked.{Linked, sizes, blobs, blobs_in, HasOneSize}
 use Rattle.link_table.specs.Rows.{link_shown, links_shown}
 use Rattle.link_table.specs.declared.rows.LinkRow.{LinkRow}
-use Rattle.link_table.proofs.SortedRows.{IsApart-sorted, is_sorted-remove, entries-sorted, from_entries-put, is_sorted_put, gap, missing, put_at, found_at, map_at}
-use Rattle.link_table.proofs.RepoRows.{map_less}
+use Rattle.blob_digest.proofs.SortedRows.{IsApart-sorted, is_sorted-remove, entries-sorted, from_entries-put, is_sorted_put, gap, missing, put_at, found_at, map_at}
 use Rattle.link_table.proofs.Weights.{IsBlobs-rows, IsBlobs-blobs, IsBlobs-unique}
 
 module _ (rows : List LinkRow) (sorted : is_sorted link_cmp (map link_shown rows) ≡ true) (r d : Text) where
@@ -55,7 +55,7 @@ module _ (rows : List LinkRow) (sorted : is_sorted link_cmp (map link_shown rows
   -- a link taken out
   module _ (i : ℕ) (l : LinkRow) (within : i < length rows) (is : HoldsAt (λ l. link_cmp (l.repo, l.digest) (r, d) ≡ Equal) rows i) (rows' : List LinkRow) (gone : rows' ≡ remove rows i) where
     lost : map link_shown rows' ≡ remove (map link_shown rows) i
-    lost = ap (λ rs. map link_shown rs) gone ∙ map_less link_shown rows i
+    lost = ap (λ rs. map link_shown rs) gone ∙ map-remove link_shown rows i
 
     key : (get_or (map link_shown rows) i (link_shown l)).0 ≡ (r, d)
     key = ap (λ (e : Link × ℕ). e.0) (map_at link_shown rows i l) ∙ exact_link ((get_or rows i l).repo, (get_or rows i l).digest) (r, d) (is l)
@@ -106,13 +106,6 @@ module _ (passes : Text → Bool) where
 
 -- ---- what a repository holds, in order
 
-filter_map : {A B : Type 0} (p : B → Bool) (f : A → B) (xs : List A) → filter p (map f xs) ≡ map f (filter (λ x. p (f x)) xs)
-filter_map p f [] = refl
-filter_map p f (x ∷ xs) = elim (p (f x)) as (λ b. cond b (f x ∷ filter p (map f xs)) (filter p (map f xs)) ≡ map f (cond b (x ∷ filter (λ y. p (f y)) xs) (filter (λ y. p (f y)) xs))) [
-  | true ↦ ap (λ ys. f x ∷ ys) (filter_map p f xs)
-  | false ↦ filter_map p f xs
-]
-
 twice : {A B C : Type 0} (g : B → C) (f : A → B) (o : Option A) → option_map g (option_map f o) ≡ option_map (λ x. g (f x)) o
 twice g f None = refl
 twice g f (Some x) = refl
@@ -122,7 +115,7 @@ pub blobs_in-sorted : (l : Linked) (rows : List LinkRow) → is_sorted link_cmp 
 blobs_in-sorted l rows sorted shown repo i =
     let of_repo : Link × ℕ → Bool = λ e. same_text e.0.0 repo in
     let read : Link × ℕ → Text × ℕ = λ e. (e.0.1, e.1) in
-    let listed : filter of_repo (entries l.links) ≡ map link_shown (filter (λ l. same_text l.repo repo) rows) = ap (λ m. filter of_repo (entries m)) shown ∙ ap (filter of_repo) (entries-sorted link_cmp link_cmp_total exact_link (map link_shown rows) sorted) ∙ filter_map of_repo link_shown rows in
+    let listed : filter of_repo (entries l.links) ≡ map link_shown (filter (λ l. same_text l.repo repo) rows) = ap (λ m. filter of_repo (entries m)) shown ∙ ap (filter of_repo) (entries-sorted link_cmp link_cmp_total exact_link (map link_shown rows) sorted) ∙ filter-map of_repo link_shown rows in
     ap (λ es. slice_get (map read es) i) listed
     ∙ slice_get-map read (map link_shown (filter (λ l. same_text l.repo repo) rows)) i
     ∙ ap (option_map read) (slice_get-map link_shown (filter (λ l. same_text l.repo repo) rows) i)

@@ -1,15 +1,15 @@
 -- The rows of repositories, in the order of their names, as a set.
-use Rattle.std.proofs.Common.{◌≡◌, ℕ, ◌<◌, ◌≤◌, Bool, true, false, cond, not, List, [], ◌∷◌, ◌++◌, length, map, get_or, take, drop, Option, Some, None, is_some, Ok, Err, refl, sym, ap, ◌∙◌}
-use Prim.Native.Nat.{suc}
+use Rattle.std.proofs.Common.{◌≡◌, ℕ, ◌<◌, ◌≤◌, Bool, true, false, cond, not, List, [], ◌∷◌, length, map, get_or, Option, Some, None, is_some, Ok, Err, refl, sym, ap, ◌∙◌}
 use Rattle.std.specs.Ordering.{eq_by_cmp}
 use Rattle.std.specs.declared.cmp.Ordering.TheVariants.{Equal}
 use Rattle.std.specs.Cmp.Lexicographic.{nat_list_cmp_total}
-use Rattle.std.specs.List.{count_by, insert, remove, HoldsAt, take-map, drop-map}
+use Rattle.std.specs.List.{count_by, insert, remove, HoldsAt}
 use Rattle.std.specs.List.Sorted.{IsBinarySearchResult}
 use Rattle.std.specs.FinMap.{get, from_entries, is_sorted, get-from_entries, get-insert, get-remove}
 use Rattle.std.proofs.lemmas.Bool.{le-leb, lt-leb, and_from, and_left, and_right}
-use Rattle.std.proofs.lemmas.List.{map-append, length-map}
+use Rattle.std.proofs.lemmas.List.{length-map}
 use Rattle.std.proofs.lemmas.Map.Lookups.{exact_bytes}
+use Rattle.blob_digest.proofs.ListLemmas.{map-remove}
 use Rattle.blob_digest.specs.declared.refusal.Refusal.TheVariants.{LimitReached}
 use Rattle.blob_digest.specs.Sets as set
 use Rattle.blob_digest.specs.Sets.{marked}
@@ -18,14 +18,11 @@ use Rattle.blob_digest.specs.Tenants.{Tenant, is_tenants, repos_in}
 use Rattle.blob_digest.proofs.RowLemmas.{from_entries-remove, no_tie}
 use Rattle.blob_digest.proofs.SetLemmas.{insert_there}
 use Rattle.link_table.specs.Linked.{Linked, appear, cannot_appear}
-use Rattle.link_table.proofs.SortedRows.{IsApart-sorted, is_sorted-remove, entries-sorted, from_entries-put, is_sorted_put, gap, missing, put_at, found_at, map_at}
+use Rattle.blob_digest.proofs.SortedRows.{IsApart-sorted, is_sorted-remove, entries-sorted, from_entries-put, is_sorted_put, gap, missing, put_at, found_at, map_at}
 
 -- a repository as a row with nothing beside it
 abbrev pub alone : Text → Text × Unit {0}
 alone r = (r, tt {0})
-
-pub map_less : {A B : Type 0} (f : A → B) (xs : List A) (i : ℕ) → map f (remove xs i) ≡ remove (map f xs) i
-map_less f xs i = map-append f (take i xs) (drop (suc i) xs) ∙ (λ j. sym (take-map f i xs) j ++ sym (drop-map f (suc i) xs) j)
 
 keys_marked : (rs : List Text) → map (λ (e : Text × Unit {0}). e.0) (marked rs) ≡ rs
 keys_marked [] = refl
@@ -60,7 +57,7 @@ module _ (rs : List Text) (sorted : is_sorted text_cmp (marked rs) ≡ true) whe
   -- a repository taken out
   module _ (q : Text) (i : ℕ) (within : i < length rs) (is : HoldsAt (λ r. text_cmp r q ≡ Equal) rs i) (rs' : List Text) (gone : rs' ≡ remove rs i) where
     lost : marked rs' ≡ remove (marked rs) i
-    lost = ap marked gone ∙ map_less alone rs i
+    lost = ap marked gone ∙ map-remove alone rs i
 
     key : (get_or (marked rs) i (alone q)).0 ≡ q
     key = ap (λ (e : Text × Unit {0}). e.0) (map_at alone rs i q) ∙ exact_bytes (get_or rs i q) q (is q)

@@ -8,7 +8,7 @@ use Rattle.std.specs.Ordering.{is_lt, is_eq, ordering_then, ordering_reverse, or
 use Rattle.std.specs.Cmp.Lexicographic.{nat_list_cmp_total, texts_ties}
 use Rattle.std.specs.List.Sorted.{IsSortedBy, IsNonDecreasingBy, IsPartitionedBy, IsPartitionPoint}
 use Rattle.std.specs.FinMap.{is_sorted}
-use Rattle.std.proofs.lemmas.Bool.{true≢false}
+use Rattle.std.proofs.lemmas.Bool.{true≢false, false_from_ne_true}
 use Rattle.std.proofs.lemmas.List.{get_or-drop, length-drop}
 use Rattle.std.proofs.lemmas.List.Sorted.{searchable_from_sorted}
 use Rattle.std.proofs.lemmas.Map.Entries.{option_filter}
@@ -16,11 +16,7 @@ use Rattle.blob_digest.specs.Keys.{Text, text_cmp, link_cmp, same_text}
 use Rattle.blob_digest.proofs.KeyOrders.{link_cmp_total}
 use Rattle.link_table.specs.Rows.{link_shown}
 use Rattle.link_table.specs.declared.rows.LinkRow.{LinkRow}
-use Rattle.link_table.proofs.SortedRows.{rises_at}
-
-fails : (b : Bool) → (b ≡ true → ⊥) → b ≡ false
-fails true h = absurd (h refl)
-fails false h = refl
+use Rattle.blob_digest.proofs.SortedRows.{rises_at}
 
 module _ {A : Type 0} (p : A → Bool) where
   none_passes : (zs : List A) → ((k : ℕ) (d : A) → k < length zs → p (get_or zs k d) ≡ false) → (i : ℕ) → (slice_get (filter p zs) i ≡ None) × (option_filter p (slice_get zs i) ≡ None)
@@ -39,7 +35,7 @@ module _ {A : Type 0} (p : A → Bool) where
       by_first true is zero rest = rw is refl
       by_first true is (suc j) rest = rw is (rest j)
       by_first false is j rest =
-          let none = none_passes (z ∷ zs) (λ k d lt. fails (p (get_or (z ∷ zs) k d)) (λ h. true≢false (sym (run 0 k d (omega arith) lt h) ∙ is))) j in
+          let none = none_passes (z ∷ zs) (λ k d lt. false_from_ne_true (p (get_or (z ∷ zs) k d)) (λ h. true≢false (sym (run 0 k d (omega arith) lt h) ∙ is))) j in
           none.0 ∙ sym none.1
 
   -- what fails in front may be left out

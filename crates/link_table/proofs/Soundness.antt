@@ -8,7 +8,7 @@ use Rattle.std.specs.Ordering.{eq_by_cmp}
 use Rattle.std.specs.Cmp.{Equal-is}
 use Rattle.std.specs.FinMap.{FinMap, get, insert, is_sorted, get-empty, get-insert}
 use Rattle.std.specs.FinMap.{remove as fremove}
-use Rattle.std.proofs.lemmas.Bool.{eqb-true, cases_eq}
+use Rattle.std.proofs.lemmas.Bool.{eqb-true, cases_eq, ne_eqb}
 use Rattle.std.proofs.lemmas.List.{length-replicate, get_or-replicate}
 use Rattle.std.proofs.lemmas.Option.{slice_get_read, get_or_from_slice_get}
 use Rattle.blob_digest.specs.Keys.{Text, Link, text_cmp, link_cmp}
@@ -30,13 +30,9 @@ option_eq_some : (o : Option ℕ) (t : ℕ) → option_eq nat_eq o (Some t) ≡ 
 option_eq_some None t e = cc
 option_eq_some (Some x) t e = ap Some (eqb-true x t e)
 
-eq_only : (x y : ℕ) (b : Bool) → nat_eq x y ≡ b → (x ≡ y → ⊥) → b ≡ false
-eq_only x y true e differ = absurd (differ (eqb-true x y e))
-eq_only x y false e differ = refl
-
 -- a repository has one tenant
 others : (tenants : List Tenant) (t u : ℕ) (repo : Text) → is_tenants tenants t repo ≡ true → (u ≡ t → ⊥) → is_tenants tenants u repo ≡ false
-others tenants t u repo own differ = ap (λ o. option_eq nat_eq o (Some u)) (option_eq_some (tenant_of tenants repo) t own) ∙ eq_only t u (nat_eq t u) refl (λ e. differ (sym e))
+others tenants t u repo own differ = ap (λ o. option_eq nat_eq o (Some u)) (option_eq_some (tenant_of tenants repo) t own) ∙ ne_eqb t u (λ e. differ (sym e))
 
 -- a number that is read from a list
 pub read_at : (xs : List ℕ) (i x : ℕ) → i < length xs → x ≡ get_or xs i x → x ≡ slice_index xs i

@@ -7,23 +7,22 @@ use Rattle.std.specs.declared.alloc.Global.{Global}
 use Rattle.std.specs.declared.cmp.Ordering.TheVariants.{Less, Equal, Greater}
 use Rattle.std.specs.Ordering.{is_lt, is_eq, ordering_then, ordering_reverse, nat_cmp}
 use Rattle.std.specs.Option.{option_eq}
-use Rattle.std.specs.Cmp.{IsTotalOrder, tied_itself}
+use Rattle.std.specs.Cmp.{IsTotalOrder}
 use Rattle.std.specs.Cmp.Lexicographic.{nat_list_cmp_total, texts_ties}
-use Rattle.std.specs.Cmp.Lexicographic.{same_text as text_is}
 use Rattle.std.specs.List.{All, AllByRecursion, AllAdjacentBelow, list_any, count_by, position}
 use Rattle.std.specs.List.Sorted.{IsPermutation, IsSortedBy, IsStrictlySortedBy}
-use Rattle.std.proofs.lemmas.Bool.{cases_order, true≢false, eqb-true}
-use Rattle.std.proofs.lemmas.Bool.Decides.{nat_tests}
+use Rattle.std.proofs.lemmas.Bool.{cases_order, true≢false, ne_eqb, eq-eqb, false_from_ne_true}
 use Rattle.std.proofs.lemmas.List.Elements.{All-map}
 use Rattle.std.proofs.lemmas.List.Quantifiers.{position-Some}
 use Rattle.std.proofs.lemmas.List.Sorted.{All-permutation, length_permutation, sum_by-IsPermutation, IsPermutation-sym, IsPermutation-map}
 use Rattle.std.proofs.lemmas.List.Sums.{sum_by-cons}
+use Rattle.blob_digest.proofs.KeyOrders.{same_itself, text_is_same}
 use Rattle.blob_digest.specs.Keys.{Text, text_cmp, same_text, tenant_name}
 use Rattle.blob_digest.specs.Names.{IsComponent}
 use Rattle.blob_digest.specs.Tenants.{Tenant, tenant_of, is_tenants}
 use Rattle.blob_digest.proofs.RowLemmas.{is_some-position, position-map, sum_by-map}
 use Rattle.link_table.specs.Lookups.{has_tenant}
-use Rattle.link_table.proofs.SortedRows.{map_at}
+use Rattle.blob_digest.proofs.SortedRows.{map_at}
 use Rattle.link_table.specs.Tenancy.{HasNames, IsWithinLimits, AreTenants, tenant_shown, tenants_shown}
 
 -- ---- how many pass a test
@@ -61,12 +60,6 @@ module _ {K : Type 0} (R : K → K → Ordering) (o : IsTotalOrder R) where
       let first = next 0 x (omega arith) in
       ((first, below_all (g (h x)) (g (h y)) (map g (map h ys)) first rest.0), rest)
 
-same_as : (a b : Text) → same_text a b ≡ true → a ≡ b
-same_as a b h = text_is a b (sym h)
-
-same_itself : (a : Text) → same_text a a ≡ true
-same_itself a = texts_ties a a ∙ ap is_eq (tied_itself nat_list_cmp_total a)
-
 not_same : (a b : Text) (r : Bool) → same_text a b ≡ r → text_cmp a b ≡ Less → r ≡ false
 not_same a b r is less = sym is ∙ texts_ties a b ∙ ap is_eq less
 
@@ -83,7 +76,7 @@ unfolding IsStrictlySortedBy
 once [] up name = omega arith
 once (t ∷ ts) up name = rw (count_by-cons (λ t. same_text t.name name) t ts) (elim (same_text t.name name) as (λ b. same_text t.name name ≡ b → cond b 1 0 + count_by (λ t. same_text t.name name) ts ≤ 1) [
   | true ↦ λ is.
-      let none : count_by (λ t. same_text t.name name) ts ≡ 0 = ap (λ a. count_by (λ t. same_text t.name a) ts) (sym (same_as t.name name is)) ∙ unnamed t.name ts up.0 in
+      let none : count_by (λ t. same_text t.name name) ts ≡ 0 = ap (λ a. count_by (λ t. same_text t.name a) ts) (sym (text_is_same t.name name is)) ∙ unnamed t.name ts up.0 in
       omega arith
   | false ↦ λ is. (let rest = once ts up.1 name in omega arith)
 ] refl)
@@ -113,17 +106,6 @@ any_place p (x ∷ xs) (suc j) d lt h = rw (any_place p xs j d (omega arith) h) 
     or_true true = refl
     or_true false = refl
 
-differ : (i t : ℕ) (r : Bool) → nat_eq i t ≡ r → (i ≡ t → ⊥) → r ≡ false
-differ i t true e h = absurd (h (eqb-true i t e))
-differ i t false e h = refl
-
-itself : (t : ℕ) → nat_eq t t ≡ true
-itself t = grind (arith, nat_tests)
-
-fails : (b : Bool) → (b ≡ true → ⊥) → b ≡ false
-fails true h = absurd (h refl)
-fails false h = refl
-
 module _ (ts : List Tenant) (names : HasNames ts) (t : ℕ) (lt : t < length ts) (d : Tenant) (q : Text) where
   abbrev named : Tenant → Bool
   named x = same_text x.name q
@@ -138,9 +120,9 @@ module _ (ts : List Tenant) (names : HasNames ts) (t : ℕ) (lt : t < length ts)
   at_place (Some i) some b is =
       let first = position-Some named ts i d some in
       elim (cases_order i t) [
-        | inl e ↦ rw e (itself t ∙ sym (sym is ∙ ap (λ k. named (get_or ts k d)) (sym e) ∙ first.1))
-        | inr (inl below) ↦ differ i t (nat_eq i t) refl (λ e. omega arith) ∙ sym (fails b (λ h. alone i t below lt first.1 (is ∙ h)))
-        | inr (inr above) ↦ differ i t (nat_eq i t) refl (λ e. omega arith) ∙ sym (fails b (λ h. alone t i above first.0 (is ∙ h) first.1))
+        | inl e ↦ rw e (eq-eqb t t refl ∙ sym (sym is ∙ ap (λ k. named (get_or ts k d)) (sym e) ∙ first.1))
+        | inr (inl below) ↦ ne_eqb i t (λ e. omega arith) ∙ sym (false_from_ne_true b (λ h. alone i t below lt first.1 (is ∙ h)))
+        | inr (inr above) ↦ ne_eqb i t (λ e. omega arith) ∙ sym (false_from_ne_true b (λ h. alone t i above first.0 (is ∙ h) first.1))
       ]
 
 -- a repository is a tenant's where its name begins with the tenant's
@@ -162,7 +144,7 @@ pub tenant_of-rows : (rows : List (String Global × ℕ)) (repo name : Text) →
 tenant_of-rows rows repo name is = position-map (λ t. same_text t.name (tenant_name repo)) tenant_shown rows ∙ ap (λ n. position (λ t. same_text (string_bytes t.0) n) rows) (sym is)
 
 pub is_tenants-found : (ts : List Tenant) (repo : Text) (t : ℕ) → tenant_of ts repo ≡ Some t → is_tenants ts t repo ≡ true
-is_tenants-found ts repo t found = ap (λ o. option_eq nat_eq o (Some t)) found ∙ itself t
+is_tenants-found ts repo t found = ap (λ o. option_eq nat_eq o (Some t)) found ∙ eq-eqb t t refl
 
 -- ---- what the checks find
 

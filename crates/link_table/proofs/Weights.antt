@@ -7,26 +7,18 @@ use Rattle.std.specs.Cmp.Lexicographic.{nat_list_cmp_total}
 use Rattle.std.specs.FinMap.{FinMap, entries, find, get, insert, remove, from_entries, get-entries, get-from_entries, get-insert, get-remove, same_map}
 use Rattle.std.proofs.lemmas.Bool.{true≢false}
 use Rattle.std.proofs.lemmas.Map.Lookups.{exact_bytes}
+use Rattle.blob_digest.proofs.OptionLemmas.{some_none, some_same}
 use Rattle.blob_digest.specs.Keys.{Text, Link, text_cmp, link_cmp}
-use Rattle.blob_digest.proofs.KeyOrders.{link_cmp_total, exact_link}
+use Rattle.blob_digest.proofs.KeyOrders.{link_cmp_total, exact_link, tied_text}
 use Rattle.blob_digest.proofs.RowLemmas.{no_tie}
 use Rattle.blob_digest.proofs.MapSums.{sum_new, insert-remove, insert_back}
 use Rattle.link_table.specs.Linked.{sizes, blobs, total_size, HasOneSize, IsSizeOf}
-
-some_none : {A B : Type 0} {x : A} → Some x ≡ None → B
-some_none e = cc
-
-some_same : {A : Type 0} {x y : A} → Some x ≡ Some y → x ≡ y
-some_same e = cc
 
 miss : (k : Link) (e : Link × ℕ) (es : List (Link × ℕ)) → (k ≡ e.0 → ⊥) → find link_cmp k (e ∷ es) ≡ find link_cmp k es
 miss k e es differ = rw (no_tie link_cmp exact_link k e.0 differ) refl
 
 hit : (k : Link) (e : Link × ℕ) (es : List (Link × ℕ)) → k ≡ e.0 → find link_cmp k (e ∷ es) ≡ Some e.1
 hit k e es same = rw same (rw (ap is_eq (tied_itself link_cmp_total e.0)) refl)
-
-tied_text : (q x : Text) → eq_by_cmp text_cmp q x ≡ true → q ≡ x
-tied_text q x tie = exact_bytes q x ((Equal-is (text_cmp q x)).0 tie)
 
 untied_text : (q x : Text) → eq_by_cmp text_cmp q x ≡ false → q ≡ x → ⊥
 untied_text q x tie same = true≢false (sym (ap is_eq (tied_itself nat_list_cmp_total q)) ∙ ap (eq_by_cmp text_cmp q) same ∙ tie)

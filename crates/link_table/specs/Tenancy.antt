@@ -15,11 +15,18 @@ pub record HasNames (ts : List Tenant) : Type 0 where
   pub components : All (λ t. IsComponent t.name) ts
   pub apart : (name : Text) → count_by (λ t. same_text t.name name) ts ≤ 1
 
+-- the most tenants that a store has, and the largest quota in bytes
+abbrev pub max_tenants : ℕ
+max_tenants = 256
+
+abbrev pub max_quota : ℕ
+max_quota = 2 ^ 50
+
 -- 1 to 256 tenants, with quotas of at most 2^50 bytes
 pub record IsWithinLimits (ts : List Tenant) : Type 0 where
   pub some : 0 < length ts
-  pub few : length ts ≤ 256
-  pub quotas : All (λ t. t.quota ≤ 2 ^ 50) ts
+  pub few : length ts ≤ max_tenants
+  pub quotas : All (λ t. t.quota ≤ max_quota) ts
 
 -- Why a list of tenants is refused: for a name, and else for a limit, and else for want of memory alone.
 abbrev pub RefusesTenants : Refusal → List Tenant → Type 0

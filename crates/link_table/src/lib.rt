@@ -11,6 +11,7 @@ mod rows;
 mod tenants;
 
 pub use links::Links;
+pub use tenants::{MAX_QUOTA, MAX_TENANTS};
 
 #[cfg(test)]
 mod tests;

@@ -16,7 +16,7 @@ use std::alloc::Global;
 use std::marker::Model;
 
 /// The most repositories that a tenant may have.
-const MOST_REPOS: usize = 1024;
+const MAX_REPOS: usize = 1024;
 
 /// Tenants with quotas, their repositories, the links of repositories to blobs, and what each tenant
 /// is charged. Contracts see these four; what a tenant uses follows from them.
@@ -83,7 +83,6 @@ impl Links {
         ensures short { length repo.now ≤ 255 }
         ensures tenants { AreTenants self.now.tenants }
     {
-        let _text = repo.text();
         match tenant_at(self.tenants.as_slice(), repo.tenant()) {
             Some(t) => Ok(t as u16),
             None => Err(Refusal::NameUnknown),
@@ -160,7 +159,7 @@ impl Links {
             return Ok(false);
         };
         let name = self.tenants[tenant as usize].0.as_str();
-        if repos_named(self.repos.as_slice(), name) >= MOST_REPOS {
+        if repos_named(self.repos.as_slice(), name) >= MAX_REPOS {
             return Err(Refusal::LimitReached);
         }
         let copy = repo.clone()?;

@@ -1,20 +1,20 @@
 //! Which lists of tenants make a table.
 
-ghost use Rattle.std.specs.Prelude.{◌≡◌, ◌≤◌, ◌<◌, ◌^◌, ◌↔◌, IsTrue, IfOk, IfErr, position, string_bytes};
+ghost use Rattle.std.specs.Prelude.{◌≡◌, ◌≤◌, ◌<◌, ◌↔◌, IsTrue, IfOk, IfErr, position, string_bytes};
 ghost use Rattle.std.specs.List.{All, IsAllAdjacentAnswer};
 ghost use Rattle.std.specs.List.Sorted.{IsPermutation};
 ghost use Rattle.std.specs.Ordering.{is_lt};
 ghost use Rattle.blob_digest.specs.Keys.{text_cmp, same_text};
 ghost use Rattle.blob_digest.specs.Names.{IsComponent};
-ghost use Rattle.link_table.specs.Tenancy.{AreTenants, HasNames, IsWithinLimits, RefusesTenants, tenants_shown};
+ghost use Rattle.link_table.specs.Tenancy.{AreTenants, HasNames, IsWithinLimits, RefusesTenants, max_quota, tenants_shown};
 
 use blob_digest::{Refusal, is_component};
 
 /// The most tenants that a table may have.
-const MOST_TENANTS: usize = 256;
+pub const MAX_TENANTS: usize = 256;
 
 /// The greatest quota, in bytes.
-const MOST_BYTES: u64 = 1 << 50;
+pub const MAX_QUOTA: u64 = 1 << 50;
 
 /// Which of the tenants has a name.
 pub fn tenant_at(tenants: &[(String, u64)], name: &str) -> Option<usize>
@@ -39,16 +39,16 @@ fn names_rise(tenants: &[(String, u64)]) -> bool
 
 /// Whether no quota is beyond the limit.
 fn are_quotas(tenants: &[(String, u64)]) -> bool
-    ensures { IsTrue result ↔ All (λ t. t.1 ≤ 2 ^ 50) tenants.now }
+    ensures { IsTrue result ↔ All (λ t. t.1 ≤ max_quota) tenants.now }
 {
-    tenants.iter().all(|t| t.1 <= MOST_BYTES)
+    tenants.iter().all(|t| t.1 <= MAX_QUOTA)
 }
 
 /// Whether number and quotas of the tenants are within the limits.
 fn are_within_limits(tenants: &[(String, u64)]) -> bool
     ensures { IsTrue result ↔ IsWithinLimits (tenants_shown tenants.now) }
 {
-    if tenants.is_empty() || tenants.len() > MOST_TENANTS {
+    if tenants.is_empty() || tenants.len() > MAX_TENANTS {
         return false;
     }
     are_quotas(tenants)

@@ -5,10 +5,11 @@ use Rattle.std.specs.Prelude.{slice_get, position, nat_le, ◌&&◌, ◌||◌, r
 use Rattle.std.specs.Option.{option_map, option_map_or}
 use Rattle.std.specs.List.{list_any}
 use Rattle.std.proofs.lemmas.Bool.{and_from, le-leb}
-use Rattle.std.specs.Cmp.Lexicographic.{same_text as text_is, bytes_decides}
+use Rattle.std.specs.Cmp.Lexicographic.{same_text as text_is}
 use Rattle.std.proofs.Math.Seq.{take-length}
 use Rattle.std.proofs.lemmas.Option.{slice_get-get_or}
 use Rattle.std.proofs.lemmas.List.Quantifiers.{position-Some}
+use Rattle.blob_digest.proofs.KeyOrders.{same_itself}
 use Rattle.blob_digest.proofs.RowLemmas.{is_some-position}
 use Rattle.blob_digest.specs.Keys.{Text, same_text}
 use Rattle.slot_table.specs.declared.phase.Phase.TheVariants as phase
@@ -69,17 +70,13 @@ orphan_from-tail slots n o is =
 
 -- ---- the slot of a digest
 
--- a text is itself
-text_same : (t : Text) → same_text t t ≡ true
-text_same t = (bytes_decides t t).1 refl
-
 or_right : (a b : Bool) → b ≡ true → (a || b) ≡ true
 or_right a b e = elim a as (λ x. (x || b) ≡ true) [ true ↦ refl | false ↦ e ]
 
 -- a blob's digest is found
 pub any_at : (slots : List Slot) (k : ℕ) (h : Held) → held_at slots k ≡ Some h → list_any (has_digest h.digest) slots ≡ true
 any_at [] k h e = cc
-any_at (s ∷ slots) zero h e = rw (e, text_same h.digest) refl
+any_at (s ∷ slots) zero h e = rw (e, same_itself h.digest) refl
 any_at (s ∷ slots) (suc k) h e = or_right (has_digest h.digest s) (list_any (has_digest h.digest) slots) (any_at slots k h e)
 
 -- a digest that isn't found has no slot

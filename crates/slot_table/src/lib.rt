@@ -10,7 +10,7 @@ mod row;
 mod table;
 
 pub use phase::Phase;
-pub use table::SlotTable;
+pub use table::{MAX_SLOTS, SlotTable};
 
 #[cfg(test)]
 mod tests;

@@ -18,6 +18,9 @@ use std::collections::BTreeMap;
 use std::marker::Model;
 use std::sync::Arc;
 
+/// The most slots that a table has.
+pub const MAX_SLOTS: u32 = 65_536;
+
 /// The slots of a store, 1 to 65,536, each with its generation and what it holds. Contracts see
 /// the list of the slots. No digest has two slots, and a condemned blob has no links.
 ///
@@ -99,7 +102,7 @@ impl SlotTable {
         if slots < 1 {
             return Err(Refusal::LimitReached);
         }
-        if slots > 65536 {
+        if slots > MAX_SLOTS {
             return Err(Refusal::LimitReached);
         }
         let rows = empty_rows(alloc, slots, first_generation)?;

@@ -1,9 +1,8 @@
 -- The lines that the layers give are the book's text.
-use Rattle.std.proofs.Common.{◌≡◌, ℕ, ◌+◌, ◌<◌, ◌≤◌, Bool, true, false, cond, List, [], ◌∷◌, ◌++◌, length, map, get_or, codes, Option, Some, None, refl, sym, ap, ◌∙◌, arith, append-nil}
+use Rattle.std.proofs.Common.{◌≡◌, ℕ, ◌+◌, ◌<◌, ◌≤◌, Bool, true, false, cond, List, [], ◌∷◌, ◌++◌, length, map, get_or, Option, Some, None, refl, sym, ap, ◌∙◌, arith, append-nil}
 use Prim.Native.Nat.{suc}
 use Rattle.std.specs.Prelude.{filter, ◌==◌, ◌&&◌, slice_index, T}
 use Rattle.std.specs.declared.cmp.Ordering.{Ordering}
-use Rattle.std.specs.Fmt.{decimal}
 use Rattle.std.specs.List.{flat_map, enumerate_from, count_by, AllByRecursion}
 use Rattle.std.specs.Ordering.{is_lt}
 use Rattle.std.specs.Option.{option_map_or}
@@ -12,19 +11,20 @@ use Rattle.std.specs.FinMap.Entries.{below_all}
 use Rattle.std.proofs.lemmas.List.Concat.{flat_map-cons}
 use Rattle.std.proofs.lemmas.List.Folds.{flat_map-map}
 use Rattle.std.proofs.lemmas.List.Sums.{length-filter, sum_by-cons}
+use Rattle.blob_digest.proofs.ListLemmas.{all_weaker}
 use Rattle.blob_digest.specs.Sets as set
 use Rattle.blob_digest.proofs.KeyOrders.{link_cmp_total, exact_link}
 use Rattle.blob_digest.proofs.RowLemmas.{entries-empty, found_value}
 use Rattle.slot_table.specs.Slots.{Slot, Held, slot_of, links_at}
 use Rattle.link_table.specs.Linked.{Linked, Tenant, used_in, blobs_in, repos_of}
-use Rattle.link_table.proofs.SortedRows.{IsApart-sorted, entries-sorted}
+use Rattle.blob_digest.proofs.SortedRows.{IsApart-sorted, entries-sorted}
 use Rattle.upload_table.specs.Sessions.{is_of_repo, listed, sessions_of}
 use Rattle.std.proofs.lemmas.Bool.{and_parts, false≢true}
 use Rattle.upload_table.specs.Uploaded.{Uploaded}
 use Rattle.store_book.specs.Catalog.{Text, Link, Resident, Catalog, is_of, link_cmp, same_text, used, size, count}
 use Rattle.store_book.specs.Layers.{links_of, unlent, book_catalog, IsBook}
 use Rattle.store_book.specs.Lines.{CanPrint, blob_row, links_to, session_row, repo_rows, tenant_rows, book_rows}
-use Rattle.store_book.specs.Printed.{line, blob_line, manifest_line, repo_text, tenant_text, book_text}
+use Rattle.store_book.specs.Printed.{blob_line, blob_text, book_line, book_text, end_line, manifest_text, repo_text, repository_line, tenant_line, tenant_text}
 use Rattle.store_book.proofs.Appending.{use_is}
 use Rattle.store_book.proofs.Ties.{held_of, not_resident}
 
@@ -38,10 +38,6 @@ flat_map-same f g (x ∷ xs) same = flat_map-cons f x xs ∙ (λ i. same.0 i ++ 
 all_same : {X : Type 0} (P : X → Type 0) → ((x : X) → P x) → (xs : List X) → AllByRecursion P xs
 all_same P each [] = tt
 all_same P each (x ∷ xs) = (each x, all_same P each xs)
-
-all_from : {X : Type 0} (P Q : X → Type 0) → ((x : X) → P x → Q x) → (xs : List X) → AllByRecursion P xs → AllByRecursion Q xs
-all_from P Q each [] all = tt
-all_from P Q each (x ∷ xs) all = (each x all.0, all_from P Q each xs all.1)
 
 all_by_index : {X : Type 0} (P : X → Type 0) (d : X) (xs : List X) → ((i : ℕ) → i < length xs → P (get_or xs i d)) → AllByRecursion P xs
 all_by_index P d [] each = tt
@@ -131,40 +127,38 @@ module _ (l : Linked) (u : Uploaded) (slots : List Slot) (max_blob : ℕ) (book 
           let h = held_of slots d k found in
           ap (λ (o : Option Held). option_map_or (λ h. h.links) o 0) h.1 ∙ book.tied.counts k h.0 h.1 ∙ ap (count C) h.2
 
-  linked : (e : Link × ℕ) → get l.links e.0 ≡ Some e.1 → blob_row slots (e.0.1, e.1) ≡ blob_line C e.0
+  linked : (e : Link × ℕ) → get l.links e.0 ≡ Some e.1 → blob_row slots (e.0.1, e.1) ≡ blob_text C e.0
   linked e there =
       let b = book.tied.sizes e.0 e.1 there in
       let length_is : e.1 ≡ size C e.0.1 = b.2 ∙ ap (λ o. option_map_or (λ (b : Resident). length b.bytes) o 0) (sym b.1) in
       let links_are : links_to slots e.0.1 ≡ count C e.0.1 = counted e.0.1 b.0 b.1 in
-      λ i. line (codes "blob " ++ e.0.1 ++ codes " size " ++ decimal (length_is i) ++ codes " links " ++ decimal (links_are i))
+      λ i. blob_line e.0.1 (length_is i) (links_are i)
 
-  blobs_are : (repo : Text) → flat_map (blob_row slots) (blobs_in l repo) ≡ flat_map (blob_line C) (filter (λ l. same_text l.0 repo) (set.items C.links))
+  blobs_are : (repo : Text) → flat_map (blob_row slots) (blobs_in l repo) ≡ flat_map (blob_text C) (filter (λ l. same_text l.0 repo) (set.items C.links))
   blobs_are repo =
-      blobs_same (blob_row slots) (blob_line C) repo (entries l.links) (all_from (λ e. get l.links e.0 ≡ Some e.1) (λ e. blob_row slots (e.0.1, e.1) ≡ blob_line C e.0) linked (entries l.links) (each_found l.links))
-      ∙ ap (λ (ls : List Link). flat_map (blob_line C) (filter (λ l. same_text l.0 repo) ls)) (sym (items_links l.links))
+      blobs_same (blob_row slots) (blob_text C) repo (entries l.links) (all_weaker (λ e. get l.links e.0 ≡ Some e.1) (λ e. blob_row slots (e.0.1, e.1) ≡ blob_text C e.0) linked (entries l.links) (each_found l.links))
+      ∙ ap (λ (ls : List Link). flat_map (blob_text C) (filter (λ l. same_text l.0 repo) ls)) (sym (items_links l.links))
 
-  manifests_are : (repo : Text) → flat_map manifest_line (filter (λ e. same_text e.0.0 repo) (entries C.manifests)) ≡ []
-  manifests_are repo = ap (λ (es : List (Link × Text)). flat_map manifest_line (filter (λ e. same_text e.0.0 repo) es)) (entries-empty link_cmp Text)
+  manifests_are : (repo : Text) → flat_map manifest_text (filter (λ e. same_text e.0.0 repo) (entries C.manifests)) ≡ []
+  manifests_are repo = ap (λ (es : List (Link × Text)). flat_map manifest_text (filter (λ e. same_text e.0.0 repo) es)) (entries-empty link_cmp Text)
 
   repo_is : (t : ℕ) (repo : Text) → repo_rows l u slots t repo ≡ repo_text C t repo
   repo_is t repo =
-      without_manifests (line (codes "repository " ++ repo)) (blobs_are repo) (manifests_are repo) (flat_map-map session_row listed (sessions_of u.sessions t repo))
+      without_manifests (repository_line repo) (blobs_are repo) (manifests_are repo) (flat_map-map session_row listed (sessions_of u.sessions t repo))
 
   tenant_is : (e : ℕ × Tenant) → e.0 < length l.tenants → tenant_rows l u slots e ≡ tenant_text C e
   tenant_is e there =
       let repos_are : flat_map (repo_rows l u slots e.0) (repos_of l e.0) ≡ flat_map (repo_text C e.0) (repos_of l e.0) =
       flat_map-same (repo_rows l u slots e.0) (repo_text C e.0) (repos_of l e.0) (all_same (λ r. repo_rows l u slots e.0 r ≡ repo_text C e.0 r) (repo_is e.0) (repos_of l e.0)) in
       let used_is : used_in l e.0 ≡ used C e.0 = use_is l u slots max_blob e.0 book there in
-      λ i.
-      line (codes "tenant " ++ e.1.name ++ codes " used " ++ decimal (used_is i) ++ codes " quota " ++ decimal e.1.quota ++ codes " next " ++ decimal (slice_index u.next e.0))
-      ++ repos_are i
+      λ i. tenant_line e.1.name (used_is i) e.1.quota (slice_index u.next e.0) ++ repos_are i
 
   -- the layers' lines are the book's text
   pub text_is : book_rows l u slots ≡ book_text C
   text_is =
-      ap (λ (t : Text). line (codes "book") ++ t ++ line (codes "end"))
+      ap (λ (t : Text). book_line ++ t ++ end_line)
       (flat_map-same (tenant_rows l u slots) (tenant_text C) (enumerate_from 0 l.tenants)
-      (all_from (λ e. e.0 < length l.tenants) (λ e. tenant_rows l u slots e ≡ tenant_text C e) tenant_is (enumerate_from 0 l.tenants) (numbers_below l.tenants 0 (length l.tenants) (omega arith))))
+      (all_weaker (λ e. e.0 < length l.tenants) (λ e. tenant_rows l u slots e ≡ tenant_text C e) tenant_is (enumerate_from 0 l.tenants) (numbers_below l.tenants 0 (length l.tenants) (omega arith))))
 
   -- a book can be printed
   pub can_print : CanPrint l u

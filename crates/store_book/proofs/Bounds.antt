@@ -1,5 +1,5 @@
 -- The numbers that a sound book keeps are small.
-use Rattle.std.proofs.Common.{◌≡◌, ℕ, ◌+◌, ◌*◌, ◌<◌, ◌≤◌, ◌^◌, Bool, true, false, cond, not, List, [], ◌∷◌, length, Option, Some, None, is_some, refl, sym, ap, ◌∙◌, subst, arith}
+use Rattle.std.proofs.Common.{◌≡◌, ℕ, ◌+◌, ◌*◌, ◌<◌, ◌≤◌, ◌^◌, Bool, true, false, cond, not, List, [], ◌∷◌, length, Option, Some, None, refl, sym, ap, ◌∙◌, subst, arith}
 use Prim.Native.Nat.{zero, suc}
 use Rattle.std.specs.Prelude.{slice_get, nat_lt, nat_eq, ◌||◌}
 use Rattle.std.specs.Option.{option_eq, option_map_or}
@@ -10,6 +10,7 @@ use Rattle.std.proofs.lemmas.Bool.Decides.{nat_tests}
 use Rattle.std.proofs.lemmas.List.Sums.{sum_by-cons, count_by-le-length}
 use Rattle.std.proofs.lemmas.Map.Lookups.{exact_bytes}
 use Rattle.std.specs.FinMap.{get}
+use Rattle.blob_digest.proofs.OptionLemmas.{some_value}
 use Rattle.blob_digest.specs.Sets as set
 use Rattle.blob_digest.proofs.MapSums.{sum_split}
 use Rattle.store_book.specs.Catalog.{Text, Tenant, Resident, Catalog, tenant_of, is_tenants, quota_of, tenant_holds, blob_share, used, count}
@@ -98,14 +99,10 @@ count_small C lawful d =
     zero_of : (n : ℕ) → nat_lt 0 n ≡ false → n ≡ 0
     zero_of n h = grind (arith, nat_tests)
 
-    known : (o : Option ℕ) → is_some o ≡ true → (t : ℕ) × (o ≡ Some t)
-    known None e = cc
-    known (Some t) e = (t, refl)
-
     no_stranger : list_any (λ r. not (below C.tenants (length C.tenants) r)) (set.items C.repos) ≡ false
     no_stranger = false_from_ne_true (list_any (λ r. not (below C.tenants (length C.tenants) r)) (set.items C.repos)) (λ h.
         let r = some_member nat_list_cmp_total exact_bytes (λ r. not (below C.tenants (length C.tenants) r)) C.repos h in
-        let t = known (tenant_of C.tenants r.0) (lawful.tenants r.0 r.1) in
+        let t = some_value (tenant_of C.tenants r.0) (lawful.tenants r.0 r.1) in
         let there : t.0 < length C.tenants = tenant_there C.tenants r.0 t.0 t.1 in
         let is : below C.tenants (length C.tenants) r.0 ≡ true = ap (λ o. option_map_or (λ t. nat_lt t (length C.tenants)) o false) t.1 ∙ lt-ltb t.0 (length C.tenants) there in
         true≢false (sym r.2 ∙ ap not is))

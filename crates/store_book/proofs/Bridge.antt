@@ -1,9 +1,9 @@
 -- The sums and counts that the layers keep are those of the catalog.
 use Rattle.std.proofs.Common.{◌≡◌, ℕ, ◌+◌, ◌<◌, Bool, true, false, cond, List, [], ◌∷◌, length, Option, Some, None, is_some, refl, sym, ap, ◌∙◌, subst, arith}
 use Prim.Native.Nat.{suc}
-use Rattle.std.specs.Prelude.{◌&&◌, ◌||◌, if◌then◌else◌, map}
+use Rattle.std.specs.Prelude.{◌&&◌, if◌then◌else◌, map}
 use Rattle.std.specs.Option.{option_map}
-use Rattle.std.specs.List.{sum_by, list_any}
+use Rattle.std.specs.List.{sum_by}
 use Rattle.std.specs.Ordering.{eq_by_cmp}
 use Rattle.std.specs.Cmp.{Equal-is}
 use Rattle.std.specs.Cmp.Lexicographic.{nat_list_cmp_total}
@@ -11,9 +11,11 @@ use Rattle.std.specs.FinMap.{FinMap, find, entries, get, from_entries, keys, get
 use Rattle.std.proofs.lemmas.List.Sums.{sum_by-cons}
 use Rattle.std.proofs.lemmas.Bool.{false≢true, and_from, and_parts}
 use Rattle.std.proofs.lemmas.Map.Lookups.{exact_bytes}
+use Rattle.blob_digest.proofs.ListLemmas.{witness}
+use Rattle.blob_digest.proofs.OptionLemmas.{not_some, some_none, some_same}
 use Rattle.blob_digest.specs.Sets as set
 use Rattle.blob_digest.specs.Rows.{IsApart}
-use Rattle.blob_digest.proofs.KeyOrders.{link_cmp_total}
+use Rattle.blob_digest.proofs.KeyOrders.{link_cmp_total, tied_text}
 use Rattle.blob_digest.proofs.RowLemmas.{sum_by-from_entries}
 use Rattle.blob_digest.proofs.MapSums.{list_any_weaker}
 use Rattle.slot_table.specs.Slots.{Slot, Held, Free, Used, Retired, held_at, held_in, IsDistinct}
@@ -32,9 +34,6 @@ module _ {X : Type 0} (p : Text → Bool) (f : X → ℕ) where
 
   abbrev pub share_of : Text × X → ℕ
   share_of e = if p e.0 then f e.1 else 0
-
-  tied_text : (q x : Text) → eq_by_cmp text_cmp q x ≡ true → q ≡ x
-  tied_text q x tie = exact_bytes q x ((Equal-is (text_cmp q x)).0 tie)
 
   find-picked : (es : List (Text × X)) (q : Text) → find text_cmp q (picked es) ≡ cond (p q) (option_map f (find text_cmp q es)) None
   find-picked [] q = none_at (p q)
@@ -112,12 +111,6 @@ get-links_of links k = get-from_entries link_cmp_total (set.marked (keys links))
 abbrev Found : List Slot → List Bool → Text → Resident → Type 0
 Found slots marks d b = (k : ℕ) × (h : Held) × (held_at slots k ≡ Some h) × (h.digest ≡ d) × (b.bytes ≡ h.bytes) × (b.condemned ≡ h.condemned)
 
-some_none : {A B : Type 0} {x : A} → Some x ≡ None → B
-some_none e = cc
-
-some_same : {A : Type 0} {x y : A} → Some x ≡ Some y → x ≡ y
-some_same e = cc
-
 -- a blob that is found is that of a slot
 pub found_slot : (slots : List Slot) (marks : List Bool) (d : Text) (b : Resident) → find text_cmp d (resident_rows slots marks) ≡ Some b → Found slots marks d b
 found_slot [] marks d b found = some_none (sym found)
@@ -134,10 +127,6 @@ found_slot (s ∷ slots) (m ∷ marks) d b found =
   where
     later : Found slots marks d b → Found (s ∷ slots) (m ∷ marks) d b
     later f = (suc f.0, f.1, f.2, f.3, f.4, f.5)
-
-not_some : {A : Type 0} (o : Option A) → ((x : A) → o ≡ Some x → ⊥) → o ≡ None
-not_some None none = refl
-not_some (Some x) none = absurd (none x refl)
 
 suc_same : (k m : ℕ) → suc k ≡ suc m → k ≡ m
 suc_same k m e = omega arith
@@ -161,13 +150,6 @@ IsApart-rows (s ∷ slots) (m ∷ marks) distinct =
     ] refl
 
 -- ---- uses
-
-list_any_exists : {A : Type 0} (p : A → Bool) (xs : List A) → list_any p xs ≡ true → (x : A) × (p x ≡ true)
-list_any_exists p [] h = absurd (false≢true h)
-list_any_exists p (x ∷ xs) h = elim (p x) as (λ b. p x ≡ b → (b || list_any p xs) ≡ true → (x : _) × (p x ≡ true)) [
-  | true ↦ λ is e. (x, is)
-  | false ↦ λ is e. list_any_exists p xs e
-] refl h
 
 is_some_map : (o : Option ℕ) → is_some (option_map mark o) ≡ is_some o
 is_some_map None = refl
@@ -197,7 +179,7 @@ module _ (l : Linked) (u : Uploaded) (slots : List Slot) (marks : List Bool) (ma
       where
         none_at : (b : Bool) → tenant_holds C t q ≡ b → cond b (option_map (λ b. length b.bytes) (find text_cmp q rows)) None ≡ None
         none_at true h =
-            let r = list_any_exists (λ r. is_of C t r && holds C r q) (set.items C.repos) h in
+            let r = witness (λ r. is_of C t r && holds C r q) (set.items C.repos) h in
             let both = and_parts (is_of C t r.0) (holds C r.0 q) r.1 in
             let none = (IsBlobs-blobs (is_tenants l.tenants t) l.links).none q r.0 is both.0 in
             absurd (false≢true (ap is_some (sym none) ∙ sym (holds_is r.0 q) ∙ both.1))

@@ -1,9 +1,9 @@
 -- `Book::close`, from what its calls of the layers did.
-use Rattle.std.proofs.Common.{◌≡◌, ℕ, ◌+◌, ◌-◌, ◌<◌, Bool, true, false, not, List, length, Option, Some, is_some, Ok, Err, refl, sym, ap, ◌∙◌, arith}
+use Rattle.std.proofs.Common.{◌≡◌, ℕ, ◌+◌, ◌-◌, ◌<◌, true, false, not, List, length, Option, Some, is_some, Ok, Err, refl, sym, ap, ◌∙◌, arith}
 use Rattle.std.specs.Prelude.{nat_le, ◌&&◌, slice_index, slice_set}
 use Rattle.std.specs.FinMap.{get, remove, len}
 use Rattle.std.proofs.Math.ListN.{length-set}
-use Rattle.std.proofs.lemmas.Bool.{le-leb}
+use Rattle.std.proofs.lemmas.Bool.{le-leb, false_from_ne_true}
 use Rattle.blob_digest.specs.declared.range.ByteRange.{ByteRange}
 use Rattle.blob_digest.specs.declared.refusal.Refusal.{Refusal}
 use Rattle.blob_digest.specs.declared.refusal.Refusal.TheVariants.{DigestInvalid, StoreFull, NameUnknown}
@@ -24,10 +24,6 @@ use Rattle.store_book.proofs.MapLemmas.{some_same}
 use Rattle.store_book.proofs.Outcomes.{check_passed, some_of_ok, tenant_there}
 use Rattle.store_book.proofs.SessionCharges.{sums-gone}
 use Rattle.store_book.proofs.Ties.{held_of, slot_is_resident, not_resident, rooms}
-
-false_of : (b : Bool) → (b ≡ true → ⊥) → b ≡ false
-false_of true h = absurd (h refl)
-false_of false h = refl
 
 module _ (l : Linked) (u : Uploaded) (slots : List Slot) (max_blob t number after : ℕ) (repo digest : Text) (range : Option ByteRange) (last : Text) (book : IsBook l u slots max_blob)
     (known : known_tenant l repo ≡ Ok t) (checked : check_in u.sessions max_blob (t, number) repo range (length last) ≡ Ok after) where
@@ -67,7 +63,7 @@ module _ (l : Linked) (u : Uploaded) (slots : List Slot) (max_blob t number afte
           let b = slot_is_resident slots (unlent slots) (length-unlent slots) book.tied.distinct k h at in
           let kept : get C.residents digest ≡ Some b.0 = ap (get C.residents) (sym named) ∙ b.1 in
           let no_match : same_bytes (get C.residents digest) whole ≡ false =
-          ap (λ o. same_bytes o whole) kept ∙ false_of (same_bytes (Some b.0) whole) (λ match. other (sym b.2 ∙ text_is_same b.0.bytes whole match)) in
+          ap (λ o. same_bytes o whole) kept ∙ false_from_ne_true (same_bytes (Some b.0) whole) (λ match. other (sym b.2 ∙ text_is_same b.0.bytes whole match)) in
           close_other_bytes no_match ∙ ap Err (sym is)
       close_unkept e (full none no_slot is) =
           let absent = not_resident slots (unlent slots) digest none in

@@ -1,12 +1,12 @@
 -- What a repository, a link and its going do to the number of repositories that hold a digest.
-use Rattle.std.proofs.Common.{◌≡◌, ◌≢◌, ℕ, ◌+◌, Bool, true, false, cond, List, [], ◌∷◌, map, None, is_some, refl, sym, ap, ◌∙◌, arith, inl, inr, zero-add}
+use Rattle.std.proofs.Common.{◌≡◌, ◌≢◌, ℕ, ◌+◌, Bool, true, false, cond, List, map, None, is_some, refl, sym, ap, ◌∙◌, arith, inl, inr}
 use Rattle.std.specs.List.{sum_by, count_by}
 use Rattle.std.specs.Cmp.Lexicographic.{nat_list_cmp_total}
 use Rattle.std.specs.FinMap.{entries, get, remove, get-empty}
 use Rattle.std.specs.Ordering.{eq_by_cmp, is_eq}
 use Rattle.std.specs.Cmp.{tied_itself}
-use Rattle.std.proofs.lemmas.List.Sums.{sum_by-cons}
 use Rattle.std.proofs.lemmas.Map.Lookups.{exact_bytes}
+use Rattle.blob_digest.proofs.ListLemmas.{count_by-none}
 use Rattle.blob_digest.specs.Sets as set
 use Rattle.store_book.specs.Catalog.{Text, Link, Catalog, text_cmp, link_cmp, holds, count}
 use Rattle.store_book.specs.Laws.{Lawful}
@@ -76,10 +76,6 @@ count_other-unlink C r d has x differ = ap (λ s. count (record C { links = s })
 
 -- ---- the same count over the links
 
-zeros : {A : Type 0} (p : A → Bool) → ((x : A) → p x ≡ false) → (xs : List A) → count_by p xs ≡ 0
-zeros {A} p none [] = refl
-zeros {A} p none (x ∷ xs) = sum_by-cons (λ (y : A). cond {A = ℕ} (p y) 1 0) x xs ∙ ap (λ b. cond {A = ℕ} b 1 0 + count_by p xs) (none x) ∙ zero-add (count_by p xs) ∙ zeros p none xs
-
 module _ (C : Catalog) (d : Text) where
   abbrev over : set.Set link_cmp → Catalog
   over s = record C { links = s }
@@ -116,7 +112,7 @@ module _ (C : Catalog) (d : Text) where
 
   counted : (s : set.Set link_cmp) → In_repos s → count (over s) d ≡ by_links s
   counted = map_induct link_cmp_total exact_link (λ (s : set.Set link_cmp). In_repos s → count (over s) d ≡ by_links s)
-      (λ _. zeros (λ q. holds (over set.none) q d) (λ q. ap is_some (get-empty link_cmp (q, d))) (set.items C.repos)
+      (λ _. count_by-none (λ q. holds (over set.none) q d) (λ q. ap is_some (get-empty link_cmp (q, d))) (set.items C.repos)
       ∙ sym (ap (λ (es : List (Link × Unit {0})). count_by (λ l. eq_by_cmp text_cmp d l.1) (map (λ e. e.0) es)) (entries-empty link_cmp (Unit {0}))))
       (λ s l v none rest in_repos. one_more s l none (in_repos l (now link_cmp_total exact_link s l)) (rest (λ q h. in_repos q (still link_cmp_total exact_link s l q h))))
 

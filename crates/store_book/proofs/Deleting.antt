@@ -5,6 +5,7 @@ use Rattle.std.specs.Option.{option_map, option_map_or}
 use Rattle.std.specs.List.{find}
 use Rattle.std.specs.FinMap.{get, remove, contains_key}
 use Rattle.blob_digest.specs.declared.refusal.Refusal.TheVariants.{BlobUnknown}
+use Rattle.blob_digest.proofs.OptionLemmas.{some_value}
 use Rattle.blob_digest.specs.Sets as set
 use Rattle.blob_digest.proofs.RowLemmas.{entries-empty}
 use Rattle.slot_table.specs.declared.phase.Phase.TheVariants as phase
@@ -16,7 +17,7 @@ use Rattle.store_book.specs.Steps.{delete, refers, referrer}
 use Rattle.store_book.specs.Keeping.{linked_slot}
 use Rattle.store_book.specs.Layers.{unlent, catalog_from, book_catalog, slot_shown, IsTied, IsBook}
 use Rattle.store_book.proofs.Counts.{count-unlink}
-use Rattle.store_book.proofs.KeptBlobs.{live_counted, unlent-with_slot, value_of}
+use Rattle.store_book.proofs.KeptBlobs.{live_counted, unlent-with_slot}
 use Rattle.store_book.proofs.LawfulDelete.{Sound-after_delete}
 use Rattle.store_book.proofs.LinkedSlots.{holds_linked, linked_some, linked_none}
 use Rattle.store_book.proofs.SlotLemmas.{map-with_slot, phase_live}
@@ -86,7 +87,7 @@ module _ (l : Linked) (u : Uploaded) (slots : List Slot) (max_blob t : ℕ) (rep
 
     tied_after : IsTied l' slots' (unlent slots') C'
     tied_after =
-        let n = value_of (get l.links (repo, digest)) found.0 in
+        let n = some_value (get l.links (repo, digest)) found.0 in
         let at_digest = IsTied-unlink l u slots (unlent slots) max_blob k held.0 held.1 book.tied repo (book.sound.lawful.links (repo, digest) has).repo n.0 (ap (λ (d : Text). get l.links (repo, d)) held.2 ∙ n.1) in
         subst (λ m. IsTied l' slots' m (catalog_from l' u slots' m max_blob)) marks
         (subst (λ (d : Text). IsTied (unlink l repo d) slots' (unlent slots) (catalog_from (unlink l repo d) u slots' (unlent slots) max_blob)) held.2 at_digest)

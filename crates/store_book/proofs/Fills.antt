@@ -9,12 +9,10 @@ use Rattle.std.specs.FinMap.{find, get, insert, get-from_entries, get-insert, sa
 use Rattle.std.proofs.lemmas.Map.Lookups.{exact_bytes}
 use Rattle.slot_table.specs.declared.phase.Phase.TheVariants as phase
 use Rattle.slot_table.specs.Slots.{Slot, Content, Free, Used, Retired, with_slot, fill, phase_at, phase_in}
+use Rattle.blob_digest.proofs.OptionLemmas.{some_none}
 use Rattle.store_book.specs.Catalog.{Text, Resident, text_cmp}
 use Rattle.store_book.proofs.SlotLemmas.{with_slot-suc}
 use Rattle.store_book.specs.Layers.{resident_of, with_resident, resident_rows, residents_of}
-
-some_none : {A B : Type 0} {x : A} → Some x ≡ None → B
-some_none e = cc
 
 module _ (blob : Text × Text) where
   abbrev pub stored : Bool → Resident

@@ -1,6 +1,7 @@
 -- In a book, a blob that is not too long can be linked.
-use Rattle.std.proofs.Common.{◌≡◌, ℕ, ◌^◌, ◌<◌, ◌≤◌, true, List, length, Option, Some, None, Ok, refl, sym, ap, ◌∙◌, arith}
+use Rattle.std.proofs.Common.{◌≡◌, ℕ, ◌^◌, ◌<◌, ◌≤◌, true, List, length, Some, None, Ok, refl, sym, ap, ◌∙◌, arith}
 use Rattle.std.specs.FinMap.{get}
+use Rattle.blob_digest.proofs.OptionLemmas.{not_some}
 use Rattle.blob_digest.specs.declared.refusal.Refusal.TheVariants.{NameUnknown}
 use Rattle.blob_digest.specs.Sets as set
 use Rattle.slot_table.specs.Slots.{Slot}
@@ -17,10 +18,6 @@ use Rattle.store_book.proofs.MapLemmas.{some_same}
 use Rattle.store_book.proofs.Outcomes.{some_of_ok, tenant_there}
 use Rattle.store_book.proofs.Ties.{not_resident, slot_is_resident}
 
-none_of : (o : Option ℕ) → ((n : ℕ) → o ≡ Some n → ⊥) → o ≡ None
-none_of None no_value = refl
-none_of (Some n) no_value = absurd (no_value n refl)
-
 module _ (l : Linked) (u : Uploaded) (slots : List Slot) (max_blob t : ℕ) (repo : Text) (blob : Text × Text) (book : IsBook l u slots max_blob)
     (known : known_tenant l repo ≡ Ok t) (there : set.contains l.repos repo ≡ true) (small : length blob.1 ≤ 2 ^ 50) where
   abbrev C : Catalog
@@ -34,7 +31,7 @@ module _ (l : Linked) (u : Uploaded) (slots : List Slot) (max_blob t : ℕ) (rep
         tenant = in_tenants;
         own = is_own C t repo name;
         there = there;
-        held = λ d none r. none_of (get l.links (r, d)) (λ n at. let b = book.tied.sizes (r, d) n at in let absent = not_resident slots (unlent slots) d none in let clash : None ≡ Some b.0 = sym absent ∙ b.1 in cc);
+        held = λ d none r. not_some (get l.links (r, d)) (λ n at. let b = book.tied.sizes (r, d) n at in let absent = not_resident slots (unlent slots) d none in let clash : None ≡ Some b.0 = sym absent ∙ b.1 in cc);
         sizes = λ k h r n at linked.
             (let b = book.tied.sizes (r, h.digest) n linked in
             let x = slot_is_resident slots (unlent slots) (length-unlent slots) book.tied.distinct k h at in

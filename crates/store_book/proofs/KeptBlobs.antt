@@ -1,5 +1,5 @@
 -- A blob that was linked: what the catalog keeps then, and that the layers agree.
-use Rattle.std.proofs.Common.{◌≡◌, ℕ, ◌+◌, ◌<◌, Bool, true, false, cond, not, List, [], ◌∷◌, length, Option, Some, None, is_some, refl, sym, ap, ◌∙◌, subst, arith, inl, inr}
+use Rattle.std.proofs.Common.{◌≡◌, ℕ, ◌+◌, ◌<◌, Bool, true, false, cond, not, List, [], ◌∷◌, length, Some, None, is_some, refl, sym, ap, ◌∙◌, subst, arith, inl, inr}
 use Prim.Native.Nat.{zero, suc}
 use Rattle.std.specs.Prelude.{slice_get, nat_le, ◌&&◌, if◌then◌else◌}
 use Rattle.std.specs.Option.{option_map_or}
@@ -10,6 +10,7 @@ use Rattle.std.specs.Cmp.Lexicographic.{nat_list_cmp_total}
 use Rattle.std.specs.FinMap.{get, insert, len, contains_key}
 use Rattle.std.proofs.lemmas.Bool.{cases_eq}
 use Rattle.std.proofs.lemmas.Map.Lookups.{exact_bytes}
+use Rattle.blob_digest.proofs.OptionLemmas.{some_value}
 use Rattle.blob_digest.specs.Sets as set
 use Rattle.blob_digest.proofs.KeyOrders.{link_cmp_total, exact_link, same_text_is}
 use Rattle.blob_digest.proofs.MapSums.{insert_back}
@@ -43,10 +44,6 @@ mark_at : (slots : List Slot) (k : ℕ) (s : Slot) → slice_get slots k ≡ Som
 mark_at [] k s e = cc
 mark_at (x ∷ slots) zero s e = refl
 mark_at (x ∷ slots) (suc k) s e = mark_at slots k s e
-
-pub value_of : (o : Option ℕ) → is_some o ≡ true → (n : ℕ) × (o ≡ Some n)
-value_of None e = cc
-value_of (Some n) e = (n, refl)
 
 -- a count that changes condemns nothing
 pub live_counted : (g : Held → Held) → KeepsBlob g → (slots : List Slot) (k : ℕ) (h : Held) → held_at slots k ≡ Some h → AreLive slots → AreLive (with_slot slots k (on_held g))
@@ -131,7 +128,7 @@ module _ (l : Linked) (u : Uploaded) (slots : List Slot) (max_blob : ℕ) (repo 
 
       module _ (old : contains_key l.links (repo, blob.0) ≡ true) where
         found : (n : ℕ) × (get l.links (repo, blob.0) ≡ Some n)
-        found = value_of (get l.links (repo, blob.0)) old
+        found = some_value (get l.links (repo, blob.0)) old
 
         same_links : insert l.links (repo, blob.0) (length blob.1) ≡ l.links
         same_links =

@@ -11,7 +11,7 @@ use Rattle.store_book.specs.Catalog.{Text, Resident, Catalog, tenant_of, is_of, 
 use Rattle.store_book.specs.Steps.{tenant, refuse, start, mount, has_source, link_held, start_instead, lacks_room_for}
 use Rattle.store_book.specs.declared.mount.Mount.{Mount}
 use Rattle.store_book.specs.Laws.{Lawful, KeepsQuotas, FitsSlots, Sound}
-use Rattle.store_book.proofs.MapLemmas.{witness}
+use Rattle.blob_digest.proofs.ListLemmas.{witness}
 use Rattle.store_book.proofs.SetMembers.{now}
 use Rattle.store_book.proofs.LawAppear.{is_own, is_no_other, Lawful-appear, used-appear}
 use Rattle.store_book.proofs.LawLink.{is_held, Lawful-link, used_other-link}

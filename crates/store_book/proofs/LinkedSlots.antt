@@ -10,7 +10,7 @@ use Rattle.store_book.specs.Steps.{has_source}
 use Rattle.store_book.specs.Keeping.{linked_slot, source_slot}
 use Rattle.store_book.specs.Layers.{unlent, book_catalog, IsBook}
 use Rattle.store_book.proofs.Bridge.{holds_is}
-use Rattle.store_book.proofs.KeptBlobs.{value_of}
+use Rattle.blob_digest.proofs.OptionLemmas.{some_value}
 use Rattle.store_book.proofs.SetMembers.{nothing}
 use Rattle.store_book.proofs.Ties.{not_resident}
 
@@ -37,7 +37,7 @@ module _ (l : Linked) (u : Uploaded) (slots : List Slot) (max_blob : ℕ) (book 
 
   has_slot : (r d : Text) → contains_key l.links (r, d) ≡ true → slot_of slots d ≡ None → ⊥
   has_slot r d linked none =
-      let n = value_of (get l.links (r, d)) linked in
+      let n = some_value (get l.links (r, d)) linked in
       nothing (not_resident slots (unlent slots) d none) (book.tied.sizes (r, d) n.0 n.1).1
 
   pub linked_some : (r d : Text) (k : ℕ) → linked_slot l slots r d ≡ Some k → (contains_key l.links (r, d) ≡ true) × (slot_of slots d ≡ Some k)

@@ -6,6 +6,7 @@ use Rattle.std.specs.List.{flat_map, enumerate_from}
 use Rattle.std.specs.Option.{option_map, option_map_or}
 use Rattle.std.proofs.lemmas.List.FromFn.{length-enumerate_from}
 use Rattle.link_table.specs.Linked.{Tenant, quota_in}
+use Rattle.blob_digest.proofs.ListLemmas.{there_at}
 use Rattle.store_book.specs.Lines.{tenant_in}
 use Rattle.std.specs.Io.KnownBytes.{Appends}
 use Rattle.std.proofs.KnownBytes.{Appends-trans}
@@ -51,11 +52,6 @@ at_number (y ∷ xs) from zero x at =
 at_number (y ∷ xs) from (suc i) x at =
     let more : (from + 1) + i ≡ from + suc i = omega arith in
     at_number xs (from + 1) i x at ∙ (λ j. Some (more j, x))
-
-pub there_at : {X : Type 0} (xs : List X) (i : ℕ) → i < length xs → (x : X) × (slice_get xs i ≡ Some x)
-there_at [] i lt = absurd (omega arith)
-there_at (y ∷ xs) zero lt = (y, refl)
-there_at (y ∷ xs) (suc i) lt = there_at xs i (omega arith)
 
 -- a step that may fail adds to what was written
 pub Appends-then : {A E : Type 0} (r : Result A E) (a b c : Option (List ℕ)) (bs cs : List ℕ) → Appends a b bs → OnOk r (Appends b c cs) → OnOk r (Appends a c (bs ++ cs))

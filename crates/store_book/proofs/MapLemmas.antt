@@ -6,10 +6,12 @@ use Rattle.std.specs.declared.cmp.Ordering.{Ordering}
 use Rattle.std.specs.Ordering.{eq_by_cmp, is_eq}
 use Rattle.std.specs.Option.{option_map_or}
 use Rattle.std.specs.Cmp.{IsTotalOrder, Equal-is, tied_itself}
-use Rattle.std.specs.List.{sum_by, count_by, list_any, AllByRecursion}
+use Rattle.std.specs.List.{sum_by, count_by, list_any}
 use Rattle.std.specs.FinMap.{FinMap, find, entries, get, insert, remove, empty, len, get-insert, get-remove, get-entries, get-empty, len-entries, len-remove, empty_of_len, same_map, IsAntisymmetric}
-use Rattle.std.proofs.lemmas.Bool.{true≢false, false≢true, lt-ltb}
+use Rattle.std.proofs.lemmas.Bool.{true≢false, lt-ltb}
 use Rattle.std.proofs.lemmas.List.Sums.{sum_by-cons}
+pub use Rattle.blob_digest.proofs.OptionLemmas.{some_same}
+pub use Rattle.blob_digest.proofs.ListLemmas.{all_weaker, witness}
 use Rattle.blob_digest.proofs.RowLemmas.{no_tie, entries-empty}
 use Rattle.blob_digest.proofs.MapSums.{sum_new, sum_split, insert-remove, insert_back, get-remove_same}
 
@@ -33,21 +35,9 @@ sum_by-ones {A} (x ∷ xs) =
     let a : sum_by one (x ∷ xs) ≡ 1 + sum_by one xs = sum_by-cons one x xs in
     omega arith
 
-pub all_weaker : {A : Type 0} (P Q : A → Type 0) → ((x : A) → P x → Q x) → (xs : List A) → AllByRecursion P xs → AllByRecursion Q xs
-all_weaker P Q gives [] all = tt
-all_weaker P Q gives (x ∷ xs) all = (gives x all.0, all_weaker P Q gives xs all.1)
-
 pub list_any_none : {A : Type 0} (p : A → Bool) → ((x : A) → p x ≡ false) → (xs : List A) → list_any p xs ≡ false
 list_any_none p none [] = refl
 list_any_none p none (x ∷ xs) = rw (none x) (list_any_none p none xs)
-
--- an item that passes, where some does
-pub witness : {X : Type 0} (p : X → Bool) (xs : List X) → list_any p xs ≡ true → (x : X) × (p x ≡ true)
-witness p [] h = absurd (false≢true h)
-witness p (x ∷ xs) h = elim (p x) as (λ b. p x ≡ b → (b || list_any p xs) ≡ true → (x : _) × (p x ≡ true)) [
-  | true ↦ λ is _. (x, is)
-  | false ↦ λ _ h. witness p xs h
-] refl h
 
 more_than : (n : ℕ) → nat_lt 0 (1 + n) ≡ true
 more_than n = lt-ltb 0 (1 + n) (omega arith)
@@ -60,9 +50,6 @@ list_any_count {A} p (x ∷ xs) =
       | true ↦ λ is. sym (ap (nat_lt 0) (sum_by-cons (λ (y : A). cond {A = ℕ} (p y) 1 0) x xs ∙ ap (λ b. cond {A = ℕ} b 1 0 + count_by p xs) is) ∙ more_than (count_by p xs))
       | false ↦ λ is. list_any_count p xs ∙ sym (ap (nat_lt 0) (sum_by-cons (λ (y : A). cond {A = ℕ} (p y) 1 0) x xs ∙ ap (λ b. cond {A = ℕ} b 1 0 + count_by p xs) is ∙ zero-add (count_by p xs)))
     ] refl
-
-pub some_same : {A : Type 0} {x y : A} → Some x ≡ Some y → x ≡ y
-some_same e = cc
 
 -- what a key adds to a sum
 abbrev pub term : {K X : Type 0} → (K × X → ℕ) → K → Option X → ℕ

@@ -137,8 +137,10 @@ module _ (given : List Tenant) (l' : Linked) (u' : Uploaded) (slots' : List Slot
     names = opened.names;
     limits = opened.limits;
     sized = sized;
-    same = opened.same;
-    rising = opened.tenants.rising;
-    catalog = (λ i. book_catalog (opened.empty i) (sym upload_is i) (sym sizes.2 i) max_blob) ∙ catalog-opening l'.tenants count first max_blob;
+    catalog = record {
+      same = opened.same;
+      rising = opened.tenants.rising;
+      empty = (λ i. book_catalog (opened.empty i) (sym upload_is i) (sym sizes.2 i) max_blob) ∙ catalog-opening l'.tenants count first max_blob;
+    };
     slots = ap (map slot_shown) (sym sizes.2) ∙ shown_slots count first;
   }

@@ -1,16 +1,16 @@
 -- A blob placed in a free slot: the catalog keeps it, and the layers agree.
-use Rattle.std.proofs.Common.{◌≡◌, ℕ, ◌+◌, Bool, true, false, cond, List, [], ◌∷◌, length, Option, Some, None, refl, sym, ap, ◌∙◌, ◌⊎◌, subst, inl, inr}
+use Rattle.std.proofs.Common.{◌≡◌, ℕ, Bool, true, false, cond, List, length, Option, Some, None, refl, sym, ap, ◌∙◌, ◌⊎◌, subst, inl, inr}
 use Rattle.std.specs.Prelude.{slice_get}
 use Rattle.std.specs.Option.{option_map_or}
 use Rattle.std.specs.Cmp.Lexicographic.{nat_list_cmp_total}
 use Rattle.std.specs.List.{count_by}
 use Rattle.std.specs.FinMap.{get, insert}
 use Rattle.std.proofs.lemmas.Bool.{cases_eq}
-use Rattle.std.proofs.lemmas.List.Sums.{sum_by-cons}
 use Rattle.std.proofs.lemmas.Map.Lookups.{exact_bytes}
 use Rattle.slot_table.specs.declared.phase.Phase.{Phase}
 use Rattle.slot_table.specs.declared.phase.Phase.TheVariants as phase
 use Rattle.slot_table.specs.Slots.{Slot, Held, Content, Free, Used, Retired, with_slot, fill, phase_at, phase_in, held_at, held_in, slot_of, is_retired}
+pub use Rattle.blob_digest.proofs.ListLemmas.{count_by-none}
 use Rattle.blob_digest.specs.Sets as set
 use Rattle.link_table.specs.Linked.{Linked}
 use Rattle.upload_table.specs.Uploaded.{Uploaded}
@@ -22,11 +22,6 @@ use Rattle.store_book.proofs.LawLink.{unlinked}
 use Rattle.store_book.proofs.SlotLemmas.{length-with_slot, count_by-with_slot, held_at-other, held_at-same}
 use Rattle.store_book.proofs.Ties.{not_held, not_resident}
 use Rattle.store_book.proofs.Fills.{residents-fill, stored}
-
--- a test that nothing passes counts nothing
-pub count_by-none : {A : Type 0} (p : A → Bool) → ((x : A) → p x ≡ false) → (xs : List A) → count_by p xs ≡ 0
-count_by-none p fails [] = refl
-count_by-none p fails (x ∷ xs) = sum_by-cons (λ y. cond (p y) 1 0) x xs ∙ (λ i. cond {A = ℕ} (fails x i) 1 0 + count_by-none p fails xs i)
 
 abbrev phase_by : Option Slot → Phase
 phase_by o = option_map_or (λ s. phase_in s.content) o phase.Retired

@@ -1,11 +1,12 @@
 -- `Book::start`, from what its calls of the layers did.
-use Rattle.std.proofs.Common.{◌≡◌, ℕ, ◌≤◌, Bool, true, false, List, length, Option, None, Ok, Err, Some, is_some, refl, sym, ap, ◌∙◌, subst, arith}
+use Rattle.std.proofs.Common.{◌≡◌, ℕ, ◌≤◌, Bool, true, false, List, length, Ok, Err, is_some, refl, sym, ap, ◌∙◌, subst, arith}
 use Rattle.std.specs.Prelude.{if◌then◌else◌}
 use Rattle.std.specs.Cmp.Lexicographic.{nat_list_cmp_total}
 use Rattle.std.specs.FinMap.{get}
 use Rattle.std.specs.Option.{option_map}
 use Rattle.std.proofs.lemmas.Bool.{not-true, not-false, true≢false}
 use Rattle.std.proofs.lemmas.Map.Lookups.{exact_bytes}
+use Rattle.blob_digest.proofs.OptionLemmas.{not_some}
 use Rattle.blob_digest.specs.declared.refusal.Refusal.{Refusal}
 use Rattle.blob_digest.specs.Sets as set
 use Rattle.blob_digest.proofs.SetLemmas.{insert_there, remove-insert}
@@ -124,9 +125,5 @@ appeared_unlinked l l' u slots max_blob t repo b book appeared new d =
     let a = ok_of_if _ _ _ _ appeared in
     let absent : set.contains l.repos repo ≡ false = not-true _ ((λ i. (a.1 i).0) ∙ new) in
     let unheld = holds_none (book_catalog l u slots max_blob) repo book.sound.lawful absent d in
-    ap (λ (x : Linked). get x.links (repo, d)) (sym (λ i. (a.1 i).1)) ∙ none_of (get l.links (repo, d)) (λ n at.
+    ap (λ (x : Linked). get x.links (repo, d)) (sym (λ i. (a.1 i).1)) ∙ not_some (get l.links (repo, d)) (λ n at.
     true≢false (sym (ap is_some (get-links_of l.links (repo, d) ∙ ap (option_map mark) at)) ∙ unheld))
-  where
-    none_of : (o : Option ℕ) → ((n : ℕ) → o ≡ Some n → ⊥) → o ≡ None
-    none_of None no_value = refl
-    none_of (Some n) no_value = absurd (no_value n refl)

@@ -1,25 +1,22 @@
 -- The ties between the layers after a link more or less.
-use Rattle.std.proofs.Common.{◌≡◌, ℕ, ◌+◌, ◌-◌, ◌<◌, Bool, true, false, cond, List, [], ◌∷◌, length, get_or, Option, Some, None, is_some, refl, sym, ap, ◌∙◌, subst, arith, inl, inr}
+use Rattle.std.proofs.Common.{◌≡◌, ℕ, ◌+◌, ◌-◌, Bool, true, false, cond, List, [], ◌∷◌, length, Option, Some, None, is_some, refl, sym, ap, ◌∙◌, subst, arith, inl, inr}
 use Prim.Native.Nat.{zero, suc}
-use Rattle.std.specs.Prelude.{slice_get}
-use Rattle.std.specs.Option.{option_map, option_map_or}
-use Rattle.std.specs.List.{count_by, list_any}
+use Rattle.std.specs.Option.{option_map}
+use Rattle.std.specs.List.{count_by}
 use Rattle.std.specs.Ordering.{eq_by_cmp, is_eq}
 use Rattle.std.specs.Cmp.{tied_itself, Equal-is}
 use Rattle.std.specs.FinMap.{FinMap, get, insert, remove, from_entries, get-insert, get-remove, get-from_entries, find, len, len-empty, len-insert, same_map}
-use Rattle.std.proofs.lemmas.Bool.{cases_eq, false≢true, or_right}
+use Rattle.std.proofs.lemmas.Bool.{cases_eq}
 use Rattle.std.proofs.lemmas.List.Sums.{sum_by-cons}
+use Rattle.blob_digest.proofs.OptionLemmas.{not_some, some_same}
 use Rattle.blob_digest.specs.Sets as set
 use Rattle.blob_digest.proofs.KeyOrders.{link_cmp_total, exact_link}
 use Rattle.blob_digest.proofs.SetLemmas.{insert_there}
 use Rattle.blob_digest.proofs.MapSums.{insert-remove, get-remove_same}
-use Rattle.blob_digest.proofs.RowLemmas.{is_some-position}
 use Rattle.blob_digest.specs.Rows.{IsApart}
-use Rattle.blob_digest.specs.Keys.{same_text}
-use Rattle.std.specs.Cmp.Lexicographic.{nat_list_cmp_total, texts_ties, same_text as text_is}
-use Rattle.std.proofs.lemmas.Option.{slice_get-get_or}
-use Rattle.std.proofs.lemmas.List.Quantifiers.{position-Some}
-use Rattle.slot_table.specs.Slots.{Slot, Held, Content, Free, Used, Retired, held_at, held_in, IsDistinct, is_retired, is_free, free_slots, slot_of, has_digest, with_slot, on_held, content_with, raise, lower}
+use Rattle.std.specs.Cmp.Lexicographic.{nat_list_cmp_total}
+pub use Rattle.slot_table.proofs.Finding.{held_of, not_held}
+use Rattle.slot_table.specs.Slots.{Slot, Held, Content, Free, Used, Retired, held_at, held_in, IsDistinct, is_retired, is_free, free_slots, slot_of, with_slot, on_held, content_with, raise, lower}
 use Rattle.link_table.specs.Linked.{Linked}
 use Rattle.store_book.specs.Catalog.{Text, Link, Resident, Catalog, text_cmp, link_cmp, holds, count}
 use Rattle.upload_table.specs.Uploaded.{Uploaded}
@@ -91,16 +88,6 @@ module _ (g : Held → Held) (keeps : KeepsBlob g) where
   held_at-on slots k h at =
       let s = slot_of_held slots k h at in
       held_at-same slots k (on_held g) s.0 s.1 ∙ held_content s.0.content ∙ ap (option_map g) s.2
-
-not_some : {A : Type 0} (o : Option A) → ((x : A) → o ≡ Some x → ⊥) → o ≡ None
-not_some None none = refl
-not_some (Some x) none = absurd (none x refl)
-
-text_same : (x : Text) → same_text x x ≡ true
-text_same x = texts_ties x x ∙ rw (ap is_eq (tied_itself nat_list_cmp_total x)) refl
-
-some_same : {A : Type 0} {x y : A} → Some x ≡ Some y → x ≡ y
-some_same e = cc
 
 module _ (l : Linked) (links' : FinMap link_cmp ℕ) (u : Uploaded) (slots : List Slot) (marks : List Bool) (max_blob k : ℕ) (h : Held) (at : held_at slots k ≡ Some h) (g : Held → Held) (keeps : KeepsBlob g)
     (tied : IsTied l slots marks (catalog_from l u slots marks max_blob)) where
@@ -249,35 +236,6 @@ rooms l u slots marks max_blob one_each distinct =
     omega arith
 
 -- ---- where a digest is
-
-pub held_of : (slots : List Slot) (d : Text) (k : ℕ) → slot_of slots d ≡ Some k → (h : Held) × (held_at slots k ≡ Some h) × (h.digest ≡ d)
-held_of slots d k found = at (slice_get slots k) refl
-  where
-    p : (k < length slots) × (has_digest d (get_or slots k (record { generation = 0; content = Free })) ≡ true)
-    p = let x = position-Some (has_digest d) slots k (record { generation = 0; content = Free }) found in (x.0, x.1)
-
-    is : slice_get slots k ≡ Some (get_or slots k (record { generation = 0; content = Free }))
-    is = slice_get-get_or slots k (record { generation = 0; content = Free }) p.0
-
-    content : (c : Content) → option_map_or (λ h. same_text h.digest d) (held_in c) false ≡ true → (h : Held) × (held_in c ≡ Some h) × (h.digest ≡ d)
-    content Free e = cc
-    content (Used h) e = (h, refl, text_is _ _ (sym e))
-    content Retired e = cc
-
-    at : (o : Option Slot) → slice_get slots k ≡ o → (h : Held) × (held_at slots k ≡ Some h) × (h.digest ≡ d)
-    at o e =
-        let c = content (get_or slots k (record { generation = 0; content = Free })).content p.1 in
-        (c.0, ap (λ o. option_map_or (λ s. held_in s.content) o None) is ∙ c.1, c.2)
-
-any_at : (slots : List Slot) (k : ℕ) (h : Held) → held_at slots k ≡ Some h → list_any (has_digest h.digest) slots ≡ true
-any_at [] k h e = cc
-any_at (s ∷ slots) zero h e = rw (e, text_same h.digest) refl
-any_at (s ∷ slots) (suc k) h e = or_right (has_digest h.digest s) (list_any (has_digest h.digest) slots) (any_at slots k h e)
-
--- no slot holds a digest that has none
-pub not_held : (slots : List Slot) (d : Text) → slot_of slots d ≡ None → (k : ℕ) (h : Held) → held_at slots k ≡ Some h → h.digest ≡ d → ⊥
-not_held slots d none k h at same =
-    false≢true (sym (sym (is_some-position (has_digest d) slots) ∙ ap is_some none) ∙ ap (λ x. list_any (has_digest x) slots) (sym same) ∙ any_at slots k h at)
 
 -- a digest without a slot isn't resident
 pub not_resident : (slots : List Slot) (marks : List Bool) (d : Text) → slot_of slots d ≡ None → get (residents_of slots marks) d ≡ None

@@ -3,9 +3,9 @@ use Rattle.std.specs.Prelude.{◌≡◌, ◌<◌, ◌≤◌, ◌^◌, ℕ, List,
 use Rattle.std.specs.List.Sorted.{IsPermutation, IsStrictlySortedBy}
 use Rattle.blob_digest.specs.declared.refusal.Refusal.{Refusal}
 use Rattle.blob_digest.specs.declared.refusal.Refusal.TheVariants.{NameInvalid, LimitReached, Memory}
-pub use Rattle.link_table.specs.Tenancy.{HasNames, IsWithinLimits, tenant_shown, tenants_shown}
+pub use Rattle.link_table.specs.Tenancy.{HasNames, IsWithinLimits, max_quota, max_tenants, tenant_shown, tenants_shown}
 use Rattle.store_book.specs.BookState.{BookState}
-use Rattle.store_book.specs.Catalog.{Tenant, text_cmp, opening}
+use Rattle.store_book.specs.Catalog.{Tenant, Catalog, text_cmp, opening}
 
 -- 1 to 65,536 slots, and blobs of at most 2^40 bytes
 pub record IsSized (slots max_blob : ℕ) : Type 0 where
@@ -13,14 +13,18 @@ pub record IsSized (slots max_blob : ℕ) : Type 0 where
   pub few : slots ≤ 65536
   pub blobs : max_blob ≤ 2 ^ 40
 
--- The book has the given tenants in the order of their names, its slots in their first generation, and nothing else.
+-- The catalog has the given tenants in the order of their names, and nothing else.
+pub record OpensCatalog (given : List Tenant) (slots max_blob : ℕ) (C : Catalog) : Type 0 where
+  pub same : IsPermutation given C.tenants
+  pub rising : IsStrictlySortedBy text_cmp (map (λ t. t.name) C.tenants)
+  pub empty : C ≡ opening C.tenants slots max_blob
+
+-- The tenants and limits are as they must be, the catalog is the opening one, and each slot is in its first generation.
 pub record OpensBook (given : List Tenant) (count max_blob first : ℕ) (book : BookState) : Type 0 where
   pub names : HasNames given
   pub limits : IsWithinLimits given
   pub sized : IsSized count max_blob
-  pub same : IsPermutation given book.catalog.tenants
-  pub rising : IsStrictlySortedBy text_cmp (map (λ t. t.name) book.catalog.tenants)
-  pub catalog : book.catalog ≡ opening book.catalog.tenants count max_blob
+  pub catalog : OpensCatalog given count max_blob book.catalog
   pub slots : book.slots ≡ replicate count (record { generation = first })
 
 -- Why a book isn't opened: for a tenant's name, and else for a limit. Want of memory may come in place of either.

@@ -11,27 +11,52 @@ use Rattle.store_book.specs.Catalog.{Text, Link, Number, Tenant, Session, Catalo
 abbrev pub line : Text → Text
 line text = text ++ 10 ∷ []
 
-abbrev pub blob_line : Catalog → Link → Text
-blob_line C l = line (codes "blob " ++ l.1 ++ codes " size " ++ decimal (size C l.1) ++ codes " links " ++ decimal (count C l.1))
+-- ---- the lines
 
-abbrev pub manifest_line : Link × Text → Text
-manifest_line e = line (codes "manifest " ++ e.0.1 ++ codes " size " ++ decimal (length e.1) ++ codes " refs " ++ decimal (option_map_or length (refs_of e.1) 0))
+abbrev pub book_line : Text
+book_line = line (codes "book")
 
-abbrev pub session_line : Number × Session → Text
-session_line e = line (codes "session " ++ decimal e.0.1 ++ codes " received " ++ decimal (received e.1))
+abbrev pub tenant_line : Text → ℕ → ℕ → ℕ → Text
+tenant_line name used quota next = line (codes "tenant " ++ name ++ codes " used " ++ decimal used ++ codes " quota " ++ decimal quota ++ codes " next " ++ decimal next)
+
+abbrev pub repository_line : Text → Text
+repository_line repo = line (codes "repository " ++ repo)
+
+abbrev pub blob_line : Text → ℕ → ℕ → Text
+blob_line digest size links = line (codes "blob " ++ digest ++ codes " size " ++ decimal size ++ codes " links " ++ decimal links)
+
+abbrev pub manifest_line : Text → ℕ → ℕ → Text
+manifest_line digest size refs = line (codes "manifest " ++ digest ++ codes " size " ++ decimal size ++ codes " refs " ++ decimal refs)
+
+abbrev pub session_line : ℕ → ℕ → Text
+session_line number received = line (codes "session " ++ decimal number ++ codes " received " ++ decimal received)
+
+abbrev pub end_line : Text
+end_line = line (codes "end")
+
+-- ---- the book
+
+abbrev pub blob_text : Catalog → Link → Text
+blob_text C l = blob_line l.1 (size C l.1) (count C l.1)
+
+abbrev pub manifest_text : Link × Text → Text
+manifest_text e = manifest_line e.0.1 (length e.1) (option_map_or length (refs_of e.1) 0)
+
+abbrev pub session_text : Number × Session → Text
+session_text e = session_line e.0.1 (received e.1)
 
 -- a repository, with its links, manifests and sessions in the orders of the maps
 abbrev pub repo_text : Catalog → ℕ → Text → Text
 repo_text C t repo =
-    line (codes "repository " ++ repo)
-    ++ flat_map (blob_line C) (filter (λ l. same_text l.0 repo) (set.items C.links))
-    ++ flat_map manifest_line (filter (λ e. same_text e.0.0 repo) (fmap.entries C.manifests))
-    ++ flat_map session_line (filter (λ e. e.0.0 == t && same_text e.1.repo repo) (fmap.entries C.sessions))
+    repository_line repo
+    ++ flat_map (blob_text C) (filter (λ l. same_text l.0 repo) (set.items C.links))
+    ++ flat_map manifest_text (filter (λ e. same_text e.0.0 repo) (fmap.entries C.manifests))
+    ++ flat_map session_text (filter (λ e. e.0.0 == t && same_text e.1.repo repo) (fmap.entries C.sessions))
 
 abbrev pub tenant_text : Catalog → ℕ × Tenant → Text
 tenant_text C e =
-    line (codes "tenant " ++ e.1.name ++ codes " used " ++ decimal (used C e.0) ++ codes " quota " ++ decimal e.1.quota ++ codes " next " ++ decimal (next_of C e.0))
+    tenant_line e.1.name (used C e.0) e.1.quota (next_of C e.0)
     ++ flat_map (repo_text C e.0) (filter (is_of C e.0) (set.items C.repos))
 
 abbrev pub book_text : Catalog → Text
-book_text C = line (codes "book") ++ flat_map (tenant_text C) (enumerate_from 0 C.tenants) ++ line (codes "end")
+book_text C = book_line ++ flat_map (tenant_text C) (enumerate_from 0 C.tenants) ++ end_line

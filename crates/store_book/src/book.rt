@@ -56,7 +56,8 @@ fn check_quota(links: &Links, tenant: u16, n: u64) -> Result<(), Refusal>
     }
 }
 
-const MOST_BYTES: u64 = 0x100_0000_0000;
+/// The largest limit on the size of a blob, in bytes.
+pub const MAX_BLOB: u64 = 1 << 40;
 
 impl Book {
     /// The book of a new store: its tenants in the order of their names, no repository, and every slot
@@ -71,7 +72,7 @@ impl Book {
     {
         let tenants = copied(alloc, &config.tenants)?;
         let links = Links::new(alloc, tenants)?;
-        if config.max_blob > MOST_BYTES {
+        if config.max_blob > MAX_BLOB {
             return Err(Refusal::LimitReached);
         }
         let slots = SlotTable::new(alloc, config.slots, config.first_generation)?;

@@ -23,6 +23,8 @@ mod refusal_tests;
 #[cfg(test)]
 mod tests;
 
-pub use book::Book;
+pub use book::{Book, MAX_BLOB};
 pub use config::Config;
+pub use link_table::{MAX_QUOTA, MAX_TENANTS};
 pub use mount::Mount;
+pub use slot_table::MAX_SLOTS;

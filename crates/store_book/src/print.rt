@@ -1,12 +1,11 @@
 //! The text of a book, written line by line without taking memory.
 
-ghost use Rattle.std.specs.Prelude.{◌≡◌, ◌≤◌, ◌<◌, ◌++◌, length, map, Some, None, OnOk, codes};
+ghost use Rattle.std.specs.Prelude.{◌≡◌, ◌≤◌, ◌<◌, length, map, Some, None, OnOk};
 ghost use Rattle.std.specs.List.{flat_map};
 ghost use Rattle.std.specs.Io.KnownBytes.{Appends};
 ghost use Rattle.link_table.specs.Linked.{blobs_in, repos_of};
 ghost use Rattle.upload_table.specs.Sessions.{listed, sessions_of};
-ghost use Rattle.std.specs.Fmt.{decimal};
-ghost use Rattle.store_book.specs.Printed.{line};
+ghost use Rattle.store_book.specs.Printed.{blob_line, repository_line, session_line, tenant_line};
 ghost use Rattle.store_book.specs.Lines.{CanPrint, blob_row, book_rows, links_to as links_counted, repo_rows, session_row, tenant_in, tenant_rows};
 
 use blob_digest::{Digest, RepoName};
@@ -32,7 +31,7 @@ fn print_blob_line<W: Write>(
     size: u64,
     links: u32,
 ) -> io::Result<()>
-    ensures { OnOk result (Appends (W.contents writer.old) (W.contents writer.new) (line (codes "blob " ++ digest ++ codes " size " ++ decimal size ++ codes " links " ++ decimal links))) }
+    ensures { OnOk result (Appends (W.contents writer.old) (W.contents writer.new) (blob_line digest size links)) }
 {
     writeln!(writer, "blob {digest} size {size} links {links}")
 }
@@ -47,7 +46,7 @@ fn print_blob<W: Write>(writer: &mut W, slots: &SlotTable, blob: (Digest, u64)) 
 
 /// A session's line.
 fn print_session<W: Write>(writer: &mut W, number: u32, received: u64) -> io::Result<()>
-    ensures { OnOk result (Appends (W.contents writer.old) (W.contents writer.new) (session_row (number, received))) }
+    ensures { OnOk result (Appends (W.contents writer.old) (W.contents writer.new) (session_line number received)) }
 {
     writeln!(writer, "session {number} received {received}")
 }
@@ -90,7 +89,7 @@ fn print_sessions<W: Write>(
 
 /// A repository's line.
 fn print_name<W: Write>(writer: &mut W, repo: &RepoName) -> io::Result<()>
-    ensures { OnOk result (Appends (W.contents writer.old) (W.contents writer.new) (line (codes "repository " ++ repo.now))) }
+    ensures { OnOk result (Appends (W.contents writer.old) (W.contents writer.new) (repository_line repo.now)) }
 {
     writeln!(writer, "repository {repo}")
 }
@@ -141,7 +140,7 @@ fn print_use<W: Write>(
     quota: u64,
     next: u64,
 ) -> io::Result<()>
-    ensures { OnOk result (Appends (W.contents writer.old) (W.contents writer.new) (line (codes "tenant " ++ name.now ++ codes " used " ++ decimal used ++ codes " quota " ++ decimal quota ++ codes " next " ++ decimal next))) }
+    ensures { OnOk result (Appends (W.contents writer.old) (W.contents writer.new) (tenant_line name.now used quota next)) }
 {
     writeln!(
         writer,

@@ -1,5 +1,5 @@
 -- Sessions looked up, counted and summed, in the rows and in the map that they stand for.
-use Rattle.std.proofs.Common.{◌≡◌, ℕ, zero, suc, ◌+◌, ◌<◌, ◌≤◌, Bool, true, false, cond, List, [], ◌∷◌, length, map, take, get_or, Option, Some, None, is_some, Result, Ok, Err, refl, sym, ap, ◌∙◌, subst, arith}
+use Rattle.std.proofs.Common.{◌≡◌, ℕ, zero, suc, ◌+◌, ◌<◌, ◌≤◌, Bool, true, false, cond, List, [], ◌∷◌, length, map, take, get_or, Option, Some, None, is_some, Ok, Err, refl, sym, ap, ◌∙◌, subst, arith}
 use Rattle.std.specs.Prelude.{◌==◌, ◌&&◌, ◌||◌, slice_get, slice_index, option_map, sum}
 use Rattle.std.specs.Ordering.{eq_by_cmp}
 use Rattle.std.specs.List.{sum_by, count_by, filter, AllByRecursion, position, list_any}
@@ -10,13 +10,12 @@ use Rattle.std.proofs.lemmas.Bool.Decides.{nat_tests}
 use Rattle.std.proofs.lemmas.List.Sums.{sum_by-cons}
 use Rattle.std.proofs.lemmas.List.Quantifiers.{position-Some}
 use Rattle.std.proofs.lemmas.Option.{slice_get-map}
+use Rattle.blob_digest.proofs.ListLemmas.{filter-map}
 use Rattle.blob_digest.specs.Keys.{Text, Number, number_cmp, same_text}
-use Rattle.blob_digest.specs.declared.range.ByteRange.{ByteRange}
-use Rattle.blob_digest.specs.declared.refusal.Refusal.{Refusal}
 use Rattle.blob_digest.specs.declared.refusal.Refusal.TheVariants.{UploadUnknown}
 use Rattle.blob_digest.proofs.KeyOrders.{number_cmp_total}
 use Rattle.blob_digest.proofs.RowLemmas.{sum_by-from_entries, sum_by-map, is_some-position}
-use Rattle.upload_table.specs.Sessions.{Session, Sessions, received, received_in, share, in_sessions, open_in, is_of_repo, sessions_of, listed, check_in, length_after}
+use Rattle.upload_table.specs.Sessions.{Session, Sessions, received, received_in, share, in_sessions, open_in, is_of_repo, sessions_of, listed}
 use Rattle.upload_table.specs.Rows.{entry_of, key_of, session_of, row_share, shown, IsRising, IsSound, IsWhole}
 use Rattle.upload_table.specs.Uploaded.{Uploaded}
 use Rattle.upload_table.specs.declared.upload.Upload.{Upload}
@@ -72,19 +71,6 @@ module _ (next totals : List ℕ) (rows : List Upload) (sound : IsSound next tot
 
   pub received_known : (u : Upload) → Some u ≡ lfind (λ u. u.tenant == t && u.number == n) rows → same_text u.repo repo ≡ true → Ok (length u.bytes.items) ≡ received_in (map_of rows) (t, n) repo
   received_known u found same = rw (get_row rows t n, sym found, same) (ap (λ (k : ℕ). Ok k) (sym (received_is u (found_whole u found))))
-
-  module _ (max_blob : ℕ) (range : Option ByteRange) (len : ℕ) where
-    abbrev checked : Result ℕ Refusal
-    checked = check_in (map_of rows) max_blob (t, n) repo range len
-
-    pub check_unknown : None ≡ lfind (λ u. u.tenant == t && u.number == n) rows → Err UploadUnknown ≡ checked
-    check_unknown none = rw (get_row rows t n, sym none) refl
-
-    pub check_other : (u : Upload) → Some u ≡ lfind (λ u. u.tenant == t && u.number == n) rows → same_text u.repo repo ≡ false → Err UploadUnknown ≡ checked
-    check_other u found other = rw (get_row rows t n, sym found, other) refl
-
-    pub check_known : (u : Upload) → Some u ≡ lfind (λ u. u.tenant == t && u.number == n) rows → same_text u.repo repo ≡ true → length_after max_blob (length u.bytes.items) range len ≡ checked
-    check_known u found same = rw (get_row rows t n, sym found, same) (ap (λ r. length_after max_blob r range len) (sym (received_is u (found_whole u found))))
 
 -- ---- where a session stands
 
@@ -158,14 +144,6 @@ total_is next totals rows sound t =
     ∙ sum_by-alike IsWhole (row_share t) (λ u. share t (entry_of u)) (λ u whole. ap (λ n. cond (u.tenant == t) n 0) (whole.lengths ∙ sym (received_is u whole))) rows (all_from IsWhole rows (all_whole next totals rows sound))
     ∙ sym (sum_by-map (share t) entry_of rows)
     ∙ sym (sum_by-from_entries number_cmp (share t) number_cmp_total (map entry_of rows) (apart rows sound.rising))
-
-filter-map : {A B : Type 0} (p : B → Bool) (f : A → B) (xs : List A) → filter p (map f xs) ≡ map f (filter (λ x. p (f x)) xs)
-filter-map p f [] = refl
-filter-map {A = A} {B = B} p f (x ∷ xs) = ap (λ ys. cond (p (f x)) (f x ∷ ys) ys) (filter-map p f xs) ∙ through (p (f x)) x (filter (λ y. p (f y)) xs)
-  where
-    through : (b : Bool) (x : A) (ys : List A) → cond b (f x ∷ map f ys) (map f ys) ≡ map f (cond b (x ∷ ys) ys)
-    through true x ys = refl
-    through false x ys = refl
 
 -- a repository's sessions, in the order of the rows
 pub sessions_are : (rows : List Upload) → IsRising (map key_of rows) → (t : ℕ) (repo : Text) → sessions_of (map_of rows) t repo ≡ map entry_of (filter (λ u. u.tenant == t && same_text u.repo repo) rows)

@@ -11,7 +11,8 @@ use Rattle.blob_digest.proofs.RowLemmas.{found_value, from_entries-set, from_ent
 use Rattle.upload_table.specs.Sessions.{Session}
 use Rattle.upload_table.specs.Rows.{entry_of, key_of, session_of, IsRising}
 use Rattle.upload_table.specs.declared.upload.Upload.{Upload}
-use Rattle.upload_table.proofs.Sound.{apart, map-remove}
+use Rattle.upload_table.proofs.Sound.{apart}
+use Rattle.blob_digest.proofs.ListLemmas.{map-remove}
 use Rattle.upload_table.proofs.Lookups.{map_of}
 
 module _ (rows : List Upload) (i : ℕ) (old : Upload) (lt : i < length rows) (is : old ≡ get_or rows i old) (rising : IsRising (map key_of rows)) where

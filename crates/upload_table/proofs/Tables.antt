@@ -2,7 +2,7 @@
 use Rattle.std.proofs.Common.{◌≡◌, ℕ, ◌+◌, ◌<◌, ◌≤◌, Bool, true, false, cond, List, [], ◌∷◌, ◌++◌, length, set, get_or, refl, sym, ap, ◌∙◌, arith, inl, inr, get_or-set_same, get_or-set_other}
 use Rattle.std.specs.Prelude.{◌==◌, slice_index, sum}
 use Rattle.std.specs.List.{remove}
-use Rattle.std.proofs.lemmas.Bool.{cases_eq}
+use Rattle.std.proofs.lemmas.Bool.{cases_eq, eq-eqb}
 use Rattle.std.proofs.lemmas.Bool.Decides.{nat_tests}
 use Rattle.std.proofs.lemmas.List.Sums.{sum_by-set, sum_by-remove, get_or-le-sum_by, sum_by_push}
 use Rattle.upload_table.specs.Rows.{IsCounted, row_share}
@@ -10,14 +10,11 @@ use Rattle.upload_table.specs.declared.upload.Upload.{Upload}
 
 -- ---- sums
 
-same_number : (n : ℕ) → (n == n) ≡ true
-same_number n = grind (arith, nat_tests)
-
 other_number : (m n : ℕ) → (n ≡ m → ⊥) → (m == n) ≡ false
 other_number m n ne = grind (arith, nat_tests)
 
 own_share : (u : Upload) → row_share u.tenant u ≡ sum u.lens.items
-own_share u = rw (same_number u.tenant) refl
+own_share u = rw (eq-eqb u.tenant u.tenant refl) refl
 
 no_share : (t : ℕ) (u : Upload) → (t ≡ u.tenant → ⊥) → row_share t u ≡ 0
 no_share t u ne = rw (other_number u.tenant t ne) refl

@@ -8,6 +8,12 @@ ghost use Rattle.upload_table.specs.declared.upload.Upload.{Upload as Row};
 use crate::upload::{Upload, is_for, sum_of};
 use blob_digest::RepoName;
 
+/// The most sessions that a tenant has open at a time.
+const MAX_SESSIONS: usize = 64;
+
+/// Session numbers are below this.
+const NUMBER_LIMIT: u64 = 1 << 32;
+
 /// How many sessions a tenant has.
 fn count_of(rows: &[Upload], tenant: u16) -> usize
     ensures { result ≡ count_by (λ u. u.tenant == tenant) rows.now }
@@ -57,7 +63,7 @@ pub(crate) fn is_spent(next: &[u64], rows: &[Upload], tenant: u16) -> bool
     requires { tenant < length next.now }
     ensures { result ≡ (nat_le 64 (count_by (λ u. u.tenant == tenant) rows.now) || nat_le (2 ^ 32) (slice_index next.now tenant)) }
 {
-    count_of(rows, tenant) >= 64 || next[tenant as usize] >= 0x1_0000_0000
+    count_of(rows, tenant) >= MAX_SESSIONS || next[tenant as usize] >= NUMBER_LIMIT
 }
 
 /// The tenant's next number.

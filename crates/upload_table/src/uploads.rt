@@ -117,13 +117,8 @@ impl Uploads {
         requires { self.now.closing ≡ None }
         ensures { result ≡ check_in self.now.sessions max_blob (tenant, number) repo.now range len }
     {
-        let Some(row) = row_of(&self.rows, tenant, number) else {
-            return Err(Refusal::UploadUnknown);
-        };
-        if row.repo != *repo {
-            return Err(Refusal::UploadUnknown);
-        }
-        length_after(row.bytes.as_slice().len() as u64, range, len, max_blob)
+        let before = self.received(tenant, repo, number)?;
+        length_after(before, range, len, max_blob)
     }
 
     /// Adds a chunk to a session. A chunk without bytes is not recorded. Refused is want of memory. The

@@ -6,7 +6,7 @@ use Rattle.blob_digest.specs.Keys.{Text}
 use Rattle.blob_digest.specs.Tenants.{Tenant}
 use Rattle.blob_digest.specs.Names.{IsComponent}
 use Rattle.store_book.specs.Openings.{tenant_shown, tenants_shown}
-use Rattle.blobctl.specs.Tenants.{most_quota}
+use Rattle.store_book.specs.Openings.{max_quota}
 use Rattle.blobctl.proofs.TenantLists.{all_more, bad_word, once_more, one_spelled, words_more, words_round}
 use Rattle.blobctl.proofs.tenants.read_tenants.Goals as goal
 
@@ -39,6 +39,6 @@ loop-word-preserved c =
       few = omega (arith, count, added.3);
       count = omega (arith, count, inv.count);
       components = rw added.4 (all_more (λ (t : Tenant). IsComponent t.name) old added.0 inv.components added.1.component);
-      quotas = rw added.4 (all_more (λ (t : Tenant). t.quota ≤ most_quota) old added.0 inv.quotas added.1.small);
+      quotas = rw added.4 (all_more (λ (t : Tenant). t.quota ≤ max_quota) old added.0 inv.quotas added.1.small);
       apart = rw added.4 (once_more old added.0 inv.apart added.2);
     }

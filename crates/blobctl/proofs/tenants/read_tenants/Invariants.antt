@@ -3,16 +3,17 @@ use Rattle.std.specs.List.{All}
 use Rattle.blob_digest.specs.Keys.{Text, same_text}
 use Rattle.blob_digest.specs.Names.{IsComponent}
 use Rattle.store_book.specs.Openings.{tenants_shown}
-use Rattle.blobctl.specs.Tenants.{SpellTenants, most_quota, most_tenants}
+use Rattle.blobctl.specs.Tenants.{SpellTenants}
+use Rattle.store_book.specs.Openings.{max_quota, max_tenants}
 use Rattle.blobctl.proofs.tenants.read_tenants.Given as goal
 
 -- the words so far spell the tenants so far, which a store can have
 abbrev pub invariant-loop-word : goal.invariant-loop-word
 invariant-loop-word l = record {
   spelled : SpellTenants (map (λ w. w.now) (take l.word-index l.words)) (tenants_shown l.tenants.items);
-  few : length l.tenants.items ≤ most_tenants;
+  few : length l.tenants.items ≤ max_tenants;
   count : length l.tenants.items ≡ l.word-index;
   components : All (λ t. IsComponent t.name) (tenants_shown l.tenants.items);
-  quotas : All (λ t. t.quota ≤ most_quota) (tenants_shown l.tenants.items);
+  quotas : All (λ t. t.quota ≤ max_quota) (tenants_shown l.tenants.items);
   apart : (name : Text) → count_by (λ t. same_text t.name name) (tenants_shown l.tenants.items) ≤ 1;
 }

@@ -1,9 +1,9 @@
-use Rattle.std.proofs.Common.{◌++◌, take, codes}
+use Rattle.std.proofs.Common.{◌++◌, take}
 use Rattle.std.specs.List.{flat_map, enumerate_from}
 use Rattle.std.specs.Io.KnownBytes.{Appends}
 use Rattle.store_book.specs.Lines.{tenant_rows}
-use Rattle.store_book.specs.Printed.{line}
+use Rattle.store_book.specs.Printed.{book_line}
 use Rattle.store_book.proofs.print.print_book.Given as goal
 
 abbrev pub invariant-loop-tenant : goal.invariant-loop-tenant
-invariant-loop-tenant g l = Appends (g.W.Write.contents l.fn.writer) (g.W.Write.contents l.writer) (line (codes "book") ++ flat_map (tenant_rows l.links l.uploads l.slots) (take l.tenant (enumerate_from 0 l.links.tenants)))
+invariant-loop-tenant g l = Appends (g.W.Write.contents l.fn.writer) (g.W.Write.contents l.writer) (book_line ++ flat_map (tenant_rows l.links l.uploads l.slots) (take l.tenant (enumerate_from 0 l.links.tenants)))

@@ -1,7 +1,6 @@
-use Rattle.std.proofs.Common.{◌++◌, List, ℕ, codes, subst}
-use Rattle.std.specs.Fmt.{decimal}
+use Rattle.std.proofs.Common.{List, ℕ, subst}
 use Rattle.std.specs.Io.KnownBytes.{Appends}
-use Rattle.store_book.specs.Printed.{line}
+use Rattle.store_book.specs.Printed.{tenant_line}
 use Rattle.store_book.proofs.Listing.{Appends-then, name_is, quota_is}
 use Rattle.std.proofs.Common.{◌∙◌}
 use Rattle.store_book.proofs.print.print_tenant.Goals as goal
@@ -12,4 +11,4 @@ returns g c =
     let quota = c.quota-quota.ensures ∙ quota_is c.args.links.now.tenants c.args.tenant in
     Appends-then c.print_repos.result _ _ _ _ _
     (subst (λ (t : List ℕ). Appends (g.W.Write.contents c.args.writer.now) (g.W.Write.contents c.print_use.new.writer) t)
-    (λ i. line (codes "tenant " ++ name i ++ codes " used " ++ decimal (c.used-used.ensures i) ++ codes " quota " ++ decimal (quota i) ++ codes " next " ++ decimal (c.next-next.ensures i))) c.in_ok-print_use.ensures) c.print_repos.ensures
+    (λ i. tenant_line (name i) (c.used-used.ensures i) (quota i) (c.next-next.ensures i)) c.in_ok-print_use.ensures) c.print_repos.ensures
