@@ -64,7 +64,8 @@ pub(crate) fn link_slot(
     ensures err { OnErr result ((links.new ≡ links.old) × (slots.new ≡ slots.old)) }
 {
     let size = held_len(slots, slot);
-    if links.link(tenant, repo, digest, size)? {
+    let is_new = links.link(tenant, repo, digest, size)?;
+    if is_new {
         slots.link_up(slot);
     }
     Ok(())
