@@ -105,8 +105,8 @@ fn the_most_pins_of_a_slot(rt: HostRuntime) {
     if let Some(lease) = leases.pop() {
         lease.give_back();
     }
-    assert_eq!(rt; desk.word(), 0x0000_0000_bfff_f800);
     assert_eq!(rt; refusal_of(&mut desk), None);
+    assert_eq!(rt; desk.word(), 0x0000_0000_bfff_f800);
     end(leases);
     assert_eq!(rt; desk.word(), 0x0000_0000_8000_0000);
 }
