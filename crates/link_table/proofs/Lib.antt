@@ -1,4 +1,5 @@
 pub mod Accepted
+pub mod HolderCounts
 pub mod LinkRows
 pub mod RepoRows
 pub mod Runs

@@ -26,7 +26,8 @@ use Rattle.link_table.proofs.RepoRows.{contains-insert, contains-remove}
 use Rattle.link_table.proofs.LinkRows.{contains-blob, holds_row, link-there, links-remove, links_sorted-remove}
 use Rattle.link_table.proofs.Weights.{HasOneSize-insert, HasOneSize-remove, get_before_remove, total-insert, total-other, total-remove, total-remove_other}
 
-option_eq_some : (o : Option ℕ) (t : ℕ) → option_eq nat_eq o (Some t) ≡ true → o ≡ Some t
+-- an answer that is compared
+pub option_eq_some : (o : Option ℕ) (t : ℕ) → option_eq nat_eq o (Some t) ≡ true → o ≡ Some t
 option_eq_some None t e = cc
 option_eq_some (Some x) t e = ap Some (eqb-true x t e)
 
@@ -45,9 +46,9 @@ at_most false w x size is = omega arith
 abbrev pub linked_of : List Tenant → List Text → List LinkRow → List ℕ → Linked
 linked_of tenants repos rows charges = record { tenants = tenants; repos = sets.from_list repos; links = links_shown rows; charges = charges }
 
--- whether a tenant holds a digest, as the rows tell by the tenant's name
-pub held_by : (passes named : Text → Bool) → passes ≡ named → (rows : List LinkRow) (d : Text) → HasOneSize (links_shown rows) → (held : Bool) → held ≡ list_any (holds_row named d) rows → held ≡ is_some (get (blobs passes (links_shown rows)) d)
-held_by passes named same rows d one held is = is ∙ sym (contains-blob named rows d one) ∙ (λ i. is_some (get (blobs (sym same i) (links_shown rows)) d))
+-- whether a tenant holds a digest, as the rows tell
+pub held_by : (passes : Text → Bool) (rows : List LinkRow) (d : Text) → HasOneSize (links_shown rows) → (held : Bool) → held ≡ list_any (holds_row passes d) rows → held ≡ is_some (get (blobs passes (links_shown rows)) d)
+held_by passes rows d one held is = is ∙ sym (contains-blob passes rows d one)
 
 module _ (tenants : List Tenant) (repos : List Text) (rows : List LinkRow) (weights charges : List ℕ) (sound : IsSound tenants repos rows weights charges) where
   -- ---- repositories
@@ -164,7 +165,7 @@ module _ (tenants : List Tenant) (repos : List Text) (rows : List LinkRow) (weig
 
 module _ (tenants : List Tenant) (repos : List Text) (rows : List LinkRow) (weights charges : List ℕ) (sound : IsSound tenants repos rows weights charges) (t : ℕ) (lt : t < length tenants) (r d : Text) (own : is_tenants tenants t r ≡ true)
     (i : ℕ) (within : i < length rows) (is : HoldsAt (λ l. link_cmp (l.repo, l.digest) (r, d) ≡ Equal) rows i) (row : LinkRow) (value : row ≡ get_or rows i row) (rows' : List LinkRow) (gone : rows' ≡ remove rows i)
-    (name : Text) (named : is_tenants tenants t ≡ has_tenant name) (held : Bool) (told : held ≡ list_any (holds_row (has_tenant name) d) rows') (x : ℕ) (read : x ≡ get_or weights t x) where
+    (held : Bool) (told : held ≡ list_any (holds_row (is_tenants tenants t) d) rows') (x : ℕ) (read : x ≡ get_or weights t x) where
   sorted : is_sorted link_cmp (map link_shown rows') ≡ true
   sorted = links_sorted-remove rows sound.links_sorted r d i row within is rows' gone
 
@@ -175,7 +176,7 @@ module _ (tenants : List Tenant) (repos : List Text) (rows : List LinkRow) (weig
   linked = link-there rows sound.links_sorted r d i row within is ∙ ap (λ (l : LinkRow). Some l.size) (sym value)
 
   is_held : held ≡ is_some (get (blobs (is_tenants tenants t) (links_shown rows')) d)
-  is_held = held_by (is_tenants tenants t) (has_tenant name) named rows' d (one_size-unlink tenants repos rows weights charges sound t lt r d row.size rows' sorted own shown linked) held told
+  is_held = held_by (is_tenants tenants t) rows' d (one_size-unlink tenants repos rows weights charges sound t lt r d row.size rows' sorted own shown linked) held told
 
   pub light_taken : (if held then 0 else row.size) ≤ x
   light_taken = light_enough tenants repos rows weights charges sound t lt r d row.size rows' sorted own shown linked held is_held x read

@@ -2,3 +2,4 @@ pub mod Linked
 pub mod Lookups
 pub mod Rows
 pub mod Tenancy
+pub mod Holders

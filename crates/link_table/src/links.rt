@@ -6,13 +6,14 @@ ghost use Rattle.blob_digest.specs.Outcomes.{Does};
 ghost use Rattle.link_table.specs.Linked.{is_tenants, known_tenant, used_in, quota_in, blobs_of, repos_of, blobs_in, link, unlink, charge, discharge, appear, vanish, IsSizeOf, HasNoLinks};
 ghost use Rattle.link_table.specs.Tenancy.{Opens, AreTenants, RefusesTenants, tenants_shown};
 
+use crate::holders::{Holders, holders_of, lower, raise};
 use crate::rows::{
-    LinkRow, has_blob, link_place, nth_named, nth_of, repo_place, repos_named, weight_with,
-    weight_without,
+    LinkRow, link_place, nth_named, nth_of, repo_place, repos_named, weight_with, weight_without,
 };
 use crate::tenants::{in_order, tenant_at};
 use blob_digest::{Digest, Refusal, RepoName};
 use std::alloc::Global;
+use std::collections::BTreeMap;
 use std::marker::Model;
 
 /// The most repositories that a tenant may have.
@@ -24,12 +25,13 @@ const MAX_REPOS: usize = 1024;
 /// Tenants are numbered from 0 in the order of their names. Sizes, quotas, charges and uses are in
 /// bytes. A table keeps its repositories in the order of their names, and its links in that of
 /// repository and digest: to find one takes the logarithm of their number, and to add or to remove
-/// one moves those behind it.
+/// one moves those behind it. It counts for each tenant and digest how many repositories hold it.
 #[derive(Drop)]
 pub struct Links {
     tenants: Vec<(String, u64)>,
     repos: Vec<RepoName>,
     links: Vec<LinkRow>,
+    holders: Holders,
     weights: Vec<u64>,
     charges: Vec<u64>,
 }
@@ -44,10 +46,11 @@ impl Model for Links {
 
     ghost use Rattle.link_table.specs.Tenancy.{tenants_shown};
     ghost use Rattle.link_table.specs.Rows.{links_shown, IsSound};
+    ghost use Rattle.link_table.specs.Holders.{Counts};
 
     ghost view = { λ a. record { tenants = tenants_shown a.tenants.items; repos = set.from_list a.repos.items; links = links_shown a.links.items; charges = a.charges.items } };
 
-    ghost invariant = { λ a. IsSound (tenants_shown a.tenants.items) a.repos.items a.links.items a.weights.items a.charges.items };
+    ghost invariant = { λ a. IsSound (tenants_shown a.tenants.items) a.repos.items a.links.items a.weights.items a.charges.items × Counts (tenants_shown a.tenants.items) a.links.items a.holders };
 }
 
 impl Links {
@@ -69,6 +72,7 @@ impl Links {
             tenants,
             repos: Vec::new(alloc),
             links: Vec::new(alloc),
+            holders: BTreeMap::new(alloc),
             weights,
             charges,
         })
@@ -183,7 +187,8 @@ impl Links {
     }
 
     /// Links a blob of this digest and size in a repository of a tenant, and answers whether the
-    /// link is new. Want of memory is refused. A new link takes a look at each link of the table.
+    /// link is new. Want of memory is refused. It takes the logarithm of the number of links, and a new
+    /// one moves the rows behind it.
     pub fn link(
         &mut self,
         tenant: u16,
@@ -201,20 +206,24 @@ impl Links {
         let Err(place) = link_place(self.links.as_slice(), repo, digest) else {
             return Ok(false);
         };
-        let name = self.tenants[tenant as usize].0.as_str();
-        let held = has_blob(self.links.as_slice(), name, digest);
+        let held = holders_of(&self.holders, tenant, digest) > 0;
         let weight = weight_with(self.weights[tenant as usize], held, size);
         let row = LinkRow {
             repo: repo.clone()?,
             digest: *digest,
             size,
         };
-        self.links.insert(place, row)?;
+        raise(&mut self.holders, tenant, digest)?;
+        let Ok(()) = self.links.insert(place, row) else {
+            lower(&mut self.holders, tenant, digest);
+            return Err(Refusal::Memory);
+        };
         self.weights[tenant as usize] = weight;
         Ok(true)
     }
 
-    /// Takes a link out of a repository of a tenant. It takes a look at each link of the table.
+    /// Takes a link out of a repository of a tenant. It takes the logarithm of the number of links, and
+    /// moves the rows behind it.
     pub fn unlink(&mut self, tenant: u16, repo: &RepoName, digest: &Digest)
         requires there { tenant < length self.old.tenants }
         requires own { is_tenants self.old.tenants tenant repo.now ≡ true }
@@ -224,8 +233,8 @@ impl Links {
         match link_place(self.links.as_slice(), repo, digest) {
             Ok(place) => {
                 let row = self.links.remove(place);
-                let name = self.tenants[tenant as usize].0.as_str();
-                let held = has_blob(self.links.as_slice(), name, digest);
+                lower(&mut self.holders, tenant, digest);
+                let held = holders_of(&self.holders, tenant, digest) > 0;
                 self.weights[tenant as usize] = weight_without(
                     self.weights[tenant as usize],
                     held,
@@ -243,14 +252,13 @@ impl Links {
         link_place(self.links.as_slice(), repo, digest).is_ok()
     }
 
-    /// Whether some repository of a tenant holds the blob of a digest. It takes a look at each link of
-    /// the table.
+    /// Whether some repository of a tenant holds the blob of a digest. It takes the logarithm of the
+    /// number of digests that are linked.
     pub fn tenant_holds(&self, tenant: u16, digest: &Digest) -> bool
         requires { tenant < length self.now.tenants }
         ensures { result ≡ fmap.contains_key (blobs_of self.now tenant) digest.now }
     {
-        let name = self.tenants[tenant as usize].0.as_str();
-        has_blob(self.links.as_slice(), name, digest)
+        holders_of(&self.holders, tenant, digest) > 0
     }
 
     /// The i-th repository of a tenant, in the order of their names, from 0. It takes a look at each

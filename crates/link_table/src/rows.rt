@@ -1,7 +1,6 @@
 //! The rows of repositories and links, in the order of their keys, and the look-ups in them.
 
-ghost use Rattle.std.specs.Prelude.{◌≡◌, IfSome, ◌+◌, ◌-◌, ◌<◌, ◌≤◌, ◌^◌, ◌&&◌, true, false, length, map, filter, count_by, slice_get, if◌then◌else◌};
-ghost use Rattle.std.specs.List.{list_any};
+ghost use Rattle.std.specs.Prelude.{◌≡◌, IfSome, ◌+◌, ◌-◌, ◌<◌, ◌≤◌, ◌^◌, true, false, length, map, filter, count_by, slice_get, if◌then◌else◌};
 ghost use Rattle.std.specs.List.Sorted.{IsBinarySearchResult, IsSearchInRange, IsPartitionedBy, IsPartitionPoint};
 ghost use Rattle.std.specs.FinMap.{is_sorted};
 ghost use Rattle.std.specs.Ordering.{is_lt};
@@ -107,20 +106,6 @@ pub fn nth_of(links: &[LinkRow], repo: &RepoName, i: usize) -> Option<(Digest, u
     } else {
         None
     }
-}
-
-/// Whether a row links this digest in a repository of the tenant of this name.
-fn is_held(row: &LinkRow, name: &str, digest: &Digest) -> bool
-    ensures { result ≡ (same_text row.now.digest digest.now && has_tenant name.now row.now.repo) }
-{
-    row.digest == *digest && is_named(name, &row.repo)
-}
-
-/// Whether some repository of the tenant of this name holds a digest.
-pub fn has_blob(links: &[LinkRow], name: &str, digest: &Digest) -> bool
-    ensures { result ≡ list_any (λ l. same_text l.digest digest.now && has_tenant name.now l.repo) links.now }
-{
-    links.iter().any(|l| is_held(l, name, digest))
 }
 
 /// A tenant's weight with one more link of a blob that it holds already, or not.
