@@ -1,10 +1,10 @@
 -- What a link more or less does to the counts of those that hold a digest.
-use Rattle.std.proofs.Common.{◌≡◌, ℕ, ◌+◌, ◌-◌, ◌<◌, ◌≤◌, Bool, true, false, cond, ◌&&◌, ◌||◌, ◌==◌, nat_lt, List, [], ◌∷◌, length, get_or, Option, Some, None, refl, sym, ap, ◌∙◌, arith}
+use Rattle.std.proofs.Common.{◌≡◌, ℕ, ◌+◌, ◌<◌, ◌≤◌, Bool, true, false, cond, ◌&&◌, ◌||◌, ◌==◌, nat_lt, List, [], ◌∷◌, length, get_or, Option, Some, refl, sym, ap, ◌∙◌, arith}
 use Rattle.std.specs.Prelude.{count_by, unwrap_or, nat_eq}
 use Rattle.std.specs.Option.{option_eq}
 use Rattle.std.specs.List.{list_any, insert, remove, HoldsAt}
 use Rattle.std.specs.declared.cmp.Ordering.TheVariants.{Equal}
-use Rattle.std.specs.Ordering.{nat_cmp, is_eq, ordering_then}
+use Rattle.std.specs.Ordering.{nat_cmp}
 use Rattle.std.specs.Cmp.{tied_then, unsigned_tied}
 use Rattle.std.specs.Cmp.Lexicographic.{texts_ties}
 use Rattle.std.specs.BTreeMap as tree
@@ -102,7 +102,7 @@ module _ (tenants : List Tenant) (rows : List LinkRow) (old new : tree.BTreeMap 
   Counts-remove i rows' lt read gone less u e =
       let f : LinkRow → ℕ = λ x. cond (is_held tenants u e x) 1 0 in
       let without : count_by (is_held tenants u e) rows' + cond (is_key t row.digest u e) 1 0 ≡ count_by (is_held tenants u e) rows =
-        (λ j. count_by (is_held tenants u e) (gone j) + cond (sym (held_is_key tenants t row own u e) j) 1 0) ∙ ap (λ x. count_by (is_held tenants u e) (remove rows i) + f x) read ∙ sum_by-remove f rows i row lt in
+      (λ j. count_by (is_held tenants u e) (gone j) + cond (sym (held_is_key tenants t row own u e) j) 1 0) ∙ ap (λ x. count_by (is_held tenants u e) (remove rows i) + f x) read ∙ sum_by-remove f rows i row lt in
       let before : count_of new u e + cond (is_key t row.digest u e) 1 0 ≡ count_by (is_held tenants u e) rows = less u e ∙ counts u e in
       same_less (count_of new u e) (count_by (is_held tenants u e) rows') (cond (is_key t row.digest u e) 1 0) (count_by (is_held tenants u e) rows) before without
     where

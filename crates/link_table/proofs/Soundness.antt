@@ -18,7 +18,6 @@ use Rattle.blob_digest.proofs.KeyOrders.{link_cmp_total, exact_link}
 use Rattle.blob_digest.proofs.RowLemmas.{entries-empty}
 use Rattle.blob_digest.proofs.MapSums.{insert_back}
 use Rattle.link_table.specs.Linked.{Tenant, Linked, blobs, total_size, is_tenants, tenant_of, HasOneSize, HasNoLinks, IsSizeOf, link, used_in}
-use Rattle.link_table.specs.Lookups.{has_tenant}
 use Rattle.link_table.specs.Tenancy.{AreTenants}
 use Rattle.link_table.specs.Rows.{link_shown, links_shown, IsSound}
 use Rattle.link_table.specs.declared.rows.LinkRow.{LinkRow}

@@ -1,4 +1,4 @@
-use Rattle.std.proofs.Common.{◌≡◌, ◌+◌, ◌-◌, ◌<◌, None, Some, arith}
+use Rattle.std.proofs.Common.{◌≡◌, ◌+◌, ◌-◌, None, Some, arith}
 use Rattle.link_table.specs.Holders.{count_of}
 use Rattle.link_table.proofs.HolderCounts.{lowered}
 use Rattle.link_table.proofs.holders.lower.Goals as goal

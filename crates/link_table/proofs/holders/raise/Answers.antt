@@ -1,4 +1,4 @@
-use Rattle.std.proofs.Common.{◌+◌, ap, ◌∙◌}
+use Rattle.std.proofs.Common.{◌+◌, ap}
 use Rattle.link_table.proofs.HolderCounts.{raised}
 use Rattle.link_table.proofs.holders.raise.Goals as goal
 

@@ -26,11 +26,12 @@ pub invariant_of-self-2 : goal.invariant_of-self-2
 invariant_of-self-2 c =
     let missed = rw c.as_slice.ensures.value at c.in-Err.ensures.place in
     let within = rw c.as_slice.ensures.value at c.in-Err.ensures.within in
-    let put = rw c.in_ok-copy.ensures.cases at c.in_ok-insert.ensures.items in
-    (IsSound-appear (tenants_shown c.self.inside.tenants.items) c.self.inside.repos.items c.self.inside.links.items c.self.inside.weights.items c.self.inside.charges.items c.self.invariant.0 c.insert.new.self.items c.args.repo.now
-    (repos_sorted-insert c.self.inside.repos.items c.self.invariant.0.repos_sorted c.args.repo.now c.in-Err.place within missed c.insert.new.self.items put)
-    (repos-insert c.self.inside.repos.items c.self.invariant.0.repos_sorted c.args.repo.now c.in-Err.place within missed c.insert.new.self.items put),
-    c.self.invariant.1)
+    let put = rw c.in_ok-copy.ensures.cases at c.in_ok-insert.ensures.items in (
+      IsSound-appear (tenants_shown c.self.inside.tenants.items) c.self.inside.repos.items c.self.inside.links.items c.self.inside.weights.items c.self.inside.charges.items c.self.invariant.0 c.insert.new.self.items c.args.repo.now
+          (repos_sorted-insert c.self.inside.repos.items c.self.invariant.0.repos_sorted c.args.repo.now c.in-Err.place within missed c.insert.new.self.items put)
+          (repos-insert c.self.inside.repos.items c.self.invariant.0.repos_sorted c.args.repo.now c.in-Err.place within missed c.insert.new.self.items put),
+      c.self.invariant.1,
+    )
 
 pub returns : goal.returns
 returns c =

@@ -9,12 +9,12 @@ use Rattle.link_table.proofs.links.Links.unlink.Goals as goal
 
 pub lower-requires : goal.lower-requires
 lower-requires c = some_counted (tenants_shown c.self.inside.tenants.items) c.self.inside.links.items c.self.inside.holders c.self.invariant.1 c.args.tenant c.args.repo.now c.args.digest.now (rw (← c.self.view_is) at c.requires.own)
-      c.in-Ok.place (rw c.as_slice.ensures.value at c.in-Ok.ensures.within) (rw c.as_slice.ensures.value at c.in-Ok.ensures.place) c.remove-row.result c.remove-row.ensures.value
+    c.in-Ok.place (rw c.as_slice.ensures.value at c.in-Ok.ensures.within) (rw c.as_slice.ensures.value at c.in-Ok.ensures.place) c.remove-row.result c.remove-row.ensures.value
 
 pub weight_without-requires : goal.weight_without-requires
 weight_without-requires c =
     let after = Counts-taken (tenants_shown c.self.inside.tenants.items) c.self.inside.links.items c.self.inside.holders c.self.invariant.1 c.args.tenant c.args.repo.now c.args.digest.now (rw (← c.self.view_is) at c.requires.own)
-      c.in-Ok.place (rw c.as_slice.ensures.value at c.in-Ok.ensures.within) (rw c.as_slice.ensures.value at c.in-Ok.ensures.place) c.remove-row.result c.remove-row.ensures.value c.lower.new.holders c.remove-row.new.self.items c.remove-row.ensures.items c.lower.ensures in
+    c.in-Ok.place (rw c.as_slice.ensures.value at c.in-Ok.ensures.within) (rw c.as_slice.ensures.value at c.in-Ok.ensures.place) c.remove-row.result c.remove-row.ensures.value c.lower.new.holders c.remove-row.new.self.items c.remove-row.ensures.items c.lower.ensures in
     let there = rw (← c.self.view_is) at c.requires.there in
     light_taken (tenants_shown c.self.inside.tenants.items) c.self.inside.repos.items c.self.inside.links.items c.self.inside.weights.items c.self.inside.charges.items c.self.invariant.0 c.args.tenant there c.args.repo.now c.args.digest.now (rw (← c.self.view_is) at c.requires.own)
     c.in-Ok.place (rw c.as_slice.ensures.value at c.in-Ok.ensures.within) (rw c.as_slice.ensures.value at c.in-Ok.ensures.place) c.remove-row.result c.remove-row.ensures.value c.remove-row.new.self.items c.remove-row.ensures.items
@@ -23,12 +23,13 @@ weight_without-requires c =
 pub invariant_of-self : goal.invariant_of-self
 invariant_of-self c =
     let after = Counts-taken (tenants_shown c.self.inside.tenants.items) c.self.inside.links.items c.self.inside.holders c.self.invariant.1 c.args.tenant c.args.repo.now c.args.digest.now (rw (← c.self.view_is) at c.requires.own)
-      c.in-Ok.place (rw c.as_slice.ensures.value at c.in-Ok.ensures.within) (rw c.as_slice.ensures.value at c.in-Ok.ensures.place) c.remove-row.result c.remove-row.ensures.value c.lower.new.holders c.remove-row.new.self.items c.remove-row.ensures.items c.lower.ensures in
-    let there = rw (← c.self.view_is) at c.requires.there in
-    (IsSound-taken (tenants_shown c.self.inside.tenants.items) c.self.inside.repos.items c.self.inside.links.items c.self.inside.weights.items c.self.inside.charges.items c.self.invariant.0 c.args.tenant there c.args.repo.now c.args.digest.now (rw (← c.self.view_is) at c.requires.own)
-    c.in-Ok.place (rw c.as_slice.ensures.value at c.in-Ok.ensures.within) (rw c.as_slice.ensures.value at c.in-Ok.ensures.place) c.remove-row.result c.remove-row.ensures.value c.remove-row.new.self.items c.remove-row.ensures.items
-    (nat_lt 0 c.holders_of-held.result) (ap (nat_lt 0) c.holders_of-held.ensures ∙ held-counted (tenants_shown c.self.inside.tenants.items) c.remove-row.new.self.items c.lower.new.holders after c.args.tenant c.args.digest.now) c.index.result.now c.index.ensures c.weight_without.result c.weight_without.ensures,
-    after)
+    c.in-Ok.place (rw c.as_slice.ensures.value at c.in-Ok.ensures.within) (rw c.as_slice.ensures.value at c.in-Ok.ensures.place) c.remove-row.result c.remove-row.ensures.value c.lower.new.holders c.remove-row.new.self.items c.remove-row.ensures.items c.lower.ensures in
+    let there = rw (← c.self.view_is) at c.requires.there in (
+      IsSound-taken (tenants_shown c.self.inside.tenants.items) c.self.inside.repos.items c.self.inside.links.items c.self.inside.weights.items c.self.inside.charges.items c.self.invariant.0 c.args.tenant there c.args.repo.now c.args.digest.now (rw (← c.self.view_is) at c.requires.own)
+          c.in-Ok.place (rw c.as_slice.ensures.value at c.in-Ok.ensures.within) (rw c.as_slice.ensures.value at c.in-Ok.ensures.place) c.remove-row.result c.remove-row.ensures.value c.remove-row.new.self.items c.remove-row.ensures.items
+          (nat_lt 0 c.holders_of-held.result) (ap (nat_lt 0) c.holders_of-held.ensures ∙ held-counted (tenants_shown c.self.inside.tenants.items) c.remove-row.new.self.items c.lower.new.holders after c.args.tenant c.args.digest.now) c.index.result.now c.index.ensures c.weight_without.result c.weight_without.ensures,
+      after,
+    )
 
 pub unreachable-requires : goal.unreachable-requires
 unreachable-requires c =

@@ -10,12 +10,13 @@ use Rattle.link_table.proofs.links.Links.vanish.Goals as goal
 pub invariant_of-self : goal.invariant_of-self
 invariant_of-self c =
     let is = rw c.as_slice.ensures.value at c.in-Ok.ensures.place in
-    let within = rw c.as_slice.ensures.value at c.in-Ok.ensures.within in
-    (IsSound-vanish (tenants_shown c.self.inside.tenants.items) c.self.inside.repos.items c.self.inside.links.items c.self.inside.weights.items c.self.inside.charges.items c.self.invariant.0 c.remove.new.self.items c.args.repo.now
-    (rw (← c.self.view_is) at c.requires.unlinked)
-    (repos_sorted-remove c.self.inside.repos.items c.self.invariant.0.repos_sorted c.args.repo.now c.in-Ok.place within is c.remove.new.self.items c.remove.ensures.items)
-    (repos-remove c.self.inside.repos.items c.self.invariant.0.repos_sorted c.args.repo.now c.in-Ok.place within is c.remove.new.self.items c.remove.ensures.items),
-    c.self.invariant.1)
+    let within = rw c.as_slice.ensures.value at c.in-Ok.ensures.within in (
+      IsSound-vanish (tenants_shown c.self.inside.tenants.items) c.self.inside.repos.items c.self.inside.links.items c.self.inside.weights.items c.self.inside.charges.items c.self.invariant.0 c.remove.new.self.items c.args.repo.now
+          (rw (← c.self.view_is) at c.requires.unlinked)
+          (repos_sorted-remove c.self.inside.repos.items c.self.invariant.0.repos_sorted c.args.repo.now c.in-Ok.place within is c.remove.new.self.items c.remove.ensures.items)
+          (repos-remove c.self.inside.repos.items c.self.invariant.0.repos_sorted c.args.repo.now c.in-Ok.place within is c.remove.new.self.items c.remove.ensures.items),
+      c.self.invariant.1,
+    )
 
 pub unreachable-requires : goal.unreachable-requires
 unreachable-requires c =
