@@ -16,7 +16,7 @@ use Rattle.pin_core.specs.declared.world.PinEntry.{PinEntry}
 use Rattle.pin_core.specs.declared.event.Event.{Event}
 use Rattle.pin_core.specs.declared.event.Event.TheVariants.{Give, Lend, Share, Leave, Condemn, Revive, Reclaim, Look, Verify}
 use Rattle.blob_digest.specs.Keys.{Text}
-use Rattle.pin_core.specs.World.{PinWorld, Keeps, HasDigest, IsState, IsUsed, IsWeight, most_weight, hold_named, holds_of, opening, row, no_row}
+use Rattle.pin_core.specs.World.{PinWorld, Keeps, HasDigest, IsState, IsUsed, IsWeight, max_weight, hold_named, holds_of, opening, row, no_row}
 use Rattle.pin_core.specs.Events.{Can, after, with_row, half, halve, second, entry, lent_hold, digest_or, given_row, in_phase, reclaimed_row}
 use Rattle.pin_core.proofs.Names.{hold_in, all_named, all_map, all_filter, all_push, clear_holds, named_push, named_filter, named_shared}
 use Rattle.pin_core.proofs.Weights.{lent_fits, filter_fits}
@@ -72,8 +72,9 @@ second_keeps : (rs : List PinRow) (n m : ℕ) (es : List PinEntry) → All (Keep
 second_keeps rs n m es a None e = All-nil (Keeps rs)
 second_keeps rs n m es a (Some h) e = All-cons (Keeps rs) (half h) [] (half_keeps rs h (all_named (Keeps rs) es n h e a)) (All-nil (Keeps rs))
 
-is_free : (p : Phase) → p ≡ Free → IsUsed p → ⊥
-is_free p e u = subst (λ (x : Phase). IsUsed x) e u
+-- a free slot isn't used
+pub free_unused : (p : Phase) → p ≡ Free → IsUsed p → ⊥
+free_unused p e u = subst (λ (x : Phase). IsUsed x) e u
 
 live_used : (p : Phase) → p ≡ Live → IsUsed p
 live_used p e = subst (λ (x : Phase). IsUsed x) (sym e) tt
@@ -99,11 +100,11 @@ phased rs k p l used u all = ((λ _. (All-get_or HasDigest rs k no_row l all).0 
 
 pub state_after : (p : PinWorld) (e : Event) → Can p e → IsState p → IsState (after p e)
 state_after p (Give k d) can g = let r = given_row d (row p.rows k) in
-    record { held = keeps_else p.rows k r (holds_of p) (unused p.rows k (holds_of p) (is_free (row p.rows k).phase can.0.1) g.held) g.held; named = g.named; weights = g.weights; fits = g.fits; digests = All-set HasDigest p.rows k r ((λ _. (d, refl)), (λ never. absurd (never tt))) g.digests }
+    record { held = keeps_else p.rows k r (holds_of p) (unused p.rows k (holds_of p) (free_unused (row p.rows k).phase can.0.1) g.held) g.held; named = g.named; weights = g.weights; fits = g.fits; digests = All-set HasDigest p.rows k r ((λ _. (d, refl)), (λ never. absurd (never tt))) g.digests }
 state_after p (Lend k n) can g = let h = lent_hold k (row p.rows k) in
     record { held = all_push (Keeps p.rows) p.pins (entry n h ∷ []) g.held (All-cons (Keeps p.rows) h [] (new_keeps p.rows k can.0.0 can.0.1 g.digests) (All-nil (Keeps p.rows))); named = named_push p.pins n h g.named can.1; weights = all_push IsWeight p.pins (entry n h ∷ []) g.weights (All-cons IsWeight h [] (10, omega arith, refl) (All-nil IsWeight)); fits = lent_fits p.pins k n h refl refl g.fits can.2; digests = g.digests }
 state_after p (Share n m) can g =
-    record { held = all_push (Keeps p.rows) (map (halve n) p.pins) (second m (hold_named n p.pins)) (all_map (Keeps p.rows) (halve n) (halve_keeps p.rows n) p.pins g.held) (second_keeps p.rows n m p.pins g.held (hold_named n p.pins) refl); named = named_shared p.pins n m g.named can.1; weights = shared_weights p.pins n m g.named can.0 g.weights; fits = λ k. subst (λ s. s ≤ most_weight) (sym (shared_sum k n m p.pins g.named can.0 g.weights)) (g.fits k); digests = g.digests }
+    record { held = all_push (Keeps p.rows) (map (halve n) p.pins) (second m (hold_named n p.pins)) (all_map (Keeps p.rows) (halve n) (halve_keeps p.rows n) p.pins g.held) (second_keeps p.rows n m p.pins g.held (hold_named n p.pins) refl); named = named_shared p.pins n m g.named can.1; weights = shared_weights p.pins n m g.named can.0 g.weights; fits = λ k. subst (λ s. s ≤ max_weight) (sym (shared_sum k n m p.pins g.named can.0 g.weights)) (g.fits k); digests = g.digests }
 state_after p (Leave n) can g = record { held = all_filter (Keeps p.rows) (λ e. not (e.name == n)) p.pins g.held; named = named_filter (λ e. not (e.name == n)) p.pins g.named; weights = all_filter IsWeight (λ e. not (e.name == n)) p.pins g.weights; fits = filter_fits (λ e. not (e.name == n)) p.pins g.fits; digests = g.digests }
 state_after p (Condemn k) can g = let r = in_phase Condemned (row p.rows k) in let u = live_used (row p.rows k).phase can.1 in
     record { held = keeps_same p.rows k r (holds_of p) can.0 (record { used = λ _. tt; generation = refl; digest = refl }) g.held; named = g.named; weights = g.weights; fits = g.fits; digests = All-set HasDigest p.rows k r (phased p.rows k Condemned can.0 tt u g.digests) g.digests }

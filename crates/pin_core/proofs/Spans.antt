@@ -3,8 +3,7 @@ use Rattle.std.proofs.Common.{◌≡◌, ◌≢◌, ℕ, zero, suc, ◌+◌, ◌
 use Rattle.std.specs.Prelude.{slice_get}
 use mathlib.Core.Logic.{dite}
 use native.Mathlib.Decide.{dec_le}
-use Rattle.pin_core.specs.declared.world.Phase.{Phase}
-use Rattle.pin_core.specs.declared.world.Phase.TheVariants.{Free}
+use Rattle.blob_digest.proofs.ListLemmas.{there_at}
 use Rattle.pin_core.specs.declared.event.Event.{Event}
 use Rattle.pin_core.specs.declared.event.Event.TheVariants.{Give, Lend, Share, Leave, Condemn, Revive, Reclaim, Look, Verify}
 use Rattle.pin_core.specs.World.{PinWorld, Keeps, IsState, IsUsed, hold_named, opening, row, row_word, word}
@@ -12,7 +11,7 @@ use Rattle.pin_core.proofs.Shares.{shared_sum}
 use Rattle.pin_core.specs.Events.{Can, after, Happens, half, halve, second, entry, lent_hold}
 use Rattle.pin_core.specs.Laws.{world_at, Given, Spanned, begun, lent, shared, generation_at, Reclaims, Reclamation}
 use Rattle.pin_core.proofs.Names.{IsOn, all_named, on_push, named_last, on_halved, on_filter, none_halved}
-use Rattle.pin_core.proofs.Held.{state_after, state_opening, rises_after, Past, past_after, given_past}
+use Rattle.pin_core.proofs.Held.{free_unused, state_after, state_opening, rises_after, Past, past_after, given_past}
 
 -- the event at a place, and the worlds around it
 pub record Turn (p : PinWorld) (es : List Event) (i : ℕ) (e : Event) : Type 0 where
@@ -25,17 +24,12 @@ turn p [] i e h at = absurd (cc)
 turn p (x ∷ es) zero e h at = let same : x ≡ e = cc in record { can = subst (λ y. Can p y) same h.0; next = ap (λ y. after p y) same; within = omega arith }
 turn p (x ∷ es) (suc i) e h at = let t = turn (after p x) es i e h.1 at in let l = t.within in record { can = t.can; next = t.next; within = omega arith }
 
-there : {X : Type 0} (es : List X) (i : ℕ) → i < length es → (e : X) × (slice_get es i ≡ Some e)
-there [] i l = absurd (omega arith)
-there (x ∷ es) zero l = (x, refl)
-there (x ∷ es) (suc i) l = there es i (omega arith)
-
 -- what each event keeps holds from one place to a later one
 pub along : (P : PinWorld → Type 0) (p : PinWorld) (es : List Event) (j n : ℕ) → Happens p es → n + j ≤ length es
     → ((i : ℕ) (e : Event) → j ≤ i → i < n + j → slice_get es i ≡ Some e → Can (world_at p es i) e → P (world_at p es i) → P (after (world_at p es i) e)) → P (world_at p es j) → P (world_at p es (n + j))
 along P p es j zero h l law at = subst (λ i. P (world_at p es i)) (let z : j ≡ 0 + j = omega arith in z) at
 along P p es j (suc n) h l law at =
-    let e = there es (n + j) (omega arith) in
+    let e = there_at es (n + j) (omega arith) in
     let t = turn p es (n + j) e.0 h e.1 in
     let before = along P p es j n h (omega arith) (λ i x lo hi is. law i x lo (omega arith) is) at in
     let now : P (after (world_at p es (n + j)) e.0) = law (n + j) e.0 (omega arith) (omega arith) e.1 t.can before in
@@ -87,9 +81,6 @@ spanned_on p es i n k h l (shared j _ m _ _ span at before stays) =
 
 state_at : (p : PinWorld) (es : List Event) (i : ℕ) → Happens p es → i ≤ length es → IsState p → IsState (world_at p es i)
 state_at p es i h l g = up_to IsState p es 0 i h (omega arith) l (λ x e lo hi is can g'. state_after (world_at p es x) e can g') g
-
-free_unused : (p : Phase) → p ≡ Free → IsUsed p → ⊥
-free_unused p e u = subst (λ (x : Phase). IsUsed x) e u
 
 apart : (p : PinWorld) (es : List Event) → Happens p es → IsState p → (i k n : ℕ) → Given es k i → Spanned p es i n k → ⊥
 apart p es h g i k n given span =

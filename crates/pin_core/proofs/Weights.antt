@@ -5,7 +5,7 @@ use Rattle.std.specs.List.{filter}
 use Rattle.std.proofs.lemmas.List.Sums.{sum_by-cons}
 use Rattle.pin_core.specs.declared.world.Hold.{Hold}
 use Rattle.pin_core.specs.declared.world.PinEntry.{PinEntry}
-use Rattle.pin_core.specs.World.{weight_at, weight_on, most_weight}
+use Rattle.pin_core.specs.World.{weight_at, weight_on, max_weight}
 use Rattle.pin_core.specs.Events.{entry, new_weight}
 use Rattle.pin_core.proofs.Names.{hold_in}
 
@@ -21,14 +21,14 @@ sum_of-append k [] fs = omega arith
 sum_of-append k (x ∷ es) fs = let a = sum_of-cons k x (es ++ fs) in let b = sum_of-cons k x es in let c = sum_of-append k es fs in omega arith
 
 -- after a Lend
-pub lent_fits : (es : List PinEntry) (k n : ℕ) (h : Hold) → h.slot ≡ k → h.weight ≡ new_weight → ((j : ℕ) → sum_of j es ≤ most_weight) → sum_of k es + new_weight ≤ most_weight → (j : ℕ) → sum_of j (es ++ entry n h ∷ []) ≤ most_weight
+pub lent_fits : (es : List PinEntry) (k n : ℕ) (h : Hold) → h.slot ≡ k → h.weight ≡ new_weight → ((j : ℕ) → sum_of j es ≤ max_weight) → sum_of k es + new_weight ≤ max_weight → (j : ℕ) → sum_of j (es ++ entry n h ∷ []) ≤ max_weight
 lent_fits es k n h slot weight fits room j =
     let a = sum_of-append j es (entry n h ∷ []) in
     let b = sum_of-cons j (entry n h) [] in
     let c = fits j in
     by_slot (h.slot == j) refl a b c
   where
-    by_slot : (t : Bool) → (h.slot == j) ≡ t → sum_of j (es ++ entry n h ∷ []) ≡ sum_of j es + sum_of j (entry n h ∷ []) → sum_of j (entry n h ∷ []) ≡ cond t h.weight 0 + sum_of j [] → sum_of j es ≤ most_weight → sum_of j (es ++ entry n h ∷ []) ≤ most_weight
+    by_slot : (t : Bool) → (h.slot == j) ≡ t → sum_of j (es ++ entry n h ∷ []) ≡ sum_of j es + sum_of j (entry n h ∷ []) → sum_of j (entry n h ∷ []) ≡ cond t h.weight 0 + sum_of j [] → sum_of j es ≤ max_weight → sum_of j (es ++ entry n h ∷ []) ≤ max_weight
     by_slot true is a b c =
         let same : h.slot ≡ j = eqb-true h.slot j is in
         let here : sum_of j es ≡ sum_of k es = ap (λ i. sum_of i es) (sym same ∙ slot) in omega arith
@@ -43,5 +43,5 @@ filter_sum p k (x ∷ es) = let b = sum_of-cons k x es in by_test (p x) b (filte
     by_test true e rest = let c = sum_of-cons k x (filter p es) in omega arith
     by_test false e rest = omega arith
 
-pub filter_fits : (p : PinEntry → Bool) (es : List PinEntry) → ((k : ℕ) → sum_of k es ≤ most_weight) → (k : ℕ) → sum_of k (filter p es) ≤ most_weight
+pub filter_fits : (p : PinEntry → Bool) (es : List PinEntry) → ((k : ℕ) → sum_of k es ≤ max_weight) → (k : ℕ) → sum_of k (filter p es) ≤ max_weight
 filter_fits p es fits k = let a = filter_sum p k es in let b = fits k in omega arith

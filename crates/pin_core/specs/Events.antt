@@ -10,7 +10,7 @@ use Rattle.pin_core.specs.declared.world.Hold.{Hold}
 use Rattle.pin_core.specs.declared.world.PinEntry.{PinEntry}
 use Rattle.pin_core.specs.declared.event.Event.{Event}
 use Rattle.pin_core.specs.declared.event.Event.TheVariants.{Give, Lend, Share, Leave, Condemn, Revive, Reclaim, Look, Verify}
-use Rattle.pin_core.specs.World.{PinWorld, IsUsed, holds_of, weight_on, row, hold_named, most_weight}
+use Rattle.pin_core.specs.World.{PinWorld, IsUsed, holds_of, weight_on, row, hold_named, max_weight}
 
 -- a number of slots outside 1 to 65,536
 abbrev pub IsOutside : ℕ → Type 0
@@ -39,7 +39,7 @@ IsIn p k phase = (k < length p.rows) × ((row p.rows k).phase ≡ phase)
 -- the event can happen
 abbrev pub Can : PinWorld → Event → Type 0
 Can p (Give k d) = IsIn p k Free × IsNew d p.rows
-Can p (Lend k n) = IsIn p k Live × (hold_named n p.pins ≡ None) × (weight_on k (holds_of p) + new_weight ≤ most_weight)
+Can p (Lend k n) = IsIn p k Live × (hold_named n p.pins ≡ None) × (weight_on k (holds_of p) + new_weight ≤ max_weight)
 Can p (Share n m) = IsSomeAnd (hold_named n p.pins) (λ h. 1 < h.weight) × (hold_named m p.pins ≡ None)
 Can p (Leave n) = IsSome (hold_named n p.pins)
 Can p (Condemn k) = IsIn p k Live

@@ -6,7 +6,7 @@ use Rattle.pin_core.specs.declared.world.Hold.{Hold}
 use Rattle.pin_core.specs.declared.event.Event.{Event}
 use Rattle.pin_core.specs.declared.event.Event.TheVariants.{Give, Lend, Share, Leave}
 use Rattle.blob_digest.specs.Keys.{Text}
-use Rattle.pin_core.specs.World.{PinWorld, Held, IsState, hold_named, row, opening, word, word_of, most_weight}
+use Rattle.pin_core.specs.World.{PinWorld, Held, IsState, hold_named, row, opening, word, word_of, max_weight}
 use Rattle.pin_core.specs.Events.{after_all, Happens}
 
 -- the world before the i-th event
@@ -47,4 +47,4 @@ pub record Reclamation : Type 0 where
 
 -- a word tells its generation, phase and sum of weights
 abbrev pub Packing : Type 0
-Packing = (g g' w w' : ℕ) (p p' : Phase) → w ≤ most_weight → w' ≤ most_weight → word_of g p w ≡ word_of g' p' w' → (g ≡ g') × (p ≡ p') × (w ≡ w')
+Packing = (g g' w w' : ℕ) (p p' : Phase) → w ≤ max_weight → w' ≤ max_weight → word_of g p w ≡ word_of g' p' w' → (g ≡ g') × (p ≡ p') × (w ≡ w')

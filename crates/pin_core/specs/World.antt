@@ -95,15 +95,15 @@ abbrev pub word_of : ℕ → Phase → ℕ → ℕ
 word_of generation phase weight = generation * 0x1_0000_0000 + phase_bits phase + weight
 
 -- the largest sum of weights that a word holds
-abbrev pub most_weight : ℕ
-most_weight = 0x3fff_ffff
+abbrev pub max_weight : ℕ
+max_weight = 0x3fff_ffff
 
 -- What every state keeps: slots have digests exactly where they are used; pins have names of their own, and powers of two for weights; sums fit their words; the slot of each pin is used and its own.
 pub record IsState (p : PinWorld) : Type 0 where
   pub digests : All HasDigest p.rows
   pub named : IsNamed p.pins
   pub weights : All IsWeight (holds_of p)
-  pub fits : (k : ℕ) → weight_on k (holds_of p) ≤ most_weight
+  pub fits : (k : ℕ) → weight_on k (holds_of p) ≤ max_weight
   pub held : Held p
 
 -- the word of a row with a sum of weights

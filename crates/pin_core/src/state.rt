@@ -10,7 +10,7 @@ ghost use Rattle.pin_core.specs.declared.event.Event.TheVariants.{Give, Lend, Sh
 use crate::event::Event;
 use crate::pins::{drop_named, find, halve_named, halved, is_clear, sum_on};
 use crate::rows::{given, in_phase, is_new, reclaimed};
-use crate::word::{MOST_SLOTS, MOST_WEIGHT, NEW_WEIGHT, WordRow};
+use crate::word::{MAX_SLOTS, MAX_WEIGHT, NEW_WEIGHT, WordRow};
 use crate::world::{Hold, Phase, PinEntry, PinRow};
 use blob_digest::{Digest, Refusal};
 use std::alloc::Global;
@@ -41,7 +41,7 @@ impl PinState {
         ensures made { IfOk result (λ s. ¬ IsOutside slots × (s ≡ opening slots first_generation)) }
         ensures refused { IfErr result (λ e. ((e ≡ LimitReached) × IsOutside slots) ⊎ ((e ≡ Memory) × ¬ IsOutside slots)) }
     {
-        if slots < 1 || slots > MOST_SLOTS {
+        if slots < 1 || slots > MAX_SLOTS {
             return Err(Refusal::LimitReached);
         }
         let row = PinRow {
@@ -108,7 +108,7 @@ impl PinState {
     {
         self.is_in(slot, Phase::Live)
             && find(&self.pins, pin).is_none()
-            && sum_on(&self.pins, slot) + u128::from(NEW_WEIGHT) <= u128::from(MOST_WEIGHT)
+            && sum_on(&self.pins, slot) + u128::from(NEW_WEIGHT) <= u128::from(MAX_WEIGHT)
     }
 
     /// Whether the pin can be shared under that name.

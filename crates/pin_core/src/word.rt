@@ -16,13 +16,13 @@ pub const CONDEMNED: u64 = 0x4000_0000;
 const GENERATION: u64 = 0x1_0000_0000;
 
 /// The largest sum of weights that a word can hold.
-pub const MOST_WEIGHT: u32 = 0x3fff_ffff;
+pub const MAX_WEIGHT: u32 = 0x3fff_ffff;
 
 /// The weight of a new pin.
 pub const NEW_WEIGHT: u32 = 1024;
 
 /// The most slots, each with a word of its own.
-pub const MOST_SLOTS: u32 = 65_536;
+pub const MAX_SLOTS: u32 = 65_536;
 
 /// The generation after which a slot is retired.
 pub const LAST_GENERATION: u32 = u32::MAX;

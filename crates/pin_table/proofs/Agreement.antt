@@ -13,7 +13,7 @@ use Rattle.pin_core.specs.declared.world.PinRow.{PinRow}
 use Rattle.pin_core.specs.declared.world.PinEntry.{PinEntry}
 use Rattle.pin_core.specs.declared.world.Hold.{Hold}
 use Rattle.pin_core.specs.declared.event.Event.{Event}
-use Rattle.pin_core.specs.World.{PinWorld, IsState, holds_of, weight_on, word, row, row_word, no_row, most_weight, opening}
+use Rattle.pin_core.specs.World.{PinWorld, IsState, holds_of, weight_on, word, row, row_word, no_row, max_weight, opening}
 use Rattle.pin_core.specs.Events.{Can, after, Happens, after_all, with_row, with_pins}
 use Rattle.pin_table.specs.declared.view.Kept.{Kept}
 use Rattle.pin_table.specs.declared.view.View.{View}
@@ -59,7 +59,7 @@ pub record Change (p : PinWorld) (k m b : ℕ) (q : PinWorld) : Type 0 where
   pub words : (j : ℕ) → j ≢ k → word q j ≡ word p j
   pub weights : (j : ℕ) → j ≢ k → weight_on j (holds_of q) ≡ weight_on j (holds_of p)
   pub bound : weight_on k (holds_of q) ≤ b
-  pub limit : b ≤ most_weight
+  pub limit : b ≤ max_weight
 
 pub changed : (ws : List ℕ) (vs : List View) (p q : PinWorld) (a : Agrees ws vs p) (k m b : ℕ) (u : Kept) (others : List View) → All IsGuest others → q.rows ≡ u.rows → u.bounds ≡ set a.keeper.bounds k b
     → IsPermutation (all_holds (Keeper u ∷ others)) (holds_of q) → IsState q → Change p k m b q → Agrees (set ws k m) (Keeper u ∷ others) q
@@ -79,7 +79,7 @@ changed ws vs p q a k m b u others guests rows bounds pins state c = record {
   at_bounds = λ j l. subst (λ bs. weight_on j (holds_of q) ≤ slice_index bs j) (sym bounds) (dite (ℕ_discrete j k)
       (λ (e : j ≡ k). let here : slice_index (set a.keeper.bounds k b) j ≡ b = at_bound j e in let w : weight_on j (holds_of q) ≤ b = subst (λ i. weight_on i (holds_of q) ≤ b) (sym e) c.bound in omega arith)
       (λ (ne : j ≢ k). let there : slice_index (set a.keeper.bounds k b) j ≡ slice_index a.keeper.bounds j = get_or-set_other a.keeper.bounds k j b 0 ne in let w = c.weights j ne in let old = a.at_bounds j (below j l) in omega arith));
-  limits = λ j l. subst (λ bs. slice_index bs j ≤ most_weight) (sym bounds) (dite (ℕ_discrete j k)
+  limits = λ j l. subst (λ bs. slice_index bs j ≤ max_weight) (sym bounds) (dite (ℕ_discrete j k)
       (λ (e : j ≡ k). let here : slice_index (set a.keeper.bounds k b) j ≡ b = at_bound j e in let w = c.limit in omega arith)
       (λ (ne : j ≢ k). let there : slice_index (set a.keeper.bounds k b) j ≡ slice_index a.keeper.bounds j = get_or-set_other a.keeper.bounds k j b 0 ne in let old = a.limits j (below j l) in omega arith));
 }
@@ -91,7 +91,7 @@ changed ws vs p q a k m b u others guests rows bounds pins state c = record {
     at_bound j e = get_or-set_at a.keeper.bounds k j b 0 e (let w = c.within in omega (arith, a.all_bounds))
 
 -- only the row of k has changed
-pub row_changed : (p : PinWorld) (k m b : ℕ) (r : PinRow) → k < length p.rows → m ≡ row_word r (weight_on k (holds_of p)) → weight_on k (holds_of p) ≤ b → b ≤ most_weight → Change p k m b (with_row k r p)
+pub row_changed : (p : PinWorld) (k m b : ℕ) (r : PinRow) → k < length p.rows → m ≡ row_word r (weight_on k (holds_of p)) → weight_on k (holds_of p) ≤ b → b ≤ max_weight → Change p k m b (with_row k r p)
 row_changed p k m b r l is bound limit = record {
   within = l;
   as_long = length-set p.rows k r;
@@ -104,7 +104,7 @@ row_changed p k m b r l is bound limit = record {
 
 -- only pins on k have changed
 pub pins_changed : (p : PinWorld) (k m b : ℕ) (es : List PinEntry) → k < length p.rows → m ≡ row_word (row p.rows k) (weight_on k (holds_of (with_pins es p)))
-    → ((j : ℕ) → j ≢ k → weight_on j (holds_of (with_pins es p)) ≡ weight_on j (holds_of p)) → weight_on k (holds_of (with_pins es p)) ≤ b → b ≤ most_weight → Change p k m b (with_pins es p)
+    → ((j : ℕ) → j ≢ k → weight_on j (holds_of (with_pins es p)) ≡ weight_on j (holds_of p)) → weight_on k (holds_of (with_pins es p)) ≤ b → b ≤ max_weight → Change p k m b (with_pins es p)
 pins_changed p k m b es l is same bound limit = record {
   within = l;
   as_long = refl;
@@ -116,7 +116,7 @@ pins_changed p k m b es l is same bound limit = record {
 }
 
 -- nothing but the bound of k
-pub unchanged : (p : PinWorld) (k m b : ℕ) → k < length p.rows → m ≡ word p k → weight_on k (holds_of p) ≤ b → b ≤ most_weight → Change p k m b p
+pub unchanged : (p : PinWorld) (k m b : ℕ) → k < length p.rows → m ≡ word p k → weight_on k (holds_of p) ≤ b → b ≤ max_weight → Change p k m b p
 unchanged p k m b l is bound limit = record { within = l; as_long = refl; is = is; words = λ j ne. refl; weights = λ j ne. refl; bound = bound; limit = limit }
 
 -- ---- only seats have changed
@@ -135,5 +135,5 @@ regrouped ws vs p es a u others guests rows bounds pins state same = record {
   at_words = λ j l. a.at_words j l ∙ ap (λ w. row_word (row p.rows j) w) (sym (same j));
   all_bounds = ap (λ x. length x) bounds ∙ a.all_bounds;
   at_bounds = λ j l. subst (λ bs. weight_on j (holds_of (with_pins es p)) ≤ slice_index bs j) (sym bounds) (let w = same j in let old = a.at_bounds j l in omega arith);
-  limits = λ j l. subst (λ bs. slice_index bs j ≤ most_weight) (sym bounds) (a.limits j l);
+  limits = λ j l. subst (λ bs. slice_index bs j ≤ max_weight) (sym bounds) (a.limits j l);
 }

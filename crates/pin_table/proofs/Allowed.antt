@@ -11,7 +11,7 @@ use Rattle.pin_core.specs.declared.world.Phase.TheVariants.{Free, Live, Condemne
 use Rattle.pin_core.specs.declared.world.Hold.{Hold}
 use Rattle.pin_core.specs.declared.event.Event.{Event}
 use Rattle.pin_core.specs.declared.event.Event.TheVariants.{Give, Lend, Leave, Share, Condemn, Revive, Reclaim, Look, Verify}
-use Rattle.pin_core.specs.World.{PinWorld, holds_of, weight_on, row, row_word, word_of, most_weight, opening}
+use Rattle.pin_core.specs.World.{PinWorld, holds_of, weight_on, row, row_word, word_of, max_weight, opening}
 use Rattle.pin_core.specs.Events.{IsNew, new_weight, reclaimed_row, after_all, in_phase, given_row, lent_hold}
 use Rattle.pin_table.specs.declared.view.Kept.{Kept}
 use Rattle.pin_table.specs.declared.view.View.{View}
@@ -58,7 +58,7 @@ module _ (m g slots : ℕ) where
   give_allowed d k id me v z is l free new = by_keeper k id me v (λ n. bit_or n 2147483648) (gave d (step slots k 2147483648 0 none)) z is l (λ ws vs p c fits.
       (with_bound k 0 (with_row k (given_row d (row v.rows k)) v), Give k d, gives d c free new, refl))
 
-  pub lend_allowed : (k id : ℕ) (me : Seated) (v : Kept) → id ≡ 0 → me ≡ (Keeper v, []) → k < length v.rows → v.hand ≡ None → (row v.rows k).phase ≡ Live → slice_index v.bounds k + new_weight ≤ most_weight
+  pub lend_allowed : (k id : ℕ) (me : Seated) (v : Kept) → id ≡ 0 → me ≡ (Keeper v, []) → k < length v.rows → v.hand ≡ None → (row v.rows k).phase ≡ Live → slice_index v.bounds k + new_weight ≤ max_weight
       → Allows (holds m g) slots id me k (λ n. (n + 1024) % 18446744073709551616) (lent (step slots k 1024 0 none) me)
   lend_allowed k id me v z is l empty live room = by_keeper k id me v (λ n. (n + 1024) % 18446744073709551616) (lent (step slots k 1024 0 none)) z is l (λ ws vs p c fits.
       (with_hand (Some (lent_hold k (row v.rows k))) (with_bound k (slice_index v.bounds k + new_weight) v), Lend k (fresh p.pins), lends c fits empty live room, refl))

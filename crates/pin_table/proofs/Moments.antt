@@ -4,7 +4,7 @@ use Rattle.std.specs.Prelude.{slice_index}
 use mathlib.Core.Option.{some}
 use lib.ListN.{get_elem?}
 use Rattle.pin_core.specs.declared.world.Hold.{Hold}
-use Rattle.pin_core.specs.World.{PinWorld, Keeps, holds_of, most_weight, opening, row, row_word, weight_at, weight_on}
+use Rattle.pin_core.specs.World.{PinWorld, Keeps, holds_of, max_weight, opening, row, row_word, weight_at, weight_on}
 use Rattle.pin_core.specs.Events.{after_all}
 use Rattle.pin_core.proofs.Spans.{reclamation}
 use Rattle.pin_table.specs.declared.view.Kept.{Kept}
@@ -23,7 +23,7 @@ module _ (words : List ℕ) (views : List View) (p : PinWorld) (a : Agrees words
   kept : Keeps v.rows h
   kept = subst (λ rs. Keeps rs h) same_rows (pinned a id h at).keeps
 
-  counted : (weight : ℕ) × (slice_index words h.slot ≡ row_word (row v.rows h.slot) weight) × (h.weight ≤ weight) × (weight ≤ most_weight)
+  counted : (weight : ℕ) × (slice_index words h.slot ≡ row_word (row v.rows h.slot) weight) × (h.weight ≤ weight) × (weight ≤ max_weight)
   counted =
       let c = pinned a id h at in
       let w : ℕ = weight_on h.slot (holds_of p) in

@@ -6,13 +6,12 @@ use Rattle.std.proofs.lemmas.List.Sums.{sum_by-append}
 use mathlib.Core.Option.{some}
 use lib.ListN.{get_elem?}
 use Rattle.blob_digest.specs.Keys.{Text}
-use Rattle.pin_core.specs.declared.world.Phase.{Phase}
 use Rattle.pin_core.specs.declared.world.Phase.TheVariants.{Free, Live, Condemned}
 use Rattle.pin_core.specs.declared.world.Hold.{Hold}
 use Rattle.pin_core.specs.declared.event.Event.TheVariants.{Give, Lend, Condemn, Revive, Reclaim, Look}
-use Rattle.pin_core.specs.World.{PinWorld, IsUsed, IsState, Keeps, holds_of, weight_at, weight_on, row, row_word, word_of, most_weight}
+use Rattle.pin_core.specs.World.{PinWorld, IsState, Keeps, holds_of, weight_at, weight_on, row, row_word, word_of, max_weight}
 use Rattle.pin_core.specs.Events.{Can, after, IsNew, new_weight, given_row, in_phase, reclaimed_row, lent_hold}
-use Rattle.pin_core.proofs.Held.{state_after, unused}
+use Rattle.pin_core.proofs.Held.{free_unused, state_after, unused}
 use Rattle.pin_table.specs.declared.view.Kept.{Kept}
 use Rattle.pin_table.specs.declared.view.View.{View}
 use Rattle.pin_table.specs.declared.view.View.TheVariants.{Keeper}
@@ -31,7 +30,7 @@ pub record Keeping (ws : List ℕ) (vs : List View) (p : PinWorld) (v : Kept) (k
   pub same : agrees.keeper ≡ v
   pub rows : p.rows ≡ v.rows
   pub within : k < length p.rows
-  pub limit : slice_index v.bounds k ≤ most_weight
+  pub limit : slice_index v.bounds k ≤ max_weight
   -- the word that is found, with the sum on the slot
   pub finds : Finds k (slice_index ws k) v (weight_on k (holds_of p))
 
@@ -40,7 +39,7 @@ keeping {ws} {vs} {p} a v k at l =
     let same = is_keeper a v at in
     let rows : p.rows ≡ v.rows = a.rows ∙ ap (λ (x : Kept). x.rows) same in
     let bound : weight_on k (holds_of p) ≤ slice_index v.bounds k = subst (λ (x : Kept). weight_on k (holds_of p) ≤ slice_index x.bounds k) same (a.at_bounds k l) in
-    let limit : slice_index v.bounds k ≤ most_weight = subst (λ (x : Kept). slice_index x.bounds k ≤ most_weight) same (a.limits k l) in record {
+    let limit : slice_index v.bounds k ≤ max_weight = subst (λ (x : Kept). slice_index x.bounds k ≤ max_weight) same (a.limits k l) in record {
       agrees = a;
       same = same;
       rows = rows;
@@ -86,9 +85,6 @@ looks {ws} {vs} {p} {v} {k} c =
 
 -- ---- Give
 
-is_free : (p : Phase) → p ≡ Free → IsUsed p → ⊥
-is_free p e u = subst (λ (x : Phase). IsUsed x) e u
-
 pub gives : {ws : List ℕ} {vs : List View} {p : PinWorld} {v : Kept} {k : ℕ} (d : Text) → Keeping ws vs p v k → (row v.rows k).phase ≡ Free → IsNew d v.rows
     → Leads p (Give k d) (set ws k (bit_or (slice_index ws k) 2147483648)) (set vs 0 (Keeper (with_bound k 0 (with_row k (given_row d (row v.rows k)) v))))
 gives {ws} {vs} {p} {v} {k} d c free new =
@@ -96,7 +92,7 @@ gives {ws} {vs} {p} {v} {k} d c free new =
     let can : Can p (Give k d) = ((c.within, free'), subst (λ rs. IsNew d rs) (sym c.rows) new) in
     let r = given_row d (row p.rows k) in
     let n = slice_index ws k in
-    let zero_on : weight_on k (holds_of p) ≡ 0 = weight_none k (holds_of p) (unused p.rows k (holds_of p) (is_free (row p.rows k).phase free') c.agrees.state.held) in
+    let zero_on : weight_on k (holds_of p) ≡ 0 = weight_none k (holds_of p) (unused p.rows k (holds_of p) (free_unused (row p.rows k).phase free') c.agrees.state.held) in
     let at : n ≡ word_of (row p.rows k).generation Free 0 = c.agrees.at_words k c.within ∙ ap (λ x. word_of (row p.rows k).generation x (weight_on k (holds_of p))) free' ∙ ap (λ x. word_of (row p.rows k).generation Free x) zero_on in
     let made : bit_or n 2147483648 ≡ row_word r (weight_on k (holds_of p)) = set_used n (row p.rows k).generation (omega arith) ∙ omega arith in (
       can,
@@ -110,7 +106,7 @@ gives {ws} {vs} {p} {v} {k} d c free new =
 lent_word : (n g w : ℕ) → n < 18446744073709551616 → n ≡ g * 4294967296 + 2147483648 + w → w + 1024 < 1073741824 → (n + 1024) % 18446744073709551616 ≡ g * 4294967296 + 2147483648 + (w + 1024)
 lent_word n g w fits is l = omega arith
 
-pub lends : {ws : List ℕ} {vs : List View} {p : PinWorld} {v : Kept} {k : ℕ} → Keeping ws vs p v k → slice_index ws k < 18446744073709551616 → v.hand ≡ None → (row v.rows k).phase ≡ Live → slice_index v.bounds k + new_weight ≤ most_weight
+pub lends : {ws : List ℕ} {vs : List View} {p : PinWorld} {v : Kept} {k : ℕ} → Keeping ws vs p v k → slice_index ws k < 18446744073709551616 → v.hand ≡ None → (row v.rows k).phase ≡ Live → slice_index v.bounds k + new_weight ≤ max_weight
     → Leads p (Lend k (fresh p.pins)) (set ws k ((slice_index ws k + 1024) % 18446744073709551616)) (set vs 0 (Keeper (with_hand (Some (lent_hold k (row v.rows k))) (with_bound k (slice_index v.bounds k + new_weight) v))))
 lends {ws} {vs} {p} {v} {k} c fits empty live room =
     let name = fresh p.pins in

@@ -3,7 +3,7 @@ use Rattle.std.specs.Prelude.{◌≡◌, ℕ, ◌+◌, ◌<◌, ◌≤◌, repli
 use Rattle.atomic_table.specs.Seated.{TableId}
 use Rattle.pin_core.specs.declared.world.PinRow.{PinRow}
 use Rattle.pin_core.specs.declared.world.Hold.{Hold}
-use Rattle.pin_core.specs.World.{Keeps, row, row_word, opening, most_weight}
+use Rattle.pin_core.specs.World.{Keeps, row, row_word, opening, max_weight}
 use Rattle.pin_core.specs.Events.{new_weight, last_generation, reclaimed_row, lent_hold, half}
 use Rattle.pin_table.specs.declared.view.View.{View}
 use Rattle.pin_table.specs.declared.reclaim.Reclaim.{Reclaim}
@@ -49,7 +49,7 @@ pub record Looked (k n : ℕ) (s t : KeeperValue) : Type 0 where
   pub weight : ℕ
   pub word : n ≡ row_word (row s.rows k) weight
   pub within : weight ≤ slice_index s.bounds k
-  pub fits : weight ≤ most_weight
+  pub fits : weight ≤ max_weight
   pub after : t ≡ bounded k weight s
   pub bound : slice_index t.bounds k ≡ weight
 
@@ -61,7 +61,7 @@ lent_pin k s = record { table = s.table; hold = lent_hold k (row s.rows k) }
 pub record Lent (k : ℕ) (s t : KeeperValue) (p : PinValue) : Type 0 where
   pub weight : ℕ
   pub within : weight ≤ slice_index s.bounds k
-  pub room : weight + new_weight ≤ most_weight
+  pub room : weight + new_weight ≤ max_weight
   pub after : t ≡ bounded k (weight + new_weight) s
   pub pin : p ≡ lent_pin k s
   pub digest : (row s.rows k).digest ≡ Some p.hold.digest
@@ -70,7 +70,7 @@ pub record Lent (k : ℕ) (s t : KeeperValue) (p : PinValue) : Type 0 where
 pub record Crowded (k : ℕ) (s t : KeeperValue) : Type 0 where
   pub weight : ℕ
   pub within : weight ≤ slice_index s.bounds k
-  pub full : most_weight < weight + new_weight
+  pub full : max_weight < weight + new_weight
   pub after : t ≡ bounded k weight s
 
 -- the slot k is free in the next generation, or retired in the last, or held by pins of this sum

@@ -7,7 +7,7 @@ use Rattle.pin_core.specs.declared.world.Phase.TheVariants.{Free, Live, Condemne
 use Rattle.pin_core.specs.declared.world.Hold.{Hold}
 use Rattle.pin_core.specs.declared.event.Event.{Event}
 use Rattle.pin_core.specs.declared.event.Event.TheVariants.{Give, Lend, Share, Leave, Condemn, Revive, Reclaim, Look, Verify}
-use Rattle.pin_core.specs.World.{PinWorld, Keeps, hold_named, opening, row, row_word, word_of, most_weight, used_bit, condemned_bit}
+use Rattle.pin_core.specs.World.{PinWorld, Keeps, hold_named, opening, row, row_word, word_of, max_weight, used_bit, condemned_bit}
 use Rattle.pin_core.specs.Events.{Can, after, Happens, after_all, IsNew, new_weight, reclaimed_row}
 use Rattle.pin_core.specs.Laws.{Reclaims}
 use Rattle.pin_table.specs.declared.view.Kept.{Kept}
@@ -49,7 +49,7 @@ module _ (words : List ℕ) (views : List View) (p : PinWorld) where
   -- its fetch_add of a new pin's weight on a live slot whose bound has room for it is a Lend, under some name
   abbrev pub LendLaw : Type 0
   LendLaw = (v : Kept) (s : Move) (me : Seated) → Before words views p 0 (Keeper v) → IsWord words s.word
-      → v.hand ≡ None → (row v.rows s.word).phase ≡ Live → slice_index v.bounds s.word + new_weight ≤ most_weight → s.first ≡ new_weight
+      → v.hand ≡ None → (row v.rows s.word).phase ≡ Live → slice_index v.bounds s.word + new_weight ≤ max_weight → s.first ≡ new_weight
       → lent s (Keeper v, []) (slice_index words s.word) me
       → (n : ℕ) × Leads p (Lend s.word n) (slice_set words s.word ((slice_index words s.word + s.first) % 2 ^ 64)) (slice_set views 0 me.0)
 
@@ -122,7 +122,7 @@ pub record Running (n g : ℕ) (words : List ℕ) (views : List View) : Type 0 w
   pub agrees : Agrees words views (after_all (opening n g) events)
   pub keeps : (v : Kept) (id : ℕ) (h : Hold) → get_elem? views 0 ≡ some (Keeper v) → get_elem? views id ≡ some (Pin h) → Keeps v.rows h
   pub counts : (v : Kept) (id : ℕ) (h : Hold) → get_elem? views 0 ≡ some (Keeper v) → get_elem? views id ≡ some (Pin h)
-      → (weight : ℕ) × (slice_index words h.slot ≡ row_word (row v.rows h.slot) weight) × (h.weight ≤ weight) × (weight ≤ most_weight)
+      → (weight : ℕ) × (slice_index words h.slot ≡ row_word (row v.rows h.slot) weight) × (h.weight ≤ weight) × (weight ≤ max_weight)
 
 -- At every moment, over every interleaving of the steps of any seats.
 abbrev pub RunningWords : Type 0

@@ -5,7 +5,7 @@ use Rattle.blob_digest.specs.Keys.{Text}
 use Rattle.pin_core.specs.declared.world.Phase.TheVariants.{Live, Condemned}
 use Rattle.pin_core.specs.declared.world.PinRow.{PinRow}
 use Rattle.pin_core.specs.declared.world.Hold.{Hold}
-use Rattle.pin_core.specs.World.{Keeps, row, row_word, most_weight}
+use Rattle.pin_core.specs.World.{Keeps, row, row_word, max_weight}
 use Rattle.pin_core.specs.Events.{new_weight, given_row, in_phase, reclaimed_row, lent_hold, half}
 use Rattle.pin_table.specs.declared.view.Kept.{Kept}
 use Rattle.pin_table.specs.declared.view.View.{View}
@@ -35,7 +35,7 @@ with_hand hand v = kept v.rows v.bounds hand
 pub record Finds (k n : ℕ) (v : Kept) (weight : ℕ) : Type 0 where
   pub word : n ≡ row_word (row v.rows k) weight
   pub within : weight ≤ slice_index v.bounds k
-  pub fits : weight ≤ most_weight
+  pub fits : weight ≤ max_weight
 
 -- the slot of the pin in the hand is used, and has the pin's generation and digest
 abbrev pub HandKept : List PinRow → Option Hold → Type 0

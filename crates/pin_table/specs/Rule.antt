@@ -4,7 +4,7 @@ use Rattle.std.specs.List.{All}
 use Rattle.pin_core.specs.declared.world.PinRow.{PinRow}
 use Rattle.pin_core.specs.declared.world.Hold.{Hold}
 use Rattle.pin_core.specs.declared.event.Event.{Event}
-use Rattle.pin_core.specs.World.{PinWorld, IsState, holds_of, weight_on, word, most_weight, opening}
+use Rattle.pin_core.specs.World.{PinWorld, IsState, holds_of, weight_on, word, max_weight, opening}
 use Rattle.pin_core.specs.Events.{Happens, after_all}
 use Rattle.pin_table.specs.declared.view.Kept.{Kept}
 use Rattle.pin_table.specs.declared.view.View.{View}
@@ -56,7 +56,7 @@ pub record Agrees (words : List ℕ) (views : List View) (w : PinWorld) : Type 0
   -- the sum of weights on a slot is at most the keeper's bound: its last look and what it lent since
   pub all_bounds : length keeper.bounds ≡ length w.rows
   pub at_bounds : (k : ℕ) → k < length w.rows → weight_on k (holds_of w) ≤ slice_index keeper.bounds k
-  pub limits : (k : ℕ) → k < length w.rows → slice_index keeper.bounds k ≤ most_weight
+  pub limits : (k : ℕ) → k < length w.rows → slice_index keeper.bounds k ≤ max_weight
 
 -- The rule: from n free slots of generation g, events that can happen in their turn lead to a world with which words and seats agree.
 pub record Ruled (n g : ℕ) (words : List ℕ) (views : List View) : Type 0 where

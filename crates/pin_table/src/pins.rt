@@ -4,7 +4,7 @@ ghost use Rattle.std.specs.Prelude.{◌≡◌, ◌⊎◌, ℕ, ◌+◌, ◌<◌,
 ghost use mathlib.Core.Option.{none};
 ghost use Rattle.atomic_table.specs.Table.{step};
 ghost use Rattle.blob_digest.specs.declared.refusal.Refusal.TheVariants.{LimitReached, Memory, TooManyReaders};
-ghost use Rattle.pin_core.specs.World.{row, row_word, used_bit, most_weight};
+ghost use Rattle.pin_core.specs.World.{row, row_word, used_bit, max_weight};
 ghost use Rattle.pin_core.specs.declared.world.Phase.TheVariants.{Free, Live, Condemned};
 ghost use Rattle.pin_core.specs.Events.{IsNew, IsOutside, given_row, in_phase, new_weight};
 ghost use Rattle.pin_table.specs.declared.view.Kept.{Kept};
@@ -19,7 +19,7 @@ use crate::reclaim::Reclaim;
 use crate::rule::{Opening, PinSeat, PinShared, PinTable};
 use blob_digest::{Digest, Refusal};
 use pin_core::{
-    CONDEMNED, Hold, LAST_GENERATION, MOST_SLOTS, MOST_WEIGHT, NEW_WEIGHT, Phase, PinRow, USED,
+    CONDEMNED, Hold, LAST_GENERATION, MAX_SLOTS, MAX_WEIGHT, NEW_WEIGHT, Phase, PinRow, USED,
     WordRow, given, halved, in_phase, pack, reclaimed, unpack,
 };
 use std::alloc::Global;
@@ -74,7 +74,7 @@ impl Pins {
         ensures made { IfOk result (λ r. ¬ IsOutside slots × (r.1 ≡ opened r.0 slots first_generation)) }
         ensures refused { IfErr result (λ e. ((e ≡ LimitReached) × IsOutside slots) ⊎ ((e ≡ Memory) × ¬ IsOutside slots)) }
     {
-        if slots < 1 || slots > MOST_SLOTS {
+        if slots < 1 || slots > MAX_SLOTS {
             return Err(Refusal::LimitReached);
         }
         let count = slots as usize;
@@ -133,7 +133,7 @@ impl Pins {
         ensures { MatchResult result (λ p. Lent slot keeper.old keeper.new p) (λ e. (e ≡ TooManyReaders) × Crowded slot keeper.old keeper.new) }
     {
         let sum = unpack(self.look(keeper, slot)).weight;
-        if sum > MOST_WEIGHT - NEW_WEIGHT {
+        if sum > MAX_WEIGHT - NEW_WEIGHT {
             return Err(Refusal::TooManyReaders);
         }
         Ok(self.add_pin(keeper, slot))
@@ -144,7 +144,7 @@ impl Pins {
         requires table { keeper.old.table ≡ self.now }
         requires within { slot < length keeper.old.rows }
         requires live { (row keeper.old.rows slot).phase ≡ Live }
-        requires room { slice_index keeper.old.bounds slot + new_weight ≤ most_weight }
+        requires room { slice_index keeper.old.bounds slot + new_weight ≤ max_weight }
         ensures bound { keeper.new ≡ bounded slot (slice_index keeper.old.bounds slot + new_weight) keeper.old }
         ensures pin { result ≡ lent_pin slot keeper.old }
         ensures digest { (row keeper.old.rows slot).digest ≡ Some result.hold.digest }

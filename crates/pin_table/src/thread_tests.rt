@@ -8,7 +8,7 @@ use std::thread;
 use std::thread::Threads;
 
 /// As many turns as a test waits for other threads.
-const MOST_TURNS: u32 = 1_000_000_000;
+const MAX_TURNS: u32 = 1_000_000_000;
 
 /// Eight lists of so many leases each; fewer where there is no memory.
 fn eight_lists<'s>(desk: &mut Desk<'s>, alloc: Global, count: u32) -> Vec<Vec<Lease<'s>>> {
@@ -54,7 +54,7 @@ fn end_all(mut lists: Vec<Vec<Lease<'_>>>) {
 
 /// Reclaims the slot until no pin holds it. What became of it, or none within so many turns.
 fn reclaim_until_clear(desk: &mut Desk<'_>) -> Option<Reclaim> {
-    for _ in 0..MOST_TURNS {
+    for _ in 0..MAX_TURNS {
         match desk.reclaim()? {
             Reclaim::Held { weight: _ } => {}
             other => return Some(other),
