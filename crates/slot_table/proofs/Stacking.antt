@@ -139,22 +139,19 @@ stacks-pushed slots stack k new lt used free stacks m = count-push stack k m ∙
       ap (λ b. count_by (λ x. x == m) stack + cond b 1 0) other ∙ same ∙ stacks m ∙ ap (λ b. cond b 1 0) (sym (free_at-set_other slots k m new ne.1))
 ]
 
-some_used : (slots : List Slot) (k : ℕ) → k < length slots → is_free_at slots k ≡ false → free_slots slots < length slots
-some_used [] k lt used = absurd (omega arith)
-some_used (s ∷ slots) zero lt used =
+-- where a slot is used, not all are free
+pub not_all_free : (slots : List Slot) (k : ℕ) → k < length slots → is_free_at slots k ≡ false → free_slots slots < length slots
+not_all_free [] k lt used = absurd (omega arith)
+not_all_free (s ∷ slots) zero lt used =
     let few : free_slots slots ≤ length slots = count_by-le-length is_free slots in
     rw (sum_by-cons (λ x. cond (is_free x) 1 0) s slots, used) (omega arith)
-some_used (s ∷ slots) (suc k) lt used =
-    let few : free_slots slots < length slots = some_used slots k (omega arith) used in
+not_all_free (s ∷ slots) (suc k) lt used =
+    let few : free_slots slots < length slots = not_all_free slots k (omega arith) used in
     rw (sum_by-cons (λ x. cond (is_free x) 1 0) s slots) (at_most (is_free s) few)
   where
     at_most : (b : Bool) → free_slots slots < length slots → cond b 1 0 + free_slots slots < suc (length slots)
     at_most true few = omega arith
     at_most false few = omega arith
-
--- where a slot is used, not all are free
-pub not_all_free : (slots : List Slot) (k : ℕ) → k < length slots → is_free_at slots k ≡ false → free_slots slots < length slots
-not_all_free = some_used
 
 -- what a pop leaves, where the top is known
 pub popped : (stack rest : List ℕ) (n k : ℕ) (last : Option ℕ) → n ≡ length stack → slice_get stack (length stack - 1) ≡ Some k → ((d : ℕ) → 0 < n → last ≡ Some (get_or stack (n - 1) d)) → stack ≡ rest ++ option_to_list last → stack ≡ rest ++ k ∷ []
