@@ -30,10 +30,10 @@ mod reply;
 mod row;
 mod run;
 mod script;
-mod seat;
-mod tenants;
 #[cfg(test)]
 mod script_tests;
+mod seat;
+mod tenants;
 #[cfg(test)]
 mod tests;
 mod watched;

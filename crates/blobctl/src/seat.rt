@@ -41,7 +41,12 @@ impl Board for Book {
         Book::abandon(self, repo, number)
     }
 
-    fn mount(&mut self, repo: &RepoName, digest: &Digest, from: &RepoName) -> Result<Mount, Refusal> {
+    fn mount(
+        &mut self,
+        repo: &RepoName,
+        digest: &Digest,
+        from: &RepoName,
+    ) -> Result<Mount, Refusal> {
         Book::mount(self, repo, digest, from)
     }
 

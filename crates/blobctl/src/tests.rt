@@ -81,7 +81,8 @@ fn a_bad_row_is_named(rt: HostRuntime) {
 fn a_bad_row_after_a_good_one_is_the_second(rt: HostRuntime) {
     let script = b"0,start,acme/one,,,,\n0,fly,acme/one,,,,\n0,fly,,,,,\n";
     assert_eq!(rt; bad_row(rt.alloc(), script), 2);
-    let good = b"0,start,acme/one,,,,\n0,append,acme/one,0000000001,,,\n0,close,,1,,,\n0,status,,1,,,\n0,abandon,,1,,,\n0,mount,,,,,\n0,delete,,,,,\n";
+    let good =
+        b"0,start,acme/one,,,,\n0,append,acme/one,0000000001,,,\n0,close,,1,,,\n0,status,,1,,,\n0,abandon,,1,,,\n0,mount,,,,,\n0,delete,,,,,\n";
     assert_eq!(rt; bad_row(rt.alloc(), good), 0);
 }
 
