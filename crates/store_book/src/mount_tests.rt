@@ -155,26 +155,25 @@ fn counts_and_uses_follow_two_tenants(rt: HostRuntime) {
     let alloc = rt.alloc();
     let mut book = book(&rt, alloc, &[("acme", 1000), ("other", 1000)]);
     let script = [
-        (Step::Upload, "acme/one", "", 3, 0, 1),
+        (Step::Upload, "acme/one", "acme/one", 3, 0, 1),
         (Step::Mount, "acme/one", "acme/one", 3, 0, 1),
         (Step::Mount, "acme/two", "acme/one", 3, 0, 2),
         (Step::OpenInstead, "other/x", "acme/one", 3, 0, 2),
-        (Step::Upload, "acme/one", "", 3, 0, 2),
-        (Step::Upload, "other/x", "", 3, 3, 3),
+        (Step::Upload, "acme/one", "acme/one", 3, 0, 2),
+        (Step::Upload, "other/x", "other/x", 3, 3, 3),
         (Step::OpenInstead, "acme/three", "acme/none", 3, 3, 3),
         (Step::OpenInstead, "acme/three", "acme/three", 3, 3, 3),
         (Step::OpenInstead, "acme/one", "nobody/x", 3, 3, 3),
-        (Step::Delete, "acme/one", "", 3, 3, 2),
-        (Step::DeleteNothing, "acme/one", "", 3, 3, 2),
+        (Step::Delete, "acme/one", "acme/one", 3, 3, 2),
+        (Step::DeleteNothing, "acme/one", "acme/one", 3, 3, 2),
         (Step::OpenInstead, "other/y", "acme/one", 3, 3, 2),
-        (Step::Delete, "acme/two", "", 0, 3, 1),
+        (Step::Delete, "acme/two", "acme/two", 0, 3, 1),
         (Step::OpenInstead, "acme/one", "acme/two", 0, 3, 1),
-        (Step::Upload, "acme/two", "", 3, 3, 2),
-        (Step::Delete, "other/x", "", 3, 0, 1),
+        (Step::Upload, "acme/two", "acme/two", 3, 3, 2),
+        (Step::Delete, "other/x", "other/x", 3, 0, 1),
         (Step::Mount, "acme/three", "acme/two", 3, 0, 2),
     ];
     for (step, repo, from, acme, other, links) in script {
-        let from = if from.is_empty() { repo } else { from };
         assert!(rt; goes(&rt, alloc, &mut book, step, repo, from));
         assert!(rt; counts(&rt, alloc, &book, acme, other, links).expect(&rt, "memory"));
     }
