@@ -12,6 +12,7 @@ use Rattle.std.proofs.lemmas.List.Concat.{flat_map-cons}
 use Rattle.std.proofs.lemmas.List.Folds.{flat_map-map}
 use Rattle.std.proofs.lemmas.List.Sums.{length-filter, sum_by-cons}
 use Rattle.blob_digest.proofs.ListLemmas.{all_weaker}
+use Rattle.store_book.proofs.MapLemmas.{flat_map-same, all_same, all_by_index}
 use Rattle.blob_digest.specs.Sets as set
 use Rattle.blob_digest.proofs.KeyOrders.{link_cmp_total, exact_link}
 use Rattle.blob_digest.proofs.RowLemmas.{entries-empty, found_value}
@@ -29,19 +30,6 @@ use Rattle.store_book.proofs.Appending.{use_is}
 use Rattle.store_book.proofs.Ties.{held_of, not_resident}
 
 -- ---- lists
-
--- texts of elements that are the same, one by one
-flat_map-same : {X : Type 0} (f g : X → Text) (xs : List X) → AllByRecursion (λ x. f x ≡ g x) xs → flat_map f xs ≡ flat_map g xs
-flat_map-same f g [] same = refl
-flat_map-same f g (x ∷ xs) same = flat_map-cons f x xs ∙ (λ i. same.0 i ++ flat_map-same f g xs same.1 i) ∙ sym (flat_map-cons g x xs)
-
-all_same : {X : Type 0} (P : X → Type 0) → ((x : X) → P x) → (xs : List X) → AllByRecursion P xs
-all_same P each [] = tt
-all_same P each (x ∷ xs) = (each x, all_same P each xs)
-
-all_by_index : {X : Type 0} (P : X → Type 0) (d : X) (xs : List X) → ((i : ℕ) → i < length xs → P (get_or xs i d)) → AllByRecursion P xs
-all_by_index P d [] each = tt
-all_by_index P d (x ∷ xs) each = (each 0 (omega arith), all_by_index P d xs (λ i lt. each (suc i) (omega arith)))
 
 numbers_below : (xs : List Tenant) (from n : ℕ) → from + length xs ≤ n → AllByRecursion (λ e. e.0 < n) (enumerate_from from xs)
 numbers_below [] from n h = tt

@@ -40,4 +40,12 @@ pub mod Deleting
 pub mod Opening
 pub mod Listing
 pub mod BookTexts
+pub mod SomeSweep
+pub mod Agreement
+pub mod Alike
+pub mod Own
+pub mod Others
+pub mod Consistency
+pub mod Isolated
+pub mod SameText
 pub mod WorkedExamples

@@ -1,14 +1,15 @@
 -- What a map has after a key was added or taken out, an induction over maps, and sums of two maps that answer alike.
-use Rattle.std.proofs.Common.{◌≡◌, ◌≢◌, ℕ, ◌+◌, Bool, true, false, cond, List, [], ◌∷◌, length, Option, Some, None, is_some, refl, sym, ap, ◌∙◌, subst, arith, inl, inr, zero-add}
+use Rattle.std.proofs.Common.{◌≡◌, ◌≢◌, ℕ, ◌+◌, Bool, true, false, cond, List, [], ◌∷◌, length, ◌++◌, get_or, Option, Some, None, is_some, refl, sym, ap, ◌∙◌, subst, arith, inl, inr, zero-add}
 use Prim.Native.Nat.{zero, suc}
-use Rattle.std.specs.Prelude.{◌⊎◌, ◌||◌, nat_lt}
+use Rattle.std.specs.Prelude.{◌<◌, ◌⊎◌, ◌||◌, nat_lt}
 use Rattle.std.specs.declared.cmp.Ordering.{Ordering}
 use Rattle.std.specs.Ordering.{eq_by_cmp, is_eq}
 use Rattle.std.specs.Option.{option_map_or}
 use Rattle.std.specs.Cmp.{IsTotalOrder, Equal-is, tied_itself}
-use Rattle.std.specs.List.{sum_by, count_by, list_any}
+use Rattle.std.specs.List.{AllByRecursion, flat_map, sum_by, count_by, list_any}
 use Rattle.std.specs.FinMap.{FinMap, find, entries, get, insert, remove, empty, len, get-insert, get-remove, get-entries, get-empty, len-entries, len-remove, empty_of_len, same_map, IsAntisymmetric}
 use Rattle.std.proofs.lemmas.Bool.{true≢false, lt-ltb}
+use Rattle.std.proofs.lemmas.List.Concat.{flat_map-cons}
 use Rattle.std.proofs.lemmas.List.Sums.{sum_by-cons}
 pub use Rattle.blob_digest.proofs.OptionLemmas.{some_same}
 pub use Rattle.blob_digest.proofs.ListLemmas.{all_weaker, witness}
@@ -50,6 +51,19 @@ list_any_count {A} p (x ∷ xs) =
       | true ↦ λ is. sym (ap (nat_lt 0) (sum_by-cons (λ (y : A). cond {A = ℕ} (p y) 1 0) x xs ∙ ap (λ b. cond {A = ℕ} b 1 0 + count_by p xs) is) ∙ more_than (count_by p xs))
       | false ↦ λ is. list_any_count p xs ∙ sym (ap (nat_lt 0) (sum_by-cons (λ (y : A). cond {A = ℕ} (p y) 1 0) x xs ∙ ap (λ b. cond {A = ℕ} b 1 0 + count_by p xs) is ∙ zero-add (count_by p xs)))
     ] refl
+
+-- texts of elements that are the same, one by one
+pub flat_map-same : {X : Type 0} (f g : X → List ℕ) (xs : List X) → AllByRecursion (λ x. f x ≡ g x) xs → flat_map f xs ≡ flat_map g xs
+flat_map-same f g [] same = refl
+flat_map-same f g (x ∷ xs) same = flat_map-cons f x xs ∙ (λ i. same.0 i ++ flat_map-same f g xs same.1 i) ∙ sym (flat_map-cons g x xs)
+
+pub all_same : {X : Type 0} (P : X → Type 0) → ((x : X) → P x) → (xs : List X) → AllByRecursion P xs
+all_same P each [] = tt
+all_same P each (x ∷ xs) = (each x, all_same P each xs)
+
+pub all_by_index : {X : Type 0} (P : X → Type 0) (d : X) (xs : List X) → ((i : ℕ) → i < length xs → P (get_or xs i d)) → AllByRecursion P xs
+all_by_index P d [] each = tt
+all_by_index P d (x ∷ xs) each = (each 0 (omega arith), all_by_index P d xs (λ i lt. each (suc i) (omega arith)))
 
 -- what a key adds to a sum
 abbrev pub term : {K X : Type 0} → (K × X → ℕ) → K → Option X → ℕ

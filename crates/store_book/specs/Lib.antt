@@ -1,9 +1,12 @@
 pub mod BookState
 pub mod Catalog
+pub mod Isolation
 pub mod Keeping
 pub mod Laws
 pub mod Layers
 pub mod Lines
 pub mod Openings
 pub mod Printed
+pub mod Runs
 pub mod Steps
+pub mod Sweeps

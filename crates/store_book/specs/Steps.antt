@@ -1,18 +1,18 @@
 -- What each command answers and leaves. A command's outcome is the first refusal that applies, in the order in which they stand,
 -- or its answer with the catalog after it. Want of memory may come in place of any outcome, and changes nothing (`Does`).
-use Rattle.std.specs.Prelude.{ℕ, ◌+◌, ◌^◌, nat_le, nat_lt, ◌&&◌, ◌||◌, not, if◌then◌else◌, Bool, true, false, Option, Some, None, Result, Ok, Err, [], length, slice_set}
+use Rattle.std.specs.Prelude.{ℕ, ◌+◌, ◌^◌, nat_le, nat_lt, ◌&&◌, ◌||◌, not, if◌then◌else◌, Bool, true, false, Option, Some, None, Result, Ok, Err, List, [], ◌∷◌, length, slice_set}
 use Rattle.std.specs.Option.{ok_or, option_map, option_map_or}
 use Rattle.std.specs.List.{list_any, find}
 use Rattle.std.specs.FinMap as fmap
 use Rattle.blob_digest.specs.Sets as set
 use Rattle.blob_digest.specs.declared.range.ByteRange.{ByteRange}
 use Rattle.blob_digest.specs.declared.refusal.Refusal.{Refusal}
-use Rattle.blob_digest.specs.declared.refusal.Refusal.TheVariants.{NameUnknown, DigestInvalid, BlobUnknown, Quota, Referenced, StoreFull, LimitReached}
-use Rattle.blob_digest.specs.Digests.{is_digest_of}
+use Rattle.blob_digest.specs.declared.refusal.Refusal.TheVariants.{NameUnknown, DigestInvalid, SizeInvalid, BlobUnknown, ManifestInvalid, ManifestUnknown, ManifestBlobUnknown, Quota, Referenced, StoreFull, TooManyReaders, LimitReached}
+use Rattle.blob_digest.specs.Digests.{sha256_text, is_digest_of}
 pub use Rattle.blob_digest.specs.Outcomes.{OutcomeIn, ◌>>=◌, refuse}
-use Rattle.oci_manifest.specs.Manifests.{refs_of}
+use Rattle.oci_manifest.specs.Manifests.{refs_of, max_manifest}
 pub use Rattle.upload_table.specs.Sessions.{session_in, length_after, check_in, append_in, whole_in}
-use Rattle.store_book.specs.Catalog.{Text, Catalog, Session, Resident, same_text, tenant_of, is_of, quota_of, holds, tenant_holds, used, received, next_of, open_sessions, repos_of}
+use Rattle.store_book.specs.Catalog.{Text, Catalog, Session, Resident, same_text, tenant_of, is_of, quota_of, holds, tenant_holds, used, received, next_of, open_sessions, repos_of, manifests_of}
 use Rattle.store_book.specs.declared.mount.Mount.{Mount}
 use Rattle.store_book.specs.declared.mount.Mount.TheVariants as mounting
 
@@ -108,16 +108,20 @@ stored C t repo number digest bytes = record C {
   residents = fmap.insert C.residents digest (record { bytes = bytes; condemned = false; lent = was_lent (fmap.get C.residents digest) });
 }
 
--- closes a session with its last chunk under the digest of the whole, and answers the blob's size
-abbrev pub close : Catalog → Text → ℕ → Text → Option ByteRange → Text → Outcome ℕ
-close C repo number digest range last = do
+-- closes a session with its last chunk under the digest of the whole, where `housed` finds room for it, and answers the blob's size
+abbrev pub close_by : (Catalog → Text → Result (Unit {0}) Refusal) → Catalog → Text → ℕ → Text → Option ByteRange → Text → Outcome ℕ
+close_by housed C repo number digest range last = do
   t ← tenant C repo
   _ ← check C t repo number range (length last)
   _ ← within_quota C t (length last)
   let whole : Text = whole_in C.sessions (t, number) last
   _ ← refuse (not (names C digest whole)) DigestInvalid
-  _ ← has_slot C digest
+  _ ← housed C digest
   Ok (length whole, stored C t repo number digest whole)
+
+-- the same where the room is a slot
+abbrev pub close : Catalog → Text → ℕ → Text → Option ByteRange → Text → Outcome ℕ
+close = close_by has_slot
 
 -- a session is gone, with its bytes
 abbrev pub without_session : Catalog → ℕ → ℕ → Catalog
@@ -183,3 +187,75 @@ delete C repo digest = do
   _ ← linked C repo digest
   _ ← unreferenced (referrer C repo digest)
   Ok (tt, record C { links = set.remove C.links (repo, digest) })
+
+-- ---- manifests (OCI Distribution Specification 1.1, "Pushing Manifests", "Pulling manifests", "Deleting Manifests")
+
+-- a repository holds each of these digests; the first that it doesn't hold is named
+abbrev pub all_linked : Catalog → Text → List Text → Result (Unit {0}) Refusal
+all_linked C repo [] = Ok tt
+all_linked C repo (digest ∷ digests) = if holds C repo digest then all_linked C repo digests else Err (ManifestBlobUnknown digest)
+
+-- whether a repository has a manifest of this digest
+abbrev pub has_manifest : Catalog → Text → Text → Bool
+has_manifest C repo name = fmap.contains_key C.manifests (repo, name)
+
+-- whether a repository has 1,024 manifests
+abbrev pub is_full_of_manifests : Catalog → Text → Bool
+is_full_of_manifests C repo = nat_le 1024 (manifests_of C repo)
+
+-- a manifest under the digest of its bytes, in a repository that is there from now on
+abbrev pub with_manifest : Catalog → Text → Text → Catalog
+with_manifest C repo bytes = record C { repos = set.insert C.repos repo; manifests = fmap.insert C.manifests (repo, sha256_text bytes) bytes }
+
+-- keeps a manifest that the repository hasn't
+abbrev pub add_manifest : Catalog → ℕ → Text → Text → Outcome Text
+add_manifest C t repo bytes = do
+  _ ← refuse (lacks_room_for C t repo) LimitReached
+  _ ← refuse (is_full_of_manifests C repo) LimitReached
+  Ok (sha256_text bytes, with_manifest C repo bytes)
+
+-- Keeps a manifest whose references the repository holds, and answers its digest. One that is there stays as it is.
+abbrev pub put_manifest : Catalog → Text → Text → Outcome Text
+put_manifest C repo bytes = do
+  t ← tenant C repo
+  _ ← refuse (nat_lt max_manifest (length bytes)) SizeInvalid
+  refs ← ok_or (refs_of bytes) ManifestInvalid
+  _ ← all_linked C repo refs
+  if has_manifest C repo (sha256_text bytes) then Ok (sha256_text bytes, C) else add_manifest C t repo bytes
+
+-- the bytes of a repository's manifest
+abbrev pub manifest : Catalog → Text → Text → Result Text Refusal
+manifest C repo name = ok_or (fmap.get C.manifests (repo, name)) ManifestUnknown
+
+-- answers a manifest's bytes
+abbrev pub get_manifest : Catalog → Text → Text → Result Text Refusal
+get_manifest C repo name = do
+  _ ← tenant C repo
+  manifest C repo name
+
+-- takes a manifest out of a repository
+abbrev pub delete_manifest : Catalog → Text → Text → Outcome (Unit {0})
+delete_manifest C repo name = do
+  _ ← tenant C repo
+  _ ← manifest C repo name
+  Ok (tt, record C { manifests = fmap.remove C.manifests (repo, name) })
+
+-- ---- leases
+
+-- the blob of a digest that is linked in a repository
+abbrev pub linked_blob : Catalog → Text → Text → Result Resident Refusal
+linked_blob C repo digest = do
+  _ ← linked C repo digest
+  ok_or (fmap.get C.residents digest) BlobUnknown
+
+-- a blob is marked as lent
+abbrev pub with_lent : Catalog → Text → Resident → Catalog
+with_lent C digest b = record C { residents = fmap.insert C.residents digest (record b { lent = true }) }
+
+-- Lends a blob, and answers its bytes. The catalog doesn't say whether the blob's slot is crowded with readers; who lends it looks.
+abbrev pub lease : Bool → Catalog → Text → Text → Outcome Text
+lease crowded C repo digest = do
+  _ ← tenant C repo
+  b ← linked_blob C repo digest
+  _ ← refuse crowded TooManyReaders
+  Ok (b.bytes, with_lent C digest b)

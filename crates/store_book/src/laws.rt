@@ -1,5 +1,6 @@
 //! Laws of the definitions alone. Each is the contract of a function that does nothing.
 
+ghost use Rattle.store_book.specs.Isolation.{TenantsAreAlone, TextsAreTheSame};
 ghost use Rattle.store_book.specs.Laws.{CountsAreLinks, UsesAreDistinct};
 
 /// The count of a digest is the number of links to it, and a tenant's use is the sum over the
@@ -7,4 +8,14 @@ ghost use Rattle.store_book.specs.Laws.{CountsAreLinks, UsesAreDistinct};
 pub fn counts_and_uses()
     ensures counts { CountsAreLinks }
     ensures uses { UsesAreDistinct }
+{}
+
+/// Tenants don't see each other. Whatever the others do, a tenant is told, and has at the end, what
+/// its own commands alone would give. So the text of the book depends only on the commands of each
+/// tenant, in their order. This is said of every list of commands and sweeps in which no reply to the
+/// tenant is that the store is full, that a blob has too many readers, or that memory is wanting, and
+/// no two closes bring different bytes that have the same digest.
+pub fn isolation()
+    ensures alone { TenantsAreAlone }
+    ensures same_text { TextsAreTheSame }
 {}
