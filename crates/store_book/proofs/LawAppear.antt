@@ -14,7 +14,7 @@ use Rattle.blob_digest.proofs.SetLemmas.{insert_there}
 use Rattle.blob_digest.proofs.RowLemmas.{sum_by-map}
 use Rattle.blob_digest.proofs.MapSums.{sum_new}
 use Rattle.store_book.proofs.MapLemmas.{list_any_count}
-use Rattle.store_book.proofs.SetMembers.{no_unit, still, member}
+use Rattle.store_book.proofs.SetMembers.{no_value, still, member}
 
 second : (a b : Bool) → a ≡ false → (not a && b) ≡ false → b ≡ false
 second true b e h = absurd (true≢false e)
@@ -36,7 +36,7 @@ pub count_new : (p : Text → Bool) (s : set.Set text_cmp) (r : Text) → set.co
 count_new p s r none =
     let one : Text → ℕ = λ q. cond (p q) 1 0 in
     sum_by-map one (λ (e : Text × Unit {0}). e.0) (entries (set.insert s r))
-    ∙ sum_new nat_list_cmp_total exact_bytes (λ (e : Text × Unit {0}). cond (p e.0) 1 0) s r tt (no_unit (get s r) none)
+    ∙ sum_new nat_list_cmp_total exact_bytes (λ (e : Text × Unit {0}). cond (p e.0) 1 0) s r tt (no_value (get s r) none)
     ∙ ap (λ n. cond (p r) 1 0 + n) (sym (sum_by-map one (λ (e : Text × Unit {0}). e.0) (entries s)))
 
 -- a repository that isn't there holds nothing

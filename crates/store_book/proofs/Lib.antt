@@ -40,7 +40,12 @@ pub mod Deleting
 pub mod Opening
 pub mod Listing
 pub mod BookTexts
+pub mod LawManifest
+pub mod LawfulManifests
+pub mod LawfulLease
 pub mod SomeSweep
+pub mod LawfulSweep
+pub mod LawfulRuns
 pub mod Agreement
 pub mod Alike
 pub mod Own

@@ -14,9 +14,9 @@ nothing none some = absurd cc
 pub no_member : {o : Option (Unit {0})} → o ≡ None → is_some o ≡ true → {B : Type 0} → B
 no_member none there = absurd (false≢true (ap is_some (sym none) ∙ there))
 
-pub no_unit : (x : Option (Unit {0})) → is_some x ≡ false → x ≡ None
-no_unit None e = refl
-no_unit (Some u) e = absurd (true≢false e)
+pub no_value : {A : Type 0} (x : Option A) → is_some x ≡ false → x ≡ None
+no_value None e = refl
+no_value (Some a) e = absurd (true≢false e)
 
 pub a_unit : (x : Option (Unit {0})) → is_some x ≡ true → x ≡ Some tt
 a_unit None e = absurd (false≢true e)

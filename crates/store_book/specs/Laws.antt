@@ -6,7 +6,7 @@ use Rattle.std.specs.List.Sorted.{IsStrictlySortedBy}
 use Rattle.std.specs.FinMap as fmap
 use Rattle.blob_digest.specs.Digests.{sha256_text, is_digest_of}
 use Rattle.blob_digest.specs.Sets as set
-use Rattle.oci_manifest.specs.Manifests.{refs_of}
+use Rattle.oci_manifest.specs.Manifests.{refs_of, max_manifest}
 use Rattle.store_book.specs.Catalog.{Text, Link, Number, Session, Resident, Catalog, text_cmp, is_of, tenant_of, quota_of, holds, count, size, received, used, held_digests, in_sessions_of, next_of, open_sessions, repos_of, manifests_of}
 
 -- a session is of its own tenant, in a repository that is there, with no empty chunk, within the limit, under a number that was given
@@ -22,7 +22,7 @@ pub record LawfulSession (C : Catalog) (key : Number) (s : Session) : Type 0 whe
 pub record LawfulManifest (C : Catalog) (l : Link) (bytes : Text) : Type 0 where
   pub repo : set.contains C.repos l.0 ≡ true
   pub name : l.1 ≡ sha256_text bytes
-  pub small : length bytes ≤ 4194304
+  pub small : length bytes ≤ max_manifest
   pub refs : (refs : List Text) × (refs_of bytes ≡ Some refs) × AllByRecursion (λ d. holds C l.0 d ≡ true) refs
 
 -- a linked digest is resident and not condemned
