@@ -1,6 +1,5 @@
 -- The lines that the layers give are the book's text.
 use Rattle.std.proofs.Common.{◌≡◌, ℕ, ◌+◌, ◌<◌, ◌≤◌, Bool, true, false, cond, List, [], ◌∷◌, ◌++◌, length, map, get_or, Option, Some, None, refl, sym, ap, ◌∙◌, arith, append-nil}
-use Prim.Native.Nat.{suc}
 use Rattle.std.specs.Prelude.{filter, ◌==◌, ◌&&◌, slice_index, T}
 use Rattle.std.specs.declared.cmp.Ordering.{Ordering}
 use Rattle.std.specs.List.{flat_map, enumerate_from, count_by, AllByRecursion}

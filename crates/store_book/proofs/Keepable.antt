@@ -1,5 +1,5 @@
 -- In a book, a blob that is not too long can be linked.
-use Rattle.std.proofs.Common.{◌≡◌, ℕ, ◌^◌, ◌<◌, ◌≤◌, true, List, length, Some, None, Ok, refl, sym, ap, ◌∙◌, arith}
+use Rattle.std.proofs.Common.{◌≡◌, ℕ, ◌^◌, ◌<◌, ◌≤◌, true, List, length, Some, None, Ok, sym, ap, ◌∙◌, arith}
 use Rattle.std.specs.FinMap.{get}
 use Rattle.blob_digest.proofs.OptionLemmas.{not_some}
 use Rattle.blob_digest.specs.declared.refusal.Refusal.TheVariants.{NameUnknown}

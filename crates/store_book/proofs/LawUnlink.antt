@@ -53,7 +53,7 @@ module _ (C : Catalog) (r d : Text) where
       (as_before-remove link_cmp_total exact_link C.links (r, d) (q, x) (differs q x (inr parts.0)) ∙ all.0, refs_still q xs (inr parts.1) all.1)
 
   -- no manifest of the repository refers to the digest
-  unreferred : referrer C r d ≡ None → (l : Link) (bytes : Text) → get C.manifests l ≡ Some bytes → l.0 ≡ r → refers bytes d ≡ false
+  pub unreferred : referrer C r d ≡ None → (l : Link) (bytes : Text) → get C.manifests l ≡ Some bytes → l.0 ≡ r → refers bytes d ≡ false
   unreferred none l bytes found is_r =
       let p : Link × Text → Bool = λ e. same_text e.0.0 r && refers e.1 d in
       let zero = found_none p (entries C.manifests) (no_map (λ e. e.0.1) (find p (entries C.manifests)) none) in

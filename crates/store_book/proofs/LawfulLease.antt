@@ -1,7 +1,6 @@
 -- An accepted lease keeps all that is kept. No use changes.
 use Rattle.std.proofs.Common.{◌≡◌, ℕ, Bool, true, length, Some, is_some, Ok, sym, ap, ◌∙◌, subst, arith}
-use Rattle.std.specs.Option.{ok_or}
-use Rattle.std.specs.FinMap.{get, insert}
+use Rattle.std.specs.FinMap.{get}
 use Rattle.std.proofs.lemmas.Bool.{not-false, true≢false}
 use Rattle.blob_digest.specs.declared.refusal.Refusal.TheVariants.{BlobUnknown, TooManyReaders}
 use Rattle.store_book.specs.Catalog.{Text, Resident, Catalog, holds, used}

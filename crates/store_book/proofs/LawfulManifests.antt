@@ -1,13 +1,13 @@
 -- An accepted manifest, and one that is deleted, keep all that is kept. No use changes.
-use Rattle.std.proofs.Common.{◌≡◌, ℕ, ◌<◌, ◌≤◌, true, false, List, [], ◌∷◌, length, Option, Some, None, is_some, Ok, Err, refl, sym, ap, ◌∙◌, subst, arith}
-use Rattle.std.specs.Prelude.{◌||◌, nat_le, nat_lt, if◌then◌else◌}
+use Rattle.std.proofs.Common.{◌≡◌, ℕ, ◌<◌, ◌≤◌, true, false, List, [], ◌∷◌, length, Some, None, Ok, Err, refl, sym, ap, ◌∙◌, subst, arith}
+use Rattle.std.specs.Prelude.{nat_lt, if◌then◌else◌}
 use Rattle.std.specs.Option.{ok_or}
 use Rattle.std.specs.List.{AllByRecursion}
 use Rattle.std.specs.Cmp.Lexicographic.{nat_list_cmp_total}
-use Rattle.std.specs.FinMap.{get, remove, contains_key}
-use Rattle.std.proofs.lemmas.Bool.{ltb-false, leb-false, or_parts, true≢false}
+use Rattle.std.specs.FinMap.{get, remove}
+use Rattle.std.proofs.lemmas.Bool.{ltb-false, leb-false}
 use Rattle.std.proofs.lemmas.Map.Lookups.{exact_bytes}
-use Rattle.blob_digest.specs.declared.refusal.Refusal.TheVariants.{NameUnknown, SizeInvalid, ManifestInvalid, ManifestBlobUnknown, ManifestUnknown, LimitReached}
+use Rattle.blob_digest.specs.declared.refusal.Refusal.TheVariants.{NameUnknown, SizeInvalid, ManifestInvalid, ManifestBlobUnknown, LimitReached}
 use Rattle.blob_digest.specs.Digests.{sha256_text}
 use Rattle.blob_digest.specs.Sets as set
 use Rattle.oci_manifest.specs.Manifests.{refs_of, max_manifest}

@@ -1,17 +1,14 @@
 -- From a sound catalog each case of a command, each sweep and each run leads to a sound one.
 use Rattle.std.proofs.Common.{false, ◌≡◌, ℕ, ◌≤◌, ◌<◌, ◌^◌, map, List, [], ◌∷◌, length, Result, Ok, Err, sym, subst}
-use Rattle.std.specs.Option.{ok_or}
 use Rattle.std.specs.List.{AllByRecursion}
-use Rattle.std.specs.FinMap.{get}
 use Rattle.blob_digest.specs.declared.refusal.Refusal.{Refusal}
-use Rattle.blob_digest.specs.declared.refusal.Refusal.TheVariants.{ManifestUnknown}
 use Rattle.std.specs.List.Sorted.{IsStrictlySortedBy}
-use Rattle.store_book.specs.Catalog.{Text, Catalog, Tenant, text_cmp, opening}
+use Rattle.store_book.specs.Catalog.{Catalog, Tenant, text_cmp, opening}
 use Rattle.store_book.proofs.LawfulOpening.{Sound-opening}
-use Rattle.store_book.specs.Steps.{Outcome, tenant, session, status, get_manifest}
+use Rattle.store_book.specs.Steps.{Outcome}
 use Rattle.store_book.specs.Laws.{Sound}
-use Rattle.store_book.specs.Runs.{Command, Answer, Event, answered, told, outcome, IsCase, Happens, IsRun, repo_of, Start, Status, Append, Close, Abandon, Mount, Delete, PutManifest, GetManifest, DeleteManifest, Lease, Called, Cleaned}
-use Rattle.store_book.proofs.Outcomes.{bound_ok, left_by}
+use Rattle.store_book.specs.Runs.{Command, Answer, Event, answered, told, outcome, IsCase, Happens, IsRun, IsNamed, RunsStaySound, repo_of, Start, Status, Append, Close, Abandon, Mount, Delete, PutManifest, GetManifest, DeleteManifest, Lease, Called, Cleaned}
+use Rattle.store_book.proofs.Outcomes.{left_by}
 use Rattle.store_book.proofs.LawfulStart.{Sound-after_start}
 use Rattle.store_book.proofs.LawfulAppend.{Sound-after_append}
 use Rattle.store_book.proofs.LawfulClose.{Sound-after_close}
@@ -49,20 +46,16 @@ pub Sound-case : (C C' : Catalog) (command : Command) (reply : Result Answer Ref
 Sound-case C C' command (Ok a) short case sound = accepted C C' command a short case sound
 Sound-case C C' command (Err e) short case sound = subst (λ (D : Catalog). Sound D) (sym case.1) sound
 
-abbrev pub IsShort : Event → Type 0
-IsShort (Called command reply) = length (repo_of command) ≤ 255
-IsShort (Cleaned swept) = Unit {0}
-
-pub Sound-event : (C C' : Catalog) (e : Event) → IsShort e → Happens C e C' → Sound C → Sound C'
+pub Sound-event : (C C' : Catalog) (e : Event) → IsNamed e → Happens C e C' → Sound C → Sound C'
 Sound-event C C' (Called command reply) short happens sound = Sound-case C C' command reply short happens sound
 Sound-event C C' (Cleaned swept) short happens sound = Sound-sweep C C' swept happens sound.lawful sound.quotas sound.slots
 
-pub Sound-run : (C C' : Catalog) (es : List Event) → AllByRecursion IsShort es → IsRun C es C' → Sound C → Sound C'
+pub Sound-run : RunsStaySound
 Sound-run C C' [] short run sound = subst (λ (D : Catalog). Sound D) (sym run) sound
 Sound-run C C' (e ∷ es) short run sound = Sound-run run.0 C' es short.1 run.2 (Sound-event C run.0 e short.0 run.1 sound)
 
 -- Each catalog that is reached from a new one is sound.
 pub Sound-reached : (tenants : List Tenant) (slots max_blob : ℕ) → 0 < length tenants → length tenants ≤ 256 → IsStrictlySortedBy text_cmp (map (λ t. t.name) tenants) → max_blob ≤ 2 ^ 40 → AllByRecursion (λ t. t.quota ≤ 2 ^ 50) tenants →
-    0 < slots → slots ≤ 65536 → (es : List Event) → AllByRecursion IsShort es → (C : Catalog) → IsRun (opening tenants slots max_blob) es C → Sound C
+    0 < slots → slots ≤ 65536 → (es : List Event) → AllByRecursion IsNamed es → (C : Catalog) → IsRun (opening tenants slots max_blob) es C → Sound C
 Sound-reached tenants slots max_blob some few rise small quotas any at_most es short C run =
     Sound-run (opening tenants slots max_blob) C es short run (Sound-opening tenants slots max_blob some few rise small quotas any at_most)

@@ -46,6 +46,8 @@ pub mod LawfulLease
 pub mod SomeSweep
 pub mod LawfulSweep
 pub mod LawfulRuns
+pub mod Referrers
+pub mod SweepLemmas
 pub mod Agreement
 pub mod Alike
 pub mod Own
@@ -53,4 +55,8 @@ pub mod Others
 pub mod Consistency
 pub mod Isolated
 pub mod SameText
+pub mod Cases
 pub mod WorkedExamples
+pub mod WorkedManifests
+pub mod WorkedLimits
+pub mod WorkedSweeps

@@ -118,6 +118,13 @@ module _ {K : Type 0} {R : K → K → Ordering} (o : IsTotalOrder R) (same : Is
       | inr differ ↦ get-remove_other m k q differ
     ])
 
+    -- a new key that was added and taken out
+    pub remove-insert_new : (m : FinMap R X) (k : K) (v : X) → get m k ≡ None → remove (insert m k v) k ≡ m
+    remove-insert_new m k v none = same_map o same (remove (insert m k v) k) m (λ q. elim (cases_key q k) [
+      | inl e ↦ ap (get (remove (insert m k v) k)) e ∙ get-remove_same o same (insert m k v) k ∙ sym (ap (get m) e ∙ none)
+      | inr differ ↦ get-remove_other (insert m k v) k q differ ∙ get-insert_other m k v q differ
+    ])
+
     first_of : (es : List (K × X)) (n : ℕ) → length es ≡ suc n → (e : K × X) × (rest : List (K × X)) × (es ≡ e ∷ rest)
     first_of [] n h = absurd (omega arith)
     first_of (e ∷ es) n h = (e, es, refl)

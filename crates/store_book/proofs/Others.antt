@@ -1,9 +1,9 @@
 -- What a command leaves: to each other tenant nothing has changed, and the catalog stays consistent.
 use Rattle.std.proofs.Common.{◌≡◌, ℕ, ◌+◌, Bool, true, false, not, [], length, Option, Some, None, Result, Ok, Err, refl, sym, ap, ◌∙◌, get_or-set_other}
-use Rattle.std.specs.Prelude.{◌==◌, ◌||◌, nat_lt, nat_le, nat_eq, if◌then◌else◌}
+use Rattle.std.specs.Prelude.{◌==◌, nat_lt, nat_eq, if◌then◌else◌}
 use Rattle.std.specs.Option.{option_map_or, option_eq, ok_or}
 use Rattle.std.specs.Cmp.Lexicographic.{nat_list_cmp_total}
-use Rattle.std.specs.FinMap.{FinMap, get, insert, remove, contains_key}
+use Rattle.std.specs.FinMap.{FinMap, get, insert, remove}
 use Rattle.std.proofs.lemmas.Bool.{eqb-false}
 use Rattle.std.proofs.lemmas.List.{length-set}
 use Rattle.std.proofs.lemmas.Map.Lookups.{exact_bytes}
@@ -16,7 +16,6 @@ use Rattle.oci_manifest.specs.Manifests.{refs_of, max_manifest}
 use Rattle.store_book.specs.Catalog.{Text, Number, Session, Resident, Catalog, number_cmp, tenant_of, is_of, next_of}
 use Rattle.store_book.specs.Steps
 use Rattle.store_book.specs.Steps.{◌>>=◌, Outcome, refuse, tenant, session_in, length_after, new_session, append_in, whole_in, names, same_bytes, stored, has_source, with_link, with_manifest, with_lent, linked, linked_blob, lacks_room_for, cannot_open, has_manifest, is_full_of_manifests, all_linked, unreferenced, within_quota, has_slot}
-use Rattle.store_book.specs.declared.mount.Mount.{Mount}
 use Rattle.store_book.specs.declared.mount.Mount.TheVariants as mounting
 use Rattle.store_book.specs.Runs as runs
 use Rattle.store_book.specs.Runs.{Command, Answer, answered, told, outcome, repo_of}

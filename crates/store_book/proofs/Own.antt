@@ -18,7 +18,6 @@ use Rattle.store_book.specs.Catalog.{Text, Number, Session, Resident, Catalog, n
 use Rattle.store_book.specs.Steps
 use Rattle.store_book.specs.Steps.{◌>>=◌, Outcome, refuse, tenant, session_in, length_after, new_session, append_in, whole_in, same_bytes, names, is_full_for, stored, all_linked, has_source, with_link, with_manifest, with_lent, linked_blob, unreferenced, is_full_of_manifests, within_quota, lacks_room_for, cannot_open}
 use Rattle.upload_table.specs.Sessions.{with_chunk}
-use Rattle.store_book.specs.declared.mount.Mount.{Mount}
 use Rattle.store_book.specs.declared.mount.Mount.TheVariants as mounting
 use Rattle.store_book.specs.Runs as runs
 use Rattle.store_book.specs.Runs.{Command, Answer, answered, told, outcome, repo_of}

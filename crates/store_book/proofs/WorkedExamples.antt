@@ -118,6 +118,17 @@ mounted_from_another_tenant = simp (get-insert {X = Unit {0}} nat_list_cmp_total
 mounted_where_it_is_not_held : mount one_link two (codes "e") (Some one) ≡ Ok (mounting.Session 1, new_session one_link 0 two)
 mounted_where_it_is_not_held = simp (get-insert {X = Unit {0}} link_cmp_total, get-insert {X = Unit {0}} nat_list_cmp_total, entries-insert {X = Unit {0}} nat_list_cmp_total, get-empty, entries-empty) refl
 
+-- without a source that is named, any repository of the tenant is one
+mounted_for_another_tenant : mount one_link (codes "zeta/x") (codes "d") None ≡ Ok (mounting.Session 1, new_session one_link 1 (codes "zeta/x"))
+mounted_for_another_tenant = simp (get-insert {X = Unit {0}} nat_list_cmp_total, entries-insert {X = Unit {0}} nat_list_cmp_total, get-empty, entries-empty) refl
+
+mounted_where_nobody_holds_it : mount one_link two (codes "e") None ≡ Ok (mounting.Session 1, new_session one_link 0 two)
+mounted_where_nobody_holds_it = simp (get-insert {X = Unit {0}} link_cmp_total, get-insert {X = Unit {0}} nat_list_cmp_total, entries-insert {X = Unit {0}} nat_list_cmp_total, get-empty, entries-empty) refl
+
+-- the one that is named alone counts
+mounted_from_where_it_is_not : mount one_link (codes "acme/four") (codes "d") (Some two) ≡ Ok (mounting.Session 1, new_session one_link 0 (codes "acme/four"))
+mounted_from_where_it_is_not = simp (get-insert {X = Unit {0}} link_cmp_total, get-insert {X = Unit {0}} nat_list_cmp_total, entries-insert {X = Unit {0}} nat_list_cmp_total, get-empty, entries-empty) refl
+
 deleted_from_one : delete two_links one (codes "d") ≡ Ok (tt, record two_links { links = set.remove two_links.links (one, codes "d") })
 deleted_from_one = simp (get-insert {X = Unit {0}} link_cmp_total, entries-empty) refl
 

@@ -1,5 +1,5 @@
 -- When a catalog is lawful.
-use Rattle.std.specs.Prelude.{◌≡◌, ◌≢◌, ℕ, ◌+◌, ◌<◌, ◌≤◌, ◌^◌, true, false, Some, List, [], length, IsSome, map, sum_by, count_by}
+use Rattle.std.specs.Prelude.{◌≡◌, ◌≢◌, ℕ, ◌+◌, ◌<◌, ◌≤◌, ◌^◌, true, false, Some, Err, List, [], length, IsSome, map, sum_by, count_by}
 use Rattle.std.specs.List.{AllByRecursion}
 use Rattle.std.specs.Ordering.{eq_by_cmp}
 use Rattle.std.specs.List.Sorted.{IsStrictlySortedBy}
@@ -7,6 +7,9 @@ use Rattle.std.specs.FinMap as fmap
 use Rattle.blob_digest.specs.Digests.{sha256_text, is_digest_of}
 use Rattle.blob_digest.specs.Sets as set
 use Rattle.oci_manifest.specs.Manifests.{refs_of, max_manifest}
+use Rattle.std.specs.declared.cmp.Ordering.TheVariants.{Less}
+use Rattle.blob_digest.specs.declared.refusal.Refusal.TheVariants.{Referenced}
+use Rattle.store_book.specs.Steps.{refers, delete}
 use Rattle.store_book.specs.Catalog.{Text, Link, Number, Session, Resident, Catalog, text_cmp, is_of, tenant_of, quota_of, holds, count, size, received, used, held_digests, in_sessions_of, next_of, open_sessions, repos_of, manifests_of}
 
 -- a session is of its own tenant, in a repository that is there, with no empty chunk, within the limit, under a number that was given
@@ -77,3 +80,19 @@ CountsAreLinks = (C : Catalog) → Lawful C → (d : Text) → count C d ≡ cou
 -- What a tenant uses is the sum over the distinct digests that its repositories hold, each by its blob's length, and over its sessions.
 abbrev pub UsesAreDistinct : Type 0
 UsesAreDistinct = (C : Catalog) → Lawful C → (t : ℕ) → used C t ≡ sum_by (size C) (set.items (held_digests C t)) + in_sessions_of C t
+
+-- ---- what can't be deleted
+
+-- a manifest of a repository refers to a digest
+abbrev pub RefersTo : Catalog → Text → Text → Text → Type 0
+RefersTo C repo name digest = (bytes : Text) × (fmap.get C.manifests (repo, name) ≡ Some bytes) × (refers bytes digest ≡ true)
+
+-- the least digest of a manifest of a repository that refers to a digest
+pub record IsLeastReferrer (C : Catalog) (repo digest name : Text) : Type 0 where
+  pub refers : RefersTo C repo name digest
+  pub least : (other : Text) → RefersTo C repo other digest → text_cmp other name ≢ Less
+
+-- A blob to which a manifest of the repository refers can't be deleted from it, and the least such manifest is named.
+abbrev pub ReferencedStays : Type 0
+ReferencedStays = (C : Catalog) → Lawful C → (repo digest name : Text) → RefersTo C repo name digest →
+    (least : Text) × IsLeastReferrer C repo digest least × (delete C repo digest ≡ Err (Referenced least))

@@ -1,10 +1,12 @@
 -- Commands with their replies, and runs of them and of sweeps.
-use Rattle.std.specs.Prelude.{◌≡◌, ◌⊎◌, ℕ, Bool, true, false, Option, Result, Ok, Err, List, [], ◌∷◌}
+use Rattle.std.specs.Prelude.{◌≡◌, ◌≤◌, ◌⊎◌, ℕ, Bool, true, false, Option, Result, Ok, Err, List, [], ◌∷◌, length}
+use Rattle.std.specs.List.{AllByRecursion}
 use Rattle.blob_digest.specs.declared.range.ByteRange.{ByteRange}
 use Rattle.blob_digest.specs.declared.refusal.Refusal.{Refusal}
 use Rattle.blob_digest.specs.declared.refusal.Refusal.TheVariants.{Memory}
 use Rattle.store_book.specs.declared.mount.Mount as mount
 use Rattle.store_book.specs.Catalog.{Text, Catalog}
+use Rattle.store_book.specs.Laws.{Sound}
 use Rattle.store_book.specs.Steps
 use Rattle.store_book.specs.Steps.{Outcome}
 use Rattle.store_book.specs.Sweeps.{Swept, IsSweep}
@@ -98,3 +100,12 @@ Happens C (Cleaned swept) C' = IsSweep C swept C'
 abbrev pub IsRun : Catalog → List Event → Catalog → Type 0
 IsRun C [] C' = C' ≡ C
 IsRun C (e ∷ es) C' = (mid : Catalog) × Happens C e mid × IsRun mid es C'
+
+-- the name that a command is given first is as short as a repository's
+abbrev pub IsNamed : Event → Type 0
+IsNamed (Called command reply) = length (repo_of command) ≤ 255
+IsNamed (Cleaned swept) = Unit {0}
+
+-- Commands and sweeps lead from a sound catalog to a sound one.
+abbrev pub RunsStaySound : Type 0
+RunsStaySound = (C C' : Catalog) (es : List Event) → AllByRecursion IsNamed es → IsRun C es C' → Sound C → Sound C'

@@ -1,13 +1,21 @@
 //! Laws of the definitions alone. Each is the contract of a function that does nothing.
 
 ghost use Rattle.store_book.specs.Isolation.{TenantsAreAlone, TextsAreTheSame};
-ghost use Rattle.store_book.specs.Laws.{CountsAreLinks, UsesAreDistinct};
+ghost use Rattle.store_book.specs.Laws.{CountsAreLinks, ReferencedStays, UsesAreDistinct};
+ghost use Rattle.store_book.specs.Runs.{RunsStaySound};
 
 /// The count of a digest is the number of links to it, and a tenant's use is the sum over the
 /// distinct digests that its repositories hold and over its sessions, in every lawful catalog.
 pub fn counts_and_uses()
     ensures counts { CountsAreLinks }
     ensures uses { UsesAreDistinct }
+{}
+
+/// Commands and sweeps keep a catalog sound, and a blob to which a manifest of its repository refers
+/// can't be deleted from it.
+pub fn soundness()
+    ensures runs { RunsStaySound }
+    ensures referenced { ReferencedStays }
 {}
 
 /// Tenants don't see each other. Whatever the others do, a tenant is told, and has at the end, what
