@@ -8,5 +8,6 @@ pub mod Lines
 pub mod Openings
 pub mod Printed
 pub mod Runs
+pub mod SlotSteps
 pub mod Steps
 pub mod Sweeps
