@@ -66,7 +66,7 @@ module _ {K X : Type 0} {R : K → K → Ordering} (o : IsTotalOrder R) (same : 
   pub unseen_remove : (p : K → Bool) (m : FinMap R X) (k : K) → p k ≡ false → AgreeOn p (remove m k) m
   unseen_remove p m k off q is = get-remove o m k q ∙ elsewhere p k q None (get m q) (eq_by_cmp R q k) refl off is
 
-  at_once : (b : Bool) (x y : Option X) → (b ≡ true → x ≡ y) → cond b x None ≡ cond b y None
+  pub at_once : (b : Bool) (x y : Option X) → (b ≡ true → x ≡ y) → cond b x None ≡ cond b y None
   at_once true x y h = h refl
   at_once false x y h = refl
 

@@ -1,12 +1,12 @@
 -- Two catalogs that are alike to a tenant, and what a tenant can't tell them apart by.
-use Rattle.std.proofs.Common.{T, ◌≡◌, ℕ, ◌+◌, Bool, true, false, cond, not, List, [], ◌∷◌, length, map, Option, Some, None, is_some, refl, sym, ap, ◌∙◌, subst, arith}
+use Rattle.std.proofs.Common.{T, ◌≡◌, ℕ, ◌+◌, Bool, true, false, cond, not, List, [], ◌∷◌, ◌++◌, length, map, Option, Some, None, is_some, refl, sym, ap, ◌∙◌, subst, arith}
 use Rattle.std.specs.Prelude.{◌==◌, ◌&&◌, nat_le, slice_get}
 use Rattle.std.specs.Option.{option_map, option_map_or}
 use Rattle.std.specs.declared.cmp.Ordering.{Ordering}
 use Rattle.std.specs.Ordering.{eq_by_cmp, is_lt}
 use Rattle.std.specs.Cmp.Lexicographic.{nat_list_cmp_total}
 use Rattle.std.specs.Cmp.Lexicographic.{same_text as text_is}
-use Rattle.std.specs.List.{sum_by, filter}
+use Rattle.std.specs.List.{sum_by, filter, concat}
 use Rattle.std.specs.FinMap.{entries, get, get-entries, entries_sorted}
 use Rattle.std.specs.FinMap.Entries.{where_key, is_sorted, below_all, is_sorted-where_key, find-where_key, same_entries}
 use Rattle.std.specs.FinMap.Entries.{find as find_key}
@@ -16,7 +16,7 @@ use Rattle.std.proofs.lemmas.Map.Lookups.{exact_bytes}
 use Rattle.blob_digest.specs.declared.range.ByteRange.{ByteRange}
 use Rattle.blob_digest.specs.Sets as set
 use Rattle.store_book.specs.Catalog.{Text, Link, Number, Session, Resident, Catalog, text_cmp, same_text, tenant_of, is_tenants, is_of, quota_of, holds, tenant_holds, share, in_sessions_of, blob_share, used, next_of, open_sessions, repos_of, manifests_of, received}
-use Rattle.store_book.specs.Steps.{◌>>=◌, session, session_in, check, length_after, lacks_room_for, referrer, refers}
+use Rattle.store_book.specs.Steps.{◌>>=◌, whole_in, session, session_in, check, length_after, lacks_room_for, referrer, refers}
 use Rattle.store_book.specs.Isolation.{blobs_of}
 use Rattle.blob_digest.proofs.KeyOrders.{number_cmp_total, exact_number, link_cmp_total, exact_link}
 use Rattle.blob_digest.proofs.MapSums.{list_any_same}
@@ -149,6 +149,9 @@ module _ (t : ℕ) (C D : Catalog) (alike : Alike t C D) where
   pub check_same : (r : Text) (n : ℕ) (g : Option ByteRange) (len : ℕ) → check C t r n g len ≡ check D t r n g len
   check_same r n g len = λ i. (session_in (session_found n i) r >>= λ s. length_after (alike.max_blob i) (received s) g len)
 
+  pub whole_same : (n : ℕ) (last : Text) → whole_in C.sessions (t, n) last ≡ whole_in D.sessions (t, n) last
+  whole_same n last = ap (λ o. option_map_or (λ s. concat s.chunks ++ last) o last) (session_found n)
+
   pub quota_same : quota_of C t ≡ quota_of D t
   quota_same = ap (λ ts. option_map_or (λ x. x.quota) (slice_get ts t) 0) alike.tenants
 
@@ -179,10 +182,3 @@ module _ (t : ℕ) (C D : Catalog) (alike : Alike t C D) where
 
     pub used_same : used C t ≡ used D t
     used_same = used-blobs C t ∙ (λ i. sum_by (λ (e : Text × Text). length e.1) (blobs_same i) + in_sessions_same i) ∙ sym (used-blobs D t)
-
-    -- what a tenant holds is kept with the same bytes
-    pub bytes_same : (d : Text) → tenant_holds C t d ≡ true → option_map (λ b. b.bytes) (get C.residents d) ≡ option_map (λ b. b.bytes) (get D.residents d)
-    bytes_same d held =
-        sym (ap (λ b. cond b (option_map (λ b. b.bytes) (get C.residents d)) None) held)
-        ∙ sym (find-blobs C t d) ∙ ap (find_key text_cmp d) blobs_same ∙ find-blobs D t d
-        ∙ ap (λ b. cond b (option_map (λ b. b.bytes) (get D.residents d)) None) (sym (tenant_holds_same d) ∙ held)

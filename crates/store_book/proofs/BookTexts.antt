@@ -1,6 +1,6 @@
 -- The lines that the layers give are the book's text.
 use Rattle.std.proofs.Common.{◌≡◌, ℕ, ◌+◌, ◌<◌, ◌≤◌, Bool, true, false, cond, List, [], ◌∷◌, ◌++◌, length, map, get_or, Option, Some, None, refl, sym, ap, ◌∙◌, arith, append-nil}
-use Rattle.std.specs.Prelude.{filter, ◌==◌, ◌&&◌, slice_index, T}
+use Rattle.std.specs.Prelude.{filter, ◌==◌, ◌&&◌, slice_index}
 use Rattle.std.specs.declared.cmp.Ordering.{Ordering}
 use Rattle.std.specs.List.{flat_map, enumerate_from, count_by, AllByRecursion}
 use Rattle.std.specs.Ordering.{is_lt}
@@ -11,7 +11,7 @@ use Rattle.std.proofs.lemmas.List.Concat.{flat_map-cons}
 use Rattle.std.proofs.lemmas.List.Folds.{flat_map-map}
 use Rattle.std.proofs.lemmas.List.Sums.{length-filter, sum_by-cons}
 use Rattle.blob_digest.proofs.ListLemmas.{all_weaker}
-use Rattle.store_book.proofs.MapLemmas.{flat_map-same, all_same, all_by_index}
+use Rattle.store_book.proofs.MapLemmas.{is_true, flat_map-same, all_same, all_by_index}
 use Rattle.blob_digest.specs.Sets as set
 use Rattle.blob_digest.proofs.KeyOrders.{link_cmp_total, exact_link}
 use Rattle.blob_digest.proofs.RowLemmas.{entries-empty, found_value}
@@ -48,10 +48,6 @@ at_most p q implies (x ∷ xs) =
     by_test true false h = absurd (false≢true (h refl))
     by_test false true h = omega arith
     by_test false false h = omega arith
-
-is_true : {b : Bool} → T b → b ≡ true
-is_true {b = true} p = refl
-is_true {b = false} p = absurd p
 
 -- ---- links
 

@@ -1,38 +1,35 @@
 -- Each step from a consistent catalog leads to a consistent one, where a close brings what `content` says.
-use Rattle.std.proofs.Common.{◌≡◌, ℕ, Bool, true, false, cond, List, [], ◌∷◌, length, Option, Some, None, is_some, Result, Ok, Err, refl, sym, ap, ◌∙◌, subst, arith, ⊎_elim}
-use Rattle.std.specs.Prelude.{if◌then◌else◌}
+use Rattle.std.proofs.Common.{◌≡◌, ℕ, true, false, [], length, Option, Some, None, is_some, Result, Ok, refl, sym, ap, ◌∙◌, subst, ⊎_elim}
 use Rattle.std.specs.Option.{option_map_or, ok_or}
 use Rattle.std.specs.Ordering.{eq_by_cmp}
-use Rattle.std.specs.Cmp.{Equal-is}
 use Rattle.std.specs.Cmp.Lexicographic.{nat_list_cmp_total}
-use Rattle.std.specs.List.{list_any, count_by}
-use Rattle.std.specs.Prelude.{◌||◌, ◌<◌}
+use Rattle.std.specs.List.{list_any}
+use Rattle.std.specs.Prelude.{nat_lt}
 use Rattle.std.specs.FinMap.{contains_key-keys}
-use Rattle.std.proofs.lemmas.List.Sums.{sum_by-cons}
 use Rattle.std.proofs.lemmas.Bool.{ne_eqb}
 use Rattle.store_book.specs.Catalog.{count}
 use Rattle.store_book.specs.Sweeps.{Swept, IsSweep, IsLeft, is_orphan}
 use Rattle.blob_digest.proofs.MapSums.{list_any_weaker}
 use Rattle.store_book.proofs.Alike.{Alike}
-use Rattle.std.specs.Cmp.Lexicographic.{same_text as text_is}
 use Rattle.std.specs.FinMap.{FinMap, get, insert, remove}
-use Rattle.std.proofs.lemmas.Bool.{false≢true, and_parts}
+use Rattle.std.proofs.lemmas.Bool.{true≢false, and_parts}
 use Rattle.std.proofs.lemmas.Map.Lookups.{exact_bytes}
 use Rattle.blob_digest.specs.declared.range.ByteRange.{ByteRange}
 use Rattle.blob_digest.specs.declared.refusal.Refusal.{Refusal}
-use Rattle.blob_digest.specs.declared.refusal.Refusal.TheVariants.{NameUnknown, UploadUnknown}
+use Rattle.blob_digest.specs.declared.refusal.Refusal.TheVariants.{NameUnknown}
 use Rattle.blob_digest.specs.Digests.{sha256_text, is_digest_of}
 use Rattle.blob_digest.specs.Sets as kept_set
-use Rattle.store_book.specs.Catalog.{Text, Link, Number, Session, Resident, Catalog, text_cmp, number_cmp, same_text, tenant_of, is_of, holds, next_of}
+use Rattle.store_book.specs.Catalog.{Text, Link, Number, Session, Resident, Catalog, text_cmp, number_cmp, tenant_of, is_of, holds, next_of}
 use Rattle.store_book.specs.Steps
 use Rattle.store_book.specs.Steps.{◌>>=◌, Outcome, refuse, session_in, length_after, new_session, append_in, whole_in, names, same_bytes, stored, has_source, with_link, with_manifest, with_lent, within_quota, has_slot}
 use Rattle.store_book.specs.Runs as runs
 use Rattle.store_book.specs.Runs.{Command, outcome}
 use Rattle.store_book.specs.Isolation.{unhoused, outcome_alone, whole_of, named, brought_by}
-use Rattle.blob_digest.proofs.KeyOrders.{number_cmp_total, exact_number, link_cmp_total, exact_link}
+use Rattle.blob_digest.proofs.KeyOrders.{number_cmp_total, exact_number, link_cmp_total, exact_link, tied_text}
 use Rattle.blob_digest.proofs.OptionLemmas.{some_value}
+use Rattle.store_book.proofs.Outcomes.{bound_ok, session_found}
 use Rattle.store_book.proofs.SomeSweep.{left_bytes}
-use Rattle.store_book.proofs.MapLemmas.{got-insert, got-remove, get-insert_at, still_there}
+use Rattle.store_book.proofs.MapLemmas.{list_any_count, got-insert, got-remove, get-insert_at, still_there}
 use Rattle.store_book.proofs.SetMembers.{still, now, member, was_member}
 use Rattle.store_book.proofs.Alike.{Consistent, held_kept}
 use Rattle.store_book.proofs.Own.{Fits, fits_whole, longer}
@@ -80,12 +77,10 @@ module _ (content : Text → Text) (C : Catalog) (consistent : Consistent conten
 
   -- the repository of a session that was checked is there
   repo_there : (f : Session → Result ℕ Refusal) (key : Number) (o : Option Session) (after : ℕ) → get C.sessions key ≡ o → (session_in o r >>= f) ≡ Ok after → kept_set.contains C.repos r ≡ true
-  repo_there f key None after found h = absurd cc
-  repo_there f key (Some s) after found h =
-      elim (same_text s.repo r) as (λ b. same_text s.repo r ≡ b → ((if b then Ok s else Err UploadUnknown) >>= f) ≡ Ok after → kept_set.contains C.repos r ≡ true) [
-        | true ↦ λ is _. subst (λ (x : Text). kept_set.contains C.repos x ≡ true) (text_is s.repo r (sym is)) (consistent.sessions key s found)
-        | false ↦ λ _ h. absurd cc
-      ] refl h
+  repo_there f key o after found h =
+      let a = bound_ok (session_in o r) f after h in
+      let is = session_found o r a.0 a.1 in
+      subst (λ (x : Text). kept_set.contains C.repos x ≡ true) is.1 (consistent.sessions key a.0 (found ∙ is.0))
 
   consistent_stored : (t n : ℕ) (d w : Text) → kept_set.contains C.repos r ≡ true → content d ≡ w → Consistent content (stored C t r n d w)
   consistent_stored t n d w there fits = record {
@@ -184,20 +179,13 @@ consistent_command content C s (runs.Lease r d) fits = twice (answers_leave (Con
 
 -- ---- a sweep
 
-counted : {X : Type 0} (p : X → Bool) (xs : List X) → list_any p xs ≡ true → 0 < count_by p xs
-counted p [] h = absurd (false≢true h)
-counted p (x ∷ xs) h = elim (p x) as (λ b. p x ≡ b → (b || list_any p xs) ≡ true → 0 < count_by p (x ∷ xs)) [
-  | true ↦ λ is _. let sum = sum_by-cons (λ x. cond (p x) 1 0) x xs in let one : cond {A = ℕ} (p x) 1 0 ≡ 1 = ap (λ b. cond b 1 0) is in omega arith
-  | false ↦ λ is h. let sum = sum_by-cons (λ x. cond (p x) 1 0) x xs in let rest = counted p xs h in omega arith
-] refl h
-
 -- a digest that is linked in a repository that is there is no orphan
 pub no_orphan : (C : Catalog) (r d : Text) → kept_set.contains C.repos r ≡ true → holds C r d ≡ true → is_orphan C d ≡ false
 no_orphan C r d there held =
-    let some = counted (λ q. holds C q d) (kept_set.items C.repos) (
-    list_any_weaker (eq_by_cmp text_cmp r) (λ q. holds C q d) (λ q tie. subst (λ (x : Text). holds C x d ≡ true) (exact_bytes r q ((Equal-is (text_cmp r q)).0 tie)) held)
-    (kept_set.items C.repos) (sym (contains_key-keys C.repos r) ∙ there)) in
-    ne_eqb (count C d) 0 (λ e. omega arith)
+    let some : list_any (λ q. holds C q d) (kept_set.items C.repos) ≡ true =
+    list_any_weaker (eq_by_cmp text_cmp r) (λ q. holds C q d) (λ q tie. subst (λ (x : Text). holds C x d ≡ true) (tied_text r q tie) held)
+    (kept_set.items C.repos) (sym (contains_key-keys C.repos r) ∙ there) in
+    ne_eqb (count C d) 0 (λ e. true≢false (sym some ∙ list_any_count (λ q. holds C q d) (kept_set.items C.repos) ∙ ap (nat_lt 0) e))
 
 pub consistent_sweep : (content : Text → Text) (C C' : Catalog) (swept : Swept) → Consistent content C → IsSweep C swept C' → Consistent content C'
 consistent_sweep content C C' swept consistent sweep = subst (λ X. Consistent content X) (sym sweep.rest) (record {

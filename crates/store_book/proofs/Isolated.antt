@@ -6,7 +6,7 @@ use Rattle.std.specs.Option.{option_map_or}
 use Rattle.std.specs.Ordering.{eq_by_cmp, is_eq}
 use Rattle.std.specs.Cmp.{IsTotalOrder, Equal-is, tied_itself}
 use Rattle.std.specs.declared.cmp.Ordering.{Ordering}
-use Rattle.std.specs.List.{AllByRecursion, Contains, concat}
+use Rattle.std.specs.List.{AllByRecursion, Contains}
 use Rattle.std.specs.Cmp.Lexicographic.{nat_list_cmp_total}
 use Rattle.std.specs.FinMap.{FinMap, get, get-empty, retain_keys, get-retain_keys, same_map, IsAntisymmetric}
 use Rattle.std.specs.FinMap.Entries.{find as find_key}
@@ -16,15 +16,15 @@ use Rattle.blob_digest.specs.declared.refusal.Refusal.{Refusal}
 use Rattle.blob_digest.specs.declared.refusal.Refusal.TheVariants.{Memory, StoreFull, TooManyReaders}
 use Rattle.store_book.specs.Catalog.{Text, Tenant, Resident, Catalog, text_cmp, link_cmp, number_cmp, is_tenants, is_of, opening}
 use Rattle.store_book.specs.Steps
-use Rattle.store_book.specs.Steps.{Outcome, ◌>>=◌, tenant, refuse, linked_blob, with_lent}
+use Rattle.store_book.specs.Steps.{Outcome, ◌>>=◌, tenant, whole_in, refuse, linked_blob, with_lent}
 use Rattle.store_book.specs.Runs as runs
 use Rattle.store_book.specs.Runs.{Command, Answer, answered, takes_memory, outcome, IsCase, Event, Called, Cleaned, Happens, IsRun, repo_of}
 use Rattle.store_book.specs.Isolation.{events_of, commands, replies, part, outcome_alone, named, reply, left, replies_alone, left_alone, IsUncrowded, brought, brought_by, brought_in, NoCollision, IsFair, TenantsAreAlone}
 use Rattle.blob_digest.proofs.KeyOrders.{number_cmp_total, exact_number, link_cmp_total, exact_link}
 use Rattle.store_book.proofs.MapLemmas.{all_by_index}
-use Rattle.store_book.proofs.Agreement.{AgreeOn}
+use Rattle.store_book.proofs.Agreement.{AgreeOn, at_once}
 use Rattle.store_book.proofs.SetMembers.{nothing, no_member}
-use Rattle.store_book.proofs.Alike.{Alike, Consistent, of_same, session_same, blobs_same}
+use Rattle.store_book.proofs.Alike.{Alike, Consistent, of_same, session_same, whole_same, blobs_same}
 use Rattle.store_book.proofs.Own.{Fits, Matches, own_command, known}
 use Rattle.store_book.proofs.Others.{Leaves, unseen_command, tenants_stay, alike_itself, alike_through}
 use Rattle.store_book.proofs.Consistency.{consistent_command, consistent_sweep, unseen_sweep}
@@ -93,9 +93,9 @@ module _ (content : Text → Text) where
 -- what a tenant's close brings among others and alone
 brought_same : (t : ℕ) (C D : Catalog) → Alike t C D → (command : Command) → is_of C t (repo_of command) ≡ true → brought_by C command ≡ brought_by D command
 brought_same t C D alike (runs.Close r n d g b) own = ap (named d) (
-    ap (λ x. x >>= λ u. Steps.session C u r n >>= λ s. Ok (concat s.chunks ++ b)) (known C t r own)
-    ∙ ap (λ x. x >>= λ s. Ok (concat s.chunks ++ b)) (session_same t C D alike r n)
-    ∙ sym (ap (λ x. x >>= λ u. Steps.session D u r n >>= λ s. Ok (concat s.chunks ++ b)) (known D t r (sym (of_same t C D alike r) ∙ own))))
+    ap (λ x. x >>= λ u. Steps.session C u r n >>= λ _. Ok (whole_in C.sessions (u, n) b)) (known C t r own)
+    ∙ (λ i. session_same t C D alike r n i >>= λ _. Ok (whole_same t C D alike n b i))
+    ∙ sym (ap (λ x. x >>= λ u. Steps.session D u r n >>= λ _. Ok (whole_in D.sessions (u, n) b)) (known D t r (sym (of_same t C D alike r) ∙ own))))
 brought_same t C D alike command own = refl
 
 -- ---- a run
@@ -146,13 +146,9 @@ module _ (content : Text → Text) (tenants : List Tenant) (t : ℕ) where
 -- ---- parts
 
 module _ {K X : Type 0} {R : K → K → Ordering} (o : IsTotalOrder R) (same : IsAntisymmetric R) where
-  retain_at : (b : Bool) (x y : Option X) → (b ≡ true → x ≡ y) → cond b x None ≡ cond b y None
-  retain_at true x y h = h refl
-  retain_at false x y h = refl
-
   retain_agree : (p : K → Bool) (m n : FinMap R X) → AgreeOn p m n → retain_keys m p ≡ retain_keys n p
   retain_agree p m n agree = same_map o same (retain_keys m p) (retain_keys n p) (λ q.
-      get-retain_keys m p q (λ x tie. ap p (sym (same q x tie))) ∙ retain_at (p q) (get m q) (get n q) (agree q) ∙ sym (get-retain_keys n p q (λ x tie. ap p (sym (same q x tie)))))
+      get-retain_keys m p q (λ x tie. ap p (sym (same q x tie))) ∙ at_once o same (p q) (get m q) (get n q) (agree q) ∙ sym (get-retain_keys n p q (λ x tie. ap p (sym (same q x tie)))))
 
 -- catalogs that are alike to a tenant have the same part of it
 pub same_part : (content : Text → Text) (t : ℕ) (C D : Catalog) → Alike t C D → Consistent content C → Consistent content D → part C t ≡ part D t

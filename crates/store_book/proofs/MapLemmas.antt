@@ -1,5 +1,5 @@
 -- What a map has after a key was added or taken out, an induction over maps, and sums of two maps that answer alike.
-use Rattle.std.proofs.Common.{◌≡◌, ◌≢◌, ℕ, ◌+◌, Bool, true, false, cond, List, [], ◌∷◌, length, ◌++◌, get_or, Option, Some, None, is_some, refl, sym, ap, ◌∙◌, subst, arith, inl, inr, zero-add}
+use Rattle.std.proofs.Common.{T, ◌≡◌, ◌≢◌, ℕ, ◌+◌, Bool, true, false, cond, List, [], ◌∷◌, length, ◌++◌, get_or, Option, Some, None, is_some, refl, sym, ap, ◌∙◌, subst, arith, inl, inr, zero-add}
 use Prim.Native.Nat.{zero, suc}
 use Rattle.std.specs.Prelude.{◌<◌, ◌⊎◌, ◌||◌, nat_lt}
 use Rattle.std.specs.declared.cmp.Ordering.{Ordering}
@@ -15,6 +15,12 @@ pub use Rattle.blob_digest.proofs.OptionLemmas.{some_same}
 pub use Rattle.blob_digest.proofs.ListLemmas.{all_weaker, witness}
 use Rattle.blob_digest.proofs.RowLemmas.{no_tie, entries-empty}
 use Rattle.blob_digest.proofs.MapSums.{sum_new, sum_split, insert-remove, insert_back, get-remove_same}
+
+-- ---- tests
+
+pub is_true : {b : Bool} → T b → b ≡ true
+is_true {b = true} p = refl
+is_true {b = false} p = absurd p
 
 -- ---- lists
 

@@ -4,7 +4,7 @@ use Rattle.std.specs.Prelude.{◌==◌, nat_lt, nat_eq, if◌then◌else◌}
 use Rattle.std.specs.Option.{option_map_or, option_eq, ok_or}
 use Rattle.std.specs.Cmp.Lexicographic.{nat_list_cmp_total}
 use Rattle.std.specs.FinMap.{FinMap, get, insert, remove}
-use Rattle.std.proofs.lemmas.Bool.{eqb-false}
+use Rattle.std.proofs.lemmas.Bool.{eqb-false, not-false}
 use Rattle.std.proofs.lemmas.List.{length-set}
 use Rattle.std.proofs.lemmas.Map.Lookups.{exact_bytes}
 use Rattle.blob_digest.specs.declared.range.ByteRange.{ByteRange}
@@ -20,7 +20,7 @@ use Rattle.store_book.specs.declared.mount.Mount.TheVariants as mounting
 use Rattle.store_book.specs.Runs as runs
 use Rattle.store_book.specs.Runs.{Command, Answer, answered, told, outcome, repo_of}
 use Rattle.blob_digest.proofs.KeyOrders.{number_cmp_total, exact_number, link_cmp_total, exact_link}
-use Rattle.store_book.proofs.Outcomes.{bound_ok, some_of_ok}
+use Rattle.store_book.proofs.Outcomes.{bound_ok, not_refused, some_of_ok}
 use Rattle.store_book.proofs.Agreement.{AgreeOn, unseen_insert, unseen_remove}
 use Rattle.store_book.proofs.Alike.{Alike, of_same}
 use Rattle.store_book.proofs.Own.{longer}
@@ -53,10 +53,6 @@ module _ (P : Catalog → Type 0) where
   started_leave (Ok x) h = h
   started_leave (Err e) h = tt
 
-  passed : (b : Bool) (e : Refusal) (u : Unit {0}) → refuse (not b) e ≡ Ok u → b ≡ true
-  passed true e u h = refl
-  passed false e u h = absurd cc
-
   -- ---- what each command may leave
 
   module _ (C : Catalog) (r : Text) where
@@ -73,7 +69,7 @@ module _ (P : Catalog → Type 0) where
         ((t after : ℕ) → tenant_of C.tenants r ≡ Some t → Steps.check C t r n g (length b) ≡ Ok after → names C d (whole_in C.sessions (t, n) b) ≡ true → P (stored C t r n d (whole_in C.sessions (t, n) b))) →
         Leaves P (Steps.close_by housed C r n d g b)
     close_leaves housed n d g b new =
-        of_tenant _ (λ t k. past (Steps.check C t r n g (length b)) _ (λ after checked. past (within_quota C t (length b)) _ (λ _ _. past (refuse (not (names C d (whole_in C.sessions (t, n) b))) DigestInvalid) _ (λ u h. past (housed C d) _ (λ _ _. new t after k checked (passed (names C d (whole_in C.sessions (t, n) b)) DigestInvalid u h))))))
+        of_tenant _ (λ t k. past (Steps.check C t r n g (length b)) _ (λ after checked. past (within_quota C t (length b)) _ (λ _ _. past (refuse (not (names C d (whole_in C.sessions (t, n) b))) DigestInvalid) _ (λ u h. past (housed C d) _ (λ _ _. new t after k checked (not-false (names C d (whole_in C.sessions (t, n) b)) (not_refused _ _ _ h)))))))
 
     pub abandon_leaves : (n : ℕ) → ((t : ℕ) → tenant_of C.tenants r ≡ Some t → P (record C { sessions = remove C.sessions (t, n) })) → Leaves P (Steps.abandon C r n)
     abandon_leaves n new = of_tenant _ (λ t k. past (Steps.session C t r n) _ (λ _ _. new t k))

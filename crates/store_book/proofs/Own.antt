@@ -1,17 +1,17 @@
 -- A tenant's own command, among others and alone: from catalogs that are alike to it, the same reply, and catalogs that are alike again.
-use Rattle.std.proofs.Common.{◌≡◌, ℕ, ◌+◌, Bool, true, false, not, List, [], ◌∷◌, ◌++◌, length, set, get_or, Option, Some, None, is_some, Result, Ok, Err, refl, sym, ap, ◌∙◌, subst, arith}
+use Rattle.std.proofs.Common.{◌≡◌, ℕ, ◌+◌, Bool, true, false, not, List, [], ◌∷◌, length, set, get_or, Option, Some, None, is_some, Result, Ok, Err, refl, sym, ap, ◌∙◌, subst, arith}
 use Prim.Native.Nat.{zero, suc}
-use Rattle.std.specs.Prelude.{◌==◌, ◌&&◌, ◌||◌, ◌^◌, nat_lt, nat_le, nat_eq, if◌then◌else◌}
-use Rattle.std.specs.Option.{option_map_or, option_eq, ok_or}
-use Rattle.std.specs.List.{concat, AllByRecursion}
-use Rattle.std.specs.Cmp.Lexicographic.{nat_list_cmp_total, bytes_decides}
+use Rattle.std.specs.Prelude.{◌==◌, ◌&&◌, ◌||◌, ◌^◌, nat_lt, nat_le, if◌then◌else◌}
+use Rattle.std.specs.Option.{option_map_or, ok_or}
+use Rattle.std.specs.List.{AllByRecursion}
+use Rattle.std.specs.Cmp.Lexicographic.{nat_list_cmp_total}
 use Rattle.std.specs.FinMap.{FinMap, get, insert, contains_key}
-use Rattle.std.proofs.lemmas.Bool.{false≢true, eqb-true}
+use Rattle.std.proofs.lemmas.Bool.{false≢true}
 use Rattle.std.proofs.lemmas.List.{length-set}
 use Rattle.std.proofs.lemmas.Map.Lookups.{exact_bytes}
 use Rattle.blob_digest.specs.declared.range.ByteRange.{ByteRange}
 use Rattle.blob_digest.specs.declared.refusal.Refusal.{Refusal}
-use Rattle.blob_digest.specs.declared.refusal.Refusal.TheVariants.{NameUnknown, UploadUnknown, DigestInvalid, SizeInvalid, BlobUnknown, ManifestInvalid, ManifestUnknown, ManifestBlobUnknown, Quota, StoreFull, LimitReached}
+use Rattle.blob_digest.specs.declared.refusal.Refusal.TheVariants.{NameUnknown, DigestInvalid, SizeInvalid, BlobUnknown, ManifestInvalid, ManifestUnknown, ManifestBlobUnknown, Quota, StoreFull, LimitReached}
 use Rattle.blob_digest.specs.Digests.{sha256_text, is_digest_of}
 use Rattle.oci_manifest.specs.Manifests.{refs_of}
 use Rattle.store_book.specs.Catalog.{Text, Number, Session, Resident, Catalog, number_cmp, same_text, tenant_of, is_of, holds, next_of, received}
@@ -22,9 +22,11 @@ use Rattle.store_book.specs.declared.mount.Mount.TheVariants as mounting
 use Rattle.store_book.specs.Runs as runs
 use Rattle.store_book.specs.Runs.{Command, Answer, answered, told, outcome, repo_of}
 use Rattle.store_book.specs.Isolation.{unhoused, outcome_alone, whole_of, named, brought_by}
-use Rattle.blob_digest.proofs.KeyOrders.{number_cmp_total, exact_number, link_cmp_total, exact_link}
+use Rattle.blob_digest.proofs.KeyOrders.{number_cmp_total, exact_number, link_cmp_total, exact_link, same_itself}
+use Rattle.link_table.proofs.Soundness.{option_eq_some}
+use Rattle.store_book.proofs.Outcomes.{bound_ok}
 use Rattle.store_book.proofs.Agreement.{AgreeOn, agree_insert, agree_remove}
-use Rattle.store_book.proofs.Alike.{Alike, Consistent, of_same, holds_same, own_holds_same, tenant_holds_same, room_same, open_same, session_found, session_same, check_same, quota_same, manifests_same, referrer_same, used_same}
+use Rattle.store_book.proofs.Alike.{Alike, Consistent, of_same, holds_same, own_holds_same, tenant_holds_same, room_same, open_same, session_found, session_same, check_same, whole_same, quota_same, manifests_same, referrer_same, used_same}
 
 -- The outcomes among others and alone: the same answer and catalogs that are alike, or the same refusal. Only among others the store can be full.
 abbrev pub Matches : {A : Type 0} → ℕ → Outcome A → Outcome A → Type 0
@@ -68,12 +70,8 @@ started_match t (Err e) (Err d) m = m
 
 -- ---- the tenant is there
 
-some_of : (o : Option ℕ) (t : ℕ) → option_eq nat_eq o (Some t) ≡ true → o ≡ Some t
-some_of None t h = absurd (false≢true h)
-some_of (Some u) t h = ap Some (eqb-true u t h)
-
 pub is_tenant : (C : Catalog) (t : ℕ) (r : Text) → is_of C t r ≡ true → tenant_of C.tenants r ≡ Some t
-is_tenant C t r own = some_of (tenant_of C.tenants r) t own
+is_tenant C t r own = option_eq_some (tenant_of C.tenants r) t own
 
 pub known : (C : Catalog) (t : ℕ) (r : Text) → is_of C t r ≡ true → tenant C r ≡ Ok t
 known C t r own = ap (λ o. ok_or o NameUnknown) (is_tenant C t r own)
@@ -98,26 +96,17 @@ agree_append p m n k b agree found =
     at None = agree
     at (Some s) = agree_insert number_cmp_total exact_number p m n k (longer b s) agree
 
-itself : (xs : Text) → same_text xs xs ≡ true
-itself xs = (bytes_decides xs xs).1 refl
-
 -- ---- what a close brings
 
-whole_found : (f : Session → Result ℕ Refusal) (o : Option Session) (after : ℕ) (r last : Text) → (session_in o r >>= f) ≡ Ok after →
-    (session_in o r >>= λ s. Ok (concat s.chunks ++ last)) ≡ Ok (option_map_or (λ s. concat s.chunks ++ last) o last)
-whole_found f None after r last h = absurd cc
-whole_found f (Some s) after r last h =
-    elim (same_text s.repo r) as (λ b. ((if b then Ok s else Err UploadUnknown) >>= f) ≡ Ok after → ((if b then Ok s else Err UploadUnknown) >>= λ s. Ok (concat s.chunks ++ last)) ≡ Ok (concat s.chunks ++ last)) [
-      | true ↦ λ _. refl
-      | false ↦ λ h. absurd cc
-    ] h
+whole_found : (f : Session → Result ℕ Refusal) (x : Result Session Refusal) (after : ℕ) (w : Text) → (x >>= f) ≡ Ok after → (x >>= λ _. Ok w) ≡ Ok w
+whole_found f x after w h = let a = bound_ok x f after h in ap (λ x. x >>= λ _. Ok w) a.1
 
 -- what a close that passed its check brings is the whole that is compared
 pub fits_whole : (content : Text → Text) (C : Catalog) (t : ℕ) (r d last : Text) (n len after : ℕ) (g : Option ByteRange) → tenant C r ≡ Ok t → Steps.check C t r n g len ≡ Ok after →
     Fits content (named d (whole_of C r n last)) → is_digest_of d (whole_in C.sessions (t, n) last) ≡ true → content d ≡ whole_in C.sessions (t, n) last
 fits_whole content C t r d last n len after g there checked fits is =
     let brings : whole_of C r n last ≡ Ok (whole_in C.sessions (t, n) last) =
-    ap (λ x. x >>= λ t. Steps.session C t r n >>= λ s. Ok (concat s.chunks ++ last)) there ∙ whole_found _ (get C.sessions (t, n)) after r last checked in
+    ap (λ x. x >>= λ t. Steps.session C t r n >>= λ _. Ok (whole_in C.sessions (t, n) last)) there ∙ whole_found _ (Steps.session C t r n) after (whole_in C.sessions (t, n) last) checked in
     (subst (λ b. Fits content (if b then (d, whole_in C.sessions (t, n) last) ∷ [] else [])) is (subst (λ x. Fits content (named d x)) brings fits)).0
 
 -- where it fits, what is kept under the digest is the same
@@ -126,7 +115,7 @@ names_alone content C d w consistent fits = by (is_digest_of d w) refl
   where
     kept : (o : Option Resident) → get C.residents d ≡ o → content d ≡ w → same_bytes o w ≡ true
     kept None found is = refl
-    kept (Some x) found is = subst (λ y. same_text x.bytes y ≡ true) (consistent.bytes d x found ∙ is) (itself x.bytes)
+    kept (Some x) found is = subst (λ y. same_text x.bytes y ≡ true) (consistent.bytes d x found ∙ is) (same_itself x.bytes)
 
     by : (b : Bool) → is_digest_of d w ≡ b → (b && same_bytes (get C.residents d) w) ≡ b
     by false is = refl
@@ -331,9 +320,6 @@ module _ (content : Text → Text) (t : ℕ) (C D : Catalog) (alike : Alike t C 
       by false true held same = absurd (false≢true (sym same))
       by false false held same = refl
 
-  whole_same : (n : ℕ) (last : Text) → whole_in C.sessions (t, n) last ≡ whole_in D.sessions (t, n) last
-  whole_same n last = ap (λ o. option_map_or (λ s. concat s.chunks ++ last) o last) (session_found t C D alike n)
-
   pub own_close : (n : ℕ) (d : Text) (g : Option ByteRange) (b : Text) → Fits content (named d (whole_of C r n b)) →
       Matches t (Steps.close C r n d g b) (Steps.close_by unhoused D r n d g b)
   own_close n d g b fits = with_tenant _ _ (
@@ -343,15 +329,15 @@ module _ (content : Text → Text) (t : ℕ) (C D : Catalog) (alike : Alike t C 
       same_check t (refuse (not (names C d (whole_in C.sessions (t, n) b))) DigestInvalid) (refuse (not (names D d (whole_in D.sessions (t, n) b))) DigestInvalid)
       (ap (λ x. refuse (not x) DigestInvalid) (
       names_alone content C d (whole_in C.sessions (t, n) b) consistent_C here
-      ∙ ap (is_digest_of d) (whole_same n b)
-      ∙ sym (names_alone content D d (whole_in D.sessions (t, n) b) consistent_D (λ is. here (ap (is_digest_of d) (whole_same n b) ∙ is) ∙ whole_same n b)))) _ _ (λ _ _.
+      ∙ ap (is_digest_of d) (whole_same t C D alike n b)
+      ∙ sym (names_alone content D d (whole_in D.sessions (t, n) b) consistent_D (λ is. here (ap (is_digest_of d) (whole_same t C D alike n b) ∙ is) ∙ whole_same t C D alike n b)))) _ _ (λ _ _.
       full (is_full_for C d)))))
     where
       full : (x : Bool) → Matches t (refuse x StoreFull >>= λ _. Ok (length (whole_in C.sessions (t, n) b), stored C t r n d (whole_in C.sessions (t, n) b)))
           (Ok (length (whole_in D.sessions (t, n) b), stored D t r n d (whole_in D.sessions (t, n) b)))
       full true = refl
       full false = (
-        ap length (whole_same n b),
+        ap length (whole_same t C D alike n b),
         record {
           tenants = alike.tenants;
           max_blob = alike.max_blob;

@@ -1,5 +1,5 @@
 -- A manifest that refers to a digest keeps the digest's link: a delete is refused, and names the least such manifest.
-use Rattle.std.proofs.Common.{T, ◌≡◌, ◌≢◌, Bool, true, false, cond, not, List, [], ◌∷◌, Option, Some, None, Ok, refl, sym, ap, ◌∙◌, subst}
+use Rattle.std.proofs.Common.{◌≡◌, ◌≢◌, Bool, true, false, cond, not, List, [], ◌∷◌, Option, Some, None, Ok, refl, sym, ap, ◌∙◌, subst}
 use Rattle.std.specs.Prelude.{◌&&◌, ◌||◌}
 use Rattle.std.specs.Option.{option_map, option_map_or, ok_or}
 use Rattle.std.specs.declared.cmp.Ordering.{Ordering}
@@ -19,11 +19,8 @@ use Rattle.blob_digest.proofs.OptionLemmas.{some_same, some_value}
 use Rattle.store_book.specs.Catalog.{Text, Link, Catalog, text_cmp, link_cmp, same_text, tenant_of, holds}
 use Rattle.store_book.specs.Steps.{◌>>=◌, linked, unreferenced, refers, referrer, refuse}
 use Rattle.store_book.specs.Laws.{RefersTo, IsLeastReferrer, ReferencedStays}
+use Rattle.store_book.proofs.MapLemmas.{is_true}
 use Rattle.store_book.proofs.LawUnlink.{unreferred}
-
-is_true : {b : Bool} → T b → b ≡ true
-is_true {b = true} p = refl
-is_true {b = false} p = absurd p
 
 -- ---- the first entry that passes a test, in the order of the keys
 
@@ -134,11 +131,10 @@ referenced_stays C lawful repo digest name r =
     let k = lawful.manifests (repo, name) r.0 r.1 in
     let first = found_one C repo digest (find (is_referrer C repo digest) (entries C.manifests)) refl (none_found C repo digest name r) in
     let t = some_value (tenant_of C.tenants repo) (lawful.tenants repo k.repo) in
-    let held : holds C repo digest ≡ true = holds_referred C repo digest k.refs.0 k.refs.2 (sym (ap (λ x. option_map_or (list_any (same_text digest)) x false) k.refs.1) ∙ r.2) in
-    (
+    let held : holds C repo digest ≡ true = holds_referred C repo digest k.refs.0 k.refs.2 (sym (ap (λ x. option_map_or (list_any (same_text digest)) x false) k.refs.1) ∙ r.2) in (
       first.0.0.1,
       least_of C repo digest first.0 first.1,
       ap (λ o. ok_or o NameUnknown >>= λ _. linked C repo digest >>= λ _. unreferenced (referrer C repo digest) >>= λ _. Ok (tt, record C { links = set.remove C.links (repo, digest) })) t.1
-      ∙ ap (λ b. refuse (not b) BlobUnknown >>= λ _. unreferenced (referrer C repo digest) >>= λ _. Ok (tt, record C { links = set.remove C.links (repo, digest) })) held
-      ∙ ap (λ o. unreferenced (option_map (λ e. e.0.1) o) >>= λ _. Ok (tt, record C { links = set.remove C.links (repo, digest) })) first.1,
+          ∙ ap (λ b. refuse (not b) BlobUnknown >>= λ _. unreferenced (referrer C repo digest) >>= λ _. Ok (tt, record C { links = set.remove C.links (repo, digest) })) held
+          ∙ ap (λ o. unreferenced (option_map (λ e. e.0.1) o) >>= λ _. Ok (tt, record C { links = set.remove C.links (repo, digest) })) first.1,
     )

@@ -3,23 +3,25 @@ use Rattle.std.proofs.Common.{◌≡◌, ℕ, ◌+◌, Bool, true, false, cond, 
 use Rattle.std.specs.Prelude.{◌==◌, ◌&&◌, ◌||◌, if◌then◌else◌}
 use Rattle.std.specs.Option.{option_map, option_map_or}
 use Rattle.std.specs.Ordering.{eq_by_cmp, is_eq}
-use Rattle.std.specs.Cmp.{IsTotalOrder, Equal-is, tied_itself}
+use Rattle.std.specs.Cmp.{IsTotalOrder, tied_itself}
 use Rattle.std.specs.declared.cmp.Ordering.{Ordering}
 use Rattle.std.specs.List.{AllByRecursion, filter, flat_map, enumerate_from, list_any, count_by, sum_by}
 use Rattle.std.specs.Cmp.Lexicographic.{nat_list_cmp_total}
 use Rattle.std.specs.FinMap.{get, entries, same_map, contains_key-keys}
 use Rattle.std.specs.FinMap.Entries.{find as find_key}
-use Rattle.std.proofs.lemmas.Bool.{false≢true, eq-eqb, and_from}
+use Rattle.std.proofs.lemmas.Bool.{false≢true, eq-eqb}
 use Rattle.std.proofs.lemmas.Map.Lookups.{exact_bytes}
 use Rattle.blob_digest.specs.Sets as kept_set
-use Rattle.store_book.specs.Catalog.{Text, Tenant, Link, Resident, Catalog, text_cmp, link_cmp, same_text, tenant_of, is_of, holds, tenant_holds, size, count, used, opening}
+use Rattle.store_book.specs.Catalog.{Text, Tenant, Link, Resident, Catalog, text_cmp, link_cmp, same_text, tenant_of, is_of, tenant_holds, size, count, used, opening}
 use Rattle.store_book.specs.Runs.{Event, Called, Cleaned, repo_of}
 use Rattle.store_book.specs.Isolation.{events_of, commands, blobs_of, left_alone, IsUncrowded, TextsAreTheSame}
 use Rattle.store_book.specs.Catalog.{is_tenants}
 use Rattle.store_book.specs.Printed.{blob_line, book_line, end_line, repository_line, tenant_line, blob_text, manifest_text, session_text, repo_text, tenant_text, book_text}
 use Rattle.blob_digest.proofs.KeyOrders.{number_cmp_total, exact_number, link_cmp_total, exact_link}
-use Rattle.blob_digest.proofs.MapSums.{list_any_weaker}
 use Rattle.store_book.proofs.MapLemmas.{all_weaker, flat_map-same, all_same}
+use Rattle.blob_digest.proofs.OptionLemmas.{not_some}
+use Rattle.store_book.proofs.LawAppear.{is_own}
+use Rattle.store_book.proofs.LawLink.{is_held}
 use Rattle.store_book.proofs.Alike.{Alike, Consistent, of_same, find-blobs, used-blobs, tenant_holds_same, in_sessions_same}
 use Rattle.store_book.proofs.Others.{alike_through}
 use Rattle.store_book.proofs.Isolated.{content_of, pairs_of, followed, isolated}
@@ -64,8 +66,7 @@ alike_back t C D a = record {
 
 module _ (b c : Text → Text) (C D : Catalog) (consistent_C : Consistent b C) (consistent_D : Consistent c D) (alike : (t : ℕ) → Alike t C D) (blobs : (t : ℕ) → blobs_of C t ≡ blobs_of D t) where
   none_of : {X : Type 0} (o : Option X) → (is_some o ≡ true → ⊥) → o ≡ None
-  none_of None h = refl
-  none_of (Some x) h = absurd (h refl)
+  none_of o h = not_some o (λ x e. h (ap is_some e))
 
   absent : (r : Text) → tenant_of C.tenants r ≡ None → kept_set.contains C.repos r ≡ true → ⊥
   absent r none there = false≢true (ap is_some (sym none) ∙ consistent_C.repos r there)
@@ -73,33 +74,26 @@ module _ (b c : Text → Text) (C D : Catalog) (consistent_C : Consistent b C) (
   absent_D : (r : Text) → tenant_of C.tenants r ≡ None → kept_set.contains D.repos r ≡ true → ⊥
   absent_D r none there = false≢true (ap is_some (sym none ∙ ap (λ ts. tenant_of ts r) (alike 0).tenants) ∙ consistent_D.repos r there)
 
-  own : (t : ℕ) (r : Text) → tenant_of C.tenants r ≡ Some t → is_of C t r ≡ true
-  own t r known = rw known (eq-eqb t t refl)
-
   same_repos : C.repos ≡ D.repos
   same_repos = same_map nat_list_cmp_total exact_bytes C.repos D.repos (λ r. at r (tenant_of C.tenants r) refl)
     where
       at : (r : Text) (o : Option ℕ) → tenant_of C.tenants r ≡ o → get C.repos r ≡ get D.repos r
       at r None none = none_of (get C.repos r) (absent r none) ∙ sym (none_of (get D.repos r) (absent_D r none))
-      at r (Some t) known = (alike t).repos r (own t r known)
+      at r (Some t) known = (alike t).repos r (is_own C t r known)
 
   same_links : C.links ≡ D.links
   same_links = same_map link_cmp_total exact_link C.links D.links (λ l. at l (tenant_of C.tenants l.0) refl)
     where
       at : (l : Link) (o : Option ℕ) → tenant_of C.tenants l.0 ≡ o → get C.links l ≡ get D.links l
       at l None none = none_of (get C.links l) (λ h. absent l.0 none (consistent_C.links l h)) ∙ sym (none_of (get D.links l) (λ h. absent_D l.0 none (consistent_D.links l h)))
-      at l (Some t) known = (alike t).links l (own t l.0 known)
-
-  no_manifest : (o : Option Text) → ((x : Text) → o ≡ Some x → ⊥) → o ≡ None
-  no_manifest None h = refl
-  no_manifest (Some x) h = absurd (h x refl)
+      at l (Some t) known = (alike t).links l (is_own C t l.0 known)
 
   same_manifests : C.manifests ≡ D.manifests
   same_manifests = same_map link_cmp_total exact_link C.manifests D.manifests (λ l. at l (tenant_of C.tenants l.0) refl)
     where
       at : (l : Link) (o : Option ℕ) → tenant_of C.tenants l.0 ≡ o → get C.manifests l ≡ get D.manifests l
-      at l None none = no_manifest (get C.manifests l) (λ x h. absent l.0 none (consistent_C.manifests l x h)) ∙ sym (no_manifest (get D.manifests l) (λ x h. absent_D l.0 none (consistent_D.manifests l x h)))
-      at l (Some t) known = (alike t).manifests l (own t l.0 known)
+      at l None none = not_some (get C.manifests l) (λ x h. absent l.0 none (consistent_C.manifests l x h)) ∙ sym (not_some (get D.manifests l) (λ x h. absent_D l.0 none (consistent_D.manifests l x h)))
+      at l (Some t) known = (alike t).manifests l (is_own C t l.0 known)
 
   same_sessions : C.sessions ≡ D.sessions
   same_sessions = same_map number_cmp_total exact_number C.sessions D.sessions (λ n. (alike n.0).sessions n (eq-eqb n.0 n.0 refl))
@@ -111,12 +105,6 @@ module _ (b c : Text → Text) (C D : Catalog) (consistent_C : Consistent b C) (
   same_count d = λ i. count_by (λ r. kept_set.contains (same_links i) (r, d)) (kept_set.items (same_repos i))
 
   -- ---- the size of a linked blob
-
-  held : (t : ℕ) (l : Link) → tenant_of C.tenants l.0 ≡ Some t → kept_set.contains C.links l ≡ true → tenant_holds C t l.1 ≡ true
-  held t l known there =
-      list_any_weaker (eq_by_cmp text_cmp l.0) (λ q. is_of C t q && holds C q l.1)
-      (λ q tie. subst (λ (x : Text). (is_of C t x && holds C x l.1) ≡ true) (exact_bytes l.0 q ((Equal-is (text_cmp l.0 q)).0 tie)) (and_from (is_of C t l.0) (holds C l.0 l.1) (own t l.0 known) there))
-      (kept_set.items C.repos) (sym (contains_key-keys C.repos l.0) ∙ consistent_C.links l there)
 
   bytes_same : (t : ℕ) (d : Text) → tenant_holds C t d ≡ true → option_map (λ b. b.bytes) (get C.residents d) ≡ option_map (λ b. b.bytes) (get D.residents d)
   bytes_same t d h =
@@ -133,7 +121,7 @@ module _ (b c : Text → Text) (C D : Catalog) (consistent_C : Consistent b C) (
     where
       at : (o : Option ℕ) → tenant_of C.tenants l.0 ≡ o → size C l.1 ≡ size D l.1
       at None none = absurd (absent l.0 none (consistent_C.links l there))
-      at (Some t) known = size_of (get C.residents l.1) ∙ ap (λ o. option_map_or length o 0) (bytes_same t l.1 (held t l known there)) ∙ sym (size_of (get D.residents l.1))
+      at (Some t) known = size_of (get C.residents l.1) ∙ ap (λ o. option_map_or length o 0) (bytes_same t l.1 (is_held C t l.0 l.1 (consistent_C.links l there) (is_own C t l.0 known) there)) ∙ sym (size_of (get D.residents l.1))
 
   -- ---- the text
 

@@ -1,13 +1,13 @@
 -- Tenants don't see each other. What a tenant is told, and what it has at the end, are what its own commands alone would give.
 use Rattle.std.specs.Prelude.{◌≡◌, ◌≢◌, ℕ, ◌==◌, false, Result, Ok, Err, List, [], ◌∷◌, ◌++◌, map, filter, if◌then◌else◌}
-use Rattle.std.specs.List.{AllByRecursion, Contains, concat}
+use Rattle.std.specs.List.{AllByRecursion, Contains}
 use Rattle.std.specs.FinMap as fmap
 use Rattle.blob_digest.specs.declared.refusal.Refusal.{Refusal}
 use Rattle.blob_digest.specs.declared.refusal.Refusal.TheVariants.{Memory, TooManyReaders, StoreFull}
 use Rattle.blob_digest.specs.Digests.{is_digest_of}
 use Rattle.blob_digest.specs.Sets as set
 use Rattle.store_book.specs.Catalog.{Text, Tenant, Session, Catalog, text_cmp, link_cmp, number_cmp, is_tenants, is_of, tenant_holds, next_of, opening}
-use Rattle.store_book.specs.Steps.{◌>>=◌, Outcome, tenant, session, close_by}
+use Rattle.store_book.specs.Steps.{◌>>=◌, Outcome, tenant, session, whole_in, close_by}
 use Rattle.store_book.specs.Runs.{Command, Close, Answer, Number, repo_of, outcome, answered, Event, Called, Cleaned, IsRun}
 use Rattle.store_book.specs.Printed.{book_text}
 
@@ -93,8 +93,8 @@ IsUncrowded (Cleaned swept) = Unit {0}
 abbrev pub whole_of : Catalog → Text → ℕ → Text → Result Text Refusal
 whole_of C repo number last = do
   t ← tenant C repo
-  s ← session C t repo number
-  Ok (concat s.chunks ++ last)
+  _ ← session C t repo number
+  Ok (whole_in C.sessions (t, number) last)
 
 abbrev pub named : Text → Result Text Refusal → List (Text × Text)
 named digest (Ok whole) = if is_digest_of digest whole then (digest, whole) ∷ [] else []
