@@ -60,3 +60,4 @@ pub mod WorkedExamples
 pub mod WorkedManifests
 pub mod WorkedLimits
 pub mod WorkedSweeps
+pub mod WorkedRuns
