@@ -1,5 +1,5 @@
 -- What the contracts of the calls say is a case of a step, and each list of commands and sweeps has a run: so the laws of runs speak of something.
-use Rattle.std.proofs.Common.{◌≡◌, ◌≢◌, Bool, true, false, List, [], ◌∷◌, Option, Some, None, Result, Ok, Err, refl, ap, ◌∙◌, inl, inr}
+use Rattle.std.proofs.Common.{◌≡◌, ◌≢◌, Bool, true, false, List, [], ◌∷◌, Option, Some, None, Result, Ok, Err, refl, sym, ap, ◌∙◌, inl, inr}
 use Rattle.std.specs.Prelude.{◌⊎◌}
 use Rattle.blob_digest.specs.declared.refusal.Refusal.{Refusal}
 use Rattle.blob_digest.specs.declared.refusal.Refusal.TheVariants.{Memory}
@@ -7,6 +7,12 @@ use Rattle.blob_digest.specs.Outcomes.{Does, DoesExactly, Answers}
 use Rattle.store_book.specs.Catalog.{Catalog}
 use Rattle.store_book.specs.Steps.{Outcome}
 use Rattle.store_book.specs.Runs.{Command, Answer, answered, told, outcome, takes_memory, IsCase, Event, Called, Cleaned, IsRun}
+use Rattle.blob_digest.specs.declared.refusal.Refusal.TheVariants.{TooManyReaders}
+use Rattle.store_book.specs.Catalog.{Text}
+use Rattle.store_book.specs.Steps.{tenant, refuse, linked_blob, lease}
+use Rattle.store_book.specs.Runs.{Lease, Bytes}
+use Rattle.store_book.specs.SlotSteps.{SlotSeen, Leases}
+use Rattle.store_book.proofs.Outcomes.{bound_ok, not_refused}
 use Rattle.store_book.proofs.SomeSweep.{swept, after, some_sweep}
 
 is_memory : (e : Refusal) → (e ≡ Memory) ⊎ (e ≢ Memory)
@@ -41,6 +47,30 @@ module _ {A B : Type 0} (C C' : Catalog) (command : Command) (view : A → B) (f
       by : (e ≡ Memory) ⊎ (e ≢ Memory) → ((crowded : Bool) × (outcome crowded C command ≡ Err e)) ⊎ ((e ≡ Memory) × (takes_memory command ≡ true))
       by (inl m) = inr (m, takes)
       by (inr n) = inl (false, is ∙ ap (told f C) (does n))
+
+-- one that tells exactly what is read
+pub told_case : {B : Type 0} (C : Catalog) (command : Command) (f : B → Answer) (o : Result B Refusal) → outcome false C command ≡ told f C o → IsCase C command (shown f o) C
+told_case C command f (Ok b) is = is
+told_case C command f (Err e) is = (inl (false, is), refl)
+
+-- ---- leases
+
+module _ (C : Catalog) (repo digest : Text) where
+  -- a lease that is given found no crowd
+  given_alone : (crowded : Bool) (x : Text × Catalog) → lease crowded C repo digest ≡ Ok x → lease false C repo digest ≡ Ok x
+  given_alone crowded x h =
+      let a = bound_ok (tenant C repo) _ x h in
+      let b = bound_ok (linked_blob C repo digest) _ x a.2 in
+      let c = bound_ok (refuse crowded TooManyReaders) _ x b.2 in
+      ap (λ (q : Bool). lease q C repo digest) (sym (not_refused _ _ _ c.1)) ∙ h
+
+  pub lease_case : {A : Type 0} (C' : Catalog) (view : A → Text) (result : Result A Refusal) (new : List SlotSeen) → Leases view result C C' new repo digest → IsCase C (Lease repo digest) (shown (λ a. Bytes (view a)) result) C'
+  lease_case C' view (Ok a) new does = ap (answered Bytes) (given_alone does.crowded (view a, C') does.does)
+  lease_case C' view (Err e) new does = (by (is_memory e), does.does.1)
+    where
+      by : (e ≡ Memory) ⊎ (e ≢ Memory) → ((crowded : Bool) × (outcome crowded C (Lease repo digest) ≡ Err e)) ⊎ ((e ≡ Memory) × (true ≡ true))
+      by (inl m) = inr (m, refl)
+      by (inr n) = inl (does.crowded, ap (answered Bytes) (does.does.0 n))
 
 -- ---- a run of what is wanted: a command each, or a sweep
 

@@ -262,4 +262,6 @@ fn a_session_is_asked_for_and_given_up(rt: HostRuntime) {
 #[test]
 fn the_laws_hold(_rt: HostRuntime) {
     crate::laws::counts_and_uses();
+    crate::laws::soundness();
+    crate::laws::isolation();
 }
