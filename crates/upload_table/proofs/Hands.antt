@@ -13,7 +13,7 @@ use Rattle.blob_digest.specs.declared.refusal.Refusal.{Refusal}
 use Rattle.blob_digest.specs.declared.refusal.Refusal.TheVariants.{DigestInvalid, UploadUnknown}
 use Rattle.blob_digest.specs.Digests.{is_digest_of}
 use Rattle.blob_digest.proofs.RowLemmas.{is_some-position}
-use Rattle.upload_table.specs.Sessions.{Chunks, Session, Sessions, Taken, are_taken, at_home, chunks_in, chunks_of, given_up, hand_in, is_home, put_back_in, take_in, taken_session, whole_of, with_chunks}
+use Rattle.upload_table.specs.Sessions.{Chunks, Session, Sessions, Taken, are_taken, at_home, brought_home, chunks_in, chunks_of, given_up, hand_in, is_home, put_back_in, take_in, taken_session, whole_of, with_chunks}
 use Rattle.upload_table.specs.Sessions as shown
 use Rattle.upload_table.specs.Uploaded.{Rest, Uploaded, CanReopen, BeginsWith, cut, finish_upload, put_back_upload, reopened, repo_at, with_sessions}
 use Rattle.upload_table.specs.Rows.{chunks_shown, content_charge, content_received, entry_of, is_at_home, is_out, key_of, session_of, shown_by, AreWhole, IsCounted, IsSound, IsWhole}
@@ -173,7 +173,7 @@ module _ (next totals : List ℕ) (rows : List Upload) (sound : IsSound next tot
 
     -- the session is at home with its old chunks
     pub given : given_up (map_of rows) h ≡ with_chunks (map_of rows) h.key (session_of u) (shown.Home h.chunks)
-    given = ap (λ (o : Result Session Refusal). elim o [ Ok s ↦ with_chunks (map_of rows) h.key s (shown.Home h.chunks) | Err e ↦ map_of rows ]) known
+    given = ap (brought_home (map_of rows) h) known
 
     -- its chunks can be put back from bytes that begin with them
     pub can-reopen : (r : Rest) (bytes : List ℕ) → r.key ≡ h.key → cut r.lens bytes ≡ h.chunks → BeginsWith r bytes → CanReopen (shown_by next rows) r bytes
@@ -207,7 +207,7 @@ pub finish_unknown : (u : Uploaded) (h : Taken) (digest : Text) → taken_sessio
 finish_unknown u h digest unknown = rw unknown refl
 
 pub given_up_unknown : (u : Uploaded) (h : Taken) → taken_session (get u.sessions h.key) h ≡ Err UploadUnknown → with_sessions u (given_up u.sessions h) ≡ u
-given_up_unknown u h unknown = ap (λ (o : Result Session Refusal). with_sessions u (elim o [ Ok s ↦ with_chunks u.sessions h.key s (shown.Home h.chunks) | Err e ↦ u.sessions ])) unknown
+given_up_unknown u h unknown = ap (λ o. with_sessions u (brought_home u.sessions h o)) unknown
 
 -- ---- opening a hand again
 

@@ -176,10 +176,14 @@ pub record Taken : Type 0 where
 abbrev pub coded_taken : Coded Taken
 coded_taken = code_by ((Number × List Text) × (ℕ × Option Text)) (coded× (coded× (coded× coded_ℕ coded_ℕ) (coded_list coded_text)) (coded× coded_ℕ (coded_option coded_text))) (λ h. ((h.key, h.chunks), (h.reserved, h.last))) (λ p. record { key = p.0.0; chunks = p.0.1; reserved = p.1.0; last = p.1.1 }) (λ _. refl)
 
--- whether there is a session at home
+-- whether chunks are at home, and whether there is a session whose chunks are
+abbrev pub are_home : Chunks → Bool
+are_home (Home chunks) = true
+are_home (InHand received reserved) = false
+
 abbrev pub is_home : Option Session → Bool
 is_home None = false
-is_home (Some s) = elim s.chunks [ Home chunks ↦ true | InHand received reserved ↦ false ]
+is_home (Some s) = are_home s.chunks
 
 -- the hand of a session from which n bytes are reserved
 abbrev pub hand_in : Sessions → Number → ℕ → Taken
@@ -213,6 +217,11 @@ put_back_in sessions h = do
   s ← taken_session (fmap.get sessions h.key) h
   Ok (sum_by length (chunks_of h), with_chunks sessions h.key s (Home (chunks_of h)))
 
--- the sessions after a hand was given up: its session, if any, is at home with the chunks that it had before
+-- a hand's session, where it was found, is at home with the chunks that it had before
+abbrev pub brought_home : Sessions → Taken → Result Session Refusal → Sessions
+brought_home sessions h (Ok s) = with_chunks sessions h.key s (Home h.chunks)
+brought_home sessions h (Err e) = sessions
+
+-- the sessions after a hand was given up
 abbrev pub given_up : Sessions → Taken → Sessions
-given_up sessions h = elim (taken_session (fmap.get sessions h.key) h) [ Ok s ↦ with_chunks sessions h.key s (Home h.chunks) | Err e ↦ sessions ]
+given_up sessions h = brought_home sessions h (taken_session (fmap.get sessions h.key) h)

@@ -95,17 +95,18 @@ impl Hand {
         self.number
     }
 
-    /// How many bytes the session had received when it was taken. None of its chunks is empty.
+    /// How many bytes the session had received when it was taken.
     pub fn received(&self) -> u64
-        ensures value { result ≡ sum_by length self.now.chunks }
-        ensures pieces { AllByRecursion (λ c. c ≢ []) self.now.chunks }
+        ensures { result ≡ sum_by length self.now.chunks }
     {
         self.received
     }
 
-    /// How many bytes are reserved for the chunk, which has this length once it is filled in.
+    /// How many bytes are reserved for the chunk, which has this length once it is filled in. None of the
+    /// other chunks is empty.
     pub fn reserved(&self) -> u64
         ensures value { result ≡ self.now.reserved }
+        ensures pieces { AllByRecursion (λ c. c ≢ []) self.now.chunks }
         ensures last { IfSome self.now.last (λ b. length b ≡ self.now.reserved) }
     {
         self.reserved

@@ -20,14 +20,14 @@ put_home-requires-clause-less c =
     let found = rw (c.deref.ensures.value, c.tenant-tenant.ensures, c.number-number.ensures) at c.in-Some.ensures in
     let o = out_row c.self.inside.rows.items c.args.hand.key.0 c.args.hand.key.1 c.in-Some.i c.received-received.result c.reserved-reserved.result found in
     let le = chunks_of-length c.args.hand c.reserved-reserved.ensures.last in
-    fits c.self.inside.next.items c.self.inside.totals.items c.self.inside.rows.items c.self.invariant c.args.hand c.received-received.result c.reserved-reserved.result c.received-received.ensures.value c.reserved-reserved.ensures.value c.in-Some.i o.0 o.1 o.2
+    fits c.self.inside.next.items c.self.inside.totals.items c.self.inside.rows.items c.self.invariant c.args.hand c.received-received.result c.reserved-reserved.result c.received-received.ensures c.reserved-reserved.ensures.value c.in-Some.i o.0 o.1 o.2
     c.into_pieces-pieces.result c.into_pieces-pieces.ensures.whole (omega (arith, le, ap (sum_by length) c.into_pieces-pieces.ensures.chunks))
 
 pub invariant_of-self : goal.invariant_of-self
 invariant_of-self c =
     let found = rw (c.deref.ensures.value, c.tenant-tenant.ensures, c.number-number.ensures) at c.in-Some.ensures in
     let o = out_row c.self.inside.rows.items c.args.hand.key.0 c.args.hand.key.1 c.in-Some.i c.received-received.result c.reserved-reserved.result found in
-    sound-home c.self.inside.next.items c.self.inside.totals.items c.self.inside.rows.items c.self.invariant c.args.hand c.received-received.result c.reserved-reserved.result c.received-received.ensures.value c.reserved-reserved.ensures.value c.in-Some.i o.0 o.1 o.2
+    sound-home c.self.inside.next.items c.self.inside.totals.items c.self.inside.rows.items c.self.invariant c.args.hand c.received-received.result c.reserved-reserved.result c.received-received.ensures c.reserved-reserved.ensures.value c.in-Some.i o.0 o.1 o.2
     c.put_home.new.totals.items c.put_home.new.rows.items c.into_pieces-pieces.result (c.put_home.ensures.rows o.0 o.1) c.into_pieces-pieces.ensures.whole c.put_home.ensures.counted c.put_home.ensures.lengths
 
 pub returns-in-Some : goal.returns-in-Some
@@ -35,8 +35,8 @@ returns-in-Some c =
     let found = rw (c.deref.ensures.value, c.tenant-tenant.ensures, c.number-number.ensures) at c.in-Some.ensures in
     let o = out_row c.self.inside.rows.items c.args.hand.key.0 c.args.hand.key.1 c.in-Some.i c.received-received.result c.reserved-reserved.result found in
     let p = c.into_pieces-pieces.result in
-    let here = known c.self.inside.next.items c.self.inside.totals.items c.self.inside.rows.items c.self.invariant c.args.hand c.received-received.result c.reserved-reserved.result c.received-received.ensures.value c.reserved-reserved.ensures.value c.in-Some.i o.0 o.1 o.2 in
-    let after = shown-home c.self.inside.next.items c.self.inside.totals.items c.self.inside.rows.items c.self.invariant c.args.hand c.received-received.result c.reserved-reserved.result c.received-received.ensures.value c.reserved-reserved.ensures.value c.in-Some.i o.0 o.1 o.2
+    let here = known c.self.inside.next.items c.self.inside.totals.items c.self.inside.rows.items c.self.invariant c.args.hand c.received-received.result c.reserved-reserved.result c.received-received.ensures c.reserved-reserved.ensures.value c.in-Some.i o.0 o.1 o.2 in
+    let after = shown-home c.self.inside.next.items c.self.inside.totals.items c.self.inside.rows.items c.self.invariant c.args.hand c.received-received.result c.reserved-reserved.result c.received-received.ensures c.reserved-reserved.ensures.value c.in-Some.i o.0 o.1 o.2
         c.put_home.new.rows.items p (chunks_of c.args.hand) (c.put_home.ensures.rows o.0 o.1) c.into_pieces-pieces.ensures.chunks in
     let cuts : sum_by length (cut p.lens.items p.bytes.items) ≡ sum p.lens.items = sum_by-cut p.lens.items p.bytes.items (omega (arith, c.into_pieces-pieces.ensures.whole.lengths)) in
     let len = c.put_home.ensures.value ∙ sym c.into_pieces-pieces.ensures.whole.lengths ∙ sym cuts ∙ ap (sum_by length) c.into_pieces-pieces.ensures.chunks in
@@ -45,5 +45,5 @@ returns-in-Some c =
 pub returns-in-None : goal.returns-in-None
 returns-in-None c =
     let none = rw (c.deref.ensures.value, c.tenant-tenant.ensures, c.number-number.ensures) at c.in-None.ensures in
-    let here = unknown c.self.inside.next.items c.self.inside.totals.items c.self.inside.rows.items c.self.invariant c.args.hand c.received-received.result c.reserved-reserved.result c.received-received.ensures.value c.reserved-reserved.ensures.value none in
+    let here = unknown c.self.inside.next.items c.self.inside.totals.items c.self.inside.rows.items c.self.invariant c.args.hand c.received-received.result c.reserved-reserved.result c.received-received.ensures c.reserved-reserved.ensures.value none in
     (rw (← c.self.view_is) (put_back_unknown _ c.args.hand here), refl)
