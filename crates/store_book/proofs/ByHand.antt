@@ -8,6 +8,7 @@ use Rattle.std.proofs.lemmas.Bool.{eq-eqb}
 use Rattle.blob_digest.specs.declared.range.ByteRange.{ByteRange}
 use Rattle.blob_digest.specs.declared.refusal.Refusal.{Refusal}
 use Rattle.blob_digest.specs.declared.refusal.Refusal.TheVariants.{DigestInvalid, NameUnknown, RangeInvalid, SizeInvalid}
+use Rattle.blob_digest.specs.Outcomes.{Does, DoesExactly}
 use Rattle.blob_digest.proofs.KeyOrders.{number_cmp_total, exact_number}
 use Rattle.blob_digest.proofs.RowLemmas.{insert_same}
 use Rattle.upload_table.specs.Sessions.{append_in, at_home, brought_home, chunks_in, chunks_of, given_up, hand_in, has_other_length, length_after, not_busy, put_back_in, session_in, starts_elsewhere, take_in, taken_session, whole_in, whole_of, with_chunk, with_chunks}
@@ -15,7 +16,7 @@ use Rattle.store_book.specs.Catalog.{Text, Number, Chunks, Home, InHand, Session
 use Rattle.store_book.specs.Steps.{◌>>=◌, Outcome, append, check, close, finish, given_back, has_slot, names, put_back, refuse, stored, take, tenant, within_quota}
 use Rattle.store_book.proofs.LawfulHands.{received-with_chunk, took, Checked, TookIn}
 use Rattle.store_book.proofs.MapLemmas.{get-insert_at}
-use Rattle.store_book.proofs.Outcomes.{bound_ok, session_found}
+use Rattle.store_book.proofs.Outcomes.{bound_ok, left_by, session_found}
 
 -- ---- maps
 
@@ -159,3 +160,36 @@ module _ (C C1 : Catalog) (repo : Text) (number : ℕ) (range : Option ByteRange
 
   pub not_filled : (hand.last ≡ None) × (hand.reserved ≡ length b)
   not_filled = (ap (λ (x : Taken). x.last) (sym hand_is), ap (λ (x : Taken). x.reserved) (sym hand_is))
+
+  -- ---- what the calls together did
+
+  pub append_does : (r : Result ℕ Refusal) (D : Catalog) (h' : Taken) → h' ≡ record hand { last = Some b } → DoesExactly (λ (n : ℕ). n) r C1 D (put_back C1 h') → Does (λ (n : ℕ). n) r C D (append C repo number range b)
+  append_does r D h' is = by r
+    where
+      same : put_back C1 h' ≡ append C repo number range b
+      same = ap (put_back C1) is ∙ append_by_hand
+
+      by : (x : Result ℕ Refusal) → DoesExactly (λ (n : ℕ). n) x C1 D (put_back C1 h') → Does (λ (n : ℕ). n) x C D (append C repo number range b)
+      by (Ok n) done = sym same ∙ done
+      by (Err e) done = absurd (clash (sym append_is ∙ sym same ∙ done.0))
+        where
+          clash : {A : Type 0} {x : A} → ◌≡◌ {A = Result A Refusal} (Ok x) (Err e) → ⊥
+          clash h = cc
+
+  pub close_does : (r : Result ℕ Refusal) (D : Catalog) (h' : Taken) (digest : Text) → h' ≡ record hand { last = Some b } → Does (λ (n : ℕ). n) r (given_back C1 h') D (finish C1 h' digest) → Does (λ (n : ℕ). n) r C D (close C repo number digest range b)
+  close_does r D h' digest is done =
+      subst (λ (E : Catalog). Does (λ (n : ℕ). n) r E D (close C repo number digest range b)) (ap (given_back C1) is ∙ refused_by_hand)
+      (subst (λ (o : Outcome ℕ). Does (λ (n : ℕ). n) r (given_back C1 h') D o) (ap (λ x. finish C1 x digest) is ∙ close_by_hand digest) done)
+
+  pub undone : (r : Result ℕ Refusal) (D : Catalog) (h' : Taken) → h' ≡ hand → DoesExactly (λ (n : ℕ). n) r C1 D (put_back C1 h') → D ≡ C
+  undone r D h' is = by r
+    where
+      same : put_back C1 h' ≡ Ok (received s, C)
+      same = ap (put_back C1) is ∙ back_by_hand
+
+      by : (x : Result ℕ Refusal) → DoesExactly (λ (n : ℕ). n) x C1 D (put_back C1 h') → D ≡ C
+      by (Ok n) done = let p : ◌≡◌ {A = Result (ℕ × Catalog) Refusal} (Ok (n, D)) (Ok (received s, C)) = sym done ∙ same in left_by p
+      by (Err e) done = absurd (clash (sym same ∙ done.0))
+        where
+          clash : {A : Type 0} {x : A} → ◌≡◌ {A = Result A Refusal} (Ok x) (Err e) → ⊥
+          clash h = cc

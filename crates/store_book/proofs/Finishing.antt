@@ -56,7 +56,7 @@ module _ (l : Linked) (u : Uploaded) (slots : List Slot) (max_blob : ℕ) (h : T
     pub finish_other_digest : is_digest_of digest whole ≡ false → finish C h digest ≡ Err DigestInvalid
     finish_other_digest other = rw (here, other) refl
 
-    found : get u.sessions h.key ≡ Some s
+    pub found : get u.sessions h.key ≡ Some s
     found = (session_here l u slots max_blob h book proper s here).0
 
     repo_there : set.contains l.repos s.repo ≡ true
@@ -126,7 +126,7 @@ module _ (l : Linked) (u : Uploaded) (slots : List Slot) (max_blob : ℕ) (h : T
         same_charges : l'.charges ≡ l.charges
         same_charges = ap (λ (x : Linked). x.charges) keeps.links
 
-        same_tenants : length l'.tenants ≡ length l.tenants
+        pub same_tenants : length l'.tenants ≡ length l.tenants
         same_tenants = ap (λ (x : Linked). length x.tenants) keeps.links
 
         pub finish_charged : length whole ≤ slice_index l'.charges h.key.0
@@ -190,7 +190,7 @@ layer_refused u h digest e refused other = by (taken_session (get u.sessions h.k
     by : (x : Result Session Refusal) → taken_session (get u.sessions h.key) h ≡ x → (s : Session) × (taken_session (get u.sessions h.key) h ≡ Ok s) × (is_digest_of digest (whole_of h) ≡ false) × (e ≡ DigestInvalid)
     by (Ok s) here = digests (is_digest_of digest (whole_of h)) refl (rw here at refused)
       where
-        digests : (b : Bool) → is_digest_of digest (whole_of h) ≡ b → (refuse (not (is_digest_of digest (whole_of h))) DigestInvalid >>= λ _. Ok ((digest, whole_of h), u)) ≡ Err e → (s : Session) × (taken_session (get u.sessions h.key) h ≡ Ok s) × (is_digest_of digest (whole_of h) ≡ false) × (e ≡ DigestInvalid)
+        digests : (b : Bool) → is_digest_of digest (whole_of h) ≡ b → ◌>>=◌ {B = (Text × Text) × Uploaded} (refuse (not (is_digest_of digest (whole_of h))) DigestInvalid) (λ _. Ok ((digest, whole_of h), u)) ≡ Err e → (s : Session) × (taken_session (get u.sessions h.key) h ≡ Ok s) × (is_digest_of digest (whole_of h) ≡ false) × (e ≡ DigestInvalid)
         digests true agrees h = absurd (let k = rw agrees at h in cc)
         digests false agrees h = (s, here, agrees, let k = rw agrees at h in cc)
     by (Err d) here = absurd (other (let k : ◌≡◌ {A = Result ((Text × Text) × Uploaded) Refusal} (Err d) (Err e) = rw here at refused in let same : d ≡ e = cc in sym same ∙ unknown (get u.sessions h.key) d here))

@@ -6,7 +6,7 @@ use Rattle.std.specs.FinMap.{get}
 use Rattle.blob_digest.specs.declared.refusal.Refusal.{Refusal}
 use Rattle.slot_table.specs.Slots.{Slot}
 use Rattle.link_table.specs.Linked.{Linked, discharge}
-use Rattle.upload_table.specs.Sessions.{Home, InHand, Session, Taken, charged, chunks_of, given_up, put_back_in, taken_session, with_chunks}
+use Rattle.upload_table.specs.Sessions.{Home, InHand, Session, Sessions, Taken, charged, chunks_of, given_up, put_back_in, taken_session, with_chunks}
 use Rattle.upload_table.specs.Uploaded.{Uploaded, put_back_upload, with_sessions}
 use Rattle.store_book.specs.Catalog.{Text, Catalog, quota_of, used}
 use Rattle.store_book.specs.Steps.{◌>>=◌, given_back, put_back}
@@ -27,7 +27,7 @@ module _ (l : Linked) (u : Uploaded) (slots : List Slot) (max_blob : ℕ) (h : T
   pub put_back_refused : (e : Refusal) → put_back_upload u h ≡ Err e → put_back C h ≡ Err e
   put_back_refused e refused = by (put_back_in u.sessions h) refused
     where
-      by : (x : Result (ℕ × _) Refusal) → (x >>= λ back. Ok (back.0, with_sessions u back.1)) ≡ Err e → (x >>= λ back. Ok (back.0, record C { sessions = back.1 })) ≡ Err e
+      by : (x : Result (ℕ × Sessions) Refusal) → ◌>>=◌ {B = ℕ × Uploaded} x (λ back. Ok (back.0, with_sessions u back.1)) ≡ Err e → ◌>>=◌ {B = ℕ × Catalog} x (λ back. Ok (back.0, record C { sessions = back.1 })) ≡ Err e
       by (Ok back) h = absurd cc
       by (Err d) h = let same : d ≡ e = cc in ap (λ (r : Refusal). Err r) same
 
