@@ -1,6 +1,5 @@
-ghost use Rattle.std.specs.Prelude.{◌≡◌, ◌+◌, ◌<◌, length, Some, nat_lt, IfOk, IfErr, OnOk};
-ghost use Rattle.blob_digest.specs.Outcomes.{Does, DoesExactly, refuse};
-ghost use Rattle.link_table.specs.Linked.{quota_in, used_in};
+ghost use Rattle.std.specs.Prelude.{◌≡◌, Some, IfOk, IfErr, OnOk};
+ghost use Rattle.blob_digest.specs.Outcomes.{Does, DoesExactly};
 ghost use Rattle.link_table.specs.Tenancy.{tenants_shown};
 ghost use Rattle.store_book.specs.Laws.{Sound};
 ghost use Rattle.store_book.specs.Openings.{OpensBook, RefusesBook};
@@ -42,19 +41,6 @@ impl Model for Book {
     ghost view = { λ a. book_state a.links a.uploads a.slots a.max_blob };
 
     ghost invariant = { λ a. IsBook a.links a.uploads a.slots a.max_blob };
-}
-
-/// Whether a tenant may use so many bytes more. Refused is a use past the quota (`Quota`).
-fn check_quota(links: &Links, tenant: u16, n: u64) -> Result<(), Refusal>
-    requires { tenant < length links.now.tenants }
-    ensures { result ≡ refuse (nat_lt (quota_in links.now.tenants tenant) (used_in links.now tenant + n)) (Refusal.Quota (used_in links.now tenant) (quota_in links.now.tenants tenant)) }
-{
-    let used = links.used(tenant);
-    let quota = links.quota(tenant);
-    match used.checked_add(n) {
-        Some(after) if after <= quota => Ok(()),
-        _ => Err(Refusal::Quota { used, quota }),
-    }
 }
 
 /// The largest limit on the size of a blob, in bytes.
@@ -239,11 +225,13 @@ impl Book {
         let reserved = hand.reserved();
         let (blob, sealed) = match self.uploads.finish(hand, digest) {
             Ok(both) => both,
-            Err(Refusal::UploadUnknown) => return Err(Refusal::UploadUnknown),
-            Err(refusal) => {
-                self.links.discharge(tenant, reserved);
-                return Err(refusal);
-            }
+            Err(refusal) => match refusal {
+                Refusal::UploadUnknown => return Err(refusal),
+                _ => {
+                    self.links.discharge(tenant, reserved);
+                    return Err(refusal);
+                }
+            },
         };
         let size = blob.bytes().len() as u64;
         let repo = self.uploads.repo_of(&sealed);

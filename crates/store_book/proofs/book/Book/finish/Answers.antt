@@ -16,15 +16,15 @@ use Rattle.store_book.proofs.book.Book.finish.Goals as goal
 
 pub discharge-requires : goal.discharge-requires
 discharge-requires c =
-    let p = layer_refused c.self.inside.uploads c.args.hand c.args.digest.now c.in-Err.refusal c.in-Err.ensures.does.0 c.in-Err.refusal-is in
+    let p = layer_refused c.self.inside.uploads c.args.hand c.args.digest.now c.in-Err.refusal c.in-Err.ensures.does.0 (λ e. c.in_default.not-UploadUnknown e) in
     rw (c.tenant-tenant.ensures, c.reserved-reserved.ensures.value) (record {
       there = here_tenant c.self.inside.links c.self.inside.uploads c.self.inside.slots c.self.inside.max_blob c.args.hand c.self.invariant (record { pieces = c.reserved-reserved.ensures.pieces; last = c.reserved-reserved.ensures.last }) p.0 p.1;
       charged = reserve_charged c.self.inside.links c.self.inside.uploads c.self.inside.slots c.self.inside.max_blob c.args.hand c.args.digest.now c.self.invariant (record { pieces = c.reserved-reserved.ensures.pieces; last = c.reserved-reserved.ensures.last }) c.requires.full p.0 p.1;
     })
 
-pub invariant_of-self-in-Err : goal.invariant_of-self-in-Err
-invariant_of-self-in-Err c =
-    let p = layer_refused c.self.inside.uploads c.args.hand c.args.digest.now c.in-Err.refusal c.in-Err.ensures.does.0 c.in-Err.refusal-is in
+pub invariant_of-self-in_default : goal.invariant_of-self-in_default
+invariant_of-self-in_default c =
+    let p = layer_refused c.self.inside.uploads c.args.hand c.args.digest.now c.in-Err.refusal c.in-Err.ensures.does.0 (λ e. c.in_default.not-UploadUnknown e) in
     IsBook-given_back c.self.inside.links c.self.inside.uploads c.self.inside.slots c.self.inside.max_blob c.args.hand c.args.digest.now c.self.invariant (record { pieces = c.reserved-reserved.ensures.pieces; last = c.reserved-reserved.ensures.last }) c.requires.full p.0 p.1 c.discharge.new.self c.finish.new.self (rw (c.tenant-tenant.ensures, c.reserved-reserved.ensures.value) at c.discharge.ensures) c.in-Err.ensures.does.1
 
 pub keep-requires : goal.keep-requires
