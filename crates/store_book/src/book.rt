@@ -180,7 +180,7 @@ impl Book {
         range: Option<ByteRange>,
         len: u64,
     ) -> Result<Hand, Refusal>
-        ensures does { Does (λ h. h) result self.old.catalog self.new.catalog (take self.old.catalog repo.now number range len) }
+        ensures does { DoesExactly (λ h. h) result self.old.catalog self.new.catalog (take self.old.catalog repo.now number range len) }
         ensures slots { self.new.slots ≡ self.old.slots }
     {
         let tenant = self.links.tenant(repo)?;
@@ -203,9 +203,9 @@ impl Book {
         let tenant = hand.tenant();
         let reserved = hand.reserved();
         let spare = if hand.filled() { 0 } else { reserved };
-        let received = self.uploads.put_back(hand)?;
+        let after = self.uploads.put_back(hand)?;
         self.links.discharge(tenant, spare);
-        Ok(received)
+        Ok(after)
     }
 
     /// Closes a session in hand, whose last chunk was filled in or is empty: as `close`, of which it is

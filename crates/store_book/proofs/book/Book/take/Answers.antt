@@ -9,7 +9,7 @@ pub returns-in_err-charge-clause-does : goal.returns-in_err-charge-clause-does
 returns-in_err-charge-clause-does c =
     let p = err_from_is_err_and c.from_residual-in_err-charge.result c.from_residual-in_err-charge.ensures.1 in
     rw (p.1, p.2) (
-      (λ other. rw (← c.self.view_is) (take_over c.self.inside.links c.self.inside.uploads c.self.inside.slots c.self.inside.max_blob c.in_ok-tenant.tenant c.self.invariant c.args.number c.in_ok-check.field-0 c.args.len c.args.repo.now c.args.range (sym c.in_ok-tenant.ensures.known) (sym c.in_ok-check.ensures) _ (c.in_err-charge.ensures.0 other))),
+      (rw (← c.self.view_is) (take_over c.self.inside.links c.self.inside.uploads c.self.inside.slots c.self.inside.max_blob c.in_ok-tenant.tenant c.self.invariant c.args.number c.in_ok-check.field-0 c.args.len c.args.repo.now c.args.range (sym c.in_ok-tenant.ensures.known) (sym c.in_ok-check.ensures) _ c.in_err-charge.ensures.0)),
       ap (λ l. book_catalog l c.self.inside.uploads c.self.inside.slots c.self.inside.max_blob) c.in_err-charge.ensures.1 ∙ ap (λ (s : BookState). s.catalog) c.self.view_is,
     )
 
