@@ -65,6 +65,8 @@ pub enum Refusal {
     WeightSpent,
     /// A growth was refused for want of memory.
     Memory,
+    /// The session is in hand: a chunk is on its way to it.
+    Busy,
 }
 
 impl fmt::Display for Refusal {
@@ -89,6 +91,7 @@ impl fmt::Display for Refusal {
             Refusal::LimitReached => f.write_str("LimitReached"),
             Refusal::WeightSpent => f.write_str("WeightSpent"),
             Refusal::Memory => f.write_str("Memory"),
+            Refusal::Busy => f.write_str("Busy"),
         }
     }
 }

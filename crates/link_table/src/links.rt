@@ -2,7 +2,7 @@ ghost use Rattle.std.specs.Prelude.{◌≡◌, ◌+◌, ◌<◌, ◌≤◌, ◌^
 ghost use Rattle.std.specs.Option.{option_copied, option_map};
 ghost use Rattle.std.specs.FinMap as fmap;
 ghost use Rattle.blob_digest.specs.Sets as set;
-ghost use Rattle.blob_digest.specs.Outcomes.{Does};
+ghost use Rattle.blob_digest.specs.Outcomes.{Does, DoesExactly};
 ghost use Rattle.link_table.specs.Linked.{is_tenants, known_tenant, used_in, quota_in, blobs_of, repos_of, blobs_in, link, unlink, charge, discharge, appear, vanish, IsSizeOf, HasNoLinks};
 ghost use Rattle.link_table.specs.Tenancy.{Opens, AreTenants, RefusesTenants, tenants_shown};
 
@@ -129,7 +129,7 @@ impl Links {
     /// Charges a tenant with some bytes, or answers `Quota` where its use and they pass its quota.
     pub fn charge(&mut self, tenant: u16, n: u64) -> Result<(), Refusal>
         requires { tenant < length self.old.tenants }
-        ensures { Does (λ u. u) result self.old self.new (charge self.old tenant n) }
+        ensures { DoesExactly (λ u. u) result self.old self.new (charge self.old tenant n) }
     {
         let used = self.used(tenant);
         let quota = self.quota(tenant);

@@ -7,26 +7,27 @@ use Rattle.blob_digest.specs.declared.refusal.Refusal.{Refusal}
 use Rattle.blob_digest.specs.declared.refusal.Refusal.TheVariants.{NameUnknown}
 use Rattle.slot_table.specs.Slots.{Slot}
 use Rattle.link_table.specs.Linked.{Linked, discharge, known_tenant}
-use Rattle.upload_table.specs.Sessions.{Session, received, received_in, session_in, in_sessions}
+use Rattle.upload_table.specs.Sessions.{Session, charged, home_in, not_busy, received, session_in, in_sessions}
 use Rattle.upload_table.specs.Uploaded.{Uploaded}
 use Rattle.store_book.specs.Catalog.{Text, Catalog, tenant_of}
 use Rattle.store_book.specs.Steps.{◌>>=◌, abandon}
 use Rattle.store_book.specs.Layers.{book_catalog, IsBook}
+use Rattle.store_book.proofs.LawfulHands.{home_charged, home_chunks}
 use Rattle.store_book.proofs.LawfulAbandon.{Sound-after_abandon}
-use Rattle.store_book.proofs.Outcomes.{session_found, some_of_ok, tenant_there}
+use Rattle.store_book.proofs.Outcomes.{bound_ok, session_found, some_of_ok, tenant_there}
 use Rattle.store_book.proofs.SessionCharges.{session_charged, sums-gone}
 
--- an answer by what was found
-received_ok : (x : Result Session Refusal) (n : ℕ) → (x >>= λ s. Ok (received s)) ≡ Ok n → (s : Session) × (x ≡ Ok s) × (received s ≡ n)
-received_ok (Ok s) n h = (s, refl, cc)
+-- an answer by what was found at home
+received_ok : (x : Result Session Refusal) (n : ℕ) → (x >>= λ s. not_busy s.chunks >>= λ _. Ok (received s)) ≡ Ok n → (s : Session) × (x ≡ Ok s) × (not_busy s.chunks ≡ Ok tt) × (received s ≡ n)
+received_ok (Ok s) n h = let b = bound_ok (not_busy s.chunks) (λ _. Ok (received s)) n h in (s, refl, b.1, cc b.2)
 received_ok (Err e) n h = absurd cc
 
 module _ (l : Linked) (u : Uploaded) (slots : List Slot) (max_blob t number : ℕ) (repo : Text) (known : known_tenant l repo ≡ Ok t) where
   abbrev C : Catalog
   C = book_catalog l u slots max_blob
 
-  module _ (n : ℕ) (answered : received_in u.sessions (t, number) repo ≡ Ok n) where
-    abbrev of_repo : (s : Session) × (session_in (get u.sessions (t, number)) repo ≡ Ok s) × (received s ≡ n)
+  module _ (n : ℕ) (answered : home_in u.sessions (t, number) repo ≡ Ok n) where
+    abbrev of_repo : (s : Session) × (session_in (get u.sessions (t, number)) repo ≡ Ok s) × (not_busy s.chunks ≡ Ok tt) × (received s ≡ n)
     of_repo = received_ok (session_in (get u.sessions (t, number)) repo) n answered
 
     found : get u.sessions (t, number) ≡ Some of_repo.0
@@ -42,14 +43,17 @@ module _ (l : Linked) (u : Uploaded) (slots : List Slot) (max_blob t number : �
     u1 = record u { sessions = remove u.sessions (t, number) }
 
     abandoned : abandon C repo number ≡ Ok (n, book_catalog l1 u1 slots max_blob)
-    abandoned = rw (known, of_repo.1) (ap (λ m. Ok (m, book_catalog l1 u1 slots max_blob)) of_repo.2)
+    abandoned = rw (known, of_repo.1, of_repo.2) (ap (λ m. Ok (m, book_catalog l1 u1 slots max_blob)) of_repo.3)
+
+    counts : charged of_repo.0 ≡ n
+    counts = let home = home_chunks of_repo.0.chunks tt of_repo.2 in home_charged of_repo.0 home.0 home.1 ∙ of_repo.3
 
     module _ (book : IsBook l u slots max_blob) where
       pub abandoned_charged : n ≤ slice_index l.charges t
-      abandoned_charged = subst (λ m. m ≤ slice_index l.charges t) of_repo.2 (session_charged l u slots max_blob t number book there of_repo.0 found)
+      abandoned_charged = subst (λ m. m ≤ slice_index l.charges t) counts (session_charged l u slots max_blob t number book there of_repo.0 found)
 
       sums_after : (v : ℕ) → v < length l.tenants → slice_index l1.charges v ≡ in_sessions u1.sessions v
-      sums_after v lt = subst (λ m. slice_index (slice_set l.charges t (slice_index l.charges t - m)) v ≡ in_sessions u1.sessions v) of_repo.2 (sums-gone l u slots max_blob t number book there of_repo.0 found v lt)
+      sums_after v lt = subst (λ m. slice_index (slice_set l.charges t (slice_index l.charges t - m)) v ≡ in_sessions u1.sessions v) counts (sums-gone l u slots max_blob t number book there of_repo.0 found v lt)
 
       -- a session that was given up leaves a book
       pub IsBook-abandon : (l' : Linked) (u' : Uploaded) → l' ≡ l1 → u' ≡ u1 → IsBook l' u' slots max_blob
@@ -59,6 +63,5 @@ module _ (l : Linked) (u : Uploaded) (slots : List Slot) (max_blob t number : �
             tied = record { marks = book.tied.marks; distinct = book.tied.distinct; sizes = book.tied.sizes; counts = book.tied.counts };
             charges = record { one_each = length-set l.charges t (slice_index l.charges t - n) ∙ book.charges.one_each; sums = sums_after };
             live = book.live;
-            whole = book.whole;
           } in
           subst (λ (x : Linked). IsBook x u' slots max_blob) (sym links) (subst (λ (x : Uploaded). IsBook l1 x slots max_blob) (sym uploads) now)

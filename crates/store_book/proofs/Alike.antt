@@ -16,7 +16,8 @@ use Rattle.std.proofs.lemmas.Map.Lookups.{exact_bytes}
 use Rattle.blob_digest.specs.declared.range.ByteRange.{ByteRange}
 use Rattle.blob_digest.specs.Sets as set
 use Rattle.store_book.specs.Catalog.{Text, Link, Number, Session, Resident, Catalog, text_cmp, same_text, tenant_of, is_tenants, is_of, quota_of, holds, tenant_holds, share, in_sessions_of, blob_share, used, next_of, open_sessions, repos_of, manifests_of, received}
-use Rattle.store_book.specs.Steps.{◌>>=◌, whole_in, session, session_in, check, length_after, lacks_room_for, referrer, refers}
+use Rattle.upload_table.specs.Sessions.{at_home}
+use Rattle.store_book.specs.Steps.{◌>>=◌, whole_in, session, session_in, not_busy, check, length_after, lacks_room_for, referrer, refers}
 use Rattle.store_book.specs.Isolation.{blobs_of}
 use Rattle.blob_digest.proofs.KeyOrders.{number_cmp_total, exact_number, link_cmp_total, exact_link}
 use Rattle.blob_digest.proofs.MapSums.{list_any_same}
@@ -147,10 +148,10 @@ module _ (t : ℕ) (C D : Catalog) (alike : Alike t C D) where
   session_same r n = ap (λ s. session_in s r) (session_found n)
 
   pub check_same : (r : Text) (n : ℕ) (g : Option ByteRange) (len : ℕ) → check C t r n g len ≡ check D t r n g len
-  check_same r n g len = λ i. (session_in (session_found n i) r >>= λ s. length_after (alike.max_blob i) (received s) g len)
+  check_same r n g len = λ i. (session_in (session_found n i) r >>= λ s. not_busy s.chunks >>= λ _. length_after (alike.max_blob i) (received s) g len)
 
   pub whole_same : (n : ℕ) (last : Text) → whole_in C.sessions (t, n) last ≡ whole_in D.sessions (t, n) last
-  whole_same n last = ap (λ o. option_map_or (λ s. concat s.chunks ++ last) o last) (session_found n)
+  whole_same n last = ap (λ o. concat (option_map_or (λ s. at_home s.chunks) o []) ++ last) (session_found n)
 
   pub quota_same : quota_of C t ≡ quota_of D t
   quota_same = ap (λ ts. option_map_or (λ x. x.quota) (slice_get ts t) 0) alike.tenants

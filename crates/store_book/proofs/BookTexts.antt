@@ -25,7 +25,7 @@ use Rattle.store_book.specs.Catalog.{Text, Link, Resident, Catalog, is_of, link_
 use Rattle.store_book.specs.Layers.{links_of, unlent, book_catalog, IsBook}
 use Rattle.store_book.specs.Lines.{CanPrint, blob_row, links_to, session_row, repo_rows, tenant_rows, book_rows}
 use Rattle.store_book.specs.Printed.{blob_line, blob_text, book_line, book_text, end_line, manifest_text, repo_text, repository_line, tenant_line, tenant_text}
-use Rattle.store_book.proofs.Appending.{use_is}
+use Rattle.store_book.proofs.Taking.{use_is}
 use Rattle.store_book.proofs.Ties.{held_of, not_resident}
 
 -- ---- lists
@@ -146,7 +146,6 @@ module _ (l : Linked) (u : Uploaded) (slots : List Slot) (max_blob : ℕ) (book 
   -- a book can be printed
   pub can_print : CanPrint l u
   can_print = record {
-    whole = book.whole;
     next = book.sound.lawful.numbers;
     repos = λ t. let few = book.sound.lawful.limits.repos t in let same = length-filter (is_of C t) (set.items l.repos) in omega arith;
     sessions = λ t repo. let few = book.sound.lawful.limits.sessions t in let same = length-filter (is_of_repo t repo) (entries u.sessions) in let less = at_most (is_of_repo t repo) (λ e. e.0.0 == t) (λ e h. (and_parts (e.0.0 == t) (same_text e.1.repo repo) h).0) (entries u.sessions) in omega arith;

@@ -19,7 +19,7 @@ use Rattle.blob_digest.specs.declared.refusal.Refusal.{Refusal}
 use Rattle.blob_digest.specs.declared.refusal.Refusal.TheVariants.{NameUnknown}
 use Rattle.blob_digest.specs.Digests.{sha256_text, is_digest_of}
 use Rattle.blob_digest.specs.Sets as kept_set
-use Rattle.store_book.specs.Catalog.{Text, Link, Number, Session, Resident, Catalog, text_cmp, number_cmp, tenant_of, is_of, holds, next_of}
+use Rattle.store_book.specs.Catalog.{Text, Link, Number, Home, Session, Resident, Catalog, text_cmp, number_cmp, tenant_of, is_of, holds, next_of}
 use Rattle.store_book.specs.Steps
 use Rattle.store_book.specs.Steps.{◌>>=◌, Outcome, refuse, session_in, length_after, new_session, append_in, whole_in, names, same_bytes, stored, has_source, with_link, with_manifest, with_lent, within_quota, has_slot}
 use Rattle.store_book.specs.Runs as runs
@@ -57,7 +57,7 @@ module _ (content : Text → Text) (C : Catalog) (consistent : Consistent conten
     kept = consistent.kept;
     manifests = λ l b h. stays l.0 (consistent.manifests l b h);
     sessions = λ k s h. ⊎_elim (λ e. subst (λ (x : Session). kept_set.contains (kept_set.insert C.repos r) x.repo ≡ true) e.1 is_in) (λ h. stays s.repo (consistent.sessions k s h))
-        (got-insert number_cmp_total exact_number C.sessions (t, next_of C t) (record { repo = r; chunks = [] }) k s h);
+        (got-insert number_cmp_total exact_number C.sessions (t, next_of C t) (record { repo = r; chunks = Home [] }) k s h);
     bytes = consistent.bytes;
   }
 

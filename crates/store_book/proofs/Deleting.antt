@@ -98,7 +98,6 @@ module _ (l : Linked) (u : Uploaded) (slots : List Slot) (max_blob t : ℕ) (rep
       tied = tied_after;
       charges = record { one_each = book.charges.one_each; sums = book.charges.sums };
       live = live_counted lower lower-KeepsBlob slots k held.0 held.1 book.live;
-      whole = book.whole;
     }
 
     module _ (l1 : Linked) (slots1 : List Slot) (links : l1 ≡ l') (slots_are : slots1 ≡ slots') where

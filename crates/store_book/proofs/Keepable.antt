@@ -10,7 +10,7 @@ use Rattle.upload_table.specs.Uploaded.{Uploaded}
 use Rattle.store_book.specs.Catalog.{Text, Resident, Catalog, tenant_of}
 use Rattle.store_book.specs.Layers.{unlent, book_catalog, IsBook}
 use Rattle.store_book.specs.Keeping.{CanKeep}
-use Rattle.store_book.proofs.Appending.{use_is}
+use Rattle.store_book.proofs.Taking.{use_is}
 use Rattle.store_book.proofs.Bounds.{count_small, used_small}
 use Rattle.store_book.proofs.KeptBlobs.{length-unlent}
 use Rattle.store_book.proofs.LawAppear.{is_own}

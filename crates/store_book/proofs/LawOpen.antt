@@ -5,7 +5,7 @@ use Rattle.std.specs.FinMap.{get, insert}
 use Rattle.std.proofs.lemmas.Bool.{cases_eq, leb-false, eq-eqb, ne_eqb, or_parts}
 use Rattle.std.proofs.lemmas.List.{length-set}
 use Rattle.blob_digest.specs.Sets as set
-use Rattle.store_book.specs.Catalog.{Text, Number, Session, Catalog, is_of, open_sessions, share, used}
+use Rattle.store_book.specs.Catalog.{Text, Number, Home, Session, Catalog, is_of, open_sessions, share, used}
 use Rattle.store_book.specs.Catalog.{next_of}
 use Rattle.store_book.specs.Steps.{cannot_open}
 use Rattle.store_book.specs.Laws.{Lawful, LawfulSession}
@@ -15,7 +15,7 @@ use Rattle.store_book.proofs.MapLemmas.{got-insert}
 
 module _ (C : Catalog) (t : ℕ) (r : Text) (lawful : Lawful C) where
   abbrev new : Session
-  new = record { repo = r; chunks = [] }
+  new = record { repo = r; chunks = Home [] }
 
   abbrev after : Catalog
   after = record C { sessions = insert C.sessions (t, next_of C t) new; next = slice_set C.next t (next_of C t + 1) }

@@ -1,9 +1,9 @@
--- A session that is gone keeps the catalog lawful, and takes its length from its tenant's use.
+-- A session that is gone keeps the catalog lawful, and takes what it counts from its tenant's use.
 use Rattle.std.proofs.Common.{◌≡◌, ◌≢◌, ℕ, ◌+◌, ◌≤◌, cond, Some, refl, sym, ap, arith}
 use Rattle.std.specs.Prelude.{◌==◌}
 use Rattle.std.specs.FinMap.{get, remove}
 use Rattle.std.proofs.lemmas.Bool.{eq-eqb, ne_eqb}
-use Rattle.store_book.specs.Catalog.{Number, Session, Catalog, received, share, used, open_sessions}
+use Rattle.store_book.specs.Catalog.{Number, Session, Catalog, charged, share, used, open_sessions}
 use Rattle.store_book.specs.Laws.{Lawful}
 use Rattle.blob_digest.proofs.KeyOrders.{number_cmp_total, exact_number}
 use Rattle.blob_digest.proofs.MapSums.{sum_split}
@@ -39,15 +39,15 @@ module _ (C : Catalog) (key : Number) where
   }
 
   module _ (s : Session) (found : get C.sessions key ≡ Some s) where
-    -- the tenant's use falls by what the session had received, and no other's
-    pub used-gone : used C key.0 ≡ used after key.0 + received s
+    -- the tenant's use falls by what the session counted, and no other's
+    pub used-gone : used C key.0 ≡ used after key.0 + charged s
     used-gone =
         let sum = sum_split number_cmp_total exact_number (share key.0) C.sessions key s found in
-        let own : share key.0 (key, s) ≡ received s = ap (λ b. cond b (received s) 0) (eq-eqb key.0 key.0 refl) in
+        let own : share key.0 (key, s) ≡ charged s = ap (λ b. cond b (charged s) 0) (eq-eqb key.0 key.0 refl) in
         omega arith
 
     pub used_other-gone : (u : ℕ) → u ≢ key.0 → used C u ≡ used after u
     used_other-gone u other =
         let sum = sum_split number_cmp_total exact_number (share u) C.sessions key s found in
-        let none : share u (key, s) ≡ 0 = ap (λ b. cond b (received s) 0) (ne_eqb key.0 u (λ e. other (sym e))) in
+        let none : share u (key, s) ≡ 0 = ap (λ b. cond b (charged s) 0) (ne_eqb key.0 u (λ e. other (sym e))) in
         omega arith

@@ -3,10 +3,11 @@ use Rattle.std.proofs.Common.{◌≡◌, ℕ, Some, Ok, subst, arith, inl, inr, 
 use Rattle.std.specs.FinMap.{get}
 use Rattle.std.proofs.lemmas.Bool.{cases_eq}
 use Rattle.blob_digest.specs.declared.refusal.Refusal.TheVariants.{NameUnknown}
-use Rattle.store_book.specs.Catalog.{Text, Session, Catalog, tenant_of, used, received}
-use Rattle.store_book.specs.Steps.{tenant, session, abandon, without_session}
+use Rattle.store_book.specs.Catalog.{Text, Session, Catalog, charged, tenant_of, used, received}
+use Rattle.store_book.specs.Steps.{tenant, session, not_busy, abandon, without_session}
 use Rattle.store_book.specs.Laws.{Lawful, KeepsQuotas, FitsSlots, Sound}
 use Rattle.store_book.proofs.LawSession.{Lawful-gone, used-gone, used_other-gone}
+use Rattle.store_book.proofs.LawfulHands.{home_charged, home_chunks}
 use Rattle.store_book.proofs.Outcomes.{bound_ok, left_by, answer_by, same_tenant, some_of_ok, session_found}
 
 module _ (C C' : Catalog) (repo : Text) (number n : ℕ) (stepped : abandon C repo number ≡ Ok (n, C')) where
@@ -15,6 +16,7 @@ module _ (C C' : Catalog) (repo : Text) (number n : ℕ) (stepped : abandon C re
     known : tenant_of C.tenants repo ≡ Some t
     s : Session
     found : get C.sessions (t, number) ≡ Some s
+    counts : charged s ≡ received s
     answer : received s ≡ n
     left : without_session C t number ≡ C'
 
@@ -22,7 +24,9 @@ module _ (C C' : Catalog) (repo : Text) (number n : ℕ) (stepped : abandon C re
   abandoned =
       let a = bound_ok (tenant C repo) _ (n, C') stepped in
       let b = bound_ok (session C a.0 repo number) _ (n, C') a.2 in
-      record { t = a.0; known = some_of_ok (tenant_of C.tenants repo) NameUnknown a.0 a.1; s = b.0; found = (session_found _ repo b.0 b.1).0; answer = answer_by b.2; left = left_by b.2 }
+      let d = bound_ok (not_busy b.0.chunks) _ (n, C') b.2 in
+      let home = home_chunks b.0.chunks d.0 d.1 in
+      record { t = a.0; known = some_of_ok (tenant_of C.tenants repo) NameUnknown a.0 a.1; s = b.0; found = (session_found _ repo b.0 b.1).0; counts = home_charged b.0 home.0 home.1; answer = answer_by d.2; left = left_by d.2 }
 
   -- the tenant's use falls by the session's length
   pub used-after_abandon : (t : ℕ) → tenant_of C.tenants repo ≡ Some t → used C t ≡ used C' t + n
@@ -32,6 +36,7 @@ module _ (C C' : Catalog) (repo : Text) (number n : ℕ) (stepped : abandon C re
       let sum = used-gone C (p.t, number) p.s p.found in
       let now : used (without_session C p.t number) p.t ≡ used C' p.t = ap (λ D. used D p.t) p.left in
       let answer = p.answer in
+      let counts = p.counts in
       let at : used C p.t ≡ used C' p.t + n = omega arith in
       subst (λ u. used C u ≡ used C' u + n) is_t at
 

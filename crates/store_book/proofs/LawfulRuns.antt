@@ -10,8 +10,7 @@ use Rattle.store_book.specs.Laws.{Sound}
 use Rattle.store_book.specs.Runs.{Command, Answer, Event, answered, told, outcome, IsCase, Happens, IsRun, IsNamed, RunsStaySound, repo_of, Start, Status, Append, Close, Abandon, Mount, Delete, PutManifest, GetManifest, DeleteManifest, Lease, Called, Cleaned}
 use Rattle.store_book.proofs.Outcomes.{left_by}
 use Rattle.store_book.proofs.LawfulStart.{Sound-after_start}
-use Rattle.store_book.proofs.LawfulAppend.{Sound-after_append}
-use Rattle.store_book.proofs.LawfulClose.{Sound-after_close}
+use Rattle.store_book.proofs.LawfulByHand.{Sound-after_append, Sound-after_close}
 use Rattle.store_book.proofs.LawfulAbandon.{Sound-after_abandon}
 use Rattle.store_book.proofs.LawfulMount.{Sound-after_mount}
 use Rattle.store_book.proofs.LawfulDelete.{Sound-after_delete}

@@ -60,7 +60,6 @@ module _ (l : Linked) (u : Uploaded) (slots : List Slot) (max_blob t : ℕ) (rep
       };
       charges = record { one_each = book.charges.one_each; sums = book.charges.sums };
       live = book.live;
-      whole = book.whole;
     }
 
   module _ (digest from : Text) where
@@ -153,7 +152,6 @@ module _ (l : Linked) (u : Uploaded) (slots : List Slot) (max_blob t : ℕ) (rep
               sums = λ v lt. (λ i. slice_index (same_charges i) v) ∙ book.charges.sums v (let same = same_tenants in omega arith);
             };
             live = keeps.live;
-            whole = book.whole;
           }
 
       -- after the repository appeared

@@ -104,7 +104,6 @@ module _ (tenants : List Tenant) (slots first max_blob : ℕ) where
       sums = λ t there. zeros (length tenants) t ∙ sym (ap (λ (es : List ((ℕ × ℕ) × Session)). sum_by (share t) es) (entries-empty number_cmp Session));
     };
     live = λ k h at. nothing (none_held slots first k) at;
-    whole = refl;
   }
 
 sized_slots : (count first : ℕ) (slots : List Slot) → slots_opening count first ≡ Ok slots → (1 ≤ count) × (count ≤ 65536) × (new_slots count first ≡ slots)

@@ -13,9 +13,9 @@ use Rattle.blob_digest.specs.declared.refusal.Refusal.TheVariants.{NameUnknown, 
 use Rattle.blob_digest.specs.Digests.{sha256_text}
 use Rattle.blob_digest.specs.Sets as kept_set
 use Rattle.oci_manifest.specs.Manifests.{refs_of, max_manifest}
-use Rattle.store_book.specs.Catalog.{Text, Number, Session, Resident, Catalog, number_cmp, tenant_of, is_of, next_of}
+use Rattle.store_book.specs.Catalog.{Text, Number, Home, Session, Resident, Catalog, number_cmp, tenant_of, is_of, next_of}
 use Rattle.store_book.specs.Steps
-use Rattle.store_book.specs.Steps.{◌>>=◌, Outcome, refuse, tenant, session_in, length_after, new_session, append_in, whole_in, names, same_bytes, stored, has_source, with_link, with_manifest, with_lent, linked, linked_blob, lacks_room_for, cannot_open, has_manifest, is_full_of_manifests, all_linked, unreferenced, within_quota, has_slot}
+use Rattle.store_book.specs.Steps.{◌>>=◌, Outcome, refuse, tenant, session_in, not_busy, length_after, new_session, append_in, whole_in, names, same_bytes, stored, has_source, with_link, with_manifest, with_lent, linked, linked_blob, lacks_room_for, cannot_open, has_manifest, is_full_of_manifests, all_linked, unreferenced, within_quota, has_slot}
 use Rattle.store_book.specs.declared.mount.Mount.TheVariants as mounting
 use Rattle.store_book.specs.Runs as runs
 use Rattle.store_book.specs.Runs.{Command, Answer, answered, told, outcome, repo_of}
@@ -72,7 +72,7 @@ module _ (P : Catalog → Type 0) where
         of_tenant _ (λ t k. past (Steps.check C t r n g (length b)) _ (λ after checked. past (within_quota C t (length b)) _ (λ _ _. past (refuse (not (names C d (whole_in C.sessions (t, n) b))) DigestInvalid) _ (λ u h. past (housed C d) _ (λ _ _. new t after k checked (not-false (names C d (whole_in C.sessions (t, n) b)) (not_refused _ _ _ h)))))))
 
     pub abandon_leaves : (n : ℕ) → ((t : ℕ) → tenant_of C.tenants r ≡ Some t → P (record C { sessions = remove C.sessions (t, n) })) → Leaves P (Steps.abandon C r n)
-    abandon_leaves n new = of_tenant _ (λ t k. past (Steps.session C t r n) _ (λ _ _. new t k))
+    abandon_leaves n new = of_tenant _ (λ t k. past (Steps.session C t r n) _ (λ s _. past (not_busy s.chunks) _ (λ _ _. new t k)))
 
     pub mount_leaves : (d : Text) (from : Option Text) → ((t : ℕ) → tenant_of C.tenants r ≡ Some t → P (new_session C t r)) →
         ((t : ℕ) → tenant_of C.tenants r ≡ Some t → has_source C t d from ≡ true → P (with_link C r d)) → Leaves P (Steps.mount C r d from)
@@ -143,7 +143,7 @@ module _ (C : Catalog) (u : ℕ) (r : Text) (other : is_of C u r ≡ false) wher
     repos = unseen_insert nat_list_cmp_total exact_bytes (is_of C u) C.repos r tt other;
     links = λ q is. refl;
     manifests = λ q is. refl;
-    sessions = unseen_insert number_cmp_total exact_number (λ n. n.0 == u) C.sessions (t, next_of C t) (record { repo = r; chunks = [] }) (apart t k);
+    sessions = unseen_insert number_cmp_total exact_number (λ n. n.0 == u) C.sessions (t, next_of C t) (record { repo = r; chunks = Home [] }) (apart t k);
   }
 
   unseen_sessions : (m : FinMap number_cmp Session) → AgreeOn (λ n. n.0 == u) m C.sessions → Unseen (record C { sessions = m })

@@ -3,16 +3,15 @@ use Rattle.std.proofs.Common.{◌≡◌, ℕ, ◌+◌, ◌<◌, ◌≤◌, Bool,
 use Rattle.std.specs.Prelude.{if◌then◌else◌, nat_lt}
 use Rattle.std.specs.Option.{ok_or}
 use Rattle.std.specs.List.{sum_by, concat}
-use Rattle.std.specs.FinMap.{get}
 use Rattle.std.proofs.lemmas.Bool.{or_parts, ltb-false}
 use Rattle.std.proofs.lemmas.List.Sums.{sum_by-cons}
 use Rattle.std.proofs.lemmas.List.Quantifiers.{position-Some}
 use Rattle.blob_digest.specs.declared.range.ByteRange.{ByteRange}
 use Rattle.blob_digest.specs.declared.refusal.Refusal.{Refusal}
 use Rattle.blob_digest.specs.declared.refusal.Refusal.TheVariants.{UploadUnknown}
-use Rattle.store_book.specs.Catalog.{Text, Tenant, Session, Catalog, same_text, tenant_name, tenant_of, received}
+use Rattle.store_book.specs.Catalog.{Text, Tenant, Session, Catalog, same_text, tenant_name, tenant_of}
 use Rattle.upload_table.specs.Sessions.{session_in, length_after, has_other_length}
-use Rattle.store_book.specs.Steps.{◌>>=◌, refuse, check}
+use Rattle.store_book.specs.Steps.{◌>>=◌, refuse}
 use Rattle.blob_digest.proofs.KeyOrders.{text_is_same}
 
 -- a step that was accepted passed its first line
@@ -56,14 +55,6 @@ pub length_fits : (max_blob before n after : ℕ) (range : Option ByteRange) →
 length_fits max_blob before n after range h =
     let a = bound_ok _ _ after h in
     ltb-false max_blob (before + n) (or_parts (has_other_length range n) (nat_lt max_blob (before + n)) (not_refused _ _ _ a.1)).1
-
--- a session that was checked is there, of this repository, with room for the bytes
-pub check_passed : (C : Catalog) (t number : ℕ) (repo : Text) (range : Option ByteRange) (n after : ℕ) → check C t repo number range n ≡ Ok after →
-    (s : Session) × (get C.sessions (t, number) ≡ Some s) × (s.repo ≡ repo) × (received s + n ≤ C.max_blob)
-check_passed C t number repo range n after h =
-    let a = bound_ok _ _ after h in
-    let found = session_found _ repo a.0 a.1 in
-    (a.0, found.0, found.1, length_fits C.max_blob (received a.0) n after range a.2)
 
 pub length-concat : (chunks : List Text) → length (concat chunks) ≡ sum_by length chunks
 length-concat [] = refl

@@ -14,10 +14,10 @@ use Rattle.blob_digest.specs.declared.refusal.Refusal.{Refusal}
 use Rattle.blob_digest.specs.declared.refusal.Refusal.TheVariants.{NameUnknown, DigestInvalid, SizeInvalid, BlobUnknown, ManifestInvalid, ManifestUnknown, ManifestBlobUnknown, Quota, StoreFull, LimitReached}
 use Rattle.blob_digest.specs.Digests.{sha256_text, is_digest_of}
 use Rattle.oci_manifest.specs.Manifests.{refs_of}
-use Rattle.store_book.specs.Catalog.{Text, Number, Session, Resident, Catalog, number_cmp, same_text, tenant_of, is_of, holds, next_of, received}
+use Rattle.store_book.specs.Catalog.{Text, Number, Home, Session, Resident, Catalog, number_cmp, same_text, tenant_of, is_of, holds, next_of, received}
 use Rattle.store_book.specs.Steps
-use Rattle.store_book.specs.Steps.{◌>>=◌, Outcome, refuse, tenant, session_in, length_after, new_session, append_in, whole_in, same_bytes, names, is_full_for, stored, all_linked, has_source, with_link, with_manifest, with_lent, linked_blob, unreferenced, is_full_of_manifests, within_quota, lacks_room_for, cannot_open}
-use Rattle.upload_table.specs.Sessions.{with_chunk}
+use Rattle.store_book.specs.Steps.{◌>>=◌, Outcome, refuse, tenant, session_in, not_busy, length_after, new_session, append_in, whole_in, same_bytes, names, is_full_for, stored, all_linked, has_source, with_link, with_manifest, with_lent, linked_blob, unreferenced, is_full_of_manifests, within_quota, lacks_room_for, cannot_open}
+use Rattle.upload_table.specs.Sessions.{at_home, with_chunk}
 use Rattle.store_book.specs.declared.mount.Mount.TheVariants as mounting
 use Rattle.store_book.specs.Runs as runs
 use Rattle.store_book.specs.Runs.{Command, Answer, answered, told, outcome, repo_of}
@@ -86,7 +86,7 @@ next_alike (x ∷ xs) (y ∷ ys) zero v w e same = same
 next_alike (x ∷ xs) (y ∷ ys) (suc t) v w e same = next_alike xs ys t v w (omega arith) same
 
 abbrev pub longer : Text → Session → Session
-longer b s = record s { chunks = with_chunk s.chunks b }
+longer b s = record s { chunks = Home (with_chunk (at_home s.chunks) b) }
 
 agree_append : (p : Number → Bool) (m n : FinMap number_cmp Session) (k : Number) (b : Text) → AgreeOn p m n → get m k ≡ get n k → AgreeOn p (append_in m k b) (append_in n k b)
 agree_append p m n k b agree found =
@@ -145,8 +145,8 @@ module _ (content : Text → Text) (t : ℕ) (C D : Catalog) (alike : Alike t C 
     repos = agree_insert nat_list_cmp_total exact_bytes (is_of C t) C.repos D.repos r tt alike.repos;
     links = alike.links;
     manifests = alike.manifests;
-    sessions = subst (λ n. AgreeOn (λ k. k.0 == t) (insert C.sessions (t, next_of C t) (record { repo = r; chunks = [] })) (insert D.sessions (t, n) (record { repo = r; chunks = [] }))) alike.next
-        (agree_insert number_cmp_total exact_number (λ k. k.0 == t) C.sessions D.sessions (t, next_of C t) (record { repo = r; chunks = [] }) alike.sessions);
+    sessions = subst (λ n. AgreeOn (λ k. k.0 == t) (insert C.sessions (t, next_of C t) (record { repo = r; chunks = Home [] })) (insert D.sessions (t, n) (record { repo = r; chunks = Home [] }))) alike.next
+        (agree_insert number_cmp_total exact_number (λ k. k.0 == t) C.sessions D.sessions (t, next_of C t) (record { repo = r; chunks = Home [] }) alike.sessions);
   }
 
   pub own_start : Matches t (Steps.start C r) (Steps.start D r)
@@ -181,7 +181,7 @@ module _ (content : Text → Text) (t : ℕ) (C D : Catalog) (alike : Alike t C 
       ))))
 
   pub own_abandon : (n : ℕ) → Matches t (Steps.abandon C r n) (Steps.abandon D r n)
-  own_abandon n = with_tenant _ _ (same_check t _ _ (session_same t C D alike r n) _ _ (λ s _. (
+  own_abandon n = with_tenant _ _ (same_check t _ _ (session_same t C D alike r n) _ _ (λ s _. same_check t (not_busy s.chunks) (not_busy s.chunks) refl _ _ (λ _ _. (
     refl,
     record {
       tenants = alike.tenants;
@@ -193,7 +193,7 @@ module _ (content : Text → Text) (t : ℕ) (C D : Catalog) (alike : Alike t C 
       manifests = alike.manifests;
       sessions = agree_remove number_cmp_total exact_number (λ k. k.0 == t) C.sessions D.sessions (t, n) alike.sessions;
     },
-  )))
+  ))))
 
   -- ---- links
 

@@ -6,7 +6,7 @@ use Rattle.std.proofs.lemmas.Bool.{cases_eq}
 use Rattle.std.proofs.lemmas.List.{get_or-set_same, get_or-set_other}
 use Rattle.slot_table.specs.Slots.{Slot}
 use Rattle.link_table.specs.Linked.{Linked}
-use Rattle.upload_table.specs.Sessions.{Session, received, in_sessions}
+use Rattle.upload_table.specs.Sessions.{Session, charged, in_sessions}
 use Rattle.upload_table.specs.Uploaded.{Uploaded}
 use Rattle.store_book.specs.Catalog.{Catalog}
 use Rattle.store_book.specs.Layers.{book_catalog, IsBook}
@@ -16,23 +16,23 @@ module _ (l : Linked) (u : Uploaded) (slots : List Slot) (max_blob t number : �
   abbrev C : Catalog
   C = book_catalog l u slots max_blob
 
-  -- what a session has received was charged
-  pub session_charged : received s ≤ slice_index l.charges t
+  -- what a session counts was charged
+  pub session_charged : charged s ≤ slice_index l.charges t
   session_charged =
       let fall = used-gone C (t, number) s found in
       let sum = book.charges.sums t there in
       omega arith
 
   -- once a session is gone and discharged, the charges are what the others have received
-  pub sums-gone : (v : ℕ) → v < length l.tenants → slice_index (slice_set l.charges t (slice_index l.charges t - received s)) v ≡ in_sessions (remove u.sessions (t, number)) v
+  pub sums-gone : (v : ℕ) → v < length l.tenants → slice_index (slice_set l.charges t (slice_index l.charges t - charged s)) v ≡ in_sessions (remove u.sessions (t, number)) v
   sums-gone v lt = elim (cases_eq v t) [
     | inl e ↦
         let fall = used-gone C (t, number) s found in
         let mine = book.charges.sums t there in
         let in_charges : t < length l.charges = let same = book.charges.one_each in let lt = there in omega arith in
-        rw (e, get_or-set_same l.charges t (slice_index l.charges t - received s) 0 in_charges) (omega arith)
+        rw (e, get_or-set_same l.charges t (slice_index l.charges t - charged s) 0 in_charges) (omega arith)
     | inr other ↦
         let same = used_other-gone C (t, number) s found v other in
         let old = book.charges.sums v lt in
-        rw (get_or-set_other l.charges t v (slice_index l.charges t - received s) 0 other) (omega arith)
+        rw (get_or-set_other l.charges t v (slice_index l.charges t - charged s) 0 other) (omega arith)
   ]

@@ -100,7 +100,6 @@ module _ (l l' : Linked) (u : Uploaded) (slots : List Slot) (max_blob t : ℕ) (
       };
       charges = record { one_each = book.charges.one_each; sums = λ v lt. book.charges.sums v lt ∙ sym (same_sessions v) };
       live = book.live;
-      whole = book.whole;
     }
 
     -- a session that was opened leaves a book

@@ -10,7 +10,7 @@ use Rattle.blob_digest.specs.Sets as set
 use Rattle.blob_digest.proofs.KeyOrders.{number_cmp_total, link_cmp_total}
 use Rattle.blob_digest.proofs.RowLemmas.{entries-empty}
 use Rattle.upload_table.specs.Sessions.{Session}
-use Rattle.store_book.specs.Catalog.{Text, Catalog, Resident, text_cmp, opening}
+use Rattle.store_book.specs.Catalog.{Text, Catalog, Home, Resident, text_cmp, opening}
 use Rattle.store_book.specs.Steps.{lease, with_lent, delete, close, stored}
 use Rattle.store_book.specs.Sweeps.{Swept, is_orphan, IsLeft, IsSweep}
 use Rattle.store_book.proofs.MapLemmas.{got-insert, get-insert_at, get-insert_other, cases_key}
@@ -158,7 +158,7 @@ linked_stays lent s C' sweep = idle_sweep (record kept { residents = with_blob f
 
 -- a session with all of its bytes
 abbrev uploading : Catalog → Text → Catalog
-uploading C bytes = record C { sessions = insert empty (0, 2) (record { repo = one; chunks = bytes ∷ [] }) }
+uploading C bytes = record C { sessions = insert empty (0, 2) (record { repo = one; chunks = Home (bytes ∷ []) }) }
 
 -- a condemned blob that is uploaded again is live again, and is still marked as lent
 revived : is_digest_of abc (codes "abc") ≡ true → close (uploading (unlinked true true) (codes "abc")) one 2 abc None [] ≡ Ok (3, stored (uploading (unlinked true true) (codes "abc")) 0 one 2 abc (codes "abc"))

@@ -9,7 +9,7 @@ use Rattle.std.specs.Coded.{Coded, code_by, coded×, coded_ℕ, coded_bool, code
 use Rattle.blob_digest.specs.Sets as set
 pub use Rattle.blob_digest.specs.Keys.{Text, Link, Number, text_cmp, link_cmp, number_cmp, same_text, tenant_name, coded_text, coded_link}
 pub use Rattle.blob_digest.specs.Tenants.{Tenant, tenant_of, is_tenants, repos_in, coded_tenant}
-pub use Rattle.upload_table.specs.Sessions.{Session, received, share, open_in, coded_session}
+pub use Rattle.upload_table.specs.Sessions.{Chunks, Home, InHand, Session, Taken, charged, received, share, open_in, coded_session}
 
 -- ---- what is kept
 
@@ -60,7 +60,7 @@ count C digest = count_by (λ r. holds C r digest) (set.items C.repos)
 abbrev pub size : Catalog → Text → ℕ
 size C digest = option_map_or (λ b. length b.bytes) (fmap.get C.residents digest) 0
 
--- the bytes that a tenant's sessions have received
+-- what a tenant's sessions count in its use: the bytes received, and those reserved
 abbrev pub in_sessions_of : Catalog → ℕ → ℕ
 in_sessions_of C t = sum_by (share t) (fmap.entries C.sessions)
 
@@ -68,7 +68,7 @@ in_sessions_of C t = sum_by (share t) (fmap.entries C.sessions)
 abbrev pub blob_share : Catalog → ℕ → Text × Resident → ℕ
 blob_share C t e = if tenant_holds C t e.0 then length e.1.bytes else 0
 
--- What a tenant uses: the length of each blob that some of its repositories holds, once, and what its sessions have received.
+-- What a tenant uses: the length of each blob that some of its repositories holds, once, and what its sessions have received and reserved.
 abbrev pub used : Catalog → ℕ → ℕ
 used C t = sum_by (blob_share C t) (fmap.entries C.residents) + in_sessions_of C t
 

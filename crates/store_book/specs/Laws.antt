@@ -10,14 +10,15 @@ use Rattle.oci_manifest.specs.Manifests.{refs_of, max_manifest}
 use Rattle.std.specs.declared.cmp.Ordering.TheVariants.{Less}
 use Rattle.blob_digest.specs.declared.refusal.Refusal.TheVariants.{Referenced}
 use Rattle.store_book.specs.Steps.{refers, delete}
-use Rattle.store_book.specs.Catalog.{Text, Link, Number, Session, Resident, Catalog, text_cmp, is_of, tenant_of, quota_of, holds, count, size, received, used, held_digests, in_sessions_of, next_of, open_sessions, repos_of, manifests_of}
+use Rattle.store_book.specs.Catalog.{Text, Link, Number, Session, Resident, Catalog, text_cmp, is_of, tenant_of, quota_of, holds, count, size, used, held_digests, in_sessions_of, next_of, open_sessions, repos_of, manifests_of, charged}
+use Rattle.upload_table.specs.Sessions.{at_home}
 
--- a session is of its own tenant, in a repository that is there, with no empty chunk, within the limit, under a number that was given
+-- a session is of its own tenant, in a repository that is there, with no empty chunk, with its reserve within the limit, under a number that was given
 pub record LawfulSession (C : Catalog) (key : Number) (s : Session) : Type 0 where
   pub repo : set.contains C.repos s.repo ≡ true
   pub tenant : is_of C key.0 s.repo ≡ true
-  pub chunks : AllByRecursion (λ c. c ≢ []) s.chunks
-  pub small : received s ≤ C.max_blob
+  pub chunks : AllByRecursion (λ c. c ≢ []) (at_home s.chunks)
+  pub small : charged s ≤ C.max_blob
   pub positive : 0 < key.1
   pub number : key.1 < next_of C key.0
 

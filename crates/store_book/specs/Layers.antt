@@ -1,5 +1,5 @@
 -- The catalog that the layers of the book stand for together, and what ties them.
-use Rattle.std.specs.Prelude.{◌≡◌, ℕ, ◌<◌, Bool, false, Some, None, List, [], ◌∷◌, length, map, count_by, slice_index}
+use Rattle.std.specs.Prelude.{◌≡◌, ℕ, ◌<◌, Bool, false, Some, List, [], ◌∷◌, length, map, count_by, slice_index}
 use Rattle.std.specs.FinMap as fmap
 use Rattle.blob_digest.specs.Sets as set
 use Rattle.slot_table.specs.Slots.{Slot, Held, Content, Free, Used, Retired, is_retired, held_at, IsDistinct}
@@ -69,7 +69,7 @@ pub record IsTied (l : Linked) (slots : List Slot) (lent : List Bool) (C : Catal
   -- the count of a slot is that of the repositories that hold its digest
   pub counts : (k : ℕ) (h : Held) → held_at slots k ≡ Some h → h.links ≡ count C h.digest
 
--- each tenant is charged what its sessions have received
+-- each tenant is charged what its sessions have received and reserved
 pub record AreCharges (l : Linked) (C : Catalog) : Type 0 where
   pub one_each : length l.charges ≡ length l.tenants
   pub sums : (t : ℕ) → t < length l.tenants → slice_index l.charges t ≡ in_sessions_of C t
@@ -78,10 +78,9 @@ pub record AreCharges (l : Linked) (C : Catalog) : Type 0 where
 abbrev pub AreLive : List Slot → Type 0
 AreLive slots = (k : ℕ) (h : Held) → held_at slots k ≡ Some h → h.condemned ≡ false
 
--- What a book keeps: its catalog is sound, its layers agree, and no session is being closed.
+-- What a book keeps: its catalog is sound, and its layers agree.
 pub record IsBook (l : Linked) (u : Uploaded) (slots : List Slot) (max_blob : ℕ) : Type 0 where
   pub sound : Sound (book_catalog l u slots max_blob)
   pub tied : IsTied l slots (unlent slots) (book_catalog l u slots max_blob)
   pub charges : AreCharges l (book_catalog l u slots max_blob)
   pub live : AreLive slots
-  pub whole : u.closing ≡ None

@@ -1,5 +1,5 @@
 -- The lines of a book's text, as the layers give them.
-use Rattle.std.specs.Prelude.{◌≡◌, ◌≤◌, ℕ, ◌++◌, List, [], None, length, map, slice_get, slice_index}
+use Rattle.std.specs.Prelude.{◌≡◌, ◌≤◌, ℕ, ◌++◌, List, [], length, map, slice_get, slice_index}
 use Rattle.std.specs.Option.{option_map_or}
 use Rattle.std.specs.List.{flat_map, enumerate_from}
 use Rattle.blob_digest.specs.Keys.{Text}
@@ -39,9 +39,8 @@ book_rows l u slots = book_line ++ flat_map (tenant_rows l u slots) (enumerate_f
 abbrev pub tenant_in : List Tenant → ℕ → Tenant
 tenant_in tenants t = option_map_or (λ x. x) (slice_get tenants t) (record { name = []; quota = 0 })
 
--- What printing takes: no session is being closed, and the numbers of repositories and sessions are within their limits.
+-- What printing takes: the numbers of repositories and sessions are within their limits.
 pub record CanPrint (l : Linked) (u : Uploaded) : Type 0 where
-  pub whole : u.closing ≡ None
   pub next : length u.next ≡ length l.tenants
   pub repos : (t : ℕ) → length (repos_of l t) ≤ 1024
   pub sessions : (t : ℕ) (repo : Text) → length (sessions_of u.sessions t repo) ≤ 64

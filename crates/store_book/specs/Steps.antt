@@ -11,8 +11,8 @@ use Rattle.blob_digest.specs.declared.refusal.Refusal.TheVariants.{NameUnknown, 
 use Rattle.blob_digest.specs.Digests.{sha256_text, is_digest_of}
 pub use Rattle.blob_digest.specs.Outcomes.{OutcomeIn, ◌>>=◌, refuse}
 use Rattle.oci_manifest.specs.Manifests.{refs_of, max_manifest}
-pub use Rattle.upload_table.specs.Sessions.{session_in, length_after, check_in, append_in, whole_in}
-use Rattle.store_book.specs.Catalog.{Text, Catalog, Session, Resident, same_text, tenant_of, is_of, quota_of, holds, tenant_holds, used, received, next_of, open_sessions, repos_of, manifests_of}
+pub use Rattle.upload_table.specs.Sessions.{session_in, not_busy, length_after, check_in, append_in, whole_in, hand_in, take_in, put_back_in, taken_session, whole_of, given_up}
+use Rattle.store_book.specs.Catalog.{Text, Catalog, Session, Taken, Home, Resident, same_text, tenant_of, is_of, quota_of, holds, tenant_holds, used, received, next_of, open_sessions, repos_of, manifests_of}
 use Rattle.store_book.specs.declared.mount.Mount.{Mount}
 use Rattle.store_book.specs.declared.mount.Mount.TheVariants as mounting
 
@@ -52,7 +52,7 @@ cannot_open C t = nat_le 64 (open_sessions C t) || nat_le (2 ^ 32) (next_of C t)
 abbrev pub new_session : Catalog → ℕ → Text → Catalog
 new_session C t repo = record C {
   repos = set.insert C.repos repo;
-  sessions = fmap.insert C.sessions (t, next_of C t) (record { repo = repo; chunks = [] });
+  sessions = fmap.insert C.sessions (t, next_of C t) (record { repo = repo; chunks = Home [] });
   next = slice_set C.next t (next_of C t + 1);
 }
 
@@ -123,6 +123,37 @@ close_by housed C repo number digest range last = do
 abbrev pub close : Catalog → Text → ℕ → Text → Option ByteRange → Text → Outcome ℕ
 close = close_by has_slot
 
+-- ---- sessions in hand
+
+-- takes a session's chunks into a hand, with n bytes reserved for one more
+abbrev pub take : Catalog → Text → ℕ → Option ByteRange → ℕ → Outcome Taken
+take C repo number range n = do
+  t ← tenant C repo
+  _ ← check C t repo number range n
+  _ ← within_quota C t n
+  Ok (hand_in C.sessions (t, number) n, record C { sessions = take_in C.sessions (t, number) n })
+
+-- puts a hand's chunks back, with the one that was filled in, and answers the received length
+abbrev pub put_back : Catalog → Taken → Outcome ℕ
+put_back C hand = do
+  back ← put_back_in C.sessions hand
+  Ok (back.0, record C { sessions = back.1 })
+
+-- what a refused finish leaves: the hand's session, if any, is as before it was taken
+abbrev pub given_back : Catalog → Taken → Catalog
+given_back C hand = record C { sessions = given_up C.sessions hand }
+
+-- closes a session in hand under the digest of the whole, and answers the blob's size
+abbrev pub finish : Catalog → Taken → Text → Outcome ℕ
+finish C hand digest = do
+  s ← taken_session (fmap.get C.sessions hand.key) hand
+  let whole : Text = whole_of hand
+  _ ← refuse (not (names C digest whole)) DigestInvalid
+  _ ← has_slot C digest
+  Ok (length whole, stored C hand.key.0 s.repo hand.key.1 digest whole)
+
+-- ---- giving up
+
 -- a session is gone, with its bytes
 abbrev pub without_session : Catalog → ℕ → ℕ → Catalog
 without_session C t number = record C { sessions = fmap.remove C.sessions (t, number) }
@@ -132,6 +163,7 @@ abbrev pub abandon : Catalog → Text → ℕ → Outcome ℕ
 abandon C repo number = do
   t ← tenant C repo
   s ← session C t repo number
+  _ ← not_busy s.chunks
   Ok (received s, without_session C t number)
 
 -- ---- links (OCI Distribution Specification 1.1, "Mounting a blob from another repository", "Deleting Blobs")

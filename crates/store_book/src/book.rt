@@ -1,11 +1,11 @@
-ghost use Rattle.std.specs.Prelude.{◌≡◌, ◌+◌, ◌<◌, length, Some, nat_lt, IfOk, IfErr, OnOk};
-ghost use Rattle.blob_digest.specs.Outcomes.{Does, DoesExactly, refuse};
-ghost use Rattle.link_table.specs.Linked.{quota_in, used_in};
+ghost use Rattle.std.specs.Prelude.{◌≡◌, Some, IfOk, IfErr, OnOk};
+ghost use Rattle.blob_digest.specs.Outcomes.{Does, DoesExactly};
 ghost use Rattle.link_table.specs.Tenancy.{tenants_shown};
 ghost use Rattle.store_book.specs.Laws.{Sound};
 ghost use Rattle.store_book.specs.Openings.{OpensBook, RefusesBook};
 ghost use Rattle.store_book.specs.Printed.{book_text};
-ghost use Rattle.store_book.specs.Steps.{start, status, append, close, abandon, mount, delete};
+ghost use Rattle.store_book.specs.Steps.{start, status, append, close, abandon, mount, delete, take, put_back, finish, given_back};
+ghost use Rattle.upload_table.specs.Uploaded.{IsFull};
 ghost use Rattle.std.specs.Io.KnownBytes.{Appends};
 
 use crate::config::{Config, copied};
@@ -18,7 +18,7 @@ use slot_table::SlotTable;
 use std::alloc::Global;
 use std::io::{self, Write};
 use std::marker::Model;
-use upload_table::Uploads;
+use upload_table::{Hand, Uploads};
 
 /// The book: what every tenant's repositories hold, and what is being uploaded to them.
 #[derive(Drop)]
@@ -41,19 +41,6 @@ impl Model for Book {
     ghost view = { λ a. book_state a.links a.uploads a.slots a.max_blob };
 
     ghost invariant = { λ a. IsBook a.links a.uploads a.slots a.max_blob };
-}
-
-/// Whether a tenant may use so many bytes more. Refused is a use past the quota (`Quota`).
-fn check_quota(links: &Links, tenant: u16, n: u64) -> Result<(), Refusal>
-    requires { tenant < length links.now.tenants }
-    ensures { result ≡ refuse (nat_lt (quota_in links.now.tenants tenant) (used_in links.now tenant + n)) (Refusal.Quota (used_in links.now tenant) (quota_in links.now.tenants tenant)) }
-{
-    let used = links.used(tenant);
-    let quota = links.quota(tenant);
-    match used.checked_add(n) {
-        Some(after) if after <= quota => Ok(()),
-        _ => Err(Refusal::Quota { used, quota }),
-    }
 }
 
 /// The largest limit on the size of a blob, in bytes.
@@ -125,9 +112,9 @@ impl Book {
     /// range is accepted and changes nothing.
     ///
     /// Refused, in this order: a tenant that is not there (`NameUnknown`); a session that is not there
-    /// or another repository's (`UploadUnknown`); a range of another length than the bytes, or a
-    /// session past the size limit (`SizeInvalid`); a range that does not start at the received length
-    /// (`RangeInvalid`); a use past the quota (`Quota`); want of memory.
+    /// or another repository's (`UploadUnknown`); a session that is in hand (`Busy`); a range of another
+    /// length than the bytes, or a session past the size limit (`SizeInvalid`); a range that does not
+    /// start at the received length (`RangeInvalid`); a use past the quota (`Quota`); want of memory.
     pub fn append(
         &mut self,
         repo: &RepoName,
@@ -138,17 +125,12 @@ impl Book {
         ensures does { Does (λ n. n) result self.old.catalog self.new.catalog (append self.old.catalog repo.now number range bytes.now) }
         ensures slots { self.new.slots ≡ self.old.slots }
     {
-        let tenant = self.links.tenant(repo)?;
-        let len = bytes.len() as u64;
-        let after = self
-            .uploads
-            .check(tenant, repo, number, range, len, self.max_blob)?;
-        self.links.charge(tenant, len)?;
-        match self.uploads.append(tenant, number, bytes) {
-            Ok(()) => Ok(after),
-            Err(refusal) => {
-                self.links.discharge(tenant, len);
-                Err(refusal)
+        let hand = self.take(repo, number, range, bytes.len() as u64)?;
+        match hand.fill(bytes) {
+            Ok(hand) => self.put_back(hand),
+            Err(hand) => {
+                let _ = self.put_back(hand);
+                Err(Refusal::Memory)
             }
         }
     }
@@ -173,21 +155,95 @@ impl Book {
         ensures does { Does (λ n. n) result self.old.catalog self.new.catalog (close self.old.catalog repo.now number digest.now range bytes.now) }
         ensures slots { self.new.slots ≡ self.old.slots }
     {
+        let hand = self.take(repo, number, range, bytes.len() as u64)?;
+        match hand.fill(bytes) {
+            Ok(hand) => self.finish(hand, digest),
+            Err(hand) => {
+                let _ = self.put_back(hand);
+                Err(Refusal::Memory)
+            }
+        }
+    }
+
+    /// Takes the chunks of a session into a hand, and reserves so many bytes for one more. Until the hand
+    /// is put back or finished, the session is busy, and the reserve counts in its tenant's use. It takes
+    /// no memory.
+    ///
+    /// Refused, in this order: a tenant that is not there (`NameUnknown`); a session that is not there
+    /// or another repository's (`UploadUnknown`); a session that is in hand (`Busy`); a range of another
+    /// length than the chunk, or a session past the size limit (`SizeInvalid`); a range that does not
+    /// start at the received length (`RangeInvalid`); a use past the quota (`Quota`).
+    pub fn take(
+        &mut self,
+        repo: &RepoName,
+        number: u32,
+        range: Option<ByteRange>,
+        len: u64,
+    ) -> Result<Hand, Refusal>
+        ensures does { DoesExactly (λ h. h) result self.old.catalog self.new.catalog (take self.old.catalog repo.now number range len) }
+        ensures slots { self.new.slots ≡ self.old.slots }
+    {
         let tenant = self.links.tenant(repo)?;
-        let len = bytes.len() as u64;
-        let size = self
+        let _ = self
             .uploads
             .check(tenant, repo, number, range, len, self.max_blob)?;
-        check_quota(&self.links, tenant, len)?;
-        let blob = self.uploads.seal(tenant, number, bytes, digest)?;
+        self.links.charge(tenant, len)?;
+        Ok(self.uploads.take(tenant, number, len))
+    }
+
+    /// Puts a session's chunks back, with the one that was filled in, and answers the received length.
+    /// Where none was filled in, the reserve is free again. It takes no memory.
+    ///
+    /// Refused, as `UploadUnknown`, is a hand that this book has no session in hand for: none with its
+    /// number and its lengths. The hand is then let go, and nothing changes.
+    pub fn put_back(&mut self, hand: Hand) -> Result<u64, Refusal>
+        ensures does { DoesExactly (λ n. n) result self.old.catalog self.new.catalog (put_back self.old.catalog hand) }
+        ensures slots { self.new.slots ≡ self.old.slots }
+    {
+        let tenant = hand.tenant();
+        let reserved = hand.reserved();
+        let spare = if hand.filled() { 0 } else { reserved };
+        let after = self.uploads.put_back(hand)?;
+        self.links.discharge(tenant, spare);
+        Ok(after)
+    }
+
+    /// Closes a session in hand, whose last chunk was filled in or is empty: as `close`, of which it is
+    /// the second half. No byte is copied or hashed.
+    ///
+    /// Refused, in this order: a hand that this book has no session in hand for, as `put_back` does
+    /// (`UploadUnknown`); a digest that is not that of the whole, or that is kept with other bytes
+    /// (`DigestInvalid`); a store that has no slot free for a digest that is not kept (`StoreFull`);
+    /// want of memory. The first changes nothing; after the others the session is as before it was
+    /// taken.
+    pub fn finish(&mut self, hand: Hand, digest: &Digest) -> Result<u64, Refusal>
+        requires full { IsFull hand }
+        ensures does { Does (λ n. n) result (given_back self.old.catalog hand) self.new.catalog (finish self.old.catalog hand digest.now) }
+        ensures slots { self.new.slots ≡ self.old.slots }
+    {
+        let tenant = hand.tenant();
+        let reserved = hand.reserved();
+        let (blob, sealed) = match self.uploads.finish(hand, digest) {
+            Ok(both) => both,
+            Err(refusal) => match refusal {
+                Refusal::UploadUnknown => return Err(refusal),
+                _ => {
+                    self.links.discharge(tenant, reserved);
+                    return Err(refusal);
+                }
+            },
+        };
+        let size = blob.bytes().len() as u64;
+        let repo = self.uploads.repo_of(&sealed);
         match keep(&mut self.links, &mut self.slots, tenant, repo, blob) {
             Ok(()) => {
-                self.uploads.finish();
-                self.links.discharge(tenant, size - len);
+                self.uploads.forget(sealed);
+                self.links.discharge(tenant, size);
                 Ok(size)
             }
             Err((refusal, blob)) => {
-                self.uploads.reopen(blob);
+                self.uploads.reopen(sealed, blob);
+                self.links.discharge(tenant, reserved);
                 Err(refusal)
             }
         }
@@ -203,7 +259,7 @@ impl Book {
         ensures slots { self.new.slots ≡ self.old.slots }
     {
         let tenant = self.links.tenant(repo)?;
-        let received = self.uploads.received(tenant, repo, number)?;
+        let received = self.uploads.received_home(tenant, repo, number)?;
         self.uploads.remove(tenant, number);
         self.links.discharge(tenant, received);
         Ok(received)

@@ -16,6 +16,8 @@ mod keep;
 pub mod laws;
 mod mount;
 #[cfg(test)]
+mod hand_tests;
+#[cfg(test)]
 mod mount_tests;
 mod print;
 #[cfg(test)]

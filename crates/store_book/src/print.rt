@@ -75,7 +75,6 @@ fn print_sessions<W: Write>(
     tenant: u16,
     repo: &RepoName,
 ) -> io::Result<()>
-    requires open { uploads.now.closing ≡ None }
     requires few { length (sessions_of uploads.now.sessions tenant repo.now) ≤ 64 }
     ensures { OnOk result (Appends (W.contents writer.old) (W.contents writer.new) (flat_map session_row (map listed (sessions_of uploads.now.sessions tenant repo.now)))) }
 {
@@ -103,7 +102,6 @@ fn print_repo<W: Write>(
     tenant: u16,
     repo: &RepoName,
 ) -> io::Result<()>
-    requires open { uploads.now.closing ≡ None }
     requires few { length (sessions_of uploads.now.sessions tenant repo.now) ≤ 64 }
     ensures { OnOk result (Appends (W.contents writer.old) (W.contents writer.new) (repo_rows links.now uploads.now slots.now tenant repo.now)) }
 {

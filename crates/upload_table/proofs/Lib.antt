@@ -5,4 +5,5 @@ pub mod Sound
 pub mod Lookups
 pub mod RowAt
 pub mod Views
-pub mod Closes
+pub mod HandChunks
+pub mod Hands

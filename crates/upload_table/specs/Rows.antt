@@ -1,42 +1,65 @@
--- What the rows of the table stand for, and what is true of them. No public contract cites this.
-use Rattle.std.specs.Prelude.{◌≡◌, ℕ, ◌<◌, ◌==◌, ◌++◌, List, [], ◌∷◌, Option, Some, None, IfSome, length, map, sum, sum_by, slice_get, slice_index, slice_index_or, option_and_then, if◌then◌else◌}
+-- What the rows of the table and a hand stand for, and what is true of them. No public contract cites this.
+use Rattle.std.specs.Prelude.{◌≡◌, ℕ, ◌+◌, ◌<◌, ◌^◌, ◌==◌, ◌&&◌, ◌++◌, Bool, true, false, List, [], ◌∷◌, Option, Some, None, drop, length, map, sum, sum_by, slice_index, slice_index_or, take, nat_lt, if◌then◌else◌}
 use Rattle.std.specs.Option.{option_map}
-use Rattle.std.specs.List.{AllByRecursion, remove}
+use Rattle.std.specs.List.{AllByRecursion}
 use Rattle.std.specs.FinMap as fmap
 use Rattle.blob_digest.specs.Hashing.{Hashes}
 use Rattle.blob_digest.specs.Keys.{Number}
-use Rattle.upload_table.specs.Sessions.{Session}
-use Rattle.upload_table.specs.Uploaded.{Closing, Uploaded, cut}
+use Rattle.blob_digest.specs.declared.running.Running.{Running}
+use Rattle.upload_table.specs.Sessions.{Chunks, Session, Taken}
+use Rattle.upload_table.specs.Sessions as shown
+use Rattle.upload_table.specs.Uploaded.{Uploaded, cut}
+use Rattle.upload_table.specs.declared.upload.Content.{Content}
+use Rattle.upload_table.specs.declared.upload.Content.TheVariants.{Home, InHand}
+use Rattle.upload_table.specs.declared.upload.Pieces.{Pieces}
 use Rattle.upload_table.specs.declared.upload.Upload.{Upload}
 
 abbrev pub key_of : Upload → Number
 key_of u = (u.tenant, u.number)
 
+-- the chunks that a row stands for
+abbrev pub chunks_shown : Content → Chunks
+chunks_shown (Home p) = shown.Home (cut p.lens.items p.bytes.items)
+chunks_shown (InHand received reserved) = shown.InHand received reserved
+
 abbrev pub session_of : Upload → Session
-session_of u = record { repo = u.repo; chunks = cut u.lens.items u.bytes.items }
+session_of u = record { repo = u.repo; chunks = chunks_shown u.content }
 
 abbrev pub entry_of : Upload → Number × Session
 entry_of u = (key_of u, session_of u)
 
-abbrev pub closing_of : Upload → Closing
-closing_of u = record { key = key_of u; repo = u.repo; lens = u.lens.items; running = u.running }
+abbrev pub shown_by : List ℕ → List Upload → Uploaded
+shown_by next rows = record { next = next; sessions = fmap.from_entries (map entry_of rows) }
 
--- the rows without the one that is being closed
-abbrev pub left : Option ℕ → List Upload → List Upload
-left None rows = rows
-left (Some i) rows = remove rows i
+-- the lengths are those of chunks with bytes, and the hash is that of the bytes
+pub record IsWhole (p : Pieces) : Type 0 where
+  pub lengths : sum p.lens.items ≡ length p.bytes.items
+  pub positive : AllByRecursion (λ n. 0 < n) p.lens.items
+  pub hash : Hashes p.running p.bytes.items
 
--- the row that is being closed
-abbrev pub closing_in : Option ℕ → List Upload → Option Closing
-closing_in closing rows = option_and_then (λ i. option_map closing_of (slice_get rows i)) closing
+-- a row at home has whole chunks
+abbrev pub AreWhole : Content → Type 0
+AreWhole (Home p) = IsWhole p
+AreWhole (InHand received reserved) = Unit {0}
 
-abbrev pub shown : List ℕ → List Upload → Option ℕ → Uploaded
-shown next rows closing = record { next = next; sessions = fmap.from_entries (map entry_of (left closing rows)); closing = closing_in closing rows }
+-- how many bytes a row has received, and how many it counts in its tenant's use
+abbrev pub content_received : Content → ℕ
+content_received (Home p) = length p.bytes.items
+content_received (InHand received reserved) = received
 
--- a row's lengths are those of its chunks, and its hash is that of its bytes
-pub record IsWhole (u : Upload) : Type 0 where
-  pub lengths : sum u.lens.items ≡ length u.bytes.items
-  pub hash : Hashes u.running u.bytes.items
+abbrev pub content_charge : Content → ℕ
+content_charge (Home p) = length p.bytes.items
+content_charge (InHand received reserved) = received + reserved
+
+-- whether a row is at home
+abbrev pub is_at_home : Content → Bool
+is_at_home (Home p) = true
+is_at_home (InHand received reserved) = false
+
+-- whether a row is in hand with these lengths
+abbrev pub is_out : ℕ → ℕ → Content → Bool
+is_out received reserved (Home p) = false
+is_out received reserved (InHand n m) = n == received && m == reserved
 
 -- a tenant's later numbers are greater
 abbrev pub IsRising : List Number → Type 0
@@ -49,38 +72,42 @@ AreBelow next keys = AllByRecursion (λ k. k.1 < slice_index next k.0) keys
 
 -- what a row adds to a tenant's sum
 abbrev pub row_share : ℕ → Upload → ℕ
-row_share t u = if u.tenant == t then sum u.lens.items else 0
+row_share t u = if u.tenant == t then content_charge u.content else 0
 
--- the sums that are kept are those of the rows' lengths
+-- the sums that are kept are those of the rows' lengths and reserves
 pub record IsCounted (totals : List ℕ) (rows : List Upload) : Type 0 where
   pub each : (t : ℕ) → slice_index totals t ≡ sum_by (row_share t) rows
 
-pub record IsSound (next totals : List ℕ) (rows : List Upload) (closing : Option ℕ) : Type 0 where
+pub record IsSound (next totals : List ℕ) (rows : List Upload) : Type 0 where
   pub rising : IsRising (map key_of rows)
   pub below : AreBelow next (map key_of rows)
-  pub whole : (i : ℕ) (d : Upload) → i < length rows → (closing ≡ Some i → ⊥) → IsWhole (slice_index_or rows i d)
+  pub whole : (i : ℕ) (d : Upload) → i < length rows → AreWhole (slice_index_or rows i d).content
   pub counted : IsCounted totals rows
   pub lengths : length totals ≡ length next
-  pub inside : IfSome closing (λ i. i < length rows)
 
--- a chunk at the end of a row
-pub record AddsChunk (old new : Upload) (chunk : List ℕ) : Type 0 where
-  pub tenant : new.tenant ≡ old.tenant
-  pub number : new.number ≡ old.number
-  pub repo : new.repo ≡ old.repo
-  pub bytes : new.bytes.items ≡ old.bytes.items ++ chunk
-  pub lens : new.lens.items ≡ old.lens.items ++ length chunk ∷ []
-  pub hash : Hashes old.running old.bytes.items → Hashes new.running new.bytes.items
+-- ---- hands
 
--- the same but for the bytes
-pub record IsSame (old new : Upload) : Type 0 where
-  pub tenant : new.tenant ≡ old.tenant
-  pub number : new.number ≡ old.number
-  pub repo : new.repo ≡ old.repo
+-- what a hand stands for
+abbrev pub taken : ℕ → ℕ → ℕ → ℕ → Pieces → Option Running → Taken
+taken tenant number received reserved p whole = record { key = (tenant, number); chunks = cut p.lens.items p.bytes.items; reserved = reserved; last = option_map (λ _. drop received p.bytes.items) whole }
+
+-- a chunk of the reserved length follows the others, there is room for its length, and a hash takes in all bytes; or no chunk does
+abbrev pub IsFilled : ℕ → ℕ → Pieces → ℕ → Option Running → Type 0
+IsFilled received reserved p room None = length p.bytes.items ≡ received
+IsFilled received reserved p room (Some whole) = (length p.bytes.items ≡ received + reserved) × (length p.lens.items < room) × Hashes whole p.bytes.items
+
+pub record IsHand (received reserved : ℕ) (p : Pieces) (room : ℕ) (whole : Option Running) : Type 0 where
+  pub lengths : sum p.lens.items ≡ received
+  pub positive : AllByRecursion (λ n. 0 < n) p.lens.items
+  pub hash : Hashes p.running (take received p.bytes.items)
+  pub fits : received + reserved < 2 ^ 64
+  pub filled : IsFilled received reserved p room whole
+
+-- the lengths with one more, where it isn't 0
+abbrev pub with_length : List ℕ → ℕ → List ℕ
+with_length lens n = if nat_lt 0 n then lens ++ n ∷ [] else lens
+
+-- the same lengths and hash
+pub record IsSame (old new : Pieces) : Type 0 where
   pub lens : new.lens.items ≡ old.lens.items
   pub running : new.running ≡ old.running
-
--- the same but for what is reserved
-pub record IsUnchanged (old new : Upload) : Type 0 where
-  pub same : IsSame old new
-  pub bytes : new.bytes.items ≡ old.bytes.items

@@ -10,10 +10,12 @@
 //! changes sessions may come in between.
 #![tactic(auto)]
 
+mod hand;
 mod rows;
 mod upload;
 mod uploads;
 
+pub use hand::{Hand, Sealed};
 pub use uploads::Uploads;
 
 #[cfg(test)]

@@ -1,11 +1,12 @@
-ghost use Rattle.std.specs.Prelude.{◌≡◌, ◌+◌, ◌<◌, ◌==◌, ◌&&◌, ◌||◌, ◌^◌, length, count_by, filter, nat_le, position, sum, slice_get, slice_index, slice_index_or};
+ghost use Rattle.std.specs.Prelude.{◌≡◌, ◌+◌, ◌<◌, ◌≤◌, ◌==◌, ◌&&◌, ◌||◌, ◌^◌, length, count_by, filter, nat_le, position, sum, slice_get, slice_index, slice_index_or, slice_set};
 ghost use Rattle.std.specs.Option.{option_copied};
 ghost use Rattle.std.specs.List.{find, remove};
 ghost use Rattle.blob_digest.specs.Keys.{same_text};
-ghost use Rattle.upload_table.specs.Rows.{IsCounted};
+ghost use Rattle.upload_table.specs.Rows.{content_charge, is_out, IsCounted};
+ghost use Rattle.upload_table.specs.declared.upload.Content.TheVariants.{Home};
 ghost use Rattle.upload_table.specs.declared.upload.Upload.{Upload as Row};
 
-use crate::upload::{Upload, is_for, sum_of};
+use crate::upload::{Content, Pieces, Upload, charge_of, is_for, is_in_hand};
 use blob_digest::RepoName;
 
 /// The most sessions that a tenant has open at a time.
@@ -27,6 +28,21 @@ pub(crate) fn place_of(rows: &[Upload], tenant: u16, number: u32) -> Option<usiz
 {
     rows.iter()
         .position(|u| u.tenant == tenant && u.number == number)
+}
+
+/// Where a session stands that is in hand with these lengths.
+pub(crate) fn place_out(
+    rows: &[Upload],
+    tenant: u16,
+    number: u32,
+    received: u64,
+    reserved: u64,
+) -> Option<usize>
+    ensures { result ≡ position (λ u. u.tenant == tenant && u.number == number && is_out received reserved u.content) rows.now }
+{
+    rows.iter().position(|u| {
+        u.tenant == tenant && u.number == number && is_in_hand(&u.content, received, reserved)
+    })
 }
 
 /// A session.
@@ -75,7 +91,7 @@ pub(crate) fn number_of(next: &[u64], tenant: u16) -> u32
     next[tenant as usize] as u32
 }
 
-/// Takes a row out, and its length out of its tenant's sum.
+/// Takes a row out, and what it counts out of its tenant's sum.
 pub(crate) fn take_out(rows: &mut Vec<Upload>, totals: &mut Vec<u64>, i: usize)
     requires inside { i < length rows.old.items }
     requires counted { IsCounted totals.old.items rows.old.items }
@@ -85,6 +101,27 @@ pub(crate) fn take_out(rows: &mut Vec<Upload>, totals: &mut Vec<u64>, i: usize)
     ensures lengths { length totals.new.items ≡ length totals.old.items }
 {
     let row = rows.remove(i);
-    let len = sum_of(row.lens.as_slice());
-    totals[row.tenant as usize] -= len;
+    let charge = charge_of(&row.content);
+    totals[row.tenant as usize] -= charge;
+}
+
+/// Puts chunks home into a row, which counts no more than before, and answers their length. What the row
+/// counts less goes out of its tenant's sum.
+pub(crate) fn put_home(rows: &mut Vec<Upload>, totals: &mut Vec<u64>, i: usize, pieces: Pieces) -> u64
+    requires inside { i < length rows.old.items }
+    requires counted { IsCounted totals.old.items rows.old.items }
+    requires there { (d : Row) → (slice_index_or rows.old.items i d).tenant < length totals.old.items }
+    requires less { (d : Row) → length pieces.bytes.items ≤ content_charge (slice_index_or rows.old.items i d).content }
+    ensures value { result ≡ length pieces.bytes.items }
+    ensures rows { (d : Row) → d ≡ slice_index_or rows.old.items i d → rows.new.items ≡ slice_set rows.old.items i (record d { content = Home pieces }) }
+    ensures counted { IsCounted totals.new.items rows.new.items }
+    ensures lengths { length totals.new.items ≡ length totals.old.items }
+{
+    let row = &mut rows[i];
+    let before = charge_of(&row.content);
+    let after = pieces.bytes.as_slice().len() as u64;
+    let tenant = row.tenant;
+    row.content = Content::Home(pieces);
+    totals[tenant as usize] -= before - after;
+    after
 }

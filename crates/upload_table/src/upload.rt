@@ -1,22 +1,37 @@
-ghost use Rattle.std.specs.Prelude.{◌≡◌, ◌≢◌, ◌+◌, ◌<◌, ◌≤◌, ◌^◌, ◌++◌, ◌==◌, ◌&&◌, IfOk, IfErr, OnOk, OnErr, false, true, length, sum, take};
-ghost use Rattle.blob_digest.specs.Digests.{is_digest_of};
+ghost use Rattle.std.specs.Prelude.{◌≡◌, ◌+◌, ◌<◌, ◌^◌, ◌++◌, ◌==◌, ◌&&◌, IfOk, OnOk, OnErr, length, sum, true};
+ghost use Rattle.std.specs.Vec.{vec_capacity};
+ghost use Rattle.blob_digest.specs.Hashing.{Hashes};
 ghost use Rattle.blob_digest.specs.Keys.{same_text};
 ghost use Rattle.upload_table.specs.Sessions.{length_after as length_after_chunk};
-ghost use Rattle.upload_table.specs.Rows.{AddsChunk, IsSame, IsUnchanged, IsWhole};
+ghost use Rattle.upload_table.specs.Rows.{content_charge, content_received, is_at_home, is_out, IsSame};
+ghost use Rattle.upload_table.specs.declared.upload.Content.TheVariants.{Home, InHand};
 
-use blob_digest::{Blob, ByteRange, Digest, Refusal, RepoName, Running};
-use std::alloc::{AllocError, Global};
+use blob_digest::{ByteRange, Refusal, RepoName, Running};
+use std::alloc::AllocError;
 use std::mem;
 
-/// A row of the table: an open session. While the session is being closed, its bytes are elsewhere.
+/// The chunks of a session: their bytes, one after another, their lengths, and the hash of the bytes.
+#[derive(Drop)]
+pub(crate) struct Pieces {
+    pub(crate) bytes: Vec<u8>,
+    pub(crate) lens: Vec<u64>,
+    pub(crate) running: Running,
+}
+
+/// What the table has of a session: its chunks, or only their length while they are in hand.
+#[derive(Drop)]
+pub(crate) enum Content {
+    Home(Pieces),
+    InHand { received: u64, reserved: u64 },
+}
+
+/// A row of the table: an open session.
 #[derive(Drop)]
 pub(crate) struct Upload {
     pub(crate) tenant: u16,
     pub(crate) number: u32,
     pub(crate) repo: RepoName,
-    pub(crate) bytes: Vec<u8>,
-    pub(crate) lens: Vec<u64>,
-    pub(crate) running: Running,
+    pub(crate) content: Content,
 }
 
 /// Whether a session is a tenant's, for a repository.
@@ -24,6 +39,60 @@ pub(crate) fn is_for(upload: &Upload, tenant: u16, repo: &RepoName) -> bool
     ensures { result ≡ (upload.now.tenant == tenant && same_text upload.now.repo repo.now) }
 {
     upload.tenant == tenant && upload.repo == *repo
+}
+
+/// How many bytes a session has received.
+pub(crate) fn received_of(content: &Content) -> u64
+    ensures { result ≡ content_received content.now }
+{
+    match content {
+        Content::Home(pieces) => pieces.bytes.as_slice().len() as u64,
+        Content::InHand {
+            received,
+            reserved: _,
+        } => *received,
+    }
+}
+
+/// How many bytes a session counts in its tenant's use.
+pub(crate) fn charge_of(content: &Content) -> u64
+    requires { content_charge content.now < 2 ^ 64 }
+    ensures { result ≡ content_charge content.now }
+{
+    match content {
+        Content::Home(pieces) => pieces.bytes.as_slice().len() as u64,
+        Content::InHand { received, reserved } => *received + *reserved,
+    }
+}
+
+/// Whether a session is in hand with these lengths.
+pub(crate) fn is_in_hand(content: &Content, received: u64, reserved: u64) -> bool
+    ensures { result ≡ is_out received reserved content.now }
+{
+    match content {
+        Content::Home(_) => false,
+        Content::InHand {
+            received: n,
+            reserved: m,
+        } => *n == received && *m == reserved,
+    }
+}
+
+/// Takes the chunks out of a session that is at home, and reserves so many bytes.
+pub(crate) fn lift(upload: &mut Upload, len: u64) -> Pieces
+    requires { is_at_home upload.old.content ≡ true }
+    ensures pieces { upload.old.content ≡ Home result }
+    ensures row { upload.new ≡ record upload.old { content = InHand (content_received upload.old.content) len } }
+{
+    let received = received_of(&upload.content);
+    let out = Content::InHand {
+        received,
+        reserved: len,
+    };
+    match mem::replace(&mut upload.content, out) {
+        Content::Home(pieces) => pieces,
+        Content::InHand { .. } => unreachable!(),
+    }
 }
 
 /// The length of a session after a chunk, from that before it.
@@ -51,18 +120,21 @@ pub(crate) fn length_after(
     }
 }
 
-/// Adds a chunk at the end.
-pub(crate) fn add_chunk(upload: &mut Upload, chunk: &[u8]) -> Result<(), AllocError>
-    ensures ok { OnOk result (AddsChunk upload.old upload.new chunk.now) }
-    ensures err { OnErr result (IsUnchanged upload.old upload.new) }
+/// Adds the bytes of a chunk at the end, makes room for its length, and answers the hash of all bytes.
+/// The chunks' own hash stays, so that they need not be hashed again where the last one goes.
+pub(crate) fn extend(pieces: &mut Pieces, chunk: &[u8]) -> Result<Running, AllocError>
+    requires { Hashes pieces.old.running pieces.old.bytes.items }
+    ensures hash { IfOk result (λ w. Hashes w pieces.new.bytes.items) }
+    ensures bytes { OnOk result (pieces.new.bytes.items ≡ pieces.old.bytes.items ++ chunk.now) }
+    ensures room { OnOk result (length pieces.new.lens.items < vec_capacity pieces.new.lens) }
+    ensures err { OnErr result (pieces.new.bytes.items ≡ pieces.old.bytes.items) }
+    ensures same { IsSame pieces.old pieces.new }
 {
-    upload.lens.push(chunk.len() as u64)?;
-    if let Err(e) = upload.bytes.extend_from_slice(chunk) {
-        let _ = upload.lens.pop();
-        return Err(e);
-    }
-    upload.running.update(chunk);
-    Ok(())
+    pieces.lens.reserve(1)?;
+    pieces.bytes.extend_from_slice(chunk)?;
+    let mut whole = pieces.running.fork();
+    whole.update(chunk);
+    Ok(whole)
 }
 
 /// The sum of the lengths of some chunks.
@@ -71,45 +143,4 @@ pub(crate) fn sum_of(lens: &[u64]) -> u64
     ensures { result ≡ sum lens.now }
 {
     lens.iter().sum()
-}
-
-/// Moves the bytes, and then the last ones, into a blob.
-pub(crate) fn seal_row(
-    alloc: Global,
-    upload: &mut Upload,
-    last: &[u8],
-    digest: &Digest,
-) -> Result<Blob, Refusal>
-    requires { IsWhole upload.old }
-    ensures blob { IfOk result (λ b. b ≡ (digest.now, upload.old.bytes.items ++ last.now)) }
-    ensures agrees { OnOk result (is_digest_of digest.now (upload.old.bytes.items ++ last.now) ≡ true) }
-    ensures kept { OnOk result (IsSame upload.old upload.new) }
-    ensures refused { IfErr result (λ e. e ≢ Refusal.Memory → (e ≡ Refusal.DigestInvalid) × (is_digest_of digest.now (upload.old.bytes.items ++ last.now) ≡ false)) }
-    ensures err { OnErr result (IsUnchanged upload.old upload.new) }
-{
-    let received = upload.bytes.len();
-    upload.bytes.extend_from_slice(last)?;
-    let mut running = upload.running.fork();
-    running.update(last);
-    let whole = mem::replace(&mut upload.bytes, Vec::new(alloc));
-    match Blob::seal(whole, running, digest) {
-        Ok(blob) => Ok(blob),
-        Err(mut bytes) => {
-            bytes.truncate(received);
-            upload.bytes = bytes;
-            Err(Refusal::DigestInvalid)
-        }
-    }
-}
-
-/// Moves the bytes back out of a blob that begins with them.
-pub(crate) fn refill(upload: &mut Upload, blob: Blob)
-    requires { sum upload.old.lens.items ≤ length blob.1 }
-    ensures same { IsSame upload.old upload.new }
-    ensures bytes { upload.new.bytes.items ≡ take (sum upload.old.lens.items) blob.1 }
-{
-    let mut bytes = blob.into_bytes();
-    let received = sum_of(upload.lens.as_slice());
-    bytes.truncate(received as usize);
-    upload.bytes = bytes;
 }

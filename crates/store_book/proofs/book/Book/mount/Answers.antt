@@ -5,7 +5,7 @@ use Rattle.link_table.specs.Linked.{Linked, HasNoLinks, vanish}
 use Rattle.store_book.specs.BookState.{BookState}
 use Rattle.store_book.specs.Layers.{book_catalog}
 use Rattle.store_book.specs.Steps.{start}
-use Rattle.store_book.proofs.CloseCalls.{generations-kept}
+use Rattle.store_book.proofs.Finishing.{generations-kept}
 use Rattle.store_book.proofs.Mounting.{session_ok, session_refused, mount_refused_first, can_link, mount_ok, IsBook-mount}
 use Rattle.store_book.proofs.Starting.{same_catalog, same_book, undone, unneeded, appeared_there, appeared_unlinked}
 use Rattle.store_book.proofs.book.Book.mount.Goals as goal

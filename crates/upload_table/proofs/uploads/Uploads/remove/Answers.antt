@@ -1,32 +1,27 @@
-use Rattle.std.proofs.Common.{ap, sym, ◌∙◌, None}
+use Rattle.std.proofs.Common.{ap, sym, ◌∙◌}
 use Rattle.std.specs.FinMap.{remove as fremove}
-use Rattle.upload_table.specs.Rows.{shown}
-use Rattle.upload_table.specs.Uploaded.{Uploaded}
-use Rattle.upload_table.proofs.Sound.{opened, IsSound-remove, all_whole, tenants_counted}
+use Rattle.upload_table.specs.Uploaded.{Uploaded, with_sessions}
+use Rattle.upload_table.proofs.Sound.{IsSound-remove, tenants_counted}
 use Rattle.upload_table.proofs.Lookups.{nowhere, placed_row}
-use Rattle.upload_table.proofs.Closes.{shown-remove}
+use Rattle.upload_table.proofs.Hands.{is_some-home, shown-remove}
 use Rattle.upload_table.proofs.uploads.Uploads.remove.Goals as goal
 
 pub take_out-requires-clause-there : goal.take_out-requires-clause-there
 take_out-requires-clause-there c = λ d.
     let p = placed_row c.self.inside.rows.items c.args.tenant c.args.number c.in-Some.i (rw c.deref.ensures.value at c.in-Some.ensures) in
-    tenants_counted c.self.inside.next.items c.self.inside.totals.items c.self.inside.rows.items c.self.inside.closing c.self.invariant c.in-Some.i d p.2.within
+    tenants_counted c.self.inside.next.items c.self.inside.totals.items c.self.inside.rows.items c.self.invariant c.in-Some.i d p.2.within
 
 pub invariant_of-self : goal.invariant_of-self
 invariant_of-self c =
-    let o = opened c.self.inside.next.items c.self.inside.totals.items c.self.inside.rows.items c.self.inside.closing c.args.self.now c.self.invariant c.self.view_is c.requires.settled in
-    rw o.none (IsSound-remove c.self.inside.next.items c.self.inside.totals.items c.take_out.new.totals.items c.self.inside.rows.items c.take_out.new.rows.items None c.in-Some.i o.sound
-    (λ j d lt _. all_whole c.self.inside.next.items c.self.inside.totals.items c.self.inside.rows.items o.sound j d lt) c.take_out.ensures.rows c.take_out.ensures.counted c.take_out.ensures.lengths)
+    IsSound-remove c.self.inside.next.items c.self.inside.totals.items c.take_out.new.totals.items c.self.inside.rows.items c.take_out.new.rows.items c.in-Some.i c.self.invariant
+    c.take_out.ensures.rows c.take_out.ensures.counted c.take_out.ensures.lengths
 
 pub unreachable-requires : goal.unreachable-requires
 unreachable-requires c =
-    let o = opened c.self.inside.next.items c.self.inside.totals.items c.self.inside.rows.items c.self.inside.closing c.args.self.now c.self.invariant c.self.view_is c.requires.settled in
-    nowhere c.self.inside.next.items c.self.inside.rows.items c.args.self.now c.args.tenant c.args.number o.view c.requires.there (sym c.in-None.is ∙ rw c.deref.ensures.value at c.place_of.ensures)
+    nowhere c.self.inside.next.items c.self.inside.rows.items c.args.self.now c.args.tenant c.args.number c.self.view_is (is_some-home c.args.self.now.sessions (c.args.tenant, c.args.number) c.requires) (sym c.in-None.is ∙ rw c.deref.ensures.value at c.place_of.ensures)
 
 pub returns : goal.returns
 returns c =
-    let o = opened c.self.inside.next.items c.self.inside.totals.items c.self.inside.rows.items c.self.inside.closing c.args.self.now c.self.invariant c.self.view_is c.requires.settled in
     let p = placed_row c.self.inside.rows.items c.args.tenant c.args.number c.in-Some.i (rw c.deref.ensures.value at c.in-Some.ensures) in
-    ap (shown c.self.inside.next.items c.take_out.new.rows.items) o.none
-    ∙ shown-remove c.self.inside.next.items c.self.inside.totals.items c.self.inside.rows.items c.take_out.new.rows.items c.in-Some.i p.0 (c.args.tenant, c.args.number) o.sound p.2.within p.1 (λ j. (p.2.tenant j, p.2.number j)) c.take_out.ensures.rows
-    ∙ ap (λ (v : Uploaded). record v { sessions = fremove v.sessions (c.args.tenant, c.args.number) }) o.view
+    shown-remove c.self.inside.next.items c.self.inside.totals.items c.self.inside.rows.items c.take_out.new.rows.items c.in-Some.i p.0 (c.args.tenant, c.args.number) c.self.invariant p.2.within p.1 (λ j. (p.2.tenant j, p.2.number j)) c.take_out.ensures.rows
+    ∙ ap (λ (v : Uploaded). with_sessions v (fremove v.sessions (c.args.tenant, c.args.number))) c.self.view_is

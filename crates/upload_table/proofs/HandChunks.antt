@@ -1,0 +1,114 @@
+-- The chunks of a hand: their lengths, and its bytes cut at the last one.
+use Rattle.std.proofs.Common.{◌≡◌, ◌≢◌, ℕ, zero, suc, ◌+◌, ◌≤◌, ◌<◌, ◌^◌, Bool, true, false, List, [], ◌∷◌, ◌++◌, length, take, drop, Option, Some, None, refl, sym, ap, ◌∙◌, arith, length-append}
+use Rattle.std.proofs.Common.{length-drop}
+use Rattle.std.specs.Prelude.{sum, IfSome, nat_lt}
+use Rattle.std.specs.Option.{option_map, option_map_or}
+use Rattle.std.specs.List.{AllByRecursion, concat, sum_by}
+use Rattle.std.proofs.lemmas.Bool.Decides.{nat_tests}
+use Rattle.std.proofs.lemmas.List.{length-take-le, take-append-drop, append-nil}
+use Rattle.std.proofs.lemmas.List.Sums.{sum_by-cons, sum_by_push}
+use Rattle.std.proofs.Math.Seq.{drop-append_seam}
+use Rattle.blob_digest.specs.declared.running.Running.{Running}
+use Rattle.blob_digest.specs.Keys.{Number}
+use Rattle.upload_table.specs.Sessions.{Taken, chunks_of, whole_of, with_chunk}
+use Rattle.upload_table.specs.Uploaded.{cut}
+use Rattle.upload_table.specs.Rows.{taken, with_length, IsFilled, IsHand, IsSame}
+use Rattle.upload_table.specs.declared.upload.Pieces.{Pieces}
+use Rattle.upload_table.proofs.Cuts.{concat-cut, cut-more, cut-push, cut-take, sum_by-cut}
+
+-- a test that can't hold fails
+pub is_false : (b : Bool) → (b ≡ true → ⊥) → b ≡ false
+is_false true h = absurd (h refl)
+is_false false h = refl
+
+some_bytes : (n : ℕ) (b : List ℕ) → 0 < n → n ≤ length b → take n b ≢ []
+some_bytes n b some within e = omega (arith, length-take-le n b within, ap length e)
+
+-- chunks of positive lengths are not empty
+pub cut-nonempty : (lens bytes : List ℕ) → sum lens ≤ length bytes → AllByRecursion (λ n. 0 < n) lens → AllByRecursion (λ c. c ≢ []) (cut lens bytes)
+cut-nonempty [] bytes within all = tt
+cut-nonempty (n ∷ lens) bytes within all =
+    let total : sum (n ∷ lens) ≡ n + sum lens = sum_by-cons (λ x. x) n lens in
+    let rest : sum lens ≤ length (drop n bytes) = omega (arith, length-drop n bytes) in
+    let first : n ≤ length bytes = omega arith in
+    (some_bytes n bytes all.0 first, cut-nonempty lens (drop n bytes) rest all.1)
+
+-- the chunks joined are the front of the bytes
+pub concat-cut-front : (lens bytes : List ℕ) → sum lens ≤ length bytes → concat (cut lens bytes) ≡ take (sum lens) bytes
+concat-cut-front lens bytes within =
+    let whole : sum lens ≡ length (take (sum lens) bytes) = sym (length-take-le (sum lens) bytes within) in
+    ap concat (sym (cut-take lens bytes within)) ∙ concat-cut lens (take (sum lens) bytes) whole
+
+-- the chunks, and what follows them as the last one
+pub cut-last : (lens bytes : List ℕ) (n : ℕ) → length bytes ≡ sum lens + n → cut (with_length lens n) bytes ≡ with_chunk (cut lens bytes) (drop (sum lens) bytes)
+cut-last lens bytes n len = at (drop (sum lens) bytes) refl
+  where
+    at : (last : List ℕ) → drop (sum lens) bytes ≡ last → cut (with_length lens n) bytes ≡ with_chunk (cut lens bytes) last
+    at [] is =
+        let none : n ≡ 0 = omega (arith, len, length-drop (sum lens) bytes, ap length is) in
+        rw none refl
+    at (b ∷ bs) is =
+        let more : length (b ∷ bs) ≡ n = omega (arith, len, length-drop (sum lens) bytes, ap length is) in
+        let some : nat_lt 0 n ≡ true = grind (arith, nat_tests, more) in
+        let within : sum lens ≤ length bytes = omega arith in
+        let front : sum lens ≡ length (take (sum lens) bytes) = sym (length-take-le (sum lens) bytes within) in
+        let parts : bytes ≡ take (sum lens) bytes ++ (b ∷ bs) = sym (take-append-drop (sum lens) bytes) ∙ ap (λ d. take (sum lens) bytes ++ d) is in
+        rw some (ap (λ k. cut (lens ++ k ∷ []) bytes) (sym more)
+        ∙ ap (cut (lens ++ length (b ∷ bs) ∷ [])) parts
+        ∙ cut-push lens (take (sum lens) bytes) (b ∷ bs) front
+        ∙ ap (λ cs. cs ++ (b ∷ bs) ∷ []) (cut-take lens bytes within))
+
+module _ (received reserved : ℕ) (p : Pieces) (room : ℕ) (whole : Option Running) (hand : IsHand received reserved p room whole) where
+  -- the chunks are among the bytes
+  pub chunks_within : sum p.lens.items ≤ length p.bytes.items
+  chunks_within = at whole hand.filled
+    where
+      at : (w : Option Running) → IsFilled received reserved p room w → sum p.lens.items ≤ length p.bytes.items
+      at None filled = omega (arith, filled, hand.lengths)
+      at (Some w) filled = omega (arith, filled.0, hand.lengths)
+
+  pub hand_received : received ≡ sum_by length (cut p.lens.items p.bytes.items)
+  hand_received = sym hand.lengths ∙ sym (sum_by-cut p.lens.items p.bytes.items chunks_within)
+
+  pub hand_nonempty : AllByRecursion (λ c. c ≢ []) (cut p.lens.items p.bytes.items)
+  hand_nonempty = cut-nonempty p.lens.items p.bytes.items chunks_within hand.positive
+
+  -- its bytes are those of all its chunks
+  pub hand_whole : (t n : ℕ) → whole_of (taken t n received reserved p whole) ≡ p.bytes.items
+  hand_whole t n = at whole hand.filled
+    where
+      at : (w : Option Running) → IsFilled received reserved p room w → concat (cut p.lens.items p.bytes.items) ++ option_map_or (λ b. b) (option_map (λ (r : Running). drop received p.bytes.items) w) [] ≡ p.bytes.items
+      at None filled = append-nil (concat (cut p.lens.items p.bytes.items)) ∙ concat-cut p.lens.items p.bytes.items (hand.lengths ∙ sym filled)
+      at (Some w) filled = ap (λ front. front ++ drop received p.bytes.items) (concat-cut-front p.lens.items p.bytes.items chunks_within)
+          ∙ ap (λ k. take k p.bytes.items ++ drop received p.bytes.items) hand.lengths ∙ take-append-drop received p.bytes.items
+
+  -- with the length of the last one, its bytes are cut into all its chunks
+  pub hand_chunks : (t n : ℕ) (w : Running) → whole ≡ Some w → cut (with_length p.lens.items reserved) p.bytes.items ≡ chunks_of (taken t n received reserved p whole)
+  hand_chunks t n w is = at whole is hand.filled
+    where
+      at : (v : Option Running) → v ≡ Some w → IsFilled received reserved p room v → cut (with_length p.lens.items reserved) p.bytes.items ≡ chunks_of (taken t n received reserved p v)
+      at None none filled = absurd cc
+      at (Some v) some filled =
+          let len : length p.bytes.items ≡ sum p.lens.items + reserved = omega (arith, filled.0, hand.lengths) in
+          cut-last p.lens.items p.bytes.items reserved len ∙ ap (λ k. with_chunk (cut p.lens.items p.bytes.items) (drop k p.bytes.items)) hand.lengths
+
+  -- a chunk is filled in
+  pub hand_fill : (t n : ℕ) (new : Pieces) (w : Running) (chunk : List ℕ) → (taken t n received reserved p whole).last ≡ None → new.lens.items ≡ p.lens.items → new.bytes.items ≡ p.bytes.items ++ chunk →
+      taken t n received reserved new (Some w) ≡ record (taken t n received reserved p whole) { last = Some chunk }
+  hand_fill t n new w chunk empty lens bytes = at whole empty hand.filled
+    where
+      at : (v : Option Running) → (taken t n received reserved p v).last ≡ None → IsFilled received reserved p room v → taken t n received reserved new (Some w) ≡ record (taken t n received reserved p v) { last = Some chunk }
+      at None none filled =
+          let chunks : cut new.lens.items new.bytes.items ≡ cut p.lens.items p.bytes.items = rw (lens, bytes) (cut-more p.lens.items p.bytes.items chunk chunks_within) in
+          let last : drop received new.bytes.items ≡ chunk = rw bytes (ap (λ k. drop k (p.bytes.items ++ chunk)) (sym filled) ∙ drop-append_seam p.bytes.items chunk) in
+          λ i. record { key = (t, n); chunks = chunks i; reserved = reserved; last = Some (last i) }
+      at (Some v) none filled = absurd cc
+
+-- all chunks of a hand are no longer than what is received and reserved
+pub chunks_of-length : (h : Taken) → IfSome h.last (λ b. length b ≡ h.reserved) → sum_by length (chunks_of h) ≤ sum_by length h.chunks + h.reserved
+chunks_of-length h = at h.last
+  where
+    at : (last : Option (List ℕ)) → IfSome last (λ b. length b ≡ h.reserved) → sum_by length (option_map_or (with_chunk h.chunks) last h.chunks) ≤ sum_by length h.chunks + h.reserved
+    at None fits = omega arith
+    at (Some []) fits = omega arith
+    at (Some (b ∷ bs)) fits = omega (arith, sum_by_push (λ (c : List ℕ). length c) h.chunks (b ∷ bs), fits)

@@ -1,0 +1,11 @@
+use Rattle.std.proofs.Common.{length, ap, ◌∙◌}
+use Rattle.std.specs.Vec.{vec_capacity}
+use Rattle.std.specs.List.{sum_by}
+use Rattle.upload_table.specs.Sessions.{Taken}
+use Rattle.upload_table.proofs.HandChunks.{hand_received}
+use Rattle.upload_table.proofs.hand.Hand.received.Goals as goal
+
+pub returns : goal.returns
+returns c =
+    hand_received c.self.inside.received c.self.inside.reserved c.self.inside.pieces (vec_capacity c.self.inside.pieces.lens) c.self.inside.whole c.self.invariant
+    ∙ ap (λ (h : Taken). sum_by length h.chunks) c.self.view_is

@@ -1,0 +1,11 @@
+use Rattle.std.proofs.Common.{subst, ◌≢◌, []}
+use Rattle.std.specs.Vec.{vec_capacity}
+use Rattle.std.specs.List.{AllByRecursion}
+use Rattle.upload_table.specs.Sessions.{Taken}
+use Rattle.upload_table.proofs.HandChunks.{hand_nonempty}
+use Rattle.upload_table.proofs.hand.Hand.reserved.Goals as goal
+
+pub returns-clause-pieces : goal.returns-clause-pieces
+returns-clause-pieces c =
+    subst (λ (h : Taken). AllByRecursion (λ b. b ≢ []) h.chunks) c.self.view_is
+    (hand_nonempty c.self.inside.received c.self.inside.reserved c.self.inside.pieces (vec_capacity c.self.inside.pieces.lens) c.self.inside.whole c.self.invariant)
