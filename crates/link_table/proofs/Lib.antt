@@ -7,4 +7,5 @@ pub mod Shelves
 pub mod Soundness
 pub mod Tables
 pub mod TenantLists
+pub mod TenantSearch
 pub mod Weights

@@ -93,7 +93,7 @@ impl Links {
     }
 
     /// The number of the tenant that a repository belongs to: the one of its name's first component.
-    /// Where there is none, `NameUnknown`. It takes a look at each tenant.
+    /// Where there is none, `NameUnknown`. It takes the logarithm of the number of tenants.
     pub fn tenant(&self, repo: &RepoName) -> Result<u16, Refusal>
         ensures known { result ≡ known_tenant self.now repo.now }
         ensures there { IfOk result (λ t. t < length self.now.tenants) }
