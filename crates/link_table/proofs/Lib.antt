@@ -1,8 +1,11 @@
 pub mod Accepted
 pub mod HolderCounts
-pub mod LinkRows
-pub mod RepoRows
-pub mod Runs
+pub mod Parts
+pub mod ShelfCalls
+pub mod ShelfRows
+pub mod Shelves
 pub mod Soundness
+pub mod Tables
 pub mod TenantLists
+pub mod TenantSearch
 pub mod Weights

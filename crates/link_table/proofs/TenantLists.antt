@@ -11,7 +11,7 @@ use Rattle.std.specs.Cmp.{IsTotalOrder}
 use Rattle.std.specs.Cmp.Lexicographic.{nat_list_cmp_total, texts_ties}
 use Rattle.std.specs.List.{All, AllByRecursion, AllAdjacentBelow, list_any, count_by, position}
 use Rattle.std.specs.List.Sorted.{IsPermutation, IsSortedBy, IsStrictlySortedBy}
-use Rattle.std.proofs.lemmas.Bool.{cases_order, true≢false, ne_eqb, eq-eqb, false_from_ne_true}
+use Rattle.std.proofs.lemmas.Bool.{true≢false, eq-eqb, eqb-true}
 use Rattle.std.proofs.lemmas.List.Elements.{All-map}
 use Rattle.std.proofs.lemmas.List.Quantifiers.{position-Some}
 use Rattle.std.proofs.lemmas.List.Sorted.{All-permutation, length_permutation, sum_by-IsPermutation, IsPermutation-sym, IsPermutation-map}
@@ -21,7 +21,6 @@ use Rattle.blob_digest.specs.Keys.{Text, text_cmp, same_text, tenant_name}
 use Rattle.blob_digest.specs.Names.{IsComponent}
 use Rattle.blob_digest.specs.Tenants.{Tenant, tenant_of, is_tenants}
 use Rattle.blob_digest.proofs.RowLemmas.{is_some-position, position-map, sum_by-map}
-use Rattle.link_table.specs.Lookups.{has_tenant}
 use Rattle.blob_digest.proofs.SortedRows.{map_at}
 use Rattle.link_table.specs.Tenancy.{HasNames, IsWithinLimits, AreTenants, tenant_shown, tenants_shown}
 
@@ -97,54 +96,24 @@ module _ (xs ys : List Tenant) (moved : IsPermutation xs ys) where
 
 -- ---- whose a repository is
 
-any_place : {A : Type 0} (p : A → Bool) (xs : List A) (j : ℕ) (d : A) → j < length xs → p (get_or xs j d) ≡ true → list_any p xs ≡ true
-any_place p [] j d lt h = absurd (omega arith)
-any_place p (x ∷ xs) zero d lt h = rw h refl
-any_place p (x ∷ xs) (suc j) d lt h = rw (any_place p xs j d (omega arith) h) (or_true (p x))
-  where
-    or_true : (b : Bool) → (b || true) ≡ true
-    or_true true = refl
-    or_true false = refl
-
-module _ (ts : List Tenant) (names : HasNames ts) (t : ℕ) (lt : t < length ts) (d : Tenant) (q : Text) where
-  abbrev named : Tenant → Bool
-  named x = same_text x.name q
-
-  -- no two places have the name
-  alone : (i j : ℕ) → i < j → j < length ts → named (get_or ts i d) ≡ true → named (get_or ts j d) ≡ true → ⊥
-  alone i j below within g h = let two = two_places named ts i j d below within g h in let few = names.apart q in omega arith
-
-  at_place : (o : Option ℕ) → position named ts ≡ o → (b : Bool) → named (get_or ts t d) ≡ b → option_eq nat_eq o (Some t) ≡ b
-  at_place None none true is = absurd (true≢false (sym (any_place named ts t d lt is) ∙ sym (is_some-position named ts) ∙ ap is_some none))
-  at_place None none false is = refl
-  at_place (Some i) some b is =
-      let first = position-Some named ts i d some in
-      elim (cases_order i t) [
-        | inl e ↦ rw e (eq-eqb t t refl ∙ sym (sym is ∙ ap (λ k. named (get_or ts k d)) (sym e) ∙ first.1))
-        | inr (inl below) ↦ ne_eqb i t (λ e. omega arith) ∙ sym (false_from_ne_true b (λ h. alone i t below lt first.1 (is ∙ h)))
-        | inr (inr above) ↦ ne_eqb i t (λ e. omega arith) ∙ sym (false_from_ne_true b (λ h. alone t i above first.0 (is ∙ h) first.1))
-      ]
-
--- a repository is a tenant's where its name begins with the tenant's
-pub is_tenants-named : (ts : List Tenant) → HasNames ts → (t : ℕ) → t < length ts → (d : Tenant) → is_tenants ts t ≡ has_tenant (get_or ts t d).name
-is_tenants-named ts names t lt d = λ i repo. at_place ts names t lt d (tenant_name repo) (position (λ x. same_text x.name (tenant_name repo)) ts) refl (same_text (get_or ts t d).name (tenant_name repo)) refl i
-
-pub names_of : (ts : List Tenant) → AreTenants ts → HasNames ts
-names_of ts tenants = record { components = tenants.components; apart = once ts tenants.rising }
-
--- the same where the tenant is read from the rows
-pub is_tenants-read : (rows : List (String Global × ℕ)) → AreTenants (tenants_shown rows) → (t : ℕ) → t < length (tenants_shown rows) → (x : String Global × ℕ) → x ≡ get_or rows t x → (name : Text) → name ≡ string_bytes x.0 →
-    is_tenants (tenants_shown rows) t ≡ has_tenant name
-is_tenants-read rows tenants t lt x is name named =
-    is_tenants-named (tenants_shown rows) (names_of (tenants_shown rows) tenants) t lt (tenant_shown x)
-    ∙ ap (λ (y : Tenant). has_tenant y.name) (map_at tenant_shown rows t x ∙ ap tenant_shown (sym is)) ∙ ap has_tenant (sym named)
-
 -- a repository's tenant is looked up in the rows
 pub tenant_of-rows : (rows : List (String Global × ℕ)) (repo name : Text) → name ≡ tenant_name repo → tenant_of (tenants_shown rows) repo ≡ position (λ t. same_text (string_bytes t.0) name) rows
 tenant_of-rows rows repo name is = position-map (λ t. same_text t.name (tenant_name repo)) tenant_shown rows ∙ ap (λ n. position (λ t. same_text (string_bytes t.0) n) rows) (sym is)
 
 pub is_tenants-found : (ts : List Tenant) (repo : Text) (t : ℕ) → tenant_of ts repo ≡ Some t → is_tenants ts t repo ≡ true
 is_tenants-found ts repo t found = ap (λ o. option_eq nat_eq o (Some t)) found ∙ eq-eqb t t refl
+
+-- a tenant that has a repository is there
+pub own_within : (ts : List Tenant) (t : ℕ) (repo : Text) → is_tenants ts t repo ≡ true → t < length ts
+own_within ts t repo own = (position-Some (λ x. same_text x.name (tenant_name repo)) ts t (record { name = []; quota = 0 }) (is_some_of (tenant_of ts repo) own)).0
+  where
+    is_some_of : (o : Option ℕ) → option_eq nat_eq o (Some t) ≡ true → o ≡ Some t
+    is_some_of None e = cc
+    is_some_of (Some x) e = ap Some (eqb-true x t e)
+
+-- a repository that no tenant has
+pub nobodys : (ts : List Tenant) (repo : Text) → tenant_of ts repo ≡ None → (t : ℕ) → is_tenants ts t repo ≡ false
+nobodys ts repo none t = ap (λ o. option_eq nat_eq o (Some t)) none
 
 -- ---- what the checks find
 

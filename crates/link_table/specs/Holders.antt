@@ -3,9 +3,9 @@ use Rattle.std.specs.Prelude.{◌≡◌, ℕ, ◌&&◌, ◌==◌, Bool, List, co
 use Rattle.std.specs.declared.cmp.Ordering.{Ordering}
 use Rattle.std.specs.Ordering.{nat_cmp, ordering_then}
 use Rattle.std.specs.BTreeMap as tree
-use Rattle.blob_digest.specs.Keys.{Text, text_cmp, same_text}
+use Rattle.std.specs.FinMap as fmap
+use Rattle.blob_digest.specs.Keys.{Text, Link, text_cmp, link_cmp, same_text}
 use Rattle.link_table.specs.Linked.{Tenant, is_tenants}
-use Rattle.link_table.specs.declared.rows.LinkRow.{LinkRow}
 
 -- a tenant's number, and a digest
 abbrev pub Holding : Type 0
@@ -23,10 +23,10 @@ count_of holders t d = unwrap_or (tree.get holding_cmp holders (t, d)) 0
 abbrev pub is_key : ℕ → Text → ℕ → Text → Bool
 is_key t d u e = (t == u) && same_text d e
 
--- whether a row links this digest in a repository of this tenant
-abbrev pub is_held : List Tenant → ℕ → Text → LinkRow → Bool
-is_held tenants t d row = same_text row.digest d && is_tenants tenants t row.repo
+-- whether an entry links this digest in a repository of this tenant
+abbrev pub is_held : List Tenant → ℕ → Text → Link × ℕ → Bool
+is_held tenants t d e = same_text e.0.1 d && is_tenants tenants t e.0.0
 
 -- the map counts the links of each tenant to each digest
-abbrev pub Counts : List Tenant → List LinkRow → tree.BTreeMap Holding ℕ → Type 0
-Counts tenants rows holders = (t : ℕ) (d : Text) → count_of holders t d ≡ count_by (is_held tenants t d) rows
+abbrev pub Counts : List Tenant → fmap.FinMap link_cmp ℕ → tree.BTreeMap Holding ℕ → Type 0
+Counts tenants links holders = (t : ℕ) (d : Text) → count_of holders t d ≡ count_by (is_held tenants t d) (fmap.entries links)

@@ -1,5 +1,6 @@
 pub mod Linked
-pub mod Lookups
+pub mod Shelves
 pub mod Rows
+pub mod Running
 pub mod Tenancy
 pub mod Holders

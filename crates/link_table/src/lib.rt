@@ -6,11 +6,15 @@
 //! each counted once, and what was charged besides; and that a charge never passes the quota.
 #![tactic(auto)]
 
+mod blobs;
 mod holders;
 mod links;
-mod rows;
+mod repo;
+mod shelf;
 mod tenants;
+mod weigh;
 
+pub use blobs::Blobs;
 pub use links::Links;
 pub use tenants::{MAX_QUOTA, MAX_TENANTS};
 

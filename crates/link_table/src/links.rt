@@ -1,36 +1,36 @@
-ghost use Rattle.std.specs.Prelude.{◌≡◌, ◌+◌, ◌<◌, ◌≤◌, ◌^◌, length, true, false, slice_index, slice_get, Some, Ok, IfOk, IfErr, IfSome};
+ghost use Rattle.std.specs.Prelude.{◌≡◌, ◌+◌, ◌<◌, ◌≤◌, ◌^◌, length, replicate, true, false, slice_index, slice_get, Some, Ok, IfOk, IfErr};
 ghost use Rattle.std.specs.Option.{option_copied, option_map};
 ghost use Rattle.std.specs.FinMap as fmap;
 ghost use Rattle.blob_digest.specs.Sets as set;
 ghost use Rattle.blob_digest.specs.Outcomes.{Does, DoesExactly};
+ghost use Rattle.blob_digest.specs.declared.refusal.Refusal.TheVariants.{Memory};
+ghost use Rattle.link_table.specs.Shelves.{nothing};
 ghost use Rattle.link_table.specs.Linked.{is_tenants, known_tenant, used_in, quota_in, blobs_of, repos_of, blobs_in, link, unlink, charge, discharge, appear, vanish, IsSizeOf, HasNoLinks};
 ghost use Rattle.link_table.specs.Tenancy.{Opens, AreTenants, RefusesTenants, tenants_shown};
 
+use crate::blobs::Blobs;
 use crate::holders::{Holders, holders_of, lower, raise};
-use crate::rows::{
-    LinkRow, link_place, nth_named, nth_of, repo_place, repos_named, weight_with, weight_without,
-};
+use crate::shelf::Shelf;
 use crate::tenants::{in_order, tenant_at};
+use crate::weigh::{weight_with, weight_without};
 use blob_digest::{Digest, Refusal, RepoName};
 use std::alloc::Global;
 use std::collections::BTreeMap;
 use std::marker::Model;
 
-/// The most repositories that a tenant may have.
-const MAX_REPOS: usize = 1024;
-
 /// Tenants with quotas, their repositories, the links of repositories to blobs, and what each tenant
 /// is charged. Contracts see these four; what a tenant uses follows from them.
 ///
 /// Tenants are numbered from 0 in the order of their names. Sizes, quotas, charges and uses are in
-/// bytes. A table keeps its repositories in the order of their names, and its links in that of
-/// repository and digest: to find one takes the logarithm of their number, and to add or to remove
-/// one moves those behind it. It counts for each tenant and digest how many repositories hold it.
+/// bytes. Each tenant has its repositories in the order of their names, and each repository its blobs
+/// in an ordered map: every call takes at most the logarithm of what the table holds, and one that
+/// adds or removes a repository moves the tenant's, at most 1,024. The table counts for each tenant
+/// and digest how many repositories hold it.
 #[derive(Drop)]
 pub struct Links {
+    alloc: Global,
     tenants: Vec<(String, u64)>,
-    repos: Vec<RepoName>,
-    links: Vec<LinkRow>,
+    shelves: Vec<Shelf>,
     holders: Holders,
     weights: Vec<u64>,
     charges: Vec<u64>,
@@ -45,12 +45,25 @@ impl Model for Links {
     ghost coded = { coded_linked };
 
     ghost use Rattle.link_table.specs.Tenancy.{tenants_shown};
-    ghost use Rattle.link_table.specs.Rows.{links_shown, IsSound};
+    ghost use Rattle.link_table.specs.Shelves.{repos_shown, links_shown, IsShelved};
+    ghost use Rattle.link_table.specs.Running.{IsSound};
     ghost use Rattle.link_table.specs.Holders.{Counts};
 
-    ghost view = { λ a. record { tenants = tenants_shown a.tenants.items; repos = set.from_list a.repos.items; links = links_shown a.links.items; charges = a.charges.items } };
+    ghost view = { λ a. record { tenants = tenants_shown a.tenants.items; repos = repos_shown a.shelves.items; links = links_shown a.shelves.items; charges = a.charges.items } };
 
-    ghost invariant = { λ a. IsSound (tenants_shown a.tenants.items) a.repos.items a.links.items a.weights.items a.charges.items × Counts (tenants_shown a.tenants.items) a.links.items a.holders };
+    ghost invariant = { λ a. IsSound (tenants_shown a.tenants.items) (links_shown a.shelves.items) a.weights.items a.charges.items × IsShelved (tenants_shown a.tenants.items) a.shelves.items × Counts (tenants_shown a.tenants.items) (links_shown a.shelves.items) a.holders };
+}
+
+/// As many tenants without repositories.
+fn shelves(alloc: Global, count: usize) -> Result<Vec<Shelf>, Refusal>
+    ensures ok { IfOk result (λ v. v.items ≡ replicate count nothing) }
+    ensures refused { IfErr result (λ e. e ≡ Memory) }
+{
+    let mut shelves = Vec::new(alloc);
+    for _ in 0..count {
+        shelves.push(Shelf::new(alloc))?;
+    }
+    Ok(shelves)
 }
 
 impl Links {
@@ -68,10 +81,11 @@ impl Links {
         let count = tenants.as_slice().len();
         let weights = vec![in alloc; 0u64; count]?;
         let charges = vec![in alloc; 0u64; count]?;
+        let shelves = shelves(alloc, count)?;
         Ok(Links {
+            alloc,
             tenants,
-            repos: Vec::new(alloc),
-            links: Vec::new(alloc),
+            shelves,
             holders: BTreeMap::new(alloc),
             weights,
             charges,
@@ -79,7 +93,7 @@ impl Links {
     }
 
     /// The number of the tenant that a repository belongs to: the one of its name's first component.
-    /// Where there is none, `NameUnknown`. It takes a look at each tenant.
+    /// Where there is none, `NameUnknown`. It takes the logarithm of the number of tenants.
     pub fn tenant(&self, repo: &RepoName) -> Result<u16, Refusal>
         ensures known { result ≡ known_tenant self.now repo.now }
         ensures there { IfOk result (λ t. t < length self.now.tenants) }
@@ -153,22 +167,14 @@ impl Links {
     }
 
     /// Makes a repository of a tenant known, and answers whether it is new. A tenant has at most
-    /// 1,024 repositories: one more is refused (`LimitReached`), and so is want of memory. A new one
-    /// takes a look at each repository of the table.
+    /// 1,024 repositories: one more is refused (`LimitReached`), and so is want of memory. It takes the
+    /// logarithm of the number of the tenant's repositories, and a new one moves those behind it.
     pub fn appear(&mut self, tenant: u16, repo: &RepoName) -> Result<bool, Refusal>
-        requires { tenant < length self.old.tenants }
+        requires there { tenant < length self.old.tenants }
+        requires own { is_tenants self.old.tenants tenant repo.now ≡ true }
         ensures { Does (λ b. b) result self.old self.new (appear self.old tenant repo.now) }
     {
-        let Err(place) = repo_place(self.repos.as_slice(), repo) else {
-            return Ok(false);
-        };
-        let name = self.tenants[tenant as usize].0.as_str();
-        if repos_named(self.repos.as_slice(), name) >= MAX_REPOS {
-            return Err(Refusal::LimitReached);
-        }
-        let copy = repo.clone()?;
-        self.repos.insert(place, copy)?;
-        Ok(true)
+        self.shelves[tenant as usize].appear(self.alloc, repo)
     }
 
     /// Takes back that a repository of a tenant, which has no links, is known.
@@ -178,17 +184,11 @@ impl Links {
         requires unlinked { HasNoLinks self.old.links repo.now }
         ensures { self.new ≡ vanish self.old repo.now }
     {
-        match repo_place(self.repos.as_slice(), repo) {
-            Ok(place) => {
-                self.repos.remove(place);
-            }
-            Err(_) => unreachable!(),
-        }
+        self.shelves[tenant as usize].vanish(repo);
     }
 
     /// Links a blob of this digest and size in a repository of a tenant, and answers whether the
-    /// link is new. Want of memory is refused. It takes the logarithm of the number of links, and a new
-    /// one moves the rows behind it.
+    /// link is new. Want of memory is refused. It takes the logarithm of the number of links.
     pub fn link(
         &mut self,
         tenant: u16,
@@ -203,45 +203,35 @@ impl Links {
         requires room { used_in self.old tenant + size < 2 ^ 64 }
         ensures { Does (λ b. b) result self.old self.new (link self.old repo.now digest.now size) }
     {
-        let Err(place) = link_place(self.links.as_slice(), repo, digest) else {
+        if self.shelves[tenant as usize].holds(repo, digest) {
             return Ok(false);
-        };
+        }
         let held = holders_of(&self.holders, tenant, digest) > 0;
         let weight = weight_with(self.weights[tenant as usize], held, size);
-        let row = LinkRow {
-            repo: repo.clone()?,
-            digest: *digest,
-            size,
-        };
         raise(&mut self.holders, tenant, digest)?;
-        let Ok(()) = self.links.insert(place, row) else {
+        if let Err(e) = self.shelves[tenant as usize].link(repo, digest, size) {
             lower(&mut self.holders, tenant, digest);
-            return Err(Refusal::Memory);
-        };
+            return Err(e);
+        }
         self.weights[tenant as usize] = weight;
         Ok(true)
     }
 
-    /// Takes a link out of a repository of a tenant. It takes the logarithm of the number of links, and
-    /// moves the rows behind it.
+    /// Takes a link out of a repository of a tenant. It takes the logarithm of the number of links.
     pub fn unlink(&mut self, tenant: u16, repo: &RepoName, digest: &Digest)
         requires there { tenant < length self.old.tenants }
         requires own { is_tenants self.old.tenants tenant repo.now ≡ true }
         requires linked { fmap.contains_key self.old.links (repo.now, digest.now) ≡ true }
         ensures { self.new ≡ unlink self.old repo.now digest.now }
     {
-        match link_place(self.links.as_slice(), repo, digest) {
-            Ok(place) => {
-                let row = self.links.remove(place);
+        match self.shelves[tenant as usize].unlink(repo, digest) {
+            Some(size) => {
                 lower(&mut self.holders, tenant, digest);
                 let held = holders_of(&self.holders, tenant, digest) > 0;
-                self.weights[tenant as usize] = weight_without(
-                    self.weights[tenant as usize],
-                    held,
-                    row.size,
-                );
+                self.weights[tenant as usize] =
+                    weight_without(self.weights[tenant as usize], held, size);
             }
-            Err(_) => unreachable!(),
+            None => unreachable!(),
         }
     }
 
@@ -249,7 +239,10 @@ impl Links {
     pub fn holds(&self, repo: &RepoName, digest: &Digest) -> bool
         ensures { result ≡ fmap.contains_key self.now.links (repo.now, digest.now) }
     {
-        link_place(self.links.as_slice(), repo, digest).is_ok()
+        match tenant_at(self.tenants.as_slice(), repo.tenant()) {
+            Some(t) => self.shelves[t].holds(repo, digest),
+            None => false,
+        }
     }
 
     /// Whether some repository of a tenant holds the blob of a digest. It takes the logarithm of the
@@ -261,22 +254,25 @@ impl Links {
         holders_of(&self.holders, tenant, digest) > 0
     }
 
-    /// The i-th repository of a tenant, in the order of their names, from 0. It takes a look at each
-    /// repository of the table up to that one.
+    /// The i-th repository of a tenant, in the order of their names, from 0. It takes the same time for
+    /// each.
     pub fn repo_at(&self, tenant: u16, i: usize) -> Option<&RepoName>
         requires { tenant < length self.now.tenants }
         ensures { option_copied result ≡ slice_get (repos_of self.now tenant) i }
     {
-        let name = self.tenants[tenant as usize].0.as_str();
-        nth_named(self.repos.as_slice(), name, i)
+        self.shelves[tenant as usize].repo_at(i)
     }
 
-    /// The i-th blob that a repository holds, in the order of their digests, from 0, with its size
-    /// in bytes. It takes the logarithm of the number of links.
-    pub fn blob_at(&self, repo: &RepoName, i: usize) -> Option<(Digest, u64)>
-        ensures value { result ≡ slice_get (blobs_in self.now repo.now) i }
-        ensures next { IfSome result (λ _. i + 1 < 2 ^ 64) }
+    /// The blobs that a repository holds, in the order of their digests, with their sizes in bytes. All
+    /// of them take a step each.
+    pub fn blobs(&self, repo: &RepoName) -> Blobs<'_>
+        ensures { result ≡ blobs_in self.now repo.now }
     {
-        nth_of(self.links.as_slice(), repo, i)
+        match tenant_at(self.tenants.as_slice(), repo.tenant()) {
+            Some(t) => Blobs {
+                rest: self.shelves[t].blobs(repo),
+            },
+            None => Blobs { rest: None },
+        }
     }
 }

@@ -1,8 +1,8 @@
 //! Which lists of tenants make a table.
 
-ghost use Rattle.std.specs.Prelude.{◌≡◌, ◌≤◌, ◌<◌, ◌↔◌, IsTrue, IfOk, IfErr, position, string_bytes};
+ghost use Rattle.std.specs.Prelude.{◌≡◌, ◌≤◌, ◌<◌, ◌↔◌, IsTrue, IfOk, IfErr, length, position, string_bytes};
 ghost use Rattle.std.specs.List.{All, IsAllAdjacentAnswer};
-ghost use Rattle.std.specs.List.Sorted.{IsPermutation};
+ghost use Rattle.std.specs.List.Sorted.{IsPermutation, IsBinarySearchResult, IsSearchInRange};
 ghost use Rattle.std.specs.Ordering.{is_lt};
 ghost use Rattle.blob_digest.specs.Keys.{text_cmp, same_text};
 ghost use Rattle.blob_digest.specs.Names.{IsComponent};
@@ -16,11 +16,20 @@ pub const MAX_TENANTS: usize = 256;
 /// The greatest quota, in bytes.
 pub const MAX_QUOTA: u64 = 1 << 50;
 
-/// Which of the tenants has a name.
+/// Where a name stands among those of the tenants, or where it would go.
+fn place_named(tenants: &[(String, u64)], name: &str) -> Result<usize, usize>
+    ensures within { IsSearchInRange result (length tenants.now) }
+    ensures place { IsBinarySearchResult (λ t. text_cmp (string_bytes t.0) name.now) tenants.now result }
+{
+    tenants.binary_search_by(|t| t.0.as_str().cmp(name))
+}
+
+/// Which of the tenants has a name. It takes the logarithm of their number.
 pub fn tenant_at(tenants: &[(String, u64)], name: &str) -> Option<usize>
+    requires { AreTenants (tenants_shown tenants.now) }
     ensures { result ≡ position (λ t. same_text (string_bytes t.0) name.now) tenants.now }
 {
-    tenants.iter().position(|t| t.0.as_str() == name)
+    place_named(tenants, name).ok()
 }
 
 /// Whether each name is one component of a repository's name.

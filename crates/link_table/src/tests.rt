@@ -212,11 +212,13 @@ fn repositories_and_blobs_are_read_in_order(rt: HostRuntime) {
     hold(&rt, &mut links, &two, &abc);
     hold(&rt, &mut links, &three, &abc);
     hold(&rt, &mut links, &one, &empty);
-    assert_eq!(rt; links.blob_at(&two, 0), Some((abc, 3)));
-    assert_eq!(rt; links.blob_at(&two, 1), Some((empty, 3)));
-    assert_eq!(rt; links.blob_at(&two, 2), None);
-    assert_eq!(rt; links.blob_at(&one, 0), Some((empty, 3)));
-    assert_eq!(rt; links.blob_at(&one, 1), None);
+    let mut blobs = links.blobs(&two);
+    assert_eq!(rt; blobs.next(), Some((abc, 3)));
+    assert_eq!(rt; blobs.next(), Some((empty, 3)));
+    assert_eq!(rt; blobs.next(), None);
+    assert_eq!(rt; links.blobs(&one).next(), Some((empty, 3)));
+    assert_eq!(rt; links.blobs(&name(&rt, alloc, "acme/none")).next(), None);
+    assert_eq!(rt; links.blobs(&name(&rt, alloc, "nobody")).next(), None);
     let tenant = links.tenant(&one).expect(&rt, "a tenant");
     assert!(rt; links.tenant_holds(tenant, &abc));
     assert!(rt; links.repo_at(tenant, 0) == Some(&one));

@@ -60,10 +60,8 @@ fn print_blobs<W: Write>(
 ) -> io::Result<()>
     ensures { OnOk result (Appends (W.contents writer.old) (W.contents writer.new) (flat_map (blob_row slots.now) (blobs_in links.now repo.now))) }
 {
-    let mut i = 0;
-    while let Some(blob) = links.blob_at(repo, i) {
+    for blob in links.blobs(repo) {
         print_blob(writer, slots, blob)?;
-        i += 1;
     }
     Ok(())
 }

@@ -1,12 +1,11 @@
-use Rattle.std.proofs.Common.{◌-◌, length, take}
+use Rattle.std.proofs.Common.{List, ℕ}
 use Rattle.std.specs.List.{flat_map}
 use Rattle.std.specs.Io.KnownBytes.{Appends}
+use Rattle.std.specs.Prelude.{Option}
 use Rattle.link_table.specs.Linked.{blobs_in}
 use Rattle.store_book.specs.Lines.{blob_row}
 use Rattle.store_book.proofs.print.print_blobs.Given as goal
 
+-- whoever writes the blobs that are left has written them all
 abbrev pub invariant-loop-blob : goal.invariant-loop-blob
-invariant-loop-blob g l = Appends (g.W.Write.contents l.fn.writer) (g.W.Write.contents l.writer) (flat_map (blob_row l.slots) (take l.i (blobs_in l.links l.repo)))
-
-abbrev pub decreases-loop-blob : goal.decreases-loop-blob
-decreases-loop-blob g l = length (blobs_in l.links l.repo) - l.i
+invariant-loop-blob g l = (whole : Option (List ℕ)) → Appends (g.W.Write.contents l.writer) whole (flat_map (blob_row l.slots) l.blob-iterator) → Appends (g.W.Write.contents l.fn.writer) whole (flat_map (blob_row l.slots) (blobs_in l.links l.repo))

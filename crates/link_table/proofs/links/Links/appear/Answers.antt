@@ -1,46 +1,32 @@
-use Rattle.std.proofs.Common.{◌<◌, ◌≤◌, refl, arith}
-use Rattle.blob_digest.specs.Sets as set
-use Rattle.blob_digest.specs.Keys.{text_cmp}
-use Rattle.blob_digest.specs.Tenants.{repos_in}
+use Rattle.std.proofs.Common.{◌≡◌, refl, ap, sym, ◌∙◌, set}
+use Rattle.blob_digest.specs.Outcomes.{Does}
+use Rattle.link_table.specs.Linked.{Linked, appear}
 use Rattle.link_table.specs.Tenancy.{tenants_shown}
-use Rattle.link_table.proofs.TenantLists.{is_tenants-read}
-use Rattle.link_table.proofs.RepoRows.{contains-there, contains-absent, repos-insert, repos_sorted-insert, repos_in-sorted, appear_there, appear_full, appear_new}
-use Rattle.link_table.proofs.Soundness.{IsSound-appear}
+use Rattle.link_table.specs.Running.{IsSound}
+use Rattle.link_table.specs.Holders.{Counts}
+use Rattle.link_table.proofs.Shelves.{links-same}
+use Rattle.link_table.proofs.Tables.{shelf_at, grown, appear_does, IsShelved-appear}
 use Rattle.link_table.proofs.links.Links.appear.Goals as goal
 
-pub returns-in_default : goal.returns-in_default
-returns-in_default c =
-    let there = contains-there c.self.inside.repos.items c.self.invariant.0.repos_sorted c.args.repo.now c.in_default.field-0 (rw c.as_slice.ensures.value at c.in_default.ensures.within) (rw c.as_slice.ensures.value at c.in_default.ensures.place) in
-    rw (← c.self.view_is) (appear_there _ c.args.tenant c.args.repo.now there)
-
-pub returns-then-repos_named-ge-MAX_REPOS : goal.returns-then-repos_named-ge-MAX_REPOS
-returns-then-repos_named-ge-MAX_REPOS c =
-    let none = contains-absent c.self.inside.repos.items c.self.invariant.0.repos_sorted c.args.repo.now c.in-Err.place (rw c.as_slice.ensures.value at c.in-Err.ensures.place) in
-    let named = is_tenants-read c.self.inside.tenants.items c.self.invariant.0.ordered c.args.tenant (rw (← c.self.view_is) at c.requires) c.index.result.now c.index.ensures c.as_str-name.result.now c.as_str-name.ensures.value in
-    let counted = repos_in-sorted c.self.inside.repos.items c.self.invariant.0.repos_sorted (tenants_shown c.self.inside.tenants.items) c.args.tenant _ named in
-    let many : 1024 ≤ repos_in (tenants_shown c.self.inside.tenants.items) (set.from_list {R = text_cmp} c.self.inside.repos.items) c.args.tenant =
-    omega (arith, counted, rw c.as_slice-2.ensures.value at c.repos_named.ensures, c.if-repos_named-ge-MAX_REPOS.true) in
-    (λ _. rw (← c.self.view_is) (appear_full _ c.args.tenant c.args.repo.now none many), refl)
-
-pub invariant_of-self-2 : goal.invariant_of-self-2
-invariant_of-self-2 c =
-    let missed = rw c.as_slice.ensures.value at c.in-Err.ensures.place in
-    let within = rw c.as_slice.ensures.value at c.in-Err.ensures.within in
-    let put = rw c.in_ok-copy.ensures.cases at c.in_ok-insert.ensures.items in (
-      IsSound-appear (tenants_shown c.self.inside.tenants.items) c.self.inside.repos.items c.self.inside.links.items c.self.inside.weights.items c.self.inside.charges.items c.self.invariant.0 c.insert.new.self.items c.args.repo.now
-          (repos_sorted-insert c.self.inside.repos.items c.self.invariant.0.repos_sorted c.args.repo.now c.in-Err.place within missed c.insert.new.self.items put)
-          (repos-insert c.self.inside.repos.items c.self.invariant.0.repos_sorted c.args.repo.now c.in-Err.place within missed c.insert.new.self.items put),
-      c.self.invariant.1,
+pub invariant_of-self : goal.invariant_of-self
+invariant_of-self c =
+    let tenants = tenants_shown c.self.inside.tenants.items in
+    let shelves = c.self.inside.shelves.items in
+    let shelved = c.self.invariant.1 in
+    let s = c.index_mut.result.now in
+    let at = shelf_at tenants shelves shelved c.args.tenant (rw (← c.self.view_is) at c.requires.there) s c.index_mut.ensures.value in
+    let is = grown s c.appear.new.self c.args.repo.now c.appear.result c.appear.ensures in
+    let links = links-same tenants shelves shelved c.args.tenant s at c.appear.new.self is.links in (
+      rw links c.self.invariant.0,
+      IsShelved-appear tenants shelves shelved c.self.inside.charges.items c.args.tenant s at c.args.repo.now (rw (← c.self.view_is) at c.requires.own) c.appear.new.self is,
+      rw links c.self.invariant.2,
     )
 
 pub returns : goal.returns
 returns c =
-    let missed = rw c.as_slice.ensures.value at c.in-Err.ensures.place in
-    let within = rw c.as_slice.ensures.value at c.in-Err.ensures.within in
-    let put = rw c.in_ok-copy.ensures.cases at c.in_ok-insert.ensures.items in
-    let none = contains-absent c.self.inside.repos.items c.self.invariant.0.repos_sorted c.args.repo.now c.in-Err.place missed in
-    let named = is_tenants-read c.self.inside.tenants.items c.self.invariant.0.ordered c.args.tenant (rw (← c.self.view_is) at c.requires) c.index.result.now c.index.ensures c.as_str-name.result.now c.as_str-name.ensures.value in
-    let counted = repos_in-sorted c.self.inside.repos.items c.self.invariant.0.repos_sorted (tenants_shown c.self.inside.tenants.items) c.args.tenant _ named in
-    let few : repos_in (tenants_shown c.self.inside.tenants.items) (set.from_list {R = text_cmp} c.self.inside.repos.items) c.args.tenant < 1024 =
-    omega (arith, counted, rw c.as_slice-2.ensures.value at c.repos_named.ensures, c.if-repos_named-ge-MAX_REPOS.false) in
-    rw (← c.self.view_is) (appear_new _ c.args.tenant c.args.repo.now none few _ (repos-insert c.self.inside.repos.items c.self.invariant.0.repos_sorted c.args.repo.now c.in-Err.place within missed c.insert.new.self.items put))
+    let tenants = tenants_shown c.self.inside.tenants.items in
+    let shelves = c.self.inside.shelves.items in
+    let shelved = c.self.invariant.1 in
+    let s = c.index_mut.result.now in
+    let at = shelf_at tenants shelves shelved c.args.tenant (rw (← c.self.view_is) at c.requires.there) s c.index_mut.ensures.value in
+    rw (← c.self.view_is) (appear_does tenants shelves shelved c.self.inside.charges.items c.args.tenant s at c.args.repo.now (rw (← c.self.view_is) at c.requires.own) c.appear.new.self c.appear.result c.appear.ensures)

@@ -1,41 +1,78 @@
-use Rattle.std.proofs.Common.{◌∙◌, nat_lt, ap}
-use Rattle.link_table.specs.Linked.{is_tenants}
+use Rattle.std.proofs.Common.{◌≡◌, refl, ap, sym, ◌∙◌, is_some, nat_lt, true, Ok, set}
+use Rattle.std.specs.FinMap.{get, insert}
+use Rattle.blob_digest.specs.Sets as sets
+use Rattle.blob_digest.proofs.OptionLemmas.{some_value}
+use Rattle.link_table.specs.Linked.{Linked, is_tenants}
+use Rattle.link_table.specs.Shelves.{Shelved, links_shown, repos_shown}
 use Rattle.link_table.specs.Tenancy.{tenants_shown}
-use Rattle.link_table.proofs.HolderCounts.{held-counted, Counts-insert}
-use Rattle.link_table.proofs.LinkRows.{link-there, link-absent, links-insert, links_sorted-insert}
-use Rattle.link_table.proofs.Soundness.{IsSound-link, held_by, linked_of, link_there, link_new}
+use Rattle.link_table.proofs.HolderCounts.{held-counted, Counts-insert, Counts-back}
+use Rattle.link_table.proofs.ShelfCalls.{is_none}
+use Rattle.link_table.proofs.Shelves.{links-there, repos-there, links-insert, links-same, repos-same}
+use Rattle.link_table.proofs.Soundness.{contains-blob, IsSound-link, link_there, link_new}
+use Rattle.link_table.proofs.Tables.{shelf_at, linked_of, IsShelved-link, IsShelved-same}
 use Rattle.link_table.proofs.links.Links.link.Goals as goal
 
-pub returns-in_default : goal.returns-in_default
-returns-in_default c =
-    let there = link-there c.self.inside.links.items c.self.invariant.0.links_sorted c.args.repo.now c.args.digest.now c.in_default.field-0 (record { repo = c.args.repo.now; digest = c.args.digest.now; size = c.args.size })
-    (rw c.as_slice.ensures.value at c.in_default.ensures.within) (rw c.as_slice.ensures.value at c.in_default.ensures.place) in
-    rw (← c.self.view_is) (link_there (linked_of (tenants_shown c.self.inside.tenants.items) c.self.inside.repos.items c.self.inside.links.items c.self.inside.charges.items) c.args.repo.now c.args.digest.now c.args.size _ there (rw (← c.self.view_is) at c.requires.size))
+pub returns-then-holds : goal.returns-then-holds
+returns-then-holds c =
+    let tenants = tenants_shown c.self.inside.tenants.items in
+    let shelves = c.self.inside.shelves.items in
+    let s = c.index.result.now in
+    let at = shelf_at tenants shelves c.self.invariant.1 c.args.tenant (rw (← c.self.view_is) at c.requires.there) s c.index.ensures in
+    let there = links-there tenants shelves c.self.invariant.1 c.args.tenant s at c.args.repo.now (rw (← c.self.view_is) at c.requires.own) c.args.digest.now in
+    let value = some_value (get s.links (c.args.repo.now, c.args.digest.now)) (sym c.holds.ensures ∙ c.if-holds.true) in
+    rw (← c.self.view_is) (link_there (linked_of tenants shelves c.self.inside.charges.items) c.args.repo.now c.args.digest.now c.args.size value.0 (there ∙ value.1) (rw (← c.self.view_is) at c.requires.size))
+
+pub link-requires : goal.link-requires
+link-requires c =
+    let tenants = tenants_shown c.self.inside.tenants.items in
+    let shelves = c.self.inside.shelves.items in
+    let s = c.index_mut.result.now in
+    let at = shelf_at tenants shelves c.self.invariant.1 c.args.tenant (rw (← c.self.view_is) at c.requires.there) s c.index_mut.ensures.value in
+    ap is_some (sym (repos-there tenants shelves c.self.invariant.1 c.args.tenant s at c.args.repo.now (rw (← c.self.view_is) at c.requires.own))) ∙ (rw (← c.self.view_is) at c.requires.known)
+
+pub invariant_of-self-in-Err : goal.invariant_of-self-in-Err
+invariant_of-self-in-Err c =
+    let tenants = tenants_shown c.self.inside.tenants.items in
+    let shelves = c.self.inside.shelves.items in
+    let s = c.index_mut.result.now in
+    let at = shelf_at tenants shelves c.self.invariant.1 c.args.tenant (rw (← c.self.view_is) at c.requires.there) s c.index_mut.ensures.value in
+    let links = links-same tenants shelves c.self.invariant.1 c.args.tenant s at c.link.new.self (ap (λ (x : Shelved). x.links) c.in-Err.ensures.err) in (
+      rw links c.self.invariant.0,
+      IsShelved-same tenants shelves c.self.invariant.1 c.self.inside.charges.items c.args.tenant s at c.args.repo.now (rw (← c.self.view_is) at c.requires.own) c.link.new.self c.in-Err.ensures.err,
+      rw links (Counts-back tenants (links_shown shelves) c.self.inside.holders c.raise.new.holders c.lower.new.holders c.args.tenant c.args.digest.now c.self.invariant.2 c.in_ok-raise.ensures.ok c.lower.ensures),
+    )
 
 pub invariant_of-self-2 : goal.invariant_of-self-2
 invariant_of-self-2 c =
-    let missed = rw c.as_slice.ensures.value at c.in-Err.ensures.place in
-    let within = rw c.as_slice.ensures.value at c.in-Err.ensures.within in
-    let put = rw c.in_ok-clone.ensures.cases at c.in-Ok.ensures.items in
+    let tenants = tenants_shown c.self.inside.tenants.items in
+    let shelves = c.self.inside.shelves.items in
     let there = rw (← c.self.view_is) at c.requires.there in
     let own = rw (← c.self.view_is) at c.requires.own in
-    let held = held_by (is_tenants (tenants_shown c.self.inside.tenants.items) c.args.tenant) c.self.inside.links.items c.args.digest.now c.self.invariant.0.one_size _
-    (ap (nat_lt 0) c.holders_of-held.ensures ∙ held-counted (tenants_shown c.self.inside.tenants.items) c.self.inside.links.items c.self.inside.holders c.self.invariant.1 c.args.tenant c.args.digest.now) in (
-      IsSound-link (tenants_shown c.self.inside.tenants.items) c.self.inside.repos.items c.self.inside.links.items c.self.inside.weights.items c.self.inside.charges.items c.self.invariant.0 c.args.tenant there c.args.repo.now c.args.digest.now c.args.size c.insert.new.self.items
-          (links_sorted-insert c.self.inside.links.items c.self.invariant.0.links_sorted c.args.repo.now c.args.digest.now c.in-Err.place c.args.size within missed c.insert.new.self.items put)
-          own
-          (links-insert c.self.inside.links.items c.self.invariant.0.links_sorted c.args.repo.now c.args.digest.now c.in-Err.place c.args.size within missed c.insert.new.self.items put)
-          (rw (← c.self.view_is) at c.requires.known) (rw (← c.self.view_is) at c.requires.size) (rw (← c.self.view_is) at c.requires.room)
-          (nat_lt 0 c.holders_of-held.result) held c.index.result.now c.weight_with-weight.result c.index.ensures c.weight_with-weight.ensures,
-      Counts-insert (tenants_shown c.self.inside.tenants.items) c.self.inside.links.items c.self.inside.holders c.raise.new.holders c.self.invariant.1 c.args.tenant
-          (record { repo = c.args.repo.now; digest = c.args.digest.now; size = c.args.size }) own c.in-Err.place c.insert.new.self.items put c.in_ok-raise.ensures.ok,
+    let s = c.index_mut.result.now in
+    let at = shelf_at tenants shelves c.self.invariant.1 c.args.tenant there s c.index_mut.ensures.value in
+    let at_first = shelf_at tenants shelves c.self.invariant.1 c.args.tenant there c.index.result.now c.index.ensures in
+    let absent = is_none (get (links_shown shelves) (c.args.repo.now, c.args.digest.now))
+    (ap is_some (links-there tenants shelves c.self.invariant.1 c.args.tenant c.index.result.now at_first c.args.repo.now own c.args.digest.now) ∙ sym c.holds.ensures ∙ c.if-holds.false) in
+    let links = links-insert tenants shelves c.self.invariant.1 c.args.tenant s at c.args.repo.now own c.args.digest.now c.args.size c.link.new.self (ap (λ (x : Shelved). x.links) c.in_default.ensures.ok) in
+    let known = ap is_some (sym (repos-there tenants shelves c.self.invariant.1 c.args.tenant s at c.args.repo.now own)) ∙ (rw (← c.self.view_is) at c.requires.known) in
+    let held = ap (nat_lt 0) c.holders_of-held.ensures ∙ held-counted tenants (links_shown shelves) c.self.inside.holders c.self.invariant.2 c.args.tenant c.args.digest.now ∙ sym (contains-blob tenants c.args.tenant c.args.digest.now (links_shown shelves)) in (
+      rw links (IsSound-link tenants (links_shown shelves) c.self.inside.weights.items c.self.inside.charges.items c.self.invariant.0 c.args.tenant there c.args.repo.now c.args.digest.now c.args.size own
+          (rw (← c.self.view_is) at c.requires.size) (rw (← c.self.view_is) at c.requires.room) (nat_lt 0 c.holders_of-held.result) held c.index-2.result.now c.weight_with-weight.result c.index-2.ensures c.weight_with-weight.ensures),
+      IsShelved-link tenants shelves c.self.invariant.1 c.self.inside.charges.items c.args.tenant s at c.args.repo.now own c.link.new.self c.args.digest.now c.args.size known c.in_default.ensures.ok,
+      rw links (Counts-insert tenants (links_shown shelves) c.self.inside.holders c.raise.new.holders c.self.invariant.2 c.args.tenant c.args.repo.now c.args.digest.now c.args.size own absent c.in_ok-raise.ensures.ok),
     )
 
 pub returns : goal.returns
 returns c =
-    let missed = rw c.as_slice.ensures.value at c.in-Err.ensures.place in
-    let within = rw c.as_slice.ensures.value at c.in-Err.ensures.within in
-    let put = rw c.in_ok-clone.ensures.cases at c.in-Ok.ensures.items in
-    let none = link-absent c.self.inside.links.items c.self.invariant.0.links_sorted c.args.repo.now c.args.digest.now c.in-Err.place missed in
-    let shown = links-insert c.self.inside.links.items c.self.invariant.0.links_sorted c.args.repo.now c.args.digest.now c.in-Err.place c.args.size within missed c.insert.new.self.items put in
-    rw (← c.self.view_is) (link_new (linked_of (tenants_shown c.self.inside.tenants.items) c.self.inside.repos.items c.self.inside.links.items c.self.inside.charges.items) c.args.repo.now c.args.digest.now c.args.size _ none shown)
+    let tenants = tenants_shown c.self.inside.tenants.items in
+    let shelves = c.self.inside.shelves.items in
+    let there = rw (← c.self.view_is) at c.requires.there in
+    let own = rw (← c.self.view_is) at c.requires.own in
+    let s = c.index_mut.result.now in
+    let at = shelf_at tenants shelves c.self.invariant.1 c.args.tenant there s c.index_mut.ensures.value in
+    let at_first = shelf_at tenants shelves c.self.invariant.1 c.args.tenant there c.index.result.now c.index.ensures in
+    let absent = is_none (get (links_shown shelves) (c.args.repo.now, c.args.digest.now))
+    (ap is_some (links-there tenants shelves c.self.invariant.1 c.args.tenant c.index.result.now at_first c.args.repo.now own c.args.digest.now) ∙ sym c.holds.ensures ∙ c.if-holds.false) in
+    let links = links-insert tenants shelves c.self.invariant.1 c.args.tenant s at c.args.repo.now own c.args.digest.now c.args.size c.link.new.self (ap (λ (x : Shelved). x.links) c.in_default.ensures.ok) in
+    let repos = repos-same tenants shelves c.self.invariant.1 c.args.tenant s at c.link.new.self (ap (λ (x : Shelved). x.repos) c.in_default.ensures.ok) in
+    rw (← c.self.view_is) (link_new (linked_of tenants shelves c.self.inside.charges.items) c.args.repo.now c.args.digest.now c.args.size (links_shown (set shelves c.args.tenant c.link.new.self)) absent links ∙ ap Ok (ap (λ r. (true, record { tenants = tenants; repos = r; links = links_shown (set shelves c.args.tenant c.link.new.self); charges = c.self.inside.charges.items })) (sym repos)))

@@ -1,32 +1,52 @@
-use Rattle.std.proofs.Common.{ap, sym, ◌∙◌}
-use Rattle.std.proofs.lemmas.Bool.{false≢true}
+use Rattle.std.proofs.Common.{◌≡◌, ◌<◌, refl, ap, sym, ◌∙◌, set, is_some, arith}
+use Rattle.blob_digest.specs.Sets as sets
 use Rattle.link_table.specs.Linked.{Linked, vanish}
-use Rattle.link_table.specs.Rows.{links_shown}
 use Rattle.link_table.specs.Tenancy.{tenants_shown}
-use Rattle.link_table.proofs.RepoRows.{contains-absent, repos-remove, repos_sorted-remove}
-use Rattle.link_table.proofs.Soundness.{IsSound-vanish}
+use Rattle.link_table.specs.Shelves.{Shelved}
+use Rattle.link_table.proofs.Shelves.{links-same, repos-there, repos-remove}
+use Rattle.link_table.proofs.Tables.{shelf_at, no_links, IsShelved-vanish}
+use Rattle.link_table.proofs.TenantLists.{own_within}
 use Rattle.link_table.proofs.links.Links.vanish.Goals as goal
+
+pub index_mut-requires : goal.index_mut-requires
+index_mut-requires c = omega (arith, c.self.invariant.1.one_each, own_within (tenants_shown c.self.inside.tenants.items) c.args.tenant c.args.repo.now (rw (← c.self.view_is) at c.requires.own))
+
+pub vanish-requires-clause-there : goal.vanish-requires-clause-there
+vanish-requires-clause-there c =
+    let tenants = tenants_shown c.self.inside.tenants.items in
+    let own = rw (← c.self.view_is) at c.requires.own in
+    let s = c.index_mut.result.now in
+    let at = shelf_at tenants c.self.inside.shelves.items c.self.invariant.1 c.args.tenant (own_within tenants c.args.tenant c.args.repo.now own) s c.index_mut.ensures.value in
+    ap is_some (sym (repos-there tenants c.self.inside.shelves.items c.self.invariant.1 c.args.tenant s at c.args.repo.now own)) ∙ (rw (← c.self.view_is) at c.requires.there)
+
+pub vanish-requires-clause-unlinked : goal.vanish-requires-clause-unlinked
+vanish-requires-clause-unlinked c =
+    let tenants = tenants_shown c.self.inside.tenants.items in
+    let own = rw (← c.self.view_is) at c.requires.own in
+    let s = c.index_mut.result.now in
+    let at = shelf_at tenants c.self.inside.shelves.items c.self.invariant.1 c.args.tenant (own_within tenants c.args.tenant c.args.repo.now own) s c.index_mut.ensures.value in
+    no_links tenants c.self.inside.shelves.items c.self.invariant.1 c.self.inside.charges.items c.args.tenant s at c.args.repo.now own (rw (← c.self.view_is) at c.requires.unlinked)
 
 pub invariant_of-self : goal.invariant_of-self
 invariant_of-self c =
-    let is = rw c.as_slice.ensures.value at c.in-Ok.ensures.place in
-    let within = rw c.as_slice.ensures.value at c.in-Ok.ensures.within in (
-      IsSound-vanish (tenants_shown c.self.inside.tenants.items) c.self.inside.repos.items c.self.inside.links.items c.self.inside.weights.items c.self.inside.charges.items c.self.invariant.0 c.remove.new.self.items c.args.repo.now
-          (rw (← c.self.view_is) at c.requires.unlinked)
-          (repos_sorted-remove c.self.inside.repos.items c.self.invariant.0.repos_sorted c.args.repo.now c.in-Ok.place within is c.remove.new.self.items c.remove.ensures.items)
-          (repos-remove c.self.inside.repos.items c.self.invariant.0.repos_sorted c.args.repo.now c.in-Ok.place within is c.remove.new.self.items c.remove.ensures.items),
-      c.self.invariant.1,
+    let tenants = tenants_shown c.self.inside.tenants.items in
+    let own = rw (← c.self.view_is) at c.requires.own in
+    let s = c.index_mut.result.now in
+    let at = shelf_at tenants c.self.inside.shelves.items c.self.invariant.1 c.args.tenant (own_within tenants c.args.tenant c.args.repo.now own) s c.index_mut.ensures.value in
+    let none = no_links tenants c.self.inside.shelves.items c.self.invariant.1 c.self.inside.charges.items c.args.tenant s at c.args.repo.now own (rw (← c.self.view_is) at c.requires.unlinked) in
+    let links = links-same tenants c.self.inside.shelves.items c.self.invariant.1 c.args.tenant s at c.vanish.new.self (ap (λ (x : Shelved). x.links) c.vanish.ensures) in (
+      rw links c.self.invariant.0,
+      IsShelved-vanish tenants c.self.inside.shelves.items c.self.invariant.1 c.self.inside.charges.items c.args.tenant s at c.args.repo.now own c.vanish.new.self none c.vanish.ensures,
+      rw links c.self.invariant.2,
     )
-
-pub unreachable-requires : goal.unreachable-requires
-unreachable-requires c =
-    let none = contains-absent c.self.inside.repos.items c.self.invariant.0.repos_sorted c.args.repo.now c.in-Err.field-0 (rw c.as_slice.ensures.value at c.in-Err.ensures.place) in
-    false≢true (sym none ∙ (rw (← c.self.view_is) at c.requires.there))
 
 pub returns : goal.returns
 returns c =
-    let is = rw c.as_slice.ensures.value at c.in-Ok.ensures.place in
-    let within = rw c.as_slice.ensures.value at c.in-Ok.ensures.within in
-    let shown = repos-remove c.self.inside.repos.items c.self.invariant.0.repos_sorted c.args.repo.now c.in-Ok.place within is c.remove.new.self.items c.remove.ensures.items in
-    (λ i. record { tenants = tenants_shown c.self.inside.tenants.items; repos = shown i; links = links_shown c.self.inside.links.items; charges = c.self.inside.charges.items })
-    ∙ ap (λ (l : Linked). vanish l c.args.repo.now) c.self.view_is
+    let tenants = tenants_shown c.self.inside.tenants.items in
+    let shelves = c.self.inside.shelves.items in
+    let own = rw (← c.self.view_is) at c.requires.own in
+    let s = c.index_mut.result.now in
+    let at = shelf_at tenants shelves c.self.invariant.1 c.args.tenant (own_within tenants c.args.tenant c.args.repo.now own) s c.index_mut.ensures.value in
+    let repos = repos-remove tenants shelves c.self.invariant.1 c.args.tenant s at c.args.repo.now own c.vanish.new.self (ap (λ (x : Shelved). x.repos) c.vanish.ensures) in
+    let links = links-same tenants shelves c.self.invariant.1 c.args.tenant s at c.vanish.new.self (ap (λ (x : Shelved). x.links) c.vanish.ensures) in
+    rw (← c.self.view_is) (λ i. record { tenants = tenants; repos = repos i; links = links i; charges = c.self.inside.charges.items })

@@ -1,9 +1,0 @@
-use Rattle.std.proofs.Common.{rules}
-use Rattle.std.specs.Ordering.{is_lt}
-use Rattle.std.proofs.lemmas.Fn.{always_returns_same}
-use Rattle.blob_digest.specs.Keys.{text_cmp}
-use Rattle.link_table.proofs.rows.first_of.Goals as goal
-
-pub returns-clause-place : goal.returns-clause-place
-returns-clause-place c parts =
-    c.partition_point.ensures.partitioned (λ l. is_lt (text_cmp l.repo c.args.repo.now)) (always_returns_same _ _ _ (λ a r f' k. (search rules, λ j. record { 0 = k.met.1 j }))) parts
