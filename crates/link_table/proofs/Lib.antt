@@ -1,5 +1,6 @@
 pub mod Accepted
 pub mod HolderCounts
+pub mod ManifestRows
 pub mod Parts
 pub mod ShelfCalls
 pub mod ShelfRows

@@ -4,3 +4,4 @@ pub mod Rows
 pub mod Running
 pub mod Tenancy
 pub mod Holders
+pub mod Manifests

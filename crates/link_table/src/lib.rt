@@ -9,6 +9,7 @@
 mod blobs;
 mod holders;
 mod links;
+mod manifests;
 mod repo;
 mod shelf;
 mod tenants;
@@ -16,6 +17,7 @@ mod weigh;
 
 pub use blobs::Blobs;
 pub use links::Links;
+pub use manifests::Manifests;
 pub use tenants::{MAX_QUOTA, MAX_TENANTS};
 
 #[cfg(test)]

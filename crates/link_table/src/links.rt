@@ -228,8 +228,11 @@ impl Links {
             Some(size) => {
                 lower(&mut self.holders, tenant, digest);
                 let held = holders_of(&self.holders, tenant, digest) > 0;
-                self.weights[tenant as usize] =
-                    weight_without(self.weights[tenant as usize], held, size);
+                self.weights[tenant as usize] = weight_without(
+                    self.weights[tenant as usize],
+                    held,
+                    size,
+                );
             }
             None => unreachable!(),
         }

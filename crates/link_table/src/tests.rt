@@ -2,10 +2,12 @@ ghost use Rattle.std.specs.Prelude.{◌≡◌, ℕ, Some};
 ghost use Rattle.std.specs.FinMap as fmap;
 ghost use Rattle.blob_digest.specs.Keys.{Link};
 
-use crate::Links;
+use crate::{Links, Manifests};
 use blob_digest::{Digest, Refusal, RepoName};
+use oci_manifest::{Manifest, read};
 use std::alloc::Global;
 use std::process::Abort;
+use std::sync::Arc;
 
 const ABC: &str = "sha256:ba7816bf8f01cfea414140de5dae2223b00361a396177a9cb410ff61f20015ad";
 
@@ -256,4 +258,32 @@ fn a_repository_comes_and_goes(rt: HostRuntime) {
     let one = name(&rt, alloc, "acme/one");
     come_and_go(&rt, &mut links, &one);
     assert_eq!(rt; appear(&rt, &mut links, &one), Ok(true));
+}
+
+/// An image manifest with a config alone.
+fn manifest(rt: &impl Abort, alloc: Global, config: &str) -> Arc<Manifest, Global> {
+    let text = format!(in alloc;
+        "{{\"schemaVersion\":2,\"config\":{{\"digest\":\"{config}\"}},\"layers\":[]}}"
+    ).expect(rt, "memory");
+    let manifest = read(alloc, text.as_bytes()).expect(rt, "a manifest");
+    Arc::new(alloc, manifest).expect(rt, "memory")
+}
+
+#[test]
+fn manifests_refer_to_digests_until_they_are_dropped(rt: HostRuntime) {
+    let alloc = rt.alloc();
+    let mut manifests = Manifests::new(alloc);
+    let abc = digest(&rt, ABC);
+    let kept = manifest(&rt, alloc, ABC);
+    let name = kept.digest();
+    assert_eq!(rt; manifests.referrer(&abc), None);
+    assert_eq!(rt; manifests.put(kept), Ok(()));
+    assert_eq!(rt; manifests.put(manifest(&rt, alloc, EMPTY)), Ok(()));
+    assert_eq!(rt; manifests.put(manifest(&rt, alloc, ABC)), Ok(()));
+    assert_eq!(rt; manifests.referrer(&abc), Some(name));
+    assert!(rt; manifests.get(&name).is_some());
+    assert!(rt; manifests.get(&abc).is_none());
+    manifests.remove(&name);
+    assert_eq!(rt; manifests.referrer(&abc), None);
+    assert!(rt; manifests.get(&name).is_none());
 }
