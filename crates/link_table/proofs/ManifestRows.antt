@@ -30,8 +30,8 @@ use Rattle.blob_digest.proofs.SortedRows.{entries-sorted}
 use Rattle.blob_digest.proofs.Trees.{get_is}
 use Rattle.blob_digest.specs.Digests.{sha256_text}
 use Rattle.blob_digest.specs.declared.refusal.Refusal.TheVariants.{LimitReached}
-use Rattle.oci_manifest.specs.Manifests.{refs_of}
-use Rattle.link_table.specs.Manifests.{Kept, kept, refers, refer_cmp, is_pair, has_pair, IsIndexed, put_in, referrer_in}
+use Rattle.oci_manifest.specs.Manifests.{refs_of, refers}
+use Rattle.link_table.specs.Manifests.{Kept, kept, refer_cmp, is_pair, has_pair, IsIndexed, put_in, referrer_in}
 use Rattle.link_table.proofs.Parts.{insert_by, remove_by}
 
 sym_text : (a b : Text) → same_text a b ≡ same_text b a

@@ -13,15 +13,11 @@ use Rattle.blob_digest.specs.Digests.{sha256_text}
 use Rattle.blob_digest.specs.Keys.{Text, text_cmp, same_text}
 use Rattle.blob_digest.specs.Outcomes.{OutcomeIn}
 use Rattle.blob_digest.specs.declared.refusal.Refusal.TheVariants.{LimitReached}
-use Rattle.oci_manifest.specs.Manifests.{refs_of}
+use Rattle.oci_manifest.specs.Manifests.{refers}
 
 -- the bytes of each manifest of a repository, by digest
 abbrev pub Kept : Type 0
 Kept = fmap.FinMap text_cmp Text
-
--- whether these bytes are a manifest that refers to a digest
-abbrev pub refers : Text → Text → Bool
-refers manifest digest = option_map_or (list_any (same_text digest)) (refs_of manifest) false
 
 -- the least digest of a manifest that refers to a digest
 abbrev pub referrer_in : Kept → Text → Option Text

@@ -1,6 +1,7 @@
 -- The references of a manifest, by cases on the JSON value that its bytes read as (OCI Image Specification 1.1, "Image Manifest", "Image Index" and "Content Descriptors"; RFC 8259).
 use Rattle.std.specs.Prelude.{◌≡◌, ◌≤◌, ◌==◌, ◌∷◌, ◌++◌, ◌&&◌, ◌||◌, ℕ, List, [], Bool, true, false, not, if◌then◌else◌, Option, Some, None, is_some, option_and_then, option_map, codes, fold, length}
 use Rattle.std.specs.List.{list_any}
+use Rattle.std.specs.Option.{option_map_or}
 use Rattle.std.specs.Str.{is_utf8}
 use Rattle.serde_json.specs.Data.{Data, null, boolean, number, string, array, object, Items, no_items, item}
 use Rattle.serde_json.specs.Find.{get, as_array, as_number, as_object, as_str, as_u64}
@@ -91,6 +92,10 @@ document_of bytes = if is_utf8 bytes then read bytes else None
 -- the references of a manifest's bytes; none where they are no manifest
 unfoldable pub refs_of : List ℕ → Option (List Text)
 refs_of bytes = option_map once (option_and_then named (document_of bytes))
+
+-- whether these bytes are a manifest that refers to a digest
+abbrev pub refers : Text → Text → Bool
+refers manifest digest = option_map_or (list_any (same_text digest)) (refs_of manifest) false
 
 -- the most bytes of a manifest: 4 MiB
 abbrev pub max_manifest : ℕ

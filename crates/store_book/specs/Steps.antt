@@ -1,8 +1,8 @@
 -- What each command answers and leaves. A command's outcome is the first refusal that applies, in the order in which they stand,
 -- or its answer with the catalog after it. Want of memory may come in place of any outcome, and changes nothing (`Does`).
 use Rattle.std.specs.Prelude.{ℕ, ◌+◌, ◌^◌, nat_le, nat_lt, ◌&&◌, ◌||◌, not, if◌then◌else◌, Bool, true, false, Option, Some, None, Result, Ok, Err, List, [], ◌∷◌, length, slice_set}
-use Rattle.std.specs.Option.{ok_or, option_map, option_map_or}
-use Rattle.std.specs.List.{list_any, find}
+use Rattle.std.specs.Option.{ok_or, option_map}
+use Rattle.std.specs.List.{find}
 use Rattle.std.specs.FinMap as fmap
 use Rattle.blob_digest.specs.Sets as set
 use Rattle.blob_digest.specs.declared.range.ByteRange.{ByteRange}
@@ -11,6 +11,7 @@ use Rattle.blob_digest.specs.declared.refusal.Refusal.TheVariants.{NameUnknown, 
 use Rattle.blob_digest.specs.Digests.{sha256_text, is_digest_of}
 pub use Rattle.blob_digest.specs.Outcomes.{OutcomeIn, ◌>>=◌, refuse}
 use Rattle.oci_manifest.specs.Manifests.{refs_of, max_manifest}
+pub use Rattle.oci_manifest.specs.Manifests.{refers}
 pub use Rattle.upload_table.specs.Sessions.{session_in, not_busy, length_after, check_in, append_in, whole_in, hand_in, take_in, put_back_in, taken_session, whole_of, given_up}
 use Rattle.store_book.specs.Catalog.{Text, Catalog, Session, Taken, Home, Resident, same_text, tenant_of, is_of, quota_of, holds, tenant_holds, used, received, next_of, open_sessions, repos_of, manifests_of}
 use Rattle.store_book.specs.declared.mount.Mount.{Mount}
@@ -198,10 +199,6 @@ mount C repo digest from = do
 -- the digest is linked in the repository
 abbrev pub linked : Catalog → Text → Text → Result (Unit {0}) Refusal
 linked C repo digest = refuse (not (holds C repo digest)) BlobUnknown
-
--- whether these bytes are a manifest that refers to a digest
-abbrev pub refers : Text → Text → Bool
-refers manifest digest = option_map_or (list_any (same_text digest)) (refs_of manifest) false
 
 -- the least digest of a manifest of a repository that refers to a digest
 abbrev pub referrer : Catalog → Text → Text → Option Text
