@@ -46,8 +46,14 @@ fn a_session_in_hand_is_busy_and_its_reserve_counts(rt: HostRuntime) {
         "book\ntenant acme used 4 quota 5 next 3\nrepository acme/one\nsession 1 received 2\nsession 2 received 0\nend\n";
     assert!(rt; prints(&rt, alloc, &book, text));
     assert_eq!(rt; book.status(&one, 1), Ok(2));
-    assert_eq!(rt; book.append(&one, 1, range(&rt, "9-9"), b"cc"), Err(Refusal::Busy));
-    assert_eq!(rt; book.close(&one, 1, &digest(&rt, ABC), None, b""), Err(Refusal::Busy));
+    assert_eq!(rt;
+        book.append(&one, 1, range(&rt, "9-9"), b"cc"),
+        Err(Refusal::Busy)
+    );
+    assert_eq!(rt;
+        book.close(&one, 1, &digest(&rt, ABC), None, b""),
+        Err(Refusal::Busy)
+    );
     assert_eq!(rt; book.abandon(&one, 1), Err(Refusal::Busy));
     let over = Refusal::Quota { used: 4, quota: 5 };
     assert_eq!(rt; book.append(&one, 2, None, b"xy"), Err(over));
@@ -68,13 +74,26 @@ fn a_hand_comes_back_or_is_finished(rt: HostRuntime) {
     let mut book = started(&rt, alloc, 1000);
     let text =
         "book\ntenant acme used 2 quota 1000 next 2\nrepository acme/one\nsession 1 received 2\nend\n";
-    let hand = book.take(&one, 1, range(&rt, "2-2"), 1).expect(&rt, "a hand");
+    let hand = book
+        .take(&one, 1, range(&rt, "2-2"), 1)
+        .expect(&rt, "a hand");
     assert_eq!(rt; book.put_back(hand), Ok(2));
     assert!(rt; prints(&rt, alloc, &book, text));
-    let hand = fill(book.take(&one, 1, range(&rt, "2-2"), 1).expect(&rt, "a hand"), b"c");
-    assert_eq!(rt; finish(&mut book, hand, OBJ, &rt), Err(Refusal::DigestInvalid));
+    let hand = fill(
+        book.take(&one, 1, range(&rt, "2-2"), 1)
+            .expect(&rt, "a hand"),
+        b"c",
+    );
+    assert_eq!(rt;
+        finish(&mut book, hand, OBJ, &rt),
+        Err(Refusal::DigestInvalid)
+    );
     assert!(rt; prints(&rt, alloc, &book, text));
-    let hand = fill(book.take(&one, 1, range(&rt, "2-2"), 1).expect(&rt, "a hand"), b"c");
+    let hand = fill(
+        book.take(&one, 1, range(&rt, "2-2"), 1)
+            .expect(&rt, "a hand"),
+        b"c",
+    );
     assert_eq!(rt; finish(&mut book, hand, ABC, &rt), Ok(3));
     assert_eq!(rt; book.status(&one, 1), Err(Refusal::UploadUnknown));
     let text =
@@ -91,7 +110,10 @@ fn a_hand_of_another_book_changes_nothing(rt: HostRuntime) {
     let hand = book.take(&one, 1, None, 2).expect(&rt, "a hand");
     assert_eq!(rt; other.put_back(hand), Err(Refusal::UploadUnknown));
     let hand = other.take(&one, 1, None, 1).expect(&rt, "a hand");
-    assert_eq!(rt; finish(&mut book, fill(hand, b"c"), ABC, &rt), Err(Refusal::UploadUnknown));
+    assert_eq!(rt;
+        finish(&mut book, fill(hand, b"c"), ABC, &rt),
+        Err(Refusal::UploadUnknown)
+    );
     assert_eq!(rt; book.abandon(&one, 1), Err(Refusal::Busy));
     assert_eq!(rt; book.status(&one, 1), Ok(2));
 }

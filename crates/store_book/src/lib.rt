@@ -12,11 +12,11 @@
 
 mod book;
 mod config;
+#[cfg(test)]
+mod hand_tests;
 mod keep;
 pub mod laws;
 mod mount;
-#[cfg(test)]
-mod hand_tests;
 #[cfg(test)]
 mod mount_tests;
 mod print;

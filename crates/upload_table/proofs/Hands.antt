@@ -90,11 +90,14 @@ out_row rows t k i n m found =
     let p = position-Some test rows i u (sym found) in
     let here : test u ≡ true = ap test row.1 ∙ p.1 in
     let first = and_parts (u.tenant == t && u.number == k) (is_out n m u.content) here in
-    let second = and_parts (u.tenant == t) (u.number == k) first.0 in
-    (u, row.1, record {
-      placed = record { within = p.0; tenant = eqb-true u.tenant t second.0; number = eqb-true u.number k second.1 };
-      content = out_content n m u.content first.1;
-    })
+    let second = and_parts (u.tenant == t) (u.number == k) first.0 in (
+      u,
+      row.1,
+      record {
+        placed = record { within = p.0; tenant = eqb-true u.tenant t second.0; number = eqb-true u.number k second.1 };
+        content = out_content n m u.content first.1;
+      },
+    )
 
 -- a list has no place of a test exactly where the first fails and the rest has none
 no_place : {A : Type 0} (p : A → Bool) (x : A) (xs : List A) → None ≡ position p (x ∷ xs) → (p x ≡ false) × (None ≡ position p xs)

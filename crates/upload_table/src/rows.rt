@@ -107,7 +107,12 @@ pub(crate) fn take_out(rows: &mut Vec<Upload>, totals: &mut Vec<u64>, i: usize)
 
 /// Puts chunks home into a row, which counts no more than before, and answers their length. What the row
 /// counts less goes out of its tenant's sum.
-pub(crate) fn put_home(rows: &mut Vec<Upload>, totals: &mut Vec<u64>, i: usize, pieces: Pieces) -> u64
+pub(crate) fn put_home(
+    rows: &mut Vec<Upload>,
+    totals: &mut Vec<u64>,
+    i: usize,
+    pieces: Pieces,
+) -> u64
     requires inside { i < length rows.old.items }
     requires counted { IsCounted totals.old.items rows.old.items }
     requires there { (d : Row) → (slice_index_or rows.old.items i d).tenant < length totals.old.items }

@@ -161,11 +161,17 @@ fn a_session_in_hand_is_busy(rt: HostRuntime) {
     assert_eq!(rt; append(&mut uploads, &repo, 1, b"ab"), Ok(2));
     let hand = take(&mut uploads, &repo, 1, 2).expect(&rt, "a hand");
     assert_eq!(rt; (hand.tenant(), hand.number()), (0, 1));
-    assert_eq!(rt; (hand.received(), hand.reserved(), hand.filled()), (2, 2, false));
+    assert_eq!(rt;
+        (hand.received(), hand.reserved(), hand.filled()),
+        (2, 2, false)
+    );
     assert_eq!(rt; uploads.total(0), 4);
     assert_eq!(rt; uploads.received(0, &repo, 1), Ok(2));
     assert_eq!(rt; uploads.session_at(0, &repo, 0), Some((1, 2)));
-    assert_eq!(rt; uploads.check(0, &repo, 1, Some(late), 2, 9), Err(Refusal::Busy));
+    assert_eq!(rt;
+        uploads.check(0, &repo, 1, Some(late), 2, 9),
+        Err(Refusal::Busy)
+    );
     assert_eq!(rt; uploads.received_home(0, &repo, 1), Err(Refusal::Busy));
     assert_eq!(rt; put_back(&mut uploads, fill(hand, b"cd")), Ok(4));
     assert_eq!(rt; uploads.total(0), 4);

@@ -37,7 +37,7 @@ returns-in-Some c =
     let p = c.into_pieces-pieces.result in
     let here = known c.self.inside.next.items c.self.inside.totals.items c.self.inside.rows.items c.self.invariant c.args.hand c.received-received.result c.reserved-reserved.result c.received-received.ensures c.reserved-reserved.ensures.value c.in-Some.i o.0 o.1 o.2 in
     let after = shown-home c.self.inside.next.items c.self.inside.totals.items c.self.inside.rows.items c.self.invariant c.args.hand c.received-received.result c.reserved-reserved.result c.received-received.ensures c.reserved-reserved.ensures.value c.in-Some.i o.0 o.1 o.2
-        c.put_home.new.rows.items p (chunks_of c.args.hand) (c.put_home.ensures.rows o.0 o.1) c.into_pieces-pieces.ensures.chunks in
+    c.put_home.new.rows.items p (chunks_of c.args.hand) (c.put_home.ensures.rows o.0 o.1) c.into_pieces-pieces.ensures.chunks in
     let cuts : sum_by length (cut p.lens.items p.bytes.items) ≡ sum p.lens.items = sum_by-cut p.lens.items p.bytes.items (omega (arith, c.into_pieces-pieces.ensures.whole.lengths)) in
     let len = c.put_home.ensures.value ∙ sym c.into_pieces-pieces.ensures.whole.lengths ∙ sym cuts ∙ ap (sum_by length) c.into_pieces-pieces.ensures.chunks in
     rw (← c.self.view_is) (put_back_known _ c.args.hand _ c.put_home.result here len ∙ (λ i. Ok (c.put_home.result, sym after i)))
