@@ -1,9 +1,8 @@
 -- What a link more or less does to the counts of those that hold a digest.
-use Rattle.std.proofs.Common.{◌≡◌, ℕ, ◌+◌, ◌<◌, ◌≤◌, Bool, true, false, cond, ◌&&◌, ◌||◌, ◌==◌, nat_lt, List, [], ◌∷◌, length, Option, None, Some, refl, sym, ap, ◌∙◌, arith}
+use Rattle.std.proofs.Common.{◌≡◌, ℕ, ◌+◌, ◌<◌, Bool, true, false, cond, ◌&&◌, ◌||◌, ◌==◌, nat_lt, List, [], ◌∷◌, Option, None, Some, refl, sym, ap, ◌∙◌, arith}
 use Rattle.std.specs.Prelude.{count_by, unwrap_or, nat_eq}
 use Rattle.std.specs.Option.{option_eq}
 use Rattle.std.specs.List.{list_any}
-use Rattle.std.specs.declared.cmp.Ordering.TheVariants.{Equal}
 use Rattle.std.specs.Ordering.{nat_cmp}
 use Rattle.std.specs.Cmp.{tied_then, unsigned_tied}
 use Rattle.std.specs.Cmp.Lexicographic.{texts_ties}
@@ -12,14 +11,13 @@ use Rattle.std.specs.Map.{lookup}
 use Rattle.std.proofs.lemmas.Bool.{eqb-true, eq-eqb, and_parts, and_from}
 use Rattle.std.proofs.lemmas.Bool.Decides.{nat_tests}
 use Rattle.std.proofs.lemmas.List.Sums.{sum_by-cons}
-use Rattle.blob_digest.specs.Keys.{Text, Link, text_cmp, link_cmp, same_text}
+use Rattle.blob_digest.specs.Keys.{Text, text_cmp, link_cmp, same_text}
 use Rattle.blob_digest.proofs.KeyOrders.{link_cmp_total, exact_link, text_is_same, same_text_is}
 use Rattle.link_table.specs.Linked.{Tenant, tenant_of, is_tenants}
 use Rattle.link_table.specs.Holders.{Holding, holding_cmp, count_of, is_key, is_held, Counts}
 use Rattle.link_table.proofs.Shelves.{option_eq_some}
 use Rattle.std.specs.FinMap.{FinMap, get, insert, remove, entries}
 use Rattle.blob_digest.proofs.MapSums.{sum_new, sum_split}
-use Rattle.blob_digest.proofs.RowLemmas.{entries-empty}
 
 -- ---- one count
 

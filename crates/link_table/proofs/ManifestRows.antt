@@ -1,5 +1,5 @@
 -- The manifests of a repository in their tree, and the index of what they refer to.
-use Rattle.std.proofs.Common.{◌≡◌, ℕ, ◌+◌, ◌<◌, ◌≤◌, Bool, true, false, cond, not, List, [], ◌∷◌, length, map, take, get_or, Option, Some, None, is_some, Result, Ok, Err, Bor, subst, refl, sym, ap, ◌∙◌, arith}
+use Rattle.std.proofs.Common.{◌≡◌, ℕ, ◌+◌, ◌<◌, ◌≤◌, Bool, true, false, cond, not, List, [], ◌∷◌, length, map, take, get_or, Option, Some, None, is_some, Ok, Err, Bor, subst, refl, sym, ap, ◌∙◌}
 use Rattle.std.specs.Prelude.{T, ◌&&◌, ◌||◌, slice_get, IfSome}
 use Rattle.std.specs.declared.alloc.Global.{Global}
 use Rattle.std.specs.declared.sync.Arc.{Arc}
@@ -18,7 +18,7 @@ use Rattle.std.specs.BTreeMap.Range.{IsInRange, IsLeBy}
 use Rattle.std.specs.declared.ops.Bound.TheVariants.{Included, Unbounded}
 use Rattle.std.specs.FinMap as fmap
 use Rattle.std.specs.FinMap.Entries.{below_all}
-use Rattle.std.specs.FinMap.{FinMap, is_sorted, find, get, insert, remove, entries, get-from_entries, get-insert, get-remove}
+use Rattle.std.specs.FinMap.{is_sorted, find, get, insert, remove, entries, get-from_entries, get-insert, get-remove}
 use Rattle.std.proofs.lemmas.Bool.{true≢false, false_from_ne_true, le-leb, lt-leb, and_from, and_parts}
 use Rattle.std.proofs.lemmas.List.{length-map}
 use Rattle.std.proofs.lemmas.List.Folds.{list_any_more}
@@ -31,7 +31,7 @@ use Rattle.blob_digest.proofs.Trees.{get_is}
 use Rattle.blob_digest.specs.Digests.{sha256_text}
 use Rattle.blob_digest.specs.declared.refusal.Refusal.TheVariants.{LimitReached}
 use Rattle.oci_manifest.specs.Manifests.{refs_of, refers}
-use Rattle.link_table.specs.Manifests.{Kept, kept, refer_cmp, is_pair, has_pair, IsIndexed, put_in, referrer_in}
+use Rattle.link_table.specs.Manifests.{Kept, kept, refer_cmp, is_pair, IsIndexed, put_in, referrer_in}
 use Rattle.link_table.proofs.Parts.{insert_by, remove_by}
 
 sym_text : (a b : Text) → same_text a b ≡ same_text b a

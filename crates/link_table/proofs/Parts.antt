@@ -1,13 +1,13 @@
 -- Maps whose entries stand in several parts, of which only one may have a key.
 use Rattle.std.proofs.Common.{◌≡◌, ℕ, Bool, true, false, cond, List, [], ◌∷◌, ◌++◌, Option, Some, None, refl, sym, ap, ◌∙◌, arith, set}
 use Prim.Native.Nat.{zero, suc}
-use Rattle.std.specs.Prelude.{T, slice_get}
+use Rattle.std.specs.Prelude.{slice_get}
 use Rattle.std.specs.declared.cmp.Ordering.{Ordering}
 use Rattle.std.specs.declared.cmp.Ordering.TheVariants.{Equal}
 use Rattle.std.specs.Ordering.{eq_by_cmp}
 use Rattle.std.specs.Cmp.{IsTotalOrder, Equal-is}
 use Rattle.std.specs.List.{flat_map}
-use Rattle.std.specs.FinMap.{FinMap, find, get, insert, remove, entries, entries_sorted, from_entries, get-entries, get-insert, get-remove, get-from_entries, get_tied, same_map, IsAntisymmetric}
+use Rattle.std.specs.FinMap.{FinMap, find, get, insert, remove, entries, entries_sorted, get-entries, get-insert, get-remove, get_tied, same_map, IsAntisymmetric}
 use Rattle.std.specs.FinMap.Entries.{find_tied, where_key, find-where_key, is_sorted-where_key, same_entries}
 use Rattle.blob_digest.proofs.OptionLemmas.{some_same, some_none}
 

@@ -1,11 +1,11 @@
 -- What the calls on a tenant's repositories give.
-use Rattle.std.proofs.Common.{◌≡◌, ℕ, ◌<◌, ◌≤◌, Bool, true, false, not, Option, Some, None, is_some, Result, Ok, Err, refl, sym, ap, ◌∙◌}
+use Rattle.std.proofs.Common.{◌≡◌, ◌<◌, ◌≤◌, true, false, not, Option, Some, None, is_some, Result, Ok, Err, refl, ap}
 use Rattle.std.specs.Prelude.{OnOk, OnErr, nat_le}
 use Rattle.std.specs.Cmp.Lexicographic.{nat_list_cmp_total}
 use Rattle.std.proofs.lemmas.Bool.{le-leb, lt-leb, and_from, and_left, and_right}
 use Rattle.std.proofs.lemmas.Map.Lookups.{exact_bytes}
 use Rattle.blob_digest.specs.Sets as set
-use Rattle.blob_digest.specs.Keys.{Text, text_cmp}
+use Rattle.blob_digest.specs.Keys.{Text}
 use Rattle.blob_digest.specs.declared.refusal.Refusal.TheVariants.{LimitReached}
 use Rattle.blob_digest.proofs.SetLemmas.{insert_there}
 use Rattle.link_table.specs.Shelves.{Shelved, appear_on, count}

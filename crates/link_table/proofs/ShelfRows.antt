@@ -1,18 +1,18 @@
 -- The rows of a tenant's repositories, in the order of their names, as a set and a map.
-use Rattle.std.proofs.Common.{◌≡◌, ℕ, ◌<◌, ◌≤◌, Bool, true, false, cond, List, [], ◌∷◌, ◌++◌, length, map, filter, get_or, Option, Some, None, is_some, Err, refl, sym, ap, ◌∙◌, arith, set, inl, inr}
+use Rattle.std.proofs.Common.{◌≡◌, ℕ, ◌<◌, ◌≤◌, Bool, true, false, cond, List, [], ◌∷◌, ◌++◌, length, map, get_or, Option, Some, None, is_some, Err, refl, sym, ap, ◌∙◌, arith, set}
 use Prim.Native.Nat.{zero, suc}
 use Rattle.std.specs.Prelude.{◌&&◌, slice_get}
 use Rattle.std.specs.declared.cmp.Ordering.TheVariants.{Less, Equal}
 use Rattle.std.specs.Ordering.{eq_by_cmp, is_eq, is_lt, ordering_then}
-use Rattle.std.specs.Cmp.{tied_then, tied_itself, eq_by_cmp_equiv, Equal-is}
+use Rattle.std.specs.Cmp.{tied_then, tied_itself, eq_by_cmp_equiv}
 use Rattle.std.specs.Cmp.Lexicographic.{nat_list_cmp_total, texts_ties}
 use Rattle.std.specs.List.{flat_map, insert, remove, HoldsAt, AllByRecursion}
 use Rattle.std.specs.List.Sorted.{IsBinarySearchResult, IsStrictlySortedBy}
 use Rattle.std.specs.BTreeMap as tree
 use Rattle.std.specs.Map.{keys_of}
-use Rattle.std.specs.FinMap.{FinMap, find, get, entries, empty, from_entries, is_sorted, get-empty, get-entries, get-from_entries}
+use Rattle.std.specs.FinMap.{FinMap, find, get, entries, empty, from_entries, is_sorted, get-empty, get-from_entries}
 use Rattle.std.specs.FinMap.Entries.{below_all, put, where_key}
-use Rattle.std.proofs.lemmas.Bool.{and_from, cases_eq, true≢false}
+use Rattle.std.proofs.lemmas.Bool.{and_from}
 use Rattle.std.proofs.lemmas.List.{length-map}
 use Rattle.std.proofs.lemmas.Map.Lookups.{exact_bytes}
 use Rattle.std.proofs.lemmas.Option.{slice_get_read}
@@ -25,7 +25,7 @@ use Rattle.blob_digest.proofs.RowLemmas.{from_entries-remove, entries-empty}
 use Rattle.blob_digest.proofs.SortedRows.{IsApart-sorted, is_sorted-remove, entries-sorted, from_entries-put, is_sorted_put, gap, missing, put_at, found_at, map_at}
 use Rattle.blob_digest.proofs.Trees.{get_is}
 use Rattle.blob_digest.specs.Rows.{IsApart}
-use Rattle.link_table.specs.Shelves.{Shelved, blobs_on}
+use Rattle.link_table.specs.Shelves.{blobs_on}
 use Rattle.link_table.specs.Rows.{named, links_in, shelf_shown, IsInOrder}
 use Rattle.link_table.specs.declared.repo.Repo.{Repo}
 use Rattle.link_table.proofs.Parts.{find_nowhere, find_in_part, find-set_part, where_key-agree, where_key-all}

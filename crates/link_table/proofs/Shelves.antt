@@ -1,15 +1,15 @@
 -- The repositories and links of all tenants, from those of each.
-use Rattle.std.proofs.Common.{◌≡◌, ℕ, ◌<◌, Bool, true, false, cond, List, [], ◌∷◌, length, map, filter, Option, Some, None, is_some, refl, sym, ap, ◌∙◌, arith, set, inl, inr}
+use Rattle.std.proofs.Common.{◌≡◌, ℕ, true, false, cond, List, [], ◌∷◌, length, map, filter, Option, Some, None, is_some, refl, sym, ap, ◌∙◌, set, inl, inr}
 use Prim.Native.Nat.{zero, suc}
-use Rattle.std.specs.Prelude.{slice_get, nat_eq, ◌⊎◌, count_by}
+use Rattle.std.specs.Prelude.{slice_get, nat_eq, ◌⊎◌}
 use Rattle.std.specs.Option.{option_eq}
 use Rattle.std.specs.Ordering.{eq_by_cmp}
 use Rattle.std.specs.Cmp.Lexicographic.{nat_list_cmp_total}
 use Rattle.std.specs.List.{flat_map}
 use Rattle.std.specs.FinMap as fmap
-use Rattle.std.specs.FinMap.{FinMap, find, get, entries, insert, remove, empty, get-entries, get-from_entries, get-empty, get-insert, get-remove}
+use Rattle.std.specs.FinMap.{get, entries, insert, remove, empty, get-entries, get-from_entries, get-empty, get-insert, get-remove}
 use Rattle.std.specs.FinMap.Entries.{where_key}
-use Rattle.std.proofs.lemmas.Bool.{cases_eq, eqb-true, true≢false}
+use Rattle.std.proofs.lemmas.Bool.{eqb-true, true≢false}
 use Rattle.std.proofs.lemmas.List.{length-set}
 use Rattle.std.proofs.lemmas.List.Sums.{length-filter}
 use Rattle.std.proofs.lemmas.Map.Lookups.{exact_bytes}
@@ -20,7 +20,7 @@ use Rattle.blob_digest.proofs.KeyOrders.{link_cmp_total, exact_link, text_is_sam
 use Rattle.blob_digest.proofs.ListLemmas.{filter-map}
 use Rattle.blob_digest.proofs.OptionLemmas.{some_same, some_none, not_some}
 use Rattle.blob_digest.proofs.RowLemmas.{entries-empty}
-use Rattle.link_table.specs.Linked.{Linked, Tenant, is_tenants, tenant_of, repos_of, blobs_in}
+use Rattle.link_table.specs.Linked.{Tenant, is_tenants, tenant_of}
 use Rattle.link_table.specs.Shelves.{Shelved, IsShelved, repos_shown, links_shown, blobs_on, count}
 use Rattle.link_table.proofs.Parts.{find_nowhere, find_in_part, find-set_part, flat_map-same, insert_by, remove_by, where_key-agree, where_key-all}
 

@@ -1,6 +1,6 @@
 -- What is kept of a table's running numbers, through each call.
-use Rattle.std.proofs.Common.{◌≡◌, ℕ, ◌+◌, ◌-◌, ◌<◌, ◌≤◌, ◌^◌, Bool, true, false, cond, not, List, [], ◌∷◌, length, get_or, set, Option, Some, None, is_some, Ok, Err, refl, sym, ap, ◌∙◌, arith, inl, inr, get_or-set_same, get_or-set_other, length-set}
-use Rattle.std.specs.Prelude.{if◌then◌else◌, slice_index, nat_eq, replicate, ◌&&◌, ◌||◌, ◌==◌}
+use Rattle.std.proofs.Common.{◌≡◌, ℕ, ◌+◌, ◌-◌, ◌<◌, ◌≤◌, ◌^◌, Bool, true, false, cond, List, [], ◌∷◌, length, get_or, set, Option, Some, None, is_some, Ok, refl, sym, ap, ◌∙◌, arith, inl, inr, get_or-set_same, get_or-set_other, length-set}
+use Rattle.std.specs.Prelude.{if◌then◌else◌, slice_index, nat_eq, replicate, ◌&&◌, ◌||◌}
 use Rattle.std.specs.Option.{option_eq}
 use Rattle.std.specs.List.{list_any}
 use Rattle.std.specs.Ordering.{eq_by_cmp}
@@ -11,11 +11,10 @@ use Rattle.std.proofs.lemmas.Bool.{cases_eq, ne_eqb}
 use Rattle.std.proofs.lemmas.List.{length-replicate, get_or-replicate}
 use Rattle.std.proofs.lemmas.Option.{slice_get_read, get_or_from_slice_get}
 use Rattle.blob_digest.specs.Keys.{Text, Link, text_cmp, link_cmp, same_text}
-use Rattle.blob_digest.specs.Sets as sets
 use Rattle.blob_digest.proofs.KeyOrders.{link_cmp_total, exact_link}
 use Rattle.blob_digest.proofs.RowLemmas.{entries-empty}
 use Rattle.blob_digest.proofs.MapSums.{insert_back}
-use Rattle.link_table.specs.Linked.{Tenant, Linked, sizes, blobs, total_size, is_tenants, tenant_of, HasOneSize, IsSizeOf, link}
+use Rattle.link_table.specs.Linked.{Tenant, Linked, sizes, blobs, total_size, is_tenants, tenant_of, IsSizeOf, link}
 use Rattle.link_table.specs.Tenancy.{AreTenants}
 use Rattle.link_table.specs.Running.{IsSound}
 use Rattle.link_table.specs.Holders.{is_held}

@@ -1,5 +1,5 @@
 -- What a call on one tenant's repositories does to the table.
-use Rattle.std.proofs.Common.{◌≡◌, ℕ, ◌+◌, ◌<◌, Bool, true, false, cond, not, List, [], ◌∷◌, length, replicate, Option, Some, None, is_some, Result, Ok, Err, refl, sym, ap, ◌∙◌, arith, set, inl, inr, get_or}
+use Rattle.std.proofs.Common.{◌≡◌, ℕ, ◌<◌, Bool, true, false, cond, not, List, [], length, replicate, Option, Some, None, is_some, Result, Ok, Err, refl, sym, ap, ◌∙◌, arith, set, inl, inr, get_or}
 use Prim.Native.Nat.{zero, suc}
 use Rattle.std.specs.Prelude.{slice_get, ◌⊎◌, ◌&&◌, nat_le}
 use Rattle.std.specs.Ordering.{eq_by_cmp}
@@ -7,9 +7,9 @@ use Rattle.std.specs.Cmp.{Equal-is}
 use Rattle.std.specs.Cmp.Lexicographic.{nat_list_cmp_total}
 use Rattle.std.specs.List.{flat_map}
 use Rattle.std.specs.FinMap as fmap
-use Rattle.std.specs.FinMap.{FinMap, get, insert, remove, empty, entries, get-insert, get-remove, get-empty, from_entries}
+use Rattle.std.specs.FinMap.{get, insert, remove, empty, entries, get-insert, get-remove, get-empty, from_entries}
 use Rattle.std.proofs.lemmas.Map.Lookups.{exact_bytes}
-use Rattle.std.proofs.lemmas.Option.{slice_get_read, slice_get_within}
+use Rattle.std.proofs.lemmas.Option.{slice_get_read}
 use Rattle.std.proofs.lemmas.Bool.{true≢false}
 use Rattle.blob_digest.specs.Sets as sets
 use Rattle.blob_digest.specs.Keys.{Text, Link, text_cmp, link_cmp}
@@ -19,9 +19,9 @@ use Rattle.blob_digest.specs.declared.refusal.Refusal.TheVariants.{LimitReached}
 use Rattle.blob_digest.proofs.KeyOrders.{link_cmp_total, exact_link, tied_text}
 use Rattle.blob_digest.proofs.OptionLemmas.{some_same, some_none}
 use Rattle.blob_digest.proofs.RowLemmas.{entries-empty, no_tie}
-use Rattle.link_table.specs.Linked.{Linked, Tenant, is_tenants, appear, cannot_appear, vanish, HasNoLinks}
+use Rattle.link_table.specs.Linked.{Linked, Tenant, is_tenants, appear, cannot_appear, HasNoLinks}
 use Rattle.link_table.specs.Shelves.{Shelved, IsShelved, repos_shown, links_shown, appear_on, count, nothing}
-use Rattle.link_table.proofs.Shelves.{repos-there, links-there, repos-insert, repos-remove, repos-same, links-same, counted-there, IsShelved-set}
+use Rattle.link_table.proofs.Shelves.{repos-there, links-there, repos-insert, repos-same, links-same, counted-there, IsShelved-set}
 
 abbrev pub linked_of : List Tenant → List Shelved → List ℕ → Linked
 linked_of tenants shelves charges = record { tenants = tenants; repos = repos_shown shelves; links = links_shown shelves; charges = charges }

@@ -1,7 +1,7 @@
 -- Lists of tenants: sorted, moved about, and with names that differ.
-use Rattle.std.proofs.Common.{◌≡◌, ℕ, ◌+◌, ◌<◌, ◌≤◌, ◌^◌, Bool, true, false, cond, List, [], ◌∷◌, length, map, get_or, Option, Some, None, is_some, refl, sym, ap, ◌∙◌, arith, add-one, inl, inr}
+use Rattle.std.proofs.Common.{◌≡◌, ℕ, ◌+◌, ◌<◌, ◌≤◌, ◌^◌, Bool, true, false, cond, List, [], ◌∷◌, length, map, get_or, Option, Some, None, refl, sym, ap, ◌∙◌, arith, add-one}
 use Prim.Native.Nat.{zero, suc}
-use Rattle.std.specs.Prelude.{nat_eq, ◌||◌, String, string_bytes}
+use Rattle.std.specs.Prelude.{nat_eq, String, string_bytes}
 use Rattle.std.specs.declared.cmp.Ordering.{Ordering}
 use Rattle.std.specs.declared.alloc.Global.{Global}
 use Rattle.std.specs.declared.cmp.Ordering.TheVariants.{Less, Equal, Greater}
@@ -9,7 +9,7 @@ use Rattle.std.specs.Ordering.{is_lt, is_eq, ordering_then, ordering_reverse, na
 use Rattle.std.specs.Option.{option_eq}
 use Rattle.std.specs.Cmp.{IsTotalOrder}
 use Rattle.std.specs.Cmp.Lexicographic.{nat_list_cmp_total, texts_ties}
-use Rattle.std.specs.List.{All, AllByRecursion, AllAdjacentBelow, list_any, count_by, position}
+use Rattle.std.specs.List.{All, AllByRecursion, AllAdjacentBelow, count_by, position}
 use Rattle.std.specs.List.Sorted.{IsPermutation, IsSortedBy, IsStrictlySortedBy}
 use Rattle.std.proofs.lemmas.Bool.{true≢false, eq-eqb, eqb-true}
 use Rattle.std.proofs.lemmas.List.Elements.{All-map}
@@ -20,8 +20,7 @@ use Rattle.blob_digest.proofs.KeyOrders.{same_itself, text_is_same}
 use Rattle.blob_digest.specs.Keys.{Text, text_cmp, same_text, tenant_name}
 use Rattle.blob_digest.specs.Names.{IsComponent}
 use Rattle.blob_digest.specs.Tenants.{Tenant, tenant_of, is_tenants}
-use Rattle.blob_digest.proofs.RowLemmas.{is_some-position, position-map, sum_by-map}
-use Rattle.blob_digest.proofs.SortedRows.{map_at}
+use Rattle.blob_digest.proofs.RowLemmas.{position-map, sum_by-map}
 use Rattle.link_table.specs.Tenancy.{HasNames, IsWithinLimits, AreTenants, tenant_shown, tenants_shown}
 
 -- ---- how many pass a test

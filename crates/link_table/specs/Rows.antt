@@ -2,7 +2,7 @@
 use Rattle.std.specs.Prelude.{◌≡◌, ℕ, List, map, true}
 use Rattle.std.specs.List.{flat_map}
 use Rattle.std.specs.FinMap as fmap
-use Rattle.blob_digest.specs.Keys.{Text, Link, text_cmp, link_cmp}
+use Rattle.blob_digest.specs.Keys.{Text, Link, text_cmp}
 use Rattle.link_table.specs.Shelves.{Shelved}
 use Rattle.link_table.specs.declared.repo.Repo.{Repo}
 

@@ -1,28 +1,26 @@
 -- What the table shows after a session was removed, taken into a hand, and put back.
-use Rattle.std.proofs.Common.{◌≡◌, ℕ, zero, suc, ◌+◌, ◌<◌, ◌≤◌, Bool, true, false, cond, List, [], ◌∷◌, length, map, set, get_or, Option, Some, None, is_some, Ok, Err, Result, refl, sym, ap, ◌∙◌, subst, arith}
-use Rattle.std.specs.Prelude.{◌==◌, ◌&&◌, ◌||◌, sum, take}
+use Rattle.std.proofs.Common.{◌≡◌, ℕ, zero, suc, ◌+◌, ◌<◌, ◌≤◌, Bool, true, false, List, [], ◌∷◌, length, set, get_or, Option, Some, None, is_some, Ok, Err, refl, sym, ap, ◌∙◌, subst, arith}
+use Rattle.std.specs.Prelude.{◌==◌, ◌&&◌, ◌||◌, sum}
 use Rattle.std.specs.Option.{option_map, option_map_or}
 use Rattle.std.specs.List.{list_any, remove, position, sum_by}
 use Rattle.std.specs.List.{find as lfind}
-use Rattle.std.specs.FinMap.{get, insert}
+use Rattle.std.specs.FinMap.{get}
 use Rattle.std.specs.FinMap.{remove as fremove}
 use Rattle.std.proofs.lemmas.Bool.{and_parts, eqb-true, eq-eqb, false≢true}
 use Rattle.std.proofs.lemmas.List.Quantifiers.{position-Some}
-use Rattle.blob_digest.specs.Keys.{Number, Text, number_cmp}
-use Rattle.blob_digest.specs.declared.refusal.Refusal.{Refusal}
+use Rattle.blob_digest.specs.Keys.{Number, Text}
 use Rattle.blob_digest.specs.declared.refusal.Refusal.TheVariants.{DigestInvalid, UploadUnknown}
 use Rattle.blob_digest.specs.Digests.{is_digest_of}
 use Rattle.blob_digest.proofs.RowLemmas.{is_some-position}
 use Rattle.upload_table.specs.Sessions.{Chunks, Session, Sessions, Taken, are_taken, at_home, brought_home, chunks_in, chunks_of, given_up, hand_in, is_home, put_back_in, take_in, taken_session, whole_of, with_chunks}
 use Rattle.upload_table.specs.Sessions as shown
 use Rattle.upload_table.specs.Uploaded.{Rest, Uploaded, CanReopen, BeginsWith, cut, finish_upload, put_back_upload, reopened, repo_at, with_sessions}
-use Rattle.upload_table.specs.Rows.{chunks_shown, content_charge, content_received, entry_of, is_at_home, is_out, key_of, session_of, shown_by, AreWhole, IsCounted, IsSound, IsWhole}
+use Rattle.upload_table.specs.Rows.{chunks_shown, content_charge, content_received, is_at_home, is_out, key_of, session_of, shown_by, IsCounted, IsSound, IsWhole}
 use Rattle.upload_table.specs.declared.upload.Content.{Content}
 use Rattle.upload_table.specs.declared.upload.Content.TheVariants.{Home, InHand}
 use Rattle.upload_table.specs.declared.upload.Pieces.{Pieces}
 use Rattle.upload_table.specs.declared.upload.Upload.{Upload}
 use Rattle.upload_table.proofs.Cuts.{sum_by-cut}
-use Rattle.upload_table.proofs.HandChunks.{chunks_of-length}
 use Rattle.upload_table.proofs.Lookups.{get_row, map_of, row_at, place_within, received_is, IsPlaced}
 use Rattle.upload_table.proofs.RowAt.{found_row, removed, written}
 use Rattle.upload_table.proofs.Sound.{whole_row, IsSound-set}

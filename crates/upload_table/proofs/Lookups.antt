@@ -1,5 +1,5 @@
 -- Sessions looked up, counted and summed, in the rows and in the map that they stand for.
-use Rattle.std.proofs.Common.{◌≡◌, ℕ, zero, suc, ◌+◌, ◌<◌, ◌≤◌, Bool, true, false, cond, List, [], ◌∷◌, length, map, take, get_or, Option, Some, None, is_some, Ok, Err, refl, sym, ap, ◌∙◌, subst, arith, add-zero, Result}
+use Rattle.std.proofs.Common.{◌≡◌, ℕ, zero, suc, ◌+◌, ◌<◌, ◌≤◌, Bool, true, false, cond, List, [], ◌∷◌, length, map, take, get_or, Option, Some, None, is_some, Ok, Err, refl, sym, ap, ◌∙◌, subst, arith, add-zero}
 use Rattle.std.specs.Prelude.{◌==◌, ◌&&◌, ◌||◌, slice_get, slice_index, option_map, sum}
 use Rattle.std.specs.Ordering.{eq_by_cmp}
 use Rattle.std.specs.List.{sum_by, count_by, filter, AllByRecursion, position, list_any}
@@ -12,7 +12,6 @@ use Rattle.std.proofs.lemmas.List.Quantifiers.{position-Some}
 use Rattle.std.proofs.lemmas.Option.{slice_get-map}
 use Rattle.blob_digest.proofs.ListLemmas.{filter-map}
 use Rattle.blob_digest.specs.Keys.{Text, Number, number_cmp, same_text}
-use Rattle.blob_digest.specs.declared.refusal.Refusal.{Refusal}
 use Rattle.blob_digest.specs.declared.refusal.Refusal.TheVariants.{UploadUnknown, Busy}
 use Rattle.blob_digest.proofs.KeyOrders.{number_cmp_total}
 use Rattle.blob_digest.proofs.RowLemmas.{sum_by-from_entries, sum_by-map, is_some-position}

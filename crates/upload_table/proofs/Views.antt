@@ -1,15 +1,13 @@
 -- What the table shows after a session was opened.
-use Rattle.std.proofs.Common.{◌≡◌, ℕ, ◌+◌, ◌^◌, ◌<◌, Bool, true, false, List, [], ◌∷◌, ◌++◌, length, map, set, get_or, Option, Some, None, Ok, Err, refl, sym, ap, ◌∙◌, arith}
+use Rattle.std.proofs.Common.{◌≡◌, ℕ, ◌+◌, ◌^◌, Bool, true, false, List, [], ◌∷◌, ◌++◌, map, set, None, Ok, Err, refl, sym, ap, ◌∙◌, arith}
 use Rattle.std.specs.Prelude.{◌==◌, ◌||◌, nat_le, slice_index}
 use Rattle.std.specs.List.{count_by}
-use Rattle.std.specs.FinMap.{FinMap, find, get, insert, from_entries, from_entries_push}
-use Rattle.std.proofs.lemmas.Bool.{eqb-true, false≢true}
-use Rattle.std.proofs.Math.Seq.{map-set_same}
-use Rattle.blob_digest.specs.Keys.{Text, Number, number_cmp}
+use Rattle.std.specs.FinMap.{find, insert, from_entries, from_entries_push}
+use Rattle.blob_digest.specs.Keys.{Text, number_cmp}
 use Rattle.blob_digest.specs.declared.refusal.Refusal.TheVariants.{LimitReached}
 use Rattle.blob_digest.proofs.KeyOrders.{number_cmp_total, exact_number}
 use Rattle.blob_digest.proofs.RowLemmas.{no_tie}
-use Rattle.upload_table.specs.Sessions.{Home, Session}
+use Rattle.upload_table.specs.Sessions.{Home}
 use Rattle.upload_table.specs.Uploaded.{started, start_upload, cannot_start}
 use Rattle.upload_table.specs.Rows.{chunks_shown, entry_of, key_of, session_of, shown_by, AreBelow, IsSound}
 use Rattle.upload_table.specs.declared.upload.Upload.{Upload}

@@ -8,7 +8,7 @@ use Rattle.blob_digest.specs.declared.refusal.Refusal.TheVariants.{LimitReached,
 use Rattle.blob_digest.specs.declared.running.Running.{Running}
 use Rattle.blob_digest.specs.contracts.running.Running as running
 use Rattle.blob_digest.specs.Hashing.{Hashes}
-use Rattle.blob_digest.specs.Keys.{Text, Number, coded_text}
+use Rattle.blob_digest.specs.Keys.{Text, Number}
 use Rattle.blob_digest.specs.Digests.{is_digest_of}
 use Rattle.blob_digest.specs.Outcomes.{OutcomeIn, ◌>>=◌, refuse}
 use Rattle.upload_table.specs.Sessions.{Home, InHand, Sessions, Taken, coded_session, open_in, put_back_in, taken_session, whole_of, with_chunks}

@@ -1,8 +1,6 @@
-use Rattle.std.proofs.Common.{sym, ap, ◌∙◌, take}
+use Rattle.std.proofs.Common.{sym, ◌∙◌}
 use Rattle.std.proofs.lemmas.List.{get_or_default}
-use Rattle.std.specs.BTreeSet.{contains}
-use Rattle.link_table.specs.Manifests.{refer_cmp}
-use Rattle.link_table.proofs.ManifestRows.{referred, undone}
+use Rattle.link_table.proofs.ManifestRows.{referred}
 use Rattle.link_table.proofs.manifests.refer.Goals as goal
 
 pub loop-i-preserved : goal.loop-i-preserved

@@ -1,9 +1,4 @@
-use Rattle.std.proofs.Common.{◌≡◌, refl, ap, sym, ◌∙◌, set}
-use Rattle.blob_digest.specs.Outcomes.{Does}
-use Rattle.link_table.specs.Linked.{Linked, appear}
 use Rattle.link_table.specs.Tenancy.{tenants_shown}
-use Rattle.link_table.specs.Running.{IsSound}
-use Rattle.link_table.specs.Holders.{Counts}
 use Rattle.link_table.proofs.Shelves.{links-same}
 use Rattle.link_table.proofs.Tables.{shelf_at, grown, appear_does, IsShelved-appear}
 use Rattle.link_table.proofs.links.Links.appear.Goals as goal

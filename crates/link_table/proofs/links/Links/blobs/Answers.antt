@@ -1,4 +1,4 @@
-use Rattle.std.proofs.Common.{◌≡◌, refl, ap, sym, ◌∙◌, arith}
+use Rattle.std.proofs.Common.{ap, sym, ◌∙◌, arith}
 use Rattle.link_table.specs.Linked.{Linked, blobs_in}
 use Rattle.link_table.specs.Tenancy.{tenants_shown}
 use Rattle.link_table.proofs.Shelves.{blobs-there, blobs-nobody}

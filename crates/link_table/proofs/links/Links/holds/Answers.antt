@@ -1,4 +1,4 @@
-use Rattle.std.proofs.Common.{◌≡◌, refl, ap, sym, ◌∙◌, is_some, arith}
+use Rattle.std.proofs.Common.{ap, sym, ◌∙◌, is_some, arith}
 use Rattle.std.specs.FinMap.{contains_key}
 use Rattle.link_table.specs.Linked.{Linked}
 use Rattle.link_table.specs.Tenancy.{tenants_shown}

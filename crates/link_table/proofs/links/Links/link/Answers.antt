@@ -1,9 +1,7 @@
-use Rattle.std.proofs.Common.{◌≡◌, refl, ap, sym, ◌∙◌, is_some, nat_lt, true, Ok, set}
-use Rattle.std.specs.FinMap.{get, insert}
-use Rattle.blob_digest.specs.Sets as sets
+use Rattle.std.proofs.Common.{ap, sym, ◌∙◌, is_some, nat_lt, true, Ok, set}
+use Rattle.std.specs.FinMap.{get}
 use Rattle.blob_digest.proofs.OptionLemmas.{some_value}
-use Rattle.link_table.specs.Linked.{Linked, is_tenants}
-use Rattle.link_table.specs.Shelves.{Shelved, links_shown, repos_shown}
+use Rattle.link_table.specs.Shelves.{Shelved, links_shown}
 use Rattle.link_table.specs.Tenancy.{tenants_shown}
 use Rattle.link_table.proofs.HolderCounts.{held-counted, Counts-insert, Counts-back}
 use Rattle.link_table.proofs.ShelfCalls.{is_none}

@@ -1,7 +1,6 @@
-use Rattle.std.proofs.Common.{◌≡◌, ◌∙◌, refl, ap, sym, is_some, nat_lt, Some}
+use Rattle.std.proofs.Common.{◌∙◌, ap, sym, is_some, nat_lt}
 use Rattle.std.proofs.lemmas.Bool.{false≢true}
-use Rattle.std.specs.FinMap.{get, remove}
-use Rattle.link_table.specs.Linked.{Linked, is_tenants}
+use Rattle.std.specs.FinMap.{remove}
 use Rattle.link_table.specs.Shelves.{Shelved, links_shown}
 use Rattle.link_table.specs.Tenancy.{tenants_shown}
 use Rattle.link_table.proofs.HolderCounts.{held-counted, some_counted, Counts-remove}

@@ -1,6 +1,4 @@
-use Rattle.std.proofs.Common.{◌≡◌, ◌<◌, refl, ap, sym, ◌∙◌, set, is_some, arith}
-use Rattle.blob_digest.specs.Sets as sets
-use Rattle.link_table.specs.Linked.{Linked, vanish}
+use Rattle.std.proofs.Common.{ap, sym, ◌∙◌, is_some, arith}
 use Rattle.link_table.specs.Tenancy.{tenants_shown}
 use Rattle.link_table.specs.Shelves.{Shelved}
 use Rattle.link_table.proofs.Shelves.{links-same, repos-there, repos-remove}

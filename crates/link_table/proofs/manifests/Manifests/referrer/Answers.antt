@@ -1,4 +1,4 @@
-use Rattle.std.proofs.Common.{◌≡◌, sym, ap, ◌∙◌}
+use Rattle.std.proofs.Common.{sym, ap, ◌∙◌}
 use Rattle.blob_digest.proofs.KeyOrders.{text_is_same}
 use Rattle.link_table.specs.Manifests.{Kept, referrer_in}
 use Rattle.link_table.proofs.ManifestRows.{referrer_empty, referrer_first, referrer_later}

@@ -1,4 +1,4 @@
-use Rattle.std.proofs.Common.{◌≡◌, ◌<◌, ◌≤◌, refl, arith, ap, sym, ◌∙◌, map, ℕ, true, Ok}
+use Rattle.std.proofs.Common.{◌<◌, ◌≤◌, refl, arith, ap, sym, ◌∙◌, map, ℕ, true, Ok}
 use Rattle.std.specs.FinMap.{from_entries}
 use Rattle.blob_digest.specs.Keys.{Text, Link, link_cmp}
 use Rattle.link_table.specs.Rows.{shelf_shown}

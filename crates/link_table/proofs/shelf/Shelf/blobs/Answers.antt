@@ -1,4 +1,4 @@
-use Rattle.std.proofs.Common.{◌≡◌, refl, ap, sym, ◌∙◌}
+use Rattle.std.proofs.Common.{ap, sym, ◌∙◌}
 use Rattle.link_table.specs.Shelves.{Shelved, blobs_on}
 use Rattle.link_table.specs.Rows.{shelf_shown}
 use Rattle.link_table.proofs.ShelfRows.{row_found, blobs-there, blobs-absent, sorted_tree}

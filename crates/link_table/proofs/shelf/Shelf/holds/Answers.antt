@@ -1,5 +1,5 @@
-use Rattle.std.proofs.Common.{◌≡◌, refl, ap, sym, ◌∙◌, is_some}
-use Rattle.std.specs.FinMap.{get, contains_key}
+use Rattle.std.proofs.Common.{ap, sym, ◌∙◌, is_some}
+use Rattle.std.specs.FinMap.{contains_key}
 use Rattle.link_table.specs.Shelves.{Shelved}
 use Rattle.link_table.specs.Rows.{shelf_shown}
 use Rattle.link_table.proofs.ShelfRows.{row_found, links-there, links-absent}

@@ -1,10 +1,9 @@
-use Rattle.std.proofs.Common.{◌≡◌, refl, ap, sym, ◌∙◌, Some, ℕ, set}
+use Rattle.std.proofs.Common.{ap, sym, ◌∙◌, Some, set}
 use Rattle.std.proofs.lemmas.Bool.{false≢true}
-use Rattle.std.specs.List.{flat_map}
-use Rattle.std.specs.FinMap.{FinMap, from_entries, get, insert, is_sorted}
-use Rattle.blob_digest.specs.Keys.{Text, Link, text_cmp, link_cmp}
+use Rattle.std.specs.FinMap.{from_entries, is_sorted}
+use Rattle.blob_digest.specs.Keys.{text_cmp, link_cmp}
 use Rattle.blob_digest.proofs.KeyOrders.{link_cmp_total, exact_link}
-use Rattle.link_table.specs.Rows.{shelf_shown, links_in, named}
+use Rattle.link_table.specs.Rows.{shelf_shown, links_in}
 use Rattle.link_table.proofs.Parts.{insert_by, flat_map-same}
 use Rattle.link_table.proofs.ShelfCalls.{on_ok, on_err}
 use Rattle.link_table.proofs.ShelfRows.{absent, names-set, row_found, links-changed, same_links}

@@ -1,4 +1,4 @@
-use Rattle.std.proofs.Common.{◌≡◌, refl, ap, sym, ◌∙◌, Some, map, length, arith, ◌≤◌, slice_get}
+use Rattle.std.proofs.Common.{refl, ap, sym, ◌∙◌, length, slice_get}
 use Rattle.std.specs.Option.{option_map}
 use Rattle.std.proofs.lemmas.Option.{slice_get-map, slice_get_read, slice_get_past}
 use Rattle.blob_digest.specs.Sets as set

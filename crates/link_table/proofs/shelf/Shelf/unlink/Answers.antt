@@ -1,8 +1,8 @@
-use Rattle.std.proofs.Common.{◌≡◌, refl, ap, sym, ◌∙◌, None, ℕ, set}
-use Rattle.std.specs.FinMap.{FinMap, from_entries, get, remove, is_sorted}
-use Rattle.blob_digest.specs.Keys.{Text, Link, text_cmp, link_cmp}
+use Rattle.std.proofs.Common.{ap, sym, ◌∙◌, None, set}
+use Rattle.std.specs.FinMap.{from_entries, get, is_sorted}
+use Rattle.blob_digest.specs.Keys.{text_cmp}
 use Rattle.blob_digest.proofs.KeyOrders.{link_cmp_total, exact_link}
-use Rattle.link_table.specs.Rows.{shelf_shown, links_in, named}
+use Rattle.link_table.specs.Rows.{shelf_shown}
 use Rattle.link_table.specs.Shelves.{Shelved}
 use Rattle.link_table.proofs.Parts.{remove_by, remove_absent}
 use Rattle.link_table.proofs.ShelfRows.{names-set, row_found, links-changed, links-there, links-absent}

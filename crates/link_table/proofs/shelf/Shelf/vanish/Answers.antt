@@ -1,10 +1,8 @@
-use Rattle.std.proofs.Common.{◌≡◌, refl, ap, sym, ◌∙◌}
+use Rattle.std.proofs.Common.{ap, sym, ◌∙◌}
 use Rattle.std.proofs.lemmas.Bool.{false≢true}
 use Rattle.std.specs.FinMap.{from_entries, get}
-use Rattle.blob_digest.specs.Sets as set
 use Rattle.blob_digest.specs.Keys.{link_cmp}
 use Rattle.link_table.specs.Rows.{shelf_shown}
-use Rattle.link_table.specs.Shelves.{Shelved}
 use Rattle.link_table.proofs.ShelfRows.{absent, repos-remove, order-remove, row_found, unlinked, flat_map-remove}
 use Rattle.link_table.proofs.shelf.Shelf.vanish.Goals as goal
 

@@ -1,4 +1,4 @@
-use Rattle.std.proofs.Common.{ap, sym, ◌∙◌}
+use Rattle.std.proofs.Common.{ap, ◌∙◌}
 use Rattle.std.specs.Vec.{vec_capacity}
 use Rattle.upload_table.specs.Sessions.{Taken, chunks_of}
 use Rattle.upload_table.specs.Uploaded.{cut}

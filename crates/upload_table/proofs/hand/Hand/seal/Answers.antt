@@ -1,4 +1,4 @@
-use Rattle.std.proofs.Common.{◌≡◌, ℕ, List, Bool, true, false, ap, refl, sym, take, ◌∙◌}
+use Rattle.std.proofs.Common.{◌≡◌, ap, refl, sym, take, ◌∙◌}
 use Rattle.std.proofs.lemmas.Bool.{false≢true}
 use Rattle.std.specs.Vec.{vec_capacity}
 use Rattle.blob_digest.specs.Digests.{is_digest_of}

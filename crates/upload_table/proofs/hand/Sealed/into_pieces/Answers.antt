@@ -1,4 +1,4 @@
-use Rattle.std.proofs.Common.{◌≡◌, ap, sym, take, ◌∙◌}
+use Rattle.std.proofs.Common.{◌≡◌, ap, take, ◌∙◌}
 use Rattle.std.specs.Prelude.{sum}
 use Rattle.upload_table.specs.Uploaded.{Rest, cut}
 use Rattle.upload_table.proofs.Cuts.{cut-take}

@@ -1,7 +1,6 @@
-use Rattle.std.proofs.Common.{◌≡◌, ◌≤◌, ◌+◌, Ok, Err, length, ap, sym, ◌∙◌, arith, refl}
+use Rattle.std.proofs.Common.{Ok, length, ap, sym, ◌∙◌, arith}
 use Rattle.std.specs.List.{sum_by}
-use Rattle.blob_digest.specs.Digests.{is_digest_of}
-use Rattle.upload_table.specs.Uploaded.{Uploaded, cut, finish_upload, with_sessions}
+use Rattle.upload_table.specs.Uploaded.{with_sessions}
 use Rattle.upload_table.specs.Rows.{shown_by}
 use Rattle.upload_table.proofs.Sound.{tenants_counted}
 use Rattle.upload_table.proofs.Hands.{can-reopen, finish_known, finish_other, finish_unknown, fits, given, given_up_unknown, known, out_row, reopens, shown-home, sound-home, unknown}

@@ -1,8 +1,8 @@
-use Rattle.std.proofs.Common.{◌≡◌, ◌≤◌, ◌+◌, Ok, Err, length, ap, sym, ◌∙◌, arith, refl}
+use Rattle.std.proofs.Common.{◌≡◌, Ok, length, ap, sym, ◌∙◌, arith, refl}
 use Rattle.std.specs.Prelude.{sum}
 use Rattle.std.specs.List.{sum_by}
 use Rattle.upload_table.specs.Sessions.{chunks_of}
-use Rattle.upload_table.specs.Uploaded.{Uploaded, cut, put_back_upload}
+use Rattle.upload_table.specs.Uploaded.{cut}
 use Rattle.upload_table.proofs.Cuts.{sum_by-cut}
 use Rattle.upload_table.proofs.HandChunks.{chunks_of-length}
 use Rattle.upload_table.proofs.Sound.{tenants_counted}

@@ -1,17 +1,15 @@
-use Rattle.std.proofs.Common.{◌≡◌, ◌≤◌, ◌+◌, length, ap, sym, ◌∙◌, arith, refl, subst, List, Some}
+use Rattle.std.proofs.Common.{length, ap, sym, ◌∙◌, arith, refl, subst}
 use Rattle.std.specs.Prelude.{sum}
-use Rattle.std.specs.Option.{option_map_or}
 use Rattle.std.specs.List.{sum_by}
 use Rattle.std.specs.FinMap.{get}
 use Rattle.std.specs.Prelude.{IsSome}
 use Rattle.blob_digest.specs.Keys.{Number}
-use Rattle.upload_table.specs.Sessions.{Home, Session, with_chunks}
 use Rattle.upload_table.specs.Rows.{shown_by}
-use Rattle.upload_table.specs.Uploaded.{CanReopen, Rest, Uploaded, cut, reopened, with_sessions}
+use Rattle.upload_table.specs.Uploaded.{CanReopen, Rest, Uploaded, cut, with_sessions}
 use Rattle.upload_table.proofs.Cuts.{sum_by-cut}
 use Rattle.upload_table.proofs.Sound.{tenants_counted}
-use Rattle.upload_table.proofs.Lookups.{map_of, nowhere, placed_row}
-use Rattle.upload_table.proofs.Hands.{fits, given, hand_of, out_key, reopen_row, reopens, shown-home, sound-home, IsOut}
+use Rattle.upload_table.proofs.Lookups.{nowhere, placed_row}
+use Rattle.upload_table.proofs.Hands.{fits, given, hand_of, reopen_row, reopens, shown-home, sound-home, IsOut}
 use Rattle.upload_table.proofs.uploads.Uploads.reopen.Goals as goal
 
 pub put_home-requires-clause-there : goal.put_home-requires-clause-there

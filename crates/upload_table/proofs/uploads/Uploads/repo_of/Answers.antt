@@ -1,8 +1,8 @@
-use Rattle.std.proofs.Common.{◌≡◌, ap, sym, ◌∙◌, subst}
+use Rattle.std.proofs.Common.{ap, sym, ◌∙◌, subst}
 use Rattle.std.specs.Prelude.{IsSome}
 use Rattle.std.specs.FinMap.{get}
 use Rattle.blob_digest.specs.Keys.{Number}
-use Rattle.upload_table.specs.Uploaded.{Rest, Uploaded, repo_at}
+use Rattle.upload_table.specs.Uploaded.{Rest, repo_at}
 use Rattle.upload_table.proofs.Hands.{no_row, repo_row}
 use Rattle.upload_table.proofs.uploads.Uploads.repo_of.Goals as goal
 

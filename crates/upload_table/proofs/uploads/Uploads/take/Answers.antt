@@ -1,14 +1,14 @@
-use Rattle.std.proofs.Common.{◌≡◌, ◌≤◌, ◌+◌, ◌<◌, ◌^◌, ℕ, length, set, ap, sym, ◌∙◌, arith, refl, subst, slice_index, length-set}
+use Rattle.std.proofs.Common.{◌≡◌, ◌≤◌, ◌+◌, ◌<◌, ℕ, length, set, ap, sym, ◌∙◌, arith, refl, subst, slice_index, length-set}
 use Rattle.std.proofs.lemmas.List.{get_or_default}
-use Rattle.upload_table.specs.Rows.{content_charge, content_received, is_at_home, shown_by, IsSound}
+use Rattle.upload_table.specs.Rows.{content_charge, content_received, shown_by, IsSound}
 use Rattle.upload_table.specs.Sessions.{hand_in, in_sessions, is_home, take_in}
 use Rattle.upload_table.specs.Uploaded.{Uploaded, with_sessions}
 use Rattle.upload_table.specs.declared.upload.Content.TheVariants.{InHand}
 use Rattle.upload_table.specs.declared.upload.Upload.{Upload}
 use Rattle.std.specs.FinMap.{get}
-use Rattle.upload_table.proofs.Sound.{tenants_counted, whole_row, IsSound-set}
+use Rattle.upload_table.proofs.Sound.{tenants_counted, IsSound-set}
 use Rattle.upload_table.proofs.Tables.{share-le, IsCounted-set}
-use Rattle.upload_table.proofs.Lookups.{map_of, nowhere, placed_at, total_is}
+use Rattle.upload_table.proofs.Lookups.{nowhere, placed_at, total_is}
 use Rattle.upload_table.proofs.Hands.{hand-take, home_row, is_some-home, shown-take}
 use Rattle.upload_table.proofs.uploads.Uploads.take.Goals as goal
 
