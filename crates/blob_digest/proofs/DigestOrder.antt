@@ -7,7 +7,7 @@ use Rattle.std.specs.Cmp.Lexicographic.{slice_cmp, texts_ties}
 use Rattle.hex.specs.Hex.{IsBytes, encode_lower, encode_with, lower_digits}
 use Rattle.blob_digest.specs.Checksums.{IsChecksum, text_of}
 use Rattle.blob_digest.specs.declared.checksum.Checksum.{Checksum}
-use Rattle.blob_digest.specs.declared.checksum.Checksum.TheVariants.{Sha256}
+use Rattle.blob_digest.specs.declared.checksum.Checksum.TheVariants.{Sha256, Sha512}
 use Rattle.blob_digest.specs.contracts.checksum.ChecksumOrd.TheImpl as checksum_ord
 use Rattle.blob_digest.specs.contracts.checksum.ChecksumPartialEq.TheImpl as checksum_eq
 
@@ -81,8 +81,17 @@ encoded_cmp (x ∷ xs) (y ∷ ys) hx hy =
 -- texts stand in the order of what they are the texts of
 pub text_cmp : (a b : Checksum) → IsChecksum a → IsChecksum b → slice_cmp nat_cmp (text_of a) (text_of b) ≡ checksum_ord.cmp-value.it a b
 text_cmp (Sha256 a) (Sha256 b) ha hb = encoded_cmp a b ha.1 hb.1
+text_cmp (Sha256 a) (Sha512 b) ha hb = refl
+text_cmp (Sha512 a) (Sha256 b) ha hb = refl
+text_cmp (Sha512 a) (Sha512 b) ha hb = encoded_cmp a b ha.1 hb.1
+
+-- hex texts are equal where their bytes are
+same_digits : (a b : List ℕ) → IsBytes a → IsBytes b → bytes_eq (encode_lower a) (encode_lower b) ≡ bytes_eq a b
+same_digits a b ha hb = texts_ties (encode_lower a) (encode_lower b) ∙ ap is_eq (encoded_cmp a b ha hb) ∙ sym (texts_ties a b)
 
 -- texts are equal where what they are the texts of is
 pub text_eq : (a b : Checksum) → IsChecksum a → IsChecksum b → bytes_eq (text_of a) (text_of b) ≡ checksum_eq.eq-value.it a b
-text_eq (Sha256 a) (Sha256 b) ha hb =
-    texts_ties (text_of (Sha256 a)) (text_of (Sha256 b)) ∙ ap is_eq (encoded_cmp a b ha.1 hb.1) ∙ sym (texts_ties a b)
+text_eq (Sha256 a) (Sha256 b) ha hb = same_digits a b ha.1 hb.1
+text_eq (Sha256 a) (Sha512 b) ha hb = refl
+text_eq (Sha512 a) (Sha256 b) ha hb = refl
+text_eq (Sha512 a) (Sha512 b) ha hb = same_digits a b ha.1 hb.1

@@ -1,18 +1,19 @@
 -- The grammar of a digest's text and its test.
 use Rattle.std.proofs.Math.Seq.{drop-append_seam, take-append_seam}
 use Rattle.std.proofs.lemmas.Slice.Eq.{bytes_eq-Decides}
-use Rattle.std.proofs.Common.{length-append, sym, nat_eq, ◌+◌}
+use Rattle.std.proofs.lemmas.Bool.{or_right}
+use Rattle.std.proofs.Common.{length-append, sym, false, nat_eq, ◌||◌, ◌+◌, ◌⊎◌}
 use Rattle.std.specs.List.{starts_with}
-use Rattle.std.proofs.Common.{◌≡◌, ℕ, zero, suc, ◌*◌, ◌/◌, ◌%◌, ◌<◌, Bool, true, ◌&&◌, inl, inr, List, [], ◌∷◌, ◌++◌, codes, length, slice_index, drop, refl, ap, ◌∙◌, arith}
+use Rattle.std.proofs.Common.{◌≡◌, ℕ, zero, suc, ◌*◌, ◌/◌, ◌%◌, ◌<◌, ◌≤◌, Bool, true, ◌&&◌, inl, inr, List, [], ◌∷◌, ◌++◌, codes, length, slice_index, drop, refl, ap, ◌∙◌, arith}
 use Rattle.std.proofs.lemmas.Bool.{and_parts, cases_lt, eq-eqb}
 use Rattle.std.proofs.lemmas.List.Sums.{list_all-from_AllPass, AllPass-from_list_all}
 use Rattle.std.specs.List.{list_all}
 use Rattle.hex.specs.Hex.{IsBytes, encode_lower, encode_with, lower_digits}
 use Rattle.hex.proofs.HexLemmas.{length-encode_with}
 use Rattle.blob_digest.specs.Digests.{IsSpelled, is_spelled, IsDigestText, is_digest_text, is_lower_hex}
-use Rattle.blob_digest.specs.Checksums.{IsChecksum, text_of}
+use Rattle.blob_digest.specs.Checksums.{IsChecksum, text_of, value_of}
 use Rattle.blob_digest.specs.declared.checksum.Checksum.{Checksum}
-use Rattle.blob_digest.specs.declared.checksum.Checksum.TheVariants.{Sha256}
+use Rattle.blob_digest.specs.declared.checksum.Checksum.TheVariants.{Sha256, Sha512}
 use Rattle.blob_digest.proofs.HexText.{whole_of}
 
 -- a text that is spelled by a name passes the test
@@ -27,13 +28,22 @@ spelled_passes name text n seven h =
 passes_spelled : (name text : List ℕ) (n : ℕ) → length name ≡ 7 → is_spelled name (2 * n) text ≡ true → IsSpelled name (2 * n) text
 passes_spelled name text n seven h = let w = whole_of name text n seven h in (drop 7 text, w.0, w.1, w.2)
 
+-- one of two tests holds
+either : (a b : Bool) → (a || b) ≡ true → (a ≡ true) ⊎ (b ≡ true)
+either true b h = inl refl
+either false b h = inr h
+
 -- a text of the grammar passes the test
 pub grammar_passes : (text : List ℕ) → IsDigestText text → is_digest_text text ≡ true
-grammar_passes text h = spelled_passes (codes "sha256:") text 64 refl h
+grammar_passes text (inl h) = rw (spelled_passes (codes "sha256:") text 64 refl h) refl
+grammar_passes text (inr h) = or_right (is_spelled (codes "sha256:") 64 text) (is_spelled (codes "sha512:") 128 text) (spelled_passes (codes "sha512:") text 128 refl h)
 
 -- what passes the test is a text of the grammar
 pub passes_grammar : (text : List ℕ) → is_digest_text text ≡ true → IsDigestText text
-passes_grammar text h = passes_spelled (codes "sha256:") text 32 refl h
+passes_grammar text h = elim (either (is_spelled (codes "sha256:") 64 text) (is_spelled (codes "sha512:") 128 text) h) [
+  | inl x ↦ inl (passes_spelled (codes "sha256:") text 32 refl x)
+  | inr x ↦ inr (passes_spelled (codes "sha512:") text 64 refl x)
+]
 
 abbrev all_lower : ℕ → Bool
 all_lower zero = true
@@ -64,4 +74,10 @@ spelled name value n h bytes =
 
 -- the text of a digest is one of the grammar
 pub text_of-grammar : (s : Checksum) → IsChecksum s → IsDigestText (text_of s)
-text_of-grammar (Sha256 value) h = spelled (codes "sha256:") value 32 h.0 h.1
+text_of-grammar (Sha256 value) h = inl (spelled (codes "sha256:") value 32 h.0 h.1)
+text_of-grammar (Sha512 value) h = inr (spelled (codes "sha512:") value 64 h.0 h.1)
+
+-- no function gives more than 64 bytes
+pub value-fits : (s : Checksum) → IsChecksum s → length (value_of s) ≤ 64
+value-fits (Sha256 value) h = omega (arith, h.0)
+value-fits (Sha512 value) h = omega (arith, h.0)

@@ -28,15 +28,16 @@ impl Model for Blob {
 }
 
 impl Blob {
-    /// The bytes with their digest, or the bytes back where the digest is not theirs. The hash was
-    /// computed while the bytes came in, so the call reads none of them again, and it takes no memory.
+    /// The bytes with their digest, or the bytes back where the digest is not theirs by the algorithm
+    /// that it names. The hash was computed while the bytes came in, so the call reads none of them
+    /// again, and it takes no memory.
     pub fn seal(bytes: Vec<u8>, running: Running, digest: &Digest) -> Result<Blob, Vec<u8>>
         requires { Hashes running bytes.items }
         ensures agrees { IsOk result ↔ (is_digest_of digest.now bytes.items ≡ true) }
         ensures blob { IfOk result (λ b. b ≡ (digest.now, bytes.items)) }
         ensures back { IfErr result (λ v. v.items ≡ bytes.items) }
     {
-        let found = running.finish();
+        let found = running.finish(digest.algorithm());
         if *digest == found {
             Ok(Blob {
                 bytes,

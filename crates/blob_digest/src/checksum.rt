@@ -1,22 +1,37 @@
 //! What a digest holds: an algorithm of the OCI Image Specification 1.1, "Digests", "Registered
-//! algorithms", with the value that it gave.
+//! Algorithms", with the value that it gave.
 ghost use Rattle.std.specs.Prelude.{◌≡◌};
-ghost use Rattle.blob_digest.specs.Checksums.{prefix_of, value_of};
+ghost use Rattle.blob_digest.specs.Checksums.{kind_of, prefix_of, value_of};
+
+use crate::algorithm::Algorithm;
 
 /// A digest function with its value.
 #[derive(Clone, Copy, Debug, PartialEq, Eq, PartialOrd, Ord, Hash)]
 pub enum Checksum {
     /// SHA-256 (FIPS 180-4, section 6.2).
     Sha256([u8; 32]),
+    /// SHA-512 (FIPS 180-4, section 6.4).
+    Sha512([u8; 64]),
 }
 
 impl Checksum {
+    /// The algorithm.
+    pub fn algorithm(&self) -> Algorithm
+        ensures { result ≡ kind_of self.now }
+    {
+        match self {
+            Checksum::Sha256(_) => Algorithm::Sha256,
+            Checksum::Sha512(_) => Algorithm::Sha512,
+        }
+    }
+
     /// The identifier of the algorithm, and a colon.
     pub fn prefix(&self) -> &'static str
         ensures { result.now ≡ prefix_of self.now }
     {
         match self {
             Checksum::Sha256(_) => "sha256:",
+            Checksum::Sha512(_) => "sha512:",
         }
     }
 
@@ -26,6 +41,7 @@ impl Checksum {
     {
         match self {
             Checksum::Sha256(value) => value.as_slice(),
+            Checksum::Sha512(value) => value.as_slice(),
         }
     }
 }

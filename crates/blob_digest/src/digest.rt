@@ -7,17 +7,22 @@ ghost use Rattle.std.specs.Cmp.{partial_equiv_from_equiv};
 ghost use Rattle.std.specs.Cmp.Lexicographic.{slice_cmp, bytes_decides, nat_list_eq_equiv, nat_list_cmp_total, texts_ties, texts_po};
 ghost use Rattle.std.specs.Hash.{same_Alike};
 ghost use Rattle.blob_digest.specs.Checksums.{checksum_of, text_of, value_of};
-ghost use Rattle.blob_digest.specs.Digests.{IsDigestText, is_digest_text, is_lower_hex, is_spelled};
+ghost use Rattle.blob_digest.specs.Digests.{IsDigestText, algorithm_of, hash_text, is_digest_text, is_lower_hex, is_spelled};
 
+use crate::algorithm::Algorithm;
 use crate::checksum::Checksum;
 use crate::refusal::Refusal;
+use sha2::{Digest as _, Sha256, Sha512};
 use std::cmp::Ordering;
 use std::hash::{Hash, Hasher};
 use std::marker::Model;
 use std::{fmt, str};
 
+/// The most bytes of a digest's text: a name, a colon and 128 digits.
+const LONGEST: usize = 135;
+
 /// A digest: an algorithm with a value (OCI Image Specification 1.1, "Digests"). It is a plain value
-/// of 33 bytes and takes no memory of its own. Contracts see it as its text, and digests are equal and
+/// of 65 bytes and takes no memory of its own. Contracts see it as its text, and digests are equal and
 /// ordered as their texts are, by bytes.
 #[derive(Clone, Copy, Debug)]
 pub struct Digest {
@@ -82,9 +87,9 @@ fn decode(encoded: &[u8], value: &mut [u8])
 }
 
 impl Digest {
-    /// The digest that a text spells: `sha256:` and 64 digits of `0-9a-f`, and nothing else (OCI Image
-    /// Specification 1.1, "Digests", "SHA-256"). Any other text is refused as `DigestInvalid`, one with
-    /// a digit in upper case among them. It takes no memory.
+    /// The digest that a text spells: `sha256:` and 64 digits of `0-9a-f`, or `sha512:` and 128 of them,
+    /// and nothing else (OCI Image Specification 1.1, "Digests", "Registered Algorithms"). Any other text
+    /// is refused as `DigestInvalid`, one with a digit in upper case among them. It takes no memory.
     pub fn parse(text: &[u8]) -> Result<Digest, Refusal>
         ensures accepts { IsOk result ↔ IsDigestText text.now }
         ensures tested { is_ok result ≡ is_digest_text text.now }
@@ -95,6 +100,11 @@ impl Digest {
             let mut value = [0u8; 32];
             decode(encoded_part(text), &mut value);
             return Ok(Digest::of_sha256(value));
+        }
+        if is_spelled_by(text, b"sha512:", 128) {
+            let mut value = [0u8; 64];
+            decode(encoded_part(text), &mut value);
+            return Ok(Digest::of_sha512(value));
         }
         Err(Refusal::DigestInvalid)
     }
@@ -108,11 +118,38 @@ impl Digest {
         }
     }
 
+    /// The digest of a value of SHA-512.
+    pub(crate) fn of_sha512(value: [u8; 64]) -> Digest
+        ensures { result ≡ codes "sha512:" ++ encode_lower value }
+    {
+        Digest {
+            checksum: Checksum::Sha512(value),
+        }
+    }
+
+    /// The digest of bytes that are all there, by one algorithm alone (FIPS 180-4). It takes no memory.
+    #[tactic(auto, unfolding(crate::specs::Digests::sha256_text, crate::specs::Digests::sha512_text))]
+    pub fn of(algorithm: Algorithm, bytes: &[u8]) -> Digest
+        ensures { result ≡ hash_text algorithm bytes.now }
+    {
+        match algorithm {
+            Algorithm::Sha256 => Digest::of_sha256(Sha256::digest(bytes)),
+            Algorithm::Sha512 => Digest::of_sha512(Sha512::digest(bytes)),
+        }
+    }
+
+    /// The algorithm that the digest names.
+    pub fn algorithm(&self) -> Algorithm
+        ensures { result ≡ algorithm_of self.now }
+    {
+        self.checksum.algorithm()
+    }
+
     /// The algorithm and the value.
     fn checksum(&self) -> &Checksum
         ensures text { text_of result.now ≡ self.now }
         ensures whole { IsDigestText self.now }
-        ensures size { length (value_of result.now) ≡ 32 }
+        ensures size { length (value_of result.now) ≤ 64 }
     {
         &self.checksum
     }
@@ -125,7 +162,7 @@ impl Digest {
         ensures err { OnErr result (string_bytes out.new ≡ string_bytes out.old) }
         ensures refused { IfErr result (λ e. e ≡ Refusal.Memory) }
     {
-        let mut buffer = [0u8; 71];
+        let mut buffer = [0u8; LONGEST];
         out.push_str(spell(self.checksum(), &mut buffer))?;
         Ok(())
     }
@@ -209,22 +246,24 @@ fn ascii(text: &[u8]) -> &str
     }
 }
 
-/// The text of a digest, made in a buffer of its length.
+/// The text of a digest, made at the head of a buffer.
 fn spell<'b>(checksum: &Checksum, buffer: &'b mut [u8]) -> &'b str
     requires text { IsDigestText (text_of checksum.now) }
-    requires size { length buffer.old ≡ 7 + 2 * length (value_of checksum.now) }
+    requires size { length (value_of checksum.now) ≤ 64 }
+    requires room { length buffer.old ≡ 135 }
     ensures { result.now ≡ text_of checksum.now }
 {
-    put_name(checksum.prefix(), buffer);
-    put_digits(checksum.value(), buffer);
-    ascii(buffer)
+    let text = &mut buffer[..7 + 2 * checksum.value().len()];
+    put_name(checksum.prefix(), text);
+    put_digits(checksum.value(), text);
+    ascii(text)
 }
 
 impl fmt::Display for Digest {
     ghost output = { λ t. Some t };
 
     fn fmt<W: fmt::Write>(&self, f: &mut fmt::Formatter<W>) -> fmt::Result {
-        let mut buffer = [0u8; 71];
+        let mut buffer = [0u8; LONGEST];
         f.write_str(spell(self.checksum(), &mut buffer))
     }
 }

@@ -8,6 +8,7 @@
 //! bytes have its digest.
 #![tactic(auto)]
 
+mod algorithm;
 mod blob;
 mod checksum;
 mod digest;
@@ -18,6 +19,7 @@ mod refusal;
 mod repo_name;
 mod running;
 
+pub use algorithm::Algorithm;
 pub use blob::Blob;
 pub use digest::Digest;
 pub use name::is_component;

@@ -1,35 +1,40 @@
 //! Hashes computed piece by piece.
 ghost use Rattle.std.specs.Prelude.{◌≡◌, ℕ, List, [], ◌++◌};
-ghost use Rattle.blob_digest.specs.Digests.{sha256_text};
+ghost use Rattle.blob_digest.specs.Digests.{hash_text};
 ghost use Rattle.blob_digest.specs.Hashing.{Hashes};
 
+use crate::algorithm::Algorithm;
 use crate::digest::Digest;
-use sha2::{Digest as _, Sha256};
+use sha2::{Digest as _, Sha256, Sha512};
 
-/// The hash of the bytes so far, by SHA-256 (FIPS 180-4, section 6.2). Contracts relate it to those
-/// bytes by `Hashes`; how they were cut into pieces does not matter. It takes no memory of its own.
+/// The hashes of the bytes so far, by SHA-256 and by SHA-512 (FIPS 180-4, sections 6.2 and 6.4), of
+/// which either can be asked for at the end. Contracts relate it to those bytes by `Hashes`; how they
+/// were cut into pieces does not matter. It takes no memory of its own.
 #[derive(Drop)]
 pub struct Running {
     sha256: Sha256,
+    sha512: Sha512,
 }
 
 impl Running {
-    /// The hash of no bytes.
+    /// The hashes of no bytes.
     #[tactic(auto, unfolding(crate::specs::Hashing::Hashes))]
     pub fn new() -> Running
         ensures { Hashes result [] }
     {
         Running {
             sha256: Sha256::new(),
+            sha512: Sha512::new(),
         }
     }
 
-    /// Takes in more bytes, behind those before. The cost is that of the new bytes alone.
+    /// Takes in more bytes, behind those before. Each goes through each of the two hashes once.
     #[tactic(auto, unfolding(crate::specs::Hashing::Hashes))]
     pub fn update(&mut self, bytes: &[u8])
         ensures { (before : List ℕ) → Hashes self.old before → Hashes self.new (before ++ bytes.now) }
     {
         self.sha256.update(bytes);
+        self.sha512.update(bytes);
     }
 
     /// A second hash that has taken in the same bytes. It costs a copy of the state, of some hundred
@@ -39,16 +44,22 @@ impl Running {
         ensures { (bytes : List ℕ) → Hashes self.now bytes → Hashes result bytes }
     {
         match self.sha256.clone() {
-            Ok(sha256) => Running { sha256 },
+            Ok(sha256) => match self.sha512.clone() {
+                Ok(sha512) => Running { sha256, sha512 },
+                Err(_) => unreachable!(),
+            },
             Err(_) => unreachable!(),
         }
     }
 
-    /// The digest of all bytes that were taken in, in their order.
-    #[tactic(auto, unfolding(crate::specs::Hashing::Hashes, crate::specs::Digests::sha256_text))]
-    pub fn finish(self) -> Digest
-        ensures { (bytes : List ℕ) → Hashes self bytes → result ≡ sha256_text bytes }
+    /// The digest, by one of the algorithms, of all bytes that were taken in, in their order.
+    #[tactic(auto, unfolding(crate::specs::Hashing::Hashes, crate::specs::Digests::sha256_text, crate::specs::Digests::sha512_text))]
+    pub fn finish(self, algorithm: Algorithm) -> Digest
+        ensures { (bytes : List ℕ) → Hashes self bytes → result ≡ hash_text algorithm bytes }
     {
-        Digest::of_sha256(self.sha256.finalize())
+        match algorithm {
+            Algorithm::Sha256 => Digest::of_sha256(self.sha256.finalize()),
+            Algorithm::Sha512 => Digest::of_sha512(self.sha512.finalize()),
+        }
     }
 }

@@ -3,7 +3,7 @@ ghost use Rattle.blob_digest.specs.Digests.{sha256_text};
 ghost use Rattle.oci_manifest.specs.Manifests.{refs_of, max_manifest};
 
 use crate::references::references;
-use blob_digest::{Digest, Refusal, Running};
+use blob_digest::{Algorithm, Digest, Refusal};
 use indexmap::IndexSet;
 use std::alloc::Global;
 use std::marker::Model;
@@ -31,13 +31,11 @@ impl Model for Manifest {
     ghost invariant = { λ a. IsManifest a.bytes.items a.refs.keys a.digest };
 }
 
-/// The SHA-256 digest of bytes.
+/// The SHA-256 digest of bytes, which no other algorithm reads.
 fn digest_of(bytes: &[u8]) -> Digest
     ensures { result ≡ sha256_text bytes.now }
 {
-    let mut running = Running::new();
-    running.update(bytes);
-    running.finish()
+    Digest::of(Algorithm::Sha256, bytes)
 }
 
 /// Reads a manifest (OCI Image Specification 1.1, "Image Manifest" and "Image Index") and keeps its

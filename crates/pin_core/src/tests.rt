@@ -1,13 +1,11 @@
 use crate::{Event, Hold, Phase, PinState, WordRow, laws, pack, run, step, unpack};
-use blob_digest::{Digest, Refusal, Running};
+use blob_digest::{Algorithm, Digest, Refusal};
 use std::alloc::Global;
 use std::process::Abort;
 
 /// The digest of some bytes.
 pub fn digest_of(bytes: &[u8]) -> Digest {
-    let mut running = Running::new();
-    running.update(bytes);
-    running.finish()
+    Digest::of(Algorithm::Sha256, bytes)
 }
 
 /// The word of a slot; 0 where the slot isn't there.

@@ -4,7 +4,7 @@ ghost use Rattle.std.specs.Prelude.{◌≡◌, ◌<◌, length, vec_len};
 ghost use Rattle.pin_table.specs.Calls.{opened};
 
 use crate::{Keeper, Pin, Pins, Reclaim};
-use blob_digest::{Digest, Refusal, Running};
+use blob_digest::{Algorithm, Digest, Refusal};
 use pin_core::Phase;
 use std::alloc::{AllocFailed, Global};
 
@@ -143,9 +143,7 @@ impl<'s> Desk<'s> {
 
 /// The digest of some bytes.
 pub fn digest_of(bytes: &[u8]) -> Digest {
-    let mut running = Running::new();
-    running.update(bytes);
-    running.finish()
+    Digest::of(Algorithm::Sha256, bytes)
 }
 
 /// A desk whose slot 0, of generation 0, has the digest of `abc`.

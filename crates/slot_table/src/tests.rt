@@ -1,11 +1,9 @@
 use crate::{Phase, SlotTable};
-use blob_digest::{Blob, Digest, Refusal, Running};
+use blob_digest::{Algorithm, Blob, Digest, Refusal, Running};
 use std::alloc::Global;
 
 fn digest_of(bytes: &[u8]) -> Digest {
-    let mut running = Running::new();
-    running.update(bytes);
-    running.finish()
+    Digest::of(Algorithm::Sha256, bytes)
 }
 
 /// The blob of some bytes; none where there is no memory.

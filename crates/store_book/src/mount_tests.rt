@@ -2,15 +2,13 @@
 
 use crate::tests::{ABC, OBJ, book, config, digest, name, prints};
 use crate::{Book, Mount};
-use blob_digest::{Digest, Refusal, Running};
+use blob_digest::{Algorithm, Digest, Refusal};
 use std::alloc::{AllocError, Global};
 use std::process::Abort;
 
 /// The digest of some bytes.
 fn digest_of(bytes: &[u8]) -> Digest {
-    let mut running = Running::new();
-    running.update(bytes);
-    running.finish()
+    Digest::of(Algorithm::Sha256, bytes)
 }
 
 /// Uploads some bytes to a repository, in one session, and answers the size that was stored.
