@@ -4,8 +4,8 @@
 //! It stands on `sha2` for the hash and on `hex` for digits. It promises that a text is taken exactly
 //! where its grammar has it (OCI Distribution Specification 1.1, "Pulling manifests" and "Pushing a
 //! blob in chunks"; OCI Image Specification 1.1, "Digests"), that a digest's text is that of the value
-//! which the standard gives to the bytes (FIPS 180-4), however they came in, and that a sealed blob's
-//! bytes have its digest.
+//! which SHA-256 or SHA-512 gives to the bytes (FIPS 180-4), however they came in, and that a sealed
+//! blob's bytes have its digest.
 #![tactic(auto)]
 
 mod algorithm;

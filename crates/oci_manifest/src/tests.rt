@@ -1,10 +1,13 @@
 use crate::{MAX_MANIFEST, read};
-use blob_digest::{Digest, Refusal};
+use blob_digest::{Algorithm, Digest, Refusal};
 use std::alloc::{AllocError, Global};
 use std::test::Fail;
 
 /// The digest of `abc`.
 const ABC: &str = "sha256:ba7816bf8f01cfea414140de5dae2223b00361a396177a9cb410ff61f20015ad";
+
+/// The digest of `abc` by SHA-512.
+const ABC_512: &str = "sha512:ddaf35a193617abacc417349ae20413112e6fa4e89a97ea20a9eeee64b55d39a2192992a274fc1a836ba3c23a3feebbd454d4423643ce80e2a9ac94fa54ca49f";
 
 /// The digest of `{}`.
 const OBJ: &str = "sha256:44136fa355b3678a1146ad16f7e8649e94fb4fc21fe77e8310c060f61caaff8a";
@@ -171,5 +174,23 @@ fn the_size_has_a_limit(rt: HostRuntime) -> Result<(), Fail> {
     assert_eq!(rt; index.refs().len(), 0);
     text.push_str(" ")?;
     assert!(rt; matches!(read(alloc, text.as_bytes()), Err(Refusal::SizeInvalid)));
+    Ok(())
+}
+
+#[test]
+fn references_are_of_both_kinds(rt: HostRuntime) -> Result<(), Fail> {
+    let alloc = rt.alloc();
+    let config = descriptor(alloc, OBJ)?;
+    let layers = format!(in alloc;
+        "[{},{},{}]",
+        descriptor(alloc, ABC_512)?,
+        descriptor(alloc, ABC)?,
+        descriptor(alloc, ABC_512)?
+    )?;
+    let text = image(alloc, config.as_str(), layers.as_str())?;
+    let manifest = read(alloc, text.as_bytes())?;
+    assert_eq!(rt; manifest.refs().len(), 3);
+    assert!(rt; manifest.refs()[1] == Digest::parse(ABC_512.as_bytes())?);
+    assert!(rt; manifest.digest().algorithm() == Algorithm::Sha256);
     Ok(())
 }

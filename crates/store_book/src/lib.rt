@@ -10,13 +10,15 @@
 //! running numbers are those that the definitions count.
 #![tactic(auto)]
 
+#[cfg(test)]
+mod algorithm_tests;
 mod book;
 mod config;
-#[cfg(test)]
-mod hand_tests;
 mod keep;
 pub mod laws;
 mod mount;
+#[cfg(test)]
+mod hand_tests;
 #[cfg(test)]
 mod mount_tests;
 mod print;
