@@ -194,6 +194,18 @@ layer_refused u h digest e refused other = by (taken_session (get u.sessions h.k
         digests false agrees h = (s, here, agrees, let k = rw agrees at h in cc)
     by (Err d) here = absurd (other (let k : ◌≡◌ {A = Result ((Text × Text) × Uploaded) Refusal} (Err d) (Err e) = rw here at refused in let same : d ≡ e = cc in sym same ∙ unknown (get u.sessions h.key) d here))
 
+-- where the layer knows no such hand, nothing changes
+pub layer_unknown : (u : Uploaded) (h : Taken) (digest : Text) (e : Refusal) → finish_upload u h digest ≡ Err e → e ≡ UploadUnknown → with_sessions u (given_up u.sessions h) ≡ u
+layer_unknown u h digest e refused unknown = by (taken_session (get u.sessions h.key) h) refl
+  where
+    by : (x : Result Session Refusal) → taken_session (get u.sessions h.key) h ≡ x → with_sessions u (given_up u.sessions h) ≡ u
+    by (Ok s) here = digests (is_digest_of digest (whole_of h)) refl (rw here at refused)
+      where
+        digests : (b : Bool) → is_digest_of digest (whole_of h) ≡ b → ◌>>=◌ {B = (Text × Text) × Uploaded} (refuse (not (is_digest_of digest (whole_of h))) DigestInvalid) (λ _. Ok ((digest, whole_of h), u)) ≡ Err e → with_sessions u (given_up u.sessions h) ≡ u
+        digests true agrees h = absurd (let k = rw agrees at h in cc)
+        digests false agrees h = absurd (let k = rw (agrees, unknown) at h in cc)
+    by (Err d) here = ap (λ (o : Result Session Refusal). with_sessions u (brought_home u.sessions h o)) here
+
 -- a hand that the layer finishes is this book's
 pub layer_finished : (u : Uploaded) (h : Taken) (digest : Text) (blob : Text × Text) (u' : Uploaded) → finish_upload u h digest ≡ Ok (blob, u') → (s : Session) × (taken_session (get u.sessions h.key) h ≡ Ok s) × (is_digest_of digest (whole_of h) ≡ true) × (blob ≡ (digest, whole_of h)) × (u' ≡ u)
 layer_finished u h digest blob u' done =

@@ -8,7 +8,7 @@ use Rattle.store_book.specs.BookState.{BookState}
 use Rattle.store_book.specs.Keeping.{IsKept, IsUnkept}
 use Rattle.store_book.specs.Layers.{book_catalog}
 use Rattle.store_book.specs.Steps.{given_back}
-use Rattle.store_book.proofs.Finishing.{found, finish_charged, finish_ok, finish_unkept, generations-kept, given_back_is, layer_finished, layer_refused, reserve_charged, same_tenants, CanKeep-finished, IsBook-finish, IsBook-given_back}
+use Rattle.store_book.proofs.Finishing.{found, finish_charged, finish_ok, finish_other_digest, finish_unkept, generations-kept, given_back_is, layer_finished, layer_refused, layer_unknown, reserve_charged, same_tenants, CanKeep-finished, IsBook-finish, IsBook-given_back}
 use Rattle.store_book.proofs.PuttingBack.{here_tenant}
 use Rattle.store_book.proofs.book.Book.finish.Goals as goal
 
@@ -101,3 +101,17 @@ returns-in-Err-keep-clause-does c =
       (λ other. rw (← c.self.view_is) (finish_unkept c.self.inside.links c.self.inside.uploads c.self.inside.slots c.self.inside.max_blob c.args.hand c.args.digest.now c.self.invariant (record { pieces = c.reserved-reserved.ensures.pieces; last = c.reserved-reserved.ensures.last }) c.requires.full p.0 p.1 p.2 c.in-Err-keep.refusal (subst (λ (b : Text × Text). IsUnkept c.self.inside.slots b c.in-Err-keep.refusal) p.3 (c.in-Err-keep.ensures.refused other)))),
       ap (λ s. book_catalog c.discharge-in-Err-keep.new.self c.reopen.new.self s c.self.inside.max_blob) c.in-Err-keep.ensures.err.1 ∙ given_back_is c.self.inside.links c.self.inside.uploads c.self.inside.slots c.self.inside.max_blob c.args.hand c.args.digest.now c.discharge-in-Err-keep.new.self c.reopen.new.self c.args.hand.reserved links uploads ∙ ap (λ (s : BookState). given_back s.catalog c.args.hand) c.self.view_is,
     )
+
+pub invariant_of-self : goal.invariant_of-self
+invariant_of-self c = rw (c.in-Err.ensures.does.1 ∙ layer_unknown c.self.inside.uploads c.args.hand c.args.digest.now c.in-Err.refusal c.in-Err.ensures.does.0 c.in-UploadUnknown.is) c.self.invariant
+
+pub returns-in_default : goal.returns-in_default
+returns-in_default c =
+    let p = layer_refused c.self.inside.uploads c.args.hand c.args.digest.now c.in-Err.refusal c.in-Err.ensures.does.0 (λ e. c.in_default.not-UploadUnknown e) in
+    record {
+      does = (
+        λ other. rw (← c.self.view_is, p.3) (finish_other_digest c.self.inside.links c.self.inside.uploads c.self.inside.slots c.self.inside.max_blob c.args.hand c.args.digest.now c.self.invariant (record { pieces = c.reserved-reserved.ensures.pieces; last = c.reserved-reserved.ensures.last }) c.requires.full p.0 p.1 p.2),
+        given_back_is c.self.inside.links c.self.inside.uploads c.self.inside.slots c.self.inside.max_blob c.args.hand c.args.digest.now c.discharge.new.self c.finish.new.self c.reserved-reserved.result (rw c.tenant-tenant.ensures at c.discharge.ensures) c.in-Err.ensures.does.1 ∙ ap (λ (s : BookState). given_back s.catalog c.args.hand) c.self.view_is,
+      );
+      slots = ap (λ (s : BookState). s.slots) c.self.view_is;
+    }
