@@ -6,6 +6,7 @@
 //! each counted once, and what was charged besides; and that a charge never passes the quota.
 #![tactic(auto)]
 
+mod archive;
 mod blobs;
 mod holders;
 mod links;
