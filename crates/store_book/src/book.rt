@@ -1,10 +1,10 @@
 ghost use Rattle.std.specs.Prelude.{◌≡◌, Some, IfOk, IfErr, OnOk};
-ghost use Rattle.blob_digest.specs.Outcomes.{Does, DoesExactly};
+ghost use Rattle.blob_digest.specs.Outcomes.{Answers, Does, DoesExactly};
 ghost use Rattle.link_table.specs.Tenancy.{tenants_shown};
 ghost use Rattle.store_book.specs.Laws.{Sound};
 ghost use Rattle.store_book.specs.Openings.{OpensBook, RefusesBook};
 ghost use Rattle.store_book.specs.Printed.{book_text};
-ghost use Rattle.store_book.specs.Steps.{start, status, append, close, abandon, mount, delete, take, put_back, finish, given_back};
+ghost use Rattle.store_book.specs.Steps.{start, status, append, close, abandon, mount, delete, get_manifest, delete_manifest, take, put_back, finish, given_back};
 ghost use Rattle.upload_table.specs.Uploaded.{IsFull};
 ghost use Rattle.std.specs.Io.KnownBytes.{Appends};
 
@@ -14,10 +14,12 @@ use crate::mount::{Mount, find_source};
 use crate::print::print_book;
 use blob_digest::{ByteRange, Digest, Refusal, RepoName};
 use link_table::Links;
+use oci_manifest::Manifest;
 use slot_table::SlotTable;
 use std::alloc::Global;
 use std::io::{self, Write};
 use std::marker::Model;
+use std::sync::Arc;
 use upload_table::{Hand, Uploads};
 
 /// The book: what every tenant's repositories hold, and what is being uploaded to them.
@@ -302,10 +304,11 @@ impl Book {
 
     /// Takes the link to a blob out of a repository (OCI Distribution Specification 1.1, "Deleting
     /// Blobs"). The blob stays in its slot, and other repositories keep their links. It takes no
-    /// memory; it takes a look at each slot and each link.
+    /// memory; it takes a look at each slot.
     ///
     /// Refused, in this order: a tenant that is not there (`NameUnknown`); a digest that is not linked
-    /// in the repository (`BlobUnknown`).
+    /// in the repository (`BlobUnknown`); one that a manifest of the repository refers to
+    /// (`Referenced`, with the least digest of such a manifest).
     pub fn delete(&mut self, repo: &RepoName, digest: &Digest) -> Result<(), Refusal>
         ensures does { DoesExactly (λ u. u) result self.old.catalog self.new.catalog (delete self.old.catalog repo.now digest.now) }
         ensures slots { self.new.slots ≡ self.old.slots }
@@ -314,8 +317,47 @@ impl Book {
         let Some(slot) = find_linked(&self.links, &self.slots, repo, digest) else {
             return Err(Refusal::BlobUnknown);
         };
+        if let Some(manifest) = self.links.referrer(repo, digest) {
+            return Err(Refusal::Referenced { manifest });
+        }
         self.links.unlink(tenant, repo, digest);
         self.slots.link_down(slot);
+        Ok(())
+    }
+
+    /// A manifest that a repository has (OCI Distribution Specification 1.1, "Pulling manifests"). Its
+    /// bytes are shared, not copied. It takes the logarithm of the number of manifests.
+    ///
+    /// Refused, in this order: a tenant that is not there (`NameUnknown`); a digest under which the
+    /// repository has no manifest (`ManifestUnknown`); want of memory.
+    pub fn get_manifest(
+        &self,
+        repo: &RepoName,
+        digest: &Digest,
+    ) -> Result<Arc<Manifest, Global>, Refusal>
+        ensures { Answers (λ m. m.value) result (get_manifest self.now.catalog repo.now digest.now) }
+    {
+        let _ = self.links.tenant(repo)?;
+        let Some(manifest) = self.links.manifest(repo, digest) else {
+            return Err(Refusal::ManifestUnknown);
+        };
+        Ok(manifest.clone()?)
+    }
+
+    /// Takes a manifest out of a repository (OCI Distribution Specification 1.1, "Deleting Manifests").
+    /// Who has it from `get_manifest` keeps it. It takes no memory.
+    ///
+    /// Refused, in this order: a tenant that is not there (`NameUnknown`); a digest under which the
+    /// repository has no manifest (`ManifestUnknown`).
+    pub fn delete_manifest(&mut self, repo: &RepoName, digest: &Digest) -> Result<(), Refusal>
+        ensures does { DoesExactly (λ u. u) result self.old.catalog self.new.catalog (delete_manifest self.old.catalog repo.now digest.now) }
+        ensures slots { self.new.slots ≡ self.old.slots }
+    {
+        let _ = self.links.tenant(repo)?;
+        if self.links.manifest(repo, digest).is_none() {
+            return Err(Refusal::ManifestUnknown);
+        }
+        self.links.drop_manifest(repo, digest);
         Ok(())
     }
 
