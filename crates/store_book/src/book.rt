@@ -4,17 +4,17 @@ ghost use Rattle.link_table.specs.Tenancy.{tenants_shown};
 ghost use Rattle.store_book.specs.Laws.{Sound};
 ghost use Rattle.store_book.specs.Openings.{OpensBook, RefusesBook};
 ghost use Rattle.store_book.specs.Printed.{book_text};
-ghost use Rattle.store_book.specs.Steps.{start, status, append, close, abandon, mount, delete, get_manifest, delete_manifest, take, put_back, finish, given_back};
+ghost use Rattle.store_book.specs.Steps.{start, status, append, close, abandon, mount, delete, put_manifest, get_manifest, delete_manifest, take, put_back, finish, given_back};
 ghost use Rattle.upload_table.specs.Uploaded.{IsFull};
 ghost use Rattle.std.specs.Io.KnownBytes.{Appends};
 
 use crate::config::{Config, copied};
-use crate::keep::{find_linked, keep, link_slot};
+use crate::keep::{check_linked, find_linked, keep, link_slot};
 use crate::mount::{Mount, find_source};
 use crate::print::print_book;
 use blob_digest::{ByteRange, Digest, Refusal, RepoName};
 use link_table::Links;
-use oci_manifest::Manifest;
+use oci_manifest::{Manifest, read};
 use slot_table::SlotTable;
 use std::alloc::Global;
 use std::io::{self, Write};
@@ -25,6 +25,7 @@ use upload_table::{Hand, Uploads};
 /// The book: what every tenant's repositories hold, and what is being uploaded to them.
 #[derive(Drop)]
 pub struct Book {
+    alloc: Global,
     pub(crate) links: Links,
     pub(crate) uploads: Uploads,
     pub(crate) slots: SlotTable,
@@ -67,6 +68,7 @@ impl Book {
         let slots = SlotTable::new(alloc, config.slots, config.first_generation)?;
         let uploads = Uploads::new(alloc, links.tenants(), 1)?;
         Ok(Book {
+            alloc,
             links,
             uploads,
             slots,
@@ -325,6 +327,39 @@ impl Book {
         Ok(())
     }
 
+    /// Keeps a manifest under the digest of its bytes, and answers that digest (OCI Distribution
+    /// Specification 1.1, "Pushing Manifests"). The repository appears with it. One that is there stays
+    /// as it is. The bytes are copied once.
+    ///
+    /// Refused, in this order: a tenant that is not there (`NameUnknown`); more than 4 MiB
+    /// (`SizeInvalid`); bytes that are no manifest (`ManifestInvalid`); a reference that the repository
+    /// doesn't hold (`ManifestBlobUnknown`, with the first); a tenant that has 1,024 repositories where
+    /// this one is new, or a repository that has 1,024 manifests (`LimitReached`); want of memory. A
+    /// refusal leaves no repository behind.
+    pub fn put_manifest(&mut self, repo: &RepoName, bytes: &[u8]) -> Result<Digest, Refusal>
+        ensures does { Does (λ d. d) result self.old.catalog self.new.catalog (put_manifest self.old.catalog repo.now bytes.now) }
+        ensures slots { self.new.slots ≡ self.old.slots }
+    {
+        let tenant = self.links.tenant(repo)?;
+        let manifest = read(self.alloc, bytes)?;
+        check_linked(&self.links, repo, manifest.refs())?;
+        let digest = manifest.digest();
+        if self.links.manifest(repo, &digest).is_some() {
+            return Ok(digest);
+        }
+        let manifest = Arc::new(self.alloc, manifest)?;
+        let is_new = self.links.appear(tenant, repo)?;
+        match self.links.put_manifest(repo, manifest) {
+            Ok(()) => Ok(digest),
+            Err(refusal) => {
+                if is_new {
+                    self.links.vanish(tenant, repo);
+                }
+                Err(refusal)
+            }
+        }
+    }
+
     /// A manifest that a repository has (OCI Distribution Specification 1.1, "Pulling manifests"). Its
     /// bytes are shared, not copied. It takes the logarithm of the number of manifests.
     ///
@@ -354,9 +389,9 @@ impl Book {
         ensures slots { self.new.slots ≡ self.old.slots }
     {
         let _ = self.links.tenant(repo)?;
-        if self.links.manifest(repo, digest).is_none() {
+        let Some(_) = self.links.manifest(repo, digest) else {
             return Err(Refusal::ManifestUnknown);
-        }
+        };
         self.links.drop_manifest(repo, digest);
         Ok(())
     }
