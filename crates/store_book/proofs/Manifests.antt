@@ -1,12 +1,17 @@
 -- The calls of the book on manifests, from what their calls of the layers did.
-use Rattle.std.proofs.Common.{◌≡◌, ℕ, List, Some, None, Ok, Err, refl, sym, ap, ◌∙◌}
-use Rattle.std.specs.FinMap.{get}
-use Rattle.blob_digest.specs.declared.refusal.Refusal.TheVariants.{ManifestUnknown}
+use Rattle.std.proofs.Common.{◌≡◌, ℕ, ◌+◌, ◌≤◌, true, false, cond, List, [], ◌∷◌, length, drop, Some, None, Ok, Err, refl, sym, ap, ◌∙◌, arith}
+use Prim.Native.Nat.{zero, suc}
+use native.Mathlib.Numerals.{unary_clauses}
+use Rattle.std.specs.Prelude.{slice_get}
+use Rattle.std.specs.FinMap.{get, contains_key}
+use Rattle.blob_digest.specs.declared.refusal.Refusal.TheVariants.{ManifestUnknown, ManifestBlobUnknown}
+use Rattle.blob_digest.proofs.OptionLemmas.{some_same, some_none}
 use Rattle.slot_table.specs.Slots.{Slot}
 use Rattle.link_table.specs.Linked.{Linked, known_tenant, drop_manifest}
 use Rattle.upload_table.specs.Uploaded.{Uploaded}
 use Rattle.store_book.specs.Catalog.{Text, Catalog}
 use Rattle.store_book.specs.Steps.{get_manifest, delete_manifest}
+use Rattle.store_book.specs.Keeping.{all_held}
 use Rattle.store_book.specs.Layers.{book_catalog, IsBook}
 use Rattle.store_book.proofs.LawfulManifests.{Sound-after_delete_manifest}
 
@@ -37,3 +42,26 @@ module _ (l : Linked) (u : Uploaded) (slots : List Slot) (max_blob t : ℕ) (rep
     charges = record { one_each = book.charges.one_each; sums = book.charges.sums };
     live = book.live;
   }
+
+-- ---- the references of a manifest, one after the other
+
+next : (xs : List Text) (i : ℕ) (x : Text) → slice_get xs i ≡ Some x → drop i xs ≡ x ∷ drop (i + 1) xs
+next [] i x at = some_none (sym at)
+next (y ∷ ys) zero x at = ap (λ z. z ∷ ys) (some_same at)
+next (y ∷ ys) (suc i) x at = simp unary_clauses (simp unary_clauses at (next ys i x at))
+
+past : (xs : List Text) (i : ℕ) → length xs ≤ i → drop i xs ≡ []
+past [] zero le = refl
+past [] (suc i) le = refl
+past (y ∷ ys) zero le = absurd (omega arith)
+past (y ∷ ys) (suc i) le = past ys i (omega arith)
+
+module _ (l : Linked) (repo : Text) (xs : List Text) (i : ℕ) where
+  pub held_next : (x : Text) → slice_get xs i ≡ Some x → contains_key l.links (repo, x) ≡ true → all_held l repo (drop i xs) ≡ all_held l repo (drop (i + 1) xs)
+  held_next x at held = ap (all_held l repo) (next xs i x at) ∙ ap (λ b. cond b (all_held l repo (drop (i + 1) xs)) (Err (ManifestBlobUnknown x))) held
+
+  pub held_not : (x : Text) → slice_get xs i ≡ Some x → contains_key l.links (repo, x) ≡ false → all_held l repo (drop i xs) ≡ Err (ManifestBlobUnknown x)
+  held_not x at held = ap (all_held l repo) (next xs i x at) ∙ ap (λ b. cond b (all_held l repo (drop (i + 1) xs)) (Err (ManifestBlobUnknown x))) held
+
+  pub held_all : length xs ≤ i → all_held l repo (drop i xs) ≡ Ok tt
+  held_all le = ap (all_held l repo) (past xs i le)
