@@ -348,11 +348,11 @@ impl Book {
             return Ok(digest);
         }
         let manifest = Arc::new(self.alloc, manifest)?;
-        let is_new = self.links.appear(tenant, repo)?;
+        let fresh = self.links.appear(tenant, repo)?;
         match self.links.put_manifest(repo, manifest) {
             Ok(()) => Ok(digest),
             Err(refusal) => {
-                if is_new {
+                if fresh {
                     self.links.vanish(tenant, repo);
                 }
                 Err(refusal)
