@@ -23,7 +23,7 @@ pub mod Ties
 pub mod Fills
 pub mod Placing
 pub mod Starting
-pub mod Manifests
+pub mod ManifestCalls
 pub mod Bounds
 pub mod Taking
 pub mod SessionCharges

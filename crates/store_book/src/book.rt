@@ -9,7 +9,8 @@ ghost use Rattle.upload_table.specs.Uploaded.{IsFull};
 ghost use Rattle.std.specs.Io.KnownBytes.{Appends};
 
 use crate::config::{Config, copied};
-use crate::keep::{check_linked, find_linked, keep, link_slot};
+use crate::keep::{find_linked, keep, link_slot};
+use crate::manifests::{add_manifest, check_linked};
 use crate::mount::{Mount, find_source};
 use crate::print::print_book;
 use blob_digest::{ByteRange, Digest, Refusal, RepoName};
@@ -348,16 +349,8 @@ impl Book {
             return Ok(digest);
         }
         let manifest = Arc::new(self.alloc, manifest)?;
-        let fresh = self.links.appear(tenant, repo)?;
-        match self.links.put_manifest(repo, manifest) {
-            Ok(()) => Ok(digest),
-            Err(refusal) => {
-                if fresh {
-                    self.links.vanish(tenant, repo);
-                }
-                Err(refusal)
-            }
-        }
+        add_manifest(&mut self.links, tenant, repo, manifest)?;
+        Ok(digest)
     }
 
     /// A manifest that a repository has (OCI Distribution Specification 1.1, "Pulling manifests"). Its

@@ -3,7 +3,7 @@
 ghost use Rattle.std.specs.Prelude.{◌≡◌, ◌≢◌, ◌<◌, length, true, false, Some, None, IfErr, OnOk, OnErr, bytes_eq};
 ghost use Rattle.std.specs.Option.{option_map_or};
 ghost use Rattle.slot_table.specs.Slots.{held_at, slot_of};
-ghost use Rattle.store_book.specs.Keeping.{all_held, bytes_at, linked_slot, CanKeep, IsKept, IsUnkept};
+ghost use Rattle.store_book.specs.Keeping.{bytes_at, linked_slot, CanKeep, IsKept, IsUnkept};
 
 use blob_digest::{Blob, Digest, Refusal, RepoName};
 use link_table::Links;
@@ -153,21 +153,4 @@ pub(crate) fn keep(
         Some(slot) => keep_again(links, slots, tenant, repo, slot, blob),
         None => keep_anew(links, slots, tenant, repo, blob),
     }
-}
-
-/// Refuses the first of some digests that a repository doesn't hold, if there is one
-/// (`ManifestBlobUnknown`).
-pub(crate) fn check_linked(
-    links: &Links,
-    repo: &RepoName,
-    digests: &[Digest],
-) -> Result<(), Refusal>
-    ensures { result ≡ all_held links.now repo.now digests.now }
-{
-    for digest in digests {
-        if !links.holds(repo, digest) {
-            return Err(Refusal::ManifestBlobUnknown { digest: *digest });
-        }
-    }
-    Ok(())
 }

@@ -16,6 +16,7 @@ mod book;
 mod config;
 mod keep;
 pub mod laws;
+mod manifests;
 mod mount;
 #[cfg(test)]
 mod hand_tests;

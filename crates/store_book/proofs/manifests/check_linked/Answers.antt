@@ -2,8 +2,8 @@ use Rattle.std.proofs.Common.{◌≡◌, ◌≤◌, refl, sym, ◌∙◌, length
 use Rattle.std.specs.Prelude.{slice_get}
 use Rattle.std.proofs.lemmas.List.{get_or_default}
 use Rattle.std.proofs.lemmas.Option.{slice_get_read}
-use Rattle.store_book.proofs.Manifests.{held_next, held_not, held_all}
-use Rattle.store_book.proofs.keep.check_linked.Goals as goal
+use Rattle.store_book.proofs.ManifestCalls.{held_next, held_not, held_all}
+use Rattle.store_book.proofs.manifests.check_linked.Goals as goal
 
 pub loop-digest-preserved : goal.loop-digest-preserved
 loop-digest-preserved c =

@@ -1,6 +1,6 @@
 use Rattle.std.proofs.Common.{◌≡◌, drop}
 use Rattle.store_book.specs.Keeping.{all_held}
-use Rattle.store_book.proofs.keep.check_linked.Given as goal
+use Rattle.store_book.proofs.manifests.check_linked.Given as goal
 
 -- those before are held
 abbrev pub invariant-loop-digest : goal.invariant-loop-digest
