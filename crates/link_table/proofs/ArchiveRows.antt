@@ -25,7 +25,8 @@ use Rattle.blob_digest.proofs.KeyOrders.{link_cmp_total, exact_link, tied_text}
 use Rattle.blob_digest.proofs.OptionLemmas.{some_none}
 use Rattle.blob_digest.proofs.RowLemmas.{entries-empty}
 use Rattle.blob_digest.proofs.SortedRows.{entries-sorted, IsApart-sorted}
-use Rattle.link_table.specs.Manifests.{Kept, put_in, referrer_in, refers}
+use Rattle.oci_manifest.specs.Manifests.{refers}
+use Rattle.link_table.specs.Manifests.{Kept, put_in, referrer_in}
 use Rattle.link_table.specs.Archive.{Archived, Groups, group_rows, flat, archived, manifests_in, manifests_on, referrer_on, put_on}
 use Rattle.link_table.proofs.Parts.{or_else, find-++, insert_by, remove_by, remove_absent, where_key-agree, where_key-all}
 

@@ -9,7 +9,8 @@ use Rattle.blob_digest.specs.Keys.{Text, Link, text_cmp, link_cmp, same_text}
 use Rattle.blob_digest.specs.Outcomes.{OutcomeIn}
 use Rattle.blob_digest.specs.Trees.{map_of}
 use Rattle.blob_digest.specs.declared.refusal.Refusal.TheVariants.{LimitReached}
-use Rattle.link_table.specs.Manifests.{Kept, refers}
+use Rattle.oci_manifest.specs.Manifests.{refers}
+use Rattle.link_table.specs.Manifests.{Kept}
 
 -- the bytes of each manifest, by repository and digest
 abbrev pub Archived : Type 0
