@@ -287,6 +287,12 @@ module _ (rows : tree.BTreeMap Text Kept) (r : Text) where
   pub referrer_none : (d : Text) → None ≡ tree.get text_cmp rows r → None ≡ referrer_on (archived rows) r d
   referrer_none d is = sym (referrer-flat (map_of rows) r d ∙ ap (λ x. referrer_in (given x) d) (no_group is) ∙ ap (λ es. option_map (λ (e : Text × Text). e.0) (first (λ e. refers e.1 d) es)) (entries-empty text_cmp Text))
 
+  pub manifests_there : (m : Kept) → group (map_of rows) r ≡ m → entries m ≡ manifests_on (archived rows) r
+  manifests_there m found = ap entries (sym found) ∙ sym (on-flat (map_of rows) r)
+
+  pub manifests_none : None ≡ tree.get text_cmp rows r → [] ≡ manifests_on (archived rows) r
+  manifests_none is = sym (on-flat (map_of rows) r ∙ ap (λ x. entries (given x)) (no_group is) ∙ entries-empty text_cmp Text)
+
 -- where nothing was found, nothing is known of the repository
 pub none_same : (rows n : tree.BTreeMap Text Kept) (r d : Text) → None ≡ tree.get text_cmp rows r → n ≡ rows → get (archived n) (r, d) ≡ None
 none_same rows n r d none is = ap (λ x. get (archived x) (r, d)) is ∙ sym (get_none rows r d none)

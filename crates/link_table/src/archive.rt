@@ -6,9 +6,10 @@ ghost use Rattle.std.specs.BTreeMap as tree;
 ghost use Rattle.std.specs.FinMap as fmap;
 ghost use Rattle.blob_digest.specs.Keys.{Text, text_cmp};
 ghost use Rattle.blob_digest.specs.Outcomes.{Does};
-ghost use Rattle.link_table.specs.Archive.{put_on, referrer_on};
+ghost use Rattle.link_table.specs.Archive.{put_on, referrer_on, manifests_on};
 
 use crate::manifests::Manifests;
+use crate::repo_manifests::RepoManifests;
 use blob_digest::{Digest, Refusal, RepoName};
 use oci_manifest::Manifest;
 use std::alloc::Global;
@@ -18,10 +19,10 @@ use std::sync::Arc;
 
 /// The manifests of all repositories, each repository's together. Contracts see the bytes of each, by
 /// repository and digest. Each call takes the logarithm of the number of repositories that have had
-/// manifests, and what the call of `Manifests` takes.
+/// manifests, and what the call of `RepoManifests` takes.
 #[derive(Drop)]
 pub struct Archive {
-    rows: BTreeMap<RepoName, Manifests>,
+    rows: BTreeMap<RepoName, RepoManifests>,
 }
 
 impl Model for Archive {
@@ -57,7 +58,7 @@ impl Archive {
         requires { (d : Text) → fmap.get self.old (repo.now, d) ≡ None }
         ensures { Does (λ u. u) result self.old self.new (put_on self.old repo.now manifest.value) }
     {
-        let mut group = Manifests::new(alloc);
+        let mut group = RepoManifests::new(alloc);
         match group.put(manifest) {
             Ok(()) => {
                 self.rows.insert(repo.clone()?, group)?;
@@ -110,6 +111,18 @@ impl Archive {
         match self.rows.get(repo) {
             Some(group) => group.referrer(digest),
             None => None,
+        }
+    }
+
+    /// The manifests of a repository, in the order of their digests.
+    pub fn manifests(&self, repo: &RepoName) -> Manifests<'_>
+        ensures { result ≡ manifests_on self.now repo.now }
+    {
+        match self.rows.get(repo) {
+            Some(group) => Manifests {
+                rest: Some(group.iter()),
+            },
+            None => Manifests { rest: None },
         }
     }
 }

@@ -12,6 +12,7 @@ mod holders;
 mod links;
 mod manifests;
 mod repo;
+mod repo_manifests;
 mod shelf;
 mod tenants;
 mod weigh;

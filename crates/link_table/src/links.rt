@@ -4,7 +4,7 @@ ghost use Rattle.std.specs.FinMap as fmap;
 ghost use Rattle.blob_digest.specs.Sets as set;
 ghost use Rattle.blob_digest.specs.Outcomes.{Does, DoesExactly};
 ghost use Rattle.blob_digest.specs.declared.refusal.Refusal.TheVariants.{Memory};
-ghost use Rattle.link_table.specs.Archive.{referrer_on};
+ghost use Rattle.link_table.specs.Archive.{referrer_on, manifests_on};
 ghost use Rattle.link_table.specs.Shelves.{nothing};
 ghost use Rattle.link_table.specs.Linked.{is_tenants, known_tenant, used_in, quota_in, blobs_of, repos_of, blobs_in, link, unlink, put_manifest, drop_manifest, charge, discharge, appear, vanish, IsSizeOf, HasNoLinks};
 ghost use Rattle.link_table.specs.Tenancy.{Opens, AreTenants, RefusesTenants, tenants_shown};
@@ -12,6 +12,7 @@ ghost use Rattle.link_table.specs.Tenancy.{Opens, AreTenants, RefusesTenants, te
 use crate::archive::Archive;
 use crate::blobs::Blobs;
 use crate::holders::{Holders, holders_of, lower, raise};
+use crate::manifests::Manifests;
 use crate::shelf::Shelf;
 use crate::tenants::{in_order, tenant_at};
 use crate::weigh::{weight_with, weight_without};
@@ -316,5 +317,13 @@ impl Links {
         ensures { result ≡ referrer_on self.now.manifests repo.now digest.now }
     {
         self.manifests.referrer(repo, digest)
+    }
+
+    /// The manifests that a repository has, in the order of their digests, each with its digest. All of
+    /// them take a step each.
+    pub fn manifests(&self, repo: &RepoName) -> Manifests<'_>
+        ensures { result ≡ manifests_on self.now.manifests repo.now }
+    {
+        self.manifests.manifests(repo)
     }
 }

@@ -7,7 +7,7 @@ use Rattle.blob_digest.specs.Keys.{Text}
 use Rattle.oci_manifest.specs.Manifests.{refs_of}
 use Rattle.link_table.specs.Manifests.{Kept, kept, has_pair}
 use Rattle.link_table.proofs.ManifestRows.{get-kept, kept-remove, IsIndexed-remove}
-use Rattle.link_table.proofs.manifests.Manifests.remove.Goals as goal
+use Rattle.link_table.proofs.repo_manifests.RepoManifests.remove.Goals as goal
 
 pub invariant_of-self : goal.invariant_of-self
 invariant_of-self c d o =

@@ -6,7 +6,7 @@ use Rattle.std.specs.FinMap.{get}
 use Rattle.blob_digest.specs.Keys.{Text}
 use Rattle.link_table.specs.Manifests.{Kept}
 use Rattle.link_table.proofs.ManifestRows.{copied_value, get-kept}
-use Rattle.link_table.proofs.manifests.Manifests.get.Goals as goal
+use Rattle.link_table.proofs.repo_manifests.RepoManifests.get.Goals as goal
 
 pub returns : goal.returns
 returns c =

@@ -2,7 +2,7 @@ use Rattle.std.proofs.Common.{sym, ap, ◌∙◌}
 use Rattle.blob_digest.proofs.KeyOrders.{text_is_same}
 use Rattle.link_table.specs.Manifests.{Kept, referrer_in}
 use Rattle.link_table.proofs.ManifestRows.{referrer_empty, referrer_first, referrer_later}
-use Rattle.link_table.proofs.manifests.Manifests.referrer.Goals as goal
+use Rattle.link_table.proofs.repo_manifests.RepoManifests.referrer.Goals as goal
 
 pub returns-in_err-referred : goal.returns-in_err-referred
 returns-in_err-referred c =

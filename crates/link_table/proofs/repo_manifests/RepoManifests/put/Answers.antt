@@ -6,7 +6,7 @@ use Rattle.oci_manifest.specs.Manifests.{refs_of}
 use Rattle.link_table.specs.Manifests.{kept, has_pair}
 use Rattle.link_table.proofs.ShelfCalls.{is_none}
 use Rattle.link_table.proofs.ManifestRows.{put_there, put_full, put_new, contains-kept, len-kept, unreferred, kept-insert, kept-same, IsIndexed-insert, undone}
-use Rattle.link_table.proofs.manifests.Manifests.put.Goals as goal
+use Rattle.link_table.proofs.repo_manifests.RepoManifests.put.Goals as goal
 
 pub returns-then-contains_key : goal.returns-then-contains_key
 returns-then-contains_key c = rw (← c.self.view_is) (put_there (kept c.self.inside.rows) c.args.manifest.value (sym (contains-kept c.self.inside.rows (sha256_text c.args.manifest.value)) ∙ (rw (c.digest-digest.ensures, c.deref.ensures) at (sym c.contains_key.ensures ∙ c.if-contains_key.true))))

@@ -1,7 +1,7 @@
 use Rattle.std.proofs.Common.{rules, sym, ap, ◌∙◌, take}
 use Rattle.std.proofs.lemmas.List.{get_or_default}
 use Rattle.link_table.proofs.ManifestRows.{referred, undone}
-use Rattle.link_table.proofs.manifests.refer.Goals as goal
+use Rattle.link_table.proofs.repo_manifests.refer.Goals as goal
 
 pub loop-i-preserved : goal.loop-i-preserved
 loop-i-preserved c =

@@ -1,7 +1,7 @@
 use Rattle.std.proofs.Common.{sym, ◌∙◌}
 use Rattle.std.proofs.lemmas.List.{get_or_default}
 use Rattle.link_table.proofs.ManifestRows.{forgotten}
-use Rattle.link_table.proofs.manifests.forget.Goals as goal
+use Rattle.link_table.proofs.repo_manifests.forget.Goals as goal
 
 pub loop-digest-preserved : goal.loop-digest-preserved
 loop-digest-preserved c =
