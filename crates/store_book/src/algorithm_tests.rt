@@ -32,10 +32,14 @@ fn the_same_bytes_under_two_digests_are_two_blobs(rt: HostRuntime) {
 #[test]
 fn each_of_two_digests_is_charged(rt: HostRuntime) {
     let mut book = book(&rt, &[("acme", 5)]);
-    let over = Refusal::Quota { used: 3, quota: 5 };
     let script = [
         Step::Upload("acme/one", ABC, "abc", Ok(3)),
-        Step::Upload("acme/one", ABC_512, "abc", Err(over)),
+        Step::Upload(
+            "acme/one",
+            ABC_512,
+            "abc",
+            Err(Refusal::Quota { used: 3, quota: 5 }),
+        ),
     ];
     plays(&rt, &mut book, &script);
 }
@@ -43,10 +47,9 @@ fn each_of_two_digests_is_charged(rt: HostRuntime) {
 #[test]
 fn each_of_two_digests_takes_a_slot(rt: HostRuntime) {
     let mut book = small(&rt, 1, 1048576, 1000);
-    let full = Refusal::StoreFull;
     let script = [
         Step::Upload("acme/one", ABC, "abc", Ok(3)),
-        Step::Upload("acme/one", ABC_512, "abc", Err(full)),
+        Step::Upload("acme/one", ABC_512, "abc", Err(Refusal::StoreFull)),
         Step::Upload("acme/one", ABC, "abc", Ok(3)),
     ];
     plays(&rt, &mut book, &script);

@@ -7,6 +7,8 @@ use std::alloc::AllocGlobal;
 use std::process::Abort;
 use upload_table::Hand;
 
+const OVER: Refusal = Refusal::Quota { used: 4, quota: 5 };
+
 fn taken(
     rt: &(impl Abort + AllocGlobal),
     book: &mut Book,
@@ -105,7 +107,6 @@ fn a_session_in_hand_is_busy_and_its_reserve_counts(rt: HostRuntime) {
     let mut book = started(&rt, 5);
     plays(&rt, &mut book, &[Step::Start(one, Ok(2))]);
     let hand = takes(&rt, &mut book, "", 2);
-    let over = Refusal::Quota { used: 4, quota: 5 };
     let script = [
         Step::Prints(
             "book\ntenant acme used 4 quota 5 next 3\nrepository acme/one\nsession 1 received 2\nsession 2 received 0\nend\n",
@@ -114,7 +115,7 @@ fn a_session_in_hand_is_busy_and_its_reserve_counts(rt: HostRuntime) {
         Step::Append(one, 1, "9-9", "cc", Err(Refusal::Busy)),
         Step::Close(one, 1, ABC, "", "", Err(Refusal::Busy)),
         Step::Abandon(one, 1, Err(Refusal::Busy)),
-        Step::Append(one, 2, "", "xy", Err(over)),
+        Step::Append(one, 2, "", "xy", Err(OVER)),
         Step::Append(one, 2, "", "x", Ok(1)),
     ];
     plays(&rt, &mut book, &script);
@@ -152,11 +153,10 @@ fn a_hand_comes_back_or_is_finished(rt: HostRuntime) {
 fn a_hand_of_another_book_changes_nothing(rt: HostRuntime) {
     let mut book = started(&rt, 5);
     let mut other = started(&rt, 5);
-    let unknown = Err(Refusal::UploadUnknown);
     let hand = takes(&rt, &mut book, "", 2);
-    puts_back(&rt, &mut other, hand, unknown);
+    puts_back(&rt, &mut other, hand, Err(Refusal::UploadUnknown));
     let hand = fill(takes(&rt, &mut other, "", 1), "c");
-    finishes(&rt, &mut book, hand, ABC, unknown);
+    finishes(&rt, &mut book, hand, ABC, Err(Refusal::UploadUnknown));
     let script = [
         Step::Abandon("acme/one", 1, Err(Refusal::Busy)),
         Step::Status("acme/one", 1, Ok(2)),

@@ -1,10 +1,12 @@
 //! Worked examples of mounts and deletes, of a store that is full, and of the limit on repositories.
 
-use crate::test_steps::{ABC, OBJ, Step, book, mount, plays, small, upload};
+use crate::test_steps::{ABC, OBJ, Step, book, mount, play, plays, says, small, upload};
 use crate::{Book, Mount};
 use blob_digest::{Algorithm, Digest, Refusal};
 use std::alloc::AllocGlobal;
 use std::process::Abort;
+
+const OVER: Refusal = Refusal::Quota { used: 3, quota: 3 };
 
 #[test]
 fn a_mount_links_what_the_tenant_holds(rt: HostRuntime) {
@@ -36,14 +38,13 @@ fn a_mount_from_another_tenant_opens_a_session(rt: HostRuntime) {
 fn a_use_falls_with_the_last_link(rt: HostRuntime) {
     let (one, two) = ("acme/one", "acme/two");
     let mut book = book(&rt, &[("acme", 3)]);
-    let over = Refusal::Quota { used: 3, quota: 3 };
     let script = [
         Step::Upload(one, ABC, "abc", Ok(3)),
         Step::Mount(two, ABC, one, Ok(Mount::Mounted)),
         Step::Start(one, Ok(2)),
-        Step::Append(one, 2, "", "x", Err(over)),
+        Step::Append(one, 2, "", "x", Err(OVER)),
         Step::Delete(one, ABC, Ok(())),
-        Step::Append(one, 2, "", "x", Err(over)),
+        Step::Append(one, 2, "", "x", Err(OVER)),
         Step::Delete(two, ABC, Ok(())),
         Step::Append(one, 2, "", "x", Ok(1)),
         Step::Prints(
@@ -54,17 +55,14 @@ fn a_use_falls_with_the_last_link(rt: HostRuntime) {
 }
 
 /// Finds the uses of two tenants and the links to ABC.
-fn counts(rt: &(impl Abort + AllocGlobal), book: &mut Book, acme: u64, other: u64, links: u64) {
+fn counts(rt: &(impl Abort + AllocGlobal), book: &Book, acme: u64, other: u64, links: u64) {
     let alloc = rt.alloc();
     let acme = format!(in alloc; "tenant acme used {acme} ").expect(rt, "memory");
     let other = format!(in alloc; "tenant other used {other} ").expect(rt, "memory");
     let links = format!(in alloc; "blob {ABC} size 3 links {links}\n").expect(rt, "memory");
-    let script = [
-        Step::Says(acme.as_str()),
-        Step::Says(other.as_str()),
-        Step::Says(links.as_str()),
-    ];
-    plays(rt, book, &script);
+    assert!(rt; says(rt, book, acme.as_str()));
+    assert!(rt; says(rt, book, other.as_str()));
+    assert!(rt; says(rt, book, links.as_str()));
 }
 
 fn uploaded(repo: &str) -> Step<'_> {
@@ -83,10 +81,13 @@ fn deleted(repo: &str) -> Step<'_> {
     Step::Delete(repo, ABC, Ok(()))
 }
 
+fn nothing_deleted(repo: &str) -> Step<'_> {
+    Step::Delete(repo, ABC, Err(Refusal::BlobUnknown))
+}
+
 #[test]
 fn counts_and_uses_follow_two_tenants(rt: HostRuntime) {
     let mut book = book(&rt, &[("acme", 1000), ("other", 1000)]);
-    let unknown = Err(Refusal::BlobUnknown);
     let script = [
         (uploaded("acme/one"), 3, 0, 1),
         (mounted("acme/one", "acme/one"), 3, 0, 1),
@@ -98,7 +99,7 @@ fn counts_and_uses_follow_two_tenants(rt: HostRuntime) {
         (instead("acme/three", "acme/three", 4), 3, 3, 3),
         (instead("acme/one", "nobody/x", 5), 3, 3, 3),
         (deleted("acme/one"), 3, 3, 2),
-        (Step::Delete("acme/one", ABC, unknown), 3, 3, 2),
+        (nothing_deleted("acme/one"), 3, 3, 2),
         (instead("other/y", "acme/one", 3), 3, 3, 2),
         (deleted("acme/two"), 0, 3, 1),
         (instead("acme/one", "acme/two", 6), 0, 3, 1),
@@ -106,9 +107,9 @@ fn counts_and_uses_follow_two_tenants(rt: HostRuntime) {
         (deleted("other/x"), 3, 0, 1),
         (mounted("acme/three", "acme/two"), 3, 0, 2),
     ];
-    for (step, acme, other, links) in script {
-        plays(&rt, &mut book, &[step]);
-        counts(&rt, &mut book, acme, other, links);
+    for (step, acme, other, links) in &script {
+        play(&rt, &mut book, step);
+        counts(&rt, &book, *acme, *other, *links);
     }
 }
 
@@ -188,19 +189,18 @@ fn crowded(rt: &(impl Abort + AllocGlobal)) -> Book {
 fn a_tenant_has_1024_repositories(rt: HostRuntime) {
     let mut book = crowded(&rt);
     let new = "acme/new";
-    let limit = Refusal::LimitReached;
     let script = [
-        Step::Start(new, Err(limit)),
-        Step::Mount(new, ABC, "acme/one", Err(limit)),
-        Step::Mount(new, ABC, "acme/last", Err(limit)),
-        Step::Mount(new, ABC, "acme/none", Err(limit)),
+        Step::Start(new, Err(Refusal::LimitReached)),
+        Step::Mount(new, ABC, "acme/one", Err(Refusal::LimitReached)),
+        Step::Mount(new, ABC, "acme/last", Err(Refusal::LimitReached)),
+        Step::Mount(new, ABC, "acme/none", Err(Refusal::LimitReached)),
     ];
     plays(&rt, &mut book, &script);
-    counts(&rt, &mut book, 3, 0, 1023);
+    counts(&rt, &book, 3, 0, 1023);
     let script = [
         mounted("acme/last", "acme/one"),
         instead("other/new", "acme/one", 1),
     ];
     plays(&rt, &mut book, &script);
-    counts(&rt, &mut book, 3, 0, 1024);
+    counts(&rt, &book, 3, 0, 1024);
 }

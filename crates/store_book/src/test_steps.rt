@@ -169,7 +169,7 @@ fn delete(
 }
 
 /// Whether the text of a book has some text in it.
-fn says(rt: &(impl Abort + AllocGlobal), book: &Book, text: &str) -> bool {
+pub fn says(rt: &(impl Abort + AllocGlobal), book: &Book, text: &str) -> bool {
     let text = text.as_bytes();
     if text.is_empty() {
         return true;
@@ -201,6 +201,11 @@ fn goes(rt: &(impl Abort + AllocGlobal), book: &mut Book, step: &Step) -> bool {
         Step::Prints(text) => printed(rt, book).as_slice() == text.as_bytes(),
         Step::Says(text) => says(rt, book, text),
     }
+}
+
+/// Plays a step, and finds its answer.
+pub fn play(rt: &(impl Abort + AllocGlobal), book: &mut Book, step: &Step) {
+    assert!(rt; goes(rt, book, step));
 }
 
 /// Plays the steps of a table in turn, and finds each answer.

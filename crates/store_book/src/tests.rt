@@ -3,6 +3,10 @@
 use crate::test_steps::{ABC, EMPTY, OBJ, Step, book, opened, plays, small};
 use blob_digest::Refusal;
 
+const LATE: Refusal = Refusal::RangeInvalid { received: 2 };
+
+const OVER: Refusal = Refusal::Quota { used: 2, quota: 2 };
+
 #[test]
 fn a_new_book_has_its_tenants_in_the_order_of_their_names(rt: HostRuntime) {
     let mut book = book(&rt, &[("zeta", 5), ("acme", 1000)]);
@@ -74,11 +78,10 @@ fn an_empty_blob_is_kept(rt: HostRuntime) {
 fn a_chunk_comes_where_the_last_one_ended(rt: HostRuntime) {
     let one = "acme/one";
     let mut book = book(&rt, &[("acme", 1000)]);
-    let late = Refusal::RangeInvalid { received: 2 };
     let script = [
         Step::Start(one, Ok(1)),
         Step::Append(one, 1, "0-1", "ab", Ok(2)),
-        Step::Append(one, 1, "3-3", "c", Err(late)),
+        Step::Append(one, 1, "3-3", "c", Err(LATE)),
         Step::Append(one, 1, "2-3", "c", Err(Refusal::SizeInvalid)),
         Step::Append(one, 1, "", "", Ok(2)),
         Step::Append(one, 1, "2-2", "c", Ok(3)),
@@ -102,15 +105,14 @@ fn a_blob_past_the_limit_is_refused(rt: HostRuntime) {
 fn a_refused_close_leaves_the_session_as_it_was(rt: HostRuntime) {
     let one = "acme/one";
     let mut book = book(&rt, &[("acme", 1000)]);
-    let unknown = Refusal::UploadUnknown;
     let script = [
         Step::Start(one, Ok(1)),
         Step::Append(one, 1, "", "ab", Ok(2)),
         Step::Close(one, 1, OBJ, "2-2", "c", Err(Refusal::DigestInvalid)),
         Step::Append(one, 1, "", "", Ok(2)),
-        Step::Close("acme/two", 1, ABC, "2-2", "c", Err(unknown)),
+        Step::Close("acme/two", 1, ABC, "2-2", "c", Err(Refusal::UploadUnknown)),
         Step::Close(one, 1, ABC, "2-2", "c", Ok(3)),
-        Step::Close(one, 1, ABC, "2-2", "c", Err(unknown)),
+        Step::Close(one, 1, ABC, "2-2", "c", Err(Refusal::UploadUnknown)),
     ];
     plays(&rt, &mut book, &script);
 }
@@ -119,12 +121,11 @@ fn a_refused_close_leaves_the_session_as_it_was(rt: HostRuntime) {
 fn a_use_past_the_quota_is_refused(rt: HostRuntime) {
     let one = "acme/one";
     let mut book = book(&rt, &[("acme", 2)]);
-    let over = Refusal::Quota { used: 2, quota: 2 };
     let script = [
         Step::Start(one, Ok(1)),
         Step::Append(one, 1, "", "ab", Ok(2)),
-        Step::Append(one, 1, "", "c", Err(over)),
-        Step::Close(one, 1, ABC, "", "c", Err(over)),
+        Step::Append(one, 1, "", "c", Err(OVER)),
+        Step::Close(one, 1, ABC, "", "c", Err(OVER)),
         Step::Prints(
             "book\ntenant acme used 2 quota 2 next 2\nrepository acme/one\nsession 1 received 2\nend\n",
         ),
@@ -186,16 +187,15 @@ fn a_repository_without_a_session_is_not_left_behind(rt: HostRuntime) {
 fn a_session_is_asked_for_and_given_up(rt: HostRuntime) {
     let (one, two) = ("acme/one", "acme/two");
     let mut book = book(&rt, &[("acme", 3)]);
-    let unknown = Refusal::UploadUnknown;
     let script = [
         Step::Start(one, Ok(1)),
         Step::Status(one, 1, Ok(0)),
         Step::Append(one, 1, "", "abc", Ok(3)),
         Step::Status(one, 1, Ok(3)),
-        Step::Status(two, 1, Err(unknown)),
-        Step::Abandon(two, 1, Err(unknown)),
+        Step::Status(two, 1, Err(Refusal::UploadUnknown)),
+        Step::Abandon(two, 1, Err(Refusal::UploadUnknown)),
         Step::Abandon(one, 1, Ok(3)),
-        Step::Abandon(one, 1, Err(unknown)),
+        Step::Abandon(one, 1, Err(Refusal::UploadUnknown)),
         Step::Start(one, Ok(2)),
         Step::Append(one, 2, "", "abc", Ok(3)),
     ];
