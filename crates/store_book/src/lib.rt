@@ -14,17 +14,19 @@
 mod algorithm_tests;
 mod book;
 mod config;
+#[cfg(test)]
+mod hand_tests;
 mod keep;
 pub mod laws;
 mod manifests;
 mod mount;
 #[cfg(test)]
-mod hand_tests;
-#[cfg(test)]
 mod mount_tests;
 mod print;
 #[cfg(test)]
 mod refusal_tests;
+#[cfg(test)]
+mod test_steps;
 #[cfg(test)]
 mod tests;
 
