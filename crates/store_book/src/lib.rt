@@ -18,6 +18,8 @@ mod config;
 mod hand_tests;
 mod keep;
 pub mod laws;
+#[cfg(test)]
+mod manifest_tests;
 mod manifests;
 mod mount;
 #[cfg(test)]

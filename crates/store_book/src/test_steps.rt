@@ -85,6 +85,11 @@ pub enum Step<'a> {
     Upload(&'a str, &'a str, &'a str, Result<u64, Refusal>),
     Mount(&'a str, &'a str, &'a str, Result<Mount, Refusal>),
     Delete(&'a str, &'a str, Result<(), Refusal>),
+    /// A put of these bytes.
+    PutManifest(&'a str, &'a str, Result<Digest, Refusal>),
+    /// A get, and the bytes that it answers.
+    GetManifest(&'a str, &'a str, Result<&'a str, Refusal>),
+    DeleteManifest(&'a str, &'a str, Result<(), Refusal>),
     /// The text of the book is this.
     Prints(&'a str),
     /// The text of the book has this text in it.
@@ -168,6 +173,39 @@ fn delete(
     book.delete(&name(rt, repo), &digest(rt, of))
 }
 
+pub fn put_manifest(
+    rt: &(impl Abort + AllocGlobal),
+    book: &mut Book,
+    repo: &str,
+    bytes: &str,
+) -> Result<Digest, Refusal> {
+    book.put_manifest(&name(rt, repo), bytes.as_bytes())
+}
+
+/// Whether a manifest is answered with these bytes, or refused so.
+fn gets_manifest(
+    rt: &(impl Abort + AllocGlobal),
+    book: &Book,
+    repo: &str,
+    of: &str,
+    wanted: &Result<&str, Refusal>,
+) -> bool {
+    match (book.get_manifest(&name(rt, repo), &digest(rt, of)), wanted) {
+        (Ok(manifest), Ok(text)) => manifest.bytes() == text.as_bytes(),
+        (Err(refusal), Err(other)) => refusal == *other,
+        _ => false,
+    }
+}
+
+fn delete_manifest(
+    rt: &(impl Abort + AllocGlobal),
+    book: &mut Book,
+    repo: &str,
+    of: &str,
+) -> Result<(), Refusal> {
+    book.delete_manifest(&name(rt, repo), &digest(rt, of))
+}
+
 /// Whether the text of a book has some text in it.
 pub fn says(rt: &(impl Abort + AllocGlobal), book: &Book, text: &str) -> bool {
     let text = text.as_bytes();
@@ -198,6 +236,9 @@ fn goes(rt: &(impl Abort + AllocGlobal), book: &mut Book, step: &Step) -> bool {
         }
         Step::Mount(repo, of, from, wanted) => mount(rt, book, repo, of, from) == *wanted,
         Step::Delete(repo, of, wanted) => delete(rt, book, repo, of) == *wanted,
+        Step::PutManifest(repo, bytes, wanted) => put_manifest(rt, book, repo, bytes) == *wanted,
+        Step::GetManifest(repo, of, wanted) => gets_manifest(rt, book, repo, of, wanted),
+        Step::DeleteManifest(repo, of, wanted) => delete_manifest(rt, book, repo, of) == *wanted,
         Step::Prints(text) => printed(rt, book).as_slice() == text.as_bytes(),
         Step::Says(text) => says(rt, book, text),
     }
