@@ -286,6 +286,14 @@ impl Links {
         }
     }
 
+    /// The i-th blob that a repository holds, from 0, with its size in bytes. It takes i steps: to read
+    /// all of them use `blobs`.
+    pub fn blob_at(&self, repo: &RepoName, i: usize) -> Option<(Digest, u64)>
+        ensures { result ≡ slice_get (blobs_in self.now repo.now) i }
+    {
+        self.blobs(repo).nth(i)
+    }
+
     /// Keeps a manifest of a repository under its digest. One that is there already stays. Refused are
     /// one beyond 1,024 (`LimitReached`), and want of memory; nothing has changed then.
     pub fn put_manifest(
@@ -325,5 +333,13 @@ impl Links {
         ensures { result ≡ manifests_on self.now.manifests repo.now }
     {
         self.manifests.manifests(repo)
+    }
+
+    /// The i-th manifest that a repository has, from 0, with its digest. It takes i steps: to read all
+    /// of them use `manifests`.
+    pub fn manifest_at(&self, repo: &RepoName, i: usize) -> Option<(Digest, &Manifest)>
+        ensures { option_map (λ e. (e.0, e.1.now)) result ≡ slice_get (manifests_on self.now.manifests repo.now) i }
+    {
+        self.manifests(repo).nth(i)
     }
 }
