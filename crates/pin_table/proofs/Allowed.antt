@@ -17,7 +17,7 @@ use Rattle.pin_table.specs.declared.view.Kept.{Kept}
 use Rattle.pin_table.specs.declared.view.View.{View}
 use Rattle.pin_table.specs.declared.view.View.TheVariants.{Keeper, Pin, Left, Spent}
 use Rattle.pin_table.specs.Rule.{Ruled, Agrees, opening_view}
-use Rattle.pin_table.specs.Plays.{with_bound, with_row, with_hand, looked, gave, lent, left, condemned, revived, reclaimed, empty_handed, handed, halved, weightless, taken_in}
+use Rattle.pin_table.specs.Plays.{with_bound, with_row, with_hand, with_sight, looked, gave, lent, left, condemned, revived, reclaimed, empty_handed, handed, halved, weightless, taken_in}
 use Rattle.pin_table.specs.Laws.{Leads}
 use Rattle.pin_table.proofs.Names.{fresh}
 use Rattle.pin_table.proofs.Agreement.{advanced, is_keeper}
@@ -51,7 +51,7 @@ module _ (m g slots : ℕ) where
 
   pub look_allowed : (k id : ℕ) (me : Seated) (v : Kept) → id ≡ 0 → me ≡ (Keeper v, []) → k < length v.rows → Allows (holds m g) slots id me k (λ n. n) (looked (step slots k 0 0 none) me)
   look_allowed k id me v z is l = by_keeper k id me v (λ n. n) (looked (step slots k 0 0 none)) z is l (λ ws vs p c fits.
-      (with_bound k (weight_on k (holds_of p)) v, Look k, looks c, (weight_on k (holds_of p), c.finds, hand_kept c, refl)))
+      (with_sight k (slice_index ws k) (weight_on k (holds_of p)) v, Look k, looks c, (weight_on k (holds_of p), c.finds, hand_kept c, refl)))
 
   pub give_allowed : (d : Text) (k id : ℕ) (me : Seated) (v : Kept) → id ≡ 0 → me ≡ (Keeper v, []) → k < length v.rows → (row v.rows k).phase ≡ Free → IsNew d v.rows
       → Allows (holds m g) slots id me k (λ n. bit_or n 2147483648) (gave d (step slots k 2147483648 0 none) me)
@@ -78,7 +78,7 @@ module _ (m g slots : ℕ) where
   reclaim_allowed k id me v old new z is l dead old_is new_is = by_keeper k id me v (λ n. either (n == old) new n) (reclaimed (step slots k old new none)) z is l (λ ws vs p c fits.
       exchanged (slice_index ws k) old new (λ x. (u : Kept) × (e : Event) × Leads p e (set ws k x) (set vs 0 (Keeper u)) × reclaimed (step slots k old new none) (Keeper v, []) (slice_index ws k) (Keeper u, []))
       (λ hit. (with_bound k 0 (with_row k (reclaimed_row (row v.rows k)) v), Reclaim k, reclaims old new c dead old_is new_is hit, inl (hit, refl)))
-      (λ miss. (with_bound k (weight_on k (holds_of p)) v, Look k, looks c, inr (miss, (weight_on k (holds_of p), c.finds, refl)))))
+      (λ miss. (with_sight k (slice_index ws k) (weight_on k (holds_of p)) v, Look k, looks c, inr (miss, (weight_on k (holds_of p), c.finds, refl)))))
 
   -- the step of a pin's seat
   pub leave_allowed : (k n id : ℕ) (me : Seated) (h : Hold) → k ≡ h.slot → n ≡ h.weight → me ≡ (Pin h, [])

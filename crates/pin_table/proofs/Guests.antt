@@ -168,7 +168,7 @@ pub opens : (n g : ℕ) → Agrees (replicate n (word_of g Free 0)) (opening_vie
 opens n g =
     let r : PinRow = record { generation = g; phase = Free; digest = None } in
     let rs = replicate n r in record {
-      keeper = kept rs (replicate n 0) None;
+      keeper = kept rs (replicate n 0) None [];
       others = [];
       seats = refl;
       guests = All-nil IsGuest;

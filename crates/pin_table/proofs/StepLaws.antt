@@ -8,7 +8,7 @@ use Rattle.pin_core.specs.World.{PinWorld, holds_of, row, weight_on}
 use Rattle.pin_table.specs.declared.view.Kept.{Kept}
 use Rattle.pin_table.specs.declared.view.View.{View}
 use Rattle.pin_table.specs.declared.view.View.TheVariants.{Keeper}
-use Rattle.pin_table.specs.Plays.{Finds, Seated, with_bound}
+use Rattle.pin_table.specs.Plays.{Finds, Seated, with_sight}
 use Rattle.pin_table.specs.Laws.{Before, Leads, IsWord, LookLaw, GiveLaw, LendLaw, HandLaw, LeaveLaw, CondemnLaw, ReviveLaw, ReclaimLaw, ShareLaw, VerifyLaw, StepsAreEvents}
 use Rattle.pin_table.proofs.Bits.{one_sum}
 use Rattle.pin_table.proofs.Names.{fresh}
@@ -24,13 +24,13 @@ module _ (ws : List ℕ) (vs : List View) (p : PinWorld) where
   led e l m id u me words is leads = subst (λ x. Leads p e m (set vs id x)) (sym (ap (λ (y : Seated). y.0) is)) (subst (λ x. Leads p e x (set vs id u)) words leads)
 
   -- a load, which found this sum
-  looked_by : (v : Kept) (k weight : ℕ) (me : Seated) → Keeping ws vs p v k → Finds k (slice_index ws k) v weight → me ≡ (Keeper (with_bound k weight v), []) → Leads p (Look k) ws (set vs 0 me.0)
+  looked_by : (v : Kept) (k weight : ℕ) (me : Seated) → Keeping ws vs p v k → Finds k (slice_index ws k) v weight → me ≡ (Keeper (with_sight k (slice_index ws k) weight v), []) → Leads p (Look k) ws (set vs 0 me.0)
   looked_by v k weight me c finds is =
       let r = row v.rows k in
       let most = c.finds.fits in
       let same = one_sum r.generation r.generation (weight_on k (holds_of p)) weight r.phase r.phase (omega arith) finds.fits (sym c.finds.word ∙ finds.word) in
-      led (Look k) (set ws k (slice_index ws k)) ws 0 (Keeper (with_bound k weight v)) me (set-get_or ws k 0) is
-      (subst (λ x. Leads p (Look k) (set ws k (slice_index ws k)) (set vs 0 (Keeper (with_bound k x v)))) same (looks c))
+      led (Look k) (set ws k (slice_index ws k)) ws 0 (Keeper (with_sight k (slice_index ws k) weight v)) me (set-get_or ws k 0) is
+      (subst (λ x. Leads p (Look k) (set ws k (slice_index ws k)) (set vs 0 (Keeper (with_sight k (slice_index ws k) x v)))) same (looks c))
 
   look_law : LookLaw ws vs p
   look_law v s me b w play = looked_by v s.word play.0 me (kept_by v s.word b w) play.1 play.3

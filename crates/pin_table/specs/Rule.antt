@@ -6,13 +6,25 @@ use Rattle.pin_core.specs.declared.world.Hold.{Hold}
 use Rattle.pin_core.specs.declared.event.Event.{Event}
 use Rattle.pin_core.specs.World.{PinWorld, IsState, holds_of, weight_on, word, max_weight, opening}
 use Rattle.pin_core.specs.Events.{Happens, after_all}
+use Rattle.pin_table.specs.declared.view.Sight.{Sight}
 use Rattle.pin_table.specs.declared.view.Kept.{Kept}
 use Rattle.pin_table.specs.declared.view.View.{View}
 use Rattle.pin_table.specs.declared.view.View.TheVariants.{Keeper, Pin, Left, Spent}
 
--- what the keeper knows: the rows, a bound on the sum of weights of each slot, and the pin in its hand
-abbrev pub kept : List PinRow → List ℕ → Option Hold → Kept
-kept rows bounds hand = record { rows = rows; bounds = bounds; hand = hand }
+-- the word n, found on the slot k
+abbrev pub sight : ℕ → ℕ → Sight
+sight k n = record { slot = k; word = n }
+
+-- what the keeper knows: the rows, a bound on the sum of weights of each slot, the pin in its hand, and what its looks found, the last first
+abbrev pub kept : List PinRow → List ℕ → Option Hold → List Sight → Kept
+kept rows bounds hand seen = record { rows = rows; bounds = bounds; hand = hand; seen = seen }
+
+-- what the keeper's looks found; nothing for another seat
+abbrev pub seen_by : View → List Sight
+seen_by (Keeper v) = v.seen
+seen_by (Pin h) = []
+seen_by (Left h) = []
+seen_by Spent = []
 
 -- the pin in the hand, if there is one
 abbrev pub in_hand : Option Hold → List Hold
@@ -66,4 +78,4 @@ pub record Ruled (n g : ℕ) (words : List ℕ) (views : List View) : Type 0 whe
 
 -- what the keeper knows of n free slots of generation g
 abbrev pub opening_view : ℕ → ℕ → View
-opening_view n g = Keeper (kept (opening n g).rows (replicate n 0) None)
+opening_view n g = Keeper (kept (opening n g).rows (replicate n 0) None [])

@@ -17,9 +17,9 @@ use crate::pin::{Left, Pin};
 use crate::plays::{Condemn, Give, Given, Hand, Leave, Lend, Look, Reclaiming, Revive, Share};
 use crate::reclaim::Reclaim;
 use crate::rule::{Opening, PinSeat, PinShared, PinTable};
-use blob_digest::{Digest, Refusal};
+use blob_digest::{Digest, MAX_SLOTS, Refusal};
 use pin_core::{
-    CONDEMNED, Hold, LAST_GENERATION, MAX_SLOTS, MAX_WEIGHT, NEW_WEIGHT, Phase, PinRow, USED,
+    CONDEMNED, Hold, LAST_GENERATION, MAX_WEIGHT, NEW_WEIGHT, Phase, PinRow, USED,
     WordRow, given, halved, in_phase, pack, reclaimed, unpack,
 };
 use std::alloc::Global;
