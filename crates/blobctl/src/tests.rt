@@ -4,27 +4,14 @@ ghost use Rattle.blobctl.specs.Options.{IsWithin};
 
 use crate::arguments::read_options;
 use crate::fault::Fault;
-use crate::input::read_script;
 use crate::options::{Options, Stop};
 use crate::reply::Reply;
 use crate::row::Verb;
 use crate::script::read_rows;
-use crate::watched::Watched;
 use blob_digest::{Digest, Refusal};
 use std::alloc::Global;
-use std::io;
-use std::io::{ErrorKind, Read};
 
 const ABC: &str = "sha256:ba7816bf8f01cfea414140de5dae2223b00361a396177a9cb410ff61f20015ad";
-
-/// The fault of a script's rows, or 0 for none; else the number of the bad row.
-fn bad_row(alloc: Global, script: &[u8]) -> u32 {
-    match read_rows(alloc, script) {
-        Ok(_) => 0,
-        Err(Fault::BadRow(number)) => number,
-        Err(_) => u32::MAX,
-    }
-}
 
 #[test]
 fn rows_are_read(rt: HostRuntime) {
@@ -43,102 +30,6 @@ fn rows_are_read(rt: HostRuntime) {
             assert_eq!(rt; rows[2].digest.as_slice(), b"d".as_slice());
             assert_eq!(rt; rows[2].body.as_slice(), b"x,\"y".as_slice());
         }
-        Err(_) => assert!(rt; false),
-    }
-}
-
-#[test]
-fn a_bad_row_is_named(rt: HostRuntime) {
-    let alloc = rt.alloc();
-    for script in [
-        b"0,start,acme/one".as_slice(),
-        b"0,fly,acme/one,,,,".as_slice(),
-        b"256,start,acme/one,,,,".as_slice(),
-        b"0000,start,acme/one,,,,".as_slice(),
-        b",start,acme/one,,,,".as_slice(),
-        b"x,start,acme/one,,,,".as_slice(),
-        b"0,Start,acme/one,,,,".as_slice(),
-        b"0,start,acme/one,1,,,".as_slice(),
-        b"0,start,acme/one,,,,x".as_slice(),
-        b"0,start,acme/one,,,,,".as_slice(),
-        b"0,append,acme/one,0,,,".as_slice(),
-        b"0,append,acme/one,4294967296,,,".as_slice(),
-        b"0,append,acme/one,00000000001,,,".as_slice(),
-        b"0,append,acme/one,,,,".as_slice(),
-        b"0,append,acme/one,1,d,,".as_slice(),
-        b"0,close,acme/one,x,d,,".as_slice(),
-        b"0,status,acme/one,,,,".as_slice(),
-        b"0,status,acme/one,1,d,,".as_slice(),
-        b"0,abandon,acme/one,1,,,x".as_slice(),
-        b"0,mount,acme/two,acme/one,d,0-1,".as_slice(),
-        b"0,delete,acme/one,1,d,,".as_slice(),
-    ] {
-        assert_eq!(rt; bad_row(alloc, script), 1);
-    }
-}
-
-#[test]
-fn a_bad_row_after_a_good_one_is_the_second(rt: HostRuntime) {
-    let script = b"0,start,acme/one,,,,\n0,fly,acme/one,,,,\n0,fly,,,,,\n";
-    assert_eq!(rt; bad_row(rt.alloc(), script), 2);
-    let good =
-        b"0,start,acme/one,,,,\n0,append,acme/one,0000000001,,,\n0,close,,1,,,\n0,status,,1,,,\n0,abandon,,1,,,\n0,mount,,,,,\n0,delete,,,,,\n";
-    assert_eq!(rt; bad_row(rt.alloc(), good), 0);
-}
-
-#[test]
-fn a_row_too_many_is_bad(rt: HostRuntime) {
-    let alloc = rt.alloc();
-    let row = b"0,start,a,,,,\n".as_slice();
-    let mut script = Vec::new(alloc);
-    for _ in 0..65536u32 {
-        script.extend_from_slice(row).expect(&rt, "memory");
-    }
-    assert_eq!(rt; bad_row(alloc, script.as_slice()), 0);
-    script.extend_from_slice(row).expect(&rt, "memory");
-    assert_eq!(rt; bad_row(alloc, script.as_slice()), 65537);
-}
-
-/// A reader of two bytes at a time that fails at one of its calls.
-#[derive(Drop)]
-struct Failing<'s> {
-    left: &'s [u8],
-    call: u32,
-    fails_at: u32,
-}
-
-impl<'s> Read for Failing<'s> {
-    fn read(&mut self, buf: &mut [u8]) -> io::Result<usize> {
-        if self.call == self.fails_at {
-            return Err(io::Error::from(ErrorKind::Interrupted));
-        }
-        self.call = self.call.saturating_add(1);
-        let most = buf.len().min(2);
-        self.left.read(&mut buf[..most])
-    }
-}
-
-#[test]
-fn a_failed_read_is_a_read_fault(rt: HostRuntime) {
-    let alloc = rt.alloc();
-    for fails_at in 0..4 {
-        let mut reader = Watched::new(Failing {
-            left: b"abcde".as_slice(),
-            call: 0,
-            fails_at,
-        });
-        match read_script(alloc, &mut reader) {
-            Ok(_) => assert!(rt; false),
-            Err(fault) => assert_eq!(rt; fault, Fault::Read),
-        }
-    }
-    let mut reader = Watched::new(Failing {
-        left: b"abcde".as_slice(),
-        call: 0,
-        fails_at: 9,
-    });
-    match read_script(alloc, &mut reader) {
-        Ok(script) => assert_eq!(rt; script.as_slice(), b"abcde".as_slice()),
         Err(_) => assert!(rt; false),
     }
 }

@@ -16,3 +16,13 @@ returns-in_err-digest g c =
     let accepts = rw c.as_slice-3.ensures.value at c.in_err-digest.ensures.accepts in
     let why : (c.in_err-digest.field-0.0 ≡ DigestInvalid) × ¬ IsDigestText c.args.row.now.digest.items = (c.in_err-digest.ensures.refused, λ spelt. false≢true (accepts.1 spelt)) in
     rw (p.1, p.2) (inr (digest_refused g.B.Board.acts c.args.board.now c.args.board.now (line_of c.args.row.now) c.in_err-digest.field-0.0 repo (λ _. source) (rw c.requires refl) why refl))
+
+pub returns-in_err-mount : goal.returns-in_err-mount
+returns-in_err-mount g c =
+    let spelt : IsDigestText c.args.row.now.digest.items = search rules in
+    search (rules, spelt)
+
+pub returns : goal.returns
+returns g c =
+    let spelt : IsDigestText c.args.row.now.digest.items = search rules in
+    search (rules, spelt)
