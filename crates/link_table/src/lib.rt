@@ -23,4 +23,6 @@ pub use manifests::Manifests;
 pub use tenants::{MAX_QUOTA, MAX_TENANTS};
 
 #[cfg(test)]
+mod manifest_tests;
+#[cfg(test)]
 mod tests;
