@@ -19,7 +19,7 @@ use Rattle.pin_table.specs.declared.view.Kept.{Kept}
 use Rattle.pin_table.specs.declared.view.View.{View}
 use Rattle.pin_table.specs.declared.view.View.TheVariants.{Keeper}
 use Rattle.pin_table.specs.Rule.{Agrees, Ruled, all_holds, IsGuest}
-use Rattle.pin_table.specs.Laws.{Leads}
+use Rattle.pin_table.specs.Steps.{Leads}
 
 -- ---- the events behind the rule
 

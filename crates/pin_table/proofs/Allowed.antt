@@ -18,7 +18,7 @@ use Rattle.pin_table.specs.declared.view.View.{View}
 use Rattle.pin_table.specs.declared.view.View.TheVariants.{Keeper, Pin, Left, Spent}
 use Rattle.pin_table.specs.Rule.{Ruled, Agrees, opening_view}
 use Rattle.pin_table.specs.Plays.{with_bound, with_row, with_hand, with_sight, looked, gave, lent, left, condemned, revived, reclaimed, empty_handed, handed, halved, weightless, taken_in}
-use Rattle.pin_table.specs.Laws.{Leads}
+use Rattle.pin_table.specs.Steps.{Leads}
 use Rattle.pin_table.proofs.Names.{fresh}
 use Rattle.pin_table.proofs.Agreement.{advanced, is_keeper}
 use Rattle.pin_table.proofs.Steps.{Keeping, keeping, hand_kept, looks, gives, lends, condemns, revives, reclaims}

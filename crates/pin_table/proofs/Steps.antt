@@ -17,7 +17,7 @@ use Rattle.pin_table.specs.declared.view.View.{View}
 use Rattle.pin_table.specs.declared.view.View.TheVariants.{Keeper}
 use Rattle.pin_table.specs.Rule.{Agrees, all_holds, in_hand}
 use Rattle.pin_table.specs.Plays.{Finds, HandKept, with_bound, with_row, with_hand, with_sight}
-use Rattle.pin_table.specs.Laws.{Leads}
+use Rattle.pin_table.specs.Steps.{Leads}
 use Rattle.pin_table.proofs.Bits.{set_used, set_condemned, clear_condemned}
 use Rattle.pin_table.proofs.Orders.{one, one_self, permutes}
 use Rattle.pin_table.proofs.Names.{fresh, unnamed, lent_sum}

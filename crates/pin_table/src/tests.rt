@@ -30,7 +30,10 @@ fn is_free(keeper: &Keeper, slot: u32, generation: u32) -> bool
 fn the_number_of_slots_has_limits(rt: HostRuntime) {
     let alloc = rt.alloc();
     for slots in [0, 65_537] {
-        assert_eq!(rt; refusal_of_making(alloc, slots), Some(Refusal::LimitReached));
+        assert_eq!(rt;
+            refusal_of_making(alloc, slots),
+            Some(Refusal::LimitReached)
+        );
     }
     let (pins, mut keeper) = Pins::new(alloc, 65_536, 9).expect(&rt, "memory");
     assert!(rt; is_free(&keeper, 65_535, 9));
@@ -54,10 +57,20 @@ fn give(bytes: &[u8]) -> Event {
     }
 }
 
-fn slot_is(rt: &impl Abort, desk: &Desk<'_>, phase: Phase, generation: u32, digest: Option<Digest>) {
+fn slot_is(
+    rt: &impl Abort,
+    desk: &Desk<'_>,
+    phase: Phase,
+    generation: u32,
+    digest: Option<Digest>,
+) {
     assert_eq!(rt; desk.phase(), phase);
     assert_eq!(rt; desk.generation(), generation);
     assert_eq!(rt; desk.digest(), digest);
+}
+
+fn word_is(rt: &impl Abort, desk: &mut Desk<'_>, wanted: u64) {
+    assert_eq!(rt; desk.word(), wanted);
 }
 
 #[test]
@@ -84,10 +97,7 @@ fn the_words_of_one_slot(rt: HostRuntime) {
 
 /// Whether a pin on slot 0 in generation 0 has this digest and weight.
 fn is_pin(pin: &Pin, digest: Digest, weight: u32) -> bool {
-    pin.slot() == 0
-        && pin.generation() == 0
-        && pin.digest() == digest
-        && pin.weight() == weight
+    pin.slot() == 0 && pin.generation() == 0 && pin.digest() == digest && pin.weight() == weight
 }
 
 #[test]
@@ -116,8 +126,9 @@ fn a_slot_that_was_never_lent_is_never_held(rt: HostRuntime) {
     assert!(rt; desk.condemn());
     assert_eq!(rt; desk.reclaim(), Some(Reclaim::Retired));
     slot_is(&rt, &desk, Phase::Retired, u32::MAX, None);
-    assert_eq!(rt; desk.word(), 0xffff_ffff_4000_0000);
+    word_is(&rt, &mut desk, 0xffff_ffff_4000_0000);
     laws::steps();
+    laws::histories();
     laws::running_words();
 }
 
@@ -128,16 +139,16 @@ fn the_most_pins_of_a_slot(rt: HostRuntime) {
     let mut desk = open(&pins, keeper);
     let mut leases = desk.lend_many(alloc, 1_048_575);
     assert_eq!(rt; leases.len(), 1_048_575);
-    assert_eq!(rt; desk.word(), 0x0000_0000_bfff_fc00);
-    assert_eq!(rt; refusal_of(&mut desk), Some(Refusal::TooManyReaders));
+    word_is(&rt, &mut desk, 0x0000_0000_bfff_fc00);
+    refusal_is(&rt, &mut desk, Some(Refusal::TooManyReaders));
     assert_eq!(rt; desk.bound(), 0x3fff_fc00);
     if let Some(lease) = leases.pop() {
         lease.give_back();
     }
-    assert_eq!(rt; refusal_of(&mut desk), None);
-    assert_eq!(rt; desk.word(), 0x0000_0000_bfff_f800);
+    refusal_is(&rt, &mut desk, None);
+    word_is(&rt, &mut desk, 0x0000_0000_bfff_f800);
     end(leases);
-    assert_eq!(rt; desk.word(), 0x0000_0000_8000_0000);
+    word_is(&rt, &mut desk, 0x0000_0000_8000_0000);
 }
 
 /// What a lend of a live slot was refused with; a lease is given back.
@@ -149,6 +160,10 @@ fn refusal_of(desk: &mut Desk<'_>) -> Option<Refusal> {
         }
         Err(refusal) => Some(refusal),
     }
+}
+
+fn refusal_is(rt: &impl Abort, desk: &mut Desk<'_>, wanted: Option<Refusal>) {
+    assert_eq!(rt; refusal_of(desk), wanted);
 }
 
 /// The first of the pair is shared on, as often as may be; the others go to the list. How often,
@@ -183,9 +198,9 @@ fn one_lease_is_shared_ten_times(rt: HostRuntime) {
     assert_eq!(rt; times, 10);
     assert_eq!(rt; last.weight(), 1);
     assert_eq!(rt; others.len(), 10);
-    assert_eq!(rt; desk.word(), 0x0000_0000_8000_0400);
+    word_is(&rt, &mut desk, 0x0000_0000_8000_0400);
     last.give_back();
-    assert_eq!(rt; desk.word(), 0x0000_0000_8000_03ff);
+    word_is(&rt, &mut desk, 0x0000_0000_8000_03ff);
     end(others);
-    assert_eq!(rt; desk.word(), 0x0000_0000_8000_0000);
+    word_is(&rt, &mut desk, 0x0000_0000_8000_0000);
 }
