@@ -10,6 +10,7 @@ use crate::row::Verb;
 use crate::script::read_rows;
 use blob_digest::{Digest, Refusal};
 use std::alloc::Global;
+use std::process::Abort;
 
 const ABC: &str = "sha256:ba7816bf8f01cfea414140de5dae2223b00361a396177a9cb410ff61f20015ad";
 
@@ -54,29 +55,55 @@ pub fn options_of(alloc: Global, words: &[&str]) -> Result<Options, Stop>
     }
 }
 
+/// A command line gives these numbers and tenants.
+fn gives(
+    rt: &impl Abort,
+    alloc: Global,
+    words: &[&str],
+    (slots, max_blob): (u32, u64),
+    tenants: &[(&str, u64)],
+) {
+    match options_of(alloc, words) {
+        Ok(options) => {
+            assert_eq!(rt; options.store.slots, slots);
+            assert_eq!(rt; options.store.max_blob, max_blob);
+            assert_eq!(rt; options.store.tenants.len(), tenants.len());
+            for (found, wanted) in options.store.tenants.iter().zip(tenants) {
+                assert_eq!(rt; found.0.as_str(), wanted.0);
+                assert_eq!(rt; found.1, wanted.1);
+            }
+        }
+        Err(_) => assert!(rt; false, "no options"),
+    }
+}
+
 #[test]
 fn options_are_read(rt: HostRuntime) {
     let alloc = rt.alloc();
-    match options_of(alloc, &["zeta=5", "acme=0001000"]) {
-        Ok(options) => {
-            assert_eq!(rt; options.store.slots, 64);
-            assert_eq!(rt; options.store.max_blob, 1_048_576);
-            assert_eq!(rt; options.store.tenants.len(), 2);
-            assert_eq!(rt; options.store.tenants[0].0.as_str(), "zeta");
-            assert_eq!(rt; options.store.tenants[1].0.as_str(), "acme");
-            assert_eq!(rt; options.store.tenants[1].1, 1000);
-        }
-        Err(_) => assert!(rt; false),
-    }
-    match options_of(
+    let tenants = [("zeta", 5), ("acme", 1000)];
+    let words = ["zeta=5", "acme=0001000"];
+    gives(
+        &rt,
         alloc,
-        &["--slots", "65536", "--max-blob=0", "a=1125899906842624"],
-    ) {
-        Ok(options) => {
-            assert_eq!(rt; options.store.slots, 65536);
-            assert_eq!(rt; options.store.max_blob, 0);
+        words.as_slice(),
+        (64, 1_048_576),
+        tenants.as_slice(),
+    );
+    let most = [("a", 1_125_899_906_842_624)];
+    let words = ["--slots", "65536", "--max-blob=0", "a=1125899906842624"];
+    gives(&rt, alloc, words.as_slice(), (65_536, 0), most.as_slice());
+}
+
+/// A command line stops the program with this status, and with a text that begins so.
+fn stops(rt: &impl Abort, alloc: Global, words: &[&str], status: u8, begins: &str) {
+    match options_of(alloc, words) {
+        Err(stop) => {
+            let mut text = String::new(alloc);
+            stop.write(&mut text).expect(rt, "memory");
+            assert!(rt; text.as_str().starts_with(begins), "it begins {text}");
+            assert_eq!(rt; stop.status(), status);
         }
-        Err(_) => assert!(rt; false),
+        Ok(_) => assert!(rt; false, "options"),
     }
 }
 
@@ -95,20 +122,9 @@ fn wrong_tenant_words_are_bad_tenants(rt: HostRuntime) {
         "acme==5",
         "acme=1125899906842625",
         "acme=99999999999999999999999",
+        "other=2",
     ] {
-        match options_of(alloc, &["other=1", word]) {
-            Err(Stop::BadTenant) => {}
-            _ => assert!(rt; false, "{word}"),
-        }
-    }
-    match options_of(alloc, &["acme=1", "acme=2"]) {
-        Err(stop) => {
-            let mut text = String::new(alloc);
-            stop.write(&mut text).expect(&rt, "memory");
-            assert_eq!(rt; text.as_str(), "blobctl: bad tenant\n");
-            assert_eq!(rt; stop.status(), 2);
-        }
-        Ok(_) => assert!(rt; false),
+        stops(&rt, alloc, &["other=1", word], 2, "blobctl: bad tenant\n");
     }
 }
 
@@ -116,63 +132,52 @@ fn wrong_tenant_words_are_bad_tenants(rt: HostRuntime) {
 fn wrong_arguments_come_before_wrong_tenants(rt: HostRuntime) {
     let alloc = rt.alloc();
     for words in [
-        ["--slots", "0", "acme"],
-        ["--slots", "65537", "acme"],
-        ["--max-blob", "1099511627777", "acme"],
-        ["--fly", "1", "acme"],
+        ["--slots", "0", "acme"].as_slice(),
+        ["--slots", "65537", "acme"].as_slice(),
+        ["--max-blob", "1099511627777", "acme"].as_slice(),
+        ["--fly", "1", "acme"].as_slice(),
+        [].as_slice(),
     ] {
-        match options_of(alloc, words.as_slice()) {
-            Err(stop) => {
-                assert!(rt; matches!(&stop, Stop::Usage(_)));
-                assert_eq!(rt; stop.status(), 2);
-            }
-            Ok(_) => assert!(rt; false),
-        }
+        stops(&rt, alloc, words, 2, "error: ");
     }
-    match options_of(alloc, &["--help"]) {
-        Err(stop) => {
-            assert!(rt; matches!(&stop, Stop::Help(_)));
-            assert_eq!(rt; stop.status(), 0);
-        }
-        Ok(_) => assert!(rt; false),
-    }
-    match options_of(alloc, &[]) {
-        Err(stop) => assert!(rt; matches!(&stop, Stop::Usage(_))),
-        Ok(_) => assert!(rt; false),
-    }
+    stops(&rt, alloc, &["--help"], 0, "Usage: blobctl ");
 }
 
-/// Whether a reply prints this text.
-fn prints(alloc: Global, reply: &Reply, text: &str) -> bool {
-    let mut out = String::new(alloc);
-    reply.write(&mut out).is_ok() && out.as_str() == text
+/// A reply prints this text.
+fn prints(rt: &impl Abort, alloc: Global, reply: Reply, wanted: &str) {
+    let mut text = String::new(alloc);
+    reply.write(&mut text).expect(rt, "memory");
+    assert_eq!(rt; text.as_str(), wanted);
 }
 
 #[test]
 fn replies_are_printed(rt: HostRuntime) {
-    let alloc = rt.alloc();
-    assert!(rt; prints(alloc, &Reply::Session(4_294_967_295), "session 4294967295"));
-    assert!(rt; prints(alloc, &Reply::Received(0), "received 0"));
-    assert!(rt; prints(alloc, &Reply::Stored(3), "stored 3"));
-    assert!(rt; prints(alloc, &Reply::Abandoned, "abandoned"));
-    assert!(rt; prints(alloc, &Reply::Mounted, "mounted"));
-    assert!(rt; prints(alloc, &Reply::Deleted, "deleted"));
-    assert!(rt;
-        prints(
-            alloc,
-            &Reply::Refused(Refusal::NameUnknown),
-            "refused NameUnknown"
-        )
-    );
-    let received = Reply::Refused(Refusal::RangeInvalid { received: 2 });
-    assert!(rt; prints(alloc, &received, "refused RangeInvalid received 2"));
-    let quota = Reply::Refused(Refusal::Quota { used: 3, quota: 5 });
-    assert!(rt; prints(alloc, &quota, "refused Quota used 3 quota 5"));
     let digest = Digest::parse(ABC.as_bytes()).expect(&rt, "a digest");
-    let missing = Reply::Refused(Refusal::ManifestBlobUnknown { digest });
-    let mut text = String::new(alloc);
-    missing.write(&mut text).expect(&rt, "memory");
-    assert!(rt; text.as_str().ends_with(ABC));
+    let missing =
+        "refused ManifestBlobUnknown sha256:ba7816bf8f01cfea414140de5dae2223b00361a396177a9cb410ff61f20015ad";
+    for (reply, text) in [
+        (Reply::Session(4_294_967_295), "session 4294967295"),
+        (Reply::Received(0), "received 0"),
+        (Reply::Stored(3), "stored 3"),
+        (Reply::Abandoned, "abandoned"),
+        (Reply::Mounted, "mounted"),
+        (Reply::Deleted, "deleted"),
+        (Reply::Refused(Refusal::NameUnknown), "refused NameUnknown"),
+        (
+            Reply::Refused(Refusal::RangeInvalid { received: 2 }),
+            "refused RangeInvalid received 2",
+        ),
+        (
+            Reply::Refused(Refusal::Quota { used: 3, quota: 5 }),
+            "refused Quota used 3 quota 5",
+        ),
+        (
+            Reply::Refused(Refusal::ManifestBlobUnknown { digest }),
+            missing,
+        ),
+    ] {
+        prints(&rt, rt.alloc(), reply, text);
+    }
 }
 
 #[test]
