@@ -199,7 +199,9 @@ fn a_manifest_past_4_mib_is_refused(rt: HostRuntime) {
 
 /// An index that has a number among its annotations.
 fn numbered(rt: &(impl Abort + AllocGlobal), number: u32) -> String {
-    format!(in rt.alloc(); "{{\"schemaVersion\":2,\"manifests\":[],\"annotations\":{{\"number\":\"{number}\"}}}}").expect(rt, "memory")
+    format!(in rt.alloc();
+        "{{\"schemaVersion\":2,\"manifests\":[],\"annotations\":{{\"number\":\"{number}\"}}}}"
+    ).expect(rt, "memory")
 }
 
 /// A book whose repository `acme/one` has 1,024 indexes, numbered from 0.
