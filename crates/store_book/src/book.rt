@@ -258,7 +258,7 @@ impl Book {
     /// given again. It takes no memory.
     ///
     /// Refused, in this order: a tenant that is not there (`NameUnknown`); a session that is not there
-    /// or another repository's (`UploadUnknown`).
+    /// or another repository's (`UploadUnknown`); a session that is in hand (`Busy`).
     pub fn abandon(&mut self, repo: &RepoName, number: u32) -> Result<u64, Refusal>
         ensures does { DoesExactly (λ n. n) result self.old.catalog self.new.catalog (abandon self.old.catalog repo.now number) }
         ensures slots { self.new.slots ≡ self.old.slots }
@@ -307,7 +307,8 @@ impl Book {
 
     /// Takes the link to a blob out of a repository (OCI Distribution Specification 1.1, "Deleting
     /// Blobs"). The blob stays in its slot, and other repositories keep their links. It takes no
-    /// memory, and the logarithm of the number of links and of kept blobs.
+    /// memory, and the logarithm of the number of links, of kept blobs and of the references of the
+    /// repository's manifests.
     ///
     /// Refused, in this order: a tenant that is not there (`NameUnknown`); a digest that is not linked
     /// in the repository (`BlobUnknown`); one that a manifest of the repository refers to
@@ -328,15 +329,17 @@ impl Book {
         Ok(())
     }
 
-    /// Keeps a manifest under the digest of its bytes, and answers that digest (OCI Distribution
-    /// Specification 1.1, "Pushing Manifests"). The repository appears with it. One that is there stays
-    /// as it is. The bytes are copied once.
+    /// Keeps a manifest under the SHA-256 digest of its bytes, and answers that digest (OCI
+    /// Distribution Specification 1.1, "Pushing Manifests"). The repository appears with it. One that
+    /// is there stays as it is. No tenant is charged for manifests. The bytes are parsed, hashed and
+    /// copied once; each reference takes the logarithm of the number of links, and, where the manifest
+    /// is new, that of the references of the repository's manifests.
     ///
-    /// Refused, in this order: a tenant that is not there (`NameUnknown`); more than 4 MiB
+    /// Refused, in this order: a tenant that is not there (`NameUnknown`); more than 4,194,304 bytes
     /// (`SizeInvalid`); bytes that are no manifest (`ManifestInvalid`); a reference that the repository
-    /// doesn't hold (`ManifestBlobUnknown`, with the first); a tenant that has 1,024 repositories where
-    /// this one is new, or a repository that has 1,024 manifests (`LimitReached`); want of memory. A
-    /// refusal leaves no repository behind.
+    /// doesn't hold (`ManifestBlobUnknown`, with the first); where the manifest is new, a tenant that
+    /// has 1,024 repositories and not this one, or a repository that has 1,024 manifests
+    /// (`LimitReached`); want of memory. A refusal leaves no repository behind.
     pub fn put_manifest(&mut self, repo: &RepoName, bytes: &[u8]) -> Result<Digest, Refusal>
         ensures does { Does (λ d. d) result self.old.catalog self.new.catalog (put_manifest self.old.catalog repo.now bytes.now) }
         ensures slots { self.new.slots ≡ self.old.slots }
@@ -353,8 +356,9 @@ impl Book {
         Ok(digest)
     }
 
-    /// A manifest that a repository has (OCI Distribution Specification 1.1, "Pulling manifests"). Its
-    /// bytes are shared, not copied. It takes the logarithm of the number of manifests.
+    /// A manifest that a repository has under a digest (OCI Distribution Specification 1.1, "Pulling
+    /// manifests"). Manifests are kept under SHA-256 digests alone. The bytes are shared, not copied; it
+    /// takes the logarithm of the number of manifests.
     ///
     /// Refused, in this order: a tenant that is not there (`NameUnknown`); a digest under which the
     /// repository has no manifest (`ManifestUnknown`); want of memory.
