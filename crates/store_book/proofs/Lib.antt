@@ -27,6 +27,9 @@ pub mod Bounds
 pub mod Taking
 pub mod SessionCharges
 pub mod Abandoning
+pub mod LentMarks
+pub mod Changing
+pub mod Pinning
 pub mod KeptBlobs
 pub mod KeepCalls
 pub mod Keepable
@@ -66,3 +69,4 @@ pub mod SessionTenants
 pub mod ChunkCharges
 pub mod PuttingBack
 pub mod Finishing
+pub mod Leasing

@@ -6,6 +6,7 @@ pub mod Laws
 pub mod Layers
 pub mod Lines
 pub mod Openings
+pub mod Pinned
 pub mod Printed
 pub mod Runs
 pub mod SlotSteps

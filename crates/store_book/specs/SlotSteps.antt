@@ -3,18 +3,10 @@ use Rattle.std.specs.Prelude.{◌≡◌, ◌<◌, ◌≤◌, ◌+◌, ◌^◌, �
 use Rattle.blob_digest.specs.Keys.{Text}
 use Rattle.blob_digest.specs.declared.refusal.Refusal.{Refusal}
 use Rattle.blob_digest.specs.Outcomes.{Does}
-use Rattle.slot_table.specs.declared.phase.Phase.{Phase}
 use Rattle.slot_table.specs.declared.phase.Phase.TheVariants as phase
+use Rattle.store_book.specs.BookState.{SlotSeen}
 use Rattle.store_book.specs.Catalog.{Catalog}
 use Rattle.store_book.specs.Steps.{lease}
-
--- A slot with the keeper's view of it: its generation, what it is, the digest of its blob where it is used, and a bound on the sum of
--- the weights that readers have of it, which is the last look at that sum and what was lent since.
-pub record SlotSeen : Type 0 where
-  pub generation : ℕ
-  pub phase : Phase
-  pub digest : Option Text
-  pub bound : ℕ
 
 -- each slot is related to what it was
 abbrev pub EachSlot : (SlotSeen → SlotSeen → Type 0) → List SlotSeen → List SlotSeen → Type 0

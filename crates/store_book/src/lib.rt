@@ -21,6 +21,7 @@ mod mount;
 mod hand_tests;
 #[cfg(test)]
 mod mount_tests;
+mod pinned_slots;
 mod print;
 #[cfg(test)]
 mod refusal_tests;
