@@ -92,14 +92,17 @@ module _ (l : Linked) (u : Uploaded) (slots : List Slot) (max_blob t : ℕ) (rep
 pub EachSlot-looked : (digest : Text) (p q : Pinned) (k n : ℕ) → n ≤ slice_index p.bounds k → q ≡ bounded k n p → (q.table ≡ p.table) × EachSlot (IsLending digest) (all_seen p.slots p.bounds) (all_seen q.slots q.bounds)
 EachSlot-looked digest p q k n le is = subst (λ (x : Pinned). (x.table ≡ p.table) × EachSlot (IsLending digest) (all_seen p.slots p.bounds) (all_seen x.slots x.bounds)) (sym is) (
   refl,
-  (length-all_seen p.slots (slice_set p.bounds k n) ∙ sym (length-all_seen p.slots p.bounds), λ j a b at_a at_b.
-    let x = seen-at p.slots p.bounds j a at_a in
-    let y = seen-at p.slots (slice_set p.bounds k n) j b at_b in
-    let same : x.0 ≡ y.0 = some_same (sym x.1 ∙ y.1) in
-    let old : a.bound ≡ slice_index p.bounds j = ap (λ (z : SlotSeen). z.bound) x.2 in
-    let new : b.bound ≡ slice_index (slice_set p.bounds k n) j = ap (λ (z : SlotSeen). z.bound) y.2 in
-    let lower = index-set-le p.bounds k n j le in
-    (ap (λ (z : SlotSeen). z.generation) y.2 ∙ ap (λ (z : Slot). z.generation) (sym same) ∙ sym (ap (λ (z : SlotSeen). z.generation) x.2), λ rises. absurd (omega arith))),
+  (
+    length-all_seen p.slots (slice_set p.bounds k n) ∙ sym (length-all_seen p.slots p.bounds),
+    λ j a b at_a at_b.
+        let x = seen-at p.slots p.bounds j a at_a in
+        let y = seen-at p.slots (slice_set p.bounds k n) j b at_b in
+        let same : x.0 ≡ y.0 = some_same (sym x.1 ∙ y.1) in
+        let old : a.bound ≡ slice_index p.bounds j = ap (λ (z : SlotSeen). z.bound) x.2 in
+        let new : b.bound ≡ slice_index (slice_set p.bounds k n) j = ap (λ (z : SlotSeen). z.bound) y.2 in
+        let lower = index-set-le p.bounds k n j le in
+        (ap (λ (z : SlotSeen). z.generation) y.2 ∙ ap (λ (z : Slot). z.generation) (sym same) ∙ sym (ap (λ (z : SlotSeen). z.generation) x.2), λ rises. absurd (omega arith)),
+  ),
 )
 
 pub seen-get : (slots : List Slot) (bounds : List ℕ) (k : ℕ) (s : Slot) → slice_get slots k ≡ Some s → slice_get (all_seen slots bounds) k ≡ Some (seen s (slice_index bounds k))
@@ -124,28 +127,33 @@ pub EachSlot-lent : (digest : Text) (p q : Pinned) (k n : ℕ) (h : Held) → he
     (q.table ≡ p.table) × EachSlot (IsLending digest) (all_seen p.slots p.bounds) (all_seen q.slots q.bounds)
 EachSlot-lent digest p q k n h at is_digest le is = subst (λ (x : Pinned). (x.table ≡ p.table) × EachSlot (IsLending digest) (all_seen p.slots p.bounds) (all_seen x.slots x.bounds)) (sym is) (
   refl,
-  (length-all_seen (with_slot p.slots k (on_held lend)) (slice_set p.bounds k n) ∙ length-with_slot p.slots k (on_held lend) ∙ sym (length-all_seen p.slots p.bounds), λ j a b at_a at_b.
-    let x = seen-at p.slots p.bounds j a at_a in
-    let y = seen-at (with_slot p.slots k (on_held lend)) (slice_set p.bounds k n) j b at_b in
-    let old : a.bound ≡ slice_index p.bounds j = ap (λ (z : SlotSeen). z.bound) x.2 in
-    let new : b.bound ≡ slice_index (slice_set p.bounds k n) j = ap (λ (z : SlotSeen). z.bound) y.2 in
-    elim (cases_eq j k) [
-      | inl e ↦
-          let here : slice_get p.slots k ≡ Some x.0 = ap (slice_get p.slots) (sym e) ∙ x.1 in
-          let same : on_held lend x.0 ≡ y.0 = some_same (sym (slot-same p.slots k (on_held lend) x.0 here) ∙ ap (slice_get (with_slot p.slots k (on_held lend))) (sym e) ∙ y.1) in
-          let most = index-set-most p.bounds k n in
-          let old_k : a.bound ≡ slice_index p.bounds k = old ∙ ap (slice_index p.bounds) e in
-          let new_k : b.bound ≡ slice_index (slice_set p.bounds k n) k = new ∙ ap (slice_index (slice_set p.bounds k n)) e in
-          (ap (λ (z : SlotSeen). z.generation) y.2 ∙ ap (λ (z : Slot). z.generation) (sym same) ∙ sym (ap (λ (z : SlotSeen). z.generation) x.2),
-          λ rises. (
-            ap (λ (z : SlotSeen). z.digest) y.2 ∙ ap (λ (z : Slot). option_map (λ (g : Held). g.digest) (held_in z.content)) (sym same) ∙ lend_digest x.0.content
-            ∙ ap (option_map (λ (g : Held). g.digest)) (sym (ap (λ o. option_map_or (λ (z : Slot). held_in z.content) o None) here) ∙ at) ∙ ap Some is_digest,
-            omega arith))
-      | inr other ↦
-          let same : x.0 ≡ y.0 = some_same (sym x.1 ∙ sym (slot-other p.slots k (on_held lend) j other) ∙ y.1) in
-          let kept : slice_index (slice_set p.bounds k n) j ≡ slice_index p.bounds j = get_or-set_other p.bounds k j n 0 other in
-          (ap (λ (z : SlotSeen). z.generation) y.2 ∙ ap (λ (z : Slot). z.generation) (sym same) ∙ sym (ap (λ (z : SlotSeen). z.generation) x.2), λ rises. absurd (omega arith))
-    ]),
+  (
+    length-all_seen (with_slot p.slots k (on_held lend)) (slice_set p.bounds k n) ∙ length-with_slot p.slots k (on_held lend) ∙ sym (length-all_seen p.slots p.bounds),
+    λ j a b at_a at_b.
+        let x = seen-at p.slots p.bounds j a at_a in
+        let y = seen-at (with_slot p.slots k (on_held lend)) (slice_set p.bounds k n) j b at_b in
+        let old : a.bound ≡ slice_index p.bounds j = ap (λ (z : SlotSeen). z.bound) x.2 in
+        let new : b.bound ≡ slice_index (slice_set p.bounds k n) j = ap (λ (z : SlotSeen). z.bound) y.2 in
+        elim (cases_eq j k) [
+          | inl e ↦
+              let here : slice_get p.slots k ≡ Some x.0 = ap (slice_get p.slots) (sym e) ∙ x.1 in
+              let same : on_held lend x.0 ≡ y.0 = some_same (sym (slot-same p.slots k (on_held lend) x.0 here) ∙ ap (slice_get (with_slot p.slots k (on_held lend))) (sym e) ∙ y.1) in
+              let most = index-set-most p.bounds k n in
+              let old_k : a.bound ≡ slice_index p.bounds k = old ∙ ap (slice_index p.bounds) e in
+              let new_k : b.bound ≡ slice_index (slice_set p.bounds k n) k = new ∙ ap (slice_index (slice_set p.bounds k n)) e in (
+                ap (λ (z : SlotSeen). z.generation) y.2 ∙ ap (λ (z : Slot). z.generation) (sym same) ∙ sym (ap (λ (z : SlotSeen). z.generation) x.2),
+                λ rises. (
+                  ap (λ (z : SlotSeen). z.digest) y.2 ∙ ap (λ (z : Slot). option_map (λ (g : Held). g.digest) (held_in z.content)) (sym same) ∙ lend_digest x.0.content
+                      ∙ ap (option_map (λ (g : Held). g.digest)) (sym (ap (λ o. option_map_or (λ (z : Slot). held_in z.content) o None) here) ∙ at) ∙ ap Some is_digest,
+                  omega arith,
+                ),
+              )
+          | inr other ↦
+              let same : x.0 ≡ y.0 = some_same (sym x.1 ∙ sym (slot-other p.slots k (on_held lend) j other) ∙ y.1) in
+              let kept : slice_index (slice_set p.bounds k n) j ≡ slice_index p.bounds j = get_or-set_other p.bounds k j n 0 other in
+              (ap (λ (z : SlotSeen). z.generation) y.2 ∙ ap (λ (z : Slot). z.generation) (sym same) ∙ sym (ap (λ (z : SlotSeen). z.generation) x.2), λ rises. absurd (omega arith))
+        ],
+  ),
 )
 
 -- a look that found no room

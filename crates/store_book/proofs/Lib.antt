@@ -30,6 +30,9 @@ pub mod Abandoning
 pub mod LentMarks
 pub mod Changing
 pub mod Pinning
+pub mod Reclaiming
+pub mod Finds
+pub mod Sweeping
 pub mod KeptBlobs
 pub mod KeepCalls
 pub mod Keepable

@@ -108,10 +108,11 @@ pub EachSlot-quiet : (slots slots' : List Slot) (bounds bounds' : List ℕ) → 
 EachSlot-quiet slots slots' bounds bounds' long same less = (
   length-all_seen slots' bounds' ∙ long ∙ sym (length-all_seen slots bounds),
   λ k a b at_a at_b.
-    let p = seen-at slots bounds k a at_a in
-    let q = seen-at slots' bounds' k b at_b in
-    (ap (λ (x : SlotSeen). x.generation) q.2 ∙ same k p.0 q.0 p.1 q.1 ∙ sym (ap (λ (x : SlotSeen). x.generation) p.2),
-    rw (p.2, q.2) (less k)),
+      let p = seen-at slots bounds k a at_a in
+      let q = seen-at slots' bounds' k b at_b in (
+        ap (λ (x : SlotSeen). x.generation) q.2 ∙ same k p.0 q.0 p.1 q.1 ∙ sym (ap (λ (x : SlotSeen). x.generation) p.2),
+        rw (p.2, q.2) (less k),
+      ),
 )
 
 le-self : (n : ℕ) → n ≤ n
@@ -145,12 +146,13 @@ Quietly-slotted p q r k f same quiet is = subst (λ x. Quietly p x) (sym is) (re
   slots = (
     length-all_seen (with_slot q.slots k f) q.bounds ∙ length-with_slot q.slots k f ∙ sym (length-all_seen q.slots q.bounds) ∙ quiet.slots.0,
     λ j a b at_a at_b.
-      let now = seen-at (with_slot q.slots k f) q.bounds j b at_b in
-      let old = get_within (all_seen q.slots q.bounds) j (let lt = within_of (with_slot q.slots k f) j now.0 now.1 in let long = length-with_slot q.slots k f in let longer = length-all_seen q.slots q.bounds in omega arith) in
-      let was = seen-at q.slots q.bounds j old.0 old.1 in
-      let before = quiet.slots.1 j a old.0 at_a old.1 in
-      (ap (λ (x : SlotSeen). x.generation) now.2 ∙ generation-with_slot q.slots k f same j was.0 now.0 was.1 now.1 ∙ sym (ap (λ (x : SlotSeen). x.generation) was.2) ∙ before.0,
-      rw now.2 (let e = ap (λ (x : SlotSeen). x.bound) was.2 in let le = before.1 in omega arith)),
+        let now = seen-at (with_slot q.slots k f) q.bounds j b at_b in
+        let old = get_within (all_seen q.slots q.bounds) j (let lt = within_of (with_slot q.slots k f) j now.0 now.1 in let long = length-with_slot q.slots k f in let longer = length-all_seen q.slots q.bounds in omega arith) in
+        let was = seen-at q.slots q.bounds j old.0 old.1 in
+        let before = quiet.slots.1 j a old.0 at_a old.1 in (
+          ap (λ (x : SlotSeen). x.generation) now.2 ∙ generation-with_slot q.slots k f same j was.0 now.0 was.1 now.1 ∙ sym (ap (λ (x : SlotSeen). x.generation) was.2) ∙ before.0,
+          rw now.2 (let e = ap (λ (x : SlotSeen). x.bound) was.2 in let le = before.1 in omega arith),
+        ),
   );
 })
 
@@ -164,7 +166,7 @@ Quietly-placed p q k blob is = subst (λ x. Quietly p x) (sym is) (record {
 -- ---- the slots and the rows agree
 
 -- where a changed blob came from
-origin-on : (g : Held → Held) (slots : List Slot) (k j : ℕ) (x : Held) → held_at (with_slot slots k (on_held g)) j ≡ Some x → (y : Held) × (held_at slots j ≡ Some y) × ((x ≡ y) ⊎ ((j ≡ k) × (x ≡ g y)))
+pub origin-on : (g : Held → Held) (slots : List Slot) (k j : ℕ) (x : Held) → held_at (with_slot slots k (on_held g)) j ≡ Some x → (y : Held) × (held_at slots j ≡ Some y) × ((x ≡ y) ⊎ ((j ≡ k) × (x ≡ g y)))
 origin-on g slots k j x here = elim (cases_eq j k) [
   | inl e ↦ at_k (slice_get slots k) refl e
   | inr other ↦ (x, sym (held_at-other slots k (on_held g) j other) ∙ here, inl refl)
@@ -274,7 +276,7 @@ IsPinned-placed slots rows bounds kept k blob free =
 
 -- ---- waking
 
-condemned_slot : (slots : List Slot) (k : ℕ) → phase_at slots k ≡ phase.Condemned → (s : Slot) × (slice_get slots k ≡ Some s) × (phase_in s.content ≡ phase.Condemned)
+pub condemned_slot : (slots : List Slot) (k : ℕ) → phase_at slots k ≡ phase.Condemned → (s : Slot) × (slice_get slots k ≡ Some s) × (phase_in s.content ≡ phase.Condemned)
 condemned_slot slots k is = by (slice_get slots k) refl is
   where
     by : (o : Option Slot) → slice_get slots k ≡ o → option_map_or (λ (x : Slot). phase_in x.content) o phase.Retired ≡ phase.Condemned → (s : Slot) × (slice_get slots k ≡ Some s) × (phase_in s.content ≡ phase.Condemned)
@@ -304,25 +306,31 @@ condemned_row slots rows bounds kept k is =
     ap (λ rs. (row rs k).phase) kept.same_rows ∙ ap (λ (r : PinRow). r.phase) (row-at slots k s.0 s.1)
     ∙ ap pin_phase h.1 ∙ ap (λ b. cond b pin.Condemned pin.Live) h.2
 
+-- the blob of a slot is condemned, or live again
+pub IsPinned-marked : (b : Bool) (slots : List Slot) (rows : List PinRow) (bounds : List ℕ) → IsPinned slots rows bounds → (k : ℕ) (s : Slot) (h : Held) → slice_get slots k ≡ Some s → s.content ≡ Used h →
+    IsPinned (with_slot slots k (on_held (mark b))) (slice_set rows k (in_phase (cond b pin.Condemned pin.Live) (row rows k))) bounds
+IsPinned-marked b slots rows bounds kept k s h at is =
+    let changed : in_phase (cond b pin.Condemned pin.Live) (row_of s) ≡ row_of (on_held (mark b) s) = (λ i. record { generation = s.generation; phase = cond b pin.Condemned pin.Live; digest = option_map (λ (x : Held). x.digest) (held_in (is i)) }) ∙ (λ i. row_of (record { generation = s.generation; content = content_with (mark b) (sym is i) })) in
+    record {
+      same_rows =
+          ap (λ rs. slice_set rs k (in_phase (cond b pin.Condemned pin.Live) (row rs k))) kept.same_rows
+          ∙ ap (λ (r : PinRow). slice_set (map row_of slots) k (in_phase (cond b pin.Condemned pin.Live) r)) (row-at slots k s at)
+          ∙ ap (slice_set (map row_of slots) k) changed
+          ∙ rows-write slots k (on_held (mark b)) s at;
+      one_each = kept.one_each ∙ sym (length-with_slot slots k (on_held (mark b)));
+      unlent = λ j x here unlent. (let o = origin-on (mark b) slots k j x here in kept.unlent j o.0 o.1 (by_origin j x o.0 o.2 unlent));
+    }
+  where
+    by_origin : (j : ℕ) (x y : Held) → (x ≡ y) ⊎ ((j ≡ k) × (x ≡ mark b y)) → x.lent ≡ false → y.lent ≡ false
+    by_origin j x y (inl e) unlent = ap (λ (h : Held). h.lent) (sym e) ∙ unlent
+    by_origin j x y (inr e) unlent = ap (λ (h : Held). h.lent) (sym e.1) ∙ unlent
+
 pub IsPinned-woken : (slots : List Slot) (rows : List PinRow) (bounds : List ℕ) → IsPinned slots rows bounds → (k : ℕ) → phase_at slots k ≡ phase.Condemned →
     IsPinned (woken slots k) (slice_set rows k (in_phase pin.Live (row rows k))) bounds
 IsPinned-woken slots rows bounds kept k is =
     let s = condemned_slot slots k is in
     let h = used_condemned s.0.content s.2 in
-    let changed : in_phase pin.Live (row_of s.0) ≡ row_of (on_held (mark false) s.0) = (λ i. record { generation = s.0.generation; phase = pin.Live; digest = option_map (λ (x : Held). x.digest) (held_in (h.1 i)) }) ∙ (λ i. row_of (record { generation = s.0.generation; content = content_with (mark false) (sym h.1 i) })) in
-    record {
-      same_rows =
-          ap (λ rs. slice_set rs k (in_phase pin.Live (row rs k))) kept.same_rows
-          ∙ ap (λ (r : PinRow). slice_set (map row_of slots) k (in_phase pin.Live r)) (row-at slots k s.0 s.1)
-          ∙ ap (slice_set (map row_of slots) k) changed
-          ∙ rows-write slots k (on_held (mark false)) s.0 s.1;
-      one_each = kept.one_each ∙ sym (length-with_slot slots k (on_held (mark false)));
-      unlent = λ j x here unlent. (let o = origin-on (mark false) slots k j x here in kept.unlent j o.0 o.1 (by_origin j x o.0 o.2 unlent));
-    }
-  where
-    by_origin : (j : ℕ) (x y : Held) → (x ≡ y) ⊎ ((j ≡ k) × (x ≡ mark false y)) → x.lent ≡ false → y.lent ≡ false
-    by_origin j x y (inl e) unlent = ap (λ (h : Held). h.lent) (sym e) ∙ unlent
-    by_origin j x y (inr e) unlent = ap (λ (h : Held). h.lent) (sym e.1) ∙ unlent
+    IsPinned-marked false slots rows bounds kept k s.0 h.0 s.1 h.1
 
 -- a slot that isn't condemned has nothing to wake
 pub woken-same : (slots : List Slot) (k : ℕ) → phase_at slots k ≢ phase.Condemned → woken slots k ≡ slots

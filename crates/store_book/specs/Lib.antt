@@ -12,3 +12,4 @@ pub mod Runs
 pub mod SlotSteps
 pub mod Steps
 pub mod Sweeps
+pub mod SweptSlots

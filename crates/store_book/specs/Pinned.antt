@@ -3,13 +3,15 @@ use Rattle.pin_core.specs.World.{row, row_word, max_weight, Keeps}
 use Rattle.pin_core.specs.declared.world.Hold.{Hold}
 use Rattle.pin_core.specs.Events.{new_weight, lent_hold}
 use Rattle.pin_table.specs.Calls.{PinValue}
-use Rattle.std.specs.Prelude.{◌≡◌, ◌+◌, ◌<◌, ◌≤◌, ℕ, Option, Some, None, List, [], ◌∷◌, length, map, cond, slice_index, slice_set, false}
-use Rattle.std.specs.Option.{option_map}
+use Rattle.pin_table.specs.declared.reclaim.Reclaim.{Reclaim}
+use Rattle.pin_table.specs.declared.reclaim.Reclaim.TheVariants as reclaim
+use Rattle.std.specs.Prelude.{◌≡◌, ◌+◌, ◌<◌, ◌≤◌, ◌^◌, ℕ, Option, Some, None, List, [], ◌∷◌, length, map, cond, slice_get, slice_index, slice_set, Bool, false}
+use Rattle.std.specs.Option.{option_map, option_map_or}
 use Rattle.atomic_table.specs.Seated.{TableId}
 use Rattle.pin_core.specs.declared.world.Phase.{Phase}
 use Rattle.pin_core.specs.declared.world.Phase.TheVariants as pin
 use Rattle.pin_core.specs.declared.world.PinRow.{PinRow}
-use Rattle.slot_table.specs.Slots.{Slot, Held, Content, Free, Used, Retired, held_in, held_at, phase_in, with_slot, on_held, lend}
+use Rattle.slot_table.specs.Slots.{Slot, Held, Content, Free, Used, Retired, held_in, held_at, is_orphan, phase_in, generation_at, with_slot, on_held, lend, emptied, spent}
 use Rattle.blob_digest.specs.Keys.{Text}
 use Rattle.store_book.specs.BookState.{SlotSeen}
 use Rattle.store_book.specs.SlotSteps.{EachSlot, IsQuiet}
@@ -35,6 +37,10 @@ pub record IsPinned (slots : List Slot) (rows : List PinRow) (bounds : List ℕ)
   pub same_rows : rows ≡ map row_of slots
   pub one_each : length bounds ≡ length slots
   pub unlent : (k : ℕ) (h : Held) → held_at slots k ≡ Some h → h.lent ≡ false → slice_index bounds k ≡ 0
+
+-- whether the slot k holds a blob without links
+abbrev pub is_orphan_at : List Slot → ℕ → Bool
+is_orphan_at slots k = option_map_or is_orphan (slice_get slots k) false
 
 -- ---- what is seen
 
@@ -94,6 +100,13 @@ pub record Looked (k n : ℕ) (p q : Pinned) : Type 0 where
   pub word : n ≡ row_word (row (map row_of p.slots) k) weight
   pub within : weight ≤ slice_index p.bounds k
   pub after : q ≡ bounded k weight p
+
+-- What became of the condemned slot k: free in its next generation, or retired in the last one, or held by pins of this sum, which is
+-- within the bound.
+abbrev pub Reclaimed : ℕ → Pinned → Pinned → Reclaim → Type 0
+Reclaimed k p q reclaim.Freed = (generation_at p.slots k + 1 < 2 ^ 32) × (q ≡ with_both k emptied 0 p)
+Reclaimed k p q reclaim.Retired = (generation_at p.slots k + 1 ≡ 2 ^ 32) × (q ≡ with_both k spent 0 p)
+Reclaimed k p q (reclaim.Held weight) = (0 < weight) × (weight ≤ slice_index p.bounds k) × (q ≡ bounded k weight p)
 
 -- The pin's slot is used and its own, and its bound doesn't rise.
 pub record Verified (h : Hold) (p q : Pinned) : Type 0 where

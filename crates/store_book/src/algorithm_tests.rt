@@ -7,7 +7,8 @@ use std::alloc::Global;
 use std::process::Abort;
 
 /// The digest of `abc` by SHA-512 (FIPS 180-4's first example).
-const ABC_512: &str = "sha512:ddaf35a193617abacc417349ae20413112e6fa4e89a97ea20a9eeee64b55d39a2192992a274fc1a836ba3c23a3feebbd454d4423643ce80e2a9ac94fa54ca49f";
+const ABC_512: &str =
+    "sha512:ddaf35a193617abacc417349ae20413112e6fa4e89a97ea20a9eeee64b55d39a2192992a274fc1a836ba3c23a3feebbd454d4423643ce80e2a9ac94fa54ca49f";
 
 /// Uploads some bytes to `acme/one` under a digest, in one session.
 fn upload(
@@ -40,7 +41,10 @@ fn the_same_bytes_under_two_digests_are_two_blobs(rt: HostRuntime) {
         "book\ntenant acme used 6 quota 6 next 3\nrepository acme/one\nblob sha256:ba7816bf8f01cfea414140de5dae2223b00361a396177a9cb410ff61f20015ad size 3 links 1\nblob sha512:ddaf35a193617abacc417349ae20413112e6fa4e89a97ea20a9eeee64b55d39a2192992a274fc1a836ba3c23a3feebbd454d4423643ce80e2a9ac94fa54ca49f size 3 links 2\nrepository acme/two\nblob sha512:ddaf35a193617abacc417349ae20413112e6fa4e89a97ea20a9eeee64b55d39a2192992a274fc1a836ba3c23a3feebbd454d4423643ce80e2a9ac94fa54ca49f size 3 links 2\nend\n";
     assert!(rt; prints(&rt, alloc, &book, text));
     assert_eq!(rt; book.delete(&one, &digest(&rt, ABC)), Ok(()));
-    assert_eq!(rt; book.delete(&two, &digest(&rt, ABC)), Err(Refusal::BlobUnknown));
+    assert_eq!(rt;
+        book.delete(&two, &digest(&rt, ABC)),
+        Err(Refusal::BlobUnknown)
+    );
     let text =
         "book\ntenant acme used 3 quota 6 next 3\nrepository acme/one\nblob sha512:ddaf35a193617abacc417349ae20413112e6fa4e89a97ea20a9eeee64b55d39a2192992a274fc1a836ba3c23a3feebbd454d4423643ce80e2a9ac94fa54ca49f size 3 links 2\nrepository acme/two\nblob sha512:ddaf35a193617abacc417349ae20413112e6fa4e89a97ea20a9eeee64b55d39a2192992a274fc1a836ba3c23a3feebbd454d4423643ce80e2a9ac94fa54ca49f size 3 links 2\nend\n";
     assert!(rt; prints(&rt, alloc, &book, text));
@@ -72,7 +76,10 @@ fn other_bytes_are_refused_by_either(rt: HostRuntime) {
     let alloc = rt.alloc();
     let mut book = book(&rt, alloc, &[("acme", 1000)]);
     let one = name(&rt, alloc, "acme/one");
-    assert_eq!(rt; upload(&rt, alloc, &mut book, ABC_512, b"ab"), Err(Refusal::DigestInvalid));
+    assert_eq!(rt;
+        upload(&rt, alloc, &mut book, ABC_512, b"ab"),
+        Err(Refusal::DigestInvalid)
+    );
     let closed = book.close(&one, 1, &digest(&rt, ABC), None, b"c");
     assert_eq!(rt; closed, Ok(3));
 }

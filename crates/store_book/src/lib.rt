@@ -14,17 +14,18 @@
 mod algorithm_tests;
 mod book;
 mod config;
+#[cfg(test)]
+mod hand_tests;
 mod keep;
 pub mod laws;
 mod mount;
-#[cfg(test)]
-mod hand_tests;
 #[cfg(test)]
 mod mount_tests;
 mod pinned_slots;
 mod print;
 #[cfg(test)]
 mod refusal_tests;
+mod sweep;
 #[cfg(test)]
 mod tests;
 
@@ -33,3 +34,4 @@ pub use config::Config;
 pub use link_table::{MAX_QUOTA, MAX_TENANTS};
 pub use mount::Mount;
 pub use slot_table::MAX_SLOTS;
+pub use sweep::Swept;

@@ -1,18 +1,17 @@
 //! The slots with the keeper of their words.
 
-ghost use Rattle.std.specs.Prelude.{◌≡◌, ◌≢◌, ◌⊎◌, ◌+◌, ◌<◌, ◌^◌, length, replicate, None, Some, IfOk, IfErr, OnErr, MatchResult, false};
+ghost use Rattle.std.specs.Prelude.{◌≡◌, ◌≢◌, ◌⊎◌, ◌+◌, ◌<◌, ◌^◌, length, replicate, None, Some, IfOk, IfErr, OnErr, MatchResult, IsTrue, ◌↔◌, true, false};
 ghost use Rattle.std.specs.Option.{option_map};
 ghost use Rattle.std.specs.Arc.{arc_value};
 ghost use Rattle.blob_digest.specs.declared.refusal.Refusal.TheVariants.{LimitReached, Memory, StoreFull, TooManyReaders};
-
 ghost use Rattle.pin_core.specs.Events.{IsOutside};
-ghost use Rattle.slot_table.specs.Slots.{empty_slot, held_at, phase_at, links_at, slot_of, free_slots, fill, on_held, raise, lower, mark};
+ghost use Rattle.pin_table.specs.Calls.{IsUnheld};
+ghost use Rattle.slot_table.specs.Slots.{Held, empty_slot, held_at, phase_at, links_at, slot_of, free_slots, fill, on_held, raise, lower, mark};
 ghost use Rattle.slot_table.specs.declared.phase.Phase.TheVariants as phase;
-
-ghost use Rattle.store_book.specs.Pinned.{with_both, slotted, IsLent, IsFull, Looked, Verified};
+ghost use Rattle.store_book.specs.Pinned.{is_orphan_at, with_both, slotted, IsLent, IsFull, Looked, Reclaimed, Verified};
 
 use blob_digest::{Blob, Refusal};
-use pin_table::{Keeper, Pin, Pins};
+use pin_table::{Keeper, Pin, Pins, Reclaim};
 use slot_table::{Phase, SlotTable};
 use std::alloc::Global;
 use std::marker::Model;
@@ -38,7 +37,11 @@ impl Model for PinnedSlots {
 
 impl PinnedSlots {
     /// Free slots of the first generation, and their words.
-    pub fn new(alloc: Global, slots: u32, first_generation: u32) -> Result<(PinnedSlots, Pins), Refusal>
+    pub fn new(
+        alloc: Global,
+        slots: u32,
+        first_generation: u32,
+    ) -> Result<(PinnedSlots, Pins), Refusal>
         ensures made { IfOk result (λ r. ¬ IsOutside slots × (r.0 ≡ record { table = r.1; slots = replicate slots (empty_slot first_generation); bounds = replicate slots 0 })) }
         ensures refused { IfErr result (λ e. ((e ≡ LimitReached) × IsOutside slots) ⊎ ((e ≡ Memory) × ¬ IsOutside slots)) }
     {
@@ -105,6 +108,39 @@ impl PinnedSlots {
             self.slots.revive(slot);
             pins.revive(&mut self.keeper, slot);
         }
+    }
+
+    /// Condemns a blob without links, in its row and its word, and answers whether it was live. A
+    /// condemned one stays as it is.
+    pub fn condemn(&mut self, pins: &Pins, slot: u32) -> bool
+        requires table { self.old.table ≡ pins.now }
+        requires orphan { is_orphan_at self.old.slots slot ≡ true }
+        ensures after { self.new ≡ slotted slot (on_held (mark true)) self.old }
+        ensures live { IsTrue result ↔ phase_at self.old.slots slot ≡ phase.Live }
+    {
+        let is_live = self.slots.phase(slot) == Phase::Live;
+        if is_live {
+            self.slots.condemn(slot);
+            pins.condemn(&mut self.keeper, slot);
+        }
+        is_live
+    }
+
+    /// Frees the slot of a condemned blob that no pin is on, or retires it in the last generation;
+    /// else says what the pins on it weigh. The slot of a blob that was never lent is never held.
+    pub fn reclaim(&mut self, pins: &Pins, slot: u32) -> Reclaim
+        requires table { self.old.table ≡ pins.now }
+        requires condemned { phase_at self.old.slots slot ≡ phase.Condemned }
+        ensures answer { Reclaimed slot self.old self.new result }
+        ensures unlent { (h : Held) → held_at self.old.slots slot ≡ Some h → h.lent ≡ false → IsUnheld result }
+    {
+        let reclaimed = pins.reclaim(&mut self.keeper, slot);
+        match reclaimed {
+            Reclaim::Freed => self.slots.free(slot),
+            Reclaim::Retired => self.slots.retire(slot),
+            Reclaim::Held { .. } => {}
+        }
+        reclaimed
     }
 
     /// A share of a used slot's blob. Refused is want of memory.
