@@ -33,6 +33,8 @@ pub mod Pinning
 pub mod Reclaiming
 pub mod Finds
 pub mod Sweeping
+pub mod SweptCatalog
+pub mod SweptSeen
 pub mod KeptBlobs
 pub mod KeepCalls
 pub mod Keepable

@@ -42,7 +42,7 @@ length-map_of : {A B : Type 0} (f : A → B) (xs : List A) → length (map f xs)
 length-map_of f [] = refl
 length-map_of f (x ∷ xs) = ap suc (length-map_of f xs)
 
-get_within : {A : Type 0} (xs : List A) (k : ℕ) → k < length xs → (x : A) × (slice_get xs k ≡ Some x)
+pub get_within : {A : Type 0} (xs : List A) (k : ℕ) → k < length xs → (x : A) × (slice_get xs k ≡ Some x)
 get_within [] k lt = absurd (omega arith)
 get_within (x ∷ xs) zero lt = (x, refl)
 get_within (x ∷ xs) (suc k) lt = get_within xs k (omega arith)
@@ -115,7 +115,7 @@ EachSlot-quiet slots slots' bounds bounds' long same less = (
       ),
 )
 
-le-self : (n : ℕ) → n ≤ n
+pub le-self : (n : ℕ) → n ≤ n
 le-self n = omega arith
 
 generation-with_slot : (slots : List Slot) (k : ℕ) (f : Slot → Slot) → ((s : Slot) → (f s).generation ≡ s.generation) → (j : ℕ) (s s' : Slot) → slice_get slots j ≡ Some s → slice_get (with_slot slots k f) j ≡ Some s' → s'.generation ≡ s.generation

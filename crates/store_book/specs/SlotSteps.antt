@@ -1,5 +1,5 @@
 -- What commands and sweeps do to slots, beside what they do to the catalog.
-use Rattle.std.specs.Prelude.{◌≡◌, ◌<◌, ◌≤◌, ◌+◌, ◌^◌, ℕ, Bool, true, Option, Some, Result, List, length, slice_get}
+use Rattle.std.specs.Prelude.{◌≡◌, ◌<◌, ◌≤◌, ◌+◌, ◌^◌, ℕ, Bool, true, Some, None, Result, List, length, slice_get}
 use Rattle.blob_digest.specs.Keys.{Text}
 use Rattle.blob_digest.specs.declared.refusal.Refusal.{Refusal}
 use Rattle.blob_digest.specs.Outcomes.{Does}
@@ -32,12 +32,20 @@ pub record Leases {A : Type 0} (view : A → Text) (result : Result A Refusal) (
   pub does : Does view result C C' (lease crowded C repo digest)
   pub look : crowded ≡ true → IsCrowded digest new
 
--- ---- sweeps
+-- ---- looks and sweeps
 
--- A sweep keeps a slot in its generation, live or condemned; or frees one that was used, into the next generation; or retires one that
--- was used, in the last.
+-- a slot stays as it is, but for a look that may lower its bound
+abbrev pub IsStill : SlotSeen → SlotSeen → Type 0
+IsStill a b = (b.generation ≡ a.generation) × (b.phase ≡ a.phase) × (b.digest ≡ a.digest) × (b.bound ≤ a.bound)
+
+-- A sweep leaves a slot as it is, or condemns its live blob; or it frees one that was used, into the next generation; or it retires one
+-- that was used, in the last.
 pub data IsSweptSlot (a b : SlotSeen) : Type 0 where
-  same : IsQuiet a b → b.phase ≡ a.phase → IsSweptSlot a b
-  condemned : IsQuiet a b → a.phase ≡ phase.Live → b.phase ≡ phase.Condemned → IsSweptSlot a b
-  freed : (d : Text) → a.digest ≡ Some d → b.phase ≡ phase.Free → b.generation ≡ a.generation + 1 → b.generation < 2 ^ 32 → IsSweptSlot a b
-  retired : (d : Text) → a.digest ≡ Some d → b.phase ≡ phase.Retired → b.generation ≡ a.generation → a.generation + 1 ≡ 2 ^ 32 → IsSweptSlot a b
+  same : IsStill a b → IsSweptSlot a b
+  condemned : a.phase ≡ phase.Live → IsStill (record a { phase = phase.Condemned }) b → IsSweptSlot a b
+  freed : (d : Text) → a.digest ≡ Some d → a.generation + 1 < 2 ^ 32 → b ≡ record { generation = a.generation + 1; phase = phase.Free; digest = None; bound = 0 } → IsSweptSlot a b
+  retired : (d : Text) → a.digest ≡ Some d → a.generation + 1 ≡ 2 ^ 32 → b ≡ record { generation = a.generation; phase = phase.Retired; digest = None; bound = 0 } → IsSweptSlot a b
+
+-- some slot is in its last generation
+abbrev pub HasLast : List SlotSeen → Type 0
+HasLast slots = (k : ℕ) × (s : SlotSeen) × (slice_get slots k ≡ Some s) × (s.generation + 1 ≡ 2 ^ 32)

@@ -1,12 +1,13 @@
-ghost use Rattle.std.specs.Prelude.{◌≡◌, Some, IfOk, IfErr, OnOk};
+ghost use Rattle.std.specs.Prelude.{◌≡◌, ◌<◌, Some, IfOk, IfErr, OnOk};
 ghost use Rattle.blob_digest.specs.Outcomes.{Does, DoesExactly};
 ghost use Rattle.link_table.specs.Tenancy.{tenants_shown};
 ghost use Rattle.store_book.specs.Laws.{Sound};
 ghost use Rattle.store_book.specs.Pinned.{blob_bytes};
 ghost use Rattle.store_book.specs.Openings.{OpensBook, RefusesBook};
 ghost use Rattle.store_book.specs.Printed.{book_text};
-ghost use Rattle.store_book.specs.SlotSteps.{EachSlot, IsLending, IsQuiet, Leases};
+ghost use Rattle.store_book.specs.SlotSteps.{HasLast, IsSweptSlot, EachSlot, IsLending, IsQuiet, Leases};
 ghost use Rattle.store_book.specs.Steps.{start, status, append, close, abandon, mount, delete, take, put_back, finish, given_back};
+ghost use Rattle.store_book.specs.Sweeps.{IsSweep};
 ghost use Rattle.upload_table.specs.Uploaded.{IsFull};
 ghost use Rattle.std.specs.Arc.{arc_value};
 ghost use Rattle.std.specs.Io.KnownBytes.{Appends};
@@ -16,6 +17,7 @@ use crate::keep::{find_linked, keep, link_slot};
 use crate::mount::{Mount, find_source};
 use crate::pinned_slots::PinnedSlots;
 use crate::print::print_book;
+use crate::sweep::{Swept, sweep_slots};
 use blob_digest::{Blob, ByteRange, Digest, Refusal, RepoName};
 use link_table::Links;
 use pin_table::{Pin, Pins};
@@ -353,6 +355,18 @@ impl Book {
         let blob = self.slots.share(slot)?;
         let pin = self.slots.lend(pins, slot)?;
         Ok((pin, blob))
+    }
+
+    /// Condemns each live blob that no repository links, and reclaims the slot of each condemned one:
+    /// it is free in its next generation, or retired in the last one, or held by leases. A blob that
+    /// was never lent goes at once. It goes over the slots once, and takes no memory.
+    pub fn sweep(&mut self, pins: &Pins) -> Swept
+        requires { self.old.table ≡ pins.now }
+        ensures sweeps { IsSweep self.old.catalog result self.new.catalog }
+        ensures slots { (self.new.table ≡ self.old.table) × EachSlot IsSweptSlot self.old.slots self.new.slots }
+        ensures last { 0 < result.retired → HasLast self.old.slots }
+    {
+        sweep_slots(&mut self.slots, pins)
     }
 
     /// The pin with all that it had. Its slot is used and has the pin's generation and digest.
