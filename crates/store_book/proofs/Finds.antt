@@ -41,13 +41,17 @@ module _ {A : Type 0} (p : A → Bool) where
   from_place n (x ∷ xs) k e = by (p x) refl (from_place (n + 1) xs k) e
     where
       by : (b : Bool) → p x ≡ b → (position_from p (n + 1) xs ≡ Some k → (i : ℕ) × (k ≡ n + 1 + i) × IsFirst xs i) → cond b (Some n) (position_from p (n + 1) xs) ≡ Some k → (i : ℕ) × (k ≡ n + i) × IsFirst (x ∷ xs) i
-      by true passes later f = (0, (let e : n ≡ k = some_same f in omega arith), record {
-        found = x;
-        there = refl;
-        passes = passes;
-        before = λ j y lt at. absurd (omega arith);
-        counts = λ f weaker. sum_by-cons (λ y. cond {A = ℕ} (f y) 1 0) x xs;
-      })
+      by true passes later f = (
+        0,
+        (let e : n ≡ k = some_same f in omega arith),
+        record {
+          found = x;
+          there = refl;
+          passes = passes;
+          before = λ j y lt at. absurd (omega arith);
+          counts = λ f weaker. sum_by-cons (λ y. cond {A = ℕ} (f y) 1 0) x xs;
+        },
+      )
       by false fails later f = let r = later f in (suc r.0, (let e = r.1 in omega arith), first-more x xs r.0 fails r.2)
 
   none_from : (n : ℕ) (xs : List A) → position_from p n xs ≡ None → (j : ℕ) (x : A) → slice_get xs j ≡ Some x → p x ≡ false

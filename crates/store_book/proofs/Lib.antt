@@ -33,6 +33,7 @@ pub mod Pinning
 pub mod Reclaiming
 pub mod Finds
 pub mod Sweeping
+pub mod Looking
 pub mod SweptCatalog
 pub mod SweptSeen
 pub mod KeptBlobs

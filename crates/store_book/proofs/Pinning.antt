@@ -38,7 +38,7 @@ get-map f [] k x d at = cc
 get-map f (y ∷ xs) zero x d at = ap f (some_same at)
 get-map f (y ∷ xs) (suc k) x d at = get-map f xs k x d at
 
-length-map_of : {A B : Type 0} (f : A → B) (xs : List A) → length (map f xs) ≡ length xs
+pub length-map_of : {A B : Type 0} (f : A → B) (xs : List A) → length (map f xs) ≡ length xs
 length-map_of f [] = refl
 length-map_of f (x ∷ xs) = ap suc (length-map_of f xs)
 

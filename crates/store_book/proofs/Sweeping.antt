@@ -289,9 +289,11 @@ module _ (p q r : Pinned) (from k : ℕ) (n m : Swept) (live : Bool) (part : IsP
       | inl e ↦
           let same : x ≡ s = some_same (sym here ∙ sym (as_before j (let le = past in omega arith)) ∙ ap (slice_get q.slots) e ∙ at) in
           let old : slice_index q.bounds k ≡ slice_index p.bounds j = ap (slice_index q.bounds) (sym e) ∙ part.bounds j (let le = past in omega arith) in
-          let now : slice_index (slice_set q.bounds k b.bound) k ≡ slice_index r.bounds j = ap (λ xs. slice_index xs k) (sym b.bounds) ∙ ap (slice_index r.bounds) (sym e) in
-          (b.f s, ap (λ xs. slice_get xs j) b.slots ∙ ap (slice_get (with_slot q.slots k b.f)) e ∙ slot-same q.slots k b.f s at,
-          transported x s same (b.f s) (slice_index q.bounds k) (slice_index p.bounds j) old (slice_index (slice_set q.bounds k b.bound) k) (slice_index r.bounds j) now b.turned)
+          let now : slice_index (slice_set q.bounds k b.bound) k ≡ slice_index r.bounds j = ap (λ xs. slice_index xs k) (sym b.bounds) ∙ ap (slice_index r.bounds) (sym e) in (
+            b.f s,
+            ap (λ xs. slice_get xs j) b.slots ∙ ap (slice_get (with_slot q.slots k b.f)) e ∙ slot-same q.slots k b.f s at,
+            transported x s same (b.f s) (slice_index q.bounds k) (slice_index p.bounds j) old (slice_index (slice_set q.bounds k b.bound) k) (slice_index r.bounds j) now b.turned,
+          )
       | inr other ↦
           let bound : slice_index r.bounds j ≡ slice_index q.bounds j = ap (λ xs. slice_index xs j) b.bounds ∙ get_or-set_other q.bounds k j b.bound 0 other in
           let there : slice_get r.slots j ≡ slice_get q.slots j = ap (λ xs. slice_get xs j) b.slots ∙ slot-other q.slots k b.f j other in

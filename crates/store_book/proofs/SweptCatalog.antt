@@ -156,7 +156,7 @@ module _ (l : Linked) (u : Uploaded) (p q : Pinned) (max_blob : ℕ) (swept : Sw
       let left = left_by r.1 s.0 e.0 (slice_index p.bounds r.0) (slice_index q.bounds r.0) s.2 e.2 in
       let now : get C'.residents r.1.digest ≡ shown (held_in e.0.content) = left_at r.0 r.1 r.2 ∙ ap shown (held_there q.slots r.0 e.0 e.1) in
       let by_slot : IsLeft (sweeps.is_orphan C r.1.digest) (resident_of r.1.lent r.1) (get C'.residents r.1.digest) =
-          subst (λ x. IsLeft x (resident_of r.1.lent r.1) (get C'.residents r.1.digest)) (sym (orphan_is r.0 r.1 r.2)) (subst (λ x. IsLeft (r.1.links == 0) (resident_of r.1.lent r.1) x) (sym now) left) in
+      subst (λ x. IsLeft x (resident_of r.1.lent r.1) (get C'.residents r.1.digest)) (sym (orphan_is r.0 r.1 r.2)) (subst (λ x. IsLeft (r.1.links == 0) (resident_of r.1.lent r.1) x) (sym now) left) in
       subst (λ (x : Text). IsLeft (sweeps.is_orphan C x) b (get C'.residents x)) r.3 (subst (λ (x : Resident). IsLeft (sweeps.is_orphan C r.1.digest) x (get C'.residents r.1.digest)) (sym r.4) by_slot)
 
   no_others : (d : Text) → get C.residents d ≡ None → get C'.residents d ≡ None
@@ -223,9 +223,9 @@ module _ (l : Linked) (u : Uploaded) (p q : Pinned) (max_blob : ℕ) (swept : Sw
   gone : swept.freed + swept.retired ≡ count_by is_gone (entries C.residents)
   gone =
       let parts : count_by is_orphan p.slots ≡ count_by is_orphan q.slots + count_by (of_slot is_gone) p.slots = count_by-parts is_orphan (of_slot is_gone) is_orphan p.slots q.slots sweep.long (λ k s t at now.
-          let e = sweep.each k s at in
-          let same : e.0 ≡ t = some_same (sym e.1 ∙ now) in
-          gone_by k s t (slice_index p.bounds k) (slice_index q.bounds k) at now (subst (λ (x : Slot). IsTurned s (slice_index p.bounds k) x (slice_index q.bounds k)) same e.2)) in
+      let e = sweep.each k s at in
+      let same : e.0 ≡ t = some_same (sym e.1 ∙ now) in
+      gone_by k s t (slice_index p.bounds k) (slice_index q.bounds k) at now (subst (λ (x : Slot). IsTurned s (slice_index p.bounds k) x (slice_index q.bounds k)) same e.2)) in
       let rows = count_residents is_gone p.slots distinct in
       let all = sweep.all in
       let held = sweep.held in

@@ -45,12 +45,12 @@ module _ (p q : Pinned) (swept : Swept) (sweep : Sweeps p q swept) where
   EachSlot-swept = (
     length-all_seen q.slots q.bounds ∙ sweep.long ∙ sym (length-all_seen p.slots p.bounds),
     λ k a b at_a at_b.
-      let s = seen-at p.slots p.bounds k a at_a in
-      let t = seen-at q.slots q.bounds k b at_b in
-      let e = sweep.each k s.0 s.1 in
-      let is : e.0 ≡ t.0 = some_same (sym e.1 ∙ t.1) in
-      subst (λ (x : SlotSeen). IsSweptSlot x b) (sym s.2) (subst (λ (x : SlotSeen). IsSweptSlot (seen s.0 (slice_index p.bounds k)) x) (sym t.2)
-      (subst (λ (x : Slot). IsSweptSlot (seen s.0 (slice_index p.bounds k)) (seen x (slice_index q.bounds k))) is (seen_turned s.0 e.0 (slice_index p.bounds k) (slice_index q.bounds k) e.2))),
+        let s = seen-at p.slots p.bounds k a at_a in
+        let t = seen-at q.slots q.bounds k b at_b in
+        let e = sweep.each k s.0 s.1 in
+        let is : e.0 ≡ t.0 = some_same (sym e.1 ∙ t.1) in
+        subst (λ (x : SlotSeen). IsSweptSlot x b) (sym s.2) (subst (λ (x : SlotSeen). IsSweptSlot (seen s.0 (slice_index p.bounds k)) x) (sym t.2)
+        (subst (λ (x : Slot). IsSweptSlot (seen s.0 (slice_index p.bounds k)) (seen x (slice_index q.bounds k))) is (seen_turned s.0 e.0 (slice_index p.bounds k) (slice_index q.bounds k) e.2))),
   )
 
   pub HasLast-swept : 0 < swept.retired → HasLast (all_seen p.slots p.bounds)

@@ -100,6 +100,7 @@ pub record Looked (k n : ℕ) (p q : Pinned) : Type 0 where
   pub word : n ≡ row_word (row (map row_of p.slots) k) weight
   pub within : weight ≤ slice_index p.bounds k
   pub after : q ≡ bounded k weight p
+  pub bound : slice_index q.bounds k ≡ weight
 
 -- What became of the condemned slot k: free in its next generation, or retired in the last one, or held by pins of this sum, which is
 -- within the bound.

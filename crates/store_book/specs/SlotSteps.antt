@@ -1,11 +1,18 @@
 -- What commands and sweeps do to slots, beside what they do to the catalog.
-use Rattle.std.specs.Prelude.{◌≡◌, ◌<◌, ◌≤◌, ◌+◌, ◌^◌, ℕ, Bool, true, Some, None, Result, List, length, slice_get}
+use Rattle.std.specs.Prelude.{◌≡◌, ◌<◌, ◌≤◌, ◌+◌, ◌^◌, ◌⊎◌, ℕ, Bool, true, Some, None, Result, List, length, slice_get}
+use Rattle.std.specs.FinMap as fmap
+use Rattle.blob_digest.specs.Digests.{is_digest_of}
 use Rattle.blob_digest.specs.Keys.{Text}
 use Rattle.blob_digest.specs.declared.refusal.Refusal.{Refusal}
 use Rattle.blob_digest.specs.Outcomes.{Does}
+use Rattle.pin_core.specs.World.{word_of}
+use Rattle.pin_core.specs.declared.world.Hold.{Hold}
+use Rattle.pin_core.specs.declared.world.Phase as pin
+use Rattle.pin_core.specs.declared.world.Phase.TheVariants as word
+use Rattle.slot_table.specs.declared.phase.Phase.{Phase}
 use Rattle.slot_table.specs.declared.phase.Phase.TheVariants as phase
-use Rattle.store_book.specs.BookState.{SlotSeen}
-use Rattle.store_book.specs.Catalog.{Catalog}
+use Rattle.store_book.specs.BookState.{BookState, SlotSeen}
+use Rattle.store_book.specs.Catalog.{Catalog, Resident}
 use Rattle.store_book.specs.Steps.{lease}
 
 -- each slot is related to what it was
@@ -34,9 +41,36 @@ pub record Leases {A : Type 0} (view : A → Text) (result : Result A Refusal) (
 
 -- ---- looks and sweeps
 
+-- what the words call what a slot is
+abbrev pub word_phase : Phase → pin.Phase
+word_phase phase.Free = word.Free
+word_phase phase.Live = word.Live
+word_phase phase.Condemned = word.Condemned
+word_phase phase.Retired = word.Retired
+
 -- a slot stays as it is, but for a look that may lower its bound
 abbrev pub IsStill : SlotSeen → SlotSeen → Type 0
 IsStill a b = (b.generation ≡ a.generation) × (b.phase ≡ a.phase) × (b.digest ≡ a.digest) × (b.bound ≤ a.bound)
+
+-- The word n of the slot k was read: the slot's generation and phase, and a sum of weights within its bound, which the bound is now.
+pub record ReadsWord (k n : ℕ) (old new : List SlotSeen) : Type 0 where
+  pub slot : SlotSeen
+  pub there : slice_get old k ≡ Some slot
+  pub weight : ℕ
+  pub reads : n ≡ word_of slot.generation (word_phase slot.phase) weight
+  pub within : weight ≤ slot.bound
+  pub after : slice_get new k ≡ Some (record slot { bound = weight })
+
+-- A pin's slot is used and its own: it has the pin's generation and digest, and so has the blob that is kept of that digest.
+pub record HasPin (h : Hold) (book : BookState) : Type 0 where
+  pub slot : SlotSeen
+  pub there : slice_get book.slots h.slot ≡ Some slot
+  pub used : (slot.phase ≡ phase.Live) ⊎ (slot.phase ≡ phase.Condemned)
+  pub generation : slot.generation ≡ h.generation
+  pub digest : slot.digest ≡ Some h.digest
+  pub blob : Resident
+  pub resident : fmap.get book.catalog.residents h.digest ≡ Some blob
+  pub content : is_digest_of h.digest blob.bytes ≡ true
 
 -- A sweep leaves a slot as it is, or condemns its live blob; or it frees one that was used, into the next generation; or it retires one
 -- that was used, in the last.

@@ -1,11 +1,11 @@
-ghost use Rattle.std.specs.Prelude.{◌≡◌, ◌<◌, Some, IfOk, IfErr, OnOk};
+ghost use Rattle.std.specs.Prelude.{◌≡◌, ◌<◌, length, Some, IfOk, IfErr, OnOk};
 ghost use Rattle.blob_digest.specs.Outcomes.{Does, DoesExactly};
 ghost use Rattle.link_table.specs.Tenancy.{tenants_shown};
 ghost use Rattle.store_book.specs.Laws.{Sound};
 ghost use Rattle.store_book.specs.Pinned.{blob_bytes};
 ghost use Rattle.store_book.specs.Openings.{OpensBook, RefusesBook};
 ghost use Rattle.store_book.specs.Printed.{book_text};
-ghost use Rattle.store_book.specs.SlotSteps.{HasLast, IsSweptSlot, EachSlot, IsLending, IsQuiet, Leases};
+ghost use Rattle.store_book.specs.SlotSteps.{EachSlot, HasLast, HasPin, IsCrowded, IsLending, IsQuiet, IsStill, IsSweptSlot, Leases, ReadsWord};
 ghost use Rattle.store_book.specs.Steps.{start, status, append, close, abandon, mount, delete, take, put_back, finish, given_back};
 ghost use Rattle.store_book.specs.Sweeps.{IsSweep};
 ghost use Rattle.upload_table.specs.Uploaded.{IsFull};
@@ -345,6 +345,7 @@ impl Book {
     ) -> Result<(Pin, Arc<Blob, Global>), Refusal>
         requires table { self.old.table ≡ pins.now }
         ensures does { Leases (λ r. blob_bytes (arc_value r.1)) result self.old.catalog self.new.catalog self.new.slots repo.now digest.now }
+        ensures readers { IfErr result (λ e. e ≡ Refusal.TooManyReaders → IsCrowded digest.now self.new.slots) }
         ensures pin { IfOk result (λ r. (r.0.table ≡ pins.now) × (r.0.hold.digest ≡ digest.now) × (r.0.hold.weight ≡ 1024)) }
         ensures slots { (self.new.table ≡ self.old.table) × EachSlot (IsLending digest.now) self.old.slots self.new.slots }
     {
@@ -369,14 +370,29 @@ impl Book {
         sweep_slots(&mut self.slots, pins)
     }
 
-    /// The pin with all that it had. Its slot is used and has the pin's generation and digest.
+    /// The pin with all that it had. Its slot is used and has the pin's generation and digest, and the
+    /// blob that the book keeps there has that digest. It takes no memory.
     pub fn verify(&mut self, pins: &Pins, pin: Pin) -> Pin
         requires table { self.old.table ≡ pins.now }
         requires pin { pin.table ≡ pins.now }
         ensures same { result ≡ pin }
+        ensures kept { HasPin pin.hold self.old }
         ensures catalog { self.new.catalog ≡ self.old.catalog }
+        ensures slots { (self.new.table ≡ self.old.table) × EachSlot IsStill self.old.slots self.new.slots }
     {
         self.slots.verify(pins, pin)
+    }
+
+    /// The word of a slot: its generation, what it is, and the sum of the weights of the pins on it. It
+    /// takes no memory.
+    pub fn word(&mut self, pins: &Pins, slot: u32) -> u64
+        requires table { self.old.table ≡ pins.now }
+        requires within { slot < length self.old.slots }
+        ensures word { ReadsWord slot result self.old.slots self.new.slots }
+        ensures catalog { self.new.catalog ≡ self.old.catalog }
+        ensures slots { (self.new.table ≡ self.old.table) × EachSlot IsStill self.old.slots self.new.slots }
+    {
+        self.slots.word(pins, slot)
     }
 
     /// Writes the text of the book, without taking memory: `book`; each tenant in the order of the

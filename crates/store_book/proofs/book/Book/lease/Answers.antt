@@ -55,3 +55,10 @@ returns-clause-slots c =
     let e = c.in_ok-pin.ensures in
     let h = held c.self.inside.links c.self.inside.uploads c.self.inside.slots.slots c.self.inside.max_blob c.in_ok-tenant.field-0 c.args.repo.now c.args.digest.now c.self.invariant (sym c.in_ok-tenant.ensures.known) c.in-Some.slot (rw c.table.ensures at (sym c.in-Some.ensures)) in
     rw (← c.self.view_is) (EachSlot-lent c.args.digest.now c.self.inside.slots c.lend.new.self c.in-Some.slot e.bound h.0 h.1 h.2 e.within e.after)
+
+pub returns-in_err-pin-clause-readers : goal.returns-in_err-pin-clause-readers
+returns-in_err-pin-clause-readers c =
+    let p = err_from_is_err_and c.from_residual-in_err-pin.result c.from_residual-in_err-pin.ensures.1 in
+    let e = c.in_err-pin.ensures in
+    let h = held c.self.inside.links c.self.inside.uploads c.self.inside.slots.slots c.self.inside.max_blob c.in_ok-tenant.field-0 c.args.repo.now c.args.digest.now c.self.invariant (sym c.in_ok-tenant.ensures.known) c.in-Some.slot (rw c.table.ensures at (sym c.in-Some.ensures)) in
+    rw p.1 (λ _. IsCrowded-full c.self.inside.slots c.lend.new.self c.in-Some.slot c.args.digest.now h.0 h.1 h.2 c.share.ensures.one_each e.1)
