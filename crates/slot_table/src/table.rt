@@ -7,7 +7,7 @@ ghost use Rattle.std.specs.BTreeMap as tree;
 ghost use Rattle.blob_digest.specs.Keys.{Text, text_cmp};
 ghost use Rattle.blob_digest.specs.Outcomes.{Answers};
 ghost use Rattle.blob_digest.specs.declared.refusal.Refusal.TheVariants.{Memory, StoreFull};
-ghost use Rattle.slot_table.specs.Slots.{slot_of, held_at, phase_at, links_at, generation_at, free_slots, empty_slot, is_orphan, orphan_from, has_digest, opening, with_slot, fill, on_held, raise, lower, mark, emptied, spent, IsDistinct, IsUnlinked};
+ghost use Rattle.slot_table.specs.Slots.{slot_of, held_at, phase_at, links_at, generation_at, free_slots, empty_slot, is_orphan, orphan_from, has_digest, opening, with_slot, fill, on_held, raise, lower, lend, mark, emptied, spent, IsDistinct, IsUnlinked};
 ghost use Rattle.slot_table.specs.declared.phase.Phase.TheVariants as phase;
 
 use crate::phase::Phase;
@@ -234,6 +234,14 @@ impl SlotTable {
         ensures { self.new ≡ with_slot self.old slot (on_held lower) }
     {
         self.rows[slot as usize].lower_links();
+    }
+
+    /// Marks a live blob as lent. The mark stays as long as the slot holds the blob.
+    pub fn lend(&mut self, slot: u32)
+        requires { phase_at self.old slot ≡ phase.Live }
+        ensures { self.new ≡ with_slot self.old slot (on_held lend) }
+    {
+        self.rows[slot as usize].lend();
     }
 
     /// Condemns a live blob without links.

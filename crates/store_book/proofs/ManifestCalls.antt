@@ -52,7 +52,6 @@ module _ (l : Linked) (u : Uploaded) (slots : List Slot) (max_blob t : ℕ) (rep
     sound = Sound-after_delete_manifest C after repo digest (delete_there bytes is) book.sound;
     tied = record { marks = book.tied.marks; distinct = book.tied.distinct; sizes = book.tied.sizes; counts = book.tied.counts };
     charges = record { one_each = book.charges.one_each; sums = book.charges.sums };
-    live = book.live;
   }
 
 -- ---- the references of a manifest, one after the other
@@ -168,5 +167,4 @@ module _ (l : Linked) (u : Uploaded) (slots : List Slot) (max_blob t : ℕ) (rep
               counts = λ k h at. book.tied.counts k h at ∙ sym (count-appear B repo h.digest book.sound.lawful);
             };
             charges = record { one_each = book.charges.one_each; sums = book.charges.sums };
-            live = book.live;
           })

@@ -25,9 +25,11 @@ mod manifests;
 mod mount;
 #[cfg(test)]
 mod mount_tests;
+mod pinned_slots;
 mod print;
 #[cfg(test)]
 mod refusal_tests;
+mod sweep;
 #[cfg(test)]
 mod test_steps;
 #[cfg(test)]
@@ -38,3 +40,4 @@ pub use config::Config;
 pub use link_table::{MAX_QUOTA, MAX_TENANTS};
 pub use mount::Mount;
 pub use slot_table::MAX_SLOTS;
+pub use sweep::Swept;
