@@ -3,7 +3,7 @@ use Rattle.std.proofs.Common.{◌≡◌, ℕ, List, Bool, true, false, cond, not
 use Rattle.std.specs.Ordering.{eq_by_cmp, is_eq}
 use Rattle.std.specs.Cmp.{tied_itself}
 use Rattle.std.specs.Cmp.Lexicographic.{nat_list_cmp_total}
-use Rattle.std.specs.FinMap.{FinMap, get, insert, remove, empty, get-insert, get-remove, get-empty}
+use Rattle.std.specs.FinMap.{FinMap, get, insert, empty, get-insert, get-remove, get-empty}
 use Rattle.blob_digest.specs.Sets as set
 use Rattle.blob_digest.specs.Keys.{Text, Link, link_cmp}
 use Rattle.blob_digest.specs.declared.refusal.Refusal.{Refusal}

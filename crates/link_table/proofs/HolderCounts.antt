@@ -194,8 +194,8 @@ module _ (tenants : List Tenant) (t : ℕ) (d : Text) where
       count_by (is_held tenants t d) (entries links) ≤ length (sets.items repos)
   held_within links repos known =
       let few : length (holding (entries links)) ≤ length (sets.items repos) = length-le_from_is_member (eq_by_cmp_equiv nat_list_cmp_total) (holding (entries links)) (sets.items repos)
-          (distinct (entries links) (IsApart-sorted link_cmp (entries links) (from_T (is_sorted link_cmp (entries links)) (entries_sorted links))))
-          (λ q h. (let f = found (entries links) q h in sym (contains_key-keys repos q) ∙ known q f.0 (ap is_some (get-entries links (q, d)) ∙ f.1))) in
+      (distinct (entries links) (IsApart-sorted link_cmp (entries links) (from_T (is_sorted link_cmp (entries links)) (entries_sorted links))))
+      (λ q h. (let f = found (entries links) q h in sym (contains_key-keys repos q) ∙ known q f.0 (ap is_some (get-entries links (q, d)) ∙ f.1))) in
       let many : length (holding (entries links)) ≡ count_by (is_held tenants t d) (entries links) = length-map (filter (is_held tenants t d) (entries links)) (λ (e : Link × ℕ). e.0.0) ∙ length-filter (is_held tenants t d) (entries links) in
       omega (arith, few, many)
     where

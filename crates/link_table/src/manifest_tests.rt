@@ -7,14 +7,16 @@ use std::process::Abort;
 use std::sync::Arc;
 
 /// An image manifest whose config is `abc`.
-const ONE_BLOB: &str = r#"{"schemaVersion":2,"config":{"digest":"sha256:ba7816bf8f01cfea414140de5dae2223b00361a396177a9cb410ff61f20015ad"},"layers":[]}"#;
+const ONE_BLOB: &str =
+    r#"{"schemaVersion":2,"config":{"digest":"sha256:ba7816bf8f01cfea414140de5dae2223b00361a396177a9cb410ff61f20015ad"},"layers":[]}"#;
 
 /// Its digest, as `sha256sum` gives it.
 const ONE_BLOB_DIGEST: &str =
     "sha256:b8737cc6fa032a1a4416b8271067d5ea9590ad503c30c8a9c424429b9b3afc41";
 
 /// An image manifest whose config is `{}`, and whose layer is `abc`.
-const TWO_BLOBS: &str = r#"{"schemaVersion":2,"config":{"digest":"sha256:44136fa355b3678a1146ad16f7e8649e94fb4fc21fe77e8310c060f61caaff8a"},"layers":[{"digest":"sha256:ba7816bf8f01cfea414140de5dae2223b00361a396177a9cb410ff61f20015ad"}]}"#;
+const TWO_BLOBS: &str =
+    r#"{"schemaVersion":2,"config":{"digest":"sha256:44136fa355b3678a1146ad16f7e8649e94fb4fc21fe77e8310c060f61caaff8a"},"layers":[{"digest":"sha256:ba7816bf8f01cfea414140de5dae2223b00361a396177a9cb410ff61f20015ad"}]}"#;
 
 /// Its digest, as `sha256sum` gives it: it is the lesser of the two.
 const TWO_BLOBS_DIGEST: &str =
@@ -163,7 +165,9 @@ fn manifests_are_read_in_order(rt: HostRuntime) {
 
 /// An index that no other number makes.
 fn index(rt: &impl Abort, alloc: Global, number: u32) -> String {
-    format!(in alloc; "{{\"schemaVersion\":2,\"manifests\":[],\"x\":{number}}}").expect(rt, "memory")
+    format!(in alloc; "{{\"schemaVersion\":2,\"manifests\":[],\"x\":{number}}}").expect(
+        rt, "memory",
+    )
 }
 
 #[test]

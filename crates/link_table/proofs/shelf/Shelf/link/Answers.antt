@@ -1,6 +1,6 @@
-use Rattle.std.proofs.Common.{ap, sym, ◌∙◌, Some, set}
+use Rattle.std.proofs.Common.{sym, ◌∙◌, Some, set}
 use Rattle.std.proofs.lemmas.Bool.{false≢true}
-use Rattle.std.specs.FinMap.{from_entries, is_sorted}
+use Rattle.std.specs.FinMap.{from_entries}
 use Rattle.blob_digest.specs.Keys.{text_cmp, link_cmp}
 use Rattle.blob_digest.proofs.KeyOrders.{link_cmp_total, exact_link}
 use Rattle.link_table.specs.Rows.{shelf_shown, links_in}

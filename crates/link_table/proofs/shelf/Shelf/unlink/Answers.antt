@@ -1,5 +1,5 @@
 use Rattle.std.proofs.Common.{ap, sym, ◌∙◌, None, set}
-use Rattle.std.specs.FinMap.{from_entries, get, is_sorted}
+use Rattle.std.specs.FinMap.{from_entries, get}
 use Rattle.blob_digest.specs.Keys.{text_cmp}
 use Rattle.blob_digest.proofs.KeyOrders.{link_cmp_total, exact_link}
 use Rattle.link_table.specs.Rows.{shelf_shown}
