@@ -12,14 +12,11 @@ ghost use Rattle.slot_table.specs.declared.phase.Phase.TheVariants as phase;
 
 use crate::phase::Phase;
 use crate::row::Row;
-use blob_digest::{Blob, Digest, Refusal};
+use blob_digest::{Blob, Digest, MAX_SLOTS, Refusal};
 use std::alloc::{AllocError, Global};
 use std::collections::BTreeMap;
 use std::marker::Model;
 use std::sync::Arc;
-
-/// The most slots that a table has.
-pub const MAX_SLOTS: u32 = 65_536;
 
 /// The slots of a store, 1 to 65,536, each with its generation and what it holds. Contracts see
 /// the list of the slots. No digest has two slots, and a condemned blob has no links.
@@ -148,7 +145,7 @@ impl SlotTable {
         self.rows[slot as usize].phase()
     }
 
-    /// A slot's generation: the first one plus how often the slot was freed.
+    /// A slot's generation: it counts on from the first one, by one each time the slot is freed.
     pub fn generation(&self, slot: u32) -> u32
         requires { slot < length self.now }
         ensures { result ≡ generation_at self.now slot }

@@ -280,8 +280,8 @@ impl Book {
     /// Links a blob that another repository of the tenant holds, without an upload (OCI Distribution
     /// Specification 1.1, "Mounting a blob from another repository"). The repository appears with it.
     /// Where the source is another tenant's, or isn't there, or doesn't hold the blob, this opens a
-    /// session in the repository, as `start` does. No bytes are copied; it takes a look at each slot,
-    /// each link and each repository.
+    /// session in the repository, as `start` does. No bytes are copied; it takes the logarithm of the
+    /// number of links and of kept blobs, and a repository that appears moves those of its tenant behind it.
     ///
     /// Refused, in this order: a tenant that is not there (`NameUnknown`); a tenant that has 1,024
     /// repositories where this one is new, and, where a session is opened, 64 sessions or no session
@@ -314,7 +314,7 @@ impl Book {
 
     /// Takes the link to a blob out of a repository (OCI Distribution Specification 1.1, "Deleting
     /// Blobs"). The blob stays in its slot, and other repositories keep their links. It takes no
-    /// memory; it takes a look at each slot and each link.
+    /// memory, and the logarithm of the number of links and of kept blobs.
     ///
     /// Refused, in this order: a tenant that is not there (`NameUnknown`); a digest that is not linked
     /// in the repository (`BlobUnknown`).
@@ -365,7 +365,7 @@ impl Book {
         requires { self.old.table ≡ pins.now }
         ensures sweeps { IsSweep self.old.catalog result self.new.catalog }
         ensures slots { (self.new.table ≡ self.old.table) × EachSlot IsSweptSlot self.old.slots self.new.slots }
-        ensures last { 0 < result.retired → HasLast self.old.slots }
+        ensures retired { 0 < result.retired → HasLast self.old.slots }
     {
         sweep_slots(&mut self.slots, pins)
     }

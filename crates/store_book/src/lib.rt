@@ -18,6 +18,8 @@ mod config;
 mod hand_tests;
 mod keep;
 pub mod laws;
+#[cfg(test)]
+mod lease_tests;
 mod mount;
 #[cfg(test)]
 mod mount_tests;
@@ -26,6 +28,8 @@ mod print;
 #[cfg(test)]
 mod refusal_tests;
 mod sweep;
+#[cfg(test)]
+mod test_steps;
 #[cfg(test)]
 mod tests;
 
