@@ -438,7 +438,7 @@ impl Book {
         requires { self.old.table ≡ pins.now }
         ensures sweeps { IsSweep self.old.catalog result self.new.catalog }
         ensures slots { (self.new.table ≡ self.old.table) × EachSlot IsSweptSlot self.old.slots self.new.slots }
-        ensures last { 0 < result.retired → HasLast self.old.slots }
+        ensures retired { 0 < result.retired → HasLast self.old.slots }
     {
         sweep_slots(&mut self.slots, pins)
     }

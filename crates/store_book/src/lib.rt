@@ -20,6 +20,8 @@ mod hand_tests;
 mod keep;
 pub mod laws;
 #[cfg(test)]
+mod lease_tests;
+#[cfg(test)]
 mod manifest_tests;
 mod manifests;
 mod mount;

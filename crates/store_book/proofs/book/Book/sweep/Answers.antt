@@ -9,5 +9,5 @@ pub returns : goal.returns
 returns c = rw (← c.self.view_is) (record {
   sweeps = IsSweep-slots c.self.inside.links c.self.inside.uploads c.self.inside.slots c.sweep_slots.new.slots c.self.inside.max_blob c.sweep_slots.result c.self.invariant c.sweep_slots.ensures;
   slots = (c.sweep_slots.ensures.table, EachSlot-swept c.self.inside.slots c.sweep_slots.new.slots c.sweep_slots.result c.sweep_slots.ensures);
-  last = HasLast-swept c.self.inside.slots c.sweep_slots.new.slots c.sweep_slots.result c.sweep_slots.ensures;
+  retired = HasLast-swept c.self.inside.slots c.sweep_slots.new.slots c.sweep_slots.result c.sweep_slots.ensures;
 })
