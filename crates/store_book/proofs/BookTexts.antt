@@ -1,5 +1,5 @@
 -- The lines that the layers give are the book's text.
-use Rattle.std.proofs.Common.{◌≡◌, ℕ, ◌+◌, ◌<◌, ◌≤◌, Bool, true, false, cond, List, [], ◌∷◌, ◌++◌, length, map, get_or, Option, Some, None, refl, sym, ap, ◌∙◌, arith, append-nil}
+use Rattle.std.proofs.Common.{◌≡◌, ℕ, ◌+◌, ◌<◌, ◌≤◌, Bool, true, false, cond, List, [], ◌∷◌, ◌++◌, length, map, get_or, Option, Some, None, refl, sym, ap, ◌∙◌, arith}
 use Rattle.std.specs.Prelude.{filter, ◌==◌, ◌&&◌, slice_index}
 use Rattle.std.specs.declared.cmp.Ordering.{Ordering}
 use Rattle.std.specs.List.{flat_map, enumerate_from, count_by, AllByRecursion}
@@ -14,7 +14,7 @@ use Rattle.blob_digest.proofs.ListLemmas.{all_weaker}
 use Rattle.store_book.proofs.MapLemmas.{is_true, flat_map-same, all_same, all_by_index}
 use Rattle.blob_digest.specs.Sets as set
 use Rattle.blob_digest.proofs.KeyOrders.{link_cmp_total, exact_link}
-use Rattle.blob_digest.proofs.RowLemmas.{entries-empty, found_value}
+use Rattle.blob_digest.proofs.RowLemmas.{found_value}
 use Rattle.slot_table.specs.Slots.{Slot, Held, slot_of, links_at}
 use Rattle.link_table.specs.Archive.{manifests_on}
 use Rattle.link_table.specs.Linked.{Linked, Tenant, used_in, blobs_in, repos_of}

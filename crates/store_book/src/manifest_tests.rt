@@ -222,9 +222,8 @@ fn a_repository_has_at_most_1024_manifests(rt: HostRuntime) {
     let next = numbered(&rt, 1024);
     let first_digest = "sha256:43a95671f7b81ff959683294c42f65f869cc09ede1d759e1a1b0aa286c0c2e52";
     let next_digest = "sha256:833bc180aa02dfa0a7c77b9c409e65b90f5842be7c2aacd5ecb868070d6e95f4";
-    let full = Err(Refusal::LimitReached);
     for (repo, bytes, wanted) in [
-        (ONE, next.as_str(), full),
+        (ONE, next.as_str(), Err(Refusal::LimitReached)),
         (ONE, first.as_str(), Ok(digest(&rt, first_digest))),
         ("acme/two", next.as_str(), Ok(digest(&rt, next_digest))),
         (ONE, "{}", Err(Refusal::ManifestInvalid)),
@@ -240,7 +239,7 @@ fn a_repository_has_at_most_1024_manifests(rt: HostRuntime) {
     plays(&rt, &mut book, &script);
     for (bytes, wanted) in [
         (next.as_str(), Ok(digest(&rt, next_digest))),
-        (first.as_str(), full),
+        (first.as_str(), Err(Refusal::LimitReached)),
     ] {
         let found = put_manifest(&rt, &mut book, ONE, bytes);
         assert!(rt; found == wanted);
