@@ -132,14 +132,14 @@ fn wrong_tenant_words_are_bad_tenants(rt: HostRuntime) {
 fn wrong_arguments_come_before_wrong_tenants(rt: HostRuntime) {
     let alloc = rt.alloc();
     for words in [
-        ["--slots", "0", "acme"].as_slice(),
-        ["--slots", "65537", "acme"].as_slice(),
-        ["--max-blob", "1099511627777", "acme"].as_slice(),
-        ["--fly", "1", "acme"].as_slice(),
-        [].as_slice(),
+        ["--slots", "0", "acme"],
+        ["--slots", "65537", "acme"],
+        ["--max-blob", "1099511627777", "acme"],
+        ["--fly", "1", "acme"],
     ] {
-        stops(&rt, alloc, words, 2, "error: ");
+        stops(&rt, alloc, words.as_slice(), 2, "error: ");
     }
+    stops(&rt, alloc, &[], 2, "error: ");
     stops(&rt, alloc, &["--help"], 0, "Usage: blobctl ");
 }
 
