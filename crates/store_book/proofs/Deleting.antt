@@ -15,17 +15,13 @@ use Rattle.upload_table.specs.Uploaded.{Uploaded}
 use Rattle.store_book.specs.Catalog.{Text, Catalog, link_cmp, same_text, count, holds}
 use Rattle.store_book.specs.Steps.{delete, refers, referrer}
 use Rattle.store_book.specs.Keeping.{linked_slot}
-use Rattle.store_book.specs.Layers.{unlent, catalog_from, book_catalog, slot_shown, IsTied, IsBook}
+use Rattle.store_book.specs.Layers.{unlent, catalog_from, book_catalog, IsTied, IsBook}
 use Rattle.store_book.proofs.Counts.{count-unlink}
 use Rattle.store_book.proofs.KeptBlobs.{live_counted, unlent-with_slot}
 use Rattle.store_book.proofs.LawfulDelete.{Sound-after_delete}
 use Rattle.store_book.proofs.LinkedSlots.{holds_linked, linked_some, linked_none}
-use Rattle.store_book.proofs.SlotLemmas.{map-with_slot, phase_live}
+use Rattle.store_book.proofs.SlotLemmas.{phase_live}
 use Rattle.store_book.proofs.Ties.{links_of-remove, catalog-relink, IsTied-unlink, lower-KeepsBlob, held_of}
-
--- a count that falls changes no generation
-pub slots_kept : (slots : List Slot) (k : ℕ) (slots' : List Slot) → slots' ≡ with_slot slots k (on_held lower) → map slot_shown slots' ≡ map slot_shown slots
-slots_kept slots k slots' is = ap (map slot_shown) is ∙ map-with_slot slot_shown slots k (on_held lower) (λ s here. refl)
 
 module _ (l : Linked) (u : Uploaded) (slots : List Slot) (max_blob t : ℕ) (repo digest : Text) (book : IsBook l u slots max_blob) (known : known_tenant l repo ≡ Ok t) where
   abbrev C : Catalog

@@ -15,7 +15,7 @@ use Rattle.upload_table.specs.Sessions.{Home, Session, Taken, are_taken, brought
 use Rattle.upload_table.specs.Uploaded.{Uploaded, IsFull, finish_upload, with_sessions}
 use Rattle.store_book.specs.Catalog.{Text, Catalog, in_sessions_of}
 use Rattle.store_book.specs.Steps.{◌>>=◌, finish, given_back, refuse, same_bytes, is_full_for}
-use Rattle.store_book.specs.Layers.{unlent, book_catalog, slot_shown, IsBook}
+use Rattle.store_book.specs.Layers.{unlent, book_catalog, IsBook}
 use Rattle.store_book.specs.Keeping.{CanKeep, IsKept, IsUnkept, again, anew, differs, full}
 use Rattle.store_book.proofs.KeptBlobs.{Keeps, IsKept-Keeps, length-unlent}
 use Rattle.store_book.proofs.Keepable.{CanKeep-book}
@@ -26,20 +26,7 @@ use Rattle.store_book.proofs.Outcomes.{bound_ok, not_refused}
 use Rattle.store_book.proofs.PuttingBack.{here_charged, here_small, here_tenant, session_here, IsBook-home}
 use Rattle.store_book.proofs.SessionCharges.{sums-gone}
 use Rattle.store_book.proofs.SessionTenants.{session_owner}
-use Rattle.store_book.proofs.SlotLemmas.{map-with_slot}
 use Rattle.store_book.proofs.Ties.{held_of, slot_is_resident, not_resident, rooms}
-
--- a link and a blob more leave each slot its generation
-pub generations-kept : (l l' : Linked) (slots slots' : List Slot) (repo : Text) (blob : Text × Text) → IsKept l slots repo blob l' slots' → map slot_shown slots' ≡ map slot_shown slots
-generations-kept l l' slots slots' repo blob (again k h place at bytes links slots_are) = ap (map slot_shown) slots_are ∙ by_link (contains_key l.links (repo, blob.0))
-  where
-    by_link : (b : Bool) → map slot_shown (if b then slots else with_slot slots k (on_held raise)) ≡ map slot_shown slots
-    by_link true = refl
-    by_link false = map-with_slot slot_shown slots k (on_held raise) (λ s here. refl)
-generations-kept l l' slots slots' repo blob (anew k none free links slots_are) =
-    ap (map slot_shown) slots_are
-    ∙ map-with_slot slot_shown (with_slot slots k (fill blob)) k (on_held raise) (λ s here. refl)
-    ∙ map-with_slot slot_shown slots k (fill blob) (λ s here. refl)
 
 module _ (l : Linked) (u : Uploaded) (slots : List Slot) (max_blob : ℕ) (h : Taken) (digest : Text) where
   abbrev C : Catalog

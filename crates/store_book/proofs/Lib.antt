@@ -66,3 +66,4 @@ pub mod SessionTenants
 pub mod ChunkCharges
 pub mod PuttingBack
 pub mod Finishing
+pub mod SeenSlots

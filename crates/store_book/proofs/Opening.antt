@@ -21,10 +21,11 @@ use Rattle.link_table.specs.Tenancy.{AreTenants, Opens}
 use Rattle.upload_table.specs.Sessions.{Session, share}
 use Rattle.upload_table.specs.Uploaded.{Uploaded}
 use Rattle.upload_table.specs.Uploaded as uploads
+use Rattle.slot_table.specs.declared.phase.Phase.TheVariants as phase
 use Rattle.store_book.specs.Catalog.{Text, Tenant, Resident, Catalog, text_cmp, link_cmp, number_cmp, opening}
 use Rattle.store_book.specs.Laws.{Sound}
-use Rattle.store_book.specs.BookState.{SlotShown}
-use Rattle.store_book.specs.Layers.{links_of, resident_rows, unlent, slot_shown, book_catalog, book_state, IsBook}
+use Rattle.store_book.specs.BookState.{SlotSeen}
+use Rattle.store_book.specs.Layers.{links_of, resident_rows, unlent, seen, book_catalog, book_state, IsBook}
 use Rattle.store_book.specs.Openings.{IsSized, OpensBook}
 use Rattle.store_book.proofs.KeptBlobs.{length-unlent}
 use Rattle.store_book.proofs.LawfulOpening.{Sound-opening}
@@ -62,9 +63,9 @@ zeros (suc n) (suc k) = zeros n k
 no_links : links_of empty ≡ set.none
 no_links = ap (λ (es : List ((Text × Text) × ℕ)). set.from_list {R = link_cmp} (map (λ e. e.0) es)) (entries-empty link_cmp ℕ)
 
-shown_slots : (slots first : ℕ) → map slot_shown (new_slots slots first) ≡ replicate slots (record { generation = first })
-shown_slots zero first = refl
-shown_slots (suc slots) first = ap (λ (xs : List SlotShown). record { generation = first } ∷ xs) (shown_slots slots first)
+seen_slots : (slots first : ℕ) → map seen (new_slots slots first) ≡ replicate slots (record { generation = first; phase = phase.Free; digest = None; bound = 0 })
+seen_slots zero first = refl
+seen_slots (suc slots) first = ap (λ (xs : List SlotSeen). seen (empty_slot first) ∷ xs) (seen_slots slots first)
 
 module _ (tenants : List Tenant) (slots first max_blob : ℕ) where
   abbrev l : Linked
@@ -141,5 +142,5 @@ module _ (given : List Tenant) (l' : Linked) (u' : Uploaded) (slots' : List Slot
       rising = opened.tenants.rising;
       empty = (λ i. book_catalog (opened.empty i) (sym upload_is i) (sym sizes.2 i) max_blob) ∙ catalog-opening l'.tenants count first max_blob;
     };
-    slots = ap (map slot_shown) (sym sizes.2) ∙ shown_slots count first;
+    slots = ap (map seen) (sym sizes.2) ∙ seen_slots count first;
   }

@@ -1,12 +1,13 @@
 -- The catalog that the layers of the book stand for together, and what ties them.
 use Rattle.std.specs.Prelude.{◌≡◌, ℕ, ◌<◌, Bool, false, Some, List, [], ◌∷◌, length, map, count_by, slice_index}
+use Rattle.std.specs.Option.{option_map}
 use Rattle.std.specs.FinMap as fmap
 use Rattle.blob_digest.specs.Sets as set
-use Rattle.slot_table.specs.Slots.{Slot, Held, Content, Free, Used, Retired, is_retired, held_at, IsDistinct}
-use Rattle.link_table.specs.Linked.{Linked}
+use Rattle.slot_table.specs.Slots.{Slot, Held, Content, Free, Used, Retired, is_retired, held_at, held_in, phase_in, IsDistinct}
+use Rattle.link_table.specs.Linked.{Linked, used_in}
 use Rattle.upload_table.specs.Uploaded.{Uploaded}
-use Rattle.store_book.specs.BookState.{BookState, SlotShown}
-use Rattle.store_book.specs.Catalog.{Text, Link, Resident, Catalog, text_cmp, link_cmp, in_sessions_of, count}
+use Rattle.store_book.specs.BookState.{BookState, SlotSeen}
+use Rattle.store_book.specs.Catalog.{Text, Link, Resident, Catalog, text_cmp, link_cmp, in_sessions_of, count, used}
 use Rattle.store_book.specs.Laws.{Sound}
 
 -- the links without their sizes
@@ -52,11 +53,12 @@ catalog_from l u slots lent max_blob = record {
 abbrev pub book_catalog : Linked → Uploaded → List Slot → ℕ → Catalog
 book_catalog l u slots max_blob = catalog_from l u slots (unlent slots) max_blob
 
-abbrev pub slot_shown : Slot → SlotShown
-slot_shown s = record { generation = s.generation }
+-- a slot to which no reader was let (leases are not there yet)
+abbrev pub seen : Slot → SlotSeen
+seen s = record { generation = s.generation; phase = phase_in s.content; digest = option_map (λ h. h.digest) (held_in s.content); bound = 0 }
 
 abbrev pub book_state : Linked → Uploaded → List Slot → ℕ → BookState
-book_state l u slots max_blob = record { catalog = book_catalog l u slots max_blob; slots = map slot_shown slots }
+book_state l u slots max_blob = record { catalog = book_catalog l u slots max_blob; slots = map seen slots }
 
 -- What the book keeps of its layers, besides that their catalog is sound.
 pub record IsTied (l : Linked) (slots : List Slot) (lent : List Bool) (C : Catalog) : Type 0 where
@@ -84,3 +86,7 @@ pub record IsBook (l : Linked) (u : Uploaded) (slots : List Slot) (max_blob : �
   pub tied : IsTied l slots (unlent slots) (book_catalog l u slots max_blob)
   pub charges : AreCharges l (book_catalog l u slots max_blob)
   pub live : AreLive slots
+
+-- The use that the layers keep of a tenant, at which a quota is measured and which is printed, is the one that the catalog defines.
+abbrev pub UsesAreKept : Type 0
+UsesAreKept = (l : Linked) (u : Uploaded) (slots : List Slot) (max_blob : ℕ) → IsBook l u slots max_blob → (t : ℕ) → t < length l.tenants → used_in l t ≡ used (book_catalog l u slots max_blob) t

@@ -1,20 +1,12 @@
 -- What commands and sweeps do to slots, beside what they do to the catalog.
-use Rattle.std.specs.Prelude.{◌≡◌, ◌<◌, ◌≤◌, ◌+◌, ◌^◌, ℕ, Bool, true, Option, Some, Result, List, length, slice_get}
+use Rattle.std.specs.Prelude.{◌≡◌, ◌<◌, ◌≤◌, ◌+◌, ◌^◌, ◌⊎◌, ℕ, Bool, true, Option, Some, Result, List, length, slice_get}
 use Rattle.blob_digest.specs.Keys.{Text}
 use Rattle.blob_digest.specs.declared.refusal.Refusal.{Refusal}
 use Rattle.blob_digest.specs.Outcomes.{Does}
-use Rattle.slot_table.specs.declared.phase.Phase.{Phase}
 use Rattle.slot_table.specs.declared.phase.Phase.TheVariants as phase
+use Rattle.store_book.specs.BookState.{SlotSeen}
 use Rattle.store_book.specs.Catalog.{Catalog}
 use Rattle.store_book.specs.Steps.{lease}
-
--- A slot with the keeper's view of it: its generation, what it is, the digest of its blob where it is used, and a bound on the sum of
--- the weights that readers have of it, which is the last look at that sum and what was lent since.
-pub record SlotSeen : Type 0 where
-  pub generation : ℕ
-  pub phase : Phase
-  pub digest : Option Text
-  pub bound : ℕ
 
 -- each slot is related to what it was
 abbrev pub EachSlot : (SlotSeen → SlotSeen → Type 0) → List SlotSeen → List SlotSeen → Type 0
@@ -25,6 +17,11 @@ EachSlot R old new = (length new ≡ length old) × ((k : ℕ) (a b : SlotSeen) 
 -- a slot stays in its generation, and no reader more is let to it
 abbrev pub IsQuiet : SlotSeen → SlotSeen → Type 0
 IsQuiet a b = (b.generation ≡ a.generation) × (b.bound ≤ a.bound)
+
+-- A slot stays as it is; or one that was free, or has this digest, is live with it.
+pub data IsHousing (digest : Text) (a b : SlotSeen) : Type 0 where
+  still : IsQuiet a b → b.phase ≡ a.phase → b.digest ≡ a.digest → IsHousing digest a b
+  housed : IsQuiet a b → (a.phase ≡ phase.Free) ⊎ (a.digest ≡ Some digest) → b.phase ≡ phase.Live → b.digest ≡ Some digest → IsHousing digest a b
 
 -- or one reader more, where it has this digest
 abbrev pub IsLending : Text → SlotSeen → SlotSeen → Type 0

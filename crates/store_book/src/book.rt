@@ -1,9 +1,10 @@
-ghost use Rattle.std.specs.Prelude.{◌≡◌, Some, IfOk, IfErr, OnOk};
+ghost use Rattle.std.specs.Prelude.{◌≡◌, Some, IfOk, IfErr, OnErr, OnOk};
 ghost use Rattle.blob_digest.specs.Outcomes.{Does, DoesExactly};
 ghost use Rattle.link_table.specs.Tenancy.{tenants_shown};
 ghost use Rattle.store_book.specs.Laws.{Sound};
 ghost use Rattle.store_book.specs.Openings.{OpensBook, RefusesBook};
 ghost use Rattle.store_book.specs.Printed.{book_text};
+ghost use Rattle.store_book.specs.SlotSteps.{EachSlot, IsHousing};
 ghost use Rattle.store_book.specs.Steps.{start, status, append, close, abandon, mount, delete, take, put_back, finish, given_back};
 ghost use Rattle.upload_table.specs.Uploaded.{IsFull};
 ghost use Rattle.std.specs.Io.KnownBytes.{Appends};
@@ -153,7 +154,8 @@ impl Book {
         bytes: &[u8],
     ) -> Result<u64, Refusal>
         ensures does { Does (λ n. n) result self.old.catalog self.new.catalog (close self.old.catalog repo.now number digest.now range bytes.now) }
-        ensures slots { self.new.slots ≡ self.old.slots }
+        ensures housed { OnOk result (EachSlot (IsHousing digest.now) self.old.slots self.new.slots) }
+        ensures slots { OnErr result (self.new.slots ≡ self.old.slots) }
     {
         let hand = self.take(repo, number, range, bytes.len() as u64)?;
         match hand.fill(bytes) {
@@ -219,7 +221,8 @@ impl Book {
     pub fn finish(&mut self, hand: Hand, digest: &Digest) -> Result<u64, Refusal>
         requires full { IsFull hand }
         ensures does { Does (λ n. n) result (given_back self.old.catalog hand) self.new.catalog (finish self.old.catalog hand digest.now) }
-        ensures slots { self.new.slots ≡ self.old.slots }
+        ensures housed { OnOk result (EachSlot (IsHousing digest.now) self.old.slots self.new.slots) }
+        ensures slots { OnErr result (self.new.slots ≡ self.old.slots) }
     {
         let tenant = hand.tenant();
         let reserved = hand.reserved();

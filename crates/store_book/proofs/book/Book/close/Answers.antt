@@ -1,9 +1,14 @@
-use Rattle.std.proofs.Common.{refl}
+use Rattle.std.proofs.Common.{List, OnOk, refl, subst}
+use Rattle.store_book.specs.BookState.{SlotSeen}
+use Rattle.store_book.specs.SlotSteps.{EachSlot, IsHousing}
 use Rattle.store_book.proofs.ByHand.{close_does, undone}
 use Rattle.store_book.proofs.book.Book.close.Goals as goal
 
 pub returns-in-Ok-clause-does : goal.returns-in-Ok-clause-does
 returns-in-Ok-clause-does c = close_does c.args.self.now.catalog c.take.new.self.catalog c.args.repo.now c.args.number c.args.range c.args.bytes.now c.in_ok-hand.hand c.in_ok-hand.ensures.does c.finish.result c.finish.new.self.catalog c.in-Ok.hand c.args.digest.now c.in-Ok.ensures.ok c.finish.ensures.does
+
+pub returns-in-Ok-clause-housed : goal.returns-in-Ok-clause-housed
+returns-in-Ok-clause-housed c = subst (λ (xs : List SlotSeen). OnOk c.finish.result (EachSlot (IsHousing c.args.digest.now) xs c.finish.new.self.slots)) c.in_ok-hand.ensures.slots c.finish.ensures.housed
 
 pub returns-in-Err-clause-does : goal.returns-in-Err-clause-does
 returns-in-Err-clause-does c = (

@@ -1,6 +1,7 @@
 use Rattle.std.proofs.Common.{sym, ap, ◌∙◌, refl}
 use Rattle.store_book.specs.BookState.{BookState}
-use Rattle.store_book.proofs.Deleting.{delete_unknown, live_there, counted_there, delete_ok, IsBook-delete, slots_kept}
+use Rattle.store_book.proofs.Deleting.{delete_unknown, live_there, counted_there, delete_ok, IsBook-delete}
+use Rattle.store_book.proofs.SeenSlots.{seen-lowered}
 use Rattle.store_book.proofs.book.Book.delete.Goals as goal
 
 pub returns-in_default-clause-does : goal.returns-in_default-clause-does
@@ -19,4 +20,4 @@ pub returns-clause-does : goal.returns-clause-does
 returns-clause-does c = rw (← c.self.view_is) (delete_ok c.self.inside.links c.self.inside.uploads c.self.inside.slots c.self.inside.max_blob c.in_ok-tenant.tenant c.args.repo.now c.args.digest.now c.self.invariant (sym c.in_ok-tenant.ensures.known) c.in-Some.slot (sym c.in-Some.ensures) c.unlink.new.self c.link_down.new.self c.unlink.ensures c.link_down.ensures)
 
 pub returns-clause-slots : goal.returns-clause-slots
-returns-clause-slots c = slots_kept c.self.inside.slots c.in-Some.slot c.link_down.new.self c.link_down.ensures ∙ ap (λ (s : BookState). s.slots) c.self.view_is
+returns-clause-slots c = seen-lowered c.self.inside.slots c.in-Some.slot c.link_down.new.self c.link_down.ensures ∙ ap (λ (s : BookState). s.slots) c.self.view_is

@@ -1,4 +1,4 @@
-use Rattle.std.proofs.Common.{◌≡◌, [], Option, length, ap, ◌∙◌, arith, subst}
+use Rattle.std.proofs.Common.{◌≡◌, [], Option, length, map, ap, ◌∙◌, arith, subst}
 use Rattle.std.specs.Option.{option_map_or}
 use Rattle.std.specs.FinMap.{remove}
 use Rattle.blob_digest.specs.Keys.{Text}
@@ -6,10 +6,12 @@ use Rattle.upload_table.specs.Sessions.{Session}
 use Rattle.upload_table.specs.Uploaded.{repo_at, reopened, with_sessions}
 use Rattle.store_book.specs.BookState.{BookState}
 use Rattle.store_book.specs.Keeping.{IsKept, IsUnkept}
-use Rattle.store_book.specs.Layers.{book_catalog}
+use Rattle.store_book.specs.Layers.{book_catalog, seen}
+use Rattle.store_book.specs.SlotSteps.{EachSlot, IsHousing}
 use Rattle.store_book.specs.Steps.{given_back}
-use Rattle.store_book.proofs.Finishing.{found, finish_charged, finish_ok, finish_other_digest, finish_unkept, generations-kept, given_back_is, layer_finished, layer_refused, layer_unknown, reserve_charged, same_tenants, CanKeep-finished, IsBook-finish, IsBook-given_back}
+use Rattle.store_book.proofs.Finishing.{found, finish_charged, finish_ok, finish_other_digest, finish_unkept, given_back_is, layer_finished, layer_refused, layer_unknown, reserve_charged, same_tenants, CanKeep-finished, IsBook-finish, IsBook-given_back}
 use Rattle.store_book.proofs.PuttingBack.{here_tenant}
+use Rattle.store_book.proofs.SeenSlots.{seen-kept}
 use Rattle.store_book.proofs.book.Book.finish.Goals as goal
 
 pub discharge-requires : goal.discharge-requires
@@ -90,8 +92,11 @@ returns-in-Ok-keep-clause-does c =
     let uploads = c.forget.ensures ∙ (λ i. with_sessions (p.4 i) (remove (p.4 i).sessions (c.in-Ok.ensures.key i))) in
     rw (← c.self.view_is, size) (finish_ok c.self.inside.links c.self.inside.uploads c.self.inside.slots c.self.inside.max_blob c.args.hand c.args.digest.now c.self.invariant (record { pieces = c.reserved-reserved.ensures.pieces; last = c.reserved-reserved.ensures.last }) c.requires.full p.0 p.1 p.2 c.keep.new.links c.keep.new.slots kept c.discharge-in-Ok-keep.new.self c.forget.new.self links uploads)
 
-pub returns-in-Ok-keep-clause-slots : goal.returns-in-Ok-keep-clause-slots
-returns-in-Ok-keep-clause-slots c = generations-kept c.self.inside.links c.keep.new.links c.self.inside.slots c.keep.new.slots c.repo_of-repo.result.now c.in-Ok.both.0 c.in-Ok-keep.ensures.ok ∙ ap (λ (s : BookState). s.slots) c.self.view_is
+pub returns-in-Ok-keep-clause-housed : goal.returns-in-Ok-keep-clause-housed
+returns-in-Ok-keep-clause-housed c =
+    let p = layer_finished c.self.inside.uploads c.args.hand c.args.digest.now c.in-Ok.both.0 c.finish.new.self c.in-Ok.ensures.does in
+    rw (← c.self.view_is) (subst (λ (b : Text × Text). EachSlot (IsHousing b.0) (map seen c.self.inside.slots) (map seen c.keep.new.slots)) p.3
+    (seen-kept c.self.inside.links c.keep.new.links c.self.inside.slots c.keep.new.slots c.repo_of-repo.result.now c.in-Ok.both.0 c.in-Ok-keep.ensures.ok))
 
 pub returns-in-Err-keep-clause-does : goal.returns-in-Err-keep-clause-does
 returns-in-Err-keep-clause-does c =
@@ -113,5 +118,6 @@ returns-in_default c =
         λ other. rw (← c.self.view_is, p.3) (finish_other_digest c.self.inside.links c.self.inside.uploads c.self.inside.slots c.self.inside.max_blob c.args.hand c.args.digest.now c.self.invariant (record { pieces = c.reserved-reserved.ensures.pieces; last = c.reserved-reserved.ensures.last }) c.requires.full p.0 p.1 p.2),
         given_back_is c.self.inside.links c.self.inside.uploads c.self.inside.slots c.self.inside.max_blob c.args.hand c.args.digest.now c.discharge.new.self c.finish.new.self c.reserved-reserved.result (rw c.tenant-tenant.ensures at c.discharge.ensures) c.in-Err.ensures.does.1 ∙ ap (λ (s : BookState). given_back s.catalog c.args.hand) c.self.view_is,
       );
+      housed = tt;
       slots = ap (λ (s : BookState). s.slots) c.self.view_is;
     }

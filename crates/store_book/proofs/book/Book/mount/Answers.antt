@@ -5,8 +5,8 @@ use Rattle.link_table.specs.Linked.{Linked, HasNoLinks, vanish}
 use Rattle.store_book.specs.BookState.{BookState}
 use Rattle.store_book.specs.Layers.{book_catalog}
 use Rattle.store_book.specs.Steps.{start}
-use Rattle.store_book.proofs.Finishing.{generations-kept}
-use Rattle.store_book.proofs.Mounting.{session_ok, session_refused, mount_refused_first, can_link, mount_ok, IsBook-mount}
+use Rattle.store_book.proofs.Mounting.{session_ok, session_refused, mount_refused_first, can_link, mount_ok, IsBook-mount, source_slot_of}
+use Rattle.store_book.proofs.SeenSlots.{seen-linked}
 use Rattle.store_book.proofs.Starting.{same_catalog, same_book, undone, unneeded, appeared_there, appeared_unlinked}
 use Rattle.store_book.proofs.book.Book.mount.Goals as goal
 use Rattle.store_book.proofs.book.Book.mount.Goals.{then-appeared, else-appeared}
@@ -43,7 +43,9 @@ returns-in-Ok-clause-does c =
     rw (← c.self.view_is) (mount_ok c.self.inside.links c.self.inside.uploads c.self.inside.slots c.self.inside.max_blob c.in_ok-tenant.tenant c.args.repo.now c.self.invariant (sym c.in_ok-tenant.ensures.known) c.args.digest.now c.args.from.now c.in-Some.slot (sym c.in-Some.ensures) c.appear.new.self c.in_ok-appeared.appeared c.in_ok-appeared.ensures c.in_ok-tenant.ensures.short c.link_slot.new.links c.link_slot.new.slots c.in-Ok.ensures.ok)
 
 pub returns-in-Ok-clause-slots : goal.returns-in-Ok-clause-slots
-returns-in-Ok-clause-slots c = generations-kept c.appear.new.self c.link_slot.new.links c.self.inside.slots c.link_slot.new.slots c.args.repo.now _ c.in-Ok.ensures.ok ∙ ap (λ (s : BookState). s.slots) c.self.view_is
+returns-in-Ok-clause-slots c = 
+    seen-linked c.appear.new.self c.link_slot.new.links c.self.inside.slots c.link_slot.new.slots c.args.repo.now _ c.in-Ok.ensures.ok c.in-Some.slot
+    (source_slot_of c.self.inside.links c.self.inside.uploads c.self.inside.slots c.self.inside.max_blob c.in_ok-tenant.tenant c.args.repo.now c.self.invariant (sym c.in_ok-tenant.ensures.known) c.args.digest.now c.args.from.now c.in-Some.slot (sym c.in-Some.ensures)) ∙ ap (λ (s : BookState). s.slots) c.self.view_is
 
 pub vanish-requires-clause-there : goal.vanish-requires-clause-there
 vanish-requires-clause-there c = ap (λ (l : Linked). set.contains l.repos c.args.repo.now) c.in-Err.ensures.err.0 ∙ appeared_there c.self.inside.links c.appear.new.self c.in_ok-tenant.tenant c.args.repo.now c.in_ok-appeared.appeared c.in_ok-appeared.ensures
