@@ -4,9 +4,9 @@ use Rattle.std.specs.Prelude.{◌^◌, ◌==◌, ◌&&◌, ◌||◌, nat_le, rep
 use Rattle.std.specs.declared.cmp.Ordering.TheVariants.{Less, Equal}
 use Rattle.std.specs.Ordering.{eq_by_cmp, is_eq, is_lt, nat_cmp}
 use Rattle.std.specs.Option.{option_map_or}
-use Rattle.std.specs.List.{count_by, sum_by}
-use Rattle.std.specs.FinMap.{FinMap, find, get, insert, remove, entries, entries_sorted, from_entries, get-entries, get-from_entries, get-insert, get-remove, is_sorted, same_map}
-use Rattle.std.specs.FinMap.Entries.{below_all, find-where_key, where_key}
+use Rattle.std.specs.List.{sum_by}
+use Rattle.std.specs.FinMap.{find, get, insert, remove, entries, entries_sorted, from_entries, get-entries, get-insert, get-remove, is_sorted, same_map}
+use Rattle.std.specs.FinMap.Entries.{below_all, find-where_key}
 use Rattle.std.specs.Cmp.{nat_cmp_total}
 use Rattle.std.proofs.lemmas.Bool.{and_from, and_parts, eq-eqb, cases_eq}
 use Rattle.std.proofs.lemmas.Bool.Decides.{nat_tests}

@@ -7,7 +7,6 @@ use Rattle.std.specs.FinMap.{entries, get, remove}
 use Rattle.std.proofs.lemmas.Bool.{false≢true}
 use Rattle.std.proofs.lemmas.Option.{slice_get_past}
 use Rattle.blob_digest.specs.Keys.{Text, same_text}
-use Rattle.blob_digest.proofs.ListLemmas.{filter-map}
 use Rattle.upload_table.specs.Sessions.{Chunks, Session, in_sessions, is_home, listed, sessions_of, with_chunks}
 use Rattle.upload_table.specs.Tenants.{Numbered, charged_in, of_tenant, tenants_shown, with_chunks_here, without}
 use Rattle.upload_table.specs.Uploaded.{Uploaded, with_sessions}

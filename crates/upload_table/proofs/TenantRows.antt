@@ -23,7 +23,6 @@ use Rattle.upload_table.specs.Sessions.{Chunks, Session, charged, is_home, recei
 use Rattle.upload_table.specs.Sessions as shown
 use Rattle.upload_table.specs.Tenants.{Numbered, charged_in, is_spent, start_here, with_chunks_here}
 use Rattle.upload_table.specs.Rows.{chunks_shown, content_charge, content_received, entry_of, is_at_home, session_of, shown_by, AreWhole, IsSound}
-use Rattle.upload_table.specs.Uploaded.{cut}
 use Rattle.upload_table.specs.declared.upload.Content.{Content}
 use Rattle.upload_table.specs.declared.upload.Content.TheVariants.{Home, InHand}
 use Rattle.upload_table.specs.declared.upload.Upload.{Upload}

@@ -1,4 +1,4 @@
-use Rattle.std.proofs.Common.{ap, sym, ◌∙◌, arith}
+use Rattle.std.proofs.Common.{ap, sym, ◌∙◌}
 use Rattle.std.proofs.lemmas.Bool.{le-leb}
 use Rattle.upload_table.specs.Tenants.{is_spent}
 use Rattle.upload_table.proofs.TenantRows.{spent_few, spent_many}

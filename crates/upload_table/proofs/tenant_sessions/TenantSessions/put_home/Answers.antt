@@ -1,6 +1,6 @@
-use Rattle.std.proofs.Common.{◌≡◌, ◌≤◌, ap, sym, ◌∙◌, arith, length, is_some, ◌-◌}
+use Rattle.std.proofs.Common.{ap, sym, ◌∙◌, arith, length, is_some, ◌-◌}
 use Rattle.std.proofs.lemmas.Bool.{false≢true}
-use Rattle.upload_table.specs.Rows.{content_charge, chunks_shown}
+use Rattle.upload_table.specs.Rows.{chunks_shown}
 use Rattle.upload_table.specs.Tenants.{Numbered, with_chunks_here}
 use Rattle.upload_table.specs.declared.upload.Content.TheVariants.{Home}
 use Rattle.upload_table.proofs.TenantRows.{absent, charge-le, sound-set, view-set, within_charge}

@@ -1,4 +1,4 @@
-use Rattle.std.proofs.Common.{ap, ◌∙◌, arith, is_some}
+use Rattle.std.proofs.Common.{ap, arith, is_some}
 use Rattle.std.specs.FinMap.{get}
 use Rattle.upload_table.proofs.TableCalls.{after-without, found_here, home_value, within}
 use Rattle.upload_table.proofs.uploads.Uploads.remove.Goals as goal

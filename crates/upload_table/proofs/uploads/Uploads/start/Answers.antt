@@ -1,4 +1,4 @@
-use Rattle.std.proofs.Common.{sym, subst, set}
+use Rattle.std.proofs.Common.{subst, set}
 use Rattle.blob_digest.specs.Outcomes.{Does}
 use Rattle.upload_table.specs.Tenants.{tenants_shown}
 use Rattle.upload_table.specs.Uploaded.{Uploaded, start_upload}
