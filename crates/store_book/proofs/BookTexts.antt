@@ -35,21 +35,6 @@ numbers_below : (xs : List Tenant) (from n : ℕ) → from + length xs ≤ n →
 numbers_below [] from n h = tt
 numbers_below (x ∷ xs) from n h = (omega arith, numbers_below xs (from + 1) n (omega arith))
 
-at_most : {X : Type 0} (p q : X → Bool) → ((x : X) → p x ≡ true → q x ≡ true) → (xs : List X) → count_by p xs ≤ count_by q xs
-at_most p q implies [] = omega arith
-at_most p q implies (x ∷ xs) =
-    let left : count_by p (x ∷ xs) ≡ cond (p x) 1 0 + count_by p xs = sum_by-cons (λ y. cond (p y) 1 0) x xs in
-    let right : count_by q (x ∷ xs) ≡ cond (q x) 1 0 + count_by q xs = sum_by-cons (λ y. cond (q y) 1 0) x xs in
-    let rest = at_most p q implies xs in
-    let head = by_test (p x) (q x) (implies x) in
-    omega arith
-  where
-    by_test : (a b : Bool) → (a ≡ true → b ≡ true) → cond a 1 0 ≤ cond b 1 0
-    by_test true true h = omega arith
-    by_test true false h = absurd (false≢true (h refl))
-    by_test false true h = omega arith
-    by_test false false h = omega arith
-
 -- ---- links
 
 abbrev no_link : Link × ℕ
@@ -143,5 +128,4 @@ module _ (l : Linked) (u : Uploaded) (slots : List Slot) (max_blob : ℕ) (book 
   can_print = record {
     next = book.sound.lawful.numbers;
     repos = λ t. let few = book.sound.lawful.limits.repos t in let same = length-filter (is_of C t) (set.items l.repos) in omega arith;
-    sessions = λ t repo. let few = book.sound.lawful.limits.sessions t in let same = length-filter (is_of_repo t repo) (entries u.sessions) in let less = at_most (is_of_repo t repo) (λ e. e.0.0 == t) (λ e h. (and_parts (e.0.0 == t) (same_text e.1.repo repo) h).0) (entries u.sessions) in omega arith;
   }
