@@ -1,15 +1,15 @@
 -- The lines that the layers give are the book's text.
 use Rattle.std.proofs.Common.{◌≡◌, ℕ, ◌+◌, ◌<◌, ◌≤◌, Bool, true, false, cond, List, [], ◌∷◌, ◌++◌, length, map, get_or, Option, Some, None, refl, sym, ap, ◌∙◌, arith}
-use Rattle.std.specs.Prelude.{filter, ◌==◌, ◌&&◌, slice_index}
+use Rattle.std.specs.Prelude.{filter, ◌&&◌, slice_index}
 use Rattle.std.specs.declared.cmp.Ordering.{Ordering}
-use Rattle.std.specs.List.{flat_map, enumerate_from, count_by, AllByRecursion}
+use Rattle.std.specs.List.{flat_map, enumerate_from, AllByRecursion}
 use Rattle.std.specs.Ordering.{is_lt}
 use Rattle.std.specs.Option.{option_map_or}
 use Rattle.std.specs.FinMap.{FinMap, entries, entries_sorted, get, get-entries, is_sorted, keys}
 use Rattle.std.specs.FinMap.Entries.{below_all}
 use Rattle.std.proofs.lemmas.List.Concat.{flat_map-cons}
 use Rattle.std.proofs.lemmas.List.Folds.{flat_map-map}
-use Rattle.std.proofs.lemmas.List.Sums.{length-filter, sum_by-cons}
+use Rattle.std.proofs.lemmas.List.Sums.{length-filter}
 use Rattle.blob_digest.proofs.ListLemmas.{all_weaker}
 use Rattle.store_book.proofs.MapLemmas.{is_true, flat_map-same, all_same, all_by_index}
 use Rattle.blob_digest.specs.Sets as set
@@ -19,8 +19,7 @@ use Rattle.slot_table.specs.Slots.{Slot, Held, slot_of, links_at}
 use Rattle.link_table.specs.Archive.{manifests_on}
 use Rattle.link_table.specs.Linked.{Linked, Tenant, used_in, blobs_in, repos_of}
 use Rattle.blob_digest.proofs.SortedRows.{IsApart-sorted, entries-sorted}
-use Rattle.upload_table.specs.Sessions.{is_of_repo, listed, sessions_of}
-use Rattle.std.proofs.lemmas.Bool.{and_parts, false≢true}
+use Rattle.upload_table.specs.Sessions.{listed, sessions_of}
 use Rattle.upload_table.specs.Uploaded.{Uploaded}
 use Rattle.store_book.specs.Catalog.{Text, Link, Resident, Catalog, is_of, link_cmp, same_text, used, size, count}
 use Rattle.store_book.specs.Layers.{links_of, unlent, book_catalog, IsBook}
