@@ -1,15 +1,15 @@
 -- The lines that the layers give are the book's text.
 use Rattle.std.proofs.Common.{◌≡◌, ℕ, ◌+◌, ◌<◌, ◌≤◌, Bool, true, false, cond, List, [], ◌∷◌, ◌++◌, length, map, get_or, Option, Some, None, refl, sym, ap, ◌∙◌, arith}
-use Rattle.std.specs.Prelude.{filter, ◌==◌, ◌&&◌, slice_index}
+use Rattle.std.specs.Prelude.{filter, ◌&&◌, slice_index}
 use Rattle.std.specs.declared.cmp.Ordering.{Ordering}
-use Rattle.std.specs.List.{flat_map, enumerate_from, count_by, AllByRecursion}
+use Rattle.std.specs.List.{flat_map, enumerate_from, AllByRecursion}
 use Rattle.std.specs.Ordering.{is_lt}
 use Rattle.std.specs.Option.{option_map_or}
 use Rattle.std.specs.FinMap.{FinMap, entries, entries_sorted, get, get-entries, is_sorted, keys}
 use Rattle.std.specs.FinMap.Entries.{below_all}
 use Rattle.std.proofs.lemmas.List.Concat.{flat_map-cons}
 use Rattle.std.proofs.lemmas.List.Folds.{flat_map-map}
-use Rattle.std.proofs.lemmas.List.Sums.{length-filter, sum_by-cons}
+use Rattle.std.proofs.lemmas.List.Sums.{length-filter}
 use Rattle.blob_digest.proofs.ListLemmas.{all_weaker}
 use Rattle.store_book.proofs.MapLemmas.{is_true, flat_map-same, all_same, all_by_index}
 use Rattle.blob_digest.specs.Sets as set
@@ -19,8 +19,7 @@ use Rattle.slot_table.specs.Slots.{Slot, Held, slot_of, links_at}
 use Rattle.link_table.specs.Archive.{manifests_on}
 use Rattle.link_table.specs.Linked.{Linked, Tenant, used_in, blobs_in, repos_of}
 use Rattle.blob_digest.proofs.SortedRows.{IsApart-sorted, entries-sorted}
-use Rattle.upload_table.specs.Sessions.{is_of_repo, listed, sessions_of}
-use Rattle.std.proofs.lemmas.Bool.{and_parts, false≢true}
+use Rattle.upload_table.specs.Sessions.{listed, sessions_of}
 use Rattle.upload_table.specs.Uploaded.{Uploaded}
 use Rattle.store_book.specs.Catalog.{Text, Link, Resident, Catalog, is_of, link_cmp, same_text, used, size, count}
 use Rattle.store_book.specs.Layers.{links_of, lent_marks, book_catalog, IsBook}
@@ -34,21 +33,6 @@ use Rattle.store_book.proofs.Ties.{held_of, not_resident}
 numbers_below : (xs : List Tenant) (from n : ℕ) → from + length xs ≤ n → AllByRecursion (λ e. e.0 < n) (enumerate_from from xs)
 numbers_below [] from n h = tt
 numbers_below (x ∷ xs) from n h = (omega arith, numbers_below xs (from + 1) n (omega arith))
-
-at_most : {X : Type 0} (p q : X → Bool) → ((x : X) → p x ≡ true → q x ≡ true) → (xs : List X) → count_by p xs ≤ count_by q xs
-at_most p q implies [] = omega arith
-at_most p q implies (x ∷ xs) =
-    let left : count_by p (x ∷ xs) ≡ cond (p x) 1 0 + count_by p xs = sum_by-cons (λ y. cond (p y) 1 0) x xs in
-    let right : count_by q (x ∷ xs) ≡ cond (q x) 1 0 + count_by q xs = sum_by-cons (λ y. cond (q y) 1 0) x xs in
-    let rest = at_most p q implies xs in
-    let head = by_test (p x) (q x) (implies x) in
-    omega arith
-  where
-    by_test : (a b : Bool) → (a ≡ true → b ≡ true) → cond a 1 0 ≤ cond b 1 0
-    by_test true true h = omega arith
-    by_test true false h = absurd (false≢true (h refl))
-    by_test false true h = omega arith
-    by_test false false h = omega arith
 
 -- ---- links
 
@@ -143,5 +127,4 @@ module _ (l : Linked) (u : Uploaded) (slots : List Slot) (max_blob : ℕ) (book 
   can_print = record {
     next = book.sound.lawful.numbers;
     repos = λ t. let few = book.sound.lawful.limits.repos t in let same = length-filter (is_of C t) (set.items l.repos) in omega arith;
-    sessions = λ t repo. let few = book.sound.lawful.limits.sessions t in let same = length-filter (is_of_repo t repo) (entries u.sessions) in let less = at_most (is_of_repo t repo) (λ e. e.0.0 == t) (λ e h. (and_parts (e.0.0 == t) (same_text e.1.repo repo) h).0) (entries u.sessions) in omega arith;
   }

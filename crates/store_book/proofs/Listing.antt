@@ -42,6 +42,11 @@ module _ {X : Type 0} (f : X → List ℕ) where
   pub Appends-all : (a b : Option (List ℕ)) (xs : List X) (i : ℕ) → Appends a b (flat_map f (take i xs)) → slice_get xs i ≡ None → Appends a b (flat_map f xs)
   Appends-all a b xs i before at = subst (λ (t : List ℕ). Appends a b t) (taken_all xs i at) before
 
+-- an element is written, and then what follows it
+pub Appends-step : {X : Type 0} (f : X → List ℕ) (a b whole : Option (List ℕ)) (x : X) (xs all : List X) → all ≡ x ∷ xs → Appends a b (f x) → Appends b whole (flat_map f xs) → Appends a whole (flat_map f all)
+Appends-step f a b whole x xs all is now rest =
+    subst (λ (t : List ℕ). Appends a whole t) (sym (flat_map-cons f x xs) ∙ ap (flat_map f) (sym is)) (Appends-trans a b whole (f x) (flat_map f xs) now rest)
+
 -- the element of a number, with the number
 pub at_number : {X : Type 0} (xs : List X) (from i : ℕ) (x : X) → slice_get xs i ≡ Some x → slice_get (enumerate_from from xs) i ≡ Some (from + i, x)
 at_number [] from i x at = cc

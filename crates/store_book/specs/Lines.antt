@@ -44,8 +44,7 @@ book_rows l u slots = book_line ++ flat_map (tenant_rows l u slots) (enumerate_f
 abbrev pub tenant_in : List Tenant → ℕ → Tenant
 tenant_in tenants t = option_map_or (λ x. x) (slice_get tenants t) (record { name = []; quota = 0 })
 
--- What printing takes: the numbers of repositories and sessions are within their limits.
+-- What printing takes: each tenant has a next session number, and its number of repositories is within its limit.
 pub record CanPrint (l : Linked) (u : Uploaded) : Type 0 where
   pub next : length u.next ≡ length l.tenants
   pub repos : (t : ℕ) → length (repos_of l t) ≤ 1024
-  pub sessions : (t : ℕ) (repo : Text) → length (sessions_of u.sessions t repo) ≤ 64

@@ -32,7 +32,7 @@ pub(crate) fn check_linked(
 /// Keeps a manifest of a repository under the digest of its bytes. The repository appears with it.
 /// Refused are a repository that would be one too many for its tenant, and a manifest that would be one
 /// too many for its repository (`LimitReached`), and want of memory; a refusal leaves no repository
-/// behind.
+/// behind. A repository that is not there has no links.
 pub(crate) fn add_manifest(
     links: &mut Links,
     tenant: u16,

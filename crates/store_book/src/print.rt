@@ -106,13 +106,10 @@ fn print_sessions<W: Write>(
     tenant: u16,
     repo: &RepoName,
 ) -> io::Result<()>
-    requires few { length (sessions_of uploads.now.sessions tenant repo.now) ≤ 64 }
     ensures { OnOk result (Appends (W.contents writer.old) (W.contents writer.new) (flat_map session_row (map listed (sessions_of uploads.now.sessions tenant repo.now)))) }
 {
-    let mut i = 0;
-    while let Some((number, received)) = uploads.session_at(tenant, repo, i) {
+    for (number, received) in uploads.sessions(tenant, repo) {
         print_session(writer, number, received)?;
-        i += 1;
     }
     Ok(())
 }
@@ -133,7 +130,6 @@ fn print_repo<W: Write>(
     tenant: u16,
     repo: &RepoName,
 ) -> io::Result<()>
-    requires few { length (sessions_of uploads.now.sessions tenant repo.now) ≤ 64 }
     ensures { OnOk result (Appends (W.contents writer.old) (W.contents writer.new) (repo_rows links.now uploads.now slots.now tenant repo.now)) }
 {
     print_name(writer, repo)?;

@@ -1,12 +1,11 @@
-use Rattle.std.proofs.Common.{◌-◌, length, map, take}
+use Rattle.std.proofs.Common.{List, ℕ, map}
 use Rattle.std.specs.List.{flat_map}
 use Rattle.std.specs.Io.KnownBytes.{Appends}
+use Rattle.std.specs.Prelude.{Option}
 use Rattle.upload_table.specs.Sessions.{listed, sessions_of}
 use Rattle.store_book.specs.Lines.{session_row}
 use Rattle.store_book.proofs.print.print_sessions.Given as goal
 
+-- whoever writes the sessions that are left has written them all
 abbrev pub invariant-loop-number : goal.invariant-loop-number
-invariant-loop-number g l = Appends (g.W.Write.contents l.fn.writer) (g.W.Write.contents l.writer) (flat_map session_row (take l.i (map listed (sessions_of l.uploads.sessions l.tenant l.repo))))
-
-abbrev pub decreases-loop-number : goal.decreases-loop-number
-decreases-loop-number g l = length (map listed (sessions_of l.uploads.sessions l.tenant l.repo)) - l.i
+invariant-loop-number g l = (whole : Option (List ℕ)) → Appends (g.W.Write.contents l.writer) whole (flat_map session_row l.number-iterator) → Appends (g.W.Write.contents l.fn.writer) whole (flat_map session_row (map listed (sessions_of l.uploads.sessions l.tenant l.repo)))
