@@ -1,5 +1,5 @@
 -- What is seen of the slots after a call.
-use Rattle.std.proofs.Common.{◌≡◌, ℕ, ◌≤◌, ◌⊎◌, Bool, true, false, cond, List, [], ◌∷◌, length, map, Option, Some, None, refl, sym, ap, ◌∙◌, subst, arith, inl, inr}
+use Rattle.std.proofs.Common.{◌≡◌, ℕ, ◌≤◌, Bool, true, false, List, [], ◌∷◌, length, map, Some, None, refl, sym, ap, ◌∙◌, subst, arith, inl, inr}
 use Prim.Native.Nat.{zero, suc}
 use Rattle.std.specs.Prelude.{slice_get, if◌then◌else◌}
 use Rattle.std.specs.Option.{option_map_or}
@@ -12,7 +12,7 @@ use Rattle.store_book.specs.BookState.{SlotSeen}
 use Rattle.store_book.specs.Catalog.{Text}
 use Rattle.store_book.specs.Keeping.{IsKept, again, anew, counted}
 use Rattle.store_book.specs.Layers.{seen}
-use Rattle.store_book.specs.SlotSteps.{EachSlot, IsQuiet, IsHousing, still, housed}
+use Rattle.store_book.specs.SlotSteps.{EachSlot, IsHousing, still, housed}
 use Rattle.store_book.proofs.MapLemmas.{some_same}
 use Rattle.store_book.proofs.SlotLemmas.{length-with_slot, slot-same, slot-other, map-with_slot}
 
