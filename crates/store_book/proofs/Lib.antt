@@ -35,6 +35,7 @@ pub mod Reclaiming
 pub mod Finds
 pub mod Sweeping
 pub mod Looking
+pub mod Housing
 pub mod SweptCatalog
 pub mod SweptSeen
 pub mod KeptBlobs

@@ -15,6 +15,14 @@ with_slot-suc s slots k f = at (slice_get slots k)
     at None = refl
     at (Some x) = refl
 
+-- two changes of one slot
+pub with_slot-twice : (slots : List Slot) (k : ℕ) (f g : Slot → Slot) → with_slot (with_slot slots k f) k g ≡ with_slot slots k (λ s. g (f s))
+with_slot-twice [] k f g = refl
+with_slot-twice (s ∷ slots) zero f g = refl
+with_slot-twice (s ∷ slots) (suc k) f g =
+    ap (λ xs. with_slot xs (suc k) g) (with_slot-suc s slots k f) ∙ with_slot-suc s (with_slot slots k f) k g
+    ∙ ap (λ xs. s ∷ xs) (with_slot-twice slots k f g) ∙ sym (with_slot-suc s slots k (λ x. g (f x)))
+
 pub length-with_slot : (slots : List Slot) (k : ℕ) (f : Slot → Slot) → length (with_slot slots k f) ≡ length slots
 length-with_slot [] k f = refl
 length-with_slot (s ∷ slots) zero f = refl

@@ -21,7 +21,7 @@ use Rattle.store_book.proofs.Finds.{IsFirst, get-drop, first, nowhere, count_by-
 use Rattle.store_book.proofs.MapLemmas.{some_same}
 use Rattle.store_book.proofs.Pinning.{index-set-le}
 use Rattle.store_book.proofs.Reclaiming.{orphan_held}
-use Rattle.store_book.proofs.SlotLemmas.{length-with_slot, slot-other, slot-same, with_slot-suc}
+use Rattle.store_book.proofs.SlotLemmas.{length-with_slot, slot-other, slot-same, with_slot-suc, with_slot-twice}
 
 -- ---- slots
 
@@ -37,13 +37,6 @@ count_by-written p (x ∷ slots) (suc k) f s at =
     let now : count_by p (with_slot (x ∷ slots) (suc k) f) ≡ cond (p x) 1 0 + count_by p (with_slot slots k f) = ap (count_by p) (with_slot-suc x slots k f) ∙ sum_by-cons (λ y. cond {A = ℕ} (p y) 1 0) x (with_slot slots k f) in
     let old : count_by p (x ∷ slots) ≡ cond (p x) 1 0 + count_by p slots = sum_by-cons (λ y. cond {A = ℕ} (p y) 1 0) x slots in
     omega arith
-
-with_slot-twice : (slots : List Slot) (k : ℕ) (f g : Slot → Slot) → with_slot (with_slot slots k f) k g ≡ with_slot slots k (λ s. g (f s))
-with_slot-twice [] k f g = refl
-with_slot-twice (s ∷ slots) zero f g = refl
-with_slot-twice (s ∷ slots) (suc k) f g =
-    ap (λ xs. with_slot xs (suc k) g) (with_slot-suc s slots k f) ∙ with_slot-suc s (with_slot slots k f) k g
-    ∙ ap (λ xs. s ∷ xs) (with_slot-twice slots k f g) ∙ sym (with_slot-suc s slots k (λ x. g (f x)))
 
 -- what stands past a slot that changes
 drop-written : (slots : List Slot) (k : ℕ) (f : Slot → Slot) → drop (suc k) (with_slot slots k f) ≡ drop (suc k) slots

@@ -25,6 +25,11 @@ EachSlot R old new = (length new ≡ length old) × ((k : ℕ) (a b : SlotSeen) 
 abbrev pub IsQuiet : SlotSeen → SlotSeen → Type 0
 IsQuiet a b = (b.generation ≡ a.generation) × (b.bound ≤ a.bound)
 
+-- A slot stays as it is; or one that was free, or has this digest, is live with it.
+pub data IsHousing (digest : Text) (a b : SlotSeen) : Type 0 where
+  still : IsQuiet a b → b.phase ≡ a.phase → b.digest ≡ a.digest → IsHousing digest a b
+  housed : IsQuiet a b → (a.phase ≡ phase.Free) ⊎ (a.digest ≡ Some digest) → b.phase ≡ phase.Live → b.digest ≡ Some digest → IsHousing digest a b
+
 -- or one reader more, where it has this digest
 abbrev pub IsLending : Text → SlotSeen → SlotSeen → Type 0
 IsLending digest a b = (b.generation ≡ a.generation) × (a.bound < b.bound → (b.digest ≡ Some digest) × (b.bound ≤ a.bound + 1024))

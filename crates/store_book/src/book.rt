@@ -1,11 +1,11 @@
-ghost use Rattle.std.specs.Prelude.{◌≡◌, ◌<◌, length, Some, IfOk, IfErr, OnOk};
+ghost use Rattle.std.specs.Prelude.{◌≡◌, ◌<◌, length, Some, IfOk, IfErr, OnErr, OnOk};
 ghost use Rattle.blob_digest.specs.Outcomes.{Answers, Does, DoesExactly};
 ghost use Rattle.link_table.specs.Tenancy.{tenants_shown};
 ghost use Rattle.store_book.specs.Laws.{Sound};
 ghost use Rattle.store_book.specs.Pinned.{blob_bytes};
 ghost use Rattle.store_book.specs.Openings.{OpensBook, RefusesBook};
 ghost use Rattle.store_book.specs.Printed.{book_text};
-ghost use Rattle.store_book.specs.SlotSteps.{EachSlot, HasLast, HasPin, IsCrowded, IsLending, IsQuiet, IsStill, IsSweptSlot, Leases, ReadsWord};
+ghost use Rattle.store_book.specs.SlotSteps.{EachSlot, HasLast, HasPin, IsCrowded, IsHousing, IsLending, IsQuiet, IsStill, IsSweptSlot, Leases, ReadsWord};
 ghost use Rattle.store_book.specs.Steps.{start, status, append, close, abandon, mount, delete, put_manifest, get_manifest, delete_manifest, take, put_back, finish, given_back};
 ghost use Rattle.store_book.specs.Sweeps.{IsSweep};
 ghost use Rattle.upload_table.specs.Uploaded.{IsFull};
@@ -169,6 +169,8 @@ impl Book {
         requires table { self.old.table ≡ pins.now }
         ensures does { Does (λ n. n) result self.old.catalog self.new.catalog (close self.old.catalog repo.now number digest.now range bytes.now) }
         ensures slots { (self.new.table ≡ self.old.table) × EachSlot IsQuiet self.old.slots self.new.slots }
+        ensures housed { OnOk result (EachSlot (IsHousing digest.now) self.old.slots self.new.slots) }
+        ensures kept { OnErr result (self.new.slots ≡ self.old.slots) }
     {
         let hand = self.take(repo, number, range, bytes.len() as u64)?;
         match hand.fill(bytes) {
@@ -236,6 +238,8 @@ impl Book {
         requires full { IsFull hand }
         ensures does { Does (λ n. n) result (given_back self.old.catalog hand) self.new.catalog (finish self.old.catalog hand digest.now) }
         ensures slots { (self.new.table ≡ self.old.table) × EachSlot IsQuiet self.old.slots self.new.slots }
+        ensures housed { OnOk result (EachSlot (IsHousing digest.now) self.old.slots self.new.slots) }
+        ensures kept { OnErr result (self.new.slots ≡ self.old.slots) }
     {
         let tenant = hand.tenant();
         let reserved = hand.reserved();

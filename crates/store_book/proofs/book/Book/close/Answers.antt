@@ -1,4 +1,6 @@
-use Rattle.std.proofs.Common.{refl}
+use Rattle.std.proofs.Common.{refl, List, OnOk, subst}
+use Rattle.store_book.specs.BookState.{SlotSeen}
+use Rattle.store_book.specs.SlotSteps.{EachSlot, IsHousing}
 use Rattle.store_book.proofs.ByHand.{close_does, undone}
 use Rattle.store_book.proofs.book.Book.close.Goals as goal
 
@@ -10,3 +12,6 @@ returns-in-Err-clause-does c = (
   λ other. absurd (other refl),
   undone c.args.self.now.catalog c.take.new.self.catalog c.args.repo.now c.args.number c.args.range c.args.bytes.now c.in_ok-hand.hand c.in_ok-hand.ensures.does c.put_back.result c.put_back.new.self.catalog c.in-Err.hand c.in-Err.ensures.err c.put_back.ensures.does,
 )
+
+pub returns-in-Ok-clause-housed : goal.returns-in-Ok-clause-housed
+returns-in-Ok-clause-housed c = subst (λ (xs : List SlotSeen). OnOk c.finish.result (EachSlot (IsHousing c.args.digest.now) xs c.finish.new.self.slots)) c.in_ok-hand.ensures.slots.1 c.finish.ensures.housed

@@ -5,7 +5,9 @@ use Rattle.blob_digest.specs.Keys.{Text}
 use Rattle.upload_table.specs.Sessions.{Session}
 use Rattle.upload_table.specs.Uploaded.{repo_at, reopened, with_sessions}
 use Rattle.store_book.specs.BookState.{BookState}
-use Rattle.store_book.specs.Pinned.{Pinned}
+use Rattle.store_book.specs.Pinned.{Pinned, all_seen}
+use Rattle.store_book.specs.SlotSteps.{EachSlot, IsHousing}
+use Rattle.store_book.proofs.Housing.{EachSlot-housed}
 use Rattle.store_book.specs.Keeping.{IsKept, IsUnkept}
 use Rattle.store_book.specs.Layers.{book_catalog}
 use Rattle.store_book.specs.Steps.{given_back}
@@ -112,3 +114,9 @@ returns-in_default-clause-does c =
       (λ other. rw (← c.self.view_is, p.3) (finish_other_digest c.self.inside.links c.self.inside.uploads c.self.inside.slots.slots c.self.inside.max_blob c.args.hand c.args.digest.now c.self.invariant (record { pieces = c.reserved-reserved.ensures.pieces; last = c.reserved-reserved.ensures.last }) c.requires.full p.0 p.1 p.2)),
       given_back_is c.self.inside.links c.self.inside.uploads c.self.inside.slots.slots c.self.inside.max_blob c.args.hand c.args.digest.now c.discharge.new.self c.finish.new.self c.reserved-reserved.result (rw c.tenant-tenant.ensures at c.discharge.ensures) c.in-Err.ensures.does.1 ∙ ap (λ (s : BookState). given_back s.catalog c.args.hand) c.self.view_is,
     )
+
+pub returns-in-Ok-keep-clause-housed : goal.returns-in-Ok-keep-clause-housed
+returns-in-Ok-keep-clause-housed c =
+    let p = layer_finished c.self.inside.uploads c.args.hand c.args.digest.now c.in-Ok.both.0 c.finish.new.self c.in-Ok.ensures.does in
+    rw (← c.self.view_is) (subst (λ (b : Text × Text). EachSlot (IsHousing b.0) (all_seen c.self.inside.slots.slots c.self.inside.slots.bounds) (all_seen c.keep.new.slots.slots c.keep.new.slots.bounds)) p.3
+    (EachSlot-housed c.self.inside.slots c.keep.new.slots c.self.inside.links c.keep.new.links c.repo_of-repo.result.now c.in-Ok.both.0 c.in-Ok-keep.ensures.quiet c.in-Ok-keep.ensures.ok))

@@ -1,0 +1,44 @@
+"""Plays scripts on the built blobctl and tells the processor time that they took.
+
+The program is the one that `rt run` leaves in crates/blobctl/out/blobctl.
+"""
+import hashlib
+import os
+import resource
+import subprocess
+import sys
+import tempfile
+
+PROGRAM = os.path.join(os.path.dirname(os.path.abspath(__file__)), "../crates/blobctl/out/blobctl")
+
+
+def sha256(data):
+    return "sha256:" + hashlib.sha256(data).hexdigest()
+
+
+def sha512(data):
+    return "sha512:" + hashlib.sha512(data).hexdigest()
+
+
+def row(command, repo="", key="", digest="", place="", body="", lane=0):
+    return f"{lane},{command},{repo},{key},{digest},{place},{body}\n"
+
+
+def seconds(words, script, runs):
+    """The least processor time, in seconds, of so many runs of the program on a script."""
+    if not os.path.exists(PROGRAM):
+        sys.exit("build the program first: cd crates/blobctl && rt run -- acme=1 < /dev/null")
+    with tempfile.NamedTemporaryFile(suffix=".csv") as file:
+        file.write(script)
+        file.flush()
+        return min(one_run(words, file.name) for _ in range(runs))
+
+
+def one_run(words, path):
+    before = resource.getrusage(resource.RUSAGE_CHILDREN)
+    with open(path, "rb") as script:
+        done = subprocess.run([PROGRAM, *words], stdin=script, stdout=subprocess.DEVNULL, stderr=subprocess.PIPE)
+    if done.returncode:
+        sys.exit(f"blobctl ended with {done.returncode}: {done.stderr.decode()}")
+    after = resource.getrusage(resource.RUSAGE_CHILDREN)
+    return (after.ru_utime + after.ru_stime) - (before.ru_utime + before.ru_stime)
