@@ -79,12 +79,12 @@ one_housed : (slots : List Slot) (k : ℕ) (blob : Text × Text) → phase_at sl
 one_housed slots k blob free = (
   length-map_of seen (with_slot slots k (fill blob)) ∙ length-with_slot slots k (fill blob) ∙ sym (length-map_of seen slots),
   λ j a b at_a at_b.
-    let p = seen-at slots j a at_a in
-    let q = seen-at (with_slot slots k (fill blob)) j b at_b in
-    rw (p.2, q.2) (elim (cases_eq j k) [
-      | inl e ↦ at_k j e p.0 q.0 p.1 q.1
-      | inr other ↦ as_it_was blob.0 (seen p.0) (seen q.0) (ap seen (some_same (sym p.1 ∙ sym (slot-other slots k (fill blob) j other) ∙ q.1)))
-    ]),
+      let p = seen-at slots j a at_a in
+      let q = seen-at (with_slot slots k (fill blob)) j b at_b in
+      rw (p.2, q.2) (elim (cases_eq j k) [
+        | inl e ↦ at_k j e p.0 q.0 p.1 q.1
+        | inr other ↦ as_it_was blob.0 (seen p.0) (seen q.0) (ap seen (some_same (sym p.1 ∙ sym (slot-other slots k (fill blob) j other) ∙ q.1)))
+      ]),
 )
   where
     at_k : (j : ℕ) → j ≡ k → (s s' : Slot) → slice_get slots j ≡ Some s → slice_get (with_slot slots k (fill blob)) j ≡ Some s' → IsHousing blob.0 (seen s) (seen s')

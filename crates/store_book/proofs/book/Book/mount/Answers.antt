@@ -43,7 +43,7 @@ returns-in-Ok-clause-does c =
     rw (← c.self.view_is) (mount_ok c.self.inside.links c.self.inside.uploads c.self.inside.slots c.self.inside.max_blob c.in_ok-tenant.tenant c.args.repo.now c.self.invariant (sym c.in_ok-tenant.ensures.known) c.args.digest.now c.args.from.now c.in-Some.slot (sym c.in-Some.ensures) c.appear.new.self c.in_ok-appeared.appeared c.in_ok-appeared.ensures c.in_ok-tenant.ensures.short c.link_slot.new.links c.link_slot.new.slots c.in-Ok.ensures.ok)
 
 pub returns-in-Ok-clause-slots : goal.returns-in-Ok-clause-slots
-returns-in-Ok-clause-slots c = 
+returns-in-Ok-clause-slots c =
     seen-linked c.appear.new.self c.link_slot.new.links c.self.inside.slots c.link_slot.new.slots c.args.repo.now _ c.in-Ok.ensures.ok c.in-Some.slot
     (source_slot_of c.self.inside.links c.self.inside.uploads c.self.inside.slots c.self.inside.max_blob c.in_ok-tenant.tenant c.args.repo.now c.self.invariant (sym c.in_ok-tenant.ensures.known) c.args.digest.now c.args.from.now c.in-Some.slot (sym c.in-Some.ensures)) ∙ ap (λ (s : BookState). s.slots) c.self.view_is
 
