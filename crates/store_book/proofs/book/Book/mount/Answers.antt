@@ -43,17 +43,11 @@ returns-in-Ok-clause-does c =
     rw (← c.self.view_is) (mount_ok c.self.inside.links c.self.inside.uploads c.self.inside.slots.slots c.self.inside.max_blob c.in_ok-tenant.tenant c.args.repo.now c.self.invariant (sym c.in_ok-tenant.ensures.known) c.args.digest.now c.args.from.now c.in-Some.slot (rw c.table.ensures at (sym c.in-Some.ensures)) c.appear.new.self c.in_ok-appeared.appeared c.in_ok-appeared.ensures c.in_ok-tenant.ensures.short c.link_slot.new.links c.link_slot.new.slots.slots c.in-Ok.ensures.ok)
 
 pub returns-in-Ok-clause-slots : goal.returns-in-Ok-clause-slots
-<<<<<<< HEAD
 returns-in-Ok-clause-slots c = rw (← c.self.view_is) c.in-Ok.ensures.seen
 
 pub link_slot-requires-clause-live : goal.link_slot-requires-clause-live
 link_slot-requires-clause-live c =
     live_source c.self.inside.links c.self.inside.uploads c.self.inside.slots.slots c.self.inside.max_blob c.in_ok-tenant.tenant c.args.repo.now c.self.invariant (sym c.in_ok-tenant.ensures.known) c.args.digest.now c.args.from.now c.in-Some.slot (rw c.table.ensures at (sym c.in-Some.ensures))
-=======
-returns-in-Ok-clause-slots c =
-    seen-linked c.appear.new.self c.link_slot.new.links c.self.inside.slots c.link_slot.new.slots c.args.repo.now _ c.in-Ok.ensures.ok c.in-Some.slot
-    (source_slot_of c.self.inside.links c.self.inside.uploads c.self.inside.slots c.self.inside.max_blob c.in_ok-tenant.tenant c.args.repo.now c.self.invariant (sym c.in_ok-tenant.ensures.known) c.args.digest.now c.args.from.now c.in-Some.slot (sym c.in-Some.ensures)) ∙ ap (λ (s : BookState). s.slots) c.self.view_is
->>>>>>> 19055878c7e5a2d9f0328426350607ee8fb6ecc3
 
 pub vanish-requires-clause-there : goal.vanish-requires-clause-there
 vanish-requires-clause-there c = ap (λ (l : Linked). set.contains l.repos c.args.repo.now) c.in-Err.ensures.err.0 ∙ appeared_there c.self.inside.links c.appear.new.self c.in_ok-tenant.tenant c.args.repo.now c.in_ok-appeared.appeared c.in_ok-appeared.ensures
