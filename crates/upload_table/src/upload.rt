@@ -12,7 +12,7 @@ use blob_digest::{ByteRange, Refusal, RepoName, Running};
 use std::alloc::{AllocError, Global};
 use std::mem;
 
-/// The chunks of a session: their bytes, one after another, their lengths, and the hash of the bytes.
+/// The chunks of a session: their bytes, one after another, their lengths, and the hashes of the bytes.
 #[derive(Drop)]
 pub(crate) struct Pieces {
     pub(crate) bytes: Vec<u8>,
@@ -129,8 +129,8 @@ pub(crate) fn length_after(
     }
 }
 
-/// Adds the bytes of a chunk at the end, makes room for its length, and answers the hash of all bytes.
-/// The chunks' own hash stays, so that they need not be hashed again where the last one goes.
+/// Adds the bytes of a chunk at the end, makes room for its length, and answers the hashes of all bytes.
+/// The chunks' own hashes stay, so that they need not be hashed again where the last one goes.
 pub(crate) fn extend(pieces: &mut Pieces, chunk: &[u8]) -> Result<Running, AllocError>
     requires { Hashes pieces.old.running pieces.old.bytes.items }
     ensures hash { IfOk result (λ w. Hashes w pieces.new.bytes.items) }
