@@ -3,34 +3,35 @@ use Rattle.std.proofs.Common.{◌≢◌, ◌∷◌, [], List, ap, inl, inr}
 use Rattle.blob_digest.specs.declared.refusal.Refusal.TheVariants.{Memory}
 use Rattle.store_book.specs.BookState.{BookState}
 use Rattle.store_book.specs.Catalog.{Catalog}
+use Rattle.blobctl.specs.Answers.{Answer, Session, Received, Stored, Abandoned, Mounted, Deleted, Manifest, Body, Refused}
 use Rattle.blobctl.specs.Commands.{Command}
 use Rattle.blobctl.specs.Played.{Acts, Happens}
 use Rattle.blobctl.specs.Plays.{Plays, RowStep}
 use Rattle.blobctl.specs.Rows.{Line}
-use Rattle.blobctl.specs.declared.reply.Reply.{Reply}
-use Rattle.blobctl.specs.declared.reply.Reply.TheVariants.{Session, Received, Stored, Abandoned, Mounted, Deleted, Refused}
 
 -- a book does what its catalog has happen, want of memory apart
-happens : (C : Catalog) (command : Command) (reply : Reply) (C' : Catalog) → reply ≢ Refused Memory → Acts C command reply C' → Happens C command reply C'
+happens : (C : Catalog) (command : Command) (answer : Answer) (C' : Catalog) → answer ≢ Refused Memory → Acts C command answer C' → Happens C command answer C'
 happens C command (Session n) C' not_memory h = h
 happens C command (Received n) C' not_memory h = h
 happens C command (Stored n) C' not_memory h = h
 happens C command Abandoned C' not_memory h = h
 happens C command Mounted C' not_memory h = h
 happens C command Deleted C' not_memory h = h
+happens C command (Manifest digest) C' not_memory h = h
+happens C command (Body bytes) C' not_memory h = h
 happens C command (Refused refusal) C' not_memory h = (h.0 (λ e. not_memory (ap Refused e)), h.1)
 
-abbrev pub BookActs : BookState → Command → Reply → BookState → Type 0
-BookActs old command reply new = Acts old.catalog command reply new.catalog
+abbrev pub BookActs : BookState → Command → Answer → BookState → Type 0
+BookActs old command answer new = Acts old.catalog command answer new.catalog
 
-one_happens : (old new : BookState) (line : Line) (reply : Reply) → reply ≢ Refused Memory → RowStep BookActs old line reply new → RowStep Happens old.catalog line reply new.catalog
-one_happens old new line reply not_memory step =
+one_happens : (old new : BookState) (line : Line) (answer : Answer) → answer ≢ Refused Memory → RowStep BookActs old line answer new → RowStep Happens old.catalog line answer new.catalog
+one_happens old new line answer not_memory step =
     elim step [
       | inl r ↦ inl (r.0, r.1, r.2, ap (λ (s : BookState). s.catalog) r.3)
-      | inr d ↦ inr (d.0, d.1, happens old.catalog d.0 reply new.catalog not_memory d.2)
+      | inr d ↦ inr (d.0, d.1, happens old.catalog d.0 answer new.catalog not_memory d.2)
     ]
 
-pub all_happen : (old new : BookState) (lines : List Line) (replies : List Reply) → Plays BookActs old lines replies new → Plays Happens old.catalog lines replies new.catalog
+pub all_happen : (old new : BookState) (lines : List Line) (answers : List Answer) → Plays BookActs old lines answers new → Plays Happens old.catalog lines answers new.catalog
 all_happen old new [] [] h = ap (λ (s : BookState). s.catalog) h
 all_happen old new [] (r ∷ rs) h = absurd h
 all_happen old new (l ∷ ls) [] h = absurd h

@@ -1,5 +1,6 @@
 pub mod BookPlays
 pub mod CommandLines
+pub mod Digits
 pub mod Inputs
 pub mod PlayedRows
 pub mod Records

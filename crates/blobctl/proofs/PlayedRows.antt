@@ -5,32 +5,31 @@ use Rattle.blob_digest.specs.Digests.{IsDigestText}
 use Rattle.blob_digest.specs.Names.{IsRepoName}
 use Rattle.blob_digest.specs.declared.refusal.Refusal.{Refusal}
 use Rattle.blob_digest.specs.declared.refusal.Refusal.TheVariants.{DigestInvalid, SizeInvalid, Memory}
+use Rattle.blobctl.specs.Answers.{Answer, Refused}
 use Rattle.blobctl.specs.Commands.{Command, HasDigest, HasSource, IsNoRange, uses_digest}
 use Rattle.blobctl.specs.Lines.{line_of}
 use Rattle.blobctl.specs.Plays.{Plays, RowStep}
 use Rattle.blobctl.specs.Rows.{Line}
 use Rattle.blobctl.specs.declared.row.Row.{Row}
-use Rattle.blobctl.specs.declared.reply.Reply.{Reply}
-use Rattle.blobctl.specs.declared.reply.Reply.TheVariants.{Refused}
 
 -- a row whose digest is none is refused for it
-pub digest_refused : {S : Type 0} (acts : S → Command → Reply → S → Type 0) (s t : S) (line : Line) (refusal : Refusal) → IsRepoName line.repo → HasSource line → uses_digest line.verb ≡ true
+pub digest_refused : {S : Type 0} (acts : S → Command → Answer → S → Type 0) (s t : S) (line : Line) (refusal : Refusal) → IsRepoName line.repo → HasSource line → uses_digest line.verb ≡ true
     → (refusal ≡ DigestInvalid) × ¬ IsDigestText line.digest → t ≡ s → RowStep acts s line (Refused refusal) t
 digest_refused acts s t line refusal repo source uses why same = rw why.0 (inl (DigestInvalid, (repo, source, uses, why.1), refl, same))
 
 -- a row whose range is none is refused for it
-pub range_refused : {S : Type 0} (acts : S → Command → Reply → S → Type 0) (s t : S) (line : Line) (refusal : Refusal) → IsRepoName line.repo → HasSource line → HasDigest line
+pub range_refused : {S : Type 0} (acts : S → Command → Answer → S → Type 0) (s t : S) (line : Line) (refusal : Refusal) → IsRepoName line.repo → HasSource line → HasDigest line
     → (refusal ≡ SizeInvalid) × IsNoRange line.range → t ≡ s → RowStep acts s line (Refused refusal) t
 range_refused acts s t line refusal repo source digest why same = rw why.0 (inl (SizeInvalid, (repo, source, digest, why.1), refl, same))
 
 -- one row more is played
-pub one_played : {S : Type 0} (acts : S → Command → Reply → S → Type 0) (old mid new : S) (lines : List Line) (replies : List Reply) (line : Line) (reply : Reply)
-    → Plays acts old lines replies mid → RowStep acts mid line reply new → reply ≢ Refused Memory → Plays acts old (lines ++ line ∷ []) (replies ++ reply ∷ []) new
-one_played acts old mid new [] [] line reply before here not_memory = (new, rw (← before) here, not_memory, refl)
-one_played acts old mid new [] (r ∷ rs) line reply before here not_memory = absurd before
-one_played acts old mid new (l ∷ ls) [] line reply before here not_memory = absurd before
-one_played acts old mid new (l ∷ ls) (r ∷ rs) line reply before here not_memory =
-    (before.0, before.1, before.2, one_played acts before.0 mid new ls rs line reply before.3 here not_memory)
+pub one_played : {S : Type 0} (acts : S → Command → Answer → S → Type 0) (old mid new : S) (lines : List Line) (answers : List Answer) (line : Line) (answer : Answer)
+    → Plays acts old lines answers mid → RowStep acts mid line answer new → answer ≢ Refused Memory → Plays acts old (lines ++ line ∷ []) (answers ++ answer ∷ []) new
+one_played acts old mid new [] [] line answer before here not_memory = (new, rw (← before) here, not_memory, refl)
+one_played acts old mid new [] (r ∷ rs) line answer before here not_memory = absurd before
+one_played acts old mid new (l ∷ ls) [] line answer before here not_memory = absurd before
+one_played acts old mid new (l ∷ ls) (r ∷ rs) line answer before here not_memory =
+    (before.0, before.1, before.2, one_played acts before.0 mid new ls rs line answer before.3 here not_memory)
 
 -- the rows so far, and one more
 pub lines_more : (rows : List Row) (i : ℕ) (row : Row) → i < length rows → row ≡ get_or rows i row

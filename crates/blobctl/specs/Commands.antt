@@ -20,6 +20,9 @@ pub data Command : Type 0 where
   Abandon : Text → ℕ → Command
   Mount : Text → Text → Text → Command
   Delete : Text → Text → Command
+  PutManifest : Text → Text → Command
+  GetManifest : Text → Text → Command
+  DeleteManifest : Text → Text → Command
 
 -- what a range's field spells: no range where it is empty
 abbrev pub SpellsRange : Text → Option ByteRange → Type 0
@@ -53,6 +56,9 @@ Spells line (Close repo number digest range bytes) =
 Spells line (Abandon repo number) = (line.verb ≡ verb.Abandon) × SpellsRepo line repo × (session_number line.key ≡ Some number)
 Spells line (Mount repo digest from) = (line.verb ≡ verb.Mount) × SpellsRepo line repo × SpellsSource line from × SpellsDigest line digest
 Spells line (Delete repo digest) = (line.verb ≡ verb.Delete) × SpellsRepo line repo × SpellsDigest line digest
+Spells line (PutManifest repo bytes) = (line.verb ≡ verb.PutManifest) × SpellsRepo line repo × (bytes ≡ line.body)
+Spells line (GetManifest repo digest) = (line.verb ≡ verb.GetManifest) × SpellsRepo line repo × SpellsDigest line digest
+Spells line (DeleteManifest repo digest) = (line.verb ≡ verb.DeleteManifest) × SpellsRepo line repo × SpellsDigest line digest
 
 -- whether a command names a repository that a blob is mounted from
 abbrev pub uses_source : Verb → Bool
@@ -68,6 +74,8 @@ abbrev pub uses_digest : Verb → Bool
 uses_digest verb.Close = true
 uses_digest verb.Mount = true
 uses_digest verb.Delete = true
+uses_digest verb.GetManifest = true
+uses_digest verb.DeleteManifest = true
 uses_digest _ = false
 
 -- whether a command names a session

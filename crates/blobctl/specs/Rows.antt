@@ -5,7 +5,7 @@ use Rattle.csv.specs.Records.{field_at}
 use Rattle.blob_digest.specs.Keys.{Text}
 use Rattle.blob_digest.specs.Ranges.{number_of}
 use Rattle.blobctl.specs.declared.row.Verb.{Verb}
-use Rattle.blobctl.specs.declared.row.Verb.TheVariants.{Start, Status, Append, Close, Abandon, Mount, Delete}
+use Rattle.blobctl.specs.declared.row.Verb.TheVariants.{Start, Status, Append, Close, Abandon, Mount, Delete, PutManifest, GetManifest, DeleteManifest}
 
 -- a record: the bytes of its fields
 abbrev pub Record : Type 0
@@ -35,6 +35,9 @@ verb_of name =
     else if bytes_eq name (codes "abandon") then Some Abandon
     else if bytes_eq name (codes "mount") then Some Mount
     else if bytes_eq name (codes "delete") then Some Delete
+    else if bytes_eq name (codes "put_manifest") then Some PutManifest
+    else if bytes_eq name (codes "get_manifest") then Some GetManifest
+    else if bytes_eq name (codes "delete_manifest") then Some DeleteManifest
     else None
 
 -- a lane: one to three decimal digits of a value up to 255
@@ -57,6 +60,9 @@ fits Close key digest range body = is_some (session_number key)
 fits Abandon key digest range body = is_some (session_number key) && is_empty digest && is_empty range && is_empty body
 fits Mount key digest range body = is_empty range && is_empty body
 fits Delete key digest range body = is_empty key && is_empty range && is_empty body
+fits PutManifest key digest range body = is_empty key && is_empty digest && is_empty range
+fits GetManifest key digest range body = is_empty key && is_empty range && is_empty body
+fits DeleteManifest key digest range body = is_empty key && is_empty range && is_empty body
 
 -- the lane and the command of a record of seven fields
 abbrev pub head_of : Record → Option (ℕ × Verb)

@@ -27,6 +27,12 @@ fn verb_named(name: &[u8]) -> Option<Verb>
         Some(Verb::Mount)
     } else if name == b"delete".as_slice() {
         Some(Verb::Delete)
+    } else if name == b"put_manifest".as_slice() {
+        Some(Verb::PutManifest)
+    } else if name == b"get_manifest".as_slice() {
+        Some(Verb::GetManifest)
+    } else if name == b"delete_manifest".as_slice() {
+        Some(Verb::DeleteManifest)
     } else {
         None
     }
@@ -89,7 +95,10 @@ fn has_fields(verb: Verb, key: &[u8], digest: &[u8], range: &[u8], body: &[u8]) 
         Verb::Append => session(key).is_some() && digest.is_empty(),
         Verb::Close => session(key).is_some(),
         Verb::Mount => range.is_empty() && body.is_empty(),
-        Verb::Delete => key.is_empty() && range.is_empty() && body.is_empty(),
+        Verb::Delete | Verb::GetManifest | Verb::DeleteManifest => {
+            key.is_empty() && range.is_empty() && body.is_empty()
+        }
+        Verb::PutManifest => key.is_empty() && digest.is_empty() && range.is_empty(),
     }
 }
 

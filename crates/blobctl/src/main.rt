@@ -19,10 +19,14 @@ ghost use Rattle.blobctl.specs.Stops.{stop_status};
 
 mod alone;
 mod arguments;
-mod board;
+mod backend;
+mod book_backend;
 mod fault;
 mod fields;
+mod hex_digits;
 mod input;
+#[cfg(test)]
+mod manifest_tests;
 mod options;
 mod output;
 mod player;
@@ -32,7 +36,6 @@ mod run;
 mod script;
 #[cfg(test)]
 mod script_tests;
-mod seat;
 mod tenants;
 #[cfg(test)]
 mod tests;

@@ -19,6 +19,12 @@ pub enum Verb {
     Mount,
     /// Takes a blob's link out of a repository.
     Delete,
+    /// Keeps a manifest in a repository.
+    PutManifest,
+    /// Asks for the bytes of a manifest.
+    GetManifest,
+    /// Takes a manifest out of a repository.
+    DeleteManifest,
 }
 
 /// A row of the script, which is no bad one by its type. The last five fields are the bytes of the
@@ -38,7 +44,7 @@ pub struct Row {
     pub digest: Vec<u8>,
     /// The text of a byte range.
     pub range: Vec<u8>,
-    /// The bytes of a chunk.
+    /// The bytes of a chunk or of a manifest.
     pub body: Vec<u8>,
     pub ghost fit: { fits verb key.items digest.items range.items body.items ≡ true },
 }

@@ -42,7 +42,7 @@ impl Write for Full {
 
 /// What a run writes by these arguments from this script, or its fault, with how many calls of the
 /// writer there were.
-fn run_on(
+pub fn run_on(
     alloc: Global,
     words: &[&str],
     script: &[u8],
@@ -76,7 +76,7 @@ fn run_on(
 }
 
 /// Whether a run writes this text.
-fn writes(alloc: Global, words: &[&str], script: &[u8], text: &str) -> bool {
+pub fn writes(alloc: Global, words: &[&str], script: &[u8], text: &str) -> bool {
     match run_on(alloc, words, script, u32::MAX) {
         Ok((held, _)) => held.as_slice() == text.as_bytes(),
         Err(_) => false,

@@ -15,4 +15,4 @@ returns-in_err-digest g c =
     let source : IsRepoName c.args.row.now.key.items = search rules in
     let accepts = rw c.as_slice-3.ensures.value at c.in_err-digest.ensures.accepts in
     let why : (c.in_err-digest.field-0.0 ≡ DigestInvalid) × ¬ IsDigestText c.args.row.now.digest.items = (c.in_err-digest.ensures.refused, λ spelt. false≢true (accepts.1 spelt)) in
-    rw (p.1, p.2) (inr (digest_refused g.B.Board.acts c.args.board.now c.args.board.now (line_of c.args.row.now) c.in_err-digest.field-0.0 repo (λ _. source) (rw c.requires refl) why refl))
+    rw (p.1, p.2) (inr (digest_refused g.B.Backend.acts c.args.backend.now c.args.backend.now (line_of c.args.row.now) c.in_err-digest.field-0.0 repo (λ _. source) (rw c.requires refl) why refl))

@@ -1,12 +1,16 @@
 //! A book as what rows are played on.
-use crate::board::Board;
+use crate::backend::Backend;
 use blob_digest::{ByteRange, Digest, Refusal, RepoName};
-use store_book::{Book, Mount};
+use oci_manifest::Manifest;
+use std::alloc::Global;
+use std::sync::Arc;
+use book_ahead::Book;
+use store_book::Mount;
 
-impl Board for Book {
+impl Backend for Book {
     ghost use Rattle.blobctl.specs.Played.{Acts};
 
-    ghost acts = { λ old command reply new. Acts old.catalog command reply new.catalog };
+    ghost acts = { λ old command answer new. Acts old.catalog command answer new.catalog };
 
     fn start(&mut self, repo: &RepoName) -> Result<u32, Refusal> {
         Book::start(self, repo)
@@ -52,5 +56,21 @@ impl Board for Book {
 
     fn delete(&mut self, repo: &RepoName, digest: &Digest) -> Result<(), Refusal> {
         Book::delete(self, repo, digest)
+    }
+
+    fn put_manifest(&mut self, repo: &RepoName, bytes: &[u8]) -> Result<Digest, Refusal> {
+        Book::put_manifest(self, repo, bytes)
+    }
+
+    fn get_manifest(
+        &mut self,
+        repo: &RepoName,
+        digest: &Digest,
+    ) -> Result<Arc<Manifest, Global>, Refusal> {
+        Book::get_manifest(self, repo, digest)
+    }
+
+    fn delete_manifest(&mut self, repo: &RepoName, digest: &Digest) -> Result<(), Refusal> {
+        Book::delete_manifest(self, repo, digest)
     }
 }
