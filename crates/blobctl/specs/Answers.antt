@@ -3,6 +3,7 @@ use Rattle.std.specs.Prelude.{ℕ, List, map}
 use Rattle.std.specs.Arc.{arc_value}
 use Rattle.blob_digest.specs.Keys.{Text}
 use Rattle.blob_digest.specs.declared.refusal.Refusal.{Refusal}
+use Rattle.book_ahead.specs.declared.sweep.Swept.{Swept}
 use Rattle.store_book.specs.declared.mount.Mount.{Mount}
 use Rattle.store_book.specs.declared.mount.Mount.TheVariants as mounting
 use Rattle.blobctl.specs.declared.reply.Reply.{Reply}
@@ -17,6 +18,14 @@ pub data Answer : Type 0 where
   Deleted : Answer
   Manifest : Text → Answer
   Body : Text → Answer
+  Leased : ℕ → Answer
+  Bytes : Text → Answer
+  Shared : Answer
+  Verified : ℕ → Answer
+  GivenBack : Answer
+  Cleaned : Swept → Answer
+  NoLease : Answer
+  NameTaken : Answer
   Refused : Refusal → Answer
 
 -- what a reply answers
@@ -29,6 +38,14 @@ answer_of reply.Mounted = Mounted
 answer_of reply.Deleted = Deleted
 answer_of (reply.Manifest digest) = Manifest digest
 answer_of (reply.Body manifest) = Body (arc_value manifest)
+answer_of (reply.Leased size) = Leased size
+answer_of (reply.Bytes piece) = Bytes piece
+answer_of reply.Shared = Shared
+answer_of (reply.Verified size) = Verified size
+answer_of reply.GivenBack = GivenBack
+answer_of (reply.Swept swept) = Cleaned swept
+answer_of reply.NoLease = NoLease
+answer_of reply.NameTaken = NameTaken
 answer_of (reply.Refused refusal) = Refused refusal
 
 -- what replies answer

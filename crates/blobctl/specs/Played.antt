@@ -1,15 +1,19 @@
 -- What a script does to a store, and the text that is written then.
-use Rattle.std.specs.Prelude.{◌≡◌, ℕ, List, ◌++◌, Some, Result, Ok, Err}
+use Rattle.std.specs.Prelude.{◌≡◌, ◌≢◌, ℕ, ◌+◌, ◌<◌, ◌≤◌, ◌^◌, false, List, ◌++◌, Some, slice_get, Result, Ok, Err}
 use Rattle.blob_digest.specs.Keys.{Text}
-use Rattle.blob_digest.specs.Outcomes.{Refuses}
 use Rattle.blob_digest.specs.Tenants.{Tenant}
 use Rattle.blob_digest.specs.declared.refusal.Refusal.{Refusal}
+use Rattle.blob_digest.specs.declared.refusal.Refusal.TheVariants.{Memory, TooManyReaders}
 use Rattle.store_book.specs.Catalog.{Catalog}
 use Rattle.store_book.specs.Openings.{OpensCatalog}
 use Rattle.store_book.specs.Printed.{book_text}
 use Rattle.store_book.specs.Steps as steps
-use Rattle.blobctl.specs.Answers.{Answer, Session, Received, Stored, Abandoned, Deleted, Manifest, Body, Refused, mount_answer}
-use Rattle.blobctl.specs.Commands.{Command, Start, Status, Append, Close, Abandon, Mount, Delete, PutManifest, GetManifest, DeleteManifest}
+use Rattle.book_ahead.specs.BookState.{BookState, SlotSeen}
+use Rattle.book_ahead.specs.SlotSteps.{EachSlot, IsCrowded}
+use Rattle.book_ahead.specs.Sweeps.{IsSweep, Swept}
+use Rattle.blobctl.specs.Answers.{Answer, Session, Received, Stored, Abandoned, Deleted, Manifest, Body, Bytes, Verified, Cleaned, Refused, mount_answer}
+use Rattle.blobctl.specs.Commands.{Command, Start, Status, Append, Close, Abandon, Mount, Delete, PutManifest, GetManifest, DeleteManifest, Lease, Request, Calls, Verifies, Sweeps}
+use Rattle.blobctl.specs.Leases as leases
 use Rattle.blobctl.specs.Plays.{Plays}
 use Rattle.blobctl.specs.Replies.{replies_text}
 use Rattle.blobctl.specs.Rows.{Line}
@@ -25,7 +29,7 @@ abbrev pub read : {A : Type 0} → (A → Answer) → Catalog → Result A Refus
 read answer C (Ok x) = Ok (answer x, C)
 read answer C (Err refusal) = Err refusal
 
--- what a command answers and leaves
+-- what a command answers and leaves; a lease answers the bytes of its blob
 abbrev pub outcome : Catalog → Command → steps.Outcome Answer
 outcome C (Start repo) = told Session (steps.start C repo)
 outcome C (Status repo number) = read Received C (steps.status C repo number)
@@ -37,19 +41,56 @@ outcome C (Delete repo digest) = told (λ _. Deleted) (steps.delete C repo diges
 outcome C (PutManifest repo bytes) = told Manifest (steps.put_manifest C repo bytes)
 outcome C (GetManifest repo digest) = read Body C (steps.get_manifest C repo digest)
 outcome C (DeleteManifest repo digest) = told (λ _. Deleted) (steps.delete_manifest C repo digest)
+outcome C (Lease repo digest) = told Bytes (steps.lease false C repo digest)
 
 -- a command leads from one catalog to another with its answer; a refused one changes nothing
-abbrev pub Happens : Catalog → Command → Answer → Catalog → Type 0
-Happens C command (Refused refusal) C' = (outcome C command ≡ Err refusal) × (C' ≡ C)
-Happens C command answer C' = outcome C command ≡ Ok (answer, C')
+abbrev pub HappensCall : Catalog → Command → Answer → Catalog → Type 0
+HappensCall C command (Refused refusal) C' = (outcome C command ≡ Err refusal) × (C' ≡ C)
+HappensCall C command answer C' = outcome C command ≡ Ok (answer, C')
 
--- the same of a book, which may refuse for want of memory in place of any answer
-abbrev pub Acts : Catalog → Command → Answer → Catalog → Type 0
-Acts C command (Refused refusal) C' = Refuses refusal C C' (outcome C command)
-Acts C command answer C' = outcome C command ≡ Ok (answer, C')
+-- a sweep leads from one catalog to another, and retires no slot
+abbrev pub HappensSweep : Catalog → Answer → Catalog → Type 0
+HappensSweep C answer C' = (swept : Swept) × (answer ≡ Cleaned swept) × IsSweep C swept C' × (swept.retired ≡ 0)
+
+-- what a store is asked for leads from one catalog to another; neither want of memory nor too many readers is answered
+abbrev pub Happens : Catalog → Request → Answer → Catalog → Type 0
+Happens C (Calls command) answer C' = HappensCall C command answer C'
+Happens C (Verifies size) answer C' = (answer ≡ Verified size) × (C' ≡ C)
+Happens C Sweeps answer C' = HappensSweep C answer C'
+
+-- ---- the same of a book, which may refuse for want of memory in place of any answer, and a lease where a slot has too many readers
+
+abbrev pub ActsCall : Catalog → Command → Answer → Catalog → Type 0
+ActsCall C command (Refused refusal) C' = (refusal ≢ Memory → refusal ≢ TooManyReaders → outcome C command ≡ Err refusal) × (C' ≡ C)
+ActsCall C command answer C' = outcome C command ≡ Ok (answer, C')
+
+-- too many readers only where a look found no room for one more on some slot
+abbrev pub ExplainsCrowd : List SlotSeen → Answer → Type 0
+ExplainsCrowd slots (Refused refusal) = refusal ≡ TooManyReaders → (digest : Text) × IsCrowded digest slots
+ExplainsCrowd slots answer = Unit {0}
+
+-- some slot is in its last generation
+abbrev pub HasLastGeneration : List SlotSeen → Type 0
+HasLastGeneration slots = (k : ℕ) × (s : SlotSeen) × (slice_get slots k ≡ Some s) × (s.generation + 1 ≡ 2 ^ 32)
+
+-- a sweep of a book, which retires a slot only in its last generation
+abbrev pub ActsSweep : BookState → Answer → Catalog → Type 0
+ActsSweep s answer C' = (swept : Swept) × (answer ≡ Cleaned swept) × IsSweep s.catalog swept C' × (0 < swept.retired → HasLastGeneration s.slots)
+
+-- a slot's generation rises by one at most, and the bound on its readers' weights by one reader's at most
+abbrev pub RisesByOne : SlotSeen → SlotSeen → Type 0
+RisesByOne a b = (b.generation ≤ a.generation + 1) × (b.bound ≤ a.bound + 1024)
+
+-- what a book does
+abbrev pub Acts : BookState → Request → Answer → BookState → Type 0
+Acts s (Calls command) answer t = ActsCall s.catalog command answer t.catalog × ExplainsCrowd t.slots answer × EachSlot RisesByOne s.slots t.slots
+Acts s (Verifies size) answer t = (answer ≡ Verified size) × (t.catalog ≡ s.catalog) × EachSlot RisesByOne s.slots t.slots
+Acts s Sweeps answer t = ActsSweep s answer t.catalog × EachSlot RisesByOne s.slots t.slots
+
+-- ---- a run
 
 -- Playing a script on a store that is made with these tenants writes this text: the replies to all its rows, in their order,
--- and then the book as it is after the last of them. Want of memory is never an answer.
+-- and then the book as it is after the last of them. The lanes hold no lease at first. Want of memory is never an answer.
 pub record Played (tenants : List Tenant) (slots max_blob : ℕ) (script text : Text) : Type 0 where
   pub first : Catalog
   pub opened : OpensCatalog tenants slots max_blob first
@@ -57,5 +98,6 @@ pub record Played (tenants : List Tenant) (slots max_blob : ℕ) (script text : 
   pub all : AreRowsOf script rows
   pub answers : List Answer
   pub last : Catalog
-  pub run : Plays Happens first rows answers last
+  pub left : leases.Leases
+  pub run : Plays Happens (first, leases.none) rows answers (last, left)
   pub written : text ≡ replies_text answers ++ book_text last

@@ -5,7 +5,12 @@ use Rattle.std.specs.List.{enumerate_from, flat_map}
 use Rattle.hex.specs.Hex.{encode_lower}
 use Rattle.blob_digest.specs.Keys.{Text}
 use Rattle.blob_digest.specs.Refusals.{refusal_text}
-use Rattle.blobctl.specs.Answers.{Answer, Session, Received, Stored, Abandoned, Mounted, Deleted, Manifest, Body, Refused}
+use Rattle.book_ahead.specs.declared.sweep.Swept.{Swept}
+use Rattle.blobctl.specs.Answers.{Answer, Session, Received, Stored, Abandoned, Mounted, Deleted, Manifest, Body, Leased, Bytes, Shared, Verified, GivenBack, Cleaned, NoLease, NameTaken, Refused}
+
+-- what a sweep did
+abbrev pub swept_text : Swept → Text
+swept_text swept = codes "swept condemned " ++ decimal swept.condemned ++ codes " freed " ++ decimal swept.freed ++ codes " held " ++ decimal swept.held ++ codes " retired " ++ decimal swept.retired
 
 -- what a reply says
 abbrev pub reply_text : Answer → Text
@@ -17,6 +22,14 @@ reply_text Mounted = codes "mounted"
 reply_text Deleted = codes "deleted"
 reply_text (Manifest digest) = codes "manifest " ++ digest
 reply_text (Body bytes) = codes "body " ++ encode_lower bytes
+reply_text (Leased size) = codes "leased " ++ decimal size
+reply_text (Bytes bytes) = codes "bytes " ++ encode_lower bytes
+reply_text Shared = codes "shared"
+reply_text (Verified size) = codes "verified " ++ decimal size
+reply_text GivenBack = codes "given back"
+reply_text (Cleaned swept) = swept_text swept
+reply_text NoLease = codes "no lease"
+reply_text NameTaken = codes "name taken"
 reply_text (Refused refusal) = codes "refused " ++ refusal_text refusal
 
 -- a row's number, a space, the reply, and a line feed

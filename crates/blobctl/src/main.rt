@@ -20,15 +20,19 @@ ghost use Rattle.blobctl.specs.Stops.{stop_status};
 mod alone;
 mod arguments;
 mod backend;
-mod book_backend;
 mod fault;
 mod fields;
 mod hex_digits;
 mod input;
 #[cfg(test)]
+mod lease_tests;
+mod leases;
+#[cfg(test)]
 mod manifest_tests;
 mod options;
 mod output;
+mod piece;
+mod pinned_book;
 mod player;
 mod reply;
 mod row;

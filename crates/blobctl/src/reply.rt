@@ -4,6 +4,8 @@ ghost use Rattle.blobctl.specs.Answers.{answer_of, mount_answer};
 ghost use Rattle.blobctl.specs.Replies.{reply_text};
 
 use crate::hex_digits::HexDigits;
+use crate::piece::Piece;
+use book_ahead::Swept;
 use blob_digest::{Digest, Refusal};
 use oci_manifest::Manifest;
 use std::alloc::Global;
@@ -11,7 +13,7 @@ use std::fmt;
 use std::sync::Arc;
 use store_book::Mount;
 
-/// The reply to a row. A manifest is shared with the book and not copied. Contracts see what is
+/// The reply to a row. Manifests and blobs are shared with the book and not copied. Contracts see what is
 /// answered (`answer_of`).
 #[derive(Drop)]
 pub enum Reply {
@@ -31,6 +33,22 @@ pub enum Reply {
     Manifest(Digest),
     /// A manifest that was asked for.
     Body(Arc<Manifest, Global>),
+    /// A blob was leased: its size in bytes.
+    Leased(u64),
+    /// A piece of a leased blob.
+    Bytes(Piece),
+    /// A lease was shared.
+    Shared,
+    /// A lease's slot is still its own: the blob's size in bytes.
+    Verified(u64),
+    /// A lease was given back.
+    GivenBack,
+    /// What a sweep did.
+    Swept(Swept),
+    /// The lane has no lease of this name.
+    NoLease,
+    /// The lane has a lease of this name already.
+    NameTaken,
     /// The row was refused.
     Refused(Refusal),
 }
@@ -63,6 +81,30 @@ impl fmt::Display for Reply {
                 };
                 write!(f, "body {digits}")
             }
+            Reply::Leased(size) => write!(f, "leased {size}"),
+            Reply::Bytes(piece) => {
+                let digits = HexDigits {
+                    bytes: piece.bytes(),
+                };
+                write!(f, "bytes {digits}")
+            }
+            Reply::Shared => f.write_str("shared"),
+            Reply::Verified(size) => write!(f, "verified {size}"),
+            Reply::GivenBack => f.write_str("given back"),
+            Reply::Swept(swept) => {
+                let Swept {
+                    condemned,
+                    freed,
+                    held,
+                    retired,
+                } = *swept;
+                write!(
+                    f,
+                    "swept condemned {condemned} freed {freed} held {held} retired {retired}"
+                )
+            }
+            Reply::NoLease => f.write_str("no lease"),
+            Reply::NameTaken => f.write_str("name taken"),
             Reply::Refused(refusal) => write!(f, "refused {refusal}"),
         }
     }

@@ -1,0 +1,4 @@
+pub mod BookState
+pub mod Openings
+pub mod SlotSteps
+pub mod Sweeps

@@ -16,12 +16,13 @@ returns-clause-played g c =
       written = rw c.as_slice-2.ensures.value at c.in_ok-write_played.ensures.written;
       played = record {
         first = played.0;
-        opened = played.1;
+        opened = played.2;
         rows = map line_of c.in_ok-rows.rows.items;
         all = rows.2;
         answers = answers_of c.in-Ok.replies.items;
         last = c.in-Ok.book.catalog;
-        run = rw c.as_slice.ensures.value at played.2;
+        left = played.1;
+        run = rw c.as_slice.ensures.value at played.3;
         written = refl;
       };
     }
