@@ -1,12 +1,11 @@
 -- Rows that are played.
 use Rattle.std.proofs.Common.{◌≡◌, ◌≢◌, ◌<◌, ◌+◌, ◌∙◌, ◌++◌, ◌∷◌, [], ℕ, List, ap, get_or, inl, length, map, refl, sym, take, true}
 use Rattle.std.proofs.lemmas.List.{map-append, take_more}
-use Rattle.blob_digest.specs.Digests.{IsDigestText}
 use Rattle.blob_digest.specs.Names.{IsRepoName}
 use Rattle.blob_digest.specs.declared.refusal.Refusal.{Refusal}
 use Rattle.blob_digest.specs.declared.refusal.Refusal.TheVariants.{DigestInvalid, SizeInvalid, Memory}
 use Rattle.blobctl.specs.Answers.{Answer, Refused}
-use Rattle.blobctl.specs.Commands.{Command, HasDigest, HasSource, IsNoRange, uses_digest}
+use Rattle.blobctl.specs.Commands.{Command, HasDigest, HasSource, IsDigest, IsNoRange, uses_digest}
 use Rattle.blobctl.specs.Lines.{line_of}
 use Rattle.blobctl.specs.Plays.{Plays, RowStep}
 use Rattle.blobctl.specs.Rows.{Line}
@@ -14,7 +13,7 @@ use Rattle.blobctl.specs.declared.row.Row.{Row}
 
 -- a row whose digest is none is refused for it
 pub digest_refused : {S : Type 0} (acts : S → Command → Answer → S → Type 0) (s t : S) (line : Line) (refusal : Refusal) → IsRepoName line.repo → HasSource line → uses_digest line.verb ≡ true
-    → (refusal ≡ DigestInvalid) × ¬ IsDigestText line.digest → t ≡ s → RowStep acts s line (Refused refusal) t
+    → (refusal ≡ DigestInvalid) × ¬ IsDigest line.digest → t ≡ s → RowStep acts s line (Refused refusal) t
 digest_refused acts s t line refusal repo source uses why same = rw why.0 (inl (DigestInvalid, (repo, source, uses, why.1), refl, same))
 
 -- a row whose range is none is refused for it

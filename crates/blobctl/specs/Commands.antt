@@ -41,9 +41,13 @@ SpellsRepo line repo = (repo ≡ line.repo) × IsRepoName line.repo
 abbrev pub SpellsSource : Line → Text → Type 0
 SpellsSource line from = (from ≡ line.key) × IsRepoName line.key
 
+-- the text is a digest, by whichever algorithm
+unfoldable pub IsDigest : Text → Type 0
+IsDigest text = IsDigestText text
+
 -- the field of a digest spells one
 abbrev pub SpellsDigest : Line → Text → Type 0
-SpellsDigest line digest = (digest ≡ line.digest) × IsDigestText line.digest
+SpellsDigest line digest = (digest ≡ line.digest) × IsDigest line.digest
 
 -- the row's fields spell this command
 abbrev pub Spells : Line → Command → Type 0
@@ -88,11 +92,11 @@ uses_session _ = false
 
 -- the digest of a command that has one is spelled
 abbrev pub HasDigest : Line → Type 0
-HasDigest line = uses_digest line.verb ≡ true → IsDigestText line.digest
+HasDigest line = uses_digest line.verb ≡ true → IsDigest line.digest
 
 -- the refusal of the first field, in the order repository, source, digest and range, that spells nothing
 abbrev pub IsMisspelt : Line → Refusal → Type 0
 IsMisspelt line NameInvalid = (¬ IsRepoName line.repo) ⊎ (IsRepoName line.repo × (uses_source line.verb ≡ true) × ¬ IsRepoName line.key)
-IsMisspelt line DigestInvalid = IsRepoName line.repo × HasSource line × (uses_digest line.verb ≡ true) × ¬ IsDigestText line.digest
+IsMisspelt line DigestInvalid = IsRepoName line.repo × HasSource line × (uses_digest line.verb ≡ true) × ¬ IsDigest line.digest
 IsMisspelt line SizeInvalid = IsRepoName line.repo × HasSource line × HasDigest line × IsNoRange line.range
 IsMisspelt line refusal = ⊥

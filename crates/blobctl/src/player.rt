@@ -1,7 +1,7 @@
 //! Plays the rows of a script.
 ghost use Rattle.std.specs.Prelude.{◌≡◌, ◌⊎◌, true, Some, IfOk, IfErr, MatchResult, IsTrue, ◌↔◌, map};
 ghost use Rattle.blobctl.specs.Answers.{answer_of, answers_of, Refused};
-ghost use Rattle.blobctl.specs.Commands.{IsNoRange, SpellsRange, uses_session};
+ghost use Rattle.blobctl.specs.Commands.{IsDigest, IsNoRange, SpellsRange, uses_session};
 ghost use Rattle.blobctl.specs.Lines.{line_of};
 ghost use Rattle.blobctl.specs.Plays.{AnswersRow, Plays, RowStep};
 ghost use Rattle.blobctl.specs.Rows.{session_number};
@@ -12,6 +12,14 @@ use crate::reply::{Reply, mount_reply};
 use crate::row::{Row, Verb};
 use blob_digest::{ByteRange, Digest, Refusal, RepoName};
 use std::alloc::Global;
+
+/// The digest that a field spells.
+#[tactic(auto, unfolding(crate::specs::Commands::IsDigest))]
+fn digest_in(text: &[u8]) -> Result<Digest, Refusal>
+    ensures { MatchResult result (λ d. (d ≡ text.now) × IsDigest text.now) (λ e. (e ≡ Refusal.DigestInvalid) × ¬ IsDigest text.now) }
+{
+    Digest::parse(text)
+}
 
 /// The range that a field spells, which is none where the field is empty.
 fn range_in(text: &[u8]) -> Result<Option<ByteRange>, Refusal>
@@ -74,7 +82,7 @@ fn play_close<B: Backend>(alloc: Global, backend: &mut B, row: &Row) -> Result<R
     ensures { AnswersRow B.acts backend.old (line_of row.now) result backend.new }
 {
     let repo = RepoName::parse(alloc, row.repo.as_slice())?;
-    let digest = Digest::parse(row.digest.as_slice())?;
+    let digest = digest_in(row.digest.as_slice())?;
     let range = range_in(row.range.as_slice())?;
     let number = number_in(row);
     let size = backend.close(&repo, number, &digest, range, row.body.as_slice())?;
@@ -99,7 +107,7 @@ fn play_mount<B: Backend>(alloc: Global, backend: &mut B, row: &Row) -> Result<R
 {
     let repo = RepoName::parse(alloc, row.repo.as_slice())?;
     let from = RepoName::parse(alloc, row.key.as_slice())?;
-    let digest = Digest::parse(row.digest.as_slice())?;
+    let digest = digest_in(row.digest.as_slice())?;
     let mount = backend.mount(&repo, &digest, &from)?;
     Ok(mount_reply(mount))
 }
@@ -110,7 +118,7 @@ fn play_delete<B: Backend>(alloc: Global, backend: &mut B, row: &Row) -> Result<
     ensures { AnswersRow B.acts backend.old (line_of row.now) result backend.new }
 {
     let repo = RepoName::parse(alloc, row.repo.as_slice())?;
-    let digest = Digest::parse(row.digest.as_slice())?;
+    let digest = digest_in(row.digest.as_slice())?;
     backend.delete(&repo, &digest)?;
     Ok(Reply::Deleted)
 }
@@ -139,7 +147,7 @@ fn play_get_manifest<B: Backend>(
     ensures { AnswersRow B.acts backend.old (line_of row.now) result backend.new }
 {
     let repo = RepoName::parse(alloc, row.repo.as_slice())?;
-    let digest = Digest::parse(row.digest.as_slice())?;
+    let digest = digest_in(row.digest.as_slice())?;
     let manifest = backend.get_manifest(&repo, &digest)?;
     Ok(Reply::Body(manifest))
 }
@@ -154,7 +162,7 @@ fn play_delete_manifest<B: Backend>(
     ensures { AnswersRow B.acts backend.old (line_of row.now) result backend.new }
 {
     let repo = RepoName::parse(alloc, row.repo.as_slice())?;
-    let digest = Digest::parse(row.digest.as_slice())?;
+    let digest = digest_in(row.digest.as_slice())?;
     backend.delete_manifest(&repo, &digest)?;
     Ok(Reply::Deleted)
 }
