@@ -3,18 +3,13 @@ use Rattle.std.proofs.Common.{◌≡◌, ◌≢◌, ◌<◌, ◌+◌, ◌∙◌,
 use Rattle.std.proofs.lemmas.List.{map-append, take_more}
 use Rattle.blob_digest.specs.Names.{IsRepoName}
 use Rattle.blob_digest.specs.declared.refusal.Refusal.{Refusal}
-use Rattle.blob_digest.specs.declared.refusal.Refusal.TheVariants.{DigestInvalid, SizeInvalid, Memory}
+use Rattle.blob_digest.specs.declared.refusal.Refusal.TheVariants.{SizeInvalid, Memory}
 use Rattle.blobctl.specs.Answers.{Answer, Refused}
-use Rattle.blobctl.specs.Commands.{Command, HasDigest, HasSource, IsDigest, IsNoRange, uses_digest}
+use Rattle.blobctl.specs.Commands.{Command, HasDigest, HasSource, IsNoRange}
 use Rattle.blobctl.specs.Lines.{line_of}
 use Rattle.blobctl.specs.Plays.{Plays, RowStep}
 use Rattle.blobctl.specs.Rows.{Line}
 use Rattle.blobctl.specs.declared.row.Row.{Row}
-
--- a row whose digest is none is refused for it
-pub digest_refused : {S : Type 0} (acts : S → Command → Answer → S → Type 0) (s t : S) (line : Line) (refusal : Refusal) → IsRepoName line.repo → HasSource line → uses_digest line.verb ≡ true
-    → (refusal ≡ DigestInvalid) × ¬ IsDigest line.digest → t ≡ s → RowStep acts s line (Refused refusal) t
-digest_refused acts s t line refusal repo source uses why same = rw why.0 (inl (DigestInvalid, (repo, source, uses, why.1), refl, same))
 
 -- a row whose range is none is refused for it
 pub range_refused : {S : Type 0} (acts : S → Command → Answer → S → Type 0) (s t : S) (line : Line) (refusal : Refusal) → IsRepoName line.repo → HasSource line → HasDigest line

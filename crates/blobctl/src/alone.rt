@@ -14,7 +14,7 @@ use crate::reply::Reply;
 use crate::row::Row;
 use blob_digest::Refusal;
 use std::alloc::Global;
-use book_ahead::Book;
+use store_book::Book;
 
 /// A new book. Refused is want of memory alone.
 fn open(alloc: Global, options: &Options) -> Result<Book, Refusal>

@@ -4,8 +4,7 @@ use blob_digest::{ByteRange, Digest, Refusal, RepoName};
 use oci_manifest::Manifest;
 use std::alloc::Global;
 use std::sync::Arc;
-use book_ahead::Book;
-use store_book::Mount;
+use store_book::{Book, Mount};
 
 impl Backend for Book {
     ghost use Rattle.blobctl.specs.Played.{Acts};
