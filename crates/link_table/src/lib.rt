@@ -6,11 +6,13 @@
 //! each counted once, and what was charged besides; and that a charge never passes the quota.
 #![tactic(auto)]
 
+mod archive;
 mod blobs;
 mod holders;
 mod links;
 mod manifests;
 mod repo;
+mod repo_manifests;
 mod shelf;
 mod tenants;
 mod weigh;

@@ -4,19 +4,24 @@ ghost use Rattle.std.specs.FinMap as fmap;
 ghost use Rattle.blob_digest.specs.Sets as set;
 ghost use Rattle.blob_digest.specs.Outcomes.{Does, DoesExactly};
 ghost use Rattle.blob_digest.specs.declared.refusal.Refusal.TheVariants.{Memory};
+ghost use Rattle.link_table.specs.Archive.{referrer_on, manifests_on};
 ghost use Rattle.link_table.specs.Shelves.{nothing};
-ghost use Rattle.link_table.specs.Linked.{is_tenants, known_tenant, used_in, quota_in, blobs_of, repos_of, blobs_in, link, unlink, charge, discharge, appear, vanish, IsSizeOf, HasNoLinks};
+ghost use Rattle.link_table.specs.Linked.{is_tenants, known_tenant, used_in, quota_in, blobs_of, repos_of, blobs_in, link, unlink, put_manifest, drop_manifest, charge, discharge, appear, vanish, IsSizeOf, HasNoLinks};
 ghost use Rattle.link_table.specs.Tenancy.{Opens, AreTenants, RefusesTenants, tenants_shown};
 
+use crate::archive::Archive;
 use crate::blobs::Blobs;
 use crate::holders::{Holders, holders_of, lower, raise};
+use crate::manifests::Manifests;
 use crate::shelf::Shelf;
 use crate::tenants::{in_order, tenant_at};
 use crate::weigh::{weight_with, weight_without};
 use blob_digest::{Digest, Refusal, RepoName};
+use oci_manifest::Manifest;
 use std::alloc::Global;
 use std::collections::BTreeMap;
 use std::marker::Model;
+use std::sync::Arc;
 
 /// Tenants with quotas, their repositories, the links of repositories to blobs, and what each tenant
 /// is charged. Contracts see these four; what a tenant uses follows from them.
@@ -31,6 +36,7 @@ pub struct Links {
     alloc: Global,
     tenants: Vec<(String, u64)>,
     shelves: Vec<Shelf>,
+    manifests: Archive,
     holders: Holders,
     weights: Vec<u64>,
     charges: Vec<u64>,
@@ -49,7 +55,7 @@ impl Model for Links {
     ghost use Rattle.link_table.specs.Running.{IsSound};
     ghost use Rattle.link_table.specs.Holders.{Counts};
 
-    ghost view = { λ a. record { tenants = tenants_shown a.tenants.items; repos = repos_shown a.shelves.items; links = links_shown a.shelves.items; charges = a.charges.items } };
+    ghost view = { λ a. record { tenants = tenants_shown a.tenants.items; repos = repos_shown a.shelves.items; links = links_shown a.shelves.items; manifests = a.manifests; charges = a.charges.items } };
 
     ghost invariant = { λ a. IsSound (tenants_shown a.tenants.items) (links_shown a.shelves.items) a.weights.items a.charges.items × IsShelved (tenants_shown a.tenants.items) a.shelves.items × Counts (tenants_shown a.tenants.items) (links_shown a.shelves.items) a.holders };
 }
@@ -86,6 +92,7 @@ impl Links {
             alloc,
             tenants,
             shelves,
+            manifests: Archive::new(alloc),
             holders: BTreeMap::new(alloc),
             weights,
             charges,
@@ -277,5 +284,46 @@ impl Links {
             },
             None => Blobs { rest: None },
         }
+    }
+
+    /// Keeps a manifest of a repository under its digest. One that is there already stays. Refused are
+    /// one beyond 1,024 (`LimitReached`), and want of memory; nothing has changed then.
+    pub fn put_manifest(
+        &mut self,
+        repo: &RepoName,
+        manifest: Arc<Manifest, Global>,
+    ) -> Result<(), Refusal>
+        ensures { Does (λ u. u) result self.old self.new (put_manifest self.old repo.now manifest.value) }
+    {
+        self.manifests.put(self.alloc, repo, manifest)
+    }
+
+    /// Drops the manifest of a digest, if the repository has it. It takes no memory.
+    pub fn drop_manifest(&mut self, repo: &RepoName, digest: &Digest)
+        ensures { self.new ≡ drop_manifest self.old repo.now digest.now }
+    {
+        self.manifests.remove(repo, digest);
+    }
+
+    /// The manifest of a digest that a repository has.
+    pub fn manifest(&self, repo: &RepoName, digest: &Digest) -> Option<&Arc<Manifest, Global>>
+        ensures { option_map (λ m. m.now.value) result ≡ fmap.get self.now.manifests (repo.now, digest.now) }
+    {
+        self.manifests.get(repo, digest)
+    }
+
+    /// The least digest of a manifest of a repository that refers to a digest.
+    pub fn referrer(&self, repo: &RepoName, digest: &Digest) -> Option<Digest>
+        ensures { result ≡ referrer_on self.now.manifests repo.now digest.now }
+    {
+        self.manifests.referrer(repo, digest)
+    }
+
+    /// The manifests that a repository has, in the order of their digests, each with its digest. All of
+    /// them take a step each.
+    pub fn manifests(&self, repo: &RepoName) -> Manifests<'_>
+        ensures { result ≡ manifests_on self.now.manifests repo.now }
+    {
+        self.manifests.manifests(repo)
     }
 }

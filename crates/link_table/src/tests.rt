@@ -2,7 +2,8 @@ ghost use Rattle.std.specs.Prelude.{◌≡◌, ℕ, Some};
 ghost use Rattle.std.specs.FinMap as fmap;
 ghost use Rattle.blob_digest.specs.Keys.{Link};
 
-use crate::{Links, Manifests};
+use crate::Links;
+use crate::repo_manifests::RepoManifests;
 use blob_digest::{Digest, Refusal, RepoName};
 use oci_manifest::{Manifest, read};
 use std::alloc::Global;
@@ -272,7 +273,7 @@ fn manifest(rt: &impl Abort, alloc: Global, config: &str) -> Arc<Manifest, Globa
 #[test]
 fn manifests_refer_to_digests_until_they_are_dropped(rt: HostRuntime) {
     let alloc = rt.alloc();
-    let mut manifests = Manifests::new(alloc);
+    let mut manifests = RepoManifests::new(alloc);
     let abc = digest(&rt, ABC);
     let kept = manifest(&rt, alloc, ABC);
     let name = kept.digest();

@@ -1,28 +1,32 @@
 ghost use Rattle.std.specs.Prelude.{◌≡◌, Some, IfOk, IfErr, OnOk};
-ghost use Rattle.blob_digest.specs.Outcomes.{Does, DoesExactly};
+ghost use Rattle.blob_digest.specs.Outcomes.{Answers, Does, DoesExactly};
 ghost use Rattle.link_table.specs.Tenancy.{tenants_shown};
 ghost use Rattle.store_book.specs.Laws.{Sound};
 ghost use Rattle.store_book.specs.Openings.{OpensBook, RefusesBook};
 ghost use Rattle.store_book.specs.Printed.{book_text};
-ghost use Rattle.store_book.specs.Steps.{start, status, append, close, abandon, mount, delete, take, put_back, finish, given_back};
+ghost use Rattle.store_book.specs.Steps.{start, status, append, close, abandon, mount, delete, put_manifest, get_manifest, delete_manifest, take, put_back, finish, given_back};
 ghost use Rattle.upload_table.specs.Uploaded.{IsFull};
 ghost use Rattle.std.specs.Io.KnownBytes.{Appends};
 
 use crate::config::{Config, copied};
 use crate::keep::{find_linked, keep, link_slot};
+use crate::manifests::{add_manifest, check_linked};
 use crate::mount::{Mount, find_source};
 use crate::print::print_book;
 use blob_digest::{ByteRange, Digest, Refusal, RepoName};
 use link_table::Links;
+use oci_manifest::{Manifest, read};
 use slot_table::SlotTable;
 use std::alloc::Global;
 use std::io::{self, Write};
 use std::marker::Model;
+use std::sync::Arc;
 use upload_table::{Hand, Uploads};
 
 /// The book: what every tenant's repositories hold, and what is being uploaded to them.
 #[derive(Drop)]
 pub struct Book {
+    alloc: Global,
     pub(crate) links: Links,
     pub(crate) uploads: Uploads,
     pub(crate) slots: SlotTable,
@@ -65,6 +69,7 @@ impl Book {
         let slots = SlotTable::new(alloc, config.slots, config.first_generation)?;
         let uploads = Uploads::new(alloc, links.tenants(), 1)?;
         Ok(Book {
+            alloc,
             links,
             uploads,
             slots,
@@ -302,10 +307,11 @@ impl Book {
 
     /// Takes the link to a blob out of a repository (OCI Distribution Specification 1.1, "Deleting
     /// Blobs"). The blob stays in its slot, and other repositories keep their links. It takes no
-    /// memory; it takes a look at each slot and each link.
+    /// memory; it takes a look at each slot.
     ///
     /// Refused, in this order: a tenant that is not there (`NameUnknown`); a digest that is not linked
-    /// in the repository (`BlobUnknown`).
+    /// in the repository (`BlobUnknown`); one that a manifest of the repository refers to
+    /// (`Referenced`, with the least digest of such a manifest).
     pub fn delete(&mut self, repo: &RepoName, digest: &Digest) -> Result<(), Refusal>
         ensures does { DoesExactly (λ u. u) result self.old.catalog self.new.catalog (delete self.old.catalog repo.now digest.now) }
         ensures slots { self.new.slots ≡ self.old.slots }
@@ -314,8 +320,72 @@ impl Book {
         let Some(slot) = find_linked(&self.links, &self.slots, repo, digest) else {
             return Err(Refusal::BlobUnknown);
         };
+        if let Some(manifest) = self.links.referrer(repo, digest) {
+            return Err(Refusal::Referenced { manifest });
+        }
         self.links.unlink(tenant, repo, digest);
         self.slots.link_down(slot);
+        Ok(())
+    }
+
+    /// Keeps a manifest under the digest of its bytes, and answers that digest (OCI Distribution
+    /// Specification 1.1, "Pushing Manifests"). The repository appears with it. One that is there stays
+    /// as it is. The bytes are copied once.
+    ///
+    /// Refused, in this order: a tenant that is not there (`NameUnknown`); more than 4 MiB
+    /// (`SizeInvalid`); bytes that are no manifest (`ManifestInvalid`); a reference that the repository
+    /// doesn't hold (`ManifestBlobUnknown`, with the first); a tenant that has 1,024 repositories where
+    /// this one is new, or a repository that has 1,024 manifests (`LimitReached`); want of memory. A
+    /// refusal leaves no repository behind.
+    pub fn put_manifest(&mut self, repo: &RepoName, bytes: &[u8]) -> Result<Digest, Refusal>
+        ensures does { Does (λ d. d) result self.old.catalog self.new.catalog (put_manifest self.old.catalog repo.now bytes.now) }
+        ensures slots { self.new.slots ≡ self.old.slots }
+    {
+        let tenant = self.links.tenant(repo)?;
+        let manifest = read(self.alloc, bytes)?;
+        check_linked(&self.links, repo, manifest.refs())?;
+        let digest = manifest.digest();
+        if self.links.manifest(repo, &digest).is_some() {
+            return Ok(digest);
+        }
+        let manifest = Arc::new(self.alloc, manifest)?;
+        add_manifest(&mut self.links, tenant, repo, manifest)?;
+        Ok(digest)
+    }
+
+    /// A manifest that a repository has (OCI Distribution Specification 1.1, "Pulling manifests"). Its
+    /// bytes are shared, not copied. It takes the logarithm of the number of manifests.
+    ///
+    /// Refused, in this order: a tenant that is not there (`NameUnknown`); a digest under which the
+    /// repository has no manifest (`ManifestUnknown`); want of memory.
+    pub fn get_manifest(
+        &self,
+        repo: &RepoName,
+        digest: &Digest,
+    ) -> Result<Arc<Manifest, Global>, Refusal>
+        ensures { Answers (λ m. m.value) result (get_manifest self.now.catalog repo.now digest.now) }
+    {
+        let _ = self.links.tenant(repo)?;
+        let Some(manifest) = self.links.manifest(repo, digest) else {
+            return Err(Refusal::ManifestUnknown);
+        };
+        Ok(manifest.clone()?)
+    }
+
+    /// Takes a manifest out of a repository (OCI Distribution Specification 1.1, "Deleting Manifests").
+    /// Who has it from `get_manifest` keeps it. It takes no memory.
+    ///
+    /// Refused, in this order: a tenant that is not there (`NameUnknown`); a digest under which the
+    /// repository has no manifest (`ManifestUnknown`).
+    pub fn delete_manifest(&mut self, repo: &RepoName, digest: &Digest) -> Result<(), Refusal>
+        ensures does { DoesExactly (λ u. u) result self.old.catalog self.new.catalog (delete_manifest self.old.catalog repo.now digest.now) }
+        ensures slots { self.new.slots ≡ self.old.slots }
+    {
+        let _ = self.links.tenant(repo)?;
+        let Some(_) = self.links.manifest(repo, digest) else {
+            return Err(Refusal::ManifestUnknown);
+        };
+        self.links.drop_manifest(repo, digest);
         Ok(())
     }
 

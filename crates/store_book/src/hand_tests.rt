@@ -1,14 +1,49 @@
 //! Sessions in hand: what they count, what is busy, and what comes back.
 
 use crate::Book;
-use crate::tests::{ABC, OBJ, book, digest, name, prints, range};
+use crate::test_steps::{ABC, OBJ, Step, digest, name, plays, range, small};
 use blob_digest::Refusal;
-use std::alloc::Global;
+use std::alloc::AllocGlobal;
 use std::process::Abort;
 use upload_table::Hand;
 
+const OVER: Refusal = Refusal::Quota { used: 4, quota: 5 };
+
+fn taken(
+    rt: &(impl Abort + AllocGlobal),
+    book: &mut Book,
+    repo: &str,
+    number: u32,
+    places: &str,
+    len: u64,
+) -> Result<Hand, Refusal> {
+    book.take(&name(rt, repo), number, range(rt, places), len)
+}
+
+/// Takes a session, which is there, within the limits and at home.
+fn takes(rt: &(impl Abort + AllocGlobal), book: &mut Book, places: &str, len: u64) -> Hand {
+    taken(rt, book, "acme/one", 1, places, len).expect(rt, "a hand")
+}
+
+/// Finds why a session isn't taken.
+fn takes_nothing(
+    rt: &(impl Abort + AllocGlobal),
+    book: &mut Book,
+    repo: &str,
+    number: u32,
+    places: &str,
+    len: u64,
+    refusal: Refusal,
+) {
+    match taken(rt, book, repo, number, places, len) {
+        Ok(hand) => puts_back(rt, book, hand, Err(refusal)),
+        Err(found) => assert_eq!(rt; found, refusal),
+    }
+}
+
 /// Fills a hand that wants so many bytes, or leaves it.
-fn fill(hand: Hand, bytes: &[u8]) -> Hand {
+fn fill(hand: Hand, bytes: &str) -> Hand {
+    let bytes = bytes.as_bytes();
     if hand.filled() || hand.reserved() != bytes.len() as u64 {
         return hand;
     }
@@ -18,102 +53,113 @@ fn fill(hand: Hand, bytes: &[u8]) -> Hand {
     }
 }
 
-fn finish(book: &mut Book, hand: Hand, text: &str, rt: &impl Abort) -> Result<u64, Refusal> {
+fn put_back(book: &mut Book, hand: Hand) -> Result<u64, Refusal> {
+    book.put_back(hand)
+}
+
+fn puts_back(
+    rt: &(impl Abort + AllocGlobal),
+    book: &mut Book,
+    hand: Hand,
+    wanted: Result<u64, Refusal>,
+) {
+    assert_eq!(rt; put_back(book, hand), wanted);
+}
+
+fn finish(
+    rt: &(impl Abort + AllocGlobal),
+    book: &mut Book,
+    hand: Hand,
+    of: &str,
+) -> Result<u64, Refusal> {
     if !hand.filled() {
-        let _ = book.put_back(hand)?;
+        let _ = put_back(book, hand)?;
         return Err(Refusal::Memory);
     }
-    book.finish(hand, &digest(rt, text))
+    book.finish(hand, &digest(rt, of))
+}
+
+fn finishes(
+    rt: &(impl Abort + AllocGlobal),
+    book: &mut Book,
+    hand: Hand,
+    of: &str,
+    wanted: Result<u64, Refusal>,
+) {
+    assert_eq!(rt; finish(rt, book, hand, of), wanted);
 }
 
 /// Of a tenant, session 1 of `acme/one` has `ab`.
-fn started(rt: &impl Abort, alloc: Global, quota: u64) -> Book {
-    let mut book = book(rt, alloc, &[("acme", quota)]);
-    let one = name(rt, alloc, "acme/one");
-    book.start(&one).expect(rt, "session 1");
-    book.append(&one, 1, None, b"ab").expect(rt, "a chunk");
+fn started(rt: &(impl Abort + AllocGlobal), quota: u64) -> Book {
+    let one = "acme/one";
+    let mut book = small(rt, 64, 1048576, quota);
+    let script = [
+        Step::Start(one, Ok(1)),
+        Step::Append(one, 1, "", "ab", Ok(2)),
+    ];
+    plays(rt, &mut book, &script);
     book
 }
 
 #[test]
 fn a_session_in_hand_is_busy_and_its_reserve_counts(rt: HostRuntime) {
-    let alloc = rt.alloc();
-    let one = name(&rt, alloc, "acme/one");
-    let mut book = started(&rt, alloc, 5);
-    assert_eq!(rt; book.start(&one), Ok(2));
-    let hand = book.take(&one, 1, None, 2).expect(&rt, "a hand");
-    let text =
-        "book\ntenant acme used 4 quota 5 next 3\nrepository acme/one\nsession 1 received 2\nsession 2 received 0\nend\n";
-    assert!(rt; prints(&rt, alloc, &book, text));
-    assert_eq!(rt; book.status(&one, 1), Ok(2));
-    assert_eq!(rt;
-        book.append(&one, 1, range(&rt, "9-9"), b"cc"),
-        Err(Refusal::Busy)
-    );
-    assert_eq!(rt;
-        book.close(&one, 1, &digest(&rt, ABC), None, b""),
-        Err(Refusal::Busy)
-    );
-    assert_eq!(rt; book.abandon(&one, 1), Err(Refusal::Busy));
-    let over = Refusal::Quota { used: 4, quota: 5 };
-    assert_eq!(rt; book.append(&one, 2, None, b"xy"), Err(over));
-    assert_eq!(rt; book.append(&one, 2, None, b"x"), Ok(1));
-    assert_eq!(rt; book.put_back(fill(hand, b"cd")), Ok(4));
-    match book.take(&one, 1, None, 1) {
-        Ok(hand) => assert_eq!(rt; book.put_back(hand), Err(Refusal::Memory)),
-        Err(refusal) => assert_eq!(rt; refusal, Refusal::Quota { used: 5, quota: 5 }),
-    }
-    let hand = book.take(&one, 1, None, 0).expect(&rt, "a hand");
-    assert_eq!(rt; book.put_back(hand), Ok(4));
+    let one = "acme/one";
+    let mut book = started(&rt, 5);
+    plays(&rt, &mut book, &[Step::Start(one, Ok(2))]);
+    let hand = takes(&rt, &mut book, "", 2);
+    let script = [
+        Step::Prints(
+            "book\ntenant acme used 4 quota 5 next 3\nrepository acme/one\nsession 1 received 2\nsession 2 received 0\nend\n",
+        ),
+        Step::Status(one, 1, Ok(2)),
+        Step::Append(one, 1, "9-9", "cc", Err(Refusal::Busy)),
+        Step::Close(one, 1, ABC, "", "", Err(Refusal::Busy)),
+        Step::Abandon(one, 1, Err(Refusal::Busy)),
+        Step::Append(one, 2, "", "xy", Err(OVER)),
+        Step::Append(one, 2, "", "x", Ok(1)),
+    ];
+    plays(&rt, &mut book, &script);
+    takes_nothing(&rt, &mut book, one, 1, "", 0, Refusal::Busy);
+    puts_back(&rt, &mut book, fill(hand, "cd"), Ok(4));
+    let full = Refusal::Quota { used: 5, quota: 5 };
+    takes_nothing(&rt, &mut book, one, 1, "", 1, full);
+    let hand = takes(&rt, &mut book, "", 0);
+    puts_back(&rt, &mut book, hand, Ok(4));
 }
 
 #[test]
 fn a_hand_comes_back_or_is_finished(rt: HostRuntime) {
-    let alloc = rt.alloc();
-    let one = name(&rt, alloc, "acme/one");
-    let mut book = started(&rt, alloc, 1000);
+    let mut book = started(&rt, 1000);
     let text =
         "book\ntenant acme used 2 quota 1000 next 2\nrepository acme/one\nsession 1 received 2\nend\n";
-    let hand = book
-        .take(&one, 1, range(&rt, "2-2"), 1)
-        .expect(&rt, "a hand");
-    assert_eq!(rt; book.put_back(hand), Ok(2));
-    assert!(rt; prints(&rt, alloc, &book, text));
-    let hand = fill(
-        book.take(&one, 1, range(&rt, "2-2"), 1)
-            .expect(&rt, "a hand"),
-        b"c",
-    );
-    assert_eq!(rt;
-        finish(&mut book, hand, OBJ, &rt),
-        Err(Refusal::DigestInvalid)
-    );
-    assert!(rt; prints(&rt, alloc, &book, text));
-    let hand = fill(
-        book.take(&one, 1, range(&rt, "2-2"), 1)
-            .expect(&rt, "a hand"),
-        b"c",
-    );
-    assert_eq!(rt; finish(&mut book, hand, ABC, &rt), Ok(3));
-    assert_eq!(rt; book.status(&one, 1), Err(Refusal::UploadUnknown));
-    let text =
-        "book\ntenant acme used 3 quota 1000 next 2\nrepository acme/one\nblob sha256:ba7816bf8f01cfea414140de5dae2223b00361a396177a9cb410ff61f20015ad size 3 links 1\nend\n";
-    assert!(rt; prints(&rt, alloc, &book, text));
+    let hand = takes(&rt, &mut book, "2-2", 1);
+    puts_back(&rt, &mut book, hand, Ok(2));
+    plays(&rt, &mut book, &[Step::Prints(text)]);
+    let hand = fill(takes(&rt, &mut book, "2-2", 1), "c");
+    finishes(&rt, &mut book, hand, OBJ, Err(Refusal::DigestInvalid));
+    plays(&rt, &mut book, &[Step::Prints(text)]);
+    let hand = fill(takes(&rt, &mut book, "2-2", 1), "c");
+    finishes(&rt, &mut book, hand, ABC, Ok(3));
+    let script = [
+        Step::Status("acme/one", 1, Err(Refusal::UploadUnknown)),
+        Step::Prints(
+            "book\ntenant acme used 3 quota 1000 next 2\nrepository acme/one\nblob sha256:ba7816bf8f01cfea414140de5dae2223b00361a396177a9cb410ff61f20015ad size 3 links 1\nend\n",
+        ),
+    ];
+    plays(&rt, &mut book, &script);
 }
 
 #[test]
 fn a_hand_of_another_book_changes_nothing(rt: HostRuntime) {
-    let alloc = rt.alloc();
-    let one = name(&rt, alloc, "acme/one");
-    let mut book = started(&rt, alloc, 5);
-    let mut other = started(&rt, alloc, 5);
-    let hand = book.take(&one, 1, None, 2).expect(&rt, "a hand");
-    assert_eq!(rt; other.put_back(hand), Err(Refusal::UploadUnknown));
-    let hand = other.take(&one, 1, None, 1).expect(&rt, "a hand");
-    assert_eq!(rt;
-        finish(&mut book, fill(hand, b"c"), ABC, &rt),
-        Err(Refusal::UploadUnknown)
-    );
-    assert_eq!(rt; book.abandon(&one, 1), Err(Refusal::Busy));
-    assert_eq!(rt; book.status(&one, 1), Ok(2));
+    let mut book = started(&rt, 5);
+    let mut other = started(&rt, 5);
+    let hand = takes(&rt, &mut book, "", 2);
+    puts_back(&rt, &mut other, hand, Err(Refusal::UploadUnknown));
+    let hand = fill(takes(&rt, &mut other, "", 1), "c");
+    finishes(&rt, &mut book, hand, ABC, Err(Refusal::UploadUnknown));
+    let script = [
+        Step::Abandon("acme/one", 1, Err(Refusal::Busy)),
+        Step::Status("acme/one", 1, Ok(2)),
+    ];
+    plays(&rt, &mut book, &script);
 }

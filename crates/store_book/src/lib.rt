@@ -14,16 +14,21 @@
 mod algorithm_tests;
 mod book;
 mod config;
-mod keep;
-pub mod laws;
-mod mount;
 #[cfg(test)]
 mod hand_tests;
+mod keep;
+pub mod laws;
+#[cfg(test)]
+mod manifest_tests;
+mod manifests;
+mod mount;
 #[cfg(test)]
 mod mount_tests;
 mod print;
 #[cfg(test)]
 mod refusal_tests;
+#[cfg(test)]
+mod test_steps;
 #[cfg(test)]
 mod tests;
 

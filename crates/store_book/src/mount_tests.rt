@@ -1,219 +1,156 @@
 //! Worked examples of mounts and deletes, of a store that is full, and of the limit on repositories.
 
-use crate::tests::{ABC, OBJ, book, config, digest, name, prints};
+use crate::test_steps::{ABC, OBJ, Step, book, mount, play, plays, says, small, upload};
 use crate::{Book, Mount};
 use blob_digest::{Algorithm, Digest, Refusal};
-use std::alloc::{AllocError, Global};
+use std::alloc::AllocGlobal;
 use std::process::Abort;
 
-/// The digest of some bytes.
-fn digest_of(bytes: &[u8]) -> Digest {
-    Digest::of(Algorithm::Sha256, bytes)
-}
-
-/// Uploads some bytes to a repository, in one session, and answers the size that was stored.
-fn upload(
-    rt: &impl Abort,
-    alloc: Global,
-    book: &mut Book,
-    repo: &str,
-    bytes: &[u8],
-) -> Result<u64, Refusal> {
-    let repo = name(rt, alloc, repo);
-    let number = book.start(&repo)?;
-    book.close(&repo, number, &digest_of(bytes), None, bytes)
-}
-
-/// Mounts ABC into a repository.
-fn mount(
-    rt: &impl Abort,
-    alloc: Global,
-    book: &mut Book,
-    repo: &str,
-    from: &str,
-) -> Result<Mount, Refusal> {
-    let repo = name(rt, alloc, repo);
-    let from = name(rt, alloc, from);
-    book.mount(&repo, &digest(rt, ABC), &from)
-}
-
-/// Deletes ABC from a repository.
-fn delete(rt: &impl Abort, alloc: Global, book: &mut Book, repo: &str) -> Result<(), Refusal> {
-    let repo = name(rt, alloc, repo);
-    book.delete(&repo, &digest(rt, ABC))
-}
-
-/// Whether the text of a book has some text in it.
-fn says(rt: &impl Abort, alloc: Global, book: &Book, text: &str) -> bool {
-    let mut written: Vec<u8> = Vec::new(alloc);
-    book.print(&mut written).expect(rt, "memory");
-    let text = text.as_bytes();
-    if text.is_empty() {
-        return true;
-    }
-    written
-        .as_slice()
-        .windows(text.len())
-        .any(|found| found == text)
-}
+const OVER: Refusal = Refusal::Quota { used: 3, quota: 3 };
 
 #[test]
 fn a_mount_links_what_the_tenant_holds(rt: HostRuntime) {
-    let alloc = rt.alloc();
-    let mut book = book(&rt, alloc, &[("acme", 1000), ("other", 1000)]);
-    assert_eq!(rt; upload(&rt, alloc, &mut book, "acme/one", b"abc"), Ok(3));
-    let mounted = mount(&rt, alloc, &mut book, "acme/two", "acme/one");
-    assert_eq!(rt; mounted, Ok(Mount::Mounted));
-    let text =
-        "book\ntenant acme used 3 quota 1000 next 2\nrepository acme/one\nblob sha256:ba7816bf8f01cfea414140de5dae2223b00361a396177a9cb410ff61f20015ad size 3 links 2\nrepository acme/two\nblob sha256:ba7816bf8f01cfea414140de5dae2223b00361a396177a9cb410ff61f20015ad size 3 links 2\ntenant other used 0 quota 1000 next 1\nend\n";
-    assert!(rt; prints(&rt, alloc, &book, text));
+    let mut book = book(&rt, &[("acme", 1000), ("other", 1000)]);
+    let script = [
+        Step::Upload("acme/one", ABC, "abc", Ok(3)),
+        Step::Mount("acme/two", ABC, "acme/one", Ok(Mount::Mounted)),
+        Step::Prints(
+            "book\ntenant acme used 3 quota 1000 next 2\nrepository acme/one\nblob sha256:ba7816bf8f01cfea414140de5dae2223b00361a396177a9cb410ff61f20015ad size 3 links 2\nrepository acme/two\nblob sha256:ba7816bf8f01cfea414140de5dae2223b00361a396177a9cb410ff61f20015ad size 3 links 2\ntenant other used 0 quota 1000 next 1\nend\n",
+        ),
+    ];
+    plays(&rt, &mut book, &script);
 }
 
 #[test]
 fn a_mount_from_another_tenant_opens_a_session(rt: HostRuntime) {
-    let alloc = rt.alloc();
-    let mut book = book(&rt, alloc, &[("acme", 1000), ("other", 1000)]);
-    assert_eq!(rt; upload(&rt, alloc, &mut book, "acme/one", b"abc"), Ok(3));
-    let opened = mount(&rt, alloc, &mut book, "other/x", "acme/one");
-    assert_eq!(rt; opened, Ok(Mount::Session(1)));
-    let text =
-        "book\ntenant acme used 3 quota 1000 next 2\nrepository acme/one\nblob sha256:ba7816bf8f01cfea414140de5dae2223b00361a396177a9cb410ff61f20015ad size 3 links 1\ntenant other used 0 quota 1000 next 2\nrepository other/x\nsession 1 received 0\nend\n";
-    assert!(rt; prints(&rt, alloc, &book, text));
+    let mut book = book(&rt, &[("acme", 1000), ("other", 1000)]);
+    let script = [
+        Step::Upload("acme/one", ABC, "abc", Ok(3)),
+        Step::Mount("other/x", ABC, "acme/one", Ok(Mount::Session(1))),
+        Step::Prints(
+            "book\ntenant acme used 3 quota 1000 next 2\nrepository acme/one\nblob sha256:ba7816bf8f01cfea414140de5dae2223b00361a396177a9cb410ff61f20015ad size 3 links 1\ntenant other used 0 quota 1000 next 2\nrepository other/x\nsession 1 received 0\nend\n",
+        ),
+    ];
+    plays(&rt, &mut book, &script);
 }
 
 #[test]
 fn a_use_falls_with_the_last_link(rt: HostRuntime) {
+    let (one, two) = ("acme/one", "acme/two");
+    let mut book = book(&rt, &[("acme", 3)]);
+    let script = [
+        Step::Upload(one, ABC, "abc", Ok(3)),
+        Step::Mount(two, ABC, one, Ok(Mount::Mounted)),
+        Step::Start(one, Ok(2)),
+        Step::Append(one, 2, "", "x", Err(OVER)),
+        Step::Delete(one, ABC, Ok(())),
+        Step::Append(one, 2, "", "x", Err(OVER)),
+        Step::Delete(two, ABC, Ok(())),
+        Step::Append(one, 2, "", "x", Ok(1)),
+        Step::Prints(
+            "book\ntenant acme used 1 quota 3 next 3\nrepository acme/one\nsession 2 received 1\nrepository acme/two\nend\n",
+        ),
+    ];
+    plays(&rt, &mut book, &script);
+}
+
+/// Finds the uses of two tenants and the links to ABC.
+fn counts(rt: &(impl Abort + AllocGlobal), book: &Book, acme: u64, other: u64, links: u64) {
     let alloc = rt.alloc();
-    let one = name(&rt, alloc, "acme/one");
-    let mut book = book(&rt, alloc, &[("acme", 3)]);
-    assert_eq!(rt; upload(&rt, alloc, &mut book, "acme/one", b"abc"), Ok(3));
-    let mounted = mount(&rt, alloc, &mut book, "acme/two", "acme/one");
-    assert_eq!(rt; mounted, Ok(Mount::Mounted));
-    assert_eq!(rt; book.start(&one), Ok(2));
-    let over = Err(Refusal::Quota { used: 3, quota: 3 });
-    for repo in ["acme/one", "acme/two"] {
-        assert_eq!(rt; book.append(&one, 2, None, b"x"), over);
-        assert_eq!(rt; delete(&rt, alloc, &mut book, repo), Ok(()));
-    }
-    assert_eq!(rt; book.append(&one, 2, None, b"x"), Ok(1));
-    let text =
-        "book\ntenant acme used 1 quota 3 next 3\nrepository acme/one\nsession 2 received 1\nrepository acme/two\nend\n";
-    assert!(rt; prints(&rt, alloc, &book, text));
+    let acme = format!(in alloc; "tenant acme used {acme} ").expect(rt, "memory");
+    let other = format!(in alloc; "tenant other used {other} ").expect(rt, "memory");
+    let links = format!(in alloc; "blob {ABC} size 3 links {links}\n").expect(rt, "memory");
+    assert!(rt; says(rt, book, acme.as_str()));
+    assert!(rt; says(rt, book, other.as_str()));
+    assert!(rt; says(rt, book, links.as_str()));
 }
 
-/// A step with ABC, and how it ends.
-#[derive(Clone, Copy)]
-enum Step {
-    Upload,
-    Mount,
-    OpenInstead,
-    Delete,
-    DeleteNothing,
+fn uploaded(repo: &str) -> Step<'_> {
+    Step::Upload(repo, ABC, "abc", Ok(3))
 }
 
-/// Whether a step ends as it says.
-fn goes(
-    rt: &impl Abort,
-    alloc: Global,
-    book: &mut Book,
-    step: Step,
-    repo: &str,
-    from: &str,
-) -> bool {
-    match step {
-        Step::Upload => upload(rt, alloc, book, repo, b"abc") == Ok(3),
-        Step::Mount => mount(rt, alloc, book, repo, from) == Ok(Mount::Mounted),
-        Step::OpenInstead => matches!(mount(rt, alloc, book, repo, from), Ok(Mount::Session(_))),
-        Step::Delete => delete(rt, alloc, book, repo) == Ok(()),
-        Step::DeleteNothing => delete(rt, alloc, book, repo) == Err(Refusal::BlobUnknown),
-    }
+fn mounted<'a>(repo: &'a str, from: &'a str) -> Step<'a> {
+    Step::Mount(repo, ABC, from, Ok(Mount::Mounted))
 }
 
-/// Whether these are the uses of two tenants and the links to ABC.
-fn counts(
-    rt: &impl Abort,
-    alloc: Global,
-    book: &Book,
-    acme: u64,
-    other: u64,
-    links: u64,
-) -> Result<bool, AllocError> {
-    let acme = format!(in alloc; "tenant acme used {acme} ")?;
-    let other = format!(in alloc; "tenant other used {other} ")?;
-    let links = format!(in alloc; "blob {ABC} size 3 links {links}\n")?;
-    Ok(
-        says(rt, alloc, book, acme.as_str())
-            && says(rt, alloc, book, other.as_str())
-            && says(rt, alloc, book, links.as_str()),
-    )
+fn instead<'a>(repo: &'a str, from: &'a str, number: u32) -> Step<'a> {
+    Step::Mount(repo, ABC, from, Ok(Mount::Session(number)))
+}
+
+fn deleted(repo: &str) -> Step<'_> {
+    Step::Delete(repo, ABC, Ok(()))
+}
+
+fn nothing_deleted(repo: &str) -> Step<'_> {
+    Step::Delete(repo, ABC, Err(Refusal::BlobUnknown))
 }
 
 #[test]
 fn counts_and_uses_follow_two_tenants(rt: HostRuntime) {
-    let alloc = rt.alloc();
-    let mut book = book(&rt, alloc, &[("acme", 1000), ("other", 1000)]);
+    let mut book = book(&rt, &[("acme", 1000), ("other", 1000)]);
     let script = [
-        (Step::Upload, "acme/one", "acme/one", 3, 0, 1),
-        (Step::Mount, "acme/one", "acme/one", 3, 0, 1),
-        (Step::Mount, "acme/two", "acme/one", 3, 0, 2),
-        (Step::OpenInstead, "other/x", "acme/one", 3, 0, 2),
-        (Step::Upload, "acme/one", "acme/one", 3, 0, 2),
-        (Step::Upload, "other/x", "other/x", 3, 3, 3),
-        (Step::OpenInstead, "acme/three", "acme/none", 3, 3, 3),
-        (Step::OpenInstead, "acme/three", "acme/three", 3, 3, 3),
-        (Step::OpenInstead, "acme/one", "nobody/x", 3, 3, 3),
-        (Step::Delete, "acme/one", "acme/one", 3, 3, 2),
-        (Step::DeleteNothing, "acme/one", "acme/one", 3, 3, 2),
-        (Step::OpenInstead, "other/y", "acme/one", 3, 3, 2),
-        (Step::Delete, "acme/two", "acme/two", 0, 3, 1),
-        (Step::OpenInstead, "acme/one", "acme/two", 0, 3, 1),
-        (Step::Upload, "acme/two", "acme/two", 3, 3, 2),
-        (Step::Delete, "other/x", "other/x", 3, 0, 1),
-        (Step::Mount, "acme/three", "acme/two", 3, 0, 2),
+        (uploaded("acme/one"), 3, 0, 1),
+        (mounted("acme/one", "acme/one"), 3, 0, 1),
+        (mounted("acme/two", "acme/one"), 3, 0, 2),
+        (instead("other/x", "acme/one", 1), 3, 0, 2),
+        (uploaded("acme/one"), 3, 0, 2),
+        (uploaded("other/x"), 3, 3, 3),
+        (instead("acme/three", "acme/none", 3), 3, 3, 3),
+        (instead("acme/three", "acme/three", 4), 3, 3, 3),
+        (instead("acme/one", "nobody/x", 5), 3, 3, 3),
+        (deleted("acme/one"), 3, 3, 2),
+        (nothing_deleted("acme/one"), 3, 3, 2),
+        (instead("other/y", "acme/one", 3), 3, 3, 2),
+        (deleted("acme/two"), 0, 3, 1),
+        (instead("acme/one", "acme/two", 6), 0, 3, 1),
+        (uploaded("acme/two"), 3, 3, 2),
+        (deleted("other/x"), 3, 0, 1),
+        (mounted("acme/three", "acme/two"), 3, 0, 2),
     ];
-    for (step, repo, from, acme, other, links) in script {
-        assert!(rt; goes(&rt, alloc, &mut book, step, repo, from));
-        assert!(rt; counts(&rt, alloc, &book, acme, other, links).expect(&rt, "memory"));
+    for (step, acme, other, links) in &script {
+        play(&rt, &mut book, step);
+        counts(&rt, &book, *acme, *other, *links);
     }
 }
 
 #[test]
 fn an_unknown_tenant_has_no_mounts(rt: HostRuntime) {
-    let alloc = rt.alloc();
-    let mut book = book(&rt, alloc, &[("acme", 1000)]);
-    let mounted = mount(&rt, alloc, &mut book, "nobody/x", "acme/one");
-    assert_eq!(rt; mounted, Err(Refusal::NameUnknown));
-    assert_eq!(rt;
-        delete(&rt, alloc, &mut book, "nobody/x"),
-        Err(Refusal::NameUnknown)
-    );
+    let mut book = book(&rt, &[("acme", 1000)]);
+    let script = [
+        Step::Mount("nobody/x", ABC, "acme/one", Err(Refusal::NameUnknown)),
+        Step::Delete("nobody/x", ABC, Err(Refusal::NameUnknown)),
+    ];
+    plays(&rt, &mut book, &script);
 }
 
 #[test]
 fn a_blob_without_links_keeps_its_slot(rt: HostRuntime) {
-    let alloc = rt.alloc();
-    let one = name(&rt, alloc, "acme/one");
-    let obj = digest(&rt, OBJ);
-    let mut single = config(&rt, alloc, &[("acme", 1000)]);
-    single.slots = 1;
-    let mut book = Book::new(alloc, &single).expect(&rt, "a book");
-    assert_eq!(rt; upload(&rt, alloc, &mut book, "acme/one", b"abc"), Ok(3));
-    assert_eq!(rt; book.start(&one), Ok(2));
-    let full = Err(Refusal::StoreFull);
-    assert_eq!(rt; book.close(&one, 2, &obj, None, b"{}"), full);
-    assert_eq!(rt; delete(&rt, alloc, &mut book, "acme/one"), Ok(()));
-    assert_eq!(rt; book.close(&one, 2, &obj, None, b"{}"), full);
-    assert_eq!(rt; upload(&rt, alloc, &mut book, "acme/one", b"abc"), Ok(3));
+    let one = "acme/one";
+    let mut book = small(&rt, 1, 1048576, 1000);
+    let script = [
+        Step::Upload(one, ABC, "abc", Ok(3)),
+        Step::Start(one, Ok(2)),
+        Step::Close(one, 2, OBJ, "", "{}", Err(Refusal::StoreFull)),
+        Step::Delete(one, ABC, Ok(())),
+        Step::Close(one, 2, OBJ, "", "{}", Err(Refusal::StoreFull)),
+        Step::Upload(one, ABC, "abc", Ok(3)),
+    ];
+    plays(&rt, &mut book, &script);
+}
+
+/// The text of the digest of some bytes.
+fn digest_of(rt: &(impl Abort + AllocGlobal), bytes: &[u8]) -> String {
+    let digest = Digest::of(Algorithm::Sha256, bytes);
+    format!(in rt.alloc(); "{digest}").expect(rt, "memory")
 }
 
 /// A store of 1,000 slots with a blob of 4 bytes in each.
-fn filled(rt: &impl Abort, alloc: Global) -> Book {
-    let mut wide = config(rt, alloc, &[("acme", 1000000)]);
-    wide.slots = 1000;
-    let mut book = Book::new(alloc, &wide).expect(rt, "a book");
+fn filled(rt: &(impl Abort + AllocGlobal)) -> Book {
+    let mut book = small(rt, 1000, 1048576, 1000000);
     for blob in 0..1000u32 {
         let bytes = blob.to_be_bytes();
-        let size = upload(rt, alloc, &mut book, "acme/one", &bytes);
+        let of = digest_of(rt, &bytes);
+        let size = upload(rt, &mut book, "acme/one", of.as_str(), &bytes);
         assert_eq!(rt; size, Ok(4));
     }
     book
@@ -221,58 +158,49 @@ fn filled(rt: &impl Abort, alloc: Global) -> Book {
 
 #[test]
 fn a_thousand_slots_take_a_thousand_blobs(rt: HostRuntime) {
-    let alloc = rt.alloc();
-    let one = name(&rt, alloc, "acme/one");
-    let mut book = filled(&rt, alloc);
-    let full = Err(Refusal::StoreFull);
-    assert_eq!(rt; upload(&rt, alloc, &mut book, "acme/one", b"abc"), full);
+    let one = "acme/one";
+    let mut book = filled(&rt);
     let bytes = 7u32.to_be_bytes();
-    assert_eq!(rt; book.delete(&one, &digest_of(&bytes)), Ok(()));
-    assert_eq!(rt; upload(&rt, alloc, &mut book, "acme/one", b"abc"), full);
-    assert_eq!(rt; upload(&rt, alloc, &mut book, "acme/one", &bytes), Ok(4));
-    assert!(rt;
-        says(
-            &rt,
-            alloc,
-            &book,
-            "tenant acme used 4000 quota 1000000 next 1004\n"
-        )
-    );
+    let of = digest_of(&rt, &bytes);
+    let script = [
+        Step::Upload(one, ABC, "abc", Err(Refusal::StoreFull)),
+        Step::Delete(one, of.as_str(), Ok(())),
+        Step::Upload(one, ABC, "abc", Err(Refusal::StoreFull)),
+        Step::Upload(one, of.as_str(), "\0\0\0\x07", Ok(4)),
+        Step::Says("tenant acme used 4000 quota 1000000 next 1004\n"),
+    ];
+    plays(&rt, &mut book, &script);
 }
 
 /// A tenant with 1,024 repositories, of which all but `acme/last` hold ABC.
-fn crowded(rt: &impl Abort, alloc: Global) -> Book {
-    let mut book = book(rt, alloc, &[("acme", 1000), ("other", 1000)]);
-    assert_eq!(rt; upload(rt, alloc, &mut book, "acme/one", b"abc"), Ok(3));
+fn crowded(rt: &(impl Abort + AllocGlobal)) -> Book {
+    let mut book = book(rt, &[("acme", 1000), ("other", 1000)]);
+    plays(rt, &mut book, &[uploaded("acme/one")]);
     for number in 2..1024u32 {
-        let repo = format!(in alloc; "acme/r{number}").expect(rt, "memory");
-        let mounted = mount(rt, alloc, &mut book, repo.as_str(), "acme/one");
+        let repo = format!(in rt.alloc(); "acme/r{number}").expect(rt, "memory");
+        let mounted = mount(rt, &mut book, repo.as_str(), ABC, "acme/one");
         assert_eq!(rt; mounted, Ok(Mount::Mounted));
     }
-    let last = name(rt, alloc, "acme/last");
-    assert_eq!(rt; book.start(&last), Ok(2));
+    plays(rt, &mut book, &[Step::Start("acme/last", Ok(2))]);
     book
 }
 
 #[test]
 fn a_tenant_has_1024_repositories(rt: HostRuntime) {
-    let alloc = rt.alloc();
-    let mut book = crowded(&rt, alloc);
-    assert_eq!(rt;
-        book.start(&name(&rt, alloc, "acme/new")),
-        Err(Refusal::LimitReached)
-    );
-    for from in ["acme/one", "acme/last", "acme/none"] {
-        let mounted = mount(&rt, alloc, &mut book, "acme/new", from);
-        assert_eq!(rt; mounted, Err(Refusal::LimitReached));
-    }
-    assert!(rt; counts(&rt, alloc, &book, 3, 0, 1023).expect(&rt, "memory"));
-    for (repo, result) in [
-        ("acme/last", Mount::Mounted),
-        ("other/new", Mount::Session(1)),
-    ] {
-        let mounted = mount(&rt, alloc, &mut book, repo, "acme/one");
-        assert_eq!(rt; mounted, Ok(result));
-    }
-    assert!(rt; counts(&rt, alloc, &book, 3, 0, 1024).expect(&rt, "memory"));
+    let mut book = crowded(&rt);
+    let new = "acme/new";
+    let script = [
+        Step::Start(new, Err(Refusal::LimitReached)),
+        Step::Mount(new, ABC, "acme/one", Err(Refusal::LimitReached)),
+        Step::Mount(new, ABC, "acme/last", Err(Refusal::LimitReached)),
+        Step::Mount(new, ABC, "acme/none", Err(Refusal::LimitReached)),
+    ];
+    plays(&rt, &mut book, &script);
+    counts(&rt, &book, 3, 0, 1023);
+    let script = [
+        mounted("acme/last", "acme/one"),
+        instead("other/new", "acme/one", 1),
+    ];
+    plays(&rt, &mut book, &script);
+    counts(&rt, &book, 3, 0, 1024);
 }

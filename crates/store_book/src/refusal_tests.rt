@@ -1,36 +1,27 @@
 //! Which refusal comes where two cases meet in one call, and that none changes the book.
 
 use crate::Book;
-use crate::tests::{ABC, EMPTY, OBJ, config, digest, name, prints, range};
-use blob_digest::{ByteRange, Digest, Refusal};
-use std::alloc::Global;
+use crate::test_steps::{ABC, EMPTY, OBJ, Step, plays, small};
+use blob_digest::Refusal;
+use std::alloc::AllocGlobal;
 use std::process::Abort;
 
 /// A full store of one slot and blobs of at most four bytes. Its tenant may use three bytes and uses
 /// two: session 2 of `acme/one` has `ab`.
-fn crowded(rt: &impl Abort, alloc: Global) -> Book {
-    let mut small = config(rt, alloc, &[("acme", 3)]);
-    small.slots = 1;
-    small.max_blob = 4;
-    let mut book = Book::new(alloc, &small).expect(rt, "a book");
-    let one = name(rt, alloc, "acme/one");
-    book.start(&one).expect(rt, "session 1");
-    let empty = digest(rt, EMPTY);
-    book.close(&one, 1, &empty, None, b"").expect(rt, "a blob");
-    book.start(&one).expect(rt, "session 2");
-    book.append(&one, 2, None, b"ab").expect(rt, "a chunk");
+fn crowded(rt: &(impl Abort + AllocGlobal)) -> Book {
+    let one = "acme/one";
+    let mut book = small(rt, 1, 4, 3);
+    let script = [
+        Step::Upload(one, EMPTY, "", Ok(0)),
+        Step::Start(one, Ok(2)),
+        Step::Append(one, 2, "", "ab", Ok(2)),
+    ];
+    plays(rt, &mut book, &script);
     book
 }
 
 const CROWDED: &str =
     "book\ntenant acme used 2 quota 3 next 3\nrepository acme/one\nblob sha256:e3b0c44298fc1c149afbf4c8996fb92427ae41e4649b934ca495991b7852b855 size 0 links 1\nsession 2 received 2\nend\n";
-
-fn optional(rt: &impl Abort, text: &str) -> Option<ByteRange> {
-    if text.is_empty() {
-        return None;
-    }
-    range(rt, text)
-}
 
 const LATE: Refusal = Refusal::RangeInvalid { received: 2 };
 
@@ -38,18 +29,18 @@ const OVER: Refusal = Refusal::Quota { used: 2, quota: 3 };
 
 #[test]
 fn a_tenant_comes_before_a_session(rt: HostRuntime) {
-    let alloc = rt.alloc();
-    let mut book = crowded(&rt, alloc);
-    let nobody = name(&rt, alloc, "nobody/x");
-    assert_eq!(rt; book.status(&nobody, 9), Err(Refusal::NameUnknown));
-    assert_eq!(rt; book.abandon(&nobody, 9), Err(Refusal::NameUnknown));
-    assert!(rt; prints(&rt, alloc, &book, CROWDED));
+    let mut book = crowded(&rt);
+    let script = [
+        Step::Status("nobody/x", 9, Err(Refusal::NameUnknown)),
+        Step::Abandon("nobody/x", 9, Err(Refusal::NameUnknown)),
+        Step::Prints(CROWDED),
+    ];
+    plays(&rt, &mut book, &script);
 }
 
 #[test]
 fn an_append_is_refused_for_the_first_of_two_cases(rt: HostRuntime) {
-    let alloc = rt.alloc();
-    let mut book = crowded(&rt, alloc);
+    let mut book = crowded(&rt);
     for (repo, number, places, bytes, first) in [
         ("nobody/x", 9, "", "c", Refusal::NameUnknown),
         ("nobody/x", 2, "2-4", "c", Refusal::NameUnknown),
@@ -63,19 +54,14 @@ fn an_append_is_refused_for_the_first_of_two_cases(rt: HostRuntime) {
         ("acme/one", 2, "3-4", "cd", LATE),
         ("acme/one", 2, "2-3", "cd", OVER),
     ] {
-        let repo = name(&rt, alloc, repo);
-        assert_eq!(rt;
-            book.append(&repo, number, optional(&rt, places), bytes.as_bytes()),
-            Err(first)
-        );
+        let step = Step::Append(repo, number, places, bytes, Err(first));
+        plays(&rt, &mut book, &[step, Step::Prints(CROWDED)]);
     }
-    assert!(rt; prints(&rt, alloc, &book, CROWDED));
 }
 
 #[test]
 fn a_close_is_refused_for_the_first_of_two_cases(rt: HostRuntime) {
-    let alloc = rt.alloc();
-    let mut book = crowded(&rt, alloc);
+    let mut book = crowded(&rt);
     for (repo, number, of, places, bytes, first) in [
         ("nobody/x", 9, OBJ, "", "c", Refusal::NameUnknown),
         ("nobody/x", 2, OBJ, "2-4", "c", Refusal::NameUnknown),
@@ -93,12 +79,7 @@ fn a_close_is_refused_for_the_first_of_two_cases(rt: HostRuntime) {
         ("acme/one", 2, OBJ, "", "c", Refusal::DigestInvalid),
         ("acme/one", 2, ABC, "", "c", Refusal::StoreFull),
     ] {
-        let repo = name(&rt, alloc, repo);
-        let of = digest(&rt, of);
-        assert_eq!(rt;
-            book.close(&repo, number, &of, optional(&rt, places), bytes.as_bytes()),
-            Err(first)
-        );
+        let step = Step::Close(repo, number, of, places, bytes, Err(first));
+        plays(&rt, &mut book, &[step, Step::Prints(CROWDED)]);
     }
-    assert!(rt; prints(&rt, alloc, &book, CROWDED));
 }

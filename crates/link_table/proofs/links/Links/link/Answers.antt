@@ -18,7 +18,7 @@ returns-then-holds c =
     let at = shelf_at tenants shelves c.self.invariant.1 c.args.tenant (rw (← c.self.view_is) at c.requires.there) s c.index.ensures in
     let there = links-there tenants shelves c.self.invariant.1 c.args.tenant s at c.args.repo.now (rw (← c.self.view_is) at c.requires.own) c.args.digest.now in
     let value = some_value (get s.links (c.args.repo.now, c.args.digest.now)) (sym c.holds.ensures ∙ c.if-holds.true) in
-    rw (← c.self.view_is) (link_there (linked_of tenants shelves c.self.inside.charges.items) c.args.repo.now c.args.digest.now c.args.size value.0 (there ∙ value.1) (rw (← c.self.view_is) at c.requires.size))
+    rw (← c.self.view_is) (link_there (linked_of tenants shelves c.self.inside.manifests c.self.inside.charges.items) c.args.repo.now c.args.digest.now c.args.size value.0 (there ∙ value.1) (rw (← c.self.view_is) at c.requires.size))
 
 pub link-requires : goal.link-requires
 link-requires c =
@@ -36,7 +36,7 @@ invariant_of-self-in-Err c =
     let at = shelf_at tenants shelves c.self.invariant.1 c.args.tenant (rw (← c.self.view_is) at c.requires.there) s c.index_mut.ensures.value in
     let links = links-same tenants shelves c.self.invariant.1 c.args.tenant s at c.link.new.self (ap (λ (x : Shelved). x.links) c.in-Err.ensures.err) in (
       rw links c.self.invariant.0,
-      IsShelved-same tenants shelves c.self.invariant.1 c.self.inside.charges.items c.args.tenant s at c.args.repo.now (rw (← c.self.view_is) at c.requires.own) c.link.new.self c.in-Err.ensures.err,
+      IsShelved-same tenants shelves c.self.invariant.1 c.self.inside.manifests c.self.inside.charges.items c.args.tenant s at c.args.repo.now (rw (← c.self.view_is) at c.requires.own) c.link.new.self c.in-Err.ensures.err,
       rw links (Counts-back tenants (links_shown shelves) c.self.inside.holders c.raise.new.holders c.lower.new.holders c.args.tenant c.args.digest.now c.self.invariant.2 c.in_ok-raise.ensures.ok c.lower.ensures),
     )
 
@@ -56,7 +56,7 @@ invariant_of-self-2 c =
     let held = ap (nat_lt 0) c.holders_of-held.ensures ∙ held-counted tenants (links_shown shelves) c.self.inside.holders c.self.invariant.2 c.args.tenant c.args.digest.now ∙ sym (contains-blob tenants c.args.tenant c.args.digest.now (links_shown shelves)) in (
       rw links (IsSound-link tenants (links_shown shelves) c.self.inside.weights.items c.self.inside.charges.items c.self.invariant.0 c.args.tenant there c.args.repo.now c.args.digest.now c.args.size own
           (rw (← c.self.view_is) at c.requires.size) (rw (← c.self.view_is) at c.requires.room) (nat_lt 0 c.holders_of-held.result) held c.index-2.result.now c.weight_with-weight.result c.index-2.ensures c.weight_with-weight.ensures),
-      IsShelved-link tenants shelves c.self.invariant.1 c.self.inside.charges.items c.args.tenant s at c.args.repo.now own c.link.new.self c.args.digest.now c.args.size known c.in_default.ensures.ok,
+      IsShelved-link tenants shelves c.self.invariant.1 c.self.inside.manifests c.self.inside.charges.items c.args.tenant s at c.args.repo.now own c.link.new.self c.args.digest.now c.args.size known c.in_default.ensures.ok,
       rw links (Counts-insert tenants (links_shown shelves) c.self.inside.holders c.raise.new.holders c.self.invariant.2 c.args.tenant c.args.repo.now c.args.digest.now c.args.size own absent c.in_ok-raise.ensures.ok),
     )
 
@@ -73,4 +73,4 @@ returns c =
     (ap is_some (links-there tenants shelves c.self.invariant.1 c.args.tenant c.index.result.now at_first c.args.repo.now own c.args.digest.now) ∙ sym c.holds.ensures ∙ c.if-holds.false) in
     let links = links-insert tenants shelves c.self.invariant.1 c.args.tenant s at c.args.repo.now own c.args.digest.now c.args.size c.link.new.self (ap (λ (x : Shelved). x.links) c.in_default.ensures.ok) in
     let repos = repos-same tenants shelves c.self.invariant.1 c.args.tenant s at c.link.new.self (ap (λ (x : Shelved). x.repos) c.in_default.ensures.ok) in
-    rw (← c.self.view_is) (link_new (linked_of tenants shelves c.self.inside.charges.items) c.args.repo.now c.args.digest.now c.args.size (links_shown (set shelves c.args.tenant c.link.new.self)) absent links ∙ ap Ok (ap (λ r. (true, record { tenants = tenants; repos = r; links = links_shown (set shelves c.args.tenant c.link.new.self); charges = c.self.inside.charges.items })) (sym repos)))
+    rw (← c.self.view_is) (link_new (linked_of tenants shelves c.self.inside.manifests c.self.inside.charges.items) c.args.repo.now c.args.digest.now c.args.size (links_shown (set shelves c.args.tenant c.link.new.self)) absent links ∙ ap Ok (ap (λ r. (true, record { tenants = tenants; repos = r; links = links_shown (set shelves c.args.tenant c.link.new.self); manifests = c.self.inside.manifests; charges = c.self.inside.charges.items })) (sym repos)))
