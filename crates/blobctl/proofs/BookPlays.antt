@@ -7,11 +7,11 @@ use Rattle.blob_digest.specs.Keys.{Text}
 use Rattle.blob_digest.specs.declared.refusal.Refusal.TheVariants.{Memory}
 use Rattle.store_book.specs.Catalog.{Catalog}
 use Rattle.book_ahead.specs.BookState.{BookState, SlotSeen}
-use Rattle.book_ahead.specs.SlotSteps.{EachSlot, IsCrowded}
+use Rattle.book_ahead.specs.SlotSteps.{EachSlot, HasLast, IsCrowded}
 use Rattle.blobctl.specs.Answers.{Answer, Session, Received, Stored, Abandoned, Mounted, Deleted, Manifest, Body, Leased, Bytes, Shared, Verified, GivenBack, Cleaned, NoLease, NameTaken, Refused}
 use Rattle.blobctl.specs.Commands.{Command, Request, Calls, Lease, Verifies, Sweeps}
 use Rattle.blobctl.specs.Leases.{Lent, Leases, none}
-use Rattle.blobctl.specs.Played.{Acts, ActsCall, ExplainsCrowd, HasLastGeneration, Happens, HappensCall, RisesByOne}
+use Rattle.blobctl.specs.Played.{Acts, ActsCall, ExplainsCrowd, Happens, HappensCall, RisesByOne}
 use Rattle.blobctl.specs.Plays.{Plays, RowStep, StoreStep, State, LendsWhereFree, VerifiesLease, named}
 use Rattle.blobctl.specs.Rows.{Line}
 
@@ -37,7 +37,7 @@ still_low n slots low k s at = let h = low k s at in (omega (arith, h.0), omega 
 not_crowded : (n : ℕ) (digest : Text) (slots : List SlotSeen) → AreLow n slots → n ≤ 65537 → ¬ IsCrowded digest slots
 not_crowded n digest slots low few crowded = omega (arith, (low crowded.0 crowded.1 crowded.2).1, few, crowded.4)
 
-not_last : (n : ℕ) (slots : List SlotSeen) → AreLow n slots → n ≤ 65537 → ¬ HasLastGeneration slots
+not_last : (n : ℕ) (slots : List SlotSeen) → AreLow n slots → n ≤ 65537 → ¬ HasLast slots
 not_last n slots low few last = omega (arith, (low last.0 last.1 last.2).0, few, last.3)
 
 none_retired : (n : ℕ) → ¬ (0 < n) → n ≡ 0

@@ -9,6 +9,7 @@ use Rattle.blob_digest.specs.Keys.{Text}
 use Rattle.blob_digest.specs.Outcomes.{Does, ◌>>=◌, refuse}
 use Rattle.blob_digest.specs.declared.refusal.Refusal.{Refusal}
 use Rattle.blob_digest.specs.declared.refusal.Refusal.TheVariants.{NameUnknown, BlobUnknown, Memory, TooManyReaders}
+use Rattle.slot_table.specs.declared.phase.Phase.TheVariants as phase
 use Rattle.store_book.specs.Catalog.{Catalog, Resident, holds, tenant_of}
 use Rattle.store_book.specs.Steps.{Outcome, lease, with_lent}
 use Rattle.book_ahead.specs.BookState.{SlotSeen}
@@ -48,11 +49,17 @@ lending_rises digest a b lending = (
 pub lending_rise : (digest : Text) (old new : List SlotSeen) → slots.EachSlot (slots.IsLending digest) old new → slots.EachSlot RisesByOne old new
 lending_rise digest old new h = each old new (lending_rises digest) h
 
+still_rises : (a b : SlotSeen) → slots.IsStill a b → RisesByOne a b
+still_rises a b still = (omega (arith, still.0), omega (arith, still.3))
+
+pub still_rise : (old new : List SlotSeen) → slots.EachSlot slots.IsStill old new → slots.EachSlot RisesByOne old new
+still_rise old new h = each old new still_rises h
+
 swept_rises : (a b : SlotSeen) → slots.IsSweptSlot a b → RisesByOne a b
-swept_rises a b (slots.same quiet phase) = quiet_rises a b quiet
-swept_rises a b (slots.condemned quiet was is) = quiet_rises a b quiet
-swept_rises a b (slots.freed d was is generation small bound) = (omega (arith, generation), omega (arith, bound))
-swept_rises a b (slots.retired d was is generation last bound) = (omega (arith, generation), omega (arith, bound))
+swept_rises a b (slots.same still) = still_rises a b still
+swept_rises a b (slots.condemned was still) = still_rises (record a { phase = phase.Condemned }) b still
+swept_rises a b (slots.freed d was more is) = rw is (omega arith, omega arith)
+swept_rises a b (slots.retired d was last is) = rw is (omega arith, omega arith)
 
 pub swept_rise : (old new : List SlotSeen) → slots.EachSlot slots.IsSweptSlot old new → slots.EachSlot RisesByOne old new
 swept_rise old new h = each old new swept_rises h

@@ -1,5 +1,5 @@
 -- What a script does to a store, and the text that is written then.
-use Rattle.std.specs.Prelude.{◌≡◌, ◌≢◌, ℕ, ◌+◌, ◌<◌, ◌≤◌, ◌^◌, false, List, ◌++◌, Some, slice_get, Result, Ok, Err}
+use Rattle.std.specs.Prelude.{◌≡◌, ◌≢◌, ℕ, ◌+◌, ◌<◌, ◌≤◌, false, List, ◌++◌, Some, Result, Ok, Err}
 use Rattle.blob_digest.specs.Keys.{Text}
 use Rattle.blob_digest.specs.Tenants.{Tenant}
 use Rattle.blob_digest.specs.declared.refusal.Refusal.{Refusal}
@@ -9,7 +9,7 @@ use Rattle.store_book.specs.Openings.{OpensCatalog}
 use Rattle.store_book.specs.Printed.{book_text}
 use Rattle.store_book.specs.Steps as steps
 use Rattle.book_ahead.specs.BookState.{BookState, SlotSeen}
-use Rattle.book_ahead.specs.SlotSteps.{EachSlot, IsCrowded}
+use Rattle.book_ahead.specs.SlotSteps.{EachSlot, HasLast, IsCrowded}
 use Rattle.book_ahead.specs.Sweeps.{IsSweep, Swept}
 use Rattle.blobctl.specs.Answers.{Answer, Session, Received, Stored, Abandoned, Deleted, Manifest, Body, Bytes, Verified, Cleaned, Refused, mount_answer}
 use Rattle.blobctl.specs.Commands.{Command, Start, Status, Append, Close, Abandon, Mount, Delete, PutManifest, GetManifest, DeleteManifest, Lease, Request, Calls, Verifies, Sweeps}
@@ -69,13 +69,9 @@ abbrev pub ExplainsCrowd : List SlotSeen → Answer → Type 0
 ExplainsCrowd slots (Refused refusal) = refusal ≡ TooManyReaders → (digest : Text) × IsCrowded digest slots
 ExplainsCrowd slots answer = Unit {0}
 
--- some slot is in its last generation
-abbrev pub HasLastGeneration : List SlotSeen → Type 0
-HasLastGeneration slots = (k : ℕ) × (s : SlotSeen) × (slice_get slots k ≡ Some s) × (s.generation + 1 ≡ 2 ^ 32)
-
 -- a sweep of a book, which retires a slot only in its last generation
 abbrev pub ActsSweep : BookState → Answer → Catalog → Type 0
-ActsSweep s answer C' = (swept : Swept) × (answer ≡ Cleaned swept) × IsSweep s.catalog swept C' × (0 < swept.retired → HasLastGeneration s.slots)
+ActsSweep s answer C' = (swept : Swept) × (answer ≡ Cleaned swept) × IsSweep s.catalog swept C' × (0 < swept.retired → HasLast s.slots)
 
 -- a slot's generation rises by one at most, and the bound on its readers' weights by one reader's at most
 abbrev pub RisesByOne : SlotSeen → SlotSeen → Type 0

@@ -8,10 +8,9 @@ ghost use Rattle.blob_digest.specs.Outcomes.{Answers, Does, DoesExactly};
 ghost use Rattle.blob_digest.specs.declared.refusal.Refusal.TheVariants.{Memory};
 ghost use Rattle.store_book.specs.Openings.{RefusesBook, tenants_shown};
 ghost use Rattle.book_ahead.specs.Openings.{OpensBook};
-ghost use Rattle.book_ahead.specs.SlotSteps.{EachSlot, IsLending, IsQuiet, IsSweptSlot, Leases};
+ghost use Rattle.book_ahead.specs.SlotSteps.{EachSlot, HasLast, IsLending, IsQuiet, IsStill, IsSweptSlot, Leases, blob_bytes};
 ghost use Rattle.book_ahead.specs.Sweeps.{IsSweep};
-ghost use Rattle.book_ahead.specs.BookState.{SlotSeen};
-ghost use Rattle.std.specs.Prelude.{ℕ, ◌<◌, ◌+◌, ◌^◌, slice_get};
+ghost use Rattle.std.specs.Prelude.{◌<◌};
 ghost use Rattle.store_book.specs.Printed.{book_text};
 ghost use Rattle.store_book.specs.Steps.{start, status, append, close, abandon, mount, delete, put_manifest, get_manifest, delete_manifest};
 
@@ -172,7 +171,7 @@ impl Book {
         digest: &Digest,
     ) -> Result<(Pin, Arc<Blob, Global>), Refusal>
         requires table { self.old.table ≡ pins.now }
-        ensures does { Leases (λ r. (arc_value r.1).1) result self.old.catalog self.new.catalog self.new.slots repo.now digest.now }
+        ensures does { Leases (λ r. blob_bytes (arc_value r.1)) result self.old.catalog self.new.catalog self.new.slots repo.now digest.now }
         ensures pin { IfOk result (λ r. (r.0.table ≡ pins.now) × (r.0.hold.digest ≡ digest.now) × (r.0.hold.weight ≡ 1024)) }
         ensures slots { (self.new.table ≡ self.old.table) × EachSlot (IsLending digest.now) self.old.slots self.new.slots }
     {
@@ -188,7 +187,7 @@ impl Book {
         requires pin { pin.table ≡ pins.now }
         ensures same { result ≡ pin }
         ensures catalog { self.new.catalog ≡ self.old.catalog }
-        ensures slots { (self.new.table ≡ self.old.table) × EachSlot IsQuiet self.old.slots self.new.slots }
+        ensures slots { (self.new.table ≡ self.old.table) × EachSlot IsStill self.old.slots self.new.slots }
     {
         let _ = &self.book;
         let _ = pins;
@@ -200,7 +199,7 @@ impl Book {
         requires table { self.old.table ≡ pins.now }
         ensures does { IsSweep self.old.catalog result self.new.catalog }
         ensures slots { (self.new.table ≡ self.old.table) × EachSlot IsSweptSlot self.old.slots self.new.slots }
-        ensures retired { 0 < result.retired → (k : ℕ) × (s : SlotSeen) × (slice_get self.old.slots k ≡ Some s) × (s.generation + 1 ≡ 2 ^ 32) }
+        ensures retired { 0 < result.retired → HasLast self.old.slots }
     {
         let _ = &self.book;
         let _ = pins;
