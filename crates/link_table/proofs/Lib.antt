@@ -1,4 +1,5 @@
 pub mod Accepted
+pub mod ArchiveRows
 pub mod HolderCounts
 pub mod ManifestRows
 pub mod Parts

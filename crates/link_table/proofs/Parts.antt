@@ -11,7 +11,7 @@ use Rattle.std.specs.FinMap.{FinMap, find, get, insert, remove, entries, entries
 use Rattle.std.specs.FinMap.Entries.{find_tied, where_key, find-where_key, is_sorted-where_key, same_entries}
 use Rattle.blob_digest.proofs.OptionLemmas.{some_same, some_none}
 
-abbrev or_else : {X : Type 0} → Option X → Option X → Option X
+abbrev pub or_else : {X : Type 0} → Option X → Option X → Option X
 or_else None y = y
 or_else (Some x) y = Some x
 
@@ -20,7 +20,7 @@ or_none None = refl
 or_none (Some x) = refl
 
 module _ {K X : Type 0} (R : K → K → Ordering) where
-  find-++ : (q : K) (xs ys : List (K × X)) → find R q (xs ++ ys) ≡ or_else (find R q xs) (find R q ys)
+  pub find-++ : (q : K) (xs ys : List (K × X)) → find R q (xs ++ ys) ≡ or_else (find R q xs) (find R q ys)
   find-++ q [] ys = refl
   find-++ q (e ∷ xs) ys = elim (eq_by_cmp R q e.0) as (λ b. cond b (Some e.1) (find R q (xs ++ ys)) ≡ or_else (cond b (Some e.1) (find R q xs)) (find R q ys)) [
     | true ↦ refl

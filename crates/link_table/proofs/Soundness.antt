@@ -128,11 +128,11 @@ module _ (tenants : List Tenant) (links : FinMap link_cmp ℕ) (weights charges 
 pub link_there : (l : Linked) (r d : Text) (n m : ℕ) → get l.links (r, d) ≡ Some m → IsSizeOf l.links d n → link l r d n ≡ Ok (false, l)
 link_there l r d n m there fits =
     let same : insert l.links (r, d) n ≡ l.links = insert_back link_cmp_total exact_link l.links (r, d) n (there ∙ ap Some (fits r m there)) in
-    rw there (λ i. Ok (false, record { tenants = l.tenants; repos = l.repos; links = same i; charges = l.charges }))
+    rw there (λ i. Ok (false, record { tenants = l.tenants; repos = l.repos; links = same i; manifests = l.manifests; charges = l.charges }))
 
 pub link_new : (l : Linked) (r d : Text) (n : ℕ) (m : FinMap link_cmp ℕ) → get l.links (r, d) ≡ None → m ≡ insert l.links (r, d) n →
-    link l r d n ≡ Ok (true, record { tenants = l.tenants; repos = l.repos; links = m; charges = l.charges })
-link_new l r d n m none is = rw none (λ i. Ok (true, record { tenants = l.tenants; repos = l.repos; links = sym is i; charges = l.charges }))
+    link l r d n ≡ Ok (true, record { tenants = l.tenants; repos = l.repos; links = m; manifests = l.manifests; charges = l.charges })
+link_new l r d n m none is = rw none (λ i. Ok (true, record { tenants = l.tenants; repos = l.repos; links = sym is i; manifests = l.manifests; charges = l.charges }))
 
 -- ---- a table with nothing in it
 

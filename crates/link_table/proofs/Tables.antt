@@ -20,11 +20,12 @@ use Rattle.blob_digest.proofs.KeyOrders.{link_cmp_total, exact_link, tied_text}
 use Rattle.blob_digest.proofs.OptionLemmas.{some_same, some_none}
 use Rattle.blob_digest.proofs.RowLemmas.{entries-empty, no_tie}
 use Rattle.link_table.specs.Linked.{Linked, Tenant, is_tenants, appear, cannot_appear, HasNoLinks}
+use Rattle.link_table.specs.Archive.{Archived}
 use Rattle.link_table.specs.Shelves.{Shelved, IsShelved, repos_shown, links_shown, appear_on, count, nothing}
 use Rattle.link_table.proofs.Shelves.{repos-there, links-there, repos-insert, repos-same, links-same, counted-there, IsShelved-set}
 
-abbrev pub linked_of : List Tenant → List Shelved → List ℕ → Linked
-linked_of tenants shelves charges = record { tenants = tenants; repos = repos_shown shelves; links = links_shown shelves; charges = charges }
+abbrev pub linked_of : List Tenant → List Shelved → Archived → List ℕ → Linked
+linked_of tenants shelves manifests charges = record { tenants = tenants; repos = repos_shown shelves; links = links_shown shelves; manifests = manifests; charges = charges }
 
 -- a tenant's repositories
 pub shelf_at : (tenants : List Tenant) (shelves : List Shelved) → IsShelved tenants shelves → (t : ℕ) → t < length tenants → (s : Shelved) → s ≡ get_or shelves t s → slice_get shelves t ≡ Some s
@@ -92,27 +93,28 @@ module _ (s new : Shelved) (r : Text) where
     kept = λ q h. ap (λ (x : Shelved). sets.contains x.repos q) done.1 ∙ h;
   }
 
-module _ (tenants : List Tenant) (shelves : List Shelved) (shelved : IsShelved tenants shelves) (charges : List ℕ) (t : ℕ) (s : Shelved) (at : slice_get shelves t ≡ Some s) (r : Text) (own : is_tenants tenants t r ≡ true) where
+module _ (tenants : List Tenant) (shelves : List Shelved) (shelved : IsShelved tenants shelves) (manifests : Archived) (charges : List ℕ) (t : ℕ) (s : Shelved) (at : slice_get shelves t ≡ Some s) (r : Text) (own : is_tenants tenants t r ≡ true) where
   -- the table's test is that of the tenant
-  same_test : cannot_appear (linked_of tenants shelves charges) t r ≡ not (sets.contains s.repos r) && nat_le 1024 (count s)
+  same_test : cannot_appear (linked_of tenants shelves manifests charges) t r ≡ not (sets.contains s.repos r) && nat_le 1024 (count s)
   same_test = λ i. not (is_some (repos-there tenants shelves shelved t s at r own i)) && nat_le 1024 (counted-there tenants shelves shelved t s at i)
 
   same_new : not (sets.contains (repos_shown shelves) r) ≡ not (sets.contains s.repos r)
   same_new = ap (λ x. not (is_some x)) (repos-there tenants shelves shelved t s at r own)
 
   pub appear_does : (new : Shelved) (result : Result Bool Refusal) → Does (λ b. b) result s new (appear_on s r) →
-      Does (λ b. b) result (linked_of tenants shelves charges) (linked_of tenants (set shelves t new) charges) (appear (linked_of tenants shelves charges) t r)
+      Does (λ b. b) result (linked_of tenants shelves manifests charges) (linked_of tenants (set shelves t new) manifests charges) (appear (linked_of tenants shelves manifests charges) t r)
   appear_does new (Ok b) done =
       let parts = accepted (full s new r) (not (sets.contains s.repos r)) b s (record s { repos = sets.insert s.repos r }) new done in
       let repos = repos-insert tenants shelves shelved t s at r own new (ap (λ (x : Shelved). x.repos) parts.2) in
       let links = links-same tenants shelves shelved t s at new (ap (λ (x : Shelved). x.links) parts.2) in
-      rw (same_test ∙ parts.0) (λ i. Ok ((same_new ∙ sym parts.1) i, record { tenants = tenants; repos = sym repos i; links = sym links i; charges = charges }))
+      rw (same_test ∙ parts.0) (λ i. Ok ((same_new ∙ sym parts.1) i, record { tenants = tenants; repos = sym repos i; links = sym links i; manifests = manifests; charges = charges }))
   appear_does new (Err e) done = (
     (λ other. (let parts = refused (full s new r) (not (sets.contains s.repos r)) (record s { repos = sets.insert s.repos r }) e (done.0 other) in rw (same_test ∙ parts.0) (ap Err parts.1))),
     (λ i. record {
       tenants = tenants;
       repos = repos-same tenants shelves shelved t s at new (ap (λ (x : Shelved). x.repos) done.1) i;
       links = links-same tenants shelves shelved t s at new (ap (λ (x : Shelved). x.links) done.1) i;
+      manifests = manifests;
       charges = charges;
     }),
   )

@@ -4,4 +4,5 @@ pub mod Rows
 pub mod Running
 pub mod Tenancy
 pub mod Holders
+pub mod Archive
 pub mod Manifests

@@ -9,18 +9,20 @@ use Rattle.blob_digest.specs.Keys.{Text, Link, text_cmp, link_cmp, same_text, co
 use Rattle.blob_digest.specs.Outcomes.{OutcomeIn, refuse, ◌>>=◌}
 use Rattle.blob_digest.specs.declared.refusal.Refusal.{Refusal}
 use Rattle.blob_digest.specs.declared.refusal.Refusal.TheVariants.{LimitReached, NameUnknown, Quota}
+use Rattle.link_table.specs.Archive.{Archived, put_on}
 pub use Rattle.blob_digest.specs.Tenants.{Tenant, tenant_of, is_tenants, repos_in, coded_tenant}
 
--- tenants in the order of their names, the repositories that are there, the links with the sizes of their blobs, and each tenant's charge in bytes
+-- tenants in the order of their names, the repositories that are there, the links with the sizes of their blobs, the manifests, and each tenant's charge in bytes
 pub record Linked : Type 0 where
   pub tenants : List Tenant
   pub repos : set.Set text_cmp
   pub links : fmap.FinMap link_cmp ℕ
+  pub manifests : Archived
   pub charges : List ℕ
 
 -- a table's code, as a model's value has one
 abbrev pub coded_linked : Coded Linked
-coded_linked = code_by (List Tenant × (set.Set text_cmp × (fmap.FinMap link_cmp ℕ × List ℕ))) (coded× (coded_list coded_tenant) (coded× (set.code coded_text) (coded× (fmap.code coded_link coded_ℕ) (coded_list coded_ℕ)))) (λ l. (l.tenants, (l.repos, (l.links, l.charges)))) (λ p. record { tenants = p.0; repos = p.1.0; links = p.1.1.0; charges = p.1.1.1 }) (λ _. refl)
+coded_linked = code_by (List Tenant × (set.Set text_cmp × (fmap.FinMap link_cmp ℕ × (Archived × List ℕ)))) (coded× (coded_list coded_tenant) (coded× (set.code coded_text) (coded× (fmap.code coded_link coded_ℕ) (coded× (fmap.code coded_link coded_text) (coded_list coded_ℕ))))) (λ l. (l.tenants, (l.repos, (l.links, (l.manifests, l.charges))))) (λ p. record { tenants = p.0; repos = p.1.0; links = p.1.1.0; manifests = p.1.1.1.0; charges = p.1.1.1.1 }) (λ _. refl)
 
 -- ---- whose a repository is
 
@@ -77,7 +79,7 @@ blobs_in l repo = map (λ e. (e.0.1, e.1)) (filter (λ e. same_text e.0.0 repo) 
 
 -- a table with nothing in it
 abbrev pub opening : List Tenant → Linked
-opening tenants = record { tenants = tenants; repos = set.none; links = fmap.empty; charges = replicate (length tenants) 0 }
+opening tenants = record { tenants = tenants; repos = set.none; links = fmap.empty; manifests = fmap.empty; charges = replicate (length tenants) 0 }
 
 -- the number of a repository's tenant, or that there is none
 abbrev pub known_tenant : Linked → Text → Result ℕ Refusal
@@ -102,6 +104,20 @@ link l repo digest size = Ok (not (fmap.contains_key l.links (repo, digest)), re
 -- a link less
 abbrev pub unlink : Linked → Text → Text → Linked
 unlink l repo digest = record l { links = fmap.remove l.links (repo, digest) }
+
+-- the table with these manifests
+abbrev pub with_manifests : Linked → Archived → Linked
+with_manifests l manifests = record l { manifests = manifests }
+
+-- a manifest more, unless the repository has it
+abbrev pub put_manifest : Linked → Text → Text → OutcomeIn Linked (Unit {0})
+put_manifest l repo bytes = do
+  r ← put_on l.manifests repo bytes
+  Ok (tt {0}, with_manifests l r.1)
+
+-- a manifest less
+abbrev pub drop_manifest : Linked → Text → Text → Linked
+drop_manifest l repo digest = with_manifests l (fmap.remove l.manifests (repo, digest))
 
 -- a tenant's charge, raised
 abbrev pub charged : Linked → ℕ → ℕ → Linked

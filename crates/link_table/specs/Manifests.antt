@@ -31,9 +31,13 @@ put_in m bytes =
 
 -- ---- what the rows stand for
 
+-- the bytes of shared manifests, each with its digest
+abbrev pub shared_bytes : List (Text × Arc Text Global) → List (Text × Text)
+shared_bytes es = map (λ e. (e.0, e.1.value)) es
+
 -- the manifests that a tree of shared ones has
 abbrev pub kept : BTreeMap Text (Arc Text Global) → Kept
-kept rows = fmap.from_entries (map (λ e. (e.0, e.1.value)) rows.entries)
+kept rows = fmap.from_entries (shared_bytes rows.entries)
 
 -- a digest that is referred to, and then a manifest's
 abbrev pub refer_cmp : Text × Option Text → Text × Option Text → Ordering

@@ -4,33 +4,41 @@ ghost use Rattle.std.specs.FinMap as fmap;
 ghost use Rattle.blob_digest.specs.Sets as set;
 ghost use Rattle.blob_digest.specs.Outcomes.{Does, DoesExactly};
 ghost use Rattle.blob_digest.specs.declared.refusal.Refusal.TheVariants.{Memory};
+ghost use Rattle.link_table.specs.Archive.{referrer_on, manifests_on};
 ghost use Rattle.link_table.specs.Shelves.{nothing};
-ghost use Rattle.link_table.specs.Linked.{is_tenants, known_tenant, used_in, quota_in, blobs_of, repos_of, blobs_in, link, unlink, charge, discharge, appear, vanish, IsSizeOf, HasNoLinks};
+ghost use Rattle.link_table.specs.Linked.{is_tenants, known_tenant, used_in, quota_in, blobs_of, repos_of, blobs_in, link, unlink, put_manifest, drop_manifest, charge, discharge, appear, vanish, IsSizeOf, HasNoLinks};
 ghost use Rattle.link_table.specs.Tenancy.{Opens, AreTenants, RefusesTenants, tenants_shown};
 
+use crate::archive::Archive;
 use crate::blobs::Blobs;
 use crate::holders::{Holders, holders_of, lower, raise};
+use crate::manifests::Manifests;
 use crate::shelf::Shelf;
 use crate::tenants::{in_order, tenant_at};
 use crate::weigh::{weight_with, weight_without};
 use blob_digest::{Digest, Refusal, RepoName};
+use oci_manifest::Manifest;
 use std::alloc::Global;
 use std::collections::BTreeMap;
 use std::marker::Model;
+use std::sync::Arc;
 
-/// Tenants with quotas, their repositories, the links of repositories to blobs, and what each tenant
-/// is charged. Contracts see these four; what a tenant uses follows from them.
+/// Tenants with quotas, their repositories, the links of repositories to blobs, the manifests of
+/// repositories, and what each tenant is charged. Contracts see these five; what a tenant uses follows
+/// from them.
 ///
 /// Tenants are numbered from 0 in the order of their names. Sizes, quotas, charges and uses are in
 /// bytes. Each tenant has its repositories in the order of their names, and each repository its blobs
-/// in an ordered map: every call takes at most the logarithm of what the table holds, and one that
-/// adds or removes a repository moves the tenant's, at most 1,024. The table counts for each tenant
-/// and digest how many repositories hold it.
+/// in an ordered map and its manifests in another. To find a repository takes the logarithm of the
+/// numbers of tenants and of the tenant's repositories, and one that comes or goes moves those of its
+/// tenant behind it, at most 1,024. The table counts for each tenant and digest how many repositories
+/// hold it, and finds a count in the logarithm of their number.
 #[derive(Drop)]
 pub struct Links {
     alloc: Global,
     tenants: Vec<(String, u64)>,
     shelves: Vec<Shelf>,
+    manifests: Archive,
     holders: Holders,
     weights: Vec<u64>,
     charges: Vec<u64>,
@@ -49,7 +57,7 @@ impl Model for Links {
     ghost use Rattle.link_table.specs.Running.{IsSound};
     ghost use Rattle.link_table.specs.Holders.{Counts};
 
-    ghost view = { λ a. record { tenants = tenants_shown a.tenants.items; repos = repos_shown a.shelves.items; links = links_shown a.shelves.items; charges = a.charges.items } };
+    ghost view = { λ a. record { tenants = tenants_shown a.tenants.items; repos = repos_shown a.shelves.items; links = links_shown a.shelves.items; manifests = a.manifests; charges = a.charges.items } };
 
     ghost invariant = { λ a. IsSound (tenants_shown a.tenants.items) (links_shown a.shelves.items) a.weights.items a.charges.items × IsShelved (tenants_shown a.tenants.items) a.shelves.items × Counts (tenants_shown a.tenants.items) (links_shown a.shelves.items) a.holders };
 }
@@ -86,6 +94,7 @@ impl Links {
             alloc,
             tenants,
             shelves,
+            manifests: Archive::new(alloc),
             holders: BTreeMap::new(alloc),
             weights,
             charges,
@@ -177,7 +186,8 @@ impl Links {
         self.shelves[tenant as usize].appear(self.alloc, repo)
     }
 
-    /// Takes back that a repository of a tenant, which has no links, is known.
+    /// Takes back that a repository of a tenant, which has no links, is known. It takes no memory, and as
+    /// long as `appear`.
     pub fn vanish(&mut self, tenant: u16, repo: &RepoName)
         requires own { is_tenants self.old.tenants tenant repo.now ≡ true }
         requires there { set.contains self.old.repos repo.now ≡ true }
@@ -188,7 +198,8 @@ impl Links {
     }
 
     /// Links a blob of this digest and size in a repository of a tenant, and answers whether the
-    /// link is new. Want of memory is refused. It takes the logarithm of the number of links.
+    /// link is new. Want of memory is refused. Beside finding the repository and the count of those that
+    /// hold the digest, it takes the logarithm of the number of the repository's blobs.
     pub fn link(
         &mut self,
         tenant: u16,
@@ -217,7 +228,7 @@ impl Links {
         Ok(true)
     }
 
-    /// Takes a link out of a repository of a tenant. It takes the logarithm of the number of links.
+    /// Takes a link out of a repository of a tenant. It takes no memory, and as long as `link`.
     pub fn unlink(&mut self, tenant: u16, repo: &RepoName, digest: &Digest)
         requires there { tenant < length self.old.tenants }
         requires own { is_tenants self.old.tenants tenant repo.now ≡ true }
@@ -238,7 +249,8 @@ impl Links {
         }
     }
 
-    /// Whether a repository holds the blob of a digest. It takes the logarithm of the number of links.
+    /// Whether a repository holds the blob of a digest. Beside finding the repository, it takes the
+    /// logarithm of the number of its blobs.
     pub fn holds(&self, repo: &RepoName, digest: &Digest) -> bool
         ensures { result ≡ fmap.contains_key self.now.links (repo.now, digest.now) }
     {
@@ -248,8 +260,7 @@ impl Links {
         }
     }
 
-    /// Whether some repository of a tenant holds the blob of a digest. It takes the logarithm of the
-    /// number of digests that are linked.
+    /// Whether some repository of a tenant holds the blob of a digest: whether its count isn't 0.
     pub fn tenant_holds(&self, tenant: u16, digest: &Digest) -> bool
         requires { tenant < length self.now.tenants }
         ensures { result ≡ fmap.contains_key (blobs_of self.now tenant) digest.now }
@@ -277,5 +288,68 @@ impl Links {
             },
             None => Blobs { rest: None },
         }
+    }
+
+    /// The i-th blob that a repository holds, from 0, with its size in bytes. It takes i steps: to read
+    /// all of them use `blobs`.
+    pub fn blob_at(&self, repo: &RepoName, i: usize) -> Option<(Digest, u64)>
+        ensures { result ≡ slice_get (blobs_in self.now repo.now) i }
+    {
+        self.blobs(repo).nth(i)
+    }
+
+    /// Keeps a manifest of a repository under its digest, and shares its bytes. One that is there already
+    /// stays, and is accepted also where the repository has 1,024. Refused are one beyond 1,024
+    /// (`LimitReached`), and want of memory; nothing has changed then. It takes the logarithm of the
+    /// numbers of repositories that have had manifests and of the repository's manifests, and for each
+    /// reference that of the number of the repository's references.
+    pub fn put_manifest(
+        &mut self,
+        repo: &RepoName,
+        manifest: Arc<Manifest, Global>,
+    ) -> Result<(), Refusal>
+        ensures { Does (λ u. u) result self.old self.new (put_manifest self.old repo.now manifest.value) }
+    {
+        self.manifests.put(self.alloc, repo, manifest)
+    }
+
+    /// Drops the manifest of a digest, if the repository has it. It takes no memory, and as long as
+    /// `put_manifest`.
+    pub fn drop_manifest(&mut self, repo: &RepoName, digest: &Digest)
+        ensures { self.new ≡ drop_manifest self.old repo.now digest.now }
+    {
+        self.manifests.remove(repo, digest);
+    }
+
+    /// The manifest of a digest that a repository has. It takes the logarithm of the numbers of
+    /// repositories that have had manifests and of the repository's manifests, and copies no bytes.
+    pub fn manifest(&self, repo: &RepoName, digest: &Digest) -> Option<&Arc<Manifest, Global>>
+        ensures { option_map (λ m. m.now.value) result ≡ fmap.get self.now.manifests (repo.now, digest.now) }
+    {
+        self.manifests.get(repo, digest)
+    }
+
+    /// The least digest of a manifest of a repository that refers to a digest. It takes the logarithm of
+    /// the numbers of repositories that have had manifests and of the repository's references.
+    pub fn referrer(&self, repo: &RepoName, digest: &Digest) -> Option<Digest>
+        ensures { result ≡ referrer_on self.now.manifests repo.now digest.now }
+    {
+        self.manifests.referrer(repo, digest)
+    }
+
+    /// The manifests that a repository has, in the order of their digests, each with its digest. All of
+    /// them take a step each.
+    pub fn manifests(&self, repo: &RepoName) -> Manifests<'_>
+        ensures { result ≡ manifests_on self.now.manifests repo.now }
+    {
+        self.manifests.manifests(repo)
+    }
+
+    /// The i-th manifest that a repository has, from 0, with its digest. It takes i steps: to read all
+    /// of them use `manifests`.
+    pub fn manifest_at(&self, repo: &RepoName, i: usize) -> Option<(Digest, &Manifest)>
+        ensures { option_map (λ e. (e.0, e.1.now)) result ≡ slice_get (manifests_on self.now.manifests repo.now) i }
+    {
+        self.manifests(repo).nth(i)
     }
 }

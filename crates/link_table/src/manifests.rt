@@ -1,136 +1,44 @@
-//! The manifests of one repository.
+//! The manifests of a repository, one after the other.
 
-ghost use Rattle.std.specs.Prelude.{◌≡◌, ◌&&◌, ◌||◌, not, false, OnOk, OnErr, IfErr, Option, Some};
-ghost use Rattle.std.specs.Option.{option_map};
-ghost use Rattle.std.specs.BTreeSet.{contains};
-ghost use Rattle.std.specs.FinMap as fmap;
-ghost use Rattle.blob_digest.specs.Keys.{Text};
-ghost use Rattle.blob_digest.specs.Outcomes.{Does};
-ghost use Rattle.blob_digest.specs.declared.refusal.Refusal.TheVariants.{Memory};
-ghost use Rattle.link_table.specs.Manifests.{put_in, referrer_in, refer_cmp, is_pair};
+ghost use Rattle.std.specs.Iterator.{YieldsFirstBy, item_count};
 
-use blob_digest::{Digest, Refusal};
+use blob_digest::Digest;
 use oci_manifest::Manifest;
 use std::alloc::Global;
-use std::collections::{BTreeMap, BTreeSet};
+use std::collections::btree_map::Iter;
 use std::marker::Model;
 use std::sync::Arc;
 
-/// The most manifests that a repository may have.
-const MAX_MANIFESTS: usize = 1024;
-
-/// Which manifests refer to which digests: a digest that is referred to, and then the manifest's. None
-/// stands before each manifest, so a search for the first starts there.
-type Referrers = BTreeSet<(Digest, Option<Digest>)>;
-
-/// A manifest no longer refers to these digests. It takes no memory.
-fn forget(referrers: &mut Referrers, refs: &[Digest], manifest: &Digest)
-    ensures { (d : Text) (o : Option Text) → contains refer_cmp referrers.new (d, o) ≡ (contains refer_cmp referrers.old (d, o) && not (is_pair refs.now manifest.now d o)) }
-{
-    for digest in refs {
-        referrers.remove(&(*digest, Some(*manifest)));
-    }
-}
-
-/// A manifest that refers to nothing so far refers to these digests. Refused is want of memory alone,
-/// and then nothing has changed.
-fn refer(referrers: &mut Referrers, refs: &[Digest], manifest: &Digest) -> Result<(), Refusal>
-    requires { (d : Text) → contains refer_cmp referrers.old (d, Some manifest.now) ≡ false }
-    ensures ok { OnOk result ((d : Text) (o : Option Text) → contains refer_cmp referrers.new (d, o) ≡ (contains refer_cmp referrers.old (d, o) || is_pair refs.now manifest.now d o)) }
-    ensures err { OnErr result ((d : Text) (o : Option Text) → contains refer_cmp referrers.new (d, o) ≡ contains refer_cmp referrers.old (d, o)) }
-    ensures refused { IfErr result (λ e. e ≡ Memory) }
-{
-    for i in 0..refs.len() {
-        let Ok(_) = referrers.insert((refs[i], Some(*manifest))) else {
-            forget(referrers, &refs[..i], manifest);
-            return Err(Refusal::Memory);
-        };
-    }
-    Ok(())
-}
-
-/// The manifests of a repository, by digest. Contracts see the bytes of each. To find one, to add or
-/// to drop one and to find one that refers to a digest each take the logarithm of their number, for
-/// each reference of a manifest that is added or dropped.
+/// The manifests that a repository has, in the order of their digests. Contracts see those that are
+/// left, each as its digest and its bytes.
 #[derive(Drop)]
-pub struct Manifests {
-    rows: BTreeMap<Digest, Arc<Manifest, Global>>,
-    referrers: Referrers,
+pub struct Manifests<'a> {
+    pub(crate) rest: Option<Iter<'a, Digest, Arc<Manifest, Global>>>,
 }
 
-impl Model for Manifests {
-    ghost use Rattle.std.specs.Prelude.{ℕ};
-    ghost use Rattle.std.specs.FinMap as fmap;
-    ghost use Rattle.blob_digest.specs.Keys.{Text, text_cmp, coded_text};
-    ghost use Rattle.link_table.specs.Manifests.{Kept, kept, IsIndexed};
+impl<'a> Model for Manifests<'a> {
+    ghost use Rattle.std.specs.Prelude.{List, []};
+    ghost use Rattle.std.specs.Option.{option_map_or};
+    ghost use Rattle.std.specs.Coded.{coded_list, coded×};
+    ghost use Rattle.blob_digest.specs.Keys.{Text, coded_text};
+    ghost use Rattle.link_table.specs.Manifests.{shared_bytes};
 
-    ghost Value = { Kept };
+    ghost Value = { List (Text × Text) };
 
-    ghost coded = { fmap.code coded_text coded_text };
+    ghost coded = { coded_list (coded× coded_text coded_text) };
 
-    ghost view = { λ a. kept a.rows };
-
-    ghost invariant = { λ a. IsIndexed (kept a.rows) a.referrers };
+    ghost view = { λ a. option_map_or shared_bytes a.rest [] };
 }
 
-impl Manifests {
-    /// No manifests. It takes no memory.
-    pub fn new(alloc: Global) -> Manifests
-        ensures { result ≡ fmap.empty }
-    {
-        Manifests {
-            rows: BTreeMap::new(alloc),
-            referrers: BTreeSet::new(alloc),
-        }
-    }
+impl<'a> Iterator for Manifests<'a> {
+    type Item = (Digest, &'a Manifest);
 
-    /// Keeps a manifest under its digest. One that is there already stays. Refused are one beyond
-    /// 1,024 (`LimitReached`), and want of memory; nothing has changed then.
-    pub fn put(&mut self, manifest: Arc<Manifest, Global>) -> Result<(), Refusal>
-        ensures { Does (λ u. u) result self.old self.new (put_in self.old manifest.value) }
-    {
-        let digest = manifest.digest();
-        if self.rows.contains_key(&digest) {
-            return Ok(());
-        }
-        if self.rows.len() >= MAX_MANIFESTS {
-            return Err(Refusal::LimitReached);
-        }
-        refer(&mut self.referrers, manifest.refs(), &digest)?;
-        match self.rows.insert(digest, manifest) {
-            Ok(_) => Ok(()),
-            Err(full) => {
-                forget(&mut self.referrers, full.value.1.refs(), &digest);
-                Err(Refusal::Memory)
-            }
-        }
-    }
+    ghost next_gives = { YieldsFirstBy (λ x. (x.0, x.1.now)) (λ s. s) };
 
-    /// Drops the manifest of a digest, if there is one. It takes no memory.
-    pub fn remove(&mut self, digest: &Digest)
-        ensures { self.new ≡ fmap.remove self.old digest.now }
-    {
-        if let Some(manifest) = self.rows.remove(digest) {
-            forget(&mut self.referrers, manifest.refs(), digest);
-        }
-    }
+    ghost remaining = { item_count (λ s. s) };
 
-    /// The manifest of a digest.
-    pub fn get(&self, digest: &Digest) -> Option<&Arc<Manifest, Global>>
-        ensures { option_map (λ m. m.now.value) result ≡ fmap.get self.now digest.now }
-    {
-        self.rows.get(digest)
-    }
-
-    /// The least digest of a manifest that refers to a digest.
-    pub fn referrer(&self, digest: &Digest) -> Option<Digest>
-        ensures { result ≡ referrer_in self.now digest.now }
-    {
-        let (referred, manifest) = self.referrers.range((*digest, None)..).next()?;
-        if *referred == *digest {
-            *manifest
-        } else {
-            None
-        }
+    fn next(&mut self) -> Option<(Digest, &'a Manifest)> {
+        let (digest, manifest) = self.rest.as_mut()?.next()?;
+        Some((*digest, &**manifest))
     }
 }

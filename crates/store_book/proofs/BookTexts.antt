@@ -1,5 +1,5 @@
 -- The lines that the layers give are the book's text.
-use Rattle.std.proofs.Common.{◌≡◌, ℕ, ◌+◌, ◌<◌, ◌≤◌, Bool, true, false, cond, List, [], ◌∷◌, ◌++◌, length, map, get_or, Option, Some, None, refl, sym, ap, ◌∙◌, arith, append-nil}
+use Rattle.std.proofs.Common.{◌≡◌, ℕ, ◌+◌, ◌<◌, ◌≤◌, Bool, true, false, cond, List, [], ◌∷◌, ◌++◌, length, map, get_or, Option, Some, None, refl, sym, ap, ◌∙◌, arith}
 use Rattle.std.specs.Prelude.{filter, ◌==◌, ◌&&◌, slice_index}
 use Rattle.std.specs.declared.cmp.Ordering.{Ordering}
 use Rattle.std.specs.List.{flat_map, enumerate_from, count_by, AllByRecursion}
@@ -14,8 +14,9 @@ use Rattle.blob_digest.proofs.ListLemmas.{all_weaker}
 use Rattle.store_book.proofs.MapLemmas.{is_true, flat_map-same, all_same, all_by_index}
 use Rattle.blob_digest.specs.Sets as set
 use Rattle.blob_digest.proofs.KeyOrders.{link_cmp_total, exact_link}
-use Rattle.blob_digest.proofs.RowLemmas.{entries-empty, found_value}
+use Rattle.blob_digest.proofs.RowLemmas.{found_value}
 use Rattle.slot_table.specs.Slots.{Slot, Held, slot_of, links_at}
+use Rattle.link_table.specs.Archive.{manifests_on}
 use Rattle.link_table.specs.Linked.{Linked, Tenant, used_in, blobs_in, repos_of}
 use Rattle.blob_digest.proofs.SortedRows.{IsApart-sorted, entries-sorted}
 use Rattle.upload_table.specs.Sessions.{is_of_repo, listed, sessions_of}
@@ -24,7 +25,7 @@ use Rattle.upload_table.specs.Uploaded.{Uploaded}
 use Rattle.store_book.specs.Catalog.{Text, Link, Resident, Catalog, is_of, link_cmp, same_text, used, size, count}
 use Rattle.store_book.specs.Layers.{links_of, lent_marks, book_catalog, IsBook}
 use Rattle.store_book.specs.Lines.{CanPrint, blob_row, links_to, session_row, repo_rows, tenant_rows, book_rows}
-use Rattle.store_book.specs.Printed.{blob_line, blob_text, book_line, book_text, end_line, manifest_text, repo_text, repository_line, tenant_line, tenant_text}
+use Rattle.store_book.specs.Printed.{blob_line, blob_text, book_line, book_text, end_line, manifest_row, manifest_text, repo_text, repository_line, tenant_line, tenant_text}
 use Rattle.store_book.proofs.Taking.{use_is}
 use Rattle.store_book.proofs.Ties.{held_of, not_resident}
 
@@ -92,11 +93,6 @@ blobs_same f g repo (e ∷ es) same = by_test (same_text e.0.0 repo) (blobs_same
 
 -- ---- the book
 
--- a text without manifests
-without_manifests : {b b' m s s' : Text} (a : Text) → b ≡ b' → m ≡ [] → s ≡ s' → a ++ b ++ s ≡ a ++ b' ++ m ++ s'
-without_manifests {b' = b'} {s' = s'} a blobs nothing sessions =
-    (λ i. a ++ blobs i ++ sessions i) ∙ ap (λ t. t ++ s') (sym (append-nil (a ++ b'))) ∙ (λ i. a ++ b' ++ sym nothing i ++ s')
-
 module _ (l : Linked) (u : Uploaded) (slots : List Slot) (max_blob : ℕ) (book : IsBook l u slots max_blob) where
   abbrev C : Catalog
   C = book_catalog l u slots max_blob
@@ -122,12 +118,11 @@ module _ (l : Linked) (u : Uploaded) (slots : List Slot) (max_blob : ℕ) (book 
       blobs_same (blob_row slots) (blob_text C) repo (entries l.links) (all_weaker (λ e. get l.links e.0 ≡ Some e.1) (λ e. blob_row slots (e.0.1, e.1) ≡ blob_text C e.0) linked (entries l.links) (each_found l.links))
       ∙ ap (λ (ls : List Link). flat_map (blob_text C) (filter (λ l. same_text l.0 repo) ls)) (sym (items_links l.links))
 
-  manifests_are : (repo : Text) → flat_map manifest_text (filter (λ e. same_text e.0.0 repo) (entries C.manifests)) ≡ []
-  manifests_are repo = ap (λ (es : List (Link × Text)). flat_map manifest_text (filter (λ e. same_text e.0.0 repo) es)) (entries-empty link_cmp Text)
+  manifests_are : (repo : Text) → flat_map manifest_row (manifests_on l.manifests repo) ≡ flat_map manifest_text (filter (λ e. same_text e.0.0 repo) (entries C.manifests))
+  manifests_are repo = flat_map-map manifest_row (λ e. (e.0.1, e.1)) (filter (λ e. same_text e.0.0 repo) (entries l.manifests))
 
   repo_is : (t : ℕ) (repo : Text) → repo_rows l u slots t repo ≡ repo_text C t repo
-  repo_is t repo =
-      without_manifests (repository_line repo) (blobs_are repo) (manifests_are repo) (flat_map-map session_row listed (sessions_of u.sessions t repo))
+  repo_is t repo = λ i. repository_line repo ++ blobs_are repo i ++ manifests_are repo i ++ flat_map-map session_row listed (sessions_of u.sessions t repo) i
 
   tenant_is : (e : ℕ × Tenant) → e.0 < length l.tenants → tenant_rows l u slots e ≡ tenant_text C e
   tenant_is e there =

@@ -1,19 +1,16 @@
 -- `Book::delete`, from what its calls of the layers did.
 use Rattle.std.proofs.Common.{◌≡◌, ℕ, ◌<◌, true, List, map, Some, None, Ok, Err, refl, sym, ap, ◌∙◌, subst, arith}
-use Rattle.std.specs.Prelude.{◌&&◌}
-use Rattle.std.specs.Option.{option_map, option_map_or}
-use Rattle.std.specs.List.{find}
+use Rattle.std.specs.Option.{option_map_or}
 use Rattle.std.specs.FinMap.{get, remove, contains_key}
-use Rattle.blob_digest.specs.declared.refusal.Refusal.TheVariants.{BlobUnknown}
+use Rattle.blob_digest.specs.declared.refusal.Refusal.TheVariants.{BlobUnknown, Referenced}
 use Rattle.blob_digest.proofs.OptionLemmas.{some_value}
 use Rattle.blob_digest.specs.Sets as set
-use Rattle.blob_digest.proofs.RowLemmas.{entries-empty}
 use Rattle.slot_table.specs.declared.phase.Phase.TheVariants as phase
 use Rattle.slot_table.specs.Slots.{Slot, Held, slot_of, held_at, phase_at, links_at, with_slot, on_held, lower}
 use Rattle.link_table.specs.Linked.{Linked, known_tenant, unlink}
 use Rattle.upload_table.specs.Uploaded.{Uploaded}
-use Rattle.store_book.specs.Catalog.{Text, Catalog, link_cmp, same_text, count, holds}
-use Rattle.store_book.specs.Steps.{delete, refers, referrer}
+use Rattle.store_book.specs.Catalog.{Text, Catalog, count, holds}
+use Rattle.store_book.specs.Steps.{delete, referrer}
 use Rattle.store_book.specs.Keeping.{linked_slot}
 use Rattle.store_book.specs.Layers.{lent_marks, catalog_from, book_catalog, IsTied, IsBook}
 use Rattle.store_book.specs.Pinned.{Pinned, all_seen, slotted}
@@ -80,31 +77,32 @@ module _ (l : Linked) (u : Uploaded) (slots : List Slot) (max_blob t : ℕ) (rep
         ∙ catalog-relink l (remove l.links (repo, digest)) u slots (lent_marks slots) max_blob k held.0 held.1 lower lower-KeepsBlob book.tied
         ∙ (λ i. record C { links = links_of-remove l.links (repo, digest) i })
 
-    -- there are no manifests
-    free : referrer C repo digest ≡ None
-    free = ap (λ es. option_map (λ e. e.0.1) (find (λ e. same_text e.0.0 repo && refers e.1 digest) es)) (entries-empty link_cmp Text)
+    -- a manifest that refers to the digest
+    pub delete_referenced : (manifest : Text) → referrer C repo digest ≡ Some manifest → delete C repo digest ≡ Err (Referenced manifest)
+    delete_referenced manifest is = rw (known, has, is) refl
 
-    deleted : delete C repo digest ≡ Ok (tt, C')
-    deleted = rw (known, has, free) (λ i. Ok (tt, sym left i))
+    module _ (free : referrer C repo digest ≡ None) where
+      deleted : delete C repo digest ≡ Ok (tt, C')
+      deleted = rw (known, has, free) (λ i. Ok (tt, sym left i))
 
-    tied_after : IsTied l' slots' (lent_marks slots') C'
-    tied_after =
-        let n = some_value (get l.links (repo, digest)) found.0 in
-        let at_digest = IsTied-unlink l u slots (lent_marks slots) max_blob k held.0 held.1 book.tied repo (book.sound.lawful.links (repo, digest) has).repo n.0 (ap (λ (d : Text). get l.links (repo, d)) held.2 ∙ n.1) in
-        subst (λ m. IsTied l' slots' m (catalog_from l' u slots' m max_blob)) marks
-        (subst (λ (d : Text). IsTied (unlink l repo d) slots' (lent_marks slots) (catalog_from (unlink l repo d) u slots' (lent_marks slots) max_blob)) held.2 at_digest)
+      tied_after : IsTied l' slots' (lent_marks slots') C'
+      tied_after =
+          let n = some_value (get l.links (repo, digest)) found.0 in
+          let at_digest = IsTied-unlink l u slots (lent_marks slots) max_blob k held.0 held.1 book.tied repo (book.sound.lawful.links (repo, digest) has).repo n.0 (ap (λ (d : Text). get l.links (repo, d)) held.2 ∙ n.1) in
+          subst (λ m. IsTied l' slots' m (catalog_from l' u slots' m max_blob)) marks
+          (subst (λ (d : Text). IsTied (unlink l repo d) slots' (lent_marks slots) (catalog_from (unlink l repo d) u slots' (lent_marks slots) max_blob)) held.2 at_digest)
 
-    deleted_book : IsBook l' u slots' max_blob
-    deleted_book = record {
-      sound = Sound-after_delete C C' repo digest deleted book.sound;
-      tied = tied_after;
-      charges = record { one_each = book.charges.one_each; sums = book.charges.sums };
-    }
+      deleted_book : IsBook l' u slots' max_blob
+      deleted_book = record {
+        sound = Sound-after_delete C C' repo digest deleted book.sound;
+        tied = tied_after;
+        charges = record { one_each = book.charges.one_each; sums = book.charges.sums };
+      }
 
-    module _ (l1 : Linked) (slots1 : List Slot) (links : l1 ≡ l') (slots_are : slots1 ≡ slots') where
-      pub delete_ok : delete C repo digest ≡ Ok (tt, book_catalog l1 u slots1 max_blob)
-      delete_ok = deleted ∙ (λ i. Ok (tt, book_catalog (sym links i) u (sym slots_are i) max_blob))
+      module _ (l1 : Linked) (slots1 : List Slot) (links : l1 ≡ l') (slots_are : slots1 ≡ slots') where
+        pub delete_ok : delete C repo digest ≡ Ok (tt, book_catalog l1 u slots1 max_blob)
+        delete_ok = deleted ∙ (λ i. Ok (tt, book_catalog (sym links i) u (sym slots_are i) max_blob))
 
-      -- a deleted link leaves a book
-      pub IsBook-delete : IsBook l1 u slots1 max_blob
-      IsBook-delete = subst (λ (x : Linked). IsBook x u slots1 max_blob) (sym links) (subst (λ (x : List Slot). IsBook l' u x max_blob) (sym slots_are) deleted_book)
+        -- a deleted link leaves a book
+        pub IsBook-delete : IsBook l1 u slots1 max_blob
+        IsBook-delete = subst (λ (x : Linked). IsBook x u slots1 max_blob) (sym links) (subst (λ (x : List Slot). IsBook l' u x max_blob) (sym slots_are) deleted_book)

@@ -23,6 +23,7 @@ pub mod Ties
 pub mod Fills
 pub mod Placing
 pub mod Starting
+pub mod ManifestCalls
 pub mod Bounds
 pub mod Taking
 pub mod SessionCharges

@@ -41,6 +41,20 @@ module _ (l l' : Linked) (u u' : Uploaded) (slots slots' : List Slot) (max_blob 
   pub same_book : IsBook l u slots max_blob → IsBook l' u' slots' max_blob
   same_book book = subst (λ (x : Linked). IsBook x u' slots' max_blob) (sym links) (subst (λ (x : Uploaded). IsBook l x slots' max_blob) (sym uploads) (subst (λ (x : List Slot). IsBook l u x max_blob) (sym slots_are) book))
 
+module _ (l l' : Linked) (t : ℕ) (repo : Text) (b : Bool) (appeared : appear l t repo ≡ Ok (b, l')) where
+  -- what appeared is taken back
+  pub undone : b ≡ true → vanish l' repo ≡ l
+  undone new =
+      let a = ok_of_if _ _ _ _ appeared in
+      let absent : set.contains l.repos repo ≡ false = not-true _ ((λ i. (a.1 i).0) ∙ new) in
+      sym (ap (λ x. vanish x repo) (λ i. (a.1 i).1)) ∙ (λ i. record l { repos = remove-insert nat_list_cmp_total exact_bytes l.repos repo absent i })
+
+  pub unneeded : b ≡ false → l' ≡ l
+  unneeded old =
+      let a = ok_of_if _ _ _ _ appeared in
+      let there : set.contains l.repos repo ≡ true = not-false _ ((λ i. (a.1 i).0) ∙ old) in
+      sym (λ i. (a.1 i).1) ∙ (λ i. record l { repos = insert_there nat_list_cmp_total exact_bytes l.repos repo there i })
+
 module _ (l l' : Linked) (u : Uploaded) (slots : List Slot) (max_blob t : ℕ) (repo : Text) (b : Bool) where
   abbrev C : Catalog
   C = book_catalog l u slots max_blob
@@ -62,19 +76,6 @@ module _ (l l' : Linked) (u : Uploaded) (slots : List Slot) (max_blob t : ℕ) (
       let a = ok_of_if _ _ _ _ appeared in
       let s = err_of_if _ _ _ _ refused in
       rw (known, a.0, s.0) (ap Err s.1)
-
-  -- what appeared is taken back
-  pub undone : appear l t repo ≡ Ok (b, l') → b ≡ true → vanish l' repo ≡ l
-  undone appeared new =
-      let a = ok_of_if _ _ _ _ appeared in
-      let absent : set.contains l.repos repo ≡ false = not-true _ ((λ i. (a.1 i).0) ∙ new) in
-      sym (ap (λ x. vanish x repo) (λ i. (a.1 i).1)) ∙ (λ i. record l { repos = remove-insert nat_list_cmp_total exact_bytes l.repos repo absent i })
-
-  pub unneeded : appear l t repo ≡ Ok (b, l') → b ≡ false → l' ≡ l
-  unneeded appeared old =
-      let a = ok_of_if _ _ _ _ appeared in
-      let there : set.contains l.repos repo ≡ true = not-false _ ((λ i. (a.1 i).0) ∙ old) in
-      sym (λ i. (a.1 i).1) ∙ (λ i. record l { repos = insert_there nat_list_cmp_total exact_bytes l.repos repo there i })
 
   module _ (book : IsBook l u slots max_blob) where
     abbrev l1 : Linked
@@ -118,10 +119,14 @@ appeared_there l l' t repo b appeared =
     let a = ok_of_if _ _ _ _ appeared in
     ap (λ (x : Linked). set.contains x.repos repo) (sym (λ i. (a.1 i).1)) ∙ now nat_list_cmp_total exact_bytes l.repos repo
 
+-- a repository that isn't there has no links
+pub absent_unlinked : (l : Linked) (u : Uploaded) (slots : List Slot) (max_blob : ℕ) (repo : Text) → IsBook l u slots max_blob → set.contains l.repos repo ≡ false → HasNoLinks l.links repo
+absent_unlinked l u slots max_blob repo book absent d =
+    let unheld = holds_none (book_catalog l u slots max_blob) repo book.sound.lawful absent d in
+    not_some (get l.links (repo, d)) (λ n at. true≢false (sym (ap is_some (get-links_of l.links (repo, d) ∙ ap (option_map mark) at)) ∙ unheld))
+
 pub appeared_unlinked : (l l' : Linked) (u : Uploaded) (slots : List Slot) (max_blob t : ℕ) (repo : Text) (b : Bool) → IsBook l u slots max_blob → appear l t repo ≡ Ok (b, l') → b ≡ true → HasNoLinks l'.links repo
 appeared_unlinked l l' u slots max_blob t repo b book appeared new d =
     let a = ok_of_if _ _ _ _ appeared in
     let absent : set.contains l.repos repo ≡ false = not-true _ ((λ i. (a.1 i).0) ∙ new) in
-    let unheld = holds_none (book_catalog l u slots max_blob) repo book.sound.lawful absent d in
-    ap (λ (x : Linked). get x.links (repo, d)) (sym (λ i. (a.1 i).1)) ∙ not_some (get l.links (repo, d)) (λ n at.
-    true≢false (sym (ap is_some (get-links_of l.links (repo, d) ∙ ap (option_map mark) at)) ∙ unheld))
+    ap (λ (x : Linked). get x.links (repo, d)) (sym (λ i. (a.1 i).1)) ∙ absent_unlinked l u slots max_blob repo book absent d

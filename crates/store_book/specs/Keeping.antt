@@ -1,14 +1,15 @@
 -- What linking a blob does to the links and the slots, and which slot a repository's blob has.
-use Rattle.std.specs.Prelude.{◌≡◌, ◌≢◌, ℕ, ◌+◌, ◌<◌, ◌^◌, true, false, Option, Some, None, List, [], length, if◌then◌else◌}
+use Rattle.std.specs.Prelude.{◌≡◌, ◌≢◌, ℕ, ◌+◌, ◌<◌, ◌^◌, true, false, Option, Some, None, Result, Ok, Err, List, [], ◌∷◌, length, if◌then◌else◌}
 use Rattle.std.specs.Option.{option_map_or}
 use Rattle.std.specs.FinMap as fmap
 use Rattle.blob_digest.specs.Keys.{Text}
+use Rattle.blob_digest.specs.Outcomes.{OutcomeIn, ◌>>=◌}
 use Rattle.blob_digest.specs.Sets as set
 use Rattle.blob_digest.specs.declared.refusal.Refusal.{Refusal}
-use Rattle.blob_digest.specs.declared.refusal.Refusal.TheVariants.{DigestInvalid, StoreFull}
+use Rattle.blob_digest.specs.declared.refusal.Refusal.TheVariants.{DigestInvalid, StoreFull, ManifestBlobUnknown}
 use Rattle.slot_table.specs.Slots.{Slot, Held, slot_of, held_at, phase_at, free_slots, with_slot, fill, on_held, raise, mark}
 use Rattle.slot_table.specs.declared.phase.Phase.TheVariants as phase
-use Rattle.link_table.specs.Linked.{Linked, is_tenants, used_in}
+use Rattle.link_table.specs.Linked.{Linked, is_tenants, used_in, appear, put_manifest}
 
 -- the bytes that slot k holds
 abbrev pub bytes_at : List Slot → ℕ → Text
@@ -54,3 +55,14 @@ pub record CanKeep (l : Linked) (slots : List Slot) (t : ℕ) (repo : Text) (blo
   pub sizes : (k : ℕ) (h : Held) (r : Text) (n : ℕ) → held_at slots k ≡ Some h → fmap.get l.links (r, h.digest) ≡ Some n → n ≡ length h.bytes
   pub room : used_in l t + length blob.1 < 2 ^ 64
   pub counts : (k : ℕ) (h : Held) → held_at slots k ≡ Some h → h.links + 1 < 2 ^ 32
+
+-- a repository holds each of these digests; the first that it doesn't hold is named
+abbrev pub all_held : Linked → Text → List Text → Result (Unit {0}) Refusal
+all_held l repo [] = Ok tt
+all_held l repo (digest ∷ digests) = if fmap.contains_key l.links (repo, digest) then all_held l repo digests else Err (ManifestBlobUnknown digest)
+
+-- a manifest more under the digest of its bytes, in a repository that is there from now on
+abbrev pub with_manifest_on : Linked → ℕ → Text → Text → OutcomeIn Linked (Unit {0})
+with_manifest_on l t repo bytes = do
+  shown ← appear l t repo
+  put_manifest shown.1 repo bytes

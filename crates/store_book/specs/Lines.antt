@@ -4,10 +4,11 @@ use Rattle.std.specs.Option.{option_map_or}
 use Rattle.std.specs.List.{flat_map, enumerate_from}
 use Rattle.blob_digest.specs.Keys.{Text}
 use Rattle.slot_table.specs.Slots.{Slot, slot_of, links_at}
+use Rattle.link_table.specs.Archive.{manifests_on}
 use Rattle.link_table.specs.Linked.{Linked, Tenant, blobs_in, repos_of, used_in}
 use Rattle.upload_table.specs.Sessions.{listed, sessions_of}
 use Rattle.upload_table.specs.Uploaded.{Uploaded}
-use Rattle.store_book.specs.Printed.{blob_line, book_line, end_line, repository_line, session_line, tenant_line}
+use Rattle.store_book.specs.Printed.{blob_line, book_line, end_line, manifest_row, repository_line, session_line, tenant_line}
 
 -- how many links the slots count of a digest
 abbrev pub links_to : List Slot → Text → ℕ
@@ -21,9 +22,13 @@ blob_row slots e = blob_line e.0 e.1 (links_to slots e.0)
 abbrev pub session_row : ℕ × ℕ → Text
 session_row e = session_line e.0 e.1
 
--- a repository of a tenant, with its blobs and sessions
+-- a repository of a tenant, with its blobs, manifests and sessions
 abbrev pub repo_rows : Linked → Uploaded → List Slot → ℕ → Text → Text
-repo_rows l u slots t repo = repository_line repo ++ flat_map (blob_row slots) (blobs_in l repo) ++ flat_map session_row (map listed (sessions_of u.sessions t repo))
+repo_rows l u slots t repo =
+    repository_line repo
+    ++ flat_map (blob_row slots) (blobs_in l repo)
+    ++ flat_map manifest_row (manifests_on l.manifests repo)
+    ++ flat_map session_row (map listed (sessions_of u.sessions t repo))
 
 -- a tenant, with its repositories
 abbrev pub tenant_rows : Linked → Uploaded → List Slot → ℕ × Tenant → Text

@@ -39,8 +39,12 @@ end_line = line (codes "end")
 abbrev pub blob_text : Catalog → Link → Text
 blob_text C l = blob_line l.1 (size C l.1) (count C l.1)
 
+-- a manifest, by its digest and its bytes
+abbrev pub manifest_row : Text × Text → Text
+manifest_row e = manifest_line e.0 (length e.1) (option_map_or length (refs_of e.1) 0)
+
 abbrev pub manifest_text : Link × Text → Text
-manifest_text e = manifest_line e.0.1 (length e.1) (option_map_or length (refs_of e.1) 0)
+manifest_text e = manifest_row (e.0.1, e.1)
 
 abbrev pub session_text : Number × Session → Text
 session_text e = session_line e.0.1 (received e.1)

@@ -3,13 +3,15 @@
 ghost use Rattle.std.specs.Prelude.{◌≡◌, ◌≤◌, ◌<◌, length, map, Some, None, OnOk};
 ghost use Rattle.std.specs.List.{flat_map};
 ghost use Rattle.std.specs.Io.KnownBytes.{Appends};
+ghost use Rattle.link_table.specs.Archive.{manifests_on};
 ghost use Rattle.link_table.specs.Linked.{blobs_in, repos_of};
 ghost use Rattle.upload_table.specs.Sessions.{listed, sessions_of};
-ghost use Rattle.store_book.specs.Printed.{blob_line, repository_line, session_line, tenant_line};
+ghost use Rattle.store_book.specs.Printed.{blob_line, manifest_line, manifest_row, repository_line, session_line, tenant_line};
 ghost use Rattle.store_book.specs.Lines.{CanPrint, blob_row, book_rows, links_to as links_counted, repo_rows, session_row, tenant_in, tenant_rows};
 
 use blob_digest::{Digest, RepoName};
 use link_table::Links;
+use oci_manifest::Manifest;
 use slot_table::SlotTable;
 use std::io::{self, Write};
 use upload_table::Uploads;
@@ -44,6 +46,27 @@ fn print_blob<W: Write>(writer: &mut W, slots: &SlotTable, blob: (Digest, u64)) 
     print_blob_line(writer, blob.0, blob.1, links)
 }
 
+/// A manifest's line.
+fn print_manifest_line<W: Write>(
+    writer: &mut W,
+    digest: Digest,
+    size: usize,
+    refs: usize,
+) -> io::Result<()>
+    ensures { OnOk result (Appends (W.contents writer.old) (W.contents writer.new) (manifest_line digest size refs)) }
+{
+    writeln!(writer, "manifest {digest} size {size} refs {refs}")
+}
+
+/// The line of a manifest, by its digest.
+fn print_manifest<W: Write>(writer: &mut W, digest: Digest, manifest: &Manifest) -> io::Result<()>
+    ensures { OnOk result (Appends (W.contents writer.old) (W.contents writer.new) (manifest_row (digest, manifest.now))) }
+{
+    let size = manifest.bytes().len();
+    let refs = manifest.refs().len();
+    print_manifest_line(writer, digest, size, refs)
+}
+
 /// A session's line.
 fn print_session<W: Write>(writer: &mut W, number: u32, received: u64) -> io::Result<()>
     ensures { OnOk result (Appends (W.contents writer.old) (W.contents writer.new) (session_line number received)) }
@@ -62,6 +85,16 @@ fn print_blobs<W: Write>(
 {
     for blob in links.blobs(repo) {
         print_blob(writer, slots, blob)?;
+    }
+    Ok(())
+}
+
+/// The lines of a repository's manifests.
+fn print_manifests<W: Write>(writer: &mut W, links: &Links, repo: &RepoName) -> io::Result<()>
+    ensures { OnOk result (Appends (W.contents writer.old) (W.contents writer.new) (flat_map manifest_row (manifests_on links.now.manifests repo.now))) }
+{
+    for (digest, manifest) in links.manifests(repo) {
+        print_manifest(writer, digest, manifest)?;
     }
     Ok(())
 }
@@ -91,7 +124,7 @@ fn print_name<W: Write>(writer: &mut W, repo: &RepoName) -> io::Result<()>
     writeln!(writer, "repository {repo}")
 }
 
-/// A repository's line, and those of its blobs and sessions.
+/// A repository's line, and those of its blobs, its manifests and its sessions.
 fn print_repo<W: Write>(
     writer: &mut W,
     links: &Links,
@@ -105,6 +138,7 @@ fn print_repo<W: Write>(
 {
     print_name(writer, repo)?;
     print_blobs(writer, links, slots, repo)?;
+    print_manifests(writer, links, repo)?;
     print_sessions(writer, uploads, tenant, repo)
 }
 

@@ -111,6 +111,11 @@ pub enum Step<'a> {
     Sweep(u32, u32, u32, u32),
     /// The word of slot 0 is this.
     Word(u64),
+    /// A put of these bytes.
+    PutManifest(&'a str, &'a str, Result<Digest, Refusal>),
+    /// A get, and the bytes that it answers.
+    GetManifest(&'a str, &'a str, Result<&'a str, Refusal>),
+    DeleteManifest(&'a str, &'a str, Result<(), Refusal>),
     /// The text of the book is this.
     Prints(&'a str),
     /// The text of the book has this text in it.
@@ -248,6 +253,43 @@ fn word(store: &mut Store) -> u64
     store.book.word(&store.pins, 0)
 }
 
+pub fn put_manifest(
+    rt: &(impl Abort + AllocGlobal),
+    store: &mut Store,
+    repo: &str,
+    bytes: &str,
+) -> Result<Digest, Refusal>
+    ensures { store.new.book.table ≡ store.old.book.table }
+{
+    store.book.put_manifest(&name(rt, repo), bytes.as_bytes())
+}
+
+/// Whether a manifest is answered with these bytes, or refused so.
+fn gets_manifest(
+    rt: &(impl Abort + AllocGlobal),
+    store: &Store,
+    repo: &str,
+    of: &str,
+    wanted: &Result<&str, Refusal>,
+) -> bool {
+    match (store.book.get_manifest(&name(rt, repo), &digest(rt, of)), wanted) {
+        (Ok(manifest), Ok(text)) => manifest.bytes() == text.as_bytes(),
+        (Err(refusal), Err(other)) => refusal == *other,
+        _ => false,
+    }
+}
+
+fn delete_manifest(
+    rt: &(impl Abort + AllocGlobal),
+    store: &mut Store,
+    repo: &str,
+    of: &str,
+) -> Result<(), Refusal>
+    ensures { store.new.book.table ≡ store.old.book.table }
+{
+    store.book.delete_manifest(&name(rt, repo), &digest(rt, of))
+}
+
 /// Whether the text of a book has some text in it.
 pub fn says(rt: &(impl Abort + AllocGlobal), store: &Store, text: &str) -> bool {
     let text = text.as_bytes();
@@ -280,6 +322,9 @@ fn goes(rt: &(impl Abort + AllocGlobal), store: &mut Store, step: &Step) -> bool
         }
         Step::Mount(repo, of, from, wanted) => mount(rt, store, repo, of, from) == *wanted,
         Step::Delete(repo, of, wanted) => delete(rt, store, repo, of) == *wanted,
+        Step::PutManifest(repo, bytes, wanted) => put_manifest(rt, store, repo, bytes) == *wanted,
+        Step::GetManifest(repo, of, wanted) => gets_manifest(rt, store, repo, of, wanted),
+        Step::DeleteManifest(repo, of, wanted) => delete_manifest(rt, store, repo, of) == *wanted,
         Step::Sweep(condemned, freed, held, retired) => {
             sweep(store)
                 == Swept {

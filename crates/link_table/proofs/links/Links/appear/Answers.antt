@@ -13,7 +13,7 @@ invariant_of-self c =
     let is = grown s c.appear.new.self c.args.repo.now c.appear.result c.appear.ensures in
     let links = links-same tenants shelves shelved c.args.tenant s at c.appear.new.self is.links in (
       rw links c.self.invariant.0,
-      IsShelved-appear tenants shelves shelved c.self.inside.charges.items c.args.tenant s at c.args.repo.now (rw (← c.self.view_is) at c.requires.own) c.appear.new.self is,
+      IsShelved-appear tenants shelves shelved c.self.inside.manifests c.self.inside.charges.items c.args.tenant s at c.args.repo.now (rw (← c.self.view_is) at c.requires.own) c.appear.new.self is,
       rw links c.self.invariant.2,
     )
 
@@ -24,4 +24,4 @@ returns c =
     let shelved = c.self.invariant.1 in
     let s = c.index_mut.result.now in
     let at = shelf_at tenants shelves shelved c.args.tenant (rw (← c.self.view_is) at c.requires.there) s c.index_mut.ensures.value in
-    rw (← c.self.view_is) (appear_does tenants shelves shelved c.self.inside.charges.items c.args.tenant s at c.args.repo.now (rw (← c.self.view_is) at c.requires.own) c.appear.new.self c.appear.result c.appear.ensures)
+    rw (← c.self.view_is) (appear_does tenants shelves shelved c.self.inside.manifests c.self.inside.charges.items c.args.tenant s at c.args.repo.now (rw (← c.self.view_is) at c.requires.own) c.appear.new.self c.appear.result c.appear.ensures)

@@ -22,7 +22,7 @@ invariant_of-result c =
       IsSound-opening tenants (links_shown c.in_ok-shelves.shelves.items) c.in_ok-weights.weights.items c.in_ok-charges.charges.items
           c.in_ok-tenants.ensures.kept links (w ∙ ap (λ m. replicate m 0) (sym n)) (k ∙ ap (λ m. replicate m 0) (sym n)),
       IsShelved-opening tenants c.in_ok-shelves.shelves.items (length c.in_ok-tenants.tenants.items) (sym n) s,
-      Counts-opening tenants (links_shown c.in_ok-shelves.shelves.items) c.new.result (ap entries links ∙ entries-empty link_cmp ℕ) c.new.ensures.empty,
+      Counts-opening tenants (links_shown c.in_ok-shelves.shelves.items) c.new-2.result (ap entries links ∙ entries-empty link_cmp ℕ) c.new-2.ensures.empty,
     )
 
 pub returns-clause-opened : goal.returns-clause-opened
@@ -39,5 +39,5 @@ returns-clause-opened c =
       limits = c.in_ok-tenants.ensures.limits;
       same = c.in_ok-tenants.ensures.same;
       tenants = c.in_ok-tenants.ensures.kept;
-      empty = λ i. record { tenants = tenants; repos = repos i; links = links i; charges = charges i };
+      empty = λ i. record { tenants = tenants; repos = repos i; links = links i; manifests = c.new.ensures i; charges = charges i };
     }

@@ -48,7 +48,7 @@ invariant_of-self c =
     let links = links-remove tenants shelves c.self.invariant.1 c.args.tenant s at c.args.repo.now own c.args.digest.now c.unlink.new.self (ap (λ (x : Shelved). x.links) c.in-Some.ensures.gone) in (
       rw links (IsSound-unlink tenants (links_shown shelves) c.self.inside.weights.items c.self.inside.charges.items c.self.invariant.0 c.args.tenant lt c.args.repo.now c.args.digest.now c.in-Some.size own there (nat_lt 0 c.holders_of-held.result) held
           c.index.result.now c.index.ensures c.weight_without.result c.weight_without.ensures),
-      IsShelved-unlink tenants shelves c.self.invariant.1 c.self.inside.charges.items c.args.tenant s at c.args.repo.now own c.unlink.new.self c.args.digest.now c.in-Some.ensures.gone,
+      IsShelved-unlink tenants shelves c.self.invariant.1 c.self.inside.manifests c.self.inside.charges.items c.args.tenant s at c.args.repo.now own c.unlink.new.self c.args.digest.now c.in-Some.ensures.gone,
       rw links counts,
     )
 
@@ -71,4 +71,4 @@ returns c =
     let at = shelf_at tenants shelves c.self.invariant.1 c.args.tenant (rw (← c.self.view_is) at c.requires.there) s c.index_mut.ensures.value in
     let links = links-remove tenants shelves c.self.invariant.1 c.args.tenant s at c.args.repo.now own c.args.digest.now c.unlink.new.self (ap (λ (x : Shelved). x.links) c.in-Some.ensures.gone) in
     let repos = repos-same tenants shelves c.self.invariant.1 c.args.tenant s at c.unlink.new.self (ap (λ (x : Shelved). x.repos) c.in-Some.ensures.gone) in
-    rw (← c.self.view_is) (λ i. record { tenants = tenants; repos = repos i; links = links i; charges = c.self.inside.charges.items })
+    rw (← c.self.view_is) (λ i. record { tenants = tenants; repos = repos i; links = links i; manifests = c.self.inside.manifests; charges = c.self.inside.charges.items })

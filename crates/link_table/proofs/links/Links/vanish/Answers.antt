@@ -23,7 +23,7 @@ vanish-requires-clause-unlinked c =
     let own = rw (← c.self.view_is) at c.requires.own in
     let s = c.index_mut.result.now in
     let at = shelf_at tenants c.self.inside.shelves.items c.self.invariant.1 c.args.tenant (own_within tenants c.args.tenant c.args.repo.now own) s c.index_mut.ensures.value in
-    no_links tenants c.self.inside.shelves.items c.self.invariant.1 c.self.inside.charges.items c.args.tenant s at c.args.repo.now own (rw (← c.self.view_is) at c.requires.unlinked)
+    no_links tenants c.self.inside.shelves.items c.self.invariant.1 c.self.inside.manifests c.self.inside.charges.items c.args.tenant s at c.args.repo.now own (rw (← c.self.view_is) at c.requires.unlinked)
 
 pub invariant_of-self : goal.invariant_of-self
 invariant_of-self c =
@@ -31,10 +31,10 @@ invariant_of-self c =
     let own = rw (← c.self.view_is) at c.requires.own in
     let s = c.index_mut.result.now in
     let at = shelf_at tenants c.self.inside.shelves.items c.self.invariant.1 c.args.tenant (own_within tenants c.args.tenant c.args.repo.now own) s c.index_mut.ensures.value in
-    let none = no_links tenants c.self.inside.shelves.items c.self.invariant.1 c.self.inside.charges.items c.args.tenant s at c.args.repo.now own (rw (← c.self.view_is) at c.requires.unlinked) in
+    let none = no_links tenants c.self.inside.shelves.items c.self.invariant.1 c.self.inside.manifests c.self.inside.charges.items c.args.tenant s at c.args.repo.now own (rw (← c.self.view_is) at c.requires.unlinked) in
     let links = links-same tenants c.self.inside.shelves.items c.self.invariant.1 c.args.tenant s at c.vanish.new.self (ap (λ (x : Shelved). x.links) c.vanish.ensures) in (
       rw links c.self.invariant.0,
-      IsShelved-vanish tenants c.self.inside.shelves.items c.self.invariant.1 c.self.inside.charges.items c.args.tenant s at c.args.repo.now own c.vanish.new.self none c.vanish.ensures,
+      IsShelved-vanish tenants c.self.inside.shelves.items c.self.invariant.1 c.self.inside.manifests c.self.inside.charges.items c.args.tenant s at c.args.repo.now own c.vanish.new.self none c.vanish.ensures,
       rw links c.self.invariant.2,
     )
 
@@ -47,4 +47,4 @@ returns c =
     let at = shelf_at tenants shelves c.self.invariant.1 c.args.tenant (own_within tenants c.args.tenant c.args.repo.now own) s c.index_mut.ensures.value in
     let repos = repos-remove tenants shelves c.self.invariant.1 c.args.tenant s at c.args.repo.now own c.vanish.new.self (ap (λ (x : Shelved). x.repos) c.vanish.ensures) in
     let links = links-same tenants shelves c.self.invariant.1 c.args.tenant s at c.vanish.new.self (ap (λ (x : Shelved). x.links) c.vanish.ensures) in
-    rw (← c.self.view_is) (λ i. record { tenants = tenants; repos = repos i; links = links i; charges = c.self.inside.charges.items })
+    rw (← c.self.view_is) (λ i. record { tenants = tenants; repos = repos i; links = links i; manifests = c.self.inside.manifests; charges = c.self.inside.charges.items })

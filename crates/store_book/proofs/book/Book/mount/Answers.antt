@@ -59,12 +59,12 @@ vanish-requires-clause-unlinked c =
 
 pub invariant_of-self-then-appeared : goal.invariant_of-self-then-appeared
 invariant_of-self-then-appeared c =
-    let links = c.vanish.ensures ∙ ap (λ (l : Linked). vanish l c.args.repo.now) c.in-Err.ensures.err.0 ∙ undone c.self.inside.links c.appear.new.self c.self.inside.uploads c.self.inside.slots.slots c.self.inside.max_blob c.in_ok-tenant.tenant c.args.repo.now c.in_ok-appeared.appeared c.in_ok-appeared.ensures c.if-appeared.true in
+    let links = c.vanish.ensures ∙ ap (λ (l : Linked). vanish l c.args.repo.now) c.in-Err.ensures.err.0 ∙ undone c.self.inside.links c.appear.new.self c.in_ok-tenant.tenant c.args.repo.now c.in_ok-appeared.appeared c.in_ok-appeared.ensures c.if-appeared.true in
     same_book c.self.inside.links c.vanish.new.self c.self.inside.uploads c.self.inside.uploads c.self.inside.slots.slots c.link_slot.new.slots.slots c.self.inside.max_blob links refl (ap (λ (p : Pinned). p.slots) c.in-Err.ensures.err.1) c.self.invariant
 
 pub invariant_of-self-else-appeared : goal.invariant_of-self-else-appeared
 invariant_of-self-else-appeared c =
-    let links = c.in-Err.ensures.err.0 ∙ unneeded c.self.inside.links c.appear.new.self c.self.inside.uploads c.self.inside.slots.slots c.self.inside.max_blob c.in_ok-tenant.tenant c.args.repo.now c.in_ok-appeared.appeared c.in_ok-appeared.ensures c.if-appeared.false in
+    let links = c.in-Err.ensures.err.0 ∙ unneeded c.self.inside.links c.appear.new.self c.in_ok-tenant.tenant c.args.repo.now c.in_ok-appeared.appeared c.in_ok-appeared.ensures c.if-appeared.false in
     same_book c.self.inside.links c.link_slot.new.links c.self.inside.uploads c.self.inside.uploads c.self.inside.slots.slots c.link_slot.new.slots.slots c.self.inside.max_blob links refl (ap (λ (p : Pinned). p.slots) c.in-Err.ensures.err.1) c.self.invariant
 
 pub returns-after-appeared-clause-does : goal.returns-after-appeared-clause-does
@@ -72,10 +72,10 @@ returns-after-appeared-clause-does c = (
   (λ other. absurd (other c.in-Err.ensures.memory)),
   elim c.if-appeared.branch [
     | then-appeared w ↦
-        let links = w.vanish.ensures ∙ ap (λ (l : Linked). vanish l c.args.repo.now) c.in-Err.ensures.err.0 ∙ undone c.self.inside.links c.appear.new.self c.self.inside.uploads c.self.inside.slots.slots c.self.inside.max_blob c.in_ok-tenant.tenant c.args.repo.now c.in_ok-appeared.appeared c.in_ok-appeared.ensures w.if-appeared.true in
+        let links = w.vanish.ensures ∙ ap (λ (l : Linked). vanish l c.args.repo.now) c.in-Err.ensures.err.0 ∙ undone c.self.inside.links c.appear.new.self c.in_ok-tenant.tenant c.args.repo.now c.in_ok-appeared.appeared c.in_ok-appeared.ensures w.if-appeared.true in
         ap (λ (s : BookState). s.catalog) w.self-is ∙ same_catalog c.self.inside.links _ c.self.inside.uploads c.self.inside.uploads c.self.inside.slots.slots _ c.self.inside.max_blob links refl (ap (λ (p : Pinned). p.slots) c.in-Err.ensures.err.1) ∙ ap (λ (s : BookState). s.catalog) c.self.view_is
     | else-appeared w ↦
-        let links = c.in-Err.ensures.err.0 ∙ unneeded c.self.inside.links c.appear.new.self c.self.inside.uploads c.self.inside.slots.slots c.self.inside.max_blob c.in_ok-tenant.tenant c.args.repo.now c.in_ok-appeared.appeared c.in_ok-appeared.ensures w.if-appeared.false in
+        let links = c.in-Err.ensures.err.0 ∙ unneeded c.self.inside.links c.appear.new.self c.in_ok-tenant.tenant c.args.repo.now c.in_ok-appeared.appeared c.in_ok-appeared.ensures w.if-appeared.false in
         ap (λ (s : BookState). s.catalog) w.self-is ∙ same_catalog c.self.inside.links _ c.self.inside.uploads c.self.inside.uploads c.self.inside.slots.slots _ c.self.inside.max_blob links refl (ap (λ (p : Pinned). p.slots) c.in-Err.ensures.err.1) ∙ ap (λ (s : BookState). s.catalog) c.self.view_is
   ],
 )

@@ -31,8 +31,8 @@ pub returns-after-is_new-clause-does : goal.returns-after-is_new-clause-does
 returns-after-is_new-clause-does c = (
   (λ other. rw (← c.self.view_is) (start_refused c.self.inside.links c.appear.new.self c.self.inside.uploads c.self.inside.slots.slots c.self.inside.max_blob c.in_ok-tenant.tenant c.args.repo.now c.in_ok-is_new.is_new c.in-Err.refusal (sym c.in_ok-tenant.ensures.known) c.in_ok-is_new.ensures (c.in-Err.ensures.0 other))),
   elim c.if-is_new.branch [
-    | then-is_new w ↦ ap (λ (s : BookState). s.catalog) w.self-is ∙ same_catalog _ _ _ _ c.self.inside.slots.slots c.self.inside.slots.slots c.self.inside.max_blob (w.vanish.ensures ∙ undone c.self.inside.links c.appear.new.self c.self.inside.uploads c.self.inside.slots.slots c.self.inside.max_blob c.in_ok-tenant.tenant c.args.repo.now c.in_ok-is_new.is_new c.in_ok-is_new.ensures w.if-is_new.true) c.in-Err.ensures.1 refl ∙ ap (λ (s : BookState). s.catalog) c.self.view_is
-    | else-is_new w ↦ ap (λ (s : BookState). s.catalog) w.self-is ∙ same_catalog _ _ _ _ c.self.inside.slots.slots c.self.inside.slots.slots c.self.inside.max_blob (unneeded c.self.inside.links c.appear.new.self c.self.inside.uploads c.self.inside.slots.slots c.self.inside.max_blob c.in_ok-tenant.tenant c.args.repo.now c.in_ok-is_new.is_new c.in_ok-is_new.ensures w.if-is_new.false) c.in-Err.ensures.1 refl ∙ ap (λ (s : BookState). s.catalog) c.self.view_is
+    | then-is_new w ↦ ap (λ (s : BookState). s.catalog) w.self-is ∙ same_catalog _ _ _ _ c.self.inside.slots.slots c.self.inside.slots.slots c.self.inside.max_blob (w.vanish.ensures ∙ undone c.self.inside.links c.appear.new.self c.in_ok-tenant.tenant c.args.repo.now c.in_ok-is_new.is_new c.in_ok-is_new.ensures w.if-is_new.true) c.in-Err.ensures.1 refl ∙ ap (λ (s : BookState). s.catalog) c.self.view_is
+    | else-is_new w ↦ ap (λ (s : BookState). s.catalog) w.self-is ∙ same_catalog _ _ _ _ c.self.inside.slots.slots c.self.inside.slots.slots c.self.inside.max_blob (unneeded c.self.inside.links c.appear.new.self c.in_ok-tenant.tenant c.args.repo.now c.in_ok-is_new.is_new c.in_ok-is_new.ensures w.if-is_new.false) c.in-Err.ensures.1 refl ∙ ap (λ (s : BookState). s.catalog) c.self.view_is
   ],
 )
 
@@ -43,10 +43,10 @@ invariant_of-self-in-Ok c =
 
 pub invariant_of-self-then-is_new : goal.invariant_of-self-then-is_new
 invariant_of-self-then-is_new c =
-    let links = c.vanish.ensures ∙ undone c.self.inside.links c.appear.new.self c.self.inside.uploads c.self.inside.slots.slots c.self.inside.max_blob c.in_ok-tenant.tenant c.args.repo.now c.in_ok-is_new.is_new c.in_ok-is_new.ensures c.if-is_new.true in
+    let links = c.vanish.ensures ∙ undone c.self.inside.links c.appear.new.self c.in_ok-tenant.tenant c.args.repo.now c.in_ok-is_new.is_new c.in_ok-is_new.ensures c.if-is_new.true in
     same_book c.self.inside.links c.vanish.new.self c.self.inside.uploads c.start.new.self c.self.inside.slots.slots c.self.inside.slots.slots c.self.inside.max_blob links c.in-Err.ensures.1 refl c.self.invariant
 
 pub invariant_of-self-else-is_new : goal.invariant_of-self-else-is_new
 invariant_of-self-else-is_new c =
-    let links = unneeded c.self.inside.links c.appear.new.self c.self.inside.uploads c.self.inside.slots.slots c.self.inside.max_blob c.in_ok-tenant.tenant c.args.repo.now c.in_ok-is_new.is_new c.in_ok-is_new.ensures c.if-is_new.false in
+    let links = unneeded c.self.inside.links c.appear.new.self c.in_ok-tenant.tenant c.args.repo.now c.in_ok-is_new.is_new c.in_ok-is_new.ensures c.if-is_new.false in
     same_book c.self.inside.links c.appear.new.self c.self.inside.uploads c.start.new.self c.self.inside.slots.slots c.self.inside.slots.slots c.self.inside.max_blob links c.in-Err.ensures.1 refl c.self.invariant

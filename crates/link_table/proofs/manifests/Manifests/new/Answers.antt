@@ -1,5 +1,0 @@
-use Rattle.link_table.proofs.ManifestRows.{IsIndexed-opening}
-use Rattle.link_table.proofs.manifests.Manifests.new.Goals as goal
-
-pub invariant_of-result : goal.invariant_of-result
-invariant_of-result c = IsIndexed-opening c.new.result c.new-2.result c.new.ensures.empty c.new-2.ensures.empty
