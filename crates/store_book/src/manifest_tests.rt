@@ -1,8 +1,7 @@
 //! Worked examples of manifests: what they protect, which are refused and in which order, and the
 //! limits. Each digest is as `sha256sum` or `sha512sum` gives it.
 
-use crate::Book;
-use crate::test_steps::{ABC, ABC_512, OBJ, Step, book, digest, plays, put_manifest};
+use crate::test_steps::{ABC, ABC_512, OBJ, Step, Store, book, digest, plays, put_manifest};
 use blob_digest::Refusal;
 use std::alloc::AllocGlobal;
 use std::process::Abort;
@@ -207,7 +206,7 @@ fn numbered(rt: &(impl Abort + AllocGlobal), number: u32) -> String {
 }
 
 /// A book whose repository `acme/one` has 1,024 indexes, numbered from 0.
-fn filled(rt: &(impl Abort + AllocGlobal)) -> Book {
+fn filled(rt: &(impl Abort + AllocGlobal)) -> Store {
     let mut book = book(rt, &[("acme", 1000)]);
     for number in 0..1024u32 {
         let put = put_manifest(rt, &mut book, ONE, numbered(rt, number).as_str());
@@ -248,7 +247,7 @@ fn a_repository_has_at_most_1024_manifests(rt: HostRuntime) {
 }
 
 /// A book with two tenants, of which `acme` has 1,024 repositories, each with an index.
-fn crowded(rt: &(impl Abort + AllocGlobal)) -> Book {
+fn crowded(rt: &(impl Abort + AllocGlobal)) -> Store {
     let mut book = book(rt, &[("acme", 1000), ("other", 1000)]);
     for number in 0..1024u32 {
         let repo = format!(in rt.alloc(); "acme/r{number}").expect(rt, "memory");
