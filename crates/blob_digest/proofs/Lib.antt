@@ -13,3 +13,4 @@ pub mod RowLemmas
 pub mod SetLemmas
 pub mod SortedRows
 pub mod Trees
+pub mod Walks

@@ -6,12 +6,12 @@ use Rattle.std.proofs.lemmas.Option.{same_Some, slice_get_within, slice_get-get_
 use Rattle.blob_digest.specs.Keys.{Text}
 use Rattle.blob_digest.specs.declared.refusal.Refusal.TheVariants.{Memory}
 use Rattle.store_book.specs.Catalog.{Catalog}
-use Rattle.book_ahead.specs.BookState.{BookState, SlotSeen}
-use Rattle.book_ahead.specs.SlotSteps.{EachSlot, HasLast, IsCrowded}
+use Rattle.store_book.specs.BookState.{BookState, SlotSeen}
+use Rattle.store_book.specs.SlotSteps.{EachSlot, HasLast, IsCrowded}
 use Rattle.blobctl.specs.Answers.{Answer, Session, Received, Stored, Abandoned, Mounted, Deleted, Manifest, Body, Leased, Bytes, Shared, Verified, GivenBack, Cleaned, NoLease, NameTaken, Refused}
 use Rattle.blobctl.specs.Commands.{Command, Request, Calls, Lease, Verifies, Sweeps}
 use Rattle.blobctl.specs.Leases.{Lent, Leases, none}
-use Rattle.blobctl.specs.Played.{Acts, ActsCall, ExplainsCrowd, Happens, HappensCall, RisesByOne}
+use Rattle.blobctl.specs.Played.{Acts, ActsCall, ExplainsCrowd, answered, Happens, HappensCall, RisesByOne}
 use Rattle.blobctl.specs.Plays.{Plays, RowStep, StoreStep, State, LendsWhereFree, VerifiesLease, named}
 use Rattle.blobctl.specs.Rows.{Line}
 
@@ -45,23 +45,24 @@ none_retired zero not = refl
 none_retired (suc n) not = absurd (not (omega arith))
 
 call_happens : (n : ℕ) (C : Catalog) (slots : List SlotSeen) (command : Command) (answer : Answer) (C' : Catalog) → AreLow n slots → n ≤ 65537 → answer ≢ Refused Memory → ActsCall C command answer C' → ExplainsCrowd slots answer → HappensCall C command answer C'
-call_happens n C slots command (Session x) C' low few not_memory h why = h
-call_happens n C slots command (Received x) C' low few not_memory h why = h
-call_happens n C slots command (Stored x) C' low few not_memory h why = h
-call_happens n C slots command Abandoned C' low few not_memory h why = h
-call_happens n C slots command Mounted C' low few not_memory h why = h
-call_happens n C slots command Deleted C' low few not_memory h why = h
-call_happens n C slots command (Manifest x) C' low few not_memory h why = h
-call_happens n C slots command (Body x) C' low few not_memory h why = h
-call_happens n C slots command (Leased x) C' low few not_memory h why = h
-call_happens n C slots command (Bytes x) C' low few not_memory h why = h
-call_happens n C slots command Shared C' low few not_memory h why = h
-call_happens n C slots command (Verified x) C' low few not_memory h why = h
-call_happens n C slots command GivenBack C' low few not_memory h why = h
-call_happens n C slots command (Cleaned x) C' low few not_memory h why = h
-call_happens n C slots command NoLease C' low few not_memory h why = h
-call_happens n C slots command NameTaken C' low few not_memory h why = h
-call_happens n C slots command (Refused refusal) C' low few not_memory h why = (h.0 (λ e. not_memory (ap Refused e)) (λ e. let crowd = why e in not_crowded n crowd.0 slots low few crowd.1), h.1)
+call_happens n C slots command (Session x) C' low few not_memory h why = sym (ap (answered C) h)
+call_happens n C slots command (Received x) C' low few not_memory h why = sym (ap (answered C) h)
+call_happens n C slots command (Stored x) C' low few not_memory h why = sym (ap (answered C) h)
+call_happens n C slots command Abandoned C' low few not_memory h why = sym (ap (answered C) h)
+call_happens n C slots command Mounted C' low few not_memory h why = sym (ap (answered C) h)
+call_happens n C slots command Deleted C' low few not_memory h why = sym (ap (answered C) h)
+call_happens n C slots command (Manifest x) C' low few not_memory h why = sym (ap (answered C) h)
+call_happens n C slots command (Body x) C' low few not_memory h why = sym (ap (answered C) h)
+call_happens n C slots command (Leased x) C' low few not_memory h why = sym (ap (answered C) h)
+call_happens n C slots command (Bytes x) C' low few not_memory h why = sym (ap (answered C) h)
+call_happens n C slots command Shared C' low few not_memory h why = sym (ap (answered C) h)
+call_happens n C slots command (Verified x) C' low few not_memory h why = sym (ap (answered C) h)
+call_happens n C slots command GivenBack C' low few not_memory h why = sym (ap (answered C) h)
+call_happens n C slots command (Cleaned x) C' low few not_memory h why = sym (ap (answered C) h)
+call_happens n C slots command NoLease C' low few not_memory h why = sym (ap (answered C) h)
+call_happens n C slots command NameTaken C' low few not_memory h why = sym (ap (answered C) h)
+call_happens n C slots command (Refused refusal) C' low few not_memory h why =
+    (λ i. (Refused refusal, h.1 i)) ∙ sym (ap (answered C) (h.0 (λ e. not_memory (ap Refused e)) (λ e. let crowd = why e in not_crowded n crowd.0 slots low few crowd.1)))
 
 -- what a book does happens to its catalog, want of memory apart
 request_happens : (n : ℕ) (old new : BookState) (request : Request) (answer : Answer) → AreLow n old.slots → n ≤ 65536 → answer ≢ Refused Memory → Acts old request answer new → Happens old.catalog request answer new.catalog × AreLow (n + 1) new.slots

@@ -12,8 +12,8 @@ use Rattle.blob_digest.specs.declared.refusal.Refusal.TheVariants.{NameUnknown, 
 use Rattle.slot_table.specs.declared.phase.Phase.TheVariants as phase
 use Rattle.store_book.specs.Catalog.{Catalog, Resident, holds, tenant_of}
 use Rattle.store_book.specs.Steps.{Outcome, lease, with_lent}
-use Rattle.book_ahead.specs.BookState.{SlotSeen}
-use Rattle.book_ahead.specs.SlotSteps as slots
+use Rattle.store_book.specs.BookState.{SlotSeen}
+use Rattle.store_book.specs.SlotSteps as slots
 use Rattle.blobctl.specs.Answers.{Bytes, Refused}
 use Rattle.blobctl.specs.Commands.{Lease}
 use Rattle.blobctl.specs.Played.{ActsCall, ExplainsCrowd, RisesByOne, told}

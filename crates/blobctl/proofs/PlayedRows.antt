@@ -5,7 +5,7 @@ use Rattle.blob_digest.specs.Names.{IsRepoName}
 use Rattle.blob_digest.specs.declared.refusal.Refusal.{Refusal}
 use Rattle.blob_digest.specs.declared.refusal.Refusal.TheVariants.{SizeInvalid, Memory}
 use Rattle.blobctl.specs.Answers.{Answer, Refused}
-use Rattle.blobctl.specs.Commands.{Calls, Request, Lease, Spells, HasDigest, HasSource, IsNoRange, uses_repo}
+use Rattle.blobctl.specs.Commands.{Calls, Request, Lease, Spells, HasDigest, HasSource, IsNoRange, uses_range, uses_repo}
 use Rattle.blobctl.specs.Leases.{Leases}
 use Rattle.blobctl.specs.Lines.{line_of}
 use Rattle.blobctl.specs.Plays.{Plays, RowStep, State, StoreStep, named}
@@ -13,9 +13,9 @@ use Rattle.blobctl.specs.Rows.{Line}
 use Rattle.blobctl.specs.declared.row.Row.{Row}
 
 -- a row whose range is none is refused for it
-pub range_refused : {S : Type 0} (acts : S → Request → Answer → S → Type 0) (s t : S) (line : Line) (refusal : Refusal) → uses_repo line.verb ≡ true → IsRepoName line.repo → HasSource line → HasDigest line
+pub range_refused : {S : Type 0} (acts : S → Request → Answer → S → Type 0) (s t : S) (line : Line) (refusal : Refusal) → uses_repo line.verb ≡ true → IsRepoName line.repo → HasSource line → HasDigest line → uses_range line.verb ≡ true
     → (refusal ≡ SizeInvalid) × IsNoRange line.range → t ≡ s → StoreStep acts s line (Refused refusal) t
-range_refused acts s t line refusal repo_named repo source digest why same = rw why.0 (inl ((repo_named, (SizeInvalid, (repo, source, digest, why.1), refl)), same))
+range_refused acts s t line refusal repo_named repo source digest uses why same = rw why.0 (inl ((repo_named, (SizeInvalid, (repo, source, digest, uses, why.1), refl)), same))
 
 -- a store refuses a lease, or memory is wanting
 pub lease_refused : {S : Type 0} (acts : S → Request → Answer → S → Type 0) (s t : S) (L M : Leases) (line : Line) (refusal : Refusal) → Spells line (Lease line.repo line.digest) → named L line ≡ None

@@ -3,7 +3,7 @@ use Rattle.std.specs.Prelude.{ℕ, List, map}
 use Rattle.std.specs.Arc.{arc_value}
 use Rattle.blob_digest.specs.Keys.{Text}
 use Rattle.blob_digest.specs.declared.refusal.Refusal.{Refusal}
-use Rattle.book_ahead.specs.declared.sweep.Swept.{Swept}
+use Rattle.store_book.specs.declared.sweep.Swept.{Swept}
 use Rattle.store_book.specs.declared.mount.Mount.{Mount}
 use Rattle.store_book.specs.declared.mount.Mount.TheVariants as mounting
 use Rattle.blobctl.specs.declared.reply.Reply.{Reply}

@@ -105,6 +105,12 @@ uses_digest verb.DeleteManifest = true
 uses_digest verb.Lease = true
 uses_digest _ = false
 
+-- whether a command may name the range of a chunk
+abbrev pub uses_range : Verb → Bool
+uses_range verb.Append = true
+uses_range verb.Close = true
+uses_range _ = false
+
 -- whether a command names a session
 abbrev pub uses_session : Verb → Bool
 uses_session verb.Status = true
@@ -121,5 +127,5 @@ HasDigest line = uses_digest line.verb ≡ true → IsDigest line.digest
 abbrev pub IsMisspelt : Line → Refusal → Type 0
 IsMisspelt line NameInvalid = (¬ IsRepoName line.repo) ⊎ (IsRepoName line.repo × (uses_source line.verb ≡ true) × ¬ IsRepoName line.key)
 IsMisspelt line DigestInvalid = IsRepoName line.repo × HasSource line × (uses_digest line.verb ≡ true) × ¬ IsDigest line.digest
-IsMisspelt line SizeInvalid = IsRepoName line.repo × HasSource line × HasDigest line × IsNoRange line.range
+IsMisspelt line SizeInvalid = IsRepoName line.repo × HasSource line × HasDigest line × (uses_range line.verb ≡ true) × IsNoRange line.range
 IsMisspelt line refusal = ⊥

@@ -8,9 +8,10 @@ use Rattle.store_book.specs.Catalog.{Catalog}
 use Rattle.store_book.specs.Openings.{OpensCatalog}
 use Rattle.store_book.specs.Printed.{book_text}
 use Rattle.store_book.specs.Steps as steps
-use Rattle.book_ahead.specs.BookState.{BookState, SlotSeen}
-use Rattle.book_ahead.specs.SlotSteps.{EachSlot, HasLast, IsCrowded}
-use Rattle.book_ahead.specs.Sweeps.{IsSweep, Swept}
+use Rattle.store_book.specs.BookState.{BookState, SlotSeen}
+use Rattle.store_book.specs.SlotSteps.{EachSlot, HasLast, IsCrowded}
+use Rattle.store_book.specs.Sweeps.{IsSweep}
+use Rattle.store_book.specs.declared.sweep.Swept.{Swept}
 use Rattle.blobctl.specs.Answers.{Answer, Session, Received, Stored, Abandoned, Deleted, Manifest, Body, Bytes, Verified, Cleaned, Refused, mount_answer}
 use Rattle.blobctl.specs.Commands.{Command, Start, Status, Append, Close, Abandon, Mount, Delete, PutManifest, GetManifest, DeleteManifest, Lease, Request, Calls, Verifies, Sweeps}
 use Rattle.blobctl.specs.Leases as leases
@@ -43,10 +44,14 @@ outcome C (GetManifest repo digest) = read Body C (steps.get_manifest C repo dig
 outcome C (DeleteManifest repo digest) = told (λ _. Deleted) (steps.delete_manifest C repo digest)
 outcome C (Lease repo digest) = told Bytes (steps.lease false C repo digest)
 
--- a command leads from one catalog to another with its answer; a refused one changes nothing
+-- what an outcome answers and leaves: a refusal changes nothing
+abbrev pub answered : Catalog → steps.Outcome Answer → Answer × Catalog
+answered C (Ok x) = x
+answered C (Err refusal) = (Refused refusal, C)
+
+-- a command leads from one catalog to another with its answer
 abbrev pub HappensCall : Catalog → Command → Answer → Catalog → Type 0
-HappensCall C command (Refused refusal) C' = (outcome C command ≡ Err refusal) × (C' ≡ C)
-HappensCall C command answer C' = outcome C command ≡ Ok (answer, C')
+HappensCall C command answer C' = (answer, C') ≡ answered C (outcome C command)
 
 -- a sweep leads from one catalog to another, and retires no slot
 abbrev pub HappensSweep : Catalog → Answer → Catalog → Type 0

@@ -5,7 +5,7 @@ use Rattle.std.specs.List.{enumerate_from, flat_map}
 use Rattle.hex.specs.Hex.{encode_lower}
 use Rattle.blob_digest.specs.Keys.{Text}
 use Rattle.blob_digest.specs.Refusals.{refusal_text}
-use Rattle.book_ahead.specs.declared.sweep.Swept.{Swept}
+use Rattle.store_book.specs.declared.sweep.Swept.{Swept}
 use Rattle.blobctl.specs.Answers.{Answer, Session, Received, Stored, Abandoned, Mounted, Deleted, Manifest, Body, Leased, Bytes, Shared, Verified, GivenBack, Cleaned, NoLease, NameTaken, Refused}
 
 -- what a sweep did

@@ -17,10 +17,10 @@ use crate::player::play;
 use crate::reply::Reply;
 use crate::row::Row;
 use blob_digest::Refusal;
-use book_ahead::Book;
 use pin_table::Pins;
 use std::alloc::Global;
 use std::marker::{Brand, PhantomData};
+use store_book::Book;
 
 /// Plays all rows on a book with the words of its slots, which one pin table names.
 fn play_in<N: TableName>(

@@ -7,11 +7,10 @@ ghost use Rattle.std.specs.Arc.{arc_value};
 
 use crate::piece::Piece;
 use blob_digest::{ByteRange, Digest, Refusal, RepoName};
-use book_ahead::Swept;
 use oci_manifest::Manifest;
 use std::alloc::Global;
 use std::sync::Arc;
-use store_book::Mount;
+use store_book::{Mount, Swept};
 
 /// A lease of a blob. It must be spent, by `share` or `give_back`.
 pub trait BlobLease {

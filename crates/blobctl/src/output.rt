@@ -9,7 +9,7 @@ use crate::fault::Fault;
 use crate::reply::Reply;
 use std::io;
 use std::io::Write;
-use book_ahead::Book;
+use store_book::Book;
 
 /// Writes a row's number and its reply, and takes no memory.
 fn write_reply<W: Write>(writer: &mut W, number: usize, reply: &Reply) -> io::Result<()>

@@ -4,13 +4,12 @@ ghost use Rattle.std.specs.Prelude.{◌≡◌};
 use crate::backend::{Backend, BlobLease};
 use crate::piece::Piece;
 use blob_digest::{Blob, ByteRange, Digest, Refusal, RepoName};
-use book_ahead::{Book, Swept};
 use oci_manifest::Manifest;
 use pin_table::{Pin, Pins};
 use std::alloc::Global;
 use std::marker::{Brand, PhantomData};
 use std::sync::Arc;
-use store_book::Mount;
+use store_book::{Book, Mount, Swept};
 
 /// A name of the pin table that a book, its pins and its leases belong to.
 pub trait TableName {

@@ -5,13 +5,12 @@ ghost use Rattle.blobctl.specs.Replies.{reply_text};
 
 use crate::hex_digits::HexDigits;
 use crate::piece::Piece;
-use book_ahead::Swept;
 use blob_digest::{Digest, Refusal};
 use oci_manifest::Manifest;
 use std::alloc::Global;
 use std::fmt;
 use std::sync::Arc;
-use store_book::Mount;
+use store_book::{Mount, Swept};
 
 /// The reply to a row. Manifests and blobs are shared with the book and not copied. Contracts see what is
 /// answered (`answer_of`).

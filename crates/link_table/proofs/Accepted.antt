@@ -3,13 +3,13 @@ use Rattle.std.proofs.Common.{◌≡◌, ℕ, List, Bool, true, false, cond, not
 use Rattle.std.specs.Ordering.{eq_by_cmp, is_eq}
 use Rattle.std.specs.Cmp.{tied_itself}
 use Rattle.std.specs.Cmp.Lexicographic.{nat_list_cmp_total}
-use Rattle.std.specs.FinMap.{FinMap, get, insert, empty, get-insert, get-empty}
+use Rattle.std.specs.FinMap.{FinMap, get, insert, empty, get-insert, get-remove, get-empty}
 use Rattle.blob_digest.specs.Sets as set
 use Rattle.blob_digest.specs.Keys.{Text, Link, link_cmp}
 use Rattle.blob_digest.specs.declared.refusal.Refusal.{Refusal}
 use Rattle.blob_digest.specs.declared.refusal.Refusal.TheVariants.{LimitReached}
 use Rattle.blob_digest.proofs.KeyOrders.{link_cmp_total}
-use Rattle.link_table.specs.Linked.{Linked, Tenant, is_tenants, HasNoLinks, appear, cannot_appear, link}
+use Rattle.link_table.specs.Linked.{Linked, Tenant, is_tenants, HasNoLinks, appear, cannot_appear, link, unlink}
 use Rattle.link_table.specs.Tenancy.{Opens}
 
 same_state : {S : Type 0} (a b : Bool) (x y : S) → ◌≡◌ {A = Result (Bool × S) Refusal} (Ok (a, x)) (Ok (b, y)) → y ≡ x
@@ -45,6 +45,14 @@ pub link-sizes : (l m : Linked) (r d : Text) (n : ℕ) (b : Bool) → link l r d
 link-sizes l m r d n b done all k x h =
     let state = same_state _ b (record l { links = insert l.links (r, d) n }) m done in
     sized (eq_by_cmp link_cmp k (r, d)) n x (get l.links k) (sym (get-insert link_cmp_total l.links (r, d) n k) ∙ sym (ap (λ (y : Linked). get y.links k) state) ∙ h) (all k x)
+
+left_over : (b : Bool) (n : ℕ) (o : Option ℕ) → cond b None o ≡ Some n → o ≡ Some n
+left_over true n o e = cc
+left_over false n o e = e
+
+-- each link after `unlink` was there before
+pub unlink-links : (l m : Linked) (r d : Text) → m ≡ unlink l r d → (k : Link) (n : ℕ) → get m.links k ≡ Some n → get l.links k ≡ Some n
+unlink-links l m r d is k n h = left_over (eq_by_cmp link_cmp k (r, d)) n (get l.links k) (sym (get-remove link_cmp_total l.links (r, d) k) ∙ sym (ap (λ (x : Linked). get x.links k) is) ∙ h)
 
 -- a table that opens has no links
 pub Opens-links : (given : List Tenant) (l : Linked) → Opens given l → l.links ≡ empty

@@ -1,22 +1,29 @@
 -- What a link more or less does to the counts of those that hold a digest.
-use Rattle.std.proofs.Common.{◌≡◌, ℕ, ◌+◌, ◌<◌, Bool, true, false, cond, ◌&&◌, ◌||◌, ◌==◌, nat_lt, List, [], ◌∷◌, Option, None, Some, refl, sym, ap, ◌∙◌, arith}
-use Rattle.std.specs.Prelude.{count_by, unwrap_or, nat_eq}
+use Rattle.std.proofs.Common.{◌≡◌, ℕ, ◌+◌, ◌<◌, ◌≤◌, Bool, true, false, cond, ◌&&◌, ◌||◌, ◌==◌, nat_lt, List, [], ◌∷◌, length, map, filter, Option, None, Some, is_some, refl, sym, ap, ◌∙◌, arith}
+use Rattle.std.specs.Prelude.{T, slice_get, count_by, unwrap_or, nat_eq}
 use Rattle.std.specs.Option.{option_eq}
-use Rattle.std.specs.List.{list_any}
-use Rattle.std.specs.Ordering.{nat_cmp}
-use Rattle.std.specs.Cmp.{tied_then, unsigned_tied}
-use Rattle.std.specs.Cmp.Lexicographic.{texts_ties}
+use Rattle.std.specs.List.{list_any, AllByRecursion, IsDistinct}
+use Rattle.std.specs.Set.{is_member}
+use Rattle.std.specs.Ordering.{nat_cmp, eq_by_cmp, is_eq}
+use Rattle.std.specs.Cmp.{tied_then, tied_itself, unsigned_tied, eq_by_cmp_equiv}
+use Rattle.std.specs.Cmp.Lexicographic.{nat_list_cmp_total, texts_ties}
 use Rattle.std.specs.BTreeMap as tree
 use Rattle.std.specs.Map.{lookup}
-use Rattle.std.proofs.lemmas.Bool.{eqb-true, eq-eqb, and_parts, and_from}
+use Rattle.std.proofs.lemmas.Bool.{eqb-true, eq-eqb, and_parts, and_from, true≢false, false_from_ne_true}
 use Rattle.std.proofs.lemmas.Bool.Decides.{nat_tests}
-use Rattle.std.proofs.lemmas.List.Sums.{sum_by-cons}
-use Rattle.blob_digest.specs.Keys.{Text, text_cmp, link_cmp, same_text}
-use Rattle.blob_digest.proofs.KeyOrders.{link_cmp_total, exact_link, text_is_same, same_text_is}
+use Rattle.std.proofs.lemmas.List.{length-map}
+use Rattle.std.proofs.lemmas.List.Sums.{sum_by-cons, length-filter}
+use Rattle.std.proofs.lemmas.Map.Made.{length-le_from_is_member}
+use Rattle.blob_digest.specs.Keys.{Text, Link, text_cmp, link_cmp, same_text}
+use Rattle.blob_digest.specs.Rows.{IsApart}
+use Rattle.blob_digest.specs.Sets as sets
+use Rattle.blob_digest.proofs.KeyOrders.{link_cmp_total, exact_link, text_is_same, same_text_is, tied_text}
+use Rattle.blob_digest.proofs.SortedRows.{IsApart-sorted}
 use Rattle.link_table.specs.Linked.{Tenant, tenant_of, is_tenants}
 use Rattle.link_table.specs.Holders.{Holding, holding_cmp, count_of, is_key, is_held, Counts}
-use Rattle.link_table.proofs.Shelves.{option_eq_some}
-use Rattle.std.specs.FinMap.{FinMap, get, insert, remove, entries}
+use Rattle.link_table.specs.Shelves.{Shelved, IsShelved, links_shown, count}
+use Rattle.link_table.proofs.Shelves.{option_eq_some, links-there}
+use Rattle.std.specs.FinMap.{FinMap, find, get, insert, remove, entries, get-entries, entries_sorted, is_sorted, contains_key-keys}
 use Rattle.blob_digest.proofs.MapSums.{sum_new, sum_split}
 
 -- ---- one count
@@ -131,3 +138,72 @@ Counts-same tenants links old new counts same u e = same u e ∙ counts u e
 -- an empty map counts no links
 pub Counts-opening : (tenants : List Tenant) (links : FinMap link_cmp ℕ) (holders : tree.BTreeMap Holding ℕ) → entries links ≡ [] → tree.IsEmpty holders → Counts tenants links holders
 Counts-opening tenants links holders none empty t d = ap (λ es. unwrap_or (lookup (tree.is_at (holding_cmp (t, d))) es) 0) empty ∙ sym (ap (count_by (is_held tenants t d)) none)
+
+-- ---- a tenant's repositories bound its counts
+
+module _ (tenants : List Tenant) (t : ℕ) (d : Text) where
+  -- the repositories of a tenant that hold a digest
+  abbrev holding : List (Link × ℕ) → List Text
+  holding es = map (λ (e : Link × ℕ). e.0.0) (filter (is_held tenants t d) es)
+
+  some_anyway : (b : Bool) (v : ℕ) (x : Option ℕ) → is_some x ≡ true → is_some (cond b (Some v) x) ≡ true
+  some_anyway true v x h = refl
+  some_anyway false v x h = h
+
+  -- each is the tenant's, and has a link
+  found : (es : List (Link × ℕ)) (r : Text) → is_member (eq_by_cmp text_cmp) (holding es) r ≡ true → (is_tenants tenants t r ≡ true) × (is_some (find link_cmp (r, d) es) ≡ true)
+  found [] r h = cc
+  found (e ∷ es) r h = by_held (is_held tenants t d e) refl h (found es r)
+    where
+      by_tie : (b : Bool) → eq_by_cmp text_cmp r e.0.0 ≡ b → is_held tenants t d e ≡ true → (b || is_member (eq_by_cmp text_cmp) (holding es) r) ≡ true →
+          (is_member (eq_by_cmp text_cmp) (holding es) r ≡ true → (is_tenants tenants t r ≡ true) × (is_some (find link_cmp (r, d) es) ≡ true)) → (is_tenants tenants t r ≡ true) × (is_some (find link_cmp (r, d) (e ∷ es)) ≡ true)
+      by_tie true tie held h rest =
+          let parts = and_parts (same_text e.0.1 d) (is_tenants tenants t e.0.0) held in
+          let itself : eq_by_cmp link_cmp e.0 e.0 ≡ true = ap is_eq (tied_itself link_cmp_total e.0) in
+          let is : eq_by_cmp link_cmp (r, d) e.0 ≡ true = (λ i. eq_by_cmp link_cmp (tied_text r e.0.0 tie i, sym (text_is_same e.0.1 d parts.0) i) e.0) ∙ itself in
+          (ap (is_tenants tenants t) (tied_text r e.0.0 tie) ∙ parts.1, ap (λ b. is_some (cond b (Some e.1) (find link_cmp (r, d) es))) is)
+      by_tie false tie held h rest = (let more = rest h in (more.0, some_anyway (eq_by_cmp link_cmp (r, d) e.0) e.1 (find link_cmp (r, d) es) more.1))
+
+      by_held : (b : Bool) → is_held tenants t d e ≡ b → is_member (eq_by_cmp text_cmp) (map (λ (e : Link × ℕ). e.0.0) (cond b (e ∷ filter (is_held tenants t d) es) (filter (is_held tenants t d) es))) r ≡ true →
+          (is_member (eq_by_cmp text_cmp) (holding es) r ≡ true → (is_tenants tenants t r ≡ true) × (is_some (find link_cmp (r, d) es) ≡ true)) → (is_tenants tenants t r ≡ true) × (is_some (find link_cmp (r, d) (e ∷ es)) ≡ true)
+      by_held true held h rest = by_tie (eq_by_cmp text_cmp r e.0.0) refl held h rest
+      by_held false held h rest = (let more = rest h in (more.0, some_anyway (eq_by_cmp link_cmp (r, d) e.0) e.1 (find link_cmp (r, d) es) more.1))
+
+  none_tied : (r : Text) (qs : List Text) → is_member (eq_by_cmp text_cmp) qs r ≡ false → AllByRecursion (λ q. eq_by_cmp text_cmp r q ≡ false) qs
+  none_tied r [] h = tt
+  none_tied r (q ∷ qs) h = by_tie (eq_by_cmp text_cmp r q) refl h (none_tied r qs)
+    where
+      by_tie : (b : Bool) → eq_by_cmp text_cmp r q ≡ b → (b || is_member (eq_by_cmp text_cmp) qs r) ≡ false → (is_member (eq_by_cmp text_cmp) qs r ≡ false → AllByRecursion (λ q. eq_by_cmp text_cmp r q ≡ false) qs) → AllByRecursion (λ q. eq_by_cmp text_cmp r q ≡ false) (q ∷ qs)
+      by_tie true tie h rest = absurd (true≢false h)
+      by_tie false tie h rest = (tie, rest h)
+
+  -- and none comes twice
+  distinct : (es : List (Link × ℕ)) → IsApart link_cmp es → IsDistinct (eq_by_cmp text_cmp) (holding es)
+  unfolding IsDistinct
+  distinct [] all = tt
+  distinct (e ∷ es) all = by_held (is_held tenants t d e) refl (distinct es all.1)
+    where
+      by_held : (b : Bool) → is_held tenants t d e ≡ b → IsDistinct (eq_by_cmp text_cmp) (holding es) → IsDistinct (eq_by_cmp text_cmp) (map (λ (e : Link × ℕ). e.0.0) (cond b (e ∷ filter (is_held tenants t d) es) (filter (is_held tenants t d) es)))
+      by_held true held rest =
+          let same = text_is_same e.0.1 d (and_parts (same_text e.0.1 d) (is_tenants tenants t e.0.0) held).0 in
+          (none_tied e.0.0 (holding es) (false_from_ne_true (is_member (eq_by_cmp text_cmp) (holding es) e.0.0) (λ h. true≢false (sym (found es e.0.0 h).1 ∙ ap (λ k. is_some (find link_cmp (e.0.0, k) es)) (sym same) ∙ ap is_some all.0))), rest)
+      by_held false held rest = rest
+
+  -- so there are at most as many as the tenant has repositories
+  pub held_within : (links : FinMap link_cmp ℕ) (repos : sets.Set text_cmp) → ((r : Text) → is_tenants tenants t r ≡ true → is_some (get links (r, d)) ≡ true → sets.contains repos r ≡ true) →
+      count_by (is_held tenants t d) (entries links) ≤ length (sets.items repos)
+  held_within links repos known =
+      let few : length (holding (entries links)) ≤ length (sets.items repos) = length-le_from_is_member (eq_by_cmp_equiv nat_list_cmp_total) (holding (entries links)) (sets.items repos)
+      (distinct (entries links) (IsApart-sorted link_cmp (entries links) (from_T (is_sorted link_cmp (entries links)) (entries_sorted links))))
+      (λ q h. (let f = found (entries links) q h in sym (contains_key-keys repos q) ∙ known q f.0 (ap is_some (get-entries links (q, d)) ∙ f.1))) in
+      let many : length (holding (entries links)) ≡ count_by (is_held tenants t d) (entries links) = length-map (filter (is_held tenants t d) (entries links)) (λ (e : Link × ℕ). e.0.0) ∙ length-filter (is_held tenants t d) (entries links) in
+      omega (arith, few, many)
+    where
+      from_T : (b : Bool) → T b → b ≡ true
+      from_T true h = refl
+      from_T false h = absurd h
+
+-- a tenant's count of a digest is at most the number of its repositories
+pub count_of-most : (tenants : List Tenant) (shelves : List Shelved) → IsShelved tenants shelves → (holders : tree.BTreeMap Holding ℕ) → Counts tenants (links_shown shelves) holders → (t : ℕ) (s : Shelved) → slice_get shelves t ≡ Some s → (d : Text) → count_of holders t d ≤ count s
+count_of-most tenants shelves shelved holders counts t s at d =
+    rw (counts t d) (held_within tenants t d (links_shown shelves) s.repos (λ r own there. shelved.known t s r d at (ap is_some (sym (links-there tenants shelves shelved t s at r own d)) ∙ there)))

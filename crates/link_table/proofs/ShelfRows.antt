@@ -13,7 +13,7 @@ use Rattle.std.specs.Map.{keys_of}
 use Rattle.std.specs.FinMap.{FinMap, find, get, entries, empty, from_entries, is_sorted, get-empty, get-from_entries}
 use Rattle.std.specs.FinMap.Entries.{below_all, put, where_key}
 use Rattle.std.proofs.lemmas.Bool.{and_from}
-use Rattle.std.proofs.lemmas.List.{length-map}
+use Rattle.std.proofs.lemmas.List.{length-map, length-set}
 use Rattle.std.proofs.lemmas.Map.Lookups.{exact_bytes}
 use Rattle.std.proofs.lemmas.Option.{slice_get_read}
 use Rattle.blob_digest.specs.Sets as sets
@@ -25,8 +25,8 @@ use Rattle.blob_digest.proofs.RowLemmas.{from_entries-remove, entries-empty}
 use Rattle.blob_digest.proofs.SortedRows.{IsApart-sorted, is_sorted-remove, entries-sorted, from_entries-put, is_sorted_put, gap, missing, put_at, found_at, map_at}
 use Rattle.blob_digest.proofs.Trees.{get_is}
 use Rattle.blob_digest.specs.Rows.{IsApart}
-use Rattle.link_table.specs.Shelves.{blobs_on}
-use Rattle.link_table.specs.Rows.{named, links_in, shelf_shown, IsInOrder}
+use Rattle.link_table.specs.Shelves.{blobs_on, count}
+use Rattle.link_table.specs.Rows.{named, links_in, shelf_shown, IsInOrder, AreRepos}
 use Rattle.link_table.specs.declared.repo.Repo.{Repo}
 use Rattle.link_table.proofs.Parts.{find_nowhere, find_in_part, find-set_part, where_key-agree, where_key-all}
 
@@ -88,6 +88,15 @@ pub names-set : (rows : List Repo) (i : ℕ) (row new : Repo) → slice_get rows
 names-set [] i row new at is = refl
 names-set (r ∷ rows) zero row new at is = (λ j. (is j, tt {0}) ∷ map named rows) ∙ ap (λ (x : Repo). named x ∷ map named rows) (sym (some_same at))
 names-set (r ∷ rows) (suc i) row new at is = ap (λ es. named r ∷ es) (names-set rows i row new at is)
+
+pub few-rows : (rows : List Repo) → AreRepos rows → count (shelf_shown rows) ≤ 1024
+few-rows rows are = (let few = are.few in omega (arith, count-rows rows are.order))
+
+pub AreRepos-set : (rows : List Repo) (i : ℕ) (row new : Repo) → slice_get rows i ≡ Some row → new.name ≡ row.name → AreRepos rows → AreRepos (set rows i new)
+AreRepos-set rows i row new at is are = record {
+  order = ap (is_sorted text_cmp) (names-set rows i row new at is) ∙ are.order;
+  few = (let few = are.few in omega (arith, length-set rows i new));
+}
 
 -- the row that a search found
 pub row_found : (rows : List Repo) (q : Text) (i : ℕ) (row : Repo) → i < length rows → HoldsAt (λ r. text_cmp r.name q ≡ Equal) rows i → row ≡ get_or rows i row → (slice_get rows i ≡ Some row) × (row.name ≡ q)

@@ -19,7 +19,7 @@ use Rattle.blob_digest.specs.declared.refusal.Refusal.TheVariants.{LimitReached}
 use Rattle.blob_digest.proofs.KeyOrders.{link_cmp_total, exact_link, tied_text}
 use Rattle.blob_digest.proofs.OptionLemmas.{some_same, some_none}
 use Rattle.blob_digest.proofs.RowLemmas.{entries-empty, no_tie}
-use Rattle.link_table.specs.Linked.{Linked, Tenant, is_tenants, appear, cannot_appear, vanish, HasNoLinks}
+use Rattle.link_table.specs.Linked.{Linked, Tenant, is_tenants, appear, cannot_appear, HasNoLinks}
 use Rattle.link_table.specs.Archive.{Archived}
 use Rattle.link_table.specs.Shelves.{Shelved, IsShelved, repos_shown, links_shown, appear_on, count, nothing}
 use Rattle.link_table.proofs.Shelves.{repos-there, links-there, repos-insert, repos-same, links-same, counted-there, IsShelved-set}

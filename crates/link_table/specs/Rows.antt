@@ -1,5 +1,5 @@
 -- What the rows of a tenant's repositories stand for, and what is kept of them.
-use Rattle.std.specs.Prelude.{◌≡◌, ℕ, List, map, true}
+use Rattle.std.specs.Prelude.{◌≡◌, ◌≤◌, ℕ, List, length, map, true}
 use Rattle.std.specs.List.{flat_map}
 use Rattle.std.specs.FinMap as fmap
 use Rattle.blob_digest.specs.Keys.{Text, Link, text_cmp}
@@ -21,3 +21,8 @@ shelf_shown rows = record { repos = fmap.from_entries (map named rows); links = 
 -- they stand in the order of their names
 abbrev pub IsInOrder : List Repo → Type 0
 IsInOrder rows = fmap.is_sorted text_cmp (map named rows) ≡ true
+
+-- and there are at most 1,024
+pub record AreRepos (rows : List Repo) : Type 0 where
+  pub order : IsInOrder rows
+  pub few : length rows ≤ 1024

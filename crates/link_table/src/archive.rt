@@ -47,8 +47,8 @@ impl Archive {
         }
     }
 
-    /// Keeps a manifest of a repository that had none so far. Refused are want of memory alone, and
-    /// then nothing has changed.
+    /// Keeps a manifest of a repository that had none so far. Refused is want of memory alone, and then
+    /// nothing has changed.
     fn put_first(
         &mut self,
         alloc: Global,

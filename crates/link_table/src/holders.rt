@@ -1,6 +1,6 @@
 //! How many repositories of each tenant hold each digest.
 
-ghost use Rattle.std.specs.Prelude.{◌≡◌, ℕ, ◌+◌, ◌-◌, ◌<◌, OnOk, OnErr, IfErr, if◌then◌else◌};
+ghost use Rattle.std.specs.Prelude.{◌≡◌, ℕ, ◌+◌, ◌-◌, ◌<◌, ◌^◌, OnOk, OnErr, IfErr, if◌then◌else◌};
 ghost use Rattle.blob_digest.specs.Keys.{Text};
 ghost use Rattle.blob_digest.specs.declared.refusal.Refusal.TheVariants.{Memory};
 ghost use Rattle.link_table.specs.Holders.{count_of, is_key};
@@ -19,15 +19,14 @@ pub fn holders_of(holders: &Holders, tenant: u16, digest: &Digest) -> u64
 }
 
 /// One more repository of a tenant holds a digest. Refused is want of memory alone, and then nothing
-/// has changed. So many repositories that their number doesn't fit would want more than there is.
+/// has changed.
 pub fn raise(holders: &mut Holders, tenant: u16, digest: &Digest) -> Result<(), Refusal>
+    requires { count_of holders.old tenant digest.now + 1 < 2 ^ 64 }
     ensures ok { OnOk result ((t : ℕ) (d : Text) → count_of holders.new t d ≡ count_of holders.old t d + (if is_key tenant digest.now t d then 1 else 0)) }
     ensures err { OnErr result ((t : ℕ) (d : Text) → count_of holders.new t d ≡ count_of holders.old t d) }
     ensures refused { IfErr result (λ e. e ≡ Memory) }
 {
-    let Some(count) = holders_of(holders, tenant, digest).checked_add(1) else {
-        return Err(Refusal::Memory);
-    };
+    let count = holders_of(holders, tenant, digest) + 1;
     holders.insert((tenant, *digest), count)?;
     Ok(())
 }

@@ -23,14 +23,16 @@ use std::collections::BTreeMap;
 use std::marker::Model;
 use std::sync::Arc;
 
-/// Tenants with quotas, their repositories, the links of repositories to blobs, and what each tenant
-/// is charged. Contracts see these four; what a tenant uses follows from them.
+/// Tenants with quotas, their repositories, the links of repositories to blobs, the manifests of
+/// repositories, and what each tenant is charged. Contracts see these five; what a tenant uses follows
+/// from them.
 ///
 /// Tenants are numbered from 0 in the order of their names. Sizes, quotas, charges and uses are in
 /// bytes. Each tenant has its repositories in the order of their names, and each repository its blobs
-/// in an ordered map: every call takes at most the logarithm of what the table holds, and one that
-/// adds or removes a repository moves the tenant's, at most 1,024. The table counts for each tenant
-/// and digest how many repositories hold it.
+/// in an ordered map and its manifests in another. To find a repository takes the logarithm of the
+/// numbers of tenants and of the tenant's repositories, and one that comes or goes moves those of its
+/// tenant behind it, at most 1,024. The table counts for each tenant and digest how many repositories
+/// hold it, and finds a count in the logarithm of their number.
 #[derive(Drop)]
 pub struct Links {
     alloc: Global,
@@ -184,7 +186,8 @@ impl Links {
         self.shelves[tenant as usize].appear(self.alloc, repo)
     }
 
-    /// Takes back that a repository of a tenant, which has no links, is known.
+    /// Takes back that a repository of a tenant, which has no links, is known. It takes no memory, and as
+    /// long as `appear`.
     pub fn vanish(&mut self, tenant: u16, repo: &RepoName)
         requires own { is_tenants self.old.tenants tenant repo.now ≡ true }
         requires there { set.contains self.old.repos repo.now ≡ true }
@@ -195,7 +198,8 @@ impl Links {
     }
 
     /// Links a blob of this digest and size in a repository of a tenant, and answers whether the
-    /// link is new. Want of memory is refused. It takes the logarithm of the number of links.
+    /// link is new. Want of memory is refused. Beside finding the repository and the count of those that
+    /// hold the digest, it takes the logarithm of the number of the repository's blobs.
     pub fn link(
         &mut self,
         tenant: u16,
@@ -224,7 +228,7 @@ impl Links {
         Ok(true)
     }
 
-    /// Takes a link out of a repository of a tenant. It takes the logarithm of the number of links.
+    /// Takes a link out of a repository of a tenant. It takes no memory, and as long as `link`.
     pub fn unlink(&mut self, tenant: u16, repo: &RepoName, digest: &Digest)
         requires there { tenant < length self.old.tenants }
         requires own { is_tenants self.old.tenants tenant repo.now ≡ true }
@@ -245,7 +249,8 @@ impl Links {
         }
     }
 
-    /// Whether a repository holds the blob of a digest. It takes the logarithm of the number of links.
+    /// Whether a repository holds the blob of a digest. Beside finding the repository, it takes the
+    /// logarithm of the number of its blobs.
     pub fn holds(&self, repo: &RepoName, digest: &Digest) -> bool
         ensures { result ≡ fmap.contains_key self.now.links (repo.now, digest.now) }
     {
@@ -255,8 +260,7 @@ impl Links {
         }
     }
 
-    /// Whether some repository of a tenant holds the blob of a digest. It takes the logarithm of the
-    /// number of digests that are linked.
+    /// Whether some repository of a tenant holds the blob of a digest: whether its count isn't 0.
     pub fn tenant_holds(&self, tenant: u16, digest: &Digest) -> bool
         requires { tenant < length self.now.tenants }
         ensures { result ≡ fmap.contains_key (blobs_of self.now tenant) digest.now }
@@ -286,8 +290,19 @@ impl Links {
         }
     }
 
-    /// Keeps a manifest of a repository under its digest. One that is there already stays. Refused are
-    /// one beyond 1,024 (`LimitReached`), and want of memory; nothing has changed then.
+    /// The i-th blob that a repository holds, from 0, with its size in bytes. It takes i steps: to read
+    /// all of them use `blobs`.
+    pub fn blob_at(&self, repo: &RepoName, i: usize) -> Option<(Digest, u64)>
+        ensures { result ≡ slice_get (blobs_in self.now repo.now) i }
+    {
+        self.blobs(repo).nth(i)
+    }
+
+    /// Keeps a manifest of a repository under its digest, and shares its bytes. One that is there already
+    /// stays, and is accepted also where the repository has 1,024. Refused are one beyond 1,024
+    /// (`LimitReached`), and want of memory; nothing has changed then. It takes the logarithm of the
+    /// numbers of repositories that have had manifests and of the repository's manifests, and for each
+    /// reference that of the number of the repository's references.
     pub fn put_manifest(
         &mut self,
         repo: &RepoName,
@@ -298,21 +313,24 @@ impl Links {
         self.manifests.put(self.alloc, repo, manifest)
     }
 
-    /// Drops the manifest of a digest, if the repository has it. It takes no memory.
+    /// Drops the manifest of a digest, if the repository has it. It takes no memory, and as long as
+    /// `put_manifest`.
     pub fn drop_manifest(&mut self, repo: &RepoName, digest: &Digest)
         ensures { self.new ≡ drop_manifest self.old repo.now digest.now }
     {
         self.manifests.remove(repo, digest);
     }
 
-    /// The manifest of a digest that a repository has.
+    /// The manifest of a digest that a repository has. It takes the logarithm of the numbers of
+    /// repositories that have had manifests and of the repository's manifests, and copies no bytes.
     pub fn manifest(&self, repo: &RepoName, digest: &Digest) -> Option<&Arc<Manifest, Global>>
         ensures { option_map (λ m. m.now.value) result ≡ fmap.get self.now.manifests (repo.now, digest.now) }
     {
         self.manifests.get(repo, digest)
     }
 
-    /// The least digest of a manifest of a repository that refers to a digest.
+    /// The least digest of a manifest of a repository that refers to a digest. It takes the logarithm of
+    /// the numbers of repositories that have had manifests and of the repository's references.
     pub fn referrer(&self, repo: &RepoName, digest: &Digest) -> Option<Digest>
         ensures { result ≡ referrer_on self.now.manifests repo.now digest.now }
     {
@@ -325,5 +343,13 @@ impl Links {
         ensures { result ≡ manifests_on self.now.manifests repo.now }
     {
         self.manifests.manifests(repo)
+    }
+
+    /// The i-th manifest that a repository has, from 0, with its digest. It takes i steps: to read all
+    /// of them use `manifests`.
+    pub fn manifest_at(&self, repo: &RepoName, i: usize) -> Option<(Digest, &Manifest)>
+        ensures { option_map (λ e. (e.0, e.1.now)) result ≡ slice_get (manifests_on self.now.manifests repo.now) i }
+    {
+        self.manifests(repo).nth(i)
     }
 }

@@ -50,9 +50,9 @@ fn refer(referrers: &mut Referrers, refs: &[Digest], manifest: &Digest) -> Resul
     Ok(())
 }
 
-/// The manifests of a repository, by digest. Contracts see the bytes of each. To find one, to add or
-/// to drop one and to find one that refers to a digest each take the logarithm of their number, for
-/// each reference of a manifest that is added or dropped.
+/// The manifests of a repository, by digest. Contracts see the bytes of each. To find one takes the
+/// logarithm of their number, and to find one that refers to a digest that of the number of all their
+/// references; to add or to drop one takes the first once and the second for each of its references.
 #[derive(Drop)]
 pub struct RepoManifests {
     rows: BTreeMap<Digest, Arc<Manifest, Global>>,

@@ -1,13 +1,13 @@
 //! The repositories of one tenant.
 
-ghost use Rattle.std.specs.Prelude.{◌≡◌, OnOk, OnErr, IfErr, Some, true, slice_get, []};
+ghost use Rattle.std.specs.Prelude.{◌≡◌, ◌≤◌, OnOk, OnErr, IfErr, Some, true, slice_get, []};
 ghost use Rattle.std.specs.Option.{option_copied, option_map_or};
 ghost use Rattle.std.specs.FinMap as fmap;
 ghost use Rattle.blob_digest.specs.Sets as set;
 ghost use Rattle.blob_digest.specs.Outcomes.{Does};
 ghost use Rattle.blob_digest.specs.declared.refusal.Refusal.TheVariants.{Memory};
 ghost use Rattle.link_table.specs.Linked.{HasNoLinks};
-ghost use Rattle.link_table.specs.Shelves.{nothing, appear_on, blobs_on};
+ghost use Rattle.link_table.specs.Shelves.{count, nothing, appear_on, blobs_on};
 
 use crate::repo::{Repo, hold, place_of, release};
 use blob_digest::{Digest, Refusal, RepoName};
@@ -34,11 +34,11 @@ impl Model for Shelf {
 
     ghost coded = { coded_shelved };
 
-    ghost use Rattle.link_table.specs.Rows.{shelf_shown, IsInOrder};
+    ghost use Rattle.link_table.specs.Rows.{shelf_shown, AreRepos};
 
     ghost view = { λ a. shelf_shown a.repos.items };
 
-    ghost invariant = { λ a. IsInOrder a.repos.items };
+    ghost invariant = { λ a. AreRepos a.repos.items };
 }
 
 impl Shelf {
@@ -111,7 +111,8 @@ impl Shelf {
 
     /// Whether a repository holds the blob of a digest.
     pub fn holds(&self, repo: &RepoName, digest: &Digest) -> bool
-        ensures { result ≡ fmap.contains_key self.now.links (repo.now, digest.now) }
+        ensures held { result ≡ fmap.contains_key self.now.links (repo.now, digest.now) }
+        ensures few { count self.now ≤ 1024 }
     {
         match place_of(self.repos.as_slice(), repo) {
             Ok(place) => self.repos[place].blobs.contains_key(digest),

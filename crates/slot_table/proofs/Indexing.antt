@@ -110,7 +110,7 @@ pub finds-placed : (slots : List Slot) (k : ℕ) (old : Slot) (blob : Text × Te
     ((d : Text) → tree.get text_cmp into d ≡ cond (tree.is_at (text_cmp blob.0) d) (Some k) (tree.get text_cmp index d)) → Finds slots index → Finds (set slots k (fill blob old)) into
 finds-placed slots k old blob index into distinct lt empty is finds d =
     let new : Slot = fill blob old in
-    let held : Held = record { digest = blob.0; bytes = blob.1; condemned = false; links = 0 } in
+    let held : Held = record { digest = blob.0; bytes = blob.1; condemned = false; lent = false; links = 0 } in
     is d ∙ elim (tells blob.0 d) [
       | inl a ↦ rw a.0 (sym (slot_of_held (set slots k new) d distinct k held (held_at-set_same slots k new lt) a.1))
       | inr b ↦

@@ -7,7 +7,7 @@ use Rattle.slot_table.specs.declared.row.Cell.TheVariants as cell
 
 -- the blob that a used row holds
 abbrev pub held_shown : Filled → Held
-held_shown f = record { digest = f.blob.value.0; bytes = f.blob.value.1; condemned = f.condemned; links = f.links }
+held_shown f = record { digest = f.blob.value.0; bytes = f.blob.value.1; condemned = f.condemned; lent = f.lent; links = f.links }
 
 -- what a cell holds
 abbrev pub content_shown : Cell → Content

@@ -7,11 +7,12 @@ use Rattle.blob_digest.specs.declared.refusal.Refusal.TheVariants.{LimitReached}
 use Rattle.slot_table.specs.declared.phase.Phase.{Phase}
 use Rattle.slot_table.specs.declared.phase.Phase.TheVariants as phase
 
--- a blob that a slot holds, whether it is condemned, and how many repositories link it
+-- a blob that a slot holds, whether it is condemned, whether it was lent since it was stored, and how many repositories link it
 pub record Held : Type 0 where
   pub digest : Text
   pub bytes : Text
   pub condemned : Bool
+  pub lent : Bool
   pub links : ℕ
 
 -- what a slot holds
@@ -101,7 +102,7 @@ opening slots first = if nat_le 1 slots && nat_le slots 65536 then Ok (replicate
 
 -- the slot holds a blob, live and without links
 abbrev pub fill : Text × Text → Slot → Slot
-fill blob s = record s { content = Used (record { digest = blob.0; bytes = blob.1; condemned = false; links = 0 }) }
+fill blob s = record s { content = Used (record { digest = blob.0; bytes = blob.1; condemned = false; lent = false; links = 0 }) }
 
 -- what a slot holds, changed where it is a blob
 abbrev pub content_with : (Held → Held) → Content → Content
@@ -120,6 +121,10 @@ raise h = record h { links = h.links + 1 }
 -- one link less
 abbrev pub lower : Held → Held
 lower h = record h { links = h.links - 1 }
+
+-- lent
+abbrev pub lend : Held → Held
+lend h = record h { lent = true }
 
 -- condemned, or live again
 abbrev pub mark : Bool → Held → Held

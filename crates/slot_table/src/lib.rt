@@ -9,8 +9,9 @@ mod phase;
 mod row;
 mod table;
 
+pub use blob_digest::MAX_SLOTS;
 pub use phase::Phase;
-pub use table::{MAX_SLOTS, SlotTable};
+pub use table::SlotTable;
 
 #[cfg(test)]
 mod tests;

@@ -2,7 +2,7 @@
 
 ghost use Rattle.std.specs.Prelude.{◌≡◌, ◌+◌, ◌<◌, ◌^◌};
 ghost use Rattle.std.specs.Option.{option_map};
-ghost use Rattle.slot_table.specs.Slots.{empty_slot, held_in, is_orphan, phase_in, links_in, fill, on_held, raise, lower, mark, emptied, spent};
+ghost use Rattle.slot_table.specs.Slots.{empty_slot, held_in, is_orphan, phase_in, links_in, fill, on_held, raise, lower, lend, mark, emptied, spent};
 
 use crate::phase::Phase;
 use blob_digest::Blob;
@@ -15,6 +15,7 @@ use std::sync::Arc;
 pub struct Filled {
     blob: Arc<Blob, Global>,
     condemned: bool,
+    lent: bool,
     links: u32,
 }
 
@@ -110,6 +111,7 @@ impl Row {
         self.cell = Cell::Used(Filled {
             blob,
             condemned: false,
+            lent: false,
             links: 0,
         });
     }
@@ -131,6 +133,15 @@ impl Row {
     {
         if let Cell::Used(filled) = &mut self.cell {
             filled.links -= 1;
+        }
+    }
+
+    /// The slot's blob was lent.
+    pub fn lend(&mut self)
+        ensures { self.new ≡ on_held lend self.old }
+    {
+        if let Cell::Used(filled) = &mut self.cell {
+            filled.lent = true;
         }
     }
 

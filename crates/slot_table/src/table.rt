@@ -7,19 +7,16 @@ ghost use Rattle.std.specs.BTreeMap as tree;
 ghost use Rattle.blob_digest.specs.Keys.{Text, text_cmp};
 ghost use Rattle.blob_digest.specs.Outcomes.{Answers};
 ghost use Rattle.blob_digest.specs.declared.refusal.Refusal.TheVariants.{Memory, StoreFull};
-ghost use Rattle.slot_table.specs.Slots.{slot_of, held_at, phase_at, links_at, generation_at, free_slots, empty_slot, is_orphan, orphan_from, has_digest, opening, with_slot, fill, on_held, raise, lower, mark, emptied, spent, IsDistinct, IsUnlinked};
+ghost use Rattle.slot_table.specs.Slots.{slot_of, held_at, phase_at, links_at, generation_at, free_slots, empty_slot, is_orphan, orphan_from, has_digest, opening, with_slot, fill, on_held, raise, lower, lend, mark, emptied, spent, IsDistinct, IsUnlinked};
 ghost use Rattle.slot_table.specs.declared.phase.Phase.TheVariants as phase;
 
 use crate::phase::Phase;
 use crate::row::Row;
-use blob_digest::{Blob, Digest, Refusal};
+use blob_digest::{Blob, Digest, MAX_SLOTS, Refusal};
 use std::alloc::{AllocError, Global};
 use std::collections::BTreeMap;
 use std::marker::Model;
 use std::sync::Arc;
-
-/// The most slots that a table has.
-pub const MAX_SLOTS: u32 = 65_536;
 
 /// The slots of a store, 1 to 65,536, each with its generation and what it holds. Contracts see
 /// the list of the slots. No digest has two slots, and a condemned blob has no links.
@@ -148,7 +145,7 @@ impl SlotTable {
         self.rows[slot as usize].phase()
     }
 
-    /// A slot's generation: the first one plus how often the slot was freed.
+    /// A slot's generation: it counts on from the first one, by one each time the slot is freed.
     pub fn generation(&self, slot: u32) -> u32
         requires { slot < length self.now }
         ensures { result ≡ generation_at self.now slot }
@@ -237,6 +234,14 @@ impl SlotTable {
         ensures { self.new ≡ with_slot self.old slot (on_held lower) }
     {
         self.rows[slot as usize].lower_links();
+    }
+
+    /// Marks a live blob as lent. The mark stays as long as the slot holds the blob.
+    pub fn lend(&mut self, slot: u32)
+        requires { phase_at self.old slot ≡ phase.Live }
+        ensures { self.new ≡ with_slot self.old slot (on_held lend) }
+    {
+        self.rows[slot as usize].lend();
     }
 
     /// Condemns a live blob without links.

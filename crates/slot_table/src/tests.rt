@@ -1,6 +1,7 @@
 use crate::{Phase, SlotTable};
 use blob_digest::{Algorithm, Blob, Digest, Refusal, Running};
-use std::alloc::Global;
+use std::alloc::{AllocGlobal, Global};
+use std::process::Abort;
 
 fn digest_of(bytes: &[u8]) -> Digest {
     Digest::of(Algorithm::Sha256, bytes)
@@ -17,156 +18,198 @@ fn blob_of(alloc: Global, bytes: &[u8]) -> Option<Blob> {
     Blob::seal(kept, running, &digest).ok()
 }
 
-/// A table with blobs of these bytes, placed one after another.
-fn table_of(alloc: Global, slots: u32, first_generation: u32, all: &[&[u8]]) -> Option<SlotTable> {
-    let mut table = SlotTable::new(alloc, slots, first_generation).ok()?;
-    for bytes in all {
-        let blob = blob_of(alloc, bytes)?;
-        if table.find(&blob.digest()).is_some() {
-            return None;
-        }
-        if table.place(blob).is_err() {
-            return None;
-        }
+/// Places the blob of some bytes; false where it can't be placed.
+fn place(alloc: Global, table: &mut SlotTable, bytes: &[u8]) -> bool {
+    let Some(blob) = blob_of(alloc, bytes) else {
+        return false;
+    };
+    if table.find(&blob.digest()).is_some() {
+        return false;
     }
-    Some(table)
+    table.place(blob).is_ok()
+}
+
+/// The number of the slot that holds a blob of these bytes.
+fn slot_of(table: &SlotTable, bytes: &[u8]) -> Option<u32> {
+    let slot = table.find(&digest_of(bytes))?;
+    if slot >= table.len() {
+        return None;
+    }
+    let blob = table.blob(slot)?;
+    if blob.bytes() == bytes && blob.digest() == digest_of(bytes) {
+        Some(slot)
+    } else {
+        None
+    }
+}
+
+/// A call on a table, each but the first on slot 0.
+#[derive(Clone, Copy)]
+enum Step {
+    Place,
+    LinkUp,
+    LinkDown,
+    Condemn,
+    Revive,
+    Free,
+    Retire,
+}
+
+fn link_up(table: &mut SlotTable) -> bool {
+    if 0 < table.len() && table.phase(0) == Phase::Live && table.links(0) < u32::MAX {
+        table.link_up(0);
+        return true;
+    }
+    false
+}
+
+fn link_down(table: &mut SlotTable) -> bool {
+    if 0 < table.len() && table.phase(0) == Phase::Live && table.links(0) > 0 {
+        table.link_down(0);
+        return true;
+    }
+    false
+}
+
+fn condemn(table: &mut SlotTable, slot: u32) -> bool {
+    if slot < table.len() && table.phase(slot) == Phase::Live && table.links(slot) == 0 {
+        table.condemn(slot);
+        return true;
+    }
+    false
+}
+
+fn revive(table: &mut SlotTable) -> bool {
+    if 0 < table.len() && table.phase(0) == Phase::Condemned {
+        table.revive(0);
+        return true;
+    }
+    false
+}
+
+fn free(table: &mut SlotTable, slot: u32) -> bool {
+    if slot < table.len()
+        && table.phase(slot) == Phase::Condemned
+        && table.generation(slot) < u32::MAX
+    {
+        table.free(slot);
+        return true;
+    }
+    false
+}
+
+fn retire(table: &mut SlotTable) -> bool {
+    if 0 < table.len() && table.phase(0) == Phase::Condemned {
+        table.retire(0);
+        return true;
+    }
+    false
+}
+
+/// Makes a call, where it may be made.
+fn goes(alloc: Global, table: &mut SlotTable, step: Step) -> bool {
+    match step {
+        Step::Place => place(alloc, table, b"abc"),
+        Step::LinkUp => link_up(table),
+        Step::LinkDown => link_down(table),
+        Step::Condemn => condemn(table, 0),
+        Step::Revive => revive(table),
+        Step::Free => free(table, 0),
+        Step::Retire => retire(table),
+    }
+}
+
+/// Finds what slot 0 is, and whether it is the one free slot or the orphan.
+fn shows(
+    rt: &impl Abort,
+    table: &SlotTable,
+    phase: Phase,
+    generation: u32,
+    links: u32,
+    is_orphan: bool,
+) {
+    assert!(rt; 0 < table.len());
+    assert_eq!(rt; table.phase(0), phase);
+    assert_eq!(rt; table.generation(0), generation);
+    assert_eq!(rt; table.links(0), links);
+    assert_eq!(rt; table.orphans_from(0).is_some(), is_orphan);
+    assert_eq!(rt; table.free_count() == 1, phase == Phase::Free);
+}
+
+#[test]
+fn a_slot_goes_through_its_phases(rt: HostRuntime) {
+    let alloc = rt.alloc();
+    let last = u32::MAX;
+    let mut table = SlotTable::new(alloc, 1, last - 1).expect(&rt, "memory");
+    for (step, phase, generation, links, is_orphan) in [
+        (Step::Place, Phase::Live, last - 1, 0, true),
+        (Step::LinkUp, Phase::Live, last - 1, 1, false),
+        (Step::LinkUp, Phase::Live, last - 1, 2, false),
+        (Step::LinkDown, Phase::Live, last - 1, 1, false),
+        (Step::LinkDown, Phase::Live, last - 1, 0, true),
+        (Step::Condemn, Phase::Condemned, last - 1, 0, true),
+        (Step::Revive, Phase::Live, last - 1, 0, true),
+        (Step::Condemn, Phase::Condemned, last - 1, 0, true),
+        (Step::Free, Phase::Free, last, 0, false),
+        (Step::Place, Phase::Live, last, 0, true),
+        (Step::Condemn, Phase::Condemned, last, 0, true),
+        (Step::Retire, Phase::Retired, last, 0, false),
+    ] {
+        assert!(rt; goes(alloc, &mut table, step));
+        shows(&rt, &table, phase, generation, links, is_orphan);
+        let is_held = slot_of(&table, b"abc").is_some();
+        assert_eq!(rt; is_held, phase == Phase::Live || phase == Phase::Condemned);
+    }
+}
+
+/// Why no table of so many slots is made.
+fn refused(alloc: Global, slots: u32) -> Option<Refusal> {
+    SlotTable::new(alloc, slots, 0).err()
 }
 
 #[test]
 fn the_number_of_slots_has_limits(rt: HostRuntime) {
     let alloc = rt.alloc();
-    assert_eq!(rt;
-        SlotTable::new(alloc, 0, 0).err(),
-        Some(Refusal::LimitReached)
-    );
-    assert_eq!(rt;
-        SlotTable::new(alloc, 65537, 0).err(),
-        Some(Refusal::LimitReached)
-    );
-    let table = SlotTable::new(alloc, 65536, 7).expect(&rt, "memory");
-    assert_eq!(rt; table.len(), 65536);
-    assert_eq!(rt; table.free_count(), 65536);
-    assert_eq!(rt; table.generation(65535), 7);
-    assert_eq!(rt; table.phase(65535), Phase::Free);
-}
-
-#[test]
-fn a_placed_blob_is_found(rt: HostRuntime) {
-    let alloc = rt.alloc();
-    let table = table_of(alloc, 3, 5, &[b"abc", b"{}"]).expect(&rt, "memory");
-    let slot = table.find(&digest_of(b"{}")).expect(&rt, "a slot");
-    assert!(rt; table.find(&digest_of(b"")).is_none());
-    assert_eq!(rt; table.free_count(), 1);
-    if slot < table.len() {
-        assert_eq!(rt; table.phase(slot), Phase::Live);
-        assert_eq!(rt; table.generation(slot), 5);
-        assert_eq!(rt; table.links(slot), 0);
-        let blob = table.blob(slot).expect(&rt, "a blob");
-        assert_eq!(rt; blob.bytes(), b"{}".as_slice());
-        assert!(rt; blob.digest() == digest_of(b"{}"));
+    for (slots, refusal) in [
+        (0, Some(Refusal::LimitReached)),
+        (1, None),
+        (65536, None),
+        (65537, Some(Refusal::LimitReached)),
+    ] {
+        assert_eq!(rt; refused(alloc, slots), refusal);
     }
 }
 
-#[test]
-fn links_are_counted(rt: HostRuntime) {
-    let alloc = rt.alloc();
-    let mut table = table_of(alloc, 1, 0, &[b"abc"]).expect(&rt, "memory");
-    let slot = table.find(&digest_of(b"abc")).expect(&rt, "a slot");
-    assert_eq!(rt; table.orphans_from(0), Some(slot));
-    assert!(rt; slot < table.len());
-    if table.phase(slot) == Phase::Live && table.links(slot) == 0 {
-        table.link_up(slot);
+/// Finds that a table without a free slot hands the blob of some bytes back.
+fn hands_back(rt: &(impl Abort + AllocGlobal), table: &mut SlotTable, bytes: &[u8]) {
+    let blob = blob_of(rt.alloc(), bytes).expect(rt, "memory");
+    assert!(rt; table.find(&blob.digest()).is_none());
+    match table.place(blob) {
+        Ok(_) => panic!(rt; "placed"),
+        Err((refusal, blob)) => {
+            assert_eq!(rt; refusal, Refusal::StoreFull);
+            assert_eq!(rt; blob.bytes(), bytes);
+        }
     }
-    assert!(rt; slot < table.len());
-    assert_eq!(rt; table.links(slot), 1);
-    assert_eq!(rt; table.orphans_from(0), None);
-    if table.phase(slot) == Phase::Live && table.links(slot) > 0 {
-        table.link_down(slot);
-    }
-    assert!(rt; slot < table.len());
-    assert_eq!(rt; table.links(slot), 0);
-}
-
-#[test]
-fn a_condemned_slot_is_revived(rt: HostRuntime) {
-    let alloc = rt.alloc();
-    let mut table = table_of(alloc, 2, 0, &[b"abc"]).expect(&rt, "memory");
-    let slot = table.find(&digest_of(b"abc")).expect(&rt, "a slot");
-    assert!(rt; slot < table.len());
-    if table.phase(slot) == Phase::Live && table.links(slot) == 0 {
-        table.condemn(slot);
-    }
-    assert!(rt; slot < table.len());
-    assert_eq!(rt; table.phase(slot), Phase::Condemned);
-    if table.phase(slot) == Phase::Condemned {
-        table.revive(slot);
-    }
-    assert!(rt; slot < table.len());
-    assert_eq!(rt; table.phase(slot), Phase::Live);
-    assert_eq!(rt; table.links(slot), 0);
-}
-
-#[test]
-fn a_condemned_slot_is_freed(rt: HostRuntime) {
-    let alloc = rt.alloc();
-    let mut table = table_of(alloc, 2, 0, &[b"abc"]).expect(&rt, "memory");
-    let slot = table.find(&digest_of(b"abc")).expect(&rt, "a slot");
-    free_all(&mut table);
-    assert!(rt; slot < table.len());
-    assert_eq!(rt; table.phase(slot), Phase::Free);
-    assert_eq!(rt; table.generation(slot), 1);
-    assert_eq!(rt; table.free_count(), 2);
-    assert!(rt; table.blob(slot).is_none());
-    assert!(rt; table.find(&digest_of(b"abc")).is_none());
-}
-
-#[test]
-fn a_slot_is_retired(rt: HostRuntime) {
-    let alloc = rt.alloc();
-    let mut table = table_of(alloc, 1, u32::MAX, &[b"abc"]).expect(&rt, "memory");
-    let slot = table.find(&digest_of(b"abc")).expect(&rt, "a slot");
-    assert!(rt; slot < table.len());
-    if table.phase(slot) == Phase::Live && table.links(slot) == 0 {
-        table.condemn(slot);
-    }
-    assert!(rt; slot < table.len());
-    if table.phase(slot) == Phase::Condemned {
-        table.retire(slot);
-    }
-    assert!(rt; slot < table.len());
-    assert_eq!(rt; table.phase(slot), Phase::Retired);
-    assert_eq!(rt; table.generation(slot), u32::MAX);
-    assert_eq!(rt; table.free_count(), 0);
 }
 
 #[test]
 fn a_full_table_hands_the_blob_back(rt: HostRuntime) {
     let alloc = rt.alloc();
-    let mut table = table_of(alloc, 1, 0, &[b"abc"]).expect(&rt, "memory");
-    let blob = blob_of(alloc, b"{}").expect(&rt, "memory");
-    if table.find(&blob.digest()).is_none() {
-        match table.place(blob) {
-            Ok(_) => panic!(rt; "placed"),
-            Err((refusal, blob)) => {
-                assert_eq!(rt; refusal, Refusal::StoreFull);
-                assert_eq!(rt; blob.bytes(), b"{}".as_slice());
-            }
-        }
+    let mut table = SlotTable::new(alloc, 2, 5).expect(&rt, "memory");
+    for bytes in ["abc", "{}"] {
+        assert!(rt; place(alloc, &mut table, bytes.as_bytes()));
     }
-    assert!(rt; table.find(&digest_of(b"{}")).is_none());
-    assert_eq!(rt; table.free_count(), 0);
+    hands_back(&rt, &mut table, b"x");
+    for (bytes, is_held) in [("abc", true), ("{}", true), ("x", false), ("", false)] {
+        assert_eq!(rt; slot_of(&table, bytes.as_bytes()).is_some(), is_held);
+    }
 }
 
 /// Places the blobs of so many numbers, from a first one on; false where one can't be placed.
 fn place_numbers(alloc: Global, table: &mut SlotTable, first: u32, count: u32) -> bool {
     for further in 0..count {
-        let Some(blob) = blob_of(alloc, &first.wrapping_add(further).to_be_bytes()) else {
-            return false;
-        };
-        if table.find(&blob.digest()).is_some() {
-            return false;
-        }
-        if table.place(blob).is_err() {
+        if !place(alloc, table, &first.wrapping_add(further).to_be_bytes()) {
             return false;
         }
     }
@@ -178,14 +221,8 @@ fn found_numbers(table: &SlotTable, first: u32, count: u32) -> u32 {
     let mut found = 0u32;
     for further in 0..count {
         let bytes = first.wrapping_add(further).to_be_bytes();
-        if let Some(slot) = table.find(&digest_of(&bytes)) {
-            if slot < table.len() {
-                if let Some(blob) = table.blob(slot) {
-                    if blob.bytes() == bytes.as_slice() {
-                        found = found.saturating_add(1);
-                    }
-                }
-            }
+        if slot_of(table, &bytes).is_some() {
+            found = found.saturating_add(1);
         }
     }
     found
@@ -194,13 +231,8 @@ fn found_numbers(table: &SlotTable, first: u32, count: u32) -> u32 {
 /// Condemns and frees each slot that is live and has no links.
 fn free_all(table: &mut SlotTable) {
     for slot in 0..table.len() {
-        if slot < table.len() {
-            if table.phase(slot) == Phase::Live && table.links(slot) == 0 {
-                table.condemn(slot);
-                if table.generation(slot) < u32::MAX {
-                    table.free(slot);
-                }
-            }
+        if condemn(table, slot) {
+            let _ = free(table, slot);
         }
     }
 }
@@ -216,22 +248,24 @@ fn slots_of(table: &SlotTable, phase: Phase, generation: u32) -> u32 {
     found
 }
 
+/// Finds that the slots of a table are of this phase and generation, and hold so many of the first
+/// thousand numbers and of the second.
+fn holds(rt: &impl Abort, table: &SlotTable, phase: Phase, generation: u32, numbers: (u32, u32)) {
+    assert_eq!(rt; slots_of(table, phase, generation), 1000);
+    assert_eq!(rt; table.free_count() == 1000, phase == Phase::Free);
+    assert_eq!(rt; found_numbers(table, 0, 1000), numbers.0);
+    assert_eq!(rt; found_numbers(table, 1000, 1000), numbers.1);
+}
+
 #[test]
 fn a_thousand_slots_are_filled_and_freed_and_filled_again(rt: HostRuntime) {
     let alloc = rt.alloc();
     let mut table = SlotTable::new(alloc, 1000, 0).expect(&rt, "memory");
     assert!(rt; place_numbers(alloc, &mut table, 0, 1000));
-    assert_eq!(rt; table.free_count(), 0);
-    assert_eq!(rt; slots_of(&table, Phase::Live, 0), 1000);
-    assert_eq!(rt; found_numbers(&table, 0, 1000), 1000);
+    holds(&rt, &table, Phase::Live, 0, (1000, 0));
     assert!(rt; !place_numbers(alloc, &mut table, 1000, 1));
     free_all(&mut table);
-    assert_eq!(rt; table.free_count(), 1000);
-    assert_eq!(rt; slots_of(&table, Phase::Free, 1), 1000);
-    assert_eq!(rt; found_numbers(&table, 0, 1000), 0);
+    holds(&rt, &table, Phase::Free, 1, (0, 0));
     assert!(rt; place_numbers(alloc, &mut table, 1000, 1000));
-    assert_eq!(rt; table.free_count(), 0);
-    assert_eq!(rt; slots_of(&table, Phase::Live, 1), 1000);
-    assert_eq!(rt; found_numbers(&table, 0, 1000), 0);
-    assert_eq!(rt; found_numbers(&table, 1000, 1000), 1000);
+    holds(&rt, &table, Phase::Live, 1, (0, 1000));
 }

@@ -62,6 +62,5 @@ module _ (l : Linked) (u : Uploaded) (slots : List Slot) (max_blob t number : �
             sound = Sound-after_abandon C (book_catalog l1 u1 slots max_blob) repo number n abandoned book.sound;
             tied = record { marks = book.tied.marks; distinct = book.tied.distinct; sizes = book.tied.sizes; counts = book.tied.counts };
             charges = record { one_each = length-set l.charges t (slice_index l.charges t - n) ∙ book.charges.one_each; sums = sums_after };
-            live = book.live;
           } in
           subst (λ (x : Linked). IsBook x u' slots max_blob) (sym links) (subst (λ (x : Uploaded). IsBook l1 x slots max_blob) (sym uploads) now)

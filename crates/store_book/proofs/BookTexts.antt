@@ -1,5 +1,5 @@
 -- The lines that the layers give are the book's text.
-use Rattle.std.proofs.Common.{◌≡◌, ℕ, ◌+◌, ◌<◌, ◌≤◌, Bool, true, false, cond, List, [], ◌∷◌, ◌++◌, length, map, get_or, Option, Some, None, refl, sym, ap, ◌∙◌, arith, append-nil}
+use Rattle.std.proofs.Common.{◌≡◌, ℕ, ◌+◌, ◌<◌, ◌≤◌, Bool, true, false, cond, List, [], ◌∷◌, ◌++◌, length, map, get_or, Option, Some, None, refl, sym, ap, ◌∙◌, arith}
 use Rattle.std.specs.Prelude.{filter, ◌==◌, ◌&&◌, slice_index}
 use Rattle.std.specs.declared.cmp.Ordering.{Ordering}
 use Rattle.std.specs.List.{flat_map, enumerate_from, count_by, AllByRecursion}
@@ -14,7 +14,7 @@ use Rattle.blob_digest.proofs.ListLemmas.{all_weaker}
 use Rattle.store_book.proofs.MapLemmas.{is_true, flat_map-same, all_same, all_by_index}
 use Rattle.blob_digest.specs.Sets as set
 use Rattle.blob_digest.proofs.KeyOrders.{link_cmp_total, exact_link}
-use Rattle.blob_digest.proofs.RowLemmas.{entries-empty, found_value}
+use Rattle.blob_digest.proofs.RowLemmas.{found_value}
 use Rattle.slot_table.specs.Slots.{Slot, Held, slot_of, links_at}
 use Rattle.link_table.specs.Archive.{manifests_on}
 use Rattle.link_table.specs.Linked.{Linked, Tenant, used_in, blobs_in, repos_of}
@@ -23,7 +23,7 @@ use Rattle.upload_table.specs.Sessions.{is_of_repo, listed, sessions_of}
 use Rattle.std.proofs.lemmas.Bool.{and_parts, false≢true}
 use Rattle.upload_table.specs.Uploaded.{Uploaded}
 use Rattle.store_book.specs.Catalog.{Text, Link, Resident, Catalog, is_of, link_cmp, same_text, used, size, count}
-use Rattle.store_book.specs.Layers.{links_of, unlent, book_catalog, IsBook}
+use Rattle.store_book.specs.Layers.{links_of, lent_marks, book_catalog, IsBook}
 use Rattle.store_book.specs.Lines.{CanPrint, blob_row, links_to, session_row, repo_rows, tenant_rows, book_rows}
 use Rattle.store_book.specs.Printed.{blob_line, blob_text, book_line, book_text, end_line, manifest_row, manifest_text, repo_text, repository_line, tenant_line, tenant_text}
 use Rattle.store_book.proofs.Taking.{use_is}
@@ -101,7 +101,7 @@ module _ (l : Linked) (u : Uploaded) (slots : List Slot) (max_blob : ℕ) (book 
   counted d b kept = by_slot (slot_of slots d) refl
     where
       by_slot : (o : Option ℕ) → slot_of slots d ≡ o → option_map_or (links_at slots) o 0 ≡ count C d
-      by_slot None none = absurd (let gone = sym kept ∙ not_resident slots (unlent slots) d none in cc)
+      by_slot None none = absurd (let gone = sym kept ∙ not_resident slots (lent_marks slots) d none in cc)
       by_slot (Some k) found =
           let h = held_of slots d k found in
           ap (λ (o : Option Held). option_map_or (λ h. h.links) o 0) h.1 ∙ book.tied.counts k h.0 h.1 ∙ ap (count C) h.2

@@ -131,7 +131,7 @@ found_slot (s ∷ slots) (m ∷ marks) d b found =
 suc_same : (k m : ℕ) → suc k ≡ suc m → k ≡ m
 suc_same k m e = omega arith
 
-IsDistinct-rest : (s : Slot) (slots : List Slot) → IsDistinct (s ∷ slots) → IsDistinct slots
+pub IsDistinct-rest : (s : Slot) (slots : List Slot) → IsDistinct (s ∷ slots) → IsDistinct slots
 IsDistinct-rest s slots distinct = λ k m g h at_k at_m same. suc_same k m (distinct (suc k) (suc m) g h at_k at_m same)
 
 -- where no digest has two slots, the rows are apart

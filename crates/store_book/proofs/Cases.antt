@@ -11,7 +11,8 @@ use Rattle.blob_digest.specs.declared.refusal.Refusal.TheVariants.{TooManyReader
 use Rattle.store_book.specs.Catalog.{Text}
 use Rattle.store_book.specs.Steps.{tenant, refuse, linked_blob, lease}
 use Rattle.store_book.specs.Runs.{Lease, Bytes}
-use Rattle.store_book.specs.SlotSteps.{SlotSeen, Leases}
+use Rattle.store_book.specs.BookState.{SlotSeen}
+use Rattle.store_book.specs.SlotSteps.{Leases}
 use Rattle.store_book.proofs.Outcomes.{bound_ok, not_refused}
 use Rattle.store_book.proofs.SomeSweep.{swept, after, some_sweep}
 

@@ -44,5 +44,4 @@ module _ (l : Linked) (u : Uploaded) (slots : List Slot) (max_blob : ℕ) (book 
     sound = Sound-chunks C key s chunks found nonempty small within book.sound;
     tied = record { marks = book.tied.marks; distinct = book.tied.distinct; sizes = book.tied.sizes; counts = book.tied.counts };
     charges = record { one_each = length-set l.charges key.0 m ∙ book.charges.one_each; sums = sums-chunks };
-    live = book.live;
   }

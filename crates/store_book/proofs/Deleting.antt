@@ -12,17 +12,19 @@ use Rattle.upload_table.specs.Uploaded.{Uploaded}
 use Rattle.store_book.specs.Catalog.{Text, Catalog, count, holds}
 use Rattle.store_book.specs.Steps.{delete, referrer}
 use Rattle.store_book.specs.Keeping.{linked_slot}
-use Rattle.store_book.specs.Layers.{unlent, catalog_from, book_catalog, slot_shown, IsTied, IsBook}
+use Rattle.store_book.specs.Layers.{lent_marks, catalog_from, book_catalog, IsTied, IsBook}
+use Rattle.store_book.specs.Pinned.{Pinned, all_seen, slotted}
+use Rattle.store_book.proofs.Pinning.{all_seen-with_slot, lower-seen}
 use Rattle.store_book.proofs.Counts.{count-unlink}
-use Rattle.store_book.proofs.KeptBlobs.{live_counted, unlent-with_slot}
+use Rattle.store_book.proofs.LentMarks.{marks-on}
 use Rattle.store_book.proofs.LawfulDelete.{Sound-after_delete}
-use Rattle.store_book.proofs.LinkedSlots.{holds_linked, linked_some, linked_none}
-use Rattle.store_book.proofs.SlotLemmas.{map-with_slot, phase_live}
+use Rattle.store_book.proofs.LinkedSlots.{holds_linked, linked_live, linked_some, linked_none}
+use Rattle.store_book.proofs.SlotLemmas.{phase_live}
 use Rattle.store_book.proofs.Ties.{links_of-remove, catalog-relink, IsTied-unlink, lower-KeepsBlob, held_of}
 
--- a count that falls changes no generation
-pub slots_kept : (slots : List Slot) (k : ℕ) (slots' : List Slot) → slots' ≡ with_slot slots k (on_held lower) → map slot_shown slots' ≡ map slot_shown slots
-slots_kept slots k slots' is = ap (map slot_shown) is ∙ map-with_slot slot_shown slots k (on_held lower) (λ s here. refl)
+-- a count that falls isn't seen
+pub slots_kept : (p q : Pinned) (k : ℕ) → q ≡ slotted k (on_held lower) p → (q.table ≡ p.table) × (all_seen q.slots q.bounds ≡ all_seen p.slots p.bounds)
+slots_kept p q k is = (ap (λ (x : Pinned). x.table) is, ap (λ (x : Pinned). all_seen x.slots x.bounds) is ∙ all_seen-with_slot p.slots k (on_held lower) p.bounds lower-seen)
 
 module _ (l : Linked) (u : Uploaded) (slots : List Slot) (max_blob t : ℕ) (repo digest : Text) (book : IsBook l u slots max_blob) (known : known_tenant l repo ≡ Ok t) where
   abbrev C : Catalog
@@ -48,7 +50,7 @@ module _ (l : Linked) (u : Uploaded) (slots : List Slot) (max_blob t : ℕ) (rep
 
     -- its slot is live, and counts it
     pub live_there : phase_at slots k ≡ phase.Live
-    live_there = phase_live slots k held.0 held.1 (book.live k held.0 held.1)
+    live_there = phase_live slots k held.0 held.1 (linked_live l u slots max_blob book repo digest k held.0 held.1 held.2 has)
 
     pub counted_there : 0 < links_at slots k
     counted_there =
@@ -66,13 +68,13 @@ module _ (l : Linked) (u : Uploaded) (slots : List Slot) (max_blob t : ℕ) (rep
     abbrev C' : Catalog
     C' = book_catalog l' u slots' max_blob
 
-    marks : unlent slots ≡ unlent slots'
-    marks = sym (unlent-with_slot slots k (on_held lower))
+    marks : lent_marks slots ≡ lent_marks slots'
+    marks = sym (marks-on lower (λ h. refl) slots k)
 
     left : C' ≡ record C { links = set.remove C.links (repo, digest) }
     left =
         (λ i. catalog_from l' u slots' (sym marks i) max_blob)
-        ∙ catalog-relink l (remove l.links (repo, digest)) u slots (unlent slots) max_blob k held.0 held.1 lower lower-KeepsBlob book.tied
+        ∙ catalog-relink l (remove l.links (repo, digest)) u slots (lent_marks slots) max_blob k held.0 held.1 lower lower-KeepsBlob book.tied
         ∙ (λ i. record C { links = links_of-remove l.links (repo, digest) i })
 
     -- a manifest that refers to the digest
@@ -83,19 +85,18 @@ module _ (l : Linked) (u : Uploaded) (slots : List Slot) (max_blob t : ℕ) (rep
       deleted : delete C repo digest ≡ Ok (tt, C')
       deleted = rw (known, has, free) (λ i. Ok (tt, sym left i))
 
-      tied_after : IsTied l' slots' (unlent slots') C'
+      tied_after : IsTied l' slots' (lent_marks slots') C'
       tied_after =
           let n = some_value (get l.links (repo, digest)) found.0 in
-          let at_digest = IsTied-unlink l u slots (unlent slots) max_blob k held.0 held.1 book.tied repo (book.sound.lawful.links (repo, digest) has).repo n.0 (ap (λ (d : Text). get l.links (repo, d)) held.2 ∙ n.1) in
+          let at_digest = IsTied-unlink l u slots (lent_marks slots) max_blob k held.0 held.1 book.tied repo (book.sound.lawful.links (repo, digest) has).repo n.0 (ap (λ (d : Text). get l.links (repo, d)) held.2 ∙ n.1) in
           subst (λ m. IsTied l' slots' m (catalog_from l' u slots' m max_blob)) marks
-          (subst (λ (d : Text). IsTied (unlink l repo d) slots' (unlent slots) (catalog_from (unlink l repo d) u slots' (unlent slots) max_blob)) held.2 at_digest)
+          (subst (λ (d : Text). IsTied (unlink l repo d) slots' (lent_marks slots) (catalog_from (unlink l repo d) u slots' (lent_marks slots) max_blob)) held.2 at_digest)
 
       deleted_book : IsBook l' u slots' max_blob
       deleted_book = record {
         sound = Sound-after_delete C C' repo digest deleted book.sound;
         tied = tied_after;
         charges = record { one_each = book.charges.one_each; sums = book.charges.sums };
-        live = live_counted lower lower-KeepsBlob slots k held.0 held.1 book.live;
       }
 
       module _ (l1 : Linked) (slots1 : List Slot) (links : l1 ≡ l') (slots_are : slots1 ≡ slots') where

@@ -19,7 +19,7 @@ module _ (blob : Text × Text) where
   stored m = record { bytes = blob.1; condemned = false; lent = m }
 
   -- two keys that differ
-  swapped : (q d : Text) (x y : Resident) (o : Option Resident) → eq_by_cmp text_cmp blob.0 d ≡ false → cond (eq_by_cmp text_cmp q d) (Some y) (cond (eq_by_cmp text_cmp q blob.0) (Some x) o) ≡ cond (eq_by_cmp text_cmp q blob.0) (Some x) (cond (eq_by_cmp text_cmp q d) (Some y) o)
+  pub swapped : (q d : Text) (x y : Resident) (o : Option Resident) → eq_by_cmp text_cmp blob.0 d ≡ false → cond (eq_by_cmp text_cmp q d) (Some y) (cond (eq_by_cmp text_cmp q blob.0) (Some x) o) ≡ cond (eq_by_cmp text_cmp q blob.0) (Some x) (cond (eq_by_cmp text_cmp q d) (Some y) o)
   swapped q d x y o differ = at (eq_by_cmp text_cmp q d) (eq_by_cmp text_cmp q blob.0) refl refl
     where
       at : (a b : Bool) → eq_by_cmp text_cmp q d ≡ a → eq_by_cmp text_cmp q blob.0 ≡ b → cond a (Some y) (cond b (Some x) o) ≡ cond b (Some x) (cond a (Some y) o)

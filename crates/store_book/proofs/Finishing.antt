@@ -15,9 +15,10 @@ use Rattle.upload_table.specs.Sessions.{Home, Session, Taken, are_taken, brought
 use Rattle.upload_table.specs.Uploaded.{Uploaded, IsFull, finish_upload, with_sessions}
 use Rattle.store_book.specs.Catalog.{Text, Catalog, in_sessions_of}
 use Rattle.store_book.specs.Steps.{◌>>=◌, finish, given_back, refuse, same_bytes, is_full_for}
-use Rattle.store_book.specs.Layers.{unlent, book_catalog, slot_shown, IsBook}
+use Rattle.store_book.specs.Layers.{lent_marks, book_catalog, IsBook}
 use Rattle.store_book.specs.Keeping.{CanKeep, IsKept, IsUnkept, again, anew, differs, full}
-use Rattle.store_book.proofs.KeptBlobs.{Keeps, IsKept-Keeps, length-unlent}
+use Rattle.store_book.proofs.KeptBlobs.{Keeps, IsKept-Keeps}
+use Rattle.store_book.proofs.LentMarks.{length-marks}
 use Rattle.store_book.proofs.Keepable.{CanKeep-book}
 use Rattle.store_book.proofs.LawfulFinish.{Sound-after_finish}
 use Rattle.store_book.proofs.LawfulHands.{whole_long, IsProper}
@@ -26,20 +27,7 @@ use Rattle.store_book.proofs.Outcomes.{bound_ok, not_refused}
 use Rattle.store_book.proofs.PuttingBack.{here_charged, here_small, here_tenant, session_here, IsBook-home}
 use Rattle.store_book.proofs.SessionCharges.{sums-gone}
 use Rattle.store_book.proofs.SessionTenants.{session_owner}
-use Rattle.store_book.proofs.SlotLemmas.{map-with_slot}
 use Rattle.store_book.proofs.Ties.{held_of, slot_is_resident, not_resident, rooms}
-
--- a link and a blob more leave each slot its generation
-pub generations-kept : (l l' : Linked) (slots slots' : List Slot) (repo : Text) (blob : Text × Text) → IsKept l slots repo blob l' slots' → map slot_shown slots' ≡ map slot_shown slots
-generations-kept l l' slots slots' repo blob (again k h place at bytes links slots_are) = ap (map slot_shown) slots_are ∙ by_link (contains_key l.links (repo, blob.0))
-  where
-    by_link : (b : Bool) → map slot_shown (if b then slots else with_slot slots k (on_held raise)) ≡ map slot_shown slots
-    by_link true = refl
-    by_link false = map-with_slot slot_shown slots k (on_held raise) (λ s here. refl)
-generations-kept l l' slots slots' repo blob (anew k none free links slots_are) =
-    ap (map slot_shown) slots_are
-    ∙ map-with_slot slot_shown (with_slot slots k (fill blob)) k (on_held raise) (λ s here. refl)
-    ∙ map-with_slot slot_shown slots k (fill blob) (λ s here. refl)
 
 module _ (l : Linked) (u : Uploaded) (slots : List Slot) (max_blob : ℕ) (h : Taken) (digest : Text) where
   abbrev C : Catalog
@@ -94,21 +82,21 @@ module _ (l : Linked) (u : Uploaded) (slots : List Slot) (max_blob : ℕ) (h : T
           let held = held_of slots digest k place in
           let same : held.0 ≡ x = some_same (sym held.1 ∙ at) in
           let named : x.digest ≡ digest = ap (λ (y : Held). y.digest) (sym same) ∙ held.2 in
-          let b = slot_is_resident slots (unlent slots) (length-unlent slots) book.tied.distinct k x at in
+          let b = slot_is_resident slots (lent_marks slots) (length-marks slots) book.tied.distinct k x at in
           let kept : get C.residents digest ≡ Some b.0 = ap (get C.residents) (sym named) ∙ b.1 in
           let no_match : same_bytes (get C.residents digest) whole ≡ false =
           ap (λ o. same_bytes o whole) kept ∙ false_from_ne_true (same_bytes (Some b.0) whole) (λ match. other (sym b.2 ∙ text_is_same b.0.bytes whole match)) in
           finish_other_bytes no_match ∙ ap Err (sym is)
       finish_unkept e (full none no_slot is) =
-          let absent = not_resident slots (unlent slots) digest none in
-          let sum = rooms l u slots (unlent slots) max_blob (length-unlent slots) book.tied.distinct in
+          let absent = not_resident slots (lent_marks slots) digest none in
+          let sum = rooms l u slots (lent_marks slots) max_blob (length-marks slots) book.tied.distinct in
           let crowded : nat_le C.slots (len C.residents + C.retired) ≡ true = le-leb C.slots (len C.residents + C.retired) (omega arith) in
           let no_room : is_full_for C digest ≡ true = (λ i. not (is_some (absent i)) && crowded i) in
           finish_full (ap (λ o. same_bytes o whole) absent) no_room ∙ ap Err (sym is)
 
       module _ (l' : Linked) (slots' : List Slot) (kept : IsKept l slots s.repo (digest, whole) l' slots') where
         keeps : Keeps l u slots max_blob s.repo (digest, whole) l' slots'
-        keeps = IsKept-Keeps l u slots max_blob s.repo (digest, whole) book.tied book.sound.lawful book.live repo_there l' slots' kept
+        keeps = IsKept-Keeps l u slots max_blob s.repo (digest, whole) book.tied book.sound.lawful repo_there l' slots' kept
 
         abbrev l1 : Linked
         l1 = discharge l' h.key.0 (length whole)
@@ -146,7 +134,6 @@ module _ (l : Linked) (u : Uploaded) (slots : List Slot) (max_blob : ℕ) (h : T
             one_each = length-set l'.charges h.key.0 (slice_index l'.charges h.key.0 - length whole) ∙ ap length same_charges ∙ book.charges.one_each ∙ sym same_tenants;
             sums = λ v lt. (λ i. slice_index (slice_set (same_charges i) h.key.0 (slice_index (same_charges i) h.key.0 - length whole)) v) ∙ sums_after v (let same = same_tenants in omega arith);
           };
-          live = keeps.live;
         }
 
         module _ (l'' : Linked) (u'' : Uploaded) (links : l'' ≡ l1) (uploads : u'' ≡ u1) where

@@ -8,11 +8,11 @@ use Rattle.slot_table.specs.Slots.{Slot}
 use Rattle.link_table.specs.Linked.{Linked, known_tenant}
 use Rattle.upload_table.specs.Uploaded.{Uploaded}
 use Rattle.store_book.specs.Catalog.{Text, Resident, Catalog, tenant_of}
-use Rattle.store_book.specs.Layers.{unlent, book_catalog, IsBook}
+use Rattle.store_book.specs.Layers.{lent_marks, book_catalog, IsBook}
 use Rattle.store_book.specs.Keeping.{CanKeep}
 use Rattle.store_book.proofs.Taking.{use_is}
 use Rattle.store_book.proofs.Bounds.{count_small, used_small}
-use Rattle.store_book.proofs.KeptBlobs.{length-unlent}
+use Rattle.store_book.proofs.LentMarks.{length-marks}
 use Rattle.store_book.proofs.LawAppear.{is_own}
 use Rattle.store_book.proofs.MapLemmas.{some_same}
 use Rattle.store_book.proofs.Outcomes.{some_of_ok, tenant_there}
@@ -31,16 +31,15 @@ module _ (l : Linked) (u : Uploaded) (slots : List Slot) (max_blob t : ℕ) (rep
         tenant = in_tenants;
         own = is_own C t repo name;
         there = there;
-        held = λ d none r. not_some (get l.links (r, d)) (λ n at. let b = book.tied.sizes (r, d) n at in let absent = not_resident slots (unlent slots) d none in let clash : None ≡ Some b.0 = sym absent ∙ b.1 in cc);
+        held = λ d none r. not_some (get l.links (r, d)) (λ n at. let b = book.tied.sizes (r, d) n at in let absent = not_resident slots (lent_marks slots) d none in let clash : None ≡ Some b.0 = sym absent ∙ b.1 in cc);
         sizes = λ k h r n at linked.
             (let b = book.tied.sizes (r, h.digest) n linked in
-            let x = slot_is_resident slots (unlent slots) (length-unlent slots) book.tied.distinct k h at in
+            let x = slot_is_resident slots (lent_marks slots) (length-marks slots) book.tied.distinct k h at in
             let same : b.0 ≡ x.0 = some_same (sym b.1 ∙ x.1) in
             b.2 ∙ ap (λ (y : Resident). length y.bytes) same ∙ ap length x.2);
         room =
             (let used = use_is l u slots max_blob t book in_tenants in
             let few = used_small C book.sound t in_tenants in
             omega arith);
-        live = book.live;
         counts = λ k h at. (let n = book.tied.counts k h at in let few = count_small C book.sound.lawful h.digest in omega arith);
       }

@@ -1,5 +1,5 @@
 -- A blob that was linked: what the catalog keeps then, and that the layers agree.
-use Rattle.std.proofs.Common.{◌≡◌, ℕ, ◌+◌, ◌<◌, Bool, true, false, cond, not, List, [], ◌∷◌, length, Some, None, is_some, refl, sym, ap, ◌∙◌, subst, arith, inl, inr}
+use Rattle.std.proofs.Common.{◌≡◌, ℕ, ◌+◌, ◌<◌, Bool, true, false, cond, not, List, [], ◌∷◌, length, Option, Some, None, is_some, refl, sym, ap, ◌∙◌, subst, arith, inl, inr}
 use Prim.Native.Nat.{zero, suc}
 use Rattle.std.specs.Prelude.{slice_get, nat_le, ◌&&◌, if◌then◌else◌}
 use Rattle.std.specs.Option.{option_map_or}
@@ -7,7 +7,8 @@ use Rattle.std.specs.List.{count_by}
 use Rattle.std.proofs.lemmas.List.Sums.{sum_by-cons}
 use Rattle.std.proofs.lemmas.Bool.Decides.{nat_tests}
 use Rattle.std.specs.Cmp.Lexicographic.{nat_list_cmp_total}
-use Rattle.std.specs.FinMap.{get, insert, len, contains_key}
+use Rattle.std.specs.Ordering.{eq_by_cmp}
+use Rattle.std.specs.FinMap.{FinMap, get, insert, len, contains_key, get-insert, same_map}
 use Rattle.std.proofs.lemmas.Bool.{cases_eq}
 use Rattle.std.proofs.lemmas.Map.Lookups.{exact_bytes}
 use Rattle.blob_digest.proofs.OptionLemmas.{some_value}
@@ -16,43 +17,23 @@ use Rattle.blob_digest.proofs.KeyOrders.{link_cmp_total, exact_link, same_text_i
 use Rattle.blob_digest.proofs.MapSums.{insert_back}
 use Rattle.blob_digest.proofs.SetLemmas.{insert_there}
 use Rattle.slot_table.specs.declared.phase.Phase.TheVariants as phase
-use Rattle.slot_table.specs.Slots.{Slot, Held, Content, Free, Used, Retired, phase_in, held_in, is_free, is_retired, with_slot, fill, on_held, raise, phase_at, held_at, slot_of}
+use Rattle.slot_table.specs.Slots.{Slot, Held, Content, Free, Used, Retired, phase_in, held_in, is_free, is_retired, with_slot, fill, on_held, raise, mark, phase_at, held_at, slot_of}
 use Rattle.link_table.specs.Linked.{Linked}
 use Rattle.upload_table.specs.Uploaded.{Uploaded}
-use Rattle.store_book.specs.Catalog.{Text, Link, Resident, Catalog, holds}
+use Rattle.store_book.specs.Catalog.{Text, Link, Resident, Catalog, text_cmp, holds}
 use Rattle.store_book.specs.Steps.{was_lent, same_bytes, is_full_for}
 use Rattle.store_book.specs.Laws.{Lawful}
-use Rattle.store_book.specs.Layers.{links_of, unlent, catalog_from, book_catalog, IsTied, AreLive}
-use Rattle.store_book.specs.Keeping.{linked, IsKept, again, anew}
+use Rattle.store_book.specs.Layers.{links_of, lent_marks, resident_of, catalog_from, book_catalog, IsTied}
+use Rattle.store_book.specs.Keeping.{linked, woken, IsKept, again, anew}
 use Rattle.store_book.proofs.MapLemmas.{get-insert_at, some_same}
-use Rattle.store_book.proofs.SlotLemmas.{map-with_slot, held_at-other}
+use Rattle.store_book.proofs.LentMarks.{length-marks, marks-on, marks-fill, unmarked}
+use Rattle.store_book.proofs.Changing.{resident_at, mark-KeepsTies, held_at-with, catalog-change, IsTied-change}
+use Rattle.store_book.proofs.LawResident.{Lawful-put}
 use Rattle.store_book.proofs.Bridge.{holds_is}
-use Rattle.store_book.proofs.Ties.{links_of-insert, catalog-relink, IsTied-link, held_at-on, KeepsBlob, raise-KeepsBlob, held_of, slot_is_resident, not_resident, rooms}
+use Rattle.store_book.proofs.Ties.{links_of-insert, catalog-relink, IsTied-link, held_at-on, raise-KeepsBlob, held_of, slot_is_resident, not_resident, rooms}
 use Rattle.store_book.proofs.Fills.{stored}
-use Rattle.store_book.proofs.Placing.{Holds, catalog-fill, IsTied-fill, held_at-fill, held_then, free_slot}
+use Rattle.store_book.proofs.Placing.{catalog-fill, IsTied-fill, held_at-fill, free_slot}
 use Rattle.store_book.proofs.LawLink.{unlinked}
-
--- no mark depends on what a slot holds
-pub unlent-with_slot : (slots : List Slot) (k : ℕ) (f : Slot → Slot) → unlent (with_slot slots k f) ≡ unlent slots
-unlent-with_slot slots k f = map-with_slot (λ _. false) slots k f (λ s at. refl)
-
-pub length-unlent : (slots : List Slot) → length (unlent slots) ≡ length slots
-length-unlent [] = refl
-length-unlent (s ∷ slots) = ap suc (length-unlent slots)
-
-mark_at : (slots : List Slot) (k : ℕ) (s : Slot) → slice_get slots k ≡ Some s → slice_get (unlent slots) k ≡ Some false
-mark_at [] k s e = cc
-mark_at (x ∷ slots) zero s e = refl
-mark_at (x ∷ slots) (suc k) s e = mark_at slots k s e
-
--- a count that changes condemns nothing
-pub live_counted : (g : Held → Held) → KeepsBlob g → (slots : List Slot) (k : ℕ) (h : Held) → held_at slots k ≡ Some h → AreLive slots → AreLive (with_slot slots k (on_held g))
-live_counted g keeps slots k h at live j x here = elim (cases_eq j k) [
-  | inl e ↦
-      let is : g h ≡ x = some_same (sym (held_at-on g keeps slots k h at) ∙ ap (held_at (with_slot slots k (on_held g))) (sym e) ∙ here) in
-      ap (λ (y : Held). y.condemned) (sym is) ∙ ap (λ (r : Resident). r.condemned) (keeps.resident h false) ∙ live k h at
-  | inr other ↦ live j x (sym (held_at-other slots k (on_held g) j other) ∙ here)
-]
 
 -- where an element passes, some are counted
 counted_there : {A : Type 0} (p : A → Bool) (xs : List A) (k : ℕ) (x : A) → slice_get xs k ≡ Some x → p x ≡ true → 0 < count_by p xs
@@ -78,6 +59,17 @@ free_is slots k s at free = by_content s.content refl (sym (ap (λ o. option_map
 le-false : (a b : ℕ) → b < a → nat_le a b ≡ false
 le-false a b h = grind (arith, nat_tests)
 
+insert_twice : (m : FinMap text_cmp Resident) (k : Text) (v w : Resident) → insert (insert m k v) k w ≡ insert m k w
+insert_twice m k v w = same_map nat_list_cmp_total exact_bytes (insert (insert m k v) k w) (insert m k w) (λ q.
+    get-insert nat_list_cmp_total (insert m k v) k w q
+    ∙ ap (cond (eq_by_cmp text_cmp q k) (Some w)) (get-insert nat_list_cmp_total m k v q)
+    ∙ both (eq_by_cmp text_cmp q k) (get m q)
+    ∙ sym (get-insert nat_list_cmp_total m k w q))
+  where
+    both : (b : Bool) (o : Option Resident) → cond b (Some w) (cond b (Some v) o) ≡ cond b (Some w) o
+    both true o = refl
+    both false o = refl
+
 -- what was lent is not
 abbrev blob_of : Catalog → Text × Text → Resident
 blob_of C blob = record { bytes = blob.1; condemned = false; lent = was_lent (get C.residents blob.0) }
@@ -93,29 +85,28 @@ module _ (l : Linked) (u : Uploaded) (slots : List Slot) (max_blob : ℕ) (repo 
   -- what is known where a blob was linked
   pub record Keeps (l' : Linked) (slots' : List Slot) : Type 0 where
     pub catalog : book_catalog l' u slots' max_blob ≡ keeping C repo blob
-    pub tied : IsTied l' slots' (unlent slots') (book_catalog l' u slots' max_blob)
-    pub live : AreLive slots'
+    pub tied : IsTied l' slots' (lent_marks slots') (book_catalog l' u slots' max_blob)
     pub links : l' ≡ linked l repo blob
     pub same : same_bytes (get C.residents blob.0) blob.1 ≡ true
     pub housed : is_full_for C blob.0 ≡ false
 
-  module _ (tied : IsTied l slots (unlent slots) C) (lawful : Lawful C) (live : AreLive slots) (there : set.contains l.repos repo ≡ true) where
+  module _ (tied : IsTied l slots (lent_marks slots) C) (lawful : Lawful C) (there : set.contains l.repos repo ≡ true) where
     named : (k : Link) → set.contains (links_of l.links) k ≡ true → set.contains l.repos k.0 ≡ true
     named k h = (lawful.links k h).repo
 
-    module _ (k : ℕ) (h : Held) (at : held_at slots k ≡ Some h) (digest : h.digest ≡ blob.0) (bytes : h.bytes ≡ blob.1) where
+    module _ (k : ℕ) (h : Held) (at : held_at slots k ≡ Some h) (digest : h.digest ≡ blob.0) (bytes : h.bytes ≡ blob.1) (live : h.condemned ≡ false) where
       resident : (b : Resident) × (get C.residents h.digest ≡ Some b) × (b.bytes ≡ h.bytes) × (b.condemned ≡ h.condemned)
-      resident = slot_is_resident slots (unlent slots) (length-unlent slots) tied.distinct k h at
+      resident = slot_is_resident slots (lent_marks slots) (length-marks slots) tied.distinct k h at
 
       kept : get C.residents blob.0 ≡ Some resident.0
       kept = ap (get C.residents) (sym digest) ∙ resident.1
 
       whole_blob : (b : Resident) → get C.residents blob.0 ≡ Some b → b.bytes ≡ blob.1 → b.condemned ≡ false → blob_of C blob ≡ b
-      whole_blob b found bytes live = λ i. record { bytes = sym bytes i; condemned = sym live i; lent = was_lent (found i) }
+      whole_blob b found bytes uncondemned = λ i. record { bytes = sym bytes i; condemned = sym uncondemned i; lent = was_lent (found i) }
 
       -- a blob that is kept already changes no blob
       pub same_residents : insert C.residents blob.0 (blob_of C blob) ≡ C.residents
-      same_residents = ap (insert C.residents blob.0) (whole_blob resident.0 kept (resident.2 ∙ bytes) (resident.3 ∙ live k h at)) ∙ insert_back nat_list_cmp_total exact_bytes C.residents blob.0 resident.0 kept
+      same_residents = ap (insert C.residents blob.0) (whole_blob resident.0 kept (resident.2 ∙ bytes) (resident.3 ∙ live)) ∙ insert_back nat_list_cmp_total exact_bytes C.residents blob.0 resident.0 kept
 
       size : length blob.1 ≡ length resident.0.bytes
       size = ap length (sym (resident.2 ∙ bytes))
@@ -138,17 +129,16 @@ module _ (l : Linked) (u : Uploaded) (slots : List Slot) (max_blob : ℕ) (repo 
             insert_back link_cmp_total exact_link l.links (repo, blob.0) (length blob.1) (found.1 ∙ ap Some n)
 
         held_before : set.contains C.links (repo, blob.0) ≡ true
-        held_before = holds_is l u slots (unlent slots) max_blob tied named repo blob.0 ∙ old
+        held_before = holds_is l u slots (lent_marks slots) max_blob tied named repo blob.0 ∙ old
 
         -- a link that was there leaves all as it was
-        Keeps-old : Keeps (linked l repo blob) slots
+        pub Keeps-old : Keeps (linked l repo blob) slots
         Keeps-old =
             let same_l : linked l repo blob ≡ l = λ i. record l { links = same_links i } in
             let links : set.insert C.links (repo, blob.0) ≡ C.links = insert_there link_cmp_total exact_link C.links (repo, blob.0) held_before in
             record {
               catalog = (λ i. book_catalog (same_l i) u slots max_blob) ∙ (λ i. record C { links = sym links i; residents = sym same_residents i });
-              tied = subst (λ (x : Linked). IsTied x slots (unlent slots) (book_catalog x u slots max_blob)) (sym same_l) tied;
-              live = live;
+              tied = subst (λ (x : Linked). IsTied x slots (lent_marks slots) (book_catalog x u slots max_blob)) (sym same_l) tied;
               links = refl;
               same = same_there;
               housed = housed_there;
@@ -159,26 +149,25 @@ module _ (l : Linked) (u : Uploaded) (slots : List Slot) (max_blob : ℕ) (repo 
         raised = with_slot slots k (on_held raise)
 
         not_held_before : holds C repo h.digest ≡ false
-        not_held_before = ap (holds C repo) digest ∙ holds_is l u slots (unlent slots) max_blob tied named repo blob.0 ∙ new
+        not_held_before = ap (holds C repo) digest ∙ holds_is l u slots (lent_marks slots) max_blob tied named repo blob.0 ∙ new
 
-        relinked : catalog_from (linked l repo blob) u raised (unlent slots) max_blob ≡ record C { links = set.insert C.links (repo, blob.0) }
+        relinked : catalog_from (linked l repo blob) u raised (lent_marks slots) max_blob ≡ record C { links = set.insert C.links (repo, blob.0) }
         relinked =
-            catalog-relink l (insert l.links (repo, blob.0) (length blob.1)) u slots (unlent slots) max_blob k h at raise raise-KeepsBlob tied
+            catalog-relink l (insert l.links (repo, blob.0) (length blob.1)) u slots (lent_marks slots) max_blob k h at raise raise-KeepsBlob tied
             ∙ (λ i. record C { links = links_of-insert l.links (repo, blob.0) (length blob.1) i })
 
-        tied_then : IsTied (linked l repo blob) raised (unlent slots) (catalog_from (linked l repo blob) u raised (unlent slots) max_blob)
+        tied_then : IsTied (linked l repo blob) raised (lent_marks slots) (catalog_from (linked l repo blob) u raised (lent_marks slots) max_blob)
         tied_then =
-            subst (λ (d : Text). IsTied (record l { links = insert l.links (repo, d) (length blob.1) }) raised (unlent slots) (catalog_from (record l { links = insert l.links (repo, d) (length blob.1) }) u raised (unlent slots) max_blob))
-            digest (IsTied-link l u slots (unlent slots) max_blob k h at tied repo there (length blob.1) resident.0 resident.1 size not_held_before)
+            subst (λ (d : Text). IsTied (record l { links = insert l.links (repo, d) (length blob.1) }) raised (lent_marks slots) (catalog_from (record l { links = insert l.links (repo, d) (length blob.1) }) u raised (lent_marks slots) max_blob))
+            digest (IsTied-link l u slots (lent_marks slots) max_blob k h at tied repo there (length blob.1) resident.0 resident.1 size not_held_before)
 
         -- a new link counts in its slot
-        Keeps-new : Keeps (linked l repo blob) raised
+        pub Keeps-new : Keeps (linked l repo blob) raised
         Keeps-new =
-            let marks : unlent slots ≡ unlent raised = sym (unlent-with_slot slots k (on_held raise)) in
+            let marks : lent_marks slots ≡ lent_marks raised = sym (marks-on raise (λ h. refl) slots k) in
             record {
               catalog = (λ i. catalog_from (linked l repo blob) u raised (sym marks i) max_blob) ∙ relinked ∙ (λ i. record C { links = set.insert C.links (repo, blob.0); residents = sym same_residents i });
               tied = subst (λ (m : List Bool). IsTied (linked l repo blob) raised m (catalog_from (linked l repo blob) u raised m max_blob)) marks tied_then;
-              live = live_counted raise raise-KeepsBlob slots k h at live;
               links = refl;
               same = same_there;
               housed = housed_there;
@@ -194,74 +183,119 @@ module _ (l : Linked) (u : Uploaded) (slots : List Slot) (max_blob : ℕ) (repo 
       slot_there : (s : Slot) × (slice_get slots k ≡ Some s) × (held_in s.content ≡ None) × (is_retired s ≡ false)
       slot_there = free_slot slots k free
 
-      unmarked : slice_get (unlent slots) k ≡ Some false
-      unmarked = mark_at slots k slot_there.0 slot_there.1
-
       abbrev C1 : Catalog
-      C1 = catalog_from l u slots1 (unlent slots) max_blob
+      C1 = catalog_from l u slots1 (lent_marks slots) max_blob
 
       filled_catalog : C1 ≡ record C { residents = insert C.residents blob.0 (stored blob false) }
-      filled_catalog = catalog-fill l u slots (unlent slots) max_blob k blob false free unmarked none
+      filled_catalog = catalog-fill l u slots (lent_marks slots) max_blob k blob false free (unmarked slots k free) none
 
-      filled_tied : IsTied l slots1 (unlent slots) C1
-      filled_tied = IsTied-fill l u slots (unlent slots) max_blob k blob false free unmarked none tied lawful
+      filled_tied : IsTied l slots1 (lent_marks slots) C1
+      filled_tied = IsTied-fill l u slots (lent_marks slots) max_blob k blob false free (unmarked slots k free) none tied lawful
 
       absent : get C.residents blob.0 ≡ None
-      absent = not_resident slots (unlent slots) blob.0 none
+      absent = not_resident slots (lent_marks slots) blob.0 none
 
       abbrev filled : Held
-      filled = record { digest = blob.0; bytes = blob.1; condemned = false; links = 0 }
+      filled = record { digest = blob.0; bytes = blob.1; condemned = false; lent = false; links = 0 }
 
       in_slot : held_at slots1 k ≡ Some filled
-      in_slot = held_at-fill l u slots (unlent slots) max_blob k blob false free unmarked none
+      in_slot = held_at-fill l u slots (lent_marks slots) max_blob k blob false free (unmarked slots k free) none
 
       kept_now : get C1.residents blob.0 ≡ Some (stored blob false)
       kept_now = ap (λ (D : Catalog). get D.residents blob.0) filled_catalog ∙ get-insert_at nat_list_cmp_total exact_bytes C.residents blob.0 (stored blob false)
 
-      tied_now : IsTied (linked l repo blob) slots2 (unlent slots) (catalog_from (linked l repo blob) u slots2 (unlent slots) max_blob)
-      tied_now = IsTied-link l u slots1 (unlent slots) max_blob k filled in_slot filled_tied repo there (length blob.1) (stored blob false) kept_now refl (unlinked C lawful blob.0 absent repo)
+      tied_now : IsTied (linked l repo blob) slots2 (lent_marks slots) (catalog_from (linked l repo blob) u slots2 (lent_marks slots) max_blob)
+      tied_now = IsTied-link l u slots1 (lent_marks slots) max_blob k filled in_slot filled_tied repo there (length blob.1) (stored blob false) kept_now refl (unlinked C lawful blob.0 absent repo)
 
-      catalog_now : catalog_from (linked l repo blob) u slots2 (unlent slots) max_blob ≡ keeping C repo blob
+      catalog_now : catalog_from (linked l repo blob) u slots2 (lent_marks slots) max_blob ≡ keeping C repo blob
       catalog_now =
-          catalog-relink l (insert l.links (repo, blob.0) (length blob.1)) u slots1 (unlent slots) max_blob k filled in_slot raise raise-KeepsBlob filled_tied
+          catalog-relink l (insert l.links (repo, blob.0) (length blob.1)) u slots1 (lent_marks slots) max_blob k filled in_slot raise raise-KeepsBlob filled_tied
           ∙ (λ i. record C1 { links = links_of-insert l.links (repo, blob.0) (length blob.1) i })
           ∙ (λ i. record (filled_catalog i) { links = set.insert C.links (repo, blob.0) })
           ∙ (λ i. record C { links = set.insert C.links (repo, blob.0); residents = insert C.residents blob.0 (record { bytes = blob.1; condemned = false; lent = was_lent (sym absent i) }) })
 
       -- a blob that filled a free slot is kept, with one link
-      Keeps-filled : Keeps (linked l repo blob) slots2
+      pub Keeps-filled : Keeps (linked l repo blob) slots2
       Keeps-filled =
-          let marks : unlent slots ≡ unlent slots2 = sym (unlent-with_slot slots1 k (on_held raise) ∙ unlent-with_slot slots k (fill blob)) in
+          let marks : lent_marks slots ≡ lent_marks slots2 = sym (marks-on raise (λ h. refl) slots1 k ∙ marks-fill blob slots k free) in
           record {
             catalog = (λ i. catalog_from (linked l repo blob) u slots2 (sym marks i) max_blob) ∙ catalog_now;
             tied = subst (λ (m : List Bool). IsTied (linked l repo blob) slots2 m (catalog_from (linked l repo blob) u slots2 m max_blob)) marks tied_now;
-            live = live_counted raise raise-KeepsBlob slots1 k filled in_slot (λ j x here. live_at j x (held_then l u slots (unlent slots) max_blob k blob false free unmarked none j x here));
             links = refl;
             same = ap (λ o. same_bytes o blob.1) absent;
             housed = ap (λ o. not (is_some o) && nat_le C.slots (len C.residents + C.retired)) absent ∙ has_room;
           }
         where
-          live_at : (j : ℕ) (x : Held) → Holds l u slots (unlent slots) max_blob k blob false free unmarked none j x → x.condemned ≡ false
-          live_at j x (inl p) = ap (λ (y : Held). y.condemned) (sym p.1)
-          live_at j x (inr p) = live j x p.1
-
           has_room : nat_le C.slots (len C.residents + C.retired) ≡ false
           has_room =
-              let sum = rooms l u slots (unlent slots) max_blob (length-unlent slots) tied.distinct in
+              let sum = rooms l u slots (lent_marks slots) max_blob (length-marks slots) tied.distinct in
               let some = counted_there is_free slots k slot_there.0 slot_there.1 (free_is slots k slot_there.0 slot_there.1 free) in
               le-false C.slots (len C.residents + C.retired) (omega arith)
 
-    -- what linking a blob left
-    pub IsKept-Keeps : (l' : Linked) (slots' : List Slot) → IsKept l slots repo blob l' slots' → Keeps l' slots'
+-- ---- what linking a blob left
+
+module _ (l : Linked) (u : Uploaded) (slots : List Slot) (max_blob : ℕ) (repo : Text) (blob : Text × Text) where
+  abbrev B : Catalog
+  B = book_catalog l u slots max_blob
+
+  module _ (tied : IsTied l slots (lent_marks slots) B) (lawful : Lawful B) (there : set.contains l.repos repo ≡ true) where
+    module _ (k : ℕ) (h : Held) (at : held_at slots k ≡ Some h) (digest : h.digest ≡ blob.0) (bytes : h.bytes ≡ blob.1) where
+      abbrev awake : List Slot
+      awake = woken slots k
+
+      abbrev live_one : Resident
+      live_one = record { bytes = h.bytes; condemned = false; lent = h.lent }
+
+      -- the catalog with the blob live
+      abbrev D : Catalog
+      D = record B { residents = insert B.residents h.digest live_one }
+
+      catalog_awake : book_catalog l u awake max_blob ≡ D
+      catalog_awake = catalog-change (mark false) (mark-KeepsTies false) l u slots max_blob k h at tied
+
+      was : get B.residents h.digest ≡ Some (resident_of h.lent h)
+      was = resident_at slots k h at tied.distinct
+
+      lawful_awake : Lawful (book_catalog l u awake max_blob)
+      lawful_awake = subst (λ (X : Catalog). Lawful X) (sym catalog_awake) (Lawful-put B h.digest live_one refl lawful (lawful.content h.digest (resident_of h.lent h) was))
+
+      twice : (b : Resident) → insert (insert B.residents h.digest live_one) blob.0 b ≡ insert B.residents blob.0 b
+      twice b = ap (λ (d : Text). insert (insert B.residents d live_one) blob.0 b) digest ∙ insert_twice B.residents blob.0 live_one b
+
+      same_lent : was_lent (get D.residents blob.0) ≡ was_lent (get B.residents blob.0)
+      same_lent =
+          ap (λ (d : Text). was_lent (get D.residents d)) (sym digest) ∙ ap was_lent (get-insert_at nat_list_cmp_total exact_bytes B.residents h.digest live_one)
+          ∙ sym (ap (λ (d : Text). was_lent (get B.residents d)) (sym digest) ∙ ap was_lent was)
+
+      keeping_awake : keeping (book_catalog l u awake max_blob) repo blob ≡ keeping B repo blob
+      keeping_awake =
+          (λ i. keeping (catalog_awake i) repo blob)
+          ∙ (λ i. record B { links = set.insert B.links (repo, blob.0); residents = twice (record { bytes = blob.1; condemned = false; lent = was_lent (get D.residents blob.0) }) i })
+          ∙ (λ i. record B { links = set.insert B.links (repo, blob.0); residents = insert B.residents blob.0 (record { bytes = blob.1; condemned = false; lent = same_lent i }) })
+
+      Keeps-awake : (l' : Linked) (slots' : List Slot) → Keeps l u awake max_blob repo blob l' slots' → Keeps l u slots max_blob repo blob l' slots'
+      Keeps-awake l' slots' keeps =
+          let kept : get B.residents blob.0 ≡ Some (resident_of h.lent h) = ap (get B.residents) (sym digest) ∙ was in
+          record {
+            catalog = keeps.catalog ∙ keeping_awake;
+            tied = keeps.tied;
+            links = keeps.links;
+            same = ap (λ o. same_bytes o blob.1) kept ∙ same_text_is h.bytes blob.1 bytes;
+            housed = ap (λ o. not (is_some o) && nat_le B.slots (len B.residents + B.retired)) kept;
+          }
+
+      by_link : (b : Bool) → contains_key l.links (repo, blob.0) ≡ b → Keeps l u awake max_blob repo blob (linked l repo blob) (if b then awake else with_slot awake k (on_held raise))
+      by_link true is = Keeps-old l u awake max_blob repo blob (IsTied-change (mark false) (mark-KeepsTies false) l u slots max_blob k h at tied) lawful_awake there k (mark false h) (held_at-with (mark false) (mark-KeepsTies false) slots k h at) digest bytes refl is
+      by_link false is = Keeps-new l u awake max_blob repo blob (IsTied-change (mark false) (mark-KeepsTies false) l u slots max_blob k h at tied) lawful_awake there k (mark false h) (held_at-with (mark false) (mark-KeepsTies false) slots k h at) digest bytes refl is
+
+      Keeps-again : Keeps l u slots max_blob repo blob (linked l repo blob) (if contains_key l.links (repo, blob.0) then awake else with_slot awake k (on_held raise))
+      Keeps-again = Keeps-awake _ _ (by_link (contains_key l.links (repo, blob.0)) refl)
+
+    pub IsKept-Keeps : (l' : Linked) (slots' : List Slot) → IsKept l slots repo blob l' slots' → Keeps l u slots max_blob repo blob l' slots'
     IsKept-Keeps l' slots' (again k h place at bytes links slots_are) =
         let held = held_of slots blob.0 k place in
         let same : held.0 ≡ h = some_same (sym held.1 ∙ at) in
         let digest : h.digest ≡ blob.0 = ap (λ (x : Held). x.digest) (sym same) ∙ held.2 in
-        subst (λ (x : Linked). Keeps x slots') (sym links) (subst (λ (x : List Slot). Keeps (linked l repo blob) x) (sym slots_are) (by_link k h at digest bytes (contains_key l.links (repo, blob.0)) refl))
-      where
-        by_link : (k : ℕ) (h : Held) (at : held_at slots k ≡ Some h) (digest : h.digest ≡ blob.0) (bytes : h.bytes ≡ blob.1) (b : Bool) → contains_key l.links (repo, blob.0) ≡ b →
-            Keeps (linked l repo blob) (if b then slots else with_slot slots k (on_held raise))
-        by_link k h at digest bytes true is = Keeps-old k h at digest bytes is
-        by_link k h at digest bytes false is = Keeps-new k h at digest bytes is
+        subst (λ (x : Linked). Keeps l u slots max_blob repo blob x slots') (sym links) (subst (λ (x : List Slot). Keeps l u slots max_blob repo blob (linked l repo blob) x) (sym slots_are) (Keeps-again k h at digest bytes))
     IsKept-Keeps l' slots' (anew k none free links slots_are) =
-        subst (λ (x : Linked). Keeps x slots') (sym links) (subst (λ (x : List Slot). Keeps (linked l repo blob) x) (sym slots_are) (Keeps-filled k none free))
+        subst (λ (x : Linked). Keeps l u slots max_blob repo blob x slots') (sym links) (subst (λ (x : List Slot). Keeps l u slots max_blob repo blob (linked l repo blob) x) (sym slots_are) (Keeps-filled l u slots max_blob repo blob tied lawful there k none free))

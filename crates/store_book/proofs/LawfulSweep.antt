@@ -24,7 +24,7 @@ module _ (C C' : Catalog) (swept : Swept) (sweep : IsSweep C swept C') (lawful :
   after = record C { residents = C'.residents; retired = C.retired + swept.retired }
 
   -- what is linked stays as it is
-  linked_stays : (l : Link) → set.contains C.links l ≡ true → (b : Resident) → get C.residents l.1 ≡ Some b → get C'.residents l.1 ≡ Some b
+  pub linked_stays : (l : Link) → set.contains C.links l ≡ true → (b : Resident) → get C.residents l.1 ≡ Some b → get C'.residents l.1 ≡ Some b
   linked_stays l h b found =
       elim (is_orphan C l.1) as (λ o. is_orphan C l.1 ≡ o → IsLeft o b (get C'.residents l.1) → get C'.residents l.1 ≡ Some b) [
         | true ↦ λ o _. absurd (true≢false (sym h ∙ uncounted C lawful l.1 (eqb-true (count C l.1) 0 o) l.0))

@@ -28,6 +28,15 @@ pub mod Bounds
 pub mod Taking
 pub mod SessionCharges
 pub mod Abandoning
+pub mod LentMarks
+pub mod Changing
+pub mod Pinning
+pub mod Reclaiming
+pub mod Finds
+pub mod Sweeping
+pub mod Looking
+pub mod SweptCatalog
+pub mod SweptSeen
 pub mod KeptBlobs
 pub mod KeepCalls
 pub mod Keepable
@@ -67,3 +76,4 @@ pub mod SessionTenants
 pub mod ChunkCharges
 pub mod PuttingBack
 pub mod Finishing
+pub mod Leasing

@@ -1,17 +1,19 @@
 -- Which slot a blob has that a repository of the book holds.
-use Rattle.std.proofs.Common.{◌≡◌, ℕ, Bool, true, false, List, Option, Some, None, refl, ap, ◌∙◌}
+use Rattle.std.proofs.Common.{◌≡◌, ℕ, Bool, true, false, List, Option, Some, None, refl, sym, ap, ◌∙◌}
 use Rattle.std.specs.Prelude.{◌&&◌, if◌then◌else◌}
 use Rattle.std.specs.FinMap.{get, contains_key}
-use Rattle.slot_table.specs.Slots.{Slot, slot_of}
+use Rattle.slot_table.specs.Slots.{Slot, Held, slot_of, held_at}
 use Rattle.link_table.specs.Linked.{Linked, is_tenants}
 use Rattle.upload_table.specs.Uploaded.{Uploaded}
-use Rattle.store_book.specs.Catalog.{Text, Catalog, is_of, holds}
+use Rattle.store_book.specs.Catalog.{Text, Resident, Catalog, is_of, holds}
 use Rattle.store_book.specs.Steps.{has_source}
 use Rattle.store_book.specs.Keeping.{linked_slot, source_slot}
-use Rattle.store_book.specs.Layers.{unlent, book_catalog, IsBook}
+use Rattle.store_book.specs.Layers.{lent_marks, resident_of, book_catalog, IsBook}
 use Rattle.store_book.proofs.Bridge.{holds_is}
 use Rattle.blob_digest.proofs.OptionLemmas.{some_value}
 use Rattle.store_book.proofs.SetMembers.{nothing}
+use Rattle.store_book.proofs.Changing.{resident_at}
+use Rattle.store_book.proofs.MapLemmas.{some_same}
 use Rattle.store_book.proofs.Ties.{not_resident}
 
 -- an answer that hangs on a test
@@ -33,18 +35,25 @@ module _ (l : Linked) (u : Uploaded) (slots : List Slot) (max_blob : ℕ) (book 
 
   -- what a repository holds is linked in it
   pub holds_linked : (r d : Text) → holds C r d ≡ contains_key l.links (r, d)
-  holds_linked r d = holds_is l u slots (unlent slots) max_blob book.tied (λ k h. (book.sound.lawful.links k h).repo) r d
+  holds_linked r d = holds_is l u slots (lent_marks slots) max_blob book.tied (λ k h. (book.sound.lawful.links k h).repo) r d
 
   has_slot : (r d : Text) → contains_key l.links (r, d) ≡ true → slot_of slots d ≡ None → ⊥
   has_slot r d linked none =
       let n = some_value (get l.links (r, d)) linked in
-      nothing (not_resident slots (unlent slots) d none) (book.tied.sizes (r, d) n.0 n.1).1
+      nothing (not_resident slots (lent_marks slots) d none) (book.tied.sizes (r, d) n.0 n.1).1
 
   pub linked_some : (r d : Text) (k : ℕ) → linked_slot l slots r d ≡ Some k → (contains_key l.links (r, d) ≡ true) × (slot_of slots d ≡ Some k)
   linked_some r d k e = some_if (contains_key l.links (r, d)) (slot_of slots d) k e
 
   pub linked_none : (r d : Text) → linked_slot l slots r d ≡ None → holds C r d ≡ false
   linked_none r d e = holds_linked r d ∙ none_if (contains_key l.links (r, d)) (slot_of slots d) e (has_slot r d)
+
+  -- what a repository holds isn't condemned
+  pub linked_live : (r d : Text) (k : ℕ) (h : Held) → held_at slots k ≡ Some h → h.digest ≡ d → holds C r d ≡ true → h.condemned ≡ false
+  linked_live r d k h at is has =
+      let kept = (book.sound.lawful.links (r, d) has).kept in
+      let same : resident_of h.lent h ≡ kept.0 = some_same (sym (ap (get C.residents) (sym is) ∙ resident_at slots k h at book.tied.distinct) ∙ kept.1) in
+      ap (λ (b : Resident). b.condemned) same ∙ kept.2
 
   -- a source is the tenant's and holds the digest
   pub source_some : (t : ℕ) (from d : Text) (k : ℕ) → source_slot l slots t from d ≡ Some k → (is_of C t from ≡ true) × (holds C from d ≡ true) × (slot_of slots d ≡ Some k)

@@ -52,7 +52,6 @@ module _ (l : Linked) (u : Uploaded) (slots : List Slot) (max_blob t : ℕ) (rep
     sound = Sound-after_delete_manifest C after repo digest (delete_there bytes is) book.sound;
     tied = record { marks = book.tied.marks; distinct = book.tied.distinct; sizes = book.tied.sizes; counts = book.tied.counts };
     charges = record { one_each = book.charges.one_each; sums = book.charges.sums };
-    live = book.live;
   }
 
 -- ---- the references of a manifest, one after the other
@@ -88,9 +87,10 @@ pub is_some-of : {A : Type 0} (f : A → Text) (o : Option A) (x : Option Text) 
 is_some-of f None x b e h = sym (ap is_some e) ∙ h
 is_some-of f (Some a) x b e h = sym (ap is_some e) ∙ h
 
--- a manifest that was read from these bytes
-pub read_from : (bytes m : Text) (refs : List Text) (name : Text) → m ≡ bytes → refs_of m ≡ Some refs → name ≡ sha256_text m → length m ≤ max_manifest → IsManifest bytes refs name
-read_from bytes m refs name is named agrees fits = subst (λ (x : Text). IsManifest x refs name) is (record { named = named; agrees = agrees; fits = fits })
+-- a manifest that was read from these bytes, which it keeps
+pub read_from : (bytes m kept : Text) (refs : List Text) (name : Text) → m ≡ bytes → kept ≡ m → length kept ≤ max_manifest → refs_of m ≡ Some refs → name ≡ sha256_text m → IsManifest bytes refs name
+read_from bytes m kept refs name is shown fits named agrees =
+    subst (λ (x : Text). IsManifest x refs name) is (record { named = named; agrees = agrees; fits = subst (λ (x : Text). length x ≤ max_manifest) shown fits })
 
 module _ (l : Linked) (t : ℕ) (repo bytes : Text) where
   -- a repository that appeared has the manifest put into it
@@ -167,5 +167,4 @@ module _ (l : Linked) (u : Uploaded) (slots : List Slot) (max_blob t : ℕ) (rep
               counts = λ k h at. book.tied.counts k h at ∙ sym (count-appear B repo h.digest book.sound.lawful);
             };
             charges = record { one_each = book.charges.one_each; sums = book.charges.sums };
-            live = book.live;
           })

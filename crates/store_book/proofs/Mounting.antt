@@ -8,23 +8,26 @@ use Rattle.std.proofs.lemmas.Map.Lookups.{exact_bytes}
 use Rattle.blob_digest.specs.declared.refusal.Refusal.{Refusal}
 use Rattle.blob_digest.specs.declared.refusal.Refusal.TheVariants.{NameUnknown}
 use Rattle.blob_digest.specs.Sets as set
-use Rattle.slot_table.specs.Slots.{Slot, Held, slot_of, held_at}
+use Rattle.slot_table.specs.declared.phase.Phase.TheVariants as phase
+use Rattle.slot_table.specs.Slots.{Slot, Held, slot_of, held_at, phase_at}
 use Rattle.link_table.specs.Linked.{Linked, known_tenant, appear}
 use Rattle.upload_table.specs.Uploaded.{Uploaded}
 use Rattle.store_book.specs.declared.mount.Mount.TheVariants as mounting
 use Rattle.store_book.specs.Catalog.{Text, Resident, Catalog, tenant_of, is_of, holds}
 use Rattle.store_book.specs.Steps.{mount, has_source, start, start_instead, link_held, with_link, lacks_room_for}
 use Rattle.store_book.specs.Keeping.{bytes_at, source_slot, CanKeep, IsKept}
-use Rattle.store_book.specs.Layers.{unlent, book_catalog, IsBook}
+use Rattle.store_book.specs.Layers.{lent_marks, book_catalog, IsBook}
 use Rattle.store_book.proofs.Bounds.{held_within, used_small}
 use Rattle.store_book.proofs.Counts.{count-appear}
 use Rattle.store_book.proofs.KeepCalls.{bytes_there}
 use Rattle.store_book.proofs.Keepable.{CanKeep-book}
-use Rattle.store_book.proofs.KeptBlobs.{Keeps, IsKept-Keeps, length-unlent, same_residents}
+use Rattle.store_book.proofs.KeptBlobs.{Keeps, IsKept-Keeps, same_residents}
+use Rattle.store_book.proofs.LentMarks.{length-marks}
 use Rattle.store_book.proofs.LawAppear.{Lawful-appear, used-appear}
 use Rattle.store_book.proofs.LawLink.{is_held}
 use Rattle.store_book.proofs.LawfulMount.{Sound-after_mount}
-use Rattle.store_book.proofs.LinkedSlots.{source_some, source_none}
+use Rattle.store_book.proofs.LinkedSlots.{linked_live, source_some, source_none}
+use Rattle.store_book.proofs.SlotLemmas.{phase_live}
 use Rattle.store_book.proofs.Outcomes.{some_of_ok, tenant_there}
 use Rattle.store_book.proofs.SetMembers.{now}
 use Rattle.store_book.proofs.Starting.{ok_of_if, err_of_if}
@@ -59,7 +62,6 @@ module _ (l : Linked) (u : Uploaded) (slots : List Slot) (max_blob t : ℕ) (rep
         counts = λ k h at. book.tied.counts k h at ∙ sym (count-appear C repo h.digest book.sound.lawful);
       };
       charges = record { one_each = book.charges.one_each; sums = book.charges.sums };
-      live = book.live;
     }
 
   module _ (digest from : Text) where
@@ -102,7 +104,14 @@ module _ (l : Linked) (u : Uploaded) (slots : List Slot) (max_blob t : ℕ) (rep
       same_bytes_there = sym (bytes_there slots k digest source.2)
 
       abbrev resident : (b : Resident) × (get C.residents held.0.digest ≡ Some b) × (b.bytes ≡ held.0.bytes) × (b.condemned ≡ held.0.condemned)
-      resident = slot_is_resident slots (unlent slots) (length-unlent slots) book.tied.distinct k held.0 held.1
+      resident = slot_is_resident slots (lent_marks slots) (length-marks slots) book.tied.distinct k held.0 held.1
+
+      -- its slot is live
+      source_live : held.0.condemned ≡ false
+      source_live = linked_live l u slots max_blob book from digest k held.0 held.1 held.2 source.1
+
+      pub live_source : phase_at slots k ≡ phase.Live
+      live_source = phase_live slots k held.0 held.1 source_live
 
       -- the tenant holds the blob, so that it is within its use
       small : length blob.1 ≤ 2 ^ 50
@@ -126,13 +135,13 @@ module _ (l : Linked) (u : Uploaded) (slots : List Slot) (max_blob t : ℕ) (rep
 
         module _ (l' : Linked) (slots' : List Slot) (kept : IsKept l0 slots repo blob l' slots') where
           keeps : Keeps l0 u slots max_blob repo blob l' slots'
-          keeps = IsKept-Keeps l0 u slots max_blob repo blob book0.tied book0.sound.lawful book0.live there0 l' slots' kept
+          keeps = IsKept-Keeps l0 u slots max_blob repo blob book0.tied book0.sound.lawful there0 l' slots' kept
 
           abbrev C' : Catalog
           C' = book_catalog l' u slots' max_blob
 
           left : C' ≡ with_link C repo digest
-          left = keeps.catalog ∙ (λ i. record (with_link C repo digest) { residents = same_residents l0 u slots max_blob repo blob book0.tied book0.sound.lawful book0.live there0 k held.0 held.1 held.2 same_bytes_there i })
+          left = keeps.catalog ∙ (λ i. record (with_link C repo digest) { residents = same_residents l0 u slots max_blob repo blob book0.tied book0.sound.lawful there0 k held.0 held.1 held.2 same_bytes_there source_live i })
 
           mounted : mount C repo digest (Some from) ≡ Ok (mounting.Mounted, C')
           mounted = links_it ∙ rw room (λ i. Ok (mounting.Mounted, sym left i))
@@ -151,7 +160,6 @@ module _ (l : Linked) (u : Uploaded) (slots : List Slot) (max_blob t : ℕ) (rep
               one_each = ap length same_charges ∙ book.charges.one_each ∙ sym same_tenants;
               sums = λ v lt. (λ i. slice_index (same_charges i) v) ∙ book.charges.sums v (let same = same_tenants in omega arith);
             };
-            live = keeps.live;
           }
 
       -- after the repository appeared

@@ -1,20 +1,17 @@
 -- A new book is sound, and its layers agree.
-use Rattle.std.proofs.Common.{◌≡◌, ℕ, ◌+◌, ◌≤◌, Bool, true, false, cond, List, [], ◌∷◌, length, map, get_or, None, refl, sym, ap, ◌∙◌, subst, arith}
+use Rattle.std.proofs.Common.{◌≡◌, ℕ, ◌+◌, ◌<◌, ◌≤◌, Bool, true, false, cond, List, [], ◌∷◌, length, map, get_or, None, refl, sym, ap, ◌∙◌, subst, arith, ◌⊎◌, inl, inr}
 use Prim.Native.Nat.{zero, suc}
-use Rattle.std.specs.Prelude.{replicate, nat_le, ◌&&◌, ◌^◌, Result, Ok, Err, if◌then◌else◌}
+use Rattle.std.specs.Prelude.{replicate, nat_le, ◌^◌}
 use Rattle.std.specs.List.{count_by, sum_by}
 use Rattle.std.specs.FinMap.{empty, get-empty}
 use Rattle.std.specs.FinMap as fmap
-use Rattle.std.proofs.lemmas.Bool.{and_parts, leb-true}
+use Rattle.std.proofs.lemmas.Bool.{leb-true, leb-false}
 use Rattle.std.proofs.lemmas.List.{length-replicate}
-use Rattle.blob_digest.specs.declared.refusal.Refusal.{Refusal}
-use Rattle.blob_digest.specs.declared.refusal.Refusal.TheVariants.{LimitReached}
 use Rattle.std.proofs.lemmas.List.Elements.{recursion_from_All}
 use Rattle.std.proofs.lemmas.List.Sums.{sum_by-cons}
 use Rattle.blob_digest.specs.Sets as set
 use Rattle.blob_digest.proofs.RowLemmas.{entries-empty}
 use Rattle.slot_table.specs.Slots.{Slot, held_at, empty_slot, is_retired}
-use Rattle.slot_table.specs.Slots.{opening as slots_opening}
 use Rattle.link_table.specs.Linked.{Linked}
 use Rattle.link_table.specs.Linked as links
 use Rattle.link_table.specs.Tenancy.{AreTenants, Opens}
@@ -23,10 +20,13 @@ use Rattle.upload_table.specs.Uploaded.{Uploaded}
 use Rattle.upload_table.specs.Uploaded as uploads
 use Rattle.store_book.specs.Catalog.{Text, Tenant, Resident, Catalog, text_cmp, link_cmp, number_cmp, opening}
 use Rattle.store_book.specs.Laws.{Sound}
-use Rattle.store_book.specs.BookState.{SlotShown}
-use Rattle.store_book.specs.Layers.{links_of, resident_rows, unlent, slot_shown, book_catalog, book_state, IsBook}
+use Rattle.atomic_table.specs.Seated.{TableId}
+use Rattle.pin_core.specs.Events.{IsOutside}
+use Rattle.store_book.specs.Pinned.{Pinned, all_seen}
+use Rattle.store_book.proofs.Pinning.{seen-opening}
+use Rattle.store_book.specs.Layers.{links_of, resident_rows, lent_marks, book_catalog, book_state, IsBook}
 use Rattle.store_book.specs.Openings.{IsSized, OpensBook}
-use Rattle.store_book.proofs.KeptBlobs.{length-unlent}
+use Rattle.store_book.proofs.LentMarks.{length-marks}
 use Rattle.store_book.proofs.LawfulOpening.{Sound-opening}
 use Rattle.store_book.proofs.SetMembers.{nothing}
 
@@ -62,9 +62,16 @@ zeros (suc n) (suc k) = zeros n k
 no_links : links_of empty ≡ set.none
 no_links = ap (λ (es : List ((Text × Text) × ℕ)). set.from_list {R = link_cmp} (map (λ e. e.0) es)) (entries-empty link_cmp ℕ)
 
-shown_slots : (slots first : ℕ) → map slot_shown (new_slots slots first) ≡ replicate slots (record { generation = first })
-shown_slots zero first = refl
-shown_slots (suc slots) first = ap (λ (xs : List SlotShown). record { generation = first } ∷ xs) (shown_slots slots first)
+zero_or : (n : ℕ) → (n ≡ 0) ⊎ (0 < n)
+zero_or zero = inl refl
+zero_or (suc n) = inr (omega arith)
+
+few_or : (n : ℕ) → (n ≤ 65536) ⊎ (65536 < n)
+few_or n = by (nat_le n 65536) refl
+  where
+    by : (b : Bool) → nat_le n 65536 ≡ b → (n ≤ 65536) ⊎ (65536 < n)
+    by true e = inl (leb-true n 65536 e)
+    by false e = inr (leb-false n 65536 e)
 
 module _ (tenants : List Tenant) (slots first max_blob : ℕ) where
   abbrev l : Linked
@@ -86,7 +93,7 @@ module _ (tenants : List Tenant) (slots first max_blob : ℕ) where
     manifests = empty;
     sessions = empty;
     next = ones tenants i;
-    residents = ap (λ (es : List (Text × Resident)). fmap.from_entries {R = text_cmp} es) (no_residents slots first (unlent (new_slots slots first))) i;
+    residents = ap (λ (es : List (Text × Resident)). fmap.from_entries {R = text_cmp} es) (no_residents slots first (lent_marks (new_slots slots first))) i;
     retired = none_retired slots first i;
   }
 
@@ -94,7 +101,7 @@ module _ (tenants : List Tenant) (slots first max_blob : ℕ) where
   IsBook-opening are sized = record {
     sound = subst (λ (D : Catalog). Sound D) (sym catalog-opening) (Sound-opening tenants slots max_blob are.limits.some are.limits.few are.rising sized.blobs (recursion_from_All _ tenants are.limits.quotas) sized.some sized.few);
     tied = record {
-      marks = length-unlent (new_slots slots first);
+      marks = length-marks (new_slots slots first);
       distinct = λ k m g h at_k at_m same. nothing (none_held slots first k) at_k;
       sizes = λ k n found. nothing (get-empty link_cmp k) found;
       counts = λ k h at. nothing (none_held slots first k) at;
@@ -103,35 +110,31 @@ module _ (tenants : List Tenant) (slots first max_blob : ℕ) where
       one_each = length-replicate (length tenants) 0;
       sums = λ t there. zeros (length tenants) t ∙ sym (ap (λ (es : List ((ℕ × ℕ) × Session)). sum_by (share t) es) (entries-empty number_cmp Session));
     };
-    live = λ k h at. nothing (none_held slots first k) at;
   }
 
-sized_slots : (count first : ℕ) (slots : List Slot) → slots_opening count first ≡ Ok slots → (1 ≤ count) × (count ≤ 65536) × (new_slots count first ≡ slots)
-sized_slots count first slots h = by_test (nat_le 1 count && nat_le count 65536) refl h
-  where
-    by_test : (b : Bool) → (nat_le 1 count && nat_le count 65536) ≡ b → ◌≡◌ {A = Result (List Slot) Refusal} (if b then Ok (new_slots count first) else Err LimitReached) (Ok slots) → (1 ≤ count) × (count ≤ 65536) × (new_slots count first ≡ slots)
-    by_test true is h = let parts = and_parts (nat_le 1 count) (nat_le count 65536) is in (leb-true 1 count parts.0, leb-true count 65536 parts.1, cc h)
-    by_test false is h = cc
-
 -- what the layers were made with makes a book
-module _ (given : List Tenant) (l' : Linked) (u' : Uploaded) (slots' : List Slot) (count first max_blob n : ℕ) (opened : Opens given l') (small : max_blob ≤ 2 ^ 40) (made : slots_opening count first ≡ Ok slots')
-    (uploads_are : u' ≡ uploads.opening n 1) (one_each : n ≡ length l'.tenants) where
-  sizes : (1 ≤ count) × (count ≤ 65536) × (new_slots count first ≡ slots')
-  sizes = sized_slots count first slots' made
+module _ (given : List Tenant) (l' : Linked) (u' : Uploaded) (p : Pinned) (t : TableId) (count first max_blob n : ℕ) (opened : Opens given l') (small : max_blob ≤ 2 ^ 40) (within : ¬ IsOutside count)
+    (made : p ≡ record { table = t; slots = replicate count (empty_slot first); bounds = replicate count 0 }) (uploads_are : u' ≡ uploads.opening n 1) (one_each : n ≡ length l'.tenants) where
+  slots_are : new_slots count first ≡ p.slots
+  slots_are = sym (ap (λ (x : Pinned). x.slots) made)
 
   sized : IsSized count max_blob
-  sized = let s = sizes in record { some = s.0; few = s.1; blobs = small }
+  sized = record {
+    some = elim (zero_or count) [ inl e ↦ absurd (within (inl e)) | inr lt ↦ lt ];
+    few = elim (few_or count) [ inl le ↦ le | inr lt ↦ absurd (within (inr lt)) ];
+    blobs = small;
+  }
 
   upload_is : u l'.tenants count first max_blob ≡ u'
   upload_is = sym (uploads_are ∙ ap (λ m. uploads.opening m 1) one_each)
 
-  pub opened_book : IsBook l' u' slots' max_blob
+  pub opened_book : IsBook l' u' p.slots max_blob
   opened_book =
-      subst (λ (x : Linked). IsBook x u' slots' max_blob) (sym opened.empty)
-      (subst (λ (x : Uploaded). IsBook (links.opening l'.tenants) x slots' max_blob) upload_is
-      (subst (λ (x : List Slot). IsBook (links.opening l'.tenants) (uploads.opening (length l'.tenants) 1) x max_blob) sizes.2 (IsBook-opening l'.tenants count first max_blob opened.tenants sized)))
+      subst (λ (x : Linked). IsBook x u' p.slots max_blob) (sym opened.empty)
+      (subst (λ (x : Uploaded). IsBook (links.opening l'.tenants) x p.slots max_blob) upload_is
+      (subst (λ (x : List Slot). IsBook (links.opening l'.tenants) (uploads.opening (length l'.tenants) 1) x max_blob) slots_are (IsBook-opening l'.tenants count first max_blob opened.tenants sized)))
 
-  pub opens_book : OpensBook given count max_blob first (book_state l' u' slots' max_blob)
+  pub opens_book : OpensBook given count max_blob first (book_state l' u' p max_blob)
   opens_book = record {
     names = opened.names;
     limits = opened.limits;
@@ -139,7 +142,7 @@ module _ (given : List Tenant) (l' : Linked) (u' : Uploaded) (slots' : List Slot
     catalog = record {
       same = opened.same;
       rising = opened.tenants.rising;
-      empty = (λ i. book_catalog (opened.empty i) (sym upload_is i) (sym sizes.2 i) max_blob) ∙ catalog-opening l'.tenants count first max_blob;
+      empty = (λ i. book_catalog (opened.empty i) (sym upload_is i) (sym slots_are i) max_blob) ∙ catalog-opening l'.tenants count first max_blob;
     };
-    slots = ap (map slot_shown) (sym sizes.2) ∙ shown_slots count first;
+    slots = ap (λ (x : Pinned). all_seen x.slots x.bounds) made ∙ seen-opening count first;
   }

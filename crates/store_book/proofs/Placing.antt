@@ -66,7 +66,7 @@ module _ (l : Linked) (u : Uploaded) (slots : List Slot) (marks : List Bool) (ma
       }
 
   abbrev filled : Held
-  filled = record { digest = blob.0; bytes = blob.1; condemned = false; links = 0 }
+  filled = record { digest = blob.0; bytes = blob.1; condemned = false; lent = false; links = 0 }
 
   pub held_at-fill : held_at slots' k ≡ Some filled
   held_at-fill = let s = free_slot slots k free in held_at-same slots k (fill blob) s.0 s.1

@@ -100,7 +100,6 @@ module _ (l l' : Linked) (u : Uploaded) (slots : List Slot) (max_blob t : ℕ) (
         counts = λ k h at. book.tied.counts k h at ∙ sym (count-appear C repo h.digest book.sound.lawful);
       };
       charges = record { one_each = book.charges.one_each; sums = λ v lt. book.charges.sums v lt ∙ sym (same_sessions v) };
-      live = book.live;
     }
 
     -- a session that was opened leaves a book

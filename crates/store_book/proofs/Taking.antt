@@ -14,7 +14,7 @@ use Rattle.upload_table.specs.Sessions.{InHand, are_home, check_in, hand_in, in_
 use Rattle.upload_table.specs.Uploaded.{Uploaded, with_sessions}
 use Rattle.store_book.specs.Catalog.{Text, Catalog, tenant_of, used, quota_of}
 use Rattle.store_book.specs.Steps.{◌>>=◌, refuse, take, within_quota}
-use Rattle.store_book.specs.Layers.{book_catalog, unlent, IsBook}
+use Rattle.store_book.specs.Layers.{book_catalog, lent_marks, IsBook}
 use Rattle.store_book.proofs.Bridge.{used_is}
 use Rattle.store_book.proofs.ChunkCharges.{IsBook-chunks}
 use Rattle.store_book.proofs.LawfulHands.{checked_home, home_charged, Checked}
@@ -44,7 +44,7 @@ module _ (l : Linked) (u : Uploaded) (slots : List Slot) (max_blob t : ℕ) (boo
 
   -- the use that the links keep is the catalog's
   pub use_is : t < length l.tenants → used_in l t ≡ used C t
-  use_is there = used_is l u slots (unlent slots) max_blob book.tied (λ k h. (book.sound.lawful.links k h).repo) t book.charges there
+  use_is there = used_is l u slots (lent_marks slots) max_blob book.tied (λ k h. (book.sound.lawful.links k h).repo) t book.charges there
 
   -- a charge that was made, or refused, is the catalog's check of the quota
   pub metered : (n : ℕ) → t < length l.tenants → within_quota C t n ≡ refuse (nat_lt (quota_in l.tenants t) (used_in l t + n)) (Quota (used_in l t) (quota_in l.tenants t))

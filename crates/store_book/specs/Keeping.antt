@@ -7,7 +7,7 @@ use Rattle.blob_digest.specs.Outcomes.{OutcomeIn, ◌>>=◌}
 use Rattle.blob_digest.specs.Sets as set
 use Rattle.blob_digest.specs.declared.refusal.Refusal.{Refusal}
 use Rattle.blob_digest.specs.declared.refusal.Refusal.TheVariants.{DigestInvalid, StoreFull, ManifestBlobUnknown}
-use Rattle.slot_table.specs.Slots.{Slot, Held, slot_of, held_at, phase_at, free_slots, with_slot, fill, on_held, raise}
+use Rattle.slot_table.specs.Slots.{Slot, Held, slot_of, held_at, phase_at, free_slots, with_slot, fill, on_held, raise, mark}
 use Rattle.slot_table.specs.declared.phase.Phase.TheVariants as phase
 use Rattle.link_table.specs.Linked.{Linked, is_tenants, used_in, appear, put_manifest}
 
@@ -27,14 +27,18 @@ source_slot l slots t from digest = if is_tenants l.tenants t from then linked_s
 abbrev pub linked : Linked → Text → Text × Text → Linked
 linked l repo blob = record l { links = fmap.insert l.links (repo, blob.0) (length blob.1) }
 
+-- the slots with the blob in slot k live
+abbrev pub woken : List Slot → ℕ → List Slot
+woken slots k = with_slot slots k (on_held (mark false))
+
 -- the slots after a link of the blob in slot k, which counts where it is new
 abbrev pub counted : Linked → List Slot → Text → Text → ℕ → List Slot
 counted l slots repo digest k = if fmap.contains_key l.links (repo, digest) then slots else with_slot slots k (on_held raise)
 
--- A blob is linked in a repository. Its digest had a slot, which holds the same bytes and counts the link where it is new; or a free slot
--- was filled with it, and counts one link.
+-- A blob is linked in a repository. Its digest had a slot, which holds the same bytes, is live now, and counts the link where it is new; or
+-- a free slot was filled with it, and counts one link.
 pub data IsKept (l : Linked) (slots : List Slot) (repo : Text) (blob : Text × Text) (l' : Linked) (slots' : List Slot) : Type 0 where
-  again : (k : ℕ) (h : Held) → slot_of slots blob.0 ≡ Some k → held_at slots k ≡ Some h → h.bytes ≡ blob.1 → l' ≡ linked l repo blob → slots' ≡ counted l slots repo blob.0 k → IsKept l slots repo blob l' slots'
+  again : (k : ℕ) (h : Held) → slot_of slots blob.0 ≡ Some k → held_at slots k ≡ Some h → h.bytes ≡ blob.1 → l' ≡ linked l repo blob → slots' ≡ counted l (woken slots k) repo blob.0 k → IsKept l slots repo blob l' slots'
   anew : (k : ℕ) → slot_of slots blob.0 ≡ None → phase_at slots k ≡ phase.Free → l' ≡ linked l repo blob → slots' ≡ with_slot (with_slot slots k (fill blob)) k (on_held raise) → IsKept l slots repo blob l' slots'
 
 -- Why a blob isn't linked: its digest has a slot with other bytes, or none, and no slot is free.
@@ -42,7 +46,7 @@ pub data IsUnkept (slots : List Slot) (blob : Text × Text) (e : Refusal) : Type
   differs : (k : ℕ) (h : Held) → slot_of slots blob.0 ≡ Some k → held_at slots k ≡ Some h → h.bytes ≢ blob.1 → e ≡ DigestInvalid → IsUnkept slots blob e
   full : slot_of slots blob.0 ≡ None → free_slots slots ≡ 0 → e ≡ StoreFull → IsUnkept slots blob e
 
--- What linking a blob takes: the repository is the tenant's and there, one size for each digest, room for the numbers, and no slot condemned.
+-- What linking a blob takes: the repository is the tenant's and there, one size for each digest, and room for the numbers.
 pub record CanKeep (l : Linked) (slots : List Slot) (t : ℕ) (repo : Text) (blob : Text × Text) : Type 0 where
   pub tenant : t < length l.tenants
   pub own : is_tenants l.tenants t repo ≡ true
@@ -50,7 +54,6 @@ pub record CanKeep (l : Linked) (slots : List Slot) (t : ℕ) (repo : Text) (blo
   pub held : (d : Text) → slot_of slots d ≡ None → (r : Text) → fmap.get l.links (r, d) ≡ None
   pub sizes : (k : ℕ) (h : Held) (r : Text) (n : ℕ) → held_at slots k ≡ Some h → fmap.get l.links (r, h.digest) ≡ Some n → n ≡ length h.bytes
   pub room : used_in l t + length blob.1 < 2 ^ 64
-  pub live : (k : ℕ) (h : Held) → held_at slots k ≡ Some h → h.condemned ≡ false
   pub counts : (k : ℕ) (h : Held) → held_at slots k ≡ Some h → h.links + 1 < 2 ^ 32
 
 -- a repository holds each of these digests; the first that it doesn't hold is named

@@ -1,11 +1,13 @@
 -- The catalog that the layers of the book stand for together, and what ties them.
 use Rattle.std.specs.Prelude.{◌≡◌, ℕ, ◌<◌, Bool, false, Some, List, [], ◌∷◌, length, map, count_by, slice_index}
+use Rattle.std.specs.Option.{option_map_or}
 use Rattle.std.specs.FinMap as fmap
 use Rattle.blob_digest.specs.Sets as set
-use Rattle.slot_table.specs.Slots.{Slot, Held, Content, Free, Used, Retired, is_retired, held_at, IsDistinct}
+use Rattle.slot_table.specs.Slots.{Slot, Held, Content, Free, Used, Retired, is_retired, held_at, held_in, IsDistinct}
 use Rattle.link_table.specs.Linked.{Linked}
 use Rattle.upload_table.specs.Uploaded.{Uploaded}
-use Rattle.store_book.specs.BookState.{BookState, SlotShown}
+use Rattle.store_book.specs.BookState.{BookState}
+use Rattle.store_book.specs.Pinned.{Pinned, all_seen}
 use Rattle.store_book.specs.Catalog.{Text, Link, Resident, Catalog, text_cmp, link_cmp, in_sessions_of, count}
 use Rattle.store_book.specs.Laws.{Sound}
 
@@ -30,9 +32,13 @@ resident_rows (s ∷ slots) (m ∷ marks) = with_resident s.content m (resident_
 abbrev pub residents_of : List Slot → List Bool → fmap.FinMap text_cmp Resident
 residents_of slots lent = fmap.from_entries (resident_rows slots lent)
 
--- no slot was lent (leases are not there yet)
-abbrev pub unlent : List Slot → List Bool
-unlent slots = map (λ _. false) slots
+-- whether a slot holds a blob that was lent since it was stored
+abbrev pub is_lent : Slot → Bool
+is_lent s = option_map_or (λ h. h.lent) (held_in s.content) false
+
+-- the lent mark of each slot
+abbrev pub lent_marks : List Slot → List Bool
+lent_marks slots = map is_lent slots
 
 abbrev pub catalog_from : Linked → Uploaded → List Slot → List Bool → ℕ → Catalog
 catalog_from l u slots lent max_blob = record {
@@ -50,13 +56,10 @@ catalog_from l u slots lent max_blob = record {
 
 -- what the layers stand for together
 abbrev pub book_catalog : Linked → Uploaded → List Slot → ℕ → Catalog
-book_catalog l u slots max_blob = catalog_from l u slots (unlent slots) max_blob
+book_catalog l u slots max_blob = catalog_from l u slots (lent_marks slots) max_blob
 
-abbrev pub slot_shown : Slot → SlotShown
-slot_shown s = record { generation = s.generation }
-
-abbrev pub book_state : Linked → Uploaded → List Slot → ℕ → BookState
-book_state l u slots max_blob = record { catalog = book_catalog l u slots max_blob; slots = map slot_shown slots }
+abbrev pub book_state : Linked → Uploaded → Pinned → ℕ → BookState
+book_state l u pinned max_blob = record { catalog = book_catalog l u pinned.slots max_blob; table = pinned.table; slots = all_seen pinned.slots pinned.bounds }
 
 -- What the book keeps of its layers, besides that their catalog is sound.
 pub record IsTied (l : Linked) (slots : List Slot) (lent : List Bool) (C : Catalog) : Type 0 where
@@ -74,13 +77,8 @@ pub record AreCharges (l : Linked) (C : Catalog) : Type 0 where
   pub one_each : length l.charges ≡ length l.tenants
   pub sums : (t : ℕ) → t < length l.tenants → slice_index l.charges t ≡ in_sessions_of C t
 
--- no slot is condemned (nothing condemns one yet)
-abbrev pub AreLive : List Slot → Type 0
-AreLive slots = (k : ℕ) (h : Held) → held_at slots k ≡ Some h → h.condemned ≡ false
-
 -- What a book keeps: its catalog is sound, and its layers agree.
 pub record IsBook (l : Linked) (u : Uploaded) (slots : List Slot) (max_blob : ℕ) : Type 0 where
   pub sound : Sound (book_catalog l u slots max_blob)
-  pub tied : IsTied l slots (unlent slots) (book_catalog l u slots max_blob)
+  pub tied : IsTied l slots (lent_marks slots) (book_catalog l u slots max_blob)
   pub charges : AreCharges l (book_catalog l u slots max_blob)
-  pub live : AreLive slots

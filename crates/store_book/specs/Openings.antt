@@ -1,9 +1,10 @@
 -- What a book is opened with, and why it is refused.
-use Rattle.std.specs.Prelude.{◌≡◌, ◌<◌, ◌≤◌, ◌^◌, ℕ, List, map, replicate}
+use Rattle.std.specs.Prelude.{◌≡◌, ◌<◌, ◌≤◌, ◌^◌, ℕ, None, List, map, replicate}
 use Rattle.std.specs.List.Sorted.{IsPermutation, IsStrictlySortedBy}
 use Rattle.blob_digest.specs.declared.refusal.Refusal.{Refusal}
 use Rattle.blob_digest.specs.declared.refusal.Refusal.TheVariants.{NameInvalid, LimitReached, Memory}
 pub use Rattle.link_table.specs.Tenancy.{HasNames, IsWithinLimits, max_quota, max_tenants, tenant_shown, tenants_shown}
+use Rattle.slot_table.specs.declared.phase.Phase.TheVariants as phase
 use Rattle.store_book.specs.BookState.{BookState}
 use Rattle.store_book.specs.Catalog.{Tenant, Catalog, text_cmp, opening}
 
@@ -19,13 +20,13 @@ pub record OpensCatalog (given : List Tenant) (slots max_blob : ℕ) (C : Catalo
   pub rising : IsStrictlySortedBy text_cmp (map (λ t. t.name) C.tenants)
   pub empty : C ≡ opening C.tenants slots max_blob
 
--- The tenants and limits are as they must be, the catalog is the opening one, and each slot is in its first generation.
+-- The tenants and limits are as they must be, the catalog is the opening one, and each slot is free in its first generation, with nothing lent.
 pub record OpensBook (given : List Tenant) (count max_blob first : ℕ) (book : BookState) : Type 0 where
   pub names : HasNames given
   pub limits : IsWithinLimits given
   pub sized : IsSized count max_blob
   pub catalog : OpensCatalog given count max_blob book.catalog
-  pub slots : book.slots ≡ replicate count (record { generation = first })
+  pub slots : book.slots ≡ replicate count (record { generation = first; phase = phase.Free; digest = None; bound = 0 })
 
 -- Why a book isn't opened: for a tenant's name, and else for a limit. Want of memory may come in place of either.
 abbrev pub RefusesBook : Refusal → List Tenant → ℕ → ℕ → Type 0

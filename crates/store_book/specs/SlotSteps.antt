@@ -1,20 +1,19 @@
 -- What commands and sweeps do to slots, beside what they do to the catalog.
-use Rattle.std.specs.Prelude.{◌≡◌, ◌<◌, ◌≤◌, ◌+◌, ◌^◌, ℕ, Bool, true, Option, Some, Result, List, length, slice_get}
+use Rattle.std.specs.Prelude.{◌≡◌, ◌<◌, ◌≤◌, ◌+◌, ◌^◌, ◌⊎◌, ℕ, Bool, true, Some, None, Result, List, length, slice_get}
+use Rattle.std.specs.FinMap as fmap
+use Rattle.blob_digest.specs.Digests.{is_digest_of}
 use Rattle.blob_digest.specs.Keys.{Text}
 use Rattle.blob_digest.specs.declared.refusal.Refusal.{Refusal}
 use Rattle.blob_digest.specs.Outcomes.{Does}
+use Rattle.pin_core.specs.World.{word_of}
+use Rattle.pin_core.specs.declared.world.Hold.{Hold}
+use Rattle.pin_core.specs.declared.world.Phase as pin
+use Rattle.pin_core.specs.declared.world.Phase.TheVariants as word
 use Rattle.slot_table.specs.declared.phase.Phase.{Phase}
 use Rattle.slot_table.specs.declared.phase.Phase.TheVariants as phase
-use Rattle.store_book.specs.Catalog.{Catalog}
+use Rattle.store_book.specs.BookState.{BookState, SlotSeen}
+use Rattle.store_book.specs.Catalog.{Catalog, Resident}
 use Rattle.store_book.specs.Steps.{lease}
-
--- A slot with the keeper's view of it: its generation, what it is, the digest of its blob where it is used, and a bound on the sum of
--- the weights that readers have of it, which is the last look at that sum and what was lent since.
-pub record SlotSeen : Type 0 where
-  pub generation : ℕ
-  pub phase : Phase
-  pub digest : Option Text
-  pub bound : ℕ
 
 -- each slot is related to what it was
 abbrev pub EachSlot : (SlotSeen → SlotSeen → Type 0) → List SlotSeen → List SlotSeen → Type 0
@@ -40,12 +39,47 @@ pub record Leases {A : Type 0} (view : A → Text) (result : Result A Refusal) (
   pub does : Does view result C C' (lease crowded C repo digest)
   pub look : crowded ≡ true → IsCrowded digest new
 
--- ---- sweeps
+-- ---- looks and sweeps
 
--- A sweep keeps a slot in its generation, live or condemned; or frees one that was used, into the next generation; or retires one that
--- was used, in the last.
+-- what the words call what a slot is
+abbrev pub word_phase : Phase → pin.Phase
+word_phase phase.Free = word.Free
+word_phase phase.Live = word.Live
+word_phase phase.Condemned = word.Condemned
+word_phase phase.Retired = word.Retired
+
+-- a slot stays as it is, but for a look that may lower its bound
+abbrev pub IsStill : SlotSeen → SlotSeen → Type 0
+IsStill a b = (b.generation ≡ a.generation) × (b.phase ≡ a.phase) × (b.digest ≡ a.digest) × (b.bound ≤ a.bound)
+
+-- The word n of the slot k was read: the slot's generation and phase, and a sum of weights within its bound, which the bound is now.
+pub record ReadsWord (k n : ℕ) (old new : List SlotSeen) : Type 0 where
+  pub slot : SlotSeen
+  pub there : slice_get old k ≡ Some slot
+  pub weight : ℕ
+  pub reads : n ≡ word_of slot.generation (word_phase slot.phase) weight
+  pub within : weight ≤ slot.bound
+  pub after : slice_get new k ≡ Some (record slot { bound = weight })
+
+-- A pin's slot is used and its own: it has the pin's generation and digest, and so has the blob that is kept of that digest.
+pub record HasPin (h : Hold) (book : BookState) : Type 0 where
+  pub slot : SlotSeen
+  pub there : slice_get book.slots h.slot ≡ Some slot
+  pub used : (slot.phase ≡ phase.Live) ⊎ (slot.phase ≡ phase.Condemned)
+  pub generation : slot.generation ≡ h.generation
+  pub digest : slot.digest ≡ Some h.digest
+  pub blob : Resident
+  pub resident : fmap.get book.catalog.residents h.digest ≡ Some blob
+  pub content : is_digest_of h.digest blob.bytes ≡ true
+
+-- A sweep leaves a slot as it is, or condemns its live blob; or it frees one that was used, into the next generation; or it retires one
+-- that was used, in the last.
 pub data IsSweptSlot (a b : SlotSeen) : Type 0 where
-  same : IsQuiet a b → b.phase ≡ a.phase → IsSweptSlot a b
-  condemned : IsQuiet a b → a.phase ≡ phase.Live → b.phase ≡ phase.Condemned → IsSweptSlot a b
-  freed : (d : Text) → a.digest ≡ Some d → b.phase ≡ phase.Free → b.generation ≡ a.generation + 1 → b.generation < 2 ^ 32 → IsSweptSlot a b
-  retired : (d : Text) → a.digest ≡ Some d → b.phase ≡ phase.Retired → b.generation ≡ a.generation → a.generation + 1 ≡ 2 ^ 32 → IsSweptSlot a b
+  same : IsStill a b → IsSweptSlot a b
+  condemned : a.phase ≡ phase.Live → IsStill (record a { phase = phase.Condemned }) b → IsSweptSlot a b
+  freed : (d : Text) → a.digest ≡ Some d → a.generation + 1 < 2 ^ 32 → b ≡ record { generation = a.generation + 1; phase = phase.Free; digest = None; bound = 0 } → IsSweptSlot a b
+  retired : (d : Text) → a.digest ≡ Some d → a.generation + 1 ≡ 2 ^ 32 → b ≡ record { generation = a.generation; phase = phase.Retired; digest = None; bound = 0 } → IsSweptSlot a b
+
+-- some slot is in its last generation
+abbrev pub HasLast : List SlotSeen → Type 0
+HasLast slots = (k : ℕ) × (s : SlotSeen) × (slice_get slots k ≡ Some s) × (s.generation + 1 ≡ 2 ^ 32)

@@ -2,13 +2,7 @@
 use Rattle.std.specs.Prelude.{◌≡◌, ℕ, ◌+◌, ◌==◌, ◌&&◌, not, Bool, true, false, Option, Some, None, count_by, is_none}
 use Rattle.std.specs.FinMap as fmap
 use Rattle.store_book.specs.Catalog.{Text, Resident, Catalog, count}
-
--- how many blobs a sweep condemned, and how many slots it freed, left to readers, and retired
-pub record Swept : Type 0 where
-  pub condemned : ℕ
-  pub freed : ℕ
-  pub held : ℕ
-  pub retired : ℕ
+pub use Rattle.store_book.specs.declared.sweep.Swept.{Swept}
 
 -- whether no repository holds a digest
 abbrev pub is_orphan : Catalog → Text → Bool

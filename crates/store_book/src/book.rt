@@ -1,22 +1,28 @@
-ghost use Rattle.std.specs.Prelude.{◌≡◌, Some, IfOk, IfErr, OnOk};
+ghost use Rattle.std.specs.Prelude.{◌≡◌, ◌<◌, length, Some, IfOk, IfErr, OnOk};
 ghost use Rattle.blob_digest.specs.Outcomes.{Answers, Does, DoesExactly};
 ghost use Rattle.link_table.specs.Tenancy.{tenants_shown};
 ghost use Rattle.store_book.specs.Laws.{Sound};
+ghost use Rattle.store_book.specs.Pinned.{blob_bytes};
 ghost use Rattle.store_book.specs.Openings.{OpensBook, RefusesBook};
 ghost use Rattle.store_book.specs.Printed.{book_text};
+ghost use Rattle.store_book.specs.SlotSteps.{EachSlot, HasLast, HasPin, IsCrowded, IsLending, IsQuiet, IsStill, IsSweptSlot, Leases, ReadsWord};
 ghost use Rattle.store_book.specs.Steps.{start, status, append, close, abandon, mount, delete, put_manifest, get_manifest, delete_manifest, take, put_back, finish, given_back};
+ghost use Rattle.store_book.specs.Sweeps.{IsSweep};
 ghost use Rattle.upload_table.specs.Uploaded.{IsFull};
+ghost use Rattle.std.specs.Arc.{arc_value};
 ghost use Rattle.std.specs.Io.KnownBytes.{Appends};
 
 use crate::config::{Config, copied};
 use crate::keep::{find_linked, keep, link_slot};
 use crate::manifests::{add_manifest, check_linked};
 use crate::mount::{Mount, find_source};
+use crate::pinned_slots::PinnedSlots;
 use crate::print::print_book;
-use blob_digest::{ByteRange, Digest, Refusal, RepoName};
+use crate::sweep::{Swept, sweep_slots};
+use blob_digest::{Blob, ByteRange, Digest, Refusal, RepoName};
 use link_table::Links;
 use oci_manifest::{Manifest, read};
-use slot_table::SlotTable;
+use pin_table::{Pin, Pins};
 use std::alloc::Global;
 use std::io::{self, Write};
 use std::marker::Model;
@@ -29,7 +35,7 @@ pub struct Book {
     alloc: Global,
     pub(crate) links: Links,
     pub(crate) uploads: Uploads,
-    pub(crate) slots: SlotTable,
+    pub(crate) slots: PinnedSlots,
     max_blob: u64,
 }
 
@@ -44,7 +50,7 @@ impl Model for Book {
 
     ghost view = { λ a. book_state a.links a.uploads a.slots a.max_blob };
 
-    ghost invariant = { λ a. IsBook a.links a.uploads a.slots a.max_blob };
+    ghost invariant = { λ a. IsBook a.links a.uploads a.slots.slots a.max_blob };
 }
 
 /// The largest limit on the size of a blob, in bytes.
@@ -52,13 +58,14 @@ pub const MAX_BLOB: u64 = 1 << 40;
 
 impl Book {
     /// The book of a new store: its tenants in the order of their names, no repository, and every slot
-    /// free.
+    /// free; and the words of its slots.
     ///
     /// Refused, in this order: a tenant's name that is no component of a repository's name or comes
     /// twice (`NameInvalid`); a count, a quota or a size beyond its limit (`LimitReached`); want of
     /// memory.
-    pub fn new(alloc: Global, config: &Config) -> Result<Book, Refusal>
-        ensures opened { IfOk result (OpensBook (tenants_shown config.now.tenants.items) config.now.slots config.now.max_blob config.now.first_generation) }
+    pub fn new(alloc: Global, config: &Config) -> Result<(Book, Pins), Refusal>
+        ensures opened { IfOk result (λ r. OpensBook (tenants_shown config.now.tenants.items) config.now.slots config.now.max_blob config.now.first_generation r.0) }
+        ensures table { IfOk result (λ r. r.0.table ≡ r.1) }
         ensures refused { IfErr result (λ e. RefusesBook e (tenants_shown config.now.tenants.items) config.now.slots config.now.max_blob) }
     {
         let tenants = copied(alloc, &config.tenants)?;
@@ -66,15 +73,16 @@ impl Book {
         if config.max_blob > MAX_BLOB {
             return Err(Refusal::LimitReached);
         }
-        let slots = SlotTable::new(alloc, config.slots, config.first_generation)?;
+        let (slots, pins) = PinnedSlots::new(alloc, config.slots, config.first_generation)?;
         let uploads = Uploads::new(alloc, links.tenants(), 1)?;
-        Ok(Book {
+        let book = Book {
             alloc,
             links,
             uploads,
             slots,
             max_blob: config.max_blob,
-        })
+        };
+        Ok((book, pins))
     }
 
     /// Opens a session in a repository, and answers its number (OCI Distribution Specification 1.1,
@@ -85,7 +93,7 @@ impl Book {
     /// (`LimitReached`); want of memory.
     pub fn start(&mut self, repo: &RepoName) -> Result<u32, Refusal>
         ensures does { Does (λ n. n) result self.old.catalog self.new.catalog (start self.old.catalog repo.now) }
-        ensures slots { self.new.slots ≡ self.old.slots }
+        ensures slots { (self.new.table ≡ self.old.table) × (self.new.slots ≡ self.old.slots) }
     {
         let tenant = self.links.tenant(repo)?;
         let is_new = self.links.appear(tenant, repo)?;
@@ -128,7 +136,7 @@ impl Book {
         bytes: &[u8],
     ) -> Result<u64, Refusal>
         ensures does { Does (λ n. n) result self.old.catalog self.new.catalog (append self.old.catalog repo.now number range bytes.now) }
-        ensures slots { self.new.slots ≡ self.old.slots }
+        ensures slots { (self.new.table ≡ self.old.table) × (self.new.slots ≡ self.old.slots) }
     {
         let hand = self.take(repo, number, range, bytes.len() as u64)?;
         match hand.fill(bytes) {
@@ -151,18 +159,20 @@ impl Book {
     /// without the last chunk.
     pub fn close(
         &mut self,
+        pins: &Pins,
         repo: &RepoName,
         number: u32,
         digest: &Digest,
         range: Option<ByteRange>,
         bytes: &[u8],
     ) -> Result<u64, Refusal>
+        requires table { self.old.table ≡ pins.now }
         ensures does { Does (λ n. n) result self.old.catalog self.new.catalog (close self.old.catalog repo.now number digest.now range bytes.now) }
-        ensures slots { self.new.slots ≡ self.old.slots }
+        ensures slots { (self.new.table ≡ self.old.table) × EachSlot IsQuiet self.old.slots self.new.slots }
     {
         let hand = self.take(repo, number, range, bytes.len() as u64)?;
         match hand.fill(bytes) {
-            Ok(hand) => self.finish(hand, digest),
+            Ok(hand) => self.finish(pins, hand, digest),
             Err(hand) => {
                 let _ = self.put_back(hand);
                 Err(Refusal::Memory)
@@ -186,7 +196,7 @@ impl Book {
         len: u64,
     ) -> Result<Hand, Refusal>
         ensures does { DoesExactly (λ h. h) result self.old.catalog self.new.catalog (take self.old.catalog repo.now number range len) }
-        ensures slots { self.new.slots ≡ self.old.slots }
+        ensures slots { (self.new.table ≡ self.old.table) × (self.new.slots ≡ self.old.slots) }
     {
         let tenant = self.links.tenant(repo)?;
         let _ = self
@@ -203,7 +213,7 @@ impl Book {
     /// number and its lengths. The hand is then let go, and nothing changes.
     pub fn put_back(&mut self, hand: Hand) -> Result<u64, Refusal>
         ensures does { DoesExactly (λ n. n) result self.old.catalog self.new.catalog (put_back self.old.catalog hand) }
-        ensures slots { self.new.slots ≡ self.old.slots }
+        ensures slots { (self.new.table ≡ self.old.table) × (self.new.slots ≡ self.old.slots) }
     {
         let tenant = hand.tenant();
         let reserved = hand.reserved();
@@ -221,10 +231,11 @@ impl Book {
     /// (`DigestInvalid`); a store that has no slot free for a digest that is not kept (`StoreFull`);
     /// want of memory. The first changes nothing; after the others the session is as before it was
     /// taken.
-    pub fn finish(&mut self, hand: Hand, digest: &Digest) -> Result<u64, Refusal>
+    pub fn finish(&mut self, pins: &Pins, hand: Hand, digest: &Digest) -> Result<u64, Refusal>
+        requires table { self.old.table ≡ pins.now }
         requires full { IsFull hand }
         ensures does { Does (λ n. n) result (given_back self.old.catalog hand) self.new.catalog (finish self.old.catalog hand digest.now) }
-        ensures slots { self.new.slots ≡ self.old.slots }
+        ensures slots { (self.new.table ≡ self.old.table) × EachSlot IsQuiet self.old.slots self.new.slots }
     {
         let tenant = hand.tenant();
         let reserved = hand.reserved();
@@ -240,7 +251,7 @@ impl Book {
         };
         let size = blob.bytes().len() as u64;
         let repo = self.uploads.repo_of(&sealed);
-        match keep(&mut self.links, &mut self.slots, tenant, repo, blob) {
+        match keep(&mut self.links, &mut self.slots, pins, tenant, repo, blob) {
             Ok(()) => {
                 self.uploads.forget(sealed);
                 self.links.discharge(tenant, size);
@@ -258,10 +269,10 @@ impl Book {
     /// given again. It takes no memory.
     ///
     /// Refused, in this order: a tenant that is not there (`NameUnknown`); a session that is not there
-    /// or another repository's (`UploadUnknown`).
+    /// or another repository's (`UploadUnknown`); a session that is in hand (`Busy`).
     pub fn abandon(&mut self, repo: &RepoName, number: u32) -> Result<u64, Refusal>
         ensures does { DoesExactly (λ n. n) result self.old.catalog self.new.catalog (abandon self.old.catalog repo.now number) }
-        ensures slots { self.new.slots ≡ self.old.slots }
+        ensures slots { (self.new.table ≡ self.old.table) × (self.new.slots ≡ self.old.slots) }
     {
         let tenant = self.links.tenant(repo)?;
         let received = self.uploads.received_home(tenant, repo, number)?;
@@ -273,8 +284,8 @@ impl Book {
     /// Links a blob that another repository of the tenant holds, without an upload (OCI Distribution
     /// Specification 1.1, "Mounting a blob from another repository"). The repository appears with it.
     /// Where the source is another tenant's, or isn't there, or doesn't hold the blob, this opens a
-    /// session in the repository, as `start` does. No bytes are copied; it takes a look at each slot,
-    /// each link and each repository.
+    /// session in the repository, as `start` does. No bytes are copied; it takes the logarithm of the
+    /// number of links and of kept blobs, and a repository that appears moves those of its tenant behind it.
     ///
     /// Refused, in this order: a tenant that is not there (`NameUnknown`); a tenant that has 1,024
     /// repositories where this one is new, and, where a session is opened, 64 sessions or no session
@@ -286,10 +297,10 @@ impl Book {
         from: &RepoName,
     ) -> Result<Mount, Refusal>
         ensures does { Does (λ m. m) result self.old.catalog self.new.catalog (mount self.old.catalog repo.now digest.now (Some from.now)) }
-        ensures slots { self.new.slots ≡ self.old.slots }
+        ensures slots { (self.new.table ≡ self.old.table) × (self.new.slots ≡ self.old.slots) }
     {
         let tenant = self.links.tenant(repo)?;
-        let Some(slot) = find_source(&self.links, &self.slots, tenant, from, digest) else {
+        let Some(slot) = find_source(&self.links, self.slots.table(), tenant, from, digest) else {
             let number = self.start(repo)?;
             return Ok(Mount::Session(number));
         };
@@ -307,17 +318,18 @@ impl Book {
 
     /// Takes the link to a blob out of a repository (OCI Distribution Specification 1.1, "Deleting
     /// Blobs"). The blob stays in its slot, and other repositories keep their links. It takes no
-    /// memory; it takes a look at each slot.
+    /// memory, and the logarithm of the number of links, of kept blobs and of the references of the
+    /// repository's manifests.
     ///
     /// Refused, in this order: a tenant that is not there (`NameUnknown`); a digest that is not linked
     /// in the repository (`BlobUnknown`); one that a manifest of the repository refers to
     /// (`Referenced`, with the least digest of such a manifest).
     pub fn delete(&mut self, repo: &RepoName, digest: &Digest) -> Result<(), Refusal>
         ensures does { DoesExactly (λ u. u) result self.old.catalog self.new.catalog (delete self.old.catalog repo.now digest.now) }
-        ensures slots { self.new.slots ≡ self.old.slots }
+        ensures slots { (self.new.table ≡ self.old.table) × (self.new.slots ≡ self.old.slots) }
     {
         let tenant = self.links.tenant(repo)?;
-        let Some(slot) = find_linked(&self.links, &self.slots, repo, digest) else {
+        let Some(slot) = find_linked(&self.links, self.slots.table(), repo, digest) else {
             return Err(Refusal::BlobUnknown);
         };
         if let Some(manifest) = self.links.referrer(repo, digest) {
@@ -328,18 +340,20 @@ impl Book {
         Ok(())
     }
 
-    /// Keeps a manifest under the digest of its bytes, and answers that digest (OCI Distribution
-    /// Specification 1.1, "Pushing Manifests"). The repository appears with it. One that is there stays
-    /// as it is. The bytes are copied once.
+    /// Keeps a manifest under the SHA-256 digest of its bytes, and answers that digest (OCI
+    /// Distribution Specification 1.1, "Pushing Manifests"). The repository appears with it. One that
+    /// is there stays as it is. No tenant is charged for manifests. The bytes are parsed, hashed and
+    /// copied once; each reference takes the logarithm of the number of links, and, where the manifest
+    /// is new, that of the references of the repository's manifests.
     ///
-    /// Refused, in this order: a tenant that is not there (`NameUnknown`); more than 4 MiB
+    /// Refused, in this order: a tenant that is not there (`NameUnknown`); more than 4,194,304 bytes
     /// (`SizeInvalid`); bytes that are no manifest (`ManifestInvalid`); a reference that the repository
-    /// doesn't hold (`ManifestBlobUnknown`, with the first); a tenant that has 1,024 repositories where
-    /// this one is new, or a repository that has 1,024 manifests (`LimitReached`); want of memory. A
-    /// refusal leaves no repository behind.
+    /// doesn't hold (`ManifestBlobUnknown`, with the first); where the manifest is new, a tenant that
+    /// has 1,024 repositories and not this one, or a repository that has 1,024 manifests
+    /// (`LimitReached`); want of memory. A refusal leaves no repository behind.
     pub fn put_manifest(&mut self, repo: &RepoName, bytes: &[u8]) -> Result<Digest, Refusal>
         ensures does { Does (λ d. d) result self.old.catalog self.new.catalog (put_manifest self.old.catalog repo.now bytes.now) }
-        ensures slots { self.new.slots ≡ self.old.slots }
+        ensures slots { (self.new.table ≡ self.old.table) × (self.new.slots ≡ self.old.slots) }
     {
         let tenant = self.links.tenant(repo)?;
         let manifest = read(self.alloc, bytes)?;
@@ -353,8 +367,9 @@ impl Book {
         Ok(digest)
     }
 
-    /// A manifest that a repository has (OCI Distribution Specification 1.1, "Pulling manifests"). Its
-    /// bytes are shared, not copied. It takes the logarithm of the number of manifests.
+    /// A manifest that a repository has under a digest (OCI Distribution Specification 1.1, "Pulling
+    /// manifests"). Manifests are kept under SHA-256 digests alone. The bytes are shared, not copied; it
+    /// takes the logarithm of the number of manifests.
     ///
     /// Refused, in this order: a tenant that is not there (`NameUnknown`); a digest under which the
     /// repository has no manifest (`ManifestUnknown`); want of memory.
@@ -379,7 +394,7 @@ impl Book {
     /// repository has no manifest (`ManifestUnknown`).
     pub fn delete_manifest(&mut self, repo: &RepoName, digest: &Digest) -> Result<(), Refusal>
         ensures does { DoesExactly (λ u. u) result self.old.catalog self.new.catalog (delete_manifest self.old.catalog repo.now digest.now) }
-        ensures slots { self.new.slots ≡ self.old.slots }
+        ensures slots { (self.new.table ≡ self.old.table) × (self.new.slots ≡ self.old.slots) }
     {
         let _ = self.links.tenant(repo)?;
         let Some(_) = self.links.manifest(repo, digest) else {
@@ -387,6 +402,70 @@ impl Book {
         };
         self.links.drop_manifest(repo, digest);
         Ok(())
+    }
+
+    /// Lends a blob that a repository holds: a pin on its slot, and a share of its bytes. The blob is
+    /// marked as lent. While the pin is out, no sweep frees the slot.
+    ///
+    /// Refused, in this order: a tenant that is not there (`NameUnknown`); a digest that is not linked
+    /// in the repository (`BlobUnknown`); a slot on which the keeper's look finds no room for one
+    /// reader more (`TooManyReaders`); want of memory.
+    pub fn lease(
+        &mut self,
+        pins: &Pins,
+        repo: &RepoName,
+        digest: &Digest,
+    ) -> Result<(Pin, Arc<Blob, Global>), Refusal>
+        requires table { self.old.table ≡ pins.now }
+        ensures does { Leases (λ r. blob_bytes (arc_value r.1)) result self.old.catalog self.new.catalog self.new.slots repo.now digest.now }
+        ensures readers { IfErr result (λ e. e ≡ Refusal.TooManyReaders → IsCrowded digest.now self.new.slots) }
+        ensures pin { IfOk result (λ r. (r.0.table ≡ pins.now) × (r.0.hold.digest ≡ digest.now) × (r.0.hold.weight ≡ 1024)) }
+        ensures slots { (self.new.table ≡ self.old.table) × EachSlot (IsLending digest.now) self.old.slots self.new.slots }
+    {
+        let _ = self.links.tenant(repo)?;
+        let Some(slot) = find_linked(&self.links, self.slots.table(), repo, digest) else {
+            return Err(Refusal::BlobUnknown);
+        };
+        let blob = self.slots.share(slot)?;
+        let pin = self.slots.lend(pins, slot)?;
+        Ok((pin, blob))
+    }
+
+    /// Condemns each live blob that no repository links, and reclaims the slot of each condemned one:
+    /// it is free in its next generation, or retired in the last one, or held by leases. A blob that
+    /// was never lent goes at once. It goes over the slots once, and takes no memory.
+    pub fn sweep(&mut self, pins: &Pins) -> Swept
+        requires { self.old.table ≡ pins.now }
+        ensures sweeps { IsSweep self.old.catalog result self.new.catalog }
+        ensures slots { (self.new.table ≡ self.old.table) × EachSlot IsSweptSlot self.old.slots self.new.slots }
+        ensures retired { 0 < result.retired → HasLast self.old.slots }
+    {
+        sweep_slots(&mut self.slots, pins)
+    }
+
+    /// The pin with all that it had. Its slot is used and has the pin's generation and digest, and the
+    /// blob that the book keeps there has that digest. It takes no memory.
+    pub fn verify(&mut self, pins: &Pins, pin: Pin) -> Pin
+        requires table { self.old.table ≡ pins.now }
+        requires pin { pin.table ≡ pins.now }
+        ensures same { result ≡ pin }
+        ensures kept { HasPin pin.hold self.old }
+        ensures catalog { self.new.catalog ≡ self.old.catalog }
+        ensures slots { (self.new.table ≡ self.old.table) × EachSlot IsStill self.old.slots self.new.slots }
+    {
+        self.slots.verify(pins, pin)
+    }
+
+    /// The word of a slot: its generation, what it is, and the sum of the weights of the pins on it. It
+    /// takes no memory.
+    pub fn word(&mut self, pins: &Pins, slot: u32) -> u64
+        requires table { self.old.table ≡ pins.now }
+        requires within { slot < length self.old.slots }
+        ensures word { ReadsWord slot result self.old.slots self.new.slots }
+        ensures catalog { self.new.catalog ≡ self.old.catalog }
+        ensures slots { (self.new.table ≡ self.old.table) × EachSlot IsStill self.old.slots self.new.slots }
+    {
+        self.slots.word(pins, slot)
     }
 
     /// Writes the text of the book, without taking memory: `book`; each tenant in the order of the
@@ -398,6 +477,6 @@ impl Book {
         ensures sound { Sound self.now.catalog }
         ensures text { OnOk result (Appends (W.contents writer.old) (W.contents writer.new) (book_text self.now.catalog)) }
     {
-        print_book(writer, &self.links, &self.uploads, &self.slots)
+        print_book(writer, &self.links, &self.uploads, self.slots.table())
     }
 }

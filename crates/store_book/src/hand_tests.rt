@@ -1,7 +1,6 @@
 //! Sessions in hand: what they count, what is busy, and what comes back.
 
-use crate::Book;
-use crate::test_steps::{ABC, OBJ, Step, digest, name, plays, range, small};
+use crate::test_steps::{ABC, OBJ, Step, Store, digest, name, plays, range, small};
 use blob_digest::Refusal;
 use std::alloc::AllocGlobal;
 use std::process::Abort;
@@ -11,32 +10,34 @@ const OVER: Refusal = Refusal::Quota { used: 4, quota: 5 };
 
 fn taken(
     rt: &(impl Abort + AllocGlobal),
-    book: &mut Book,
+    store: &mut Store,
     repo: &str,
     number: u32,
     places: &str,
     len: u64,
 ) -> Result<Hand, Refusal> {
-    book.take(&name(rt, repo), number, range(rt, places), len)
+    store
+        .book
+        .take(&name(rt, repo), number, range(rt, places), len)
 }
 
 /// Takes a session, which is there, within the limits and at home.
-fn takes(rt: &(impl Abort + AllocGlobal), book: &mut Book, places: &str, len: u64) -> Hand {
-    taken(rt, book, "acme/one", 1, places, len).expect(rt, "a hand")
+fn takes(rt: &(impl Abort + AllocGlobal), store: &mut Store, places: &str, len: u64) -> Hand {
+    taken(rt, store, "acme/one", 1, places, len).expect(rt, "a hand")
 }
 
 /// Finds why a session isn't taken.
 fn takes_nothing(
     rt: &(impl Abort + AllocGlobal),
-    book: &mut Book,
+    store: &mut Store,
     repo: &str,
     number: u32,
     places: &str,
     len: u64,
     refusal: Refusal,
 ) {
-    match taken(rt, book, repo, number, places, len) {
-        Ok(hand) => puts_back(rt, book, hand, Err(refusal)),
+    match taken(rt, store, repo, number, places, len) {
+        Ok(hand) => puts_back(rt, store, hand, Err(refusal)),
         Err(found) => assert_eq!(rt; found, refusal),
     }
 }
@@ -53,44 +54,44 @@ fn fill(hand: Hand, bytes: &str) -> Hand {
     }
 }
 
-fn put_back(book: &mut Book, hand: Hand) -> Result<u64, Refusal> {
-    book.put_back(hand)
+fn put_back(store: &mut Store, hand: Hand) -> Result<u64, Refusal> {
+    store.book.put_back(hand)
 }
 
 fn puts_back(
     rt: &(impl Abort + AllocGlobal),
-    book: &mut Book,
+    store: &mut Store,
     hand: Hand,
     wanted: Result<u64, Refusal>,
 ) {
-    assert_eq!(rt; put_back(book, hand), wanted);
+    assert_eq!(rt; put_back(store, hand), wanted);
 }
 
 fn finish(
     rt: &(impl Abort + AllocGlobal),
-    book: &mut Book,
+    store: &mut Store,
     hand: Hand,
     of: &str,
 ) -> Result<u64, Refusal> {
     if !hand.filled() {
-        let _ = put_back(book, hand)?;
+        let _ = put_back(store, hand)?;
         return Err(Refusal::Memory);
     }
-    book.finish(hand, &digest(rt, of))
+    store.book.finish(&store.pins, hand, &digest(rt, of))
 }
 
 fn finishes(
     rt: &(impl Abort + AllocGlobal),
-    book: &mut Book,
+    store: &mut Store,
     hand: Hand,
     of: &str,
     wanted: Result<u64, Refusal>,
 ) {
-    assert_eq!(rt; finish(rt, book, hand, of), wanted);
+    assert_eq!(rt; finish(rt, store, hand, of), wanted);
 }
 
 /// Of a tenant, session 1 of `acme/one` has `ab`.
-fn started(rt: &(impl Abort + AllocGlobal), quota: u64) -> Book {
+fn started(rt: &(impl Abort + AllocGlobal), quota: u64) -> Store {
     let one = "acme/one";
     let mut book = small(rt, 64, 1048576, quota);
     let script = [

@@ -2,11 +2,15 @@
 
 ghost use Rattle.std.specs.Prelude.{◌≡◌, ◌≢◌, ◌<◌, length, true, false, Some, None, IfErr, OnOk, OnErr, bytes_eq};
 ghost use Rattle.std.specs.Option.{option_map_or};
-ghost use Rattle.slot_table.specs.Slots.{held_at, slot_of};
+ghost use Rattle.slot_table.specs.Slots.{held_at, phase_at, slot_of};
+ghost use Rattle.slot_table.specs.declared.phase.Phase.TheVariants as phase;
+ghost use Rattle.store_book.specs.Pinned.{all_seen, Quietly};
 ghost use Rattle.store_book.specs.Keeping.{bytes_at, linked_slot, CanKeep, IsKept, IsUnkept};
 
+use crate::pinned_slots::PinnedSlots;
 use blob_digest::{Blob, Digest, Refusal, RepoName};
 use link_table::Links;
+use pin_table::Pins;
 use slot_table::SlotTable;
 
 /// Whether a slot holds these bytes.
@@ -47,23 +51,25 @@ pub(crate) fn find_linked(
     }
 }
 
-/// Links the blob that a slot holds in a repository, and counts the link where it is new. Refused is
-/// want of memory, which changes nothing.
+/// Links the live blob that a slot holds in a repository, and counts the link where it is new. Refused
+/// is want of memory, which changes nothing.
 pub(crate) fn link_slot(
     links: &mut Links,
-    slots: &mut SlotTable,
+    slots: &mut PinnedSlots,
     tenant: u16,
     repo: &RepoName,
     slot: u32,
     digest: &Digest,
 ) -> Result<(), Refusal>
-    requires there { slot_of slots.old digest.now ≡ Some slot }
-    requires can { CanKeep links.old slots.old tenant repo.now (digest.now, bytes_at slots.old slot) }
-    ensures ok { OnOk result (IsKept links.old slots.old repo.now (digest.now, bytes_at slots.old slot) links.new slots.new) }
+    requires there { slot_of slots.old.slots digest.now ≡ Some slot }
+    requires live { phase_at slots.old.slots slot ≡ phase.Live }
+    requires can { CanKeep links.old slots.old.slots tenant repo.now (digest.now, bytes_at slots.old.slots slot) }
+    ensures ok { OnOk result (IsKept links.old slots.old.slots repo.now (digest.now, bytes_at slots.old.slots slot) links.new slots.new.slots) }
     ensures memory { IfErr result (λ e. e ≡ Refusal.Memory) }
     ensures err { OnErr result ((links.new ≡ links.old) × (slots.new ≡ slots.old)) }
+    ensures seen { (slots.new.table ≡ slots.old.table) × (all_seen slots.new.slots slots.new.bounds ≡ all_seen slots.old.slots slots.old.bounds) }
 {
-    let size = held_len(slots, slot);
+    let size = held_len(slots.table(), slot);
     let is_new = links.link(tenant, repo, digest, size)?;
     if is_new {
         slots.link_up(slot);
@@ -71,28 +77,38 @@ pub(crate) fn link_slot(
     Ok(())
 }
 
-/// Links a blob whose digest has a slot. Refused are other bytes there (`DigestInvalid`) and want of
-/// memory; a refusal hands the blob back.
+/// Links a blob whose digest has a slot, which is live from now on. Refused are other bytes there
+/// (`DigestInvalid`) and want of memory; a refusal hands the blob back.
 fn keep_again(
     links: &mut Links,
-    slots: &mut SlotTable,
+    slots: &mut PinnedSlots,
+    pins: &Pins,
     tenant: u16,
     repo: &RepoName,
     slot: u32,
     blob: Blob,
 ) -> Result<(), (Refusal, Blob)>
-    requires can { CanKeep links.old slots.old tenant repo.now blob }
-    requires there { slot_of slots.old blob.0 ≡ Some slot }
-    ensures ok { OnOk result (IsKept links.old slots.old repo.now blob links.new slots.new) }
+    requires table { slots.old.table ≡ pins.now }
+    requires can { CanKeep links.old slots.old.slots tenant repo.now blob }
+    requires there { slot_of slots.old.slots blob.0 ≡ Some slot }
+    ensures ok { OnOk result (IsKept links.old slots.old.slots repo.now blob links.new slots.new.slots) }
     ensures back { IfErr result (λ e. e.1 ≡ blob) }
-    ensures refused { IfErr result (λ e. e.0 ≢ Refusal.Memory → IsUnkept slots.old blob e.0) }
+    ensures refused { IfErr result (λ e. e.0 ≢ Refusal.Memory → IsUnkept slots.old.slots blob e.0) }
     ensures err { OnErr result ((links.new ≡ links.old) × (slots.new ≡ slots.old)) }
+    ensures quiet { Quietly slots.old slots.new }
 {
-    if !holds(slots, slot, blob.bytes()) {
+    if !holds(slots.table(), slot, blob.bytes()) {
         return Err((Refusal::DigestInvalid, blob));
     }
-    match link_slot(links, slots, tenant, repo, slot, &blob.digest()) {
-        Ok(()) => Ok(()),
+    let size = blob.bytes().len() as u64;
+    match links.link(tenant, repo, &blob.digest(), size) {
+        Ok(is_new) => {
+            slots.wake(pins, slot);
+            if is_new {
+                slots.link_up(slot);
+            }
+            Ok(())
+        }
         Err(refusal) => Err((refusal, blob)),
     }
 }
@@ -101,19 +117,22 @@ fn keep_again(
 /// slot (`StoreFull`) and want of memory; a refusal hands the blob back.
 fn keep_anew(
     links: &mut Links,
-    slots: &mut SlotTable,
+    slots: &mut PinnedSlots,
+    pins: &Pins,
     tenant: u16,
     repo: &RepoName,
     blob: Blob,
 ) -> Result<(), (Refusal, Blob)>
-    requires can { CanKeep links.old slots.old tenant repo.now blob }
-    requires absent { slot_of slots.old blob.0 ≡ None }
-    ensures ok { OnOk result (IsKept links.old slots.old repo.now blob links.new slots.new) }
+    requires table { slots.old.table ≡ pins.now }
+    requires can { CanKeep links.old slots.old.slots tenant repo.now blob }
+    requires absent { slot_of slots.old.slots blob.0 ≡ None }
+    ensures ok { OnOk result (IsKept links.old slots.old.slots repo.now blob links.new slots.new.slots) }
     ensures back { IfErr result (λ e. e.1 ≡ blob) }
-    ensures refused { IfErr result (λ e. e.0 ≢ Refusal.Memory → IsUnkept slots.old blob e.0) }
+    ensures refused { IfErr result (λ e. e.0 ≢ Refusal.Memory → IsUnkept slots.old.slots blob e.0) }
     ensures err { OnErr result ((links.new ≡ links.old) × (slots.new ≡ slots.old)) }
+    ensures quiet { Quietly slots.old slots.new }
 {
-    if slots.free_count() == 0 {
+    if slots.table().free_count() == 0 {
         return Err((Refusal::StoreFull, blob));
     }
     let digest = blob.digest();
@@ -121,7 +140,7 @@ fn keep_anew(
     if let Err(refusal) = links.link(tenant, repo, &digest, size) {
         return Err((refusal, blob));
     }
-    match slots.place(blob) {
+    match slots.place(pins, blob) {
         Ok(slot) => {
             slots.link_up(slot);
             Ok(())
@@ -138,19 +157,22 @@ fn keep_anew(
 /// of memory; a refusal hands the blob back and changes nothing.
 pub(crate) fn keep(
     links: &mut Links,
-    slots: &mut SlotTable,
+    slots: &mut PinnedSlots,
+    pins: &Pins,
     tenant: u16,
     repo: &RepoName,
     blob: Blob,
 ) -> Result<(), (Refusal, Blob)>
-    requires { CanKeep links.old slots.old tenant repo.now blob }
-    ensures ok { OnOk result (IsKept links.old slots.old repo.now blob links.new slots.new) }
+    requires table { slots.old.table ≡ pins.now }
+    requires can { CanKeep links.old slots.old.slots tenant repo.now blob }
+    ensures ok { OnOk result (IsKept links.old slots.old.slots repo.now blob links.new slots.new.slots) }
     ensures back { IfErr result (λ e. e.1 ≡ blob) }
-    ensures refused { IfErr result (λ e. e.0 ≢ Refusal.Memory → IsUnkept slots.old blob e.0) }
+    ensures refused { IfErr result (λ e. e.0 ≢ Refusal.Memory → IsUnkept slots.old.slots blob e.0) }
     ensures err { OnErr result ((links.new ≡ links.old) × (slots.new ≡ slots.old)) }
+    ensures quiet { Quietly slots.old slots.new }
 {
-    match slots.find(&blob.digest()) {
-        Some(slot) => keep_again(links, slots, tenant, repo, slot, blob),
-        None => keep_anew(links, slots, tenant, repo, blob),
+    match slots.table().find(&blob.digest()) {
+        Some(slot) => keep_again(links, slots, pins, tenant, repo, slot, blob),
+        None => keep_anew(links, slots, pins, tenant, repo, blob),
     }
 }

@@ -1,8 +1,10 @@
 //! Worked examples of mounts and deletes, of a store that is full, and of the limit on repositories.
 
-use crate::test_steps::{ABC, OBJ, Step, book, mount, play, plays, says, small, upload};
-use crate::{Book, Mount};
-use blob_digest::{Algorithm, Digest, Refusal};
+use crate::Mount;
+use crate::test_steps::{
+    ABC, OBJ, Step, Store, book, digest_of, fill, mount, play, plays, says, small,
+};
+use blob_digest::Refusal;
 use std::alloc::AllocGlobal;
 use std::process::Abort;
 
@@ -55,14 +57,14 @@ fn a_use_falls_with_the_last_link(rt: HostRuntime) {
 }
 
 /// Finds the uses of two tenants and the links to ABC.
-fn counts(rt: &(impl Abort + AllocGlobal), book: &Book, acme: u64, other: u64, links: u64) {
+fn counts(rt: &(impl Abort + AllocGlobal), store: &Store, acme: u64, other: u64, links: u64) {
     let alloc = rt.alloc();
     let acme = format!(in alloc; "tenant acme used {acme} ").expect(rt, "memory");
     let other = format!(in alloc; "tenant other used {other} ").expect(rt, "memory");
     let links = format!(in alloc; "blob {ABC} size 3 links {links}\n").expect(rt, "memory");
-    assert!(rt; says(rt, book, acme.as_str()));
-    assert!(rt; says(rt, book, other.as_str()));
-    assert!(rt; says(rt, book, links.as_str()));
+    assert!(rt; says(rt, store, acme.as_str()));
+    assert!(rt; says(rt, store, other.as_str()));
+    assert!(rt; says(rt, store, links.as_str()));
 }
 
 fn uploaded(repo: &str) -> Step<'_> {
@@ -138,21 +140,10 @@ fn a_blob_without_links_keeps_its_slot(rt: HostRuntime) {
     plays(&rt, &mut book, &script);
 }
 
-/// The text of the digest of some bytes.
-fn digest_of(rt: &(impl Abort + AllocGlobal), bytes: &[u8]) -> String {
-    let digest = Digest::of(Algorithm::Sha256, bytes);
-    format!(in rt.alloc(); "{digest}").expect(rt, "memory")
-}
-
 /// A store of 1,000 slots with a blob of 4 bytes in each.
-fn filled(rt: &(impl Abort + AllocGlobal)) -> Book {
+fn filled(rt: &(impl Abort + AllocGlobal)) -> Store {
     let mut book = small(rt, 1000, 1048576, 1000000);
-    for blob in 0..1000u32 {
-        let bytes = blob.to_be_bytes();
-        let of = digest_of(rt, &bytes);
-        let size = upload(rt, &mut book, "acme/one", of.as_str(), &bytes);
-        assert_eq!(rt; size, Ok(4));
-    }
+    fill(rt, &mut book, 0, 1000);
     book
 }
 
@@ -173,7 +164,7 @@ fn a_thousand_slots_take_a_thousand_blobs(rt: HostRuntime) {
 }
 
 /// A tenant with 1,024 repositories, of which all but `acme/last` hold ABC.
-fn crowded(rt: &(impl Abort + AllocGlobal)) -> Book {
+fn crowded(rt: &(impl Abort + AllocGlobal)) -> Store {
     let mut book = book(rt, &[("acme", 1000), ("other", 1000)]);
     plays(rt, &mut book, &[uploaded("acme/one")]);
     for number in 2..1024u32 {

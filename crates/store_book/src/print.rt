@@ -59,11 +59,7 @@ fn print_manifest_line<W: Write>(
 }
 
 /// The line of a manifest, by its digest.
-fn print_manifest<W: Write>(
-    writer: &mut W,
-    digest: Digest,
-    manifest: &Manifest,
-) -> io::Result<()>
+fn print_manifest<W: Write>(writer: &mut W, digest: Digest, manifest: &Manifest) -> io::Result<()>
     ensures { OnOk result (Appends (W.contents writer.old) (W.contents writer.new) (manifest_row (digest, manifest.now))) }
 {
     let size = manifest.bytes().len();

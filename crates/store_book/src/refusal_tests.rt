@@ -1,14 +1,13 @@
 //! Which refusal comes where two cases meet in one call, and that none changes the book.
 
-use crate::Book;
-use crate::test_steps::{ABC, EMPTY, OBJ, Step, plays, small};
+use crate::test_steps::{ABC, EMPTY, OBJ, Step, Store, plays, small};
 use blob_digest::Refusal;
 use std::alloc::AllocGlobal;
 use std::process::Abort;
 
 /// A full store of one slot and blobs of at most four bytes. Its tenant may use three bytes and uses
 /// two: session 2 of `acme/one` has `ab`.
-fn crowded(rt: &(impl Abort + AllocGlobal)) -> Book {
+fn crowded(rt: &(impl Abort + AllocGlobal)) -> Store {
     let one = "acme/one";
     let mut book = small(rt, 1, 4, 3);
     let script = [

@@ -1,7 +1,10 @@
 //! What the tests are written with: books, and the commands of a table, each with its answer.
 
-use crate::{Book, Config, Mount};
-use blob_digest::{ByteRange, Digest, Refusal, RepoName};
+ghost use Rattle.std.specs.Prelude.{◌≡◌, ◌<◌, length};
+
+use crate::{Book, Config, Mount, Swept};
+use blob_digest::{Algorithm, ByteRange, Digest, Refusal, RepoName};
+use pin_table::Pins;
 use std::alloc::AllocGlobal;
 use std::process::Abort;
 
@@ -31,44 +34,63 @@ pub fn range(rt: &(impl Abort + AllocGlobal), text: &str) -> Option<ByteRange> {
     Some(ByteRange::parse(text.as_bytes()).expect(rt, "a range"))
 }
 
+/// A book of one slot or more, and the words of its slots.
+#[derive(Drop)]
+pub struct Store {
+    pub book: Book,
+    pub pins: Pins,
+    ghost together: { book.table ≡ pins },
+    ghost some: { 0 < length book.slots },
+}
+
 /// What opening a store of these slots, blobs of at most so many bytes and these tenants comes to.
 pub fn opened(
     rt: &(impl Abort + AllocGlobal),
     slots: u32,
     max_blob: u64,
     tenants: &[(&str, u64)],
-) -> Result<Book, Refusal> {
+) -> Result<Store, Refusal> {
+    opened_at(rt, slots, max_blob, tenants, 0)
+}
+
+/// The same, with the slots in this first generation.
+pub fn opened_at(
+    rt: &(impl Abort + AllocGlobal),
+    slots: u32,
+    max_blob: u64,
+    tenants: &[(&str, u64)],
+    first_generation: u32,
+) -> Result<Store, Refusal> {
     let alloc = rt.alloc();
     let mut rows = Vec::new(alloc);
     for (name, quota) in tenants {
         let name = String::from_str(alloc, name).expect(rt, "memory");
         rows.push((name, *quota)).expect(rt, "memory");
     }
-    Book::new(
-        alloc,
-        &Config {
-            slots,
-            max_blob,
-            tenants: rows,
-            first_generation: 0,
-        },
-    )
+    let config = Config {
+        slots,
+        max_blob,
+        tenants: rows,
+        first_generation,
+    };
+    let (book, pins) = Book::new(alloc, &config)?;
+    Ok(Store { book, pins })
 }
 
 /// A store of 64 slots and blobs of at most 1 MiB.
-pub fn book(rt: &(impl Abort + AllocGlobal), tenants: &[(&str, u64)]) -> Book {
+pub fn book(rt: &(impl Abort + AllocGlobal), tenants: &[(&str, u64)]) -> Store {
     opened(rt, 64, 1048576, tenants).expect(rt, "a book")
 }
 
 /// A store of so many slots, whose tenant `acme` may use so much.
-pub fn small(rt: &(impl Abort + AllocGlobal), slots: u32, max_blob: u64, quota: u64) -> Book {
+pub fn small(rt: &(impl Abort + AllocGlobal), slots: u32, max_blob: u64, quota: u64) -> Store {
     opened(rt, slots, max_blob, &[("acme", quota)]).expect(rt, "a book")
 }
 
 /// The text of a book.
-fn printed(rt: &(impl Abort + AllocGlobal), book: &Book) -> Vec<u8> {
+fn printed(rt: &(impl Abort + AllocGlobal), store: &Store) -> Vec<u8> {
     let mut written: Vec<u8> = Vec::new(rt.alloc());
-    book.print(&mut written).expect(rt, "memory");
+    store.book.print(&mut written).expect(rt, "memory");
     written
 }
 
@@ -85,6 +107,10 @@ pub enum Step<'a> {
     Upload(&'a str, &'a str, &'a str, Result<u64, Refusal>),
     Mount(&'a str, &'a str, &'a str, Result<Mount, Refusal>),
     Delete(&'a str, &'a str, Result<(), Refusal>),
+    /// A sweep, with how many blobs it condemned, and how many slots it freed, left to leases and retired.
+    Sweep(u32, u32, u32, u32),
+    /// The word of slot 0 is this.
+    Word(u64),
     /// A put of these bytes.
     PutManifest(&'a str, &'a str, Result<Digest, Refusal>),
     /// A get, and the bytes that it answers.
@@ -96,101 +122,157 @@ pub enum Step<'a> {
     Says(&'a str),
 }
 
-fn start(rt: &(impl Abort + AllocGlobal), book: &mut Book, repo: &str) -> Result<u32, Refusal> {
-    book.start(&name(rt, repo))
+fn start(rt: &(impl Abort + AllocGlobal), store: &mut Store, repo: &str) -> Result<u32, Refusal>
+    ensures { store.new.book.table ≡ store.old.book.table }
+{
+    store.book.start(&name(rt, repo))
 }
 
 fn status(
     rt: &(impl Abort + AllocGlobal),
-    book: &Book,
+    store: &Store,
     repo: &str,
     number: u32,
 ) -> Result<u64, Refusal> {
-    book.status(&name(rt, repo), number)
+    store.book.status(&name(rt, repo), number)
 }
 
 fn append(
     rt: &(impl Abort + AllocGlobal),
-    book: &mut Book,
+    store: &mut Store,
     repo: &str,
     number: u32,
     places: &str,
     bytes: &str,
-) -> Result<u64, Refusal> {
-    book.append(&name(rt, repo), number, range(rt, places), bytes.as_bytes())
+) -> Result<u64, Refusal>
+    ensures { store.new.book.table ≡ store.old.book.table }
+{
+    store.book.append(&name(rt, repo), number, range(rt, places), bytes.as_bytes())
 }
 
 fn close(
     rt: &(impl Abort + AllocGlobal),
-    book: &mut Book,
+    store: &mut Store,
     repo: &str,
     number: u32,
     of: &str,
     places: &str,
     bytes: &[u8],
-) -> Result<u64, Refusal> {
+) -> Result<u64, Refusal>
+    ensures { store.new.book.table ≡ store.old.book.table }
+{
     let of = digest(rt, of);
-    book.close(&name(rt, repo), number, &of, range(rt, places), bytes)
+    store.book.close(
+        &store.pins,
+        &name(rt, repo),
+        number,
+        &of,
+        range(rt, places),
+        bytes,
+    )
 }
 
 fn abandon(
     rt: &(impl Abort + AllocGlobal),
-    book: &mut Book,
+    store: &mut Store,
     repo: &str,
     number: u32,
-) -> Result<u64, Refusal> {
-    book.abandon(&name(rt, repo), number)
+) -> Result<u64, Refusal>
+    ensures { store.new.book.table ≡ store.old.book.table }
+{
+    store.book.abandon(&name(rt, repo), number)
 }
 
 /// Uploads some bytes to a repository, in one session, and answers the size that was stored.
 pub fn upload(
     rt: &(impl Abort + AllocGlobal),
-    book: &mut Book,
+    store: &mut Store,
     repo: &str,
     of: &str,
     bytes: &[u8],
-) -> Result<u64, Refusal> {
-    let number = start(rt, book, repo)?;
-    close(rt, book, repo, number, of, "", bytes)
+) -> Result<u64, Refusal>
+    ensures { store.new.book.table ≡ store.old.book.table }
+{
+    let number = start(rt, store, repo)?;
+    close(rt, store, repo, number, of, "", bytes)
+}
+
+/// The text of the digest of some bytes.
+pub fn digest_of(rt: &(impl Abort + AllocGlobal), bytes: &[u8]) -> String {
+    let digest = Digest::of(Algorithm::Sha256, bytes);
+    format!(in rt.alloc(); "{digest}").expect(rt, "memory")
+}
+
+/// Stores a blob of 4 bytes for each number.
+pub fn fill(rt: &(impl Abort + AllocGlobal), store: &mut Store, from: u32, to: u32)
+    ensures { store.new.book.table ≡ store.old.book.table }
+{
+    for number in from..to {
+        let bytes = number.to_be_bytes();
+        let of = digest_of(rt, &bytes);
+        let size = upload(rt, store, "acme/one", of.as_str(), &bytes);
+        assert_eq!(rt; size, Ok(4));
+    }
 }
 
 pub fn mount(
     rt: &(impl Abort + AllocGlobal),
-    book: &mut Book,
+    store: &mut Store,
     repo: &str,
     of: &str,
     from: &str,
-) -> Result<Mount, Refusal> {
-    book.mount(&name(rt, repo), &digest(rt, of), &name(rt, from))
+) -> Result<Mount, Refusal>
+    ensures { store.new.book.table ≡ store.old.book.table }
+{
+    store
+        .book
+        .mount(&name(rt, repo), &digest(rt, of), &name(rt, from))
 }
 
 fn delete(
     rt: &(impl Abort + AllocGlobal),
-    book: &mut Book,
+    store: &mut Store,
     repo: &str,
     of: &str,
-) -> Result<(), Refusal> {
-    book.delete(&name(rt, repo), &digest(rt, of))
+) -> Result<(), Refusal>
+    ensures { store.new.book.table ≡ store.old.book.table }
+{
+    store.book.delete(&name(rt, repo), &digest(rt, of))
+}
+
+fn sweep(store: &mut Store) -> Swept
+    ensures { store.new.book.table ≡ store.old.book.table }
+{
+    store.book.sweep(&store.pins)
+}
+
+/// The word of slot 0.
+fn word(store: &mut Store) -> u64
+    ensures { store.new.book.table ≡ store.old.book.table }
+{
+    store.book.word(&store.pins, 0)
 }
 
 pub fn put_manifest(
     rt: &(impl Abort + AllocGlobal),
-    book: &mut Book,
+    store: &mut Store,
     repo: &str,
     bytes: &str,
-) -> Result<Digest, Refusal> {
-    book.put_manifest(&name(rt, repo), bytes.as_bytes())
+) -> Result<Digest, Refusal>
+    ensures { store.new.book.table ≡ store.old.book.table }
+{
+    store.book.put_manifest(&name(rt, repo), bytes.as_bytes())
 }
 
 /// Whether a manifest is answered with these bytes, or refused so.
 fn gets_manifest(
     rt: &(impl Abort + AllocGlobal),
-    book: &Book,
+    store: &Store,
     repo: &str,
     of: &str,
     wanted: &Result<&str, Refusal>,
 ) -> bool {
-    match (book.get_manifest(&name(rt, repo), &digest(rt, of)), wanted) {
+    match (store.book.get_manifest(&name(rt, repo), &digest(rt, of)), wanted) {
         (Ok(manifest), Ok(text)) => manifest.bytes() == text.as_bytes(),
         (Err(refusal), Err(other)) => refusal == *other,
         _ => false,
@@ -199,20 +281,22 @@ fn gets_manifest(
 
 fn delete_manifest(
     rt: &(impl Abort + AllocGlobal),
-    book: &mut Book,
+    store: &mut Store,
     repo: &str,
     of: &str,
-) -> Result<(), Refusal> {
-    book.delete_manifest(&name(rt, repo), &digest(rt, of))
+) -> Result<(), Refusal>
+    ensures { store.new.book.table ≡ store.old.book.table }
+{
+    store.book.delete_manifest(&name(rt, repo), &digest(rt, of))
 }
 
 /// Whether the text of a book has some text in it.
-pub fn says(rt: &(impl Abort + AllocGlobal), book: &Book, text: &str) -> bool {
+pub fn says(rt: &(impl Abort + AllocGlobal), store: &Store, text: &str) -> bool {
     let text = text.as_bytes();
     if text.is_empty() {
         return true;
     }
-    let written = printed(rt, book);
+    let written = printed(rt, store);
     written
         .as_slice()
         .windows(text.len())
@@ -220,38 +304,54 @@ pub fn says(rt: &(impl Abort + AllocGlobal), book: &Book, text: &str) -> bool {
 }
 
 /// Whether a step answers what it has to.
-fn goes(rt: &(impl Abort + AllocGlobal), book: &mut Book, step: &Step) -> bool {
+fn goes(rt: &(impl Abort + AllocGlobal), store: &mut Store, step: &Step) -> bool
+    ensures { store.new.book.table ≡ store.old.book.table }
+{
     match step {
-        Step::Start(repo, wanted) => start(rt, book, repo) == *wanted,
-        Step::Status(repo, number, wanted) => status(rt, book, repo, *number) == *wanted,
+        Step::Start(repo, wanted) => start(rt, store, repo) == *wanted,
+        Step::Status(repo, number, wanted) => status(rt, store, repo, *number) == *wanted,
         Step::Append(repo, number, places, bytes, wanted) => {
-            append(rt, book, repo, *number, places, bytes) == *wanted
+            append(rt, store, repo, *number, places, bytes) == *wanted
         }
         Step::Close(repo, number, of, places, bytes, wanted) => {
-            close(rt, book, repo, *number, of, places, bytes.as_bytes()) == *wanted
+            close(rt, store, repo, *number, of, places, bytes.as_bytes()) == *wanted
         }
-        Step::Abandon(repo, number, wanted) => abandon(rt, book, repo, *number) == *wanted,
+        Step::Abandon(repo, number, wanted) => abandon(rt, store, repo, *number) == *wanted,
         Step::Upload(repo, of, bytes, wanted) => {
-            upload(rt, book, repo, of, bytes.as_bytes()) == *wanted
+            upload(rt, store, repo, of, bytes.as_bytes()) == *wanted
         }
-        Step::Mount(repo, of, from, wanted) => mount(rt, book, repo, of, from) == *wanted,
-        Step::Delete(repo, of, wanted) => delete(rt, book, repo, of) == *wanted,
-        Step::PutManifest(repo, bytes, wanted) => put_manifest(rt, book, repo, bytes) == *wanted,
-        Step::GetManifest(repo, of, wanted) => gets_manifest(rt, book, repo, of, wanted),
-        Step::DeleteManifest(repo, of, wanted) => delete_manifest(rt, book, repo, of) == *wanted,
-        Step::Prints(text) => printed(rt, book).as_slice() == text.as_bytes(),
-        Step::Says(text) => says(rt, book, text),
+        Step::Mount(repo, of, from, wanted) => mount(rt, store, repo, of, from) == *wanted,
+        Step::Delete(repo, of, wanted) => delete(rt, store, repo, of) == *wanted,
+        Step::PutManifest(repo, bytes, wanted) => put_manifest(rt, store, repo, bytes) == *wanted,
+        Step::GetManifest(repo, of, wanted) => gets_manifest(rt, store, repo, of, wanted),
+        Step::DeleteManifest(repo, of, wanted) => delete_manifest(rt, store, repo, of) == *wanted,
+        Step::Sweep(condemned, freed, held, retired) => {
+            sweep(store)
+                == Swept {
+                    condemned: *condemned,
+                    freed: *freed,
+                    held: *held,
+                    retired: *retired,
+                }
+        }
+        Step::Word(wanted) => word(store) == *wanted,
+        Step::Prints(text) => printed(rt, store).as_slice() == text.as_bytes(),
+        Step::Says(text) => says(rt, store, text),
     }
 }
 
 /// Plays a step, and finds its answer.
-pub fn play(rt: &(impl Abort + AllocGlobal), book: &mut Book, step: &Step) {
-    assert!(rt; goes(rt, book, step));
+pub fn play(rt: &(impl Abort + AllocGlobal), store: &mut Store, step: &Step)
+    ensures { store.new.book.table ≡ store.old.book.table }
+{
+    assert!(rt; goes(rt, store, step));
 }
 
 /// Plays the steps of a table in turn, and finds each answer.
-pub fn plays(rt: &(impl Abort + AllocGlobal), book: &mut Book, steps: &[Step]) {
+pub fn plays(rt: &(impl Abort + AllocGlobal), store: &mut Store, steps: &[Step])
+    ensures { store.new.book.table ≡ store.old.book.table }
+{
     for (place, step) in steps.iter().enumerate() {
-        assert!(rt; goes(rt, book, step), "step {place} of its table");
+        assert!(rt; goes(rt, store, step), "step {place} of its table");
     }
 }

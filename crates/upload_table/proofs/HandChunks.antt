@@ -111,3 +111,12 @@ chunks_of-length h = at h.last
     at None fits = omega arith
     at (Some []) fits = omega arith
     at (Some (b ∷ bs)) fits = omega (arith, sum_by_push (λ (c : List ℕ). length c) h.chunks (b ∷ bs), fits)
+
+-- so with the one that is filled in they fit into what was reserved
+pub hand_fits : (t n received reserved : ℕ) (p : Pieces) (room : ℕ) (whole : Option Running) → IsHand received reserved p room whole →
+    sum_by length (chunks_of (taken t n received reserved p whole)) ≤ sum_by length (taken t n received reserved p whole).chunks + reserved
+hand_fits t n received reserved p room whole hand = chunks_of-length (taken t n received reserved p whole) (last whole hand.filled)
+  where
+    last : (w : Option Running) → IsFilled received reserved p room w → IfSome (taken t n received reserved p w).last (λ b. length b ≡ reserved)
+    last None filled = tt
+    last (Some w) filled = omega (arith, filled.0, length-drop received p.bytes.items)

@@ -1,9 +1,7 @@
 pub mod Cuts
-pub mod Rising
-pub mod Tables
-pub mod Sound
-pub mod Lookups
-pub mod RowAt
-pub mod Views
 pub mod HandChunks
-pub mod Hands
+pub mod Filters
+pub mod TenantRows
+pub mod AllTenants
+pub mod TableCalls
+pub mod HandCalls

@@ -1,3 +1,4 @@
 pub mod Sessions
 pub mod Uploaded
 pub mod Rows
+pub mod Tenants

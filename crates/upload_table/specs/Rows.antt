@@ -1,21 +1,20 @@
--- What the rows of the table and a hand stand for, and what is true of them. No public contract cites this.
-use Rattle.std.specs.Prelude.{◌≡◌, ℕ, ◌+◌, ◌<◌, ◌^◌, ◌==◌, ◌&&◌, ◌++◌, Bool, true, false, List, [], ◌∷◌, Option, Some, None, drop, length, map, sum, sum_by, slice_index, slice_index_or, take, nat_lt, if◌then◌else◌}
+-- What a tenant's rows and a hand stand for, and what is true of them. No public contract cites this.
+use Rattle.std.specs.Prelude.{◌≡◌, ℕ, ◌+◌, ◌<◌, ◌^◌, ◌==◌, ◌&&◌, ◌++◌, Bool, true, false, List, [], ◌∷◌, Option, Some, None, drop, filter, length, map, sum, sum_by, take, nat_lt, if◌then◌else◌}
 use Rattle.std.specs.Option.{option_map}
 use Rattle.std.specs.List.{AllByRecursion}
 use Rattle.std.specs.FinMap as fmap
+use Rattle.std.specs.Ordering.{nat_cmp}
 use Rattle.blob_digest.specs.Hashing.{Hashes}
-use Rattle.blob_digest.specs.Keys.{Number}
+use Rattle.blob_digest.specs.Keys.{Text, same_text}
 use Rattle.blob_digest.specs.declared.running.Running.{Running}
 use Rattle.upload_table.specs.Sessions.{Chunks, Session, Taken}
 use Rattle.upload_table.specs.Sessions as shown
-use Rattle.upload_table.specs.Uploaded.{Uploaded, cut}
+use Rattle.upload_table.specs.Tenants.{Numbered}
+use Rattle.upload_table.specs.Uploaded.{cut}
 use Rattle.upload_table.specs.declared.upload.Content.{Content}
 use Rattle.upload_table.specs.declared.upload.Content.TheVariants.{Home, InHand}
 use Rattle.upload_table.specs.declared.upload.Pieces.{Pieces}
 use Rattle.upload_table.specs.declared.upload.Upload.{Upload}
-
-abbrev pub key_of : Upload → Number
-key_of u = (u.tenant, u.number)
 
 -- the chunks that a row stands for
 abbrev pub chunks_shown : Content → Chunks
@@ -25,10 +24,12 @@ chunks_shown (InHand received reserved) = shown.InHand received reserved
 abbrev pub session_of : Upload → Session
 session_of u = record { repo = u.repo; chunks = chunks_shown u.content }
 
-abbrev pub entry_of : Upload → Number × Session
-entry_of u = (key_of u, session_of u)
+-- a row, under its number
+abbrev pub entry_of : Upload → ℕ × Session
+entry_of u = (u.number, session_of u)
 
-abbrev pub shown_by : List ℕ → List Upload → Uploaded
+-- what the rows of a tenant show
+abbrev pub shown_by : ℕ → List Upload → Numbered
 shown_by next rows = record { next = next; sessions = fmap.from_entries (map entry_of rows) }
 
 -- the lengths are those of chunks with bytes, and the hash is that of the bytes
@@ -61,29 +62,20 @@ abbrev pub is_out : ℕ → ℕ → Content → Bool
 is_out received reserved (Home p) = false
 is_out received reserved (InHand n m) = n == received && m == reserved
 
--- a tenant's later numbers are greater
-abbrev pub IsRising : List Number → Type 0
-IsRising [] = Unit {0}
-IsRising (k ∷ keys) = AllByRecursion (λ j. j.0 ≡ k.0 → k.1 < j.1) keys × IsRising keys
+-- A tenant's rows stand in the order of their numbers, which are below the next one, their chunks are whole, and what they count is kept.
+pub record IsSound (next charged : ℕ) (rows : List Upload) : Type 0 where
+  pub order : fmap.is_sorted nat_cmp (map entry_of rows) ≡ true
+  pub below : AllByRecursion (λ u. u.number < next) rows
+  pub whole : AllByRecursion (λ u. AreWhole u.content) rows
+  pub counted : charged ≡ sum_by (λ u. content_charge u.content) rows
 
--- numbers are below their tenant's next
-abbrev pub AreBelow : List ℕ → List Number → Type 0
-AreBelow next keys = AllByRecursion (λ k. k.1 < slice_index next k.0) keys
+-- a row's number, and what it has received
+abbrev pub row_listed : Upload → ℕ × ℕ
+row_listed u = (u.number, content_received u.content)
 
--- what a row adds to a tenant's sum
-abbrev pub row_share : ℕ → Upload → ℕ
-row_share t u = if u.tenant == t then content_charge u.content else 0
-
--- the sums that are kept are those of the rows' lengths and reserves
-pub record IsCounted (totals : List ℕ) (rows : List Upload) : Type 0 where
-  pub each : (t : ℕ) → slice_index totals t ≡ sum_by (row_share t) rows
-
-pub record IsSound (next totals : List ℕ) (rows : List Upload) : Type 0 where
-  pub rising : IsRising (map key_of rows)
-  pub below : AreBelow next (map key_of rows)
-  pub whole : (i : ℕ) (d : Upload) → i < length rows → AreWhole (slice_index_or rows i d).content
-  pub counted : IsCounted totals rows
-  pub lengths : length totals ≡ length next
+-- the rows of a repository, in their order
+abbrev pub rows_listed : Text → List Upload → List (ℕ × ℕ)
+rows_listed repo rows = map row_listed (filter (λ u. same_text u.repo repo) rows)
 
 -- ---- hands
 

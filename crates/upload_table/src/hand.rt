@@ -1,6 +1,6 @@
 //! What is in hand of a session: its chunks, outside the table.
 
-ghost use Rattle.std.specs.Prelude.{◌≡◌, ◌≢◌, ◌+◌, ◌<◌, ◌^◌, [], Some, None, IfSome, IfOk, IfErr, OnErr, true, false, is_some, length, sum_by};
+ghost use Rattle.std.specs.Prelude.{◌≡◌, ◌≢◌, ◌+◌, ◌<◌, ◌≤◌, ◌^◌, [], Some, None, IfSome, IfOk, IfErr, OnErr, true, false, is_some, length, sum_by};
 ghost use Rattle.std.specs.List.{AllByRecursion};
 ghost use Rattle.blob_digest.specs.Digests.{is_digest_of};
 ghost use Rattle.upload_table.specs.Sessions.{chunks_of, whole_of};
@@ -159,6 +159,7 @@ impl Hand {
     pub(crate) fn into_pieces(self) -> Pieces
         ensures whole { IsWhole result }
         ensures chunks { cut result.lens.items result.bytes.items ≡ chunks_of self }
+        ensures fits { sum_by length (chunks_of self) ≤ sum_by length self.chunks + self.reserved }
     {
         let Hand {
             tenant: _,

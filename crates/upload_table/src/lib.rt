@@ -12,11 +12,13 @@
 #![tactic(auto)]
 
 mod hand;
-mod rows;
+mod repo_sessions;
+mod tenant_sessions;
 mod upload;
 mod uploads;
 
 pub use hand::{Hand, Sealed};
+pub use repo_sessions::RepoSessions;
 pub use uploads::Uploads;
 
 #[cfg(test)]

@@ -1,13 +1,15 @@
-ghost use Rattle.std.specs.Prelude.{◌≡◌, ◌+◌, ◌<◌, ◌^◌, ◌++◌, ◌==◌, ◌&&◌, IfOk, OnOk, OnErr, length, sum, true};
+//! An open session, and its chunks.
+
+ghost use Rattle.std.specs.Prelude.{◌≡◌, ◌+◌, ◌<◌, ◌^◌, ◌++◌, [], IfOk, OnOk, OnErr, length, sum, true};
 ghost use Rattle.std.specs.Vec.{vec_capacity};
 ghost use Rattle.blob_digest.specs.Hashing.{Hashes};
-ghost use Rattle.blob_digest.specs.Keys.{same_text};
 ghost use Rattle.upload_table.specs.Sessions.{length_after as length_after_chunk};
-ghost use Rattle.upload_table.specs.Rows.{content_charge, content_received, is_at_home, is_out, IsSame};
+ghost use Rattle.upload_table.specs.Rows.{content_charge, content_received, is_at_home, is_out, IsSame, IsWhole};
+ghost use Rattle.upload_table.specs.Uploaded.{cut};
 ghost use Rattle.upload_table.specs.declared.upload.Content.TheVariants.{Home, InHand};
 
 use blob_digest::{ByteRange, Refusal, RepoName, Running};
-use std::alloc::AllocError;
+use std::alloc::{AllocError, Global};
 use std::mem;
 
 /// The chunks of a session: their bytes, one after another, their lengths, and the hash of the bytes.
@@ -25,20 +27,27 @@ pub(crate) enum Content {
     InHand { received: u64, reserved: u64 },
 }
 
-/// A row of the table: an open session.
+/// An open session of a tenant.
 #[derive(Drop)]
 pub(crate) struct Upload {
-    pub(crate) tenant: u16,
     pub(crate) number: u32,
     pub(crate) repo: RepoName,
     pub(crate) content: Content,
 }
 
-/// Whether a session is a tenant's, for a repository.
-pub(crate) fn is_for(upload: &Upload, tenant: u16, repo: &RepoName) -> bool
-    ensures { result ≡ (upload.now.tenant == tenant && same_text upload.now.repo repo.now) }
-{
-    upload.tenant == tenant && upload.repo == *repo
+impl Pieces {
+    /// No chunks. It takes no memory.
+    pub(crate) fn new(alloc: Global) -> Pieces
+        ensures whole { IsWhole result }
+        ensures none { cut result.lens.items result.bytes.items ≡ [] }
+        ensures empty { result.bytes.items ≡ [] }
+    {
+        Pieces {
+            bytes: Vec::new(alloc),
+            lens: Vec::new(alloc),
+            running: Running::new(),
+        }
+    }
 }
 
 /// How many bytes a session has received.

@@ -1,14 +1,21 @@
-ghost use Rattle.std.specs.Prelude.{◌≡◌, ◌+◌, ◌<◌, ◌^◌, IsSome, IfOk, IfErr, true, length, map, slice_get, slice_index};
+//! The open sessions of all tenants.
+
+ghost use Rattle.std.specs.Prelude.{◌≡◌, ◌+◌, ◌<◌, ◌^◌, IsSome, IfOk, IfErr, IfSome, Ok, Err, is_ok, true, length, map, replicate, slice_get, slice_index};
+ghost use Rattle.std.specs.Option.{option_copied, option_map};
 ghost use Rattle.std.specs.FinMap as fmap;
 ghost use Rattle.blob_digest.specs.Digests.{is_digest_of};
 ghost use Rattle.blob_digest.specs.Outcomes.{Does, DoesExactly};
-ghost use Rattle.upload_table.specs.Sessions.{check_in, given_up, hand_in, home_in, in_sessions, is_home, received_in, sessions_of, listed, take_in};
+ghost use Rattle.blob_digest.specs.declared.refusal.Refusal.TheVariants.{Memory};
+ghost use Rattle.upload_table.specs.Sessions.{check_in, given_up, hand_in, home_in, in_sessions, is_home, received_in, session_in, sessions_of, listed, take_in, taken_session};
 ghost use Rattle.upload_table.specs.Uploaded.{finish_upload, opening, put_back_upload, repo_at, start_upload, with_sessions, CanReopen, IsFull, reopened};
+ghost use Rattle.upload_table.specs.Rows.{session_of, AreWhole};
+ghost use Rattle.upload_table.specs.Tenants.{no_sessions};
 
 use crate::hand::{Hand, Sealed};
-use crate::rows::{is_spent, nth_of, number_of, place_of, place_out, put_home, row_of, take_out};
-use crate::upload::{Content, Pieces, Upload, length_after, lift, received_of};
-use blob_digest::{Blob, ByteRange, Digest, Refusal, RepoName, Running};
+use crate::repo_sessions::RepoSessions;
+use crate::tenant_sessions::TenantSessions;
+use crate::upload::{Content, Upload, is_in_hand, length_after, received_of};
+use blob_digest::{Blob, ByteRange, Digest, Refusal, RepoName};
 use std::alloc::Global;
 use std::marker::Model;
 
@@ -19,13 +26,12 @@ use std::marker::Model;
 /// much is reserved for a chunk more. Contracts see, for each tenant, its next number, and the open
 /// sessions.
 ///
-/// A call looks its session up by going over all that are open.
+/// Each tenant has its sessions in the order of their numbers. No call goes over another tenant's: a
+/// session is found by binary search among its tenant's, and to remove one moves those behind it.
 #[derive(Drop)]
 pub struct Uploads {
     alloc: Global,
-    next: Vec<u64>,
-    totals: Vec<u64>,
-    rows: Vec<Upload>,
+    tenants: Vec<TenantSessions>,
 }
 
 impl Model for Uploads {
@@ -35,11 +41,25 @@ impl Model for Uploads {
 
     ghost coded = { coded_uploaded };
 
-    ghost use Rattle.upload_table.specs.Rows.{shown_by, IsSound};
+    ghost use Rattle.upload_table.specs.Tenants.{tenants_shown};
 
-    ghost view = { λ a. shown_by a.next.items a.rows.items };
+    ghost view = { λ a. tenants_shown a.tenants.items };
+}
 
-    ghost invariant = { λ a. IsSound a.next.items a.totals.items a.rows.items };
+/// As many tenants without sessions, whose first sessions have the same number.
+fn tenants_from(
+    alloc: Global,
+    count: u16,
+    first_number: u32,
+) -> Result<Vec<TenantSessions>, Refusal>
+    ensures ok { IfOk result (λ v. v.items ≡ replicate count (no_sessions first_number)) }
+    ensures refused { IfErr result (λ e. e ≡ Memory) }
+{
+    let mut tenants = Vec::new(alloc);
+    for _ in 0..count {
+        tenants.push(TenantSessions::new(alloc, first_number))?;
+    }
+    Ok(tenants)
 }
 
 impl Uploads {
@@ -49,14 +69,8 @@ impl Uploads {
         ensures value { IfOk result (λ u. u ≡ opening tenants first_number) }
         ensures refused { IfErr result (λ e. e ≡ Refusal.Memory) }
     {
-        let next = vec![in alloc; u64::from(first_number); tenants as usize]?;
-        let totals = vec![in alloc; 0u64; tenants as usize]?;
-        Ok(Uploads {
-            alloc,
-            next,
-            totals,
-            rows: Vec::new(alloc),
-        })
+        let tenants = tenants_from(alloc, tenants, first_number)?;
+        Ok(Uploads { alloc, tenants })
     }
 
     /// Opens a session without chunks for a repository of the tenant's, and answers its number (OCI
@@ -66,24 +80,41 @@ impl Uploads {
         requires there { tenant < length self.old.next }
         ensures { Does (λ n. n) result self.old self.new (start_upload self.old tenant repo.now) }
     {
-        if is_spent(&self.next, &self.rows, tenant) {
-            return Err(Refusal::LimitReached);
+        self.tenants[tenant as usize].start(self.alloc, repo)
+    }
+
+    /// The session of a tenant and a number.
+    fn row(&self, tenant: u16, number: u32) -> Option<&Upload>
+        ensures shown { option_map session_of (option_copied result) ≡ fmap.get self.now.sessions (tenant, number) }
+        ensures whole { IfSome result (λ u. AreWhole u.now.content) }
+    {
+        if (tenant as usize) < self.tenants.as_slice().len() {
+            self.tenants[tenant as usize].row(number)
+        } else {
+            None
         }
-        let number = number_of(&self.next, tenant);
-        let repo = repo.clone()?;
-        let row = Upload {
-            tenant,
-            number,
-            repo,
-            content: Content::Home(Pieces {
-                bytes: Vec::new(self.alloc),
-                lens: Vec::new(self.alloc),
-                running: Running::new(),
-            }),
-        };
-        self.rows.push(row)?;
-        self.next[tenant as usize] = u64::from(number) + 1;
-        Ok(number)
+    }
+
+    /// A repository's session.
+    fn session(&self, tenant: u16, repo: &RepoName, number: u32) -> Result<&Upload, Refusal>
+        ensures ok { IfOk result (λ u. session_in (fmap.get self.now.sessions (tenant, number)) repo.now ≡ Ok (session_of u.now)) }
+        ensures whole { IfOk result (λ u. AreWhole u.now.content) }
+        ensures refused { IfErr result (λ e. session_in (fmap.get self.now.sessions (tenant, number)) repo.now ≡ Err e) }
+    {
+        match self.row(tenant, number) {
+            Some(row) if row.repo == *repo => Ok(row),
+            _ => Err(Refusal::UploadUnknown),
+        }
+    }
+
+    /// Whether a session is in hand with a hand's number and lengths.
+    fn has_taken(&self, hand: &Hand) -> bool
+        ensures { result ≡ is_ok (taken_session (fmap.get self.now.sessions hand.now.key) hand.now) }
+    {
+        match self.row(hand.tenant(), hand.number()) {
+            Some(row) => is_in_hand(&row.content, hand.received(), hand.reserved()),
+            None => false,
+        }
     }
 
     /// How many bytes a repository's session has received. Refused, as `UploadUnknown`, is a number
@@ -91,12 +122,7 @@ impl Uploads {
     pub fn received(&self, tenant: u16, repo: &RepoName, number: u32) -> Result<u64, Refusal>
         ensures { result ≡ received_in self.now.sessions (tenant, number) repo.now }
     {
-        let Some(row) = row_of(&self.rows, tenant, number) else {
-            return Err(Refusal::UploadUnknown);
-        };
-        if row.repo != *repo {
-            return Err(Refusal::UploadUnknown);
-        }
+        let row = self.session(tenant, repo, number)?;
         Ok(received_of(&row.content))
     }
 
@@ -105,12 +131,7 @@ impl Uploads {
     pub fn received_home(&self, tenant: u16, repo: &RepoName, number: u32) -> Result<u64, Refusal>
         ensures { result ≡ home_in self.now.sessions (tenant, number) repo.now }
     {
-        let Some(row) = row_of(&self.rows, tenant, number) else {
-            return Err(Refusal::UploadUnknown);
-        };
-        if row.repo != *repo {
-            return Err(Refusal::UploadUnknown);
-        }
+        let row = self.session(tenant, repo, number)?;
         match &row.content {
             Content::Home(pieces) => Ok(pieces.bytes.as_slice().len() as u64),
             Content::InHand { .. } => Err(Refusal::Busy),
@@ -146,15 +167,8 @@ impl Uploads {
         ensures hand { result ≡ hand_in self.old.sessions (tenant, number) len }
         ensures taken { self.new ≡ with_sessions self.old (take_in self.old.sessions (tenant, number) len) }
     {
-        match place_of(&self.rows, tenant, number) {
-            Some(i) => {
-                let row = &mut self.rows[i];
-                let pieces = lift(row, len);
-                self.totals[tenant as usize] += len;
-                Hand::new(tenant, number, len, pieces)
-            }
-            None => unreachable!(),
-        }
+        let pieces = self.tenants[tenant as usize].take(number, len);
+        Hand::new(tenant, number, len, pieces)
     }
 
     /// Puts a session's chunks back, and the one that was filled in, where it has bytes; answers how many
@@ -164,18 +178,13 @@ impl Uploads {
     pub fn put_back(&mut self, hand: Hand) -> Result<u64, Refusal>
         ensures { DoesExactly (λ n. n) result self.old self.new (put_back_upload self.old hand) }
     {
-        let (tenant, number) = (hand.tenant(), hand.number());
-        let (received, reserved) = (hand.received(), hand.reserved());
-        match place_out(&self.rows, tenant, number, received, reserved) {
-            Some(i) => {
-                let pieces = hand.into_pieces();
-                Ok(put_home(&mut self.rows, &mut self.totals, i, pieces))
-            }
-            None => {
-                hand.spend();
-                Err(Refusal::UploadUnknown)
-            }
+        if !self.has_taken(&hand) {
+            hand.spend();
+            return Err(Refusal::UploadUnknown);
         }
+        let (tenant, number) = (hand.tenant(), hand.number());
+        let pieces = hand.into_pieces();
+        Ok(self.tenants[tenant as usize].put_home(number, pieces))
     }
 
     /// Moves a hand's bytes into a blob of this digest, where its chunk was filled in or none is to come.
@@ -192,19 +201,16 @@ impl Uploads {
         ensures key { IfOk result (λ r. r.1.key ≡ hand.key) }
         ensures restores { IfOk result (λ r. CanReopen self.new r.1 r.0.1 × (reopened self.new r.1 r.0.1 ≡ with_sessions self.old (given_up self.old.sessions hand))) }
     {
+        if !self.has_taken(&hand) {
+            hand.spend();
+            return Err(Refusal::UploadUnknown);
+        }
         let (tenant, number) = (hand.tenant(), hand.number());
-        let (received, reserved) = (hand.received(), hand.reserved());
-        match place_out(&self.rows, tenant, number, received, reserved) {
-            Some(i) => match hand.seal(digest) {
-                Ok(sealed) => Ok(sealed),
-                Err(pieces) => {
-                    let _ = put_home(&mut self.rows, &mut self.totals, i, pieces);
-                    Err(Refusal::DigestInvalid)
-                }
-            },
-            None => {
-                hand.spend();
-                Err(Refusal::UploadUnknown)
+        match hand.seal(digest) {
+            Ok(sealed) => Ok(sealed),
+            Err(pieces) => {
+                let _ = self.tenants[tenant as usize].put_home(number, pieces);
+                Err(Refusal::DigestInvalid)
             }
         }
     }
@@ -214,7 +220,7 @@ impl Uploads {
         requires { IsSome (fmap.get self.now.sessions sealed.now.key) }
         ensures { result.now ≡ repo_at self.now sealed.now.key }
     {
-        match row_of(&self.rows, sealed.tenant, sealed.number) {
+        match self.row(sealed.tenant, sealed.number) {
             Some(row) => &row.repo,
             None => unreachable!(),
         }
@@ -226,13 +232,9 @@ impl Uploads {
         requires { CanReopen self.old sealed blob.1 }
         ensures { self.new ≡ reopened self.old sealed blob.1 }
     {
-        match place_of(&self.rows, sealed.tenant, sealed.number) {
-            Some(i) => {
-                let pieces = sealed.into_pieces(blob);
-                let _ = put_home(&mut self.rows, &mut self.totals, i, pieces);
-            }
-            None => unreachable!(),
-        }
+        let (tenant, number) = (sealed.tenant, sealed.number);
+        let pieces = sealed.into_pieces(blob);
+        let _ = self.tenants[tenant as usize].put_home(number, pieces);
     }
 
     /// Forgets a session that was sealed.
@@ -246,10 +248,7 @@ impl Uploads {
             lens: _,
             running: _,
         } = sealed;
-        match place_of(&self.rows, tenant, number) {
-            Some(i) => take_out(&mut self.rows, &mut self.totals, i),
-            None => unreachable!(),
-        }
+        self.tenants[tenant as usize].remove(number);
     }
 
     /// Drops a session that is at home, with its bytes.
@@ -257,10 +256,7 @@ impl Uploads {
         requires { is_home (fmap.get self.old.sessions (tenant, number)) ≡ true }
         ensures { self.new ≡ with_sessions self.old (fmap.remove self.old.sessions (tenant, number)) }
     {
-        match place_of(&self.rows, tenant, number) {
-            Some(i) => take_out(&mut self.rows, &mut self.totals, i),
-            None => unreachable!(),
-        }
+        self.tenants[tenant as usize].remove(number);
     }
 
     /// What a tenant's sessions count in its use: the bytes received, and those reserved. Reads a sum that
@@ -269,8 +265,7 @@ impl Uploads {
         requires there { tenant < length self.now.next }
         ensures { result ≡ in_sessions self.now.sessions tenant }
     {
-        let sums = &self.totals;
-        sums[tenant as usize]
+        self.tenants[tenant as usize].charged()
     }
 
     /// The number of the tenant's next session, at most 2^32.
@@ -278,15 +273,28 @@ impl Uploads {
         requires { tenant < length self.now.next }
         ensures { result ≡ slice_index self.now.next tenant }
     {
-        self.next.as_slice()[tenant as usize]
+        self.tenants[tenant as usize].next()
     }
 
-    /// A repository's i-th session, in the order of the numbers: its number and how many bytes it has
-    /// received.
+    /// The sessions of a tenant for a repository, in the order of their numbers: of each its number, and
+    /// how many bytes it has received. All of them take one pass over the tenant's sessions.
+    pub fn sessions<'a>(&'a self, tenant: u16, repo: &'a RepoName) -> RepoSessions<'a>
+        ensures { result ≡ map listed (sessions_of self.now.sessions tenant repo.now) }
+    {
+        if (tenant as usize) < self.tenants.as_slice().len() {
+            RepoSessions {
+                rest: self.tenants[tenant as usize].rows(),
+                repo,
+            }
+        } else {
+            RepoSessions { rest: &[], repo }
+        }
+    }
+
+    /// A repository's i-th session, from 0, as `sessions` lists them.
     pub fn session_at(&self, tenant: u16, repo: &RepoName, i: usize) -> Option<(u32, u64)>
         ensures { result ≡ slice_get (map listed (sessions_of self.now.sessions tenant repo.now)) i }
     {
-        let row = nth_of(&self.rows, tenant, repo, i)?;
-        Some((row.number, received_of(&row.content)))
+        self.sessions(tenant, repo).nth(i)
     }
 }

@@ -1,4 +1,4 @@
-use Rattle.std.proofs.Common.{rules, sym, ap, ◌∙◌, take}
+use Rattle.std.proofs.Common.{rules, sym, ◌∙◌, take}
 use Rattle.std.proofs.lemmas.List.{get_or_default}
 use Rattle.link_table.proofs.ManifestRows.{referred, undone}
 use Rattle.link_table.proofs.repo_manifests.refer.Goals as goal

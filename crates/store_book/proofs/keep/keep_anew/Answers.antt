@@ -1,4 +1,7 @@
-use Rattle.std.proofs.Common.{◌∙◌, length}
+use Rattle.std.proofs.Common.{◌∙◌, ap, refl, length}
+use Rattle.slot_table.specs.Slots.{on_held, raise}
+use Rattle.store_book.specs.Pinned.{Pinned}
+use Rattle.store_book.proofs.Pinning.{Quietly-placed, Quietly-slotted}
 use Rattle.store_book.proofs.KeepCalls.{link_there, unlink-link, kept_anew}
 use Rattle.store_book.proofs.keep.keep_anew.Goals as goal
 
@@ -7,8 +10,12 @@ unlink-requires-clause-linked c = link_there c.args.links.now c.link.new.self c.
 
 pub returns-in-Ok-clause-ok : goal.returns-in-Ok-clause-ok
 returns-in-Ok-clause-ok c =
-    kept_anew c.args.links.now c.link.new.self c.args.slots.now c.place.new.self c.link_up.new.self c.args.repo.now c.args.blob c.in-Ok.slot c.in_default.field-0 c.requires.absent c.in-Ok.ensures.free
-    (rw (c.digest-digest.ensures.value, c.bytes.ensures.value) at c.in_default.ensures) c.in-Ok.ensures.ok c.link_up.ensures
+    kept_anew c.args.links.now c.link.new.self c.args.slots.now.slots c.place.new.self.slots c.link_up.new.self.slots c.args.repo.now c.args.blob c.in-Ok.slot c.in_default.field-0 c.requires.absent c.in-Ok.ensures.free
+    (rw (c.digest-digest.ensures.value, c.bytes.ensures.value) at c.in_default.ensures) (ap (λ (p : Pinned). p.slots) c.in-Ok.ensures.ok) (ap (λ (p : Pinned). p.slots) c.link_up.ensures)
+
+pub returns-in-Ok-clause-quiet : goal.returns-in-Ok-clause-quiet
+returns-in-Ok-clause-quiet c =
+    Quietly-slotted c.args.slots.now c.place.new.self c.link_up.new.self c.in-Ok.slot (on_held raise) (λ s. refl) (Quietly-placed c.args.slots.now c.place.new.self c.in-Ok.slot c.args.blob c.in-Ok.ensures.ok) c.link_up.ensures
 
 pub returns-in-Err-place-clause-err : goal.returns-in-Err-place-clause-err
 returns-in-Err-place-clause-err c = (

@@ -1,23 +1,32 @@
-use Rattle.std.proofs.Common.{List, ◌∙◌, sym, subst}
-use Rattle.slot_table.specs.Slots.{Slot}
-use Rattle.store_book.specs.Keeping.{bytes_at, IsKept}
+use Rattle.std.proofs.Common.{◌≡◌, List, ◌∙◌, ap, sym, subst, refl}
+use Rattle.slot_table.specs.declared.phase.Phase.TheVariants as phase
+use Rattle.slot_table.specs.Slots.{Slot, with_slot, on_held, raise}
+use Rattle.store_book.specs.Keeping.{bytes_at, woken, IsKept}
+use Rattle.store_book.specs.Pinned.{Pinned, all_seen}
 use Rattle.store_book.proofs.KeepCalls.{size_there, again_new, again_old}
-use Rattle.store_book.proofs.SlotLemmas.{phase_live}
-use Rattle.store_book.proofs.Ties.{held_of}
+use Rattle.store_book.proofs.Pinning.{all_seen-with_slot, raise-seen, woken-same}
 use Rattle.store_book.proofs.keep.link_slot.Goals as goal
 use Rattle.store_book.proofs.keep.link_slot.Goals.{then-is_new, else-is_new}
 
 pub link-requires-clause-size : goal.link-requires-clause-size
-link-requires-clause-size c = rw c.held_len-size.ensures (size_there c.args.slots.now c.args.slot c.args.digest.now c.requires.there c.args.links.now c.args.tenant c.args.repo.now c.requires.can)
-
-pub link_up-requires-clause-live : goal.link_up-requires-clause-live
-link_up-requires-clause-live c = let h = held_of c.args.slots.now c.args.digest.now c.args.slot c.requires.there in phase_live c.args.slots.now c.args.slot h.0 h.1 (c.requires.can.live c.args.slot h.0 h.1)
+link-requires-clause-size c = rw (c.held_len-size.ensures, c.table.ensures) (size_there c.args.slots.now.slots c.args.slot c.args.digest.now c.requires.there c.args.links.now c.args.tenant c.args.repo.now c.requires.can)
 
 pub returns-clause-ok : goal.returns-clause-ok
-returns-clause-ok c = elim c.if-is_new.branch [
+returns-clause-ok c =
+    let awake : woken c.args.slots.now.slots c.args.slot ≡ c.args.slots.now.slots = woken-same c.args.slots.now.slots c.args.slot (λ e. let f : phase.Live ≡ phase.Condemned = sym c.requires.live ∙ e in cc) in
+    elim c.if-is_new.branch [
+      | then-is_new w ↦
+          again_new c.args.slots.now.slots c.args.slot c.args.digest.now c.requires.there c.args.links.now c.link.new.self c.if-is_new.slots.slots c.args.repo.now (rw (c.held_len-size.ensures, c.table.ensures, w.if-is_new.true) at c.in_ok-is_new.ensures)
+          (ap (λ (p : Pinned). p.slots) (w.slots-is ∙ w.link_up.ensures) ∙ ap (λ xs. with_slot xs c.args.slot (on_held raise)) (sym awake))
+      | else-is_new w ↦
+          let kept = again_old c.args.slots.now.slots c.args.slot c.args.digest.now c.requires.there c.args.links.now c.link.new.self c.args.repo.now (rw (c.held_len-size.ensures, c.table.ensures, w.if-is_new.false) at c.in_ok-is_new.ensures) in
+          subst (λ (x : List Slot). IsKept c.args.links.now c.args.slots.now.slots c.args.repo.now (c.args.digest.now, bytes_at c.args.slots.now.slots c.args.slot) c.link.new.self x) (awake ∙ ap (λ (p : Pinned). p.slots) (sym w.slots-is)) kept
+    ]
+
+pub returns-clause-seen : goal.returns-clause-seen
+returns-clause-seen c = elim c.if-is_new.branch [
   | then-is_new w ↦
-      again_new c.args.slots.now c.args.slot c.args.digest.now c.requires.there c.args.links.now c.link.new.self c.if-is_new.slots c.args.repo.now (rw (c.held_len-size.ensures, w.if-is_new.true) at c.in_ok-is_new.ensures) (w.slots-is ∙ w.link_up.ensures)
-  | else-is_new w ↦
-      let kept = again_old c.args.slots.now c.args.slot c.args.digest.now c.requires.there c.args.links.now c.link.new.self c.args.repo.now (rw (c.held_len-size.ensures, w.if-is_new.false) at c.in_ok-is_new.ensures) in
-      subst (λ (x : List Slot). IsKept c.args.links.now c.args.slots.now c.args.repo.now (c.args.digest.now, bytes_at c.args.slots.now c.args.slot) c.link.new.self x) (sym w.slots-is) kept
+      let is = w.slots-is ∙ w.link_up.ensures in
+      (ap (λ (p : Pinned). p.table) is, ap (λ (p : Pinned). all_seen p.slots p.bounds) is ∙ all_seen-with_slot c.args.slots.now.slots c.args.slot (on_held raise) c.args.slots.now.bounds raise-seen)
+  | else-is_new w ↦ (ap (λ (p : Pinned). p.table) w.slots-is, ap (λ (p : Pinned). all_seen p.slots p.bounds) w.slots-is)
 ]

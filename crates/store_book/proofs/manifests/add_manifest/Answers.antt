@@ -1,4 +1,4 @@
-use Rattle.std.proofs.Common.{sym, ap, ◌∙◌}
+use Rattle.std.proofs.Common.{ap, ◌∙◌}
 use Rattle.blob_digest.specs.Sets as set
 use Rattle.link_table.specs.Linked.{Linked, vanish}
 use Rattle.link_table.proofs.Accepted.{appear-contains}
@@ -15,8 +15,7 @@ vanish-requires-clause-there c =
 pub returns-after-is_new : goal.returns-after-is_new
 returns-after-is_new c =
     let l = c.args.links.now in
-    let repo = c.args.repo.now in
-    (
+    let repo = c.args.repo.now in (
       (λ other. appeared_put l c.args.tenant repo c.args.manifest.value c.appear.new.self c.in_ok-is_new.is_new c.in_ok-is_new.ensures ∙ c.in-Err.ensures.0 other),
       elim c.if-is_new.branch [
         | then-is_new w ↦ w.links-is ∙ w.vanish.ensures ∙ ap (λ (x : Linked). vanish x repo) c.in-Err.ensures.1 ∙ undone l c.appear.new.self c.args.tenant repo c.in_ok-is_new.is_new c.in_ok-is_new.ensures w.if-is_new.true

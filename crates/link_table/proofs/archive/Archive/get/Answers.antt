@@ -1,4 +1,4 @@
-use Rattle.std.proofs.Common.{◌≡◌, sym, ap, ◌∙◌, rules, None, Some}
+use Rattle.std.proofs.Common.{ap, ◌∙◌}
 use Rattle.std.specs.FinMap.{get}
 use Rattle.link_table.specs.Archive.{Archived}
 use Rattle.link_table.proofs.ArchiveRows.{group_of, get_there, get_none}

@@ -1,4 +1,4 @@
-use Rattle.std.proofs.Common.{sym, ap, ◌∙◌}
+use Rattle.std.proofs.Common.{ap, ◌∙◌}
 use Rattle.link_table.specs.Archive.{Archived, manifests_on}
 use Rattle.link_table.proofs.ArchiveRows.{group_of, manifests_there, manifests_none}
 use Rattle.link_table.proofs.archive.Archive.manifests.Goals as goal

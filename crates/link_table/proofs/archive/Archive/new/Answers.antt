@@ -1,4 +1,3 @@
-use Rattle.std.proofs.Common.{◌≡◌, sym, ap, ◌∙◌, rules, None, Some}
 use Rattle.link_table.proofs.ArchiveRows.{archived-new}
 use Rattle.link_table.proofs.archive.Archive.new.Goals as goal
 

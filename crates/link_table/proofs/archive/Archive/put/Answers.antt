@@ -1,6 +1,3 @@
-use Rattle.std.proofs.Common.{◌≡◌, sym, ap, ◌∙◌, rules, None, Some}
-use Rattle.std.specs.FinMap.{get}
-use Rattle.link_table.specs.Archive.{Archived}
 use Rattle.link_table.proofs.ArchiveRows.{group_of, none_same, written, put_there}
 use Rattle.link_table.proofs.archive.Archive.put.Goals as goal
 

@@ -1,8 +1,7 @@
-use Rattle.std.proofs.Common.{◌≡◌, sym, ap, ◌∙◌, rules, refl, Ok}
+use Rattle.std.proofs.Common.{sym, ap, ◌∙◌, Ok}
 use Rattle.std.specs.FinMap.{get}
 use Rattle.blob_digest.proofs.Trees.{insert_is}
-use Rattle.link_table.specs.Archive.{Archived, archived}
-use Rattle.link_table.specs.Manifests.{put_in}
+use Rattle.link_table.specs.Archive.{Archived}
 use Rattle.link_table.proofs.ArchiveRows.{bare, put_there, put_refused}
 use Rattle.link_table.proofs.archive.Archive.put_first.Goals as goal
 

@@ -1,4 +1,4 @@
-use Rattle.std.proofs.Common.{◌≡◌, sym, ap, ◌∙◌, rules, None, Some}
+use Rattle.std.proofs.Common.{ap, ◌∙◌}
 use Rattle.link_table.specs.Archive.{Archived, referrer_on}
 use Rattle.link_table.proofs.ArchiveRows.{group_of, referrer_there, referrer_none}
 use Rattle.link_table.proofs.archive.Archive.referrer.Goals as goal

@@ -9,10 +9,10 @@ returns-in-Ok c =
     let rows = c.self.inside.repos.items in
     let row = c.index.result.now in
     let found = row_found rows c.args.repo.now c.in-Ok.place row (rw c.as_slice.ensures.value at c.in-Ok.ensures.within) (rw c.as_slice.ensures.value at c.in-Ok.ensures.place) c.index.ensures in
-    c.iter.ensures.rest ∙ sym (blobs-there rows c.self.invariant c.in-Ok.place row found.0 (sorted_tree row.blobs.entries c.iter.ensures.ordered))
+    c.iter.ensures.rest ∙ sym (blobs-there rows c.self.invariant.order c.in-Ok.place row found.0 (sorted_tree row.blobs.entries c.iter.ensures.ordered))
     ∙ ap (blobs_on (shelf_shown rows)) found.1 ∙ ap (λ (s : Shelved). blobs_on s c.args.repo.now) c.self.view_is
 
 pub returns-in-Err : goal.returns-in-Err
 returns-in-Err c =
-    sym (blobs-absent c.self.inside.repos.items c.self.invariant c.args.repo.now c.in-Err.field-0 (rw c.as_slice.ensures.value at c.in-Err.ensures.place))
+    sym (blobs-absent c.self.inside.repos.items c.self.invariant.order c.args.repo.now c.in-Err.field-0 (rw c.as_slice.ensures.value at c.in-Err.ensures.place))
     ∙ ap (λ (s : Shelved). blobs_on s c.args.repo.now) c.self.view_is

@@ -7,5 +7,5 @@ use Rattle.store_book.proofs.book.Book.delete_manifest.Goals as goal
 pub invariant_of-self : goal.invariant_of-self
 invariant_of-self c =
     let i = c.self.inside in
-    subst (λ (l : Linked). IsBook l i.uploads i.slots i.max_blob) (sym c.drop_manifest.ensures)
-    (IsBook-delete_manifest i.links i.uploads i.slots i.max_blob c.in_ok-tenant.field-0 c.args.repo.now c.args.digest.now (sym c.in_ok-tenant.ensures.known) c.in-Some.field-0.now.value (sym c.in-Some.ensures) c.self.invariant)
+    subst (λ (l : Linked). IsBook l i.uploads i.slots.slots i.max_blob) (sym c.drop_manifest.ensures)
+    (IsBook-delete_manifest i.links i.uploads i.slots.slots i.max_blob c.in_ok-tenant.field-0 c.args.repo.now c.args.digest.now (sym c.in_ok-tenant.ensures.known) c.in-Some.field-0.now.value (sym c.in-Some.ensures) c.self.invariant)

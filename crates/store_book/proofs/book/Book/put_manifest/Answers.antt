@@ -1,11 +1,9 @@
-use Rattle.std.proofs.Common.{◌≡◌, ◌≤◌, length, is_some, Ok, ap, sym, ◌∙◌, refl, subst}
+use Rattle.std.proofs.Common.{◌≡◌, ap, sym, ◌∙◌, refl}
 use Rattle.std.proofs.lemmas.Result.{err_from_is_err_and}
 use Rattle.std.specs.FinMap.{get}
 use Rattle.blob_digest.specs.Digests.{sha256_text}
-use Rattle.blob_digest.specs.Keys.{Text}
-use Rattle.oci_manifest.specs.Manifests.{max_manifest, refs_of}
 use Rattle.store_book.specs.BookState.{BookState}
-use Rattle.store_book.specs.Keeping.{all_held, with_manifest_on}
+use Rattle.store_book.specs.Keeping.{with_manifest_on}
 use Rattle.store_book.specs.Layers.{book_catalog}
 use Rattle.store_book.proofs.ManifestCalls.{is_some-of, read_from, put_unlinked, put_there, put_refused, put_ok, IsBook-put_manifest}
 use Rattle.store_book.proofs.Starting.{absent_unlinked}
@@ -16,11 +14,10 @@ returns-in_err-check_linked-clause-does c =
     let i = c.self.inside in
     let bytes = c.args.bytes.now in
     let m = c.in_ok-manifest.manifest in
-    let fits : length m ≤ max_manifest = subst (λ (x : Text). length x ≤ max_manifest) c.manifest.view_is c.manifest.invariant.fits in
-    let read = read_from bytes m c.refs.result.now (sha256_text m) c.in_ok-manifest.ensures.value c.refs.ensures refl fits in
+    let read = read_from bytes m _ c.refs.result.now (sha256_text m) c.in_ok-manifest.ensures.value c.manifest.view_is c.manifest.invariant.fits c.refs.ensures refl in
     let p = err_from_is_err_and c.from_residual-in_err-check_linked.result c.from_residual-in_err-check_linked.ensures.1 in
     rw (p.1, p.2) (
-      (λ other. rw (← c.self.view_is) (put_unlinked i.links i.uploads i.slots i.max_blob c.in_ok-tenant.tenant c.args.repo.now bytes c.refs.result.now (sha256_text m) c.self.invariant (sym c.in_ok-tenant.ensures.known) read _ (sym c.in_err-check_linked.ensures))),
+      (λ other. rw (← c.self.view_is) (put_unlinked i.links i.uploads i.slots.slots i.max_blob c.in_ok-tenant.tenant c.args.repo.now bytes c.refs.result.now (sha256_text m) c.self.invariant (sym c.in_ok-tenant.ensures.known) read _ (sym c.in_err-check_linked.ensures))),
       refl,
     )
 
@@ -30,13 +27,12 @@ returns-then-is_some-clause-does c =
     let bytes = c.args.bytes.now in
     let m = c.in_ok-manifest.manifest in
     let name = c.digest-digest.result in
-    let fits : length m ≤ max_manifest = subst (λ (x : Text). length x ≤ max_manifest) c.manifest.view_is c.manifest.invariant.fits in
-    let read = read_from bytes m c.refs.result.now name c.in_ok-manifest.ensures.value c.refs.ensures c.digest-digest.ensures fits in
+    let read = read_from bytes m _ c.refs.result.now name c.in_ok-manifest.ensures.value c.manifest.view_is c.manifest.invariant.fits c.refs.ensures c.digest-digest.ensures in
     let there = is_some-of (λ x. x.now.value) c.manifest-2.result (get i.links.manifests (c.args.repo.now, name)) _ c.manifest-2.ensures (sym c.is_some.ensures ∙ c.if-is_some.true) in
-    rw (← c.self.view_is) (put_there i.links i.uploads i.slots i.max_blob c.in_ok-tenant.tenant c.args.repo.now bytes c.refs.result.now name c.self.invariant (sym c.in_ok-tenant.ensures.known) read (sym c.in_ok-check_linked.ensures) there)
+    rw (← c.self.view_is) (put_there i.links i.uploads i.slots.slots i.max_blob c.in_ok-tenant.tenant c.args.repo.now bytes c.refs.result.now name c.self.invariant (sym c.in_ok-tenant.ensures.known) read (sym c.in_ok-check_linked.ensures) there)
 
 pub add_manifest-requires-clause-unlinked : goal.add_manifest-requires-clause-unlinked
-add_manifest-requires-clause-unlinked c = absent_unlinked c.self.inside.links c.self.inside.uploads c.self.inside.slots c.self.inside.max_blob c.args.repo.now c.self.invariant
+add_manifest-requires-clause-unlinked c = absent_unlinked c.self.inside.links c.self.inside.uploads c.self.inside.slots.slots c.self.inside.max_blob c.args.repo.now c.self.invariant
 
 pub returns-in_err-add_manifest-clause-does : goal.returns-in_err-add_manifest-clause-does
 returns-in_err-add_manifest-clause-does c =
@@ -45,14 +41,13 @@ returns-in_err-add_manifest-clause-does c =
     let bytes = c.args.bytes.now in
     let m = c.in_ok-manifest.manifest in
     let name = c.digest-digest.result in
-    let fits : length m ≤ max_manifest = subst (λ (x : Text). length x ≤ max_manifest) c.manifest.view_is c.manifest.invariant.fits in
-    let read = read_from bytes m c.refs.result.now name c.in_ok-manifest.ensures.value c.refs.ensures c.digest-digest.ensures fits in
+    let read = read_from bytes m _ c.refs.result.now name c.in_ok-manifest.ensures.value c.manifest.view_is c.manifest.invariant.fits c.refs.ensures c.digest-digest.ensures in
     let absent = is_some-of (λ x. x.now.value) c.manifest-2.result (get i.links.manifests (repo, name)) _ c.manifest-2.ensures (sym c.is_some.ensures ∙ c.if-is_some.false) in
     let put : with_manifest_on i.links c.in_ok-tenant.tenant repo c.in_ok-manifest-2.manifest.value ≡ with_manifest_on i.links c.in_ok-tenant.tenant repo bytes = ap (with_manifest_on i.links c.in_ok-tenant.tenant repo) (c.in_ok-manifest-2.ensures.ok ∙ c.in_ok-manifest.ensures.value) in
     let p = err_from_is_err_and c.from_residual-in_err-add_manifest.result c.from_residual-in_err-add_manifest.ensures.1 in
     rw (p.1, p.2) (
-      (λ other. rw (← c.self.view_is) (put_refused i.links i.uploads i.slots i.max_blob c.in_ok-tenant.tenant repo bytes c.refs.result.now name c.self.invariant (sym c.in_ok-tenant.ensures.known) read (sym c.in_ok-check_linked.ensures) absent _ (sym put ∙ c.in_err-add_manifest.ensures.0 other))),
-      ap (λ l. book_catalog l i.uploads i.slots i.max_blob) c.in_err-add_manifest.ensures.1 ∙ ap (λ (s : BookState). s.catalog) c.self.view_is,
+      (λ other. rw (← c.self.view_is) (put_refused i.links i.uploads i.slots.slots i.max_blob c.in_ok-tenant.tenant repo bytes c.refs.result.now name c.self.invariant (sym c.in_ok-tenant.ensures.known) read (sym c.in_ok-check_linked.ensures) absent _ (sym put ∙ c.in_err-add_manifest.ensures.0 other))),
+      ap (λ l. book_catalog l i.uploads i.slots.slots i.max_blob) c.in_err-add_manifest.ensures.1 ∙ ap (λ (s : BookState). s.catalog) c.self.view_is,
     )
 
 pub invariant_of-self-2 : goal.invariant_of-self-2
@@ -62,11 +57,10 @@ invariant_of-self-2 c =
     let bytes = c.args.bytes.now in
     let m = c.in_ok-manifest.manifest in
     let name = c.digest-digest.result in
-    let fits : length m ≤ max_manifest = subst (λ (x : Text). length x ≤ max_manifest) c.manifest.view_is c.manifest.invariant.fits in
-    let read = read_from bytes m c.refs.result.now name c.in_ok-manifest.ensures.value c.refs.ensures c.digest-digest.ensures fits in
+    let read = read_from bytes m _ c.refs.result.now name c.in_ok-manifest.ensures.value c.manifest.view_is c.manifest.invariant.fits c.refs.ensures c.digest-digest.ensures in
     let absent = is_some-of (λ x. x.now.value) c.manifest-2.result (get i.links.manifests (repo, name)) _ c.manifest-2.ensures (sym c.is_some.ensures ∙ c.if-is_some.false) in
     let put : with_manifest_on i.links c.in_ok-tenant.tenant repo c.in_ok-manifest-2.manifest.value ≡ with_manifest_on i.links c.in_ok-tenant.tenant repo bytes = ap (with_manifest_on i.links c.in_ok-tenant.tenant repo) (c.in_ok-manifest-2.ensures.ok ∙ c.in_ok-manifest.ensures.value) in
-    IsBook-put_manifest i.links i.uploads i.slots i.max_blob c.in_ok-tenant.tenant repo bytes c.refs.result.now name c.self.invariant (sym c.in_ok-tenant.ensures.known) read (sym c.in_ok-check_linked.ensures) absent c.add_manifest.new.links (sym put ∙ c.in_ok-add_manifest.ensures) c.in_ok-tenant.ensures.short
+    IsBook-put_manifest i.links i.uploads i.slots.slots i.max_blob c.in_ok-tenant.tenant repo bytes c.refs.result.now name c.self.invariant (sym c.in_ok-tenant.ensures.known) read (sym c.in_ok-check_linked.ensures) absent c.add_manifest.new.links (sym put ∙ c.in_ok-add_manifest.ensures) c.in_ok-tenant.ensures.short
 
 pub returns-clause-does : goal.returns-clause-does
 returns-clause-does c =
@@ -75,8 +69,7 @@ returns-clause-does c =
     let bytes = c.args.bytes.now in
     let m = c.in_ok-manifest.manifest in
     let name = c.digest-digest.result in
-    let fits : length m ≤ max_manifest = subst (λ (x : Text). length x ≤ max_manifest) c.manifest.view_is c.manifest.invariant.fits in
-    let read = read_from bytes m c.refs.result.now name c.in_ok-manifest.ensures.value c.refs.ensures c.digest-digest.ensures fits in
+    let read = read_from bytes m _ c.refs.result.now name c.in_ok-manifest.ensures.value c.manifest.view_is c.manifest.invariant.fits c.refs.ensures c.digest-digest.ensures in
     let absent = is_some-of (λ x. x.now.value) c.manifest-2.result (get i.links.manifests (repo, name)) _ c.manifest-2.ensures (sym c.is_some.ensures ∙ c.if-is_some.false) in
     let put : with_manifest_on i.links c.in_ok-tenant.tenant repo c.in_ok-manifest-2.manifest.value ≡ with_manifest_on i.links c.in_ok-tenant.tenant repo bytes = ap (with_manifest_on i.links c.in_ok-tenant.tenant repo) (c.in_ok-manifest-2.ensures.ok ∙ c.in_ok-manifest.ensures.value) in
-    rw (← c.self.view_is) (put_ok i.links i.uploads i.slots i.max_blob c.in_ok-tenant.tenant repo bytes c.refs.result.now name c.self.invariant (sym c.in_ok-tenant.ensures.known) read (sym c.in_ok-check_linked.ensures) absent c.add_manifest.new.links (sym put ∙ c.in_ok-add_manifest.ensures))
+    rw (← c.self.view_is) (put_ok i.links i.uploads i.slots.slots i.max_blob c.in_ok-tenant.tenant repo bytes c.refs.result.now name c.self.invariant (sym c.in_ok-tenant.ensures.known) read (sym c.in_ok-check_linked.ensures) absent c.add_manifest.new.links (sym put ∙ c.in_ok-add_manifest.ensures))

@@ -1,49 +1,53 @@
-use Rattle.std.proofs.Common.{◌≡◌, Ok, length, ap, sym, ◌∙◌, arith, refl}
-use Rattle.std.specs.Prelude.{sum}
+use Rattle.std.proofs.Common.{◌≡◌, Ok, length, ap, sym, ◌∙◌, arith, is_some}
 use Rattle.std.specs.List.{sum_by}
-use Rattle.upload_table.specs.Sessions.{chunks_of}
-use Rattle.upload_table.specs.Uploaded.{cut}
-use Rattle.upload_table.proofs.Cuts.{sum_by-cut}
-use Rattle.upload_table.proofs.HandChunks.{chunks_of-length}
-use Rattle.upload_table.proofs.Sound.{tenants_counted}
-use Rattle.upload_table.proofs.Hands.{fits, known, out_row, put_back_known, put_back_unknown, shown-home, sound-home, unknown}
+use Rattle.std.specs.FinMap.{get}
+use Rattle.blob_digest.proofs.OptionLemmas.{some_same}
+use Rattle.upload_table.specs.Sessions.{Home, with_chunks}
+use Rattle.upload_table.specs.Uploaded.{cut, with_sessions}
+use Rattle.upload_table.proofs.HandCalls.{put_back_known, put_fits, taken_value, whole_length}
+use Rattle.upload_table.proofs.TableCalls.{after-chunks, found_here, within}
 use Rattle.upload_table.proofs.uploads.Uploads.put_back.Goals as goal
 
+pub index_mut-requires : goal.index_mut-requires
+index_mut-requires c =
+    let tenants = c.self.inside.tenants.items in
+    let v = c.args.self.now in
+    let h = c.args.hand in
+    let x = taken_value (get v.sessions h.key) h (sym c.if-not-has_taken.ensures) in
+    let key : (c.tenant-tenant.result, c.number-number.result) ≡ h.key = (λ j. (c.tenant-tenant.ensures j, c.number-number.ensures j)) in
+    let found = ap (get v.sessions) key ∙ x.1.found in
+    omega (arith, within tenants v c.self.view_is c.tenant-tenant.result c.number-number.result x.0 found, c.self.inside.tenants.ok.0)
+
 pub put_home-requires-clause-there : goal.put_home-requires-clause-there
-put_home-requires-clause-there c = λ d.
-    let found = rw (c.deref.ensures.value, c.tenant-tenant.ensures, c.number-number.ensures) at c.in-Some.ensures in
-    let o = out_row c.self.inside.rows.items c.args.hand.key.0 c.args.hand.key.1 c.in-Some.i c.received-received.result c.reserved-reserved.result found in
-    tenants_counted c.self.inside.next.items c.self.inside.totals.items c.self.inside.rows.items c.self.invariant c.in-Some.i d o.2.placed.within
+put_home-requires-clause-there c =
+    let tenants = c.self.inside.tenants.items in
+    let v = c.args.self.now in
+    let h = c.args.hand in
+    let x = taken_value (get v.sessions h.key) h (sym c.if-not-has_taken.ensures) in
+    let key : (c.tenant-tenant.result, c.number-number.result) ≡ h.key = (λ j. (c.tenant-tenant.ensures j, c.number-number.ensures j)) in
+    let found = ap (get v.sessions) key ∙ x.1.found in
+    ap is_some (found_here tenants v c.self.view_is c.tenant-tenant.result c.number-number.result x.0 found c.index_mut.result.now c.index_mut.ensures.value)
 
 pub put_home-requires-clause-less : goal.put_home-requires-clause-less
-put_home-requires-clause-less c =
-    let found = rw (c.deref.ensures.value, c.tenant-tenant.ensures, c.number-number.ensures) at c.in-Some.ensures in
-    let o = out_row c.self.inside.rows.items c.args.hand.key.0 c.args.hand.key.1 c.in-Some.i c.received-received.result c.reserved-reserved.result found in
-    let le = chunks_of-length c.args.hand c.reserved-reserved.ensures.last in
-    fits c.self.inside.next.items c.self.inside.totals.items c.self.inside.rows.items c.self.invariant c.args.hand c.received-received.result c.reserved-reserved.result c.received-received.ensures c.reserved-reserved.ensures.value c.in-Some.i o.0 o.1 o.2
-    c.into_pieces-pieces.result c.into_pieces-pieces.ensures.whole (omega (arith, le, ap (sum_by length) c.into_pieces-pieces.ensures.chunks))
+put_home-requires-clause-less c = λ y is.
+    let tenants = c.self.inside.tenants.items in
+    let v = c.args.self.now in
+    let h = c.args.hand in
+    let x = taken_value (get v.sessions h.key) h (sym c.if-not-has_taken.ensures) in
+    let key : (c.tenant-tenant.result, c.number-number.result) ≡ h.key = (λ j. (c.tenant-tenant.ensures j, c.number-number.ensures j)) in
+    let found = ap (get v.sessions) key ∙ x.1.found in
+    let p = c.into_pieces-pieces.ensures in
+    put_fits v h x.0 x.1 c.into_pieces-pieces.result p.whole (omega (arith, ap (sum_by length) p.chunks, p.fits)) y (some_same (sym is ∙ found_here tenants v c.self.view_is c.tenant-tenant.result c.number-number.result x.0 found c.index_mut.result.now c.index_mut.ensures.value))
 
-pub invariant_of-self : goal.invariant_of-self
-invariant_of-self c =
-    let found = rw (c.deref.ensures.value, c.tenant-tenant.ensures, c.number-number.ensures) at c.in-Some.ensures in
-    let o = out_row c.self.inside.rows.items c.args.hand.key.0 c.args.hand.key.1 c.in-Some.i c.received-received.result c.reserved-reserved.result found in
-    sound-home c.self.inside.next.items c.self.inside.totals.items c.self.inside.rows.items c.self.invariant c.args.hand c.received-received.result c.reserved-reserved.result c.received-received.ensures c.reserved-reserved.ensures.value c.in-Some.i o.0 o.1 o.2
-    c.put_home.new.totals.items c.put_home.new.rows.items c.into_pieces-pieces.result (c.put_home.ensures.rows o.0 o.1) c.into_pieces-pieces.ensures.whole c.put_home.ensures.counted c.put_home.ensures.lengths
-
-pub returns-in-Some : goal.returns-in-Some
-returns-in-Some c =
-    let found = rw (c.deref.ensures.value, c.tenant-tenant.ensures, c.number-number.ensures) at c.in-Some.ensures in
-    let o = out_row c.self.inside.rows.items c.args.hand.key.0 c.args.hand.key.1 c.in-Some.i c.received-received.result c.reserved-reserved.result found in
-    let p = c.into_pieces-pieces.result in
-    let here = known c.self.inside.next.items c.self.inside.totals.items c.self.inside.rows.items c.self.invariant c.args.hand c.received-received.result c.reserved-reserved.result c.received-received.ensures c.reserved-reserved.ensures.value c.in-Some.i o.0 o.1 o.2 in
-    let after = shown-home c.self.inside.next.items c.self.inside.totals.items c.self.inside.rows.items c.self.invariant c.args.hand c.received-received.result c.reserved-reserved.result c.received-received.ensures c.reserved-reserved.ensures.value c.in-Some.i o.0 o.1 o.2
-    c.put_home.new.rows.items p (chunks_of c.args.hand) (c.put_home.ensures.rows o.0 o.1) c.into_pieces-pieces.ensures.chunks in
-    let cuts : sum_by length (cut p.lens.items p.bytes.items) ≡ sum p.lens.items = sum_by-cut p.lens.items p.bytes.items (omega (arith, c.into_pieces-pieces.ensures.whole.lengths)) in
-    let len = c.put_home.ensures.value ∙ sym c.into_pieces-pieces.ensures.whole.lengths ∙ sym cuts ∙ ap (sum_by length) c.into_pieces-pieces.ensures.chunks in
-    rw (← c.self.view_is) (put_back_known _ c.args.hand _ c.put_home.result here len ∙ (λ i. Ok (c.put_home.result, sym after i)))
-
-pub returns-in-None : goal.returns-in-None
-returns-in-None c =
-    let none = rw (c.deref.ensures.value, c.tenant-tenant.ensures, c.number-number.ensures) at c.in-None.ensures in
-    let here = unknown c.self.inside.next.items c.self.inside.totals.items c.self.inside.rows.items c.self.invariant c.args.hand c.received-received.result c.reserved-reserved.result c.received-received.ensures c.reserved-reserved.ensures.value none in
-    (rw (← c.self.view_is) (put_back_unknown _ c.args.hand here), refl)
+pub returns : goal.returns
+returns c =
+    let tenants = c.self.inside.tenants.items in
+    let v = c.args.self.now in
+    let h = c.args.hand in
+    let x = taken_value (get v.sessions h.key) h (sym c.if-not-has_taken.ensures) in
+    let key : (c.tenant-tenant.result, c.number-number.result) ≡ h.key = (λ j. (c.tenant-tenant.ensures j, c.number-number.ensures j)) in
+    let found = ap (get v.sessions) key ∙ x.1.found in
+    let p = c.into_pieces-pieces.ensures in
+    let after = after-chunks tenants v c.self.view_is c.tenant-tenant.result c.number-number.result x.0 found c.index_mut.result.now c.index_mut.ensures.value c.put_home.new.self _ c.put_home.ensures.home
+    ∙ (λ j. with_sessions v (with_chunks v.sessions (key j) x.0 (Home (p.chunks j)))) in
+    put_back_known v h x.0 x.1 c.put_home.result (c.put_home.ensures.len ∙ sym (whole_length c.into_pieces-pieces.result p.whole) ∙ ap (sum_by length) p.chunks) ∙ (λ j. Ok (c.put_home.result, sym after j))

@@ -1,58 +1,57 @@
-use Rattle.std.proofs.Common.{length, ap, sym, ◌∙◌, arith, refl, subst}
+use Rattle.std.proofs.Common.{◌≡◌, length, ap, sym, ◌∙◌, arith, is_some}
 use Rattle.std.specs.Prelude.{sum}
+use Rattle.std.specs.Option.{option_map_or}
 use Rattle.std.specs.List.{sum_by}
 use Rattle.std.specs.FinMap.{get}
-use Rattle.std.specs.Prelude.{IsSome}
-use Rattle.blob_digest.specs.Keys.{Number}
-use Rattle.upload_table.specs.Rows.{shown_by}
-use Rattle.upload_table.specs.Uploaded.{CanReopen, Rest, Uploaded, cut, with_sessions}
+use Rattle.blob_digest.proofs.OptionLemmas.{some_same}
+use Rattle.upload_table.specs.Sessions.{Home, InHand, Session, charged, with_chunks}
+use Rattle.upload_table.specs.Uploaded.{Rest, cut, with_sessions}
 use Rattle.upload_table.proofs.Cuts.{sum_by-cut}
-use Rattle.upload_table.proofs.Sound.{tenants_counted}
-use Rattle.upload_table.proofs.Lookups.{nowhere, placed_row}
-use Rattle.upload_table.proofs.Hands.{fits, given, hand_of, reopen_row, reopens, shown-home, sound-home, IsOut}
+use Rattle.upload_table.proofs.HandCalls.{whole_length}
+use Rattle.upload_table.proofs.TableCalls.{after-chunks, found_here, within}
 use Rattle.upload_table.proofs.uploads.Uploads.reopen.Goals as goal
 
+pub index_mut-requires : goal.index_mut-requires
+index_mut-requires c =
+    let tenants = c.self.inside.tenants.items in
+    let v = c.args.self.now in
+    let can = c.requires.there in
+    let x : Session = record { repo = can.0; chunks = InHand (sum c.args.sealed.lens) can.1 } in
+    let key : (c.sealed.inside.tenant, c.sealed.inside.number) ≡ c.args.sealed.key = ap (λ (r : Rest). r.key) c.sealed.view_is in
+    let found = ap (get v.sessions) key ∙ can.2 in
+    omega (arith, within tenants v c.self.view_is c.sealed.inside.tenant c.sealed.inside.number x found, c.self.inside.tenants.ok.0)
+
 pub put_home-requires-clause-there : goal.put_home-requires-clause-there
-put_home-requires-clause-there c = λ d.
-    let p = placed_row c.self.inside.rows.items c.sealed.inside.tenant c.sealed.inside.number c.in-Some.i (rw c.deref.ensures.value at c.in-Some.ensures) in
-    tenants_counted c.self.inside.next.items c.self.inside.totals.items c.self.inside.rows.items c.self.invariant c.in-Some.i d p.2.within
+put_home-requires-clause-there c =
+    let tenants = c.self.inside.tenants.items in
+    let v = c.args.self.now in
+    let can = c.requires.there in
+    let x : Session = record { repo = can.0; chunks = InHand (sum c.args.sealed.lens) can.1 } in
+    let key : (c.sealed.inside.tenant, c.sealed.inside.number) ≡ c.args.sealed.key = ap (λ (r : Rest). r.key) c.sealed.view_is in
+    let found = ap (get v.sessions) key ∙ can.2 in
+    ap is_some (found_here tenants v c.self.view_is c.sealed.inside.tenant c.sealed.inside.number x found c.index_mut.result.now c.index_mut.ensures.value)
 
 pub put_home-requires-clause-less : goal.put_home-requires-clause-less
-put_home-requires-clause-less c =
-    let key = ap (λ (r : Rest). r.key) c.sealed.view_is in
-    let p = placed_row c.self.inside.rows.items c.sealed.inside.tenant c.sealed.inside.number c.in-Some.i (rw c.deref.ensures.value at c.in-Some.ensures) in
-    let can = subst (λ (v : Uploaded). CanReopen v c.args.sealed c.args.blob.1) (sym c.self.view_is) c.requires in
-    let out = reopen_row c.self.inside.next.items c.self.inside.totals.items c.self.inside.rows.items c.args.sealed c.args.blob.1 c.sealed.inside.tenant c.sealed.inside.number c.in-Some.i p.0 c.self.invariant key p.1 p.2 can in
-    let h = hand_of c.args.sealed c.args.blob.1 can.there.1 in
-    let len = sym (sum_by-cut c.args.sealed.lens c.args.blob.1 c.requires.begins.within) in
-    let out' = subst (λ (k : Number). IsOut c.self.inside.rows.items k.0 k.1 c.in-Some.i (sum c.args.sealed.lens) can.there.1 p.0) key out in
-    fits c.self.inside.next.items c.self.inside.totals.items c.self.inside.rows.items c.self.invariant h (sum c.args.sealed.lens) can.there.1 len refl c.in-Some.i p.0 p.1 out' c.into_pieces-pieces.result c.into_pieces-pieces.ensures.whole (omega (arith, ap (sum_by length) c.into_pieces-pieces.ensures.chunks))
-
-pub invariant_of-self : goal.invariant_of-self
-invariant_of-self c =
-    let key = ap (λ (r : Rest). r.key) c.sealed.view_is in
-    let p = placed_row c.self.inside.rows.items c.sealed.inside.tenant c.sealed.inside.number c.in-Some.i (rw c.deref.ensures.value at c.in-Some.ensures) in
-    let can = subst (λ (v : Uploaded). CanReopen v c.args.sealed c.args.blob.1) (sym c.self.view_is) c.requires in
-    let out = reopen_row c.self.inside.next.items c.self.inside.totals.items c.self.inside.rows.items c.args.sealed c.args.blob.1 c.sealed.inside.tenant c.sealed.inside.number c.in-Some.i p.0 c.self.invariant key p.1 p.2 can in
-    let h = hand_of c.args.sealed c.args.blob.1 can.there.1 in
-    let len = sym (sum_by-cut c.args.sealed.lens c.args.blob.1 c.requires.begins.within) in
-    let out' = subst (λ (k : Number). IsOut c.self.inside.rows.items k.0 k.1 c.in-Some.i (sum c.args.sealed.lens) can.there.1 p.0) key out in
-    sound-home c.self.inside.next.items c.self.inside.totals.items c.self.inside.rows.items c.self.invariant h (sum c.args.sealed.lens) can.there.1 len refl c.in-Some.i p.0 p.1 out' c.put_home.new.totals.items c.put_home.new.rows.items c.into_pieces-pieces.result (c.put_home.ensures.rows p.0 p.1) c.into_pieces-pieces.ensures.whole c.put_home.ensures.counted c.put_home.ensures.lengths
-
-pub unreachable-requires : goal.unreachable-requires
-unreachable-requires c =
-    let key = ap (λ (r : Rest). r.key) c.sealed.view_is in
-    let there : IsSome (get c.args.self.now.sessions c.args.sealed.key) = rw c.requires.there.2 refl in
-    nowhere c.self.inside.next.items c.self.inside.rows.items c.args.self.now c.sealed.inside.tenant c.sealed.inside.number c.self.view_is (subst (λ (k : Number). IsSome (get c.args.self.now.sessions k)) (sym key) there) (sym c.in-None.is ∙ rw c.deref.ensures.value at c.place_of.ensures)
+put_home-requires-clause-less c = λ y is.
+    let tenants = c.self.inside.tenants.items in
+    let v = c.args.self.now in
+    let can = c.requires.there in
+    let x : Session = record { repo = can.0; chunks = InHand (sum c.args.sealed.lens) can.1 } in
+    let key : (c.sealed.inside.tenant, c.sealed.inside.number) ≡ c.args.sealed.key = ap (λ (r : Rest). r.key) c.sealed.view_is in
+    let found = ap (get v.sessions) key ∙ can.2 in
+    let p = c.into_pieces-pieces.ensures in
+    let same = some_same (sym is ∙ found_here tenants v c.self.view_is c.sealed.inside.tenant c.sealed.inside.number x found c.index_mut.result.now c.index_mut.ensures.value) in
+    let len : length c.into_pieces-pieces.result.bytes.items ≡ sum c.args.sealed.lens = sym (whole_length c.into_pieces-pieces.result p.whole) ∙ ap (sum_by length) p.chunks ∙ sum_by-cut c.args.sealed.lens c.args.blob.1 c.requires.begins.within in
+    omega (arith, len, ap charged same)
 
 pub returns : goal.returns
 returns c =
-    let key = ap (λ (r : Rest). r.key) c.sealed.view_is in
-    let p = placed_row c.self.inside.rows.items c.sealed.inside.tenant c.sealed.inside.number c.in-Some.i (rw c.deref.ensures.value at c.in-Some.ensures) in
-    let can = subst (λ (v : Uploaded). CanReopen v c.args.sealed c.args.blob.1) (sym c.self.view_is) c.requires in
-    let out = reopen_row c.self.inside.next.items c.self.inside.totals.items c.self.inside.rows.items c.args.sealed c.args.blob.1 c.sealed.inside.tenant c.sealed.inside.number c.in-Some.i p.0 c.self.invariant key p.1 p.2 can in
-    let h = hand_of c.args.sealed c.args.blob.1 can.there.1 in
-    let len = sym (sum_by-cut c.args.sealed.lens c.args.blob.1 c.requires.begins.within) in
-    let out' = subst (λ (k : Number). IsOut c.self.inside.rows.items k.0 k.1 c.in-Some.i (sum c.args.sealed.lens) can.there.1 p.0) key out in
-    let after = shown-home c.self.inside.next.items c.self.inside.totals.items c.self.inside.rows.items c.self.invariant h (sum c.args.sealed.lens) can.there.1 len refl c.in-Some.i p.0 p.1 out' c.put_home.new.rows.items c.into_pieces-pieces.result (cut c.args.sealed.lens c.args.blob.1) (c.put_home.ensures.rows p.0 p.1) c.into_pieces-pieces.ensures.chunks in
-    rw (← c.self.view_is) (after ∙ ap (with_sessions (shown_by c.self.inside.next.items c.self.inside.rows.items)) (sym (given c.self.inside.next.items c.self.inside.totals.items c.self.inside.rows.items c.self.invariant h (sum c.args.sealed.lens) can.there.1 len refl c.in-Some.i p.0 p.1 out')) ∙ sym (reopens c.self.inside.next.items c.self.inside.totals.items c.self.inside.rows.items c.self.invariant h (sum c.args.sealed.lens) can.there.1 len refl c.in-Some.i p.0 p.1 out' c.args.sealed c.args.blob.1 refl refl))
+    let tenants = c.self.inside.tenants.items in
+    let v = c.args.self.now in
+    let can = c.requires.there in
+    let x : Session = record { repo = can.0; chunks = InHand (sum c.args.sealed.lens) can.1 } in
+    let key : (c.sealed.inside.tenant, c.sealed.inside.number) ≡ c.args.sealed.key = ap (λ (r : Rest). r.key) c.sealed.view_is in
+    let found = ap (get v.sessions) key ∙ can.2 in
+    after-chunks tenants v c.self.view_is c.sealed.inside.tenant c.sealed.inside.number x found c.index_mut.result.now c.index_mut.ensures.value c.put_home.new.self _ c.put_home.ensures.home
+    ∙ (λ j. with_sessions v (with_chunks v.sessions (key j) x (Home (c.into_pieces-pieces.ensures.chunks j))))
+    ∙ sym (ap (λ o. with_sessions v (option_map_or (λ (s : Session). with_chunks v.sessions c.args.sealed.key s (Home (cut c.args.sealed.lens c.args.blob.1))) o v.sessions)) can.2)

@@ -1,12 +1,13 @@
-use Rattle.std.proofs.Common.{◌<◌, length, arith, ap, ◌∙◌}
-use Rattle.std.proofs.lemmas.List.{get_or_default}
+use Rattle.std.proofs.Common.{◌<◌, length, ap, sym, ◌∙◌, arith, map}
+use Rattle.std.proofs.lemmas.List.{length-map}
 use Rattle.upload_table.specs.Sessions.{in_sessions}
+use Rattle.upload_table.specs.Tenants.{Numbered}
 use Rattle.upload_table.specs.Uploaded.{Uploaded}
-use Rattle.upload_table.proofs.Lookups.{total_is}
+use Rattle.upload_table.proofs.AllTenants.{charged_there, tenant_at, within_next}
 use Rattle.upload_table.proofs.uploads.Uploads.total.Goals as goal
 
 pub returns : goal.returns
 returns c =
-    let there : c.args.tenant < length c.self.inside.totals.items = omega (arith, c.requires, ap (λ (v : Uploaded). length v.next) c.self.view_is, c.self.invariant.lengths) in
-    c.index.ensures ∙ get_or_default c.self.inside.totals.items c.args.tenant c.index.result.now 0 there ∙ total_is c.self.inside.next.items c.self.inside.totals.items c.self.inside.rows.items c.self.invariant c.args.tenant
-    ∙ ap (λ (v : Uploaded). in_sessions v.sessions c.args.tenant) c.self.view_is
+    let tenants = c.self.inside.tenants.items in
+    let at = tenant_at tenants c.args.tenant c.index.result.now (within_next tenants c.args.self.now c.args.tenant c.self.view_is c.requires.there) c.index.ensures in
+    c.charged.ensures ∙ sym (charged_there tenants c.args.tenant c.index.result.now at) ∙ ap (λ (u : Uploaded). in_sessions u.sessions c.args.tenant) c.self.view_is

@@ -1,4 +1,0 @@
-pub mod BookState
-pub mod Openings
-pub mod SlotSteps
-pub mod Sweeps

@@ -1,0 +1,167 @@
+-- `Book::lease`, from what its calls of the layers did.
+use Rattle.std.proofs.Common.{◌≡◌, ℕ, ◌+◌, ◌<◌, ◌≤◌, ◌^◌, Bool, true, false, List, [], ◌∷◌, length, Option, Some, None, Ok, Err, refl, sym, ap, ◌∙◌, subst, arith, inl, inr}
+use Prim.Native.Nat.{zero, suc}
+use Rattle.std.specs.Prelude.{slice_get, slice_index, slice_set, map}
+use Rattle.std.specs.Option.{option_map, option_map_or}
+use Rattle.std.specs.FinMap.{get, insert}
+use Rattle.std.proofs.lemmas.Bool.{cases_eq}
+use Rattle.std.proofs.lemmas.List.{get_or-set_other}
+use Rattle.blob_digest.specs.declared.refusal.Refusal.TheVariants.{BlobUnknown, TooManyReaders}
+use Rattle.pin_core.specs.declared.world.PinRow.{PinRow}
+use Rattle.pin_core.specs.World.{row, max_weight}
+use Rattle.pin_core.specs.Events.{new_weight}
+use Rattle.slot_table.specs.declared.phase.Phase.TheVariants as phase
+use Rattle.slot_table.specs.Slots.{Slot, Held, Content, Free, Used, Retired, content_with, held_at, held_in, phase_at, slot_of, with_slot, on_held, lend}
+use Rattle.slot_table.proofs.Finding.{live_within}
+use Rattle.link_table.specs.Linked.{Linked, known_tenant}
+use Rattle.upload_table.specs.Uploaded.{Uploaded}
+use Rattle.store_book.specs.BookState.{SlotSeen}
+use Rattle.store_book.specs.Catalog.{Text, Resident, Catalog, holds}
+use Rattle.store_book.specs.Keeping.{linked_slot}
+use Rattle.store_book.specs.Layers.{resident_of, book_catalog, IsBook}
+use Rattle.store_book.specs.Pinned.{Pinned, IsFull, row_of, seen, all_seen, bounded, with_both}
+use Rattle.store_book.specs.SlotSteps.{EachSlot, IsCrowded, IsLending}
+use Rattle.store_book.specs.Steps.{lease, with_lent}
+use Rattle.store_book.proofs.Changing.{catalog-change, lend-KeepsTies, resident_at, IsTied-change}
+use Rattle.store_book.proofs.LawfulLease.{Sound-after_lease}
+use Rattle.store_book.proofs.LinkedSlots.{holds_linked, linked_live, linked_none, linked_some}
+use Rattle.store_book.proofs.MapLemmas.{some_same}
+use Rattle.store_book.proofs.Pinning.{index-set, index-set-le, length-all_seen, row-at, seen-at, within_of}
+use Rattle.store_book.proofs.SlotLemmas.{length-with_slot, phase_live, slot_of_held, slot-same, slot-other}
+use Rattle.store_book.proofs.Ties.{held_of}
+
+module _ (l : Linked) (u : Uploaded) (slots : List Slot) (max_blob t : ℕ) (repo digest : Text) (book : IsBook l u slots max_blob) (known : known_tenant l repo ≡ Ok t) where
+  abbrev C : Catalog
+  C = book_catalog l u slots max_blob
+
+  pub lease_unknown : linked_slot l slots repo digest ≡ None → lease false C repo digest ≡ Err BlobUnknown
+  lease_unknown none = rw (known, linked_none l u slots max_blob book repo digest none) refl
+
+  module _ (k : ℕ) (at_slot : linked_slot l slots repo digest ≡ Some k) where
+    abbrev pub held : (h : Held) × (held_at slots k ≡ Some h) × (h.digest ≡ digest)
+    held = held_of slots digest k (linked_some l u slots max_blob book repo digest k at_slot).1
+
+    has : holds C repo digest ≡ true
+    has = holds_linked l u slots max_blob book repo digest ∙ (linked_some l u slots max_blob book repo digest k at_slot).0
+
+    pub live_there : phase_at slots k ≡ phase.Live
+    live_there = phase_live slots k held.0 held.1 (linked_live l u slots max_blob book repo digest k held.0 held.1 held.2 has)
+
+    resident : get C.residents digest ≡ Some (resident_of held.0.lent held.0)
+    resident = ap (get C.residents) (sym held.2) ∙ resident_at slots k held.0 held.1 book.tied.distinct
+
+    abbrev slots' : List Slot
+    slots' = with_slot slots k (on_held lend)
+
+    abbrev C' : Catalog
+    C' = book_catalog l u slots' max_blob
+
+    left : C' ≡ with_lent C digest (resident_of held.0.lent held.0)
+    left = catalog-change lend lend-KeepsTies l u slots max_blob k held.0 held.1 book.tied ∙ ap (λ (d : Text). record C { residents = insert C.residents d (resident_of true held.0) }) held.2
+
+    pub lease_full : lease true C repo digest ≡ Err TooManyReaders
+    lease_full = rw (known, has, resident) refl
+
+    leased : lease false C repo digest ≡ Ok (held.0.bytes, C')
+    leased = rw (known, has, resident) (λ i. Ok (held.0.bytes, sym left i))
+
+    leased_book : IsBook l u slots' max_blob
+    leased_book = record {
+      sound = Sound-after_lease C C' false repo digest held.0.bytes leased book.sound;
+      tied = IsTied-change lend lend-KeepsTies l u slots max_blob k held.0 held.1 book.tied;
+      charges = record { one_each = book.charges.one_each; sums = book.charges.sums };
+    }
+
+    pub IsBook-lease : (slots1 : List Slot) → slots1 ≡ slots' → IsBook l u slots1 max_blob
+    IsBook-lease slots1 is = subst (λ (x : List Slot). IsBook l u x max_blob) (sym is) leased_book
+
+    pub lease_ok : (slots1 : List Slot) (blob : Text × Text) → slots1 ≡ slots' → Some blob ≡ option_map (λ (h : Held). (h.digest, h.bytes)) (held_at slots k) → lease false C repo digest ≡ Ok (blob.1, book_catalog l u slots1 max_blob)
+    lease_ok slots1 blob is shared =
+        let same : blob ≡ (held.0.digest, held.0.bytes) = some_same (shared ∙ ap (option_map (λ (h : Held). (h.digest, h.bytes))) held.1) in
+        leased ∙ (λ i. Ok ((sym same i).1, book_catalog l u (sym is i) max_blob))
+
+    -- the pin has the digest
+    pub lent_digest : (d : Text) → (row (map row_of slots) k).digest ≡ Some d → d ≡ digest
+    lent_digest d has_digest =
+        let s = slot_of_held slots k held.0 held.1 in
+        some_same (sym has_digest ∙ ap (λ (r : PinRow). r.digest) (row-at slots k s.0 s.1) ∙ ap (option_map (λ (h : Held). h.digest)) s.2) ∙ held.2
+
+-- ---- what is seen
+
+-- a look lets no reader in
+pub EachSlot-looked : (digest : Text) (p q : Pinned) (k n : ℕ) → n ≤ slice_index p.bounds k → q ≡ bounded k n p → (q.table ≡ p.table) × EachSlot (IsLending digest) (all_seen p.slots p.bounds) (all_seen q.slots q.bounds)
+EachSlot-looked digest p q k n le is = subst (λ (x : Pinned). (x.table ≡ p.table) × EachSlot (IsLending digest) (all_seen p.slots p.bounds) (all_seen x.slots x.bounds)) (sym is) (
+  refl,
+  (
+    length-all_seen p.slots (slice_set p.bounds k n) ∙ sym (length-all_seen p.slots p.bounds),
+    λ j a b at_a at_b.
+        let x = seen-at p.slots p.bounds j a at_a in
+        let y = seen-at p.slots (slice_set p.bounds k n) j b at_b in
+        let same : x.0 ≡ y.0 = some_same (sym x.1 ∙ y.1) in
+        let old : a.bound ≡ slice_index p.bounds j = ap (λ (z : SlotSeen). z.bound) x.2 in
+        let new : b.bound ≡ slice_index (slice_set p.bounds k n) j = ap (λ (z : SlotSeen). z.bound) y.2 in
+        let lower = index-set-le p.bounds k n j le in
+        (ap (λ (z : SlotSeen). z.generation) y.2 ∙ ap (λ (z : Slot). z.generation) (sym same) ∙ sym (ap (λ (z : SlotSeen). z.generation) x.2), λ rises. absurd (omega arith)),
+  ),
+)
+
+pub seen-get : (slots : List Slot) (bounds : List ℕ) (k : ℕ) (s : Slot) → slice_get slots k ≡ Some s → slice_get (all_seen slots bounds) k ≡ Some (seen s (slice_index bounds k))
+seen-get [] bounds k s at = absurd cc
+seen-get (x ∷ slots) [] zero s at = ap (λ (y : Slot). Some (seen y 0)) (some_same at)
+seen-get (x ∷ slots) [] (suc k) s at = seen-get slots [] k s at
+seen-get (x ∷ slots) (b ∷ bounds) zero s at = ap (λ (y : Slot). Some (seen y b)) (some_same at)
+seen-get (x ∷ slots) (b ∷ bounds) (suc k) s at = seen-get slots bounds k s at
+
+index-set-most : (xs : List ℕ) (k n : ℕ) → slice_index (slice_set xs k n) k ≤ n
+index-set-most [] k n = omega arith
+index-set-most (x ∷ xs) zero n = omega arith
+index-set-most (x ∷ xs) (suc k) n = index-set-most xs k n
+
+lend_digest : (c : Content) → option_map (λ (h : Held). h.digest) (held_in (content_with lend c)) ≡ option_map (λ (h : Held). h.digest) (held_in c)
+lend_digest Free = refl
+lend_digest (Used h) = refl
+lend_digest Retired = refl
+
+-- a lease lets one reader in, on the slot of its digest
+pub EachSlot-lent : (digest : Text) (p q : Pinned) (k n : ℕ) (h : Held) → held_at p.slots k ≡ Some h → h.digest ≡ digest → n ≤ slice_index p.bounds k + new_weight → q ≡ with_both k (on_held lend) n p →
+    (q.table ≡ p.table) × EachSlot (IsLending digest) (all_seen p.slots p.bounds) (all_seen q.slots q.bounds)
+EachSlot-lent digest p q k n h at is_digest le is = subst (λ (x : Pinned). (x.table ≡ p.table) × EachSlot (IsLending digest) (all_seen p.slots p.bounds) (all_seen x.slots x.bounds)) (sym is) (
+  refl,
+  (
+    length-all_seen (with_slot p.slots k (on_held lend)) (slice_set p.bounds k n) ∙ length-with_slot p.slots k (on_held lend) ∙ sym (length-all_seen p.slots p.bounds),
+    λ j a b at_a at_b.
+        let x = seen-at p.slots p.bounds j a at_a in
+        let y = seen-at (with_slot p.slots k (on_held lend)) (slice_set p.bounds k n) j b at_b in
+        let old : a.bound ≡ slice_index p.bounds j = ap (λ (z : SlotSeen). z.bound) x.2 in
+        let new : b.bound ≡ slice_index (slice_set p.bounds k n) j = ap (λ (z : SlotSeen). z.bound) y.2 in
+        elim (cases_eq j k) [
+          | inl e ↦
+              let here : slice_get p.slots k ≡ Some x.0 = ap (slice_get p.slots) (sym e) ∙ x.1 in
+              let same : on_held lend x.0 ≡ y.0 = some_same (sym (slot-same p.slots k (on_held lend) x.0 here) ∙ ap (slice_get (with_slot p.slots k (on_held lend))) (sym e) ∙ y.1) in
+              let most = index-set-most p.bounds k n in
+              let old_k : a.bound ≡ slice_index p.bounds k = old ∙ ap (slice_index p.bounds) e in
+              let new_k : b.bound ≡ slice_index (slice_set p.bounds k n) k = new ∙ ap (slice_index (slice_set p.bounds k n)) e in (
+                ap (λ (z : SlotSeen). z.generation) y.2 ∙ ap (λ (z : Slot). z.generation) (sym same) ∙ sym (ap (λ (z : SlotSeen). z.generation) x.2),
+                λ rises. (
+                  ap (λ (z : SlotSeen). z.digest) y.2 ∙ ap (λ (z : Slot). option_map (λ (g : Held). g.digest) (held_in z.content)) (sym same) ∙ lend_digest x.0.content
+                      ∙ ap (option_map (λ (g : Held). g.digest)) (sym (ap (λ o. option_map_or (λ (z : Slot). held_in z.content) o None) here) ∙ at) ∙ ap Some is_digest,
+                  omega arith,
+                ),
+              )
+          | inr other ↦
+              let same : x.0 ≡ y.0 = some_same (sym x.1 ∙ sym (slot-other p.slots k (on_held lend) j other) ∙ y.1) in
+              let kept : slice_index (slice_set p.bounds k n) j ≡ slice_index p.bounds j = get_or-set_other p.bounds k j n 0 other in
+              (ap (λ (z : SlotSeen). z.generation) y.2 ∙ ap (λ (z : Slot). z.generation) (sym same) ∙ sym (ap (λ (z : SlotSeen). z.generation) x.2), λ rises. absurd (omega arith))
+        ],
+  ),
+)
+
+-- a look that found no room
+pub IsCrowded-full : (p q : Pinned) (k : ℕ) (digest : Text) (h : Held) → held_at p.slots k ≡ Some h → h.digest ≡ digest → length p.bounds ≡ length p.slots → IsFull k p q → IsCrowded digest (all_seen q.slots q.bounds)
+IsCrowded-full p q k digest h at is one_each full =
+    let s = slot_of_held p.slots k h at in
+    let lt = within_of p.slots k s.0 s.1 in
+    let weight : slice_index (slice_set p.bounds k full.weight) k ≡ full.weight = index-set p.bounds k full.weight (omega arith) in
+    let passes = full.full in
+    subst (λ (x : Pinned). IsCrowded digest (all_seen x.slots x.bounds)) (sym full.after)
+    (k, seen s.0 (slice_index (slice_set p.bounds k full.weight) k), seen-get p.slots (slice_set p.bounds k full.weight) k s.0 s.1, ap (option_map (λ (x : Held). x.digest)) s.2 ∙ ap Some is, omega arith)

@@ -1,0 +1,13 @@
+use Rattle.store_book.proofs.SweptCatalog.{IsBook-sweep, IsSweep-slots}
+use Rattle.store_book.proofs.SweptSeen.{EachSlot-swept, HasLast-swept}
+use Rattle.store_book.proofs.book.Book.sweep.Goals as goal
+
+pub invariant_of-self : goal.invariant_of-self
+invariant_of-self c = IsBook-sweep c.self.inside.links c.self.inside.uploads c.self.inside.slots c.sweep_slots.new.slots c.self.inside.max_blob c.sweep_slots.result c.self.invariant c.sweep_slots.ensures
+
+pub returns : goal.returns
+returns c = rw (← c.self.view_is) (record {
+  sweeps = IsSweep-slots c.self.inside.links c.self.inside.uploads c.self.inside.slots c.sweep_slots.new.slots c.self.inside.max_blob c.sweep_slots.result c.self.invariant c.sweep_slots.ensures;
+  slots = (c.sweep_slots.ensures.table, EachSlot-swept c.self.inside.slots c.sweep_slots.new.slots c.sweep_slots.result c.sweep_slots.ensures);
+  retired = HasLast-swept c.self.inside.slots c.sweep_slots.new.slots c.sweep_slots.result c.sweep_slots.ensures;
+})

@@ -1,0 +1,11 @@
+use Rattle.std.proofs.Common.{ap, sym}
+use Rattle.store_book.specs.Layers.{book_catalog}
+use Rattle.store_book.specs.Pinned.{Pinned}
+use Rattle.store_book.proofs.Looking.{EachSlot-still, HasPin-verified}
+use Rattle.store_book.proofs.book.Book.verify.Goals as goal
+
+pub returns-clause-kept : goal.returns-clause-kept
+returns-clause-kept c = rw (← c.self.view_is) (HasPin-verified c.self.inside.links c.self.inside.uploads c.self.inside.slots c.verify.new.self c.self.inside.max_blob c.args.pin.hold c.self.invariant c.verify.ensures.kept)
+
+pub returns-clause-slots : goal.returns-clause-slots
+returns-clause-slots c = let e = c.verify.ensures.kept in rw (← c.self.view_is) (EachSlot-still c.self.inside.slots c.verify.new.self c.args.pin.hold.slot e.weight e.within e.after)

@@ -1,0 +1,5 @@
+use Rattle.store_book.proofs.Pinning.{IsPinned-opening, opened_slots}
+use Rattle.store_book.proofs.pinned_slots.PinnedSlots.new.Goals as goal
+
+pub invariant_of-result : goal.invariant_of-result
+invariant_of-result c = rw (c.in_ok-pins.ensures.made.1, opened_slots c.args.slots c.args.first_generation c.in_ok-table.table c.in_ok-table.ensures.answers) (IsPinned-opening c.args.slots c.args.first_generation)

@@ -1,0 +1,222 @@
+//! Worked examples of leases and sweeps, with the words where they are known.
+
+ghost use Rattle.std.specs.Prelude.{◌≡◌};
+
+use crate::Mount;
+use crate::test_steps::{
+    ABC, OBJ, Step, Store, digest, digest_of, fill, name, opened_at, play, plays, small,
+};
+use blob_digest::{Blob, Refusal};
+use pin_table::Pin;
+use std::alloc::{AllocGlobal, Global};
+use std::process::Abort;
+use std::sync::Arc;
+
+/// A pin, and a share of its blob.
+struct Lease {
+    pin: Pin,
+    blob: Arc<Blob, Global>,
+}
+
+/// A lease of a blob that `acme/one` holds.
+fn leases(rt: &(impl Abort + AllocGlobal), store: &mut Store, of: &str) -> Lease
+    ensures table { store.new.book.table ≡ store.old.book.table }
+    ensures pin { result.pin.table ≡ store.new.book.table }
+{
+    let leased = store
+        .book
+        .lease(&store.pins, &name(rt, "acme/one"), &digest(rt, of));
+    let (pin, blob) = leased.expect(rt, "a lease");
+    Lease { pin, blob }
+}
+
+/// Why a blob isn't lent; a lease is given back.
+fn refuses(
+    rt: &(impl Abort + AllocGlobal),
+    store: &mut Store,
+    repo: &str,
+    of: &str,
+) -> Option<Refusal>
+    ensures { store.new.book.table ≡ store.old.book.table }
+{
+    let leased = store
+        .book
+        .lease(&store.pins, &name(rt, repo), &digest(rt, of));
+    match leased {
+        Ok((pin, _)) => {
+            store.pins.leave(pin);
+            None
+        }
+        Err(refusal) => Some(refusal),
+    }
+}
+
+/// Finds that the book has the lease's slot in its generation, with its blob.
+fn verifies(store: &mut Store, lease: Lease) -> Lease
+    requires { lease.pin.table ≡ store.old.book.table }
+    ensures table { store.new.book.table ≡ store.old.book.table }
+    ensures pin { result.pin.table ≡ store.new.book.table }
+{
+    let Lease { pin, blob } = lease;
+    let pin = store.book.verify(&store.pins, pin);
+    Lease { pin, blob }
+}
+
+fn give_back(store: &Store, lease: Lease)
+    requires { lease.pin.table ≡ store.now.book.table }
+{
+    let Lease { pin, blob: _ } = lease;
+    store.pins.leave(pin);
+}
+
+/// `abc` was stored in `acme/one` of a store of one slot, leased, deleted and swept: the lease holds
+/// its slot.
+fn held(rt: &(impl Abort + AllocGlobal)) -> (Store, Lease)
+    ensures { result.1.pin.table ≡ result.0.book.table }
+{
+    let mut store = small(rt, 1, 1048576, 1000);
+    play(rt, &mut store, &Step::Upload("acme/one", ABC, "abc", Ok(3)));
+    let lease = leases(rt, &mut store, ABC);
+    let script = [
+        Step::Word(0x0000_0000_8000_0400),
+        Step::Delete("acme/one", ABC, Ok(())),
+        Step::Sweep(1, 0, 1, 0),
+        Step::Word(0x0000_0000_c000_0400),
+    ];
+    plays(rt, &mut store, &script);
+    (store, lease)
+}
+
+#[test]
+fn a_leased_blob_is_read_after_its_delete_and_a_sweep(rt: HostRuntime) {
+    let (mut store, lease) = held(&rt);
+    assert_eq!(rt; lease.blob.bytes(), b"abc".as_slice());
+    give_back(&store, lease);
+    let script = [
+        Step::Word(0x0000_0000_c000_0000),
+        Step::Sweep(0, 1, 0, 0),
+        Step::Word(0x0000_0001_0000_0000),
+        Step::Sweep(0, 0, 0, 0),
+    ];
+    plays(&rt, &mut store, &script);
+}
+
+#[test]
+fn a_condemned_blob_is_live_again_when_it_is_uploaded(rt: HostRuntime) {
+    let (mut store, lease) = held(&rt);
+    let script = [
+        Step::Upload("acme/one", ABC, "abc", Ok(3)),
+        Step::Word(0x0000_0000_8000_0400),
+        Step::Prints(
+            "book\ntenant acme used 3 quota 1000 next 3\nrepository acme/one\nblob sha256:ba7816bf8f01cfea414140de5dae2223b00361a396177a9cb410ff61f20015ad size 3 links 1\nend\n",
+        ),
+    ];
+    plays(&rt, &mut store, &script);
+    let lease = verifies(&mut store, lease);
+    assert_eq!(rt; lease.pin.slot(), 0);
+    assert_eq!(rt; lease.pin.generation(), 0);
+    play(&rt, &mut store, &Step::Sweep(0, 0, 0, 0));
+    give_back(&store, lease);
+    let script = [
+        Step::Delete("acme/one", ABC, Ok(())),
+        Step::Sweep(1, 1, 0, 0),
+    ];
+    plays(&rt, &mut store, &script);
+}
+
+#[test]
+fn a_slot_of_the_last_generation_is_retired(rt: HostRuntime) {
+    let mut store = opened_at(&rt, 1, 1048576, &[("acme", 1000)], 4294967295).expect(&rt, "a book");
+    let script = [
+        Step::Upload("acme/one", ABC, "abc", Ok(3)),
+        Step::Delete("acme/one", ABC, Ok(())),
+        Step::Sweep(1, 0, 0, 1),
+        Step::Word(0xffff_ffff_4000_0000),
+        Step::Upload("acme/one", OBJ, "{}", Err(Refusal::StoreFull)),
+    ];
+    plays(&rt, &mut store, &script);
+}
+
+#[test]
+fn a_full_store_takes_a_blob_after_a_sweep(rt: HostRuntime) {
+    let one = "acme/one";
+    let mut store = small(&rt, 1, 1048576, 1000);
+    let script = [
+        Step::Upload(one, ABC, "abc", Ok(3)),
+        Step::Start(one, Ok(2)),
+        Step::Append(one, 2, "", "{}", Ok(2)),
+        Step::Close(one, 2, OBJ, "", "", Err(Refusal::StoreFull)),
+        Step::Status(one, 2, Ok(2)),
+        Step::Delete(one, ABC, Ok(())),
+        Step::Close(one, 2, OBJ, "", "", Err(Refusal::StoreFull)),
+        Step::Sweep(1, 1, 0, 0),
+        Step::Close(one, 2, OBJ, "", "", Ok(2)),
+    ];
+    plays(&rt, &mut store, &script);
+}
+
+#[test]
+fn a_repository_lends_what_it_holds(rt: HostRuntime) {
+    let mut store = small(&rt, 64, 1048576, 1000);
+    let mounted = Ok(Mount::Mounted);
+    let script = [
+        Step::Upload("acme/one", ABC, "abc", Ok(3)),
+        Step::Start("acme/two", Ok(2)),
+        Step::Mount("acme/three", ABC, "acme/one", mounted),
+    ];
+    plays(&rt, &mut store, &script);
+    for (repo, of, refusal) in [
+        ("nobody/x", ABC, Some(Refusal::NameUnknown)),
+        ("acme/two", ABC, Some(Refusal::BlobUnknown)),
+        ("acme/one", OBJ, Some(Refusal::BlobUnknown)),
+        ("acme/three", ABC, None),
+    ] {
+        assert_eq!(rt; refuses(&rt, &mut store, repo, of), refusal);
+    }
+}
+
+/// Deletes the blobs of these numbers.
+fn delete_each(rt: &(impl Abort + AllocGlobal), store: &mut Store, from: u32, to: u32)
+    ensures { store.new.book.table ≡ store.old.book.table }
+{
+    for number in from..to {
+        let of = digest_of(rt, &number.to_be_bytes());
+        play(rt, store, &Step::Delete("acme/one", of.as_str(), Ok(())));
+    }
+}
+
+/// Leases so many blobs of a thousand; deletes all, and sweeps while the leases are out; then fills the
+/// slots that are free with others, and gives the leases back.
+fn sweep_beside_leases(rt: &(impl Abort + AllocGlobal), store: &mut Store, count: u32)
+    ensures { store.new.book.table ≡ store.old.book.table }
+{
+    if count == 0 {
+        delete_each(rt, store, 0, 1000);
+        play(rt, store, &Step::Sweep(1000, 750, 250, 0));
+        fill(rt, store, 1000, 1750);
+        let full = Err(Refusal::StoreFull);
+        play(rt, store, &Step::Upload("acme/one", ABC, "abc", full));
+        return;
+    }
+    let number = count - 1;
+    let bytes = number.to_be_bytes();
+    let lease = leases(rt, store, digest_of(rt, &bytes).as_str());
+    sweep_beside_leases(rt, store, number);
+    assert_eq!(rt; lease.blob.bytes(), bytes.as_slice());
+    give_back(store, lease);
+}
+
+#[test]
+fn a_thousand_slots_are_filled_again(rt: HostRuntime) {
+    let mut store = small(&rt, 1000, 1048576, 1000000);
+    fill(&rt, &mut store, 0, 1000);
+    sweep_beside_leases(&rt, &mut store, 250);
+    play(&rt, &mut store, &Step::Sweep(0, 250, 0, 0));
+    fill(&rt, &mut store, 1750, 2000);
+    play(&rt, &mut store, &Step::Sweep(0, 0, 0, 0));
+    play(
+        &rt,
+        &mut store,
+        &Step::Says("tenant acme used 4000 quota 1000000 next 2002\n"),
+    );
+}

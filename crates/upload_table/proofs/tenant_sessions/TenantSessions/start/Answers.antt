@@ -1,0 +1,24 @@
+use Rattle.std.proofs.Common.{◌≡◌, ◌+◌, Ok, ap, sym, ◌∙◌, refl, length}
+use Rattle.std.specs.FinMap.{insert}
+use Rattle.upload_table.specs.Sessions as shown
+use Rattle.upload_table.specs.Rows.{shown_by}
+use Rattle.upload_table.specs.declared.upload.Upload.{Upload}
+use Rattle.upload_table.specs.declared.upload.Content.TheVariants.{Home}
+use Rattle.upload_table.proofs.TenantRows.{map_of, shown-push, sound-push, start_open, start_spent}
+use Rattle.upload_table.proofs.tenant_sessions.TenantSessions.start.Goals as goal
+
+pub returns-then-is_spent : goal.returns-then-is_spent
+returns-then-is_spent c = ((λ _. start_spent c.args.self.now c.args.repo.now (sym c.is_spent.ensures ∙ c.if-is_spent.true)), refl)
+
+pub invariant_of-self-2 : goal.invariant_of-self-2
+invariant_of-self-2 c =
+    let row : Upload = record { number = c.self.inside.next; repo = c.in_ok-clone.field-0; content = Home c.new.result } in
+    rw c.in_ok-push.ensures.items (sound-push c.self.inside.next c.self.inside.charged c.self.inside.rows.items c.self.invariant row refl (ap length c.new.ensures.empty) c.new.ensures.whole)
+
+pub returns : goal.returns
+returns c =
+    let row : Upload = record { number = c.self.inside.next; repo = c.in_ok-clone.field-0; content = Home c.new.result } in
+    let pushed = ap map_of c.in_ok-push.ensures.items ∙ shown-push c.self.inside.next c.self.inside.charged c.self.inside.rows.items c.self.invariant row refl
+    ∙ (λ j. insert (map_of c.self.inside.rows.items) c.self.inside.next (record { repo = c.in_ok-clone.ensures.cases j; chunks = shown.Home (c.new.ensures.none j) })) in
+    start_open c.args.self.now c.args.repo.now (sym c.is_spent.ensures ∙ c.if-is_spent.false)
+    ∙ rw (← c.self.view_is) (λ j. Ok (c.self.inside.next, record { next = c.self.inside.next + 1; sessions = sym pushed j }))

@@ -1,0 +1,52 @@
+use Rattle.std.proofs.Common.{◌≡◌, ◌≤◌, ◌+◌, Some, ap, sym, ◌∙◌, arith, length, set, subst}
+use Rattle.std.specs.Option.{option_map}
+use Rattle.std.specs.FinMap.{get}
+use Rattle.upload_table.specs.Sessions.{Session, is_home}
+use Rattle.upload_table.specs.Sessions as shown
+use Rattle.upload_table.specs.Rows.{chunks_shown, content_charge, content_received, shown_by, AreWhole}
+use Rattle.upload_table.specs.Tenants.{Numbered, charged_in, with_chunks_here}
+use Rattle.upload_table.specs.declared.upload.Content.TheVariants.{InHand}
+use Rattle.upload_table.specs.declared.upload.Upload.{Upload}
+use Rattle.std.proofs.lemmas.Bool.{false≢true}
+use Rattle.upload_table.proofs.TenantRows.{absent, charge-le, charged_kept, found, home_row, sound-set, view-set, whole_row}
+use Rattle.upload_table.proofs.tenant_sessions.TenantSessions.take.Goals as goal
+
+pub overflow_add-self : goal.overflow_add-self
+overflow_add-self c =
+    let kept = charged_kept c.self.inside.next c.self.inside.charged c.self.inside.rows.items c.self.invariant ∙ ap charged_in c.self.view_is in
+    omega (arith, kept, c.requires.room)
+
+pub lift-requires : goal.lift-requires
+lift-requires c = home_row c.self.inside.next c.self.inside.charged c.self.inside.rows.items c.self.invariant c.args.number c.in-Ok.i c.index_mut.result.now (rw c.as_slice.ensures.value at c.in-Ok.ensures.within) (rw c.as_slice.ensures.value at c.in-Ok.ensures.place) c.index_mut.ensures.value (rw (← c.self.view_is) at c.requires.home)
+
+pub invariant_of-self : goal.invariant_of-self
+invariant_of-self c =
+    let row = c.index_mut.result.now in
+    let received : content_received row.content ≡ content_charge row.content = ap content_received c.lift.ensures.pieces ∙ sym (ap content_charge c.lift.ensures.pieces) in
+    rw c.lift.ensures.row (sound-set c.self.inside.next c.self.inside.charged c.self.inside.rows.items c.self.invariant c.args.number c.in-Ok.i c.index_mut.result.now (rw c.as_slice.ensures.value at c.in-Ok.ensures.within) (rw c.as_slice.ensures.value at c.in-Ok.ensures.place) c.index_mut.ensures.value (InHand (content_received row.content) c.args.len) (c.self.inside.charged + c.args.len) (omega (arith, received)) tt)
+
+pub unreachable-requires : goal.unreachable-requires
+unreachable-requires c =
+    let none = absent c.self.inside.next c.self.inside.charged c.self.inside.rows.items c.self.invariant c.args.number c.in-Err.field-0 (rw c.as_slice.ensures.value at c.in-Err.ensures.place) in
+    false≢true (sym (ap is_home none) ∙ (rw (← c.self.view_is) at c.requires.home))
+
+pub returns-clause-whole : goal.returns-clause-whole
+returns-clause-whole c = subst AreWhole c.lift.ensures.pieces (whole_row c.self.inside.next c.self.inside.charged c.self.inside.rows.items c.self.invariant c.args.number c.in-Ok.i c.index_mut.result.now (rw c.as_slice.ensures.value at c.in-Ok.ensures.within) (rw c.as_slice.ensures.value at c.in-Ok.ensures.place) c.index_mut.ensures.value)
+
+pub returns-clause-fits : goal.returns-clause-fits
+returns-clause-fits c =
+    let kept = charged_kept c.self.inside.next c.self.inside.charged c.self.inside.rows.items c.self.invariant ∙ ap charged_in c.self.view_is in
+    let le = charge-le c.self.inside.next c.self.inside.charged c.self.inside.rows.items c.self.invariant c.args.number c.in-Ok.i c.index_mut.result.now (rw c.as_slice.ensures.value at c.in-Ok.ensures.within) (rw c.as_slice.ensures.value at c.in-Ok.ensures.place) c.index_mut.ensures.value in
+    omega (arith, kept, c.requires.room, le, ap content_charge c.lift.ensures.pieces)
+
+pub returns-clause-chunks : goal.returns-clause-chunks
+returns-clause-chunks c =
+    ap (λ (s : Numbered). option_map (λ (x : Session). x.chunks) (get s.sessions c.args.number)) (sym c.self.view_is)
+    ∙ ap (option_map (λ (x : Session). x.chunks)) (found c.self.inside.next c.self.inside.charged c.self.inside.rows.items c.self.invariant c.args.number c.in-Ok.i c.index_mut.result.now (rw c.as_slice.ensures.value at c.in-Ok.ensures.within) (rw c.as_slice.ensures.value at c.in-Ok.ensures.place) c.index_mut.ensures.value) ∙ ap (λ k. Some (chunks_shown k)) c.lift.ensures.pieces
+
+pub returns-clause-taken : goal.returns-clause-taken
+returns-clause-taken c =
+    let row = c.index_mut.result.now in
+    ap (λ (u : Upload). shown_by c.self.inside.next (set c.self.inside.rows.items c.in-Ok.i u)) c.lift.ensures.row
+    ∙ view-set c.self.inside.next c.self.inside.charged c.self.inside.rows.items c.self.invariant c.args.number c.in-Ok.i c.index_mut.result.now (rw c.as_slice.ensures.value at c.in-Ok.ensures.within) (rw c.as_slice.ensures.value at c.in-Ok.ensures.place) c.index_mut.ensures.value (InHand (content_received row.content) c.args.len)
+    ∙ (λ j. with_chunks_here (c.self.view_is j) c.args.number (shown.InHand (content_received (c.lift.ensures.pieces j)) c.args.len))
