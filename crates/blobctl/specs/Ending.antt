@@ -1,19 +1,27 @@
 -- How a run ends.
-use Rattle.std.specs.Prelude.{⊤, ◌≡◌, ◌⊎◌, ℕ, List, Option, IfSome, true}
+use Rattle.std.specs.Prelude.{◌≡◌, ◌⊎◌, ◌≤◌, ℕ, List, Option, IfSome, length, true}
 use Rattle.std.specs.Io.KnownBytes.{Appends, Consumes}
 use Rattle.blob_digest.specs.Keys.{Text}
 use Rattle.blob_digest.specs.Tenants.{Tenant}
-use Rattle.blobctl.specs.Inputs.{IsTooLong}
+use Rattle.blobctl.specs.Inputs.{IsTooLong, max_script}
 use Rattle.blobctl.specs.Played.{Played}
-use Rattle.blobctl.specs.Script.{IsFirstBad}
+use Rattle.blobctl.specs.Rows.{Line}
+use Rattle.blobctl.specs.Script.{AreRowsOf, IsFirstBad}
 use Rattle.blobctl.specs.Watching.{has_failed, inner_of}
 use Rattle.blobctl.specs.declared.fault.Fault.{Fault}
 use Rattle.blobctl.specs.declared.fault.Fault.TheVariants.{BadRow, Read, Write, Memory}
 use Rattle.blobctl.specs.declared.watched.Watched.{Watched}
 
--- the reader was read to its end, and gave these bytes
-abbrev pub IsReadWhole : {R : Type 0} → (R → Option (List ℕ)) → Watched R → Watched R → Text → Type 0
-IsReadWhole remaining old new script = Consumes (remaining (inner_of old)) (remaining (inner_of new)) script × IfSome (remaining (inner_of old)) (λ bytes. script ≡ bytes)
+-- no read of the reader failed in between
+abbrev pub HasNotFailed : {R : Type 0} → Watched R → Watched R → Type 0
+HasNotFailed old new = has_failed new ≡ has_failed old
+
+-- the reader was read to its end, no read failed, and it gave these bytes, which are no more than a script may have
+pub record IsReadWhole {R : Type 0} (remaining : R → Option (List ℕ)) (old new : Watched R) (script : Text) : Type 0 where
+  pub taken : Consumes (remaining (inner_of old)) (remaining (inner_of new)) script
+  pub whole : IfSome (remaining (inner_of old)) (λ bytes. script ≡ bytes)
+  pub fits : length script ≤ max_script
+  pub unfailed : HasNotFailed old new
 
 -- what a run that ends well has read is a script, and what it has written is the text of playing it
 pub record EndsWell {R : Type 0} (remaining : R → Option (List ℕ)) (old new : Watched R) (held holds : Option (List ℕ)) (tenants : List Tenant) (slots max_blob : ℕ) : Type 0 where
@@ -23,9 +31,10 @@ pub record EndsWell {R : Type 0} (remaining : R → Option (List ℕ)) (old new 
   pub written : Appends held holds text
   pub played : Played tenants slots max_blob script text
 
--- Why a run ends early: the first bad row of what was read, a failed read or too long a script, a write, or want of memory.
+-- Why a run ends early: the first bad row of what was read whole; a failed read, or too long a script; a write, after the script was
+-- read whole and has good rows alone; or want of memory, with no read that failed.
 abbrev pub Explains : {R : Type 0} → (R → Option (List ℕ)) → Watched R → Watched R → Fault → Type 0
 Explains remaining old new (BadRow n) = (script : Text) × IsReadWhole remaining old new script × IsFirstBad script n
 Explains remaining old new Read = (has_failed new ≡ true) ⊎ IsTooLong (remaining (inner_of old)) (remaining (inner_of new))
-Explains remaining old new Write = ⊤
-Explains remaining old new Memory = ⊤
+Explains remaining old new Write = (script : Text) × IsReadWhole remaining old new script × (rows : List Line) × AreRowsOf script rows
+Explains remaining old new Memory = HasNotFailed old new

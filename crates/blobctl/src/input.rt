@@ -1,6 +1,7 @@
 //! Reads a script to its end.
-ghost use Rattle.std.specs.Prelude.{◌≡◌, ◌⊎◌, ◌+◌, ◌<◌, ◌≤◌, ◌++◌, true, IfOk, IfErr, IfSome, OnErr, length, take};
+ghost use Rattle.std.specs.Prelude.{◌≡◌, ◌⊎◌, ◌+◌, ◌<◌, ◌≤◌, ◌++◌, true, IfOk, IfErr, OnErr, OnOk, length, take};
 ghost use Rattle.std.specs.Io.KnownBytes.{Consumes, IsAtEnd};
+ghost use Rattle.blobctl.specs.Ending.{HasNotFailed, IsReadWhole};
 ghost use Rattle.blobctl.specs.Inputs.{IsTooLong, TakesAtMost, max_script};
 ghost use Rattle.blobctl.specs.Watching.{has_failed, inner_of};
 
@@ -24,7 +25,8 @@ fn add_piece<R: Read>(
     requires { 0 < length buffer.old }
     ensures added { IfOk result (λ n. (bytes.new.items ≡ bytes.old.items ++ take n buffer.new) × Consumes (R.remaining (inner_of reader.old)) (R.remaining (inner_of reader.new)) (take n buffer.new) × (n ≤ length buffer.new)) }
     ensures end { IfOk result (λ n. n ≡ 0 → IsAtEnd (R.remaining (inner_of reader.new))) }
-    ensures refused { IfErr result (λ e. (e ≡ Fault.Memory) ⊎ ((e ≡ Fault.Read) × (has_failed reader.new ≡ true))) }
+    ensures unfailed { OnOk result (HasNotFailed reader.old reader.new) }
+    ensures refused { IfErr result (λ e. ((e ≡ Fault.Memory) × HasNotFailed reader.old reader.new) ⊎ ((e ≡ Fault.Read) × (has_failed reader.new ≡ true))) }
     ensures most { OnErr result (TakesAtMost (R.remaining (inner_of reader.old)) (R.remaining (inner_of reader.new)) (length buffer.old)) }
 {
     let Ok(count) = reader.read(buffer) else {
@@ -35,14 +37,13 @@ fn add_piece<R: Read>(
 }
 
 /// The bytes of a reader up to its end. Any failure of a read ends the reading, an interrupted read
-/// too, and no more than one byte past the longest script is taken. `Read` comes only where a read
-/// failed or the script is too long, and want of memory is never told as `Read`.
+/// too, so that where bytes are answered no read failed. No more than one byte past the longest
+/// script is taken. `Read` comes only where a read failed or the script is too long, and a failed read
+/// is never told as want of memory, nor that as `Read`.
 pub fn read_script<R: Read>(alloc: Global, reader: &mut Watched<R>) -> Result<Vec<u8>, Fault>
-    ensures taken { IfOk result (λ v. Consumes (R.remaining (inner_of reader.old)) (R.remaining (inner_of reader.new)) v.items) }
-    ensures whole { IfOk result (λ v. IfSome (R.remaining (inner_of reader.old)) (λ xs. v.items ≡ xs)) }
-    ensures fits { IfOk result (λ v. length v.items ≤ max_script) }
+    ensures whole { IfOk result (λ v. IsReadWhole R.remaining reader.old reader.new v.items) }
     ensures most { TakesAtMost (R.remaining (inner_of reader.old)) (R.remaining (inner_of reader.new)) (max_script + 1) }
-    ensures refused { IfErr result (λ e. (e ≡ Fault.Memory) ⊎ ((e ≡ Fault.Read) × ((has_failed reader.new ≡ true) ⊎ IsTooLong (R.remaining (inner_of reader.old)) (R.remaining (inner_of reader.new))))) }
+    ensures refused { IfErr result (λ e. ((e ≡ Fault.Memory) × HasNotFailed reader.old reader.new) ⊎ ((e ≡ Fault.Read) × ((has_failed reader.new ≡ true) ⊎ IsTooLong (R.remaining (inner_of reader.old)) (R.remaining (inner_of reader.new))))) }
 {
     let mut bytes = Vec::new(alloc);
     let mut buffer = [0u8; PIECE];

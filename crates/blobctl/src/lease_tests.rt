@@ -1,8 +1,8 @@
 //! Scripts with leases and sweeps: what is written for them, by values that stand outside the program.
 
 use crate::fault::Fault;
-use crate::manifest_tests::plays;
-use crate::script_tests::run_on;
+use crate::manifest_tests::plays_filled;
+use crate::script_tests::fails;
 
 #[test]
 fn scripts_with_leases_are_played(rt: HostRuntime) {
@@ -33,7 +33,7 @@ fn scripts_with_leases_are_played(rt: HostRuntime) {
             "1 session 1\n2 stored 3\n3 leased 3\n4 refused NameInvalid\n5 refused DigestInvalid\n6 name taken\n7 refused NameUnknown\n8 refused BlobUnknown\n9 no lease\n10 refused SizeInvalid\n11 refused SizeInvalid\n12 bytes 616263\n13 refused SizeInvalid\n14 bytes \n15 no lease\n16 no lease\nbook\ntenant acme used 3 quota 1000 next 2\nrepository acme/one\nblob $abc size 3 links 1\nend\n",
         ),
     ] {
-        assert!(rt; plays(rt.alloc(), &["acme=1000"], script, text), "{script}");
+        plays_filled(&rt, rt.alloc(), &["acme=1000"], script, text);
     }
 }
 
@@ -43,7 +43,7 @@ fn a_full_store_has_a_slot_again_after_a_sweep(rt: HostRuntime) {
         "0,start,acme/one,,,,\n0,close,acme/one,1,$abc,,abc\n0,start,acme/one,,,,\n0,append,acme/one,2,,,{}\n0,close,acme/one,2,$obj,,\n0,status,acme/one,2,,,\n0,delete,acme/one,,$abc,,\n0,close,acme/one,2,$obj,,\n0,sweep,,,,,\n0,close,acme/one,2,$obj,,\n";
     let text =
         "1 session 1\n2 stored 3\n3 session 2\n4 received 2\n5 refused StoreFull\n6 received 2\n7 deleted\n8 refused StoreFull\n9 swept condemned 1 freed 1 held 0 retired 0\n10 stored 2\nbook\ntenant acme used 2 quota 1000 next 3\nrepository acme/one\nblob $obj size 2 links 1\nend\n";
-    assert!(rt; plays(rt.alloc(), &["--slots", "1", "acme=1000"], script, text));
+    plays_filled(&rt, rt.alloc(), &["--slots", "1", "acme=1000"], script, text);
 }
 
 #[test]
@@ -63,6 +63,6 @@ fn a_malformed_row_of_a_lease_is_bad(rt: HostRuntime) {
         b"0,verify,,r,,,x".as_slice(),
         b"0,give_back,,r,d,,".as_slice(),
     ] {
-        assert!(rt; matches!(run_on(rt.alloc(), &["acme=1000"], script, u32::MAX), Err(Fault::BadRow(1))));
+        fails(&rt, rt.alloc(), script, Fault::BadRow(1));
     }
 }

@@ -10,17 +10,21 @@
 //! It promises, of the function `run`: what a run that ends well has written is the replies and the
 //! book that the definitions of the store give for the script's rows; a bad row is the first one; a
 //! bad row, a read fault and want of memory write nothing; a read fault comes only where a read
-//! failed or the script is too long.
+//! failed or the script is too long, and where the run ends otherwise no read failed.
 #![tactic(auto)]
 
-ghost use Rattle.std.specs.Prelude.{◌≡◌};
+ghost use Rattle.std.specs.Prelude.{◌≡◌, ◌⊎◌, IfOk};
 ghost use Rattle.blobctl.specs.Options.{IsWithin};
 ghost use Rattle.blobctl.specs.Stops.{stop_status};
+ghost use Rattle.blobctl.specs.Texts.{fault_status};
+ghost use Rattle.blobctl.specs.declared.fault.Fault.TheVariants.{Write};
 
 mod alone;
 mod arguments;
 mod backend;
 mod fault;
+#[cfg(test)]
+mod fault_tests;
 mod fields;
 mod hex_digits;
 mod input;
@@ -49,12 +53,12 @@ use crate::arguments::read_options;
 use crate::fault::Fault;
 use crate::options::{Options, Stop};
 use crate::watched::Watched;
-use std::io::{BufWriter, Write};
+use std::io::{BufWriter, ErrorKind, Write};
 use std::process::ExitCode;
 use std::{env, io};
 
-/// Runs on standard input and output, and answers the fault, if any. What is written is collected
-/// first, so that a fault of the last write is a write fault too.
+/// Runs on standard input and output. What is written is collected first, so that a fault of the last
+/// write is a write fault too.
 fn run_here(rt: &HostRuntime, options: &Options) -> Result<(), Fault>
     requires { IsWithin options.now }
 {
@@ -69,18 +73,36 @@ fn run_here(rt: &HostRuntime, options: &Options) -> Result<(), Fault>
     }
 }
 
-/// Prints why the program stops before it runs, and answers the exit status.
+/// Prints why a run ended early, and answers the exit status.
+fn faulted(rt: &HostRuntime, fault: Fault) -> u8
+    ensures { result ≡ fault_status fault }
+{
+    let _ = eprint!(rt; "{fault}");
+    fault.status()
+}
+
+/// Prints why the program stops before it runs, and answers the exit status. A help text that can't
+/// be written is a write fault.
 fn stopped(rt: &HostRuntime, stop: &Stop) -> u8
-    ensures { result ≡ stop_status stop.now }
+    ensures { (result ≡ stop_status stop.now) ⊎ (result ≡ fault_status Write) }
 {
     let text = stop.text();
-    let printed = match stop {
-        Stop::Help(_) => print!(rt; "{text}"),
-        _ => eprint!(rt; "{text}"),
-    };
-    match printed {
-        Ok(()) => stop.status(),
-        Err(_) => stop.status(),
+    if let Stop::Help(_) = stop {
+        let Ok(()) = print!(rt; "{text}") else {
+            return faulted(rt, Fault::Write);
+        };
+    } else {
+        let _ = eprint!(rt; "{text}");
+    }
+    stop.status()
+}
+
+/// Why the words of the command line can't be read: for want of memory, or since one of them is no
+/// text, of which nothing is printed.
+fn unread(rt: &HostRuntime, error: io::Error) -> Stop {
+    match error.kind() {
+        ErrorKind::OutOfMemory => Stop::Memory,
+        _ => Stop::Usage(String::new(rt.alloc())),
     }
 }
 
@@ -90,19 +112,23 @@ fn words_of(rt: &HostRuntime) -> io::Result<Vec<String>> {
     Ok(words)
 }
 
-fn main(rt: HostRuntime) -> ExitCode {
-    let Ok(words) = words_of(&rt) else {
-        return ExitCode::from(2);
-    };
-    let options = match read_options(rt.alloc(), words.as_slice()) {
-        Ok(options) => options,
-        Err(stop) => return ExitCode::from(stopped(&rt, &stop)),
-    };
-    match run_here(&rt, &options) {
-        Ok(()) => ExitCode::SUCCESS,
-        Err(fault) => {
-            let _ = eprint!(rt; "{fault}");
-            ExitCode::from(fault.status())
-        }
+/// The options that the command line gives.
+fn options_here(rt: &HostRuntime) -> Result<Options, Stop>
+    ensures { IfOk result IsWithin }
+{
+    match words_of(rt) {
+        Ok(words) => read_options(rt.alloc(), words.as_slice()),
+        Err(error) => Err(unread(rt, error)),
     }
+}
+
+fn main(rt: HostRuntime) -> ExitCode {
+    let status = match options_here(&rt) {
+        Err(stop) => stopped(&rt, &stop),
+        Ok(options) => match run_here(&rt, &options) {
+            Ok(()) => 0,
+            Err(fault) => faulted(&rt, fault),
+        },
+    };
+    ExitCode::from(status)
 }

@@ -1,8 +1,9 @@
 //! Scripts with manifests: what is written for them, by values that stand outside the program.
 
 use crate::fault::Fault;
-use crate::script_tests::{run_on, writes};
+use crate::script_tests::{fails, plays};
 use std::alloc::{AllocError, Global};
+use std::process::Abort;
 
 /// The digest of `abc`.
 const ABC: &str = "sha256:ba7816bf8f01cfea414140de5dae2223b00361a396177a9cb410ff61f20015ad";
@@ -47,15 +48,12 @@ pub fn filled(alloc: Global, text: &str) -> Result<String, AllocError> {
     Ok(filled)
 }
 
-/// Whether a script for a tenant of 1,000 bytes and as many slots as it has blobs writes this text.
-pub fn plays(alloc: Global, words: &[&str], script: &str, text: &str) -> bool {
-    let Ok(script) = filled(alloc, script) else {
-        return false;
-    };
-    match filled(alloc, text) {
-        Ok(text) => writes(alloc, words, script.as_bytes(), text.as_str()),
-        Err(_) => false,
-    }
+/// A run by these arguments writes this text for a script. In both, names stand for manifests and
+/// digests, as `filled` has them.
+pub fn plays_filled(rt: &impl Abort, alloc: Global, words: &[&str], script: &str, wanted: &str) {
+    let script = filled(alloc, script).expect(rt, "memory");
+    let wanted = filled(alloc, wanted).expect(rt, "memory");
+    plays(rt, alloc, words, script.as_bytes(), wanted.as_str());
 }
 
 #[test]
@@ -87,7 +85,7 @@ fn scripts_with_manifests_are_played(rt: HostRuntime) {
             "1 refused NameInvalid\n2 refused NameUnknown\n3 refused NameInvalid\n4 refused DigestInvalid\n5 refused NameUnknown\n6 refused NameInvalid\n7 refused DigestInvalid\n8 refused NameUnknown\nbook\ntenant acme used 0 quota 1000 next 1\nend\n",
         ),
     ] {
-        assert!(rt; plays(rt.alloc(), &["acme=1000"], script, text), "{script}");
+        plays_filled(&rt, rt.alloc(), &["acme=1000"], script, text);
     }
 }
 
@@ -113,12 +111,8 @@ fn asked(alloc: Global, times: usize) -> Result<(String, String), AllocError> {
 
 #[test]
 fn a_manifest_is_asked_for_many_times(rt: HostRuntime) {
-    match asked(rt.alloc(), 1000) {
-        Ok((script, text)) => {
-            assert!(rt; writes(rt.alloc(), &["acme=1000"], script.as_bytes(), text.as_str()));
-        }
-        Err(_) => assert!(rt; false),
-    }
+    let (script, text) = asked(rt.alloc(), 1000).expect(&rt, "memory");
+    plays(&rt, rt.alloc(), &["acme=1000"], script.as_bytes(), text.as_str());
 }
 
 #[test]
@@ -134,6 +128,6 @@ fn a_manifest_row_with_a_field_too_many_is_bad(rt: HostRuntime) {
         b"0,delete_manifest,acme/one,,d,0-0,".as_slice(),
         b"0,delete_manifest,acme/one,,d,,x".as_slice(),
     ] {
-        assert!(rt; matches!(run_on(rt.alloc(), &["acme=1000"], script, u32::MAX), Err(Fault::BadRow(1))));
+        fails(&rt, rt.alloc(), script, Fault::BadRow(1));
     }
 }

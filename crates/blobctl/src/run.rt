@@ -1,10 +1,12 @@
 //! A run: reads a script, plays it, and writes the replies and the book.
-ghost use Rattle.std.specs.Prelude.{◌≡◌, ◌≢◌, IfOk, IfErr, OnOk, map};
+ghost use Rattle.std.specs.Prelude.{◌≡◌, ◌≢◌, ◌+◌, IfOk, IfErr, OnOk, map};
 ghost use Rattle.blob_digest.specs.Keys.{Text};
 ghost use Rattle.blobctl.specs.Ending.{EndsWell, Explains, IsReadWhole};
+ghost use Rattle.blobctl.specs.Inputs.{TakesAtMost, max_script};
 ghost use Rattle.blobctl.specs.Lines.{line_of};
 ghost use Rattle.blobctl.specs.Options.{IsWithin};
 ghost use Rattle.blobctl.specs.Script.{AreRowsOf};
+ghost use Rattle.blobctl.specs.Watching.{inner_of};
 ghost use Rattle.store_book.specs.Openings.{tenants_shown};
 
 use crate::alone::play_alone;
@@ -21,6 +23,7 @@ use std::io::{Read, Write};
 /// The rows of the script that a reader gives. The script is let go with the last of them.
 fn read_all<R: Read>(alloc: Global, reader: &mut Watched<R>) -> Result<Vec<Row>, Fault>
     ensures rows { IfOk result (λ v. (script : Text) × IsReadWhole R.remaining reader.old reader.new script × AreRowsOf script (map line_of v.items)) }
+    ensures most { TakesAtMost (R.remaining (inner_of reader.old)) (R.remaining (inner_of reader.new)) (max_script + 1) }
     ensures fault { IfErr result (λ e. (e ≢ Fault.Write) × Explains R.remaining reader.old reader.new e) }
 {
     let script = read_script(alloc, reader)?;
@@ -31,8 +34,9 @@ fn read_all<R: Read>(alloc: Global, reader: &mut Watched<R>) -> Result<Vec<Row>,
 /// replies in the order of the rows, and then the book.
 ///
 /// A bad row, a read fault and want of memory write nothing. A bad row is the script's first one, and
-/// a read fault comes only where a read failed or the script is longer than 268,435,456 bytes. After
-/// a write fault nothing is known of what was written. Writing takes no memory. While it plays, the
+/// a read fault comes only where a read failed or the script is longer than 268,435,456 bytes; where
+/// the run ends in another way, no read failed and the script was no longer. One byte more than that
+/// is read at most. After a write fault nothing is known of what was written. Writing takes no memory. While it plays, the
 /// run holds the rows, the replies and the book; the script's text is held only until its rows are
 /// made.
 pub fn run<R: Read, W: Write>(
@@ -43,6 +47,7 @@ pub fn run<R: Read, W: Write>(
 ) -> Result<(), Fault>
     requires { IsWithin options.now }
     ensures played { OnOk result (EndsWell R.remaining reader.old reader.new (W.contents writer.old) (W.contents writer.new) (tenants_shown options.now.store.tenants.items) options.now.store.slots options.now.store.max_blob) }
+    ensures most { TakesAtMost (R.remaining (inner_of reader.old)) (R.remaining (inner_of reader.new)) (max_script + 1) }
     ensures silent { IfErr result (λ e. e ≢ Fault.Write → writer.new ≡ writer.old) }
     ensures fault { IfErr result (λ e. Explains R.remaining reader.old reader.new e) }
 {

@@ -4,27 +4,15 @@ ghost use Rattle.blobctl.specs.Options.{IsWithin};
 
 use crate::arguments::read_options;
 use crate::fault::Fault;
-use crate::input::read_script;
 use crate::options::{Options, Stop};
 use crate::reply::Reply;
 use crate::row::Verb;
 use crate::script::read_rows;
-use crate::watched::Watched;
 use blob_digest::{Digest, Refusal};
 use std::alloc::Global;
-use std::io;
-use std::io::{ErrorKind, Read};
+use std::process::Abort;
 
 const ABC: &str = "sha256:ba7816bf8f01cfea414140de5dae2223b00361a396177a9cb410ff61f20015ad";
-
-/// The fault of a script's rows, or 0 for none; else the number of the bad row.
-fn bad_row(alloc: Global, script: &[u8]) -> u32 {
-    match read_rows(alloc, script) {
-        Ok(_) => 0,
-        Err(Fault::BadRow(number)) => number,
-        Err(_) => u32::MAX,
-    }
-}
 
 #[test]
 fn rows_are_read(rt: HostRuntime) {
@@ -43,102 +31,6 @@ fn rows_are_read(rt: HostRuntime) {
             assert_eq!(rt; rows[2].digest.as_slice(), b"d".as_slice());
             assert_eq!(rt; rows[2].body.as_slice(), b"x,\"y".as_slice());
         }
-        Err(_) => assert!(rt; false),
-    }
-}
-
-#[test]
-fn a_bad_row_is_named(rt: HostRuntime) {
-    let alloc = rt.alloc();
-    for script in [
-        b"0,start,acme/one".as_slice(),
-        b"0,fly,acme/one,,,,".as_slice(),
-        b"256,start,acme/one,,,,".as_slice(),
-        b"0000,start,acme/one,,,,".as_slice(),
-        b",start,acme/one,,,,".as_slice(),
-        b"x,start,acme/one,,,,".as_slice(),
-        b"0,Start,acme/one,,,,".as_slice(),
-        b"0,start,acme/one,1,,,".as_slice(),
-        b"0,start,acme/one,,,,x".as_slice(),
-        b"0,start,acme/one,,,,,".as_slice(),
-        b"0,append,acme/one,0,,,".as_slice(),
-        b"0,append,acme/one,4294967296,,,".as_slice(),
-        b"0,append,acme/one,00000000001,,,".as_slice(),
-        b"0,append,acme/one,,,,".as_slice(),
-        b"0,append,acme/one,1,d,,".as_slice(),
-        b"0,close,acme/one,x,d,,".as_slice(),
-        b"0,status,acme/one,,,,".as_slice(),
-        b"0,status,acme/one,1,d,,".as_slice(),
-        b"0,abandon,acme/one,1,,,x".as_slice(),
-        b"0,mount,acme/two,acme/one,d,0-1,".as_slice(),
-        b"0,delete,acme/one,1,d,,".as_slice(),
-    ] {
-        assert_eq!(rt; bad_row(alloc, script), 1);
-    }
-}
-
-#[test]
-fn a_bad_row_after_a_good_one_is_the_second(rt: HostRuntime) {
-    let script = b"0,start,acme/one,,,,\n0,fly,acme/one,,,,\n0,fly,,,,,\n";
-    assert_eq!(rt; bad_row(rt.alloc(), script), 2);
-    let good =
-        b"0,start,acme/one,,,,\n0,append,acme/one,0000000001,,,\n0,close,,1,,,\n0,status,,1,,,\n0,abandon,,1,,,\n0,mount,,,,,\n0,delete,,,,,\n";
-    assert_eq!(rt; bad_row(rt.alloc(), good), 0);
-}
-
-#[test]
-fn a_row_too_many_is_bad(rt: HostRuntime) {
-    let alloc = rt.alloc();
-    let row = b"0,start,a,,,,\n".as_slice();
-    let mut script = Vec::new(alloc);
-    for _ in 0..65536u32 {
-        script.extend_from_slice(row).expect(&rt, "memory");
-    }
-    assert_eq!(rt; bad_row(alloc, script.as_slice()), 0);
-    script.extend_from_slice(row).expect(&rt, "memory");
-    assert_eq!(rt; bad_row(alloc, script.as_slice()), 65537);
-}
-
-/// A reader of two bytes at a time that fails at one of its calls.
-#[derive(Drop)]
-struct Failing<'s> {
-    left: &'s [u8],
-    call: u32,
-    fails_at: u32,
-}
-
-impl<'s> Read for Failing<'s> {
-    fn read(&mut self, buf: &mut [u8]) -> io::Result<usize> {
-        if self.call == self.fails_at {
-            return Err(io::Error::from(ErrorKind::Interrupted));
-        }
-        self.call = self.call.saturating_add(1);
-        let most = buf.len().min(2);
-        self.left.read(&mut buf[..most])
-    }
-}
-
-#[test]
-fn a_failed_read_is_a_read_fault(rt: HostRuntime) {
-    let alloc = rt.alloc();
-    for fails_at in 0..4 {
-        let mut reader = Watched::new(Failing {
-            left: b"abcde".as_slice(),
-            call: 0,
-            fails_at,
-        });
-        match read_script(alloc, &mut reader) {
-            Ok(_) => assert!(rt; false),
-            Err(fault) => assert_eq!(rt; fault, Fault::Read),
-        }
-    }
-    let mut reader = Watched::new(Failing {
-        left: b"abcde".as_slice(),
-        call: 0,
-        fails_at: 9,
-    });
-    match read_script(alloc, &mut reader) {
-        Ok(script) => assert_eq!(rt; script.as_slice(), b"abcde".as_slice()),
         Err(_) => assert!(rt; false),
     }
 }
@@ -163,29 +55,55 @@ pub fn options_of(alloc: Global, words: &[&str]) -> Result<Options, Stop>
     }
 }
 
+/// A command line gives these numbers and tenants.
+fn gives(
+    rt: &impl Abort,
+    alloc: Global,
+    words: &[&str],
+    (slots, max_blob): (u32, u64),
+    tenants: &[(&str, u64)],
+) {
+    match options_of(alloc, words) {
+        Ok(options) => {
+            assert_eq!(rt; options.store.slots, slots);
+            assert_eq!(rt; options.store.max_blob, max_blob);
+            assert_eq!(rt; options.store.tenants.len(), tenants.len());
+            for (found, wanted) in options.store.tenants.iter().zip(tenants) {
+                assert_eq!(rt; found.0.as_str(), wanted.0);
+                assert_eq!(rt; found.1, wanted.1);
+            }
+        }
+        Err(_) => assert!(rt; false, "no options"),
+    }
+}
+
 #[test]
 fn options_are_read(rt: HostRuntime) {
     let alloc = rt.alloc();
-    match options_of(alloc, &["zeta=5", "acme=0001000"]) {
-        Ok(options) => {
-            assert_eq!(rt; options.store.slots, 64);
-            assert_eq!(rt; options.store.max_blob, 1_048_576);
-            assert_eq!(rt; options.store.tenants.len(), 2);
-            assert_eq!(rt; options.store.tenants[0].0.as_str(), "zeta");
-            assert_eq!(rt; options.store.tenants[1].0.as_str(), "acme");
-            assert_eq!(rt; options.store.tenants[1].1, 1000);
-        }
-        Err(_) => assert!(rt; false),
-    }
-    match options_of(
+    let tenants = [("zeta", 5), ("acme", 1000)];
+    let words = ["zeta=5", "acme=0001000"];
+    gives(
+        &rt,
         alloc,
-        &["--slots", "65536", "--max-blob=0", "a=1125899906842624"],
-    ) {
-        Ok(options) => {
-            assert_eq!(rt; options.store.slots, 65536);
-            assert_eq!(rt; options.store.max_blob, 0);
+        words.as_slice(),
+        (64, 1_048_576),
+        tenants.as_slice(),
+    );
+    let most = [("a", 1_125_899_906_842_624)];
+    let words = ["--slots", "65536", "--max-blob=0", "a=1125899906842624"];
+    gives(&rt, alloc, words.as_slice(), (65_536, 0), most.as_slice());
+}
+
+/// A command line stops the program with this status, and with a text that begins so.
+fn stops(rt: &impl Abort, alloc: Global, words: &[&str], status: u8, begins: &str) {
+    match options_of(alloc, words) {
+        Err(stop) => {
+            let mut text = String::new(alloc);
+            stop.write(&mut text).expect(rt, "memory");
+            assert!(rt; text.as_str().starts_with(begins), "it begins {text}");
+            assert_eq!(rt; stop.status(), status);
         }
-        Err(_) => assert!(rt; false),
+        Ok(_) => assert!(rt; false, "options"),
     }
 }
 
@@ -204,20 +122,9 @@ fn wrong_tenant_words_are_bad_tenants(rt: HostRuntime) {
         "acme==5",
         "acme=1125899906842625",
         "acme=99999999999999999999999",
+        "other=2",
     ] {
-        match options_of(alloc, &["other=1", word]) {
-            Err(Stop::BadTenant) => {}
-            _ => assert!(rt; false, "{word}"),
-        }
-    }
-    match options_of(alloc, &["acme=1", "acme=2"]) {
-        Err(stop) => {
-            let mut text = String::new(alloc);
-            stop.write(&mut text).expect(&rt, "memory");
-            assert_eq!(rt; text.as_str(), "blobctl: bad tenant\n");
-            assert_eq!(rt; stop.status(), 2);
-        }
-        Ok(_) => assert!(rt; false),
+        stops(&rt, alloc, &["other=1", word], 2, "blobctl: bad tenant\n");
     }
 }
 
@@ -230,58 +137,47 @@ fn wrong_arguments_come_before_wrong_tenants(rt: HostRuntime) {
         ["--max-blob", "1099511627777", "acme"],
         ["--fly", "1", "acme"],
     ] {
-        match options_of(alloc, words.as_slice()) {
-            Err(stop) => {
-                assert!(rt; matches!(&stop, Stop::Usage(_)));
-                assert_eq!(rt; stop.status(), 2);
-            }
-            Ok(_) => assert!(rt; false),
-        }
+        stops(&rt, alloc, words.as_slice(), 2, "error: ");
     }
-    match options_of(alloc, &["--help"]) {
-        Err(stop) => {
-            assert!(rt; matches!(&stop, Stop::Help(_)));
-            assert_eq!(rt; stop.status(), 0);
-        }
-        Ok(_) => assert!(rt; false),
-    }
-    match options_of(alloc, &[]) {
-        Err(stop) => assert!(rt; matches!(&stop, Stop::Usage(_))),
-        Ok(_) => assert!(rt; false),
-    }
+    stops(&rt, alloc, &[], 2, "error: ");
+    stops(&rt, alloc, &["--help"], 0, "Usage: blobctl ");
 }
 
-/// Whether a reply prints this text.
-fn prints(alloc: Global, reply: &Reply, text: &str) -> bool {
-    let mut out = String::new(alloc);
-    reply.write(&mut out).is_ok() && out.as_str() == text
+/// A reply prints this text.
+fn prints(rt: &impl Abort, alloc: Global, reply: Reply, wanted: &str) {
+    let mut text = String::new(alloc);
+    reply.write(&mut text).expect(rt, "memory");
+    assert_eq!(rt; text.as_str(), wanted);
 }
 
 #[test]
 fn replies_are_printed(rt: HostRuntime) {
-    let alloc = rt.alloc();
-    assert!(rt; prints(alloc, &Reply::Session(4_294_967_295), "session 4294967295"));
-    assert!(rt; prints(alloc, &Reply::Received(0), "received 0"));
-    assert!(rt; prints(alloc, &Reply::Stored(3), "stored 3"));
-    assert!(rt; prints(alloc, &Reply::Abandoned, "abandoned"));
-    assert!(rt; prints(alloc, &Reply::Mounted, "mounted"));
-    assert!(rt; prints(alloc, &Reply::Deleted, "deleted"));
-    assert!(rt;
-        prints(
-            alloc,
-            &Reply::Refused(Refusal::NameUnknown),
-            "refused NameUnknown"
-        )
-    );
-    let received = Reply::Refused(Refusal::RangeInvalid { received: 2 });
-    assert!(rt; prints(alloc, &received, "refused RangeInvalid received 2"));
-    let quota = Reply::Refused(Refusal::Quota { used: 3, quota: 5 });
-    assert!(rt; prints(alloc, &quota, "refused Quota used 3 quota 5"));
     let digest = Digest::parse(ABC.as_bytes()).expect(&rt, "a digest");
-    let missing = Reply::Refused(Refusal::ManifestBlobUnknown { digest });
-    let mut text = String::new(alloc);
-    missing.write(&mut text).expect(&rt, "memory");
-    assert!(rt; text.as_str().ends_with(ABC));
+    let missing =
+        "refused ManifestBlobUnknown sha256:ba7816bf8f01cfea414140de5dae2223b00361a396177a9cb410ff61f20015ad";
+    for (reply, text) in [
+        (Reply::Session(4_294_967_295), "session 4294967295"),
+        (Reply::Received(0), "received 0"),
+        (Reply::Stored(3), "stored 3"),
+        (Reply::Abandoned, "abandoned"),
+        (Reply::Mounted, "mounted"),
+        (Reply::Deleted, "deleted"),
+        (Reply::Refused(Refusal::NameUnknown), "refused NameUnknown"),
+        (
+            Reply::Refused(Refusal::RangeInvalid { received: 2 }),
+            "refused RangeInvalid received 2",
+        ),
+        (
+            Reply::Refused(Refusal::Quota { used: 3, quota: 5 }),
+            "refused Quota used 3 quota 5",
+        ),
+        (
+            Reply::Refused(Refusal::ManifestBlobUnknown { digest }),
+            missing,
+        ),
+    ] {
+        prints(&rt, rt.alloc(), reply, text);
+    }
 }
 
 #[test]

@@ -6,7 +6,7 @@ use native.Mathlib.Decide.{dec_le}
 use Rattle.blob_digest.proofs.ListLemmas.{there_at}
 use Rattle.pin_core.specs.declared.event.Event.{Event}
 use Rattle.pin_core.specs.declared.event.Event.TheVariants.{Give, Lend, Share, Leave, Condemn, Revive, Reclaim, Look, Verify}
-use Rattle.pin_core.specs.World.{PinWorld, Keeps, IsState, IsUsed, hold_named, opening, row, row_word, word}
+use Rattle.pin_core.specs.World.{PinWorld, Keeps, IsState, hold_named, opening, row, row_word, word}
 use Rattle.pin_core.proofs.Shares.{shared_sum}
 use Rattle.pin_core.specs.Events.{Can, after, Happens, half, halve, second, entry, lent_hold}
 use Rattle.pin_core.specs.Laws.{world_at, Given, Spanned, begun, lent, shared, generation_at, Reclaims, Reclamation}

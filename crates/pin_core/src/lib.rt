@@ -21,9 +21,7 @@ pub use pins::halved;
 pub use rows::{given, in_phase, reclaimed};
 pub use state::PinState;
 pub use steps::{run, step};
-pub use word::{
-    CONDEMNED, LAST_GENERATION, MAX_SLOTS, MAX_WEIGHT, NEW_WEIGHT, USED, WordRow, pack, unpack,
-};
+pub use word::{CONDEMNED, LAST_GENERATION, MAX_WEIGHT, NEW_WEIGHT, USED, WordRow, pack, unpack};
 pub use world::{Hold, Phase, PinEntry, PinRow};
 
 #[cfg(test)]

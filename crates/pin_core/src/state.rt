@@ -10,9 +10,9 @@ ghost use Rattle.pin_core.specs.declared.event.Event.TheVariants.{Give, Lend, Sh
 use crate::event::Event;
 use crate::pins::{drop_named, find, halve_named, halved, is_clear, sum_on};
 use crate::rows::{given, in_phase, is_new, reclaimed};
-use crate::word::{MAX_SLOTS, MAX_WEIGHT, NEW_WEIGHT, WordRow};
+use crate::word::{MAX_WEIGHT, NEW_WEIGHT, WordRow};
 use crate::world::{Hold, Phase, PinEntry, PinRow};
-use blob_digest::{Digest, Refusal};
+use blob_digest::{Digest, MAX_SLOTS, Refusal};
 use std::alloc::Global;
 use std::marker::Model;
 

@@ -53,41 +53,70 @@ fn give(slot: u32, bytes: &[u8]) -> Event {
     }
 }
 
+/// What a slot's word says.
+fn row_is(rt: &impl Abort, state: &PinState, slot: u32, wanted: Option<WordRow>) {
+    assert_eq!(rt; state.row(slot), wanted);
+}
+
+fn digest_is(rt: &impl Abort, state: &PinState, slot: u32, wanted: Option<Digest>) {
+    assert_eq!(rt; state.digest(slot), wanted);
+}
+
+fn pin_is(rt: &impl Abort, state: &PinState, pin: u64, wanted: Option<Hold>) {
+    assert_eq!(rt; state.pin(pin), wanted);
+}
+
+/// None of these events can happen.
+fn none_can(rt: &impl Abort, state: &PinState, impossible: &[Event]) {
+    for event in impossible {
+        assert!(rt; !can(rt, state, *event));
+    }
+}
+
+/// These events happen in turn, and after each the word of slot 0 is the one beside it.
+fn words_follow(rt: &impl Abort, opening: PinState, rows: &[(Event, u64)]) -> PinState {
+    let mut state = opening;
+    for (event, word) in rows {
+        state = stepped(rt, &state, *event);
+        assert_eq!(rt; word_at(&state, 0), *word);
+    }
+    state
+}
+
+/// What the making of so many slots is refused with.
+fn refusal_of(alloc: Global, slots: u32) -> Option<Refusal> {
+    PinState::new(alloc, slots, 0).err()
+}
+
 #[test]
 fn the_number_of_slots_has_limits(rt: HostRuntime) {
     let alloc = rt.alloc();
-    assert_eq!(rt;
-        PinState::new(alloc, 0, 0).err(),
-        Some(Refusal::LimitReached)
-    );
-    assert_eq!(rt;
-        PinState::new(alloc, 65537, 0).err(),
-        Some(Refusal::LimitReached)
-    );
-    let state = PinState::new(alloc, 65536, 9).expect(&rt, "memory");
+    for slots in [0, 65537] {
+        assert_eq!(rt; refusal_of(alloc, slots), Some(Refusal::LimitReached));
+    }
+    let state = after(&rt, alloc, 65536, 9, &[]);
     let last = WordRow {
         generation: 9,
         phase: Phase::Free,
         weight: 0,
     };
-    assert_eq!(rt; state.row(65535), Some(last));
-    assert_eq!(rt; state.row(65536), None);
-    assert_eq!(rt; state.digest(65535), None);
+    row_is(&rt, &state, 65535, Some(last));
+    row_is(&rt, &state, 65536, None);
+    digest_is(&rt, &state, 65535, None);
 }
 
 #[test]
 fn a_pin_keeps_its_slot(rt: HostRuntime) {
-    let opening = PinState::new(rt.alloc(), 1, 0).expect(&rt, "memory");
     let events = [
         give(0, ABC),
         Event::Lend { slot: 0, pin: 1 },
         Event::Condemn { slot: 0 },
         Event::Reclaim { slot: 0 },
     ];
+    let opening = after(&rt, rt.alloc(), 1, 0, &[]);
     assert!(rt; run(&opening, &events).expect(&rt, "memory").is_none());
     let lent = after(&rt, rt.alloc(), 1, 0, &events[..3]);
-    assert!(rt; !can(&rt, &lent, Event::Reclaim { slot: 0 }));
-    assert!(rt; !can(&rt, &lent, give(0, OBJ)));
+    none_can(&rt, &lent, &[Event::Reclaim { slot: 0 }, give(0, OBJ)]);
 }
 
 #[test]
@@ -103,34 +132,33 @@ fn a_slot_without_pins_is_reclaimed(rt: HostRuntime) {
         phase: Phase::Free,
         weight: 0,
     };
-    assert_eq!(rt; state.row(0), Some(free));
-    assert_eq!(rt; state.digest(0), None);
+    row_is(&rt, &state, 0, Some(free));
+    digest_is(&rt, &state, 0, None);
 }
 
 #[test]
 fn the_words_of_one_slot(rt: HostRuntime) {
-    let opening = PinState::new(rt.alloc(), 1, 0).expect(&rt, "memory");
+    let opening = after(&rt, rt.alloc(), 1, 0, &[]);
     assert_eq!(rt; word_at(&opening, 0), 0);
-    let given = stepped(&rt, &opening, give(0, ABC));
-    assert_eq!(rt; word_at(&given, 0), 0x0000_0000_8000_0000);
-    assert_eq!(rt; given.digest(0), Some(digest_of(ABC)));
-    let lent = stepped(&rt, &given, Event::Lend { slot: 0, pin: 7 });
-    assert_eq!(rt; word_at(&lent, 0), 0x0000_0000_8000_0400);
-    let condemned = stepped(&rt, &lent, Event::Condemn { slot: 0 });
-    assert_eq!(rt; word_at(&condemned, 0), 0x0000_0000_c000_0400);
-    let looked = stepped(&rt, &condemned, Event::Look { slot: 0 });
-    assert_eq!(rt; word_at(&looked, 0), 0x0000_0000_c000_0400);
-    let verified = stepped(&rt, &looked, Event::Verify { pin: 7 });
-    assert_eq!(rt; word_at(&verified, 0), 0x0000_0000_c000_0400);
-    let left = stepped(&rt, &verified, Event::Leave { pin: 7 });
-    assert_eq!(rt; word_at(&left, 0), 0x0000_0000_c000_0000);
-    assert_eq!(rt; left.pin(7), None);
-    let revived = stepped(&rt, &left, Event::Revive { slot: 0 });
-    assert_eq!(rt; word_at(&revived, 0), 0x0000_0000_8000_0000);
-    let reclaimed = stepped(&rt, &left, Event::Reclaim { slot: 0 });
-    assert_eq!(rt; word_at(&reclaimed, 0), 0x0000_0001_0000_0000);
-    let again = stepped(&rt, &reclaimed, give(0, OBJ));
-    assert_eq!(rt; word_at(&again, 0), 0x0000_0001_8000_0000);
+    let given = words_follow(&rt, opening, &[(give(0, ABC), 0x0000_0000_8000_0000)]);
+    digest_is(&rt, &given, 0, Some(digest_of(ABC)));
+    let left = [
+        (Event::Lend { slot: 0, pin: 7 }, 0x0000_0000_8000_0400),
+        (Event::Condemn { slot: 0 }, 0x0000_0000_c000_0400),
+        (Event::Look { slot: 0 }, 0x0000_0000_c000_0400),
+        (Event::Verify { pin: 7 }, 0x0000_0000_c000_0400),
+        (Event::Leave { pin: 7 }, 0x0000_0000_c000_0000),
+    ];
+    let left = words_follow(&rt, given, &left);
+    pin_is(&rt, &left, 7, None);
+    let again = [
+        (Event::Revive { slot: 0 }, 0x0000_0000_8000_0000),
+        (Event::Condemn { slot: 0 }, 0x0000_0000_c000_0000),
+        (Event::Reclaim { slot: 0 }, 0x0000_0001_0000_0000),
+        (give(0, OBJ), 0x0000_0001_8000_0000),
+    ];
+    let again = words_follow(&rt, left, &again);
+    digest_is(&rt, &again, 0, Some(digest_of(OBJ)));
 }
 
 /// What a pin of `abc` on slot 0 holds after ten shares.
@@ -156,9 +184,9 @@ fn a_pin_is_shared_ten_times(rt: HostRuntime) {
         state = stepped(&rt, &state, Event::Share { pin: 0, second });
         assert_eq!(rt; word_at(&state, 0), 0x0000_0000_8000_0400);
     }
-    assert!(rt; state.pin(0) == last_share());
-    assert!(rt; state.pin(10) == last_share());
-    assert!(rt; !can(&rt, &state, Event::Share { pin: 0, second: 11 }));
+    pin_is(&rt, &state, 0, last_share());
+    pin_is(&rt, &state, 10, last_share());
+    none_can(&rt, &state, &[Event::Share { pin: 0, second: 11 }]);
     for pin in 0..11_u64 {
         state = stepped(&rt, &state, Event::Leave { pin });
     }
@@ -175,11 +203,14 @@ fn the_last_generation_is_retired(rt: HostRuntime) {
     let state = after(&rt, rt.alloc(), 1, u32::MAX, &events);
     assert_eq!(rt; word_at(&state, 0), 0xffff_ffff_4000_0000);
     assert!(rt; can(&rt, &state, Event::Look { slot: 0 }));
-    assert!(rt; !can(&rt, &state, give(0, ABC)));
-    assert!(rt; !can(&rt, &state, Event::Lend { slot: 0, pin: 1 }));
-    assert!(rt; !can(&rt, &state, Event::Condemn { slot: 0 }));
-    assert!(rt; !can(&rt, &state, Event::Revive { slot: 0 }));
-    assert!(rt; !can(&rt, &state, Event::Reclaim { slot: 0 }));
+    let impossible = [
+        give(0, ABC),
+        Event::Lend { slot: 0, pin: 1 },
+        Event::Condemn { slot: 0 },
+        Event::Revive { slot: 0 },
+        Event::Reclaim { slot: 0 },
+    ];
+    none_can(&rt, &state, &impossible);
 }
 
 /// Slot 0 is live with a pin named 1, slot 1 condemned with a pin named 2 of weight 1, slot 2 free.
@@ -224,9 +255,7 @@ fn a_slot_that_is_not_there_or_of_another_phase(rt: HostRuntime) {
         Event::Reclaim { slot: 2 },
         Event::Look { slot: 3 },
     ];
-    for event in impossible {
-        assert!(rt; !can(&rt, &state, event));
-    }
+    none_can(&rt, &state, &impossible);
     assert!(rt; can(&rt, &state, give(2, b"new")));
 }
 
@@ -246,9 +275,7 @@ fn a_digest_or_a_name_that_does_not_fit(rt: HostRuntime) {
         Event::Verify { pin: 3 },
         Event::Reclaim { slot: 1 },
     ];
-    for event in impossible {
-        assert!(rt; !can(&rt, &state, event));
-    }
+    none_can(&rt, &state, &impossible);
     assert!(rt; can(&rt, &state, Event::Share { pin: 1, second: 4 }));
 }
 
@@ -265,23 +292,28 @@ fn is_word_of(word: u64, generation: u32, phase: Phase, weight: u32) -> bool {
 #[test]
 fn words_at_the_ends_of_the_numbers(rt: HostRuntime) {
     let most = 0x3fff_ffff;
-    assert!(rt; is_word_of(0x0000_0000_0000_0000, 0, Phase::Free, 0));
-    assert!(rt; is_word_of(0x0000_0000_3fff_ffff, 0, Phase::Free, most));
-    assert!(rt; is_word_of(0xffff_ffff_0000_0000, u32::MAX, Phase::Free, 0));
-    assert!(rt; is_word_of(0xffff_ffff_3fff_ffff, u32::MAX, Phase::Free, most));
-    assert!(rt; is_word_of(0x0000_0000_8000_0000, 0, Phase::Live, 0));
-    assert!(rt; is_word_of(0x0000_0000_bfff_ffff, 0, Phase::Live, most));
-    assert!(rt; is_word_of(0xffff_ffff_8000_0000, u32::MAX, Phase::Live, 0));
-    assert!(rt; is_word_of(0xffff_ffff_bfff_ffff, u32::MAX, Phase::Live, most));
-    assert!(rt; is_word_of(0x0000_0000_c000_0000, 0, Phase::Condemned, 0));
-    assert!(rt; is_word_of(0x0000_0000_ffff_ffff, 0, Phase::Condemned, most));
-    assert!(rt; is_word_of(0xffff_ffff_c000_0000, u32::MAX, Phase::Condemned, 0));
-    assert!(rt; is_word_of(0xffff_ffff_ffff_ffff, u32::MAX, Phase::Condemned, most));
-    assert!(rt; is_word_of(0x0000_0000_4000_0000, 0, Phase::Retired, 0));
-    assert!(rt; is_word_of(0x0000_0000_7fff_ffff, 0, Phase::Retired, most));
-    assert!(rt; is_word_of(0xffff_ffff_4000_0000, u32::MAX, Phase::Retired, 0));
-    assert!(rt; is_word_of(0xffff_ffff_7fff_ffff, u32::MAX, Phase::Retired, most));
-    assert!(rt; is_word_of(0x0000_0000_c000_0400, 0, Phase::Condemned, 1024));
+    let rows = [
+        (0x0000_0000_0000_0000, 0, Phase::Free, 0),
+        (0x0000_0000_3fff_ffff, 0, Phase::Free, most),
+        (0xffff_ffff_0000_0000, u32::MAX, Phase::Free, 0),
+        (0xffff_ffff_3fff_ffff, u32::MAX, Phase::Free, most),
+        (0x0000_0000_8000_0000, 0, Phase::Live, 0),
+        (0x0000_0000_bfff_ffff, 0, Phase::Live, most),
+        (0xffff_ffff_8000_0000, u32::MAX, Phase::Live, 0),
+        (0xffff_ffff_bfff_ffff, u32::MAX, Phase::Live, most),
+        (0x0000_0000_c000_0000, 0, Phase::Condemned, 0),
+        (0x0000_0000_ffff_ffff, 0, Phase::Condemned, most),
+        (0xffff_ffff_c000_0000, u32::MAX, Phase::Condemned, 0),
+        (0xffff_ffff_ffff_ffff, u32::MAX, Phase::Condemned, most),
+        (0x0000_0000_4000_0000, 0, Phase::Retired, 0),
+        (0x0000_0000_7fff_ffff, 0, Phase::Retired, most),
+        (0xffff_ffff_4000_0000, u32::MAX, Phase::Retired, 0),
+        (0xffff_ffff_7fff_ffff, u32::MAX, Phase::Retired, most),
+        (0x0000_0000_c000_0400, 0, Phase::Condemned, 1024),
+    ];
+    for (word, generation, phase, weight) in rows {
+        assert!(rt; is_word_of(word, generation, phase, weight));
+    }
 }
 
 #[test]

@@ -21,9 +21,6 @@ pub const MAX_WEIGHT: u32 = 0x3fff_ffff;
 /// The weight of a new pin.
 pub const NEW_WEIGHT: u32 = 1024;
 
-/// The most slots, each with a word of its own.
-pub const MAX_SLOTS: u32 = 65_536;
-
 /// The generation after which a slot is retired.
 pub const LAST_GENERATION: u32 = u32::MAX;
 

@@ -15,8 +15,8 @@ pub enum Phase {
     Retired,
 }
 
-/// A slot: how often it was reclaimed, what it is, and the digest of its blob where it is used,
-/// that is live or condemned.
+/// A slot: its generation, which counts on from the first one by one at each reclaim; what it is;
+/// and the digest of its blob where it is used, that is live or condemned.
 #[derive(Clone, Copy, Debug, PartialEq, Eq)]
 pub struct PinRow {
     pub generation: u32,

@@ -1,8 +1,8 @@
 -- That words and seats agree with a pin world, after a step; and the events behind the rule.
-use Rattle.std.proofs.Common.{◌≡◌, ◌≢◌, ℕ, ◌≤◌, ◌<◌, List, [], ◌∷◌, ◌++◌, length, set, sum_by, refl, sym, ap, ◌∙◌, subst, arith}
+use Rattle.std.proofs.Common.{◌≡◌, ◌≢◌, ℕ, zero, suc, ◌≤◌, ◌<◌, List, [], ◌∷◌, ◌++◌, length, set, sum_by, refl, sym, ap, ◌∙◌, subst, arith}
 use Rattle.std.specs.Prelude.{slice_index, IsPermutation}
 use Rattle.std.specs.List.{All}
-use Rattle.std.proofs.lemmas.List.{length-set, get_or-set_other}
+use Rattle.std.proofs.lemmas.List.{append-nil, append_assoc, length-set, get_or-set_other}
 use Rattle.std.proofs.lemmas.Grind.{get_or-set_at}
 use Rattle.std.proofs.lemmas.List.Sorted.{sum_by-IsPermutation}
 use mathlib.Core.Logic.{dite}
@@ -18,8 +18,8 @@ use Rattle.pin_core.specs.Events.{Can, after, Happens, after_all, with_row, with
 use Rattle.pin_table.specs.declared.view.Kept.{Kept}
 use Rattle.pin_table.specs.declared.view.View.{View}
 use Rattle.pin_table.specs.declared.view.View.TheVariants.{Keeper}
-use Rattle.pin_table.specs.Rule.{Agrees, Ruled, all_holds, IsGuest}
-use Rattle.pin_table.specs.Laws.{Leads}
+use Rattle.pin_table.specs.Rule.{Agrees, Ruled, all_found, all_holds, all_seen, found_by, IsGuest}
+use Rattle.pin_table.specs.Steps.{Leads}
 
 -- ---- the events behind the rule
 
@@ -31,19 +31,49 @@ happens_push : (p : PinWorld) (es : List Event) (e : Event) → Happens p es →
 happens_push p [] e h can = (can, tt)
 happens_push p (x ∷ es) e h can = (h.0, happens_push (after p x) es e h.1 can)
 
+found_push : (p : PinWorld) (es : List Event) (e : Event) → all_found p (es ++ e ∷ []) ≡ found_by (after_all p es) e ++ all_found p es
+found_push p [] e = sym (append-nil (found_by p e))
+found_push p (x ∷ es) e = ap (λ l. l ++ found_by p x) (found_push (after p x) es e) ∙ append_assoc (found_by (after_all (after p x) es) e) (all_found (after p x) es) (found_by p x)
+
 -- one event more
-pub advanced : (n g : ℕ) (ws ws' : List ℕ) (vs vs' : List View) (r : Ruled n g ws vs) (e : Event) → Leads (after_all (opening n g) r.events) e ws' vs' → Ruled n g ws' vs'
-advanced n g ws ws' vs vs' r e leads = record {
+pub advanced : (n g : ℕ) (ws ws' : List ℕ) (vs vs' : List View) (r : Ruled n g ws vs) (e : Event) → Leads (after_all (opening n g) r.events) e ws' vs' → all_seen vs' ≡ found_by (after_all (opening n g) r.events) e ++ all_seen vs → Ruled n g ws' vs'
+advanced n g ws ws' vs vs' r e leads seen = record {
   events = r.events ++ e ∷ [];
   happen = happens_push (opening n g) r.events e r.happen leads.0;
   agrees = subst (λ p. Agrees ws' vs' p) (sym (after_push (opening n g) r.events e)) leads.1;
+  found = found_push (opening n g) r.events e ∙ ap (λ l. found_by (after_all (opening n g) r.events) e ++ l) r.found ∙ sym seen;
 }
 
--- ---- what agreeing says
+-- ---- what the keeper has seen
 
 -- the keeper's view, where it is known
 pub is_keeper : {ws : List ℕ} {vs : List View} {p : PinWorld} (a : Agrees ws vs p) (v : Kept) → get_elem? vs 0 ≡ some (Keeper v) → a.keeper ≡ v
 is_keeper a v at = let first : some (Keeper a.keeper) ≡ some (Keeper v) = ap (λ l. get_elem? l 0) (sym a.seats) ∙ at in cc
+
+pub seen_first : {ws : List ℕ} {vs : List View} {p : PinWorld} (a : Agrees ws vs p) (v : Kept) → get_elem? vs 0 ≡ some (Keeper v) → all_seen vs ≡ v.seen
+seen_first a v at = ap (λ l. all_seen l) a.seats ∙ ap (λ (x : Kept). x.seen) (is_keeper a v at)
+
+-- after a step of the keeper's seat
+pub seen_after : {ws : List ℕ} {vs : List View} {p : PinWorld} (a : Agrees ws vs p) (u : Kept) → all_seen (set vs 0 (Keeper u)) ≡ u.seen
+seen_after a u = ap (λ l. all_seen (set l 0 (Keeper u))) a.seats
+
+-- after a step of another seat
+pub seen_apart : {ws : List ℕ} {vs : List View} {p : PinWorld} (a : Agrees ws vs p) (place : ℕ) (u : View) → all_seen (set vs (suc place) u) ≡ all_seen vs
+seen_apart a place u = ap (λ l. all_seen (set l (suc place) u)) a.seats ∙ sym (ap (λ l. all_seen l) a.seats)
+
+-- after a split of the keeper's seat, and of another
+pub seen_handed : {ws : List ℕ} {vs : List View} {p : PinWorld} (a : Agrees ws vs p) (u : Kept) (w : View) → all_seen (set vs 0 (Keeper u) ++ w ∷ []) ≡ u.seen
+seen_handed a u w = ap (λ l. all_seen (set l 0 (Keeper u) ++ w ∷ [])) a.seats
+
+pub seen_split : {ws : List ℕ} {vs : List View} {p : PinWorld} (a : Agrees ws vs p) (place : ℕ) (u w : View) → all_seen (set vs (suc place) u ++ w ∷ []) ≡ all_seen vs
+seen_split a place u w = ap (λ l. all_seen (set l (suc place) u ++ w ∷ [])) a.seats ∙ sym (ap (λ l. all_seen l) a.seats)
+
+-- after a join of another seat to the keeper's
+pub seen_joined : {ws : List ℕ} {vs : List View} {p : PinWorld} (a : Agrees ws vs p) (u : Kept) (id : ℕ) (w : View) → ¬ (id ≡ 0) → all_seen (set (set vs 0 (Keeper u)) id w) ≡ u.seen
+seen_joined a u zero w ne = absurd (ne refl)
+seen_joined a u (suc place) w ne = ap (λ l. all_seen (set (set l 0 (Keeper u)) (suc place) w)) a.seats
+
+-- ---- what agreeing says
 
 -- the sums over the world's pins are those over the pins of the seats
 pub sums : {ws : List ℕ} {vs : List View} {p : PinWorld} (a : Agrees ws vs p) (f : Hold → ℕ) → sum_by f (holds_of p) ≡ sum_by f (all_holds vs)

@@ -21,7 +21,7 @@ use Rattle.pin_table.specs.declared.view.View.{View}
 use Rattle.pin_table.specs.declared.view.View.TheVariants.{Keeper, Pin, Left, Spent}
 use Rattle.pin_table.specs.Rule.{Agrees, all_holds, holds_in, in_hand, kept, IsGuest, opening_view}
 use Rattle.pin_table.specs.Plays.{weightless, with_hand, own_seat}
-use Rattle.pin_table.specs.Laws.{Leads}
+use Rattle.pin_table.specs.Steps.{Leads}
 use Rattle.pin_table.proofs.Orders.{one, one_self, permutes}
 use Rattle.pin_table.proofs.Names.{fresh, unnamed, name_of, left_sum, shared_sums}
 use Rattle.pin_table.proofs.Holds.{sum_set, sum_push, sum_one, sum_at, all_counted, weight_same, weight_apart}
@@ -168,7 +168,7 @@ pub opens : (n g : ℕ) → Agrees (replicate n (word_of g Free 0)) (opening_vie
 opens n g =
     let r : PinRow = record { generation = g; phase = Free; digest = None } in
     let rs = replicate n r in record {
-      keeper = kept rs (replicate n 0) None;
+      keeper = kept rs (replicate n 0) None [];
       others = [];
       seats = refl;
       guests = All-nil IsGuest;

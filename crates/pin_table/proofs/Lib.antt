@@ -6,6 +6,7 @@ pub mod Agreement
 pub mod Steps
 pub mod Guests
 pub mod StepLaws
+pub mod Histories
 pub mod Allowed
 pub mod Seats
 pub mod Told

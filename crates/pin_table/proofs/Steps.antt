@@ -16,8 +16,8 @@ use Rattle.pin_table.specs.declared.view.Kept.{Kept}
 use Rattle.pin_table.specs.declared.view.View.{View}
 use Rattle.pin_table.specs.declared.view.View.TheVariants.{Keeper}
 use Rattle.pin_table.specs.Rule.{Agrees, all_holds, in_hand}
-use Rattle.pin_table.specs.Plays.{Finds, HandKept, with_bound, with_row, with_hand}
-use Rattle.pin_table.specs.Laws.{Leads}
+use Rattle.pin_table.specs.Plays.{Finds, HandKept, with_bound, with_row, with_hand, with_sight}
+use Rattle.pin_table.specs.Steps.{Leads}
 use Rattle.pin_table.proofs.Bits.{set_used, set_condemned, clear_condemned}
 use Rattle.pin_table.proofs.Orders.{one, one_self, permutes}
 use Rattle.pin_table.proofs.Names.{fresh, unnamed, lent_sum}
@@ -78,10 +78,10 @@ hand_kept {ws} {vs} {p} {v} {k} c = by_hand v.hand refl
 -- ---- Look
 
 pub looks : {ws : List ℕ} {vs : List View} {p : PinWorld} {v : Kept} {k : ℕ} → Keeping ws vs p v k
-    → Leads p (Look k) (set ws k (slice_index ws k)) (set vs 0 (Keeper (with_bound k (weight_on k (holds_of p)) v)))
+    → Leads p (Look k) (set ws k (slice_index ws k)) (set vs 0 (Keeper (with_sight k (slice_index ws k) (weight_on k (holds_of p)) v)))
 looks {ws} {vs} {p} {v} {k} c =
     let w : ℕ = weight_on k (holds_of p) in
-    (c.within, by_keeper c (slice_index ws k) w (with_bound k w v) p c.rows refl (λ f. refl) c.agrees.state (unchanged p k (slice_index ws k) w c.within (c.agrees.at_words k c.within) (omega arith) c.finds.fits))
+    (c.within, by_keeper c (slice_index ws k) w (with_sight k (slice_index ws k) w v) p c.rows refl (λ f. refl) c.agrees.state (unchanged p k (slice_index ws k) w c.within (c.agrees.at_words k c.within) (omega arith) c.finds.fits))
 
 -- ---- Give
 

@@ -5,11 +5,11 @@ use Rattle.pin_core.specs.World.{row}
 use Rattle.pin_core.specs.Events.{new_weight, lent_hold}
 use Rattle.pin_table.specs.declared.view.Kept.{Kept}
 use Rattle.pin_table.specs.declared.view.View.TheVariants.{Keeper}
-use Rattle.pin_table.specs.Plays.{Move, Seated, Finds, HandKept, with_bound, with_hand, looked, lent}
+use Rattle.pin_table.specs.Plays.{Move, Seated, Finds, HandKept, with_bound, with_hand, with_sight, looked, lent}
 
 -- the keeper found this sum, and the pin in its hand is kept
 pub looked_at : (s : Move) (v : Kept) (me : Seated) (n : ℕ) (after : Seated) → me ≡ (Keeper v, []) → looked s me n after
-    → (weight : ℕ) × Finds s.word n v weight × HandKept v.rows v.hand × (after ≡ (Keeper (with_bound s.word weight v), []))
+    → (weight : ℕ) × Finds s.word n v weight × HandKept v.rows v.hand × (after ≡ (Keeper (with_sight s.word n weight v), []))
 looked_at s v me n after is t = subst (λ m. looked s m n after) is t
 
 -- the keeper has the new pin in its hand

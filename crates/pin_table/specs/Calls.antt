@@ -1,19 +1,22 @@
 -- What contracts see of the keeper and of a pin, and what the calls change.
-use Rattle.std.specs.Prelude.{◌≡◌, ℕ, ◌+◌, ◌<◌, ◌≤◌, replicate, List, slice_set, slice_index, Some}
+use Rattle.std.specs.Prelude.{◌≡◌, ℕ, ◌+◌, ◌<◌, ◌≤◌, replicate, List, [], ◌∷◌, slice_set, slice_index, Some}
 use Rattle.atomic_table.specs.Seated.{TableId}
 use Rattle.pin_core.specs.declared.world.PinRow.{PinRow}
 use Rattle.pin_core.specs.declared.world.Hold.{Hold}
 use Rattle.pin_core.specs.World.{Keeps, row, row_word, opening, max_weight}
 use Rattle.pin_core.specs.Events.{new_weight, last_generation, reclaimed_row, lent_hold, half}
+use Rattle.pin_table.specs.declared.view.Sight.{Sight}
 use Rattle.pin_table.specs.declared.view.View.{View}
+use Rattle.pin_table.specs.Rule.{sight}
 use Rattle.pin_table.specs.declared.reclaim.Reclaim.{Reclaim}
 use Rattle.pin_table.specs.declared.reclaim.Reclaim.TheVariants.{Freed, Retired, Held}
 
--- the keeper: its table, and by slot number the rows and the bounds on the sums of weights
+-- the keeper: its table, by slot number the rows and the bounds on the sums of weights, and what its looks found, the last first
 pub record KeeperValue : Type 0 where
   pub table : TableId
   pub rows : List PinRow
   pub bounds : List ℕ
+  pub seen : List Sight
 
 -- a pin: its table, and what it holds
 pub record PinValue : Type 0 where
@@ -30,27 +33,31 @@ seat_value t u = record { table = t; view = u }
 
 -- the keeper of n free slots of generation g
 abbrev pub opened : TableId → ℕ → ℕ → KeeperValue
-opened t n g = record { table = t; rows = (opening n g).rows; bounds = replicate n 0 }
+opened t n g = record { table = t; rows = (opening n g).rows; bounds = replicate n 0; seen = [] }
 
 -- the keeper with another row and bound for the slot k
 abbrev pub with_both : ℕ → PinRow → ℕ → KeeperValue → KeeperValue
-with_both k r b s = record { table = s.table; rows = slice_set s.rows k r; bounds = slice_set s.bounds k b }
+with_both k r b s = record { table = s.table; rows = slice_set s.rows k r; bounds = slice_set s.bounds k b; seen = s.seen }
 
 -- the keeper with another row for the slot k
 abbrev pub rowed : ℕ → PinRow → KeeperValue → KeeperValue
-rowed k r s = record { table = s.table; rows = slice_set s.rows k r; bounds = s.bounds }
+rowed k r s = record { table = s.table; rows = slice_set s.rows k r; bounds = s.bounds; seen = s.seen }
 
 -- the keeper with another bound for the slot k
 abbrev pub bounded : ℕ → ℕ → KeeperValue → KeeperValue
-bounded k b s = record { table = s.table; rows = s.rows; bounds = slice_set s.bounds k b }
+bounded k b s = record { table = s.table; rows = s.rows; bounds = slice_set s.bounds k b; seen = s.seen }
 
--- the word n of the slot k was read: its row's, with a sum within the bound, which the bound becomes
+-- the keeper after it found the word of its row for the slot k, with this sum, which the bound becomes
+abbrev pub found : ℕ → ℕ → KeeperValue → KeeperValue
+found k weight s = record { table = s.table; rows = s.rows; bounds = slice_set s.bounds k weight; seen = sight k (row_word (row s.rows k) weight) ∷ s.seen }
+
+-- the word n of the slot k was found: its row's, with a sum within the bound, which the bound becomes
 pub record Looked (k n : ℕ) (s t : KeeperValue) : Type 0 where
   pub weight : ℕ
   pub word : n ≡ row_word (row s.rows k) weight
   pub within : weight ≤ slice_index s.bounds k
   pub fits : weight ≤ max_weight
-  pub after : t ≡ bounded k weight s
+  pub after : t ≡ found k weight s
   pub bound : slice_index t.bounds k ≡ weight
 
 -- a new pin on the slot k
@@ -62,7 +69,7 @@ pub record Lent (k : ℕ) (s t : KeeperValue) (p : PinValue) : Type 0 where
   pub weight : ℕ
   pub within : weight ≤ slice_index s.bounds k
   pub room : weight + new_weight ≤ max_weight
-  pub after : t ≡ bounded k (weight + new_weight) s
+  pub after : t ≡ bounded k (weight + new_weight) (found k weight s)
   pub pin : p ≡ lent_pin k s
   pub digest : (row s.rows k).digest ≡ Some p.hold.digest
 
@@ -71,13 +78,13 @@ pub record Crowded (k : ℕ) (s t : KeeperValue) : Type 0 where
   pub weight : ℕ
   pub within : weight ≤ slice_index s.bounds k
   pub full : max_weight < weight + new_weight
-  pub after : t ≡ bounded k weight s
+  pub after : t ≡ found k weight s
 
--- the slot k is free in the next generation, or retired in the last, or held by pins of this sum
+-- the slot k is free in the next generation, or retired in the last, or held by pins of the sum that was found, within the bound
 abbrev pub Reclaims : ℕ → KeeperValue → KeeperValue → Reclaim → Type 0
 Reclaims k s t Freed = ((row s.rows k).generation < last_generation) × (t ≡ with_both k (reclaimed_row (row s.rows k)) 0 s)
 Reclaims k s t Retired = ((row s.rows k).generation ≡ last_generation) × (t ≡ with_both k (reclaimed_row (row s.rows k)) 0 s)
-Reclaims k s t (Held weight) = (0 < weight) × (weight ≤ slice_index s.bounds k) × (t ≡ bounded k weight s)
+Reclaims k s t (Held weight) = (0 < weight) × (weight ≤ slice_index s.bounds k) × (t ≡ found k weight s)
 
 -- the answer isn't that pins hold the slot
 abbrev pub IsUnheld : Reclaim → Type 0
@@ -94,4 +101,4 @@ pub record Verified (h : Hold) (s t : KeeperValue) : Type 0 where
   pub keeps : Keeps s.rows h
   pub weight : ℕ
   pub within : weight ≤ slice_index s.bounds h.slot
-  pub after : t ≡ bounded h.slot weight s
+  pub after : t ≡ found h.slot weight s

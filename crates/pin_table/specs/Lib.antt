@@ -1,4 +1,5 @@
 pub mod Rule
 pub mod Plays
 pub mod Calls
+pub mod Steps
 pub mod Laws

@@ -1,5 +1,5 @@
 -- What each kind of step finds, and what the seat knows after it.
-use Rattle.std.specs.Prelude.{◌≡◌, ◌≢◌, ℕ, ◌+◌, ◌≤◌, ◌⊎◌, List, slice_set, slice_index, Option, Some, None}
+use Rattle.std.specs.Prelude.{◌≡◌, ◌≢◌, ℕ, ◌+◌, ◌≤◌, ◌⊎◌, List, ◌∷◌, slice_set, slice_index, Option, Some, None}
 use Rattle.atomic_table.specs.Table.{Me, Step}
 use Rattle.blob_digest.specs.Keys.{Text}
 use Rattle.pin_core.specs.declared.world.Phase.TheVariants.{Live, Condemned}
@@ -10,7 +10,7 @@ use Rattle.pin_core.specs.Events.{new_weight, given_row, in_phase, reclaimed_row
 use Rattle.pin_table.specs.declared.view.Kept.{Kept}
 use Rattle.pin_table.specs.declared.view.View.{View}
 use Rattle.pin_table.specs.declared.view.View.TheVariants.{Keeper, Pin, Left, Spent}
-use Rattle.pin_table.specs.Rule.{kept}
+use Rattle.pin_table.specs.Rule.{kept, sight}
 
 -- a seat: its view; no seat of a pin table holds a slot of memory
 abbrev pub Seated : Type 0
@@ -22,14 +22,18 @@ Move = Step (Unit {0})
 
 -- what the keeper knows, with another bound or another row for the slot k
 abbrev pub with_bound : ℕ → ℕ → Kept → Kept
-with_bound k b v = kept v.rows (slice_set v.bounds k b) v.hand
+with_bound k b v = kept v.rows (slice_set v.bounds k b) v.hand v.seen
 
 abbrev pub with_row : ℕ → PinRow → Kept → Kept
-with_row k r v = kept (slice_set v.rows k r) v.bounds v.hand
+with_row k r v = kept (slice_set v.rows k r) v.bounds v.hand v.seen
 
 -- the same with this hand
 abbrev pub with_hand : Option Hold → Kept → Kept
-with_hand hand v = kept v.rows v.bounds hand
+with_hand hand v = kept v.rows v.bounds hand v.seen
+
+-- what the keeper knows after a look that found the word n of the slot k, with this sum
+abbrev pub with_sight : ℕ → ℕ → ℕ → Kept → Kept
+with_sight k n weight v = kept v.rows (slice_set v.bounds k weight) v.hand (sight k n ∷ v.seen)
 
 -- the keeper found the word n of the slot k: its row's, with this sum, which is within the bound
 pub record Finds (k n : ℕ) (v : Kept) (weight : ℕ) : Type 0 where
@@ -44,9 +48,9 @@ HandKept rows (Some h) = Keeps rows h
 
 -- ---- steps on a word
 
--- the keeper looked: the bound is the sum that it found
+-- the keeper looked: it has seen the word, and the bound is the sum in it
 abbrev pub looked : Move → Seated → ℕ → Seated → Type 0
-looked s (Keeper v, c) n me = (weight : ℕ) × Finds s.word n v weight × HandKept v.rows v.hand × (me ≡ (Keeper (with_bound s.word weight v), c))
+looked s (Keeper v, c) n me = (weight : ℕ) × Finds s.word n v weight × HandKept v.rows v.hand × (me ≡ (Keeper (with_sight s.word n weight v), c))
 looked s (u, c) n me = me ≡ (u, c)
 
 -- the keeper gave the slot this digest
@@ -82,7 +86,7 @@ revived s (u, c) n me = me ≡ (u, c)
 abbrev pub reclaimed : Move → Seated → ℕ → Seated → Type 0
 reclaimed s (Keeper v, c) n me =
     ((n ≡ s.first) × (me ≡ (Keeper (with_bound s.word 0 (with_row s.word (reclaimed_row (row v.rows s.word)) v)), c)))
-    ⊎ ((n ≢ s.first) × ((weight : ℕ) × Finds s.word n v weight × (me ≡ (Keeper (with_bound s.word weight v), c))))
+    ⊎ ((n ≢ s.first) × ((weight : ℕ) × Finds s.word n v weight × (me ≡ (Keeper (with_sight s.word n weight v), c))))
 reclaimed s (u, c) n me = me ≡ (u, c)
 
 -- ---- splits and joins of seats

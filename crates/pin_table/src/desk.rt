@@ -1,11 +1,10 @@
 //! What the tests use: a keeper, and pins, each beside the table that it belongs to.
 
-ghost use Rattle.std.specs.Prelude.{◌≡◌, ◌<◌, length, vec_len};
-ghost use Rattle.pin_table.specs.Calls.{opened};
+ghost use Rattle.std.specs.Prelude.{◌≡◌, length, vec_len};
 
 use crate::{Keeper, Pin, Pins, Reclaim};
 use blob_digest::{Algorithm, Digest, Refusal};
-use pin_core::Phase;
+use pin_core::{Event, Phase};
 use std::alloc::{AllocFailed, Global};
 
 /// A pin with its table.
@@ -49,19 +48,19 @@ pub fn end(mut leases: Vec<Lease<'_>>) {
     leases.destroy_empty();
 }
 
-/// The keeper of a table with a slot 0, which is the one that the tests use.
+/// The keeper of a table of one slot.
 #[derive(Drop)]
 pub struct Desk<'s> {
     pins: &'s Pins,
     keeper: Keeper,
     ghost one_table: { keeper.table ≡ pins.now },
-    ghost some: { 0 < length keeper.rows },
+    ghost one: { length keeper.rows ≡ 1 },
 }
 
 impl<'s> Desk<'s> {
     pub fn new(pins: &'s Pins, keeper: Keeper) -> Desk<'s>
         requires table { keeper.table ≡ pins.now }
-        requires some { 0 < length keeper.rows }
+        requires one { length keeper.rows ≡ 1 }
     {
         Desk { pins, keeper }
     }
@@ -84,6 +83,15 @@ impl<'s> Desk<'s> {
 
     pub fn digest(&self) -> Option<Digest> {
         self.keeper.digest(0)
+    }
+
+    /// Whether the slot was free, and has this digest now.
+    pub fn give(&mut self, digest: Digest) -> bool {
+        if self.keeper.phase(0) != Phase::Free {
+            return false;
+        }
+        self.pins.give(&mut self.keeper, 0, digest);
+        true
     }
 
     /// A lease; none where the slot isn't live.
@@ -141,17 +149,53 @@ impl<'s> Desk<'s> {
     }
 }
 
+/// Whether the slot was lent; the lease goes to the list.
+fn lend_to<'s>(desk: &mut Desk<'s>, leases: &mut Vec<Lease<'s>>) -> bool {
+    let Some(Ok(lease)) = desk.lend() else {
+        return false;
+    };
+    if let Err(failed) = leases.push(lease) {
+        let AllocFailed { value } = failed;
+        value.give_back();
+        return false;
+    }
+    true
+}
+
+/// Whether there was a lease, of which the last is given back.
+fn leave_last(leases: &mut Vec<Lease<'_>>) -> bool {
+    let Some(lease) = leases.pop() else {
+        return false;
+    };
+    lease.give_back();
+    true
+}
+
+/// Whether the event of the slot was made; a lend and a leave are of the list's last lease.
+pub fn make<'s>(desk: &mut Desk<'s>, leases: &mut Vec<Lease<'s>>, event: Event) -> bool {
+    match event {
+        Event::Give { slot: _, digest } => desk.give(digest),
+        Event::Lend { slot: _, pin: _ } => lend_to(desk, leases),
+        Event::Leave { pin: _ } => leave_last(leases),
+        Event::Condemn { slot: _ } => desk.condemn(),
+        Event::Revive { slot: _ } => desk.revive(),
+        Event::Reclaim { slot: _ } => desk.reclaim() == Some(Reclaim::Freed),
+        Event::Look { slot: _ } => true,
+        Event::Share { pin: _, second: _ } | Event::Verify { pin: _ } => false,
+    }
+}
+
 /// The digest of some bytes.
 pub fn digest_of(bytes: &[u8]) -> Digest {
     Digest::of(Algorithm::Sha256, bytes)
 }
 
-/// A desk whose slot 0, of generation 0, has the digest of `abc`.
+/// A desk whose slot has the digest of `abc`.
 pub fn open<'s>(pins: &'s Pins, keeper: Keeper) -> Desk<'s>
     requires table { keeper.table ≡ pins.now }
-    requires fresh { keeper ≡ opened pins.now 1 0 }
+    requires one { length keeper.rows ≡ 1 }
 {
-    let mut keeper = keeper;
-    pins.give(&mut keeper, 0, digest_of(b"abc"));
-    Desk::new(pins, keeper)
+    let mut desk = Desk::new(pins, keeper);
+    desk.give(digest_of(b"abc"));
+    desk
 }

@@ -1,11 +1,19 @@
-//! Laws of the steps on words, and of the words at any moment.
+//! Laws of the steps on words, of their histories, and of the words at any moment.
 
-ghost use Rattle.pin_table.specs.Laws.{StepsAreEvents, RunningWords};
+ghost use Rattle.pin_table.specs.Laws.{StepsAreEvents, Histories, RunningWords};
 
 /// Each kind of step is its event: from each pin world with which words and seats agree before the
-/// step, the event can happen, and after the step they agree with the world after it.
+/// step, the event can happen, and after the step they agree with the world after it. A split of the
+/// keeper's seat is no event: they agree with the same world after it.
 pub fn steps()
     ensures { StepsAreEvents }
+{}
+
+/// Every list of steps from a new table on, of whichever seats, is one list of events that can happen
+/// in their turn, an event a step: the law of those events holds, and at each moment the words and
+/// seats agree with the world after the events so far.
+pub fn histories()
+    ensures { Histories }
 {}
 
 /// What the table's rule says at any moment, whichever threads have made whichever steps: events

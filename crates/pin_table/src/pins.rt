@@ -17,10 +17,10 @@ use crate::pin::{Left, Pin};
 use crate::plays::{Condemn, Give, Given, Hand, Leave, Lend, Look, Reclaiming, Revive, Share};
 use crate::reclaim::Reclaim;
 use crate::rule::{Opening, PinSeat, PinShared, PinTable};
-use blob_digest::{Digest, Refusal};
+use blob_digest::{Digest, MAX_SLOTS, Refusal};
 use pin_core::{
-    CONDEMNED, Hold, LAST_GENERATION, MAX_SLOTS, MAX_WEIGHT, NEW_WEIGHT, Phase, PinRow, USED,
-    WordRow, given, halved, in_phase, pack, reclaimed, unpack,
+    CONDEMNED, Hold, LAST_GENERATION, MAX_WEIGHT, NEW_WEIGHT, Phase, PinRow, USED, WordRow, given,
+    halved, in_phase, pack, reclaimed, unpack,
 };
 use std::alloc::Global;
 use std::marker::{Brand, Model};
@@ -94,7 +94,7 @@ impl Pins {
         Ok((Pins { table }, Keeper { rows, bounds, seat }))
     }
 
-    /// The word of a slot; the keeper's bound is then the sum in it.
+    /// The word of a slot, as a load finds it; the keeper's bound is then the sum in it.
     pub fn look(&self, keeper: &mut Keeper, slot: u32) -> u64
         requires table { keeper.old.table ≡ self.now }
         requires within { slot < length keeper.old.rows }
@@ -196,7 +196,7 @@ impl Pins {
     }
 
     /// Frees a condemned slot that no pin is on, or retires it in the last generation; else says
-    /// what the pins on it weigh, and the bound is that.
+    /// what the pins on it weighed as the exchange found them, and the bound is that.
     ///
     /// A slot whose bound is 0, because nothing was lent since it was given or the keeper saw it
     /// empty, is never held.
@@ -229,7 +229,7 @@ impl Pins {
     }
 
     /// The pin with all that it had; its slot is used, and has the pin's generation and digest. The
-    /// keeper's bound of that slot is then the sum in its word.
+    /// keeper's bound of that slot is then the sum in its word, as a load finds it.
     pub fn verify(&self, keeper: &mut Keeper, pin: Pin) -> Pin
         requires table { keeper.old.table ≡ self.now }
         requires pin { pin.table ≡ self.now }

@@ -1,57 +1,103 @@
-use crate::desk::{Desk, Lease, digest_of, end, open};
-use crate::{Pins, Reclaim, laws};
-use blob_digest::Refusal;
-use pin_core::Phase;
-use std::alloc::AllocFailed;
+ghost use Rattle.std.specs.Prelude.{◌<◌, length};
+
+use crate::desk::{Desk, Lease, digest_of, end, make, open};
+use crate::{Keeper, Pin, Pins, Reclaim, laws};
+use blob_digest::{Digest, Refusal};
+use pin_core::{Event, Phase};
+use std::alloc::{AllocFailed, Global};
+use std::process::Abort;
 
 const ABC: &[u8] = b"abc";
 
 const OBJ: &[u8] = b"{}";
 
+/// What the making of so many slots is refused with.
+fn refusal_of_making(alloc: Global, slots: u32) -> Option<Refusal> {
+    Pins::new(alloc, slots, 0).err()
+}
+
+/// Whether a slot is free in that generation, and its bound 0.
+fn is_free(keeper: &Keeper, slot: u32, generation: u32) -> bool
+    requires { slot < length keeper.now.rows }
+{
+    keeper.phase(slot) == Phase::Free
+        && keeper.generation(slot) == generation
+        && keeper.digest(slot).is_none()
+        && keeper.bound(slot) == 0
+}
+
 #[test]
 fn the_number_of_slots_has_limits(rt: HostRuntime) {
     let alloc = rt.alloc();
-    assert_eq!(rt; Pins::new(alloc, 0, 0).err(), Some(Refusal::LimitReached));
-    assert_eq!(rt;
-        Pins::new(alloc, 65_537, 0).err(),
-        Some(Refusal::LimitReached)
-    );
+    for slots in [0, 65_537] {
+        assert_eq!(rt;
+            refusal_of_making(alloc, slots),
+            Some(Refusal::LimitReached)
+        );
+    }
     let (pins, mut keeper) = Pins::new(alloc, 65_536, 9).expect(&rt, "memory");
-    assert_eq!(rt; keeper.generation(65_535), 9);
-    assert_eq!(rt; keeper.phase(65_535), Phase::Free);
-    assert_eq!(rt; keeper.digest(65_535), None);
-    assert_eq!(rt; keeper.bound(65_535), 0);
+    assert!(rt; is_free(&keeper, 65_535, 9));
     assert_eq!(rt; pins.look(&mut keeper, 65_535), 0x0000_0009_0000_0000);
+}
+
+/// These events happen in turn, and after each the slot's word is the one beside it.
+fn words_follow(rt: &impl Abort, alloc: Global, desk: &mut Desk<'_>, rows: &[(Event, u64)]) {
+    let mut leases = Vec::new(alloc);
+    for (event, word) in rows {
+        assert!(rt; make(desk, &mut leases, *event));
+        assert_eq!(rt; desk.word(), *word);
+    }
+    end(leases);
+}
+
+fn give(bytes: &[u8]) -> Event {
+    Event::Give {
+        slot: 0,
+        digest: digest_of(bytes),
+    }
+}
+
+fn slot_is(
+    rt: &impl Abort,
+    desk: &Desk<'_>,
+    phase: Phase,
+    generation: u32,
+    digest: Option<Digest>,
+) {
+    assert_eq!(rt; desk.phase(), phase);
+    assert_eq!(rt; desk.generation(), generation);
+    assert_eq!(rt; desk.digest(), digest);
+}
+
+fn word_is(rt: &impl Abort, desk: &mut Desk<'_>, wanted: u64) {
+    assert_eq!(rt; desk.word(), wanted);
 }
 
 #[test]
 fn the_words_of_one_slot(rt: HostRuntime) {
-    let (pins, mut keeper) = Pins::new(rt.alloc(), 1, 0).expect(&rt, "memory");
-    assert_eq!(rt; pins.look(&mut keeper, 0), 0);
-    pins.give(&mut keeper, 0, digest_of(ABC));
-    assert_eq!(rt; pins.look(&mut keeper, 0), 0x0000_0000_8000_0000);
-    assert_eq!(rt; keeper.digest(0), Some(digest_of(ABC)));
-    let pin = pins.lend(&mut keeper, 0).expect(&rt, "room");
-    assert_eq!(rt; pin.slot(), 0);
-    assert_eq!(rt; pin.generation(), 0);
-    assert_eq!(rt; pin.weight(), 1024);
-    assert_eq!(rt; pin.digest(), digest_of(ABC));
-    assert_eq!(rt; keeper.bound(0), 1024);
-    assert_eq!(rt; pins.look(&mut keeper, 0), 0x0000_0000_8000_0400);
-    pins.condemn(&mut keeper, 0);
-    assert_eq!(rt; keeper.phase(0), Phase::Condemned);
-    assert_eq!(rt; pins.look(&mut keeper, 0), 0x0000_0000_c000_0400);
-    assert_eq!(rt;
-        pins.reclaim(&mut keeper, 0),
-        Reclaim::Held { weight: 1024 }
-    );
-    pins.leave(pin);
-    assert_eq!(rt; pins.look(&mut keeper, 0), 0x0000_0000_c000_0000);
-    assert_eq!(rt; pins.reclaim(&mut keeper, 0), Reclaim::Freed);
-    assert_eq!(rt; pins.look(&mut keeper, 0), 0x0000_0001_0000_0000);
-    assert_eq!(rt; keeper.generation(0), 1);
-    pins.give(&mut keeper, 0, digest_of(OBJ));
-    assert_eq!(rt; pins.look(&mut keeper, 0), 0x0000_0001_8000_0000);
+    let alloc = rt.alloc();
+    let (pins, keeper) = Pins::new(alloc, 1, 0).expect(&rt, "memory");
+    let mut desk = Desk::new(&pins, keeper);
+    let rows = [
+        (Event::Look { slot: 0 }, 0x0000_0000_0000_0000),
+        (give(ABC), 0x0000_0000_8000_0000),
+        (Event::Lend { slot: 0, pin: 1 }, 0x0000_0000_8000_0400),
+        (Event::Lend { slot: 0, pin: 2 }, 0x0000_0000_8000_0800),
+        (Event::Leave { pin: 2 }, 0x0000_0000_8000_0400),
+        (Event::Condemn { slot: 0 }, 0x0000_0000_c000_0400),
+        (Event::Revive { slot: 0 }, 0x0000_0000_8000_0400),
+        (Event::Condemn { slot: 0 }, 0x0000_0000_c000_0400),
+        (Event::Leave { pin: 1 }, 0x0000_0000_c000_0000),
+        (Event::Reclaim { slot: 0 }, 0x0000_0001_0000_0000),
+        (give(OBJ), 0x0000_0001_8000_0000),
+    ];
+    words_follow(&rt, alloc, &mut desk, &rows);
+    slot_is(&rt, &desk, Phase::Live, 1, Some(digest_of(OBJ)));
+}
+
+/// Whether a pin on slot 0 in generation 0 has this digest and weight.
+fn is_pin(pin: &Pin, digest: Digest, weight: u32) -> bool {
+    pin.slot() == 0 && pin.generation() == 0 && pin.digest() == digest && pin.weight() == weight
 }
 
 #[test]
@@ -59,36 +105,30 @@ fn a_condemned_slot_is_revived_under_its_pin(rt: HostRuntime) {
     let (pins, mut keeper) = Pins::new(rt.alloc(), 1, 0).expect(&rt, "memory");
     pins.give(&mut keeper, 0, digest_of(ABC));
     let pin = pins.lend(&mut keeper, 0).expect(&rt, "room");
+    assert!(rt; is_pin(&pin, digest_of(ABC), 1024));
     pins.condemn(&mut keeper, 0);
     assert_eq!(rt;
         pins.reclaim(&mut keeper, 0),
         Reclaim::Held { weight: 1024 }
     );
     pins.revive(&mut keeper, 0);
-    assert_eq!(rt; keeper.phase(0), Phase::Live);
-    assert_eq!(rt; pins.look(&mut keeper, 0), 0x0000_0000_8000_0400);
     let pin = pins.verify(&mut keeper, pin);
+    assert!(rt; is_pin(&pin, digest_of(ABC), 1024));
     assert_eq!(rt; keeper.bound(0), 1024);
-    assert_eq!(rt; pin.slot(), 0);
-    assert_eq!(rt; pin.generation(), 0);
-    assert_eq!(rt; pin.digest(), digest_of(ABC));
-    assert_eq!(rt; pin.weight(), 1024);
     pins.leave(pin);
-    pins.condemn(&mut keeper, 0);
-    assert_eq!(rt; pins.reclaim(&mut keeper, 0), Reclaim::Freed);
+    assert_eq!(rt; pins.look(&mut keeper, 0), 0x0000_0000_8000_0000);
 }
 
 #[test]
 fn a_slot_that_was_never_lent_is_never_held(rt: HostRuntime) {
-    let (pins, mut keeper) = Pins::new(rt.alloc(), 1, u32::MAX).expect(&rt, "memory");
-    pins.give(&mut keeper, 0, digest_of(ABC));
-    pins.condemn(&mut keeper, 0);
-    assert_eq!(rt; pins.reclaim(&mut keeper, 0), Reclaim::Retired);
-    assert_eq!(rt; keeper.phase(0), Phase::Retired);
-    assert_eq!(rt; keeper.generation(0), u32::MAX);
-    assert_eq!(rt; keeper.digest(0), None);
-    assert_eq!(rt; pins.look(&mut keeper, 0), 0xffff_ffff_4000_0000);
+    let (pins, keeper) = Pins::new(rt.alloc(), 1, u32::MAX).expect(&rt, "memory");
+    let mut desk = open(&pins, keeper);
+    assert!(rt; desk.condemn());
+    assert_eq!(rt; desk.reclaim(), Some(Reclaim::Retired));
+    slot_is(&rt, &desk, Phase::Retired, u32::MAX, None);
+    word_is(&rt, &mut desk, 0xffff_ffff_4000_0000);
     laws::steps();
+    laws::histories();
     laws::running_words();
 }
 
@@ -99,16 +139,16 @@ fn the_most_pins_of_a_slot(rt: HostRuntime) {
     let mut desk = open(&pins, keeper);
     let mut leases = desk.lend_many(alloc, 1_048_575);
     assert_eq!(rt; leases.len(), 1_048_575);
-    assert_eq!(rt; desk.word(), 0x0000_0000_bfff_fc00);
-    assert_eq!(rt; refusal_of(&mut desk), Some(Refusal::TooManyReaders));
+    word_is(&rt, &mut desk, 0x0000_0000_bfff_fc00);
+    refusal_is(&rt, &mut desk, Some(Refusal::TooManyReaders));
     assert_eq!(rt; desk.bound(), 0x3fff_fc00);
     if let Some(lease) = leases.pop() {
         lease.give_back();
     }
-    assert_eq!(rt; refusal_of(&mut desk), None);
-    assert_eq!(rt; desk.word(), 0x0000_0000_bfff_f800);
+    refusal_is(&rt, &mut desk, None);
+    word_is(&rt, &mut desk, 0x0000_0000_bfff_f800);
     end(leases);
-    assert_eq!(rt; desk.word(), 0x0000_0000_8000_0000);
+    word_is(&rt, &mut desk, 0x0000_0000_8000_0000);
 }
 
 /// What a lend of a live slot was refused with; a lease is given back.
@@ -120,6 +160,10 @@ fn refusal_of(desk: &mut Desk<'_>) -> Option<Refusal> {
         }
         Err(refusal) => Some(refusal),
     }
+}
+
+fn refusal_is(rt: &impl Abort, desk: &mut Desk<'_>, wanted: Option<Refusal>) {
+    assert_eq!(rt; refusal_of(desk), wanted);
 }
 
 /// The first of the pair is shared on, as often as may be; the others go to the list. How often,
@@ -154,9 +198,9 @@ fn one_lease_is_shared_ten_times(rt: HostRuntime) {
     assert_eq!(rt; times, 10);
     assert_eq!(rt; last.weight(), 1);
     assert_eq!(rt; others.len(), 10);
-    assert_eq!(rt; desk.word(), 0x0000_0000_8000_0400);
+    word_is(&rt, &mut desk, 0x0000_0000_8000_0400);
     last.give_back();
-    assert_eq!(rt; desk.word(), 0x0000_0000_8000_03ff);
+    word_is(&rt, &mut desk, 0x0000_0000_8000_03ff);
     end(others);
-    assert_eq!(rt; desk.word(), 0x0000_0000_8000_0000);
+    word_is(&rt, &mut desk, 0x0000_0000_8000_0000);
 }

@@ -4,6 +4,7 @@ use crate::desk::{Desk, Lease, end, give_all, open};
 use crate::{Pins, Reclaim};
 use pin_core::{Phase, unpack};
 use std::alloc::{AllocFailed, Global};
+use std::sync::atomic::{AtomicBool, Ordering};
 use std::thread;
 use std::thread::Threads;
 
@@ -63,20 +64,77 @@ fn reclaim_until_clear(desk: &mut Desk<'_>) -> Option<Reclaim> {
     None
 }
 
+/// Gives half of the leases back, and the others once the slot is condemned.
+fn leave_in_two(leases: &mut Vec<Lease<'_>>, condemned: &AtomicBool) {
+    for _ in 0..leases.len() / 2 {
+        if let Some(lease) = leases.pop() {
+            lease.give_back();
+        }
+    }
+    for _ in 0..MAX_TURNS {
+        if condemned.load(Ordering::SeqCst) {
+            break;
+        }
+    }
+    give_all(leases);
+}
+
+/// Gives the lists back in two parts, each in a thread of its own.
+fn give_each_in_two<R: Threads + Sync>(
+    rt: &R,
+    lists: &mut [Vec<Lease<'_>>],
+    condemned: &AtomicBool,
+) {
+    thread::for_each_mut(
+        rt,
+        lists,
+        8,
+        &|_: usize, leases: &mut Vec<Lease>| {
+            leave_in_two(leases, condemned);
+        },
+    );
+}
+
+/// Condemns the slot once a lease of the sum has left it, tells the threads, and reclaims it. What
+/// became of it at first and at last.
+fn condemn_while_they_leave(
+    desk: &mut Desk<'_>,
+    sum: u32,
+    condemned: &AtomicBool,
+) -> (Option<Reclaim>, Option<Reclaim>) {
+    for _ in 0..MAX_TURNS {
+        if unpack(desk.word()).weight < sum {
+            break;
+        }
+    }
+    desk.condemn();
+    let first = desk.reclaim();
+    condemned.store(true, Ordering::SeqCst);
+    (first, reclaim_until_clear(desk))
+}
+
+/// Whether the slot was held by a sum of at least one and less than the other.
+fn is_held_within(answer: Option<Reclaim>, least: u32, above: u32) -> bool {
+    match answer {
+        Some(Reclaim::Held { weight }) => least <= weight && weight < above,
+        _ => false,
+    }
+}
+
 #[test]
 fn a_slot_is_freed_while_eight_threads_leave_it(rt: HostRuntime) {
     let alloc = rt.alloc();
     let (pins, keeper) = Pins::new(alloc, 1, 0).expect(&rt, "memory");
     let mut desk = open(&pins, keeper);
     let mut lists = eight_lists(&mut desk, alloc, 100);
-    assert_eq!(rt; count_all(lists.as_slice()), 800);
-    assert!(rt; desk.condemn());
-    assert_eq!(rt; desk.reclaim(), Some(Reclaim::Held { weight: 819_200 }));
-    let (_, freed) = thread::join(
+    assert_eq!(rt; desk.word(), 0x0000_0000_800c_8000);
+    let condemned = AtomicBool::new(false);
+    let (_, (held, freed)) = thread::join(
         &rt,
-        || give_each(&rt, lists.as_mut_slice()),
-        || reclaim_until_clear(&mut desk),
+        || give_each_in_two(&rt, lists.as_mut_slice(), &condemned),
+        || condemn_while_they_leave(&mut desk, 819_200, &condemned),
     );
+    assert!(rt; is_held_within(held, 409_600, 819_200));
     assert_eq!(rt; freed, Some(Reclaim::Freed));
     assert_eq!(rt; desk.generation(), 1);
     assert_eq!(rt; desk.phase(), Phase::Free);

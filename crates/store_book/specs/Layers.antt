@@ -4,11 +4,11 @@ use Rattle.std.specs.Option.{option_map_or}
 use Rattle.std.specs.FinMap as fmap
 use Rattle.blob_digest.specs.Sets as set
 use Rattle.slot_table.specs.Slots.{Slot, Held, Content, Free, Used, Retired, is_retired, held_at, held_in, IsDistinct}
-use Rattle.link_table.specs.Linked.{Linked}
+use Rattle.link_table.specs.Linked.{Linked, used_in}
 use Rattle.upload_table.specs.Uploaded.{Uploaded}
 use Rattle.store_book.specs.BookState.{BookState}
 use Rattle.store_book.specs.Pinned.{Pinned, all_seen}
-use Rattle.store_book.specs.Catalog.{Text, Link, Resident, Catalog, text_cmp, link_cmp, in_sessions_of, count}
+use Rattle.store_book.specs.Catalog.{Text, Link, Resident, Catalog, text_cmp, link_cmp, in_sessions_of, count, used}
 use Rattle.store_book.specs.Laws.{Sound}
 
 -- the links without their sizes
@@ -82,3 +82,7 @@ pub record IsBook (l : Linked) (u : Uploaded) (slots : List Slot) (max_blob : �
   pub sound : Sound (book_catalog l u slots max_blob)
   pub tied : IsTied l slots (lent_marks slots) (book_catalog l u slots max_blob)
   pub charges : AreCharges l (book_catalog l u slots max_blob)
+
+-- The use that the layers keep of a tenant, at which a quota is measured and which is printed, is the one that the catalog defines.
+abbrev pub UsesAreKept : Type 0
+UsesAreKept = (l : Linked) (u : Uploaded) (slots : List Slot) (max_blob : ℕ) → IsBook l u slots max_blob → (t : ℕ) → t < length l.tenants → used_in l t ≡ used (book_catalog l u slots max_blob) t

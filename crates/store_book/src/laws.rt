@@ -1,14 +1,17 @@
 //! Laws of the definitions alone. Each is the contract of a function that does nothing.
 
 ghost use Rattle.store_book.specs.Isolation.{TenantsAreAlone, TextsAreTheSame};
+ghost use Rattle.store_book.specs.Layers.{UsesAreKept};
 ghost use Rattle.store_book.specs.Laws.{CountsAreLinks, ReferencedStays, UsesAreDistinct};
 ghost use Rattle.store_book.specs.Runs.{RunsStaySound};
 
 /// The count of a digest is the number of links to it, and a tenant's use is the sum over the
-/// distinct digests that its repositories hold and over its sessions, in every lawful catalog.
+/// distinct digests that its repositories hold and over its sessions, in every lawful catalog. In every
+/// book, the use that is kept as a running number is that one, for each tenant.
 pub fn counts_and_uses()
     ensures counts { CountsAreLinks }
     ensures uses { UsesAreDistinct }
+    ensures kept { UsesAreKept }
 {}
 
 /// Commands and sweeps keep a catalog sound, and a blob to which a manifest of its repository refers

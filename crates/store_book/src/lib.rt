@@ -21,6 +21,7 @@ mod keep;
 pub mod laws;
 #[cfg(test)]
 mod lease_tests;
+#[cfg(test)]
 mod manifest_tests;
 mod manifests;
 mod mount;

@@ -107,15 +107,15 @@ pub enum Step<'a> {
     Upload(&'a str, &'a str, &'a str, Result<u64, Refusal>),
     Mount(&'a str, &'a str, &'a str, Result<Mount, Refusal>),
     Delete(&'a str, &'a str, Result<(), Refusal>),
-    /// A sweep, with how many blobs it condemned, and how many slots it freed, left to leases and retired.
-    Sweep(u32, u32, u32, u32),
-    /// The word of slot 0 is this.
-    Word(u64),
     /// A put of these bytes.
     PutManifest(&'a str, &'a str, Result<Digest, Refusal>),
     /// A get, and the bytes that it answers.
     GetManifest(&'a str, &'a str, Result<&'a str, Refusal>),
     DeleteManifest(&'a str, &'a str, Result<(), Refusal>),
+    /// A sweep, with how many blobs it condemned, and how many slots it freed, left to leases and retired.
+    Sweep(u32, u32, u32, u32),
+    /// The word of slot 0 is this.
+    Word(u64),
     /// The text of the book is this.
     Prints(&'a str),
     /// The text of the book has this text in it.

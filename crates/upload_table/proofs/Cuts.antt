@@ -56,6 +56,3 @@ cut-take lens bytes within =
 -- the front that is as long as the first part
 pub front : (n : ℕ) (bytes more : List ℕ) → n ≡ length bytes → take n (bytes ++ more) ≡ bytes
 front n bytes more e = ap (λ k. take k (bytes ++ more)) e ∙ take-append_seam bytes more
-
-pub sum_push : (lens : List ℕ) (n : ℕ) → sum (lens ++ n ∷ []) ≡ sum lens + n
-sum_push lens n = sum_by_push (λ x. x) lens n

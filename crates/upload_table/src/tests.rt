@@ -1,11 +1,30 @@
-ghost use Rattle.std.specs.Prelude.{◌≡◌, ◌<◌, ◌^◌, length};
+//! Worked sequences of calls, each call on its happy path, and each refusal.
 
 use crate::{Hand, Uploads};
 use blob_digest::{ByteRange, Digest, Refusal, RepoName};
+use std::alloc::Global;
+use std::marker::Model;
+use std::process::Abort;
 
 const ABC: &str = "sha256:ba7816bf8f01cfea414140de5dae2223b00361a396177a9cb410ff61f20015ad";
 
 const OBJ: &str = "sha256:44136fa355b3678a1146ad16f7e8649e94fb4fc21fe77e8310c060f61caaff8a";
+
+/// The sessions of one tenant.
+#[derive(Drop)]
+struct Table {
+    uploads: Uploads,
+}
+
+impl Model for Table {
+    ghost use Rattle.std.specs.Prelude.{◌≡◌, length};
+
+    ghost Value = { Unit {0} };
+
+    ghost view = { λ _. tt };
+
+    ghost invariant = { λ a. length a.uploads.next ≡ 1 };
+}
 
 /// What follows once a session has been sealed.
 #[derive(Drop)]
@@ -14,30 +33,55 @@ enum Then {
     Reopen,
 }
 
-fn start(uploads: &mut Uploads, repo: &RepoName) -> Result<u32, Refusal>
-    requires one { length uploads.old.next ≡ 1 }
-    ensures one { length uploads.new.next ≡ 1 }
-{
-    uploads.start(0, repo)
-}
-
-fn take(uploads: &mut Uploads, repo: &RepoName, number: u32, len: u64) -> Result<Hand, Refusal>
-    requires one { length uploads.old.next ≡ 1 }
-    requires small { len < 2 ^ 63 }
-    ensures one { length uploads.new.next ≡ 1 }
-{
-    let _ = uploads.received_home(0, repo, number)?;
-    if uploads.total(0) > 1_000 {
-        return Err(Refusal::LimitReached);
+impl Table {
+    fn start(&mut self, repo: &RepoName) -> Result<u32, Refusal> {
+        self.uploads.start(0, repo)
     }
-    Ok(uploads.take(0, number, len))
-}
 
-fn put_back(uploads: &mut Uploads, hand: Hand) -> Result<u64, Refusal>
-    requires one { length uploads.old.next ≡ 1 }
-    ensures one { length uploads.new.next ≡ 1 }
-{
-    uploads.put_back(hand)
+    fn take(&mut self, repo: &RepoName, number: u32, len: u64) -> Result<Hand, Refusal> {
+        let _ = self.uploads.received_home(0, repo, number)?;
+        if self.uploads.total(0) > 1_000 || len > 1_000 {
+            return Err(Refusal::LimitReached);
+        }
+        Ok(self.uploads.take(0, number, len))
+    }
+
+    fn put_back(&mut self, hand: Hand) -> Result<u64, Refusal> {
+        self.uploads.put_back(hand)
+    }
+
+    fn append(&mut self, repo: &RepoName, number: u32, bytes: &[u8]) -> Result<u64, Refusal> {
+        let hand = self.take(repo, number, bytes.len() as u64)?;
+        self.put_back(fill(hand, bytes))
+    }
+
+    fn close(&mut self, hand: Hand, digest: &Digest, then: Then) -> Result<usize, Refusal> {
+        if !hand.filled() {
+            let _ = self.put_back(hand)?;
+            return Err(Refusal::Memory);
+        }
+        let (blob, sealed) = self.uploads.finish(hand, digest)?;
+        let len = blob.bytes().len();
+        match then {
+            Then::Forget => self.uploads.forget(sealed),
+            Then::Reopen => self.uploads.reopen(sealed, blob),
+        }
+        Ok(len)
+    }
+
+    fn remove(&mut self, repo: &RepoName, number: u32) -> Result<(), Refusal> {
+        let _ = self.uploads.received_home(0, repo, number)?;
+        self.uploads.remove(0, number);
+        Ok(())
+    }
+
+    fn next(&self) -> u64 {
+        self.uploads.next(0)
+    }
+
+    fn total(&self) -> u64 {
+        self.uploads.total(0)
+    }
 }
 
 /// Fills a hand that wants so many bytes, or leaves it.
@@ -51,196 +95,248 @@ fn fill(hand: Hand, bytes: &[u8]) -> Hand {
     }
 }
 
-fn append(uploads: &mut Uploads, repo: &RepoName, number: u32, bytes: &[u8]) -> Result<u64, Refusal>
-    requires one { length uploads.old.next ≡ 1 }
-    ensures one { length uploads.new.next ≡ 1 }
-{
-    let hand = take(uploads, repo, number, bytes.len() as u64)?;
-    put_back(uploads, fill(hand, bytes))
+fn opened(rt: &impl Abort, alloc: Global, first_number: u32) -> Table {
+    Table {
+        uploads: Uploads::new(alloc, 1, first_number).expect(rt, "memory"),
+    }
 }
 
-fn remove(uploads: &mut Uploads, repo: &RepoName, number: u32) -> Result<(), Refusal>
-    requires one { length uploads.old.next ≡ 1 }
-    ensures one { length uploads.new.next ≡ 1 }
-{
-    let _ = uploads.received_home(0, repo, number)?;
-    uploads.remove(0, number);
-    Ok(())
+fn name(rt: &impl Abort, alloc: Global, text: &[u8]) -> RepoName {
+    RepoName::parse(alloc, text).expect(rt, "a name")
 }
 
-fn close(
-    uploads: &mut Uploads,
+fn digest(rt: &impl Abort, text: &str) -> Digest {
+    Digest::parse(text.as_bytes()).expect(rt, "a digest")
+}
+
+fn starts(rt: &impl Abort, table: &mut Table, repo: &RepoName, wanted: Result<u32, Refusal>) {
+    assert_eq!(rt; table.start(repo), wanted);
+}
+
+fn removes(rt: &impl Abort, table: &mut Table, repo: &RepoName, number: u32) {
+    assert_eq!(rt; table.remove(repo, number), Ok(()));
+}
+
+fn appends(rt: &impl Abort, table: &mut Table, repo: &RepoName, number: u32, bytes: &[u8]) {
+    assert!(rt; table.append(repo, number, bytes).is_ok());
+}
+
+/// Fills in `c` behind the bytes of session 1, and closes it.
+fn closes(
+    rt: &impl Abort,
+    table: &mut Table,
     repo: &RepoName,
-    number: u32,
-    last: &[u8],
-    digest: &Digest,
+    text: &str,
     then: Then,
-) -> Result<usize, Refusal>
-    requires one { length uploads.old.next ≡ 1 }
-    ensures one { length uploads.new.next ≡ 1 }
-{
-    let hand = fill(take(uploads, repo, number, last.len() as u64)?, last);
-    if !hand.filled() {
-        let _ = put_back(uploads, hand)?;
-        return Err(Refusal::Memory);
-    }
-    let (blob, sealed) = uploads.finish(hand, digest)?;
-    let len = blob.bytes().len();
-    match then {
-        Then::Forget => uploads.forget(sealed),
-        Then::Reopen => uploads.reopen(sealed, blob),
-    }
-    Ok(len)
+    wanted: Result<usize, Refusal>,
+) {
+    let hand = fill(takes(rt, table, repo, 1, 1), b"c");
+    assert_eq!(rt; table.close(hand, &digest(rt, text), then), wanted);
+}
+
+fn takes(rt: &impl Abort, table: &mut Table, repo: &RepoName, number: u32, len: u64) -> Hand {
+    table.take(repo, number, len).expect(rt, "a hand")
+}
+
+fn puts_back(rt: &impl Abort, table: &mut Table, hand: Hand, wanted: Result<u64, Refusal>) {
+    assert_eq!(rt; table.put_back(hand), wanted);
+}
+
+/// A session that is at home, or in hand, or not there, and what the tenant's sessions count.
+fn shows(
+    rt: &impl Abort,
+    table: &Table,
+    repo: &RepoName,
+    received: Result<u64, Refusal>,
+    home: Result<u64, Refusal>,
+    total: u64,
+) {
+    assert_eq!(rt; table.uploads.received(0, repo, 1), received);
+    assert_eq!(rt; table.uploads.received_home(0, repo, 1), home);
+    assert_eq!(rt; table.total(), total);
+}
+
+/// The tenant has no session 1 for the repository.
+fn is_gone(rt: &impl Abort, table: &Table, repo: &RepoName, total: u64) {
+    let unknown = Err(Refusal::UploadUnknown);
+    shows(rt, table, repo, Err(Refusal::UploadUnknown), unknown, total);
+}
+
+/// The check of a chunk for session 1.
+fn checks(
+    rt: &impl Abort,
+    table: &Table,
+    repo: &RepoName,
+    range: &str,
+    len: u64,
+    max_blob: u64,
+    wanted: Result<u64, Refusal>,
+) {
+    let range = ByteRange::parse(range.as_bytes()).ok();
+    assert_eq!(rt;
+        table.uploads.check(0, repo, 1, range, len, max_blob),
+        wanted
+    );
+}
+
+fn lists(rt: &impl Abort, alloc: Global, table: &Table, repo: &RepoName, wanted: &[(u32, u64)]) {
+    let listed: Vec<(u32, u64)> = table
+        .uploads
+        .sessions(0, repo)
+        .collect(alloc)
+        .expect(rt, "memory");
+    assert_eq!(rt; listed.as_slice(), wanted);
+}
+
+fn stands_at(
+    rt: &impl Abort,
+    table: &Table,
+    repo: &RepoName,
+    i: usize,
+    wanted: Option<(u32, u64)>,
+) {
+    assert_eq!(rt; table.uploads.session_at(0, repo, i), wanted);
 }
 
 #[test]
 fn a_tenant_has_64_sessions_and_gives_each_number_once(rt: HostRuntime) {
     let alloc = rt.alloc();
-    let repo = RepoName::parse(alloc, b"acme/one").expect(&rt, "a name");
-    let mut uploads = Uploads::new(alloc, 1, 1).expect(&rt, "memory");
+    let repo = name(&rt, alloc, b"acme/one");
+    let mut table = opened(&rt, alloc, 1);
     for number in 1..65u32 {
-        assert_eq!(rt; start(&mut uploads, &repo), Ok(number));
+        starts(&rt, &mut table, &repo, Ok(number));
     }
-    assert_eq!(rt; start(&mut uploads, &repo), Err(Refusal::LimitReached));
-    assert_eq!(rt; remove(&mut uploads, &repo, 1), Ok(()));
-    assert_eq!(rt; start(&mut uploads, &repo), Ok(65));
-    assert_eq!(rt; uploads.next(0), 66);
+    starts(&rt, &mut table, &repo, Err(Refusal::LimitReached));
+    removes(&rt, &mut table, &repo, 1);
+    starts(&rt, &mut table, &repo, Ok(65));
+    starts(&rt, &mut table, &repo, Err(Refusal::LimitReached));
+    assert_eq!(rt; table.next(), 66);
 }
 
 #[test]
 fn the_last_number_is_below_two_to_the_32(rt: HostRuntime) {
     let alloc = rt.alloc();
-    let repo = RepoName::parse(alloc, b"acme/one").expect(&rt, "a name");
-    let mut uploads = Uploads::new(alloc, 1, 4_294_967_295).expect(&rt, "memory");
-    assert_eq!(rt; start(&mut uploads, &repo), Ok(4_294_967_295));
-    assert_eq!(rt; start(&mut uploads, &repo), Err(Refusal::LimitReached));
+    let repo = name(&rt, alloc, b"acme/one");
+    let mut table = opened(&rt, alloc, 4_294_967_295);
+    starts(&rt, &mut table, &repo, Ok(4_294_967_295));
+    starts(&rt, &mut table, &repo, Err(Refusal::LimitReached));
 }
 
 #[test]
 fn chunks_come_in_order(rt: HostRuntime) {
     let alloc = rt.alloc();
-    let repo = RepoName::parse(alloc, b"acme/one").expect(&rt, "a name");
-    let mut uploads = Uploads::new(alloc, 1, 1).expect(&rt, "memory");
-    assert_eq!(rt; start(&mut uploads, &repo), Ok(1));
-    let first = ByteRange::parse(b"0-1").expect(&rt, "a range");
-    let late = ByteRange::parse(b"3-3").expect(&rt, "a range");
-    let next = ByteRange::parse(b"2-2").expect(&rt, "a range");
-    assert_eq!(rt; uploads.check(0, &repo, 1, Some(first), 2, 9), Ok(2));
-    assert_eq!(rt; append(&mut uploads, &repo, 1, b"ab"), Ok(2));
-    assert_eq!(rt;
-        uploads.check(0, &repo, 1, Some(late), 1, 9),
-        Err(Refusal::RangeInvalid { received: 2 })
-    );
-    assert_eq!(rt;
-        uploads.check(0, &repo, 1, Some(first), 1, 9),
-        Err(Refusal::SizeInvalid)
-    );
-    assert_eq!(rt;
-        uploads.check(0, &repo, 1, Some(next), 1, 2),
-        Err(Refusal::SizeInvalid)
-    );
-    assert_eq!(rt; uploads.received(0, &repo, 1), Ok(2));
-    assert_eq!(rt; uploads.check(0, &repo, 1, Some(next), 1, 9), Ok(3));
-    assert_eq!(rt; append(&mut uploads, &repo, 1, b"c"), Ok(3));
-    assert_eq!(rt; append(&mut uploads, &repo, 1, b""), Ok(3));
-    assert_eq!(rt; uploads.received(0, &repo, 1), Ok(3));
-    assert_eq!(rt; uploads.total(0), 3);
-    assert_eq!(rt; remove(&mut uploads, &repo, 1), Ok(()));
-    assert_eq!(rt; uploads.received(0, &repo, 1), Err(Refusal::UploadUnknown));
-    assert_eq!(rt; uploads.total(0), 0);
-    assert_eq!(rt; uploads.next(0), 2);
+    let repo = name(&rt, alloc, b"acme/one");
+    let mut table = opened(&rt, alloc, 1);
+    starts(&rt, &mut table, &repo, Ok(1));
+    let late = Refusal::RangeInvalid { received: 2 };
+    let rows: [(&str, &[u8], u64, Result<u64, Refusal>); 7] = [
+        ("0-1", b"ab", 9, Ok(2)),
+        ("3-3", b"c", 9, Err(late)),
+        ("0-1", b"c", 9, Err(Refusal::SizeInvalid)),
+        ("2-2", b"c", 2, Err(Refusal::SizeInvalid)),
+        ("2-2", b"c", 3, Ok(3)),
+        ("", b"", 3, Ok(3)),
+        ("", b"de", 9, Ok(5)),
+    ];
+    for (range, bytes, max_blob, wanted) in rows {
+        let len = bytes.len() as u64;
+        let accepted = wanted.is_ok();
+        checks(&rt, &table, &repo, range, len, max_blob, wanted);
+        if accepted {
+            appends(&rt, &mut table, &repo, 1, bytes);
+        }
+    }
+    shows(&rt, &table, &repo, Ok(5), Ok(5), 5);
+    removes(&rt, &mut table, &repo, 1);
+    is_gone(&rt, &table, &repo, 0);
 }
 
 #[test]
 fn a_session_in_hand_is_busy(rt: HostRuntime) {
     let alloc = rt.alloc();
-    let repo = RepoName::parse(alloc, b"acme/one").expect(&rt, "a name");
-    let late = ByteRange::parse(b"9-9").expect(&rt, "a range");
-    let mut uploads = Uploads::new(alloc, 1, 1).expect(&rt, "memory");
-    assert_eq!(rt; start(&mut uploads, &repo), Ok(1));
-    assert_eq!(rt; append(&mut uploads, &repo, 1, b"ab"), Ok(2));
-    let hand = take(&mut uploads, &repo, 1, 2).expect(&rt, "a hand");
+    let repo = name(&rt, alloc, b"acme/one");
+    let mut table = opened(&rt, alloc, 1);
+    starts(&rt, &mut table, &repo, Ok(1));
+    appends(&rt, &mut table, &repo, 1, b"ab");
+    let hand = takes(&rt, &mut table, &repo, 1, 2);
     assert_eq!(rt; (hand.tenant(), hand.number()), (0, 1));
     assert_eq!(rt;
         (hand.received(), hand.reserved(), hand.filled()),
         (2, 2, false)
     );
-    assert_eq!(rt; uploads.total(0), 4);
-    assert_eq!(rt; uploads.received(0, &repo, 1), Ok(2));
-    assert_eq!(rt; uploads.session_at(0, &repo, 0), Some((1, 2)));
-    assert_eq!(rt;
-        uploads.check(0, &repo, 1, Some(late), 2, 9),
-        Err(Refusal::Busy)
-    );
-    assert_eq!(rt; uploads.received_home(0, &repo, 1), Err(Refusal::Busy));
-    assert_eq!(rt; put_back(&mut uploads, fill(hand, b"cd")), Ok(4));
-    assert_eq!(rt; uploads.total(0), 4);
+    shows(&rt, &table, &repo, Ok(2), Err(Refusal::Busy), 4);
+    stands_at(&rt, &table, &repo, 0, Some((1, 2)));
+    checks(&rt, &table, &repo, "9-9", 2, 9, Err(Refusal::Busy));
+    let hand = fill(hand, b"cd");
+    assert!(rt; hand.filled());
+    puts_back(&rt, &mut table, hand, Ok(4));
+    shows(&rt, &table, &repo, Ok(4), Ok(4), 4);
 }
 
 #[test]
 fn a_hand_that_is_not_filled_leaves_no_reserve(rt: HostRuntime) {
     let alloc = rt.alloc();
-    let repo = RepoName::parse(alloc, b"acme/one").expect(&rt, "a name");
-    let mut uploads = Uploads::new(alloc, 1, 1).expect(&rt, "memory");
-    let mut others = Uploads::new(alloc, 1, 1).expect(&rt, "memory");
-    assert_eq!(rt; start(&mut uploads, &repo), Ok(1));
-    assert_eq!(rt; start(&mut others, &repo), Ok(1));
-    let hand = take(&mut uploads, &repo, 1, 3).expect(&rt, "a hand");
-    assert_eq!(rt; uploads.total(0), 3);
-    assert_eq!(rt; put_back(&mut uploads, hand), Ok(0));
-    assert_eq!(rt; uploads.total(0), 0);
-    let hand = take(&mut uploads, &repo, 1, 0).expect(&rt, "a hand");
-    assert_eq!(rt; put_back(&mut others, hand), Err(Refusal::UploadUnknown));
-    assert_eq!(rt; others.received_home(0, &repo, 1), Ok(0));
-    assert_eq!(rt; uploads.received_home(0, &repo, 1), Err(Refusal::Busy));
+    let repo = name(&rt, alloc, b"acme/one");
+    let mut table = opened(&rt, alloc, 1);
+    starts(&rt, &mut table, &repo, Ok(1));
+    appends(&rt, &mut table, &repo, 1, b"ab");
+    let hand = takes(&rt, &mut table, &repo, 1, 3);
+    shows(&rt, &table, &repo, Ok(2), Err(Refusal::Busy), 5);
+    puts_back(&rt, &mut table, hand, Ok(2));
+    shows(&rt, &table, &repo, Ok(2), Ok(2), 2);
+}
+
+#[test]
+fn an_unknown_hand_changes_nothing(rt: HostRuntime) {
+    let alloc = rt.alloc();
+    let repo = name(&rt, alloc, b"acme/one");
+    let mut own = opened(&rt, alloc, 1);
+    let mut other = opened(&rt, alloc, 1);
+    starts(&rt, &mut own, &repo, Ok(1));
+    starts(&rt, &mut own, &repo, Ok(2));
+    starts(&rt, &mut other, &repo, Ok(1));
+    let hand = takes(&rt, &mut own, &repo, 2, 3);
+    puts_back(&rt, &mut other, hand, Err(Refusal::UploadUnknown));
+    let hand = takes(&rt, &mut other, &repo, 1, 2);
+    let longer = takes(&rt, &mut own, &repo, 1, 3);
+    puts_back(&rt, &mut other, longer, Err(Refusal::UploadUnknown));
+    shows(&rt, &other, &repo, Ok(0), Err(Refusal::Busy), 2);
+    puts_back(&rt, &mut other, hand, Ok(0));
+    shows(&rt, &other, &repo, Ok(0), Ok(0), 0);
+    shows(&rt, &own, &repo, Ok(0), Err(Refusal::Busy), 6);
 }
 
 #[test]
 fn a_session_is_sealed_opened_again_and_forgotten(rt: HostRuntime) {
     let alloc = rt.alloc();
-    let repo = RepoName::parse(alloc, b"acme/one").expect(&rt, "a name");
-    let other = RepoName::parse(alloc, b"acme/two").expect(&rt, "a name");
-    let abc = Digest::parse(ABC.as_bytes()).expect(&rt, "a digest");
-    let obj = Digest::parse(OBJ.as_bytes()).expect(&rt, "a digest");
-    let mut uploads = Uploads::new(alloc, 1, 1).expect(&rt, "memory");
-    assert_eq!(rt; start(&mut uploads, &repo), Ok(1));
-    assert_eq!(rt; append(&mut uploads, &repo, 1, b"ab"), Ok(2));
-    assert_eq!(rt;
-        close(&mut uploads, &repo, 1, b"c", &obj, Then::Forget),
-        Err(Refusal::DigestInvalid)
-    );
-    assert_eq!(rt; uploads.received_home(0, &repo, 1), Ok(2));
-    assert_eq!(rt; uploads.total(0), 2);
-    assert_eq!(rt; uploads.received(0, &other, 1), Err(Refusal::UploadUnknown));
-    assert_eq!(rt;
-        close(&mut uploads, &repo, 1, b"c", &abc, Then::Reopen),
-        Ok(3)
-    );
-    assert_eq!(rt; uploads.received_home(0, &repo, 1), Ok(2));
-    assert_eq!(rt; uploads.total(0), 2);
-    assert_eq!(rt;
-        close(&mut uploads, &repo, 1, b"c", &abc, Then::Forget),
-        Ok(3)
-    );
-    assert_eq!(rt;
-        close(&mut uploads, &repo, 1, b"c", &abc, Then::Forget),
-        Err(Refusal::UploadUnknown)
-    );
-    assert_eq!(rt; uploads.total(0), 0);
+    let repo = name(&rt, alloc, b"acme/one");
+    let mut table = opened(&rt, alloc, 1);
+    starts(&rt, &mut table, &repo, Ok(1));
+    appends(&rt, &mut table, &repo, 1, b"ab");
+    let other = Err(Refusal::DigestInvalid);
+    closes(&rt, &mut table, &repo, OBJ, Then::Forget, other);
+    shows(&rt, &table, &repo, Ok(2), Ok(2), 2);
+    closes(&rt, &mut table, &repo, ABC, Then::Reopen, Ok(3));
+    shows(&rt, &table, &repo, Ok(2), Ok(2), 2);
+    closes(&rt, &mut table, &repo, ABC, Then::Forget, Ok(3));
+    is_gone(&rt, &table, &repo, 0);
 }
 
 #[test]
 fn sessions_are_listed_by_repository(rt: HostRuntime) {
     let alloc = rt.alloc();
-    let repo = RepoName::parse(alloc, b"acme/one").expect(&rt, "a name");
-    let other = RepoName::parse(alloc, b"acme/two").expect(&rt, "a name");
-    let mut uploads = Uploads::new(alloc, 1, 1).expect(&rt, "memory");
-    assert_eq!(rt; start(&mut uploads, &repo), Ok(1));
-    assert_eq!(rt; start(&mut uploads, &other), Ok(2));
-    assert_eq!(rt; start(&mut uploads, &repo), Ok(3));
-    assert_eq!(rt; append(&mut uploads, &repo, 3, b"abc"), Ok(3));
-    assert_eq!(rt; uploads.session_at(0, &repo, 0), Some((1, 0)));
-    assert_eq!(rt; uploads.session_at(0, &repo, 1), Some((3, 3)));
-    assert_eq!(rt; uploads.session_at(0, &repo, 2), None);
-    assert_eq!(rt; uploads.session_at(0, &other, 0), Some((2, 0)));
+    let one = name(&rt, alloc, b"acme/one");
+    let two = name(&rt, alloc, b"acme/two");
+    let three = name(&rt, alloc, b"acme/three");
+    let mut table = opened(&rt, alloc, 1);
+    for (repo, number) in [(&one, 1), (&two, 2), (&one, 3)] {
+        starts(&rt, &mut table, repo, Ok(number));
+    }
+    appends(&rt, &mut table, &one, 3, b"abc");
+    lists(&rt, alloc, &table, &one, &[(1, 0), (3, 3)]);
+    lists(&rt, alloc, &table, &two, &[(2, 0)]);
+    lists(&rt, alloc, &table, &three, &[]);
+    stands_at(&rt, &table, &one, 1, Some((3, 3)));
+    stands_at(&rt, &table, &one, 2, None);
+    is_gone(&rt, &table, &two, 3);
 }

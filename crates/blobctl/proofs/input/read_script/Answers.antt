@@ -33,5 +33,6 @@ loop-turn-preserved g c =
     record {
       taken = all;
       fits = omega (arith, size, c.if-len-gt-MAX_SCRIPT.false, c.len-in-loop-turn.ensures);
+      unfailed = rw c.in_ok-count.ensures.unfailed c.loop-turn.invariant.unfailed;
       more = omega (arith, count, c.loop-turn.invariant.more, added.2, c.if-count-eq0.false, length-take c.in_ok-count.count c.add_piece.new.buffer);
     }

@@ -1,5 +1,4 @@
 use Rattle.std.proofs.Common.{◌≡◌, ◌+◌, ap, sym, ◌∙◌, arith}
-use Rattle.std.proofs.lemmas.List.{set-set}
 use Rattle.pin_core.specs.World.{row}
 use Rattle.pin_core.specs.Events.{new_weight}
 use Rattle.pin_table.specs.Calls.{KeeperValue, bounded, lent_pin}
@@ -18,8 +17,7 @@ returns c =
       weight = l.weight;
       within = l.within;
       room = omega arith;
-      after = c.add_pin.ensures.bound ∙ ap (λ n. bounded k (n + new_weight) c.look.new.keeper) l.bound ∙ ap (bounded k (l.weight + new_weight)) l.after
-          ∙ ap (λ bs. record { table = s.table; rows = s.rows; bounds = bs }) (set-set s.bounds k l.weight (l.weight + new_weight));
+      after = c.add_pin.ensures.bound ∙ ap (λ n. bounded k (n + new_weight) c.look.new.keeper) l.bound ∙ ap (bounded k (l.weight + new_weight)) l.after;
       pin = c.add_pin.ensures.pin ∙ ap (lent_pin k) l.after;
       digest = ap (λ (x : KeeperValue). (row x.rows k).digest) (sym l.after) ∙ c.add_pin.ensures.digest;
     }
