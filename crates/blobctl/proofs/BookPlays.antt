@@ -4,14 +4,15 @@ use Prim.Native.Nat.{zero, suc}
 use Rattle.std.specs.Prelude.{slice_get, replicate}
 use Rattle.std.proofs.lemmas.Option.{same_Some, slice_get_within, slice_get-get_or}
 use Rattle.blob_digest.specs.Keys.{Text}
+use Rattle.blob_digest.specs.declared.refusal.Refusal.{Refusal}
 use Rattle.blob_digest.specs.declared.refusal.Refusal.TheVariants.{Memory}
 use Rattle.store_book.specs.Catalog.{Catalog}
 use Rattle.store_book.specs.BookState.{BookState, SlotSeen}
-use Rattle.store_book.specs.SlotSteps.{EachSlot, HasLast, IsCrowded}
+use Rattle.store_book.specs.SlotSteps.{EachSlot, HasLast}
 use Rattle.blobctl.specs.Answers.{Answer, Session, Received, Stored, Abandoned, Mounted, Deleted, Manifest, Body, Leased, Bytes, Shared, Verified, GivenBack, Cleaned, NoLease, NameTaken, Refused}
-use Rattle.blobctl.specs.Commands.{Command, Request, Calls, Lease, Verifies, Sweeps}
+use Rattle.blobctl.specs.Commands.{Command, Start, Status, Append, Close, Abandon, Mount, Delete, PutManifest, GetManifest, DeleteManifest, Lease, Request, Calls, Verifies, Sweeps}
 use Rattle.blobctl.specs.Leases.{Lent, Leases, none}
-use Rattle.blobctl.specs.Played.{Acts, ActsCall, ExplainsCrowd, answered, Happens, HappensCall, RisesByOne}
+use Rattle.blobctl.specs.Played.{Acts, ActsCall, IsCrowdedOut, answered, outcome, Happens, HappensCall, RisesByOne}
 use Rattle.blobctl.specs.Plays.{Plays, RowStep, StoreStep, State, LendsWhereFree, VerifiesLease, named}
 use Rattle.blobctl.specs.Rows.{Line}
 
@@ -34,8 +35,18 @@ low_by_one n old new low rises k b at =
 still_low : (n : ℕ) (slots : List SlotSeen) → AreLow n slots → AreLow (n + 1) slots
 still_low n slots low k s at = let h = low k s at in (omega (arith, h.0), omega (arith, h.1))
 
-not_crowded : (n : ℕ) (digest : Text) (slots : List SlotSeen) → AreLow n slots → n ≤ 65537 → ¬ IsCrowded digest slots
-not_crowded n digest slots low few crowded = omega (arith, (low crowded.0 crowded.1 crowded.2).1, few, crowded.4)
+none_crowded_out : (n : ℕ) (slots : List SlotSeen) (command : Command) (refusal : Refusal) → AreLow n slots → n ≤ 65537 → ¬ IsCrowdedOut slots command refusal
+none_crowded_out n slots (Lease repo digest) refusal low few (is, crowded) = omega (arith, (low crowded.0 crowded.1 crowded.2).1, few, crowded.4)
+none_crowded_out n slots (Start repo) refusal low few out = out
+none_crowded_out n slots (Status repo number) refusal low few out = out
+none_crowded_out n slots (Append repo number range bytes) refusal low few out = out
+none_crowded_out n slots (Close repo number digest range bytes) refusal low few out = out
+none_crowded_out n slots (Abandon repo number) refusal low few out = out
+none_crowded_out n slots (Mount repo digest from) refusal low few out = out
+none_crowded_out n slots (Delete repo digest) refusal low few out = out
+none_crowded_out n slots (PutManifest repo bytes) refusal low few out = out
+none_crowded_out n slots (GetManifest repo digest) refusal low few out = out
+none_crowded_out n slots (DeleteManifest repo digest) refusal low few out = out
 
 not_last : (n : ℕ) (slots : List SlotSeen) → AreLow n slots → n ≤ 65537 → ¬ HasLast slots
 not_last n slots low few last = omega (arith, (low last.0 last.1 last.2).0, few, last.3)
@@ -44,31 +55,35 @@ none_retired : (n : ℕ) → ¬ (0 < n) → n ≡ 0
 none_retired zero not = refl
 none_retired (suc n) not = absurd (not (omega arith))
 
-call_happens : (n : ℕ) (C : Catalog) (slots : List SlotSeen) (command : Command) (answer : Answer) (C' : Catalog) → AreLow n slots → n ≤ 65537 → answer ≢ Refused Memory → ActsCall C command answer C' → ExplainsCrowd slots answer → HappensCall C command answer C'
-call_happens n C slots command (Session x) C' low few not_memory h why = sym (ap (answered C) h)
-call_happens n C slots command (Received x) C' low few not_memory h why = sym (ap (answered C) h)
-call_happens n C slots command (Stored x) C' low few not_memory h why = sym (ap (answered C) h)
-call_happens n C slots command Abandoned C' low few not_memory h why = sym (ap (answered C) h)
-call_happens n C slots command Mounted C' low few not_memory h why = sym (ap (answered C) h)
-call_happens n C slots command Deleted C' low few not_memory h why = sym (ap (answered C) h)
-call_happens n C slots command (Manifest x) C' low few not_memory h why = sym (ap (answered C) h)
-call_happens n C slots command (Body x) C' low few not_memory h why = sym (ap (answered C) h)
-call_happens n C slots command (Leased x) C' low few not_memory h why = sym (ap (answered C) h)
-call_happens n C slots command (Bytes x) C' low few not_memory h why = sym (ap (answered C) h)
-call_happens n C slots command Shared C' low few not_memory h why = sym (ap (answered C) h)
-call_happens n C slots command (Verified x) C' low few not_memory h why = sym (ap (answered C) h)
-call_happens n C slots command GivenBack C' low few not_memory h why = sym (ap (answered C) h)
-call_happens n C slots command (Cleaned x) C' low few not_memory h why = sym (ap (answered C) h)
-call_happens n C slots command NoLease C' low few not_memory h why = sym (ap (answered C) h)
-call_happens n C slots command NameTaken C' low few not_memory h why = sym (ap (answered C) h)
-call_happens n C slots command (Refused refusal) C' low few not_memory h why =
-    (λ i. (Refused refusal, h.1 i)) ∙ sym (ap (answered C) (h.0 (λ e. not_memory (ap Refused e)) (λ e. let crowd = why e in not_crowded n crowd.0 slots low few crowd.1)))
+call_happens : (n : ℕ) (C : Catalog) (slots : List SlotSeen) (command : Command) (answer : Answer) (C' : Catalog) → AreLow n slots → n ≤ 65537 → answer ≢ Refused Memory → ActsCall C slots command answer C' → HappensCall C command answer C'
+call_happens n C slots command (Session x) C' low few not_memory h = sym (ap (answered C) h)
+call_happens n C slots command (Received x) C' low few not_memory h = sym (ap (answered C) h)
+call_happens n C slots command (Stored x) C' low few not_memory h = sym (ap (answered C) h)
+call_happens n C slots command Abandoned C' low few not_memory h = sym (ap (answered C) h)
+call_happens n C slots command Mounted C' low few not_memory h = sym (ap (answered C) h)
+call_happens n C slots command Deleted C' low few not_memory h = sym (ap (answered C) h)
+call_happens n C slots command (Manifest x) C' low few not_memory h = sym (ap (answered C) h)
+call_happens n C slots command (Body x) C' low few not_memory h = sym (ap (answered C) h)
+call_happens n C slots command (Leased x) C' low few not_memory h = sym (ap (answered C) h)
+call_happens n C slots command (Bytes x) C' low few not_memory h = sym (ap (answered C) h)
+call_happens n C slots command Shared C' low few not_memory h = sym (ap (answered C) h)
+call_happens n C slots command (Verified x) C' low few not_memory h = sym (ap (answered C) h)
+call_happens n C slots command GivenBack C' low few not_memory h = sym (ap (answered C) h)
+call_happens n C slots command (Cleaned x) C' low few not_memory h = sym (ap (answered C) h)
+call_happens n C slots command NoLease C' low few not_memory h = sym (ap (answered C) h)
+call_happens n C slots command NameTaken C' low few not_memory h = sym (ap (answered C) h)
+call_happens n C slots command (Refused refusal) C' low few not_memory h =
+    let refused : outcome C command ≡ Err refusal = elim (h.0 (λ e. not_memory (ap Refused e))) [
+      | inl is ↦ is
+      | inr crowded ↦ absurd (none_crowded_out n slots command refusal low few crowded)
+    ] in
+    (λ i. (Refused refusal, h.1 i)) ∙ sym (ap (answered C) refused)
 
 -- what a book does happens to its catalog, want of memory apart
 request_happens : (n : ℕ) (old new : BookState) (request : Request) (answer : Answer) → AreLow n old.slots → n ≤ 65536 → answer ≢ Refused Memory → Acts old request answer new → Happens old.catalog request answer new.catalog × AreLow (n + 1) new.slots
 request_happens n old new (Calls command) answer low few not_memory h =
-    let after = low_by_one n old.slots new.slots low h.2 in
-    (call_happens (n + 1) old.catalog new.slots command answer new.catalog after (omega (arith, few)) not_memory h.0 h.1, after)
+    let after = low_by_one n old.slots new.slots low h.1 in
+    (call_happens (n + 1) old.catalog new.slots command answer new.catalog after (omega (arith, few)) not_memory h.0, after)
 request_happens n old new (Verifies size) answer low few not_memory h = ((h.0, h.1), low_by_one n old.slots new.slots low h.2)
 request_happens n old new Sweeps answer low few not_memory h =
     let sweep = h.0 in

@@ -1,12 +1,12 @@
 -- What a book's calls say of its slots and its leases, as rows are played on it.
-use Rattle.std.proofs.Common.{◌≡◌, ◌≢◌, ◌≤◌, ◌<◌, ◌+◌, ◌∙◌, ℕ, Bool, List, true, false, Option, Some, None, Result, Ok, Err, ap, arith, inl, inr, refl, sym, length}
+use Rattle.std.proofs.Common.{◌≡◌, ◌≢◌, ◌⊎◌, ◌≤◌, ◌<◌, ◌+◌, ◌∙◌, ℕ, Bool, List, true, false, Option, Some, None, Result, Ok, Err, ap, arith, inl, inr, refl, sym, length}
 use Rattle.std.specs.Prelude.{MatchResult, slice_get, not}
 use Rattle.std.specs.Option.{ok_or}
 use Rattle.std.specs.FinMap as fmap
 use Rattle.std.proofs.lemmas.Bool.{cases_lt}
 use Rattle.std.proofs.lemmas.Option.{same_Some}
 use Rattle.blob_digest.specs.Keys.{Text}
-use Rattle.blob_digest.specs.Outcomes.{Does, ◌>>=◌, refuse}
+use Rattle.blob_digest.specs.Outcomes.{Does, OutcomeIn, ◌>>=◌, refuse}
 use Rattle.blob_digest.specs.declared.refusal.Refusal.{Refusal}
 use Rattle.blob_digest.specs.declared.refusal.Refusal.TheVariants.{NameUnknown, BlobUnknown, Memory, TooManyReaders}
 use Rattle.slot_table.specs.declared.phase.Phase.TheVariants as phase
@@ -14,9 +14,9 @@ use Rattle.store_book.specs.Catalog.{Catalog, Resident, holds, tenant_of}
 use Rattle.store_book.specs.Steps.{Outcome, lease, with_lent}
 use Rattle.store_book.specs.BookState.{SlotSeen}
 use Rattle.store_book.specs.SlotSteps as slots
-use Rattle.blobctl.specs.Answers.{Bytes, Refused}
+use Rattle.blobctl.specs.Answers.{Answer, Bytes, Refused}
 use Rattle.blobctl.specs.Commands.{Lease}
-use Rattle.blobctl.specs.Played.{ActsCall, ExplainsCrowd, RisesByOne, told}
+use Rattle.blobctl.specs.Played.{ActsCall, RisesByOne, told}
 
 -- ---- slots
 
@@ -77,35 +77,36 @@ module _ (C : Catalog) (digest : Text) where
   none_where_crowded (Some t) false None x e = absurd (let h = e in cc)
   none_where_crowded (Some t) false (Some b) x e = absurd (let h = e in cc)
 
-  refused_alike : (t : Option ℕ) (u : Bool) (f : Option Resident) (r : Refusal) → leasing true C digest t u f ≡ Err r → r ≢ TooManyReaders → leasing false C digest t u f ≡ Err r
-  refused_alike None u f r e other = e
-  refused_alike (Some t) true f r e other = e
-  refused_alike (Some t) false None r e other = e
-  refused_alike (Some t) false (Some b) r e other = absurd (other (let h = e in cc))
+  -- where a look finds a crowd, only the refusal for readers is new
+  refused_alike : (t : Option ℕ) (u : Bool) (f : Option Resident) (r : Refusal) → leasing true C digest t u f ≡ Err r → (leasing false C digest t u f ≡ Err r) ⊎ (r ≡ TooManyReaders)
+  refused_alike None u f r e = inl e
+  refused_alike (Some t) true f r e = inl e
+  refused_alike (Some t) false None r e = inl e
+  refused_alike (Some t) false (Some b) r e = inr (let h = e in cc)
 
-  not_crowded : (t : Option ℕ) (u : Bool) (f : Option Resident) → leasing false C digest t u f ≢ Err TooManyReaders
-  not_crowded None u f e = absurd (let h = e in cc)
-  not_crowded (Some t) true f e = absurd (let h = e in cc)
-  not_crowded (Some t) false None e = absurd (let h = e in cc)
-  not_crowded (Some t) false (Some b) e = absurd (let h = e in cc)
+-- a command's outcome, as an answer tells it
+pub does_told : {A B : Type 0} (view : A → B) (answer : B → Answer) (r : Result A Refusal) (C C' : Catalog) (o : OutcomeIn Catalog B) (Rise : Type 0) → Does view r C C' o → Rise
+    → MatchResult r (λ x. (told answer o ≡ Ok (answer (view x), C')) × Rise) (λ e. ((e ≢ Memory → (told answer o ≡ Err e) ⊎ ⊥) × (C' ≡ C)) × Rise)
+does_told view answer (Ok x) C C' o Rise h rise = (ap (told answer) h, rise)
+does_told view answer (Err e) C C' o Rise h rise = (((λ other. inl (ap (told answer) (h.0 other))), h.1), rise)
 
-module _ (C C' : Catalog) (repo digest bytes : Text) where
-  told_alike : (crowded : Bool) → lease crowded C repo digest ≡ Ok (bytes, C') → told Bytes (lease false C repo digest) ≡ Ok (Bytes bytes, C')
-  told_alike true e = absurd (none_where_crowded C digest (tenant_of C.tenants repo) (not (holds C repo digest)) (fmap.get C.residents digest) (bytes, C') e)
-  told_alike false e = ap (told Bytes) e
+module _ (C : Catalog) (repo digest : Text) where
+  abbrev look_at : Bool → Outcome Text
+  look_at crowded = leasing crowded C digest (tenant_of C.tenants repo) (not (holds C repo digest)) (fmap.get C.residents digest)
 
-module _ (C : Catalog) (repo digest : Text) (e : Refusal) where
-  refusal_alike : (crowded : Bool) → (e ≢ Memory → lease crowded C repo digest ≡ Err e) → e ≢ Memory → e ≢ TooManyReaders → told Bytes (lease false C repo digest) ≡ Err e
-  refusal_alike true h memory readers = ap (told Bytes) (refused_alike C digest (tenant_of C.tenants repo) (not (holds C repo digest)) (fmap.get C.residents digest) e (h memory) readers)
-  refusal_alike false h memory readers = ap (told Bytes) (h memory)
+  leased_alike : (crowded : Bool) (x : Text × Catalog) → look_at crowded ≡ Ok x → told Bytes (lease false C repo digest) ≡ Ok (Bytes x.0, x.1)
+  leased_alike true x e = absurd (none_where_crowded C digest (tenant_of C.tenants repo) (not (holds C repo digest)) (fmap.get C.residents digest) x e)
+  leased_alike false x e = ap (told Bytes) e
 
-  crowd_explained : (seen : List SlotSeen) (crowded : Bool) → (e ≢ Memory → lease crowded C repo digest ≡ Err e) → (crowded ≡ true → slots.IsCrowded digest seen) → e ≡ TooManyReaders → (d : Text) × slots.IsCrowded d seen
-  crowd_explained seen true h look is = (digest, look refl)
-  crowd_explained seen false h look is =
-      absurd (not_crowded C digest (tenant_of C.tenants repo) (not (holds C repo digest)) (fmap.get C.residents digest) (h (λ memory. absurd (let k = sym is ∙ memory in cc)) ∙ ap (λ (r : Refusal). Err r) is))
+  refused_or_crowded : (seen : List SlotSeen) (r : Refusal) (crowded : Bool) → look_at crowded ≡ Err r → (crowded ≡ true → slots.IsCrowded digest seen) → (told Bytes (lease false C repo digest) ≡ Err r) ⊎ ((r ≡ TooManyReaders) × slots.IsCrowded digest seen)
+  refused_or_crowded seen r true e look = elim (refused_alike C digest (tenant_of C.tenants repo) (not (holds C repo digest)) (fmap.get C.residents digest) r e) [
+    | inl alike ↦ inl (ap (told Bytes) alike)
+    | inr readers ↦ inr (readers, look refl)
+  ]
+  refused_or_crowded seen r false e look = inl (ap (told Bytes) e)
 
 -- a book's lease, as rows ask for it
 pub lease_acts : {A : Type 0} (view : A → Text) (r : Result A Refusal) (C C' : Catalog) (seen : List SlotSeen) (repo digest : Text) → slots.Leases view r C C' seen repo digest
-    → MatchResult r (λ x. ActsCall C (Lease repo digest) (Bytes (view x)) C') (λ e. ActsCall C (Lease repo digest) (Refused e) C' × ExplainsCrowd seen (Refused e))
-lease_acts view (Ok x) C C' seen repo digest h = told_alike C C' repo digest (view x) h.crowded h.does
-lease_acts view (Err e) C C' seen repo digest h = ((refusal_alike C repo digest e h.crowded h.does.0, h.does.1), crowd_explained C repo digest e seen h.crowded h.does.0 h.look)
+    → MatchResult r (λ x. ActsCall C seen (Lease repo digest) (Bytes (view x)) C') (λ e. ActsCall C seen (Lease repo digest) (Refused e) C')
+lease_acts view (Ok x) C C' seen repo digest h = leased_alike C repo digest h.crowded (view x, C') h.does
+lease_acts view (Err e) C C' seen repo digest h = ((λ other. refused_or_crowded C repo digest seen e h.crowded (h.does.0 other) h.look), h.does.1)

@@ -1,5 +1,5 @@
 -- What a script does to a store, and the text that is written then.
-use Rattle.std.specs.Prelude.{◌≡◌, ◌≢◌, ℕ, ◌+◌, ◌<◌, ◌≤◌, false, List, ◌++◌, Some, Result, Ok, Err}
+use Rattle.std.specs.Prelude.{◌≡◌, ◌≢◌, ◌⊎◌, ℕ, ◌+◌, ◌<◌, ◌≤◌, false, List, ◌++◌, Some, Result, Ok, Err}
 use Rattle.blob_digest.specs.Keys.{Text}
 use Rattle.blob_digest.specs.Tenants.{Tenant}
 use Rattle.blob_digest.specs.declared.refusal.Refusal.{Refusal}
@@ -65,14 +65,15 @@ Happens C Sweeps answer C' = HappensSweep C answer C'
 
 -- ---- the same of a book, which may refuse for want of memory in place of any answer, and a lease where a slot has too many readers
 
-abbrev pub ActsCall : Catalog → Command → Answer → Catalog → Type 0
-ActsCall C command (Refused refusal) C' = (refusal ≢ Memory → refusal ≢ TooManyReaders → outcome C command ≡ Err refusal) × (C' ≡ C)
-ActsCall C command answer C' = outcome C command ≡ Ok (answer, C')
+-- a lease is refused since a look found no room for one reader more
+abbrev pub IsCrowdedOut : List SlotSeen → Command → Refusal → Type 0
+IsCrowdedOut slots (Lease repo digest) refusal = (refusal ≡ TooManyReaders) × IsCrowded digest slots
+IsCrowdedOut slots command refusal = ⊥
 
--- too many readers only where a look found no room for one more on some slot
-abbrev pub ExplainsCrowd : List SlotSeen → Answer → Type 0
-ExplainsCrowd slots (Refused refusal) = refusal ≡ TooManyReaders → (digest : Text) × IsCrowded digest slots
-ExplainsCrowd slots answer = Unit {0}
+-- a command on a book, whose slots are then these
+abbrev pub ActsCall : Catalog → List SlotSeen → Command → Answer → Catalog → Type 0
+ActsCall C slots command (Refused refusal) C' = (refusal ≢ Memory → (outcome C command ≡ Err refusal) ⊎ IsCrowdedOut slots command refusal) × (C' ≡ C)
+ActsCall C slots command answer C' = outcome C command ≡ Ok (answer, C')
 
 -- a sweep of a book, which retires a slot only in its last generation
 abbrev pub ActsSweep : BookState → Answer → Catalog → Type 0
@@ -84,7 +85,7 @@ RisesByOne a b = (b.generation ≤ a.generation + 1) × (b.bound ≤ a.bound + 1
 
 -- what a book does
 abbrev pub Acts : BookState → Request → Answer → BookState → Type 0
-Acts s (Calls command) answer t = ActsCall s.catalog command answer t.catalog × ExplainsCrowd t.slots answer × EachSlot RisesByOne s.slots t.slots
+Acts s (Calls command) answer t = ActsCall s.catalog t.slots command answer t.catalog × EachSlot RisesByOne s.slots t.slots
 Acts s (Verifies size) answer t = (answer ≡ Verified size) × (t.catalog ≡ s.catalog) × EachSlot RisesByOne s.slots t.slots
 Acts s Sweeps answer t = ActsSweep s answer t.catalog × EachSlot RisesByOne s.slots t.slots
 
