@@ -47,7 +47,8 @@ pub fn filled(alloc: Global, text: &str) -> Result<String, AllocError> {
     Ok(filled)
 }
 
-/// Whether a script for a tenant of 1,000 bytes and as many slots as it has blobs writes this text.
+/// Whether a run by these arguments writes this text for a script. In both, names stand for manifests and
+/// digests, as `filled` has them.
 pub fn plays(alloc: Global, words: &[&str], script: &str, text: &str) -> bool {
     let Ok(script) = filled(alloc, script) else {
         return false;
