@@ -1,6 +1,9 @@
 pub mod BookPlays
 pub mod CommandLines
+pub mod Digits
 pub mod Inputs
+pub mod LeaseTables
+pub mod Leasing
 pub mod PlayedRows
 pub mod Records
 pub mod Replies

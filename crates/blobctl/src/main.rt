@@ -21,14 +21,22 @@ ghost use Rattle.blobctl.specs.declared.fault.Fault.TheVariants.{Write};
 
 mod alone;
 mod arguments;
-mod board;
+mod backend;
 mod fault;
 #[cfg(test)]
 mod fault_tests;
 mod fields;
+mod hex_digits;
 mod input;
+#[cfg(test)]
+mod lease_tests;
+mod leases;
+#[cfg(test)]
+mod manifest_tests;
 mod options;
 mod output;
+mod piece;
+mod pinned_book;
 mod player;
 mod reply;
 mod row;
@@ -36,7 +44,6 @@ mod run;
 mod script;
 #[cfg(test)]
 mod script_tests;
-mod seat;
 mod tenants;
 #[cfg(test)]
 mod tests;
