@@ -1,5 +1,5 @@
 -- `Book::delete`, from what its calls of the layers did.
-use Rattle.std.proofs.Common.{◌≡◌, ℕ, ◌<◌, true, List, map, Some, None, Ok, Err, refl, sym, ap, ◌∙◌, subst, arith}
+use Rattle.std.proofs.Common.{◌≡◌, ℕ, ◌<◌, true, List, Some, None, Ok, Err, refl, sym, ap, ◌∙◌, subst, arith}
 use Rattle.std.specs.Prelude.{◌&&◌}
 use Rattle.std.specs.Option.{option_map, option_map_or}
 use Rattle.std.specs.List.{find}

@@ -1,5 +1,5 @@
 -- A blob that was linked: what the catalog keeps then, and that the layers agree.
-use Rattle.std.proofs.Common.{◌≡◌, ℕ, ◌+◌, ◌<◌, Bool, true, false, cond, not, List, [], ◌∷◌, length, Option, Some, None, is_some, refl, sym, ap, ◌∙◌, subst, arith, inl, inr}
+use Rattle.std.proofs.Common.{◌≡◌, ℕ, ◌+◌, ◌<◌, Bool, true, false, cond, not, List, [], ◌∷◌, length, Option, Some, None, is_some, refl, sym, ap, ◌∙◌, subst, arith}
 use Prim.Native.Nat.{zero, suc}
 use Rattle.std.specs.Prelude.{slice_get, nat_le, ◌&&◌, if◌then◌else◌}
 use Rattle.std.specs.Option.{option_map_or}
@@ -9,7 +9,6 @@ use Rattle.std.proofs.lemmas.Bool.Decides.{nat_tests}
 use Rattle.std.specs.Cmp.Lexicographic.{nat_list_cmp_total}
 use Rattle.std.specs.Ordering.{eq_by_cmp}
 use Rattle.std.specs.FinMap.{FinMap, get, insert, len, contains_key, get-insert, same_map}
-use Rattle.std.proofs.lemmas.Bool.{cases_eq}
 use Rattle.std.proofs.lemmas.Map.Lookups.{exact_bytes}
 use Rattle.blob_digest.proofs.OptionLemmas.{some_value}
 use Rattle.blob_digest.specs.Sets as set
@@ -30,7 +29,7 @@ use Rattle.store_book.proofs.LentMarks.{length-marks, marks-on, marks-fill, unma
 use Rattle.store_book.proofs.Changing.{resident_at, mark-KeepsTies, held_at-with, catalog-change, IsTied-change}
 use Rattle.store_book.proofs.LawResident.{Lawful-put}
 use Rattle.store_book.proofs.Bridge.{holds_is}
-use Rattle.store_book.proofs.Ties.{links_of-insert, catalog-relink, IsTied-link, held_at-on, raise-KeepsBlob, held_of, slot_is_resident, not_resident, rooms}
+use Rattle.store_book.proofs.Ties.{links_of-insert, catalog-relink, IsTied-link, raise-KeepsBlob, held_of, slot_is_resident, not_resident, rooms}
 use Rattle.store_book.proofs.Fills.{stored}
 use Rattle.store_book.proofs.Placing.{catalog-fill, IsTied-fill, held_at-fill, free_slot}
 use Rattle.store_book.proofs.LawLink.{unlinked}

@@ -1,5 +1,5 @@
 -- `Book::lease`, from what its calls of the layers did.
-use Rattle.std.proofs.Common.{◌≡◌, ℕ, ◌+◌, ◌<◌, ◌≤◌, ◌^◌, Bool, true, false, List, [], ◌∷◌, length, Option, Some, None, Ok, Err, refl, sym, ap, ◌∙◌, subst, arith, inl, inr}
+use Rattle.std.proofs.Common.{◌≡◌, ℕ, ◌+◌, ◌≤◌, true, false, List, [], ◌∷◌, length, Some, None, Ok, Err, refl, sym, ap, ◌∙◌, subst, arith, inl, inr}
 use Prim.Native.Nat.{zero, suc}
 use Rattle.std.specs.Prelude.{slice_get, slice_index, slice_set, map}
 use Rattle.std.specs.Option.{option_map, option_map_or}
@@ -9,15 +9,14 @@ use Rattle.std.proofs.lemmas.List.{get_or-set_other, get_or-set_same}
 use Rattle.std.proofs.lemmas.Option.{slice_get_within}
 use Rattle.blob_digest.specs.declared.refusal.Refusal.TheVariants.{BlobUnknown, TooManyReaders}
 use Rattle.pin_core.specs.declared.world.PinRow.{PinRow}
-use Rattle.pin_core.specs.World.{row, max_weight}
+use Rattle.pin_core.specs.World.{row}
 use Rattle.pin_core.specs.Events.{new_weight}
 use Rattle.slot_table.specs.declared.phase.Phase.TheVariants as phase
-use Rattle.slot_table.specs.Slots.{Slot, Held, Content, Free, Used, Retired, content_with, held_at, held_in, phase_at, slot_of, with_slot, on_held, lend}
-use Rattle.slot_table.proofs.Finding.{live_within}
+use Rattle.slot_table.specs.Slots.{Slot, Held, Content, Free, Used, Retired, content_with, held_at, held_in, phase_at, with_slot, on_held, lend}
 use Rattle.link_table.specs.Linked.{Linked, known_tenant}
 use Rattle.upload_table.specs.Uploaded.{Uploaded}
 use Rattle.store_book.specs.BookState.{SlotSeen}
-use Rattle.store_book.specs.Catalog.{Text, Resident, Catalog, holds}
+use Rattle.store_book.specs.Catalog.{Text, Catalog, holds}
 use Rattle.store_book.specs.Keeping.{linked_slot}
 use Rattle.store_book.specs.Layers.{resident_of, book_catalog, IsBook}
 use Rattle.store_book.specs.Pinned.{Pinned, IsFull, row_of, seen, all_seen, bounded, with_both}

@@ -1,5 +1,5 @@
 -- Words that are read, and pins that are verified.
-use Rattle.std.proofs.Common.{◌≡◌, ℕ, ◌+◌, ◌<◌, ◌≤◌, ◌⊎◌, Bool, true, false, cond, List, length, map, Option, Some, None, refl, sym, ap, ◌∙◌, subst, arith, inl, inr}
+use Rattle.std.proofs.Common.{◌≡◌, ℕ, ◌<◌, ◌≤◌, ◌⊎◌, Bool, true, false, cond, length, map, Option, Some, None, refl, sym, ap, ◌∙◌, subst, arith, inl, inr}
 use Rattle.std.specs.Prelude.{slice_get, slice_index, slice_set}
 use Rattle.std.specs.Option.{option_map, option_map_or}
 use Rattle.std.specs.FinMap.{get}
@@ -13,7 +13,7 @@ use Rattle.slot_table.specs.Slots.{Slot, Held, Content, Free, Used, Retired, hel
 use Rattle.link_table.specs.Linked.{Linked}
 use Rattle.upload_table.specs.Uploaded.{Uploaded}
 use Rattle.store_book.specs.BookState.{SlotSeen}
-use Rattle.store_book.specs.Catalog.{Text, Catalog}
+use Rattle.store_book.specs.Catalog.{Catalog}
 use Rattle.store_book.specs.Layers.{book_catalog, book_state, resident_of, IsBook}
 use Rattle.store_book.specs.Pinned.{Looked, Pinned, Verified, pin_phase, row_of, seen, all_seen, bounded}
 use Rattle.store_book.specs.SlotSteps.{EachSlot, HasPin, IsStill, ReadsWord, word_phase}

@@ -1,5 +1,5 @@
 -- The slots and the keeper's rows agree, call by call; and what is seen of the slots.
-use Rattle.std.proofs.Common.{◌≡◌, ℕ, ◌+◌, ◌<◌, ◌≤◌, ◌⊎◌, Bool, true, false, cond, List, [], ◌∷◌, length, map, get_or, set as write, Option, Some, None, refl, sym, ap, ◌∙◌, subst, arith, inl, inr}
+use Rattle.std.proofs.Common.{◌≡◌, ℕ, ◌<◌, ◌≤◌, ◌⊎◌, Bool, true, false, cond, List, [], ◌∷◌, length, map, get_or, Option, Some, None, refl, sym, ap, ◌∙◌, subst, arith, inl, inr}
 use Prim.Native.Nat.{zero, suc}
 use Rattle.std.specs.Prelude.{slice_get, slice_index, slice_set, replicate, ◌≢◌, nat_le, ◌&&◌, Result, Ok, Err, if◌then◌else◌}
 use Rattle.std.specs.Option.{option_map, option_map_or}
@@ -10,7 +10,7 @@ use Rattle.std.proofs.Math.ListN.{length-set}
 use Rattle.pin_core.specs.declared.world.Phase.TheVariants as pin
 use Rattle.pin_core.specs.declared.world.PinRow.{PinRow}
 use Rattle.pin_core.specs.Events.{IsNew, given_row, in_phase}
-use Rattle.pin_core.specs.World.{IsUsed, row, no_row}
+use Rattle.pin_core.specs.World.{row, no_row}
 use Rattle.slot_table.specs.declared.phase.Phase.TheVariants as phase
 use Rattle.slot_table.specs.Slots.{opening as slots_opening}
 use Rattle.blob_digest.specs.declared.refusal.Refusal.{Refusal}
@@ -23,7 +23,7 @@ use Rattle.store_book.specs.Pinned.{Pinned, IsPinned, pin_phase, row_of, seen, a
 use Rattle.store_book.specs.SlotSteps.{EachSlot, IsQuiet}
 use Rattle.store_book.proofs.MapLemmas.{some_same}
 use Rattle.store_book.proofs.Placing.{free_slot}
-use Rattle.store_book.proofs.SlotLemmas.{with_slot-suc, length-with_slot, slot-same, slot-other, map-with_slot, held_at-same, held_at-other, slot_of_held}
+use Rattle.store_book.proofs.SlotLemmas.{with_slot-suc, length-with_slot, slot-same, slot-other, map-with_slot, held_at-same, held_at-other}
 use Rattle.slot_table.proofs.Finding.{live_within}
 use Rattle.store_book.proofs.Ties.{not_held}
 

@@ -1,6 +1,4 @@
-use Rattle.std.proofs.Common.{◌≡◌, Bool, true, false, rules, refl, sym, ap, ◌∙◌}
-use Rattle.std.specs.Prelude.{length}
-use Rattle.slot_table.specs.declared.phase.Phase.TheVariants as phase
+use Rattle.std.proofs.Common.{◌≡◌, true, false, rules, refl, sym, ap, ◌∙◌}
 use Rattle.slot_table.specs.Slots.{with_slot, on_held, raise, mark, phase_at}
 use Rattle.store_book.specs.Pinned.{Pinned, Quietly}
 use Rattle.store_book.proofs.KeepCalls.{test_at, differs_by_test, again_size, awake_live, awake_room, kept_new, kept_old}

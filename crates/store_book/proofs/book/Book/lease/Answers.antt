@@ -1,5 +1,4 @@
-use Rattle.std.proofs.Common.{◌≡◌, Bool, true, false, List, refl, sym, ap, ◌∙◌}
-use Rattle.pin_core.specs.declared.world.PinRow.{PinRow}
+use Rattle.std.proofs.Common.{true, false, refl, sym, ap, ◌∙◌}
 use Rattle.std.proofs.lemmas.Result.{err_from_is_err_and}
 use Rattle.store_book.specs.Layers.{book_catalog}
 use Rattle.store_book.specs.Pinned.{Pinned}

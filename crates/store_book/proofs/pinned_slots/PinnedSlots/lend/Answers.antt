@@ -3,7 +3,6 @@ use Rattle.pin_core.specs.declared.world.PinRow.{PinRow}
 use Rattle.std.specs.Prelude.{List}
 use Rattle.pin_core.specs.Events.{new_weight, lent_hold}
 use Rattle.pin_core.specs.World.{row}
-use Rattle.pin_table.specs.Calls.{PinValue}
 use Rattle.store_book.proofs.Pinning.{IsPinned-lent}
 use Rattle.store_book.proofs.pinned_slots.PinnedSlots.lend.Goals as goal
 
