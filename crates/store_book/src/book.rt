@@ -425,6 +425,7 @@ impl Book {
         ensures readers { IfErr result (λ e. e ≡ Refusal.TooManyReaders → IsCrowded digest.now self.new.slots) }
         ensures pin { IfOk result (λ r. (r.0.table ≡ pins.now) × (r.0.hold.digest ≡ digest.now) × (r.0.hold.weight ≡ 1024)) }
         ensures slots { (self.new.table ≡ self.old.table) × EachSlot (IsLending digest.now) self.old.slots self.new.slots }
+        ensures refused { OnErr result (EachSlot IsStill self.old.slots self.new.slots) }
     {
         let _ = self.links.tenant(repo)?;
         let Some(slot) = find_linked(&self.links, self.slots.table(), repo, digest) else {
