@@ -1,5 +1,5 @@
 -- What a book's calls say of its slots and its leases, as rows are played on it.
-use Rattle.std.proofs.Common.{◌≡◌, ◌≢◌, ◌⊎◌, ◌≤◌, ◌<◌, ◌+◌, ◌∙◌, ℕ, Bool, List, true, false, Option, Some, None, Result, Ok, Err, ap, arith, inl, inr, refl, sym, length}
+use Rattle.std.proofs.Common.{◌≡◌, ◌≢◌, ◌⊎◌, ◌∙◌, ℕ, Bool, List, true, false, Option, Some, None, Result, Ok, Err, ap, arith, inl, inr, refl, sym, length}
 use Rattle.std.specs.Prelude.{MatchResult, slice_get, not}
 use Rattle.std.specs.Option.{ok_or}
 use Rattle.std.specs.FinMap as fmap

@@ -11,8 +11,8 @@ ghost use Rattle.std.specs.Prelude.{◌≤◌, length};
 ghost use Rattle.store_book.specs.Catalog.{Catalog};
 ghost use Rattle.store_book.specs.Openings.{OpensCatalog, tenants_shown};
 
-use crate::pinned_book::{PinnedBook, TableName};
 use crate::options::Options;
+use crate::pinned_book::{PinnedBook, TableName};
 use crate::player::play;
 use crate::reply::Reply;
 use crate::row::Row;

@@ -43,7 +43,13 @@ fn a_full_store_has_a_slot_again_after_a_sweep(rt: HostRuntime) {
         "0,start,acme/one,,,,\n0,close,acme/one,1,$abc,,abc\n0,start,acme/one,,,,\n0,append,acme/one,2,,,{}\n0,close,acme/one,2,$obj,,\n0,status,acme/one,2,,,\n0,delete,acme/one,,$abc,,\n0,close,acme/one,2,$obj,,\n0,sweep,,,,,\n0,close,acme/one,2,$obj,,\n";
     let text =
         "1 session 1\n2 stored 3\n3 session 2\n4 received 2\n5 refused StoreFull\n6 received 2\n7 deleted\n8 refused StoreFull\n9 swept condemned 1 freed 1 held 0 retired 0\n10 stored 2\nbook\ntenant acme used 2 quota 1000 next 3\nrepository acme/one\nblob $obj size 2 links 1\nend\n";
-    plays_filled(&rt, rt.alloc(), &["--slots", "1", "acme=1000"], script, text);
+    plays_filled(
+        &rt,
+        rt.alloc(),
+        &["--slots", "1", "acme=1000"],
+        script,
+        text,
+    );
 }
 
 #[test]

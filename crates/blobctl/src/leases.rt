@@ -44,7 +44,7 @@ impl<'r, L: BlobLease> Model for Leases<'r, L> {
 }
 
 /// Gives back what stands in a row, if it is a lease.
-fn spend<L: BlobLease>(room: Option<L>) {
+fn release<L: BlobLease>(room: Option<L>) {
     match room {
         Some(held) => held.give_back(),
         None => {}
@@ -88,18 +88,22 @@ fn reserve<'r, L: BlobLease>(table: &mut Table<'r, L>, name: LeaseName<'r>) -> R
 {
     match put(table, name, None) {
         Ok(old) => {
-            spend(old);
+            release(old);
             Ok(())
         }
         Err(room) => {
-            spend(room);
+            release(room);
             Err(Refusal::Memory)
         }
     }
 }
 
 /// Puts a lease, or room for one, under a name that has a row, and answers what was there.
-fn exchange<'r, L: BlobLease>(table: &mut Table<'r, L>, name: LeaseName<'r>, room: Option<L>) -> Option<L>
+fn exchange<'r, L: BlobLease>(
+    table: &mut Table<'r, L>,
+    name: LeaseName<'r>,
+    room: Option<L>,
+) -> Option<L>
     requires there { HasRow table.old name }
     ensures was { option_map L.lent result ≡ fmap.get (leases_in L.lent table.old) (name_at name.entry) }
     ensures puts { leases_in L.lent table.new ≡ with_lease (leases_in L.lent table.old) (name_at name.entry) (option_map L.lent room) }
@@ -109,7 +113,7 @@ fn exchange<'r, L: BlobLease>(table: &mut Table<'r, L>, name: LeaseName<'r>, roo
     match put(table, name, room) {
         Ok(old) => old,
         Err(room) => {
-            spend(room);
+            release(room);
             unreachable!()
         }
     }
@@ -145,7 +149,7 @@ fn lend_in<'r, B: Backend>(
     match backend.lease(repo, digest) {
         Ok(held) => {
             let size = held.size();
-            spend(exchange(table, name, Some(held)));
+            release(exchange(table, name, Some(held)));
             Ok(size)
         }
         Err(refusal) => Err(refusal),
@@ -174,19 +178,23 @@ fn share_in<'r, L: BlobLease>(
     };
     match held.share() {
         Ok((one, other)) => {
-            spend(exchange(table, name, Some(one)));
-            spend(exchange(table, second, Some(other)));
+            release(exchange(table, name, Some(one)));
+            release(exchange(table, second, Some(other)));
             Ok(Reply::Shared)
         }
         Err((refusal, held)) => {
-            spend(exchange(table, name, Some(held)));
+            release(exchange(table, name, Some(held)));
             Err(refusal)
         }
     }
 }
 
 /// Has a backend look at the slot of a lease.
-fn verify_in<'r, B: Backend>(backend: &mut B, table: &mut Table<'r, B::Lease>, name: LeaseName<'r>) -> Reply
+fn verify_in<'r, B: Backend>(
+    backend: &mut B,
+    table: &mut Table<'r, B::Lease>,
+    name: LeaseName<'r>,
+) -> Reply
     requires ordered { tree.IsOrdered key_cmp table.old }
     ensures looks { VerifiesLease B.acts (fmap.get (leases_in B.Lease.lent table.old) (name_at name.entry)) backend.old (answer_of result) backend.new }
     ensures same { leases_in B.Lease.lent table.new ≡ leases_in B.Lease.lent table.old }
@@ -200,7 +208,7 @@ fn verify_in<'r, B: Backend>(backend: &mut B, table: &mut Table<'r, B::Lease>, n
     };
     let held = backend.verify(held);
     let size = held.size();
-    spend(exchange(table, name, Some(held)));
+    release(exchange(table, name, Some(held)));
     Reply::Verified(size)
 }
 
@@ -213,7 +221,7 @@ fn return_in<'r, L: BlobLease>(table: &mut Table<'r, L>, name: LeaseName<'r>) ->
     if held_in(table, name).is_none() {
         return Reply::NoLease;
     }
-    spend(exchange(table, name, None));
+    release(exchange(table, name, None));
     Reply::GivenBack
 }
 
@@ -280,7 +288,7 @@ impl<'r, L: BlobLease> Leases<'r, L> {
     pub fn end(self) {
         let Leases { mut table } = self;
         while let Some((_, room)) = table.pop_first() {
-            spend(room);
+            release(room);
         }
         table.destroy_empty();
     }

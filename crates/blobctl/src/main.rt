@@ -1,4 +1,4 @@
-//! `blobctl` plays a script of uploads on a store that lies in memory, and prints the replies and the
+//! `blobctl` plays a script of commands on a store that lies in memory, and prints the replies and the
 //! book.
 //!
 //! The script is read from standard input: CSV records (RFC 4180) of seven fields, `lane`, `command`,

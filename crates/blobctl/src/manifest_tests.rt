@@ -97,8 +97,9 @@ fn asked(alloc: Global, times: usize) -> Result<(String, String), AllocError> {
     for n in 0..times {
         script.push_str(row.as_str())?;
         let number = n.saturating_add(2);
-        let line =
-            format!(in alloc; "{number} body 7b22736368656d6156657273696f6e223a322c226d616e696665737473223a5b5d7d\n")?;
+        let line = format!(in alloc;
+            "{number} body 7b22736368656d6156657273696f6e223a322c226d616e696665737473223a5b5d7d\n"
+        )?;
         text.push_str(line.as_str())?;
     }
     let book = filled(
@@ -112,7 +113,13 @@ fn asked(alloc: Global, times: usize) -> Result<(String, String), AllocError> {
 #[test]
 fn a_manifest_is_asked_for_many_times(rt: HostRuntime) {
     let (script, text) = asked(rt.alloc(), 1000).expect(&rt, "memory");
-    plays(&rt, rt.alloc(), &["acme=1000"], script.as_bytes(), text.as_str());
+    plays(
+        &rt,
+        rt.alloc(),
+        &["acme=1000"],
+        script.as_bytes(),
+        text.as_str(),
+    );
 }
 
 #[test]

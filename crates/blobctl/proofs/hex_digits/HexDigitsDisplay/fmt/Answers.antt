@@ -1,4 +1,4 @@
-use Rattle.std.proofs.Common.{◌≡◌, ◌<◌, ◌≤◌, ◌*◌, ℕ, min, List, [], ◌++◌, length, sym, ap, ◌∙◌, arith, rules, append_assoc}
+use Rattle.std.proofs.Common.{ℕ, List, [], ◌++◌, sym, ap, ◌∙◌, rules, append_assoc}
 use Rattle.std.proofs.lemmas.List.{append-nil, nil_from_length}
 use Rattle.std.proofs.Output.{has_written_append, has_written_of_eq}
 use Rattle.std.specs.Slice.Iter.{chunks_rest}
@@ -12,8 +12,7 @@ loop-block-init g c = (search rules, tt, search rules, λ plain. ([], search rul
 pub loop-block-preserved : goal.loop-block-preserved
 loop-block-preserved g c =
     let block = c.in-Some.block.now in
-    let steps = c.in-Some.ensures.steps in
-    (
+    let steps = c.in-Some.ensures.steps in (
       search rules,
       tt,
       steps.0 ∙ c.loop-block.invariant.2,
