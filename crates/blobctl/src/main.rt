@@ -19,6 +19,8 @@ ghost use Rattle.blobctl.specs.Stops.{stop_status};
 ghost use Rattle.blobctl.specs.Texts.{fault_status};
 ghost use Rattle.blobctl.specs.declared.fault.Fault.TheVariants.{Write};
 
+#[cfg(test)]
+mod algorithm_tests;
 mod alone;
 mod arguments;
 mod backend;

@@ -8,6 +8,10 @@ use std::process::Abort;
 /// The digest of `abc`.
 const ABC: &str = "sha256:ba7816bf8f01cfea414140de5dae2223b00361a396177a9cb410ff61f20015ad";
 
+/// The digest of `abc` by SHA-512 (FIPS 180-4's first example).
+const ABC_512: &str =
+    "sha512:ddaf35a193617abacc417349ae20413112e6fa4e89a97ea20a9eeee64b55d39a2192992a274fc1a836ba3c23a3feebbd454d4423643ce80e2a9ac94fa54ca49f";
+
 /// The digest of `{}`.
 const OBJ: &str = "sha256:44136fa355b3678a1146ad16f7e8649e94fb4fc21fe77e8310c060f61caaff8a";
 
@@ -41,6 +45,7 @@ pub fn filled(alloc: Global, text: &str) -> Result<String, AllocError> {
         ("$i", IMAGE_DIGEST),
         ("$x", INDEX_DIGEST),
         ("$abc", ABC),
+        ("$a512", ABC_512),
         ("$obj", OBJ),
     ] {
         filled = filled.as_str().replace(alloc, name, value)?;
