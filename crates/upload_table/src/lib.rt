@@ -9,10 +9,12 @@
 //! one more, `Hand::fill` copies and hashes that one without the table, and `put_back` moves all of them
 //! in again. To close a session, `finish` moves the bytes of the hand into a blob, and then `forget`
 //! drops the session, or `reopen` takes the blob back and leaves the session as before it was taken. No
-//! byte is copied twice, and each goes through each of the two hashes once.
+//! byte is copied twice, and each goes through each of the two hashes once; those of a last chunk go
+//! through the one alone that the close asks for, where `Hand::fill_last` is told which.
 #![tactic(auto)]
 
 mod hand;
+mod hashed;
 mod repo_sessions;
 mod tenant_sessions;
 mod upload;

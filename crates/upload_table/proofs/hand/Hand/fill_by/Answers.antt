@@ -2,7 +2,7 @@ use Rattle.std.proofs.Common.{Some, ap, ◌∙◌}
 use Rattle.std.specs.Vec.{vec_capacity}
 use Rattle.upload_table.specs.Sessions.{Taken}
 use Rattle.upload_table.proofs.HandChunks.{hand_fill}
-use Rattle.upload_table.proofs.hand.Hand.fill.Goals as goal
+use Rattle.upload_table.proofs.hand.Hand.fill_by.Goals as goal
 
 pub returns-in-Ok-clause-ok : goal.returns-in-Ok-clause-ok
 returns-in-Ok-clause-ok c =
