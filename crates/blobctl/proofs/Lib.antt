@@ -4,6 +4,7 @@ pub mod Digits
 pub mod Inputs
 pub mod LeaseTables
 pub mod Leasing
+pub mod OneOpening
 pub mod OneRun
 pub mod PlayedRows
 pub mod Records

@@ -11,8 +11,6 @@ abbrev pub LeaseNothing : List Line → Type 0
 LeaseNothing [] = Unit {0}
 LeaseNothing (line ∷ lines) = (line.verb ≢ verb.Lease) × LeaseNothing lines
 
--- Two texts that playing one script on one new store writes, none of whose rows leases a blob, are the same.
+-- Two texts that playing one script writes, none of whose rows leases a blob, are the same.
 abbrev pub HasOneText : Type 0
-HasOneText =
-    (tenants : List Tenant) (slots max_blob : ℕ) (script text other : Text) (one : Played tenants slots max_blob script text) (two : Played tenants slots max_blob script other)
-    → one.first ≡ two.first → LeaseNothing one.rows → text ≡ other
+HasOneText = (tenants : List Tenant) (slots max_blob : ℕ) (script text other : Text) (one : Played tenants slots max_blob script text) → LeaseNothing one.rows → Played tenants slots max_blob script other → text ≡ other
