@@ -6,6 +6,7 @@ pub mod Inputs
 pub mod LeaseTables
 pub mod Leases
 pub mod Lines
+pub mod OneText
 pub mod Options
 pub mod Played
 pub mod Plays

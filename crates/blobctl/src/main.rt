@@ -32,6 +32,7 @@ mod hex_digits;
 mod input;
 #[cfg(test)]
 mod lease_tests;
+mod laws;
 mod leases;
 #[cfg(test)]
 mod manifest_tests;
