@@ -28,9 +28,9 @@ mod fault_tests;
 mod fields;
 mod hex_digits;
 mod input;
+mod laws;
 #[cfg(test)]
 mod lease_tests;
-mod laws;
 mod leases;
 #[cfg(test)]
 mod manifest_tests;
