@@ -1,5 +1,5 @@
 -- Rows none of which leases a blob have one run.
-use Rattle.std.proofs.Common.{◌≡◌, ◌≢◌, ◌⊎◌, ◌+◌, ◌∙◌, ◌∷◌, [], ℕ, List, Bool, false, true, cond, inl, inr, length, map, Option, Some, None, Result, Ok, Err, ap, arith, refl, subst, sym}
+use Rattle.std.proofs.Common.{◌≡◌, ◌≢◌, ◌+◌, ◌∙◌, ◌∷◌, [], ℕ, List, Bool, false, true, cond, inl, inr, length, map, Option, Some, None, Result, Ok, Err, ap, arith, refl, subst, sym}
 use Rattle.std.specs.Prelude.{if◌then◌else◌, is_none, count_by, nat_lt, not}
 use Rattle.std.specs.FinMap as fmap
 use Rattle.std.specs.FinMap.{get, get-empty, get-insert, same_map}
@@ -16,7 +16,7 @@ use Rattle.blob_digest.specs.declared.refusal.Refusal.TheVariants as no
 use Rattle.oci_manifest.specs.Manifests.{refs_of, max_manifest}
 use Rattle.std.specs.Option.{ok_or}
 use Rattle.store_book.specs.Catalog.{Catalog, Resident, opening, text_cmp}
-use Rattle.store_book.specs.Steps.{Outcome, tenant, start, append, close, abandon, mount, delete, put_manifest, get_manifest, delete_manifest, stored, was_lent, has_source, link_held, start_instead, has_manifest, add_manifest, check, session, not_busy, unreferenced, referrer, all_linked, manifest, linked, names, has_slot, within_quota, whole_in, lacks_room_for, cannot_open, is_full_of_manifests}
+use Rattle.store_book.specs.Steps.{Outcome, tenant, start, append, close, abandon, mount, delete, put_manifest, delete_manifest, stored, was_lent, has_source, link_held, start_instead, has_manifest, add_manifest, check, session, not_busy, unreferenced, referrer, all_linked, manifest, linked, names, has_slot, within_quota, whole_in, lacks_room_for, cannot_open, is_full_of_manifests}
 use Rattle.store_book.specs.Sweeps.{IsLeft, IsSweep, is_orphan}
 use Rattle.store_book.specs.declared.sweep.Swept.{Swept}
 use Rattle.blobctl.specs.Answers.{Answer, Cleaned, Refused}

@@ -1,7 +1,7 @@
 -- A row spells one command at most.
 use Rattle.std.proofs.Common.{◌≡◌, ◌⊎◌, Bool, false, true, inl, inr, ◌≤◌, ◌<◌, ◌^◌, ◌∙◌, ℕ, [], Option, Some, None, ap, refl, subst, sym}
 use Rattle.std.proofs.Math.Bridge.{le_prop}
-use Rattle.std.specs.Option.{option_map, unwrap_or}
+use Rattle.std.specs.Option.{unwrap_or}
 use Rattle.std.proofs.lemmas.Bool.{false≢true}
 use Rattle.blob_digest.specs.Keys.{Text}
 use Rattle.blob_digest.specs.Names.{IsRepoName}

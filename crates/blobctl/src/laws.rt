@@ -5,5 +5,4 @@ ghost use Rattle.blobctl.specs.OneText.{HasOneText};
 /// the book that are written for it are determined by the definitions.
 pub fn one_text()
     ensures { HasOneText }
-{
-}
+{}

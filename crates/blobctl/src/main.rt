@@ -30,9 +30,9 @@ mod fault_tests;
 mod fields;
 mod hex_digits;
 mod input;
+mod laws;
 #[cfg(test)]
 mod lease_tests;
-mod laws;
 mod leases;
 #[cfg(test)]
 mod manifest_tests;

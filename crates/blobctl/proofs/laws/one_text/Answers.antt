@@ -1,4 +1,4 @@
-use Rattle.std.proofs.Common.{◌≡◌, ◌∙◌, ◌++◌, List, ap, subst, sym}
+use Rattle.std.proofs.Common.{◌∙◌, ◌++◌, List, ap, subst, sym}
 use Rattle.store_book.specs.Catalog.{Catalog}
 use Rattle.store_book.specs.Printed.{book_text}
 use Rattle.blobctl.specs.Answers.{Answer}
