@@ -8,6 +8,8 @@
 //! totals. A lease is read, shared and given back without the lock.
 #![tactic(auto)]
 
+#[cfg(test)]
+mod bench;
 mod column;
 mod counters;
 mod desk;
@@ -16,6 +18,10 @@ mod lease;
 mod names;
 mod parts;
 mod store;
+#[cfg(test)]
+mod tests;
+#[cfg(test)]
+mod thread_tests;
 mod totals;
 
 pub use column::PARTS;
