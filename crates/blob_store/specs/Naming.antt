@@ -1,5 +1,5 @@
 -- What contracts see of a store's parts, which have names of their own.
-use Rattle.std.specs.Prelude.{ℕ, ◌≡◌}
+use Rattle.std.specs.Prelude.{ℕ}
 use Rattle.std.proofs.Common.{refl}
 use Rattle.std.specs.Coded.{Coded, code_by, coded×, coded_ℕ}
 use Rattle.store_book.specs.BookState.{BookState, coded_state}

@@ -99,14 +99,14 @@ impl<
     D: Ledger + Send + Sync,
     A: Ledger + Send + Sync,
     W: Abort + AllocGlobal + Threads + Wait + Sync,
-> Bench<'s, N, C, R, D, A, W>
-{
+> Bench<'s, N, C, R, D, A, W> {
     fn start(&self, desk: &mut Desk<C, R, D, A>, repo: &str) -> Result<u32, Refusal> {
         self.store.start(self.rt, desk, &name(self.rt, repo))
     }
 
     fn status(&self, desk: &mut Desk<C, R, D, A>, repo: &str, number: u32) -> Result<u64, Refusal> {
-        self.store.status(self.rt, desk, &name(self.rt, repo), number)
+        self.store
+            .status(self.rt, desk, &name(self.rt, repo), number)
     }
 
     pub fn append(
@@ -119,7 +119,8 @@ impl<
     ) -> Result<u64, Refusal> {
         let repo = name(self.rt, repo);
         let places = range(self.rt, places);
-        self.store.append(self.rt, desk, &repo, number, places, bytes)
+        self.store
+            .append(self.rt, desk, &repo, number, places, bytes)
     }
 
     pub fn close(
@@ -134,7 +135,8 @@ impl<
         let repo = name(self.rt, repo);
         let of = digest(self.rt, of);
         let places = range(self.rt, places);
-        self.store.close(self.rt, desk, &repo, number, &of, places, bytes)
+        self.store
+            .close(self.rt, desk, &repo, number, &of, places, bytes)
     }
 
     fn abandon(
@@ -143,7 +145,8 @@ impl<
         repo: &str,
         number: u32,
     ) -> Result<u64, Refusal> {
-        self.store.abandon(self.rt, desk, &name(self.rt, repo), number)
+        self.store
+            .abandon(self.rt, desk, &name(self.rt, repo), number)
     }
 
     fn mount(
@@ -155,7 +158,8 @@ impl<
     ) -> Result<Mount, Refusal> {
         let of = digest(self.rt, of);
         let from = name(self.rt, from);
-        self.store.mount(self.rt, desk, &name(self.rt, repo), &of, &from)
+        self.store
+            .mount(self.rt, desk, &name(self.rt, repo), &of, &from)
     }
 
     fn delete(&self, desk: &mut Desk<C, R, D, A>, repo: &str, of: &str) -> Result<(), Refusal> {
@@ -169,13 +173,17 @@ impl<
         repo: &str,
         bytes: &[u8],
     ) -> Result<Digest, Refusal> {
-        self.store.put_manifest(self.rt, desk, &name(self.rt, repo), bytes)
+        self.store
+            .put_manifest(self.rt, desk, &name(self.rt, repo), bytes)
     }
 
     /// Whether a manifest is answered with its bytes.
     fn gets_manifest(&self, desk: &mut Desk<C, R, D, A>, repo: &str, bytes: &[u8]) -> bool {
         let of = Digest::of(Algorithm::Sha256, bytes);
-        match self.store.get_manifest(self.rt, desk, &name(self.rt, repo), &of) {
+        match self
+            .store
+            .get_manifest(self.rt, desk, &name(self.rt, repo), &of)
+        {
             Ok(manifest) => manifest.bytes() == bytes,
             Err(_) => false,
         }
@@ -188,7 +196,8 @@ impl<
         bytes: &[u8],
     ) -> Result<(), Refusal> {
         let of = Digest::of(Algorithm::Sha256, bytes);
-        self.store.delete_manifest(self.rt, desk, &name(self.rt, repo), &of)
+        self.store
+            .delete_manifest(self.rt, desk, &name(self.rt, repo), &of)
     }
 
     fn sweep(&self) -> Swept {
@@ -203,7 +212,9 @@ impl<
 
     fn printed(&self) -> Vec<u8> {
         let mut written: Vec<u8> = Vec::new(self.rt.alloc());
-        self.store.print(self.rt, &mut written).expect(self.rt, "memory");
+        self.store
+            .print(self.rt, &mut written)
+            .expect(self.rt, "memory");
         written
     }
 

@@ -9,10 +9,12 @@ use std::marker::Brand;
 /// such a parameter belongs to the store of that name.
 pub trait Naming {
     ghost table: { TableId };
+
     ghost slots: { ℕ };
 }
 
 impl Naming for Brand {
     ghost table = { record { words = 0; slots = 0; views_name = 0; atom = 0; block = 0; offset = 0; slot_names = [] } };
+
     ghost slots = { 0 };
 }

@@ -34,8 +34,7 @@ impl<
     D: Ledger + Send + Sync,
     A: Ledger + Send + Sync,
     W: Abort + AllocGlobal + Threads + Wait + Sync,
-> Bench<'s, N, C, R, D, A, W>
-{
+> Bench<'s, N, C, R, D, A, W> {
     /// So many desks are refused.
     fn refuses_desks(&self, count: u64) {
         let rt = self.rt;
@@ -98,7 +97,13 @@ impl<
         let steps = [
             Step::Start(ONE, Ok(1)),
             Step::Append(ONE, 1, "0-1", "ab", Ok(2)),
-            Step::Append(ONE, 1, "3-3", "c", Err(Refusal::RangeInvalid { received: 2 })),
+            Step::Append(
+                ONE,
+                1,
+                "3-3",
+                "c",
+                Err(Refusal::RangeInvalid { received: 2 }),
+            ),
             Step::Status(ONE, 1, Ok(2)),
             Step::Close(ONE, 1, ABC, "2-2", "c", Ok(3)),
             Step::Mount(TWO, ABC, ONE, Ok(Mount::Mounted)),
@@ -223,11 +228,7 @@ fn play<
     D: Ledger + Send + Sync,
     A: Ledger + Send + Sync,
     W: Abort + AllocGlobal + Threads + Wait + Sync,
->(
-    rt: &W,
-    parts: Parts,
-    scene: Scene,
-)
+>(rt: &W, parts: Parts, scene: Scene)
     requires pins { (parts.book.table ≡ N.table) × (length parts.book.slots ≡ N.slots) }
     requires some { 0 < length parts.book.slots }
     requires commands { (parts.commands.name ≡ C.name) × (parts.commands.parts ≡ C.parts) }
@@ -290,7 +291,10 @@ fn refused(rt: &(impl Abort + AllocGlobal), slots: u32, names: &[&str]) -> Optio
 
 #[test]
 fn parts_are_refused_by_names_and_limits(rt: HostRuntime) {
-    assert_eq!(rt; refused(&rt, 1, &["acme", "acme"]), Some(Refusal::NameInvalid));
+    assert_eq!(rt;
+        refused(&rt, 1, &["acme", "acme"]),
+        Some(Refusal::NameInvalid)
+    );
     assert_eq!(rt; refused(&rt, 1, &["Acme"]), Some(Refusal::NameInvalid));
     assert_eq!(rt; refused(&rt, 1, &[]), Some(Refusal::LimitReached));
     assert_eq!(rt; refused(&rt, 0, &["acme"]), Some(Refusal::LimitReached));

@@ -4,14 +4,13 @@ use crate::bench::{ABC, Bench, ONE, name};
 use crate::{Desk, Naming};
 use blob_digest::Refusal;
 use std::alloc::AllocGlobal;
-use std::io;
 use std::io::Write;
 use std::process::Abort;
 use std::sync::Wait;
 use std::sync::atomic::{AtomicBool, Ordering};
 use std::sync::ledger::Ledger;
-use std::thread;
 use std::thread::Threads;
+use std::{io, thread};
 
 /// As many turns as a thread waits for another.
 const MAX_TURNS: u32 = 100_000_000;
@@ -70,8 +69,7 @@ impl<
     D: Ledger + Send + Sync,
     A: Ledger + Send + Sync,
     W: Abort + AllocGlobal + Threads + Wait + Sync,
-> Bench<'s, N, C, R, D, A, W>
-{
+> Bench<'s, N, C, R, D, A, W> {
     /// Opens session 1.
     fn opens(&self, desk: &mut Desk<C, R, D, A>) {
         let rt = self.rt;
