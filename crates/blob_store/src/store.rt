@@ -1,6 +1,6 @@
 //! The store that threads share.
 
-ghost use Rattle.std.specs.Prelude.{◌≡◌, ◌+◌, ◌<◌, IfOk, IfSome, OnErr, OnOk, length, vec_len};
+ghost use Rattle.std.specs.Prelude.{◌≡◌, ◌+◌, ◌<◌, IfOk, IfSome, OnErr, OnOk, Some, length, sum_by, vec_len};
 ghost use Rattle.std.specs.Arc.{arc_value};
 ghost use Rattle.std.specs.Io.KnownBytes.{Appends};
 ghost use Rattle.blob_digest.specs.Digests.{sha256_text};
@@ -24,6 +24,7 @@ use std::io::{self, Write};
 use std::sync::ledger::Ledger;
 use std::sync::{Arc, Mutex, Wait};
 use store_book::{Mount, Swept};
+use upload_table::Hand;
 
 /// A store that threads share: the pins, and one lock around the book with the totals.
 ///
@@ -127,6 +128,30 @@ impl<N: Naming, C: Ledger, R: Ledger, D: Ledger, A: Ledger> Store<N, C, R, D, A>
         self.kept.lock(rt).status(desk, repo, number)
     }
 
+    /// Takes a session in hand under the lock, and fills the chunk in without it. Where there is no memory for
+    /// that, the session is put back as it was.
+    fn fill(
+        &self,
+        rt: &impl Wait,
+        repo: &RepoName,
+        number: u32,
+        range: Option<ByteRange>,
+        bytes: &[u8],
+    ) -> Result<Hand, Refusal>
+        ensures filled { IfOk result (λ h. h.last ≡ Some bytes.now) }
+        ensures ends { IfOk result (λ h. IfSome range (λ r. sum_by length h.chunks + length bytes.now ≡ r.end + 1)) }
+    {
+        let len = bytes.len() as u64;
+        let hand = self.kept.lock(rt).take(repo, number, range, len)?;
+        match hand.fill(bytes) {
+            Ok(hand) => Ok(hand),
+            Err(hand) => {
+                let _ = self.kept.lock(rt).give_up(hand);
+                Err(Refusal::Memory)
+            }
+        }
+    }
+
     /// Adds a chunk to a session, and answers the received length (OCI Distribution Specification 1.1,
     /// "Pushing a blob in chunks"). A chunk without a range goes at the end. The bytes are copied and hashed
     /// without the lock, while the session is busy.
@@ -149,17 +174,8 @@ impl<N: Naming, C: Ledger, R: Ledger, D: Ledger, A: Ledger> Store<N, C, R, D, A>
         ensures err { OnErr result (desk.new ≡ desk.old) }
         ensures ends { IfOk result (λ n. IfSome range (λ r. n ≡ r.end + 1)) }
     {
-        let hand = self
-            .kept
-            .lock(rt)
-            .take(repo, number, range, bytes.len() as u64)?;
-        match hand.fill(bytes) {
-            Ok(hand) => self.kept.lock(rt).put_back(desk, hand),
-            Err(hand) => {
-                let _ = self.kept.lock(rt).give_up(hand);
-                Err(Refusal::Memory)
-            }
-        }
+        let hand = self.fill(rt, repo, number, range, bytes)?;
+        self.kept.lock(rt).put_back(desk, hand)
     }
 
     /// Closes a session with its last chunk, which may be empty: its bytes become the blob of this
@@ -185,17 +201,8 @@ impl<N: Naming, C: Ledger, R: Ledger, D: Ledger, A: Ledger> Store<N, C, R, D, A>
         ensures err { OnErr result (desk.new ≡ desk.old) }
         ensures ends { IfOk result (λ n. IfSome range (λ r. n ≡ r.end + 1)) }
     {
-        let hand = self
-            .kept
-            .lock(rt)
-            .take(repo, number, range, bytes.len() as u64)?;
-        match hand.fill(bytes) {
-            Ok(hand) => self.kept.lock(rt).finish(&self.pins, desk, hand, digest),
-            Err(hand) => {
-                let _ = self.kept.lock(rt).give_up(hand);
-                Err(Refusal::Memory)
-            }
-        }
+        let whole = self.fill(rt, repo, number, range, bytes)?;
+        self.kept.lock(rt).finish(&self.pins, desk, whole, digest)
     }
 
     /// Gives a session up with its bytes, and answers how many it had received. Its number is not
