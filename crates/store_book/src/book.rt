@@ -1,4 +1,6 @@
-ghost use Rattle.std.specs.Prelude.{◌≡◌, ◌<◌, length, Some, IfOk, IfErr, OnErr, OnOk};
+ghost use Rattle.std.specs.Prelude.{◌≡◌, ◌≢◌, ◌<◌, length, Some, IfOk, IfErr, IsOk, OnErr, OnOk};
+ghost use Rattle.std.specs.FinMap.{get};
+ghost use Rattle.blob_digest.specs.declared.refusal.Refusal.TheVariants.{UploadUnknown};
 ghost use Rattle.blob_digest.specs.Outcomes.{Answers, Does, DoesExactly};
 ghost use Rattle.link_table.specs.Tenancy.{tenants_shown};
 ghost use Rattle.store_book.specs.Laws.{Sound};
@@ -8,6 +10,7 @@ ghost use Rattle.store_book.specs.Printed.{book_text};
 ghost use Rattle.store_book.specs.SlotSteps.{EachSlot, HasLast, HasPin, IsCrowded, IsHousing, IsLending, IsQuiet, IsStill, IsSweptSlot, Leases, ReadsWord};
 ghost use Rattle.store_book.specs.Steps.{start, status, append, close, abandon, mount, delete, put_manifest, get_manifest, delete_manifest, take, put_back, finish, given_back};
 ghost use Rattle.store_book.specs.Sweeps.{IsSweep};
+ghost use Rattle.upload_table.specs.Sessions.{taken_session};
 ghost use Rattle.upload_table.specs.Uploaded.{IsFull};
 ghost use Rattle.std.specs.Arc.{arc_value};
 ghost use Rattle.std.specs.Io.KnownBytes.{Appends};
@@ -238,6 +241,7 @@ impl Book {
         requires table { self.old.table ≡ pins.now }
         requires full { IsFull hand }
         ensures does { Does (λ n. n) result (given_back self.old.catalog hand) self.new.catalog (finish self.old.catalog hand digest.now) }
+        ensures taken { IfErr result (λ e. e ≢ UploadUnknown → IsOk (taken_session (get self.old.catalog.sessions hand.key) hand)) }
         ensures slots { (self.new.table ≡ self.old.table) × EachSlot IsQuiet self.old.slots self.new.slots }
         ensures housed { OnOk result (EachSlot (IsHousing digest.now) self.old.slots self.new.slots) }
         ensures kept { OnErr result (self.new.slots ≡ self.old.slots) }
@@ -472,6 +476,13 @@ impl Book {
         ensures slots { (self.new.table ≡ self.old.table) × EachSlot IsStill self.old.slots self.new.slots }
     {
         self.slots.word(pins, slot)
+    }
+
+    /// Changes nothing, and tells that what the book keeps is a sound catalog.
+    pub fn audit(&self)
+        ensures { Sound self.now.catalog }
+    {
+        let _ = &self.links;
     }
 
     /// Writes the text of the book, without taking memory: `book`; each tenant in the order of the

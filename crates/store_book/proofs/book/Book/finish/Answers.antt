@@ -1,4 +1,4 @@
-use Rattle.std.proofs.Common.{◌≡◌, [], Option, length, ap, ◌∙◌, arith, subst}
+use Rattle.std.proofs.Common.{◌≡◌, [], Option, is_ok, length, ap, ◌∙◌, arith, subst}
 use Rattle.std.specs.Option.{option_map_or}
 use Rattle.std.specs.FinMap.{remove}
 use Rattle.blob_digest.specs.Keys.{Text}
@@ -120,3 +120,13 @@ returns-in-Ok-keep-clause-housed c =
     let p = layer_finished c.self.inside.uploads c.args.hand c.args.digest.now c.in-Ok.both.0 c.finish.new.self c.in-Ok.ensures.does in
     rw (← c.self.view_is) (subst (λ (b : Text × Text). EachSlot (IsHousing b.0) (all_seen c.self.inside.slots.slots c.self.inside.slots.bounds) (all_seen c.keep.new.slots.slots c.keep.new.slots.bounds)) p.3
     (EachSlot-housed c.self.inside.slots c.keep.new.slots c.self.inside.links c.keep.new.links c.repo_of-repo.result.now c.in-Ok.both.0 c.in-Ok-keep.ensures.quiet c.in-Ok-keep.ensures.ok))
+
+pub returns-in_default-clause-taken : goal.returns-in_default-clause-taken
+returns-in_default-clause-taken c =
+    let p = layer_refused c.self.inside.uploads c.args.hand c.args.digest.now c.in-Err.refusal c.in-Err.ensures.does.0 (λ e. c.in_default.not-UploadUnknown e) in
+    λ _. rw (← c.self.view_is) (ap is_ok p.1)
+
+pub returns-in-Err-keep-clause-taken : goal.returns-in-Err-keep-clause-taken
+returns-in-Err-keep-clause-taken c =
+    let p = layer_finished c.self.inside.uploads c.args.hand c.args.digest.now c.in-Ok.both.0 c.finish.new.self c.in-Ok.ensures.does in
+    λ _. rw (← c.self.view_is) (ap is_ok p.1)

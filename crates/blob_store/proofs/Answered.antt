@@ -1,0 +1,48 @@
+-- What an accepted command tells of its answer.
+use Rattle.std.proofs.Common.{◌≡◌, ℕ, Bool, true, List, Option, Some, Result, Ok, Err, sym, ap, ◌∙◌}
+use Rattle.std.specs.Prelude.{OnOk}
+use Rattle.std.specs.FinMap.{get}
+use Rattle.std.specs.Io.KnownBytes.{Appends}
+use Rattle.blob_digest.specs.Digests.{is_digest_of, sha256_text}
+use Rattle.blob_digest.specs.declared.refusal.Refusal.TheVariants.{BlobUnknown, ManifestUnknown, TooManyReaders}
+use Rattle.store_book.specs.Catalog.{Text, Resident, Catalog}
+use Rattle.store_book.specs.Laws.{Lawful, Sound}
+use Rattle.store_book.specs.Printed.{book_text}
+use Rattle.store_book.specs.Steps.{tenant, get_manifest, linked, linked_blob, lease, with_lent, refuse}
+use Rattle.store_book.proofs.Outcomes.{answer_by, bound_ok, left_by, some_of_ok}
+
+-- ---- blobs and manifests
+
+-- a blob that was lent
+pub record Lent (C C' : Catalog) (digest bytes : Text) : Type 0 where
+  pub blob : Resident
+  pub found : get C.residents digest ≡ Some blob
+  pub same : blob.bytes ≡ bytes
+  pub left : with_lent C digest blob ≡ C'
+
+pub lent : (C C' : Catalog) (crowded : Bool) (repo digest bytes : Text) → lease crowded C repo digest ≡ Ok (bytes, C') → Lent C C' digest bytes
+lent C C' crowded repo digest bytes stepped =
+    let a = bound_ok (tenant C repo) _ (bytes, C') stepped in
+    let b = bound_ok (linked_blob C repo digest) _ (bytes, C') a.2 in
+    let c = bound_ok (refuse crowded TooManyReaders) _ (bytes, C') b.2 in
+    let held = bound_ok (linked C repo digest) _ b.0 b.1 in
+    record { blob = b.0; found = some_of_ok _ BlobUnknown b.0 held.2; same = answer_by c.2; left = left_by c.2 }
+
+-- a blob that is lent has its digest
+pub lent_content : (C C' : Catalog) (crowded : Bool) (repo digest bytes : Text) → Lawful C → lease crowded C repo digest ≡ Ok (bytes, C') → is_digest_of digest bytes ≡ true
+lent_content C C' crowded repo digest bytes lawful stepped =
+    let l = lent C C' crowded repo digest bytes stepped in
+    ap (is_digest_of digest) (sym l.same) ∙ lawful.content digest l.blob l.found
+
+-- a manifest is under its digest
+pub manifest_digest : (C : Catalog) (repo digest bytes : Text) → Lawful C → get_manifest C repo digest ≡ Ok bytes → sha256_text bytes ≡ digest
+manifest_digest C repo digest bytes lawful answered =
+    let a = bound_ok (tenant C repo) _ bytes answered in
+    let law = lawful.manifests (repo, digest) bytes (some_of_ok _ ManifestUnknown bytes a.2) in
+    sym law.name
+
+-- ---- the text
+
+pub some_book : {A E : Type 0} (r : Result A E) (C : Catalog) (before after : Option (List ℕ)) → Sound C → OnOk r (Appends before after (book_text C)) → OnOk r ((D : Catalog) × Sound D × Appends before after (book_text D))
+some_book (Ok a) C before after sound text = (C, sound, text)
+some_book (Err e) C before after sound text = tt

@@ -1,0 +1,23 @@
+use Rattle.std.proofs.Common.{ap, arith}
+use Rattle.upload_table.specs.Sessions.{received, reserved_of}
+use Rattle.blob_store.specs.Counting.{hand_of}
+use Rattle.blob_store.specs.Totals.{Counts}
+use Rattle.blob_store.proofs.SessionSums.{no_sessions}
+use Rattle.blob_store.proofs.kept.Kept.new.Goals as goal
+
+pub invariant_of-result : goal.invariant_of-result
+invariant_of-result g c =
+    let none = c.requires.book in
+    let bytes = no_sessions c.args.book.catalog.sessions (λ e. received e.1) none in
+    let commands = ap (λ (k : Counts). k.totals.commands) c.requires.counters in
+    let received = ap (λ (k : Counts). k.totals.received) c.requires.counters in
+    let closed = ap (λ (k : Counts). k.totals.closed) c.requires.counters in
+    let abandoned = ap (λ (k : Counts). k.totals.abandoned) c.requires.counters in (
+      no_sessions c.args.book.catalog.sessions hand_of none,
+      no_sessions c.args.book.catalog.sessions (λ e. reserved_of e.1.chunks) none,
+      omega arith,
+      omega arith,
+      omega arith,
+      c.requires.named.0,
+      c.requires.named.1,
+    )

@@ -1,0 +1,276 @@
+//! What the tests are written with: a store under names, and the commands of a table, each with its answer.
+
+ghost use Rattle.std.specs.Prelude.{◌<◌};
+
+use crate::{Desk, Lease, Naming, Store};
+use blob_digest::{Algorithm, ByteRange, Digest, Refusal, RepoName};
+use std::alloc::AllocGlobal;
+use std::process::Abort;
+use std::sync::Wait;
+use std::sync::ledger::Ledger;
+use std::thread::Threads;
+use store_book::{Config, Mount, Swept};
+
+pub const ABC: &str = "sha256:ba7816bf8f01cfea414140de5dae2223b00361a396177a9cb410ff61f20015ad";
+
+pub const OBJ: &str = "sha256:44136fa355b3678a1146ad16f7e8649e94fb4fc21fe77e8310c060f61caaff8a";
+
+pub const ONE: &str = "acme/one";
+
+pub const TWO: &str = "acme/two";
+
+pub fn digest(rt: &(impl Abort + AllocGlobal), text: &str) -> Digest {
+    Digest::parse(text.as_bytes()).expect(rt, "a digest")
+}
+
+pub fn name(rt: &(impl Abort + AllocGlobal), text: &str) -> RepoName {
+    RepoName::parse(rt.alloc(), text.as_bytes()).expect(rt, "a name")
+}
+
+/// The range of a text; none where it is empty.
+fn range(rt: &(impl Abort + AllocGlobal), text: &str) -> Option<ByteRange> {
+    if text.is_empty() {
+        return None;
+    }
+    Some(ByteRange::parse(text.as_bytes()).expect(rt, "a range"))
+}
+
+/// A store of so many slots, and tenants of the same large quota.
+pub fn config(rt: &(impl Abort + AllocGlobal), slots: u32, names: &[&str]) -> Config {
+    let alloc = rt.alloc();
+    let mut tenants = Vec::new(alloc);
+    for name in names {
+        let name = String::from_str(alloc, name).expect(rt, "memory");
+        tenants.push((name, 1 << 40)).expect(rt, "memory");
+    }
+    Config {
+        slots,
+        max_blob: 1 << 40,
+        tenants,
+        first_generation: 0,
+    }
+}
+
+/// A command with what it has to answer. Repositories, digests and ranges are texts; where that of a range is
+/// empty, there is none.
+#[derive(Clone, Copy)]
+pub enum Step<'a> {
+    Start(&'a str, Result<u32, Refusal>),
+    Status(&'a str, u32, Result<u64, Refusal>),
+    Append(&'a str, u32, &'a str, &'a str, Result<u64, Refusal>),
+    Close(&'a str, u32, &'a str, &'a str, &'a str, Result<u64, Refusal>),
+    Abandon(&'a str, u32, Result<u64, Refusal>),
+    Mount(&'a str, &'a str, &'a str, Result<Mount, Refusal>),
+    Delete(&'a str, &'a str, Result<(), Refusal>),
+    /// A put of these bytes, which answers their digest.
+    PutManifest(&'a str, &'a str),
+    /// A get of the manifest of these bytes.
+    GetManifest(&'a str, &'a str),
+    /// A delete of the manifest of these bytes.
+    DeleteManifest(&'a str, &'a str, Result<(), Refusal>),
+    /// A sweep, with how many blobs it condemned, and how many slots it freed and left to leases.
+    Sweep(u32, u32, u32),
+    /// The word of slot 0 is this.
+    Word(u64),
+    /// The text of the book is this.
+    Prints(&'a str),
+}
+
+/// A store, with what runs the test.
+#[derive(Clone, Copy)]
+pub struct Bench<
+    's,
+    N: Naming + Send + Sync,
+    C: Ledger + Send + Sync,
+    R: Ledger + Send + Sync,
+    D: Ledger + Send + Sync,
+    A: Ledger + Send + Sync,
+    W: Abort + AllocGlobal + Threads + Wait + Sync,
+> {
+    pub rt: &'s W,
+    pub store: &'s Store<N, C, R, D, A>,
+}
+
+impl<
+    's,
+    N: Naming + Send + Sync,
+    C: Ledger + Send + Sync,
+    R: Ledger + Send + Sync,
+    D: Ledger + Send + Sync,
+    A: Ledger + Send + Sync,
+    W: Abort + AllocGlobal + Threads + Wait + Sync,
+> Bench<'s, N, C, R, D, A, W> {
+    fn start(&self, desk: &mut Desk<C, R, D, A>, repo: &str) -> Result<u32, Refusal> {
+        self.store.start(self.rt, desk, &name(self.rt, repo))
+    }
+
+    fn status(&self, desk: &mut Desk<C, R, D, A>, repo: &str, number: u32) -> Result<u64, Refusal> {
+        self.store
+            .status(self.rt, desk, &name(self.rt, repo), number)
+    }
+
+    pub fn append(
+        &self,
+        desk: &mut Desk<C, R, D, A>,
+        repo: &str,
+        number: u32,
+        places: &str,
+        bytes: &[u8],
+    ) -> Result<u64, Refusal> {
+        let repo = name(self.rt, repo);
+        let places = range(self.rt, places);
+        self.store
+            .append(self.rt, desk, &repo, number, places, bytes)
+    }
+
+    pub fn close(
+        &self,
+        desk: &mut Desk<C, R, D, A>,
+        repo: &str,
+        number: u32,
+        of: &str,
+        places: &str,
+        bytes: &[u8],
+    ) -> Result<u64, Refusal> {
+        let repo = name(self.rt, repo);
+        let of = digest(self.rt, of);
+        let places = range(self.rt, places);
+        self.store
+            .close(self.rt, desk, &repo, number, &of, places, bytes)
+    }
+
+    fn abandon(
+        &self,
+        desk: &mut Desk<C, R, D, A>,
+        repo: &str,
+        number: u32,
+    ) -> Result<u64, Refusal> {
+        self.store
+            .abandon(self.rt, desk, &name(self.rt, repo), number)
+    }
+
+    fn mount(
+        &self,
+        desk: &mut Desk<C, R, D, A>,
+        repo: &str,
+        of: &str,
+        from: &str,
+    ) -> Result<Mount, Refusal> {
+        let of = digest(self.rt, of);
+        let from = name(self.rt, from);
+        self.store
+            .mount(self.rt, desk, &name(self.rt, repo), &of, &from)
+    }
+
+    fn delete(&self, desk: &mut Desk<C, R, D, A>, repo: &str, of: &str) -> Result<(), Refusal> {
+        let of = digest(self.rt, of);
+        self.store.delete(self.rt, desk, &name(self.rt, repo), &of)
+    }
+
+    fn put_manifest(
+        &self,
+        desk: &mut Desk<C, R, D, A>,
+        repo: &str,
+        bytes: &[u8],
+    ) -> Result<Digest, Refusal> {
+        self.store
+            .put_manifest(self.rt, desk, &name(self.rt, repo), bytes)
+    }
+
+    /// Whether a manifest is answered with its bytes.
+    fn gets_manifest(&self, desk: &mut Desk<C, R, D, A>, repo: &str, bytes: &[u8]) -> bool {
+        let of = Digest::of(Algorithm::Sha256, bytes);
+        match self
+            .store
+            .get_manifest(self.rt, desk, &name(self.rt, repo), &of)
+        {
+            Ok(manifest) => manifest.bytes() == bytes,
+            Err(_) => false,
+        }
+    }
+
+    fn delete_manifest(
+        &self,
+        desk: &mut Desk<C, R, D, A>,
+        repo: &str,
+        bytes: &[u8],
+    ) -> Result<(), Refusal> {
+        let of = Digest::of(Algorithm::Sha256, bytes);
+        self.store
+            .delete_manifest(self.rt, desk, &name(self.rt, repo), &of)
+    }
+
+    fn sweep(&self) -> Swept {
+        self.store.sweep(self.rt)
+    }
+
+    fn word(&self) -> u64
+        requires { 0 < N.slots }
+    {
+        self.store.word(self.rt, 0)
+    }
+
+    fn printed(&self) -> Vec<u8> {
+        let mut written: Vec<u8> = Vec::new(self.rt.alloc());
+        self.store
+            .print(self.rt, &mut written)
+            .expect(self.rt, "memory");
+        written
+    }
+
+    /// Whether a step answers what it has to.
+    fn goes(&self, desk: &mut Desk<C, R, D, A>, step: &Step) -> bool
+        requires { 0 < N.slots }
+    {
+        match step {
+            Step::Start(repo, wanted) => self.start(desk, repo) == *wanted,
+            Step::Status(repo, number, wanted) => self.status(desk, repo, *number) == *wanted,
+            Step::Append(repo, number, places, bytes, wanted) => {
+                self.append(desk, repo, *number, places, bytes.as_bytes()) == *wanted
+            }
+            Step::Close(repo, number, of, places, bytes, wanted) => {
+                self.close(desk, repo, *number, of, places, bytes.as_bytes()) == *wanted
+            }
+            Step::Abandon(repo, number, wanted) => self.abandon(desk, repo, *number) == *wanted,
+            Step::Mount(repo, of, from, wanted) => self.mount(desk, repo, of, from) == *wanted,
+            Step::Delete(repo, of, wanted) => self.delete(desk, repo, of) == *wanted,
+            Step::PutManifest(repo, bytes) => {
+                let of = Digest::of(Algorithm::Sha256, bytes.as_bytes());
+                self.put_manifest(desk, repo, bytes.as_bytes()) == Ok(of)
+            }
+            Step::GetManifest(repo, bytes) => self.gets_manifest(desk, repo, bytes.as_bytes()),
+            Step::DeleteManifest(repo, bytes, wanted) => {
+                self.delete_manifest(desk, repo, bytes.as_bytes()) == *wanted
+            }
+            Step::Sweep(condemned, freed, held) => {
+                let wanted = Swept {
+                    condemned: *condemned,
+                    freed: *freed,
+                    held: *held,
+                    retired: 0,
+                };
+                self.sweep() == wanted
+            }
+            Step::Word(wanted) => self.word() == *wanted,
+            Step::Prints(wanted) => self.printed().as_slice() == wanted.as_bytes(),
+        }
+    }
+
+    /// Plays a table of commands on one desk.
+    pub fn plays(&self, desk: &mut Desk<C, R, D, A>, steps: &[Step])
+        requires { 0 < N.slots }
+    {
+        let rt = self.rt;
+        for step in steps {
+            assert!(rt; self.goes(desk, step));
+        }
+    }
+
+    /// A lease of a blob that `acme/one` holds.
+    pub fn leases(&self, desk: &mut Desk<C, R, D, A>, of: &str) -> Lease<'s, N> {
+        let of = digest(self.rt, of);
+        self.store
+            .lease(self.rt, desk, &name(self.rt, ONE), &of)
+            .expect(self.rt, "a lease")
+    }
+}

@@ -1,0 +1,35 @@
+//! The store that threads share: the book with its totals under one lock, the desks of those who use it, and
+//! their leases.
+//!
+//! It stands on `store_book`, whose outcomes its contracts name, on `upload_table` for sessions in hand, on
+//! `pin_table` for the pins of leases, and on std's ledgers, whose shares the desks hold. Each time the lock is
+//! got, the book is sound, and the bytes received are those in sessions, closed and abandoned. What a desk
+//! got is what its accepted commands come to; once all desks are settled, the sums of their shares are the
+//! totals. A lease is read, shared and given back without the lock.
+#![tactic(auto)]
+
+#[cfg(test)]
+mod bench;
+mod column;
+mod counters;
+mod desk;
+mod kept;
+mod lease;
+mod names;
+mod parts;
+mod store;
+#[cfg(test)]
+mod tests;
+#[cfg(test)]
+mod thread_tests;
+mod totals;
+
+pub use column::PARTS;
+pub use counters::Counters;
+pub use desk::{Desk, Settled};
+pub use kept::{Kept, MAX_DESKS};
+pub use lease::Lease;
+pub use names::Naming;
+pub use parts::Parts;
+pub use store::Store;
+pub use totals::Totals;

@@ -1,0 +1,69 @@
+//! What a store is made of.
+
+ghost use Rattle.std.specs.Prelude.{◌≡◌, IfOk, IfErr};
+ghost use Rattle.store_book.specs.Openings.{OpensBook, RefusesBook, tenants_shown};
+
+use crate::column::PARTS;
+use blob_digest::Refusal;
+use pin_table::Pins;
+use std::alloc::Global;
+use std::marker::Model;
+use std::sync::ledger::Blank;
+use store_book::{Book, Config};
+
+/// The parts of a store: a new book with its pins, and four new ledgers. No type names them yet, which is
+/// done by `Store::new`.
+#[derive(Drop)]
+pub struct Parts {
+    pub(crate) alloc: Global,
+    pub(crate) book: Book,
+    pub(crate) pins: Pins,
+    pub(crate) commands: Blank,
+    pub(crate) received: Blank,
+    pub(crate) closed: Blank,
+    pub(crate) abandoned: Blank,
+}
+
+impl Model for Parts {
+    ghost use Rattle.std.specs.Prelude.{◌≡◌};
+    ghost use Rattle.std.specs.FinMap.{empty};
+    ghost use Rattle.blob_store.specs.Naming.{Parted, coded_parted};
+
+    ghost Value = { Parted };
+
+    ghost coded = { coded_parted };
+
+    ghost view = { λ p. record {
+      book = p.book;
+      commands = record { name = p.commands.name; parts = p.commands.parts };
+      received = record { name = p.received.name; parts = p.received.parts };
+      closed = record { name = p.closed.name; parts = p.closed.parts };
+      abandoned = record { name = p.abandoned.name; parts = p.abandoned.parts };
+    } };
+
+    ghost invariant = { λ p. (p.book.table ≡ p.pins) × (p.book.catalog.sessions ≡ empty) × (p.commands.parts ≡ 1025) × (p.received.parts ≡ 1025) × (p.closed.parts ≡ 1025) × (p.abandoned.parts ≡ 1025) };
+}
+
+impl Parts {
+    /// The parts of a new store: its tenants in the order of their names, no repository, and every slot
+    /// free.
+    ///
+    /// Refused, in this order: a tenant's name that is no component of a repository's name or comes
+    /// twice (`NameInvalid`); a count, a quota or a size beyond its limit (`LimitReached`); want of
+    /// memory.
+    pub fn new(alloc: Global, config: &Config) -> Result<Parts, Refusal>
+        ensures opened { IfOk result (λ p. OpensBook (tenants_shown config.now.tenants.items) config.now.slots config.now.max_blob config.now.first_generation p.book) }
+        ensures refused { IfErr result (λ e. RefusesBook e (tenants_shown config.now.tenants.items) config.now.slots config.now.max_blob) }
+    {
+        let (book, pins) = Book::new(alloc, config)?;
+        Ok(Parts {
+            alloc,
+            book,
+            pins,
+            commands: Blank::new(PARTS),
+            received: Blank::new(PARTS),
+            closed: Blank::new(PARTS),
+            abandoned: Blank::new(PARTS),
+        })
+    }
+}

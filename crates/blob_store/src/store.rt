@@ -1,0 +1,382 @@
+//! The store that threads share.
+
+ghost use Rattle.std.specs.Prelude.{◌≡◌, ◌+◌, ◌<◌, IfOk, IfSome, OnErr, OnOk, Some, length, sum_by, vec_len};
+ghost use Rattle.std.specs.Arc.{arc_value};
+ghost use Rattle.std.specs.Io.KnownBytes.{Appends};
+ghost use Rattle.blob_digest.specs.Digests.{sha256_text};
+ghost use Rattle.store_book.specs.Catalog.{Catalog};
+ghost use Rattle.store_book.specs.Laws.{Sound};
+ghost use Rattle.store_book.specs.Printed.{book_text};
+ghost use Rattle.blob_store.specs.Totals.{nothing, plus, one, sum_of};
+
+use crate::counters::Counters;
+use crate::desk::{Desk, Settled};
+use crate::kept::Kept;
+use crate::lease::Lease;
+use crate::names::Naming;
+use crate::parts::Parts;
+use crate::totals::Totals;
+use blob_digest::{ByteRange, Digest, Refusal, RepoName};
+use oci_manifest::Manifest;
+use pin_table::Pins;
+use std::alloc::Global;
+use std::io::{self, Write};
+use std::sync::ledger::Ledger;
+use std::sync::{Arc, Mutex, Wait};
+use store_book::{Mount, Swept};
+use upload_table::Hand;
+
+/// A store that threads share: the pins, and one lock around the book with the totals.
+///
+/// Each command is the lock around one function of `Kept`, of the same name, whose contract says what it does
+/// to the book and the totals; `append` and `close` are the lock around two of them, and copy and hash
+/// between the two without it. Here it is said what a command does to the desk of its caller. All of them
+/// may wait for the lock.
+#[derive(Drop)]
+pub struct Store<N: Naming, C: Ledger, R: Ledger, D: Ledger, A: Ledger> {
+    pins: Pins,
+    kept: Mutex<Kept<N, C, R, D, A>>,
+    alloc: Global,
+    ghost named: { pins ≡ N.table },
+}
+
+impl<N: Naming, C: Ledger, R: Ledger, D: Ledger, A: Ledger> Store<N, C, R, D, A> {
+    /// The store of these parts, which the type parameters name: the table of the pins with its slots, and
+    /// the ledgers of accepted commands, of bytes received, closed and abandoned.
+    pub fn new(parts: Parts) -> Store<N, C, R, D, A>
+        requires pins { (parts.book.table ≡ N.table) × (length parts.book.slots ≡ N.slots) }
+        requires commands { (parts.commands.name ≡ C.name) × (parts.commands.parts ≡ C.parts) }
+        requires received { (parts.received.name ≡ R.name) × (parts.received.parts ≡ R.parts) }
+        requires closed { (parts.closed.name ≡ D.name) × (parts.closed.parts ≡ D.parts) }
+        requires abandoned { (parts.abandoned.name ≡ A.name) × (parts.abandoned.parts ≡ A.parts) }
+    {
+        let Parts {
+            alloc,
+            book,
+            pins,
+            commands,
+            received,
+            closed,
+            abandoned,
+        } = parts;
+        let counters = Counters::new(commands, received, closed, abandoned);
+        Store {
+            pins,
+            kept: Mutex::new(Kept::new(book, counters)),
+            alloc,
+        }
+    }
+
+    /// Makes desks with empty shares.
+    ///
+    /// Refused, in this order: no desks, or more than 1,024 that would be out (`LimitReached`); want of
+    /// memory.
+    pub fn desks(&self, rt: &impl Wait, count: u64) -> Result<Vec<Desk<C, R, D, A>>, Refusal>
+        ensures { IfOk result (λ v. (vec_len v ≡ count) × (sum_of v.items ≡ nothing)) }
+    {
+        self.kept.lock(rt).desks(self.alloc, count)
+    }
+
+    /// Settles desks: the sums of their shares, and the number of desks still out. Where that is 0, the totals
+    /// are the sums of all shares settled so far.
+    pub fn settle(&self, rt: &impl Wait, desks: Vec<Desk<C, R, D, A>>) -> Settled
+        ensures { (result.commands ≡ (sum_of desks.items).commands) × (result.received ≡ (sum_of desks.items).received) × (result.closed ≡ (sum_of desks.items).closed) × (result.abandoned ≡ (sum_of desks.items).abandoned) }
+    {
+        self.kept.lock(rt).settle(desks)
+    }
+
+    /// The totals.
+    pub fn totals(&self, rt: &impl Wait) -> Totals
+        ensures { result.received ≡ result.in_sessions + result.closed + result.abandoned }
+    {
+        self.kept.lock(rt).totals()
+    }
+
+    /// Opens a session in a repository, and answers its number (OCI Distribution Specification 1.1,
+    /// "Pushing a blob in chunks", the opening POST). The repository appears with it.
+    ///
+    /// Refused, in this order: a tenant that is not there (`NameUnknown`); a tenant that has 1,024
+    /// repositories where this one is new, or 64 sessions, or no session number left
+    /// (`LimitReached`); want of memory.
+    pub fn start(
+        &self,
+        rt: &impl Wait,
+        desk: &mut Desk<C, R, D, A>,
+        repo: &RepoName,
+    ) -> Result<u32, Refusal>
+        ensures ok { OnOk result (desk.new ≡ plus desk.old (one 0 0 0)) }
+        ensures err { OnErr result (desk.new ≡ desk.old) }
+    {
+        self.kept.lock(rt).start(desk, repo)
+    }
+
+    /// How many bytes a session has received (OCI Distribution Specification 1.1, "Pushing a blob in
+    /// chunks", the GET of a session's location). It takes no memory.
+    ///
+    /// Refused, in this order: a tenant that is not there (`NameUnknown`); a session that is not there
+    /// or another repository's (`UploadUnknown`).
+    pub fn status(
+        &self,
+        rt: &impl Wait,
+        desk: &mut Desk<C, R, D, A>,
+        repo: &RepoName,
+        number: u32,
+    ) -> Result<u64, Refusal>
+        ensures ok { OnOk result (desk.new ≡ plus desk.old (one 0 0 0)) }
+        ensures err { OnErr result (desk.new ≡ desk.old) }
+    {
+        self.kept.lock(rt).status(desk, repo, number)
+    }
+
+    /// Takes a session in hand under the lock, and fills the chunk in without it. Where there is no memory for
+    /// that, the session is put back as it was.
+    fn fill(
+        &self,
+        rt: &impl Wait,
+        repo: &RepoName,
+        number: u32,
+        range: Option<ByteRange>,
+        bytes: &[u8],
+    ) -> Result<Hand, Refusal>
+        ensures filled { IfOk result (λ h. h.last ≡ Some bytes.now) }
+        ensures ends { IfOk result (λ h. IfSome range (λ r. sum_by length h.chunks + length bytes.now ≡ r.end + 1)) }
+    {
+        let len = bytes.len() as u64;
+        let hand = self.kept.lock(rt).take(repo, number, range, len)?;
+        match hand.fill(bytes) {
+            Ok(hand) => Ok(hand),
+            Err(hand) => {
+                let _ = self.kept.lock(rt).give_up(hand);
+                Err(Refusal::Memory)
+            }
+        }
+    }
+
+    /// Adds a chunk to a session, and answers the received length (OCI Distribution Specification 1.1,
+    /// "Pushing a blob in chunks"). A chunk without a range goes at the end. The bytes are copied and hashed
+    /// without the lock, while the session is busy.
+    ///
+    /// Refused, in this order: a tenant that is not there (`NameUnknown`); a session that is not there
+    /// or another repository's (`UploadUnknown`); a session that another call has in hand (`Busy`); a range
+    /// of another length than the bytes, or a session past the size limit (`SizeInvalid`); a range that does
+    /// not start at the received length (`RangeInvalid`); a use past the quota (`Quota`); want of memory. A
+    /// refusal leaves the session as it was.
+    pub fn append(
+        &self,
+        rt: &impl Wait,
+        desk: &mut Desk<C, R, D, A>,
+        repo: &RepoName,
+        number: u32,
+        range: Option<ByteRange>,
+        bytes: &[u8],
+    ) -> Result<u64, Refusal>
+        ensures ok { OnOk result (desk.new ≡ plus desk.old (one (length bytes.now) 0 0)) }
+        ensures err { OnErr result (desk.new ≡ desk.old) }
+        ensures ends { IfOk result (λ n. IfSome range (λ r. n ≡ r.end + 1)) }
+    {
+        let hand = self.fill(rt, repo, number, range, bytes)?;
+        self.kept.lock(rt).put_back(desk, hand)
+    }
+
+    /// Closes a session with its last chunk, which may be empty: its bytes become the blob of this
+    /// digest, linked in the repository. Answers the blob's size (OCI Distribution Specification 1.1,
+    /// "Pushing a blob in chunks", the closing PUT). The last chunk is copied and hashed without the lock,
+    /// while the session is busy.
+    ///
+    /// Refused, in this order: what `append` refuses of the last chunk; a digest that is not that of
+    /// the whole, or that is kept with other bytes (`DigestInvalid`); a store that has no slot free
+    /// for a digest that is not kept (`StoreFull`); want of memory. A refusal leaves the session
+    /// without the last chunk.
+    pub fn close(
+        &self,
+        rt: &impl Wait,
+        desk: &mut Desk<C, R, D, A>,
+        repo: &RepoName,
+        number: u32,
+        digest: &Digest,
+        range: Option<ByteRange>,
+        bytes: &[u8],
+    ) -> Result<u64, Refusal>
+        ensures ok { IfOk result (λ n. desk.new ≡ plus desk.old (one (length bytes.now) n 0)) }
+        ensures err { OnErr result (desk.new ≡ desk.old) }
+        ensures ends { IfOk result (λ n. IfSome range (λ r. n ≡ r.end + 1)) }
+    {
+        let whole = self.fill(rt, repo, number, range, bytes)?;
+        self.kept.lock(rt).finish(&self.pins, desk, whole, digest)
+    }
+
+    /// Gives a session up with its bytes, and answers how many it had received. Its number is not
+    /// given again. It takes no memory.
+    ///
+    /// Refused, in this order: a tenant that is not there (`NameUnknown`); a session that is not there
+    /// or another repository's (`UploadUnknown`); a session that another call has in hand (`Busy`).
+    pub fn abandon(
+        &self,
+        rt: &impl Wait,
+        desk: &mut Desk<C, R, D, A>,
+        repo: &RepoName,
+        number: u32,
+    ) -> Result<u64, Refusal>
+        ensures ok { IfOk result (λ n. desk.new ≡ plus desk.old (one 0 0 n)) }
+        ensures err { OnErr result (desk.new ≡ desk.old) }
+    {
+        self.kept.lock(rt).abandon(desk, repo, number)
+    }
+
+    /// Links a blob that another repository of the tenant holds, without an upload (OCI Distribution
+    /// Specification 1.1, "Mounting a blob from another repository"). Where the source doesn't hold it, or is
+    /// another tenant's, this opens a session, as `start` does.
+    ///
+    /// Refused, in this order: a tenant that is not there (`NameUnknown`); a tenant that has 1,024
+    /// repositories where this one is new, and, where a session is opened, 64 sessions or no session
+    /// number left (`LimitReached`); want of memory.
+    pub fn mount(
+        &self,
+        rt: &impl Wait,
+        desk: &mut Desk<C, R, D, A>,
+        repo: &RepoName,
+        digest: &Digest,
+        from: &RepoName,
+    ) -> Result<Mount, Refusal>
+        ensures ok { OnOk result (desk.new ≡ plus desk.old (one 0 0 0)) }
+        ensures err { OnErr result (desk.new ≡ desk.old) }
+    {
+        self.kept.lock(rt).mount(desk, repo, digest, from)
+    }
+
+    /// Takes the link to a blob out of a repository (OCI Distribution Specification 1.1, "Deleting
+    /// Blobs"). It takes no memory.
+    ///
+    /// Refused, in this order: a tenant that is not there (`NameUnknown`); a digest that is not linked
+    /// in the repository (`BlobUnknown`); one that a manifest of the repository refers to
+    /// (`Referenced`, with the least digest of such a manifest).
+    pub fn delete(
+        &self,
+        rt: &impl Wait,
+        desk: &mut Desk<C, R, D, A>,
+        repo: &RepoName,
+        digest: &Digest,
+    ) -> Result<(), Refusal>
+        ensures ok { OnOk result (desk.new ≡ plus desk.old (one 0 0 0)) }
+        ensures err { OnErr result (desk.new ≡ desk.old) }
+    {
+        self.kept.lock(rt).delete(desk, repo, digest)
+    }
+
+    /// Keeps a manifest under the SHA-256 digest of its bytes, and answers that digest (OCI
+    /// Distribution Specification 1.1, "Pushing Manifests"). The repository appears with it.
+    ///
+    /// Refused, in this order: a tenant that is not there (`NameUnknown`); more than 4,194,304 bytes
+    /// (`SizeInvalid`); bytes that are no manifest (`ManifestInvalid`); a reference that the repository
+    /// doesn't hold (`ManifestBlobUnknown`, with the first); where the manifest is new, a tenant that
+    /// has 1,024 repositories and not this one, or a repository that has 1,024 manifests
+    /// (`LimitReached`); want of memory.
+    pub fn put_manifest(
+        &self,
+        rt: &impl Wait,
+        desk: &mut Desk<C, R, D, A>,
+        repo: &RepoName,
+        bytes: &[u8],
+    ) -> Result<Digest, Refusal>
+        ensures ok { OnOk result (desk.new ≡ plus desk.old (one 0 0 0)) }
+        ensures err { OnErr result (desk.new ≡ desk.old) }
+        ensures digest { IfOk result (λ d. d ≡ sha256_text bytes.now) }
+    {
+        self.kept.lock(rt).put_manifest(desk, repo, bytes)
+    }
+
+    /// The manifest that a repository has under a digest (OCI Distribution Specification 1.1, "Pulling
+    /// manifests"). Its bytes are shared, not copied.
+    ///
+    /// Refused, in this order: a tenant that is not there (`NameUnknown`); a digest under which the
+    /// repository has no manifest (`ManifestUnknown`); want of memory.
+    pub fn get_manifest(
+        &self,
+        rt: &impl Wait,
+        desk: &mut Desk<C, R, D, A>,
+        repo: &RepoName,
+        digest: &Digest,
+    ) -> Result<Arc<Manifest, Global>, Refusal>
+        ensures ok { OnOk result (desk.new ≡ plus desk.old (one 0 0 0)) }
+        ensures err { OnErr result (desk.new ≡ desk.old) }
+        ensures digest { IfOk result (λ m. sha256_text (arc_value m) ≡ digest.now) }
+    {
+        self.kept.lock(rt).get_manifest(desk, repo, digest)
+    }
+
+    /// Takes a manifest out of a repository (OCI Distribution Specification 1.1, "Deleting Manifests"). It
+    /// takes no memory.
+    ///
+    /// Refused, in this order: a tenant that is not there (`NameUnknown`); a digest under which the
+    /// repository has no manifest (`ManifestUnknown`).
+    pub fn delete_manifest(
+        &self,
+        rt: &impl Wait,
+        desk: &mut Desk<C, R, D, A>,
+        repo: &RepoName,
+        digest: &Digest,
+    ) -> Result<(), Refusal>
+        ensures ok { OnOk result (desk.new ≡ plus desk.old (one 0 0 0)) }
+        ensures err { OnErr result (desk.new ≡ desk.old) }
+    {
+        self.kept.lock(rt).delete_manifest(desk, repo, digest)
+    }
+
+    /// Leases a blob that a repository holds. While the lease is out, no sweep frees the blob's slot.
+    ///
+    /// Refused, in this order: a tenant that is not there (`NameUnknown`); a digest that is not linked
+    /// in the repository (`BlobUnknown`); a slot that has no room for one reader more
+    /// (`TooManyReaders`); want of memory.
+    pub fn lease(
+        &self,
+        rt: &impl Wait,
+        desk: &mut Desk<C, R, D, A>,
+        repo: &RepoName,
+        digest: &Digest,
+    ) -> Result<Lease<'_, N>, Refusal>
+        ensures ok { OnOk result (desk.new ≡ plus desk.old (one 0 0 0)) }
+        ensures err { OnErr result (desk.new ≡ desk.old) }
+        ensures leased { IfOk result (λ l. (l.hold.digest ≡ digest.now) × (l.hold.weight ≡ 1024)) }
+    {
+        let (pin, blob) = self.kept.lock(rt).lease(&self.pins, desk, repo, digest)?;
+        Ok(Lease::new(&self.pins, blob, pin))
+    }
+
+    /// Condemns each live blob that no repository links, and frees or retires the slot of each condemned one
+    /// that no lease holds. It goes over the slots once, and takes no memory.
+    pub fn sweep(&self, rt: &impl Wait) -> Swept {
+        self.kept.lock(rt).sweep(&self.pins)
+    }
+
+    /// The lease with all that it had. Under the lock its slot is found used, in its generation, with its
+    /// digest. It takes no memory.
+    pub fn verify<'s>(&'s self, rt: &impl Wait, lease: Lease<'s, N>) -> Lease<'s, N>
+        ensures { result ≡ lease.entry }
+    {
+        let Lease {
+            pins,
+            blob,
+            pin,
+            names: _,
+        } = lease;
+        let pin = self.kept.lock(rt).verify(&self.pins, pin);
+        Lease::new(pins, blob, pin)
+    }
+
+    /// The word of a slot: its generation, what it is, and the sum of the weights of the leases on it. It
+    /// takes no memory.
+    pub fn word(&self, rt: &impl Wait, slot: u32) -> u64
+        requires { slot < N.slots }
+    {
+        self.kept.lock(rt).word(&self.pins, slot)
+    }
+
+    /// Writes the text of the book, without taking memory, as `Book::print` does.
+    ///
+    /// Refused is what the writer refuses.
+    pub fn print<W: Write>(&self, rt: &impl Wait, writer: &mut W) -> io::Result<()>
+        ensures { OnOk result ((C : Catalog) × Sound C × Appends (W.contents writer.old) (W.contents writer.new) (book_text C)) }
+    {
+        self.kept.lock(rt).print(writer)
+    }
+}

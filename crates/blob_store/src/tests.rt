@@ -1,0 +1,301 @@
+//! Worked examples on a store that has names.
+
+ghost use Rattle.std.specs.Prelude.{◌≡◌, ◌<◌, length};
+
+use crate::bench::{ABC, Bench, OBJ, ONE, Step, TWO, config};
+use crate::{Lease, Naming, Parts, Settled, Store, Totals};
+use blob_digest::Refusal;
+use std::alloc::AllocGlobal;
+use std::marker::Brand;
+use std::process::Abort;
+use std::sync::Wait;
+use std::sync::ledger::Ledger;
+use std::thread::Threads;
+use store_book::Mount;
+
+const MANIFEST: &str = "{\"schemaVersion\":2,\"manifests\":[]}";
+
+/// What is done with a store.
+#[derive(Clone, Copy)]
+enum Scene {
+    TwoDesks,
+    Commands,
+    Leases,
+    Shares,
+    Busy,
+    Reading,
+}
+
+impl<
+    's,
+    N: Naming + Send + Sync,
+    C: Ledger + Send + Sync,
+    R: Ledger + Send + Sync,
+    D: Ledger + Send + Sync,
+    A: Ledger + Send + Sync,
+    W: Abort + AllocGlobal + Threads + Wait + Sync,
+> Bench<'s, N, C, R, D, A, W> {
+    /// So many desks are refused.
+    fn refuses_desks(&self, count: u64) {
+        let rt = self.rt;
+        match self.store.desks(rt, count) {
+            Ok(desks) => {
+                self.store.settle(rt, desks);
+                assert!(rt; false);
+            }
+            Err(refusal) => assert_eq!(rt; refusal, Refusal::LimitReached),
+        }
+    }
+
+    /// Two desks get their shares, and settle.
+    fn two_desks(&self)
+        requires { 0 < N.slots }
+    {
+        let rt = self.rt;
+        self.refuses_desks(0);
+        self.refuses_desks(1025);
+        let mut desks = self.store.desks(rt, 2).expect(rt, "desks");
+        let first = [
+            Step::Start(ONE, Ok(1)),
+            Step::Append(ONE, 1, "", "abc", Ok(3)),
+            Step::Close(ONE, 1, ABC, "", "", Ok(3)),
+        ];
+        self.plays(&mut desks[0], &first);
+        let second = [
+            Step::Start(ONE, Ok(2)),
+            Step::Append(ONE, 2, "", "ab", Ok(2)),
+            Step::Close(ONE, 2, OBJ, "", "", Err(Refusal::DigestInvalid)),
+            Step::Abandon(ONE, 2, Ok(2)),
+        ];
+        self.plays(&mut desks[1], &second);
+        let settled = self.store.settle(rt, desks);
+        let sums = Settled {
+            commands: 6,
+            received: 5,
+            closed: 3,
+            abandoned: 2,
+            left: 0,
+        };
+        assert_eq!(rt; settled, sums);
+        let totals = Totals {
+            commands: 6,
+            received: 5,
+            in_sessions: 0,
+            closed: 3,
+            abandoned: 2,
+            desks: 0,
+        };
+        assert_eq!(rt; self.store.totals(rt), totals);
+    }
+
+    /// Each command that needs no lease.
+    fn commands(&self)
+        requires { 0 < N.slots }
+    {
+        let rt = self.rt;
+        let mut desks = self.store.desks(rt, 1).expect(rt, "a desk");
+        let steps = [
+            Step::Start(ONE, Ok(1)),
+            Step::Append(ONE, 1, "0-1", "ab", Ok(2)),
+            Step::Append(
+                ONE,
+                1,
+                "3-3",
+                "c",
+                Err(Refusal::RangeInvalid { received: 2 }),
+            ),
+            Step::Status(ONE, 1, Ok(2)),
+            Step::Close(ONE, 1, ABC, "2-2", "c", Ok(3)),
+            Step::Mount(TWO, ABC, ONE, Ok(Mount::Mounted)),
+            Step::Delete(ONE, ABC, Ok(())),
+            Step::Delete(ONE, ABC, Err(Refusal::BlobUnknown)),
+            Step::PutManifest(TWO, MANIFEST),
+            Step::GetManifest(TWO, MANIFEST),
+            Step::DeleteManifest(TWO, MANIFEST, Ok(())),
+            Step::DeleteManifest(TWO, MANIFEST, Err(Refusal::ManifestUnknown)),
+            Step::Prints(
+                "book\ntenant acme used 3 quota 1099511627776 next 2\nrepository acme/one\nrepository acme/two\nblob sha256:ba7816bf8f01cfea414140de5dae2223b00361a396177a9cb410ff61f20015ad size 3 links 1\nend\n",
+            ),
+        ];
+        self.plays(&mut desks[0], &steps);
+        assert_eq!(rt; desks[0].commands(), 9);
+        assert_eq!(rt; desks[0].received(), 3);
+        assert_eq!(rt; desks[0].closed(), 3);
+        assert_eq!(rt; desks[0].abandoned(), 0);
+        self.store.settle(rt, desks);
+    }
+
+    /// Finds what a lease of `abc` in slot 0 tells, and reads it.
+    fn reads(&self, lease: &Lease<'s, N>) {
+        let rt = self.rt;
+        assert_eq!(rt; lease.len(), 3);
+        assert!(rt; lease.digest() == crate::bench::digest(rt, ABC));
+        assert_eq!(rt; lease.slot(), 0);
+        assert_eq!(rt; lease.generation(), 0);
+        let mut out = *b"......";
+        assert_eq!(rt; lease.read_at(0, &mut out), 3);
+        assert_eq!(rt; out.as_slice(), b"abc...".as_slice());
+        assert_eq!(rt; lease.read_at(2, &mut out[4..]), 1);
+        assert_eq!(rt; lease.read_at(3, &mut out), 0);
+        assert_eq!(rt; lease.read_at(u64::MAX, &mut out), 0);
+        assert_eq!(rt; out.as_slice(), b"abc.c.".as_slice());
+    }
+
+    /// A lease keeps the slot of a deleted blob until it is given back.
+    fn leased(&self)
+        requires { 0 < N.slots }
+    {
+        let rt = self.rt;
+        let mut desks = self.store.desks(rt, 1).expect(rt, "a desk");
+        let before = [
+            Step::Start(ONE, Ok(1)),
+            Step::Close(ONE, 1, ABC, "", "abc", Ok(3)),
+        ];
+        self.plays(&mut desks[0], &before);
+        let lease = self.leases(&mut desks[0], ABC);
+        let meanwhile = [
+            Step::Word(0x0000_0000_8000_0400),
+            Step::Delete(ONE, ABC, Ok(())),
+            Step::Sweep(1, 0, 1),
+            Step::Word(0x0000_0000_c000_0400),
+        ];
+        self.plays(&mut desks[0], &meanwhile);
+        let lease = self.store.verify(rt, lease);
+        self.reads(&lease);
+        lease.give_back();
+        let after = [
+            Step::Word(0x0000_0000_c000_0000),
+            Step::Sweep(0, 1, 0),
+            Step::Word(0x0000_0001_0000_0000),
+        ];
+        self.plays(&mut desks[0], &after);
+        self.store.settle(rt, desks);
+    }
+
+    /// A lease of half the weight; the other half is given back.
+    fn half(&self, lease: Lease<'s, N>) -> Lease<'s, N> {
+        match lease.share() {
+            Ok((left, right)) => {
+                right.give_back();
+                left
+            }
+            Err((refusal, lease)) => {
+                assert_eq!(self.rt; refusal, Refusal::Busy);
+                lease
+            }
+        }
+    }
+
+    /// A lease is shared ten times, and no more.
+    fn shared(&self)
+        requires { 0 < N.slots }
+    {
+        let rt = self.rt;
+        let mut desks = self.store.desks(rt, 1).expect(rt, "a desk");
+        let before = [
+            Step::Start(ONE, Ok(1)),
+            Step::Close(ONE, 1, ABC, "", "abc", Ok(3)),
+        ];
+        self.plays(&mut desks[0], &before);
+        let mut lease = self.leases(&mut desks[0], ABC);
+        assert_eq!(rt; lease.weight(), 1024);
+        for _ in 0..10 {
+            lease = self.half(lease);
+        }
+        assert_eq!(rt; lease.weight(), 1);
+        match lease.share() {
+            Ok((left, right)) => {
+                left.give_back();
+                right.give_back();
+                assert!(rt; false);
+            }
+            Err((refusal, lease)) => {
+                assert_eq!(rt; refusal, Refusal::WeightSpent);
+                self.reads(&lease);
+                lease.give_back();
+            }
+        }
+        self.plays(&mut desks[0], &[Step::Word(0x0000_0000_8000_0000)]);
+        self.store.settle(rt, desks);
+    }
+}
+
+/// A scene on the store of these parts.
+fn play<
+    N: Naming + Send + Sync,
+    C: Ledger + Send + Sync,
+    R: Ledger + Send + Sync,
+    D: Ledger + Send + Sync,
+    A: Ledger + Send + Sync,
+    W: Abort + AllocGlobal + Threads + Wait + Sync,
+>(rt: &W, parts: Parts, scene: Scene)
+    requires pins { (parts.book.table ≡ N.table) × (length parts.book.slots ≡ N.slots) }
+    requires some { 0 < length parts.book.slots }
+    requires commands { (parts.commands.name ≡ C.name) × (parts.commands.parts ≡ C.parts) }
+    requires received { (parts.received.name ≡ R.name) × (parts.received.parts ≡ R.parts) }
+    requires closed { (parts.closed.name ≡ D.name) × (parts.closed.parts ≡ D.parts) }
+    requires abandoned { (parts.abandoned.name ≡ A.name) × (parts.abandoned.parts ≡ A.parts) }
+{
+    let store = Store::<N, C, R, D, A>::new(parts);
+    let bench = Bench { rt, store: &store };
+    match scene {
+        Scene::TwoDesks => bench.two_desks(),
+        Scene::Commands => bench.commands(),
+        Scene::Leases => bench.leased(),
+        Scene::Shares => bench.shared(),
+        Scene::Busy => bench.busy(),
+        Scene::Reading => bench.reading(),
+    }
+}
+
+/// A scene on a store of two slots.
+fn play_on_a_store<W: Abort + AllocGlobal + Threads + Wait + Sync>(rt: &W, scene: Scene) {
+    let parts = Parts::new(rt.alloc(), &config(rt, 2, &["acme"])).expect(rt, "parts");
+    play::<Brand, Brand, Brand, Brand, Brand, W>(rt, parts, scene);
+}
+
+#[test]
+fn totals_are_the_sums_of_settled_desks(rt: HostRuntime) {
+    play_on_a_store(&rt, Scene::TwoDesks);
+}
+
+#[test]
+fn commands_go_through_the_lock(rt: HostRuntime) {
+    play_on_a_store(&rt, Scene::Commands);
+}
+
+#[test]
+fn a_lease_keeps_its_slot(rt: HostRuntime) {
+    play_on_a_store(&rt, Scene::Leases);
+}
+
+#[test]
+fn a_lease_is_shared_ten_times(rt: HostRuntime) {
+    play_on_a_store(&rt, Scene::Shares);
+}
+
+#[test]
+fn a_session_is_busy_while_another_thread_appends(rt: HostRuntime) {
+    play_on_a_store(&rt, Scene::Busy);
+}
+
+#[test]
+fn a_lease_is_read_while_the_lock_is_held(rt: HostRuntime) {
+    play_on_a_store(&rt, Scene::Reading);
+}
+
+/// Why a store of these slots and tenants isn't opened.
+fn refused(rt: &(impl Abort + AllocGlobal), slots: u32, names: &[&str]) -> Option<Refusal> {
+    Parts::new(rt.alloc(), &config(rt, slots, names)).err()
+}
+
+#[test]
+fn parts_are_refused_by_names_and_limits(rt: HostRuntime) {
+    assert_eq!(rt;
+        refused(&rt, 1, &["acme", "acme"]),
+        Some(Refusal::NameInvalid)
+    );
+    assert_eq!(rt; refused(&rt, 1, &["Acme"]), Some(Refusal::NameInvalid));
+    assert_eq!(rt; refused(&rt, 1, &[]), Some(Refusal::LimitReached));
+    assert_eq!(rt; refused(&rt, 0, &["acme"]), Some(Refusal::LimitReached));
+}
