@@ -1,6 +1,6 @@
 //! Sealed blobs: bytes whose digest was compared with the one that was asked for.
 ghost use Rattle.std.specs.Prelude.{◌≡◌, ◌↔◌, IsOk, IfOk, IfErr, ℕ, List, true};
-ghost use Rattle.blob_digest.specs.Digests.{is_digest_of};
+ghost use Rattle.blob_digest.specs.Digests.{algorithm_of, hash_text, is_digest_of};
 ghost use Rattle.blob_digest.specs.Hashing.{Hashes};
 
 use crate::digest::Digest;
@@ -38,6 +38,17 @@ impl Blob {
         ensures back { IfErr result (λ v. v.items ≡ bytes.items) }
     {
         let found = running.finish(digest.algorithm());
+        Blob::seal_found(bytes, found, digest)
+    }
+
+    /// As `seal`, with the digest that was found of the bytes, by the algorithm that the wanted one names.
+    /// It reads no byte, and takes no memory.
+    pub fn seal_found(bytes: Vec<u8>, found: Digest, digest: &Digest) -> Result<Blob, Vec<u8>>
+        requires { found ≡ hash_text (algorithm_of digest.now) bytes.items }
+        ensures agrees { IsOk result ↔ (is_digest_of digest.now bytes.items ≡ true) }
+        ensures blob { IfOk result (λ b. b ≡ (digest.now, bytes.items)) }
+        ensures back { IfErr result (λ v. v.items ≡ bytes.items) }
+    {
         if *digest == found {
             Ok(Blob {
                 bytes,

@@ -1,6 +1,6 @@
 //! Hashes computed piece by piece.
 ghost use Rattle.std.specs.Prelude.{◌≡◌, ℕ, List, [], ◌++◌};
-ghost use Rattle.blob_digest.specs.Digests.{hash_text};
+ghost use Rattle.blob_digest.specs.Digests.{algorithm_of, hash_text};
 ghost use Rattle.blob_digest.specs.Hashing.{Hashes};
 
 use crate::algorithm::Algorithm;
@@ -49,6 +49,31 @@ impl Running {
                 Err(_) => unreachable!(),
             },
             Err(_) => unreachable!(),
+        }
+    }
+
+    /// The digest, by one of the algorithms, of all bytes that were taken in and then of these. The hash
+    /// itself stays as it was, and the bytes go through the hash of that algorithm alone.
+    #[tactic(auto, unfolding(crate::specs::Hashing::Hashes, crate::specs::Digests::sha256_text, crate::specs::Digests::sha512_text))]
+    pub fn digest_with(&self, bytes: &[u8], algorithm: Algorithm) -> Digest
+        ensures value { (before : List ℕ) → Hashes self.now before → result ≡ hash_text algorithm (before ++ bytes.now) }
+        ensures named { algorithm_of result ≡ algorithm }
+    {
+        match algorithm {
+            Algorithm::Sha256 => match self.sha256.clone() {
+                Ok(mut all) => {
+                    all.update(bytes);
+                    Digest::of_sha256(all.finalize())
+                }
+                Err(_) => unreachable!(),
+            },
+            Algorithm::Sha512 => match self.sha512.clone() {
+                Ok(mut all) => {
+                    all.update(bytes);
+                    Digest::of_sha512(all.finalize())
+                }
+                Err(_) => unreachable!(),
+            },
         }
     }
 

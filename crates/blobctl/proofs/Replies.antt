@@ -1,9 +1,10 @@
 -- The lines of replies that grow.
 use Rattle.std.proofs.Common.{◌≡◌, ◌<◌, ◌+◌, ◌∙◌, ◌++◌, ◌∷◌, [], ℕ, List, add-zero, ap, arith, get_or, length, length-take, sym, take}
 use Rattle.std.proofs.lemmas.Grind.{flat_map-append}
-use Rattle.std.proofs.lemmas.List.{append-nil, take_more}
+use Rattle.std.proofs.lemmas.List.{append-nil, length-map, map_more}
 use Rattle.std.specs.List.{enumerate_from, flat_map}
 use Rattle.blobctl.specs.Replies.{replies_text, reply_line}
+use Rattle.blobctl.specs.Answers.{Answer, answer_of, answers_of}
 use Rattle.blobctl.specs.declared.reply.Reply.{Reply}
 
 -- an element more is numbered after the others
@@ -14,12 +15,15 @@ numbered_more n (x ∷ xs) y =
     ap (λ t. (n, x) ∷ t) (numbered_more (n + 1) xs y ∙ ap (λ m. enumerate_from (n + 1) xs ++ (m, y) ∷ []) place)
 
 -- a reply more adds its line
+replies_push : (answers : List Answer) (answer : Answer) (n : ℕ) → length answers ≡ n → replies_text (answers ++ answer ∷ []) ≡ replies_text answers ++ reply_line (n + 1, answer)
+replies_push answers answer n size =
+    let number : 1 + length answers ≡ n + 1 = omega (arith, size) in
+    ap (flat_map reply_line) (numbered_more 1 answers answer)
+    ∙ flat_map-append reply_line (enumerate_from 1 answers) ((1 + length answers, answer) ∷ [])
+    ∙ ap (λ t. replies_text answers ++ t) (append-nil (reply_line (1 + length answers, answer)) ∙ ap (λ m. reply_line (m, answer)) number)
+
 pub replies_more : (replies : List Reply) (i : ℕ) (d : Reply) → i < length replies
-    → replies_text (take (i + 1) replies) ≡ replies_text (take i replies) ++ reply_line (i + 1, get_or replies i d)
+    → replies_text (answers_of (take (i + 1) replies)) ≡ replies_text (answers_of (take i replies)) ++ reply_line (i + 1, answer_of (get_or replies i d))
 replies_more replies i d within =
-    let reply = get_or replies i d in
-    let number : 1 + length (take i replies) ≡ i + 1 = omega (arith, length-take i replies) in
-    ap replies_text (take_more replies i d within)
-    ∙ ap (flat_map reply_line) (numbered_more 1 (take i replies) reply)
-    ∙ flat_map-append reply_line (enumerate_from 1 (take i replies)) ((1 + length (take i replies), reply) ∷ [])
-    ∙ ap (λ t. replies_text (take i replies) ++ t) (append-nil (reply_line (1 + length (take i replies), reply)) ∙ ap (λ n. reply_line (n, reply)) number)
+    let size : length (answers_of (take i replies)) ≡ i = omega (arith, length-map (take i replies) answer_of, length-take i replies, within) in
+    ap replies_text (map_more answer_of replies i d within) ∙ replies_push (answers_of (take i replies)) (answer_of (get_or replies i d)) i size

@@ -11,7 +11,7 @@ use Rattle.blobctl.specs.Rows.{Line, session_number}
 use Rattle.blobctl.specs.declared.row.Verb.{Verb}
 use Rattle.blobctl.specs.declared.row.Verb.TheVariants as verb
 
--- a command with what it names: a repository, a session's number, a digest, a range and bytes; for a mount a digest and its source
+-- A command with what it names: a repository, a session's number, a digest, a range and bytes; for a mount a digest and its source.
 pub data Command : Type 0 where
   Start : Text → Command
   Status : Text → ℕ → Command
@@ -20,6 +20,16 @@ pub data Command : Type 0 where
   Abandon : Text → ℕ → Command
   Mount : Text → Text → Text → Command
   Delete : Text → Text → Command
+  PutManifest : Text → Text → Command
+  GetManifest : Text → Text → Command
+  DeleteManifest : Text → Text → Command
+  Lease : Text → Text → Command
+
+-- what a store is asked for: a command, that a lease of a blob of this size be verified, or a sweep
+pub data Request : Type 0 where
+  Calls : Command → Request
+  Verifies : ℕ → Request
+  Sweeps : Request
 
 -- what a range's field spells: no range where it is empty
 abbrev pub SpellsRange : Text → Option ByteRange → Type 0
@@ -38,9 +48,13 @@ SpellsRepo line repo = (repo ≡ line.repo) × IsRepoName line.repo
 abbrev pub SpellsSource : Line → Text → Type 0
 SpellsSource line from = (from ≡ line.key) × IsRepoName line.key
 
+-- the text is a digest, by whichever algorithm
+unfoldable pub IsDigest : Text → Type 0
+IsDigest text = IsDigestText text
+
 -- the field of a digest spells one
 abbrev pub SpellsDigest : Line → Text → Type 0
-SpellsDigest line digest = (digest ≡ line.digest) × IsDigestText line.digest
+SpellsDigest line digest = (digest ≡ line.digest) × IsDigest line.digest
 
 -- the row's fields spell this command
 abbrev pub Spells : Line → Command → Type 0
@@ -53,6 +67,24 @@ Spells line (Close repo number digest range bytes) =
 Spells line (Abandon repo number) = (line.verb ≡ verb.Abandon) × SpellsRepo line repo × (session_number line.key ≡ Some number)
 Spells line (Mount repo digest from) = (line.verb ≡ verb.Mount) × SpellsRepo line repo × SpellsSource line from × SpellsDigest line digest
 Spells line (Delete repo digest) = (line.verb ≡ verb.Delete) × SpellsRepo line repo × SpellsDigest line digest
+Spells line (PutManifest repo bytes) = (line.verb ≡ verb.PutManifest) × SpellsRepo line repo × (bytes ≡ line.body)
+Spells line (GetManifest repo digest) = (line.verb ≡ verb.GetManifest) × SpellsRepo line repo × SpellsDigest line digest
+Spells line (DeleteManifest repo digest) = (line.verb ≡ verb.DeleteManifest) × SpellsRepo line repo × SpellsDigest line digest
+Spells line (Lease repo digest) = (line.verb ≡ verb.Lease) × SpellsRepo line repo × SpellsDigest line digest
+
+-- whether a command lends a blob
+abbrev pub is_lease : Command → Bool
+is_lease (Lease repo digest) = true
+is_lease _ = false
+
+-- whether a command names a repository
+abbrev pub uses_repo : Verb → Bool
+uses_repo verb.Read = false
+uses_repo verb.Share = false
+uses_repo verb.Verify = false
+uses_repo verb.GiveBack = false
+uses_repo verb.Sweep = false
+uses_repo _ = true
 
 -- whether a command names a repository that a blob is mounted from
 abbrev pub uses_source : Verb → Bool
@@ -68,7 +100,16 @@ abbrev pub uses_digest : Verb → Bool
 uses_digest verb.Close = true
 uses_digest verb.Mount = true
 uses_digest verb.Delete = true
+uses_digest verb.GetManifest = true
+uses_digest verb.DeleteManifest = true
+uses_digest verb.Lease = true
 uses_digest _ = false
+
+-- whether a command may name the range of a chunk
+abbrev pub uses_range : Verb → Bool
+uses_range verb.Append = true
+uses_range verb.Close = true
+uses_range _ = false
 
 -- whether a command names a session
 abbrev pub uses_session : Verb → Bool
@@ -80,11 +121,11 @@ uses_session _ = false
 
 -- the digest of a command that has one is spelled
 abbrev pub HasDigest : Line → Type 0
-HasDigest line = uses_digest line.verb ≡ true → IsDigestText line.digest
+HasDigest line = uses_digest line.verb ≡ true → IsDigest line.digest
 
 -- the refusal of the first field, in the order repository, source, digest and range, that spells nothing
 abbrev pub IsMisspelt : Line → Refusal → Type 0
 IsMisspelt line NameInvalid = (¬ IsRepoName line.repo) ⊎ (IsRepoName line.repo × (uses_source line.verb ≡ true) × ¬ IsRepoName line.key)
-IsMisspelt line DigestInvalid = IsRepoName line.repo × HasSource line × (uses_digest line.verb ≡ true) × ¬ IsDigestText line.digest
-IsMisspelt line SizeInvalid = IsRepoName line.repo × HasSource line × HasDigest line × IsNoRange line.range
+IsMisspelt line DigestInvalid = IsRepoName line.repo × HasSource line × (uses_digest line.verb ≡ true) × ¬ IsDigest line.digest
+IsMisspelt line SizeInvalid = IsRepoName line.repo × HasSource line × HasDigest line × (uses_range line.verb ≡ true) × IsNoRange line.range
 IsMisspelt line refusal = ⊥

@@ -1,8 +1,12 @@
+pub mod Answers
 pub mod Arguments
 pub mod Commands
 pub mod Ending
 pub mod Inputs
+pub mod LeaseTables
+pub mod Leases
 pub mod Lines
+pub mod OneText
 pub mod Options
 pub mod Played
 pub mod Plays
@@ -11,6 +15,7 @@ pub mod Replies
 pub mod Rows
 pub mod Script
 pub mod Stops
+pub mod TableNames
 pub mod Tenants
 pub mod Texts
 pub mod Watching

@@ -1,4 +1,5 @@
 -- The options that a run can have.
+use Rattle.std.specs.Prelude.{◌≡◌}
 use Rattle.store_book.specs.Openings.{HasNames, IsSized, IsWithinLimits, tenants_shown}
 use Rattle.blobctl.specs.declared.options.Options.{Options}
 
@@ -7,3 +8,4 @@ pub record IsWithin (options : Options) : Type 0 where
   pub sized : IsSized options.store.slots options.store.max_blob
   pub names : HasNames (tenants_shown options.store.tenants.items)
   pub limits : IsWithinLimits (tenants_shown options.store.tenants.items)
+  pub first : options.store.first_generation ≡ 0

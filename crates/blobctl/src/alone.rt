@@ -1,27 +1,51 @@
 //! Rows played on a book that one thread has.
 ghost use Rattle.std.specs.Prelude.{◌≡◌, IfOk, IfErr, map};
-ghost use Rattle.store_book.specs.Catalog.{Catalog};
+ghost use Rattle.blobctl.specs.Answers.{answers_of};
+ghost use Rattle.blobctl.specs.Leases.{Leases as Held, none};
 ghost use Rattle.blobctl.specs.Lines.{line_of};
 ghost use Rattle.blobctl.specs.Options.{IsWithin};
-ghost use Rattle.blobctl.specs.Played.{Happens};
+ghost use Rattle.blobctl.specs.Played.{Acts, Happens};
 ghost use Rattle.blobctl.specs.Plays.{Plays};
+ghost use Rattle.blobctl.specs.Script.{max_rows};
+ghost use Rattle.std.specs.Prelude.{◌≤◌, length};
+ghost use Rattle.store_book.specs.Catalog.{Catalog};
 ghost use Rattle.store_book.specs.Openings.{OpensCatalog, tenants_shown};
 
 use crate::options::Options;
+use crate::pinned_book::{PinnedBook, TableName};
 use crate::player::play;
 use crate::reply::Reply;
 use crate::row::Row;
 use blob_digest::Refusal;
+use pin_table::Pins;
 use std::alloc::Global;
+use std::marker::{Brand, PhantomData};
 use store_book::Book;
 
-/// A new book. Refused is want of memory alone.
-fn open(alloc: Global, options: &Options) -> Result<Book, Refusal>
-    requires { IsWithin options.now }
-    ensures opened { IfOk result (λ book. OpensCatalog (tenants_shown options.now.store.tenants.items) options.now.store.slots options.now.store.max_blob book.catalog) }
+/// Plays all rows on a book with the words of its slots, which one pin table names.
+fn play_in<N: TableName>(
+    alloc: Global,
+    book: Book,
+    pins: &Pins,
+    rows: &[Row],
+) -> Result<(Book, Vec<Reply>), Refusal>
+    requires here { book.table ≡ N.table }
+    requires there { pins.now ≡ N.table }
+    ensures played { IfOk result (λ p. (left : Held) × Plays Acts (book, none) (map line_of rows.now) (answers_of p.1.items) (p.0, left)) }
     ensures refused { IfErr result (λ e. e ≡ Refusal.Memory) }
 {
-    Book::new(alloc, &options.store)
+    let mut pinned: PinnedBook<'_, N> = PinnedBook {
+        book,
+        pins,
+        table: PhantomData,
+    };
+    let replies = play(alloc, &mut pinned, rows)?;
+    let PinnedBook {
+        book,
+        pins: _,
+        table: _,
+    } = pinned;
+    Ok((book, replies))
 }
 
 /// Plays all rows on a new book, and answers the book and one reply for each row. Refused is want of
@@ -31,11 +55,11 @@ pub fn play_alone(
     options: &Options,
     rows: &[Row],
 ) -> Result<(Book, Vec<Reply>), Refusal>
-    requires { IsWithin options.now }
-    ensures played { IfOk result (λ p. (first : Catalog) × OpensCatalog (tenants_shown options.now.store.tenants.items) options.now.store.slots options.now.store.max_blob first × Plays Happens first (map line_of rows.now) p.1.items p.0.catalog) }
+    requires within { IsWithin options.now }
+    requires few { length rows.now ≤ max_rows }
+    ensures played { IfOk result (λ p. (first : Catalog) × (left : Held) × OpensCatalog (tenants_shown options.now.store.tenants.items) options.now.store.slots options.now.store.max_blob first × Plays Happens (first, none) (map line_of rows.now) (answers_of p.1.items) (p.0.catalog, left)) }
     ensures refused { IfErr result (λ e. e ≡ Refusal.Memory) }
 {
-    let mut book = open(alloc, options)?;
-    let replies = play(alloc, &mut book, rows)?;
-    Ok((book, replies))
+    let (book, pins) = Book::new(alloc, &options.store)?;
+    play_in::<Brand>(alloc, book, &pins, rows)
 }

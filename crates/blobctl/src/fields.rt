@@ -2,7 +2,9 @@
 ghost use Rattle.std.specs.Prelude.{◌≡◌, IfOk, option_map};
 ghost use Rattle.csv.specs.Records.{fields_of};
 ghost use Rattle.blobctl.specs.Lines.{line_of};
-ghost use Rattle.blobctl.specs.Rows.{field, fits, head_of, lane_of, row_of, session_number, verb_of};
+ghost use Rattle.std.specs.List.{list_all};
+ghost use Rattle.blob_digest.specs.Names.{is_alnum};
+ghost use Rattle.blobctl.specs.Rows.{field, fits, head_of, is_lease_name, lane_of, row_of, session_number, verb_of};
 
 use crate::row::{Row, Verb};
 use blob_digest::decimal;
@@ -27,6 +29,24 @@ fn verb_named(name: &[u8]) -> Option<Verb>
         Some(Verb::Mount)
     } else if name == b"delete".as_slice() {
         Some(Verb::Delete)
+    } else if name == b"put_manifest".as_slice() {
+        Some(Verb::PutManifest)
+    } else if name == b"get_manifest".as_slice() {
+        Some(Verb::GetManifest)
+    } else if name == b"delete_manifest".as_slice() {
+        Some(Verb::DeleteManifest)
+    } else if name == b"lease".as_slice() {
+        Some(Verb::Lease)
+    } else if name == b"read".as_slice() {
+        Some(Verb::Read)
+    } else if name == b"share".as_slice() {
+        Some(Verb::Share)
+    } else if name == b"verify".as_slice() {
+        Some(Verb::Verify)
+    } else if name == b"give_back".as_slice() {
+        Some(Verb::GiveBack)
+    } else if name == b"sweep".as_slice() {
+        Some(Verb::Sweep)
     } else {
         None
     }
@@ -75,9 +95,30 @@ fn head(fields: &ByteRecord) -> Option<(u8, Verb)>
     Some((lane, verb))
 }
 
-/// Whether a command has the fields that it needs, and none that it doesn't use.
-fn has_fields(verb: Verb, key: &[u8], digest: &[u8], range: &[u8], body: &[u8]) -> bool
-    ensures { result ≡ fits verb key.now digest.now range.now body.now }
+/// Whether a byte may stand in a lease's name.
+fn is_name_byte(c: u8) -> bool
+    ensures { result ≡ is_alnum c }
+{
+    matches!(c, b'a'..=b'z' | b'0'..=b'9')
+}
+
+/// Whether each byte may stand in a lease's name.
+fn all_name_bytes(text: &[u8]) -> bool
+    ensures { result ≡ list_all is_alnum text.now }
+{
+    text.iter().all(|c| is_name_byte(*c))
+}
+
+/// Whether a text is a lease's name.
+fn is_lease_name(text: &[u8]) -> bool
+    ensures { result ≡ is_lease_name text.now }
+{
+    1 <= text.len() && text.len() <= 32 && all_name_bytes(text)
+}
+
+/// Whether a command of the store has the fields that it needs, and none that it doesn't use.
+fn has_fields(verb: Verb, repo: &[u8], key: &[u8], digest: &[u8], range: &[u8], body: &[u8]) -> bool
+    ensures { result ≡ fits verb repo.now key.now digest.now range.now body.now }
 {
     match verb {
         Verb::Start => {
@@ -89,7 +130,35 @@ fn has_fields(verb: Verb, key: &[u8], digest: &[u8], range: &[u8], body: &[u8]) 
         Verb::Append => session(key).is_some() && digest.is_empty(),
         Verb::Close => session(key).is_some(),
         Verb::Mount => range.is_empty() && body.is_empty(),
-        Verb::Delete => key.is_empty() && range.is_empty() && body.is_empty(),
+        Verb::Delete | Verb::GetManifest | Verb::DeleteManifest => {
+            key.is_empty() && range.is_empty() && body.is_empty()
+        }
+        Verb::PutManifest => key.is_empty() && digest.is_empty() && range.is_empty(),
+        Verb::Lease => is_lease_name(key) && range.is_empty() && body.is_empty(),
+        Verb::Read => {
+            is_lease_name(key) && repo.is_empty() && digest.is_empty() && body.is_empty()
+        }
+        Verb::Share => {
+            is_lease_name(key)
+                && is_lease_name(body)
+                && repo.is_empty()
+                && digest.is_empty()
+                && range.is_empty()
+        }
+        Verb::Verify | Verb::GiveBack => {
+            is_lease_name(key)
+                && repo.is_empty()
+                && digest.is_empty()
+                && range.is_empty()
+                && body.is_empty()
+        }
+        Verb::Sweep => {
+            repo.is_empty()
+                && key.is_empty()
+                && digest.is_empty()
+                && range.is_empty()
+                && body.is_empty()
+        }
     }
 }
 
@@ -100,14 +169,15 @@ pub fn read_row(alloc: Global, fields: &ByteRecord) -> Result<Option<Row>, Alloc
     let Some((lane, verb)) = head(fields) else {
         return Ok(None);
     };
+    let repo = field_at(fields, 2);
     let key = field_at(fields, 3);
     let digest = field_at(fields, 4);
     let range = field_at(fields, 5);
     let body = field_at(fields, 6);
-    if !has_fields(verb, key, digest, range, body) {
+    if !has_fields(verb, repo, key, digest, range, body) {
         return Ok(None);
     }
-    let repo = Vec::from_slice(alloc, field_at(fields, 2))?;
+    let repo = Vec::from_slice(alloc, repo)?;
     let key = Vec::from_slice(alloc, key)?;
     let digest = Vec::from_slice(alloc, digest)?;
     let range = Vec::from_slice(alloc, range)?;

@@ -1,4 +1,4 @@
-//! `blobctl` plays a script of uploads on a store that lies in memory, and prints the replies and the
+//! `blobctl` plays a script of commands on a store that lies in memory, and prints the replies and the
 //! book.
 //!
 //! The script is read from standard input: CSV records (RFC 4180) of seven fields, `lane`, `command`,
@@ -19,16 +19,27 @@ ghost use Rattle.blobctl.specs.Stops.{stop_status};
 ghost use Rattle.blobctl.specs.Texts.{fault_status};
 ghost use Rattle.blobctl.specs.declared.fault.Fault.TheVariants.{Write};
 
+#[cfg(test)]
+mod algorithm_tests;
 mod alone;
 mod arguments;
-mod board;
+mod backend;
 mod fault;
 #[cfg(test)]
 mod fault_tests;
 mod fields;
+mod hex_digits;
 mod input;
+#[cfg(test)]
+mod lease_tests;
+mod laws;
+mod leases;
+#[cfg(test)]
+mod manifest_tests;
 mod options;
 mod output;
+mod piece;
+mod pinned_book;
 mod player;
 mod reply;
 mod row;
@@ -36,7 +47,6 @@ mod run;
 mod script;
 #[cfg(test)]
 mod script_tests;
-mod seat;
 mod tenants;
 #[cfg(test)]
 mod tests;

@@ -2,6 +2,7 @@
 ghost use Rattle.std.specs.Prelude.{◌≡◌, ◌++◌, IfErr, OnOk};
 ghost use Rattle.std.specs.Io.KnownBytes.{Appends};
 ghost use Rattle.store_book.specs.Printed.{book_text};
+ghost use Rattle.blobctl.specs.Answers.{answer_of, answers_of};
 ghost use Rattle.blobctl.specs.Replies.{replies_text, reply_line};
 
 use crate::fault::Fault;
@@ -12,15 +13,14 @@ use store_book::Book;
 
 /// Writes a row's number and its reply, and takes no memory.
 fn write_reply<W: Write>(writer: &mut W, number: usize, reply: &Reply) -> io::Result<()>
-    ensures { OnOk result (Appends (W.contents writer.old) (W.contents writer.new) (reply_line (number, reply.now))) }
+    ensures { OnOk result (Appends (W.contents writer.old) (W.contents writer.new) (reply_line (number, answer_of reply.now))) }
 {
-    let reply = *reply;
     writeln!(writer, "{number} {reply}")
 }
 
 /// Writes the lines of all replies, numbered from 1, and takes no memory.
 pub fn write_replies<W: Write>(writer: &mut W, replies: &[Reply]) -> io::Result<()>
-    ensures { OnOk result (Appends (W.contents writer.old) (W.contents writer.new) (replies_text replies.now)) }
+    ensures { OnOk result (Appends (W.contents writer.old) (W.contents writer.new) (replies_text (answers_of replies.now))) }
 {
     for (place, reply) in replies.iter().enumerate() {
         write_reply(writer, place + 1, reply)?;
@@ -30,7 +30,7 @@ pub fn write_replies<W: Write>(writer: &mut W, replies: &[Reply]) -> io::Result<
 
 /// Writes the replies and then the book, and takes no memory.
 pub fn write_played<W: Write>(writer: &mut W, replies: &[Reply], book: &Book) -> Result<(), Fault>
-    ensures written { OnOk result (Appends (W.contents writer.old) (W.contents writer.new) (replies_text replies.now ++ book_text book.now.catalog)) }
+    ensures written { OnOk result (Appends (W.contents writer.old) (W.contents writer.new) (replies_text (answers_of replies.now) ++ book_text book.now.catalog)) }
     ensures refused { IfErr result (λ e. e ≡ Fault.Write) }
 {
     let Ok(()) = write_replies(writer, replies) else {

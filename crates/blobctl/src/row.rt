@@ -19,6 +19,24 @@ pub enum Verb {
     Mount,
     /// Takes a blob's link out of a repository.
     Delete,
+    /// Keeps a manifest in a repository.
+    PutManifest,
+    /// Asks for the bytes of a manifest.
+    GetManifest,
+    /// Takes a manifest out of a repository.
+    DeleteManifest,
+    /// Leases a blob under a name.
+    Lease,
+    /// Reads a piece of a leased blob.
+    Read,
+    /// Makes two leases of one.
+    Share,
+    /// Has the store look at a lease's slot.
+    Verify,
+    /// Gives a lease back.
+    GiveBack,
+    /// Frees the slots of blobs without links.
+    Sweep,
 }
 
 /// A row of the script, which is no bad one by its type. The last five fields are the bytes of the
@@ -32,13 +50,13 @@ pub struct Row {
     /// A repository's name.
     pub repo: Vec<u8>,
     /// The number of a session, where the command names one: 1 to 4294967295. For a mount the name of
-    /// the repository that it is from.
+    /// the repository that it is from. Where the command names a lease, its name.
     pub key: Vec<u8>,
     /// A digest's text.
     pub digest: Vec<u8>,
     /// The text of a byte range.
     pub range: Vec<u8>,
-    /// The bytes of a chunk.
+    /// The bytes of a chunk or of a manifest; for a share the name of the second lease.
     pub body: Vec<u8>,
-    pub ghost fit: { fits verb key.items digest.items range.items body.items ≡ true },
+    pub ghost fit: { fits verb repo.items key.items digest.items range.items body.items ≡ true },
 }

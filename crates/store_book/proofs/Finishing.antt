@@ -1,7 +1,7 @@
 -- `Book::finish`, from what its calls of the layers did.
-use Rattle.std.proofs.Common.{◌≡◌, ℕ, ◌+◌, ◌-◌, ◌^◌, ◌<◌, ◌≤◌, Bool, true, false, not, List, length, map, Option, Some, None, Result, is_some, Ok, Err, refl, sym, ap, ◌∙◌, subst, arith}
+use Rattle.std.proofs.Common.{◌≡◌, ℕ, ◌+◌, ◌-◌, ◌^◌, ◌<◌, ◌≤◌, Bool, true, false, not, List, length, Option, Some, None, Result, is_some, Ok, Err, refl, sym, ap, ◌∙◌, subst, arith}
 use Rattle.std.specs.Prelude.{nat_le, ◌&&◌, slice_index, slice_set, if◌then◌else◌}
-use Rattle.std.specs.FinMap.{get, remove, len, contains_key}
+use Rattle.std.specs.FinMap.{get, remove, len}
 use Rattle.std.proofs.Math.ListN.{length-set}
 use Rattle.std.proofs.lemmas.Bool.{le-leb, false_from_ne_true, not-false}
 use Rattle.blob_digest.specs.declared.refusal.Refusal.{Refusal}
@@ -9,14 +9,14 @@ use Rattle.blob_digest.specs.declared.refusal.Refusal.TheVariants.{DigestInvalid
 use Rattle.blob_digest.specs.Digests.{is_digest_of}
 use Rattle.blob_digest.specs.Sets as set
 use Rattle.blob_digest.proofs.KeyOrders.{text_is_same}
-use Rattle.slot_table.specs.Slots.{Slot, Held, with_slot, fill, on_held, raise}
+use Rattle.slot_table.specs.Slots.{Slot, Held}
 use Rattle.link_table.specs.Linked.{Linked, known_tenant, discharge}
 use Rattle.upload_table.specs.Sessions.{Home, Session, Taken, are_taken, brought_home, charged, given_up, taken_session, whole_of, with_chunks}
 use Rattle.upload_table.specs.Uploaded.{Uploaded, IsFull, finish_upload, with_sessions}
 use Rattle.store_book.specs.Catalog.{Text, Catalog, in_sessions_of}
 use Rattle.store_book.specs.Steps.{◌>>=◌, finish, given_back, refuse, same_bytes, is_full_for}
 use Rattle.store_book.specs.Layers.{lent_marks, book_catalog, IsBook}
-use Rattle.store_book.specs.Keeping.{CanKeep, IsKept, IsUnkept, again, anew, differs, full}
+use Rattle.store_book.specs.Keeping.{CanKeep, IsKept, IsUnkept, differs, full}
 use Rattle.store_book.proofs.KeptBlobs.{Keeps, IsKept-Keeps}
 use Rattle.store_book.proofs.LentMarks.{length-marks}
 use Rattle.store_book.proofs.Keepable.{CanKeep-book}

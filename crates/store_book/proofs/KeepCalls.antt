@@ -13,7 +13,7 @@ use Rattle.blob_digest.proofs.KeyOrders.{link_cmp_total, exact_link}
 use Rattle.slot_table.specs.declared.phase.Phase.TheVariants as phase
 use Rattle.slot_table.specs.Slots.{Slot, Held, slot_of, held_at, links_at, phase_at, with_slot, fill, on_held, raise, mark}
 use Rattle.link_table.specs.Linked.{Linked, link, unlink}
-use Rattle.store_book.specs.Keeping.{woken, bytes_at, CanKeep, IsKept, IsUnkept, again, anew, differs}
+use Rattle.store_book.specs.Keeping.{revived, bytes_at, CanKeep, IsKept, IsUnkept, again, anew, differs}
 use Rattle.store_book.proofs.Changing.{held_at-with, mark-KeepsTies}
 use Rattle.store_book.proofs.MapLemmas.{get-insert_at}
 use Rattle.store_book.proofs.SlotLemmas.{phase_live}
@@ -78,30 +78,30 @@ module _ (slots : List Slot) (k : ℕ) (blob : Text × Text) (found : slot_of sl
   abbrev there : (h : Held) × (held_at slots k ≡ Some h) × (h.digest ≡ blob.0) × (h.bytes ≡ blob.1)
   there = same_by_test slots k blob found test
 
-  awake_holds : held_at (woken slots k) k ≡ Some (mark false there.0)
+  awake_holds : held_at (revived slots k) k ≡ Some (mark false there.0)
   awake_holds = held_at-with (mark false) (mark-KeepsTies false) slots k there.0 there.1
 
   pub again_size : (l : Linked) (t : ℕ) (repo : Text) → CanKeep l slots t repo blob → (r : Text) (m : ℕ) → get l.links (r, blob.0) ≡ Some m → m ≡ length blob.1
   again_size l t repo can r m at = can.sizes k there.0 r m there.1 (ap (λ (d : Text). get l.links (r, d)) there.2 ∙ at) ∙ ap length there.3
 
-  pub awake_live : phase_at (woken slots k) k ≡ phase.Live
-  awake_live = phase_live (woken slots k) k (mark false there.0) awake_holds refl
+  pub awake_live : phase_at (revived slots k) k ≡ phase.Live
+  awake_live = phase_live (revived slots k) k (mark false there.0) awake_holds refl
 
-  pub awake_room : (l : Linked) (t : ℕ) (repo : Text) → CanKeep l slots t repo blob → links_at (woken slots k) k + 1 < 2 ^ 32
+  pub awake_room : (l : Linked) (t : ℕ) (repo : Text) → CanKeep l slots t repo blob → links_at (revived slots k) k + 1 < 2 ^ 32
   awake_room l t repo can =
-      let links : links_at (woken slots k) k ≡ there.0.links = ap (λ o. option_map_or (λ (h : Held). h.links) o 0) awake_holds in
+      let links : links_at (revived slots k) k ≡ there.0.links = ap (λ o. option_map_or (λ (h : Held). h.links) o 0) awake_holds in
       let few = can.counts k there.0 there.1 in
       omega arith
 
-  pub kept_new : (l l' : Linked) (slots' : List Slot) (repo : Text) → link l repo blob.0 (length blob.1) ≡ Ok (true, l') → slots' ≡ with_slot (woken slots k) k (on_held raise) → IsKept l slots repo blob l' slots'
+  pub kept_new : (l l' : Linked) (slots' : List Slot) (repo : Text) → link l repo blob.0 (length blob.1) ≡ Ok (true, l') → slots' ≡ with_slot (revived slots k) k (on_held raise) → IsKept l slots repo blob l' slots'
   kept_new l l' slots' repo made raised =
       let new = not-true _ (link_new l l' repo blob.0 (length blob.1) true made) in
-      again k there.0 found there.1 there.3 (sym (link_left l l' repo blob.0 (length blob.1) true made)) (raised ∙ ap (λ b. if b then woken slots k else with_slot (woken slots k) k (on_held raise)) (sym new))
+      again k there.0 found there.1 there.3 (sym (link_left l l' repo blob.0 (length blob.1) true made)) (raised ∙ ap (λ b. if b then revived slots k else with_slot (revived slots k) k (on_held raise)) (sym new))
 
-  pub kept_old : (l l' : Linked) (slots' : List Slot) (repo : Text) → link l repo blob.0 (length blob.1) ≡ Ok (false, l') → slots' ≡ woken slots k → IsKept l slots repo blob l' slots'
+  pub kept_old : (l l' : Linked) (slots' : List Slot) (repo : Text) → link l repo blob.0 (length blob.1) ≡ Ok (false, l') → slots' ≡ revived slots k → IsKept l slots repo blob l' slots'
   kept_old l l' slots' repo made same =
       let old = not-false _ (link_new l l' repo blob.0 (length blob.1) false made) in
-      again k there.0 found there.1 there.3 (sym (link_left l l' repo blob.0 (length blob.1) false made)) (same ∙ ap (λ b. if b then woken slots k else with_slot (woken slots k) k (on_held raise)) (sym old))
+      again k there.0 found there.1 there.3 (sym (link_left l l' repo blob.0 (length blob.1) false made)) (same ∙ ap (λ b. if b then revived slots k else with_slot (revived slots k) k (on_held raise)) (sym old))
 
 module _ (slots : List Slot) (k : ℕ) (digest : Text) (found : slot_of slots digest ≡ Some k) where
   abbrev blob_there : Text × Text
@@ -116,17 +116,17 @@ module _ (slots : List Slot) (k : ℕ) (digest : Text) (found : slot_of slots di
       let h = held_of slots digest k found in
       can.sizes k h.0 r m h.1 (ap (λ (d : Text). get l.links (r, d)) h.2 ∙ at) ∙ ap length (sym bytes_there)
 
-  pub again_new : (l l' : Linked) (slots' : List Slot) (repo : Text) → link l repo digest (length (bytes_at slots k)) ≡ Ok (true, l') → slots' ≡ with_slot (woken slots k) k (on_held raise) → IsKept l slots repo blob_there l' slots'
+  pub again_new : (l l' : Linked) (slots' : List Slot) (repo : Text) → link l repo digest (length (bytes_at slots k)) ≡ Ok (true, l') → slots' ≡ with_slot (revived slots k) k (on_held raise) → IsKept l slots repo blob_there l' slots'
   again_new l l' slots' repo made raised =
       let h = held_of slots digest k found in
       let new = not-true _ (link_new l l' repo digest (length (bytes_at slots k)) true made) in
-      again k h.0 found h.1 (sym bytes_there) (sym (link_left l l' repo digest (length (bytes_at slots k)) true made)) (raised ∙ ap (λ b. if b then woken slots k else with_slot (woken slots k) k (on_held raise)) (sym new))
+      again k h.0 found h.1 (sym bytes_there) (sym (link_left l l' repo digest (length (bytes_at slots k)) true made)) (raised ∙ ap (λ b. if b then revived slots k else with_slot (revived slots k) k (on_held raise)) (sym new))
 
-  pub again_old : (l l' : Linked) (repo : Text) → link l repo digest (length (bytes_at slots k)) ≡ Ok (false, l') → IsKept l slots repo blob_there l' (woken slots k)
+  pub again_old : (l l' : Linked) (repo : Text) → link l repo digest (length (bytes_at slots k)) ≡ Ok (false, l') → IsKept l slots repo blob_there l' (revived slots k)
   again_old l l' repo made =
       let h = held_of slots digest k found in
       let old = not-false _ (link_new l l' repo digest (length (bytes_at slots k)) false made) in
-      again k h.0 found h.1 (sym bytes_there) (sym (link_left l l' repo digest (length (bytes_at slots k)) false made)) (ap (λ b. if b then woken slots k else with_slot (woken slots k) k (on_held raise)) (sym old))
+      again k h.0 found h.1 (sym bytes_there) (sym (link_left l l' repo digest (length (bytes_at slots k)) false made)) (ap (λ b. if b then revived slots k else with_slot (revived slots k) k (on_held raise)) (sym old))
 
 pub kept_anew : (l l' : Linked) (slots slots1 slots' : List Slot) (repo : Text) (blob : Text × Text) (k : ℕ) (b : Bool) → slot_of slots blob.0 ≡ None → phase_at slots k ≡ phase.Free → link l repo blob.0 (length blob.1) ≡ Ok (b, l') →
     slots1 ≡ with_slot slots k (fill blob) → slots' ≡ with_slot slots1 k (on_held raise) → IsKept l slots repo blob l' slots'

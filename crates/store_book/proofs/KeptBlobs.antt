@@ -1,5 +1,5 @@
 -- A blob that was linked: what the catalog keeps then, and that the layers agree.
-use Rattle.std.proofs.Common.{◌≡◌, ℕ, ◌+◌, ◌<◌, Bool, true, false, cond, not, List, [], ◌∷◌, length, Option, Some, None, is_some, refl, sym, ap, ◌∙◌, subst, arith, inl, inr}
+use Rattle.std.proofs.Common.{◌≡◌, ℕ, ◌+◌, ◌<◌, Bool, true, false, cond, not, List, [], ◌∷◌, length, Option, Some, None, is_some, refl, sym, ap, ◌∙◌, subst, arith}
 use Prim.Native.Nat.{zero, suc}
 use Rattle.std.specs.Prelude.{slice_get, nat_le, ◌&&◌, if◌then◌else◌}
 use Rattle.std.specs.Option.{option_map_or}
@@ -9,7 +9,6 @@ use Rattle.std.proofs.lemmas.Bool.Decides.{nat_tests}
 use Rattle.std.specs.Cmp.Lexicographic.{nat_list_cmp_total}
 use Rattle.std.specs.Ordering.{eq_by_cmp}
 use Rattle.std.specs.FinMap.{FinMap, get, insert, len, contains_key, get-insert, same_map}
-use Rattle.std.proofs.lemmas.Bool.{cases_eq}
 use Rattle.std.proofs.lemmas.Map.Lookups.{exact_bytes}
 use Rattle.blob_digest.proofs.OptionLemmas.{some_value}
 use Rattle.blob_digest.specs.Sets as set
@@ -24,13 +23,13 @@ use Rattle.store_book.specs.Catalog.{Text, Link, Resident, Catalog, text_cmp, ho
 use Rattle.store_book.specs.Steps.{was_lent, same_bytes, is_full_for}
 use Rattle.store_book.specs.Laws.{Lawful}
 use Rattle.store_book.specs.Layers.{links_of, lent_marks, resident_of, catalog_from, book_catalog, IsTied}
-use Rattle.store_book.specs.Keeping.{linked, woken, IsKept, again, anew}
+use Rattle.store_book.specs.Keeping.{linked, revived, IsKept, again, anew}
 use Rattle.store_book.proofs.MapLemmas.{get-insert_at, some_same}
 use Rattle.store_book.proofs.LentMarks.{length-marks, marks-on, marks-fill, unmarked}
 use Rattle.store_book.proofs.Changing.{resident_at, mark-KeepsTies, held_at-with, catalog-change, IsTied-change}
 use Rattle.store_book.proofs.LawResident.{Lawful-put}
 use Rattle.store_book.proofs.Bridge.{holds_is}
-use Rattle.store_book.proofs.Ties.{links_of-insert, catalog-relink, IsTied-link, held_at-on, raise-KeepsBlob, held_of, slot_is_resident, not_resident, rooms}
+use Rattle.store_book.proofs.Ties.{links_of-insert, catalog-relink, IsTied-link, raise-KeepsBlob, held_of, slot_is_resident, not_resident, rooms}
 use Rattle.store_book.proofs.Fills.{stored}
 use Rattle.store_book.proofs.Placing.{catalog-fill, IsTied-fill, held_at-fill, free_slot}
 use Rattle.store_book.proofs.LawLink.{unlinked}
@@ -240,8 +239,8 @@ module _ (l : Linked) (u : Uploaded) (slots : List Slot) (max_blob : ℕ) (repo 
 
   module _ (tied : IsTied l slots (lent_marks slots) B) (lawful : Lawful B) (there : set.contains l.repos repo ≡ true) where
     module _ (k : ℕ) (h : Held) (at : held_at slots k ≡ Some h) (digest : h.digest ≡ blob.0) (bytes : h.bytes ≡ blob.1) where
-      abbrev awake : List Slot
-      awake = woken slots k
+      abbrev live_again : List Slot
+      live_again = revived slots k
 
       abbrev live_one : Resident
       live_one = record { bytes = h.bytes; condemned = false; lent = h.lent }
@@ -250,14 +249,14 @@ module _ (l : Linked) (u : Uploaded) (slots : List Slot) (max_blob : ℕ) (repo 
       abbrev D : Catalog
       D = record B { residents = insert B.residents h.digest live_one }
 
-      catalog_awake : book_catalog l u awake max_blob ≡ D
-      catalog_awake = catalog-change (mark false) (mark-KeepsTies false) l u slots max_blob k h at tied
+      catalog_live_again : book_catalog l u live_again max_blob ≡ D
+      catalog_live_again = catalog-change (mark false) (mark-KeepsTies false) l u slots max_blob k h at tied
 
       was : get B.residents h.digest ≡ Some (resident_of h.lent h)
       was = resident_at slots k h at tied.distinct
 
-      lawful_awake : Lawful (book_catalog l u awake max_blob)
-      lawful_awake = subst (λ (X : Catalog). Lawful X) (sym catalog_awake) (Lawful-put B h.digest live_one refl lawful (lawful.content h.digest (resident_of h.lent h) was))
+      lawful_live_again : Lawful (book_catalog l u live_again max_blob)
+      lawful_live_again = subst (λ (X : Catalog). Lawful X) (sym catalog_live_again) (Lawful-put B h.digest live_one refl lawful (lawful.content h.digest (resident_of h.lent h) was))
 
       twice : (b : Resident) → insert (insert B.residents h.digest live_one) blob.0 b ≡ insert B.residents blob.0 b
       twice b = ap (λ (d : Text). insert (insert B.residents d live_one) blob.0 b) digest ∙ insert_twice B.residents blob.0 live_one b
@@ -267,29 +266,29 @@ module _ (l : Linked) (u : Uploaded) (slots : List Slot) (max_blob : ℕ) (repo 
           ap (λ (d : Text). was_lent (get D.residents d)) (sym digest) ∙ ap was_lent (get-insert_at nat_list_cmp_total exact_bytes B.residents h.digest live_one)
           ∙ sym (ap (λ (d : Text). was_lent (get B.residents d)) (sym digest) ∙ ap was_lent was)
 
-      keeping_awake : keeping (book_catalog l u awake max_blob) repo blob ≡ keeping B repo blob
-      keeping_awake =
-          (λ i. keeping (catalog_awake i) repo blob)
+      keeping_live_again : keeping (book_catalog l u live_again max_blob) repo blob ≡ keeping B repo blob
+      keeping_live_again =
+          (λ i. keeping (catalog_live_again i) repo blob)
           ∙ (λ i. record B { links = set.insert B.links (repo, blob.0); residents = twice (record { bytes = blob.1; condemned = false; lent = was_lent (get D.residents blob.0) }) i })
           ∙ (λ i. record B { links = set.insert B.links (repo, blob.0); residents = insert B.residents blob.0 (record { bytes = blob.1; condemned = false; lent = same_lent i }) })
 
-      Keeps-awake : (l' : Linked) (slots' : List Slot) → Keeps l u awake max_blob repo blob l' slots' → Keeps l u slots max_blob repo blob l' slots'
-      Keeps-awake l' slots' keeps =
+      Keeps-live_again : (l' : Linked) (slots' : List Slot) → Keeps l u live_again max_blob repo blob l' slots' → Keeps l u slots max_blob repo blob l' slots'
+      Keeps-live_again l' slots' keeps =
           let kept : get B.residents blob.0 ≡ Some (resident_of h.lent h) = ap (get B.residents) (sym digest) ∙ was in
           record {
-            catalog = keeps.catalog ∙ keeping_awake;
+            catalog = keeps.catalog ∙ keeping_live_again;
             tied = keeps.tied;
             links = keeps.links;
             same = ap (λ o. same_bytes o blob.1) kept ∙ same_text_is h.bytes blob.1 bytes;
             housed = ap (λ o. not (is_some o) && nat_le B.slots (len B.residents + B.retired)) kept;
           }
 
-      by_link : (b : Bool) → contains_key l.links (repo, blob.0) ≡ b → Keeps l u awake max_blob repo blob (linked l repo blob) (if b then awake else with_slot awake k (on_held raise))
-      by_link true is = Keeps-old l u awake max_blob repo blob (IsTied-change (mark false) (mark-KeepsTies false) l u slots max_blob k h at tied) lawful_awake there k (mark false h) (held_at-with (mark false) (mark-KeepsTies false) slots k h at) digest bytes refl is
-      by_link false is = Keeps-new l u awake max_blob repo blob (IsTied-change (mark false) (mark-KeepsTies false) l u slots max_blob k h at tied) lawful_awake there k (mark false h) (held_at-with (mark false) (mark-KeepsTies false) slots k h at) digest bytes refl is
+      by_link : (b : Bool) → contains_key l.links (repo, blob.0) ≡ b → Keeps l u live_again max_blob repo blob (linked l repo blob) (if b then live_again else with_slot live_again k (on_held raise))
+      by_link true is = Keeps-old l u live_again max_blob repo blob (IsTied-change (mark false) (mark-KeepsTies false) l u slots max_blob k h at tied) lawful_live_again there k (mark false h) (held_at-with (mark false) (mark-KeepsTies false) slots k h at) digest bytes refl is
+      by_link false is = Keeps-new l u live_again max_blob repo blob (IsTied-change (mark false) (mark-KeepsTies false) l u slots max_blob k h at tied) lawful_live_again there k (mark false h) (held_at-with (mark false) (mark-KeepsTies false) slots k h at) digest bytes refl is
 
-      Keeps-again : Keeps l u slots max_blob repo blob (linked l repo blob) (if contains_key l.links (repo, blob.0) then awake else with_slot awake k (on_held raise))
-      Keeps-again = Keeps-awake _ _ (by_link (contains_key l.links (repo, blob.0)) refl)
+      Keeps-again : Keeps l u slots max_blob repo blob (linked l repo blob) (if contains_key l.links (repo, blob.0) then live_again else with_slot live_again k (on_held raise))
+      Keeps-again = Keeps-live_again _ _ (by_link (contains_key l.links (repo, blob.0)) refl)
 
     pub IsKept-Keeps : (l' : Linked) (slots' : List Slot) → IsKept l slots repo blob l' slots' → Keeps l u slots max_blob repo blob l' slots'
     IsKept-Keeps l' slots' (again k h place at bytes links slots_are) =

@@ -1,22 +1,22 @@
 -- `Book::lease`, from what its calls of the layers did.
-use Rattle.std.proofs.Common.{◌≡◌, ℕ, ◌+◌, ◌<◌, ◌≤◌, ◌^◌, Bool, true, false, List, [], ◌∷◌, length, Option, Some, None, Ok, Err, refl, sym, ap, ◌∙◌, subst, arith, inl, inr}
+use Rattle.std.proofs.Common.{◌≡◌, ℕ, ◌+◌, ◌≤◌, true, false, List, [], ◌∷◌, length, Some, None, Ok, Err, refl, sym, ap, ◌∙◌, subst, arith, inl, inr}
 use Prim.Native.Nat.{zero, suc}
 use Rattle.std.specs.Prelude.{slice_get, slice_index, slice_set, map}
 use Rattle.std.specs.Option.{option_map, option_map_or}
 use Rattle.std.specs.FinMap.{get, insert}
 use Rattle.std.proofs.lemmas.Bool.{cases_eq}
-use Rattle.std.proofs.lemmas.List.{get_or-set_other}
+use Rattle.std.proofs.lemmas.List.{get_or-set_other, get_or-set_same}
+use Rattle.std.proofs.lemmas.Option.{slice_get_within}
 use Rattle.blob_digest.specs.declared.refusal.Refusal.TheVariants.{BlobUnknown, TooManyReaders}
 use Rattle.pin_core.specs.declared.world.PinRow.{PinRow}
-use Rattle.pin_core.specs.World.{row, max_weight}
+use Rattle.pin_core.specs.World.{row}
 use Rattle.pin_core.specs.Events.{new_weight}
 use Rattle.slot_table.specs.declared.phase.Phase.TheVariants as phase
-use Rattle.slot_table.specs.Slots.{Slot, Held, Content, Free, Used, Retired, content_with, held_at, held_in, phase_at, slot_of, with_slot, on_held, lend}
-use Rattle.slot_table.proofs.Finding.{live_within}
+use Rattle.slot_table.specs.Slots.{Slot, Held, Content, Free, Used, Retired, content_with, held_at, held_in, phase_at, with_slot, on_held, lend}
 use Rattle.link_table.specs.Linked.{Linked, known_tenant}
 use Rattle.upload_table.specs.Uploaded.{Uploaded}
 use Rattle.store_book.specs.BookState.{SlotSeen}
-use Rattle.store_book.specs.Catalog.{Text, Resident, Catalog, holds}
+use Rattle.store_book.specs.Catalog.{Text, Catalog, holds}
 use Rattle.store_book.specs.Keeping.{linked_slot}
 use Rattle.store_book.specs.Layers.{resident_of, book_catalog, IsBook}
 use Rattle.store_book.specs.Pinned.{Pinned, IsFull, row_of, seen, all_seen, bounded, with_both}
@@ -26,7 +26,7 @@ use Rattle.store_book.proofs.Changing.{catalog-change, lend-KeepsTies, resident_
 use Rattle.store_book.proofs.LawfulLease.{Sound-after_lease}
 use Rattle.store_book.proofs.LinkedSlots.{holds_linked, linked_live, linked_none, linked_some}
 use Rattle.store_book.proofs.MapLemmas.{some_same}
-use Rattle.store_book.proofs.Pinning.{index-set, index-set-le, length-all_seen, row-at, seen-at, within_of}
+use Rattle.store_book.proofs.Pinning.{index-set-le, length-all_seen, row-at, seen-at}
 use Rattle.store_book.proofs.SlotLemmas.{length-with_slot, phase_live, slot_of_held, slot-same, slot-other}
 use Rattle.store_book.proofs.Ties.{held_of}
 
@@ -160,8 +160,8 @@ EachSlot-lent digest p q k n h at is_digest le is = subst (λ (x : Pinned). (x.t
 pub IsCrowded-full : (p q : Pinned) (k : ℕ) (digest : Text) (h : Held) → held_at p.slots k ≡ Some h → h.digest ≡ digest → length p.bounds ≡ length p.slots → IsFull k p q → IsCrowded digest (all_seen q.slots q.bounds)
 IsCrowded-full p q k digest h at is one_each full =
     let s = slot_of_held p.slots k h at in
-    let lt = within_of p.slots k s.0 s.1 in
-    let weight : slice_index (slice_set p.bounds k full.weight) k ≡ full.weight = index-set p.bounds k full.weight (omega arith) in
+    let lt = slice_get_within p.slots k s.0 s.1 in
+    let weight : slice_index (slice_set p.bounds k full.weight) k ≡ full.weight = get_or-set_same p.bounds k full.weight 0 (omega arith) in
     let passes = full.full in
     subst (λ (x : Pinned). IsCrowded digest (all_seen x.slots x.bounds)) (sym full.after)
     (k, seen s.0 (slice_index (slice_set p.bounds k full.weight) k), seen-get p.slots (slice_set p.bounds k full.weight) k s.0 s.1, ap (option_map (λ (x : Held). x.digest)) s.2 ∙ ap Some is, omega arith)

@@ -1,8 +1,9 @@
 -- Words that are read, and pins that are verified.
-use Rattle.std.proofs.Common.{◌≡◌, ℕ, ◌+◌, ◌<◌, ◌≤◌, ◌⊎◌, Bool, true, false, cond, List, length, map, Option, Some, None, refl, sym, ap, ◌∙◌, subst, arith, inl, inr}
+use Rattle.std.proofs.Common.{◌≡◌, ℕ, ◌<◌, ◌≤◌, ◌⊎◌, Bool, true, false, cond, length, map, Option, Some, None, refl, sym, ap, ◌∙◌, subst, arith, inl, inr}
 use Rattle.std.specs.Prelude.{slice_get, slice_index, slice_set}
 use Rattle.std.specs.Option.{option_map, option_map_or}
 use Rattle.std.specs.FinMap.{get}
+use Rattle.std.proofs.lemmas.List.{length-map}
 use Rattle.pin_core.specs.declared.world.Hold.{Hold}
 use Rattle.pin_core.specs.declared.world.Phase.TheVariants as pin
 use Rattle.pin_core.specs.declared.world.PinRow.{PinRow}
@@ -12,14 +13,14 @@ use Rattle.slot_table.specs.Slots.{Slot, Held, Content, Free, Used, Retired, hel
 use Rattle.link_table.specs.Linked.{Linked}
 use Rattle.upload_table.specs.Uploaded.{Uploaded}
 use Rattle.store_book.specs.BookState.{SlotSeen}
-use Rattle.store_book.specs.Catalog.{Text, Catalog}
+use Rattle.store_book.specs.Catalog.{Catalog}
 use Rattle.store_book.specs.Layers.{book_catalog, book_state, resident_of, IsBook}
 use Rattle.store_book.specs.Pinned.{Looked, Pinned, Verified, pin_phase, row_of, seen, all_seen, bounded}
 use Rattle.store_book.specs.SlotSteps.{EachSlot, HasPin, IsStill, ReadsWord, word_phase}
 use Rattle.store_book.proofs.Changing.{resident_at}
 use Rattle.store_book.proofs.Leasing.{seen-get}
 use Rattle.store_book.proofs.MapLemmas.{some_same}
-use Rattle.store_book.proofs.Pinning.{get_within, index-set-le, length-all_seen, length-map_of, row-at, seen-at}
+use Rattle.store_book.proofs.Pinning.{get_within, index-set-le, length-all_seen, row-at, seen-at}
 
 -- a look lowers a bound and nothing else
 pub EachSlot-still : (p q : Pinned) (k n : ℕ) → n ≤ slice_index p.bounds k → q ≡ bounded k n p → (q.table ≡ p.table) × EachSlot IsStill (all_seen p.slots p.bounds) (all_seen q.slots q.bounds)
@@ -88,7 +89,7 @@ module _ (l : Linked) (u : Uploaded) (p q : Pinned) (max_blob : ℕ) (h : Hold) 
   HasPin-verified =
       let keeps = verified.keeps in
       let there = keeps.there in
-      let long = length-map_of row_of p.slots in
+      let long = length-map p.slots row_of in
       let s = get_within p.slots h.slot (omega arith) in
       let is_row : row (map row_of p.slots) h.slot ≡ row_of s.0 = row-at p.slots h.slot s.0 s.1 in
       let digest : option_map (λ (x : Held). x.digest) (held_in s.0.content) ≡ Some h.digest = ap (λ (r : PinRow). r.digest) (sym is_row) ∙ keeps.digest in

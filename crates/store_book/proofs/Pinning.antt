@@ -1,15 +1,16 @@
 -- The slots and the keeper's rows agree, call by call; and what is seen of the slots.
-use Rattle.std.proofs.Common.{◌≡◌, ℕ, ◌+◌, ◌<◌, ◌≤◌, ◌⊎◌, Bool, true, false, cond, List, [], ◌∷◌, length, map, get_or, set as write, Option, Some, None, refl, sym, ap, ◌∙◌, subst, arith, inl, inr}
+use Rattle.std.proofs.Common.{◌≡◌, ℕ, ◌<◌, ◌≤◌, ◌⊎◌, Bool, true, false, cond, List, [], ◌∷◌, length, map, get_or, Option, Some, None, refl, sym, ap, ◌∙◌, subst, arith, inl, inr}
 use Prim.Native.Nat.{zero, suc}
 use Rattle.std.specs.Prelude.{slice_get, slice_index, slice_set, replicate, ◌≢◌, nat_le, ◌&&◌, Result, Ok, Err, if◌then◌else◌}
 use Rattle.std.specs.Option.{option_map, option_map_or}
 use Rattle.std.proofs.lemmas.Bool.{cases_eq}
-use Rattle.std.proofs.lemmas.List.{get_or-set_other, length-replicate}
+use Rattle.std.proofs.lemmas.List.{get_or-set_other, get_or-set_same, length-map, length-replicate}
+use Rattle.std.proofs.lemmas.Option.{slice_get_within}
 use Rattle.std.proofs.Math.ListN.{length-set}
 use Rattle.pin_core.specs.declared.world.Phase.TheVariants as pin
 use Rattle.pin_core.specs.declared.world.PinRow.{PinRow}
 use Rattle.pin_core.specs.Events.{IsNew, given_row, in_phase}
-use Rattle.pin_core.specs.World.{IsUsed, row, no_row}
+use Rattle.pin_core.specs.World.{row, no_row}
 use Rattle.slot_table.specs.declared.phase.Phase.TheVariants as phase
 use Rattle.slot_table.specs.Slots.{opening as slots_opening}
 use Rattle.blob_digest.specs.declared.refusal.Refusal.{Refusal}
@@ -17,40 +18,26 @@ use Rattle.blob_digest.specs.declared.refusal.Refusal.TheVariants.{LimitReached}
 use Rattle.slot_table.specs.Slots.{Slot, Held, Content, Free, Used, Retired, held_in, held_at, phase_in, phase_at, slot_of, with_slot, on_held, content_with, fill, mark, raise, lower, lend, empty_slot}
 use Rattle.store_book.specs.BookState.{SlotSeen}
 use Rattle.store_book.specs.Catalog.{Text}
-use Rattle.store_book.specs.Keeping.{woken}
+use Rattle.store_book.specs.Keeping.{revived}
 use Rattle.store_book.specs.Pinned.{Pinned, IsPinned, pin_phase, row_of, seen, all_seen, with_both, slotted, Quietly}
 use Rattle.store_book.specs.SlotSteps.{EachSlot, IsQuiet}
 use Rattle.store_book.proofs.MapLemmas.{some_same}
 use Rattle.store_book.proofs.Placing.{free_slot}
-use Rattle.store_book.proofs.SlotLemmas.{with_slot-suc, length-with_slot, slot-same, slot-other, map-with_slot, held_at-same, held_at-other, slot_of_held}
+use Rattle.store_book.proofs.SlotLemmas.{with_slot-suc, length-with_slot, slot-same, slot-other, map-with_slot, held_at-same, held_at-other}
 use Rattle.slot_table.proofs.Finding.{live_within}
 use Rattle.store_book.proofs.Ties.{not_held}
 
 -- ---- lists
-
-pub index-set : (xs : List ℕ) (k n : ℕ) → k < length xs → slice_index (slice_set xs k n) k ≡ n
-index-set [] k n lt = absurd (omega arith)
-index-set (x ∷ xs) zero n lt = refl
-index-set (x ∷ xs) (suc k) n lt = index-set xs k n (omega arith)
 
 get-map : {A B : Type 0} (f : A → B) (xs : List A) (k : ℕ) (x : A) (d : B) → slice_get xs k ≡ Some x → get_or (map f xs) k d ≡ f x
 get-map f [] k x d at = cc
 get-map f (y ∷ xs) zero x d at = ap f (some_same at)
 get-map f (y ∷ xs) (suc k) x d at = get-map f xs k x d at
 
-pub length-map_of : {A B : Type 0} (f : A → B) (xs : List A) → length (map f xs) ≡ length xs
-length-map_of f [] = refl
-length-map_of f (x ∷ xs) = ap suc (length-map_of f xs)
-
 pub get_within : {A : Type 0} (xs : List A) (k : ℕ) → k < length xs → (x : A) × (slice_get xs k ≡ Some x)
 get_within [] k lt = absurd (omega arith)
 get_within (x ∷ xs) zero lt = (x, refl)
 get_within (x ∷ xs) (suc k) lt = get_within xs k (omega arith)
-
-pub within_of : {A : Type 0} (xs : List A) (k : ℕ) (x : A) → slice_get xs k ≡ Some x → k < length xs
-within_of [] k x at = cc
-within_of (y ∷ xs) zero x at = omega arith
-within_of (y ∷ xs) (suc k) x at = let h = within_of xs k x at in omega arith
 
 -- ---- rows
 
@@ -147,7 +134,7 @@ Quietly-slotted p q r k f same quiet is = subst (λ x. Quietly p x) (sym is) (re
     length-all_seen (with_slot q.slots k f) q.bounds ∙ length-with_slot q.slots k f ∙ sym (length-all_seen q.slots q.bounds) ∙ quiet.slots.0,
     λ j a b at_a at_b.
         let now = seen-at (with_slot q.slots k f) q.bounds j b at_b in
-        let old = get_within (all_seen q.slots q.bounds) j (let lt = within_of (with_slot q.slots k f) j now.0 now.1 in let long = length-with_slot q.slots k f in let longer = length-all_seen q.slots q.bounds in omega arith) in
+        let old = get_within (all_seen q.slots q.bounds) j (let lt = slice_get_within (with_slot q.slots k f) j now.0 now.1 in let long = length-with_slot q.slots k f in let longer = length-all_seen q.slots q.bounds in omega arith) in
         let was = seen-at q.slots q.bounds j old.0 old.1 in
         let before = quiet.slots.1 j a old.0 at_a old.1 in (
           ap (λ (x : SlotSeen). x.generation) now.2 ∙ generation-with_slot q.slots k f same j was.0 now.0 was.1 now.1 ∙ sym (ap (λ (x : SlotSeen). x.generation) was.2) ∙ before.0,
@@ -219,8 +206,8 @@ lower-row s = by_content s.content
 pub free_there : (slots : List Slot) (rows : List PinRow) (bounds : List ℕ) → IsPinned slots rows bounds → (k : ℕ) → phase_at slots k ≡ phase.Free → k < length rows
 free_there slots rows bounds kept k free =
     let s = free_slot slots k free in
-    let lt = within_of slots k s.0 s.1 in
-    let long : length rows ≡ length slots = ap length kept.same_rows ∙ length-map_of row_of slots in
+    let lt = slice_get_within slots k s.0 s.1 in
+    let long : length rows ≡ length slots = ap length kept.same_rows ∙ length-map slots row_of in
     omega arith
 
 pub free_row : (slots : List Slot) (rows : List PinRow) (bounds : List ℕ) → IsPinned slots rows bounds → (k : ℕ) → phase_at slots k ≡ phase.Free → (row rows k).phase ≡ pin.Free
@@ -240,7 +227,7 @@ free_row slots rows bounds kept k free =
 
 pub new_digest : (slots : List Slot) (rows : List PinRow) (bounds : List ℕ) → IsPinned slots rows bounds → (d : Text) → slot_of slots d ≡ None → IsNew d rows
 new_digest slots rows bounds kept d none = subst (λ rs. IsNew d rs) (sym kept.same_rows) (λ k default lt used has.
-    let s = get_within slots k (let long = length-map_of row_of slots in omega arith) in
+    let s = get_within slots k (let long = length-map slots row_of in omega arith) in
     let is : get_or (map row_of slots) k default ≡ row_of s.0 = get-map row_of slots k s.0 default s.1 in
     held s.0 k s.1 (ap (λ (r : PinRow). r.digest) (sym is) ∙ has))
   where
@@ -268,13 +255,13 @@ IsPinned-placed slots rows bounds kept k blob free =
     unlent j h here mark = elim (cases_eq j k) [
       | inl e ↦
           (let s = free_slot slots k free in
-          let lt = within_of slots k s.0 s.1 in
+          let lt = slice_get_within slots k s.0 s.1 in
           let long = kept.one_each in
-          ap (slice_index (slice_set bounds k 0)) e ∙ index-set bounds k 0 (omega arith))
+          ap (slice_index (slice_set bounds k 0)) e ∙ get_or-set_same bounds k 0 0 (omega arith))
       | inr other ↦ get_or-set_other bounds k j 0 0 other ∙ kept.unlent j h (sym (held_at-other slots k (fill blob) j other) ∙ here) mark
     ]
 
--- ---- waking
+-- ---- reviving
 
 pub condemned_slot : (slots : List Slot) (k : ℕ) → phase_at slots k ≡ phase.Condemned → (s : Slot) × (slice_get slots k ≡ Some s) × (phase_in s.content ≡ phase.Condemned)
 condemned_slot slots k is = by (slice_get slots k) refl is
@@ -295,8 +282,8 @@ used_condemned Retired e = absurd cc
 pub condemned_there : (slots : List Slot) (rows : List PinRow) (bounds : List ℕ) → IsPinned slots rows bounds → (k : ℕ) → phase_at slots k ≡ phase.Condemned → k < length rows
 condemned_there slots rows bounds kept k is =
     let s = condemned_slot slots k is in
-    let lt = within_of slots k s.0 s.1 in
-    let long : length rows ≡ length slots = ap length kept.same_rows ∙ length-map_of row_of slots in
+    let lt = slice_get_within slots k s.0 s.1 in
+    let long : length rows ≡ length slots = ap length kept.same_rows ∙ length-map slots row_of in
     omega arith
 
 pub condemned_row : (slots : List Slot) (rows : List PinRow) (bounds : List ℕ) → IsPinned slots rows bounds → (k : ℕ) → phase_at slots k ≡ phase.Condemned → (row rows k).phase ≡ pin.Condemned
@@ -325,17 +312,17 @@ IsPinned-marked b slots rows bounds kept k s h at is =
     by_origin j x y (inl e) unlent = ap (λ (h : Held). h.lent) (sym e) ∙ unlent
     by_origin j x y (inr e) unlent = ap (λ (h : Held). h.lent) (sym e.1) ∙ unlent
 
-pub IsPinned-woken : (slots : List Slot) (rows : List PinRow) (bounds : List ℕ) → IsPinned slots rows bounds → (k : ℕ) → phase_at slots k ≡ phase.Condemned →
-    IsPinned (woken slots k) (slice_set rows k (in_phase pin.Live (row rows k))) bounds
-IsPinned-woken slots rows bounds kept k is =
+pub IsPinned-revived : (slots : List Slot) (rows : List PinRow) (bounds : List ℕ) → IsPinned slots rows bounds → (k : ℕ) → phase_at slots k ≡ phase.Condemned →
+    IsPinned (revived slots k) (slice_set rows k (in_phase pin.Live (row rows k))) bounds
+IsPinned-revived slots rows bounds kept k is =
     let s = condemned_slot slots k is in
     let h = used_condemned s.0.content s.2 in
     IsPinned-marked false slots rows bounds kept k s.0 h.0 s.1 h.1
 
--- a slot that isn't condemned has nothing to wake
-pub woken-same : (slots : List Slot) (k : ℕ) → phase_at slots k ≢ phase.Condemned → woken slots k ≡ slots
-woken-same [] k not = refl
-woken-same (s ∷ slots) zero not = ap (λ (x : Slot). x ∷ slots) (λ i. record { generation = s.generation; content = by_content s.content not i })
+-- a slot that isn't condemned has nothing to revive
+pub revived-same : (slots : List Slot) (k : ℕ) → phase_at slots k ≢ phase.Condemned → revived slots k ≡ slots
+revived-same [] k not = refl
+revived-same (s ∷ slots) zero not = ap (λ (x : Slot). x ∷ slots) (λ i. record { generation = s.generation; content = by_content s.content not i })
   where
     by_content : (c : Content) → phase_in c ≢ phase.Condemned → content_with (mark false) c ≡ c
     by_content Free e = refl
@@ -345,7 +332,7 @@ woken-same (s ∷ slots) zero not = ap (λ (x : Slot). x ∷ slots) (λ i. recor
         at true is e = absurd (e refl)
         at false is e = λ i. Used (record { digest = x.digest; bytes = x.bytes; condemned = sym is i; lent = x.lent; links = x.links })
     by_content Retired e = refl
-woken-same (s ∷ slots) (suc k) not = with_slot-suc s slots k (on_held (mark false)) ∙ ap (λ xs. s ∷ xs) (woken-same slots k not)
+revived-same (s ∷ slots) (suc k) not = with_slot-suc s slots k (on_held (mark false)) ∙ ap (λ xs. s ∷ xs) (revived-same slots k not)
 
 -- ---- opening
 
@@ -426,5 +413,5 @@ IsPinned-looked slots rows bounds kept k n le = record {
 pub live_there : (slots : List Slot) (rows : List PinRow) (bounds : List ℕ) → IsPinned slots rows bounds → (k : ℕ) → phase_at slots k ≡ phase.Live → k < length rows
 live_there slots rows bounds kept k live =
     let lt = live_within slots k live in
-    let long : length rows ≡ length slots = ap length kept.same_rows ∙ length-map_of row_of slots in
+    let long : length rows ≡ length slots = ap length kept.same_rows ∙ length-map slots row_of in
     omega arith

@@ -1,8 +1,8 @@
 -- Condemning and reclaiming a slot: the slots and the keeper's rows agree.
-use Rattle.std.proofs.Common.{◌≡◌, ◌≢◌, ℕ, ◌+◌, ◌<◌, ◌^◌, Bool, true, false, cond, List, [], ◌∷◌, length, map, Option, Some, None, refl, sym, ap, ◌∙◌, arith, inl, inr}
+use Rattle.std.proofs.Common.{◌≡◌, ◌≢◌, ℕ, ◌<◌, Bool, true, false, cond, List, [], ◌∷◌, map, Option, Some, None, refl, sym, ap, ◌∙◌, arith, inl, inr}
 use Prim.Native.Nat.{zero, suc}
 use Rattle.std.specs.Prelude.{slice_get, slice_index, slice_set, ◌==◌}
-use Rattle.std.specs.Option.{option_map, option_map_or}
+use Rattle.std.specs.Option.{option_map_or}
 use Rattle.std.proofs.lemmas.Bool.{cases_eq, eqb-true, eq-eqb, false_from_ne_true}
 use Rattle.std.proofs.lemmas.List.{get_or-set_other}
 use Rattle.std.proofs.Math.ListN.{length-set}
@@ -12,7 +12,6 @@ use Rattle.pin_core.specs.World.{row}
 use Rattle.slot_table.specs.declared.phase.Phase.TheVariants as phase
 use Rattle.slot_table.specs.Slots.{Slot, Held, Content, Free, Used, Retired, held_in, held_at, phase_in, phase_at, generation_at, is_orphan, with_slot, on_held, content_with, mark, emptied, spent}
 use Rattle.store_book.specs.Pinned.{IsPinned, is_orphan_at, row_of}
-use Rattle.store_book.proofs.MapLemmas.{some_same}
 use Rattle.store_book.proofs.Pinning.{condemned_slot, row-at, rows-write}
 use Rattle.store_book.proofs.SlotLemmas.{held_at-other, held_at-same, length-with_slot, with_slot-suc}
 

@@ -5,18 +5,18 @@ use Rattle.std.specs.Option.{option_map, option_map_or, is_some}
 use Rattle.std.specs.List.{count_by}
 use Rattle.std.specs.Cmp.Lexicographic.{nat_list_cmp_total}
 use Rattle.std.specs.FinMap.{entries, get}
-use Rattle.std.proofs.lemmas.Bool.{true≢false, false_from_ne_true, eqb-true, eq-eqb}
+use Rattle.std.proofs.lemmas.Bool.{true≢false, false_from_ne_true, eq-eqb}
 use Rattle.std.proofs.lemmas.List.Sums.{sum_by-cons}
 use Rattle.std.proofs.lemmas.Option.{slice_get_within}
 use Rattle.blob_digest.specs.Sets as set
 use Rattle.blob_digest.proofs.ListLemmas.{count_by-none}
 use Rattle.blob_digest.proofs.RowLemmas.{sum_by-from_entries}
-use Rattle.slot_table.specs.Slots.{Slot, Held, Content, Free, Used, Retired, held_at, held_in, slot_of, is_orphan, on_held, content_with, mark, emptied, IsDistinct}
+use Rattle.slot_table.specs.Slots.{Slot, Held, Content, Free, Used, Retired, held_at, held_in, slot_of, is_orphan, on_held, content_with, mark, IsDistinct}
 use Rattle.slot_table.proofs.Indexing.{slot_of_none}
 use Rattle.link_table.specs.Linked.{Linked}
 use Rattle.upload_table.specs.Uploaded.{Uploaded}
 use Rattle.store_book.specs.Catalog.{Text, Link, Resident, Catalog, text_cmp, holds, count}
-use Rattle.store_book.specs.Layers.{resident_of, with_resident, resident_rows, residents_of, lent_marks, book_catalog, IsBook, IsTied}
+use Rattle.store_book.specs.Layers.{resident_of, with_resident, resident_rows, residents_of, lent_marks, book_catalog, IsBook}
 use Rattle.store_book.specs.Pinned.{Pinned}
 use Rattle.store_book.specs.Sweeps.{Swept, IsLeft, IsSweep}
 use Rattle.store_book.specs.Sweeps as sweeps

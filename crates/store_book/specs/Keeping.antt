@@ -28,8 +28,8 @@ abbrev pub linked : Linked → Text → Text × Text → Linked
 linked l repo blob = record l { links = fmap.insert l.links (repo, blob.0) (length blob.1) }
 
 -- the slots with the blob in slot k live
-abbrev pub woken : List Slot → ℕ → List Slot
-woken slots k = with_slot slots k (on_held (mark false))
+abbrev pub revived : List Slot → ℕ → List Slot
+revived slots k = with_slot slots k (on_held (mark false))
 
 -- the slots after a link of the blob in slot k, which counts where it is new
 abbrev pub counted : Linked → List Slot → Text → Text → ℕ → List Slot
@@ -38,7 +38,7 @@ counted l slots repo digest k = if fmap.contains_key l.links (repo, digest) then
 -- A blob is linked in a repository. Its digest had a slot, which holds the same bytes, is live now, and counts the link where it is new; or
 -- a free slot was filled with it, and counts one link.
 pub data IsKept (l : Linked) (slots : List Slot) (repo : Text) (blob : Text × Text) (l' : Linked) (slots' : List Slot) : Type 0 where
-  again : (k : ℕ) (h : Held) → slot_of slots blob.0 ≡ Some k → held_at slots k ≡ Some h → h.bytes ≡ blob.1 → l' ≡ linked l repo blob → slots' ≡ counted l (woken slots k) repo blob.0 k → IsKept l slots repo blob l' slots'
+  again : (k : ℕ) (h : Held) → slot_of slots blob.0 ≡ Some k → held_at slots k ≡ Some h → h.bytes ≡ blob.1 → l' ≡ linked l repo blob → slots' ≡ counted l (revived slots k) repo blob.0 k → IsKept l slots repo blob l' slots'
   anew : (k : ℕ) → slot_of slots blob.0 ≡ None → phase_at slots k ≡ phase.Free → l' ≡ linked l repo blob → slots' ≡ with_slot (with_slot slots k (fill blob)) k (on_held raise) → IsKept l slots repo blob l' slots'
 
 -- Why a blob isn't linked: its digest has a slot with other bytes, or none, and no slot is free.

@@ -5,7 +5,7 @@ use Rattle.pin_core.specs.Events.{new_weight, lent_hold}
 use Rattle.pin_table.specs.Calls.{PinValue}
 use Rattle.pin_table.specs.declared.reclaim.Reclaim.{Reclaim}
 use Rattle.pin_table.specs.declared.reclaim.Reclaim.TheVariants as reclaim
-use Rattle.std.specs.Prelude.{◌≡◌, ◌+◌, ◌<◌, ◌≤◌, ◌^◌, ℕ, Option, Some, None, List, [], ◌∷◌, length, map, cond, slice_get, slice_index, slice_set, Bool, false}
+use Rattle.std.specs.Prelude.{◌≡◌, ◌+◌, ◌<◌, ◌≤◌, ◌^◌, ℕ, Some, List, [], ◌∷◌, length, map, cond, slice_get, slice_index, slice_set, Bool, false}
 use Rattle.std.specs.Option.{option_map, option_map_or}
 use Rattle.atomic_table.specs.Seated.{TableId}
 use Rattle.pin_core.specs.declared.world.Phase.{Phase}

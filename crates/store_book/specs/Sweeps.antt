@@ -1,5 +1,5 @@
 -- What a sweep does.
-use Rattle.std.specs.Prelude.{◌≡◌, ℕ, ◌+◌, ◌==◌, ◌&&◌, not, Bool, true, false, Option, Some, None, count_by, is_none}
+use Rattle.std.specs.Prelude.{◌≡◌, ◌+◌, ◌==◌, ◌&&◌, not, Bool, true, false, Option, Some, None, count_by, is_none}
 use Rattle.std.specs.FinMap as fmap
 use Rattle.store_book.specs.Catalog.{Text, Resident, Catalog, count}
 pub use Rattle.store_book.specs.declared.sweep.Swept.{Swept}

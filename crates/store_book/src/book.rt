@@ -154,7 +154,7 @@ impl Book {
     /// Closes a session with its last chunk, which may be empty: its bytes become the blob of this
     /// digest, linked in the repository. Answers the blob's size (OCI Distribution Specification 1.1,
     /// "Pushing a blob in chunks", the closing PUT). The session's bytes move into the blob, and only
-    /// the last chunk is hashed.
+    /// the last chunk is hashed, by the algorithm that the digest names.
     ///
     /// Refused, in this order: what `append` refuses of the last chunk; a digest that is not that of
     /// the whole, or that is kept with other bytes (`DigestInvalid`); a store that has no slot free
@@ -176,7 +176,7 @@ impl Book {
         ensures kept { OnErr result (self.new.slots ≡ self.old.slots) }
     {
         let hand = self.take(repo, number, range, bytes.len() as u64)?;
-        match hand.fill(bytes) {
+        match hand.fill_last(bytes, digest.algorithm()) {
             Ok(hand) => self.finish(pins, hand, digest),
             Err(hand) => {
                 let _ = self.put_back(hand);
@@ -229,7 +229,8 @@ impl Book {
     }
 
     /// Closes a session in hand, whose last chunk was filled in or is empty: as `close`, of which it is
-    /// the second half. No byte is copied or hashed.
+    /// the second half. No byte is copied, and none hashed, but for a last chunk that `fill_last` hashed by
+    /// the other algorithm than the digest's.
     ///
     /// Refused, in this order: a hand that this book has no session in hand for, as `put_back` does
     /// (`UploadUnknown`); a digest that is not that of the whole, or that is kept with other bytes
@@ -429,6 +430,7 @@ impl Book {
         ensures readers { IfErr result (λ e. e ≡ Refusal.TooManyReaders → IsCrowded digest.now self.new.slots) }
         ensures pin { IfOk result (λ r. (r.0.table ≡ pins.now) × (r.0.hold.digest ≡ digest.now) × (r.0.hold.weight ≡ 1024)) }
         ensures slots { (self.new.table ≡ self.old.table) × EachSlot (IsLending digest.now) self.old.slots self.new.slots }
+        ensures refused { OnErr result (EachSlot IsStill self.old.slots self.new.slots) }
     {
         let _ = self.links.tenant(repo)?;
         let Some(slot) = find_linked(&self.links, self.slots.table(), repo, digest) else {

@@ -103,7 +103,7 @@ fn keep_again(
     let size = blob.bytes().len() as u64;
     match links.link(tenant, repo, &blob.digest(), size) {
         Ok(is_new) => {
-            slots.wake(pins, slot);
+            slots.revive(pins, slot);
             if is_new {
                 slots.link_up(slot);
             }

@@ -211,12 +211,11 @@ fn a_thousand_slots_are_filled_again(rt: HostRuntime) {
     let mut store = small(&rt, 1000, 1048576, 1000000);
     fill(&rt, &mut store, 0, 1000);
     sweep_beside_leases(&rt, &mut store, 250);
-    play(&rt, &mut store, &Step::Sweep(0, 250, 0, 0));
+    plays(&rt, &mut store, &[Step::Sweep(0, 250, 0, 0)]);
     fill(&rt, &mut store, 1750, 2000);
-    play(&rt, &mut store, &Step::Sweep(0, 0, 0, 0));
-    play(
-        &rt,
-        &mut store,
-        &Step::Says("tenant acme used 4000 quota 1000000 next 2002\n"),
-    );
+    let after = [
+        Step::Sweep(0, 0, 0, 0),
+        Step::Says("tenant acme used 4000 quota 1000000 next 2002\n"),
+    ];
+    plays(&rt, &mut store, &after);
 }

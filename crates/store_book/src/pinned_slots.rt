@@ -99,7 +99,7 @@ impl PinnedSlots {
     }
 
     /// Makes a condemned blob live again, in its row and its word. A live one stays as it is.
-    pub fn wake(&mut self, pins: &Pins, slot: u32)
+    pub fn revive(&mut self, pins: &Pins, slot: u32)
         requires table { self.old.table ≡ pins.now }
         requires used { slot < length self.old.slots }
         ensures { self.new ≡ slotted slot (on_held (mark false)) self.old }

@@ -272,7 +272,10 @@ fn gets_manifest(
     of: &str,
     wanted: &Result<&str, Refusal>,
 ) -> bool {
-    match (store.book.get_manifest(&name(rt, repo), &digest(rt, of)), wanted) {
+    match (
+        store.book.get_manifest(&name(rt, repo), &digest(rt, of)),
+        wanted,
+    ) {
         (Ok(manifest), Ok(text)) => manifest.bytes() == text.as_bytes(),
         (Err(refusal), Err(other)) => refusal == *other,
         _ => false,

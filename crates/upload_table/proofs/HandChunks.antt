@@ -8,10 +8,10 @@ use Rattle.std.proofs.lemmas.Bool.Decides.{nat_tests}
 use Rattle.std.proofs.lemmas.List.{length-take-le, take-append-drop, append-nil}
 use Rattle.std.proofs.lemmas.List.Sums.{sum_by-cons, sum_by_push}
 use Rattle.std.proofs.Math.Seq.{drop-append_seam}
-use Rattle.blob_digest.specs.declared.running.Running.{Running}
 use Rattle.upload_table.specs.Sessions.{Taken, chunks_of, whole_of, with_chunk}
 use Rattle.upload_table.specs.Uploaded.{cut}
 use Rattle.upload_table.specs.Rows.{taken, with_length, IsFilled, IsHand}
+use Rattle.upload_table.specs.declared.hashed.Hashed.{Hashed}
 use Rattle.upload_table.specs.declared.upload.Pieces.{Pieces}
 use Rattle.upload_table.proofs.Cuts.{concat-cut, cut-more, cut-push, cut-take, sum_by-cut}
 
@@ -57,12 +57,12 @@ cut-last lens bytes n len = at (drop (sum lens) bytes) refl
         ∙ cut-push lens (take (sum lens) bytes) (b ∷ bs) front
         ∙ ap (λ cs. cs ++ (b ∷ bs) ∷ []) (cut-take lens bytes within))
 
-module _ (received reserved : ℕ) (p : Pieces) (room : ℕ) (whole : Option Running) (hand : IsHand received reserved p room whole) where
+module _ (received reserved : ℕ) (p : Pieces) (room : ℕ) (whole : Option Hashed) (hand : IsHand received reserved p room whole) where
   -- the chunks are among the bytes
   pub chunks_within : sum p.lens.items ≤ length p.bytes.items
   chunks_within = at whole hand.filled
     where
-      at : (w : Option Running) → IsFilled received reserved p room w → sum p.lens.items ≤ length p.bytes.items
+      at : (w : Option Hashed) → IsFilled received reserved p room w → sum p.lens.items ≤ length p.bytes.items
       at None filled = omega (arith, filled, hand.lengths)
       at (Some w) filled = omega (arith, filled.0, hand.lengths)
 
@@ -76,27 +76,27 @@ module _ (received reserved : ℕ) (p : Pieces) (room : ℕ) (whole : Option Run
   pub hand_whole : (t n : ℕ) → whole_of (taken t n received reserved p whole) ≡ p.bytes.items
   hand_whole t n = at whole hand.filled
     where
-      at : (w : Option Running) → IsFilled received reserved p room w → concat (cut p.lens.items p.bytes.items) ++ option_map_or (λ b. b) (option_map (λ (r : Running). drop received p.bytes.items) w) [] ≡ p.bytes.items
+      at : (w : Option Hashed) → IsFilled received reserved p room w → concat (cut p.lens.items p.bytes.items) ++ option_map_or (λ b. b) (option_map (λ (r : Hashed). drop received p.bytes.items) w) [] ≡ p.bytes.items
       at None filled = append-nil (concat (cut p.lens.items p.bytes.items)) ∙ concat-cut p.lens.items p.bytes.items (hand.lengths ∙ sym filled)
       at (Some w) filled = ap (λ front. front ++ drop received p.bytes.items) (concat-cut-front p.lens.items p.bytes.items chunks_within)
           ∙ ap (λ k. take k p.bytes.items ++ drop received p.bytes.items) hand.lengths ∙ take-append-drop received p.bytes.items
 
   -- with the length of the last one, its bytes are cut into all its chunks
-  pub hand_chunks : (t n : ℕ) (w : Running) → whole ≡ Some w → cut (with_length p.lens.items reserved) p.bytes.items ≡ chunks_of (taken t n received reserved p whole)
+  pub hand_chunks : (t n : ℕ) (w : Hashed) → whole ≡ Some w → cut (with_length p.lens.items reserved) p.bytes.items ≡ chunks_of (taken t n received reserved p whole)
   hand_chunks t n w is = at whole is hand.filled
     where
-      at : (v : Option Running) → v ≡ Some w → IsFilled received reserved p room v → cut (with_length p.lens.items reserved) p.bytes.items ≡ chunks_of (taken t n received reserved p v)
+      at : (v : Option Hashed) → v ≡ Some w → IsFilled received reserved p room v → cut (with_length p.lens.items reserved) p.bytes.items ≡ chunks_of (taken t n received reserved p v)
       at None none filled = absurd cc
       at (Some v) some filled =
           let len : length p.bytes.items ≡ sum p.lens.items + reserved = omega (arith, filled.0, hand.lengths) in
           cut-last p.lens.items p.bytes.items reserved len ∙ ap (λ k. with_chunk (cut p.lens.items p.bytes.items) (drop k p.bytes.items)) hand.lengths
 
   -- a chunk is filled in
-  pub hand_fill : (t n : ℕ) (new : Pieces) (w : Running) (chunk : List ℕ) → (taken t n received reserved p whole).last ≡ None → new.lens.items ≡ p.lens.items → new.bytes.items ≡ p.bytes.items ++ chunk →
+  pub hand_fill : (t n : ℕ) (new : Pieces) (w : Hashed) (chunk : List ℕ) → (taken t n received reserved p whole).last ≡ None → new.lens.items ≡ p.lens.items → new.bytes.items ≡ p.bytes.items ++ chunk →
       taken t n received reserved new (Some w) ≡ record (taken t n received reserved p whole) { last = Some chunk }
   hand_fill t n new w chunk empty lens bytes = at whole empty hand.filled
     where
-      at : (v : Option Running) → (taken t n received reserved p v).last ≡ None → IsFilled received reserved p room v → taken t n received reserved new (Some w) ≡ record (taken t n received reserved p v) { last = Some chunk }
+      at : (v : Option Hashed) → (taken t n received reserved p v).last ≡ None → IsFilled received reserved p room v → taken t n received reserved new (Some w) ≡ record (taken t n received reserved p v) { last = Some chunk }
       at None none filled =
           let chunks : cut new.lens.items new.bytes.items ≡ cut p.lens.items p.bytes.items = rw (lens, bytes) (cut-more p.lens.items p.bytes.items chunk chunks_within) in
           let last : drop received new.bytes.items ≡ chunk = rw bytes (ap (λ k. drop k (p.bytes.items ++ chunk)) (sym filled) ∙ drop-append_seam p.bytes.items chunk) in
@@ -113,10 +113,10 @@ chunks_of-length h = at h.last
     at (Some (b ∷ bs)) fits = omega (arith, sum_by_push (λ (c : List ℕ). length c) h.chunks (b ∷ bs), fits)
 
 -- so with the one that is filled in they fit into what was reserved
-pub hand_fits : (t n received reserved : ℕ) (p : Pieces) (room : ℕ) (whole : Option Running) → IsHand received reserved p room whole →
+pub hand_fits : (t n received reserved : ℕ) (p : Pieces) (room : ℕ) (whole : Option Hashed) → IsHand received reserved p room whole →
     sum_by length (chunks_of (taken t n received reserved p whole)) ≤ sum_by length (taken t n received reserved p whole).chunks + reserved
 hand_fits t n received reserved p room whole hand = chunks_of-length (taken t n received reserved p whole) (last whole hand.filled)
   where
-    last : (w : Option Running) → IsFilled received reserved p room w → IfSome (taken t n received reserved p w).last (λ b. length b ≡ reserved)
+    last : (w : Option Hashed) → IsFilled received reserved p room w → IfSome (taken t n received reserved p w).last (λ b. length b ≡ reserved)
     last None filled = tt
     last (Some w) filled = omega (arith, filled.0, length-drop received p.bytes.items)

@@ -4,13 +4,15 @@ use Rattle.std.specs.Option.{option_map}
 use Rattle.std.specs.List.{AllByRecursion}
 use Rattle.std.specs.FinMap as fmap
 use Rattle.std.specs.Ordering.{nat_cmp}
+use Rattle.blob_digest.specs.Digests.{algorithm_of, hash_text}
 use Rattle.blob_digest.specs.Hashing.{Hashes}
 use Rattle.blob_digest.specs.Keys.{Text, same_text}
-use Rattle.blob_digest.specs.declared.running.Running.{Running}
 use Rattle.upload_table.specs.Sessions.{Chunks, Session, Taken}
 use Rattle.upload_table.specs.Sessions as shown
 use Rattle.upload_table.specs.Tenants.{Numbered}
 use Rattle.upload_table.specs.Uploaded.{cut}
+use Rattle.upload_table.specs.declared.hashed.Hashed.{Hashed}
+use Rattle.upload_table.specs.declared.hashed.Hashed.TheVariants.{Both, One}
 use Rattle.upload_table.specs.declared.upload.Content.{Content}
 use Rattle.upload_table.specs.declared.upload.Content.TheVariants.{Home, InHand}
 use Rattle.upload_table.specs.declared.upload.Pieces.{Pieces}
@@ -80,15 +82,20 @@ rows_listed repo rows = map row_listed (filter (λ u. same_text u.repo repo) row
 -- ---- hands
 
 -- what a hand stands for
-abbrev pub taken : ℕ → ℕ → ℕ → ℕ → Pieces → Option Running → Taken
+abbrev pub taken : ℕ → ℕ → ℕ → ℕ → Pieces → Option Hashed → Taken
 taken tenant number received reserved p whole = record { key = (tenant, number); chunks = cut p.lens.items p.bytes.items; reserved = reserved; last = option_map (λ _. drop received p.bytes.items) whole }
 
--- a chunk of the reserved length follows the others, there is room for its length, and a hash takes in all bytes; or no chunk does
-abbrev pub IsFilled : ℕ → ℕ → Pieces → ℕ → Option Running → Type 0
-IsFilled received reserved p room None = length p.bytes.items ≡ received
-IsFilled received reserved p room (Some whole) = (length p.bytes.items ≡ received + reserved) × (length p.lens.items < room) × Hashes whole p.bytes.items
+-- both hashes have taken in these bytes, or it is their digest by the algorithm that it names
+abbrev pub IsHashOf : Hashed → List ℕ → Type 0
+IsHashOf (Both running) bytes = Hashes running bytes
+IsHashOf (One digest) bytes = digest ≡ hash_text (algorithm_of digest) bytes
 
-pub record IsHand (received reserved : ℕ) (p : Pieces) (room : ℕ) (whole : Option Running) : Type 0 where
+-- a chunk of the reserved length follows the others, there is room for its length, and all bytes are hashed; or no chunk does
+abbrev pub IsFilled : ℕ → ℕ → Pieces → ℕ → Option Hashed → Type 0
+IsFilled received reserved p room None = length p.bytes.items ≡ received
+IsFilled received reserved p room (Some whole) = (length p.bytes.items ≡ received + reserved) × (length p.lens.items < room) × IsHashOf whole p.bytes.items
+
+pub record IsHand (received reserved : ℕ) (p : Pieces) (room : ℕ) (whole : Option Hashed) : Type 0 where
   pub lengths : sum p.lens.items ≡ received
   pub positive : AllByRecursion (λ n. 0 < n) p.lens.items
   pub hash : Hashes p.running (take received p.bytes.items)

@@ -1,19 +1,21 @@
 //! What is in hand of a session: its chunks, outside the table.
 
-ghost use Rattle.std.specs.Prelude.{◌≡◌, ◌≢◌, ◌+◌, ◌<◌, ◌≤◌, ◌^◌, [], Some, None, IfSome, IfOk, IfErr, OnErr, true, false, is_some, length, sum_by};
+ghost use Rattle.std.specs.Prelude.{◌≡◌, ◌≢◌, ◌+◌, ◌<◌, ◌≤◌, ◌^◌, [], Some, None, IfSome, IfOk, IfErr, OnErr, true, false, is_some, length, sum_by, take};
 ghost use Rattle.std.specs.List.{AllByRecursion};
 ghost use Rattle.blob_digest.specs.Digests.{is_digest_of};
+ghost use Rattle.blob_digest.specs.Hashing.{Hashes};
 ghost use Rattle.upload_table.specs.Sessions.{chunks_of, whole_of};
 ghost use Rattle.upload_table.specs.Uploaded.{cut, BeginsWith, IsFull};
-ghost use Rattle.upload_table.specs.Rows.{with_length, IsWhole};
+ghost use Rattle.upload_table.specs.Rows.{with_length, IsHashOf, IsWhole};
 ghost use Rattle.std.specs.Vec.{vec_capacity};
 
+use crate::hashed::Hashed;
 use crate::upload::{Pieces, extend, sum_of};
-use blob_digest::{Blob, Digest, Running};
+use blob_digest::{Algorithm, Blob, Digest, Running};
 use std::marker::Model;
 
 /// The chunks of a session in hand, with room reserved for one more. Its bytes are copied and hashed by
-/// `fill`, which looks at no table, so that a table need not be locked for it.
+/// `fill` or `fill_last`, which look at no table, so that a table need not be locked for them.
 ///
 /// It can be neither copied nor dropped: `Uploads::put_back` or `Uploads::finish` takes it.
 pub struct Hand {
@@ -22,7 +24,7 @@ pub struct Hand {
     received: u64,
     reserved: u64,
     pieces: Pieces,
-    whole: Option<Running>,
+    whole: Option<Hashed>,
 }
 
 impl Model for Hand {
@@ -127,6 +129,28 @@ impl Hand {
         ensures ok { IfOk result (λ h. h ≡ record self { last = Some bytes.now }) }
         ensures err { IfErr result (λ h. h ≡ self) }
     {
+        self.fill_by(bytes, None)
+    }
+
+    /// As `fill`, of a chunk that is to be the last: its bytes are hashed by this algorithm alone, which the
+    /// close's digest is to name. The hand can be put back as well, or finished under a digest by the other
+    /// algorithm; either hashes the chunk once more.
+    pub fn fill_last(self, bytes: &[u8], algorithm: Algorithm) -> Result<Hand, Hand>
+        requires len { length bytes.now ≡ self.reserved }
+        requires empty { self.last ≡ None }
+        ensures ok { IfOk result (λ h. h ≡ record self { last = Some bytes.now }) }
+        ensures err { IfErr result (λ h. h ≡ self) }
+    {
+        self.fill_by(bytes, Some(algorithm))
+    }
+
+    /// Fills in the chunk, hashed by the one algorithm that is named, or else by both.
+    fn fill_by(self, bytes: &[u8], algorithm: Option<Algorithm>) -> Result<Hand, Hand>
+        requires len { length bytes.now ≡ self.reserved }
+        requires empty { self.last ≡ None }
+        ensures ok { IfOk result (λ h. h ≡ record self { last = Some bytes.now }) }
+        ensures err { IfErr result (λ h. h ≡ self) }
+    {
         let Hand {
             tenant,
             number,
@@ -135,7 +159,7 @@ impl Hand {
             mut pieces,
             whole: _,
         } = self;
-        match extend(&mut pieces, bytes) {
+        match extend(&mut pieces, bytes, algorithm) {
             Ok(all) => Ok(Hand {
                 tenant,
                 number,
@@ -164,13 +188,13 @@ impl Hand {
         let Hand {
             tenant: _,
             number: _,
-            received: _,
+            received,
             reserved,
             pieces,
             whole,
         } = self;
         match whole {
-            Some(running) => with_last(pieces, reserved, running),
+            Some(hashed) => with_last(pieces, received as usize, reserved, hashed),
             None => pieces,
         }
     }
@@ -199,11 +223,12 @@ impl Hand {
             lens,
             running,
         } = pieces;
-        let all = match whole {
-            Some(all) => all,
-            None => running.fork(),
+        let last = &bytes[received as usize..];
+        let found = match whole {
+            Some(hashed) => hashed.digest(&running, last, digest.algorithm()),
+            None => running.digest_with(last, digest.algorithm()),
         };
-        match Blob::seal(bytes, all, digest) {
+        match Blob::seal_found(bytes, found, digest) {
             Ok(blob) => Ok((
                 blob,
                 Sealed {
@@ -238,17 +263,21 @@ impl Hand {
 }
 
 /// The chunks with the last one, whose bytes are there and for whose length there is room.
-fn with_last(pieces: Pieces, len: u64, whole: Running) -> Pieces
+fn with_last(pieces: Pieces, received: usize, len: u64, hashed: Hashed) -> Pieces
     requires room { length pieces.lens.items < vec_capacity pieces.lens }
+    requires within { received ≤ length pieces.bytes.items }
+    requires front { Hashes pieces.running (take received pieces.bytes.items) }
+    requires all { IsHashOf hashed pieces.bytes.items }
     ensures bytes { result.bytes.items ≡ pieces.bytes.items }
     ensures lens { result.lens.items ≡ with_length pieces.lens.items len }
-    ensures running { result.running ≡ whole }
+    ensures hash { Hashes result.running pieces.bytes.items }
 {
     let Pieces {
         bytes,
         mut lens,
-        running: _,
+        running,
     } = pieces;
+    let running = hashed.into_running(running, &bytes[received..]);
     if len > 0 {
         match lens.push(len) {
             Ok(()) => {}
@@ -258,7 +287,7 @@ fn with_last(pieces: Pieces, len: u64, whole: Running) -> Pieces
     Pieces {
         bytes,
         lens,
-        running: whole,
+        running,
     }
 }
 

@@ -1,17 +1,20 @@
 //! Open upload sessions, by tenant and number (OCI Distribution Specification 1.1, "Pushing blobs").
 //!
 //! A session is the list of its chunks. The table keeps each session's bytes, the lengths of its
-//! chunks and the hash of the bytes so far. It stands on `blob_digest` alone. It promises that each call
-//! does what `specs/` says of it, and that a refused call changes nothing, but for `finish`.
+//! chunks and the hashes of the bytes so far. Each tenant has its own sessions, at most 64, and no call
+//! goes over another tenant's. The crate stands on `blob_digest` alone. It promises that each call does
+//! what `specs/` says of it, and that a refused call changes nothing, but for `finish`.
 //!
 //! A session changes by way of a `Hand`: `take` moves its chunks out of the table and reserves bytes for
 //! one more, `Hand::fill` copies and hashes that one without the table, and `put_back` moves all of them
 //! in again. To close a session, `finish` moves the bytes of the hand into a blob, and then `forget`
 //! drops the session, or `reopen` takes the blob back and leaves the session as before it was taken. No
-//! byte is copied or hashed twice.
+//! byte is copied twice, and each goes through each of the two hashes once; those of a last chunk go
+//! through the one alone that the close asks for, where `Hand::fill_last` is told which.
 #![tactic(auto)]
 
 mod hand;
+mod hashed;
 mod repo_sessions;
 mod tenant_sessions;
 mod upload;

@@ -1,12 +1,16 @@
 //! Worked sequences of calls, each call on its happy path, and each refusal.
 
 use crate::{Hand, Uploads};
-use blob_digest::{ByteRange, Digest, Refusal, RepoName};
+use blob_digest::{Algorithm, ByteRange, Digest, Refusal, RepoName};
 use std::alloc::Global;
 use std::marker::Model;
 use std::process::Abort;
 
 const ABC: &str = "sha256:ba7816bf8f01cfea414140de5dae2223b00361a396177a9cb410ff61f20015ad";
+
+/// The digest of `abc` by SHA-512 (FIPS 180-4's first example).
+const ABC_512: &str =
+    "sha512:ddaf35a193617abacc417349ae20413112e6fa4e89a97ea20a9eeee64b55d39a2192992a274fc1a836ba3c23a3feebbd454d4423643ce80e2a9ac94fa54ca49f";
 
 const OBJ: &str = "sha256:44136fa355b3678a1146ad16f7e8649e94fb4fc21fe77e8310c060f61caaff8a";
 
@@ -95,6 +99,17 @@ fn fill(hand: Hand, bytes: &[u8]) -> Hand {
     }
 }
 
+/// As `fill`, hashed by one algorithm alone.
+fn fill_last(hand: Hand, bytes: &[u8], algorithm: Algorithm) -> Hand {
+    if hand.filled() || hand.reserved() != bytes.len() as u64 {
+        return hand;
+    }
+    match hand.fill_last(bytes, algorithm) {
+        Ok(hand) => hand,
+        Err(hand) => hand,
+    }
+}
+
 fn opened(rt: &impl Abort, alloc: Global, first_number: u32) -> Table {
     Table {
         uploads: Uploads::new(alloc, 1, first_number).expect(rt, "memory"),
@@ -132,6 +147,31 @@ fn closes(
 ) {
     let hand = fill(takes(rt, table, repo, 1, 1), b"c");
     assert_eq!(rt; table.close(hand, &digest(rt, text), then), wanted);
+}
+
+/// Fills in `c` behind the bytes of session 1, hashed by one algorithm alone, closes it, and opens it again.
+fn closes_by(
+    rt: &impl Abort,
+    table: &mut Table,
+    repo: &RepoName,
+    algorithm: Algorithm,
+    text: &str,
+    wanted: Result<usize, Refusal>,
+) {
+    let hand = fill_last(takes(rt, table, repo, 1, 1), b"c", algorithm);
+    assert_eq!(rt; table.close(hand, &digest(rt, text), Then::Reopen), wanted);
+}
+
+/// Fills in `c` behind the bytes of session 1, hashed by one algorithm alone, and puts it back.
+fn appends_by(rt: &impl Abort, table: &mut Table, repo: &RepoName, algorithm: Algorithm) {
+    let hand = fill_last(takes(rt, table, repo, 1, 1), b"c", algorithm);
+    puts_back(rt, table, hand, Ok(3));
+}
+
+/// Closes session 1 with no more bytes, and opens it again.
+fn closes_as_it_is(rt: &impl Abort, table: &mut Table, repo: &RepoName, text: &str) {
+    let hand = fill(takes(rt, table, repo, 1, 0), b"");
+    assert_eq!(rt; table.close(hand, &digest(rt, text), Then::Reopen), Ok(3));
 }
 
 fn takes(rt: &impl Abort, table: &mut Table, repo: &RepoName, number: u32, len: u64) -> Hand {
@@ -320,6 +360,31 @@ fn a_session_is_sealed_opened_again_and_forgotten(rt: HostRuntime) {
     shows(&rt, &table, &repo, Ok(2), Ok(2), 2);
     closes(&rt, &mut table, &repo, ABC, Then::Forget, Ok(3));
     is_gone(&rt, &table, &repo, 0);
+}
+
+#[test]
+fn a_last_chunk_is_hashed_by_one_algorithm(rt: HostRuntime) {
+    let alloc = rt.alloc();
+    let repo = name(&rt, alloc, b"acme/one");
+    let mut table = opened(&rt, alloc, 1);
+    starts(&rt, &mut table, &repo, Ok(1));
+    appends(&rt, &mut table, &repo, 1, b"ab");
+    for (algorithm, text, wanted) in [
+        (Algorithm::Sha256, ABC, Ok(3)),
+        (Algorithm::Sha512, ABC_512, Ok(3)),
+        (Algorithm::Sha512, ABC, Ok(3)),
+        (Algorithm::Sha256, ABC_512, Ok(3)),
+        (Algorithm::Sha256, OBJ, Err(Refusal::DigestInvalid)),
+        (Algorithm::Sha512, OBJ, Err(Refusal::DigestInvalid)),
+    ] {
+        closes_by(&rt, &mut table, &repo, algorithm, text, wanted);
+    }
+    shows(&rt, &table, &repo, Ok(2), Ok(2), 2);
+    appends_by(&rt, &mut table, &repo, Algorithm::Sha256);
+    for text in [ABC, ABC_512] {
+        closes_as_it_is(&rt, &mut table, &repo, text);
+    }
+    shows(&rt, &table, &repo, Ok(3), Ok(3), 3);
 }
 
 #[test]

@@ -4,15 +4,16 @@ ghost use Rattle.std.specs.Prelude.{◌≡◌, ◌+◌, ◌<◌, ◌^◌, ◌++�
 ghost use Rattle.std.specs.Vec.{vec_capacity};
 ghost use Rattle.blob_digest.specs.Hashing.{Hashes};
 ghost use Rattle.upload_table.specs.Sessions.{length_after as length_after_chunk};
-ghost use Rattle.upload_table.specs.Rows.{content_charge, content_received, is_at_home, is_out, IsSame, IsWhole};
+ghost use Rattle.upload_table.specs.Rows.{content_charge, content_received, is_at_home, is_out, IsHashOf, IsSame, IsWhole};
 ghost use Rattle.upload_table.specs.Uploaded.{cut};
 ghost use Rattle.upload_table.specs.declared.upload.Content.TheVariants.{Home, InHand};
 
-use blob_digest::{ByteRange, Refusal, RepoName, Running};
+use crate::hashed::Hashed;
+use blob_digest::{Algorithm, ByteRange, Refusal, RepoName, Running};
 use std::alloc::{AllocError, Global};
 use std::mem;
 
-/// The chunks of a session: their bytes, one after another, their lengths, and the hash of the bytes.
+/// The chunks of a session: their bytes, one after another, their lengths, and the hashes of the bytes.
 #[derive(Drop)]
 pub(crate) struct Pieces {
     pub(crate) bytes: Vec<u8>,
@@ -129,11 +130,16 @@ pub(crate) fn length_after(
     }
 }
 
-/// Adds the bytes of a chunk at the end, makes room for its length, and answers the hash of all bytes.
-/// The chunks' own hash stays, so that they need not be hashed again where the last one goes.
-pub(crate) fn extend(pieces: &mut Pieces, chunk: &[u8]) -> Result<Running, AllocError>
+/// Adds the bytes of a chunk at the end, makes room for its length, and answers what hashing it gave, by
+/// the one algorithm that is named, or else by both. The chunks' own hashes stay, so that they need not be
+/// hashed again where the last one goes.
+pub(crate) fn extend(
+    pieces: &mut Pieces,
+    chunk: &[u8],
+    algorithm: Option<Algorithm>,
+) -> Result<Hashed, AllocError>
     requires { Hashes pieces.old.running pieces.old.bytes.items }
-    ensures hash { IfOk result (λ w. Hashes w pieces.new.bytes.items) }
+    ensures hash { IfOk result (λ w. IsHashOf w pieces.new.bytes.items) }
     ensures bytes { OnOk result (pieces.new.bytes.items ≡ pieces.old.bytes.items ++ chunk.now) }
     ensures room { OnOk result (length pieces.new.lens.items < vec_capacity pieces.new.lens) }
     ensures err { OnErr result (pieces.new.bytes.items ≡ pieces.old.bytes.items) }
@@ -141,9 +147,7 @@ pub(crate) fn extend(pieces: &mut Pieces, chunk: &[u8]) -> Result<Running, Alloc
 {
     pieces.lens.reserve(1)?;
     pieces.bytes.extend_from_slice(chunk)?;
-    let mut whole = pieces.running.fork();
-    whole.update(chunk);
-    Ok(whole)
+    Ok(Hashed::of(&pieces.running, chunk, algorithm))
 }
 
 /// The sum of the lengths of some chunks.

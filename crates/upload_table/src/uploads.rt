@@ -173,8 +173,9 @@ impl Uploads {
 
     /// Puts a session's chunks back, and the one that was filled in, where it has bytes; answers how many
     /// bytes the session has received. What was reserved and not filled in is free again. It takes no
-    /// memory. Refused, as `UploadUnknown`, is a hand that no session of this table was taken into: none
-    /// is in hand with its number and its lengths. The hand is then let go, and nothing changes.
+    /// memory, and hashes nothing but a chunk that `fill_last` filled in. Refused, as `UploadUnknown`, is a
+    /// hand that no session of this table was taken into: none is in hand with its number and its lengths.
+    /// The hand is then let go, and nothing changes.
     pub fn put_back(&mut self, hand: Hand) -> Result<u64, Refusal>
         ensures { DoesExactly (λ n. n) result self.old self.new (put_back_upload self.old hand) }
     {
@@ -189,7 +190,8 @@ impl Uploads {
 
     /// Moves a hand's bytes into a blob of this digest, where its chunk was filled in or none is to come.
     /// Its session stays in hand until `forget`, or `reopen` with this blob, which leads to where the
-    /// session was before it was taken. No byte is copied or hashed. It takes no memory.
+    /// session was before it was taken. No byte is copied, and none hashed, but for a chunk that `fill_last`
+    /// hashed by the other algorithm than the digest's. It takes no memory.
     ///
     /// Refused, in this order: a hand that no session of this table was taken into, as `put_back` does
     /// (`UploadUnknown`); other bytes than the digest's (`DigestInvalid`), and the session is then as

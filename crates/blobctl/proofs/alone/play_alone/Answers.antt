@@ -1,8 +1,16 @@
-use Rattle.std.proofs.Common.{map}
+use Rattle.std.proofs.Common.{◌≤◌, length, map, refl}
+use Rattle.std.proofs.lemmas.List.{length-map}
+use Rattle.store_book.specs.Openings.{OpensCatalog, tenants_shown}
+use Rattle.blobctl.specs.Answers.{answers_of}
 use Rattle.blobctl.specs.Lines.{line_of}
-use Rattle.blobctl.proofs.BookPlays.{all_happen}
+use Rattle.blobctl.proofs.BookPlays.{AreLow, fresh_low, run_happens}
 use Rattle.blobctl.proofs.alone.play_alone.Goals as goal
 
 pub returns-clause-played : goal.returns-clause-played
 returns-clause-played c =
-    (c.in_ok-book.book.catalog, c.in_ok-book.ensures.opened, all_happen c.in_ok-book.book c.play.new.board (map line_of c.args.rows.now) c.in_ok-replies.replies.items c.in_ok-replies.ensures.played)
+    let store = c.args.options.now.store in
+    let book = c.in_ok-book.book in
+    let opened = c.in_ok-book.ensures.opened in
+    let fresh : AreLow 0 book.slots = fresh_low book.slots store.slots _ opened.slots c.requires.within.first refl in
+    let few : length (map line_of c.args.rows.now) ≤ 65536 = rw (length-map c.args.rows.now line_of) c.requires.few in
+    run_happens (OpensCatalog (tenants_shown store.tenants.items) store.slots store.max_blob) c.play_in.result (λ p. p.0) (λ p. answers_of p.1.items) (map line_of c.args.rows.now) book opened.catalog fresh few c.play_in.ensures.played

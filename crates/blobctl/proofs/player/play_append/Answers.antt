@@ -13,4 +13,4 @@ returns-in_err-range g c =
     let p = err_from_is_err_and c.from_residual-in_err-range.result c.from_residual-in_err-range.ensures.1 in
     let repo : IsRepoName c.args.row.now.repo.items = search rules in
     let why : (c.in_err-range.field-0.0 ≡ SizeInvalid) × IsNoRange c.args.row.now.range.items = rw c.as_slice-2.ensures.value at c.in_err-range.ensures in
-    rw (p.1, p.2) (inr (range_refused g.B.Board.acts c.args.board.now c.args.board.now (line_of c.args.row.now) c.in_err-range.field-0.0 repo (λ h. absurd (false≢true (rw c.requires at h))) (λ h. absurd (false≢true (rw c.requires at h))) why refl))
+    rw (p.1, p.2) (inr (range_refused g.B.Backend.acts c.args.backend.now c.args.backend.now (line_of c.args.row.now) c.in_err-range.field-0.0 (rw c.requires refl) repo (λ h. absurd (false≢true (rw c.requires at h))) (λ h. absurd (false≢true (rw c.requires at h))) (rw c.requires refl) why refl))

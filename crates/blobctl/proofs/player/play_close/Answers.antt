@@ -1,36 +1,17 @@
 use Rattle.std.proofs.Common.{◌≡◌, inr, refl, rules}
 use Rattle.std.proofs.lemmas.Bool.{false≢true}
 use Rattle.std.proofs.lemmas.Result.{err_from_is_err_and}
-use Rattle.blob_digest.specs.Digests.{IsDigestText}
 use Rattle.blob_digest.specs.Names.{IsRepoName}
-use Rattle.blob_digest.specs.declared.refusal.Refusal.TheVariants.{DigestInvalid, SizeInvalid}
-use Rattle.blobctl.specs.Commands.{IsNoRange}
+use Rattle.blob_digest.specs.declared.refusal.Refusal.TheVariants.{SizeInvalid}
+use Rattle.blobctl.specs.Commands.{IsDigest, IsNoRange}
 use Rattle.blobctl.specs.Lines.{line_of}
-use Rattle.blobctl.proofs.PlayedRows.{digest_refused, range_refused}
+use Rattle.blobctl.proofs.PlayedRows.{range_refused}
 use Rattle.blobctl.proofs.player.play_close.Goals as goal
 
 pub returns-in_err-range : goal.returns-in_err-range
 returns-in_err-range g c =
     let p = err_from_is_err_and c.from_residual-in_err-range.result c.from_residual-in_err-range.ensures.1 in
     let repo : IsRepoName c.args.row.now.repo.items = search rules in
-    let spelt : IsDigestText c.args.row.now.digest.items = search rules in
+    let spelt : IsDigest c.args.row.now.digest.items = search rules in
     let why : (c.in_err-range.field-0.0 ≡ SizeInvalid) × IsNoRange c.args.row.now.range.items = rw c.as_slice-3.ensures.value at c.in_err-range.ensures in
-    rw (p.1, p.2) (inr (range_refused g.B.Board.acts c.args.board.now c.args.board.now (line_of c.args.row.now) c.in_err-range.field-0.0 repo (λ h. absurd (false≢true (rw c.requires at h))) (λ _. spelt) why refl))
-
-pub returns-in_err-digest : goal.returns-in_err-digest
-returns-in_err-digest g c =
-    let p = err_from_is_err_and c.from_residual-in_err-digest.result c.from_residual-in_err-digest.ensures.1 in
-    let repo : IsRepoName c.args.row.now.repo.items = search rules in
-    let accepts = rw c.as_slice-2.ensures.value at c.in_err-digest.ensures.accepts in
-    let why : (c.in_err-digest.field-0.0 ≡ DigestInvalid) × ¬ IsDigestText c.args.row.now.digest.items = (c.in_err-digest.ensures.refused, λ spelt. false≢true (accepts.1 spelt)) in
-    rw (p.1, p.2) (inr (digest_refused g.B.Board.acts c.args.board.now c.args.board.now (line_of c.args.row.now) c.in_err-digest.field-0.0 repo (λ h. absurd (false≢true (rw c.requires at h))) (rw c.requires refl) why refl))
-
-pub returns-in_err-size : goal.returns-in_err-size
-returns-in_err-size g c =
-    let spelt : IsDigestText c.args.row.now.digest.items = search rules in
-    search (rules, spelt)
-
-pub returns : goal.returns
-returns g c =
-    let spelt : IsDigestText c.args.row.now.digest.items = search rules in
-    search (rules, spelt)
+    rw (p.1, p.2) (inr (range_refused g.B.Backend.acts c.args.backend.now c.args.backend.now (line_of c.args.row.now) c.in_err-range.field-0.0 (rw c.requires refl) repo (λ h. absurd (false≢true (rw c.requires at h))) (λ _. spelt) (rw c.requires refl) why refl))

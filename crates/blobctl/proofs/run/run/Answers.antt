@@ -1,5 +1,6 @@
 use Rattle.std.proofs.Common.{◌++◌, map, refl}
 use Rattle.store_book.specs.Printed.{book_text}
+use Rattle.blobctl.specs.Answers.{answers_of}
 use Rattle.blobctl.specs.Lines.{line_of}
 use Rattle.blobctl.specs.Replies.{replies_text}
 use Rattle.blobctl.proofs.run.run.Goals as goal
@@ -11,16 +12,17 @@ returns-clause-played g c =
     record {
       script = rows.0;
       read = rows.1;
-      text = replies_text c.in-Ok.replies.items ++ book_text c.in-Ok.book.catalog;
+      text = replies_text (answers_of c.in-Ok.replies.items) ++ book_text c.in-Ok.book.catalog;
       written = rw c.as_slice-2.ensures.value at c.in_ok-write_played.ensures.written;
       played = record {
         first = played.0;
-        opened = played.1;
+        opened = played.2;
         rows = map line_of c.in_ok-rows.rows.items;
         all = rows.2;
-        replies = c.in-Ok.replies.items;
+        answers = answers_of c.in-Ok.replies.items;
         last = c.in-Ok.book.catalog;
-        run = rw c.as_slice.ensures.value at played.2;
+        left = played.1;
+        run = rw c.as_slice.ensures.value at played.3;
         written = refl;
       };
     }

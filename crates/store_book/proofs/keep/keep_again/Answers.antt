@@ -1,6 +1,4 @@
-use Rattle.std.proofs.Common.{◌≡◌, Bool, true, false, rules, refl, sym, ap, ◌∙◌}
-use Rattle.std.specs.Prelude.{length}
-use Rattle.slot_table.specs.declared.phase.Phase.TheVariants as phase
+use Rattle.std.proofs.Common.{◌≡◌, true, false, rules, refl, sym, ap, ◌∙◌}
 use Rattle.slot_table.specs.Slots.{with_slot, on_held, raise, mark, phase_at}
 use Rattle.store_book.specs.Pinned.{Pinned, Quietly}
 use Rattle.store_book.proofs.KeepCalls.{test_at, differs_by_test, again_size, awake_live, awake_room, kept_new, kept_old}
@@ -23,13 +21,13 @@ pub link_up-requires-clause-live : goal.link_up-requires-clause-live
 link_up-requires-clause-live c =
     let told : c.holds.result ≡ true = search rules in
     let test : test_at c.args.slots.now.slots c.args.slot c.args.blob.1 ≡ true = rw (← c.table.ensures, ← c.bytes.ensures.value) (sym c.holds.ensures ∙ told) in
-    ap (λ (p : Pinned). phase_at p.slots c.args.slot) c.wake.ensures ∙ awake_live c.args.slots.now.slots c.args.slot c.args.blob c.requires.there test
+    ap (λ (p : Pinned). phase_at p.slots c.args.slot) c.revive.ensures ∙ awake_live c.args.slots.now.slots c.args.slot c.args.blob c.requires.there test
 
 pub link_up-requires-clause-room : goal.link_up-requires-clause-room
 link_up-requires-clause-room c =
     let told : c.holds.result ≡ true = search rules in
     let test : test_at c.args.slots.now.slots c.args.slot c.args.blob.1 ≡ true = rw (← c.table.ensures, ← c.bytes.ensures.value) (sym c.holds.ensures ∙ told) in
-    rw c.wake.ensures (awake_room c.args.slots.now.slots c.args.slot c.args.blob c.requires.there test c.args.links.now c.args.tenant c.args.repo.now c.requires.can)
+    rw c.revive.ensures (awake_room c.args.slots.now.slots c.args.slot c.args.blob c.requires.there test c.args.links.now c.args.tenant c.args.repo.now c.requires.can)
 
 pub returns-after-is_new-clause-ok : goal.returns-after-is_new-clause-ok
 returns-after-is_new-clause-ok c =
@@ -38,16 +36,16 @@ returns-after-is_new-clause-ok c =
     elim c.if-is_new.branch [
       | then-is_new w ↦
           kept_new c.args.slots.now.slots c.args.slot c.args.blob c.requires.there test c.args.links.now c.link.new.self c.if-is_new.slots.slots c.args.repo.now (rw (c.digest.ensures.value, c.bytes-2.ensures.value, w.if-is_new.true) at c.in-Ok.ensures)
-          (ap (λ (p : Pinned). p.slots) (w.slots-is ∙ w.link_up.ensures ∙ ap (λ (q : Pinned). record { table = q.table; slots = with_slot q.slots c.args.slot (on_held raise); bounds = q.bounds }) c.wake.ensures))
+          (ap (λ (p : Pinned). p.slots) (w.slots-is ∙ w.link_up.ensures ∙ ap (λ (q : Pinned). record { table = q.table; slots = with_slot q.slots c.args.slot (on_held raise); bounds = q.bounds }) c.revive.ensures))
       | else-is_new w ↦
           kept_old c.args.slots.now.slots c.args.slot c.args.blob c.requires.there test c.args.links.now c.link.new.self c.if-is_new.slots.slots c.args.repo.now (rw (c.digest.ensures.value, c.bytes-2.ensures.value, w.if-is_new.false) at c.in-Ok.ensures)
-          (ap (λ (p : Pinned). p.slots) (w.slots-is ∙ c.wake.ensures))
+          (ap (λ (p : Pinned). p.slots) (w.slots-is ∙ c.revive.ensures))
     ]
 
 pub returns-after-is_new-clause-quiet : goal.returns-after-is_new-clause-quiet
 returns-after-is_new-clause-quiet c =
-    let awake : Quietly c.args.slots.now c.wake.new.self = Quietly-slotted c.args.slots.now c.args.slots.now c.wake.new.self c.args.slot (on_held (mark false)) (λ s. refl) (Quietly-same c.args.slots.now) c.wake.ensures in
+    let awake : Quietly c.args.slots.now c.revive.new.self = Quietly-slotted c.args.slots.now c.args.slots.now c.revive.new.self c.args.slot (on_held (mark false)) (λ s. refl) (Quietly-same c.args.slots.now) c.revive.ensures in
     elim c.if-is_new.branch [
-      | then-is_new w ↦ Quietly-slotted c.args.slots.now c.wake.new.self c.if-is_new.slots c.args.slot (on_held raise) (λ s. refl) awake (w.slots-is ∙ w.link_up.ensures)
+      | then-is_new w ↦ Quietly-slotted c.args.slots.now c.revive.new.self c.if-is_new.slots c.args.slot (on_held raise) (λ s. refl) awake (w.slots-is ∙ w.link_up.ensures)
       | else-is_new w ↦ rw w.slots-is awake
     ]

@@ -1,10 +1,10 @@
-use Rattle.std.proofs.Common.{◌≡◌, List, ◌∙◌, ap, sym, subst, refl}
+use Rattle.std.proofs.Common.{◌≡◌, List, ◌∙◌, ap, sym, subst}
 use Rattle.slot_table.specs.declared.phase.Phase.TheVariants as phase
 use Rattle.slot_table.specs.Slots.{Slot, with_slot, on_held, raise}
-use Rattle.store_book.specs.Keeping.{bytes_at, woken, IsKept}
+use Rattle.store_book.specs.Keeping.{bytes_at, revived, IsKept}
 use Rattle.store_book.specs.Pinned.{Pinned, all_seen}
 use Rattle.store_book.proofs.KeepCalls.{size_there, again_new, again_old}
-use Rattle.store_book.proofs.Pinning.{all_seen-with_slot, raise-seen, woken-same}
+use Rattle.store_book.proofs.Pinning.{all_seen-with_slot, raise-seen, revived-same}
 use Rattle.store_book.proofs.keep.link_slot.Goals as goal
 use Rattle.store_book.proofs.keep.link_slot.Goals.{then-is_new, else-is_new}
 
@@ -13,7 +13,7 @@ link-requires-clause-size c = rw (c.held_len-size.ensures, c.table.ensures) (siz
 
 pub returns-clause-ok : goal.returns-clause-ok
 returns-clause-ok c =
-    let awake : woken c.args.slots.now.slots c.args.slot ≡ c.args.slots.now.slots = woken-same c.args.slots.now.slots c.args.slot (λ e. let f : phase.Live ≡ phase.Condemned = sym c.requires.live ∙ e in cc) in
+    let awake : revived c.args.slots.now.slots c.args.slot ≡ c.args.slots.now.slots = revived-same c.args.slots.now.slots c.args.slot (λ e. let f : phase.Live ≡ phase.Condemned = sym c.requires.live ∙ e in cc) in
     elim c.if-is_new.branch [
       | then-is_new w ↦
           again_new c.args.slots.now.slots c.args.slot c.args.digest.now c.requires.there c.args.links.now c.link.new.self c.if-is_new.slots.slots c.args.repo.now (rw (c.held_len-size.ensures, c.table.ensures, w.if-is_new.true) at c.in_ok-is_new.ensures)

@@ -1,4 +1,4 @@
-use Rattle.std.proofs.Common.{◌≡◌, ap, sym, ◌∙◌}
+use Rattle.std.proofs.Common.{ap, sym, ◌∙◌}
 use Rattle.slot_table.specs.Slots.{phase_at}
 use Rattle.store_book.specs.Pinned.{Pinned}
 use Rattle.store_book.specs.SweptSlots.{counting}

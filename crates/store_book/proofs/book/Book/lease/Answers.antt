@@ -1,8 +1,8 @@
-use Rattle.std.proofs.Common.{◌≡◌, Bool, true, false, List, refl, sym, ap, ◌∙◌}
-use Rattle.pin_core.specs.declared.world.PinRow.{PinRow}
+use Rattle.std.proofs.Common.{true, false, refl, sym, ap, ◌∙◌}
 use Rattle.std.proofs.lemmas.Result.{err_from_is_err_and}
 use Rattle.store_book.specs.Layers.{book_catalog}
 use Rattle.store_book.specs.Pinned.{Pinned}
+use Rattle.store_book.proofs.Looking.{EachSlot-still}
 use Rattle.store_book.proofs.Leasing.{lease_ok, lease_unknown, lent_digest, live_there, held, lease_full, EachSlot-looked, EachSlot-lent, IsCrowded-full, IsBook-lease}
 use Rattle.pin_table.specs.Calls.{PinValue}
 use Rattle.store_book.specs.BookState.{BookState}
@@ -62,3 +62,9 @@ returns-in_err-pin-clause-readers c =
     let e = c.in_err-pin.ensures in
     let h = held c.self.inside.links c.self.inside.uploads c.self.inside.slots.slots c.self.inside.max_blob c.in_ok-tenant.field-0 c.args.repo.now c.args.digest.now c.self.invariant (sym c.in_ok-tenant.ensures.known) c.in-Some.slot (rw c.table.ensures at (sym c.in-Some.ensures)) in
     rw p.1 (λ _. IsCrowded-full c.self.inside.slots c.lend.new.self c.in-Some.slot c.args.digest.now h.0 h.1 h.2 c.share.ensures.one_each e.1)
+
+pub returns-in_err-pin-clause-refused : goal.returns-in_err-pin-clause-refused
+returns-in_err-pin-clause-refused c =
+    let p = err_from_is_err_and c.from_residual-in_err-pin.result c.from_residual-in_err-pin.ensures.1 in
+    let e = c.in_err-pin.ensures.1 in
+    rw (p.1, ← c.self.view_is) ((EachSlot-still c.self.inside.slots c.lend.new.self c.in-Some.slot e.weight e.within e.after).1)

@@ -1,6 +1,3 @@
-use Rattle.std.proofs.Common.{ap, sym}
-use Rattle.store_book.specs.Layers.{book_catalog}
-use Rattle.store_book.specs.Pinned.{Pinned}
 use Rattle.store_book.proofs.Looking.{EachSlot-still, HasPin-verified}
 use Rattle.store_book.proofs.book.Book.verify.Goals as goal
 

@@ -1,7 +1,5 @@
 use Rattle.std.proofs.Common.{ap, length, ◌<◌, ◌∙◌, subst, sym}
 use Rattle.store_book.specs.BookState.{BookState}
-use Rattle.store_book.specs.Layers.{book_catalog}
-use Rattle.store_book.specs.Pinned.{Pinned}
 use Rattle.store_book.proofs.Pinning.{length-all_seen}
 use Rattle.store_book.proofs.Looking.{reads_word, EachSlot-still}
 use Rattle.store_book.proofs.book.Book.word.Goals as goal

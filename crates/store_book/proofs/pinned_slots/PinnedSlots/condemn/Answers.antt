@@ -1,4 +1,4 @@
-use Rattle.std.proofs.Common.{◌≡◌, ◌≢◌, true, rules, sym, ap, ◌∙◌}
+use Rattle.std.proofs.Common.{◌≢◌, true, rules, sym, ap, ◌∙◌}
 use Rattle.slot_table.specs.declared.phase.Phase.TheVariants as phase
 use Rattle.slot_table.specs.Slots.{phase_at}
 use Rattle.store_book.specs.Pinned.{Pinned, is_orphan_at}

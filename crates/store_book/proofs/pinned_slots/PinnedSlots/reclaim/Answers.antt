@@ -1,7 +1,7 @@
-use Rattle.std.proofs.Common.{◌≡◌, ◌+◌, ◌<◌, ◌^◌, sym, ap, ◌∙◌, arith}
+use Rattle.std.proofs.Common.{◌≡◌, ◌+◌, ◌<◌, ◌^◌, ap, ◌∙◌, arith}
 use Rattle.slot_table.specs.declared.phase.Phase.TheVariants as phase
 use Rattle.slot_table.specs.Slots.{generation_at, phase_at}
-use Rattle.store_book.specs.Pinned.{Pinned, Reclaimed}
+use Rattle.store_book.specs.Pinned.{Pinned}
 use Rattle.store_book.proofs.Reclaiming.{generation_row, IsPinned-freed, IsPinned-retired}
 use Rattle.store_book.proofs.pinned_slots.PinnedSlots.reclaim.Goals as goal
 

@@ -10,7 +10,7 @@ pub returns-in-Some-clause-chunks : goal.returns-in-Some-clause-chunks
 returns-in-Some-clause-chunks c =
     (λ i. cut (c.with_last.ensures.lens i) (c.with_last.ensures.bytes i))
     ∙ hand_chunks c.self.inside.received c.self.inside.reserved c.self.inside.pieces (vec_capacity c.self.inside.pieces.lens) c.self.inside.whole c.self.invariant
-    c.self.inside.tenant c.self.inside.number c.in-Some.running c.in-Some.is
+    c.self.inside.tenant c.self.inside.number c.in-Some.hashed c.in-Some.is
     ∙ ap (λ (h : Taken). chunks_of h) c.self.view_is
 
 pub returns-in-Some-clause-fits : goal.returns-in-Some-clause-fits

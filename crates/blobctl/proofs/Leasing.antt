@@ -1,0 +1,112 @@
+-- What a book's calls say of its slots and its leases, as rows are played on it.
+use Rattle.std.proofs.Common.{◌≡◌, ◌≢◌, ◌⊎◌, ◌∙◌, ℕ, Bool, List, true, false, Option, Some, None, Result, Ok, Err, ap, arith, inl, inr, refl, sym, length}
+use Rattle.std.specs.Prelude.{MatchResult, slice_get, not}
+use Rattle.std.specs.Option.{ok_or}
+use Rattle.std.specs.FinMap as fmap
+use Rattle.std.proofs.lemmas.Bool.{cases_lt}
+use Rattle.std.proofs.lemmas.Option.{same_Some}
+use Rattle.blob_digest.specs.Keys.{Text}
+use Rattle.blob_digest.specs.Outcomes.{Does, OutcomeIn, ◌>>=◌, refuse}
+use Rattle.blob_digest.specs.declared.refusal.Refusal.{Refusal}
+use Rattle.blob_digest.specs.declared.refusal.Refusal.TheVariants.{NameUnknown, BlobUnknown, Memory, TooManyReaders}
+use Rattle.slot_table.specs.declared.phase.Phase.TheVariants as phase
+use Rattle.store_book.specs.Catalog.{Catalog, Resident, holds, tenant_of}
+use Rattle.store_book.specs.Steps.{Outcome, lease, with_lent}
+use Rattle.store_book.specs.BookState.{SlotSeen}
+use Rattle.store_book.specs.SlotSteps as slots
+use Rattle.blobctl.specs.Answers.{Answer, Bytes, Refused}
+use Rattle.blobctl.specs.Commands.{Lease}
+use Rattle.blobctl.specs.Played.{ActsCall, RisesByOne, told}
+
+-- ---- slots
+
+each : {R Q : SlotSeen → SlotSeen → Type 0} (old new : List SlotSeen) → ((a b : SlotSeen) → R a b → Q a b) → slots.EachSlot R old new → slots.EachSlot Q old new
+each old new weaker h = (h.0, λ k a b was at. weaker a b (h.1 k a b was at))
+
+pub same_rise : (old new : List SlotSeen) → new ≡ old → slots.EachSlot RisesByOne old new
+same_rise old new same = (
+  ap length same,
+  λ k a b was at.
+      let one : b ≡ a = same_Some b a (sym at ∙ ap (λ (xs : List SlotSeen). slice_get xs k) same ∙ was) in
+      rw one (omega arith, omega arith),
+)
+
+quiet_rises : (a b : SlotSeen) → slots.IsQuiet a b → RisesByOne a b
+quiet_rises a b quiet = (omega (arith, quiet.0), omega (arith, quiet.1))
+
+pub quiet_rise : (old new : List SlotSeen) → slots.EachSlot slots.IsQuiet old new → slots.EachSlot RisesByOne old new
+quiet_rise old new h = each old new quiet_rises h
+
+lending_rises : (digest : Text) (a b : SlotSeen) → slots.IsLending digest a b → RisesByOne a b
+lending_rises digest a b lending = (
+  omega (arith, lending.0),
+  elim (cases_lt a.bound b.bound) [
+    | inl more ↦ (lending.1 more).1
+    | inr none ↦ omega (arith, none)
+  ],
+)
+
+pub lending_rise : (digest : Text) (old new : List SlotSeen) → slots.EachSlot (slots.IsLending digest) old new → slots.EachSlot RisesByOne old new
+lending_rise digest old new h = each old new (lending_rises digest) h
+
+still_rises : (a b : SlotSeen) → slots.IsStill a b → RisesByOne a b
+still_rises a b still = (omega (arith, still.0), omega (arith, still.3))
+
+pub still_rise : (old new : List SlotSeen) → slots.EachSlot slots.IsStill old new → slots.EachSlot RisesByOne old new
+still_rise old new h = each old new still_rises h
+
+swept_rises : (a b : SlotSeen) → slots.IsSweptSlot a b → RisesByOne a b
+swept_rises a b (slots.same still) = still_rises a b still
+swept_rises a b (slots.condemned was still) = still_rises (record a { phase = phase.Condemned }) b still
+swept_rises a b (slots.freed d was more is) = rw is (omega arith, omega arith)
+swept_rises a b (slots.retired d was last is) = rw is (omega arith, omega arith)
+
+pub swept_rise : (old new : List SlotSeen) → slots.EachSlot slots.IsSweptSlot old new → slots.EachSlot RisesByOne old new
+swept_rise old new h = each old new swept_rises h
+
+-- ---- leases
+
+-- what a lease answers, by what it looks at
+abbrev leasing : Bool → Catalog → Text → Option ℕ → Bool → Option Resident → Outcome Text
+leasing crowded C digest tenant unlinked found = (ok_or tenant NameUnknown) >>= (λ _. ((refuse unlinked BlobUnknown) >>= (λ _. ok_or found BlobUnknown)) >>= (λ b. (refuse crowded TooManyReaders) >>= (λ _. Ok (b.bytes, with_lent C digest b))))
+
+module _ (C : Catalog) (digest : Text) where
+  none_where_crowded : (t : Option ℕ) (u : Bool) (f : Option Resident) (x : Text × Catalog) → leasing true C digest t u f ≢ Ok x
+  none_where_crowded None u f x e = absurd (let h = e in cc)
+  none_where_crowded (Some t) true f x e = absurd (let h = e in cc)
+  none_where_crowded (Some t) false None x e = absurd (let h = e in cc)
+  none_where_crowded (Some t) false (Some b) x e = absurd (let h = e in cc)
+
+  -- where a look finds a crowd, only the refusal for readers is new
+  refused_alike : (t : Option ℕ) (u : Bool) (f : Option Resident) (r : Refusal) → leasing true C digest t u f ≡ Err r → (leasing false C digest t u f ≡ Err r) ⊎ (r ≡ TooManyReaders)
+  refused_alike None u f r e = inl e
+  refused_alike (Some t) true f r e = inl e
+  refused_alike (Some t) false None r e = inl e
+  refused_alike (Some t) false (Some b) r e = inr (let h = e in cc)
+
+-- a command's outcome, as an answer tells it
+pub does_told : {A B : Type 0} (view : A → B) (answer : B → Answer) (r : Result A Refusal) (C C' : Catalog) (o : OutcomeIn Catalog B) (Rise : Type 0) → Does view r C C' o → Rise
+    → MatchResult r (λ x. (told answer o ≡ Ok (answer (view x), C')) × Rise) (λ e. ((e ≢ Memory → (told answer o ≡ Err e) ⊎ ⊥) × (C' ≡ C)) × Rise)
+does_told view answer (Ok x) C C' o Rise h rise = (ap (told answer) h, rise)
+does_told view answer (Err e) C C' o Rise h rise = (((λ other. inl (ap (told answer) (h.0 other))), h.1), rise)
+
+module _ (C : Catalog) (repo digest : Text) where
+  abbrev look_at : Bool → Outcome Text
+  look_at crowded = leasing crowded C digest (tenant_of C.tenants repo) (not (holds C repo digest)) (fmap.get C.residents digest)
+
+  leased_alike : (crowded : Bool) (x : Text × Catalog) → look_at crowded ≡ Ok x → told Bytes (lease false C repo digest) ≡ Ok (Bytes x.0, x.1)
+  leased_alike true x e = absurd (none_where_crowded C digest (tenant_of C.tenants repo) (not (holds C repo digest)) (fmap.get C.residents digest) x e)
+  leased_alike false x e = ap (told Bytes) e
+
+  refused_or_crowded : (seen : List SlotSeen) (r : Refusal) (crowded : Bool) → look_at crowded ≡ Err r → (crowded ≡ true → slots.IsCrowded digest seen) → (told Bytes (lease false C repo digest) ≡ Err r) ⊎ ((r ≡ TooManyReaders) × slots.IsCrowded digest seen)
+  refused_or_crowded seen r true e look = elim (refused_alike C digest (tenant_of C.tenants repo) (not (holds C repo digest)) (fmap.get C.residents digest) r e) [
+    | inl alike ↦ inl (ap (told Bytes) alike)
+    | inr readers ↦ inr (readers, look refl)
+  ]
+  refused_or_crowded seen r false e look = inl (ap (told Bytes) e)
+
+-- a book's lease, as rows ask for it
+pub lease_acts : {A : Type 0} (view : A → Text) (r : Result A Refusal) (C C' : Catalog) (seen : List SlotSeen) (repo digest : Text) → slots.Leases view r C C' seen repo digest
+    → MatchResult r (λ x. ActsCall C seen (Lease repo digest) (Bytes (view x)) C') (λ e. ActsCall C seen (Lease repo digest) (Refused e) C')
+lease_acts view (Ok x) C C' seen repo digest h = leased_alike C repo digest h.crowded (view x, C') h.does
+lease_acts view (Err e) C C' seen repo digest h = ((λ other. refused_or_crowded C repo digest seen e h.crowded (h.does.0 other) h.look), h.does.1)

@@ -1,0 +1,317 @@
+-- Rows none of which leases a blob have one run.
+use Rattle.std.proofs.Common.{◌≡◌, ◌≢◌, ◌⊎◌, ◌+◌, ◌∙◌, ◌∷◌, [], ℕ, List, Bool, false, true, cond, inl, inr, length, map, Option, Some, None, Result, Ok, Err, ap, arith, refl, subst, sym}
+use Rattle.std.specs.Prelude.{if◌then◌else◌, is_none, count_by, nat_lt, not}
+use Rattle.std.specs.FinMap as fmap
+use Rattle.std.specs.FinMap.{get, get-empty, get-insert, same_map}
+use Rattle.std.specs.Cmp.Lexicographic.{nat_list_cmp_total}
+use Rattle.std.proofs.lemmas.Bool.{false≢true}
+use Rattle.std.proofs.lemmas.Map.Lookups.{exact_bytes}
+use Rattle.std.proofs.lemmas.Option.{same_Some}
+use Rattle.std.specs.Ordering.{eq_by_cmp}
+use Rattle.blob_digest.specs.Digests.{sha256_text}
+use Rattle.blob_digest.specs.Keys.{Text}
+use Rattle.blob_digest.specs.Outcomes.{◌>>=◌, refuse}
+use Rattle.blob_digest.specs.declared.refusal.Refusal.{Refusal}
+use Rattle.blob_digest.specs.declared.refusal.Refusal.TheVariants as no
+use Rattle.oci_manifest.specs.Manifests.{refs_of, max_manifest}
+use Rattle.std.specs.Option.{ok_or}
+use Rattle.store_book.specs.Catalog.{Catalog, Resident, opening, text_cmp}
+use Rattle.store_book.specs.Steps.{Outcome, tenant, start, append, close, abandon, mount, delete, put_manifest, get_manifest, delete_manifest, stored, was_lent, has_source, link_held, start_instead, has_manifest, add_manifest, check, session, not_busy, unreferenced, referrer, all_linked, manifest, linked, names, has_slot, within_quota, whole_in, lacks_room_for, cannot_open, is_full_of_manifests}
+use Rattle.store_book.specs.Sweeps.{IsLeft, IsSweep, is_orphan}
+use Rattle.store_book.specs.declared.sweep.Swept.{Swept}
+use Rattle.blobctl.specs.Answers.{Answer, Cleaned, Refused}
+use Rattle.blobctl.specs.Commands.{Command, Start, Status, Append, Close, Abandon, Mount, Delete, PutManifest, GetManifest, DeleteManifest, Lease, Sweeps, is_lease, uses_repo}
+use Rattle.blobctl.specs.Played.{Happens, answered, outcome, read, told}
+use Rattle.blobctl.specs.Plays.{Plays, RowStep, State, StoreRow, StoreStep, VerifiesLease, give_back_of, name_of, named, piece_of, read_of, second_of, shared_in}
+use Rattle.csv.specs.Machine.{next_record}
+use Rattle.csv.specs.Reading.{AreRecords, Reached}
+use Rattle.csv.specs.declared.parser.Config.{Config}
+use Rattle.csv.specs.declared.parser.State.{State as CsvState}
+use Rattle.blob_digest.specs.Tenants.{Tenant}
+use Rattle.blobctl.specs.Leases.{Lent}
+use Rattle.blobctl.specs.OneText.{LeaseNothing}
+use Rattle.blobctl.specs.Script.{AreRowsOf}
+use Rattle.blobctl.specs.Rows.{Line, Record, row_of as row_of_record}
+use Rattle.blobctl.specs.declared.row.Verb.{Verb}
+use Rattle.blobctl.specs.declared.row.Verb.TheVariants as verb
+use Rattle.blobctl.proofs.SameCommands.{names_repo, same_command, same_refusal, well_spelt}
+
+-- no blob was lent
+abbrev pub LentNone : Catalog → Type 0
+LentNone C = (d : Text) (b : Resident) → get C.residents d ≡ Some b → b.lent ≡ false
+
+-- ---- one step
+
+pub store_same : (C D E : Catalog) (line : Line) (a b : Answer) → StoreStep Happens C line a D → StoreStep Happens C line b E → ◌≡◌ {A = Answer × Catalog} (a, D) (b, E)
+store_same C D E line a b one two = elim one [
+  | inl h ↦ elim two [
+    | inl k ↦ (let same = same_refusal line h.0.1.0 k.0.1.0 h.0.1.1 k.0.1.1 in λ i. ((h.0.1.2 ∙ ap Refused same ∙ sym k.0.1.2) i, (h.1 ∙ sym k.1) i))
+    | inr k ↦ absurd (well_spelt line k.0 h.0.1.0 k.1 h.0.1.1)
+  ]
+  | inr h ↦ elim two [
+    | inl k ↦ absurd (well_spelt line h.0 k.0.1.0 h.1 k.0.1.1)
+    | inr k ↦ h.3 ∙ ap (λ (c : Command). answered C (outcome C c)) (same_command line h.0 k.0 h.1 k.1) ∙ sym k.3
+  ]
+]
+
+left_of : (o : Bool) (b : Resident) (now : Option Resident) → b.lent ≡ false → IsLeft o b now → now ≡ cond o None (Some b)
+left_of false b now none left = left
+left_of true b None none left = refl
+left_of true b (Some now) none left = absurd (false≢true (sym none ∙ left.0))
+
+module _ (C : Catalog) (none : LentNone C) where
+  after : (s : Swept) (D : Catalog) (d : Text) (x : Option Resident) → IsSweep C s D → get C.residents d ≡ x → get D.residents d ≡ cond (is_orphan C d) None x
+  after s D d None sweep is = sweep.no_others d is ∙ none_either (is_orphan C d)
+    where
+      none_either : (o : Bool) → None ≡ cond {A = Option Resident} o None None
+      none_either true = refl
+      none_either false = refl
+  after s D d (Some b) sweep is = left_of (is_orphan C d) b (get D.residents d) (none d b is) (sweep.orphans d b is)
+
+  pub sweep_same : (s t : Swept) (D E : Catalog) → IsSweep C s D → IsSweep C t E → s.retired ≡ 0 → t.retired ≡ 0 → ◌≡◌ {A = Answer × Catalog} (Cleaned s, D) (Cleaned t, E)
+  sweep_same s t D E one two kept kept' =
+      let residents : D.residents ≡ E.residents = same_map nat_list_cmp_total exact_bytes D.residents E.residents (λ d. after s D d (get C.residents d) one refl ∙ sym (after t E d (get C.residents d) two refl)) in
+      let retired : s.retired ≡ t.retired = kept ∙ sym kept' in
+      let catalog : D ≡ E = one.rest ∙ (λ i. record C { residents = residents i; retired = C.retired + retired i }) ∙ sym two.rest in
+      let gone : s.freed + s.retired ≡ t.freed + t.retired = one.gone ∙ ap (λ (m : fmap.FinMap _ Resident). count_by (λ e. is_none (get m e.0)) (fmap.entries C.residents)) residents ∙ sym two.gone in
+      let freed : s.freed ≡ t.freed = omega (arith, gone, kept, kept') in
+      let held : s.held ≡ t.held = one.held ∙ ap (λ (m : fmap.FinMap _ Resident). count_by (λ e. e.1.condemned) (fmap.entries m)) residents ∙ sym two.held in
+      let condemned : s.condemned ≡ t.condemned = one.condemned ∙ sym two.condemned in
+      λ i. (Cleaned (record { condemned = condemned i; freed = freed i; held = held i; retired = retired i }), catalog i)
+
+  pub sweep_none : (s : Swept) (D : Catalog) → IsSweep C s D → LentNone D
+  sweep_none s D sweep d now at = by (is_orphan C d) (get C.residents d) refl (sym (after s D d (get C.residents d) sweep refl) ∙ at)
+    where
+      by : (o : Bool) (x : Option Resident) → get C.residents d ≡ x → cond o None x ≡ Some now → now.lent ≡ false
+      by true x is e = absurd (let h = e in cc)
+      by false x is e = none d now (is ∙ e)
+
+-- ---- nothing is lent by what lends nothing
+
+-- where an outcome is an answer, the catalog after it has this
+Keeps : {A : Type 0} → Outcome A → Type 0
+Keeps {A} o = (x : A × Catalog) → o ≡ Ok x → LentNone x.1
+
+bind_keeps : {A B : Type 0} (r : Result A Refusal) (f : A → Outcome B) → ((a : A) → r ≡ Ok a → Keeps (f a)) → Keeps (r >>= f)
+unfolding Keeps
+bind_keeps (Ok a) f next x e = next a refl x e
+bind_keeps (Err r) f next x e = absurd (let h = e in cc)
+
+ok_keeps : {A : Type 0} (a : A) (D : Catalog) → LentNone D → Keeps (Ok (a, D))
+unfolding Keeps
+ok_keeps a D none x e = subst (λ (o : Result _ Refusal). LentIn o) e none
+  where
+    LentIn : {A : Type 0} → Result (A × Catalog) Refusal → Type 0
+    LentIn (Ok y) = LentNone y.1
+    LentIn (Err r) = Unit {0}
+
+if_keeps : {A : Type 0} (b : Bool) (x y : Outcome A) → Keeps x → Keeps y → Keeps (if b then x else y)
+if_keeps true x y h k = h
+if_keeps false x y h k = k
+
+told_keeps : {A : Type 0} (answer : A → Answer) (o : Outcome A) → Keeps o → Keeps (told answer o)
+unfolding Keeps
+told_keeps answer (Ok x) keeps y e = ok_keeps (answer x.0) x.1 (keeps x refl) y e
+told_keeps answer (Err r) keeps y e = absurd (let h = e in cc)
+
+module _ (C : Catalog) (none : LentNone C) where
+  read_keeps : {A : Type 0} (answer : A → Answer) (r : Result A Refusal) → Keeps (read answer C r)
+  unfolding Keeps
+  read_keeps answer (Ok x) y e = ok_keeps (answer x) C none y e
+  read_keeps answer (Err r) y e = absurd (let h = e in cc)
+
+  unlent_before : (x : Option Resident) (d : Text) → get C.residents d ≡ x → was_lent x ≡ false
+  unlent_before None d is = refl
+  unlent_before (Some b) d is = none d b is
+
+  stored_none : (t : ℕ) (repo : Text) (number : ℕ) (digest bytes : Text) → LentNone (stored C t repo number digest bytes)
+  stored_none t repo number digest bytes d now at = by (eq_by_cmp text_cmp d digest) (sym (get-insert nat_list_cmp_total C.residents digest _ d) ∙ at)
+    where
+      by : (o : Bool) → cond o (Some (record { bytes = bytes; condemned = false; lent = was_lent (get C.residents digest) })) (get C.residents d) ≡ Some now → now.lent ≡ false
+      by true e = sym (ap (λ (b : Resident). b.lent) (same_Some _ _ e)) ∙ unlent_before (get C.residents digest) digest refl
+      by false e = none d now e
+
+  start_keeps : (repo : Text) → Keeps (start C repo)
+  start_keeps repo = bind_keeps (tenant C repo) _ (λ t _. bind_keeps (refuse (lacks_room_for C t repo) no.LimitReached) _ (λ _ _. bind_keeps (refuse (cannot_open C t) no.LimitReached) _ (λ _ _. ok_keeps _ _ none)))
+
+  start_none : (repo : Text) (s : ℕ × Catalog) → start C repo ≡ Ok s → LentNone s.1
+  unfolding Keeps
+  start_none repo s is = start_keeps repo s is
+
+  instead_keeps : (repo : Text) → Keeps (start_instead C repo)
+  instead_keeps repo = bind_keeps (start C repo) _ (λ s is. ok_keeps _ _ (start_none repo s is))
+
+  outcome_keeps : (c : Command) → is_lease c ≡ false → Keeps (outcome C c)
+  outcome_keeps (Start repo) no_lease = told_keeps _ _ (start_keeps repo)
+  outcome_keeps (Status repo n) no_lease = read_keeps _ _
+  outcome_keeps (Append repo n range bytes) no_lease =
+      told_keeps _ (append C repo n range bytes) (bind_keeps (tenant C repo) _ (λ t _. bind_keeps (check C t repo n range (length bytes)) _ (λ m _. bind_keeps (within_quota C t (length bytes)) _ (λ _ _. ok_keeps _ _ none))))
+  outcome_keeps (Close repo n digest range bytes) no_lease =
+      told_keeps _ (close C repo n digest range bytes) (bind_keeps (tenant C repo) _ (λ t _. bind_keeps (check C t repo n range (length bytes)) _ (λ m _. bind_keeps (within_quota C t (length bytes)) _ (λ _ _. bind_keeps (refuse (not (names C digest (whole_in C.sessions (t, n) bytes))) no.DigestInvalid) _ (λ _ _. bind_keeps (has_slot C digest) _ (λ _ _. ok_keeps _ _ (stored_none t repo n digest (whole_in C.sessions (t, n) bytes))))))))
+  outcome_keeps (Abandon repo n) no_lease =
+      told_keeps _ (abandon C repo n) (bind_keeps (tenant C repo) _ (λ t _. bind_keeps (session C t repo n) _ (λ s _. bind_keeps (not_busy s.chunks) _ (λ _ _. ok_keeps _ _ none))))
+  outcome_keeps (Mount repo digest from) no_lease =
+      told_keeps _ (mount C repo digest (Some from)) (bind_keeps (tenant C repo) _ (λ t _. if_keeps (has_source C t digest (Some from)) (link_held C t repo digest) (start_instead C repo) (bind_keeps (refuse (lacks_room_for C t repo) no.LimitReached) _ (λ _ _. ok_keeps _ _ none)) (instead_keeps repo)))
+  outcome_keeps (Delete repo digest) no_lease =
+      told_keeps _ (delete C repo digest) (bind_keeps (tenant C repo) _ (λ t _. bind_keeps (linked C repo digest) _ (λ _ _. bind_keeps (unreferenced (referrer C repo digest)) _ (λ _ _. ok_keeps _ _ none))))
+  outcome_keeps (PutManifest repo bytes) no_lease =
+      told_keeps _ (put_manifest C repo bytes) (bind_keeps (tenant C repo) _ (λ t _. bind_keeps (refuse (nat_lt max_manifest (length bytes)) no.SizeInvalid) _ (λ _ _. bind_keeps (ok_or (refs_of bytes) no.ManifestInvalid) _ (λ refs _. bind_keeps (all_linked C repo refs) _ (λ _ _. if_keeps (has_manifest C repo (sha256_text bytes)) _ (add_manifest C t repo bytes) (ok_keeps _ _ none) (bind_keeps (refuse (lacks_room_for C t repo) no.LimitReached) _ (λ _ _. bind_keeps (refuse (is_full_of_manifests C repo) no.LimitReached) _ (λ _ _. ok_keeps _ _ none))))))))
+  outcome_keeps (GetManifest repo digest) no_lease = read_keeps _ _
+  outcome_keeps (DeleteManifest repo digest) no_lease = told_keeps _ (delete_manifest C repo digest) (bind_keeps (tenant C repo) _ (λ t _. bind_keeps (manifest C repo digest) _ (λ _ _. ok_keeps _ _ none)))
+  outcome_keeps (Lease repo digest) no_lease = absurd (false≢true (sym no_lease))
+
+  answered_none : (o : Outcome Answer) → Keeps o → LentNone (answered C o).1
+  unfolding Keeps
+  answered_none (Ok x) keeps = keeps x refl
+  answered_none (Err r) keeps = none
+
+  pub store_none : (D : Catalog) (line : Line) (a : Answer) → StoreStep Happens C line a D → LentNone D
+  store_none D line a step = elim step [
+    | inl h ↦ subst LentNone (sym h.1) none
+    | inr h ↦ subst LentNone (sym (ap (λ (p : Answer × Catalog). p.1) h.3)) (answered_none (outcome C h.0) (outcome_keeps h.0 h.2))
+  ]
+
+-- ---- rows
+
+-- a row that leases nothing, by its verb
+RowOf : Verb → State Catalog → Line → Answer → State Catalog → Type 0
+RowOf verb.Read s line a t = (a ≡ read_of (named s.1 line) (piece_of line.range)) × (t ≡ s)
+RowOf verb.Share s line a t = ((a, t.1) ≡ shared_in s.1 (name_of line) (second_of line)) × (t.0 ≡ s.0)
+RowOf verb.Verify s line a t = VerifiesLease Happens (named s.1 line) s.0 a t.0 × (t.1 ≡ s.1)
+RowOf verb.GiveBack s line a t = ((a, t.1) ≡ give_back_of s.1 (name_of line) (named s.1 line)) × (t.0 ≡ s.0)
+RowOf verb.Sweep s line a t = Happens s.0 Sweeps a t.0 × (t.1 ≡ s.1)
+RowOf verb.Lease s line a t = ⊥
+RowOf _ s line a t = StoreRow Happens s line a t
+
+module _ (s t : State Catalog) (line : Line) (a : Answer) where
+  of_store : (v : Verb) → uses_repo v ≡ true → v ≢ verb.Lease → StoreRow Happens s line a t → RowOf v s line a t
+  unfolding RowOf
+  of_store verb.Start uses other h = h
+  of_store verb.Status uses other h = h
+  of_store verb.Append uses other h = h
+  of_store verb.Close uses other h = h
+  of_store verb.Abandon uses other h = h
+  of_store verb.Mount uses other h = h
+  of_store verb.Delete uses other h = h
+  of_store verb.PutManifest uses other h = h
+  of_store verb.GetManifest uses other h = h
+  of_store verb.DeleteManifest uses other h = h
+  of_store verb.Lease uses other h = absurd (other refl)
+  of_store verb.Read uses other h = absurd (false≢true uses)
+  of_store verb.Share uses other h = absurd (false≢true uses)
+  of_store verb.Verify uses other h = absurd (false≢true uses)
+  of_store verb.GiveBack uses other h = absurd (false≢true uses)
+  of_store verb.Sweep uses other h = absurd (false≢true uses)
+
+  repo_named : StoreRow Happens s line a t → uses_repo line.verb ≡ true
+  repo_named h = elim h.0 [ inl r ↦ r.0.0 | inr d ↦ names_repo line d.0 d.1 ]
+
+  row_of : line.verb ≢ verb.Lease → RowStep Happens s line a t → RowOf line.verb s line a t
+  unfolding RowOf
+  row_of other step = elim step [
+    | inl store ↦ of_store line.verb (repo_named store) other store
+    | inr (inl lends) ↦ absurd (other lends.0.0)
+    | inr (inr (inl reads)) ↦ subst (λ v. RowOf v s line a t) (sym reads.0) (reads.1, reads.2)
+    | inr (inr (inr (inl shares))) ↦ subst (λ v. RowOf v s line a t) (sym shares.0) (shares.1, shares.2)
+    | inr (inr (inr (inr (inl looks)))) ↦ subst (λ v. RowOf v s line a t) (sym looks.0) (looks.1, looks.2)
+    | inr (inr (inr (inr (inr (inl returns))))) ↦ subst (λ v. RowOf v s line a t) (sym returns.0) (returns.1, returns.2)
+    | inr (inr (inr (inr (inr (inr sweeps))))) ↦ subst (λ v. RowOf v s line a t) (sym sweeps.0) (sweeps.1, sweeps.2)
+  ]
+
+module _ (s t u : State Catalog) (line : Line) (a b : Answer) where
+  store_rows : StoreRow Happens s line a t → StoreRow Happens s line b u → ◌≡◌ {A = Answer × State Catalog} (a, t) (b, u)
+  store_rows h k = let p = store_same s.0 t.0 u.0 line a b h.0 k.0 in λ i. ((p i).0, ((p i).1, (h.1 ∙ sym k.1) i))
+
+  verify_same : (o : Option Lent) → VerifiesLease Happens o s.0 a t.0 → VerifiesLease Happens o s.0 b u.0 → ◌≡◌ {A = Answer × Catalog} (a, t.0) (b, u.0)
+  verify_same None h k = λ i. ((h.0 ∙ sym k.0) i, (h.1 ∙ sym k.1) i)
+  verify_same (Some lease) h k = λ i. ((h.0 ∙ sym k.0) i, (h.1 ∙ sym k.1) i)
+
+  rows_same : LentNone s.0 → (v : Verb) → RowOf v s line a t → RowOf v s line b u → ◌≡◌ {A = Answer × State Catalog} (a, t) (b, u)
+  unfolding RowOf
+  rows_same none verb.Start h k = store_rows h k
+  rows_same none verb.Status h k = store_rows h k
+  rows_same none verb.Append h k = store_rows h k
+  rows_same none verb.Close h k = store_rows h k
+  rows_same none verb.Abandon h k = store_rows h k
+  rows_same none verb.Mount h k = store_rows h k
+  rows_same none verb.Delete h k = store_rows h k
+  rows_same none verb.PutManifest h k = store_rows h k
+  rows_same none verb.GetManifest h k = store_rows h k
+  rows_same none verb.DeleteManifest h k = store_rows h k
+  rows_same none verb.Lease h k = absurd h
+  rows_same none verb.Read h k = λ i. ((h.0 ∙ sym k.0) i, (h.1 ∙ sym k.1) i)
+  rows_same none verb.Share h k = let p = h.0 ∙ sym k.0 in λ i. ((p i).0, ((h.1 ∙ sym k.1) i, (p i).1))
+  rows_same none verb.Verify h k = let p = verify_same (named s.1 line) h.0 k.0 in λ i. ((p i).0, ((p i).1, (h.1 ∙ sym k.1) i))
+  rows_same none verb.GiveBack h k = let p = h.0 ∙ sym k.0 in λ i. ((p i).0, ((h.1 ∙ sym k.1) i, (p i).1))
+  rows_same none verb.Sweep h k =
+      let p = sweep_same s.0 none h.0.0 k.0.0 t.0 u.0 h.0.2 k.0.2 h.0.3 k.0.3 in
+      λ i. ((h.0.1 ∙ ap (λ (x : Answer × Catalog). x.0) p ∙ sym k.0.1) i, ((p i).1, (h.1 ∙ sym k.1) i))
+
+module _ (s t : State Catalog) (line : Line) (a : Answer) (none : LentNone s.0) where
+  verify_none : (o : Option Lent) → VerifiesLease Happens o s.0 a t.0 → LentNone t.0
+  verify_none None h = subst LentNone (sym h.1) none
+  verify_none (Some lease) h = subst LentNone (sym h.1) none
+
+  row_none : (v : Verb) → RowOf v s line a t → LentNone t.0
+  unfolding RowOf
+  row_none verb.Start h = store_none s.0 none t.0 line a h.0
+  row_none verb.Status h = store_none s.0 none t.0 line a h.0
+  row_none verb.Append h = store_none s.0 none t.0 line a h.0
+  row_none verb.Close h = store_none s.0 none t.0 line a h.0
+  row_none verb.Abandon h = store_none s.0 none t.0 line a h.0
+  row_none verb.Mount h = store_none s.0 none t.0 line a h.0
+  row_none verb.Delete h = store_none s.0 none t.0 line a h.0
+  row_none verb.PutManifest h = store_none s.0 none t.0 line a h.0
+  row_none verb.GetManifest h = store_none s.0 none t.0 line a h.0
+  row_none verb.DeleteManifest h = store_none s.0 none t.0 line a h.0
+  row_none verb.Lease h = absurd h
+  row_none verb.Read h = subst LentNone (sym (ap (λ (x : State Catalog). x.0) h.1)) none
+  row_none verb.Share h = subst LentNone (sym h.1) none
+  row_none verb.Verify h = verify_none (named s.1 line) h.0
+  row_none verb.GiveBack h = subst LentNone (sym h.1) none
+  row_none verb.Sweep h = sweep_none s.0 none h.0.0 t.0 h.0.2
+
+-- the rows of a script, none of which leases a blob, are answered and leave what they do
+pub plays_same : (s t u : State Catalog) (lines : List Line) (one two : List Answer) → LentNone s.0 → LeaseNothing lines → Plays Happens s lines one t → Plays Happens s lines two u → ◌≡◌ {A = List Answer × State Catalog} (one, t) (two, u)
+plays_same s t u [] [] [] none nothing h k = λ i. ([], (h ∙ sym k) i)
+plays_same s t u [] [] (b ∷ bs) none nothing h k = absurd k
+plays_same s t u [] (a ∷ as') bs none nothing h k = absurd h
+plays_same s t u (l ∷ ls) [] bs none nothing h k = absurd h
+plays_same s t u (l ∷ ls) (a ∷ as') [] none nothing h k = absurd k
+plays_same s t u (l ∷ ls) (a ∷ as') (b ∷ bs) none nothing h k =
+    let here = row_of s h.0 l a nothing.0 h.1 in
+    let p = rows_same s h.0 k.0 l a b none l.verb here (row_of s k.0 l b nothing.0 k.1) in
+    let rest = subst (λ (m : State Catalog). Plays Happens m ls bs u) (sym (ap (λ (x : Answer × State Catalog). x.1) p)) k.3 in
+    let q = plays_same h.0 t u ls as' bs (row_none s h.0 l a none l.verb here) nothing.1 h.3 rest in
+    λ i. ((p i).0 ∷ (q i).0, (q i).1)
+
+-- ---- records
+
+records_same : (cfg : Config) (s : CsvState) (xs : Text) (rs qs : List Record) → AreRecords cfg s xs rs → AreRecords cfg s xs qs → rs ≡ qs
+unfolding Reached
+records_same cfg s xs [] [] h k = refl
+records_same cfg s xs [] (q ∷ qs) h k = absurd (let none = sym k.2.1 ∙ (λ i. next_record cfg (h.2.0 i) [] [] (h.2.1 i)) ∙ h.3 in cc)
+records_same cfg s xs (r ∷ rs) [] h k = absurd (let none = sym h.2.1 ∙ (λ i. next_record cfg (k.2.0 i) [] [] (k.2.1 i)) ∙ k.3 in cc)
+records_same cfg s xs (r ∷ rs) (q ∷ qs) h k =
+    let same = same_Some h.2.0 k.2.0 (sym h.2.1 ∙ k.2.1) in
+    let rest = subst (λ x. Reached cfg x.1 x.2 qs k.0 k.1) (sym same) k.2.3 in
+    let tails = records_same cfg h.2.0.1 h.2.0.2 rs qs (h.0, h.1, h.2.3, h.3) (k.0, k.1, rest, k.3) in
+    let heads = h.2.2 ∙ ap (λ x. x.0) same ∙ sym k.2.2 in
+    λ i. heads i ∷ tails i
+
+some_same : (xs ys : List Line) → map Some xs ≡ map Some ys → xs ≡ ys
+some_same [] [] e = refl
+some_same [] (y ∷ ys) e = absurd (let h = e in cc)
+some_same (x ∷ xs) [] e = absurd (let h = e in cc)
+some_same (x ∷ xs) (y ∷ ys) e =
+    let heads : x ≡ y = (let h = e in cc) in
+    let tails : map Some xs ≡ map Some ys = (let h = e in cc) in
+    λ i. heads i ∷ some_same xs ys tails i
+
+-- a script has one list of rows
+pub rows_are_one : (script : Text) (one two : List Line) → AreRowsOf script one → AreRowsOf script two → one ≡ two
+rows_are_one script one two h k = some_same one two (sym h.good ∙ ap (map row_of_record) (records_same _ _ _ h.records k.records h.all k.all) ∙ k.good)
+
+-- nothing is lent where nothing is kept
+pub opening_none : (C : Catalog) (tenants : List Tenant) (slots max_blob : ℕ) → C ≡ opening tenants slots max_blob → LentNone C
+opening_none C tenants slots max_blob is d b at = absurd (let h = sym (get-empty text_cmp d) ∙ ap (λ (x : Catalog). get x.residents d) (sym is) ∙ at in cc)

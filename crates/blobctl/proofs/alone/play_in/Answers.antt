@@ -1,0 +1,12 @@
+use Rattle.std.proofs.Common.{map}
+use Rattle.blobctl.specs.Answers.{answers_of}
+use Rattle.blobctl.specs.Leases.{none}
+use Rattle.blobctl.specs.Lines.{line_of}
+use Rattle.blobctl.specs.Played.{Acts}
+use Rattle.blobctl.proofs.PlayedRows.{plays_through}
+use Rattle.blobctl.proofs.alone.play_in.Goals as goal
+
+pub returns-clause-played : goal.returns-clause-played
+returns-clause-played g c =
+    let played = c.in_ok-replies.ensures.played in
+    (played.0, plays_through (λ pinned. pinned.book) Acts (_, none) (c.play.new.backend, played.0) (map line_of c.args.rows.now) (answers_of c.in_ok-replies.replies.items) played.1)

@@ -1,8 +1,0 @@
-use Rattle.std.proofs.Common.{map, take}
-use Rattle.blobctl.specs.Lines.{line_of}
-use Rattle.blobctl.specs.Plays.{Plays}
-use Rattle.blobctl.proofs.player.play.Given as goal
-
--- the rows so far were played
-abbrev pub invariant-loop-row : goal.invariant-loop-row
-invariant-loop-row g l = Plays g.B.Board.acts l.fn.board (map line_of (take l.row-index l.rows)) l.replies.items l.board

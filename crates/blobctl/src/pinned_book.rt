@@ -1,0 +1,210 @@
+//! A book with its pins as what rows are played on, and the leases of its blobs.
+ghost use Rattle.std.specs.Prelude.{◌≡◌};
+
+use crate::backend::{Backend, BlobLease};
+use crate::piece::Piece;
+use blob_digest::{Blob, ByteRange, Digest, Refusal, RepoName};
+use oci_manifest::Manifest;
+use pin_table::{Pin, Pins};
+use std::alloc::Global;
+use std::marker::{Brand, PhantomData};
+use std::sync::Arc;
+use store_book::{Book, Mount, Swept};
+
+/// A name of the pin table that a book, its pins and its leases belong to.
+pub trait TableName {
+    ghost use Rattle.atomic_table.specs.Seated.{TableId};
+
+    ghost table: { TableId };
+}
+
+impl TableName for Brand {
+    ghost use Rattle.blobctl.specs.TableNames.{no_table};
+
+    ghost table = { no_table };
+}
+
+/// A book with the words of its slots.
+#[derive(Drop)]
+pub struct PinnedBook<'p, N: TableName> {
+    pub book: Book,
+    pub pins: &'p Pins,
+    pub table: PhantomData<N>,
+    pub ghost here: { book.table ≡ N.table },
+    pub ghost there: { pins.now ≡ N.table },
+}
+
+/// A lease of a blob: a share of its bytes, and a pin on its slot. It must be given back or shared.
+pub struct BookLease<'p, N: TableName> {
+    pins: &'p Pins,
+    blob: Arc<Blob, Global>,
+    pin: Pin,
+    table: PhantomData<N>,
+    ghost here: { pin.table ≡ N.table },
+    ghost there: { pins.now ≡ N.table },
+}
+
+impl<'p, N: TableName> BlobLease for BookLease<'p, N> {
+    ghost use Rattle.std.specs.Arc.{arc_value};
+    ghost use Rattle.blobctl.specs.Leases.{Lent};
+
+    ghost lent = { λ h. record { bytes = (arc_value h.blob).1; weight = h.pin.hold.weight } };
+
+    fn size(&self) -> u64 {
+        self.blob.bytes().len() as u64
+    }
+
+    fn piece(&self, start: u64, end: u64) -> Result<Piece, Refusal> {
+        let blob = self.blob.clone()?;
+        Ok(Piece::new(blob, start, end))
+    }
+
+    fn share(self) -> Result<(BookLease<'p, N>, BookLease<'p, N>), (Refusal, BookLease<'p, N>)> {
+        let Ok(other) = self.blob.clone() else {
+            return Err((Refusal::Memory, self));
+        };
+        let BookLease {
+            pins,
+            blob,
+            pin,
+            table,
+        } = self;
+        match pins.share(pin) {
+            Ok((first, second)) => Ok((
+                BookLease {
+                    pins,
+                    blob,
+                    pin: first,
+                    table,
+                },
+                BookLease {
+                    pins,
+                    blob: other,
+                    pin: second,
+                    table,
+                },
+            )),
+            Err(pin) => Err((
+                Refusal::WeightSpent,
+                BookLease {
+                    pins,
+                    blob,
+                    pin,
+                    table,
+                },
+            )),
+        }
+    }
+
+    fn give_back(self) {
+        let BookLease {
+            pins,
+            blob: _,
+            pin,
+            table: _,
+        } = self;
+        pins.leave(pin);
+    }
+}
+
+impl<'p, N: TableName> Backend for PinnedBook<'p, N> {
+    type Lease = BookLease<'p, N>;
+
+    ghost use Rattle.blobctl.specs.Played.{Acts};
+
+    ghost acts = { λ old request answer new. Acts old.book request answer new.book };
+
+    fn start(&mut self, repo: &RepoName) -> Result<u32, Refusal> {
+        self.book.start(repo)
+    }
+
+    fn status(&mut self, repo: &RepoName, number: u32) -> Result<u64, Refusal> {
+        self.book.status(repo, number)
+    }
+
+    fn append(
+        &mut self,
+        repo: &RepoName,
+        number: u32,
+        range: Option<ByteRange>,
+        bytes: &[u8],
+    ) -> Result<u64, Refusal> {
+        self.book.append(repo, number, range, bytes)
+    }
+
+    fn close(
+        &mut self,
+        repo: &RepoName,
+        number: u32,
+        digest: &Digest,
+        range: Option<ByteRange>,
+        bytes: &[u8],
+    ) -> Result<u64, Refusal> {
+        self.book
+            .close(self.pins, repo, number, digest, range, bytes)
+    }
+
+    fn abandon(&mut self, repo: &RepoName, number: u32) -> Result<u64, Refusal> {
+        self.book.abandon(repo, number)
+    }
+
+    fn mount(
+        &mut self,
+        repo: &RepoName,
+        digest: &Digest,
+        from: &RepoName,
+    ) -> Result<Mount, Refusal> {
+        self.book.mount(repo, digest, from)
+    }
+
+    fn delete(&mut self, repo: &RepoName, digest: &Digest) -> Result<(), Refusal> {
+        self.book.delete(repo, digest)
+    }
+
+    fn put_manifest(&mut self, repo: &RepoName, bytes: &[u8]) -> Result<Digest, Refusal> {
+        self.book.put_manifest(repo, bytes)
+    }
+
+    fn get_manifest(
+        &mut self,
+        repo: &RepoName,
+        digest: &Digest,
+    ) -> Result<Arc<Manifest, Global>, Refusal> {
+        self.book.get_manifest(repo, digest)
+    }
+
+    fn delete_manifest(&mut self, repo: &RepoName, digest: &Digest) -> Result<(), Refusal> {
+        self.book.delete_manifest(repo, digest)
+    }
+
+    fn lease(&mut self, repo: &RepoName, digest: &Digest) -> Result<BookLease<'p, N>, Refusal> {
+        let pins = self.pins;
+        let (pin, blob) = self.book.lease(pins, repo, digest)?;
+        Ok(BookLease {
+            pins,
+            blob,
+            pin,
+            table: PhantomData,
+        })
+    }
+
+    fn verify(&mut self, lease: BookLease<'p, N>) -> BookLease<'p, N> {
+        let BookLease {
+            pins,
+            blob,
+            pin,
+            table,
+        } = lease;
+        let pin = self.book.verify(self.pins, pin);
+        BookLease {
+            pins,
+            blob,
+            pin,
+            table,
+        }
+    }
+
+    fn sweep(&mut self) -> Swept {
+        self.book.sweep(self.pins)
+    }
+}
