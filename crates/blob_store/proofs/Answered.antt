@@ -1,6 +1,6 @@
 -- What an accepted command tells of its answer.
 use Rattle.std.proofs.Common.{◌≡◌, ℕ, Bool, true, List, Option, Some, Result, Ok, Err, sym, ap, ◌∙◌}
-use Rattle.std.specs.Prelude.{OnOk}
+use Rattle.std.specs.Prelude.{OnErr, OnOk}
 use Rattle.std.specs.FinMap.{get}
 use Rattle.std.specs.Io.KnownBytes.{Appends}
 use Rattle.blob_digest.specs.Digests.{is_digest_of, sha256_text}
@@ -46,3 +46,9 @@ manifest_digest C repo digest bytes lawful answered =
 pub some_book : {A E : Type 0} (r : Result A E) (C : Catalog) (before after : Option (List ℕ)) → Sound C → OnOk r (Appends before after (book_text C)) → OnOk r ((D : Catalog) × Sound D × Appends before after (book_text D))
 some_book (Ok a) C before after sound text = (C, sound, text)
 some_book (Err e) C before after sound text = tt
+
+-- ---- refusals
+
+pub on_err : {A E P : Type 0} (r : Result A E) → P → OnErr r P
+on_err (Ok a) p = tt
+on_err (Err e) p = p

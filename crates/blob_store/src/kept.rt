@@ -237,6 +237,7 @@ impl<N: Naming, C: Ledger, R: Ledger, D: Ledger, A: Ledger> Kept<N, C, R, D, A> 
         ensures pin { IfOk result (λ r. (r.0.table ≡ N.table) × (r.0.hold.digest ≡ digest.now) × (r.0.hold.weight ≡ 1024)) }
         ensures content { IfOk result (λ r. is_digest_of digest.now (blob_bytes (arc_value r.1)) ≡ true) }
         ensures slots { EachSlot (IsLending digest.now) self.old.book.slots self.new.book.slots }
+        ensures refused { OnErr result (EachSlot IsStill self.old.book.slots self.new.book.slots) }
     {
         self.room(0)?;
         self.book.audit();

@@ -1,6 +1,6 @@
 //! The store that threads share.
 
-ghost use Rattle.std.specs.Prelude.{◌≡◌, ◌+◌, ◌<◌, IfOk, IfSome, OnErr, OnOk, Some, length, sum_by, vec_len};
+ghost use Rattle.std.specs.Prelude.{◌≡◌, ◌+◌, ◌<◌, IfErr, IfOk, IfSome, None, OnErr, OnOk, Some, length, sum_by, vec_len};
 ghost use Rattle.std.specs.Arc.{arc_value};
 ghost use Rattle.std.specs.Io.KnownBytes.{Appends};
 ghost use Rattle.blob_digest.specs.Digests.{sha256_text};
@@ -16,7 +16,7 @@ use crate::lease::Lease;
 use crate::names::Naming;
 use crate::parts::Parts;
 use crate::totals::Totals;
-use blob_digest::{ByteRange, Digest, Refusal, RepoName};
+use blob_digest::{Algorithm, ByteRange, Digest, Refusal, RepoName};
 use oci_manifest::Manifest;
 use pin_table::Pins;
 use std::alloc::Global;
@@ -38,6 +38,19 @@ pub struct Store<N: Naming, C: Ledger, R: Ledger, D: Ledger, A: Ledger> {
     kept: Mutex<Kept<N, C, R, D, A>>,
     alloc: Global,
     ghost named: { pins ≡ N.table },
+}
+
+/// Fills a chunk in: one that is to be the last is hashed by the algorithm that is named.
+fn fill_in(hand: Hand, bytes: &[u8], last: Option<Algorithm>) -> Result<Hand, Hand>
+    requires len { length bytes.now ≡ hand.reserved }
+    requires empty { hand.last ≡ None }
+    ensures ok { IfOk result (λ h. h ≡ record hand { last = Some bytes.now }) }
+    ensures err { IfErr result (λ h. h ≡ hand) }
+{
+    match last {
+        Some(algorithm) => hand.fill_last(bytes, algorithm),
+        None => hand.fill(bytes),
+    }
 }
 
 impl<N: Naming, C: Ledger, R: Ledger, D: Ledger, A: Ledger> Store<N, C, R, D, A> {
@@ -128,8 +141,9 @@ impl<N: Naming, C: Ledger, R: Ledger, D: Ledger, A: Ledger> Store<N, C, R, D, A>
         self.kept.lock(rt).status(desk, repo, number)
     }
 
-    /// Takes a session in hand under the lock, and fills the chunk in without it. Where there is no memory for
-    /// that, the session is put back as it was.
+    /// Takes a session in hand under the lock, and fills the chunk in without it: one that is to be the last is
+    /// hashed by the digest's algorithm alone. Where there is no memory for that, the session is put back as
+    /// it was.
     fn fill(
         &self,
         rt: &impl Wait,
@@ -137,13 +151,14 @@ impl<N: Naming, C: Ledger, R: Ledger, D: Ledger, A: Ledger> Store<N, C, R, D, A>
         number: u32,
         range: Option<ByteRange>,
         bytes: &[u8],
+        last: Option<Algorithm>,
     ) -> Result<Hand, Refusal>
         ensures filled { IfOk result (λ h. h.last ≡ Some bytes.now) }
         ensures ends { IfOk result (λ h. IfSome range (λ r. sum_by length h.chunks + length bytes.now ≡ r.end + 1)) }
     {
         let len = bytes.len() as u64;
         let hand = self.kept.lock(rt).take(repo, number, range, len)?;
-        match hand.fill(bytes) {
+        match fill_in(hand, bytes, last) {
             Ok(hand) => Ok(hand),
             Err(hand) => {
                 let _ = self.kept.lock(rt).give_up(hand);
@@ -174,7 +189,7 @@ impl<N: Naming, C: Ledger, R: Ledger, D: Ledger, A: Ledger> Store<N, C, R, D, A>
         ensures err { OnErr result (desk.new ≡ desk.old) }
         ensures ends { IfOk result (λ n. IfSome range (λ r. n ≡ r.end + 1)) }
     {
-        let hand = self.fill(rt, repo, number, range, bytes)?;
+        let hand = self.fill(rt, repo, number, range, bytes, None)?;
         self.kept.lock(rt).put_back(desk, hand)
     }
 
@@ -201,7 +216,8 @@ impl<N: Naming, C: Ledger, R: Ledger, D: Ledger, A: Ledger> Store<N, C, R, D, A>
         ensures err { OnErr result (desk.new ≡ desk.old) }
         ensures ends { IfOk result (λ n. IfSome range (λ r. n ≡ r.end + 1)) }
     {
-        let whole = self.fill(rt, repo, number, range, bytes)?;
+        let algorithm = digest.algorithm();
+        let whole = self.fill(rt, repo, number, range, bytes, Some(algorithm))?;
         self.kept.lock(rt).finish(&self.pins, desk, whole, digest)
     }
 

@@ -2,7 +2,8 @@ use Rattle.std.proofs.Common.{arith, ◌∙◌}
 use Rattle.std.specs.Arc.{arc_value}
 use Rattle.store_book.specs.Pinned.{blob_bytes}
 use Rattle.blob_store.specs.Totals.{one}
-use Rattle.blob_store.proofs.Answered.{lent_content}
+use Rattle.store_book.specs.SlotSteps.{EachSlot, IsStill}
+use Rattle.blob_store.proofs.Answered.{lent_content, on_err}
 use Rattle.blob_store.proofs.SessionSums.{lease_sums}
 use Rattle.blob_store.proofs.Rooms.{added, room_given}
 use Rattle.blob_store.proofs.kept.Kept.lease.Goals as goal
@@ -36,3 +37,6 @@ returns-clause-slots g c = rw (← c.self.view_is) c.lease.ensures.slots.1
 
 pub returns-in_err-lent-clause-slots : goal.returns-in_err-lent-clause-slots
 returns-in_err-lent-clause-slots g c = rw (← c.self.view_is) c.lease.ensures.slots.1
+
+pub returns-in_err-lent-clause-refused : goal.returns-in_err-lent-clause-refused
+returns-in_err-lent-clause-refused g c = on_err {P = EachSlot IsStill c.args.self.now.book.slots c.lease.new.self.slots} c.from_residual-in_err-lent.result (rw (← c.self.view_is) c.in_err-lent.ensures.refused)
