@@ -8,8 +8,6 @@
 //! totals. A lease is read, shared and given back without the lock.
 #![tactic(auto)]
 
-#[cfg(test)]
-mod bench;
 mod column;
 mod counters;
 mod desk;
@@ -18,6 +16,8 @@ mod lease;
 mod names;
 mod parts;
 mod store;
+#[cfg(test)]
+mod test_steps;
 #[cfg(test)]
 mod tests;
 #[cfg(test)]

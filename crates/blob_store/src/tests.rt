@@ -2,7 +2,7 @@
 
 ghost use Rattle.std.specs.Prelude.{◌≡◌, ◌<◌, length};
 
-use crate::bench::{ABC, Bench, OBJ, ONE, Step, TWO, config};
+use crate::test_steps::{ABC, OBJ, ONE, Step, TWO, TestStore, config};
 use crate::{Lease, Naming, Parts, Settled, Store, Totals};
 use blob_digest::Refusal;
 use std::alloc::AllocGlobal;
@@ -34,7 +34,7 @@ impl<
     D: Ledger + Send + Sync,
     A: Ledger + Send + Sync,
     W: Abort + AllocGlobal + Threads + Wait + Sync,
-> Bench<'s, N, C, R, D, A, W> {
+> TestStore<'s, N, C, R, D, A, W> {
     /// So many desks are refused.
     fn refuses_desks(&self, count: u64) {
         let rt = self.rt;
@@ -129,7 +129,7 @@ impl<
     fn reads(&self, lease: &Lease<'s, N>) {
         let rt = self.rt;
         assert_eq!(rt; lease.len(), 3);
-        assert!(rt; lease.digest() == crate::bench::digest(rt, ABC));
+        assert!(rt; lease.digest() == crate::test_steps::digest(rt, ABC));
         assert_eq!(rt; lease.slot(), 0);
         assert_eq!(rt; lease.generation(), 0);
         let mut out = *b"......";
@@ -237,14 +237,14 @@ fn play<
     requires abandoned { (parts.abandoned.name ≡ A.name) × (parts.abandoned.parts ≡ A.parts) }
 {
     let store = Store::<N, C, R, D, A>::new(parts);
-    let bench = Bench { rt, store: &store };
+    let test = TestStore { rt, store: &store };
     match scene {
-        Scene::TwoDesks => bench.two_desks(),
-        Scene::Commands => bench.commands(),
-        Scene::Leases => bench.leased(),
-        Scene::Shares => bench.shared(),
-        Scene::Busy => bench.busy(),
-        Scene::Reading => bench.reading(),
+        Scene::TwoDesks => test.two_desks(),
+        Scene::Commands => test.commands(),
+        Scene::Leases => test.leased(),
+        Scene::Shares => test.shared(),
+        Scene::Busy => test.busy(),
+        Scene::Reading => test.reading(),
     }
 }
 

@@ -1,6 +1,6 @@
 //! What two threads do with a store at the same time.
 
-use crate::bench::{ABC, Bench, ONE, name};
+use crate::test_steps::{ABC, ONE, TestStore, name};
 use crate::{Desk, Naming};
 use blob_digest::Refusal;
 use std::alloc::AllocGlobal;
@@ -69,7 +69,7 @@ impl<
     D: Ledger + Send + Sync,
     A: Ledger + Send + Sync,
     W: Abort + AllocGlobal + Threads + Wait + Sync,
-> Bench<'s, N, C, R, D, A, W> {
+> TestStore<'s, N, C, R, D, A, W> {
     /// Opens session 1.
     fn opens(&self, desk: &mut Desk<C, R, D, A>) {
         let rt = self.rt;

@@ -78,7 +78,7 @@ pub enum Step<'a> {
 
 /// A store, with what runs the test.
 #[derive(Clone, Copy)]
-pub struct Bench<
+pub struct TestStore<
     's,
     N: Naming + Send + Sync,
     C: Ledger + Send + Sync,
@@ -99,7 +99,7 @@ impl<
     D: Ledger + Send + Sync,
     A: Ledger + Send + Sync,
     W: Abort + AllocGlobal + Threads + Wait + Sync,
-> Bench<'s, N, C, R, D, A, W> {
+> TestStore<'s, N, C, R, D, A, W> {
     fn start(&self, desk: &mut Desk<C, R, D, A>, repo: &str) -> Result<u32, Refusal> {
         self.store.start(self.rt, desk, &name(self.rt, repo))
     }
