@@ -10,4 +10,6 @@ pub mod PlayedRows
 pub mod Records
 pub mod Replies
 pub mod SameCommands
+pub mod SomeCommand
+pub mod SomeRun
 pub mod TenantLists

@@ -1,9 +1,12 @@
--- A script none of whose rows leases a blob has one text.
+-- A script without bad rows has a text, and no other where none of its rows leases a blob.
 use Rattle.std.specs.Prelude.{◌≡◌, ◌≢◌, ℕ, List, [], ◌∷◌}
 use Rattle.blob_digest.specs.Keys.{Text}
 use Rattle.blob_digest.specs.Tenants.{Tenant}
+use Rattle.store_book.specs.Catalog.{Catalog}
+use Rattle.store_book.specs.Openings.{OpensCatalog}
 use Rattle.blobctl.specs.Played.{Played}
 use Rattle.blobctl.specs.Rows.{Line}
+use Rattle.blobctl.specs.Script.{AreRowsOf}
 use Rattle.blobctl.specs.declared.row.Verb.TheVariants as verb
 
 -- no row leases a blob
@@ -14,3 +17,7 @@ LeaseNothing (line ∷ lines) = (line.verb ≢ verb.Lease) × LeaseNothing lines
 -- Two texts that playing one script writes, none of whose rows leases a blob, are the same.
 abbrev pub HasOneText : Type 0
 HasOneText = (tenants : List Tenant) (slots max_blob : ℕ) (script text other : Text) (one : Played tenants slots max_blob script text) → LeaseNothing one.rows → Played tenants slots max_blob script other → text ≡ other
+
+-- A script without bad rows has a text on each opening catalog, whatever its rows do: each of them has an answer.
+abbrev pub HasText : Type 0
+HasText = (tenants : List Tenant) (slots max_blob : ℕ) (first : Catalog) (script : Text) (rows : List Line) → OpensCatalog tenants slots max_blob first → AreRowsOf script rows → (text : Text) × Played tenants slots max_blob script text

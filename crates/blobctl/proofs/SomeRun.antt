@@ -1,0 +1,261 @@
+-- The rows of a script have a run.
+use Rattle.std.proofs.Common.{◌≡◌, ◌≢◌, ◌∙◌, ◌∷◌, [], ℕ, List, Bool, false, true, inl, inr, length, Option, Some, None, Result, Ok, Err, ap, refl, subst, sym}
+use Rattle.std.specs.Prelude.{if◌then◌else◌, nat_lt, not, ◌==◌, ◌||◌, ◌+◌, ◌-◌}
+use Rattle.std.specs.FinMap as fmap
+use Rattle.std.specs.Option.{ok_or}
+use Rattle.std.proofs.lemmas.Bool.{false≢true}
+use Rattle.blob_digest.specs.Digests.{sha256_text}
+use Rattle.blob_digest.specs.Keys.{Text}
+use Rattle.blob_digest.specs.Outcomes.{◌>>=◌, refuse}
+use Rattle.blob_digest.specs.declared.range.ByteRange.{ByteRange}
+use Rattle.blob_digest.specs.declared.refusal.Refusal.{Refusal}
+use Rattle.blob_digest.specs.declared.refusal.Refusal.TheVariants as no
+use Rattle.oci_manifest.specs.Manifests.{refs_of, max_manifest}
+use Rattle.store_book.specs.Catalog.{Catalog, Chunks, Home, InHand, Session as Upload, holds, received, same_text, tenant_of}
+use Rattle.store_book.specs.Steps as steps
+use Rattle.store_book.specs.Steps.{length_after, not_busy, session_in, whole_in}
+use Rattle.store_book.specs.declared.mount.Mount.{Mount as Mounting}
+use Rattle.store_book.specs.declared.mount.Mount.TheVariants as mounting
+use Rattle.store_book.proofs.SomeSweep.{after, some_sweep, swept}
+use Rattle.blobctl.specs.Answers.{Answer, Session, Received, Stored, Abandoned, Deleted, Manifest, Body, Bytes, Leased, Shared, Verified, NoLease, NameTaken, Cleaned, Refused, mount_answer}
+use Rattle.blobctl.specs.Commands.{Command, Start, Status, Append, Close, Abandon, Mount, Delete, PutManifest, GetManifest, DeleteManifest, Lease, uses_repo}
+use Rattle.blobctl.specs.Leases.{Leases, Lent, Name, halved, new_lease}
+use Rattle.blobctl.specs.Played.{Happens, answered, outcome, read, told}
+use Rattle.blobctl.specs.Plays.{Plays, RowStep, State, VerifiesLease, LendsWhereFree, give_back_of, name_of, named, piece_of, read_of, second_of, share_of, shared_in}
+use Rattle.blobctl.specs.Rows.{Line}
+use Rattle.blobctl.specs.declared.row.Verb.{Verb}
+use Rattle.blobctl.specs.declared.row.Verb.TheVariants as verb
+use Rattle.blobctl.proofs.SomeCommand.{AllFit, Fits, Misspelt, command_or_not, lease_or_not, wants_memory}
+
+-- ---- no outcome is want of memory
+
+-- what is refused isn't want of memory
+abbrev Fine : {A : Type 0} → Result A Refusal → Type 0
+Fine (Ok a) = Unit {0}
+Fine (Err e) = wants_memory e ≡ false
+
+bind_fine : {A B : Type 0} (r : Result A Refusal) (f : A → Result B Refusal) → Fine r → ((a : A) → Fine (f a)) → Fine (r >>= f)
+bind_fine (Ok a) f fine next = next a
+bind_fine (Err e) f fine next = fine
+
+refuse_fine : (b : Bool) (e : Refusal) → wants_memory e ≡ false → Fine (refuse b e)
+refuse_fine true e fine = fine
+refuse_fine false e fine = tt
+
+ok_or_fine : {A : Type 0} (o : Option A) (e : Refusal) → wants_memory e ≡ false → Fine (ok_or o e)
+ok_or_fine None e fine = fine
+ok_or_fine (Some x) e fine = tt
+
+if_fine : {A : Type 0} (b : Bool) (x y : Result A Refusal) → Fine x → Fine y → Fine (if b then x else y)
+if_fine true x y h k = h
+if_fine false x y h k = k
+
+session_fine : (o : Option Upload) (repo : Text) → Fine (session_in o repo)
+session_fine None repo = refl
+session_fine (Some s) repo = if_fine (same_text s.repo repo) (Ok s) (Err no.UploadUnknown) tt refl
+
+not_busy_fine : (chunks : Chunks) → Fine (not_busy chunks)
+not_busy_fine (Home chunks) = tt
+not_busy_fine (InHand received reserved) = refl
+
+length_fine : (max_blob before : ℕ) (range : Option ByteRange) (n : ℕ) → Fine (length_after max_blob before range n)
+length_fine max_blob before None n = bind_fine (refuse (nat_lt max_blob (before + n)) no.SizeInvalid) _ (refuse_fine _ no.SizeInvalid refl) (λ _. tt)
+length_fine max_blob before (Some range) n =
+    bind_fine (refuse (not (range.end - range.start + 1 == n) || nat_lt max_blob (before + n)) no.SizeInvalid) _ (refuse_fine (not (range.end - range.start + 1 == n) || nat_lt max_blob (before + n)) no.SizeInvalid refl)
+    (λ _. bind_fine (refuse (not (range.start == before)) (no.RangeInvalid before)) _ (refuse_fine (not (range.start == before)) (no.RangeInvalid before) refl) (λ _. tt))
+
+unreferenced_fine : (o : Option Text) → Fine (steps.unreferenced o)
+unreferenced_fine None = tt
+unreferenced_fine (Some manifest) = refl
+
+module _ (C : Catalog) where
+  tenant_fine : (repo : Text) → Fine (steps.tenant C repo)
+  tenant_fine repo = ok_or_fine (tenant_of C.tenants repo) no.NameUnknown refl
+
+  check_fine : (t : ℕ) (repo : Text) (number : ℕ) (range : Option ByteRange) (n : ℕ) → Fine (steps.check C t repo number range n)
+  check_fine t repo number range n =
+      bind_fine (session_in (fmap.get C.sessions (t, number)) repo) _ (session_fine (fmap.get C.sessions (t, number)) repo) (λ s. bind_fine (not_busy s.chunks) _ (not_busy_fine s.chunks) (λ _. length_fine C.max_blob (received s) range n))
+
+  quota_fine : (t n : ℕ) → Fine (steps.within_quota C t n)
+  quota_fine t n = refuse_fine _ _ refl
+
+  all_linked_fine : (repo : Text) (digests : List Text) → Fine (steps.all_linked C repo digests)
+  all_linked_fine repo [] = tt
+  all_linked_fine repo (digest ∷ digests) = if_fine (holds C repo digest) (steps.all_linked C repo digests) (Err (no.ManifestBlobUnknown digest)) (all_linked_fine repo digests) refl
+
+  start_fine : (repo : Text) → Fine (steps.start C repo)
+  start_fine repo = bind_fine (steps.tenant C repo) _ (tenant_fine repo) (λ t. bind_fine (refuse (steps.lacks_room_for C t repo) no.LimitReached) _ (refuse_fine _ _ refl) (λ _. bind_fine (refuse (steps.cannot_open C t) no.LimitReached) _ (refuse_fine _ _ refl) (λ _. tt)))
+
+  status_fine : (repo : Text) (number : ℕ) → Fine (steps.status C repo number)
+  status_fine repo number = bind_fine (steps.tenant C repo) _ (tenant_fine repo) (λ t. bind_fine (steps.session C t repo number) _ (session_fine _ repo) (λ _. tt))
+
+  append_fine : (repo : Text) (number : ℕ) (range : Option ByteRange) (bytes : Text) → Fine (steps.append C repo number range bytes)
+  append_fine repo number range bytes =
+      bind_fine (steps.tenant C repo) _ (tenant_fine repo) (λ t. bind_fine (steps.check C t repo number range (length bytes)) _ (check_fine t repo number range (length bytes)) (λ _. bind_fine (steps.within_quota C t (length bytes)) _ (quota_fine t (length bytes)) (λ _. tt)))
+
+  close_fine : (repo : Text) (number : ℕ) (digest : Text) (range : Option ByteRange) (last : Text) → Fine (steps.close C repo number digest range last)
+  close_fine repo number digest range last =
+      bind_fine (steps.tenant C repo) _ (tenant_fine repo) (λ t. bind_fine (steps.check C t repo number range (length last)) _ (check_fine t repo number range (length last)) (λ _. bind_fine (steps.within_quota C t (length last)) _ (quota_fine t (length last)) (λ _. bind_fine (refuse (not (steps.names C digest (whole_in C.sessions (t, number) last))) no.DigestInvalid) _ (refuse_fine _ _ refl) (λ _. bind_fine (steps.has_slot C digest) _ (refuse_fine _ _ refl) (λ _. tt)))))
+
+  abandon_fine : (repo : Text) (number : ℕ) → Fine (steps.abandon C repo number)
+  abandon_fine repo number = bind_fine (steps.tenant C repo) _ (tenant_fine repo) (λ t. bind_fine (steps.session C t repo number) _ (session_fine _ repo) (λ s. bind_fine (not_busy s.chunks) _ (not_busy_fine s.chunks) (λ _. tt)))
+
+  mount_fine : (repo digest from : Text) → Fine (steps.mount C repo digest (Some from))
+  mount_fine repo digest from =
+      bind_fine (steps.tenant C repo) _ (tenant_fine repo) (λ t. if_fine (steps.has_source C t digest (Some from)) (steps.link_held C t repo digest) (steps.start_instead C repo) (bind_fine (refuse (steps.lacks_room_for C t repo) no.LimitReached) _ (refuse_fine _ _ refl) (λ _. tt)) (bind_fine (steps.start C repo) _ (start_fine repo) (λ _. tt)))
+
+  delete_fine : (repo digest : Text) → Fine (steps.delete C repo digest)
+  delete_fine repo digest = bind_fine (steps.tenant C repo) _ (tenant_fine repo) (λ _. bind_fine (steps.linked C repo digest) _ (refuse_fine _ _ refl) (λ _. bind_fine (steps.unreferenced (steps.referrer C repo digest)) _ (unreferenced_fine _) (λ _. tt)))
+
+  add_fine : (t : ℕ) (repo bytes : Text) → Fine (steps.add_manifest C t repo bytes)
+  add_fine t repo bytes = bind_fine (refuse (steps.lacks_room_for C t repo) no.LimitReached) _ (refuse_fine _ _ refl) (λ _. bind_fine (refuse (steps.is_full_of_manifests C repo) no.LimitReached) _ (refuse_fine _ _ refl) (λ _. tt))
+
+  put_fine : (repo bytes : Text) → Fine (steps.put_manifest C repo bytes)
+  put_fine repo bytes =
+      bind_fine (steps.tenant C repo) _ (tenant_fine repo) (λ t. bind_fine (refuse (nat_lt max_manifest (length bytes)) no.SizeInvalid) _ (refuse_fine _ _ refl) (λ _. bind_fine (ok_or (refs_of bytes) no.ManifestInvalid) _ (ok_or_fine _ _ refl) (λ refs. bind_fine (steps.all_linked C repo refs) _ (all_linked_fine repo refs) (λ _. if_fine (steps.has_manifest C repo (sha256_text bytes)) (Ok (sha256_text bytes, C)) (steps.add_manifest C t repo bytes) tt (add_fine t repo bytes)))))
+
+  get_fine : (repo name : Text) → Fine (steps.get_manifest C repo name)
+  get_fine repo name = bind_fine (steps.tenant C repo) _ (tenant_fine repo) (λ _. ok_or_fine _ _ refl)
+
+  drop_fine : (repo name : Text) → Fine (steps.delete_manifest C repo name)
+  drop_fine repo name = bind_fine (steps.tenant C repo) _ (tenant_fine repo) (λ _. bind_fine (steps.manifest C repo name) _ (ok_or_fine _ _ refl) (λ _. tt))
+
+  lease_fine : (repo digest : Text) → Fine (steps.lease false C repo digest)
+  lease_fine repo digest =
+      bind_fine (steps.tenant C repo) _ (tenant_fine repo) (λ _. bind_fine (steps.linked_blob C repo digest) _ (bind_fine (steps.linked C repo digest) _ (refuse_fine _ _ refl) (λ _. ok_or_fine _ _ refl)) (λ b. tt))
+
+-- ---- answers
+
+-- an answer isn't want of memory
+abbrev Good : Answer → Type 0
+Good (Refused e) = wants_memory e ≡ false
+Good _ = Unit {0}
+
+not_memory : (a : Answer) → Good a → a ≢ Refused no.Memory
+not_memory a good is = absurd (false≢true (sym (subst Good is good)))
+
+-- what an outcome answers isn't either
+abbrev Told : steps.Outcome Answer → Type 0
+Told (Ok x) = Good x.0
+Told (Err e) = wants_memory e ≡ false
+
+told_good : {A : Type 0} (answer : A → Answer) → ((a : A) → Good (answer a)) → (o : steps.Outcome A) → Fine o → Told (told answer o)
+told_good answer good (Ok x) fine = good x.0
+told_good answer good (Err e) fine = fine
+
+mount_good : (m : Mounting) → Good (mount_answer m)
+mount_good mounting.Mounted = tt
+mount_good (mounting.Session number) = tt
+
+module _ (C : Catalog) where
+  read_good : {A : Type 0} (answer : A → Answer) → ((a : A) → Good (answer a)) → (r : Result A Refusal) → Fine r → Told (read answer C r)
+  read_good answer good (Ok x) fine = good x
+  read_good answer good (Err e) fine = fine
+
+  outcome_good : (c : Command) → Told (outcome C c)
+  outcome_good (Start repo) = told_good Session (λ _. tt) (steps.start C repo) (start_fine C repo)
+  outcome_good (Status repo n) = read_good Received (λ _. tt) (steps.status C repo n) (status_fine C repo n)
+  outcome_good (Append repo n range bytes) = told_good Received (λ _. tt) (steps.append C repo n range bytes) (append_fine C repo n range bytes)
+  outcome_good (Close repo n digest range bytes) = told_good Stored (λ _. tt) (steps.close C repo n digest range bytes) (close_fine C repo n digest range bytes)
+  outcome_good (Abandon repo n) = told_good (λ _. Abandoned) (λ _. tt) (steps.abandon C repo n) (abandon_fine C repo n)
+  outcome_good (Mount repo digest from) = told_good mount_answer mount_good (steps.mount C repo digest (Some from)) (mount_fine C repo digest from)
+  outcome_good (Delete repo digest) = told_good (λ _. Deleted) (λ _. tt) (steps.delete C repo digest) (delete_fine C repo digest)
+  outcome_good (PutManifest repo bytes) = told_good Manifest (λ _. tt) (steps.put_manifest C repo bytes) (put_fine C repo bytes)
+  outcome_good (GetManifest repo digest) = read_good Body (λ _. tt) (steps.get_manifest C repo digest) (get_fine C repo digest)
+  outcome_good (DeleteManifest repo digest) = told_good (λ _. Deleted) (λ _. tt) (steps.delete_manifest C repo digest) (drop_fine C repo digest)
+  outcome_good (Lease repo digest) = told_good Bytes (λ _. tt) (steps.lease false C repo digest) (lease_fine C repo digest)
+
+  answered_good : (o : steps.Outcome Answer) → Told o → Good (answered C o).0
+  answered_good (Ok x) good = good
+  answered_good (Err e) good = good
+
+-- ---- rows
+
+if_good : (b : Bool) (x y : Answer × Leases) → Good x.0 → Good y.0 → Good (if b then x else y).0
+if_good true x y h k = h
+if_good false x y h k = k
+
+read_of_good : (o : Option Lent) (ends : Option (ℕ × ℕ)) → Good (read_of o ends)
+read_of_good None ends = tt
+read_of_good (Some lease) None = refl
+read_of_good (Some lease) (Some ends) = tt
+
+share_good : (L : Leases) (name second : Name) (o p : Option Lent) → Good (share_of L name second o p).0
+share_good L name second None p = tt
+share_good L name second (Some lease) (Some other) = tt
+share_good L name second (Some lease) None = if_good (lease.weight == 1) (Refused no.WeightSpent, L) (Shared, fmap.insert (fmap.insert L name (halved lease)) second (halved lease)) refl tt
+
+give_back_good : (L : Leases) (name : Name) (o : Option Lent) → Good (give_back_of L name o).0
+give_back_good L name None = tt
+give_back_good L name (Some lease) = tt
+
+module _ (s : State Catalog) (line : Line) where
+  -- a row has an answer, and leaves something
+  abbrev Step : Type 0
+  Step = (a : Answer) × (t : State Catalog) × RowStep Happens s line a t × Good a
+
+  refused : uses_repo line.verb ≡ true → Misspelt line → Step
+  refused uses bad = (Refused bad.0, s, inl (inl ((uses, (bad.0, bad.1, refl)), refl), refl), bad.2)
+
+  store_step : Fits line → uses_repo line.verb ≡ true → line.verb ≢ verb.Lease → Step
+  store_step fit uses other = elim (command_or_not line fit uses other) [
+    | inr bad ↦ refused uses bad
+    | inl c ↦ (
+        let x : Answer × Catalog = answered s.0 (outcome s.0 c.0) in
+        (x.0, (x.1, s.1), inl (inr (c.0, c.1, c.2, refl), refl), answered_good s.0 (outcome s.0 c.0) (outcome_good s.0 c.0))
+        )
+  ]
+
+  abbrev Lending : Option Lent → Type 0
+  Lending o = (a : Answer) × (t : State Catalog) × LendsWhereFree Happens o s line a t × Good a
+
+  lends : (o : steps.Outcome Text) → steps.lease false s.0 line.repo line.digest ≡ o → Fine o → Lending None
+  lends (Ok x) is fine = (Leased (length x.0), (x.1, fmap.insert s.1 (name_of line) (new_lease x.0)), inl (x.0, ap (λ (o : steps.Outcome Text). answered s.0 (told Bytes o)) (sym is), refl, refl), tt)
+  lends (Err e) is fine = (Refused e, s, inr (e, ap (λ (o : steps.Outcome Text). answered s.0 (told Bytes o)) (sym is), refl, refl), fine)
+
+  lending : (o : Option Lent) → Lending o
+  lending (Some lease) = (NameTaken, s, (refl, refl), tt)
+  lending None = lends (steps.lease false s.0 line.repo line.digest) refl (lease_fine s.0 line.repo line.digest)
+
+  lease_step : line.verb ≡ verb.Lease → Step
+  lease_step is = elim (lease_or_not line is) [
+    | inr bad ↦ refused (ap uses_repo is) bad
+    | inl spells ↦ (let x = lending (named s.1 line) in (x.0, x.1, inr (inl (spells, x.2)), x.3))
+  ]
+
+  verifying : (o : Option Lent) → (a : Answer) × (C : Catalog) × VerifiesLease Happens o s.0 a C × Good a
+  verifying None = (NoLease, s.0, (refl, refl), tt)
+  verifying (Some lease) = (Verified (length lease.bytes), s.0, (refl, refl), tt)
+
+  of_store : Fits line → (v : Verb) → line.verb ≡ v → uses_repo v ≡ true → v ≢ verb.Lease → Step
+  of_store fit v is uses other = store_step fit (ap uses_repo is ∙ uses) (λ e. other (sym is ∙ e))
+
+  step : Fits line → (v : Verb) → line.verb ≡ v → Step
+  step fit verb.Lease is = lease_step is
+  step fit verb.Read is = (read_of (named s.1 line) (piece_of line.range), s, inr (inr (inl (is, refl, refl))), read_of_good (named s.1 line) (piece_of line.range))
+  step fit verb.Share is =
+      let x : Answer × Leases = shared_in s.1 (name_of line) (second_of line) in
+      (x.0, (s.0, x.1), inr (inr (inr (inl (is, refl, refl)))), share_good s.1 (name_of line) (second_of line) (fmap.get s.1 (name_of line)) (fmap.get s.1 (second_of line)))
+  step fit verb.Verify is = let x = verifying (named s.1 line) in (x.0, (x.1, s.1), inr (inr (inr (inr (inl (is, x.2, refl))))), x.3)
+  step fit verb.GiveBack is =
+      let x : Answer × Leases = give_back_of s.1 (name_of line) (named s.1 line) in
+      (x.0, (s.0, x.1), inr (inr (inr (inr (inr (inl (is, refl, refl)))))), give_back_good s.1 (name_of line) (named s.1 line))
+  step fit verb.Sweep is = (Cleaned (swept s.0), (after s.0, s.1), inr (inr (inr (inr (inr (inr (is, (swept s.0, refl, some_sweep s.0, refl), refl)))))), tt)
+  step fit verb.Start is = of_store fit verb.Start is refl (λ e. absurd (let h = e in cc))
+  step fit verb.Status is = of_store fit verb.Status is refl (λ e. absurd (let h = e in cc))
+  step fit verb.Append is = of_store fit verb.Append is refl (λ e. absurd (let h = e in cc))
+  step fit verb.Close is = of_store fit verb.Close is refl (λ e. absurd (let h = e in cc))
+  step fit verb.Abandon is = of_store fit verb.Abandon is refl (λ e. absurd (let h = e in cc))
+  step fit verb.Mount is = of_store fit verb.Mount is refl (λ e. absurd (let h = e in cc))
+  step fit verb.Delete is = of_store fit verb.Delete is refl (λ e. absurd (let h = e in cc))
+  step fit verb.PutManifest is = of_store fit verb.PutManifest is refl (λ e. absurd (let h = e in cc))
+  step fit verb.GetManifest is = of_store fit verb.GetManifest is refl (λ e. absurd (let h = e in cc))
+  step fit verb.DeleteManifest is = of_store fit verb.DeleteManifest is refl (λ e. absurd (let h = e in cc))
+
+-- rows that fit their commands are answered, and leave something
+pub some_run : (s : State Catalog) (lines : List Line) → AllFit lines → (answers : List Answer) × (t : State Catalog) × Plays Happens s lines answers t
+some_run s [] fit = ([], s, refl)
+some_run s (line ∷ lines) fit =
+    let here = step s line fit.0 line.verb refl in
+    let rest = some_run here.1 lines fit.1 in
+    (here.0 ∷ rest.0, rest.1, (here.1, here.2, not_memory here.0 here.3, rest.2))
