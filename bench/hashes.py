@@ -1,8 +1,9 @@
 #!/usr/bin/env python3
 """What a MiB of upload takes.
 
-Each line is the processor time of a MiB in milliseconds: read and refused before anything is hashed; added by
-`append`, for a close by either algorithm; and sent with the close, whose digest names one.
+Each line is the processor time of a MiB in milliseconds: of chunks of a MiB each that are read and refused before
+anything is hashed, and of such that are added by `append`, for a close by either algorithm; and of an upload that is
+sent whole with its close, refused unhashed, and closed by each algorithm.
 
     bench/hashes.py [--mib N] [--runs N]
 """
@@ -14,16 +15,16 @@ CHUNK = 1 << 20
 
 
 def script(kind, mib):
-    """A session of so many MiB: in chunks, or all in its close."""
+    """A session of so many MiB: in chunks, or all in its close. Session 2 isn't there."""
     whole = b"x" * (CHUNK * mib)
     rows = [row("start", "acme/one").encode()]
-    if kind == "refused":
-        rows += [row("append", "acme/one", 2, "", "", "x" * CHUNK).encode()] * mib
-    elif kind == "appended":
-        rows += [row("append", "acme/one", 1, "", "", "x" * CHUNK).encode()] * mib
+    if kind in ("refused chunks", "appended"):
+        session = 2 if kind == "refused chunks" else 1
+        rows += [row("append", "acme/one", session, "", "", "x" * CHUNK).encode()] * mib
     else:
-        digest = sha256(whole) if kind == "sha256" else sha512(whole)
-        rows.append(row("close", "acme/one", 1, digest, "", whole.decode()).encode())
+        session = 2 if kind == "refused whole" else 1
+        digest = sha512(whole) if kind == "sha512" else sha256(whole)
+        rows.append(row("close", "acme/one", session, digest, "", whole.decode()).encode())
     return b"".join(rows)
 
 
@@ -34,8 +35,9 @@ def main():
     options = words.parse_args()
     limits = ["--max-blob", str(1 << 30), f"acme={1 << 40}"]
     for kind, says in {
-        "refused": "read and refused, nothing hashed",
-        "appended": "appended, for either algorithm",
+        "refused chunks": "chunks read and refused, nothing hashed",
+        "appended": "chunks appended, for either algorithm",
+        "refused whole": "sent with a close, read and refused, nothing hashed",
         "sha256": "sent with a close by SHA-256",
         "sha512": "sent with a close by SHA-512",
     }.items():
