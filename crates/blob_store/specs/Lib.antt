@@ -2,3 +2,4 @@ pub mod Totals
 pub mod Counting
 pub mod Leased
 pub mod Naming
+pub mod Found

@@ -14,6 +14,7 @@ ghost use Rattle.store_book.specs.Printed.{book_text};
 ghost use Rattle.store_book.specs.SlotSteps.{EachSlot, HasLast, HasPin, IsHousing, IsLending, IsQuiet, IsStill, IsSweptSlot, ReadsWord};
 ghost use Rattle.store_book.specs.Steps.{start, status, abandon, mount, delete, put_manifest, get_manifest, delete_manifest, take, put_back, finish, given_back};
 ghost use Rattle.store_book.specs.Sweeps.{IsSweep};
+ghost use Rattle.blob_store.specs.Found.{IsSoundOf};
 ghost use Rattle.blob_store.specs.Totals.{nothing, plus, one, sum_of};
 ghost use Rattle.blob_store.specs.Counting.{IsBalanced, Lends, has_room, in_sessions, with_catalog, with_slots, uncounted, accepted, counted, reserving, filled_length, handing_out, unchanged};
 
@@ -246,25 +247,30 @@ impl<N: Naming, C: Ledger, R: Ledger, D: Ledger, A: Ledger> Kept<N, C, R, D, A> 
         Ok(lent)
     }
 
-    /// Goes over the slots, as `Book::sweep` does. Nothing is counted.
+    /// Goes over the slots, as `Book::sweep` does. Nothing is counted. What is swept is a sound book.
     pub fn sweep(&mut self, pins: &Pins) -> Swept
         requires table { pins.now ≡ N.table }
+        ensures sound { IsSoundOf N.slots self.old.book }
         ensures sweeps { IsSweep self.old.book.catalog result self.new.book.catalog }
         ensures slots { EachSlot IsSweptSlot self.old.book.slots self.new.book.slots }
         ensures retired { 0 < result.retired → HasLast self.old.book.slots }
         ensures counts { self.new.counts ≡ self.old.counts }
     {
+        self.audit();
         self.book.sweep(pins)
     }
 
-    /// The pin with all that it had, as `Book::verify` tells of it. Nothing is counted.
+    /// The pin with all that it had, as `Book::verify` tells of it. Nothing is counted. It is found in a sound
+    /// book.
     pub fn verify(&mut self, pins: &Pins, pin: Pin) -> Pin
         requires table { (pins.now ≡ N.table) × (pin.table ≡ N.table) }
+        ensures sound { IsSoundOf N.slots self.old.book }
         ensures same { result ≡ pin }
         ensures kept { HasPin pin.hold self.old.book }
         ensures content { (self.new.book.catalog ≡ self.old.book.catalog) × (self.new.counts ≡ self.old.counts) }
         ensures slots { EachSlot IsStill self.old.book.slots self.new.book.slots }
     {
+        self.audit();
         self.book.verify(pins, pin)
     }
 

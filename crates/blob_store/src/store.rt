@@ -7,6 +7,9 @@ ghost use Rattle.blob_digest.specs.Digests.{sha256_text};
 ghost use Rattle.store_book.specs.Catalog.{Catalog};
 ghost use Rattle.store_book.specs.Laws.{Sound};
 ghost use Rattle.store_book.specs.Printed.{book_text};
+ghost use Rattle.store_book.specs.SlotSteps.{HasPin};
+ghost use Rattle.store_book.specs.Sweeps.{IsSweep};
+ghost use Rattle.blob_store.specs.Found.{InSomeBook};
 ghost use Rattle.blob_store.specs.Totals.{nothing, plus, one, sum_of};
 
 use crate::counters::Counters;
@@ -359,15 +362,19 @@ impl<N: Naming, C: Ledger, R: Ledger, D: Ledger, A: Ledger> Store<N, C, R, D, A>
     }
 
     /// Condemns each live blob that no repository links, and frees or retires the slot of each condemned one
-    /// that no lease holds. It goes over the slots once, and takes no memory.
-    pub fn sweep(&self, rt: &impl Wait) -> Swept {
+    /// that no lease holds. It goes over the slots once, and takes no memory. What it answers is the count of a
+    /// sweep of a sound book.
+    pub fn sweep(&self, rt: &impl Wait) -> Swept
+        ensures { InSomeBook N.slots (λ b. (C : Catalog) × IsSweep b.catalog result C) }
+    {
         self.kept.lock(rt).sweep(&self.pins)
     }
 
     /// The lease with all that it had. Under the lock its slot is found used, in its generation, with its
     /// digest. It takes no memory.
     pub fn verify<'s>(&'s self, rt: &impl Wait, lease: Lease<'s, N>) -> Lease<'s, N>
-        ensures { result ≡ lease.entry }
+        ensures same { result ≡ lease.entry }
+        ensures kept { InSomeBook N.slots (HasPin lease.entry.hold) }
     {
         let Lease {
             pins,

@@ -21,8 +21,8 @@ use Rattle.blob_digest.proofs.KeyOrders.{link_cmp_total, exact_link, text_is_sam
 use Rattle.blob_digest.proofs.SortedRows.{IsApart-sorted}
 use Rattle.link_table.specs.Linked.{Tenant, tenant_of, is_tenants}
 use Rattle.link_table.specs.Holders.{Holding, holding_cmp, count_of, is_key, is_held, Counts}
-use Rattle.link_table.specs.Shelves.{Shelved, IsShelved, links_shown, count}
-use Rattle.link_table.proofs.Shelves.{option_eq_some, links-there}
+use Rattle.link_table.specs.TenantRepos.{Owned, IsOwned, links_shown, count}
+use Rattle.link_table.proofs.TenantRepos.{option_eq_some, links-there}
 use Rattle.std.specs.FinMap.{FinMap, find, get, insert, remove, entries, get-entries, entries_sorted, is_sorted, contains_key-keys}
 use Rattle.blob_digest.proofs.MapSums.{sum_new, sum_split}
 
@@ -204,6 +204,6 @@ module _ (tenants : List Tenant) (t : ℕ) (d : Text) where
       from_T false h = absurd h
 
 -- a tenant's count of a digest is at most the number of its repositories
-pub count_of-most : (tenants : List Tenant) (shelves : List Shelved) → IsShelved tenants shelves → (holders : tree.BTreeMap Holding ℕ) → Counts tenants (links_shown shelves) holders → (t : ℕ) (s : Shelved) → slice_get shelves t ≡ Some s → (d : Text) → count_of holders t d ≤ count s
-count_of-most tenants shelves shelved holders counts t s at d =
-    rw (counts t d) (held_within tenants t d (links_shown shelves) s.repos (λ r own there. shelved.known t s r d at (ap is_some (sym (links-there tenants shelves shelved t s at r own d)) ∙ there)))
+pub count_of-most : (tenants : List Tenant) (by_tenant : List Owned) → IsOwned tenants by_tenant → (holders : tree.BTreeMap Holding ℕ) → Counts tenants (links_shown by_tenant) holders → (t : ℕ) (s : Owned) → slice_get by_tenant t ≡ Some s → (d : Text) → count_of holders t d ≤ count s
+count_of-most tenants by_tenant owned holders counts t s at d =
+    rw (counts t d) (held_within tenants t d (links_shown by_tenant) s.repos (λ r own there. owned.known t s r d at (ap is_some (sym (links-there tenants by_tenant owned t s at r own d)) ∙ there)))

@@ -1,13 +1,13 @@
 pub mod Accepted
-pub mod ArchiveRows
 pub mod HolderCounts
 pub mod ManifestRows
+pub mod ManifestTableRows
 pub mod Parts
-pub mod ShelfCalls
-pub mod ShelfRows
-pub mod Shelves
 pub mod Soundness
 pub mod Tables
 pub mod TenantLists
+pub mod TenantRepoCalls
+pub mod TenantRepoRows
+pub mod TenantRepos
 pub mod TenantSearch
 pub mod Weights

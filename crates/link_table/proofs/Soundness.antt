@@ -18,7 +18,7 @@ use Rattle.link_table.specs.Linked.{Tenant, Linked, sizes, blobs, total_size, is
 use Rattle.link_table.specs.Tenancy.{AreTenants}
 use Rattle.link_table.specs.Running.{IsSound}
 use Rattle.link_table.specs.Holders.{is_held}
-use Rattle.link_table.proofs.Shelves.{option_eq_some}
+use Rattle.link_table.proofs.TenantRepos.{option_eq_some}
 use Rattle.link_table.proofs.Weights.{HasOneSize-insert, HasOneSize-remove, total-insert, total-other, total-remove, total-remove_other}
 
 -- a repository has one tenant

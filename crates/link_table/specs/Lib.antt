@@ -1,8 +1,8 @@
 pub mod Linked
-pub mod Shelves
+pub mod TenantRepos
 pub mod Rows
 pub mod Running
 pub mod Tenancy
 pub mod Holders
-pub mod Archive
+pub mod ManifestTable
 pub mod Manifests

@@ -9,7 +9,7 @@ use Rattle.blob_digest.specs.Keys.{Text, Link, text_cmp, link_cmp, same_text, co
 use Rattle.blob_digest.specs.Outcomes.{OutcomeIn, refuse, ◌>>=◌}
 use Rattle.blob_digest.specs.declared.refusal.Refusal.{Refusal}
 use Rattle.blob_digest.specs.declared.refusal.Refusal.TheVariants.{LimitReached, NameUnknown, Quota}
-use Rattle.link_table.specs.Archive.{Archived, put_on}
+use Rattle.link_table.specs.ManifestTable.{ManifestBytes, put_on}
 pub use Rattle.blob_digest.specs.Tenants.{Tenant, tenant_of, is_tenants, repos_in, coded_tenant}
 
 -- tenants in the order of their names, the repositories that are there, the links with the sizes of their blobs, the manifests, and each tenant's charge in bytes
@@ -17,12 +17,12 @@ pub record Linked : Type 0 where
   pub tenants : List Tenant
   pub repos : set.Set text_cmp
   pub links : fmap.FinMap link_cmp ℕ
-  pub manifests : Archived
+  pub manifests : ManifestBytes
   pub charges : List ℕ
 
 -- a table's code, as a model's value has one
 abbrev pub coded_linked : Coded Linked
-coded_linked = code_by (List Tenant × (set.Set text_cmp × (fmap.FinMap link_cmp ℕ × (Archived × List ℕ)))) (coded× (coded_list coded_tenant) (coded× (set.code coded_text) (coded× (fmap.code coded_link coded_ℕ) (coded× (fmap.code coded_link coded_text) (coded_list coded_ℕ))))) (λ l. (l.tenants, (l.repos, (l.links, (l.manifests, l.charges))))) (λ p. record { tenants = p.0; repos = p.1.0; links = p.1.1.0; manifests = p.1.1.1.0; charges = p.1.1.1.1 }) (λ _. refl)
+coded_linked = code_by (List Tenant × (set.Set text_cmp × (fmap.FinMap link_cmp ℕ × (ManifestBytes × List ℕ)))) (coded× (coded_list coded_tenant) (coded× (set.code coded_text) (coded× (fmap.code coded_link coded_ℕ) (coded× (fmap.code coded_link coded_text) (coded_list coded_ℕ))))) (λ l. (l.tenants, (l.repos, (l.links, (l.manifests, l.charges))))) (λ p. record { tenants = p.0; repos = p.1.0; links = p.1.1.0; manifests = p.1.1.1.0; charges = p.1.1.1.1 }) (λ _. refl)
 
 -- ---- whose a repository is
 
@@ -106,7 +106,7 @@ abbrev pub unlink : Linked → Text → Text → Linked
 unlink l repo digest = record l { links = fmap.remove l.links (repo, digest) }
 
 -- the table with these manifests
-abbrev pub with_manifests : Linked → Archived → Linked
+abbrev pub with_manifests : Linked → ManifestBytes → Linked
 with_manifests l manifests = record l { manifests = manifests }
 
 -- a manifest more, unless the repository has it

@@ -3,7 +3,7 @@ use Rattle.std.specs.Prelude.{◌≡◌, ◌≤◌, ℕ, List, length, map, true
 use Rattle.std.specs.List.{flat_map}
 use Rattle.std.specs.FinMap as fmap
 use Rattle.blob_digest.specs.Keys.{Text, Link, text_cmp}
-use Rattle.link_table.specs.Shelves.{Shelved}
+use Rattle.link_table.specs.TenantRepos.{Owned}
 use Rattle.link_table.specs.declared.repo.Repo.{Repo}
 
 -- a repository, as a member of a set
@@ -15,8 +15,8 @@ abbrev pub links_in : Repo → List (Link × ℕ)
 links_in r = map (λ e. ((r.name, e.0), e.1)) r.blobs.entries
 
 -- the repositories of a tenant
-abbrev pub shelf_shown : List Repo → Shelved
-shelf_shown rows = record { repos = fmap.from_entries (map named rows); links = fmap.from_entries (flat_map links_in rows) }
+abbrev pub owned_shown : List Repo → Owned
+owned_shown rows = record { repos = fmap.from_entries (map named rows); links = fmap.from_entries (flat_map links_in rows) }
 
 -- they stand in the order of their names
 abbrev pub IsInOrder : List Repo → Type 0

@@ -8,14 +8,14 @@
 //! repository that refers to it.
 #![tactic(auto)]
 
-mod archive;
 mod blobs;
 mod holders;
 mod links;
+mod manifest_table;
 mod manifests;
 mod repo;
 mod repo_manifests;
-mod shelf;
+mod tenant_repos;
 mod tenants;
 mod weigh;
 

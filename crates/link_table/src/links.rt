@@ -4,16 +4,16 @@ ghost use Rattle.std.specs.FinMap as fmap;
 ghost use Rattle.blob_digest.specs.Sets as set;
 ghost use Rattle.blob_digest.specs.Outcomes.{Does, DoesExactly};
 ghost use Rattle.blob_digest.specs.declared.refusal.Refusal.TheVariants.{Memory};
-ghost use Rattle.link_table.specs.Archive.{referrer_on, manifests_on};
-ghost use Rattle.link_table.specs.Shelves.{nothing};
+ghost use Rattle.link_table.specs.ManifestTable.{referrer_on, manifests_on};
+ghost use Rattle.link_table.specs.TenantRepos.{nothing};
 ghost use Rattle.link_table.specs.Linked.{is_tenants, known_tenant, used_in, quota_in, blobs_of, repos_of, blobs_in, link, unlink, put_manifest, drop_manifest, charge, discharge, appear, vanish, IsSizeOf, HasNoLinks};
 ghost use Rattle.link_table.specs.Tenancy.{Opens, AreTenants, RefusesTenants, tenants_shown};
 
-use crate::archive::Archive;
 use crate::blobs::Blobs;
 use crate::holders::{Holders, holders_of, lower, raise};
+use crate::manifest_table::ManifestTable;
 use crate::manifests::Manifests;
-use crate::shelf::Shelf;
+use crate::tenant_repos::TenantRepos;
 use crate::tenants::{in_order, tenant_at};
 use crate::weigh::{weight_with, weight_without};
 use blob_digest::{Digest, Refusal, RepoName};
@@ -37,8 +37,8 @@ use std::sync::Arc;
 pub struct Links {
     alloc: Global,
     tenants: Vec<(String, u64)>,
-    shelves: Vec<Shelf>,
-    manifests: Archive,
+    repos: Vec<TenantRepos>,
+    manifests: ManifestTable,
     holders: Holders,
     weights: Vec<u64>,
     charges: Vec<u64>,
@@ -53,25 +53,25 @@ impl Model for Links {
     ghost coded = { coded_linked };
 
     ghost use Rattle.link_table.specs.Tenancy.{tenants_shown};
-    ghost use Rattle.link_table.specs.Shelves.{repos_shown, links_shown, IsShelved};
+    ghost use Rattle.link_table.specs.TenantRepos.{repos_shown, links_shown, IsOwned};
     ghost use Rattle.link_table.specs.Running.{IsSound};
     ghost use Rattle.link_table.specs.Holders.{Counts};
 
-    ghost view = { λ a. record { tenants = tenants_shown a.tenants.items; repos = repos_shown a.shelves.items; links = links_shown a.shelves.items; manifests = a.manifests; charges = a.charges.items } };
+    ghost view = { λ a. record { tenants = tenants_shown a.tenants.items; repos = repos_shown a.repos.items; links = links_shown a.repos.items; manifests = a.manifests; charges = a.charges.items } };
 
-    ghost invariant = { λ a. IsSound (tenants_shown a.tenants.items) (links_shown a.shelves.items) a.weights.items a.charges.items × IsShelved (tenants_shown a.tenants.items) a.shelves.items × Counts (tenants_shown a.tenants.items) (links_shown a.shelves.items) a.holders };
+    ghost invariant = { λ a. IsSound (tenants_shown a.tenants.items) (links_shown a.repos.items) a.weights.items a.charges.items × IsOwned (tenants_shown a.tenants.items) a.repos.items × Counts (tenants_shown a.tenants.items) (links_shown a.repos.items) a.holders };
 }
 
 /// As many tenants without repositories.
-fn shelves(alloc: Global, count: usize) -> Result<Vec<Shelf>, Refusal>
+fn no_repos(alloc: Global, count: usize) -> Result<Vec<TenantRepos>, Refusal>
     ensures ok { IfOk result (λ v. v.items ≡ replicate count nothing) }
     ensures refused { IfErr result (λ e. e ≡ Memory) }
 {
-    let mut shelves = Vec::new(alloc);
+    let mut repos = Vec::new(alloc);
     for _ in 0..count {
-        shelves.push(Shelf::new(alloc))?;
+        repos.push(TenantRepos::new(alloc))?;
     }
-    Ok(shelves)
+    Ok(repos)
 }
 
 impl Links {
@@ -89,12 +89,12 @@ impl Links {
         let count = tenants.as_slice().len();
         let weights = vec![in alloc; 0u64; count]?;
         let charges = vec![in alloc; 0u64; count]?;
-        let shelves = shelves(alloc, count)?;
+        let repos = no_repos(alloc, count)?;
         Ok(Links {
             alloc,
             tenants,
-            shelves,
-            manifests: Archive::new(alloc),
+            repos,
+            manifests: ManifestTable::new(alloc),
             holders: BTreeMap::new(alloc),
             weights,
             charges,
@@ -183,7 +183,7 @@ impl Links {
         requires own { is_tenants self.old.tenants tenant repo.now ≡ true }
         ensures { Does (λ b. b) result self.old self.new (appear self.old tenant repo.now) }
     {
-        self.shelves[tenant as usize].appear(self.alloc, repo)
+        self.repos[tenant as usize].appear(self.alloc, repo)
     }
 
     /// Takes back that a repository of a tenant, which has no links, is known. It takes no memory, and as
@@ -194,7 +194,7 @@ impl Links {
         requires unlinked { HasNoLinks self.old.links repo.now }
         ensures { self.new ≡ vanish self.old repo.now }
     {
-        self.shelves[tenant as usize].vanish(repo);
+        self.repos[tenant as usize].vanish(repo);
     }
 
     /// Links a blob of this digest and size in a repository of a tenant, and answers whether the
@@ -214,13 +214,13 @@ impl Links {
         requires room { used_in self.old tenant + size < 2 ^ 64 }
         ensures { Does (λ b. b) result self.old self.new (link self.old repo.now digest.now size) }
     {
-        if self.shelves[tenant as usize].holds(repo, digest) {
+        if self.repos[tenant as usize].holds(repo, digest) {
             return Ok(false);
         }
         let held = holders_of(&self.holders, tenant, digest) > 0;
         let weight = weight_with(self.weights[tenant as usize], held, size);
         raise(&mut self.holders, tenant, digest)?;
-        if let Err(e) = self.shelves[tenant as usize].link(repo, digest, size) {
+        if let Err(e) = self.repos[tenant as usize].link(repo, digest, size) {
             lower(&mut self.holders, tenant, digest);
             return Err(e);
         }
@@ -235,7 +235,7 @@ impl Links {
         requires linked { fmap.contains_key self.old.links (repo.now, digest.now) ≡ true }
         ensures { self.new ≡ unlink self.old repo.now digest.now }
     {
-        match self.shelves[tenant as usize].unlink(repo, digest) {
+        match self.repos[tenant as usize].unlink(repo, digest) {
             Some(size) => {
                 lower(&mut self.holders, tenant, digest);
                 let held = holders_of(&self.holders, tenant, digest) > 0;
@@ -255,7 +255,7 @@ impl Links {
         ensures { result ≡ fmap.contains_key self.now.links (repo.now, digest.now) }
     {
         match tenant_at(self.tenants.as_slice(), repo.tenant()) {
-            Some(t) => self.shelves[t].holds(repo, digest),
+            Some(t) => self.repos[t].holds(repo, digest),
             None => false,
         }
     }
@@ -274,7 +274,7 @@ impl Links {
         requires { tenant < length self.now.tenants }
         ensures { option_copied result ≡ slice_get (repos_of self.now tenant) i }
     {
-        self.shelves[tenant as usize].repo_at(i)
+        self.repos[tenant as usize].repo_at(i)
     }
 
     /// The blobs that a repository holds, in the order of their digests, with their sizes in bytes. All
@@ -284,7 +284,7 @@ impl Links {
     {
         match tenant_at(self.tenants.as_slice(), repo.tenant()) {
             Some(t) => Blobs {
-                rest: self.shelves[t].blobs(repo),
+                rest: self.repos[t].blobs(repo),
             },
             None => Blobs { rest: None },
         }

@@ -16,7 +16,7 @@ use Rattle.blob_digest.specs.Sets as set
 use Rattle.blob_digest.proofs.KeyOrders.{link_cmp_total, exact_link}
 use Rattle.blob_digest.proofs.RowLemmas.{found_value}
 use Rattle.slot_table.specs.Slots.{Slot, Held, slot_of, links_at}
-use Rattle.link_table.specs.Archive.{manifests_on}
+use Rattle.link_table.specs.ManifestTable.{manifests_on}
 use Rattle.link_table.specs.Linked.{Linked, Tenant, used_in, blobs_in, repos_of}
 use Rattle.blob_digest.proofs.SortedRows.{IsApart-sorted, entries-sorted}
 use Rattle.upload_table.specs.Sessions.{listed, sessions_of}

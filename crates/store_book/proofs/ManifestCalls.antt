@@ -14,7 +14,7 @@ use Rattle.blob_digest.specs.declared.refusal.Refusal.TheVariants.{LimitReached,
 use Rattle.blob_digest.proofs.OptionLemmas.{some_same, some_none}
 use Rattle.slot_table.specs.Slots.{Slot}
 use Rattle.oci_manifest.specs.Manifests.{IsManifest, refs_of, max_manifest}
-use Rattle.link_table.specs.Archive.{manifests_in}
+use Rattle.link_table.specs.ManifestTable.{manifests_in}
 use Rattle.link_table.specs.Linked.{Linked, known_tenant, appear, cannot_appear, drop_manifest, put_manifest as put_manifest_on}
 use Rattle.upload_table.specs.Uploaded.{Uploaded}
 use Rattle.store_book.specs.Catalog.{Text, Catalog}

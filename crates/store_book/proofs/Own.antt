@@ -23,7 +23,7 @@ use Rattle.store_book.specs.Runs as runs
 use Rattle.store_book.specs.Runs.{Command, Answer, answered, told, outcome, repo_of}
 use Rattle.store_book.specs.Isolation.{unhoused, outcome_alone, whole_of, named, brought_by}
 use Rattle.blob_digest.proofs.KeyOrders.{number_cmp_total, exact_number, link_cmp_total, exact_link, same_itself}
-use Rattle.link_table.proofs.Shelves.{option_eq_some}
+use Rattle.link_table.proofs.TenantRepos.{option_eq_some}
 use Rattle.store_book.proofs.Outcomes.{bound_ok}
 use Rattle.store_book.proofs.Agreement.{AgreeOn, agree_insert, agree_remove}
 use Rattle.store_book.proofs.Alike.{Alike, Consistent, of_same, holds_same, own_holds_same, tenant_holds_same, room_same, open_same, session_found, session_same, check_same, whole_same, quota_same, manifests_same, referrer_same, used_same}

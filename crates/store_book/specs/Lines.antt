@@ -4,7 +4,7 @@ use Rattle.std.specs.Option.{option_map_or}
 use Rattle.std.specs.List.{flat_map, enumerate_from}
 use Rattle.blob_digest.specs.Keys.{Text}
 use Rattle.slot_table.specs.Slots.{Slot, slot_of, links_at}
-use Rattle.link_table.specs.Archive.{manifests_on}
+use Rattle.link_table.specs.ManifestTable.{manifests_on}
 use Rattle.link_table.specs.Linked.{Linked, Tenant, blobs_in, repos_of, used_in}
 use Rattle.upload_table.specs.Sessions.{listed, sessions_of}
 use Rattle.upload_table.specs.Uploaded.{Uploaded}

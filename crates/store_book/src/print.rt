@@ -3,7 +3,7 @@
 ghost use Rattle.std.specs.Prelude.{◌≡◌, ◌≤◌, ◌<◌, length, map, Some, None, OnOk};
 ghost use Rattle.std.specs.List.{flat_map};
 ghost use Rattle.std.specs.Io.KnownBytes.{Appends};
-ghost use Rattle.link_table.specs.Archive.{manifests_on};
+ghost use Rattle.link_table.specs.ManifestTable.{manifests_on};
 ghost use Rattle.link_table.specs.Linked.{blobs_in, repos_of};
 ghost use Rattle.upload_table.specs.Sessions.{listed, sessions_of};
 ghost use Rattle.store_book.specs.Printed.{blob_line, manifest_line, manifest_row, repository_line, session_line, tenant_line};

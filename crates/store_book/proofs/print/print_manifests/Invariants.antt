@@ -2,7 +2,7 @@ use Rattle.std.proofs.Common.{List, ℕ}
 use Rattle.std.specs.List.{flat_map}
 use Rattle.std.specs.Io.KnownBytes.{Appends}
 use Rattle.std.specs.Prelude.{Option}
-use Rattle.link_table.specs.Archive.{manifests_on}
+use Rattle.link_table.specs.ManifestTable.{manifests_on}
 use Rattle.store_book.specs.Printed.{manifest_row}
 use Rattle.store_book.proofs.print.print_manifests.Given as goal
 

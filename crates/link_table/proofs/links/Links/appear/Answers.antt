@@ -1,27 +1,27 @@
 use Rattle.link_table.specs.Tenancy.{tenants_shown}
-use Rattle.link_table.proofs.Shelves.{links-same}
-use Rattle.link_table.proofs.Tables.{shelf_at, grown, appear_does, IsShelved-appear}
+use Rattle.link_table.proofs.TenantRepos.{links-same}
+use Rattle.link_table.proofs.Tables.{owned_at, grown, appear_does, IsOwned-appear}
 use Rattle.link_table.proofs.links.Links.appear.Goals as goal
 
 pub invariant_of-self : goal.invariant_of-self
 invariant_of-self c =
     let tenants = tenants_shown c.self.inside.tenants.items in
-    let shelves = c.self.inside.shelves.items in
-    let shelved = c.self.invariant.1 in
+    let by_tenant = c.self.inside.repos.items in
+    let owned = c.self.invariant.1 in
     let s = c.index_mut.result.now in
-    let at = shelf_at tenants shelves shelved c.args.tenant (rw (← c.self.view_is) at c.requires.there) s c.index_mut.ensures.value in
+    let at = owned_at tenants by_tenant owned c.args.tenant (rw (← c.self.view_is) at c.requires.there) s c.index_mut.ensures.value in
     let is = grown s c.appear.new.self c.args.repo.now c.appear.result c.appear.ensures in
-    let links = links-same tenants shelves shelved c.args.tenant s at c.appear.new.self is.links in (
+    let links = links-same tenants by_tenant owned c.args.tenant s at c.appear.new.self is.links in (
       rw links c.self.invariant.0,
-      IsShelved-appear tenants shelves shelved c.self.inside.manifests c.self.inside.charges.items c.args.tenant s at c.args.repo.now (rw (← c.self.view_is) at c.requires.own) c.appear.new.self is,
+      IsOwned-appear tenants by_tenant owned c.self.inside.manifests c.self.inside.charges.items c.args.tenant s at c.args.repo.now (rw (← c.self.view_is) at c.requires.own) c.appear.new.self is,
       rw links c.self.invariant.2,
     )
 
 pub returns : goal.returns
 returns c =
     let tenants = tenants_shown c.self.inside.tenants.items in
-    let shelves = c.self.inside.shelves.items in
-    let shelved = c.self.invariant.1 in
+    let by_tenant = c.self.inside.repos.items in
+    let owned = c.self.invariant.1 in
     let s = c.index_mut.result.now in
-    let at = shelf_at tenants shelves shelved c.args.tenant (rw (← c.self.view_is) at c.requires.there) s c.index_mut.ensures.value in
-    rw (← c.self.view_is) (appear_does tenants shelves shelved c.self.inside.manifests c.self.inside.charges.items c.args.tenant s at c.args.repo.now (rw (← c.self.view_is) at c.requires.own) c.appear.new.self c.appear.result c.appear.ensures)
+    let at = owned_at tenants by_tenant owned c.args.tenant (rw (← c.self.view_is) at c.requires.there) s c.index_mut.ensures.value in
+    rw (← c.self.view_is) (appear_does tenants by_tenant owned c.self.inside.manifests c.self.inside.charges.items c.args.tenant s at c.args.repo.now (rw (← c.self.view_is) at c.requires.own) c.appear.new.self c.appear.result c.appear.ensures)

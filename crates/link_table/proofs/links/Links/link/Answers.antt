@@ -1,85 +1,85 @@
 use Rattle.std.proofs.Common.{ap, sym, ◌∙◌, is_some, nat_lt, true, Ok, set, arith}
 use Rattle.std.specs.FinMap.{get}
 use Rattle.blob_digest.proofs.OptionLemmas.{some_value}
-use Rattle.link_table.specs.Shelves.{Shelved, links_shown}
+use Rattle.link_table.specs.TenantRepos.{Owned, links_shown}
 use Rattle.link_table.specs.Tenancy.{tenants_shown}
 use Rattle.link_table.proofs.HolderCounts.{count_of-most, held-counted, Counts-insert, Counts-back}
-use Rattle.link_table.proofs.ShelfCalls.{is_none}
-use Rattle.link_table.proofs.Shelves.{links-there, repos-there, links-insert, links-same, repos-same}
+use Rattle.link_table.proofs.TenantRepoCalls.{is_none}
+use Rattle.link_table.proofs.TenantRepos.{links-there, repos-there, links-insert, links-same, repos-same}
 use Rattle.link_table.proofs.Soundness.{contains-blob, IsSound-link, link_there, link_new}
-use Rattle.link_table.proofs.Tables.{shelf_at, linked_of, IsShelved-link, IsShelved-same}
+use Rattle.link_table.proofs.Tables.{owned_at, linked_of, IsOwned-link, IsOwned-same}
 use Rattle.link_table.proofs.links.Links.link.Goals as goal
 
 pub returns-then-holds : goal.returns-then-holds
 returns-then-holds c =
     let tenants = tenants_shown c.self.inside.tenants.items in
-    let shelves = c.self.inside.shelves.items in
+    let by_tenant = c.self.inside.repos.items in
     let s = c.index.result.now in
-    let at = shelf_at tenants shelves c.self.invariant.1 c.args.tenant (rw (← c.self.view_is) at c.requires.there) s c.index.ensures in
-    let there = links-there tenants shelves c.self.invariant.1 c.args.tenant s at c.args.repo.now (rw (← c.self.view_is) at c.requires.own) c.args.digest.now in
+    let at = owned_at tenants by_tenant c.self.invariant.1 c.args.tenant (rw (← c.self.view_is) at c.requires.there) s c.index.ensures in
+    let there = links-there tenants by_tenant c.self.invariant.1 c.args.tenant s at c.args.repo.now (rw (← c.self.view_is) at c.requires.own) c.args.digest.now in
     let value = some_value (get s.links (c.args.repo.now, c.args.digest.now)) (sym c.holds.ensures.held ∙ c.if-holds.true) in
-    rw (← c.self.view_is) (link_there (linked_of tenants shelves c.self.inside.manifests c.self.inside.charges.items) c.args.repo.now c.args.digest.now c.args.size value.0 (there ∙ value.1) (rw (← c.self.view_is) at c.requires.size))
+    rw (← c.self.view_is) (link_there (linked_of tenants by_tenant c.self.inside.manifests c.self.inside.charges.items) c.args.repo.now c.args.digest.now c.args.size value.0 (there ∙ value.1) (rw (← c.self.view_is) at c.requires.size))
 
 pub raise-requires : goal.raise-requires
 raise-requires c =
     let tenants = tenants_shown c.self.inside.tenants.items in
-    let shelves = c.self.inside.shelves.items in
+    let by_tenant = c.self.inside.repos.items in
     let s = c.index.result.now in
-    let at = shelf_at tenants shelves c.self.invariant.1 c.args.tenant (rw (← c.self.view_is) at c.requires.there) s c.index.ensures in
-    let most = count_of-most tenants shelves c.self.invariant.1 c.self.inside.holders c.self.invariant.2 c.args.tenant s at c.args.digest.now in
+    let at = owned_at tenants by_tenant c.self.invariant.1 c.args.tenant (rw (← c.self.view_is) at c.requires.there) s c.index.ensures in
+    let most = count_of-most tenants by_tenant c.self.invariant.1 c.self.inside.holders c.self.invariant.2 c.args.tenant s at c.args.digest.now in
     omega (arith, most, c.holds.ensures.few)
 
 pub link-requires : goal.link-requires
 link-requires c =
     let tenants = tenants_shown c.self.inside.tenants.items in
-    let shelves = c.self.inside.shelves.items in
+    let by_tenant = c.self.inside.repos.items in
     let s = c.index_mut.result.now in
-    let at = shelf_at tenants shelves c.self.invariant.1 c.args.tenant (rw (← c.self.view_is) at c.requires.there) s c.index_mut.ensures.value in
-    ap is_some (sym (repos-there tenants shelves c.self.invariant.1 c.args.tenant s at c.args.repo.now (rw (← c.self.view_is) at c.requires.own))) ∙ (rw (← c.self.view_is) at c.requires.known)
+    let at = owned_at tenants by_tenant c.self.invariant.1 c.args.tenant (rw (← c.self.view_is) at c.requires.there) s c.index_mut.ensures.value in
+    ap is_some (sym (repos-there tenants by_tenant c.self.invariant.1 c.args.tenant s at c.args.repo.now (rw (← c.self.view_is) at c.requires.own))) ∙ (rw (← c.self.view_is) at c.requires.known)
 
 pub invariant_of-self-in-Err : goal.invariant_of-self-in-Err
 invariant_of-self-in-Err c =
     let tenants = tenants_shown c.self.inside.tenants.items in
-    let shelves = c.self.inside.shelves.items in
+    let by_tenant = c.self.inside.repos.items in
     let s = c.index_mut.result.now in
-    let at = shelf_at tenants shelves c.self.invariant.1 c.args.tenant (rw (← c.self.view_is) at c.requires.there) s c.index_mut.ensures.value in
-    let links = links-same tenants shelves c.self.invariant.1 c.args.tenant s at c.link.new.self (ap (λ (x : Shelved). x.links) c.in-Err.ensures.err) in (
+    let at = owned_at tenants by_tenant c.self.invariant.1 c.args.tenant (rw (← c.self.view_is) at c.requires.there) s c.index_mut.ensures.value in
+    let links = links-same tenants by_tenant c.self.invariant.1 c.args.tenant s at c.link.new.self (ap (λ (x : Owned). x.links) c.in-Err.ensures.err) in (
       rw links c.self.invariant.0,
-      IsShelved-same tenants shelves c.self.invariant.1 c.self.inside.manifests c.self.inside.charges.items c.args.tenant s at c.args.repo.now (rw (← c.self.view_is) at c.requires.own) c.link.new.self c.in-Err.ensures.err,
-      rw links (Counts-back tenants (links_shown shelves) c.self.inside.holders c.raise.new.holders c.lower.new.holders c.args.tenant c.args.digest.now c.self.invariant.2 c.in_ok-raise.ensures.ok c.lower.ensures),
+      IsOwned-same tenants by_tenant c.self.invariant.1 c.self.inside.manifests c.self.inside.charges.items c.args.tenant s at c.args.repo.now (rw (← c.self.view_is) at c.requires.own) c.link.new.self c.in-Err.ensures.err,
+      rw links (Counts-back tenants (links_shown by_tenant) c.self.inside.holders c.raise.new.holders c.lower.new.holders c.args.tenant c.args.digest.now c.self.invariant.2 c.in_ok-raise.ensures.ok c.lower.ensures),
     )
 
 pub invariant_of-self-2 : goal.invariant_of-self-2
 invariant_of-self-2 c =
     let tenants = tenants_shown c.self.inside.tenants.items in
-    let shelves = c.self.inside.shelves.items in
+    let by_tenant = c.self.inside.repos.items in
     let there = rw (← c.self.view_is) at c.requires.there in
     let own = rw (← c.self.view_is) at c.requires.own in
     let s = c.index_mut.result.now in
-    let at = shelf_at tenants shelves c.self.invariant.1 c.args.tenant there s c.index_mut.ensures.value in
-    let at_first = shelf_at tenants shelves c.self.invariant.1 c.args.tenant there c.index.result.now c.index.ensures in
-    let absent = is_none (get (links_shown shelves) (c.args.repo.now, c.args.digest.now))
-    (ap is_some (links-there tenants shelves c.self.invariant.1 c.args.tenant c.index.result.now at_first c.args.repo.now own c.args.digest.now) ∙ sym c.holds.ensures.held ∙ c.if-holds.false) in
-    let links = links-insert tenants shelves c.self.invariant.1 c.args.tenant s at c.args.repo.now own c.args.digest.now c.args.size c.link.new.self (ap (λ (x : Shelved). x.links) c.in_default.ensures.ok) in
-    let known = ap is_some (sym (repos-there tenants shelves c.self.invariant.1 c.args.tenant s at c.args.repo.now own)) ∙ (rw (← c.self.view_is) at c.requires.known) in
-    let held = ap (nat_lt 0) c.holders_of-held.ensures ∙ held-counted tenants (links_shown shelves) c.self.inside.holders c.self.invariant.2 c.args.tenant c.args.digest.now ∙ sym (contains-blob tenants c.args.tenant c.args.digest.now (links_shown shelves)) in (
-      rw links (IsSound-link tenants (links_shown shelves) c.self.inside.weights.items c.self.inside.charges.items c.self.invariant.0 c.args.tenant there c.args.repo.now c.args.digest.now c.args.size own
+    let at = owned_at tenants by_tenant c.self.invariant.1 c.args.tenant there s c.index_mut.ensures.value in
+    let at_first = owned_at tenants by_tenant c.self.invariant.1 c.args.tenant there c.index.result.now c.index.ensures in
+    let absent = is_none (get (links_shown by_tenant) (c.args.repo.now, c.args.digest.now))
+    (ap is_some (links-there tenants by_tenant c.self.invariant.1 c.args.tenant c.index.result.now at_first c.args.repo.now own c.args.digest.now) ∙ sym c.holds.ensures.held ∙ c.if-holds.false) in
+    let links = links-insert tenants by_tenant c.self.invariant.1 c.args.tenant s at c.args.repo.now own c.args.digest.now c.args.size c.link.new.self (ap (λ (x : Owned). x.links) c.in_default.ensures.ok) in
+    let known = ap is_some (sym (repos-there tenants by_tenant c.self.invariant.1 c.args.tenant s at c.args.repo.now own)) ∙ (rw (← c.self.view_is) at c.requires.known) in
+    let held = ap (nat_lt 0) c.holders_of-held.ensures ∙ held-counted tenants (links_shown by_tenant) c.self.inside.holders c.self.invariant.2 c.args.tenant c.args.digest.now ∙ sym (contains-blob tenants c.args.tenant c.args.digest.now (links_shown by_tenant)) in (
+      rw links (IsSound-link tenants (links_shown by_tenant) c.self.inside.weights.items c.self.inside.charges.items c.self.invariant.0 c.args.tenant there c.args.repo.now c.args.digest.now c.args.size own
           (rw (← c.self.view_is) at c.requires.size) (rw (← c.self.view_is) at c.requires.room) (nat_lt 0 c.holders_of-held.result) held c.index-2.result.now c.weight_with-weight.result c.index-2.ensures c.weight_with-weight.ensures),
-      IsShelved-link tenants shelves c.self.invariant.1 c.self.inside.manifests c.self.inside.charges.items c.args.tenant s at c.args.repo.now own c.link.new.self c.args.digest.now c.args.size known c.in_default.ensures.ok,
-      rw links (Counts-insert tenants (links_shown shelves) c.self.inside.holders c.raise.new.holders c.self.invariant.2 c.args.tenant c.args.repo.now c.args.digest.now c.args.size own absent c.in_ok-raise.ensures.ok),
+      IsOwned-link tenants by_tenant c.self.invariant.1 c.self.inside.manifests c.self.inside.charges.items c.args.tenant s at c.args.repo.now own c.link.new.self c.args.digest.now c.args.size known c.in_default.ensures.ok,
+      rw links (Counts-insert tenants (links_shown by_tenant) c.self.inside.holders c.raise.new.holders c.self.invariant.2 c.args.tenant c.args.repo.now c.args.digest.now c.args.size own absent c.in_ok-raise.ensures.ok),
     )
 
 pub returns : goal.returns
 returns c =
     let tenants = tenants_shown c.self.inside.tenants.items in
-    let shelves = c.self.inside.shelves.items in
+    let by_tenant = c.self.inside.repos.items in
     let there = rw (← c.self.view_is) at c.requires.there in
     let own = rw (← c.self.view_is) at c.requires.own in
     let s = c.index_mut.result.now in
-    let at = shelf_at tenants shelves c.self.invariant.1 c.args.tenant there s c.index_mut.ensures.value in
-    let at_first = shelf_at tenants shelves c.self.invariant.1 c.args.tenant there c.index.result.now c.index.ensures in
-    let absent = is_none (get (links_shown shelves) (c.args.repo.now, c.args.digest.now))
-    (ap is_some (links-there tenants shelves c.self.invariant.1 c.args.tenant c.index.result.now at_first c.args.repo.now own c.args.digest.now) ∙ sym c.holds.ensures.held ∙ c.if-holds.false) in
-    let links = links-insert tenants shelves c.self.invariant.1 c.args.tenant s at c.args.repo.now own c.args.digest.now c.args.size c.link.new.self (ap (λ (x : Shelved). x.links) c.in_default.ensures.ok) in
-    let repos = repos-same tenants shelves c.self.invariant.1 c.args.tenant s at c.link.new.self (ap (λ (x : Shelved). x.repos) c.in_default.ensures.ok) in
-    rw (← c.self.view_is) (link_new (linked_of tenants shelves c.self.inside.manifests c.self.inside.charges.items) c.args.repo.now c.args.digest.now c.args.size (links_shown (set shelves c.args.tenant c.link.new.self)) absent links ∙ ap Ok (ap (λ r. (true, record { tenants = tenants; repos = r; links = links_shown (set shelves c.args.tenant c.link.new.self); manifests = c.self.inside.manifests; charges = c.self.inside.charges.items })) (sym repos)))
+    let at = owned_at tenants by_tenant c.self.invariant.1 c.args.tenant there s c.index_mut.ensures.value in
+    let at_first = owned_at tenants by_tenant c.self.invariant.1 c.args.tenant there c.index.result.now c.index.ensures in
+    let absent = is_none (get (links_shown by_tenant) (c.args.repo.now, c.args.digest.now))
+    (ap is_some (links-there tenants by_tenant c.self.invariant.1 c.args.tenant c.index.result.now at_first c.args.repo.now own c.args.digest.now) ∙ sym c.holds.ensures.held ∙ c.if-holds.false) in
+    let links = links-insert tenants by_tenant c.self.invariant.1 c.args.tenant s at c.args.repo.now own c.args.digest.now c.args.size c.link.new.self (ap (λ (x : Owned). x.links) c.in_default.ensures.ok) in
+    let repos = repos-same tenants by_tenant c.self.invariant.1 c.args.tenant s at c.link.new.self (ap (λ (x : Owned). x.repos) c.in_default.ensures.ok) in
+    rw (← c.self.view_is) (link_new (linked_of tenants by_tenant c.self.inside.manifests c.self.inside.charges.items) c.args.repo.now c.args.digest.now c.args.size (links_shown (set by_tenant c.args.tenant c.link.new.self)) absent links ∙ ap Ok (ap (λ r. (true, record { tenants = tenants; repos = r; links = links_shown (set by_tenant c.args.tenant c.link.new.self); manifests = c.self.inside.manifests; charges = c.self.inside.charges.items })) (sym repos)))

@@ -4,11 +4,11 @@ use Rattle.std.specs.FinMap.{entries}
 use Rattle.std.proofs.lemmas.List.{length-map}
 use Rattle.blob_digest.specs.Keys.{link_cmp}
 use Rattle.blob_digest.proofs.RowLemmas.{entries-empty}
-use Rattle.link_table.specs.Shelves.{links_shown, repos_shown}
+use Rattle.link_table.specs.TenantRepos.{links_shown, repos_shown}
 use Rattle.link_table.specs.Tenancy.{tenant_shown, tenants_shown}
 use Rattle.link_table.proofs.HolderCounts.{Counts-opening}
 use Rattle.link_table.proofs.Soundness.{IsSound-opening}
-use Rattle.link_table.proofs.Tables.{links-opening, repos-opening, IsShelved-opening}
+use Rattle.link_table.proofs.Tables.{links-opening, repos-opening, IsOwned-opening}
 use Rattle.link_table.proofs.links.Links.new.Goals as goal
 
 pub invariant_of-result : goal.invariant_of-result
@@ -17,12 +17,12 @@ invariant_of-result c =
     let n : length tenants ≡ length c.in_ok-tenants.tenants.items = length-map c.in_ok-tenants.tenants.items tenant_shown in
     let w : c.in_ok-weights.weights.items ≡ replicate (length c.in_ok-tenants.tenants.items) 0 = search rules in
     let k : c.in_ok-charges.charges.items ≡ replicate (length c.in_ok-tenants.tenants.items) 0 = search rules in
-    let s = rw c.as_slice-count.ensures.value at c.in_ok-shelves.ensures.ok in
+    let s = rw c.as_slice-count.ensures.value at c.in_ok-repos.ensures.ok in
     let links = ap links_shown s ∙ links-opening (length c.in_ok-tenants.tenants.items) in (
-      IsSound-opening tenants (links_shown c.in_ok-shelves.shelves.items) c.in_ok-weights.weights.items c.in_ok-charges.charges.items
+      IsSound-opening tenants (links_shown c.in_ok-repos.repos.items) c.in_ok-weights.weights.items c.in_ok-charges.charges.items
           c.in_ok-tenants.ensures.kept links (w ∙ ap (λ m. replicate m 0) (sym n)) (k ∙ ap (λ m. replicate m 0) (sym n)),
-      IsShelved-opening tenants c.in_ok-shelves.shelves.items (length c.in_ok-tenants.tenants.items) (sym n) s,
-      Counts-opening tenants (links_shown c.in_ok-shelves.shelves.items) c.new-2.result (ap entries links ∙ entries-empty link_cmp ℕ) c.new-2.ensures.empty,
+      IsOwned-opening tenants c.in_ok-repos.repos.items (length c.in_ok-tenants.tenants.items) (sym n) s,
+      Counts-opening tenants (links_shown c.in_ok-repos.repos.items) c.new-2.result (ap entries links ∙ entries-empty link_cmp ℕ) c.new-2.ensures.empty,
     )
 
 pub returns-clause-opened : goal.returns-clause-opened
@@ -31,7 +31,7 @@ returns-clause-opened c =
     let n : length tenants ≡ length c.in_ok-tenants.tenants.items = length-map c.in_ok-tenants.tenants.items tenant_shown in
     let k : c.in_ok-charges.charges.items ≡ replicate (length c.in_ok-tenants.tenants.items) 0 = search rules in
     let charges = k ∙ ap (λ m. replicate m 0) (sym n) in
-    let s = rw c.as_slice-count.ensures.value at c.in_ok-shelves.ensures.ok in
+    let s = rw c.as_slice-count.ensures.value at c.in_ok-repos.ensures.ok in
     let links = ap links_shown s ∙ links-opening (length c.in_ok-tenants.tenants.items) in
     let repos = ap repos_shown s ∙ repos-opening (length c.in_ok-tenants.tenants.items) in
     record {

@@ -1,7 +1,7 @@
 use Rattle.std.proofs.Common.{ap, sym, nat_lt, ◌∙◌}
 use Rattle.std.specs.FinMap.{contains_key}
 use Rattle.link_table.specs.Linked.{Linked, blobs_of}
-use Rattle.link_table.specs.Shelves.{links_shown}
+use Rattle.link_table.specs.TenantRepos.{links_shown}
 use Rattle.link_table.specs.Tenancy.{tenants_shown}
 use Rattle.link_table.proofs.HolderCounts.{held-counted}
 use Rattle.link_table.proofs.Soundness.{contains-blob}
@@ -10,6 +10,6 @@ use Rattle.link_table.proofs.links.Links.tenant_holds.Goals as goal
 pub returns : goal.returns
 returns c =
     ap (nat_lt 0) c.holders_of.ensures
-    ∙ held-counted (tenants_shown c.self.inside.tenants.items) (links_shown c.self.inside.shelves.items) c.self.inside.holders c.self.invariant.2 c.args.tenant c.args.digest.now
-    ∙ sym (contains-blob (tenants_shown c.self.inside.tenants.items) c.args.tenant c.args.digest.now (links_shown c.self.inside.shelves.items))
+    ∙ held-counted (tenants_shown c.self.inside.tenants.items) (links_shown c.self.inside.repos.items) c.self.inside.holders c.self.invariant.2 c.args.tenant c.args.digest.now
+    ∙ sym (contains-blob (tenants_shown c.self.inside.tenants.items) c.args.tenant c.args.digest.now (links_shown c.self.inside.repos.items))
     ∙ ap (λ (l : Linked). contains_key (blobs_of l c.args.tenant) c.args.digest.now) c.self.view_is

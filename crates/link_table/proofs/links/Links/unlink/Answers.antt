@@ -1,74 +1,74 @@
 use Rattle.std.proofs.Common.{◌∙◌, ap, sym, is_some, nat_lt}
 use Rattle.std.proofs.lemmas.Bool.{false≢true}
 use Rattle.std.specs.FinMap.{remove}
-use Rattle.link_table.specs.Shelves.{Shelved, links_shown}
+use Rattle.link_table.specs.TenantRepos.{Owned, links_shown}
 use Rattle.link_table.specs.Tenancy.{tenants_shown}
 use Rattle.link_table.proofs.HolderCounts.{held-counted, some_counted, Counts-remove}
-use Rattle.link_table.proofs.Shelves.{links-there, links-remove, repos-same}
+use Rattle.link_table.proofs.TenantRepos.{links-there, links-remove, repos-same}
 use Rattle.link_table.proofs.Soundness.{contains-blob, light_enough, IsSound-unlink}
-use Rattle.link_table.proofs.Tables.{shelf_at, IsShelved-unlink}
+use Rattle.link_table.proofs.Tables.{owned_at, IsOwned-unlink}
 use Rattle.link_table.proofs.links.Links.unlink.Goals as goal
 
 pub lower-requires : goal.lower-requires
 lower-requires c =
     let tenants = tenants_shown c.self.inside.tenants.items in
-    let shelves = c.self.inside.shelves.items in
+    let by_tenant = c.self.inside.repos.items in
     let own = rw (← c.self.view_is) at c.requires.own in
     let s = c.index_mut.result.now in
-    let at = shelf_at tenants shelves c.self.invariant.1 c.args.tenant (rw (← c.self.view_is) at c.requires.there) s c.index_mut.ensures.value in
-    let there = links-there tenants shelves c.self.invariant.1 c.args.tenant s at c.args.repo.now own c.args.digest.now ∙ sym c.in-Some.ensures.value in
-    some_counted tenants (links_shown shelves) c.self.inside.holders c.self.inside.holders c.self.invariant.2 c.args.tenant c.args.repo.now c.args.digest.now c.in-Some.size own there
+    let at = owned_at tenants by_tenant c.self.invariant.1 c.args.tenant (rw (← c.self.view_is) at c.requires.there) s c.index_mut.ensures.value in
+    let there = links-there tenants by_tenant c.self.invariant.1 c.args.tenant s at c.args.repo.now own c.args.digest.now ∙ sym c.in-Some.ensures.value in
+    some_counted tenants (links_shown by_tenant) c.self.inside.holders c.self.inside.holders c.self.invariant.2 c.args.tenant c.args.repo.now c.args.digest.now c.in-Some.size own there
 
 pub weight_without-requires : goal.weight_without-requires
 weight_without-requires c =
     let tenants = tenants_shown c.self.inside.tenants.items in
-    let shelves = c.self.inside.shelves.items in
+    let by_tenant = c.self.inside.repos.items in
     let lt = rw (← c.self.view_is) at c.requires.there in
     let own = rw (← c.self.view_is) at c.requires.own in
     let s = c.index_mut.result.now in
-    let at = shelf_at tenants shelves c.self.invariant.1 c.args.tenant lt s c.index_mut.ensures.value in
-    let there = links-there tenants shelves c.self.invariant.1 c.args.tenant s at c.args.repo.now own c.args.digest.now ∙ sym c.in-Some.ensures.value in
-    let without = remove (links_shown shelves) (c.args.repo.now, c.args.digest.now) in
-    let counts = Counts-remove tenants (links_shown shelves) c.self.inside.holders c.lower.new.holders c.self.invariant.2 c.args.tenant c.args.repo.now c.args.digest.now c.in-Some.size own there c.lower.ensures in
+    let at = owned_at tenants by_tenant c.self.invariant.1 c.args.tenant lt s c.index_mut.ensures.value in
+    let there = links-there tenants by_tenant c.self.invariant.1 c.args.tenant s at c.args.repo.now own c.args.digest.now ∙ sym c.in-Some.ensures.value in
+    let without = remove (links_shown by_tenant) (c.args.repo.now, c.args.digest.now) in
+    let counts = Counts-remove tenants (links_shown by_tenant) c.self.inside.holders c.lower.new.holders c.self.invariant.2 c.args.tenant c.args.repo.now c.args.digest.now c.in-Some.size own there c.lower.ensures in
     let held = ap (nat_lt 0) c.holders_of-held.ensures ∙ held-counted tenants without c.lower.new.holders counts c.args.tenant c.args.digest.now ∙ sym (contains-blob tenants c.args.tenant c.args.digest.now without) in
-    light_enough tenants (links_shown shelves) c.self.inside.weights.items c.self.inside.charges.items c.self.invariant.0 c.args.tenant lt c.args.repo.now c.args.digest.now c.in-Some.size own there (nat_lt 0 c.holders_of-held.result) held c.index.result.now c.index.ensures
+    light_enough tenants (links_shown by_tenant) c.self.inside.weights.items c.self.inside.charges.items c.self.invariant.0 c.args.tenant lt c.args.repo.now c.args.digest.now c.in-Some.size own there (nat_lt 0 c.holders_of-held.result) held c.index.result.now c.index.ensures
 
 pub invariant_of-self : goal.invariant_of-self
 invariant_of-self c =
     let tenants = tenants_shown c.self.inside.tenants.items in
-    let shelves = c.self.inside.shelves.items in
+    let by_tenant = c.self.inside.repos.items in
     let lt = rw (← c.self.view_is) at c.requires.there in
     let own = rw (← c.self.view_is) at c.requires.own in
     let s = c.index_mut.result.now in
-    let at = shelf_at tenants shelves c.self.invariant.1 c.args.tenant lt s c.index_mut.ensures.value in
-    let there = links-there tenants shelves c.self.invariant.1 c.args.tenant s at c.args.repo.now own c.args.digest.now ∙ sym c.in-Some.ensures.value in
-    let without = remove (links_shown shelves) (c.args.repo.now, c.args.digest.now) in
-    let counts = Counts-remove tenants (links_shown shelves) c.self.inside.holders c.lower.new.holders c.self.invariant.2 c.args.tenant c.args.repo.now c.args.digest.now c.in-Some.size own there c.lower.ensures in
+    let at = owned_at tenants by_tenant c.self.invariant.1 c.args.tenant lt s c.index_mut.ensures.value in
+    let there = links-there tenants by_tenant c.self.invariant.1 c.args.tenant s at c.args.repo.now own c.args.digest.now ∙ sym c.in-Some.ensures.value in
+    let without = remove (links_shown by_tenant) (c.args.repo.now, c.args.digest.now) in
+    let counts = Counts-remove tenants (links_shown by_tenant) c.self.inside.holders c.lower.new.holders c.self.invariant.2 c.args.tenant c.args.repo.now c.args.digest.now c.in-Some.size own there c.lower.ensures in
     let held = ap (nat_lt 0) c.holders_of-held.ensures ∙ held-counted tenants without c.lower.new.holders counts c.args.tenant c.args.digest.now ∙ sym (contains-blob tenants c.args.tenant c.args.digest.now without) in
-    let links = links-remove tenants shelves c.self.invariant.1 c.args.tenant s at c.args.repo.now own c.args.digest.now c.unlink.new.self (ap (λ (x : Shelved). x.links) c.in-Some.ensures.gone) in (
-      rw links (IsSound-unlink tenants (links_shown shelves) c.self.inside.weights.items c.self.inside.charges.items c.self.invariant.0 c.args.tenant lt c.args.repo.now c.args.digest.now c.in-Some.size own there (nat_lt 0 c.holders_of-held.result) held
+    let links = links-remove tenants by_tenant c.self.invariant.1 c.args.tenant s at c.args.repo.now own c.args.digest.now c.unlink.new.self (ap (λ (x : Owned). x.links) c.in-Some.ensures.gone) in (
+      rw links (IsSound-unlink tenants (links_shown by_tenant) c.self.inside.weights.items c.self.inside.charges.items c.self.invariant.0 c.args.tenant lt c.args.repo.now c.args.digest.now c.in-Some.size own there (nat_lt 0 c.holders_of-held.result) held
           c.index.result.now c.index.ensures c.weight_without.result c.weight_without.ensures),
-      IsShelved-unlink tenants shelves c.self.invariant.1 c.self.inside.manifests c.self.inside.charges.items c.args.tenant s at c.args.repo.now own c.unlink.new.self c.args.digest.now c.in-Some.ensures.gone,
+      IsOwned-unlink tenants by_tenant c.self.invariant.1 c.self.inside.manifests c.self.inside.charges.items c.args.tenant s at c.args.repo.now own c.unlink.new.self c.args.digest.now c.in-Some.ensures.gone,
       rw links counts,
     )
 
 pub unreachable-requires : goal.unreachable-requires
 unreachable-requires c =
     let tenants = tenants_shown c.self.inside.tenants.items in
-    let shelves = c.self.inside.shelves.items in
+    let by_tenant = c.self.inside.repos.items in
     let own = rw (← c.self.view_is) at c.requires.own in
     let s = c.index_mut.result.now in
-    let at = shelf_at tenants shelves c.self.invariant.1 c.args.tenant (rw (← c.self.view_is) at c.requires.there) s c.index_mut.ensures.value in
-    let none = links-there tenants shelves c.self.invariant.1 c.args.tenant s at c.args.repo.now own c.args.digest.now ∙ sym c.in-None.ensures.value in
+    let at = owned_at tenants by_tenant c.self.invariant.1 c.args.tenant (rw (← c.self.view_is) at c.requires.there) s c.index_mut.ensures.value in
+    let none = links-there tenants by_tenant c.self.invariant.1 c.args.tenant s at c.args.repo.now own c.args.digest.now ∙ sym c.in-None.ensures.value in
     false≢true (sym (ap is_some none) ∙ (rw (← c.self.view_is) at c.requires.linked))
 
 pub returns : goal.returns
 returns c =
     let tenants = tenants_shown c.self.inside.tenants.items in
-    let shelves = c.self.inside.shelves.items in
+    let by_tenant = c.self.inside.repos.items in
     let own = rw (← c.self.view_is) at c.requires.own in
     let s = c.index_mut.result.now in
-    let at = shelf_at tenants shelves c.self.invariant.1 c.args.tenant (rw (← c.self.view_is) at c.requires.there) s c.index_mut.ensures.value in
-    let links = links-remove tenants shelves c.self.invariant.1 c.args.tenant s at c.args.repo.now own c.args.digest.now c.unlink.new.self (ap (λ (x : Shelved). x.links) c.in-Some.ensures.gone) in
-    let repos = repos-same tenants shelves c.self.invariant.1 c.args.tenant s at c.unlink.new.self (ap (λ (x : Shelved). x.repos) c.in-Some.ensures.gone) in
+    let at = owned_at tenants by_tenant c.self.invariant.1 c.args.tenant (rw (← c.self.view_is) at c.requires.there) s c.index_mut.ensures.value in
+    let links = links-remove tenants by_tenant c.self.invariant.1 c.args.tenant s at c.args.repo.now own c.args.digest.now c.unlink.new.self (ap (λ (x : Owned). x.links) c.in-Some.ensures.gone) in
+    let repos = repos-same tenants by_tenant c.self.invariant.1 c.args.tenant s at c.unlink.new.self (ap (λ (x : Owned). x.repos) c.in-Some.ensures.gone) in
     rw (← c.self.view_is) (λ i. record { tenants = tenants; repos = repos i; links = links i; manifests = c.self.inside.manifests; charges = c.self.inside.charges.items })

@@ -4,7 +4,7 @@ use Rattle.blob_digest.specs.Digests.{sha256_text}
 use Rattle.blob_digest.proofs.OptionLemmas.{some_same}
 use Rattle.oci_manifest.specs.Manifests.{refs_of}
 use Rattle.link_table.specs.Manifests.{kept, has_pair}
-use Rattle.link_table.proofs.ShelfCalls.{is_none}
+use Rattle.link_table.proofs.TenantRepoCalls.{is_none}
 use Rattle.link_table.proofs.ManifestRows.{put_there, put_full, put_new, contains-kept, len-kept, unreferred, kept-insert, kept-same, IsIndexed-insert, undone}
 use Rattle.link_table.proofs.repo_manifests.RepoManifests.put.Goals as goal
 

@@ -1,0 +1,306 @@
+-- The manifests of all repositories in their trees, as one map.
+use Rattle.std.proofs.Common.{◌≡◌, Bool, true, false, cond, List, [], ◌∷◌, length, map, filter, Option, Some, None, is_some, Result, Ok, Err, refl, sym, ap, ◌∙◌, subst}
+use Rattle.std.specs.Prelude.{T, ◌&&◌, nat_le, IsSome}
+use Rattle.std.specs.declared.cmp.Ordering.{Ordering}
+use Rattle.std.specs.Ordering.{eq_by_cmp, is_eq, is_lt, ordering_then}
+use Rattle.std.specs.Cmp.{tied_then, tied_itself, Equal-is}
+use Rattle.std.specs.Cmp.Lexicographic.{nat_list_cmp_total, texts_ties}
+use Rattle.std.specs.List.{flat_map, find as first}
+use Rattle.std.specs.Option.{option_map, option_map_or}
+use Rattle.std.specs.BTreeMap as tree
+use Rattle.std.proofs.lemmas.Map.Lookups.{exact_bytes}
+use Rattle.blob_digest.specs.Trees.{map_of}
+use Rattle.blob_digest.proofs.Trees.{get_is, insert_is}
+use Rattle.std.specs.FinMap.{FinMap, find, get, entries, empty, insert, remove, len, contains_key, from_entries, is_sorted, get-empty, get-entries, get-from_entries, get-insert, get-remove, entries_sorted, len-entries, same_map}
+use Rattle.std.specs.FinMap.Entries.{below_all, find_tied}
+use Rattle.blob_digest.specs.Rows.{IsApart}
+use Rattle.blob_digest.specs.declared.refusal.Refusal.{Refusal}
+use Rattle.blob_digest.specs.declared.refusal.Refusal.TheVariants.{LimitReached}
+use Rattle.std.proofs.lemmas.List.{length-map}
+use Rattle.std.proofs.lemmas.List.Sums.{length-filter}
+use Rattle.blob_digest.specs.Keys.{Text, Link, text_cmp, link_cmp, same_text}
+use Rattle.blob_digest.specs.Digests.{sha256_text}
+use Rattle.blob_digest.specs.Outcomes.{OutcomeIn, Does}
+use Rattle.blob_digest.proofs.KeyOrders.{link_cmp_total, exact_link, tied_text}
+use Rattle.blob_digest.proofs.OptionLemmas.{some_none}
+use Rattle.blob_digest.proofs.RowLemmas.{entries-empty}
+use Rattle.blob_digest.proofs.SortedRows.{entries-sorted, IsApart-sorted}
+use Rattle.oci_manifest.specs.Manifests.{refers}
+use Rattle.link_table.specs.Manifests.{Kept, put_in, referrer_in}
+use Rattle.link_table.specs.ManifestTable.{ManifestBytes, Groups, group_rows, flat, manifest_bytes, manifests_in, manifests_on, referrer_on, put_on}
+use Rattle.link_table.proofs.Parts.{or_else, find-++, insert_by, remove_by, remove_absent, where_key-agree, where_key-all}
+
+from_T : (b : Bool) → T b → b ≡ true
+from_T true h = refl
+from_T false h = absurd h
+
+-- an outcome without an answer, and a refusal
+abbrev done : {S : Type 0} → S → OutcomeIn S (Unit {0})
+done s = Ok (tt {0}, s)
+
+abbrev failed : {S : Type 0} → Refusal → OutcomeIn S (Unit {0})
+failed e = Err e
+
+abbrev state_of : {S : Type 0} → S → OutcomeIn S (Unit {0}) → S
+state_of s (Ok p) = p.1
+state_of s (Err e) = s
+
+abbrev refusal_of : {S : Type 0} → Refusal → OutcomeIn S (Unit {0}) → Refusal
+refusal_of f (Ok p) = f
+refusal_of f (Err e) = e
+
+done_same : {S : Type 0} {x y : S} → done x ≡ done y → x ≡ y
+done_same {x = x} e = ap (state_of x) e
+
+failed_done : {S B : Type 0} {x : S} {e : Refusal} → failed e ≡ done x → B
+failed_done e = cc
+
+failed_same : {S U : Type 0} {e f : Refusal} → failed {S = S} e ≡ failed f → failed {S = U} e ≡ failed f
+failed_same {e = e} h = ap (λ x. failed x) (ap (refusal_of e) h)
+
+-- ---- rows with a repository's name
+
+both_ties : {X : Type 0} (a b : Bool) (v x : Option X) → cond (a && b) v (cond a x None) ≡ cond a (cond b v x) None
+both_ties true b v x = refl
+both_ties false b v x = refl
+
+none_anyway : {X : Type 0} (b : Bool) → None ≡ cond {A = Option X} b None None
+none_anyway true = refl
+none_anyway false = refl
+
+link_tie : (r d s e : Text) → eq_by_cmp link_cmp (r, d) (s, e) ≡ (eq_by_cmp text_cmp r s && eq_by_cmp text_cmp d e)
+link_tie r d s e = sym (tied_then (text_cmp r s) (text_cmp d e))
+
+itself : (r : Text) → eq_by_cmp text_cmp r r ≡ true
+itself r = ap is_eq (tied_itself nat_list_cmp_total r)
+
+-- the rows es of the repository n
+abbrev paired : Text → List (Text × Text) → List (Link × Text)
+paired n es = map (λ f. ((n, f.0), f.1)) es
+
+find-paired : (n r d : Text) (es : List (Text × Text)) → find link_cmp (r, d) (paired n es) ≡ cond (eq_by_cmp text_cmp r n) (find text_cmp d es) None
+find-paired n r d [] = none_anyway (eq_by_cmp text_cmp r n)
+find-paired n r d (e ∷ es) =
+    (λ i. cond (link_tie r d n e.0 i) (Some e.1) (find-paired n r d es i))
+    ∙ both_ties (eq_by_cmp text_cmp r n) (eq_by_cmp text_cmp d e.0) (Some e.1) (find text_cmp d es)
+
+below-paired : (n x : Text) (es : List (Text × Text)) → below_all link_cmp (n, x) (paired n es) ≡ below_all text_cmp x es
+below-paired n x [] = refl
+below-paired n x (e ∷ es) = λ j. is_lt (ordering_then (tied_itself nat_list_cmp_total n j) (text_cmp x e.0)) && below-paired n x es j
+
+sorted-paired : (n : Text) (es : List (Text × Text)) → is_sorted link_cmp (paired n es) ≡ is_sorted text_cmp es
+sorted-paired n [] = refl
+sorted-paired n (e ∷ es) = λ j. below-paired n e.0 es j && sorted-paired n es j
+
+read-paired : (n : Text) (es : List (Text × Text)) → map {B = Text × Text} (λ (e : Link × Text). (e.0.1, e.1)) (paired n es) ≡ es
+read-paired n [] = refl
+read-paired n (e ∷ es) = ap (λ xs. e ∷ xs) (read-paired n es)
+
+-- ---- one repository's manifests
+
+abbrev given : Option Kept → Kept
+given found = option_map_or (λ m. m) found empty
+
+-- those of a repository; none where it has had none
+abbrev pub group : Groups → Text → Kept
+group g r = given (get g r)
+
+find_given : (b : Bool) (m : Kept) (x : Option Kept) (d : Text) → (b ≡ true → x ≡ None) →
+    or_else (cond b (find text_cmp d (entries m)) None) (find text_cmp d (entries (given x))) ≡ find text_cmp d (entries (given (cond b (Some m) x)))
+find_given true m x d none = rw (none refl) (by_found (find text_cmp d (entries m)) (ap (find text_cmp d) (entries-empty text_cmp Text)))
+  where
+    by_found : (found : Option Text) → find text_cmp d (entries (empty {X = Text} {R = text_cmp})) ≡ None → or_else found (find text_cmp d (entries (empty {X = Text} {R = text_cmp}))) ≡ found
+    by_found None nothing = nothing
+    by_found (Some v) nothing = refl
+find_given false m x d none = refl
+
+find-flat : (es : List (Text × Kept)) → IsApart text_cmp es → (r d : Text) → find link_cmp (r, d) (flat_map group_rows es) ≡ find text_cmp d (entries (given (find text_cmp r es)))
+find-flat [] all r d = sym (ap (find text_cmp d) (entries-empty text_cmp Text))
+find-flat (e ∷ es) all r d =
+    find-++ link_cmp (r, d) (group_rows e) (flat_map group_rows es)
+    ∙ (λ i. or_else (find-paired e.0 r d (entries e.1) i) (find-flat es all.1 r d i))
+    ∙ find_given (eq_by_cmp text_cmp r e.0) e.1 (find text_cmp r es) d (λ tie. sym (find_tied text_cmp nat_list_cmp_total r e.0 ((Equal-is (text_cmp r e.0)).0 tie) es) ∙ all.0)
+
+rising : {K X : Type 0} {R : K → K → Ordering} (m : FinMap R X) → is_sorted R (entries m) ≡ true
+rising {R = R} m = from_T (is_sorted R (entries m)) (entries_sorted m)
+
+-- a look-up is one in the repository's manifests
+pub get-flat : (g : Groups) (r d : Text) → get (flat g) (r, d) ≡ get (group g r) d
+get-flat g r d =
+    get-from_entries link_cmp_total (flat_map group_rows (entries g)) (r, d)
+    ∙ find-flat (entries g) (IsApart-sorted text_cmp (entries g) (rising g)) r d
+    ∙ ap (λ x. find text_cmp d (entries (given x))) (sym (get-entries g r))
+    ∙ sym (get-entries (group g r) d)
+
+-- ---- a repository's manifests, in order
+
+pub on-flat : (g : Groups) (r : Text) → manifests_on (flat g) r ≡ entries (group g r)
+on-flat g r =
+    let m = group g r in
+    let own : FinMap link_cmp Text = from_entries (paired r (entries m)) in
+    let listed : entries own ≡ paired r (entries m) = entries-sorted link_cmp link_cmp_total exact_link (paired r (entries m)) (sorted-paired r (entries m) ∙ rising m) in
+    ap (map (λ (e : Link × Text). (e.0.1, e.1)))
+    (where_key-agree link_cmp_total exact_link (λ k. same_text k.0 r) (flat g) own (λ k h. agree k (sym (texts_ties k.0 r) ∙ h))
+    ∙ where_key-all link_cmp_total exact_link (λ k. same_text k.0 r) own (λ k v h. passes k v (eq_by_cmp text_cmp k.0 r) refl (sym (find-paired r k.0 k.1 (entries m)) ∙ sym (get-from_entries link_cmp_total (paired r (entries m)) k) ∙ h))
+    ∙ listed)
+    ∙ read-paired r (entries m)
+  where
+    agree : (k : Link) → eq_by_cmp text_cmp k.0 r ≡ true → get (flat g) k ≡ get (from_entries {R = link_cmp} (paired r (entries (group g r)))) k
+    agree k tie =
+        get-flat g k.0 k.1 ∙ ap (λ q. get (group g q) k.1) (tied_text k.0 r tie) ∙ get-entries (group g r) k.1
+        ∙ sym (get-from_entries link_cmp_total (paired r (entries (group g r))) k ∙ find-paired r k.0 k.1 (entries (group g r)) ∙ ap (λ b. cond b (find text_cmp k.1 (entries (group g r))) None) tie)
+
+    passes : (k : Link) (v : Text) (b : Bool) → eq_by_cmp text_cmp k.0 r ≡ b → cond b (find text_cmp k.1 (entries (group g r))) None ≡ Some v → same_text k.0 r ≡ true
+    passes k v true tie h = texts_ties k.0 r ∙ tie
+    passes k v false tie h = some_none (sym h)
+
+pub count-flat : (g : Groups) (r : Text) → manifests_in (flat g) r ≡ len (group g r)
+count-flat g r =
+    sym (length-filter (λ (e : Link × Text). same_text e.0.0 r) (entries (flat g)))
+    ∙ sym (length-map (filter (λ (e : Link × Text). same_text e.0.0 r) (entries (flat g))) (λ e. (e.0.1, e.1)))
+    ∙ ap length (on-flat g r) ∙ sym (len-entries (group g r))
+
+first-both : (p : Link × Text → Bool) (q : Text → Bool) (es : List (Link × Text)) →
+    option_map (λ (e : Link × Text). e.0.1) (first (λ e. p e && q e.1) es) ≡ option_map (λ (e : Text × Text). e.0) (first (λ e. q e.1) (map {B = Text × Text} (λ (e : Link × Text). (e.0.1, e.1)) (filter p es)))
+first-both p q [] = refl
+first-both p q (e ∷ es) = by_key (first-both p q es) (p e)
+  where
+    by_value : option_map (λ (e : Link × Text). e.0.1) (first (λ e. p e && q e.1) es) ≡ option_map (λ (e : Text × Text). e.0) (first (λ e. q e.1) (map {B = Text × Text} (λ (e : Link × Text). (e.0.1, e.1)) (filter p es))) → (b : Bool) → option_map (λ (e : Link × Text). e.0.1) (cond b (Some e) (first (λ e. p e && q e.1) es))
+        ≡ option_map (λ (e : Text × Text). e.0) (cond b (Some (e.0.1, e.1)) (first (λ e. q e.1) (map {B = Text × Text} (λ (e : Link × Text). (e.0.1, e.1)) (filter p es))))
+    by_value rest true = refl
+    by_value rest false = rest
+
+    by_key : option_map (λ (e : Link × Text). e.0.1) (first (λ e. p e && q e.1) es) ≡ option_map (λ (e : Text × Text). e.0) (first (λ e. q e.1) (map {B = Text × Text} (λ (e : Link × Text). (e.0.1, e.1)) (filter p es))) → (a : Bool) → option_map (λ (e : Link × Text). e.0.1) (cond (a && q e.1) (Some e) (first (λ e. p e && q e.1) es))
+        ≡ option_map (λ (e : Text × Text). e.0) (first (λ e. q e.1) (map {B = Text × Text} (λ (e : Link × Text). (e.0.1, e.1)) (cond a (e ∷ filter p es) (filter p es))))
+    by_key rest true = by_value rest (q e.1)
+    by_key rest false = rest
+
+pub referrer-flat : (g : Groups) (r d : Text) → referrer_on (flat g) r d ≡ referrer_in (group g r) d
+referrer-flat g r d =
+    first-both (λ e. same_text e.0.0 r) (λ bytes. refers bytes d) (entries (flat g))
+    ∙ ap (λ es. option_map (λ (e : Text × Text). e.0) (first (λ e. refers e.1 d) es)) (on-flat g r)
+
+-- ---- one repository's manifests change
+
+module _ (g : Groups) (r : Text) where
+  regroup : (w : Kept) (q : Text) → group (insert g r w) q ≡ given (cond (eq_by_cmp text_cmp q r) (Some w) (get g q))
+  regroup w q = ap given (get-insert nat_list_cmp_total g r w q)
+
+  get-changed : (w : Kept) (d : Text) (x : Option Text) → ((e : Text) → get w e ≡ cond (eq_by_cmp text_cmp e d) x (get (group g r) e)) →
+      (q : Link) → get (flat (insert g r w)) q ≡ cond (eq_by_cmp link_cmp q (r, d)) x (get (flat g) q)
+  get-changed w d x is q =
+      get-flat (insert g r w) q.0 q.1 ∙ ap (λ m. get m q.1) (regroup w q.0)
+      ∙ by_tie (eq_by_cmp text_cmp q.0 r) refl
+      ∙ (λ i. cond (sym (link_tie q.0 q.1 r d) i) x (sym (get-flat g q.0 q.1) i))
+    where
+      by_tie : (b : Bool) → eq_by_cmp text_cmp q.0 r ≡ b → get (given (cond b (Some w) (get g q.0))) q.1 ≡ cond (b && eq_by_cmp text_cmp q.1 d) x (get (group g q.0) q.1)
+      by_tie true tie = is q.1 ∙ ap (λ s. cond (eq_by_cmp text_cmp q.1 d) x (get (group g s) q.1)) (sym (tied_text q.0 r tie))
+      by_tie false tie = refl
+
+  pub flat-insert : (d v : Text) → flat (insert g r (insert (group g r) d v)) ≡ insert (flat g) (r, d) v
+  flat-insert d v = insert_by link_cmp_total exact_link (flat g) (flat (insert g r (insert (group g r) d v))) (r, d) v (get-changed (insert (group g r) d v) d (Some v) (get-insert nat_list_cmp_total (group g r) d v))
+
+  pub flat-remove : (d : Text) → flat (insert g r (remove (group g r) d)) ≡ remove (flat g) (r, d)
+  flat-remove d = remove_by link_cmp_total exact_link (flat g) (flat (insert g r (remove (group g r) d))) (r, d) (get-changed (remove (group g r) d) d None (get-remove nat_list_cmp_total (group g r) d))
+
+  pub flat-same : flat (insert g r (group g r)) ≡ flat g
+  flat-same = same_map link_cmp_total exact_link (flat (insert g r (group g r))) (flat g) (λ q.
+      get-flat (insert g r (group g r)) q.0 q.1 ∙ ap (λ m. get m q.1) (regroup (group g r) q.0) ∙ by_tie q (eq_by_cmp text_cmp q.0 r) refl ∙ sym (get-flat g q.0 q.1))
+    where
+      by_tie : (q : Link) (b : Bool) → eq_by_cmp text_cmp q.0 r ≡ b → get (given (cond b (Some (group g r)) (get g q.0))) q.1 ≡ get (group g q.0) q.1
+      by_tie q true tie = ap (λ s. get (group g s) q.1) (sym (tied_text q.0 r tie))
+      by_tie q false tie = refl
+
+  -- what is removed where nothing is
+  pub flat-without : (d : Text) → get g r ≡ None → flat g ≡ remove (flat g) (r, d)
+  flat-without d none = sym (remove_absent link_cmp_total exact_link (flat g) (r, d) (get-flat g r d ∙ ap (λ x. get (given x) d) none ∙ get-empty text_cmp d))
+
+  -- ---- to put a manifest
+
+  put_as : (bytes : Text) → put_on (flat g) r bytes ≡
+      cond (contains_key (group g r) (sha256_text bytes)) (done (flat g)) (cond (nat_le 1024 (len (group g r))) (failed LimitReached) (done (insert (flat g) (r, sha256_text bytes) bytes)))
+  put_as bytes = λ i. cond (is_some (get-flat g r (sha256_text bytes) i)) (done (flat g)) (cond (nat_le 1024 (count-flat g r i)) (failed LimitReached) (done (insert (flat g) (r, sha256_text bytes) bytes)))
+
+  accepted : (bytes : Text) (w : Kept) → put_in (group g r) bytes ≡ done w → put_on (flat g) r bytes ≡ done (flat (insert g r w))
+  accepted bytes w h = put_as bytes ∙ by_tests (contains_key (group g r) (sha256_text bytes)) (nat_le 1024 (len (group g r))) h
+    where
+      by_tests : (a b : Bool) → cond a (done (group g r)) (cond b (failed LimitReached) (done (insert (group g r) (sha256_text bytes) bytes))) ≡ done w →
+          cond a (done (flat g)) (cond b (failed LimitReached) (done (insert (flat g) (r, sha256_text bytes) bytes))) ≡ done (flat (insert g r w))
+      by_tests true b is = ap (λ m. done m) (sym flat-same ∙ ap (λ m. flat (insert g r m)) (done_same is))
+      by_tests false true is = failed_done is
+      by_tests false false is = ap (λ m. done m) (sym (flat-insert (sha256_text bytes) bytes) ∙ ap (λ m. flat (insert g r m)) (done_same is))
+
+  refused : (bytes : Text) (e : Refusal) → put_in (group g r) bytes ≡ Err e → put_on (flat g) r bytes ≡ Err e
+  refused bytes e h = put_as bytes ∙ by_tests (contains_key (group g r) (sha256_text bytes)) (nat_le 1024 (len (group g r))) h
+    where
+      by_tests : (a b : Bool) → cond a (done (group g r)) (cond b (failed LimitReached) (done (insert (group g r) (sha256_text bytes) bytes))) ≡ failed {S = Kept} e →
+          cond a (done (flat g)) (cond b (failed LimitReached) (done (insert (flat g) (r, sha256_text bytes) bytes))) ≡ failed {S = ManifestBytes} e
+      by_tests true b is = failed_done (sym is)
+      by_tests false true is = failed_same is
+      by_tests false false is = failed_done (sym is)
+
+  -- a manifest is put in its repository's
+  pub put-flat : (result : Result (Unit {0}) Refusal) (w : Kept) (bytes : Text) → Does (λ u. u) result (group g r) w (put_in (group g r) bytes) → Does (λ u. u) result (flat g) (flat (insert g r w)) (put_on (flat g) r bytes)
+  put-flat (Ok u) w bytes h = accepted bytes w h
+  put-flat (Err e) w bytes h = (λ other. refused bytes e (h.0 other), ap (λ m. flat (insert g r m)) h.1 ∙ flat-same)
+
+-- ---- the tree of the repositories
+
+module _ (rows : tree.BTreeMap Text Kept) (r : Text) where
+  pub group_of : (m : Kept) → Some m ≡ tree.get text_cmp rows r → group (map_of rows) r ≡ m
+  group_of m is = ap given (sym (is ∙ get_is rows r))
+
+  pub no_group : None ≡ tree.get text_cmp rows r → get (map_of rows) r ≡ None
+  no_group is = sym (is ∙ get_is rows r)
+
+  pub bare : ((d : Text) → get (manifest_bytes rows) (r, d) ≡ None) → group (map_of rows) r ≡ empty
+  bare none = same_map nat_list_cmp_total exact_bytes (group (map_of rows) r) empty (λ d. sym (get-flat (map_of rows) r d) ∙ none d ∙ sym (get-empty text_cmp d))
+
+  is_there : {X : Type 0} {x : X} (o : Option X) → Some x ≡ o → IsSome o
+  is_there o is = rw (← is) refl
+
+  -- what was written through a look-up
+  pub written : (n : tree.BTreeMap Text Kept) (m w : Kept) → Some m ≡ tree.get text_cmp rows r → (IsSome (tree.get text_cmp rows r) → tree.UpdatesBy text_cmp (text_cmp r) rows n (Some w)) → map_of n ≡ insert (map_of rows) r w
+  written n m w is h = insert_is rows n r w (h (is_there (tree.get text_cmp rows r) is)).0
+
+  pub put_there : (n : tree.BTreeMap Text Kept) (m w : Kept) (bytes : Text) (result : Result (Unit {0}) Refusal) → group (map_of rows) r ≡ m → map_of n ≡ insert (map_of rows) r w →
+      Does (λ u. u) result m w (put_in m bytes) → Does (λ u. u) result (manifest_bytes rows) (manifest_bytes n) (put_on (manifest_bytes rows) r bytes)
+  put_there n m w bytes result found new h =
+      subst (λ (x : Groups). Does (λ u. u) result (manifest_bytes rows) (flat x) (put_on (manifest_bytes rows) r bytes)) (sym new)
+      (put-flat (map_of rows) r result w bytes (subst (λ (x : Kept). Does (λ u. u) result x w (put_in x bytes)) (sym found) h))
+
+  pub put_refused : (m w : Kept) (bytes : Text) (e : Refusal) → group (map_of rows) r ≡ m → Does {A = Unit {0}} (λ u. u) (Err e) m w (put_in m bytes) → Does {A = Unit {0}} (λ u. u) (Err e) (manifest_bytes rows) (manifest_bytes rows) (put_on (manifest_bytes rows) r bytes)
+  put_refused m w bytes e found h = (λ other. refused (map_of rows) r bytes e (ap (λ x. put_in x bytes) found ∙ h.0 other), refl)
+
+  pub removed : (n : tree.BTreeMap Text Kept) (m w : Kept) (d : Text) → group (map_of rows) r ≡ m → map_of n ≡ insert (map_of rows) r w → w ≡ remove m d → manifest_bytes n ≡ remove (manifest_bytes rows) (r, d)
+  removed n m w d found new is = ap flat (new ∙ ap (insert (map_of rows) r) (is ∙ ap (λ x. remove x d) (sym found))) ∙ flat-remove (map_of rows) r d
+
+  pub get_there : (m : Kept) (d : Text) → group (map_of rows) r ≡ m → get m d ≡ get (manifest_bytes rows) (r, d)
+  get_there m d found = ap (λ x. get x d) (sym found) ∙ sym (get-flat (map_of rows) r d)
+
+  pub get_none : (d : Text) → None ≡ tree.get text_cmp rows r → None ≡ get (manifest_bytes rows) (r, d)
+  get_none d is = sym (get-flat (map_of rows) r d ∙ ap (λ x. get (given x) d) (no_group is) ∙ get-empty text_cmp d)
+
+  pub referrer_there : (m : Kept) (d : Text) → group (map_of rows) r ≡ m → referrer_in m d ≡ referrer_on (manifest_bytes rows) r d
+  referrer_there m d found = ap (λ x. referrer_in x d) (sym found) ∙ sym (referrer-flat (map_of rows) r d)
+
+  pub referrer_none : (d : Text) → None ≡ tree.get text_cmp rows r → None ≡ referrer_on (manifest_bytes rows) r d
+  referrer_none d is = sym (referrer-flat (map_of rows) r d ∙ ap (λ x. referrer_in (given x) d) (no_group is) ∙ ap (λ es. option_map (λ (e : Text × Text). e.0) (first (λ e. refers e.1 d) es)) (entries-empty text_cmp Text))
+
+  pub manifests_there : (m : Kept) → group (map_of rows) r ≡ m → entries m ≡ manifests_on (manifest_bytes rows) r
+  manifests_there m found = ap entries (sym found) ∙ sym (on-flat (map_of rows) r)
+
+  pub manifests_none : None ≡ tree.get text_cmp rows r → [] ≡ manifests_on (manifest_bytes rows) r
+  manifests_none is = sym (on-flat (map_of rows) r ∙ ap (λ x. entries (given x)) (no_group is) ∙ entries-empty text_cmp Text)
+
+-- where nothing was found, nothing is known of the repository
+pub none_same : (rows n : tree.BTreeMap Text Kept) (r d : Text) → None ≡ tree.get text_cmp rows r → n ≡ rows → get (manifest_bytes n) (r, d) ≡ None
+none_same rows n r d none is = ap (λ x. get (manifest_bytes x) (r, d)) is ∙ sym (get_none rows r d none)
+
+pub removed_none : (rows n : tree.BTreeMap Text Kept) (r d : Text) → None ≡ tree.get text_cmp rows r → n ≡ rows → manifest_bytes n ≡ remove (manifest_bytes rows) (r, d)
+removed_none rows n r d none is = ap manifest_bytes is ∙ flat-without (map_of rows) r d (no_group rows r none)
+
+-- the rows of a new one
+pub manifest_bytes-new : (rows : tree.BTreeMap Text Kept) → rows.entries ≡ [] → manifest_bytes rows ≡ empty
+manifest_bytes-new rows none = same_map link_cmp_total exact_link (manifest_bytes rows) empty (λ q.
+    get-flat (map_of rows) q.0 q.1 ∙ ap (λ x. get (given x) q.1) (get-from_entries nat_list_cmp_total rows.entries q.0 ∙ ap (find text_cmp q.0) none) ∙ get-empty text_cmp q.1 ∙ sym (get-empty link_cmp q))

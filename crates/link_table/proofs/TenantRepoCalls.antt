@@ -1,0 +1,36 @@
+-- What the calls on a tenant's repositories give.
+use Rattle.std.proofs.Common.{◌≡◌, ◌<◌, ◌≤◌, true, false, not, Option, Some, None, is_some, Result, Ok, Err, refl, ap}
+use Rattle.std.specs.Prelude.{OnOk, OnErr, nat_le}
+use Rattle.std.specs.Cmp.Lexicographic.{nat_list_cmp_total}
+use Rattle.std.proofs.lemmas.Bool.{le-leb, lt-leb, and_from, and_left, and_right}
+use Rattle.std.proofs.lemmas.Map.Lookups.{exact_bytes}
+use Rattle.blob_digest.specs.Sets as set
+use Rattle.blob_digest.specs.Keys.{Text}
+use Rattle.blob_digest.specs.declared.refusal.Refusal.TheVariants.{LimitReached}
+use Rattle.blob_digest.proofs.SetLemmas.{insert_there}
+use Rattle.link_table.specs.TenantRepos.{Owned, appear_on, count}
+
+pub appear_there : (s : Owned) (q : Text) → set.contains s.repos q ≡ true → appear_on s q ≡ Ok (false, s)
+appear_there s q there =
+    let h = and_left (not (set.contains s.repos q)) (nat_le 1024 (count s)) (ap not there) in
+    let same = insert_there nat_list_cmp_total exact_bytes s.repos q there in
+    rw (h, there) (λ i. Ok (false, record { repos = same i; links = s.links }))
+
+pub appear_full : (s : Owned) (q : Text) → set.contains s.repos q ≡ false → 1024 ≤ count s → appear_on s q ≡ Err LimitReached
+appear_full s q none many = rw (and_from (not (set.contains s.repos q)) (nat_le 1024 (count s)) (ap not none) (le-leb 1024 (count s) many)) refl
+
+pub appear_new : (s : Owned) (q : Text) → set.contains s.repos q ≡ false → count s < 1024 → appear_on s q ≡ Ok (true, record s { repos = set.insert s.repos q })
+appear_new s q none few = rw (and_right (not (set.contains s.repos q)) (nat_le 1024 (count s)) (lt-leb 1024 (count s) few), none) refl
+
+-- what isn't there
+pub is_none : {A : Type 0} (o : Option A) → is_some o ≡ false → o ≡ None
+is_none None h = refl
+is_none (Some x) h = cc
+
+pub on_ok : {A E P Q : Type 0} (r : Result A E) → (P → Q) → OnOk r P → OnOk r Q
+on_ok (Ok x) gives h = gives h
+on_ok (Err e) gives h = h
+
+pub on_err : {A E P Q : Type 0} (r : Result A E) → (P → Q) → OnErr r P → OnErr r Q
+on_err (Ok x) gives h = h
+on_err (Err e) gives h = gives h

@@ -1,0 +1,41 @@
+use Rattle.std.proofs.Common.{sym, ◌∙◌, Some, set}
+use Rattle.std.proofs.lemmas.Bool.{false≢true}
+use Rattle.std.specs.FinMap.{from_entries}
+use Rattle.blob_digest.specs.Keys.{text_cmp, link_cmp}
+use Rattle.blob_digest.proofs.KeyOrders.{link_cmp_total, exact_link}
+use Rattle.link_table.specs.Rows.{owned_shown, links_in}
+use Rattle.link_table.proofs.Parts.{insert_by, flat_map-same}
+use Rattle.link_table.proofs.TenantRepoCalls.{on_ok, on_err}
+use Rattle.link_table.proofs.TenantRepoRows.{AreRepos-set, absent, names-set, row_found, links-changed, same_links}
+use Rattle.link_table.proofs.tenant_repos.TenantRepos.link.Goals as goal
+
+pub unreachable-requires : goal.unreachable-requires
+unreachable-requires c =
+    let none = absent c.self.inside.repos.items c.self.invariant.order c.args.repo.now c.in-Err.field-0 (rw c.as_slice.ensures.value at c.in-Err.ensures.place) in
+    false≢true (sym none ∙ (rw (← c.self.view_is) at c.requires))
+
+pub invariant_of-self : goal.invariant_of-self
+invariant_of-self c =
+    let found = row_found c.self.inside.repos.items c.args.repo.now c.in-Ok.place c.index_mut.result.now (rw c.as_slice.ensures.value at c.in-Ok.ensures.within) (rw c.as_slice.ensures.value at c.in-Ok.ensures.place) c.index_mut.ensures.value in
+    AreRepos-set c.self.inside.repos.items c.in-Ok.place c.index_mut.result.now c.hold.new.repo found.0 c.hold.ensures.name c.self.invariant
+
+pub returns-clause-ok : goal.returns-clause-ok
+returns-clause-ok c =
+    let rows = c.self.inside.repos.items in
+    let row = c.index_mut.result.now in
+    let found = row_found rows c.args.repo.now c.in-Ok.place row (rw c.as_slice.ensures.value at c.in-Ok.ensures.within) (rw c.as_slice.ensures.value at c.in-Ok.ensures.place) c.index_mut.ensures.value in
+    let names = names-set rows c.in-Ok.place row c.hold.new.repo found.0 c.hold.ensures.name in
+    on_ok c.hold.result (λ is.
+    let links = insert_by link_cmp_total exact_link (owned_shown rows).links (owned_shown (set rows c.in-Ok.place c.hold.new.repo)).links (c.args.repo.now, c.args.digest.now) c.args.size
+    (links-changed rows c.self.invariant.order c.in-Ok.place row found.0 c.args.repo.now found.1 c.hold.new.repo c.args.digest.now (Some c.args.size) c.hold.ensures.name is) in
+    rw (← c.self.view_is) (λ j. record { repos = from_entries {R = text_cmp} (names j); links = links j })) c.hold.ensures.ok
+
+pub returns-clause-err : goal.returns-clause-err
+returns-clause-err c =
+    let rows = c.self.inside.repos.items in
+    let row = c.index_mut.result.now in
+    let found = row_found rows c.args.repo.now c.in-Ok.place row (rw c.as_slice.ensures.value at c.in-Ok.ensures.within) (rw c.as_slice.ensures.value at c.in-Ok.ensures.place) c.index_mut.ensures.value in
+    let names = names-set rows c.in-Ok.place row c.hold.new.repo found.0 c.hold.ensures.name in
+    on_err c.hold.result (λ is.
+    let links = flat_map-same link_cmp links_in rows c.in-Ok.place row c.hold.new.repo found.0 (same_links row c.hold.new.repo c.hold.ensures.name is) in
+    rw (← c.self.view_is) (λ j. record { repos = from_entries {R = text_cmp} (names j); links = from_entries {R = link_cmp} (links j) })) c.hold.ensures.err
