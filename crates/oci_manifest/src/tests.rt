@@ -148,8 +148,47 @@ fn what_is_no_manifest(rt: HostRuntime) {
     ] {
         is_refused(&rt, text);
     }
-    let bad_utf8 = b"{\"schemaVersion\":2,\"manifests\":[],\"x\":\"\xFF\"}";
-    refuses(&rt, bad_utf8.as_slice(), Refusal::ManifestInvalid);
+}
+
+/// Bytes that are no UTF-8 (RFC 3629, section 3): what begins no character, one that is not the shortest, a
+/// surrogate, one past the last, and what is cut off. They stand in a text, in a name, and by themselves.
+#[test]
+fn bytes_that_are_no_utf8(rt: HostRuntime) -> Result<(), Fail> {
+    let alloc = rt.alloc();
+    for bytes in [
+        b"\xFF".as_slice(),
+        b"\x80".as_slice(),
+        b"\xC0\x80".as_slice(),
+        b"\xED\xA0\x80".as_slice(),
+        b"\xF4\x90\x80\x80".as_slice(),
+        b"\xE2\x82".as_slice(),
+    ] {
+        for (before, after) in [
+            (r#"{"schemaVersion":2,"manifests":[],"x":""#, r#""}"#),
+            (r#"{"schemaVersion":2,"manifests":[],""#, r#"":1}"#),
+            (r#"{"schemaVersion":2,"manifests":[]}"#, ""),
+        ] {
+            let mut text = before.as_bytes().to_vec(alloc)?;
+            text.extend_from_slice(bytes)?;
+            text.extend_from_slice(after.as_bytes())?;
+            refuses(&rt, text.as_slice(), Refusal::ManifestInvalid);
+        }
+    }
+    Ok(())
+}
+
+#[test]
+fn a_manifest_that_is_cut_off_is_refused(rt: HostRuntime) -> Result<(), Fail> {
+    let text = format!(in rt.alloc();
+        "{{\"schemaVersion\":2,\"config\":{{\"digest\":\"{OBJ}\"}},\"layers\":[{{\"digest\":\"{ABC}\"}},{{\"digest\":\"{ABC}\"}}]}}"
+    )?;
+    refers(&rt, &text, &[OBJ, ABC]);
+    let bytes = text.as_bytes();
+    assert_eq!(rt; bytes.len(), 294);
+    for len in 0..bytes.len() {
+        refuses(&rt, &bytes[..len], Refusal::ManifestInvalid);
+    }
+    Ok(())
 }
 
 #[test]
