@@ -9,12 +9,12 @@ use Rattle.blob_digest.specs.declared.refusal.Refusal.TheVariants.{Memory}
 use Rattle.store_book.specs.Catalog.{Catalog}
 use Rattle.store_book.specs.BookState.{BookState, SlotSeen}
 use Rattle.store_book.specs.SlotSteps.{EachSlot, HasLast}
-use Rattle.blobctl.specs.Answers.{Answer, Session, Received, Stored, Abandoned, Mounted, Deleted, Manifest, Body, Leased, Bytes, Shared, Verified, GivenBack, Cleaned, NoLease, NameTaken, Refused}
-use Rattle.blobctl.specs.Commands.{Command, Start, Status, Append, Close, Abandon, Mount, Delete, PutManifest, GetManifest, DeleteManifest, Lease, Request, Calls, Verifies, Sweeps}
-use Rattle.blobctl.specs.Leases.{Lent, Leases, none}
+use Rattle.row_player.specs.Answers.{Answer, Session, Received, Stored, Abandoned, Mounted, Deleted, Manifest, Body, Leased, Bytes, Shared, Verified, GivenBack, Cleaned, NoLease, NameTaken, Refused}
+use Rattle.row_player.specs.Commands.{Command, Start, Status, Append, Close, Abandon, Mount, Delete, PutManifest, GetManifest, DeleteManifest, Lease, Request, Calls, Verifies, Sweeps}
+use Rattle.row_player.specs.Leases.{Lent, Leases, none}
 use Rattle.blobctl.specs.Played.{Acts, ActsCall, IsCrowdedOut, answered, outcome, Happens, HappensCall, RisesByOne}
-use Rattle.blobctl.specs.Plays.{Plays, RowStep, StoreStep, State, LendsWhereFree, VerifiesLease, named}
-use Rattle.blobctl.specs.Rows.{Line}
+use Rattle.row_player.specs.Plays.{Plays, RowStep, StoreStep, State, LendsWhereFree, VerifiesLease, named}
+use Rattle.row_player.specs.Rows.{Line}
 
 -- a slot's generation is n at most, and its bound that of n readers
 abbrev pub IsLow : ℕ → SlotSeen → Type 0

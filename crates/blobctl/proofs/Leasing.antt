@@ -14,8 +14,8 @@ use Rattle.store_book.specs.Catalog.{Catalog, Resident, holds, tenant_of}
 use Rattle.store_book.specs.Steps.{Outcome, lease, with_lent}
 use Rattle.store_book.specs.BookState.{SlotSeen}
 use Rattle.store_book.specs.SlotSteps as slots
-use Rattle.blobctl.specs.Answers.{Answer, Bytes, Refused}
-use Rattle.blobctl.specs.Commands.{Lease}
+use Rattle.row_player.specs.Answers.{Answer, Bytes, Refused}
+use Rattle.row_player.specs.Commands.{Lease}
 use Rattle.blobctl.specs.Played.{ActsCall, RisesByOne, told}
 
 -- ---- slots

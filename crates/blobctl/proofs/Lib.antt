@@ -1,12 +1,9 @@
 pub mod BookPlays
 pub mod CommandLines
-pub mod Digits
 pub mod Inputs
-pub mod LeaseTables
 pub mod Leasing
 pub mod OneOpening
 pub mod OneRun
-pub mod PlayedRows
 pub mod Records
 pub mod Replies
 pub mod SameCommands

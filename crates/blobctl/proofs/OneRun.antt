@@ -19,21 +19,22 @@ use Rattle.store_book.specs.Catalog.{Catalog, Resident, opening, text_cmp}
 use Rattle.store_book.specs.Steps.{Outcome, tenant, start, append, close, abandon, mount, delete, put_manifest, delete_manifest, stored, was_lent, has_source, link_held, start_instead, has_manifest, add_manifest, check, session, not_busy, unreferenced, referrer, all_linked, manifest, linked, names, has_slot, within_quota, whole_in, lacks_room_for, cannot_open, is_full_of_manifests}
 use Rattle.store_book.specs.Sweeps.{IsLeft, IsSweep, is_orphan}
 use Rattle.store_book.specs.declared.sweep.Swept.{Swept}
-use Rattle.blobctl.specs.Answers.{Answer, Cleaned, Refused}
-use Rattle.blobctl.specs.Commands.{Command, Start, Status, Append, Close, Abandon, Mount, Delete, PutManifest, GetManifest, DeleteManifest, Lease, Sweeps, is_lease, uses_repo}
+use Rattle.row_player.specs.Answers.{Answer, Cleaned, Refused}
+use Rattle.row_player.specs.Commands.{Command, Start, Status, Append, Close, Abandon, Mount, Delete, PutManifest, GetManifest, DeleteManifest, Lease, Sweeps, is_lease, uses_repo}
 use Rattle.blobctl.specs.Played.{Happens, answered, outcome, read, told}
-use Rattle.blobctl.specs.Plays.{Plays, RowStep, State, StoreRow, StoreStep, VerifiesLease, give_back_of, name_of, named, piece_of, read_of, second_of, shared_in}
+use Rattle.row_player.specs.Plays.{Plays, RowStep, State, StoreRow, StoreStep, VerifiesLease, give_back_of, name_of, named, piece_of, read_of, second_of, shared_in}
 use Rattle.csv.specs.Machine.{next_record}
 use Rattle.csv.specs.Reading.{AreRecords, Reached}
 use Rattle.csv.specs.declared.parser.Config.{Config}
 use Rattle.csv.specs.declared.parser.State.{State as CsvState}
 use Rattle.blob_digest.specs.Tenants.{Tenant}
-use Rattle.blobctl.specs.Leases.{Lent}
+use Rattle.row_player.specs.Leases.{Lent}
 use Rattle.blobctl.specs.OneText.{LeaseNothing}
 use Rattle.blobctl.specs.Script.{AreRowsOf}
-use Rattle.blobctl.specs.Rows.{Line, Record, row_of as row_of_record}
-use Rattle.blobctl.specs.declared.row.Verb.{Verb}
-use Rattle.blobctl.specs.declared.row.Verb.TheVariants as verb
+use Rattle.blobctl.specs.Records.{Record, row_of as row_of_record}
+use Rattle.row_player.specs.Rows.{Line}
+use Rattle.row_player.specs.declared.row.Verb.{Verb}
+use Rattle.row_player.specs.declared.row.Verb.TheVariants as verb
 use Rattle.blobctl.proofs.SameCommands.{names_repo, same_command, same_refusal, well_spelt}
 
 -- no blob was lent

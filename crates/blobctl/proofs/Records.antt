@@ -8,7 +8,8 @@ use Rattle.csv.specs.declared.reader.Reader.{Reader}
 use Rattle.csv.proofs.ReadFacts.{rows-more}
 use Rattle.blob_digest.specs.Keys.{Text}
 use Rattle.blobctl.specs.Reading.{IsAfter}
-use Rattle.blobctl.specs.Rows.{Line, Record, row_of}
+use Rattle.blobctl.specs.Records.{Record, row_of}
+use Rattle.row_player.specs.Rows.{Line}
 use Rattle.blobctl.specs.Script.{AreGood, BeginsWith, ExplainsRows, max_rows}
 use Rattle.blobctl.specs.declared.fault.Fault.{Fault}
 use Rattle.blobctl.specs.declared.fault.Fault.TheVariants.{BadRow, Memory}

@@ -11,10 +11,10 @@ use Rattle.blob_digest.specs.Ranges.{range_of}
 use Rattle.blob_digest.specs.declared.range.ByteRange.{ByteRange}
 use Rattle.blob_digest.proofs.RangeTexts.{range_is}
 use Rattle.std.proofs.lemmas.Option.{same_Some}
-use Rattle.blobctl.specs.Commands.{Command, Start, Status, Append, Close, Abandon, Mount, Delete, PutManifest, GetManifest, DeleteManifest, Lease, HasDigest, HasSource, IsDigest, IsMisspelt, IsNoRange, Spells, SpellsRange, uses_digest, uses_range, uses_repo, uses_source}
-use Rattle.blobctl.specs.Rows.{Line, session_number}
-use Rattle.blobctl.specs.declared.row.Verb.{Verb}
-use Rattle.blobctl.specs.declared.row.Verb.TheVariants as verb
+use Rattle.row_player.specs.Commands.{Command, Start, Status, Append, Close, Abandon, Mount, Delete, PutManifest, GetManifest, DeleteManifest, Lease, HasDigest, HasSource, IsDigest, IsMisspelt, IsNoRange, Spells, SpellsRange, uses_digest, uses_range, uses_repo, uses_source}
+use Rattle.row_player.specs.Rows.{Line, session_number}
+use Rattle.row_player.specs.declared.row.Verb.{Verb}
+use Rattle.row_player.specs.declared.row.Verb.TheVariants as verb
 
 -- ranges are told apart by their ends
 same_range : (a b : ByteRange) → a.start ≡ b.start → a.end ≡ b.end → a ≡ b

@@ -12,10 +12,11 @@ use Rattle.blob_digest.specs.declared.refusal.Refusal.TheVariants as no
 use Rattle.blob_digest.proofs.Grammar.{grammar_passes, passes_grammar}
 use Rattle.blob_digest.proofs.NameGrammar.{accepted_path, path_accepted}
 use Rattle.blob_digest.proofs.RangeTexts.{range_found, range_is}
-use Rattle.blobctl.specs.Commands.{Command, Start, Status, Append, Close, Abandon, Mount, Delete, PutManifest, GetManifest, DeleteManifest, Lease, HasDigest, HasSource, IsDigest, IsMisspelt, IsNoRange, Spells, SpellsRange, is_lease, uses_digest, uses_range, uses_repo, uses_session, uses_source}
-use Rattle.blobctl.specs.Rows.{Line, Record, fits, head_of, line_with, row_of, session_number}
-use Rattle.blobctl.specs.declared.row.Verb.{Verb}
-use Rattle.blobctl.specs.declared.row.Verb.TheVariants as verb
+use Rattle.row_player.specs.Commands.{Command, Start, Status, Append, Close, Abandon, Mount, Delete, PutManifest, GetManifest, DeleteManifest, Lease, HasDigest, HasSource, IsDigest, IsMisspelt, IsNoRange, Spells, SpellsRange, is_lease, uses_digest, uses_range, uses_repo, uses_session, uses_source}
+use Rattle.blobctl.specs.Records.{Record, head_of, line_with, row_of}
+use Rattle.row_player.specs.Rows.{Line, fits, session_number}
+use Rattle.row_player.specs.declared.row.Verb.{Verb}
+use Rattle.row_player.specs.declared.row.Verb.TheVariants as verb
 
 -- whether a refusal is want of memory
 abbrev pub wants_memory : Refusal → Bool

@@ -17,14 +17,14 @@ use Rattle.store_book.specs.Steps.{length_after, not_busy, session_in, whole_in}
 use Rattle.store_book.specs.declared.mount.Mount.{Mount as Mounting}
 use Rattle.store_book.specs.declared.mount.Mount.TheVariants as mounting
 use Rattle.store_book.proofs.SomeSweep.{after, some_sweep, swept}
-use Rattle.blobctl.specs.Answers.{Answer, Session, Received, Stored, Abandoned, Deleted, Manifest, Body, Bytes, Leased, Shared, Verified, NoLease, NameTaken, Cleaned, Refused, mount_answer}
-use Rattle.blobctl.specs.Commands.{Command, Start, Status, Append, Close, Abandon, Mount, Delete, PutManifest, GetManifest, DeleteManifest, Lease, uses_repo}
-use Rattle.blobctl.specs.Leases.{Leases, Lent, Name, halved, new_lease}
+use Rattle.row_player.specs.Answers.{Answer, Session, Received, Stored, Abandoned, Deleted, Manifest, Body, Bytes, Leased, Shared, Verified, NoLease, NameTaken, Cleaned, Refused, mount_answer}
+use Rattle.row_player.specs.Commands.{Command, Start, Status, Append, Close, Abandon, Mount, Delete, PutManifest, GetManifest, DeleteManifest, Lease, uses_repo}
+use Rattle.row_player.specs.Leases.{Leases, Lent, Name, halved, new_lease}
 use Rattle.blobctl.specs.Played.{Happens, answered, outcome, read, told}
-use Rattle.blobctl.specs.Plays.{Plays, RowStep, State, VerifiesLease, LendsWhereFree, give_back_of, name_of, named, piece_of, read_of, second_of, share_of, shared_in}
-use Rattle.blobctl.specs.Rows.{Line}
-use Rattle.blobctl.specs.declared.row.Verb.{Verb}
-use Rattle.blobctl.specs.declared.row.Verb.TheVariants as verb
+use Rattle.row_player.specs.Plays.{Plays, RowStep, State, VerifiesLease, LendsWhereFree, give_back_of, name_of, named, piece_of, read_of, second_of, share_of, shared_in}
+use Rattle.row_player.specs.Rows.{Line}
+use Rattle.row_player.specs.declared.row.Verb.{Verb}
+use Rattle.row_player.specs.declared.row.Verb.TheVariants as verb
 use Rattle.blobctl.proofs.SomeCommand.{AllFit, Fits, Misspelt, command_or_not, lease_or_not, wants_memory}
 
 -- ---- no outcome is want of memory

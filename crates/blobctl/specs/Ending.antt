@@ -5,7 +5,7 @@ use Rattle.blob_digest.specs.Keys.{Text}
 use Rattle.blob_digest.specs.Tenants.{Tenant}
 use Rattle.blobctl.specs.Inputs.{IsTooLong, max_script}
 use Rattle.blobctl.specs.Played.{Played}
-use Rattle.blobctl.specs.Rows.{Line}
+use Rattle.row_player.specs.Rows.{Line}
 use Rattle.blobctl.specs.Script.{AreRowsOf, IsFirstBad}
 use Rattle.blobctl.specs.Watching.{has_failed, inner_of}
 use Rattle.blobctl.specs.declared.fault.Fault.{Fault}

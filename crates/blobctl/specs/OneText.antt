@@ -5,9 +5,9 @@ use Rattle.blob_digest.specs.Tenants.{Tenant}
 use Rattle.store_book.specs.Catalog.{Catalog}
 use Rattle.store_book.specs.Openings.{OpensCatalog}
 use Rattle.blobctl.specs.Played.{Played}
-use Rattle.blobctl.specs.Rows.{Line}
+use Rattle.row_player.specs.Rows.{Line}
 use Rattle.blobctl.specs.Script.{AreRowsOf}
-use Rattle.blobctl.specs.declared.row.Verb.TheVariants as verb
+use Rattle.row_player.specs.declared.row.Verb.TheVariants as verb
 
 -- no row leases a blob
 abbrev pub LeaseNothing : List Line → Type 0

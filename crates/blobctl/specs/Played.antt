@@ -12,12 +12,12 @@ use Rattle.store_book.specs.BookState.{BookState, SlotSeen}
 use Rattle.store_book.specs.SlotSteps.{EachSlot, HasLast, IsCrowded}
 use Rattle.store_book.specs.Sweeps.{IsSweep}
 use Rattle.store_book.specs.declared.sweep.Swept.{Swept}
-use Rattle.blobctl.specs.Answers.{Answer, Session, Received, Stored, Abandoned, Deleted, Manifest, Body, Bytes, Verified, Cleaned, Refused, mount_answer}
-use Rattle.blobctl.specs.Commands.{Command, Start, Status, Append, Close, Abandon, Mount, Delete, PutManifest, GetManifest, DeleteManifest, Lease, Request, Calls, Verifies, Sweeps}
-use Rattle.blobctl.specs.Leases as leases
-use Rattle.blobctl.specs.Plays.{Plays}
-use Rattle.blobctl.specs.Replies.{replies_text}
-use Rattle.blobctl.specs.Rows.{Line}
+use Rattle.row_player.specs.Answers.{Answer, Session, Received, Stored, Abandoned, Deleted, Manifest, Body, Bytes, Verified, Cleaned, Refused, mount_answer}
+use Rattle.row_player.specs.Commands.{Command, Start, Status, Append, Close, Abandon, Mount, Delete, PutManifest, GetManifest, DeleteManifest, Lease, Request, Calls, Verifies, Sweeps}
+use Rattle.row_player.specs.Leases as leases
+use Rattle.row_player.specs.Plays.{Plays}
+use Rattle.row_player.specs.Replies.{replies_text}
+use Rattle.row_player.specs.Rows.{Line}
 use Rattle.blobctl.specs.Script.{AreRowsOf}
 
 -- the outcome of a command, with what it gives as an answer

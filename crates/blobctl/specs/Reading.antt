@@ -6,7 +6,7 @@ use Rattle.csv.specs.declared.parser.State.TheVariants as st
 use Rattle.csv.specs.declared.reader.Reader.{Reader}
 use Rattle.csv.specs.declared.reader.Trim.TheVariants as trim
 use Rattle.blob_digest.specs.Keys.{Text}
-use Rattle.blobctl.specs.Rows.{Record}
+use Rattle.blobctl.specs.Records.{Record}
 
 -- the reader has taken these records of the script, and none else
 pub record IsAfter (script : Text) (before : List Record) (reader : Reader (Bor Text)) : Type 0 where

@@ -6,7 +6,8 @@ use Rattle.csv.specs.declared.parser.State.TheVariants as st
 use Rattle.blob_digest.specs.Keys.{Text}
 use Rattle.blobctl.specs.declared.fault.Fault.{Fault}
 use Rattle.blobctl.specs.declared.fault.Fault.TheVariants.{BadRow, Read, Write, Memory}
-use Rattle.blobctl.specs.Rows.{Line, Record, row_of}
+use Rattle.blobctl.specs.Records.{Record, row_of}
+use Rattle.row_player.specs.Rows.{Line}
 
 -- these are all the records of the script (RFC 4180): no header row, no trimming, a byte order mark left out
 abbrev pub AreRecordsOf : Text → List Record → Type 0

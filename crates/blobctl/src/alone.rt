@@ -1,11 +1,11 @@
 //! Rows played on a book that one thread has.
 ghost use Rattle.std.specs.Prelude.{◌≡◌, IfOk, IfErr, map};
-ghost use Rattle.blobctl.specs.Answers.{answers_of};
-ghost use Rattle.blobctl.specs.Leases.{Leases as Held, none};
-ghost use Rattle.blobctl.specs.Lines.{line_of};
+ghost use Rattle.row_player.specs.Answers.{answers_of};
+ghost use Rattle.row_player.specs.Leases.{Leases as Held, none};
+ghost use Rattle.row_player.specs.Lines.{line_of};
 ghost use Rattle.blobctl.specs.Options.{IsWithin};
 ghost use Rattle.blobctl.specs.Played.{Acts, Happens};
-ghost use Rattle.blobctl.specs.Plays.{Plays};
+ghost use Rattle.row_player.specs.Plays.{Plays};
 ghost use Rattle.blobctl.specs.Script.{max_rows};
 ghost use Rattle.std.specs.Prelude.{◌≤◌, length};
 ghost use Rattle.store_book.specs.Catalog.{Catalog};
@@ -13,11 +13,9 @@ ghost use Rattle.store_book.specs.Openings.{OpensCatalog, tenants_shown};
 
 use crate::options::Options;
 use crate::pinned_book::{PinnedBook, TableName};
-use crate::player::play;
-use crate::reply::Reply;
-use crate::row::Row;
 use blob_digest::Refusal;
 use pin_table::Pins;
+use row_player::{Reply, Row, play};
 use std::alloc::Global;
 use std::marker::{Brand, PhantomData};
 use store_book::Book;

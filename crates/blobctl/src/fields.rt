@@ -1,14 +1,12 @@
 //! The row that a record's fields spell.
 ghost use Rattle.std.specs.Prelude.{◌≡◌, IfOk, option_map};
 ghost use Rattle.csv.specs.Records.{fields_of};
-ghost use Rattle.blobctl.specs.Lines.{line_of};
-ghost use Rattle.std.specs.List.{list_all};
-ghost use Rattle.blob_digest.specs.Names.{is_alnum};
-ghost use Rattle.blobctl.specs.Rows.{field, fits, head_of, is_lease_name, lane_of, row_of, session_number, verb_of};
+ghost use Rattle.row_player.specs.Lines.{line_of};
+ghost use Rattle.blobctl.specs.Records.{field, head_of, lane_of, row_of, verb_of};
 
-use crate::row::{Row, Verb};
 use blob_digest::decimal;
 use csv::ByteRecord;
+use row_player::{Row, Verb, has_fields};
 use std::alloc::{AllocError, Global};
 
 /// The command of a name.
@@ -64,18 +62,6 @@ fn lane(text: &[u8]) -> Option<u8>
     }
 }
 
-/// The number of a session that a field names.
-pub fn session(text: &[u8]) -> Option<u32>
-    ensures { result ≡ session_number text.now }
-{
-    let value = decimal(text)?;
-    if text.len() <= 10 && 1 <= value && value <= 4_294_967_295 {
-        Some(value as u32)
-    } else {
-        None
-    }
-}
-
 /// The bytes of a record's field, which are none where it has no such field.
 fn field_at(fields: &ByteRecord, place: usize) -> &[u8]
     ensures { result.now ≡ field (fields_of fields.now) place }
@@ -93,73 +79,6 @@ fn head(fields: &ByteRecord) -> Option<(u8, Verb)>
     let lane = lane(field_at(fields, 0))?;
     let verb = verb_named(field_at(fields, 1))?;
     Some((lane, verb))
-}
-
-/// Whether a byte may stand in a lease's name.
-fn is_name_byte(c: u8) -> bool
-    ensures { result ≡ is_alnum c }
-{
-    matches!(c, b'a'..=b'z' | b'0'..=b'9')
-}
-
-/// Whether each byte may stand in a lease's name.
-fn all_name_bytes(text: &[u8]) -> bool
-    ensures { result ≡ list_all is_alnum text.now }
-{
-    text.iter().all(|c| is_name_byte(*c))
-}
-
-/// Whether a text is a lease's name.
-fn is_lease_name(text: &[u8]) -> bool
-    ensures { result ≡ is_lease_name text.now }
-{
-    1 <= text.len() && text.len() <= 32 && all_name_bytes(text)
-}
-
-/// Whether a command of the store has the fields that it needs, and none that it doesn't use.
-fn has_fields(verb: Verb, repo: &[u8], key: &[u8], digest: &[u8], range: &[u8], body: &[u8]) -> bool
-    ensures { result ≡ fits verb repo.now key.now digest.now range.now body.now }
-{
-    match verb {
-        Verb::Start => {
-            key.is_empty() && digest.is_empty() && range.is_empty() && body.is_empty()
-        }
-        Verb::Status | Verb::Abandon => {
-            session(key).is_some() && digest.is_empty() && range.is_empty() && body.is_empty()
-        }
-        Verb::Append => session(key).is_some() && digest.is_empty(),
-        Verb::Close => session(key).is_some(),
-        Verb::Mount => range.is_empty() && body.is_empty(),
-        Verb::Delete | Verb::GetManifest | Verb::DeleteManifest => {
-            key.is_empty() && range.is_empty() && body.is_empty()
-        }
-        Verb::PutManifest => key.is_empty() && digest.is_empty() && range.is_empty(),
-        Verb::Lease => is_lease_name(key) && range.is_empty() && body.is_empty(),
-        Verb::Read => {
-            is_lease_name(key) && repo.is_empty() && digest.is_empty() && body.is_empty()
-        }
-        Verb::Share => {
-            is_lease_name(key)
-                && is_lease_name(body)
-                && repo.is_empty()
-                && digest.is_empty()
-                && range.is_empty()
-        }
-        Verb::Verify | Verb::GiveBack => {
-            is_lease_name(key)
-                && repo.is_empty()
-                && digest.is_empty()
-                && range.is_empty()
-                && body.is_empty()
-        }
-        Verb::Sweep => {
-            repo.is_empty()
-                && key.is_empty()
-                && digest.is_empty()
-                && range.is_empty()
-                && body.is_empty()
-        }
-    }
 }
 
 /// The row of a record, or none where the record is bad.

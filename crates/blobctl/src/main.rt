@@ -23,26 +23,19 @@ ghost use Rattle.blobctl.specs.declared.fault.Fault.TheVariants.{Write};
 mod algorithm_tests;
 mod alone;
 mod arguments;
-mod backend;
 mod fault;
 #[cfg(test)]
 mod fault_tests;
 mod fields;
-mod hex_digits;
 mod input;
 mod laws;
 #[cfg(test)]
 mod lease_tests;
-mod leases;
 #[cfg(test)]
 mod manifest_tests;
 mod options;
 mod output;
-mod piece;
 mod pinned_book;
-mod player;
-mod reply;
-mod row;
 mod run;
 mod script;
 #[cfg(test)]

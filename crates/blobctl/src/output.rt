@@ -2,11 +2,11 @@
 ghost use Rattle.std.specs.Prelude.{◌≡◌, ◌++◌, IfErr, OnOk};
 ghost use Rattle.std.specs.Io.KnownBytes.{Appends};
 ghost use Rattle.store_book.specs.Printed.{book_text};
-ghost use Rattle.blobctl.specs.Answers.{answer_of, answers_of};
-ghost use Rattle.blobctl.specs.Replies.{replies_text, reply_line};
+ghost use Rattle.row_player.specs.Answers.{answer_of, answers_of};
+ghost use Rattle.row_player.specs.Replies.{replies_text, reply_line};
 
 use crate::fault::Fault;
-use crate::reply::Reply;
+use row_player::Reply;
 use std::io;
 use std::io::Write;
 use store_book::Book;

@@ -1,11 +1,10 @@
 //! A book with its pins as what rows are played on, and the leases of its blobs.
 ghost use Rattle.std.specs.Prelude.{◌≡◌};
 
-use crate::backend::{Backend, BlobLease};
-use crate::piece::Piece;
 use blob_digest::{Blob, ByteRange, Digest, Refusal, RepoName};
 use oci_manifest::Manifest;
 use pin_table::{Pin, Pins};
+use row_player::{Backend, BlobLease, Piece};
 use std::alloc::Global;
 use std::marker::{Brand, PhantomData};
 use std::sync::Arc;
@@ -46,7 +45,7 @@ pub struct BookLease<'p, N: TableName> {
 
 impl<'p, N: TableName> BlobLease for BookLease<'p, N> {
     ghost use Rattle.std.specs.Arc.{arc_value};
-    ghost use Rattle.blobctl.specs.Leases.{Lent};
+    ghost use Rattle.row_player.specs.Leases.{Lent};
 
     ghost lent = { λ h. record { bytes = (arc_value h.blob).1; weight = h.pin.hold.weight } };
 

@@ -3,7 +3,7 @@ ghost use Rattle.std.specs.Prelude.{◌≡◌, ◌≢◌, ◌+◌, IfOk, IfErr, 
 ghost use Rattle.blob_digest.specs.Keys.{Text};
 ghost use Rattle.blobctl.specs.Ending.{EndsWell, Explains, IsReadWhole};
 ghost use Rattle.blobctl.specs.Inputs.{TakesAtMost, max_script};
-ghost use Rattle.blobctl.specs.Lines.{line_of};
+ghost use Rattle.row_player.specs.Lines.{line_of};
 ghost use Rattle.blobctl.specs.Options.{IsWithin};
 ghost use Rattle.blobctl.specs.Script.{AreRowsOf};
 ghost use Rattle.blobctl.specs.Watching.{inner_of};
@@ -14,9 +14,9 @@ use crate::fault::Fault;
 use crate::input::read_script;
 use crate::options::Options;
 use crate::output::write_played;
-use crate::row::Row;
 use crate::script::read_rows;
 use crate::watched::Watched;
+use row_player::Row;
 use std::alloc::Global;
 use std::io::{Read, Write};
 

@@ -2,15 +2,16 @@
 ghost use Rattle.std.specs.Prelude.{◌≡◌, ◌⊎◌, ◌++◌, ◌∷◌, [], List, true, false, IfOk, IfErr, OnOk, Some, None, map};
 ghost use Rattle.csv.specs.Records.{fields_of};
 ghost use Rattle.blob_digest.specs.Keys.{Text};
-ghost use Rattle.blobctl.specs.Lines.{line_of};
+ghost use Rattle.row_player.specs.Lines.{line_of};
 ghost use Rattle.blobctl.specs.Reading.{IsAfter};
-ghost use Rattle.blobctl.specs.Rows.{Line, Record, row_of};
+ghost use Rattle.blobctl.specs.Records.{Record, row_of};
+ghost use Rattle.row_player.specs.Rows.{Line};
 ghost use Rattle.blobctl.specs.Script.{AreRecordsOf, AreRowsOf, ExplainsRows};
 
 use crate::fault::Fault;
 use crate::fields::read_row;
-use crate::row::Row;
 use csv::{ByteRecord, Reader, ReaderBuilder};
+use row_player::Row;
 use std::alloc::Global;
 
 /// The most rows that a script may have.

@@ -5,10 +5,9 @@ ghost use Rattle.blobctl.specs.Options.{IsWithin};
 use crate::arguments::read_options;
 use crate::fault::Fault;
 use crate::options::{Options, Stop};
-use crate::reply::Reply;
-use crate::row::Verb;
 use crate::script::read_rows;
 use blob_digest::{Digest, Refusal};
+use row_player::{Reply, Verb};
 use std::alloc::Global;
 use std::process::Abort;
 

@@ -1,8 +1,8 @@
 use Rattle.std.proofs.Common.{◌≤◌, length, map, refl}
 use Rattle.std.proofs.lemmas.List.{length-map}
 use Rattle.store_book.specs.Openings.{OpensCatalog, tenants_shown}
-use Rattle.blobctl.specs.Answers.{answers_of}
-use Rattle.blobctl.specs.Lines.{line_of}
+use Rattle.row_player.specs.Answers.{answers_of}
+use Rattle.row_player.specs.Lines.{line_of}
 use Rattle.blobctl.proofs.BookPlays.{AreLow, fresh_low, run_happens}
 use Rattle.blobctl.proofs.alone.play_alone.Goals as goal
 

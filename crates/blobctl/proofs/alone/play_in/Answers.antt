@@ -1,9 +1,9 @@
 use Rattle.std.proofs.Common.{map}
-use Rattle.blobctl.specs.Answers.{answers_of}
-use Rattle.blobctl.specs.Leases.{none}
-use Rattle.blobctl.specs.Lines.{line_of}
+use Rattle.row_player.specs.Answers.{answers_of}
+use Rattle.row_player.specs.Leases.{none}
+use Rattle.row_player.specs.Lines.{line_of}
 use Rattle.blobctl.specs.Played.{Acts}
-use Rattle.blobctl.proofs.PlayedRows.{plays_through}
+use Rattle.row_player.proofs.PlayedRows.{plays_through}
 use Rattle.blobctl.proofs.alone.play_in.Goals as goal
 
 pub returns-clause-played : goal.returns-clause-played

@@ -1,12 +1,12 @@
 use Rattle.std.proofs.Common.{◌∙◌, ◌++◌, List, ap, refl, subst, sym}
 use Rattle.store_book.specs.Catalog.{Catalog}
 use Rattle.store_book.specs.Printed.{book_text}
-use Rattle.blobctl.specs.Answers.{Answer}
-use Rattle.blobctl.specs.Leases.{none}
+use Rattle.row_player.specs.Answers.{Answer}
+use Rattle.row_player.specs.Leases.{none}
 use Rattle.blobctl.specs.Played.{Happens}
-use Rattle.blobctl.specs.Plays.{Plays, State}
-use Rattle.blobctl.specs.Replies.{replies_text}
-use Rattle.blobctl.specs.Rows.{Line}
+use Rattle.row_player.specs.Plays.{Plays, State}
+use Rattle.row_player.specs.Replies.{replies_text}
+use Rattle.row_player.specs.Rows.{Line}
 use Rattle.blobctl.proofs.OneOpening.{one_opening}
 use Rattle.blobctl.proofs.OneRun.{opening_none, plays_same, rows_are_one}
 use Rattle.blobctl.proofs.SomeCommand.{all_fit}

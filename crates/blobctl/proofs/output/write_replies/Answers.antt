@@ -1,7 +1,7 @@
 use Rattle.std.proofs.Common.{◌+◌, take}
 use Rattle.std.proofs.KnownBytes.{Appends-trans}
-use Rattle.blobctl.specs.Answers.{answer_of, answers_of}
-use Rattle.blobctl.specs.Replies.{replies_text, reply_line}
+use Rattle.row_player.specs.Answers.{answer_of, answers_of}
+use Rattle.row_player.specs.Replies.{replies_text, reply_line}
 use Rattle.blobctl.proofs.Replies.{replies_more}
 use Rattle.blobctl.proofs.output.write_replies.Goals as goal
 

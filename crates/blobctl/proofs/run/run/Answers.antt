@@ -1,8 +1,8 @@
 use Rattle.std.proofs.Common.{◌++◌, map, refl}
 use Rattle.store_book.specs.Printed.{book_text}
-use Rattle.blobctl.specs.Answers.{answers_of}
-use Rattle.blobctl.specs.Lines.{line_of}
-use Rattle.blobctl.specs.Replies.{replies_text}
+use Rattle.row_player.specs.Answers.{answers_of}
+use Rattle.row_player.specs.Lines.{line_of}
+use Rattle.row_player.specs.Replies.{replies_text}
 use Rattle.blobctl.proofs.run.run.Goals as goal
 
 pub returns-clause-played : goal.returns-clause-played

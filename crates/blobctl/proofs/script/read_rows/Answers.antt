@@ -1,7 +1,7 @@
 use Rattle.std.proofs.Common.{◌≡◌, ◌≤◌, ◌+◌, ◌++◌, ◌∷◌, [], arith, inr, length, length-append, map, refl, rules, true}
 use Rattle.std.proofs.lemmas.Result.{err_from_is_err_and}
 use Rattle.csv.specs.Records.{fields_of}
-use Rattle.blobctl.specs.Lines.{line_of}
+use Rattle.row_player.specs.Lines.{line_of}
 use Rattle.blobctl.proofs.Records.{begins, explained, one_good}
 use Rattle.blobctl.proofs.script.read_rows.Goals as goal
 

@@ -1,7 +1,7 @@
 use Rattle.std.proofs.Common.{◌≡◌, List, length, map}
-use Rattle.blobctl.specs.Lines.{line_of}
+use Rattle.row_player.specs.Lines.{line_of}
 use Rattle.blobctl.specs.Reading.{IsAfter}
-use Rattle.blobctl.specs.Rows.{Record}
+use Rattle.blobctl.specs.Records.{Record}
 use Rattle.blobctl.specs.Script.{AreGood}
 use Rattle.blobctl.proofs.script.read_rows.Given as goal
 

@@ -1,5 +1,5 @@
 use Rattle.store_book.specs.Steps.{close}
-use Rattle.blobctl.specs.Answers.{Stored}
+use Rattle.row_player.specs.Answers.{Stored}
 use Rattle.blobctl.proofs.Leasing.{does_told, quiet_rise}
 use Rattle.blobctl.proofs.pinned_book.PinnedBookBackend.close.Goals as goal
 

@@ -1,5 +1,5 @@
 use Rattle.store_book.specs.Steps.{put_manifest}
-use Rattle.blobctl.specs.Answers.{Manifest}
+use Rattle.row_player.specs.Answers.{Manifest}
 use Rattle.blobctl.proofs.Leasing.{does_told, same_rise}
 use Rattle.blobctl.proofs.pinned_book.PinnedBookBackend.put_manifest.Goals as goal
 

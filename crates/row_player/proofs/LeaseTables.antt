@@ -1,0 +1,145 @@
+-- A table of leases, and the finite map that it stands for.
+use Rattle.std.proofs.Common.{◌≡◌, ◌≢◌, ◌⊎◌, ◌==◌, inl, inr, ℕ, Bool, true, false, cond, List, [], ◌∷◌, Option, Some, None, refl, sym, ap, ◌∙◌}
+use Rattle.std.specs.BTreeMap as tree
+use Rattle.std.specs.BTreeMap.{is_at}
+use Rattle.std.specs.Cmp.{IsTotalOrder, nat_cmp_total, eq_by_cmp_equiv, Equal-is}
+use Rattle.std.specs.Cmp.Lexicographic.{nat_list_cmp_total}
+use Rattle.std.specs.FinMap as fmap
+use Rattle.std.specs.FinMap.{find, get-from_entries, get-insert, get-remove, get_tied, same_map, IsAntisymmetric}
+use Rattle.std.specs.List.Sorted.{IsStrictlySortedBy}
+use Rattle.std.specs.Map.{keys_of, lookup}
+use Rattle.std.specs.Option.{option_map, unwrap_or}
+use Rattle.std.specs.Ordering.{eq_by_cmp, nat_cmp}
+use Rattle.std.proofs.lemmas.Bool.{eqb-true, eq-eqb}
+use Rattle.std.proofs.lemmas.Cmp.{on_total, then_total}
+use Rattle.std.proofs.lemmas.Map.{lookup-none}
+use Rattle.std.proofs.lemmas.Map.Entries.{none_past_head}
+use Rattle.std.proofs.lemmas.Map.Keys.{IsDistinct-from_sorted, sorted_tail}
+use Rattle.std.proofs.lemmas.Map.Lookups.{exact_pairs, exact_unsigned, exact_bytes}
+use Rattle.blob_digest.specs.Keys.{text_cmp}
+use Rattle.blob_digest.proofs.MapSums.{insert-remove, insert_back}
+use Rattle.blob_digest.specs.declared.refusal.Refusal.{Refusal}
+use Rattle.blob_digest.specs.declared.refusal.Refusal.TheVariants.{Memory, WeightSpent}
+use Rattle.row_player.specs.Answers.{Shared, Refused}
+use Rattle.row_player.specs.Leases.{Lent, Leases, Name, halved, name_cmp}
+use Rattle.row_player.specs.Plays.{shared_in}
+use Rattle.row_player.specs.LeaseTables.{Key, key_cmp, name_at, held_rows, leases_in, with_lease}
+
+pub name_cmp_total : IsTotalOrder name_cmp
+name_cmp_total = then_total (on_total (λ p. p.0) nat_cmp_total) (on_total (λ p. p.1) nat_list_cmp_total)
+
+pub exact_name : IsAntisymmetric name_cmp
+exact_name = exact_pairs nat_cmp text_cmp exact_unsigned exact_bytes
+
+pub key_cmp_total : IsTotalOrder key_cmp
+key_cmp_total = on_total name_at name_cmp_total
+
+-- where a name stands does not matter
+abbrev key_of : Name → Key
+key_of n = (n.0, record { ref_ptr = (0, 0); now = n.1 })
+
+-- ---- finite maps of leases
+
+without : (b : Bool) (o : Option Lent) → (b ≡ true → o ≡ None) → cond b None o ≡ o
+without true o none = sym (none refl)
+without false o none = refl
+
+-- a name that holds none may be taken out
+pub remove_free : (m : Leases) (k : Name) → fmap.get m k ≡ None → fmap.remove m k ≡ m
+remove_free m k free = same_map name_cmp_total exact_name (fmap.remove m k) m (λ q.
+    get-remove name_cmp_total m k q ∙ without (eq_by_cmp name_cmp q k) (fmap.get m q) (λ tie. sym (get_tied name_cmp_total m q k ((Equal-is (name_cmp q k)).0 tie)) ∙ free))
+
+-- a lease that was taken out is put back
+pub put_back : (m : Leases) (k : Name) (x : Lent) → fmap.get m k ≡ Some x → fmap.insert (fmap.remove m k) k x ≡ m
+put_back m k x found = insert-remove name_cmp_total exact_name m k x ∙ insert_back name_cmp_total exact_name m k x found
+
+not_equal : (n k : ℕ) → n ≢ k → (n == k) ≡ false
+not_equal n k differ = elim (n == k) as (λ b. (n == k) ≡ b → (n == k) ≡ false) [
+  | true ↦ λ e. absurd (differ (eqb-true n k e))
+  | false ↦ λ e. e
+] refl
+
+-- a lease that is taken out, shared, and put back in two halves
+pub shared_ok : (L L1 L2 L3 L4 : Leases) (name second : Name) (x one other : Lent) → L1 ≡ L → L2 ≡ fmap.remove L1 name → L3 ≡ fmap.insert L2 name one → L4 ≡ fmap.insert L3 second other
+    → fmap.get L1 name ≡ Some x → fmap.get L second ≡ None → x.weight ≢ 1 → one ≡ halved x → other ≡ halved x → (Shared, L4) ≡ shared_in L name second
+shared_ok L L1 L2 L3 L4 name second x one other e1 e2 e3 e4 found free differ is_one is_other =
+    let first : fmap.get L name ≡ Some x = ap (λ (m : Leases). fmap.get m name) (sym e1) ∙ found in
+    let all : L4 ≡ fmap.insert (fmap.insert L name (halved x)) second (halved x) =
+    e4 ∙ (λ i. fmap.insert ((e3 ∙ (λ j. fmap.insert ((e2 ∙ ap (λ (m : Leases). fmap.remove m name) e1) j) name (is_one j)) ∙ insert-remove name_cmp_total exact_name L name (halved x)) i) second (is_other i)) in
+    rw (first, free, not_equal x.weight 1 differ) (ap (λ (m : Leases). (Shared, m)) all)
+
+-- a lease that is taken out and comes back
+pub shared_err : (L L1 L2 L3 : Leases) (name second : Name) (x back : Lent) (e : Refusal) → L1 ≡ L → L2 ≡ fmap.remove L1 name → L3 ≡ fmap.insert L2 name back
+    → fmap.get L1 name ≡ Some x → fmap.get L second ≡ None → back ≡ x → (e ≡ Memory) ⊎ ((e ≡ WeightSpent) × (x.weight ≡ 1)) → ((e ≡ Memory) × (L3 ≡ L)) ⊎ ((Refused e, L3) ≡ shared_in L name second)
+shared_err L L1 L2 L3 name second x back e e1 e2 e3 found free is_back why =
+    let first : fmap.get L name ≡ Some x = ap (λ (m : Leases). fmap.get m name) (sym e1) ∙ found in
+    let same : L3 ≡ L = e3 ∙ (λ i. fmap.insert ((e2 ∙ ap (λ (m : Leases). fmap.remove m name) e1) i) name (is_back i)) ∙ put_back L name x first in
+    elim why [
+      | inl memory ↦ inl (memory, same)
+      | inr spent ↦ inr (rw (first, free, eq-eqb x.weight 1 spent.1, spent.0) (ap (λ (m : Leases). (Refused WeightSpent, m)) same))
+    ]
+
+-- ---- tables
+
+-- what is held under a name, by what its row has
+abbrev pub held_of : {L : Type 0} → (L → Lent) → Option (Option L) → Option Lent
+held_of lent None = None
+held_of lent (Some room) = option_map lent room
+
+module _ {L : Type 0} (lent : L → Lent) where
+  find_held : (p : Key) (es : List (Key × Option L)) → IsStrictlySortedBy key_cmp (keys_of es) → find name_cmp (name_at p) (held_rows lent es) ≡ held_of lent (lookup (is_at (key_cmp p)) es)
+  find_held p [] sorted = refl
+  find_held p ((k, None) ∷ es) sorted =
+      let rest = find_held p es (sorted_tail key_cmp k (keys_of es) sorted) in
+      elim (is_at (key_cmp p) k) as (λ b. is_at (key_cmp p) k ≡ b → find name_cmp (name_at p) (held_rows lent es) ≡ held_of lent (cond b (Some None) (lookup (is_at (key_cmp p)) es))) [
+        | true ↦ λ tie.
+            let e : Key × Option L = (k, None) in
+            let past = none_past_head (eq_by_cmp_equiv key_cmp_total) p e es (IsDistinct-from_sorted key_cmp (keys_of (e ∷ es)) sorted) tie in
+            rest ∙ ap (held_of lent) (lookup-none (is_at (key_cmp p)) es past)
+        | false ↦ λ _. rest
+      ] refl
+  find_held p ((k, Some l) ∷ es) sorted =
+      let rest = find_held p es (sorted_tail key_cmp k (keys_of es) sorted) in
+      elim (is_at (key_cmp p) k) as (λ b. cond b (Some (lent l)) (find name_cmp (name_at p) (held_rows lent es)) ≡ held_of lent (cond b (Some (Some l)) (lookup (is_at (key_cmp p)) es))) [
+        | true ↦ refl
+        | false ↦ rest
+      ]
+
+  -- what is held under a name
+  pub get-leases_in : (m : tree.BTreeMap Key (Option L)) (p : Key) → tree.IsOrdered key_cmp m → fmap.get (leases_in lent m) (name_at p) ≡ held_of lent (tree.get key_cmp m p)
+  get-leases_in m p ordered = get-from_entries name_cmp_total (held_rows lent m.entries) (name_at p) ∙ find_held p m.entries ordered
+
+  by_test : (b : Bool) (room : Option L) (old : Option (Option L)) → held_of lent (cond b (Some room) old) ≡ cond b (option_map lent room) (held_of lent old)
+  by_test true room old = refl
+  by_test false room old = refl
+
+  module _ (m n : tree.BTreeMap Key (Option L)) (p : Key) (before : tree.IsOrdered key_cmp m) (after : tree.IsOrdered key_cmp n) where
+    put_at : (room : Option L) → tree.Updates key_cmp m n p (Some room) → (x : Name) → fmap.get (leases_in lent n) x ≡ cond (eq_by_cmp name_cmp x (name_at p)) (option_map lent room) (fmap.get (leases_in lent m) x)
+    put_at room puts x =
+        get-leases_in n (key_of x) after
+        ∙ ap (held_of lent) (puts.0 (key_of x))
+        ∙ by_test (is_at (key_cmp p) (key_of x)) room (tree.get key_cmp m (key_of x))
+        ∙ ap (λ b. cond b (option_map lent room) (held_of lent (tree.get key_cmp m (key_of x)))) ((eq_by_cmp_equiv name_cmp_total).symm (name_at p) x)
+        ∙ ap (cond (eq_by_cmp name_cmp x (name_at p)) (option_map lent room)) (sym (get-leases_in m (key_of x) before))
+
+    -- a lease goes under the name
+    pub put_lease : (l : L) → tree.Updates key_cmp m n p (Some (Some l)) → leases_in lent n ≡ fmap.insert (leases_in lent m) (name_at p) (lent l)
+    put_lease l puts = same_map name_cmp_total exact_name _ _ (λ x. put_at (Some l) puts x ∙ sym (get-insert name_cmp_total (leases_in lent m) (name_at p) (lent l) x))
+
+    -- none is there any more
+    pub put_none : tree.Updates key_cmp m n p (Some None) → leases_in lent n ≡ fmap.remove (leases_in lent m) (name_at p)
+    put_none puts = same_map name_cmp_total exact_name _ _ (λ x. put_at None puts x ∙ sym (get-remove name_cmp_total (leases_in lent m) (name_at p) x))
+
+    -- none was there
+    pub put_room : fmap.get (leases_in lent m) (name_at p) ≡ None → tree.Updates key_cmp m n p (Some None) → leases_in lent n ≡ leases_in lent m
+    put_room free puts = put_none puts ∙ remove_free (leases_in lent m) (name_at p) free
+
+    -- what was put is there
+    pub put_any : (room : Option L) → tree.Updates key_cmp m n p (Some room) → leases_in lent n ≡ with_lease (leases_in lent m) (name_at p) (option_map lent room)
+    put_any None puts = put_none puts
+    put_any (Some l) puts = put_lease l puts
+
+  -- what was there is what was held
+  pub was_held : (o : Option (Option L)) (old : Option L) → old ≡ unwrap_or o None → option_map lent old ≡ held_of lent o
+  was_held None old e = ap (option_map lent) e
+  was_held (Some room) old e = ap (option_map lent) e

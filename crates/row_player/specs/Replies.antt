@@ -1,0 +1,41 @@
+-- The texts of replies.
+use Rattle.std.specs.Prelude.{ℕ, List, ◌++◌, codes}
+use Rattle.std.specs.Fmt.{decimal}
+use Rattle.std.specs.List.{enumerate_from, flat_map}
+use Rattle.hex.specs.Hex.{encode_lower}
+use Rattle.blob_digest.specs.Keys.{Text}
+use Rattle.blob_digest.specs.Refusals.{refusal_text}
+use Rattle.store_book.specs.declared.sweep.Swept.{Swept}
+use Rattle.row_player.specs.Answers.{Answer, Session, Received, Stored, Abandoned, Mounted, Deleted, Manifest, Body, Leased, Bytes, Shared, Verified, GivenBack, Cleaned, NoLease, NameTaken, Refused}
+
+-- what a sweep did
+abbrev pub swept_text : Swept → Text
+swept_text swept = codes "swept condemned " ++ decimal swept.condemned ++ codes " freed " ++ decimal swept.freed ++ codes " held " ++ decimal swept.held ++ codes " retired " ++ decimal swept.retired
+
+-- what a reply says
+abbrev pub reply_text : Answer → Text
+reply_text (Session number) = codes "session " ++ decimal number
+reply_text (Received length) = codes "received " ++ decimal length
+reply_text (Stored size) = codes "stored " ++ decimal size
+reply_text Abandoned = codes "abandoned"
+reply_text Mounted = codes "mounted"
+reply_text Deleted = codes "deleted"
+reply_text (Manifest digest) = codes "manifest " ++ digest
+reply_text (Body bytes) = codes "body " ++ encode_lower bytes
+reply_text (Leased size) = codes "leased " ++ decimal size
+reply_text (Bytes bytes) = codes "bytes " ++ encode_lower bytes
+reply_text Shared = codes "shared"
+reply_text (Verified size) = codes "verified " ++ decimal size
+reply_text GivenBack = codes "given back"
+reply_text (Cleaned swept) = swept_text swept
+reply_text NoLease = codes "no lease"
+reply_text NameTaken = codes "name taken"
+reply_text (Refused refusal) = codes "refused " ++ refusal_text refusal
+
+-- a row's number, a space, the reply, and a line feed
+abbrev pub reply_line : ℕ × Answer → Text
+reply_line e = decimal e.0 ++ codes " " ++ reply_text e.1 ++ codes "\n"
+
+-- the lines of all replies, numbered from 1
+abbrev pub replies_text : List Answer → Text
+replies_text answers = flat_map reply_line (enumerate_from 1 answers)

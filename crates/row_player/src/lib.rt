@@ -1,0 +1,34 @@
+//! Plays the rows of a script on what keeps a store, and answers each with its reply.
+//!
+//! A row comes with its fields, which fit its command; what it is played on is any `Backend`: a book alone, or a
+//! place at a store that others use too. It stands on `blob_digest` for names, digests and ranges, on
+//! `oci_manifest` and `store_book` for what replies show, and on `hex` for their digits.
+//!
+//! It promises, of whatever the backend may do: rows are played in their order, each with one answer; a row
+//! whose field spells nothing is refused for the first such field and changes nothing; else it asks the
+//! backend for the command that it spells and answers what that answers; each lane keeps its leases by their
+//! names, and reads, shares and returns them as the definitions say; want of memory ends the play and is no
+//! row's answer. The text of a reply is that of its answer.
+#![tactic(auto)]
+
+mod backend;
+mod fields;
+mod gate;
+mod hex_digits;
+mod leases;
+mod order;
+mod piece;
+mod player;
+mod reply;
+mod row;
+mod worker;
+
+pub use backend::{Backend, BlobLease};
+pub use fields::has_fields;
+pub use gate::{Gate, OpenGate};
+pub use order::in_row_order;
+pub use piece::Piece;
+pub use player::{play, play_rows};
+pub use reply::Reply;
+pub use row::{Row, Verb};
+pub use worker::Worker;

@@ -1,0 +1,53 @@
+//! Parts of blobs.
+ghost use Rattle.std.specs.Prelude.{◌≡◌, ◌^◌, ◌<◌, ◌≤◌};
+ghost use Rattle.std.specs.Arc.{arc_value};
+ghost use Rattle.row_player.specs.Leases.{between};
+
+use blob_digest::Blob;
+use std::alloc::Global;
+use std::marker::Model;
+use std::sync::Arc;
+
+/// A part of a blob's content, which it shares with the blob. Contracts see its bytes.
+#[derive(Drop)]
+pub struct Piece {
+    blob: Arc<Blob, Global>,
+    start: usize,
+    end: usize,
+}
+
+impl Model for Piece {
+    ghost use Rattle.std.specs.Prelude.{List, ℕ, ◌-◌, ◌≤◌, length, take, drop};
+    ghost use Rattle.std.specs.Arc.{arc_value};
+
+    ghost Value = { List ℕ };
+
+    ghost view = { λ p. take (p.end - p.start) (drop p.start (arc_value p.blob).1) };
+
+    ghost invariant = { λ p. (p.start ≤ p.end) × (p.end ≤ length (arc_value p.blob).1) };
+}
+
+impl Piece {
+    /// The bytes from a start to an end, both included, or to the end of the blob.
+    pub fn new(blob: Arc<Blob, Global>, start: u64, end: u64) -> Piece
+        requires ordered { start ≤ end }
+        requires small { end < 2 ^ 63 }
+        ensures { result ≡ between (arc_value blob).1 start end }
+    {
+        let len = blob.bytes().len() as u64;
+        let first = start.min(len);
+        let last = (end + 1).min(len);
+        Piece {
+            blob,
+            start: first as usize,
+            end: last as usize,
+        }
+    }
+
+    /// The bytes.
+    pub fn bytes(&self) -> &[u8]
+        ensures { result.now ≡ self.now }
+    {
+        &self.blob.bytes()[self.start..self.end]
+    }
+}

@@ -1,0 +1,62 @@
+//! The rows of a script.
+ghost use Rattle.std.specs.Prelude.{◌≡◌, true};
+ghost use Rattle.row_player.specs.Rows.{fits};
+
+/// A command of the script.
+#[derive(Clone, Copy, Debug, PartialEq, Eq)]
+pub enum Verb {
+    /// Opens an upload session.
+    Start,
+    /// Asks how many bytes a session has received.
+    Status,
+    /// Adds a chunk to a session.
+    Append,
+    /// Ends a session and links its blob.
+    Close,
+    /// Gives a session up.
+    Abandon,
+    /// Links a blob of another repository of the tenant.
+    Mount,
+    /// Takes a blob's link out of a repository.
+    Delete,
+    /// Keeps a manifest in a repository.
+    PutManifest,
+    /// Asks for the bytes of a manifest.
+    GetManifest,
+    /// Takes a manifest out of a repository.
+    DeleteManifest,
+    /// Leases a blob under a name.
+    Lease,
+    /// Reads a piece of a leased blob.
+    Read,
+    /// Makes two leases of one.
+    Share,
+    /// Has the store look at a lease's slot.
+    Verify,
+    /// Gives a lease back.
+    GiveBack,
+    /// Frees the slots of blobs without links.
+    Sweep,
+}
+
+/// A row of the script, which is no bad one by its type. The last five fields are the bytes of the
+/// record's fields; those that the command doesn't use are empty.
+#[derive(Debug, Drop)]
+pub struct Row {
+    /// The lane that plays the row.
+    pub lane: u8,
+    /// The command.
+    pub verb: Verb,
+    /// A repository's name.
+    pub repo: Vec<u8>,
+    /// The number of a session, where the command names one: 1 to 4294967295. For a mount the name of
+    /// the repository that it is from. Where the command names a lease, its name.
+    pub key: Vec<u8>,
+    /// A digest's text.
+    pub digest: Vec<u8>,
+    /// The text of a byte range.
+    pub range: Vec<u8>,
+    /// The bytes of a chunk or of a manifest; for a share the name of the second lease.
+    pub body: Vec<u8>,
+    pub ghost fit: { fits verb repo.items key.items digest.items range.items body.items ≡ true },
+}
