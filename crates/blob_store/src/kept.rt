@@ -3,6 +3,7 @@
 ghost use Rattle.std.specs.Prelude.{◌≡◌, ◌≢◌, ◌+◌, ◌<◌, None, Some, IfOk, IfSome, OnErr, OnOk, true, length, sum_by, vec_len, not};
 ghost use Rattle.std.specs.Arc.{arc_value};
 ghost use Rattle.std.specs.FinMap.{empty};
+ghost use Rattle.std.specs.Option.{option_copied};
 ghost use Rattle.std.specs.Io.KnownBytes.{Appends};
 ghost use Rattle.blob_digest.specs.Digests.{is_digest_of, sha256_text};
 ghost use Rattle.blob_digest.specs.Outcomes.{Does, DoesExactly, refuse};
@@ -143,16 +144,16 @@ impl<N: Naming, C: Ledger, R: Ledger, D: Ledger, A: Ledger> Kept<N, C, R, D, A> 
         Ok(length)
     }
 
-    /// Links a blob that another repository of the tenant holds, or opens a session, as `Book::mount` does,
-    /// counted.
+    /// Links a blob that the tenant holds in the source or, without one, anywhere, or opens a session, as
+    /// `Book::mount` does, counted.
     pub fn mount(
         &mut self,
         desk: &mut Desk<C, R, D, A>,
         repo: &RepoName,
         digest: &Digest,
-        from: &RepoName,
+        from: Option<&RepoName>,
     ) -> Result<Mount, Refusal>
-        ensures does { Does (λ m. m) result (self.old, desk.old) (self.new, desk.new) (counted (λ _. one 0 0 0) (λ C. mount C repo.now digest.now (Some from.now)) (self.old, desk.old)) }
+        ensures does { Does (λ m. m) result (self.old, desk.old) (self.new, desk.new) (counted (λ _. one 0 0 0) (λ C. mount C repo.now digest.now (option_copied from.entry)) (self.old, desk.old)) }
     {
         self.room(0)?;
         self.book.audit();

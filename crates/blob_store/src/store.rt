@@ -242,9 +242,10 @@ impl<N: Naming, C: Ledger, R: Ledger, D: Ledger, A: Ledger> Store<N, C, R, D, A>
         self.kept.lock(rt).abandon(desk, repo, number)
     }
 
-    /// Links a blob that another repository of the tenant holds, without an upload (OCI Distribution
-    /// Specification 1.1, "Mounting a blob from another repository"). Where the source doesn't hold it, or is
-    /// another tenant's, this opens a session, as `start` does.
+    /// Links a blob that the tenant holds in the source or, without one, in any of its repositories, without
+    /// an upload (OCI Distribution Specification 1.1, "Mounting a blob from another repository"). Where the
+    /// source doesn't hold it, or is another tenant's, or where without a source no repository of the tenant
+    /// holds it, this opens a session, as `start` does.
     ///
     /// Refused, in this order: a tenant that is not there (`NameUnknown`); a tenant that has 1,024
     /// repositories where this one is new, and, where a session is opened, 64 sessions or no session
@@ -255,7 +256,7 @@ impl<N: Naming, C: Ledger, R: Ledger, D: Ledger, A: Ledger> Store<N, C, R, D, A>
         desk: &mut Desk<C, R, D, A>,
         repo: &RepoName,
         digest: &Digest,
-        from: &RepoName,
+        from: Option<&RepoName>,
     ) -> Result<Mount, Refusal>
         ensures ok { OnOk result (desk.new ≡ plus desk.old (one 0 0 0)) }
         ensures err { OnErr result (desk.new ≡ desk.old) }

@@ -35,6 +35,14 @@ fn range(rt: &(impl Abort + AllocGlobal), text: &str) -> Option<ByteRange> {
     Some(ByteRange::parse(text.as_bytes()).expect(rt, "a range"))
 }
 
+/// The source of a mount that a text names; none where it is empty.
+fn source(rt: &(impl Abort + AllocGlobal), text: &str) -> Option<RepoName> {
+    if text.is_empty() {
+        return None;
+    }
+    Some(name(rt, text))
+}
+
 /// A store of so many slots, and tenants of the same large quota.
 pub fn config(rt: &(impl Abort + AllocGlobal), slots: u32, names: &[&str]) -> Config {
     let alloc = rt.alloc();
@@ -51,8 +59,8 @@ pub fn config(rt: &(impl Abort + AllocGlobal), slots: u32, names: &[&str]) -> Co
     }
 }
 
-/// A command with what it has to answer. Repositories, digests and ranges are texts; where that of a range is
-/// empty, there is none.
+/// A command with what it has to answer. Repositories, digests and ranges are texts; where that of a range, or of
+/// a mount's source, is empty, there is none.
 #[derive(Clone, Copy)]
 pub enum Step<'a> {
     Start(&'a str, Result<u32, Refusal>),
@@ -157,9 +165,9 @@ impl<
         from: &str,
     ) -> Result<Mount, Refusal> {
         let of = digest(self.rt, of);
-        let from = name(self.rt, from);
+        let from = source(self.rt, from);
         self.store
-            .mount(self.rt, desk, &name(self.rt, repo), &of, &from)
+            .mount(self.rt, desk, &name(self.rt, repo), &of, from.as_ref())
     }
 
     fn delete(&self, desk: &mut Desk<C, R, D, A>, repo: &str, of: &str) -> Result<(), Refusal> {

@@ -108,6 +108,8 @@ impl<
             Step::Close(ONE, 1, ABC, "2-2", "c", Ok(3)),
             Step::Mount(TWO, ABC, ONE, Ok(Mount::Mounted)),
             Step::Delete(ONE, ABC, Ok(())),
+            Step::Mount(ONE, ABC, "", Ok(Mount::Mounted)),
+            Step::Delete(ONE, ABC, Ok(())),
             Step::Delete(ONE, ABC, Err(Refusal::BlobUnknown)),
             Step::PutManifest(TWO, MANIFEST),
             Step::GetManifest(TWO, MANIFEST),
@@ -118,7 +120,7 @@ impl<
             ),
         ];
         self.plays(&mut desks[0], &steps);
-        assert_eq!(rt; desks[0].commands(), 9);
+        assert_eq!(rt; desks[0].commands(), 11);
         assert_eq!(rt; desks[0].received(), 3);
         assert_eq!(rt; desks[0].closed(), 3);
         assert_eq!(rt; desks[0].abandoned(), 0);

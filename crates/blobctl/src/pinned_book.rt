@@ -153,7 +153,7 @@ impl<'p, N: TableName> Backend for PinnedBook<'p, N> {
         digest: &Digest,
         from: &RepoName,
     ) -> Result<Mount, Refusal> {
-        self.book.mount(repo, digest, from)
+        self.book.mount(repo, digest, Some(from))
     }
 
     fn delete(&mut self, repo: &RepoName, digest: &Digest) -> Result<(), Refusal> {

@@ -54,7 +54,7 @@ module _ (C : Catalog) (t : ℕ) (repo digest from : Text) (lawful : Lawful C) (
       ]
 
 -- a repository of the tenant that holds what is mounted: the one that was named or, where none was, any
-source_of : (C : Catalog) (t : ℕ) (digest : Text) (from : Option Text) → has_source C t digest from ≡ true → (q : Text) × (is_of C t q ≡ true) × (holds C q digest ≡ true)
+pub source_of : (C : Catalog) (t : ℕ) (digest : Text) (from : Option Text) → has_source C t digest from ≡ true → (q : Text) × (is_of C t q ≡ true) × (holds C q digest ≡ true)
 source_of C t digest None has = let w = witness (λ r. is_of C t r && holds C r digest) (set.items C.repos) has in let both = and_parts (is_of C t w.0) (holds C w.0 digest) w.1 in (w.0, both.0, both.1)
 source_of C t digest (Some q) has = let both = and_parts (is_of C t q) (holds C q digest) has in (q, both.0, both.1)
 

@@ -68,6 +68,7 @@ pub mod WorkedManifests
 pub mod WorkedLimits
 pub mod WorkedSweeps
 pub mod WorkedRuns
+pub mod WorkedIsolation
 pub mod HandExamples
 pub mod LawChunks
 pub mod LawfulHands

@@ -1,9 +1,8 @@
 -- `Book::mount`, from what its calls of the layers did.
-use Rattle.std.proofs.Common.{◌≡◌, ℕ, ◌^◌, ◌<◌, ◌≤◌, Bool, true, false, List, length, Some, None, Ok, Err, refl, sym, ap, ◌∙◌, subst, arith}
+use Rattle.std.proofs.Common.{◌≡◌, ℕ, ◌^◌, ◌<◌, ◌≤◌, Bool, true, false, List, length, Option, Some, None, Ok, Err, refl, sym, ap, ◌∙◌, subst, arith}
 use Rattle.std.specs.Prelude.{slice_index, if◌then◌else◌}
 use Rattle.std.specs.Cmp.Lexicographic.{nat_list_cmp_total}
 use Rattle.std.specs.FinMap.{get}
-use Rattle.std.proofs.lemmas.Bool.{and_from}
 use Rattle.std.proofs.lemmas.Map.Lookups.{exact_bytes}
 use Rattle.blob_digest.specs.declared.refusal.Refusal.{Refusal}
 use Rattle.blob_digest.specs.declared.refusal.Refusal.TheVariants.{NameUnknown}
@@ -25,7 +24,7 @@ use Rattle.store_book.proofs.KeptBlobs.{Keeps, IsKept-Keeps, same_residents}
 use Rattle.store_book.proofs.LentMarks.{length-marks}
 use Rattle.store_book.proofs.LawAppear.{Lawful-appear, used-appear}
 use Rattle.store_book.proofs.LawLink.{is_held}
-use Rattle.store_book.proofs.LawfulMount.{Sound-after_mount}
+use Rattle.store_book.proofs.LawfulMount.{source_of, Sound-after_mount}
 use Rattle.store_book.proofs.LinkedSlots.{linked_live, source_some, source_none}
 use Rattle.store_book.proofs.SlotLemmas.{phase_live}
 use Rattle.store_book.proofs.Outcomes.{some_of_ok, tenant_there}
@@ -64,51 +63,55 @@ module _ (l : Linked) (u : Uploaded) (slots : List Slot) (max_blob t : ℕ) (rep
       charges = record { one_each = book.charges.one_each; sums = book.charges.sums };
     }
 
-  module _ (digest from : Text) where
-    by_source : (b : Bool) → has_source C t digest (Some from) ≡ b → mount C repo digest (Some from) ≡ (if b then link_held C t repo digest else start_instead C repo)
+  module _ (digest : Text) (from : Option Text) where
+    by_source : (b : Bool) → has_source C t digest from ≡ b → mount C repo digest from ≡ (if b then link_held C t repo digest else start_instead C repo)
     by_source b is = rw (known, is) refl
 
     module _ (none : source_slot l slots t from digest ≡ None) where
-      instead : mount C repo digest (Some from) ≡ start_instead C repo
+      instead : mount C repo digest from ≡ start_instead C repo
       instead = by_source false (source_none l u slots max_blob book t from digest none)
 
       -- a session is opened where there is no source
-      pub session_ok : (n : ℕ) (D : Catalog) → start C repo ≡ Ok (n, D) → mount C repo digest (Some from) ≡ Ok (mounting.Session n, D)
+      pub session_ok : (n : ℕ) (D : Catalog) → start C repo ≡ Ok (n, D) → mount C repo digest from ≡ Ok (mounting.Session n, D)
       session_ok n D started = instead ∙ rw started refl
 
-      pub session_refused : (e : Refusal) → start C repo ≡ Err e → mount C repo digest (Some from) ≡ Err e
+      pub session_refused : (e : Refusal) → start C repo ≡ Err e → mount C repo digest from ≡ Err e
       session_refused e refused = instead ∙ rw refused refl
 
     module _ (k : ℕ) (found : source_slot l slots t from digest ≡ Some k) where
-      abbrev source : (is_of C t from ≡ true) × (holds C from digest ≡ true) × (slot_of slots digest ≡ Some k)
+      abbrev source : (has_source C t digest from ≡ true) × (slot_of slots digest ≡ Some k)
       source = source_some l u slots max_blob book t from digest k found
+
+      -- a repository of the tenant that holds the blob
+      abbrev holder : (q : Text) × (is_of C t q ≡ true) × (holds C q digest ≡ true)
+      holder = source_of C t digest from source.0
 
       -- the source has a slot
       pub source_slot_of : slot_of slots digest ≡ Some k
-      source_slot_of = source.2
+      source_slot_of = source.1
 
-      links_it : mount C repo digest (Some from) ≡ link_held C t repo digest
-      links_it = by_source true (and_from (is_of C t from) (holds C from digest) source.0 source.1)
+      links_it : mount C repo digest from ≡ link_held C t repo digest
+      links_it = by_source true source.0
 
       -- a repository that can't appear
-      pub mount_refused_first : (e : Refusal) → appear l t repo ≡ Err e → mount C repo digest (Some from) ≡ Err e
+      pub mount_refused_first : (e : Refusal) → appear l t repo ≡ Err e → mount C repo digest from ≡ Err e
       mount_refused_first e refused = let a = err_of_if _ _ _ _ refused in links_it ∙ rw a.0 (ap Err a.1)
 
       abbrev blob : Text × Text
       blob = (digest, bytes_at slots k)
 
       abbrev held : (h : Held) × (held_at slots k ≡ Some h) × (h.digest ≡ digest)
-      held = held_of slots digest k source.2
+      held = held_of slots digest k source.1
 
       same_bytes_there : held.0.bytes ≡ blob.1
-      same_bytes_there = sym (bytes_there slots k digest source.2)
+      same_bytes_there = sym (bytes_there slots k digest source.1)
 
       abbrev resident : (b : Resident) × (get C.residents held.0.digest ≡ Some b) × (b.bytes ≡ held.0.bytes) × (b.condemned ≡ held.0.condemned)
       resident = slot_is_resident slots (lent_marks slots) (length-marks slots) book.tied.distinct k held.0 held.1
 
       -- its slot is live
       source_live : held.0.condemned ≡ false
-      source_live = linked_live l u slots max_blob book from digest k held.0 held.1 held.2 source.1
+      source_live = linked_live l u slots max_blob book holder.0 digest k held.0 held.1 held.2 holder.2
 
       pub live_source : phase_at slots k ≡ phase.Live
       live_source = phase_live slots k held.0 held.1 source_live
@@ -117,7 +120,7 @@ module _ (l : Linked) (u : Uploaded) (slots : List Slot) (max_blob t : ℕ) (rep
       small : length blob.1 ≤ 2 ^ 50
       small =
           let kept : get C.residents digest ≡ Some resident.0 = ap (get C.residents) (sym held.2) ∙ resident.1 in
-          let holds_it = is_held C t from digest (book.sound.lawful.links (from, digest) source.1).repo source.0 source.1 in
+          let holds_it = is_held C t holder.0 digest (book.sound.lawful.links (holder.0, digest) holder.2).repo holder.1 holder.2 in
           let within = held_within C t digest resident.0 kept holds_it in
           let long : length resident.0.bytes ≡ length blob.1 = ap length (resident.2 ∙ same_bytes_there) in
           let few = used_small C book.sound t in_tenants in
@@ -143,7 +146,7 @@ module _ (l : Linked) (u : Uploaded) (slots : List Slot) (max_blob t : ℕ) (rep
           left : C' ≡ with_link C repo digest
           left = keeps.catalog ∙ (λ i. record (with_link C repo digest) { residents = same_residents l0 u slots max_blob repo blob book0.tied book0.sound.lawful there0 k held.0 held.1 held.2 same_bytes_there source_live i })
 
-          mounted : mount C repo digest (Some from) ≡ Ok (mounting.Mounted, C')
+          mounted : mount C repo digest from ≡ Ok (mounting.Mounted, C')
           mounted = links_it ∙ rw room (λ i. Ok (mounting.Mounted, sym left i))
 
           same_charges : l'.charges ≡ l.charges
@@ -154,7 +157,7 @@ module _ (l : Linked) (u : Uploaded) (slots : List Slot) (max_blob t : ℕ) (rep
 
           mounted_book : IsBook l' u slots' max_blob
           mounted_book = record {
-            sound = Sound-after_mount C C' repo digest (Some from) mounting.Mounted mounted short book.sound;
+            sound = Sound-after_mount C C' repo digest from mounting.Mounted mounted short book.sound;
             tied = keeps.tied;
             charges = record {
               one_each = ap length same_charges ∙ book.charges.one_each ∙ sym same_tenants;
@@ -178,7 +181,7 @@ module _ (l : Linked) (u : Uploaded) (slots : List Slot) (max_blob t : ℕ) (rep
           kept0 : IsKept l0 slots repo blob l' slots'
           kept0 = subst (λ (x : Linked). IsKept x slots repo blob l' slots') (sym appeared_is) kept
 
-          pub mount_ok : mount C repo digest (Some from) ≡ Ok (mounting.Mounted, book_catalog l' u slots' max_blob)
+          pub mount_ok : mount C repo digest from ≡ Ok (mounting.Mounted, book_catalog l' u slots' max_blob)
           mount_ok = mounted short room1 l' slots' kept0
 
           -- a mounted blob leaves a book

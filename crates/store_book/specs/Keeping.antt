@@ -9,7 +9,7 @@ use Rattle.blob_digest.specs.declared.refusal.Refusal.{Refusal}
 use Rattle.blob_digest.specs.declared.refusal.Refusal.TheVariants.{DigestInvalid, StoreFull, ManifestBlobUnknown}
 use Rattle.slot_table.specs.Slots.{Slot, Held, slot_of, held_at, phase_at, free_slots, with_slot, fill, on_held, raise, mark}
 use Rattle.slot_table.specs.declared.phase.Phase.TheVariants as phase
-use Rattle.link_table.specs.Linked.{Linked, is_tenants, used_in, appear, put_manifest}
+use Rattle.link_table.specs.Linked.{Linked, is_tenants, blobs_of, used_in, appear, put_manifest}
 
 -- the bytes that slot k holds
 abbrev pub bytes_at : List Slot → ℕ → Text
@@ -19,9 +19,10 @@ bytes_at slots k = option_map_or (λ h. h.bytes) (held_at slots k) []
 abbrev pub linked_slot : Linked → List Slot → Text → Text → Option ℕ
 linked_slot l slots repo digest = if fmap.contains_key l.links (repo, digest) then slot_of slots digest else None
 
--- the same where the repository is this tenant's
-abbrev pub source_slot : Linked → List Slot → ℕ → Text → Text → Option ℕ
-source_slot l slots t from digest = if is_tenants l.tenants t from then linked_slot l slots from digest else None
+-- the same where the repository is this tenant's; where none is named, the slot of a blob that the tenant holds
+abbrev pub source_slot : Linked → List Slot → ℕ → Option Text → Text → Option ℕ
+source_slot l slots t None digest = if fmap.contains_key (blobs_of l t) digest then slot_of slots digest else None
+source_slot l slots t (Some from) digest = if is_tenants l.tenants t from then linked_slot l slots from digest else None
 
 -- the links with one more
 abbrev pub linked : Linked → Text → Text × Text → Linked

@@ -1,5 +1,6 @@
 ghost use Rattle.std.specs.Prelude.{◌≡◌, ◌≢◌, ◌<◌, length, Some, IfOk, IfErr, IsOk, OnErr, OnOk};
 ghost use Rattle.std.specs.FinMap.{get};
+ghost use Rattle.std.specs.Option.{option_copied};
 ghost use Rattle.blob_digest.specs.declared.refusal.Refusal.TheVariants.{UploadUnknown};
 ghost use Rattle.blob_digest.specs.Outcomes.{Answers, Does, DoesExactly};
 ghost use Rattle.link_table.specs.Tenancy.{tenants_shown};
@@ -290,11 +291,13 @@ impl Book {
         Ok(received)
     }
 
-    /// Links a blob that another repository of the tenant holds, without an upload (OCI Distribution
-    /// Specification 1.1, "Mounting a blob from another repository"). The repository appears with it.
-    /// Where the source is another tenant's, or isn't there, or doesn't hold the blob, this opens a
-    /// session in the repository, as `start` does. No bytes are copied; it takes the logarithm of the
-    /// number of links and of kept blobs, and a repository that appears moves those of its tenant behind it.
+    /// Links a blob that the tenant holds in the source or, without one, in any of its repositories, without
+    /// an upload (OCI Distribution Specification 1.1, "Mounting a blob from another repository"). The
+    /// repository appears with it. Where the source is another tenant's, or isn't there, or doesn't hold the
+    /// blob, though another repository may, or where without a source no repository of the tenant holds it,
+    /// this opens a session in the repository, as `start` does. No bytes are copied; it takes the logarithm
+    /// of the number of links and of kept blobs, and a repository that appears moves those of its tenant
+    /// behind it.
     ///
     /// Refused, in this order: a tenant that is not there (`NameUnknown`); a tenant that has 1,024
     /// repositories where this one is new, and, where a session is opened, 64 sessions or no session
@@ -303,9 +306,9 @@ impl Book {
         &mut self,
         repo: &RepoName,
         digest: &Digest,
-        from: &RepoName,
+        from: Option<&RepoName>,
     ) -> Result<Mount, Refusal>
-        ensures does { Does (λ m. m) result self.old.catalog self.new.catalog (mount self.old.catalog repo.now digest.now (Some from.now)) }
+        ensures does { Does (λ m. m) result self.old.catalog self.new.catalog (mount self.old.catalog repo.now digest.now (option_copied from.entry)) }
         ensures slots { (self.new.table ≡ self.old.table) × (self.new.slots ≡ self.old.slots) }
     {
         let tenant = self.links.tenant(repo)?;

@@ -1,6 +1,7 @@
 //! What a mount comes to, and where it takes the blob from.
 
-ghost use Rattle.std.specs.Prelude.{◌≡◌};
+ghost use Rattle.std.specs.Prelude.{◌≡◌, ◌<◌, length};
+ghost use Rattle.std.specs.Option.{option_copied};
 ghost use Rattle.store_book.specs.Keeping.{source_slot};
 
 use crate::keep::find_linked;
@@ -14,22 +15,29 @@ use slot_table::SlotTable;
 pub enum Mount {
     /// The blob is linked in the repository.
     Mounted,
-    /// The source doesn't hold the blob, and an upload session was opened for it: its number.
+    /// The source doesn't hold the blob or, without one, no repository of the tenant does, and an upload
+    /// session was opened for it: its number.
     Session(u32),
 }
 
-/// The slot of the blob that a mount links: where the source is the tenant's and holds it.
+/// The slot of the blob that a mount links: where the source is the tenant's and holds it or, without a
+/// source, where some repository of the tenant does.
 pub(crate) fn find_source(
     links: &Links,
     slots: &SlotTable,
     tenant: u16,
-    from: &RepoName,
+    from: Option<&RepoName>,
     digest: &Digest,
 ) -> Option<u32>
-    ensures { result ≡ source_slot links.now slots.now tenant from.now digest.now }
+    requires { tenant < length links.now.tenants }
+    ensures { result ≡ source_slot links.now slots.now tenant (option_copied from.entry) digest.now }
 {
-    match links.tenant(from) {
-        Ok(owner) if owner == tenant => find_linked(links, slots, from, digest),
-        _ => None,
+    match from {
+        Some(from) => match links.tenant(from) {
+            Ok(owner) if owner == tenant => find_linked(links, slots, from, digest),
+            _ => None,
+        },
+        None if links.tenant_holds(tenant, digest) => slots.find(digest),
+        None => None,
     }
 }

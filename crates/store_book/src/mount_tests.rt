@@ -37,6 +37,27 @@ fn a_mount_from_another_tenant_opens_a_session(rt: HostRuntime) {
 }
 
 #[test]
+fn a_mount_without_a_source_links_what_the_tenant_holds(rt: HostRuntime) {
+    let mut book = book(&rt, &[("acme", 1000), ("other", 1000)]);
+    let script = [
+        Step::Upload("acme/one", ABC, "abc", Ok(3)),
+        Step::Mount("acme/two", ABC, "", Ok(Mount::Mounted)),
+        Step::Mount("other/x", ABC, "", Ok(Mount::Session(1))),
+        Step::Mount("acme/three", OBJ, "", Ok(Mount::Session(2))),
+        Step::Mount("acme/four", ABC, "acme/three", Ok(Mount::Session(3))),
+        Step::Prints(
+            "book\ntenant acme used 3 quota 1000 next 4\nrepository acme/four\nsession 3 received 0\nrepository acme/one\nblob sha256:ba7816bf8f01cfea414140de5dae2223b00361a396177a9cb410ff61f20015ad size 3 links 2\nrepository acme/three\nsession 2 received 0\nrepository acme/two\nblob sha256:ba7816bf8f01cfea414140de5dae2223b00361a396177a9cb410ff61f20015ad size 3 links 2\ntenant other used 0 quota 1000 next 2\nrepository other/x\nsession 1 received 0\nend\n",
+        ),
+        Step::Delete("acme/one", ABC, Ok(())),
+        Step::Mount("acme/one", ABC, "", Ok(Mount::Mounted)),
+        Step::Delete("acme/one", ABC, Ok(())),
+        Step::Delete("acme/two", ABC, Ok(())),
+        Step::Mount("acme/one", ABC, "", Ok(Mount::Session(4))),
+    ];
+    plays(&rt, &mut book, &script);
+}
+
+#[test]
 fn a_use_falls_with_the_last_link(rt: HostRuntime) {
     let (one, two) = ("acme/one", "acme/two");
     let mut book = book(&rt, &[("acme", 3)]);
@@ -120,6 +141,7 @@ fn an_unknown_tenant_has_no_mounts(rt: HostRuntime) {
     let mut book = book(&rt, &[("acme", 1000)]);
     let script = [
         Step::Mount("nobody/x", ABC, "acme/one", Err(Refusal::NameUnknown)),
+        Step::Mount("nobody/x", ABC, "", Err(Refusal::NameUnknown)),
         Step::Delete("nobody/x", ABC, Err(Refusal::NameUnknown)),
     ];
     plays(&rt, &mut book, &script);
@@ -183,6 +205,7 @@ fn a_tenant_has_1024_repositories(rt: HostRuntime) {
     let script = [
         Step::Start(new, Err(Refusal::LimitReached)),
         Step::Mount(new, ABC, "acme/one", Err(Refusal::LimitReached)),
+        Step::Mount(new, ABC, "", Err(Refusal::LimitReached)),
         Step::Mount(new, ABC, "acme/last", Err(Refusal::LimitReached)),
         Step::Mount(new, ABC, "acme/none", Err(Refusal::LimitReached)),
     ];

@@ -95,7 +95,7 @@ fn printed(rt: &(impl Abort + AllocGlobal), store: &Store) -> Vec<u8> {
 }
 
 /// A command, or a look at the text of the book, with what it has to answer. Repositories, digests and
-/// ranges are texts; where that of a range is empty, there is none.
+/// ranges are texts; where that of a range, or of a mount's source, is empty, there is none.
 #[derive(Clone, Copy)]
 pub enum Step<'a> {
     Start(&'a str, Result<u32, Refusal>),
@@ -215,6 +215,14 @@ pub fn fill(rt: &(impl Abort + AllocGlobal), store: &mut Store, from: u32, to: u
     }
 }
 
+/// The source of a mount that a text names; none where it is empty.
+fn source(rt: &(impl Abort + AllocGlobal), text: &str) -> Option<RepoName> {
+    if text.is_empty() {
+        return None;
+    }
+    Some(name(rt, text))
+}
+
 pub fn mount(
     rt: &(impl Abort + AllocGlobal),
     store: &mut Store,
@@ -224,9 +232,10 @@ pub fn mount(
 ) -> Result<Mount, Refusal>
     ensures { store.new.book.table ≡ store.old.book.table }
 {
+    let from = source(rt, from);
     store
         .book
-        .mount(&name(rt, repo), &digest(rt, of), &name(rt, from))
+        .mount(&name(rt, repo), &digest(rt, of), from.as_ref())
 }
 
 fn delete(

@@ -1,4 +1,5 @@
-use Rattle.std.proofs.Common.{Some, ap, arith, length, ◌∙◌}
+use Rattle.std.proofs.Common.{ap, arith, length, ◌∙◌}
+use Rattle.std.specs.Option.{option_copied}
 use Rattle.blob_store.specs.Totals.{one}
 use Rattle.blob_store.proofs.SessionSums.{mount_sums}
 use Rattle.blob_store.proofs.Rooms.{added, room_given}
@@ -7,7 +8,7 @@ use Rattle.blob_store.proofs.kept.Kept.mount.Goals as goal
 pub invariant_of-self-2 : goal.invariant_of-self-2
 invariant_of-self-2 g c =
     let was = c.self.invariant in
-    let sums = mount_sums c.self.inside.book.catalog c.mount.new.self.catalog c.args.repo.now c.args.digest.now (Some c.args.from.now) c.in_ok-mounted.mounted c.audit.ensures.lawful c.in_ok-mounted.ensures.does in
+    let sums = mount_sums c.self.inside.book.catalog c.mount.new.self.catalog c.args.repo.now c.args.digest.now (option_copied c.args.from) c.in_ok-mounted.mounted c.audit.ensures.lawful c.in_ok-mounted.ensures.does in
     let hands = sums.hands in
     let reserve = sums.reserve in
     let bytes = sums.bytes in

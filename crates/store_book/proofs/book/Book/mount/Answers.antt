@@ -1,4 +1,5 @@
 use Rattle.std.proofs.Common.{ap, sym, ◌∙◌, subst, refl}
+use Rattle.std.specs.Option.{option_copied}
 use Rattle.std.proofs.lemmas.Result.{err_from_is_err_and}
 use Rattle.blob_digest.specs.Sets as set
 use Rattle.link_table.specs.Linked.{Linked, HasNoLinks, vanish}
@@ -15,39 +16,39 @@ pub returns-in_err-number-clause-does : goal.returns-in_err-number-clause-does
 returns-in_err-number-clause-does c =
     let p = err_from_is_err_and c.from_residual-in_err-number.result c.from_residual-in_err-number.ensures.1 in
     rw (p.1, p.2) (
-      (λ other. rw (← c.self.view_is) (session_refused c.self.inside.links c.self.inside.uploads c.self.inside.slots.slots c.self.inside.max_blob c.in_ok-tenant.tenant c.args.repo.now c.self.invariant (sym c.in_ok-tenant.ensures.known) c.args.digest.now c.args.from.now (rw c.table.ensures at (sym c.in_default.ensures)) _ (ap (λ (s : BookState). start s.catalog c.args.repo.now) c.self.view_is ∙ c.in_err-number.ensures.does.0 other))),
+      (λ other. rw (← c.self.view_is) (session_refused c.self.inside.links c.self.inside.uploads c.self.inside.slots.slots c.self.inside.max_blob c.in_ok-tenant.tenant c.args.repo.now c.self.invariant (sym c.in_ok-tenant.ensures.known) c.args.digest.now (option_copied c.args.from) (rw c.table.ensures at (sym c.in_default.ensures)) _ (ap (λ (s : BookState). start s.catalog c.args.repo.now) c.self.view_is ∙ c.in_err-number.ensures.does.0 other))),
       c.in_err-number.ensures.does.1,
     )
 
 pub returns-in_default-clause-does : goal.returns-in_default-clause-does
-returns-in_default-clause-does c = rw (← c.self.view_is) (session_ok c.self.inside.links c.self.inside.uploads c.self.inside.slots.slots c.self.inside.max_blob c.in_ok-tenant.tenant c.args.repo.now c.self.invariant (sym c.in_ok-tenant.ensures.known) c.args.digest.now c.args.from.now (rw c.table.ensures at (sym c.in_default.ensures)) c.in_ok-number.number c.start.new.self.catalog (ap (λ (s : BookState). start s.catalog c.args.repo.now) c.self.view_is ∙ c.in_ok-number.ensures.does))
+returns-in_default-clause-does c = rw (← c.self.view_is) (session_ok c.self.inside.links c.self.inside.uploads c.self.inside.slots.slots c.self.inside.max_blob c.in_ok-tenant.tenant c.args.repo.now c.self.invariant (sym c.in_ok-tenant.ensures.known) c.args.digest.now (option_copied c.args.from) (rw c.table.ensures at (sym c.in_default.ensures)) c.in_ok-number.number c.start.new.self.catalog (ap (λ (s : BookState). start s.catalog c.args.repo.now) c.self.view_is ∙ c.in_ok-number.ensures.does))
 
 pub returns-in_err-appeared-clause-does : goal.returns-in_err-appeared-clause-does
 returns-in_err-appeared-clause-does c =
     let p = err_from_is_err_and c.from_residual-in_err-appeared.result c.from_residual-in_err-appeared.ensures.1 in
     rw (p.1, p.2) (
-      (λ other. rw (← c.self.view_is) (mount_refused_first c.self.inside.links c.self.inside.uploads c.self.inside.slots.slots c.self.inside.max_blob c.in_ok-tenant.tenant c.args.repo.now c.self.invariant (sym c.in_ok-tenant.ensures.known) c.args.digest.now c.args.from.now c.in-Some.slot (rw c.table.ensures at (sym c.in-Some.ensures)) _ (c.in_err-appeared.ensures.0 other))),
+      (λ other. rw (← c.self.view_is) (mount_refused_first c.self.inside.links c.self.inside.uploads c.self.inside.slots.slots c.self.inside.max_blob c.in_ok-tenant.tenant c.args.repo.now c.self.invariant (sym c.in_ok-tenant.ensures.known) c.args.digest.now (option_copied c.args.from) c.in-Some.slot (rw c.table.ensures at (sym c.in-Some.ensures)) _ (c.in_err-appeared.ensures.0 other))),
       ap (λ l. book_catalog l c.self.inside.uploads c.self.inside.slots.slots c.self.inside.max_blob) c.in_err-appeared.ensures.1 ∙ ap (λ (s : BookState). s.catalog) c.self.view_is,
     )
 
 pub link_slot-requires-clause-can : goal.link_slot-requires-clause-can
 link_slot-requires-clause-can c =
-    can_link c.self.inside.links c.self.inside.uploads c.self.inside.slots.slots c.self.inside.max_blob c.in_ok-tenant.tenant c.args.repo.now c.self.invariant (sym c.in_ok-tenant.ensures.known) c.args.digest.now c.args.from.now c.in-Some.slot (rw c.table.ensures at (sym c.in-Some.ensures)) c.appear.new.self c.in_ok-appeared.appeared c.in_ok-appeared.ensures c.in_ok-tenant.ensures.short
+    can_link c.self.inside.links c.self.inside.uploads c.self.inside.slots.slots c.self.inside.max_blob c.in_ok-tenant.tenant c.args.repo.now c.self.invariant (sym c.in_ok-tenant.ensures.known) c.args.digest.now (option_copied c.args.from) c.in-Some.slot (rw c.table.ensures at (sym c.in-Some.ensures)) c.appear.new.self c.in_ok-appeared.appeared c.in_ok-appeared.ensures c.in_ok-tenant.ensures.short
 
 pub invariant_of-self-in-Ok : goal.invariant_of-self-in-Ok
 invariant_of-self-in-Ok c =
-    IsBook-mount c.self.inside.links c.self.inside.uploads c.self.inside.slots.slots c.self.inside.max_blob c.in_ok-tenant.tenant c.args.repo.now c.self.invariant (sym c.in_ok-tenant.ensures.known) c.args.digest.now c.args.from.now c.in-Some.slot (rw c.table.ensures at (sym c.in-Some.ensures)) c.appear.new.self c.in_ok-appeared.appeared c.in_ok-appeared.ensures c.in_ok-tenant.ensures.short c.link_slot.new.links c.link_slot.new.slots.slots c.in-Ok.ensures.ok
+    IsBook-mount c.self.inside.links c.self.inside.uploads c.self.inside.slots.slots c.self.inside.max_blob c.in_ok-tenant.tenant c.args.repo.now c.self.invariant (sym c.in_ok-tenant.ensures.known) c.args.digest.now (option_copied c.args.from) c.in-Some.slot (rw c.table.ensures at (sym c.in-Some.ensures)) c.appear.new.self c.in_ok-appeared.appeared c.in_ok-appeared.ensures c.in_ok-tenant.ensures.short c.link_slot.new.links c.link_slot.new.slots.slots c.in-Ok.ensures.ok
 
 pub returns-in-Ok-clause-does : goal.returns-in-Ok-clause-does
 returns-in-Ok-clause-does c =
-    rw (← c.self.view_is) (mount_ok c.self.inside.links c.self.inside.uploads c.self.inside.slots.slots c.self.inside.max_blob c.in_ok-tenant.tenant c.args.repo.now c.self.invariant (sym c.in_ok-tenant.ensures.known) c.args.digest.now c.args.from.now c.in-Some.slot (rw c.table.ensures at (sym c.in-Some.ensures)) c.appear.new.self c.in_ok-appeared.appeared c.in_ok-appeared.ensures c.in_ok-tenant.ensures.short c.link_slot.new.links c.link_slot.new.slots.slots c.in-Ok.ensures.ok)
+    rw (← c.self.view_is) (mount_ok c.self.inside.links c.self.inside.uploads c.self.inside.slots.slots c.self.inside.max_blob c.in_ok-tenant.tenant c.args.repo.now c.self.invariant (sym c.in_ok-tenant.ensures.known) c.args.digest.now (option_copied c.args.from) c.in-Some.slot (rw c.table.ensures at (sym c.in-Some.ensures)) c.appear.new.self c.in_ok-appeared.appeared c.in_ok-appeared.ensures c.in_ok-tenant.ensures.short c.link_slot.new.links c.link_slot.new.slots.slots c.in-Ok.ensures.ok)
 
 pub returns-in-Ok-clause-slots : goal.returns-in-Ok-clause-slots
 returns-in-Ok-clause-slots c = rw (← c.self.view_is) c.in-Ok.ensures.seen
 
 pub link_slot-requires-clause-live : goal.link_slot-requires-clause-live
 link_slot-requires-clause-live c =
-    live_source c.self.inside.links c.self.inside.uploads c.self.inside.slots.slots c.self.inside.max_blob c.in_ok-tenant.tenant c.args.repo.now c.self.invariant (sym c.in_ok-tenant.ensures.known) c.args.digest.now c.args.from.now c.in-Some.slot (rw c.table.ensures at (sym c.in-Some.ensures))
+    live_source c.self.inside.links c.self.inside.uploads c.self.inside.slots.slots c.self.inside.max_blob c.in_ok-tenant.tenant c.args.repo.now c.self.invariant (sym c.in_ok-tenant.ensures.known) c.args.digest.now (option_copied c.args.from) c.in-Some.slot (rw c.table.ensures at (sym c.in-Some.ensures))
 
 pub vanish-requires-clause-there : goal.vanish-requires-clause-there
 vanish-requires-clause-there c = ap (λ (l : Linked). set.contains l.repos c.args.repo.now) c.in-Err.ensures.err.0 ∙ appeared_there c.self.inside.links c.appear.new.self c.in_ok-tenant.tenant c.args.repo.now c.in_ok-appeared.appeared c.in_ok-appeared.ensures
