@@ -13,6 +13,8 @@ mod counters;
 mod desk;
 mod kept;
 mod lease;
+#[cfg(test)]
+mod load_tests;
 mod names;
 mod parts;
 mod store;

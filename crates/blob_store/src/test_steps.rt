@@ -78,6 +78,8 @@ pub enum Step<'a> {
     DeleteManifest(&'a str, &'a str, Result<(), Refusal>),
     /// A sweep, with how many blobs it condemned, and how many slots it freed and left to leases.
     Sweep(u32, u32, u32),
+    /// A sweep that condemns so many blobs and retires their slots.
+    Retire(u32),
     /// The word of slot 0 is this.
     Word(u64),
     /// The text of the book is this.
@@ -108,7 +110,7 @@ impl<
     A: Ledger + Send + Sync,
     W: Abort + AllocGlobal + Threads + Wait + Sync,
 > TestStore<'s, N, C, R, D, A, W> {
-    fn start(&self, desk: &mut Desk<C, R, D, A>, repo: &str) -> Result<u32, Refusal> {
+    pub fn start(&self, desk: &mut Desk<C, R, D, A>, repo: &str) -> Result<u32, Refusal> {
         self.store.start(self.rt, desk, &name(self.rt, repo))
     }
 
@@ -147,7 +149,7 @@ impl<
             .close(self.rt, desk, &repo, number, &of, places, bytes)
     }
 
-    fn abandon(
+    pub fn abandon(
         &self,
         desk: &mut Desk<C, R, D, A>,
         repo: &str,
@@ -157,7 +159,7 @@ impl<
             .abandon(self.rt, desk, &name(self.rt, repo), number)
     }
 
-    fn mount(
+    pub fn mount(
         &self,
         desk: &mut Desk<C, R, D, A>,
         repo: &str,
@@ -170,12 +172,12 @@ impl<
             .mount(self.rt, desk, &name(self.rt, repo), &of, from.as_ref())
     }
 
-    fn delete(&self, desk: &mut Desk<C, R, D, A>, repo: &str, of: &str) -> Result<(), Refusal> {
+    pub fn delete(&self, desk: &mut Desk<C, R, D, A>, repo: &str, of: &str) -> Result<(), Refusal> {
         let of = digest(self.rt, of);
         self.store.delete(self.rt, desk, &name(self.rt, repo), &of)
     }
 
-    fn put_manifest(
+    pub fn put_manifest(
         &self,
         desk: &mut Desk<C, R, D, A>,
         repo: &str,
@@ -186,7 +188,7 @@ impl<
     }
 
     /// Whether a manifest is answered with its bytes.
-    fn gets_manifest(&self, desk: &mut Desk<C, R, D, A>, repo: &str, bytes: &[u8]) -> bool {
+    pub fn gets_manifest(&self, desk: &mut Desk<C, R, D, A>, repo: &str, bytes: &[u8]) -> bool {
         let of = Digest::of(Algorithm::Sha256, bytes);
         match self
             .store
@@ -197,7 +199,7 @@ impl<
         }
     }
 
-    fn delete_manifest(
+    pub fn delete_manifest(
         &self,
         desk: &mut Desk<C, R, D, A>,
         repo: &str,
@@ -208,7 +210,7 @@ impl<
             .delete_manifest(self.rt, desk, &name(self.rt, repo), &of)
     }
 
-    fn sweep(&self) -> Swept {
+    pub fn sweep(&self) -> Swept {
         self.store.sweep(self.rt)
     }
 
@@ -218,7 +220,7 @@ impl<
         self.store.word(self.rt, 0)
     }
 
-    fn printed(&self) -> Vec<u8> {
+    pub fn printed(&self) -> Vec<u8> {
         let mut written: Vec<u8> = Vec::new(self.rt.alloc());
         self.store
             .print(self.rt, &mut written)
@@ -259,6 +261,15 @@ impl<
                 };
                 self.sweep() == wanted
             }
+            Step::Retire(count) => {
+                let wanted = Swept {
+                    condemned: *count,
+                    freed: 0,
+                    held: 0,
+                    retired: *count,
+                };
+                self.sweep() == wanted
+            }
             Step::Word(wanted) => self.word() == *wanted,
             Step::Prints(wanted) => self.printed().as_slice() == wanted.as_bytes(),
         }
@@ -274,11 +285,21 @@ impl<
         }
     }
 
-    /// A lease of a blob that `acme/one` holds.
-    pub fn leases(&self, desk: &mut Desk<C, R, D, A>, of: &str) -> Lease<'s, N> {
+    /// A lease of a blob that a repository holds.
+    pub fn leases_from(
+        &self,
+        desk: &mut Desk<C, R, D, A>,
+        repo: &str,
+        of: &str,
+    ) -> Lease<'s, N> {
         let of = digest(self.rt, of);
         self.store
-            .lease(self.rt, desk, &name(self.rt, ONE), &of)
+            .lease(self.rt, desk, &name(self.rt, repo), &of)
             .expect(self.rt, "a lease")
+    }
+
+    /// A lease of a blob that `acme/one` holds.
+    pub fn leases(&self, desk: &mut Desk<C, R, D, A>, of: &str) -> Lease<'s, N> {
+        self.leases_from(desk, ONE, of)
     }
 }

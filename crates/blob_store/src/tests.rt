@@ -15,6 +15,14 @@ use store_book::Mount;
 
 const MANIFEST: &str = "{\"schemaVersion\":2,\"manifests\":[]}";
 
+/// The book after 1,000 rounds of each of eight threads.
+const LOADED: &str =
+    "book\ntenant acme used 0 quota 1099511627776 next 8001\nrepository acme/a0\nrepository acme/a1\nrepository acme/a2\nrepository acme/a3\nrepository acme/a4\nrepository acme/a5\nrepository acme/a6\nrepository acme/a7\nrepository acme/b0\nrepository acme/b1\nrepository acme/b2\nrepository acme/b3\nrepository acme/b4\nrepository acme/b5\nrepository acme/b6\nrepository acme/b7\nend\n";
+
+/// The same, where two more threads met at a session of `acme/one`.
+const LOADED_WITH_ALL: &str =
+    "book\ntenant acme used 0 quota 1099511627776 next 8002\nrepository acme/a0\nrepository acme/a1\nrepository acme/a2\nrepository acme/a3\nrepository acme/a4\nrepository acme/a5\nrepository acme/a6\nrepository acme/a7\nrepository acme/b0\nrepository acme/b1\nrepository acme/b2\nrepository acme/b3\nrepository acme/b4\nrepository acme/b5\nrepository acme/b6\nrepository acme/b7\nrepository acme/one\nend\n";
+
 /// What is done with a store.
 #[derive(Clone, Copy)]
 enum Scene {
@@ -24,6 +32,20 @@ enum Scene {
     Shares,
     Busy,
     Reading,
+    LastGeneration,
+    Loaded,
+    LoadedWithAll,
+}
+
+impl Scene {
+    /// How many slots the store of a scene has, and their first generation.
+    fn slots(self) -> (u32, u32) {
+        match self {
+            Scene::LastGeneration => (1, 4_294_967_295),
+            Scene::Loaded | Scene::LoadedWithAll => (64, 0),
+            _ => (2, 0),
+        }
+    }
 }
 
 impl<
@@ -125,6 +147,43 @@ impl<
         assert_eq!(rt; desks[0].closed(), 3);
         assert_eq!(rt; desks[0].abandoned(), 0);
         self.store.settle(rt, desks);
+    }
+
+    /// The slot of the last generation is retired, and takes no other blob.
+    fn last_generation(&self)
+        requires { 0 < N.slots }
+    {
+        let rt = self.rt;
+        let mut desks = self.store.desks(rt, 1).expect(rt, "a desk");
+        let steps = [
+            Step::Start(ONE, Ok(1)),
+            Step::Close(ONE, 1, ABC, "", "abc", Ok(3)),
+            Step::Word(0xffff_ffff_8000_0000),
+            Step::Delete(ONE, ABC, Ok(())),
+            Step::Retire(1),
+            Step::Word(0xffff_ffff_4000_0000),
+            Step::Start(ONE, Ok(2)),
+            Step::Close(ONE, 2, OBJ, "", "{}", Err(Refusal::StoreFull)),
+            Step::Sweep(0, 0, 0),
+            Step::Word(0xffff_ffff_4000_0000),
+        ];
+        self.plays(&mut desks[0], &steps);
+        self.store.settle(rt, desks);
+    }
+
+    /// Two threads meet at a session, and nothing else is in the totals.
+    fn met(&self) {
+        let rt = self.rt;
+        let counted = self.busy();
+        let totals = Totals {
+            commands: counted.commands,
+            received: counted.received,
+            in_sessions: 0,
+            closed: 0,
+            abandoned: counted.abandoned,
+            desks: 0,
+        };
+        assert_eq!(rt; self.store.totals(rt), totals);
     }
 
     /// Finds what a lease of `abc` in slot 0 tells, and reads it.
@@ -245,14 +304,20 @@ fn play<
         Scene::Commands => test.commands(),
         Scene::Leases => test.leased(),
         Scene::Shares => test.shared(),
-        Scene::Busy => test.busy(),
+        Scene::Busy => test.met(),
         Scene::Reading => test.reading(),
+        Scene::LastGeneration => test.last_generation(),
+        Scene::Loaded => test.loaded(false, LOADED),
+        Scene::LoadedWithAll => test.loaded(true, LOADED_WITH_ALL),
     }
 }
 
-/// A scene on a store of two slots.
+/// A scene on a store of its own.
 fn play_on_a_store<W: Abort + AllocGlobal + Threads + Wait + Sync>(rt: &W, scene: Scene) {
-    let parts = Parts::new(rt.alloc(), &config(rt, 2, &["acme"])).expect(rt, "parts");
+    let (slots, first_generation) = scene.slots();
+    let mut config = config(rt, slots, &["acme"]);
+    config.first_generation = first_generation;
+    let parts = Parts::new(rt.alloc(), &config).expect(rt, "parts");
     play::<Brand, Brand, Brand, Brand, Brand, W>(rt, parts, scene);
 }
 
@@ -286,18 +351,49 @@ fn a_lease_is_read_while_the_lock_is_held(rt: HostRuntime) {
     play_on_a_store(&rt, Scene::Reading);
 }
 
-/// Why a store of these slots and tenants isn't opened.
-fn refused(rt: &(impl Abort + AllocGlobal), slots: u32, names: &[&str]) -> Option<Refusal> {
-    Parts::new(rt.alloc(), &config(rt, slots, names)).err()
+#[test]
+fn a_slot_of_the_last_generation_is_retired(rt: HostRuntime) {
+    play_on_a_store(&rt, Scene::LastGeneration);
+}
+
+#[test]
+fn eight_threads_play_while_a_ninth_sweeps(rt: HostRuntime) {
+    play_on_a_store(&rt, Scene::Loaded);
+}
+
+#[test]
+fn eight_threads_play_all_commands_while_others_sweep_and_meet(rt: HostRuntime) {
+    play_on_a_store(&rt, Scene::LoadedWithAll);
+}
+
+/// A store of these slots and tenants, blobs of at most so many bytes, and a quota for each tenant isn't opened.
+fn refuses(
+    rt: &(impl Abort + AllocGlobal),
+    slots: u32,
+    names: &[&str],
+    max_blob: u64,
+    quota: u64,
+    refusal: Refusal,
+) {
+    let mut config = config(rt, slots, names);
+    config.max_blob = max_blob;
+    for tenant in config.tenants.iter_mut() {
+        tenant.1 = quota;
+    }
+    assert_eq!(rt; Parts::new(rt.alloc(), &config).err(), Some(refusal));
 }
 
 #[test]
 fn parts_are_refused_by_names_and_limits(rt: HostRuntime) {
-    assert_eq!(rt;
-        refused(&rt, 1, &["acme", "acme"]),
-        Some(Refusal::NameInvalid)
-    );
-    assert_eq!(rt; refused(&rt, 1, &["Acme"]), Some(Refusal::NameInvalid));
-    assert_eq!(rt; refused(&rt, 1, &[]), Some(Refusal::LimitReached));
-    assert_eq!(rt; refused(&rt, 0, &["acme"]), Some(Refusal::LimitReached));
+    for (slots, names, max_blob, quota, refusal) in [
+        (1, ["acme", "acme"].as_slice(), 1, 1, Refusal::NameInvalid),
+        (1, ["Acme"].as_slice(), 1, 1, Refusal::NameInvalid),
+        (1, [].as_slice(), 1, 1, Refusal::LimitReached),
+        (0, ["acme"].as_slice(), 1, 1, Refusal::LimitReached),
+        (65_537, ["acme"].as_slice(), 1, 1, Refusal::LimitReached),
+        (1, ["acme"].as_slice(), (1 << 40) + 1, 1, Refusal::LimitReached),
+        (1, ["acme"].as_slice(), 1, (1 << 50) + 1, Refusal::LimitReached),
+    ] {
+        refuses(&rt, slots, names, max_blob, quota, refusal);
+    }
 }

@@ -1,7 +1,7 @@
 //! What two threads do with a store at the same time.
 
-use crate::test_steps::{ABC, ONE, TestStore, name};
-use crate::{Desk, Naming};
+use crate::test_steps::{ABC, ONE, TestStore};
+use crate::{Desk, Naming, Settled};
 use blob_digest::Refusal;
 use std::alloc::AllocGlobal;
 use std::io::Write;
@@ -13,7 +13,7 @@ use std::thread::Threads;
 use std::{io, thread};
 
 /// As many turns as a thread waits for another.
-const MAX_TURNS: u32 = 100_000_000;
+pub const MAX_TURNS: u32 = 100_000_000;
 
 /// The bytes of a chunk: 256 KiB.
 const CHUNK: usize = 262_144;
@@ -70,18 +70,12 @@ impl<
     A: Ledger + Send + Sync,
     W: Abort + AllocGlobal + Threads + Wait + Sync,
 > TestStore<'s, N, C, R, D, A, W> {
-    /// Opens session 1.
-    fn opens(&self, desk: &mut Desk<C, R, D, A>) {
-        let rt = self.rt;
-        assert_eq!(rt; self.store.start(rt, desk, &name(rt, ONE)), Ok(1));
-    }
-
     /// Appends a chunk, again after each `Busy`. Whether it was accepted.
-    fn appends(&self, desk: &mut Desk<C, R, D, A>, chunk: &[u8]) -> bool {
+    fn appends(&self, desk: &mut Desk<C, R, D, A>, number: u32, chunk: &[u8]) -> bool {
         for _ in 0..MAX_TURNS {
-            match self.append(desk, ONE, 1, "", chunk) {
+            match self.append(desk, ONE, number, "", chunk) {
                 Ok(_) => return true,
-                Err(Refusal::Busy) => {}
+                Err(Refusal::Busy) => thread::yield_now(),
                 Err(_) => return false,
             }
         }
@@ -92,17 +86,18 @@ impl<
     fn appends_chunks(
         &self,
         desks: &mut Vec<Desk<C, R, D, A>>,
-        chunk: &[u8],
+        number: u32,
         met: &AtomicBool,
         ended: &AtomicBool,
     ) -> u64 {
+        let chunk = [b'a'; CHUNK];
         let mut count: u64 = 0;
         for _ in 0..MAX_CHUNKS {
             if met.load(Ordering::SeqCst) {
                 break;
             }
             if let Some(desk) = desks.first_mut() {
-                if self.appends(desk, chunk) {
+                if self.appends(desk, number, &chunk) {
                     count = count.saturating_add(1);
                 }
             }
@@ -111,46 +106,77 @@ impl<
         count
     }
 
-    /// Appends no bytes until that is answered Busy. Whether it was.
+    /// Appends no bytes until that is answered Busy. How often it was accepted before, where it was met.
     fn meets_a_chunk(
         &self,
         desks: &mut Vec<Desk<C, R, D, A>>,
+        number: u32,
         met: &AtomicBool,
         ended: &AtomicBool,
-    ) -> bool {
+    ) -> Option<u64> {
+        let mut count: u64 = 0;
         for _ in 0..MAX_TURNS {
             if let Some(desk) = desks.first_mut() {
-                if self.append(desk, ONE, 1, "", b"") == Err(Refusal::Busy) {
-                    met.store(true, Ordering::SeqCst);
-                    return true;
+                match self.append(desk, ONE, number, "", b"") {
+                    Ok(_) => count = count.saturating_add(1),
+                    Err(Refusal::Busy) => {
+                        met.store(true, Ordering::SeqCst);
+                        return Some(count);
+                    }
+                    Err(_) => return None,
                 }
             }
             if ended.load(Ordering::SeqCst) {
-                return false;
+                return None;
             }
         }
-        false
+        None
     }
 
-    /// One thread appends chunks, until another that appends no bytes is answered that the session is busy.
-    pub fn busy(&self) {
+    /// One thread appends chunks to a session, until another that appends no bytes is answered that the session
+    /// is busy. How many chunks were accepted, and how often no bytes were.
+    fn meets(
+        &self,
+        one: &mut Vec<Desk<C, R, D, A>>,
+        two: &mut Vec<Desk<C, R, D, A>>,
+        number: u32,
+    ) -> (u64, u64) {
+        let met = AtomicBool::new(false);
+        let ended = AtomicBool::new(false);
+        let (chunks, empty) = thread::join(
+            self.rt,
+            || self.appends_chunks(one, number, &met, &ended),
+            || self.meets_a_chunk(two, number, &met, &ended),
+        );
+        (chunks, empty.expect(self.rt, "a chunk on its way"))
+    }
+
+    /// Two threads meet at a new session of `acme/one`, which is then abandoned. What both counted.
+    pub fn busy(&self) -> Settled {
         let rt = self.rt;
         let mut one = self.store.desks(rt, 1).expect(rt, "a desk");
         let mut two = self.store.desks(rt, 1).expect(rt, "a desk");
-        self.opens(&mut one[0]);
-        let chunk = [b'a'; CHUNK];
-        let met = AtomicBool::new(false);
-        let ended = AtomicBool::new(false);
-        let (count, was_met) = thread::join(
-            rt,
-            || self.appends_chunks(&mut one, &chunk, &met, &ended),
-            || self.meets_a_chunk(&mut two, &met, &ended),
-        );
-        assert!(rt; was_met);
-        let received = count.saturating_mul(262_144);
-        assert_eq!(rt; self.store.totals(rt).in_sessions, received);
-        assert_eq!(rt; self.store.settle(rt, one).received, received);
-        assert_eq!(rt; self.store.settle(rt, two).left, 0);
+        let number = self.start(&mut one[0], ONE).expect(rt, "a session");
+        let (chunks, empty) = self.meets(&mut one, &mut two, number);
+        let received = chunks.saturating_mul(262_144);
+        if let Some(desk) = one.first_mut() {
+            assert_eq!(rt; self.abandon(desk, ONE, number), Ok(received));
+        }
+        let first = self.store.settle(rt, one);
+        let second = self.store.settle(rt, two);
+        let counted = Settled {
+            commands: chunks.saturating_add(2),
+            received,
+            closed: 0,
+            abandoned: received,
+            left: first.left,
+        };
+        assert_eq!(rt; first, counted);
+        assert_eq!(rt; (second.commands, second.received), (empty, 0));
+        Settled {
+            commands: counted.commands.saturating_add(empty),
+            ..counted
+        }
     }
 
     /// Leases the blob, reads it and gives it back while the text is being written. Whether it could.
@@ -183,7 +209,7 @@ impl<
     pub fn reading(&self) {
         let rt = self.rt;
         let mut desks = self.store.desks(rt, 1).expect(rt, "a desk");
-        self.opens(&mut desks[0]);
+        assert_eq!(rt; self.start(&mut desks[0], ONE), Ok(1));
         assert_eq!(rt; self.close(&mut desks[0], ONE, 1, ABC, "", b"abc"), Ok(3));
         let flags = Flags {
             leased: AtomicBool::new(false),

@@ -1,7 +1,7 @@
-//! Readers and writers that fail, and scripts that are too long.
+//! Readers and writers that fail, and scripts that are too long or cut off.
 
 use crate::fault::Fault;
-use crate::script_tests::{UPLOAD, UPLOADED, fails, run_on};
+use crate::script_tests::{UPLOAD, UPLOADED, fails, plays, run_on};
 use std::io;
 use std::io::{ErrorKind, Read};
 
@@ -84,4 +84,53 @@ fn a_script_too_long_is_a_read_fault(rt: HostRuntime) {
     let mut reader = Counted { left: 268_435_459 };
     fails(&rt, rt.alloc(), &mut reader, Fault::Read);
     assert_eq!(rt; reader.left, 2);
+}
+
+/// What is written for the first so many bytes of the upload, where they end in a record of seven fields or
+/// behind a whole line: none where they don't.
+fn written_for(len: usize) -> Option<&'static str> {
+    match len {
+        0 => Some("book\ntenant acme used 0 quota 1000 next 1\nend\n"),
+        20 | 21 => Some(
+            "1 session 1\nbook\ntenant acme used 0 quota 1000 next 2\nrepository acme/one\nsession 1 received 0\nend\n",
+        ),
+        46 => Some(
+            "1 session 1\n2 refused SizeInvalid\nbook\ntenant acme used 0 quota 1000 next 2\nrepository acme/one\nsession 1 received 0\nend\n",
+        ),
+        47 | 48 => Some(
+            "1 session 1\n2 received 1\nbook\ntenant acme used 1 quota 1000 next 2\nrepository acme/one\nsession 1 received 1\nend\n",
+        ),
+        73 | 74 => Some(
+            "1 session 1\n2 received 1\n3 refused SizeInvalid\nbook\ntenant acme used 1 quota 1000 next 2\nrepository acme/one\nsession 1 received 1\nend\n",
+        ),
+        75 | 76 => Some(
+            "1 session 1\n2 received 1\n3 received 3\nbook\ntenant acme used 3 quota 1000 next 2\nrepository acme/one\nsession 1 received 3\nend\n",
+        ),
+        168 | 169 => Some(UPLOADED),
+        _ => None,
+    }
+}
+
+/// The row that the last of these bytes is in.
+fn last_row(script: &[u8]) -> u32 {
+    let mut row: u32 = 1;
+    for byte in script {
+        if *byte == b'\n' {
+            row = row.saturating_add(1);
+        }
+    }
+    row
+}
+
+#[test]
+fn a_script_that_is_cut_off_is_played_or_has_a_bad_row(rt: HostRuntime) {
+    let alloc = rt.alloc();
+    assert_eq!(rt; UPLOAD.len(), 169);
+    for len in 0..=UPLOAD.len() {
+        let script = &UPLOAD[..len];
+        match written_for(len) {
+            Some(text) => plays(&rt, alloc, &["acme=1000"], script, text),
+            None => fails(&rt, alloc, script, Fault::BadRow(last_row(script))),
+        }
+    }
 }

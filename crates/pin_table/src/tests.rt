@@ -168,7 +168,7 @@ fn refusal_is(rt: &impl Abort, desk: &mut Desk<'_>, wanted: Option<Refusal>) {
 
 /// The first of the pair is shared on, as often as may be; the others go to the list. How often,
 /// and the last one.
-fn share_all<'s>(lease: Lease<'s>, others: &mut Vec<Lease<'s>>) -> (u32, Lease<'s>) {
+pub fn share_all<'s>(lease: Lease<'s>, others: &mut Vec<Lease<'s>>) -> (u32, Lease<'s>) {
     let mut one = lease;
     let mut times: u32 = 0;
     for _ in 0..20_u32 {

@@ -1,6 +1,7 @@
 //! Leases that other threads give back while the keeper works.
 
 use crate::desk::{Desk, Lease, end, give_all, open};
+use crate::tests::share_all;
 use crate::{Pins, Reclaim};
 use pin_core::{Phase, unpack};
 use std::alloc::{AllocFailed, Global};
@@ -201,4 +202,47 @@ fn no_sum_runs_into_the_condemned_bit(rt: HostRuntime) {
     end(more);
     assert_eq!(rt; desk.word(), 0x0000_0000_8000_0000);
     assert_eq!(rt; desk.bound(), 0);
+}
+
+/// Adds a lease to a list; it is given back where there is no list or no memory.
+fn add<'s>(list: Option<&mut Vec<Lease<'s>>>, lease: Lease<'s>) {
+    let Some(list) = list else {
+        lease.give_back();
+        return;
+    };
+    if let Err(failed) = list.push(lease) {
+        let AllocFailed { value } = failed;
+        value.give_back();
+    }
+}
+
+/// Deals leases out to the lists, in turn.
+fn deal<'s>(leases: &mut Vec<Lease<'s>>, lists: &mut [Vec<Lease<'s>>]) {
+    let mut place: usize = 0;
+    while let Some(lease) = leases.pop() {
+        add(lists.get_mut(place % 8), lease);
+        place = place.saturating_add(1);
+    }
+}
+
+#[test]
+fn eight_threads_give_eleven_shares_back(rt: HostRuntime) {
+    let alloc = rt.alloc();
+    let (pins, keeper) = Pins::new(alloc, 1, 0).expect(&rt, "memory");
+    let mut desk = open(&pins, keeper);
+    let mut lists = eight_lists(&mut desk, alloc, 0);
+    let mut shares = Vec::new(alloc);
+    for _ in 0..100_u32 {
+        let lease = desk.lend().expect(&rt, "a live slot").expect(&rt, "room");
+        let (times, last) = share_all(lease, &mut shares);
+        assert_eq!(rt; times, 10);
+        add(Some(&mut shares), last);
+        deal(&mut shares, lists.as_mut_slice());
+        assert_eq!(rt; count_all(lists.as_slice()), 11);
+        assert_eq!(rt; desk.word(), 0x0000_0000_8000_0400);
+        give_each(&rt, lists.as_mut_slice());
+        assert_eq!(rt; desk.word(), 0x0000_0000_8000_0000);
+    }
+    end(shares);
+    end_all(lists);
 }

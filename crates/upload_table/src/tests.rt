@@ -260,6 +260,9 @@ fn the_last_number_is_below_two_to_the_32(rt: HostRuntime) {
     let mut table = opened(&rt, alloc, 4_294_967_295);
     starts(&rt, &mut table, &repo, Ok(4_294_967_295));
     starts(&rt, &mut table, &repo, Err(Refusal::LimitReached));
+    assert_eq!(rt; table.next(), 4_294_967_296);
+    removes(&rt, &mut table, &repo, 4_294_967_295);
+    starts(&rt, &mut table, &repo, Err(Refusal::LimitReached));
 }
 
 #[test]
