@@ -1,3 +1,6 @@
 pub mod Digits
 pub mod LeaseTables
+pub mod Orders
+pub mod Partitions
 pub mod PlayedRows
+pub mod WorkerRows

@@ -1,5 +1,5 @@
 -- Rows that are played.
-use Rattle.std.proofs.Common.{◌≡◌, ◌≢◌, ◌⊎◌, ◌<◌, ◌+◌, ◌∙◌, ◌++◌, ◌∷◌, [], ℕ, List, ap, get_or, inl, inr, length, map, IfOk, Option, Some, None, Result, Ok, Err, refl, sym, take, true}
+use Rattle.std.proofs.Common.{◌≡◌, ◌≢◌, ◌⊎◌, ◌<◌, ◌+◌, ◌∙◌, ◌++◌, ◌∷◌, [], ℕ, List, ap, arith, get_or, inl, inr, length, map, IfOk, Option, Some, None, Result, Ok, Err, refl, sym, take, true}
 use Rattle.std.proofs.lemmas.List.{map-append, take_more}
 use Rattle.blob_digest.specs.Names.{IsRepoName}
 use Rattle.blob_digest.specs.declared.refusal.Refusal.{Refusal}
@@ -38,6 +38,13 @@ one_played acts old mid new [] (r ∷ rs) line answer before here not_memory = a
 one_played acts old mid new (l ∷ ls) [] line answer before here not_memory = absurd before
 one_played acts old mid new (l ∷ ls) (r ∷ rs) line answer before here not_memory =
     (before.0, before.1, before.2, one_played acts before.0 mid new ls rs line answer before.3 here not_memory)
+
+-- each row has one answer
+pub one_each : {S : Type 0} (acts : S → Request → Answer → S → Type 0) (old new : State S) (lines : List Line) (answers : List Answer) → Plays acts old lines answers new → length answers ≡ length lines
+one_each acts old new [] [] h = refl
+one_each acts old new [] (r ∷ rs) h = absurd h
+one_each acts old new (l ∷ ls) [] h = absurd h
+one_each acts old new (l ∷ ls) (r ∷ rs) h = let rest = one_each acts h.0 new ls rs h.3 in omega (arith, rest)
 
 -- the rows so far, and one more
 pub lines_more : (rows : List Row) (i : ℕ) (row : Row) → i < length rows → row ≡ get_or rows i row

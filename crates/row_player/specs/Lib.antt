@@ -1,8 +1,10 @@
 pub mod Answers
 pub mod Commands
+pub mod Counts
 pub mod LeaseTables
 pub mod Leases
 pub mod Lines
 pub mod Plays
 pub mod Replies
 pub mod Rows
+pub mod Shares

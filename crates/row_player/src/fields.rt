@@ -42,7 +42,14 @@ fn is_lease_name(text: &[u8]) -> bool
 
 /// Whether a command has the fields that it needs, and none that it doesn't use. What repositories, digests and
 /// ranges spell is no matter of it.
-pub fn has_fields(verb: Verb, repo: &[u8], key: &[u8], digest: &[u8], range: &[u8], body: &[u8]) -> bool
+pub fn has_fields(
+    verb: Verb,
+    repo: &[u8],
+    key: &[u8],
+    digest: &[u8],
+    range: &[u8],
+    body: &[u8],
+) -> bool
     ensures { result ≡ fits verb repo.now key.now digest.now range.now body.now }
 {
     match verb {

@@ -13,16 +13,22 @@
 
 mod backend;
 mod fields;
+mod gate;
 mod hex_digits;
 mod leases;
+mod order;
 mod piece;
 mod player;
 mod reply;
 mod row;
+mod worker;
 
 pub use backend::{Backend, BlobLease};
 pub use fields::has_fields;
+pub use gate::{Gate, OpenGate};
+pub use order::in_row_order;
 pub use piece::Piece;
-pub use player::play;
+pub use player::{play, play_rows};
 pub use reply::Reply;
 pub use row::{Row, Verb};
+pub use worker::Worker;

@@ -1,18 +1,21 @@
 //! Plays the rows of a script.
-ghost use Rattle.std.specs.Prelude.{◌≡◌, ◌≢◌, ◌⊎◌, ◌++◌, ◌∷◌, [], ◌≤◌, ◌<◌, ◌^◌, true, Some, None, IfOk, IfErr, OnOk, MatchResult, IsTrue, ◌↔◌, map};
+ghost use Rattle.std.specs.Prelude.{◌≡◌, ◌≢◌, ◌⊎◌, ◌++◌, ◌∷◌, [], ◌≤◌, ◌<◌, ◌^◌, true, Some, None, IfOk, IfErr, OnOk, MatchResult, IsTrue, ◌↔◌, length, map, vec_capacity, vec_len};
 ghost use Rattle.row_player.specs.Answers.{answer_of, answers_of, Refused};
 ghost use Rattle.row_player.specs.Commands.{IsDigest, IsNoRange, SpellsRange, uses_session};
 ghost use Rattle.row_player.specs.Leases.{Leases as Held, none};
 ghost use Rattle.row_player.specs.Lines.{line_of};
 ghost use Rattle.row_player.specs.Plays.{AnswersCall, AnswersRead, AnswersRow, Plays, RowStep, piece_of};
 ghost use Rattle.row_player.specs.Rows.{session_number};
+ghost use Rattle.row_player.specs.Shares.{own_rows};
 ghost use Rattle.row_player.specs.declared.reply.Reply.{Reply};
 
 use crate::backend::{Backend, BlobLease};
 use crate::fields::session;
+use crate::gate::{Gate, OpenGate};
 use crate::leases::{Leases, lend, verify};
 use crate::reply::{Reply, mount_reply};
 use crate::row::{Row, Verb};
+use crate::worker::Worker;
 use blob_digest::{ByteRange, Digest, Refusal, RepoName};
 use std::alloc::Global;
 
@@ -270,41 +273,76 @@ fn is_memory(reply: &Reply) -> bool
     matches!(reply, Reply::Refused(Refusal::Memory))
 }
 
-/// Plays a row, and adds its reply to those before. Refused is want of memory alone.
-fn play_next<'r, B: Backend>(
+/// Plays a row between the two calls of a gate, and adds its reply to those before. Refused is want of memory alone.
+fn play_next<'r, B: Backend, G: Gate>(
     alloc: Global,
     backend: &mut B,
     leases: &mut Leases<'r, B::Lease>,
+    gate: &G,
+    place: usize,
     row: &'r Row,
     replies: &mut Vec<Reply>,
 ) -> Result<(), Refusal>
+    requires room { vec_len replies.old < vec_capacity replies.old }
     ensures played { OnOk result ((reply : Reply) × (replies.new.items ≡ replies.old.items ++ reply ∷ []) × (answer_of reply ≢ Refused Refusal.Memory) × RowStep B.acts (backend.old, leases.old) (line_of row.now) (answer_of reply) (backend.new, leases.new)) }
+    ensures room { vec_capacity replies.new ≡ vec_capacity replies.old }
     ensures refused { IfErr result (λ e. e ≡ Refusal.Memory) }
 {
+    gate.before(row.lane, place);
     let reply = act(alloc, backend, leases, row);
+    gate.after(row.lane, place);
     if is_memory(&reply) {
         return Err(Refusal::Memory);
     }
-    replies.push(reply)?;
+    replies.push_reserved(reply);
     Ok(())
 }
 
-/// Plays all rows in their order with the leases that the lanes hold, and answers one reply for each. It
-/// ends at the first want of memory.
-fn play_rows<'r, B: Backend>(
+/// Plays a worker's rows in their order with the leases that its lanes hold, and answers one reply for each. It ends
+/// at the first want of memory.
+fn play_own<'r, B: Backend, G: Gate>(
     alloc: Global,
     backend: &mut B,
     leases: &mut Leases<'r, B::Lease>,
+    gate: &G,
     rows: &'r [Row],
+    worker: Worker,
+    mut replies: Vec<Reply>,
 ) -> Result<Vec<Reply>, Refusal>
-    ensures played { IfOk result (λ replies. Plays B.acts (backend.old, leases.old) (map line_of rows.now) (answers_of replies.items) (backend.new, leases.new)) }
+    requires empty { replies.items ≡ [] }
+    requires room { length (own_rows worker.workers worker.number (map line_of rows.now)) ≤ vec_capacity replies }
+    ensures played { IfOk result (λ v. Plays B.acts (backend.old, leases.old) (own_rows worker.workers worker.number (map line_of rows.now)) (answers_of v.items) (backend.new, leases.new)) }
     ensures refused { IfErr result (λ e. e ≡ Refusal.Memory) }
 {
-    let mut replies = Vec::new(alloc);
-    for row in rows {
-        play_next(alloc, backend, leases, row, &mut replies)?;
+    for place in 0..rows.len() {
+        let row = &rows[place];
+        if worker.plays(row) {
+            play_next(alloc, backend, leases, gate, place, row, &mut replies)?;
+        }
     }
     Ok(replies)
+}
+
+/// Plays a worker's rows in their order, and answers one reply for each, in the list that is given, which has room for
+/// them (`Worker::room`). The gate is asked before and after each row. It ends at the first want of memory; the rows
+/// that were accepted before it stand. The leases that the worker's lanes still hold at the end are given back.
+pub fn play_rows<B: Backend, G: Gate>(
+    alloc: Global,
+    backend: &mut B,
+    gate: &G,
+    rows: &[Row],
+    worker: Worker,
+    replies: Vec<Reply>,
+) -> Result<Vec<Reply>, Refusal>
+    requires empty { replies.items ≡ [] }
+    requires room { length (own_rows worker.workers worker.number (map line_of rows.now)) ≤ vec_capacity replies }
+    ensures played { IfOk result (λ v. (left : Held) × Plays B.acts (backend.old, none) (own_rows worker.workers worker.number (map line_of rows.now)) (answers_of v.items) (backend.new, left)) }
+    ensures refused { IfErr result (λ e. e ≡ Refusal.Memory) }
+{
+    let mut leases = Leases::new(alloc);
+    let played = play_own(alloc, backend, &mut leases, gate, rows, worker, replies);
+    leases.end();
+    played
 }
 
 /// Plays all rows in their order, and answers one reply for each. It ends at the first want of
@@ -314,8 +352,10 @@ pub fn play<B: Backend>(alloc: Global, backend: &mut B, rows: &[Row]) -> Result<
     ensures played { IfOk result (λ replies. (left : Held) × Plays B.acts (backend.old, none) (map line_of rows.now) (answers_of replies.items) (backend.new, left)) }
     ensures refused { IfErr result (λ e. e ≡ Refusal.Memory) }
 {
-    let mut leases = Leases::new(alloc);
-    let played = play_rows(alloc, backend, &mut leases, rows);
-    leases.end();
-    played
+    let worker = Worker {
+        workers: 1,
+        number: 0,
+    };
+    let replies = worker.room(alloc, rows)?;
+    play_rows(alloc, backend, &OpenGate, rows, worker, replies)
 }

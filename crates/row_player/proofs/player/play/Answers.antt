@@ -1,12 +1,7 @@
 use Rattle.std.proofs.Common.{map}
-use Rattle.row_player.specs.Answers.{answers_of}
-use Rattle.row_player.specs.Leases.{none}
 use Rattle.row_player.specs.Lines.{line_of}
-use Rattle.row_player.specs.Plays.{Plays}
-use Rattle.row_player.proofs.PlayedRows.{some_left}
+use Rattle.row_player.proofs.WorkerRows.{own_all}
 use Rattle.row_player.proofs.player.play.Goals as goal
 
 pub returns-clause-played : goal.returns-clause-played
-returns-clause-played g c =
-    some_left (λ replies left. Plays g.B.Backend.acts (c.args.backend.now, none) (map line_of c.args.rows.now) (answers_of replies.items) (c.play_rows-played.new.backend, left))
-    c.play_rows-played.result c.play_rows-played.new.leases (rw c.new-leases.ensures at c.play_rows-played.ensures.played)
+returns-clause-played g c = rw (own_all (map line_of c.args.rows.now)) at c.play_rows.ensures.played
