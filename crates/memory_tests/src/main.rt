@@ -1,0 +1,67 @@
+//! Calls of every crate while one growth is refused.
+#![tactic(auto)]
+
+mod attempt;
+mod commands;
+mod makers;
+mod on_book;
+mod on_store;
+mod sessions;
+mod slots;
+mod stopped;
+mod texts;
+
+use crate::makers::play_makers;
+use crate::on_book::play_on_book;
+use crate::on_store::play_on_store;
+use crate::sessions::play_sessions;
+use crate::slots::play_slots;
+use crate::stopped::Stopped;
+use crate::texts::play_texts;
+use std::alloc::{AllocError, AllocGlobal, Global};
+use std::io::{Print, Read};
+use std::process::ExitCode;
+use std::sync::Wait;
+
+/// The number that standard input has; 0 where it has none.
+fn number_given(rt: &HostRuntime) -> u64 {
+    let mut buffer = [0u8; 20];
+    let mut number = 0u64;
+    let mut reader = rt.reader();
+    if let Ok(count) = reader.read(&mut buffer) {
+        for digit in buffer[..count].iter().filter(|b| b.is_ascii_digit()) {
+            number = number.wrapping_mul(10).wrapping_add(u64::from(*digit - b'0'));
+        }
+    }
+    number
+}
+
+/// Makes so many growths.
+fn grow(alloc: Global, count: u64) -> Result<(), AllocError> {
+    for _ in 0..count {
+        let _ = Box::new(alloc, 0u8)?;
+    }
+    Ok(())
+}
+
+/// Makes the growths that come first, and then all calls.
+fn play_all<R: Print + AllocGlobal + Wait>(rt: &R, first: u64) -> Result<(), Stopped> {
+    grow(rt.alloc(), first)?;
+    play_makers(rt)?;
+    play_texts(rt)?;
+    play_sessions(rt)?;
+    play_slots(rt)?;
+    play_on_book(rt)?;
+    play_on_store(rt)
+}
+
+fn main(rt: HostRuntime) -> ExitCode {
+    let first = number_given(&rt);
+    match play_all(&rt, first) {
+        Ok(()) => ExitCode::from(0),
+        Err(stopped) => {
+            let _ = println!(rt; "{stopped}");
+            ExitCode::from(stopped.status())
+        }
+    }
+}

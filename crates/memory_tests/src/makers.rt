@@ -1,0 +1,225 @@
+//! Calls that make a value, and leave the ones that they are given as they are.
+
+use crate::attempt::{Answer, Calls, play, refused, whether};
+use crate::commands::{config, tenants};
+use crate::stopped::Stopped;
+use blob_digest::{Algorithm, Digest, Refusal, RepoName};
+use blob_store::Parts;
+use link_table::Links;
+use oci_manifest::read;
+use pin_core::{Event, PinState, run, step};
+use pin_table::Pins;
+use slot_table::SlotTable;
+use std::alloc::{AllocGlobal, Global};
+use std::io::Print;
+use store_book::{Book, Config};
+use upload_table::Uploads;
+
+/// A call that makes a value.
+#[derive(Clone, Copy)]
+pub enum Make<'a> {
+    /// A repository's name is read.
+    Name(&'a [u8]),
+    /// A repository's name is copied.
+    NameCopy,
+    /// A manifest of so many references is read.
+    Manifest(&'a [u8], usize),
+    /// A pin world is made, and copied.
+    World,
+    WorldCopy,
+    /// An event leads to a pin world of so many pins; and a list of events does.
+    Event(Event, u64),
+    Events(&'a [Event], u64),
+    /// The tables of every layer are made.
+    Words,
+    Slots,
+    Sessions,
+    Tenants,
+    Book,
+    Parts,
+}
+
+/// What the calls are given.
+#[derive(Drop)]
+pub struct Makers<'a> {
+    alloc: Global,
+    makes: &'a [Make<'a>],
+    name: RepoName,
+    world: PinState,
+    config: Config,
+    tenants: Vec<Vec<(String, u64)>>,
+}
+
+/// Whether a pin world has the pins of the names from 1 to so many, and no other of the next four.
+fn has_pins(world: &PinState, count: u64) -> bool {
+    (1..count + 5).all(|name| world.pin(name).is_some() == (name <= count))
+}
+
+/// A manifest has so many references.
+fn manifest(alloc: Global, bytes: &[u8], refs: usize) -> Answer {
+    match read(alloc, bytes) {
+        Ok(manifest) => whether(manifest.bytes() == bytes && manifest.refs().len() == refs),
+        Err(refusal) => refused(refusal),
+    }
+}
+
+/// A pin world came of events that can happen.
+fn came(found: Result<Option<PinState>, Refusal>, pins: u64) -> Answer {
+    match found {
+        Ok(Some(world)) => whether(has_pins(&world, pins)),
+        Ok(None) => Answer::Other,
+        Err(refusal) => refused(refusal),
+    }
+}
+
+/// Whether something was made.
+fn made<T: Drop>(found: Result<T, Refusal>) -> Answer {
+    match found {
+        Ok(_) => Answer::Wanted,
+        Err(refusal) => refused(refusal),
+    }
+}
+
+impl<'a> Makers<'a> {
+    fn name_of(&self, bytes: &[u8]) -> Answer {
+        match RepoName::parse(self.alloc, bytes) {
+            Ok(name) => whether(name.text().as_bytes() == bytes),
+            Err(refusal) => refused(refusal),
+        }
+    }
+
+    fn name_copy(&self) -> Answer {
+        match self.name.clone() {
+            Ok(name) => whether(name == self.name),
+            Err(_) => Answer::Memory,
+        }
+    }
+
+    fn links(&mut self) -> Answer {
+        match self.tenants.pop() {
+            Some(tenants) => made(Links::new(self.alloc, tenants)),
+            None => Answer::Other,
+        }
+    }
+
+    fn table(&mut self, make: &Make) -> Answer {
+        match make {
+            Make::Words => made(Pins::new(self.alloc, 4, 0)),
+            Make::Slots => made(SlotTable::new(self.alloc, 4, 0)),
+            Make::Sessions => made(Uploads::new(self.alloc, 9, 1)),
+            Make::Tenants => self.links(),
+            Make::Book => made(Book::new(self.alloc, &self.config)),
+            Make::Parts => made(Parts::new(self.alloc, &self.config)),
+            _ => Answer::Other,
+        }
+    }
+}
+
+impl<'a> Calls for Makers<'a> {
+    fn count(&self) -> usize {
+        self.makes.len()
+    }
+
+    fn name(&self, place: usize) -> &str {
+        match self.makes.get(place) {
+            Some(make) => make.name(),
+            None => "none",
+        }
+    }
+
+    fn remember(&mut self) {}
+
+    fn is_same(&mut self) -> bool {
+        has_pins(&self.world, 0) && self.name.text() == "acme/one"
+    }
+
+    fn call(&mut self, place: usize) -> Answer {
+        let Some(make) = self.makes.get(place) else {
+            return Answer::Other;
+        };
+        match make {
+            Make::Name(bytes) => self.name_of(bytes),
+            Make::NameCopy => self.name_copy(),
+            Make::Manifest(bytes, refs) => manifest(self.alloc, bytes, *refs),
+            Make::World => made(PinState::new(self.alloc, 4, 0)),
+            Make::WorldCopy => made(self.world.copy()),
+            Make::Event(event, pins) => came(step(&self.world, event), *pins),
+            Make::Events(events, pins) => came(run(&self.world, events), *pins),
+            other => self.table(other),
+        }
+    }
+}
+
+impl<'a> Make<'a> {
+    /// The name of the call.
+    fn name(&self) -> &'static str {
+        match self {
+            Make::Name(_) => "RepoName::parse",
+            Make::NameCopy => "RepoName::clone",
+            Make::Manifest(_, _) => "oci_manifest::read",
+            Make::World => "PinState::new",
+            Make::WorldCopy => "PinState::copy",
+            Make::Event(_, _) => "step",
+            Make::Events(_, _) => "run",
+            Make::Words => "Pins::new",
+            Make::Slots => "SlotTable::new",
+            Make::Sessions => "Uploads::new",
+            Make::Tenants => "Links::new",
+            Make::Book => "Book::new",
+            Make::Parts => "Parts::new",
+        }
+    }
+}
+
+/// A manifest that refers to `{}` and `abc`, of which the first comes twice.
+const MANIFEST: &[u8] = b"{\"schemaVersion\":2,\"config\":{\"digest\":\"sha256:44136fa355b3678a1146ad16f7e8649e94fb4fc21fe77e8310c060f61caaff8a\"},\"layers\":[{\"digest\":\"sha256:ba7816bf8f01cfea414140de5dae2223b00361a396177a9cb410ff61f20015ad\"},{\"digest\":\"sha256:44136fa355b3678a1146ad16f7e8649e94fb4fc21fe77e8310c060f61caaff8a\"}]}";
+
+/// A pin world of four slots, of which the first has this digest.
+fn given(alloc: Global, digest: Digest) -> Result<PinState, Stopped> {
+    let opening = PinState::new(alloc, 4, 0)?;
+    let give = Event::Give { slot: 0, digest };
+    match run(&opening, &[give])? {
+        Some(world) => Ok(world),
+        None => Err(Stopped::Unmade),
+    }
+}
+
+/// The tenants of a table, for a call and for its second try.
+fn twice(alloc: Global) -> Result<Vec<Vec<(String, u64)>>, Stopped> {
+    let mut both = Vec::with_capacity(alloc, 2)?;
+    both.push(tenants(alloc)?)?;
+    both.push(tenants(alloc)?)?;
+    Ok(both)
+}
+
+/// The calls that make a value.
+pub fn play_makers<R: Print + AllocGlobal>(rt: &R) -> Result<(), Stopped> {
+    let alloc = rt.alloc();
+    let digest = Digest::of(Algorithm::Sha256, b"abc");
+    let lend = Event::Lend { slot: 0, pin: 1 };
+    let share = Event::Share { pin: 1, second: 2 };
+    let makes = [
+        Make::Name(b"acme/one"),
+        Make::NameCopy,
+        Make::Manifest(MANIFEST, 2),
+        Make::World,
+        Make::WorldCopy,
+        Make::Event(lend, 1),
+        Make::Events(&[lend, share], 2),
+        Make::Words,
+        Make::Slots,
+        Make::Sessions,
+        Make::Tenants,
+        Make::Book,
+        Make::Parts,
+    ];
+    let mut makers = Makers {
+        alloc,
+        makes: makes.as_slice(),
+        name: RepoName::parse(alloc, b"acme/one")?,
+        world: given(alloc, digest)?,
+        config: config(alloc)?,
+        tenants: twice(alloc)?,
+    };
+    play(rt, "makes", &mut makers)
+}
