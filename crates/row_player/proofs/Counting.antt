@@ -1,9 +1,9 @@
 -- What is played on counts what the rows come to.
-use Rattle.std.proofs.Common.{◌≡◌, ◌+◌, ◌∙◌, ◌∷◌, [], ℕ, List, Bool, true, false, cond, ap, arith, inl, inr, length, Option, Some, None, refl, sym}
+use Rattle.std.proofs.Common.{◌≡◌, ◌+◌, ◌∙◌, ◌∷◌, [], ℕ, List, true, false, ap, arith, inl, inr, length, Option, Some, None, refl, sym}
 use Rattle.std.specs.Prelude.{◌&&◌, if◌then◌else◌}
 use Rattle.std.specs.List.{zip}
 use Rattle.std.proofs.lemmas.List.Sums.{sum_by-cons}
-use Rattle.row_player.specs.Answers.{Answer, Bytes, Leased, NameTaken, Refused}
+use Rattle.row_player.specs.Answers.{Answer, Bytes, Refused}
 use Rattle.row_player.specs.Commands.{Command, Start, Status, Append, Close, Abandon, Mount, Delete, PutManifest, GetManifest, DeleteManifest, Lease, Request, Calls, Verifies, Sweeps, Spells, uses_repo}
 use Rattle.row_player.specs.Counts.{chunk_of, chunk_with, counted, counted_bytes, counted_commands, is_accepted, request_amount, row_amount}
 use Rattle.row_player.specs.Leases.{Lent}
