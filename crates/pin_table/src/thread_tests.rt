@@ -218,10 +218,10 @@ fn add<'s>(list: Option<&mut Vec<Lease<'s>>>, lease: Lease<'s>) {
 
 /// Deals leases out to the lists, in turn.
 fn deal<'s>(leases: &mut Vec<Lease<'s>>, lists: &mut [Vec<Lease<'s>>]) {
-    let mut place: usize = 0;
-    while let Some(lease) = leases.pop() {
-        add(lists.get_mut(place % 8), lease);
-        place = place.saturating_add(1);
+    for place in 0..leases.len() {
+        if let Some(lease) = leases.pop() {
+            add(lists.get_mut(place % 8), lease);
+        }
     }
 }
 
