@@ -1,4 +1,4 @@
-"""Plays scripts on the built blobctl and tells the processor time that they took.
+"""Plays scripts on the built blobctl and tells the processor time, or the wall time, that they took.
 
 The program is the one that `rt run` leaves in crates/blobctl/out/blobctl.
 """
@@ -8,6 +8,7 @@ import resource
 import subprocess
 import sys
 import tempfile
+import time
 
 PROGRAM = os.path.join(os.path.dirname(os.path.abspath(__file__)), "../crates/blobctl/out/blobctl")
 
@@ -26,19 +27,31 @@ def row(command, repo="", key="", digest="", place="", body="", lane=0):
 
 def seconds(words, script, runs):
     """The least processor time, in seconds, of so many runs of the program on a script."""
+    return min(processor for _, processor in times(words, script, runs))
+
+
+def wall_seconds(words, script, runs):
+    """The least time from the start to the end, in seconds, of so many runs of the program on a script."""
+    return min(wall for wall, _ in times(words, script, runs))
+
+
+def times(words, script, runs):
+    """The wall time and the processor time of each of so many runs."""
     if not os.path.exists(PROGRAM):
         sys.exit("build the program first: cd crates/blobctl && rt run -- acme=1 < /dev/null")
     with tempfile.NamedTemporaryFile(suffix=".csv") as file:
         file.write(script)
         file.flush()
-        return min(one_run(words, file.name) for _ in range(runs))
+        return [one_run(words, file.name) for _ in range(runs)]
 
 
 def one_run(words, path):
     before = resource.getrusage(resource.RUSAGE_CHILDREN)
+    start = time.monotonic()
     with open(path, "rb") as script:
         done = subprocess.run([PROGRAM, *words], stdin=script, stdout=subprocess.DEVNULL, stderr=subprocess.PIPE)
+    wall = time.monotonic() - start
     if done.returncode:
         sys.exit(f"blobctl ended with {done.returncode}: {done.stderr.decode()}")
     after = resource.getrusage(resource.RUSAGE_CHILDREN)
-    return (after.ru_utime + after.ru_stime) - (before.ru_utime + before.ru_stime)
+    return wall, (after.ru_utime + after.ru_stime) - (before.ru_utime + before.ru_stime)

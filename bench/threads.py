@@ -1,0 +1,85 @@
+#!/usr/bin/env python3
+"""What several workers gain.
+
+Each workload is one script, played with 1, 2 and 4 workers. It has four lanes, each of a tenant of its own, so that
+the workers share nothing but the store. A line tells the wall time in milliseconds for each number of workers, and
+how many times as fast as one worker the most are. The whole script is read and parsed by one thread before it is
+played; the line "read and refused" is what that takes of an upload.
+
+    bench/threads.py [--mib N] [--runs N] [WORKLOAD..]
+"""
+import argparse
+import os
+
+from play import row, sha256, wall_seconds
+
+LANES = 4
+WORKERS = (1, 2, 4)
+CHUNK = 1 << 20
+TENANTS = [f"t{lane}" for lane in range(LANES)]
+
+
+def lanes_in_turn(rows_of):
+    """The rows of each lane, one of each lane in turn."""
+    return "".join(row for turn in zip(*(rows_of(lane) for lane in range(LANES))) for row in turn)
+
+
+def uploads(mib, session=1):
+    """So many MiB over the lanes, each a session of chunks of a MiB that is closed. Session 2 isn't there."""
+
+    def rows_of(lane):
+        repo, body = f"{TENANTS[lane]}/one", "abcd"[lane] * CHUNK
+        chunks = mib // LANES
+        yield row("start", repo, lane=lane)
+        for _ in range(chunks):
+            yield row("append", repo, session, body=body, lane=lane)
+        yield row("close", repo, session, sha256(body.encode() * chunks), lane=lane)
+
+    return lanes_in_turn(rows_of)
+
+
+def small(count):
+    """So many rows: small blobs stored, mounted, and deleted from where they came."""
+
+    def rows_of(lane):
+        one, two = f"{TENANTS[lane]}/one", f"{TENANTS[lane]}/two"
+        for number in range(1, count // (5 * LANES) + 1):
+            body = f"b{lane}-{number}"
+            digest = sha256(body.encode())
+            yield row("start", one, lane=lane)
+            yield row("append", one, number, body=body, lane=lane)
+            yield row("close", one, number, digest, lane=lane)
+            yield row("mount", two, one, digest, lane=lane)
+            yield row("delete", one, "", digest, lane=lane)
+
+    return lanes_in_turn(rows_of)
+
+
+def workloads(mib):
+    return {
+        "refused": (f"{mib} MiB in chunks, read and refused", lambda: uploads(mib, session=2)),
+        "uploads": (f"{mib} MiB in chunks, appended and closed", lambda: uploads(mib)),
+        "small": ("65,000 small commands", lambda: small(65000)),
+    }
+
+
+def main():
+    words = argparse.ArgumentParser(description=__doc__, formatter_class=argparse.RawDescriptionHelpFormatter)
+    words.add_argument("--mib", type=int, default=160, help="the length of all uploads in MiB (160)")
+    words.add_argument("--runs", type=int, default=3, help="the least of so many runs counts (3)")
+    words.add_argument("workload", nargs="*", help="refused, uploads, small (all)")
+    options = words.parse_args()
+    known = workloads(options.mib)
+    limits = ["--slots", "65536", "--max-blob", str(1 << 30), *(f"{tenant}={1 << 40}" for tenant in TENANTS)]
+    print(f"{os.cpu_count()} processors")
+    print("".join(f"{f'{workers} workers':>12}" for workers in WORKERS) + "    gain")
+    for name in options.workload or known:
+        says, make = known[name]
+        script = make().encode()
+        took = [wall_seconds(["--workers", str(n), *limits], script, options.runs) for n in WORKERS]
+        times = "".join(f"{seconds * 1000:12.0f}" for seconds in took)
+        print(f"{times} {took[0] / took[-1]:7.2f}  {says}", flush=True)
+
+
+if __name__ == "__main__":
+    main()
