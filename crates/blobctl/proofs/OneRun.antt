@@ -35,7 +35,8 @@ use Rattle.blobctl.specs.Records.{Record, row_of as row_of_record}
 use Rattle.row_player.specs.Rows.{Line}
 use Rattle.row_player.specs.declared.row.Verb.{Verb}
 use Rattle.row_player.specs.declared.row.Verb.TheVariants as verb
-use Rattle.blobctl.proofs.SameCommands.{names_repo, same_command, same_refusal, well_spelt}
+use Rattle.row_player.proofs.Counting.{names_repo}
+use Rattle.blobctl.proofs.SameCommands.{same_command, same_refusal, well_spelt}
 
 -- no blob was lent
 abbrev pub LentNone : Catalog → Type 0

@@ -12,7 +12,7 @@ use Rattle.blob_digest.specs.declared.range.ByteRange.{ByteRange}
 use Rattle.blob_digest.proofs.NameGrammar.{path_accepted}
 use Rattle.blob_digest.proofs.RangeTexts.{range_is}
 use Rattle.std.proofs.lemmas.Option.{same_Some}
-use Rattle.row_player.specs.Commands.{Command, Start, Status, Append, Close, Abandon, Mount, Delete, PutManifest, GetManifest, DeleteManifest, Lease, HasDigest, HasSource, IsDigest, IsMisspelt, IsNoRange, IsNoSource, Spells, SpellsRange, SpellsSource, uses_digest, uses_range, uses_repo, uses_source}
+use Rattle.row_player.specs.Commands.{Command, Start, Status, Append, Close, Abandon, Mount, Delete, PutManifest, GetManifest, DeleteManifest, Lease, HasDigest, HasSource, IsDigest, IsMisspelt, IsNoRange, IsNoSource, Spells, SpellsRange, SpellsSource, uses_digest, uses_range, uses_source}
 use Rattle.row_player.specs.Rows.{Line, session_number}
 use Rattle.row_player.specs.declared.row.Verb.{Verb}
 use Rattle.row_player.specs.declared.row.Verb.TheVariants as verb
@@ -114,20 +114,6 @@ module _ (line : Line) where
   same_command c d h k =
       let same : uses_range line.verb ≡ true → (r : Option ByteRange) → SpellsRange line.range r → r ≡ range_named c = λ uses r spelt. same_ranges line.range r (range_named c) spelt (range_spelled c h uses) in
       spelled_is line (range_named c) c h same ∙ sym (spelled_is line (range_named c) d k same)
-
-  -- a command that is spelled is of its row's verb, which names a repository
-  pub names_repo : (c : Command) → Spells line c → uses_repo line.verb ≡ true
-  names_repo (Start repo) h = ap uses_repo h.0
-  names_repo (Status repo n) h = ap uses_repo h.0
-  names_repo (Append repo n range bytes) h = ap uses_repo h.0
-  names_repo (Close repo n digest range bytes) h = ap uses_repo h.0
-  names_repo (Abandon repo n) h = ap uses_repo h.0
-  names_repo (Mount repo digest from) h = ap uses_repo h.0
-  names_repo (Delete repo digest) h = ap uses_repo h.0
-  names_repo (PutManifest repo bytes) h = ap uses_repo h.0
-  names_repo (GetManifest repo digest) h = ap uses_repo h.0
-  names_repo (DeleteManifest repo digest) h = ap uses_repo h.0
-  names_repo (Lease repo digest) h = ap uses_repo h.0
 
   -- ---- fields that spell nothing
 

@@ -1,38 +1,51 @@
--- What the accepted rows of a script come to.
+-- What the accepted commands of a script come to.
 use Rattle.std.specs.Prelude.{ℕ, List, Bool, true, false, ◌&&◌, if◌then◌else◌, length}
 use Rattle.std.specs.List.{sum_by, zip}
 use Rattle.blob_digest.specs.Keys.{Text}
 use Rattle.row_player.specs.Answers.{Answer, NoLease, NameTaken, Refused}
-use Rattle.row_player.specs.Commands.{uses_repo}
+use Rattle.row_player.specs.Commands.{Command, Append, Close, Request, Calls, uses_repo}
 use Rattle.row_player.specs.Rows.{Line}
 use Rattle.row_player.specs.declared.row.Verb.{Verb}
 use Rattle.row_player.specs.declared.row.Verb.TheVariants as verb
 
--- whether a row with this answer was accepted
+-- whether this answer accepts what was asked
 abbrev pub is_accepted : Answer → Bool
 is_accepted NoLease = false
 is_accepted NameTaken = false
 is_accepted (Refused refusal) = false
 is_accepted answer = true
 
--- how many bytes a command of this name brings with this body: those of a chunk
-abbrev pub brought : Verb → Text → ℕ
-brought verb.Append body = length body
-brought verb.Close body = length body
-brought name body = 0
+-- what a row comes to: its value, where it is a command of the store, which names a repository, and was accepted; else nothing
+abbrev pub row_amount : (Line → ℕ) → Line × Answer → ℕ
+row_amount value p = if uses_repo p.0.verb && is_accepted p.1 then value p.0 else 0
 
--- one for an accepted command of the store, which are those that name a repository
-abbrev pub command_of : Line × Answer → ℕ
-command_of p = if uses_repo p.0.verb && is_accepted p.1 then 1 else 0
+-- what the rows with their answers come to
+abbrev pub counted : (Line → ℕ) → List Line → List Answer → ℕ
+counted value lines answers = sum_by (row_amount value) (zip lines answers)
 
--- the bytes that an accepted row brings
-abbrev pub bytes_of : Line × Answer → ℕ
-bytes_of p = if is_accepted p.1 then brought p.0.verb p.0.body else 0
-
--- how many commands of the store were accepted, of rows with their answers
+-- how many commands of the store were accepted
 abbrev pub counted_commands : List Line → List Answer → ℕ
-counted_commands lines answers = sum_by command_of (zip lines answers)
+counted_commands lines answers = counted (λ _. 1) lines answers
 
--- how many bytes the accepted rows brought
+-- the bytes of a row's chunk
+abbrev pub chunk_with : Verb → Text → ℕ
+chunk_with verb.Append body = length body
+chunk_with verb.Close body = length body
+chunk_with name body = 0
+
+-- how many bytes the chunks of the accepted rows have
 abbrev pub counted_bytes : List Line → List Answer → ℕ
-counted_bytes lines answers = sum_by bytes_of (zip lines answers)
+counted_bytes lines answers = counted (λ line. chunk_with line.verb line.body) lines answers
+
+-- ---- the same of what a store is asked for
+
+-- what a request comes to: its command's value where it was accepted
+abbrev pub request_amount : (Command → ℕ) → Request → Answer → ℕ
+request_amount value (Calls command) answer = if is_accepted answer then value command else 0
+request_amount value request answer = 0
+
+-- the bytes of a command's chunk
+abbrev pub chunk_of : Command → ℕ
+chunk_of (Append repo number range bytes) = length bytes
+chunk_of (Close repo number digest range bytes) = length bytes
+chunk_of command = 0
