@@ -1,6 +1,7 @@
 //! Scripts of several lanes: what several workers write for them, by values that stand outside the program.
 
 use crate::manifest_tests::writes_filled;
+use crate::mount_tests::{LANES, LANES_PLAYED};
 
 /// Two lanes that upload `abc` in two chunks for a tenant each, and a third one that sweeps.
 const UPLOADS: &str = "0,start,acme/one,,,,
@@ -41,7 +42,7 @@ end
 #[test]
 fn any_number_of_workers_writes_the_same_text(rt: HostRuntime) {
     let words = ["acme=1000", "other=1000"];
-    for (script, text) in [(UPLOADS, UPLOADED)] {
+    for (script, text) in [(UPLOADS, UPLOADED), (LANES, LANES_PLAYED)] {
         writes_filled(&rt, rt.alloc(), words.as_slice(), 1, script, text);
         writes_filled(&rt, rt.alloc(), words.as_slice(), 2, script, text);
         writes_filled(&rt, rt.alloc(), words.as_slice(), 8, script, text);
