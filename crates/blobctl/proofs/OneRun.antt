@@ -153,7 +153,7 @@ module _ (C : Catalog) (none : LentNone C) where
   outcome_keeps (Abandon repo n) no_lease =
       told_keeps _ (abandon C repo n) (bind_keeps (tenant C repo) _ (λ t _. bind_keeps (session C t repo n) _ (λ s _. bind_keeps (not_busy s.chunks) _ (λ _ _. ok_keeps _ _ none))))
   outcome_keeps (Mount repo digest from) no_lease =
-      told_keeps _ (mount C repo digest (Some from)) (bind_keeps (tenant C repo) _ (λ t _. if_keeps (has_source C t digest (Some from)) (link_held C t repo digest) (start_instead C repo) (bind_keeps (refuse (lacks_room_for C t repo) no.LimitReached) _ (λ _ _. ok_keeps _ _ none)) (instead_keeps repo)))
+      told_keeps _ (mount C repo digest from) (bind_keeps (tenant C repo) _ (λ t _. if_keeps (has_source C t digest from) (link_held C t repo digest) (start_instead C repo) (bind_keeps (refuse (lacks_room_for C t repo) no.LimitReached) _ (λ _ _. ok_keeps _ _ none)) (instead_keeps repo)))
   outcome_keeps (Delete repo digest) no_lease =
       told_keeps _ (delete C repo digest) (bind_keeps (tenant C repo) _ (λ t _. bind_keeps (linked C repo digest) _ (λ _ _. bind_keeps (unreferenced (referrer C repo digest)) _ (λ _ _. ok_keeps _ _ none))))
   outcome_keeps (PutManifest repo bytes) no_lease =

@@ -1,5 +1,5 @@
 -- A row spells one command at most.
-use Rattle.std.proofs.Common.{◌≡◌, ◌⊎◌, Bool, false, true, inl, inr, ◌≤◌, ◌<◌, ◌^◌, ◌∙◌, ℕ, [], Option, Some, None, ap, refl, subst, sym}
+use Rattle.std.proofs.Common.{◌≡◌, ◌⊎◌, Bool, false, true, inl, inr, ◌≤◌, ◌<◌, ◌^◌, ◌∙◌, ℕ, [], ◌∷◌, Option, Some, None, ap, refl, subst, sym}
 use Rattle.std.proofs.Math.Bridge.{le_prop}
 use Rattle.std.specs.Option.{unwrap_or}
 use Rattle.std.proofs.lemmas.Bool.{false≢true}
@@ -9,9 +9,10 @@ use Rattle.blob_digest.specs.declared.refusal.Refusal.{Refusal}
 use Rattle.blob_digest.specs.declared.refusal.Refusal.TheVariants as no
 use Rattle.blob_digest.specs.Ranges.{range_of}
 use Rattle.blob_digest.specs.declared.range.ByteRange.{ByteRange}
+use Rattle.blob_digest.proofs.NameGrammar.{path_accepted}
 use Rattle.blob_digest.proofs.RangeTexts.{range_is}
 use Rattle.std.proofs.lemmas.Option.{same_Some}
-use Rattle.row_player.specs.Commands.{Command, Start, Status, Append, Close, Abandon, Mount, Delete, PutManifest, GetManifest, DeleteManifest, Lease, HasDigest, HasSource, IsDigest, IsMisspelt, IsNoRange, Spells, SpellsRange, uses_digest, uses_range, uses_source}
+use Rattle.row_player.specs.Commands.{Command, Start, Status, Append, Close, Abandon, Mount, Delete, PutManifest, GetManifest, DeleteManifest, Lease, HasDigest, HasSource, IsDigest, IsMisspelt, IsNoRange, IsNoSource, Spells, SpellsRange, SpellsSource, uses_digest, uses_range, uses_source}
 use Rattle.row_player.specs.Rows.{Line, session_number}
 use Rattle.row_player.specs.declared.row.Verb.{Verb}
 use Rattle.row_player.specs.declared.row.Verb.TheVariants as verb
@@ -31,6 +32,24 @@ same_ranges text (Some r) (Some s) h k =
     let ends = same_Some (r.start, r.end) (s.start, s.end) (sym (range_is text r.start r.end h) ∙ range_is text s.start s.end k) in
     ap (λ x. Some x) (same_range r s (ap (λ (e : ℕ × ℕ). e.0) ends) (ap (λ (e : ℕ × ℕ). e.1) ends))
 
+-- the source that a field names
+source_named : Text → Option Text
+source_named [] = None
+source_named (c ∷ cs) = Some (c ∷ cs)
+
+no_name_is_empty : ¬ IsRepoName []
+no_name_is_empty h = false≢true (path_accepted [] h.0)
+
+source_is : (text : Text) (from : Option Text) → SpellsSource text from → from ≡ source_named text
+unfolding source_named
+source_is text None h = ap source_named (sym h)
+source_is [] (Some from) h = absurd (no_name_is_empty h.1)
+source_is (c ∷ cs) (Some from) h = ap (λ x. Some x) h.0
+
+source_or_none : (text : Text) (from : Option Text) → SpellsSource text from → IsNoSource text → ⊥
+source_or_none text None empty bad = bad.0 empty
+source_or_none text (Some from) spelt bad = bad.1 spelt.1
+
 module _ (line : Line) (range : Option ByteRange) where
   -- the command that a row spells, by its verb
   abbrev spelled : Verb → Command
@@ -39,7 +58,7 @@ module _ (line : Line) (range : Option ByteRange) where
   spelled verb.Append = Append line.repo (unwrap_or (session_number line.key) 0) range line.body
   spelled verb.Close = Close line.repo (unwrap_or (session_number line.key) 0) line.digest range line.body
   spelled verb.Abandon = Abandon line.repo (unwrap_or (session_number line.key) 0)
-  spelled verb.Mount = Mount line.repo line.digest line.key
+  spelled verb.Mount = Mount line.repo line.digest (source_named line.key)
   spelled verb.Delete = Delete line.repo line.digest
   spelled verb.PutManifest = PutManifest line.repo line.body
   spelled verb.GetManifest = GetManifest line.repo line.digest
@@ -60,7 +79,7 @@ module _ (line : Line) (range : Option ByteRange) where
   spelled_is (Append repo n r bytes) h same = (λ i. Append (h.1.0 i) (number_is n h.2 i) (same (rw h.0 refl) r h.3 i) (h.4 i)) ∙ ap spelled (sym h.0)
   spelled_is (Close repo n digest r bytes) h same = (λ i. Close (h.1.0 i) (number_is n h.2 i) (h.3.0 i) (same (rw h.0 refl) r h.4 i) (h.5 i)) ∙ ap spelled (sym h.0)
   spelled_is (Abandon repo n) h same = (λ i. Abandon (h.1.0 i) (number_is n h.2 i)) ∙ ap spelled (sym h.0)
-  spelled_is (Mount repo digest from) h same = (λ i. Mount (h.1.0 i) (h.3.0 i) (h.2.0 i)) ∙ ap spelled (sym h.0)
+  spelled_is (Mount repo digest from) h same = (λ i. Mount (h.1.0 i) (h.3.0 i) (source_is line.key from h.2 i)) ∙ ap spelled (sym h.0)
   spelled_is (Delete repo digest) h same = (λ i. Delete (h.1.0 i) (h.2.0 i)) ∙ ap spelled (sym h.0)
   spelled_is (PutManifest repo bytes) h same = (λ i. PutManifest (h.1.0 i) (h.2 i)) ∙ ap spelled (sym h.0)
   spelled_is (GetManifest repo digest) h same = (λ i. GetManifest (h.1.0 i) (h.2.0 i)) ∙ ap spelled (sym h.0)
@@ -101,7 +120,7 @@ module _ (line : Line) where
   -- what each of the three refusals says
   Misspelt : Refusal → Type 0
   Misspelt r =
-      ((r ≡ no.NameInvalid) × ((¬ IsRepoName line.repo) ⊎ (IsRepoName line.repo × (uses_source line.verb ≡ true) × ¬ IsRepoName line.key)))
+      ((r ≡ no.NameInvalid) × ((¬ IsRepoName line.repo) ⊎ (IsRepoName line.repo × (uses_source line.verb ≡ true) × IsNoSource line.key)))
       ⊎ ((r ≡ no.DigestInvalid) × (IsRepoName line.repo × HasSource line × (uses_digest line.verb ≡ true) × ¬ IsDigest line.digest))
       ⊎ ((r ≡ no.SizeInvalid) × (IsRepoName line.repo × HasSource line × HasDigest line × (uses_range line.verb ≡ true) × IsNoRange line.range))
 
@@ -126,8 +145,8 @@ module _ (line : Line) where
   misspelt no.Memory h = absurd h
   misspelt no.Busy h = absurd h
 
-  no_name : (¬ IsRepoName line.repo) ⊎ (IsRepoName line.repo × (uses_source line.verb ≡ true) × ¬ IsRepoName line.key) → IsRepoName line.repo → HasSource line → ⊥
-  no_name bad repo source = elim bad [ inl none ↦ none repo | inr none ↦ none.2 (source none.1) ]
+  no_name : (¬ IsRepoName line.repo) ⊎ (IsRepoName line.repo × (uses_source line.verb ≡ true) × IsNoSource line.key) → IsRepoName line.repo → HasSource line → ⊥
+  no_name bad repo source = elim bad [ inl none ↦ none repo | inr none ↦ let from = source none.1 in source_or_none line.key from.0 from.1 none.2 ]
 
   pub same_refusal : (r s : Refusal) → IsMisspelt line r → IsMisspelt line s → r ≡ s
   unfolding Misspelt
@@ -158,7 +177,7 @@ module _ (line : Line) where
   fields_spelled (Append repo n range bytes) h = (h.1.1, λ u. absurd (not_of uses_source verb.Append refl h.0 u), λ u. absurd (not_of uses_digest verb.Append refl h.0 u))
   fields_spelled (Close repo n digest range bytes) h = (h.1.1, λ u. absurd (not_of uses_source verb.Close refl h.0 u), λ _. h.3.1)
   fields_spelled (Abandon repo n) h = (h.1.1, λ u. absurd (not_of uses_source verb.Abandon refl h.0 u), λ u. absurd (not_of uses_digest verb.Abandon refl h.0 u))
-  fields_spelled (Mount repo digest from) h = (h.1.1, λ _. h.2.1, λ _. h.3.1)
+  fields_spelled (Mount repo digest from) h = (h.1.1, λ _. (from, h.2), λ _. h.3.1)
   fields_spelled (Delete repo digest) h = (h.1.1, λ u. absurd (not_of uses_source verb.Delete refl h.0 u), λ _. h.2.1)
   fields_spelled (PutManifest repo bytes) h = (h.1.1, λ u. absurd (not_of uses_source verb.PutManifest refl h.0 u), λ u. absurd (not_of uses_digest verb.PutManifest refl h.0 u))
   fields_spelled (GetManifest repo digest) h = (h.1.1, λ u. absurd (not_of uses_source verb.GetManifest refl h.0 u), λ _. h.2.1)

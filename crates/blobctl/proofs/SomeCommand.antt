@@ -12,7 +12,7 @@ use Rattle.blob_digest.specs.declared.refusal.Refusal.TheVariants as no
 use Rattle.blob_digest.proofs.Grammar.{grammar_passes, passes_grammar}
 use Rattle.blob_digest.proofs.NameGrammar.{accepted_path, path_accepted}
 use Rattle.blob_digest.proofs.RangeTexts.{range_found, range_is}
-use Rattle.row_player.specs.Commands.{Command, Start, Status, Append, Close, Abandon, Mount, Delete, PutManifest, GetManifest, DeleteManifest, Lease, HasDigest, HasSource, IsDigest, IsMisspelt, IsNoRange, Spells, SpellsRange, is_lease, uses_digest, uses_range, uses_repo, uses_session, uses_source}
+use Rattle.row_player.specs.Commands.{Command, Start, Status, Append, Close, Abandon, Mount, Delete, PutManifest, GetManifest, DeleteManifest, Lease, HasDigest, HasSource, IsDigest, IsMisspelt, IsNoRange, IsNoSource, Spells, SpellsRange, SpellsSource, is_lease, uses_digest, uses_range, uses_repo, uses_session, uses_source}
 use Rattle.blobctl.specs.Records.{Record, head_of, line_with, row_of}
 use Rattle.row_player.specs.Rows.{Line, fits, session_number}
 use Rattle.row_player.specs.declared.row.Verb.{Verb}
@@ -58,11 +58,19 @@ is_range (x ∷ xs) = by (range_of (x ∷ xs)) refl
         let h = range_found (x ∷ xs) ends.0 ends.1 is in
         inl (Some (record { start = ends.0; end = ends.1; ordered = h.ordered; small = h.last.small }), h)
 
+-- a source, or none
+is_source : (text : Text) → ((from : Option Text) × SpellsSource text from) ⊎ IsNoSource text
+is_source [] = inl (None, refl)
+is_source (x ∷ xs) = elim (is_name (x ∷ xs)) [
+  | inl name ↦ inl (Some (x ∷ xs), (refl, name))
+  | inr none ↦ inr (λ e. absurd (let h = e in cc), none)
+]
+
 -- a field that is used is spelled, or it isn't
-where_used : {P : Type 0} (uses : Bool) → P ⊎ (¬ P) → (uses ≡ true → P) ⊎ ((uses ≡ true) × ¬ P)
+where_used : {P Q : Type 0} (uses : Bool) → P ⊎ Q → (uses ≡ true → P) ⊎ ((uses ≡ true) × Q)
 where_used uses (inl p) = inl (λ _. p)
-where_used true (inr not_p) = inr (refl, not_p)
-where_used false (inr not_p) = inl (λ e. absurd (false≢true e))
+where_used true (inr q) = inr (refl, q)
+where_used false (inr q) = inl (λ e. absurd (false≢true e))
 
 -- ---- a row fits its command
 
@@ -119,7 +127,7 @@ module _ (line : Line) where
   commanded s verb.Append is uses other fit = let n = session verb.Append refl fit in (Append line.repo n.0 s.range line.body, (is, (refl, s.repo), n.1, s.ranged (ap uses_range is), refl), refl)
   commanded s verb.Close is uses other fit = let n = session verb.Close refl fit in (Close line.repo n.0 line.digest s.range line.body, (is, (refl, s.repo), n.1, (refl, s.digest (ap uses_digest is)), s.ranged (ap uses_range is), refl), refl)
   commanded s verb.Abandon is uses other fit = let n = session verb.Abandon refl fit in (Abandon line.repo n.0, (is, (refl, s.repo), n.1), refl)
-  commanded s verb.Mount is uses other fit = (Mount line.repo line.digest line.key, (is, (refl, s.repo), (refl, s.source (ap uses_source is)), (refl, s.digest (ap uses_digest is))), refl)
+  commanded s verb.Mount is uses other fit = let from = s.source (ap uses_source is) in (Mount line.repo line.digest from.0, (is, (refl, s.repo), from.1, (refl, s.digest (ap uses_digest is))), refl)
   commanded s verb.Delete is uses other fit = (Delete line.repo line.digest, (is, (refl, s.repo), (refl, s.digest (ap uses_digest is))), refl)
   commanded s verb.PutManifest is uses other fit = (PutManifest line.repo line.body, (is, (refl, s.repo), refl), refl)
   commanded s verb.GetManifest is uses other fit = (GetManifest line.repo line.digest, (is, (refl, s.repo), (refl, s.digest (ap uses_digest is))), refl)
@@ -139,7 +147,7 @@ module _ (line : Line) where
   spelt_or_not : Spelt ⊎ Misspelt
   spelt_or_not = elim (is_name line.repo) [
     | inr none ↦ inr (no.NameInvalid, inl none, refl)
-    | inl repo ↦ elim (where_used (uses_source line.verb) (is_name line.key)) [
+    | inl repo ↦ elim (where_used (uses_source line.verb) (is_source line.key)) [
       | inr none ↦ inr (no.NameInvalid, inr (repo, none.0, none.1), refl)
       | inl source ↦ elim (where_used (uses_digest line.verb) (is_digest line.digest)) [
         | inr none ↦ inr (no.DigestInvalid, (repo, source, none.0, none.1), refl)

@@ -100,9 +100,9 @@ module _ (C : Catalog) where
   abandon_fine : (repo : Text) (number : ℕ) → Fine (steps.abandon C repo number)
   abandon_fine repo number = bind_fine (steps.tenant C repo) _ (tenant_fine repo) (λ t. bind_fine (steps.session C t repo number) _ (session_fine _ repo) (λ s. bind_fine (not_busy s.chunks) _ (not_busy_fine s.chunks) (λ _. tt)))
 
-  mount_fine : (repo digest from : Text) → Fine (steps.mount C repo digest (Some from))
+  mount_fine : (repo digest : Text) (from : Option Text) → Fine (steps.mount C repo digest from)
   mount_fine repo digest from =
-      bind_fine (steps.tenant C repo) _ (tenant_fine repo) (λ t. if_fine (steps.has_source C t digest (Some from)) (steps.link_held C t repo digest) (steps.start_instead C repo) (bind_fine (refuse (steps.lacks_room_for C t repo) no.LimitReached) _ (refuse_fine _ _ refl) (λ _. tt)) (bind_fine (steps.start C repo) _ (start_fine repo) (λ _. tt)))
+      bind_fine (steps.tenant C repo) _ (tenant_fine repo) (λ t. if_fine (steps.has_source C t digest from) (steps.link_held C t repo digest) (steps.start_instead C repo) (bind_fine (refuse (steps.lacks_room_for C t repo) no.LimitReached) _ (refuse_fine _ _ refl) (λ _. tt)) (bind_fine (steps.start C repo) _ (start_fine repo) (λ _. tt)))
 
   delete_fine : (repo digest : Text) → Fine (steps.delete C repo digest)
   delete_fine repo digest = bind_fine (steps.tenant C repo) _ (tenant_fine repo) (λ _. bind_fine (steps.linked C repo digest) _ (refuse_fine _ _ refl) (λ _. bind_fine (steps.unreferenced (steps.referrer C repo digest)) _ (unreferenced_fine _) (λ _. tt)))
@@ -158,7 +158,7 @@ module _ (C : Catalog) where
   outcome_good (Append repo n range bytes) = told_good Received (λ _. tt) (steps.append C repo n range bytes) (append_fine C repo n range bytes)
   outcome_good (Close repo n digest range bytes) = told_good Stored (λ _. tt) (steps.close C repo n digest range bytes) (close_fine C repo n digest range bytes)
   outcome_good (Abandon repo n) = told_good (λ _. Abandoned) (λ _. tt) (steps.abandon C repo n) (abandon_fine C repo n)
-  outcome_good (Mount repo digest from) = told_good mount_answer mount_good (steps.mount C repo digest (Some from)) (mount_fine C repo digest from)
+  outcome_good (Mount repo digest from) = told_good mount_answer mount_good (steps.mount C repo digest from) (mount_fine C repo digest from)
   outcome_good (Delete repo digest) = told_good (λ _. Deleted) (λ _. tt) (steps.delete C repo digest) (delete_fine C repo digest)
   outcome_good (PutManifest repo bytes) = told_good Manifest (λ _. tt) (steps.put_manifest C repo bytes) (put_fine C repo bytes)
   outcome_good (GetManifest repo digest) = read_good Body (λ _. tt) (steps.get_manifest C repo digest) (get_fine C repo digest)

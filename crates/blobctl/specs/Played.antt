@@ -1,5 +1,5 @@
 -- What a script does to a store, and the text that is written then.
-use Rattle.std.specs.Prelude.{◌≡◌, ◌≢◌, ◌⊎◌, ℕ, ◌+◌, ◌<◌, ◌≤◌, false, List, ◌++◌, Some, Result, Ok, Err}
+use Rattle.std.specs.Prelude.{◌≡◌, ◌≢◌, ◌⊎◌, ℕ, ◌+◌, ◌<◌, ◌≤◌, false, List, ◌++◌, Result, Ok, Err}
 use Rattle.blob_digest.specs.Keys.{Text}
 use Rattle.blob_digest.specs.Tenants.{Tenant}
 use Rattle.blob_digest.specs.declared.refusal.Refusal.{Refusal}
@@ -37,7 +37,7 @@ outcome C (Status repo number) = read Received C (steps.status C repo number)
 outcome C (Append repo number range bytes) = told Received (steps.append C repo number range bytes)
 outcome C (Close repo number digest range bytes) = told Stored (steps.close C repo number digest range bytes)
 outcome C (Abandon repo number) = told (λ _. Abandoned) (steps.abandon C repo number)
-outcome C (Mount repo digest from) = told mount_answer (steps.mount C repo digest (Some from))
+outcome C (Mount repo digest from) = told mount_answer (steps.mount C repo digest from)
 outcome C (Delete repo digest) = told (λ _. Deleted) (steps.delete C repo digest)
 outcome C (PutManifest repo bytes) = told Manifest (steps.put_manifest C repo bytes)
 outcome C (GetManifest repo digest) = read Body C (steps.get_manifest C repo digest)

@@ -33,6 +33,8 @@ mod laws;
 mod lease_tests;
 #[cfg(test)]
 mod manifest_tests;
+#[cfg(test)]
+mod mount_tests;
 mod options;
 mod output;
 mod pinned_book;

@@ -151,9 +151,9 @@ impl<'p, N: TableName> Backend for PinnedBook<'p, N> {
         &mut self,
         repo: &RepoName,
         digest: &Digest,
-        from: &RepoName,
+        from: Option<&RepoName>,
     ) -> Result<Mount, Refusal> {
-        self.book.mount(repo, digest, Some(from))
+        self.book.mount(repo, digest, from)
     }
 
     fn delete(&mut self, repo: &RepoName, digest: &Digest) -> Result<(), Refusal> {

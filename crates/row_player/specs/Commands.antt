@@ -11,14 +11,14 @@ use Rattle.row_player.specs.Rows.{Line, session_number}
 use Rattle.row_player.specs.declared.row.Verb.{Verb}
 use Rattle.row_player.specs.declared.row.Verb.TheVariants as verb
 
--- A command with what it names: a repository, a session's number, a digest, a range and bytes; for a mount a digest and its source.
+-- A command with what it names: a repository, a session's number, a digest, a range and bytes; for a mount a digest and its source, if it names one.
 pub data Command : Type 0 where
   Start : Text → Command
   Status : Text → ℕ → Command
   Append : Text → ℕ → Option ByteRange → Text → Command
   Close : Text → ℕ → Text → Option ByteRange → Text → Command
   Abandon : Text → ℕ → Command
-  Mount : Text → Text → Text → Command
+  Mount : Text → Text → Option Text → Command
   Delete : Text → Text → Command
   PutManifest : Text → Text → Command
   GetManifest : Text → Text → Command
@@ -44,9 +44,14 @@ IsNoRange text = (text ≢ []) × ((start : ℕ) → (end : ℕ) → IsRangeText
 abbrev pub SpellsRepo : Line → Text → Type 0
 SpellsRepo line repo = (repo ≡ line.repo) × IsRepoName line.repo
 
--- the field of a mount's source spells one
-abbrev pub SpellsSource : Line → Text → Type 0
-SpellsSource line from = (from ≡ line.key) × IsRepoName line.key
+-- what the field of a mount's source spells: no source where it is empty
+abbrev pub SpellsSource : Text → Option Text → Type 0
+SpellsSource text None = text ≡ []
+SpellsSource text (Some from) = (from ≡ text) × IsRepoName text
+
+-- the text is neither empty nor a repository's name
+abbrev pub IsNoSource : Text → Type 0
+IsNoSource text = (text ≢ []) × ¬ IsRepoName text
 
 -- the text is a digest, by whichever algorithm
 unfoldable pub IsDigest : Text → Type 0
@@ -65,7 +70,7 @@ Spells line (Append repo number range bytes) =
 Spells line (Close repo number digest range bytes) =
     (line.verb ≡ verb.Close) × SpellsRepo line repo × (session_number line.key ≡ Some number) × SpellsDigest line digest × SpellsRange line.range range × (bytes ≡ line.body)
 Spells line (Abandon repo number) = (line.verb ≡ verb.Abandon) × SpellsRepo line repo × (session_number line.key ≡ Some number)
-Spells line (Mount repo digest from) = (line.verb ≡ verb.Mount) × SpellsRepo line repo × SpellsSource line from × SpellsDigest line digest
+Spells line (Mount repo digest from) = (line.verb ≡ verb.Mount) × SpellsRepo line repo × SpellsSource line.key from × SpellsDigest line digest
 Spells line (Delete repo digest) = (line.verb ≡ verb.Delete) × SpellsRepo line repo × SpellsDigest line digest
 Spells line (PutManifest repo bytes) = (line.verb ≡ verb.PutManifest) × SpellsRepo line repo × (bytes ≡ line.body)
 Spells line (GetManifest repo digest) = (line.verb ≡ verb.GetManifest) × SpellsRepo line repo × SpellsDigest line digest
@@ -86,14 +91,14 @@ uses_repo verb.GiveBack = false
 uses_repo verb.Sweep = false
 uses_repo _ = true
 
--- whether a command names a repository that a blob is mounted from
+-- whether a command may name a repository that a blob is mounted from
 abbrev pub uses_source : Verb → Bool
 uses_source verb.Mount = true
 uses_source _ = false
 
--- the source of a command that has one is spelled
+-- the source of a command that may have one is spelled
 abbrev pub HasSource : Line → Type 0
-HasSource line = uses_source line.verb ≡ true → IsRepoName line.key
+HasSource line = uses_source line.verb ≡ true → (from : Option Text) × SpellsSource line.key from
 
 -- whether a command names a digest
 abbrev pub uses_digest : Verb → Bool
@@ -125,7 +130,7 @@ HasDigest line = uses_digest line.verb ≡ true → IsDigest line.digest
 
 -- the refusal of the first field, in the order repository, source, digest and range, that spells nothing
 abbrev pub IsMisspelt : Line → Refusal → Type 0
-IsMisspelt line NameInvalid = (¬ IsRepoName line.repo) ⊎ (IsRepoName line.repo × (uses_source line.verb ≡ true) × ¬ IsRepoName line.key)
+IsMisspelt line NameInvalid = (¬ IsRepoName line.repo) ⊎ (IsRepoName line.repo × (uses_source line.verb ≡ true) × IsNoSource line.key)
 IsMisspelt line DigestInvalid = IsRepoName line.repo × HasSource line × (uses_digest line.verb ≡ true) × ¬ IsDigest line.digest
 IsMisspelt line SizeInvalid = IsRepoName line.repo × HasSource line × HasDigest line × (uses_range line.verb ≡ true) × IsNoRange line.range
 IsMisspelt line refusal = ⊥

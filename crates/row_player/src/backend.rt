@@ -1,5 +1,6 @@
 //! What the rows of a script are played on.
 ghost use Rattle.std.specs.Prelude.{◌≡◌, ◌≢◌, ◌⊎◌, ◌^◌, ◌<◌, ◌≤◌, length, MatchResult};
+ghost use Rattle.std.specs.Option.{option_copied};
 ghost use Rattle.row_player.specs.Answers.{Answer, Session, Received, Stored, Abandoned, Deleted, Manifest as ManifestAnswer, Body, Bytes, Verified, Cleaned, Refused, mount_answer};
 ghost use Rattle.row_player.specs.Commands.{Request, Calls, Verifies, Sweeps, Start, Status, Append, Close, Abandon, Mount as MountCommand, Delete, PutManifest, GetManifest, DeleteManifest, Lease as LeaseCommand};
 ghost use Rattle.row_player.specs.Leases.{Lent, between, halved};
@@ -78,9 +79,15 @@ pub trait Backend {
     fn abandon(&mut self, repo: &RepoName, number: u32) -> Result<u64, Refusal>
         ensures { MatchResult result (λ _. acts self.old (Calls (Abandon repo.now number)) Abandoned self.new) (λ e. acts self.old (Calls (Abandon repo.now number)) (Refused e) self.new) };
 
-    /// Links a blob that another repository of the tenant holds, or opens an upload session for it.
-    fn mount(&mut self, repo: &RepoName, digest: &Digest, from: &RepoName) -> Result<Mount, Refusal>
-        ensures { MatchResult result (λ m. acts self.old (Calls (MountCommand repo.now digest.now from.now)) (mount_answer m) self.new) (λ e. acts self.old (Calls (MountCommand repo.now digest.now from.now)) (Refused e) self.new) };
+    /// Links a blob that the tenant holds in the source or, without one, in any of its repositories, or opens
+    /// an upload session for it.
+    fn mount(
+        &mut self,
+        repo: &RepoName,
+        digest: &Digest,
+        from: Option<&RepoName>,
+    ) -> Result<Mount, Refusal>
+        ensures { MatchResult result (λ m. acts self.old (Calls (MountCommand repo.now digest.now (option_copied from.entry))) (mount_answer m) self.new) (λ e. acts self.old (Calls (MountCommand repo.now digest.now (option_copied from.entry))) (Refused e) self.new) };
 
     /// Takes a blob's link out of a repository.
     fn delete(&mut self, repo: &RepoName, digest: &Digest) -> Result<(), Refusal>

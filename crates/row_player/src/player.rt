@@ -1,7 +1,7 @@
 //! Plays the rows of a script.
 ghost use Rattle.std.specs.Prelude.{◌≡◌, ◌≢◌, ◌⊎◌, ◌++◌, ◌∷◌, [], ◌≤◌, ◌<◌, ◌^◌, true, Some, None, IfOk, IfErr, OnOk, MatchResult, IsTrue, ◌↔◌, length, map, vec_capacity, vec_len};
 ghost use Rattle.row_player.specs.Answers.{answer_of, answers_of, Refused};
-ghost use Rattle.row_player.specs.Commands.{IsDigest, IsNoRange, SpellsRange, uses_session};
+ghost use Rattle.row_player.specs.Commands.{IsDigest, IsNoRange, IsNoSource, SpellsRange, SpellsSource, uses_session};
 ghost use Rattle.row_player.specs.Leases.{Leases as Held, none};
 ghost use Rattle.row_player.specs.Lines.{line_of};
 ghost use Rattle.row_player.specs.Plays.{AnswersCall, AnswersRead, AnswersRow, Plays, RowStep, piece_of};
@@ -36,6 +36,17 @@ fn range_in(text: &[u8]) -> Result<Option<ByteRange>, Refusal>
     }
     let range = ByteRange::parse(text)?;
     Ok(Some(range))
+}
+
+/// The source that a field spells, which is none where the field is empty.
+fn source_in(alloc: Global, text: &[u8]) -> Result<Option<RepoName>, Refusal>
+    ensures { MatchResult result (λ from. SpellsSource text.now from) (λ e. (e ≡ Refusal.Memory) ⊎ ((e ≡ Refusal.NameInvalid) × IsNoSource text.now)) }
+{
+    if text.is_empty() {
+        return Ok(None);
+    }
+    let from = RepoName::parse(alloc, text)?;
+    Ok(Some(from))
 }
 
 /// The number of the session that a row names.
@@ -112,9 +123,9 @@ fn play_mount<B: Backend>(alloc: Global, backend: &mut B, row: &Row) -> Result<R
     ensures { AnswersCall B.acts backend.old (line_of row.now) result backend.new }
 {
     let repo = RepoName::parse(alloc, row.repo.as_slice())?;
-    let from = RepoName::parse(alloc, row.key.as_slice())?;
+    let from = source_in(alloc, row.key.as_slice())?;
     let digest = digest_in(row.digest.as_slice())?;
-    let mount = backend.mount(&repo, &digest, &from)?;
+    let mount = backend.mount(&repo, &digest, from.as_ref())?;
     Ok(mount_reply(mount))
 }
 

@@ -50,7 +50,7 @@ pub struct Row {
     /// A repository's name.
     pub repo: Vec<u8>,
     /// The number of a session, where the command names one: 1 to 4294967295. For a mount the name of
-    /// the repository that it is from. Where the command names a lease, its name.
+    /// the repository that it is from, or nothing. Where the command names a lease, its name.
     pub key: Vec<u8>,
     /// A digest's text.
     pub digest: Vec<u8>,

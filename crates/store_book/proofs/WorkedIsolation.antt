@@ -1,8 +1,8 @@
 -- A tenant with a second one beside it, and alone: its replies and its part are the same. Which digest bytes have is given.
-use Rattle.std.proofs.Common.{◌≡◌, true, false, cond, List, [], ◌∷◌, Option, Some, None, Ok, Err, refl, sym, ap, ◌∙◌, subst, inl, inr}
+use Rattle.std.proofs.Common.{◌≡◌, true, false, cond, List, [], ◌∷◌, None, Ok, refl, sym, ap, ◌∙◌, subst, inl, inr}
 use Rattle.std.specs.Prelude.{codes, Bool}
 use Rattle.std.specs.declared.cmp.Ordering.{Ordering}
-use Rattle.std.specs.FinMap.{FinMap, IsAntisymmetric, get, insert, empty, entries, entries_sorted, retain_keys, from_sorted, get-empty, get-entries, get-insert, get-remove, get-retain_keys, get-from_sorted, entries-insert, entries-from_sorted, len-entries, same_map, same_entries_map}
+use Rattle.std.specs.FinMap.{FinMap, IsAntisymmetric, get, empty, entries, entries_sorted, retain_keys, from_sorted, get-empty, get-entries, get-insert, get-remove, get-retain_keys, get-from_sorted, entries-insert, entries-from_sorted, len-entries, same_map, same_entries_map}
 use Rattle.std.specs.FinMap.Entries.{where_key, is_sorted-where_key, find-where_key}
 use Rattle.std.specs.Cmp.{IsTotalOrder}
 use Rattle.std.specs.declared.cmp.Ordering.TheVariants.{Equal}
@@ -14,7 +14,7 @@ use Rattle.blob_digest.proofs.KeyOrders.{number_cmp_total, exact_number, link_cm
 use Rattle.blob_digest.proofs.MapSums.{entries-remove}
 use Rattle.blob_digest.proofs.RowLemmas.{entries-empty}
 use Rattle.store_book.specs.declared.mount.Mount.TheVariants as mounting
-use Rattle.store_book.specs.Catalog.{Text, Tenant, Session, Resident, Catalog, text_cmp, is_of, opening}
+use Rattle.store_book.specs.Catalog.{Text, Tenant, Session, Resident, Catalog, text_cmp, opening}
 use Rattle.store_book.specs.Steps.{new_session, stored, with_link}
 use Rattle.store_book.specs.Runs.{Command, Event, Called, Cleaned, Start, Close, Mount, Delete, Number, Mounting, Done, outcome, IsRun}
 use Rattle.store_book.specs.Sweeps.{is_orphan, IsLeft, IsSweep}
