@@ -224,8 +224,9 @@ fn upload_of<'p>(rt: &(impl Abort + AllocGlobal), names: &'p Names, round: u32) 
 
 /// A manifest whose config is the blob of a digest.
 fn manifest_of(rt: &(impl Abort + AllocGlobal), of: &str) -> String {
-    format!(in rt.alloc(); "{{\"schemaVersion\":2,\"config\":{{\"digest\":\"{of}\"}}}}")
-        .expect(rt, "memory")
+    format!(in rt.alloc(); "{{\"schemaVersion\":2,\"config\":{{\"digest\":\"{of}\"}}}}").expect(
+        rt, "memory",
+    )
 }
 
 impl<
@@ -358,12 +359,7 @@ impl<
     }
 
     /// Puts a manifest that keeps the blob, gets it and deletes it.
-    fn keeps_by_a_manifest(
-        &self,
-        desk: &mut Desk<C, R, D, A>,
-        own: &mut Own,
-        upload: &Upload<'_>,
-    ) {
+    fn keeps_by_a_manifest(&self, desk: &mut Desk<C, R, D, A>, own: &mut Own, upload: &Upload<'_>) {
         let rt = self.rt;
         let (repo, of) = (upload.repo, upload.of.as_str());
         let text = manifest_of(rt, of);

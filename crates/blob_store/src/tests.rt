@@ -391,8 +391,20 @@ fn parts_are_refused_by_names_and_limits(rt: HostRuntime) {
         (1, [].as_slice(), 1, 1, Refusal::LimitReached),
         (0, ["acme"].as_slice(), 1, 1, Refusal::LimitReached),
         (65_537, ["acme"].as_slice(), 1, 1, Refusal::LimitReached),
-        (1, ["acme"].as_slice(), (1 << 40) + 1, 1, Refusal::LimitReached),
-        (1, ["acme"].as_slice(), 1, (1 << 50) + 1, Refusal::LimitReached),
+        (
+            1,
+            ["acme"].as_slice(),
+            (1 << 40) + 1,
+            1,
+            Refusal::LimitReached,
+        ),
+        (
+            1,
+            ["acme"].as_slice(),
+            1,
+            (1 << 50) + 1,
+            Refusal::LimitReached,
+        ),
     ] {
         refuses(&rt, slots, names, max_blob, quota, refusal);
     }
