@@ -2,3 +2,5 @@ pub mod Sums
 pub mod Answered
 pub mod SessionSums
 pub mod Rooms
+pub mod Places
+pub mod Settlings

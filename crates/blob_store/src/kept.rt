@@ -1,6 +1,6 @@
 //! What lies under the lock.
 
-ghost use Rattle.std.specs.Prelude.{◌≡◌, ◌≢◌, ◌+◌, ◌<◌, None, Some, IfOk, IfSome, OnErr, OnOk, true, length, sum_by, vec_len, not};
+ghost use Rattle.std.specs.Prelude.{◌≡◌, ◌≢◌, ◌⊎◌, ◌+◌, ◌<◌, None, Some, IfErr, IfOk, IfSome, OnErr, OnOk, true, length, sum_by, vec_len, not};
 ghost use Rattle.std.specs.Arc.{arc_value};
 ghost use Rattle.std.specs.FinMap.{empty};
 ghost use Rattle.std.specs.Option.{option_copied};
@@ -384,6 +384,7 @@ impl<N: Naming, C: Ledger, R: Ledger, D: Ledger, A: Ledger> Kept<N, C, R, D, A> 
     pub fn desks(&mut self, alloc: Global, count: u64) -> Result<Vec<Desk<C, R, D, A>>, Refusal>
         ensures made { IfOk result (λ v. (vec_len v ≡ count) × (sum_of v.items ≡ nothing)) }
         ensures does { Does (λ _. tt) result self.old self.new (handing_out count self.old) }
+        ensures refused { IfErr result (λ e. (e ≡ LimitReached) ⊎ (e ≡ Refusal.Memory)) }
     {
         if count == 0 || count > MAX_DESKS || self.counters.desks() > MAX_DESKS - count {
             return Err(Refusal::LimitReached);

@@ -1,6 +1,6 @@
 //! A reader's hold on a blob.
 
-ghost use Rattle.std.specs.Prelude.{◌≡◌, ◌⊎◌, ◌-◌, ◌++◌, IfOk, IfErr, true, length, take, drop, min};
+ghost use Rattle.std.specs.Prelude.{◌≡◌, ◌≢◌, ◌⊎◌, ◌-◌, ◌++◌, IfOk, IfErr, OnOk, true, length, take, drop, min};
 ghost use Rattle.std.specs.Arc.{arc_value};
 ghost use Rattle.blob_digest.specs.Digests.{is_digest_of};
 ghost use Rattle.blob_digest.specs.declared.refusal.Refusal.TheVariants.{Memory, WeightSpent};
@@ -112,6 +112,7 @@ impl<'s, N: Naming> Lease<'s, N> {
     /// (`WeightSpent`). The lease comes back as it was.
     pub fn share(self) -> Result<(Lease<'s, N>, Lease<'s, N>), (Refusal, Lease<'s, N>)>
         ensures shared { IfOk result (λ r. (r.0 ≡ halved self.entry) × (r.1 ≡ halved self.entry)) }
+        ensures more { OnOk result (self.entry.hold.weight ≢ 1) }
         ensures back { IfErr result (λ r. r.1 ≡ self.entry) }
         ensures refused { IfErr result (λ r. (r.0 ≡ Memory) ⊎ ((r.0 ≡ WeightSpent) × (self.entry.hold.weight ≡ 1))) }
     {

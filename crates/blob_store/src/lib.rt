@@ -8,6 +8,7 @@
 //! totals. A lease is read, shared and given back without the lock.
 #![tactic(auto)]
 
+mod carried;
 mod column;
 mod counters;
 mod desk;
@@ -17,6 +18,8 @@ mod lease;
 mod load_tests;
 mod names;
 mod parts;
+mod playing;
+mod seat;
 mod store;
 #[cfg(test)]
 mod test_steps;
@@ -25,6 +28,7 @@ mod tests;
 #[cfg(test)]
 mod thread_tests;
 mod totals;
+mod workers;
 
 pub use column::PARTS;
 pub use counters::Counters;
@@ -33,5 +37,7 @@ pub use kept::{Kept, MAX_DESKS};
 pub use lease::Lease;
 pub use names::Naming;
 pub use parts::Parts;
+pub use playing::{MAX_WORKERS, Played, play};
+pub use seat::Seat;
 pub use store::Store;
 pub use totals::Totals;

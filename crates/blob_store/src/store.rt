@@ -1,6 +1,6 @@
 //! The store that threads share.
 
-ghost use Rattle.std.specs.Prelude.{◌≡◌, ◌+◌, ◌<◌, IfErr, IfOk, IfSome, None, OnErr, OnOk, Some, length, sum_by, vec_len};
+ghost use Rattle.std.specs.Prelude.{◌≡◌, ◌⊎◌, ◌+◌, ◌<◌, IfErr, IfOk, IfSome, None, OnErr, OnOk, Some, length, sum_by, vec_len};
 ghost use Rattle.std.specs.Arc.{arc_value};
 ghost use Rattle.std.specs.Io.KnownBytes.{Appends};
 ghost use Rattle.blob_digest.specs.Digests.{sha256_text};
@@ -11,6 +11,8 @@ ghost use Rattle.store_book.specs.SlotSteps.{HasPin};
 ghost use Rattle.store_book.specs.Sweeps.{IsSweep};
 ghost use Rattle.blob_store.specs.Found.{InSomeBook};
 ghost use Rattle.blob_store.specs.Totals.{nothing, plus, one, sum_of};
+
+ghost use Rattle.blob_digest.specs.declared.refusal.Refusal.TheVariants.{LimitReached, Memory};
 
 use crate::counters::Counters;
 use crate::desk::{Desk, Settled};
@@ -88,7 +90,8 @@ impl<N: Naming, C: Ledger, R: Ledger, D: Ledger, A: Ledger> Store<N, C, R, D, A>
     /// Refused, in this order: no desks, or more than 1,024 that would be out (`LimitReached`); want of
     /// memory.
     pub fn desks(&self, rt: &impl Wait, count: u64) -> Result<Vec<Desk<C, R, D, A>>, Refusal>
-        ensures { IfOk result (λ v. (vec_len v ≡ count) × (sum_of v.items ≡ nothing)) }
+        ensures made { IfOk result (λ v. (vec_len v ≡ count) × (sum_of v.items ≡ nothing)) }
+        ensures refused { IfErr result (λ e. (e ≡ LimitReached) ⊎ (e ≡ Memory)) }
     {
         self.kept.lock(rt).desks(self.alloc, count)
     }

@@ -110,9 +110,9 @@ refused_words words error Memory is why = tt
 abbrev two_words : List Text
 two_words = codes "blobctl" ∷ codes "acme=1000" ∷ codes "zeta=5" ∷ []
 
-defaults : (one_of (codes "slots") (matches_of program two_words) ≡ Some (codes "64")) × (one_of (codes "max-blob") (matches_of program two_words) ≡ Some (codes "1048576"))
+defaults : (one_of (codes "slots") (matches_of program two_words) ≡ Some (codes "64")) × (one_of (codes "max-blob") (matches_of program two_words) ≡ Some (codes "1048576")) × (one_of (codes "workers") (matches_of program two_words) ≡ Some (codes "1"))
 unfolding clap_on_literals
-defaults = (refl, refl)
+defaults = (refl, refl, refl)
 
 words_of_tenants : tenant_words (matches_of program two_words) ≡ codes "acme=1000" ∷ codes "zeta=5" ∷ []
 unfolding clap_on_literals

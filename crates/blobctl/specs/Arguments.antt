@@ -12,6 +12,7 @@ use Rattle.clap.specs.declared.error.kind.ErrorKind.{ErrorKind}
 use Rattle.clap.specs.declared.error.kind.ErrorKind.TheVariants.{DisplayHelp}
 use Rattle.blob_digest.specs.Keys.{Text}
 use Rattle.store_book.specs.Openings.{IsSized, tenants_shown}
+use Rattle.blobctl.specs.Options.{CanWork}
 use Rattle.blobctl.specs.Tenants.{HasBadTenant, SpellTenants}
 use Rattle.blobctl.specs.declared.options.Options.{Options}
 use Rattle.blobctl.specs.declared.options.Stop.{Stop}
@@ -37,6 +38,15 @@ max_blob_rule = record (new_rule (codes "max-blob")) {
   defaults = codes "1048576" ∷ [];
 }
 
+-- `--workers N`, from 1 to 64; 1 where it is left out
+abbrev pub workers_rule : Rule
+workers_rule = record (new_rule (codes "workers")) {
+  long = Some (codes "workers");
+  value_names = 1;
+  parser = Some (Signed (pos 1) (pos 64));
+  defaults = codes "1" ∷ [];
+}
+
 -- one word or more for the tenants
 abbrev pub tenants_rule : Rule
 tenants_rule = record (new_rule (codes "tenants")) {
@@ -47,7 +57,7 @@ tenants_rule = record (new_rule (codes "tenants")) {
 }
 
 abbrev pub program : App
-program = with_rule (with_rule (with_rule (new_app (codes "blobctl")) slots_rule) max_blob_rule) tenants_rule
+program = with_rule (with_rule (with_rule (with_rule (new_app (codes "blobctl")) slots_rule) max_blob_rule) workers_rule) tenants_rule
 
 -- ---- what the words give, from what `clap` finds in them
 
@@ -64,6 +74,11 @@ pub record HaveNumbers (rows : List Row) (slots max_blob : ℕ) : Type 0 where
   pub max_blob_given : HasNumber rows (codes "max-blob") max_blob
   pub sized : IsSized slots max_blob
 
+-- the number of workers is this, and it is within its limits
+pub record HaveWorkers (rows : List Row) (workers : ℕ) : Type 0 where
+  pub workers_given : HasNumber rows (codes "workers") workers
+  pub enough : CanWork workers
+
 -- the words for the tenants, in their order
 abbrev pub tenant_words : List Row → List Text
 tenant_words rows = unwrap_or (all_of (codes "tenants") rows) []
@@ -73,11 +88,12 @@ pub record AreFound (rows : List Row) (options : Options) : Type 0 where
   pub numbers : HaveNumbers rows options.store.slots options.store.max_blob
   pub tenants : SpellTenants (tenant_words rows) (tenants_shown options.store.tenants.items)
   pub first : options.store.first_generation ≡ 0
+  pub workers : HaveWorkers rows options.workers
 
 -- why what was found makes no options: a number past its limit, or a bad tenant; want of memory may come in place of either
 abbrev pub RefusesFound : List Row → Stop → Type 0
 RefusesFound rows (Help text) = ⊥
-RefusesFound rows (Usage text) = (slots max_blob : ℕ) → HaveNumbers rows slots max_blob → ⊥
+RefusesFound rows (Usage text) = ((slots max_blob : ℕ) → HaveNumbers rows slots max_blob → ⊥) ⊎ ((workers : ℕ) → HaveWorkers rows workers → ⊥)
 RefusesFound rows BadTenant = HasBadTenant (tenant_words rows)
 RefusesFound rows Memory = ⊤
 

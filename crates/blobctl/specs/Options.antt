@@ -1,7 +1,12 @@
 -- The options that a run can have.
-use Rattle.std.specs.Prelude.{◌≡◌}
+use Rattle.std.specs.Prelude.{◌≡◌, ◌<◌, ◌≤◌, ℕ}
 use Rattle.store_book.specs.Openings.{HasNames, IsSized, IsWithinLimits, tenants_shown}
 use Rattle.blobctl.specs.declared.options.Options.{Options}
+
+-- how many workers there can be
+pub record CanWork (workers : ℕ) : Type 0 where
+  pub some : 0 < workers
+  pub few : workers ≤ 64
 
 -- the numbers are within their limits, and a store can have the tenants
 pub record IsWithin (options : Options) : Type 0 where
@@ -9,3 +14,4 @@ pub record IsWithin (options : Options) : Type 0 where
   pub names : HasNames (tenants_shown options.store.tenants.items)
   pub limits : IsWithinLimits (tenants_shown options.store.tenants.items)
   pub first : options.store.first_generation ≡ 0
+  pub workers : CanWork options.workers

@@ -1,12 +1,13 @@
 //! Reads the arguments.
 ghost use Rattle.std.specs.Prelude.{◌≡◌, ℕ, IfOk, IfErr, MatchOption, map, string_bytes};
 ghost use Rattle.clap.specs.Words.{app_of, found_of, kind_of, rows_of};
-ghost use Rattle.blobctl.specs.Arguments.{AreFound, HaveNumbers, RefusesFound, RefusesWords, SpellOptions, program};
+ghost use Rattle.blobctl.specs.Arguments.{AreFound, HaveNumbers, HaveWorkers, RefusesFound, RefusesWords, SpellOptions, program};
 ghost use Rattle.blobctl.specs.Options.{IsWithin};
 ghost use Rattle.blobctl.specs.Stops.{IsStopFor};
 
 use crate::options::{Options, Stop};
 use crate::tenants::read_tenants;
+use blob_store::MAX_WORKERS;
 use clap::error::ErrorKind;
 use clap::{Arg, ArgAction, ArgMatches, Command};
 use std::alloc::{AllocError, Global};
@@ -26,6 +27,11 @@ fn command<'a>(alloc: Global) -> Result<Command<'a>, AllocError>
         .value_name("N")
         .value_parser(clap::value_parser!(u64).range(0..=1_099_511_627_776))
         .default_value("1048576");
+    let workers = Arg::new(alloc, "workers")
+        .long("workers")
+        .value_name("N")
+        .value_parser(clap::value_parser!(u32).range(1..=64))
+        .default_value("1");
     let tenants = Arg::new(alloc, "tenants")
         .value_name("TENANT=QUOTA")
         .required(true)
@@ -34,6 +40,7 @@ fn command<'a>(alloc: Global) -> Result<Command<'a>, AllocError>
     Command::new(alloc, "blobctl")
         .arg(slots)?
         .arg(max_blob)?
+        .arg(workers)?
         .arg(tenants)
 }
 
@@ -65,6 +72,18 @@ fn numbers(matches: &ArgMatches<'_>) -> Option<(u32, u64)>
     }
 }
 
+/// The number of workers, or none where it is past its limit.
+fn worker_count(matches: &ArgMatches<'_>) -> Option<usize>
+    ensures { MatchOption result ((workers : ℕ) → HaveWorkers (rows_of (found_of matches.now)) workers → ⊥) (HaveWorkers (rows_of (found_of matches.now))) }
+{
+    let workers = matches.get_one::<u32>("workers")? as usize;
+    if 1 <= workers && workers <= MAX_WORKERS {
+        Some(workers)
+    } else {
+        None
+    }
+}
+
 /// The options that the matches give.
 fn options_of(alloc: Global, matches: &ArgMatches<'_>) -> Result<Options, Stop>
     ensures found { IfOk result (AreFound (rows_of (found_of matches.now))) }
@@ -72,6 +91,9 @@ fn options_of(alloc: Global, matches: &ArgMatches<'_>) -> Result<Options, Stop>
     ensures refused { IfErr result (RefusesFound (rows_of (found_of matches.now))) }
 {
     let Some((slots, max_blob)) = numbers(matches) else {
+        return Err(Stop::Usage(String::new(alloc)));
+    };
+    let Some(workers) = worker_count(matches) else {
         return Err(Stop::Usage(String::new(alloc)));
     };
     let none: &[&str] = &[];
@@ -83,7 +105,7 @@ fn options_of(alloc: Global, matches: &ArgMatches<'_>) -> Result<Options, Stop>
         tenants,
         first_generation: 0,
     };
-    Ok(Options { store })
+    Ok(Options { store, workers })
 }
 
 /// The options that the words spell. The first word is the program's own name. `clap`'s faults come

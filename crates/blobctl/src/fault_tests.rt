@@ -1,9 +1,15 @@
 //! Readers and writers that fail, and scripts that are too long or cut off.
 
+ghost use Rattle.blobctl.specs.Options.{CanWork};
+
 use crate::fault::Fault;
 use crate::script_tests::{UPLOAD, UPLOADED, fails, plays, run_on};
+use std::alloc::Global;
 use std::io;
 use std::io::{ErrorKind, Read};
+use std::process::Abort;
+use std::sync::Wait;
+use std::thread::Threads;
 
 /// A reader of two bytes at a time that fails at one of its calls, and goes on after it.
 #[derive(Drop)]
@@ -46,23 +52,30 @@ fn a_failed_read_is_a_read_fault(rt: HostRuntime) {
         }
     }
     let sound = upload_failing_at(u32::MAX, ErrorKind::Other);
-    match run_on(alloc, &["acme=1000"], sound, u32::MAX).0 {
+    match run_on(&rt, alloc, &["acme=1000"], 1, sound, u32::MAX).0 {
         Ok(held) => assert!(rt; held.as_slice() == UPLOADED.as_bytes()),
         Err(fault) => assert!(rt; false, "{fault}"),
     }
 }
 
-#[test]
-fn a_failed_write_is_a_write_fault(rt: HostRuntime) {
-    let alloc = rt.alloc();
-    let calls = run_on(alloc, &["acme=1000"], UPLOAD, u32::MAX).1;
+/// Each call of the writer fails in turn, in a run of so many workers.
+fn faults_at_each_write(rt: &(impl Abort + Threads + Wait + Sync), alloc: Global, workers: usize)
+    requires { CanWork workers }
+{
+    let calls = run_on(rt, alloc, &["acme=1000"], workers, UPLOAD, u32::MAX).1;
     assert!(rt; calls > 0);
     for fails_at in 0..calls {
-        match run_on(alloc, &["acme=1000"], UPLOAD, fails_at).0 {
+        match run_on(rt, alloc, &["acme=1000"], workers, UPLOAD, fails_at).0 {
             Ok(_) => assert!(rt; false, "call {fails_at} failed"),
             Err(fault) => assert_eq!(rt; fault, Fault::Write),
         }
     }
+}
+
+#[test]
+fn a_failed_write_is_a_write_fault(rt: HostRuntime) {
+    faults_at_each_write(&rt, rt.alloc(), 1);
+    faults_at_each_write(&rt, rt.alloc(), 2);
 }
 
 /// A reader of so many bytes, which are those that the buffer has.

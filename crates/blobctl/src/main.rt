@@ -45,7 +45,10 @@ mod script_tests;
 mod tenants;
 #[cfg(test)]
 mod tests;
+mod together;
 mod watched;
+#[cfg(test)]
+mod worker_tests;
 
 use crate::arguments::read_options;
 use crate::fault::Fault;
@@ -53,18 +56,24 @@ use crate::options::{Options, Stop};
 use crate::watched::Watched;
 use std::io::{BufWriter, ErrorKind, Write};
 use std::process::ExitCode;
+use std::sync::Wait;
+use std::thread::Threads;
 use std::{env, io};
 
-/// Runs on standard input and output. What is written is collected first, so that a fault of the last
-/// write is a write fault too.
-fn run_here(rt: &HostRuntime, options: &Options) -> Result<(), Fault>
+/// Runs on standard input and output, with threads. What is written is collected first, so that a fault of
+/// the last write is a write fault too.
+fn run_here(
+    rt: &HostRuntime,
+    threads: &(impl Threads + Wait + Sync),
+    options: &Options,
+) -> Result<(), Fault>
     requires { IsWithin options.now }
 {
     let mut reader = Watched::new(rt.reader());
     let Ok(mut writer) = BufWriter::new(rt.alloc(), io::writer(rt)) else {
         return Err(Fault::Memory);
     };
-    run::run(rt.alloc(), &mut reader, &mut writer, options)?;
+    run::run(threads, rt.alloc(), &mut reader, &mut writer, options)?;
     match writer.flush() {
         Ok(()) => Ok(()),
         Err(_) => Err(Fault::Write),
@@ -123,7 +132,7 @@ fn options_here(rt: &HostRuntime) -> Result<Options, Stop>
 fn main(rt: HostRuntime) -> ExitCode {
     let status = match options_here(&rt) {
         Err(stop) => stopped(&rt, &stop),
-        Ok(options) => match run_here(&rt, &options) {
+        Ok(options) => match run_here(&rt, &rt, &options) {
             Ok(()) => 0,
             Err(fault) => faulted(&rt, fault),
         },

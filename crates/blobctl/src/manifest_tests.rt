@@ -1,9 +1,13 @@
 //! Scripts with manifests: what is written for them, by values that stand outside the program.
 
+ghost use Rattle.blobctl.specs.Options.{CanWork};
+
 use crate::fault::Fault;
-use crate::script_tests::{fails, plays};
+use crate::script_tests::{fails, plays, writes};
 use std::alloc::{AllocError, Global};
 use std::process::Abort;
+use std::sync::Wait;
+use std::thread::Threads;
 
 /// The digest of `abc`.
 const ABC: &str = "sha256:ba7816bf8f01cfea414140de5dae2223b00361a396177a9cb410ff61f20015ad";
@@ -53,9 +57,32 @@ pub fn filled(alloc: Global, text: &str) -> Result<String, AllocError> {
     Ok(filled)
 }
 
-/// A run by these arguments writes this text for a script. In both, names stand for manifests and
-/// digests, as `filled` has them.
-pub fn plays_filled(rt: &impl Abort, alloc: Global, words: &[&str], script: &str, wanted: &str) {
+/// A run of so many workers by these arguments writes this text for a script. In both, names stand for
+/// manifests and digests, as `filled` has them.
+pub fn writes_filled(
+    rt: &(impl Abort + Threads + Wait + Sync),
+    alloc: Global,
+    words: &[&str],
+    workers: usize,
+    script: &str,
+    wanted: &str,
+)
+    requires { CanWork workers }
+{
+    let script = filled(alloc, script).expect(rt, "memory");
+    let wanted = filled(alloc, wanted).expect(rt, "memory");
+    writes(rt, alloc, words, workers, script.as_bytes(), wanted.as_str());
+}
+
+/// A run by these arguments writes this text for a script whose replies are the same with one worker and
+/// with two. Names stand for manifests and digests as above.
+pub fn plays_filled(
+    rt: &(impl Abort + Threads + Wait + Sync),
+    alloc: Global,
+    words: &[&str],
+    script: &str,
+    wanted: &str,
+) {
     let script = filled(alloc, script).expect(rt, "memory");
     let wanted = filled(alloc, wanted).expect(rt, "memory");
     plays(rt, alloc, words, script.as_bytes(), wanted.as_str());

@@ -60,7 +60,6 @@ fn scripts_with_mounts_without_a_source_are_played(rt: HostRuntime) {
             "0,mount,acme/one,,d,,\n0,mount,acme/one,/,$abc,,\n0,mount,Acme,,$abc,,\n0,mount,nobody/x,,$abc,,\n",
             "1 refused DigestInvalid\n2 refused NameInvalid\n3 refused NameInvalid\n4 refused NameUnknown\nbook\ntenant acme used 0 quota 1000 next 1\ntenant other used 0 quota 1000 next 1\nend\n",
         ),
-        (LANES, LANES_PLAYED),
     ] {
         plays_filled(&rt, rt.alloc(), &["acme=1000", "other=1000"], script, text);
     }

@@ -12,6 +12,8 @@ use store_book::Config;
 pub struct Options {
     /// What the store is made with: its slots, its limit on blobs, and its tenants with their quotas.
     pub store: Config,
+    /// How many workers play the script, from 1 to 64.
+    pub workers: usize,
 }
 
 /// Why the program stops before it runs.

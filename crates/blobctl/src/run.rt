@@ -1,7 +1,7 @@
 //! A run: reads a script, plays it, and writes the replies and the book.
 ghost use Rattle.std.specs.Prelude.{◌≡◌, ◌≢◌, ◌+◌, IfOk, IfErr, OnOk, map};
 ghost use Rattle.blob_digest.specs.Keys.{Text};
-ghost use Rattle.blobctl.specs.Ending.{EndsWell, Explains, IsReadWhole};
+ghost use Rattle.blobctl.specs.Ending.{EndsTogether, EndsWell, Explains, IsReadWhole};
 ghost use Rattle.blobctl.specs.Inputs.{TakesAtMost, max_script};
 ghost use Rattle.row_player.specs.Lines.{line_of};
 ghost use Rattle.blobctl.specs.Options.{IsWithin};
@@ -15,10 +15,13 @@ use crate::input::read_script;
 use crate::options::Options;
 use crate::output::write_played;
 use crate::script::read_rows;
+use crate::together::play_together;
 use crate::watched::Watched;
 use row_player::Row;
 use std::alloc::Global;
 use std::io::{Read, Write};
+use std::sync::Wait;
+use std::thread::Threads;
 
 /// The rows of the script that a reader gives. The script is let go with the last of them.
 fn read_all<R: Read>(alloc: Global, reader: &mut Watched<R>) -> Result<Vec<Row>, Fault>
@@ -30,8 +33,9 @@ fn read_all<R: Read>(alloc: Global, reader: &mut Watched<R>) -> Result<Vec<Row>,
     read_rows(alloc, script.as_slice())
 }
 
-/// Reads a script to its end, checks all of it, plays it row after row on a new book, and writes the
-/// replies in the order of the rows, and then the book.
+/// Reads a script to its end, checks all of it, plays it row after row on a new book, whatever `workers`
+/// says, and writes the replies in the order of the rows, and then the book. It starts no thread, and waits
+/// for none.
 ///
 /// A bad row, a read fault and want of memory write nothing. A bad row is the script's first one, and
 /// a read fault comes only where a read failed or the script is longer than 268,435,456 bytes; where
@@ -39,7 +43,7 @@ fn read_all<R: Read>(alloc: Global, reader: &mut Watched<R>) -> Result<Vec<Row>,
 /// is read at most. After a write fault nothing is known of what was written. Writing takes no memory. While it plays, the
 /// run holds the rows, the replies and the book; the script's text is held only until its rows are
 /// made.
-pub fn run<R: Read, W: Write>(
+pub fn run_one<R: Read, W: Write>(
     alloc: Global,
     reader: &mut Watched<R>,
     writer: &mut W,
@@ -57,4 +61,31 @@ pub fn run<R: Read, W: Write>(
     };
     write_played(writer, replies.as_slice(), &book)?;
     Ok(())
+}
+
+/// Runs as `run_one` does where there is one worker. Else the rows are played by workers on a new store, each in a
+/// thread of its own: those of a lane by the worker whose number is the lane's modulo the workers'. The replies are
+/// written in the order of the rows all the same, and then the book. How the rows of two workers follow one another
+/// is not said, so of some scripts the text may be another the next time; a row may be answered `Busy` then.
+///
+/// It ends early as `run_one` does. Want of memory is told also where a thread can't be started.
+pub fn run<T: Threads + Wait + Sync, R: Read, W: Write>(
+    rt: &T,
+    alloc: Global,
+    reader: &mut Watched<R>,
+    writer: &mut W,
+    options: &Options,
+) -> Result<(), Fault>
+    requires { IsWithin options.now }
+    ensures played { options.now.workers ≡ 1 → OnOk result (EndsWell R.remaining reader.old reader.new (W.contents writer.old) (W.contents writer.new) (tenants_shown options.now.store.tenants.items) options.now.store.slots options.now.store.max_blob) }
+    ensures together { options.now.workers ≢ 1 → OnOk result (EndsTogether R.remaining reader.old reader.new (W.contents writer.old) (W.contents writer.new) options.now.workers) }
+    ensures most { TakesAtMost (R.remaining (inner_of reader.old)) (R.remaining (inner_of reader.new)) (max_script + 1) }
+    ensures silent { IfErr result (λ e. e ≢ Fault.Write → writer.new ≡ writer.old) }
+    ensures fault { IfErr result (λ e. Explains R.remaining reader.old reader.new e) }
+{
+    if options.workers == 1 {
+        return run_one(alloc, reader, writer, options);
+    }
+    let rows = read_all(alloc, reader)?;
+    play_together(rt, alloc, writer, options, rows.as_slice())
 }

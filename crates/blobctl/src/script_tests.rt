@@ -1,5 +1,7 @@
 //! Worked scripts: what is written for them, by values that stand outside the program.
 
+ghost use Rattle.blobctl.specs.Options.{CanWork};
+
 use crate::fault::Fault;
 use crate::run::run;
 use crate::tests::options_of;
@@ -8,6 +10,8 @@ use std::alloc::Global;
 use std::io;
 use std::io::{ErrorKind, Read, Write};
 use std::process::Abort;
+use std::sync::Wait;
+use std::thread::Threads;
 
 /// The upload of three bytes in two chunks, and what is written for it.
 pub const UPLOAD: &[u8] =
@@ -43,24 +47,29 @@ impl Write for Full {
     }
 }
 
-/// What a run writes by these arguments from what a reader gives, or its fault, and how many calls of
-/// the writer there were.
+/// What a run of so many workers writes by these arguments from what a reader gives, or its fault, and how
+/// many calls of the writer there were.
 pub fn run_on<R: Read + Drop>(
+    rt: &(impl Threads + Wait + Sync),
     alloc: Global,
     words: &[&str],
+    workers: usize,
     reader: R,
     fails_at: u32,
-) -> (Result<Vec<u8>, Fault>, u32) {
-    let Ok(options) = options_of(alloc, words) else {
+) -> (Result<Vec<u8>, Fault>, u32)
+    requires { CanWork workers }
+{
+    let Ok(mut options) = options_of(alloc, words) else {
         return (Err(Fault::Memory), 0);
     };
+    options.workers = workers;
     let mut reader = Watched::new(reader);
     let mut writer = Full {
         held: Vec::new(alloc),
         call: 0,
         fails_at,
     };
-    let ended = run(alloc, &mut reader, &mut writer, &options);
+    let ended = run(rt, alloc, &mut reader, &mut writer, &options);
     let Full { held, call, .. } = writer;
     match ended {
         Ok(()) => (Ok(held), call),
@@ -68,9 +77,18 @@ pub fn run_on<R: Read + Drop>(
     }
 }
 
-/// A run by these arguments writes this text.
-pub fn plays(rt: &impl Abort, alloc: Global, words: &[&str], script: &[u8], wanted: &str) {
-    match run_on(alloc, words, script, u32::MAX).0 {
+/// A run of so many workers by these arguments writes this text.
+pub fn writes(
+    rt: &(impl Abort + Threads + Wait + Sync),
+    alloc: Global,
+    words: &[&str],
+    workers: usize,
+    script: &[u8],
+    wanted: &str,
+)
+    requires { CanWork workers }
+{
+    match run_on(rt, alloc, words, workers, script, u32::MAX).0 {
         Ok(held) => assert!(rt;
             held.as_slice() == wanted.as_bytes(),
             "it wrote another text"
@@ -79,9 +97,27 @@ pub fn plays(rt: &impl Abort, alloc: Global, words: &[&str], script: &[u8], want
     }
 }
 
-/// A run ends with this fault, and has written nothing.
-pub fn fails<R: Read + Drop>(rt: &impl Abort, alloc: Global, reader: R, wanted: Fault) {
-    let (ended, calls) = run_on(alloc, &["acme=1000"], reader, u32::MAX);
+/// A run by these arguments writes this text for a script whose replies are the same with one worker and
+/// with two.
+pub fn plays(
+    rt: &(impl Abort + Threads + Wait + Sync),
+    alloc: Global,
+    words: &[&str],
+    script: &[u8],
+    wanted: &str,
+) {
+    writes(rt, alloc, words, 1, script, wanted);
+    writes(rt, alloc, words, 2, script, wanted);
+}
+
+/// A run of two workers ends with this fault, and has written nothing.
+pub fn fails<R: Read + Drop>(
+    rt: &(impl Abort + Threads + Wait + Sync),
+    alloc: Global,
+    reader: R,
+    wanted: Fault,
+) {
+    let (ended, calls) = run_on(rt, alloc, &["acme=1000"], 2, reader, u32::MAX);
     match ended {
         Ok(_) => assert!(rt; false, "it ended well, and not with {wanted}"),
         Err(fault) => assert_eq!(rt; fault, wanted),
@@ -294,7 +330,7 @@ fn a_row_too_many_is_bad(rt: HostRuntime) {
     let script = rows_for_nobody(&rt, alloc, 65_537);
     fails(&rt, alloc, script.as_slice(), Fault::BadRow(65_537));
     let most = rows_for_nobody(&rt, alloc, 65_536);
-    match run_on(alloc, &["acme=1000"], most.as_slice(), u32::MAX).0 {
+    match run_on(&rt, alloc, &["acme=1000"], 2, most.as_slice(), u32::MAX).0 {
         Ok(held) => {
             let end =
                 b"\n65536 refused NameUnknown\nbook\ntenant acme used 0 quota 1000 next 1\nend\n";

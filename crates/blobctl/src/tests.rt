@@ -59,13 +59,14 @@ fn gives(
     rt: &impl Abort,
     alloc: Global,
     words: &[&str],
-    (slots, max_blob): (u32, u64),
+    (slots, max_blob, workers): (u32, u64, usize),
     tenants: &[(&str, u64)],
 ) {
     match options_of(alloc, words) {
         Ok(options) => {
             assert_eq!(rt; options.store.slots, slots);
             assert_eq!(rt; options.store.max_blob, max_blob);
+            assert_eq!(rt; options.workers, workers);
             assert_eq!(rt; options.store.tenants.len(), tenants.len());
             for (found, wanted) in options.store.tenants.iter().zip(tenants) {
                 assert_eq!(rt; found.0.as_str(), wanted.0);
@@ -85,12 +86,18 @@ fn options_are_read(rt: HostRuntime) {
         &rt,
         alloc,
         words.as_slice(),
-        (64, 1_048_576),
+        (64, 1_048_576, 1),
         tenants.as_slice(),
     );
     let most = [("a", 1_125_899_906_842_624)];
-    let words = ["--slots", "65536", "--max-blob=0", "a=1125899906842624"];
-    gives(&rt, alloc, words.as_slice(), (65_536, 0), most.as_slice());
+    let words = ["--slots", "65536", "--max-blob=0", "--workers=64", "a=1125899906842624"];
+    gives(
+        &rt,
+        alloc,
+        words.as_slice(),
+        (65_536, 0, 64),
+        most.as_slice(),
+    );
 }
 
 /// A command line stops the program with this status, and with a text that begins so.
@@ -134,6 +141,8 @@ fn wrong_arguments_come_before_wrong_tenants(rt: HostRuntime) {
         ["--slots", "0", "acme"],
         ["--slots", "65537", "acme"],
         ["--max-blob", "1099511627777", "acme"],
+        ["--workers", "0", "acme"],
+        ["--workers", "65", "acme"],
         ["--fly", "1", "acme"],
     ] {
         stops(&rt, alloc, words.as_slice(), 2, "error: ");

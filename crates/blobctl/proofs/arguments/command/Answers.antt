@@ -9,7 +9,7 @@ use Rattle.clap.specs.declared.builder.arg.Arg.{Arg}
 use Rattle.clap.specs.declared.builder.range.ValueRange.{ValueRange}
 use Rattle.clap.specs.declared.builder.value_parser.ValueParser.{ValueParser}
 use Rattle.clap.specs.declared.builder.value_parser.ValueParser.TheVariants.{Signed, Unsigned}
-use Rattle.blobctl.specs.Arguments.{max_blob_rule, slots_rule, tenants_rule}
+use Rattle.blobctl.specs.Arguments.{max_blob_rule, slots_rule, tenants_rule, workers_rule}
 use Rattle.blobctl.proofs.CommandLines.{option_rule, some_given, unsigned_made, words_rule}
 use Rattle.blobctl.proofs.arguments.command.Goals as goal
 
@@ -25,14 +25,21 @@ returns c =
     let max_blob_is : rule_of c.default_value-max_blob.result ≡ max_blob_rule =
     option_rule c.new-3.result c.long-2.result c.value_name-2.result c.value_parser-4.result c.default_value-max_blob.result _ _ _ _ _ (Unsigned 0 1099511627776) c.long-2.ensures c.value_name-2.ensures refl c.value_parser-4.ensures.others (max_blob_given.1 ∙ ap (λ (q : ValueParser). Some q) (max_blob_given.2 ∙ max_blob_range)) c.default_value-max_blob.ensures refl
     ∙ ap (λ (r : Rule). record r { long = Some (codes "max-blob"); value_names = 1; parser = Some (Unsigned 0 1099511627776); defaults = codes "1048576" ∷ [] }) c.new-3.ensures.rule in
+    let workers_range : c.range-3.result ≡ Signed (pos 1) (pos 64) = rw (c.value_parser-5.ensures, c.new-6.ensures.start, c.new-6.ensures.end) at c.range-3.ensures in
+    let workers_given = c.value_parser-6.ensures.given in
+    let workers_is : rule_of c.default_value-workers.result ≡ workers_rule =
+    option_rule c.new-5.result c.long-3.result c.value_name-3.result c.value_parser-6.result c.default_value-workers.result _ _ _ _ _ (Signed (pos 1) (pos 64)) c.long-3.ensures c.value_name-3.ensures refl c.value_parser-6.ensures.others (workers_given.1 ∙ ap (λ (q : ValueParser). Some q) (workers_given.2 ∙ workers_range)) c.default_value-workers.ensures refl
+    ∙ ap (λ (r : Rule). record r { long = Some (codes "workers"); value_names = 1; parser = Some (Signed (pos 1) (pos 64)); defaults = codes "1" ∷ [] }) c.new-5.ensures.rule in
     let tenants_given = some_given c.num_args.result.num_vals _ c.num_args.ensures.1 in
     let tenants_is : rule_of c.action-tenants.result ≡ tenants_rule =
-    words_rule c.new-5.result c.value_name-3.result c.required.result c.num_args.result c.action-tenants.result _ _ (record { start_inclusive = 1; end_inclusive = usize_max }) c.value_name-3.ensures refl c.required.ensures c.num_args.ensures.0 (tenants_given.1 ∙ ap (λ (r : ValueRange). Some r) tenants_given.2) c.action-tenants.ensures
-    ∙ ap (λ (r : Rule). record r { value_names = 1; required = true; range = Some (record { start_inclusive = 1; end_inclusive = usize_max }); action = Some Append }) c.new-5.ensures.rule in
+    words_rule c.new-7.result c.value_name-4.result c.required.result c.num_args.result c.action-tenants.result _ _ (record { start_inclusive = 1; end_inclusive = usize_max }) c.value_name-4.ensures refl c.required.ensures c.num_args.ensures.0 (tenants_given.1 ∙ ap (λ (r : ValueRange). Some r) tenants_given.2) c.action-tenants.ensures
+    ∙ ap (λ (r : Rule). record r { value_names = 1; required = true; range = Some (record { start_inclusive = 1; end_inclusive = usize_max }); action = Some Append }) c.new-7.ensures.rule in
     let slots_local : c.default_value-slots.result.global ≡ false =
     ap (λ (a : Arg). a.global) c.default_value-slots.ensures ∙ ap (λ (a : Arg). a.global) c.value_parser-2.ensures.others ∙ ap (λ (a : Arg). a.global) c.value_name.ensures ∙ ap (λ (a : Arg). a.global) c.long.ensures ∙ c.new.ensures.optional.1 in
     let max_blob_local : c.default_value-max_blob.result.global ≡ false =
     ap (λ (a : Arg). a.global) c.default_value-max_blob.ensures ∙ ap (λ (a : Arg). a.global) c.value_parser-4.ensures.others ∙ ap (λ (a : Arg). a.global) c.value_name-2.ensures ∙ ap (λ (a : Arg). a.global) c.long-2.ensures ∙ c.new-3.ensures.optional.1 in
+    let workers_local : c.default_value-workers.result.global ≡ false =
+    ap (λ (a : Arg). a.global) c.default_value-workers.ensures ∙ ap (λ (a : Arg). a.global) c.value_parser-6.ensures.others ∙ ap (λ (a : Arg). a.global) c.value_name-3.ensures ∙ ap (λ (a : Arg). a.global) c.long-3.ensures ∙ c.new-5.ensures.optional.1 in
     let tenants_local : c.action-tenants.result.global ≡ false =
-    ap (λ (a : Arg). a.global) c.action-tenants.ensures ∙ ap (λ (a : Arg). a.global) c.num_args.ensures.0 ∙ ap (λ (a : Arg). a.global) c.required.ensures ∙ ap (λ (a : Arg). a.global) c.value_name-3.ensures ∙ c.new-5.ensures.optional.1 in
-    IfOk-weaker c.arg-3.result _ _ (λ command added. added.shape tenants_local ∙ ap₂ with_rule (c.in_ok-arg-2.ensures.shape max_blob_local ∙ ap₂ with_rule (c.in_ok-arg.ensures.shape slots_local ∙ ap₂ with_rule c.new-6.ensures.app slots_is) max_blob_is) tenants_is) c.arg-3.ensures
+    ap (λ (a : Arg). a.global) c.action-tenants.ensures ∙ ap (λ (a : Arg). a.global) c.num_args.ensures.0 ∙ ap (λ (a : Arg). a.global) c.required.ensures ∙ ap (λ (a : Arg). a.global) c.value_name-4.ensures ∙ c.new-7.ensures.optional.1 in
+    IfOk-weaker c.arg-4.result _ _ (λ command added. added.shape tenants_local ∙ ap₂ with_rule (c.in_ok-arg-3.ensures.shape workers_local ∙ ap₂ with_rule (c.in_ok-arg-2.ensures.shape max_blob_local ∙ ap₂ with_rule (c.in_ok-arg.ensures.shape slots_local ∙ ap₂ with_rule c.new-8.ensures.app slots_is) max_blob_is) workers_is) tenants_is) c.arg-4.ensures

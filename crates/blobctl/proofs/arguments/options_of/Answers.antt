@@ -28,4 +28,5 @@ returns-clause-found c =
       numbers = c.in-Some.ensures;
       tenants = subst (λ (ws : List Text). SpellTenants ws (tenants_shown c.in_ok-tenants.tenants.items)) words c.in_ok-tenants.ensures.spelled;
       first = refl;
+      workers = c.in-Some-2.ensures;
     }

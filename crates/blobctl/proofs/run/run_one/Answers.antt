@@ -3,7 +3,7 @@ use Rattle.store_book.specs.Printed.{book_text}
 use Rattle.row_player.specs.Answers.{answers_of}
 use Rattle.row_player.specs.Lines.{line_of}
 use Rattle.row_player.specs.Replies.{replies_text}
-use Rattle.blobctl.proofs.run.run.Goals as goal
+use Rattle.blobctl.proofs.run.run_one.Goals as goal
 
 pub returns-clause-played : goal.returns-clause-played
 returns-clause-played g c =

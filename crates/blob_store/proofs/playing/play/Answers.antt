@@ -1,0 +1,71 @@
+use Rattle.std.proofs.Common.{◌≡◌, ◌+◌, ◌<◌, ◌∙◌, ℕ, true, [], ap, arith, get_or, length, map, subst, sym, vec_len}
+use Rattle.std.proofs.lemmas.Bool.{eqb-true}
+use Rattle.std.proofs.lemmas.List.{length-map}
+use Rattle.blob_store.specs.Totals.{Amounts, sum_of}
+use Rattle.blob_store.specs.Workers.{AllAt, ArePlayed, IsPlayed}
+use Rattle.blob_store.proofs.Settlings.{are_settled, each_played, whole_lists}
+use Rattle.row_player.specs.Answers.{answers_of}
+use Rattle.row_player.specs.Lines.{line_of}
+use Rattle.row_player.specs.Shares.{AreTogether, own_rows}
+use Rattle.blob_store.proofs.playing.play.Goals as goal
+
+pub collect-ended-requires-clause-each : goal.collect-ended-requires-clause-each
+collect-ended-requires-clause-each g c =
+    let jobs : vec_len c.jobs_of-jobs.result ≡ c.args.workers = c.jobs_of-jobs.ensures.len ∙ c.in_ok-desks.ensures.made.0 in
+    subst (λ m. AllAt (λ k o. (w : ℕ) → w + k + 1 ≡ vec_len c.play_all-outcomes.result.outcomes → o.whole ≡ true → IsPlayed m w (map line_of c.args.rows.now) o.desk (answers_of o.replies.items)) c.play_all-outcomes.result.outcomes.items) jobs c.play_all-outcomes.ensures.each
+
+pub in_row_order-requires-clause-whole : goal.in_row_order-requires-clause-whole
+in_row_order-requires-clause-whole g c =
+    let n = c.args.workers in
+    let lists = c.collect-ended.new.lists in
+    let lines = map line_of c.args.rows.now in
+    let none = eqb-true (vec_len c.play_all-outcomes.result.spent) 0 (sym c.is_empty-started.ensures ∙ c.if-started.true) in
+    let size : length lists.items ≡ n = omega (arith, none, lists.ok.0, c.collect-ended.ensures.len.1, c.play_all-outcomes.ensures.len, c.jobs_of-jobs.ensures.len, c.in_ok-desks.ensures.made.0) in
+    let shown = map (λ v. answers_of v.items) lists.items in
+    let are = c.collect-ended.ensures.played c.if-ended.true in
+    λ w lt. whole_lists n lines c.collect-ended.new.desks.items shown are w (omega (arith, lt, length-map lists.items (λ v. answers_of v.items))) ∙ ap (λ m. length (own_rows m w lines)) (sym size)
+
+pub returns-then-ended-clause-each : goal.returns-then-ended-clause-each
+returns-then-ended-clause-each g c =
+    let n = c.args.workers in
+    let lists = c.collect-ended.new.lists in
+    let lines = map line_of c.args.rows.now in
+    let answers = answers_of c.in_row_order.result.items in
+    let none = eqb-true (vec_len c.play_all-outcomes.result.spent) 0 (sym c.is_empty-started.ensures ∙ c.if-started.true) in
+    let size : length lists.items ≡ n = omega (arith, none, lists.ok.0, c.collect-ended.ensures.len.1, c.play_all-outcomes.ensures.len, c.jobs_of-jobs.ensures.len, c.in_ok-desks.ensures.made.0) in
+    let shown = map (λ v. answers_of v.items) lists.items in
+    let are = c.collect-ended.ensures.played c.if-ended.true in
+    let together = subst (λ m. AreTogether m lines (λ w. get_or shown w []) answers) size c.in_row_order.ensures in
+    each_played n lines c.collect-ended.new.desks.items shown answers (length-map lists.items (λ v. answers_of v.items) ∙ size) are together
+
+pub returns-then-ended-clause-commands : goal.returns-then-ended-clause-commands
+returns-then-ended-clause-commands g c =
+    let n = c.args.workers in
+    let lists = c.collect-ended.new.lists in
+    let desks = c.collect-ended.new.desks in
+    let lines = map line_of c.args.rows.now in
+    let answers = answers_of c.in_row_order.result.items in
+    let none = eqb-true (vec_len c.play_all-outcomes.result.spent) 0 (sym c.is_empty-started.ensures ∙ c.if-started.true) in
+    let size : length lists.items ≡ n = omega (arith, none, lists.ok.0, c.collect-ended.ensures.len.1, c.play_all-outcomes.ensures.len, c.jobs_of-jobs.ensures.len, c.in_ok-desks.ensures.made.0) in
+    let desk_size : length desks.items ≡ n = omega (arith, size, lists.ok.0, desks.ok.0, c.collect-ended.ensures.len.0, c.collect-ended.ensures.len.1) in
+    let shown = map (λ v. answers_of v.items) lists.items in
+    let are = c.collect-ended.ensures.played c.if-ended.true in
+    let together = subst (λ m. AreTogether m lines (λ w. get_or shown w []) answers) size c.in_row_order.ensures in
+    let all = are_settled n lines desks.items shown answers desk_size c.requires.0 are together in
+    c.settle-settled.ensures.0 ∙ ap (λ ds. (sum_of ds).commands) (c.set_down_all.ensures.none none) ∙ all.commands
+
+pub returns-then-ended-clause-received : goal.returns-then-ended-clause-received
+returns-then-ended-clause-received g c =
+    let n = c.args.workers in
+    let lists = c.collect-ended.new.lists in
+    let desks = c.collect-ended.new.desks in
+    let lines = map line_of c.args.rows.now in
+    let answers = answers_of c.in_row_order.result.items in
+    let none = eqb-true (vec_len c.play_all-outcomes.result.spent) 0 (sym c.is_empty-started.ensures ∙ c.if-started.true) in
+    let size : length lists.items ≡ n = omega (arith, none, lists.ok.0, c.collect-ended.ensures.len.1, c.play_all-outcomes.ensures.len, c.jobs_of-jobs.ensures.len, c.in_ok-desks.ensures.made.0) in
+    let desk_size : length desks.items ≡ n = omega (arith, size, lists.ok.0, desks.ok.0, c.collect-ended.ensures.len.0, c.collect-ended.ensures.len.1) in
+    let shown = map (λ v. answers_of v.items) lists.items in
+    let are = c.collect-ended.ensures.played c.if-ended.true in
+    let together = subst (λ m. AreTogether m lines (λ w. get_or shown w []) answers) size c.in_row_order.ensures in
+    let all = are_settled n lines desks.items shown answers desk_size c.requires.0 are together in
+    c.settle-settled.ensures.1 ∙ ap (λ ds. (sum_of ds).received) (c.set_down_all.ensures.none none) ∙ all.received

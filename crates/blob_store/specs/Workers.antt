@@ -1,0 +1,35 @@
+-- What workers answer.
+use Rattle.std.specs.Prelude.{◌≡◌, ◌≤◌, ◌<◌, ℕ, ◌+◌, Bool, true, List, [], length, get_or}
+use Rattle.blob_store.specs.Totals.{Amounts, nothing}
+use Rattle.blob_store.specs.Seats.{SeatActs}
+use Rattle.row_player.specs.Answers.{Answer}
+use Rattle.row_player.specs.Leases.{Leases, none}
+use Rattle.row_player.specs.Plays.{Plays}
+use Rattle.row_player.specs.Rows.{Line}
+use Rattle.row_player.specs.Shares.{own_rows}
+use Rattle.row_player.specs.declared.reply.Reply.{Reply}
+
+-- a claim on each place of a list and on what stands there
+abbrev pub AllAt : {X : Type 0} → (ℕ → X → Type 0) → List X → Type 0
+AllAt {X} P xs = (k : ℕ) (d : X) → k < length xs → P k (get_or xs k d)
+
+-- The rows of a worker, of so many workers, were played in their order with these answers, from no lease on, and its desk, with
+-- nothing at first, got this.
+abbrev pub IsPlayed : ℕ → ℕ → List Line → Amounts → List Answer → Type 0
+IsPlayed workers worker lines desk answers = (left : Leases) × Plays SeatActs (nothing, none) (own_rows workers worker lines) answers (desk, left)
+
+-- the workers, from the first on, have these desks and answers
+pub record ArePlayed (workers : ℕ) (lines : List Line) (desks : List Amounts) (lists : List (List Answer)) : Type 0 where
+  pub as_many : length desks ≡ length lists
+  pub each : AllAt (λ w answers. IsPlayed workers w lines (get_or desks w nothing) answers) lists
+
+-- a worker has nothing on its desk yet, and room for its replies
+pub record IsReady (workers worker : ℕ) (lines : List Line) (desk : Amounts) (replies : List Reply) (room : ℕ) : Type 0 where
+  pub fresh : desk ≡ nothing
+  pub empty : replies ≡ []
+  pub fits : length (own_rows workers worker lines) ≤ room
+
+-- the worker of a job, which stands at this place from the end of all
+pub record IsTurn (workers place of number : ℕ) : Type 0 where
+  pub among : of ≡ workers
+  pub turn : number + place + 1 ≡ workers

@@ -1,0 +1,178 @@
+//! A script played by workers.
+ghost use Rattle.std.specs.Prelude.{ℕ, ◌≡◌, ◌⊎◌, ◌+◌, ◌<◌, ◌≤◌, [], IfOk, IfErr, true, length, map, vec_len, vec_capacity};
+ghost use Rattle.blob_digest.specs.declared.refusal.Refusal.TheVariants.{LimitReached, Memory};
+ghost use Rattle.blob_store.specs.Totals.{Amounts, nothing, sum_of};
+ghost use Rattle.blob_store.specs.Workers.{AllAt, ArePlayed, IsPlayed, IsReady, IsTurn};
+ghost use Rattle.row_player.specs.Answers.{answers_of};
+ghost use Rattle.row_player.specs.Counts.{counted_bytes, counted_commands};
+ghost use Rattle.row_player.specs.Lines.{line_of};
+ghost use Rattle.row_player.specs.Shares.{own_answers, own_rows};
+
+use crate::carried::{Carried, carry, set_down};
+use crate::desk::{Desk, Settled};
+use crate::names::Naming;
+use crate::store::Store;
+use crate::workers::{Ended, Job, Outcome, play_all};
+use blob_digest::Refusal;
+use row_player::{Gate, Reply, Row, Worker, in_row_order};
+use std::alloc::Global;
+use std::sync::Wait;
+use std::sync::atomic::AtomicBool;
+use std::sync::ledger::Ledger;
+use std::thread::Threads;
+
+/// The most workers that play a script.
+pub const MAX_WORKERS: usize = 64;
+
+/// What playing a script answers.
+#[derive(Drop)]
+pub struct Played {
+    /// One reply for each row, in the order of the rows.
+    pub replies: Vec<Reply>,
+    /// The sums of the workers' shares, and the number of desks still out.
+    pub settled: Settled,
+}
+
+/// Room for the replies of each worker.
+fn lists_for(alloc: Global, rows: &[Row], workers: usize) -> Result<Vec<Vec<Reply>>, Refusal>
+    requires { 0 < workers }
+    ensures len { IfOk result (λ v. (vec_len v ≡ workers) × (workers ≤ vec_capacity v)) }
+    ensures room { IfOk result (λ v. AllAt (λ w l. (l.items ≡ []) × (length (own_rows workers w (map line_of rows.now)) ≤ vec_capacity l)) v.items) }
+    ensures refused { IfErr result (λ e. e ≡ Memory) }
+{
+    let mut lists = Vec::with_capacity(alloc, workers)?;
+    for number in 0..workers {
+        let worker = Worker { workers, number };
+        lists.push_reserved(worker.room(alloc, rows)?);
+    }
+    Ok(lists)
+}
+
+/// The jobs of all workers, the last one first: each has a desk and room for its replies. The two vectors that
+/// these come from are left empty, with the room that they had.
+fn jobs_of<C: Ledger, R: Ledger, D: Ledger, A: Ledger>(
+    rows: &[Row],
+    desks: &mut Vec<Desk<C, R, D, A>>,
+    lists: &mut Vec<Vec<Reply>>,
+    mut jobs: Vec<Job<C, R, D, A>>,
+) -> Vec<Job<C, R, D, A>>
+    requires fresh { sum_of desks.old.items ≡ nothing }
+    requires lists { (vec_len lists.old ≡ vec_len desks.old) × AllAt (λ w l. (l.items ≡ []) × (length (own_rows (vec_len desks.old) w (map line_of rows.now)) ≤ vec_capacity l)) lists.old.items }
+    requires room { (vec_len jobs ≡ 0) × (vec_len desks.old ≤ vec_capacity jobs) }
+    ensures len { vec_len result ≡ vec_len desks.old }
+    ensures desks { (vec_len desks.new ≡ 0) × (vec_capacity desks.new ≡ vec_capacity desks.old) }
+    ensures emptied { (vec_len lists.new ≡ 0) × (vec_capacity lists.new ≡ vec_capacity lists.old) }
+    ensures ready { AllAt (λ k j. IsTurn (vec_len desks.old) k j.worker.workers j.worker.number × IsReady (vec_len desks.old) j.worker.number (map line_of rows.now) j.desk j.replies.items (vec_capacity j.replies)) result.items }
+{
+    let workers = desks.len();
+    while let Some(desk) = desks.pop() {
+        let number = desks.len();
+        let Some(replies) = lists.pop() else {
+            unreachable!()
+        };
+        jobs.push_reserved(Job {
+            desk: carry(desk),
+            replies,
+            worker: Worker { workers, number },
+        });
+    }
+    jobs
+}
+
+/// Takes the workers' desks and replies out of what they ended with, the first one first, and tells whether all
+/// came to the end of their rows.
+fn collect<C: Ledger, R: Ledger, D: Ledger, A: Ledger>(
+    rows: &[Row],
+    workers: usize,
+    mut outcomes: Vec<Outcome<C, R, D, A>>,
+    desks: &mut Vec<Desk<C, R, D, A>>,
+    lists: &mut Vec<Vec<Reply>>,
+) -> bool
+    requires each { AllAt (λ k o. (w : ℕ) → w + k + 1 ≡ vec_len outcomes → o.whole ≡ true → IsPlayed workers w (map line_of rows.now) o.desk (answers_of o.replies.items)) outcomes.items }
+    requires room { (vec_len desks.old ≡ 0) × (vec_len outcomes ≤ vec_capacity desks.old) × (vec_len lists.old ≡ 0) × (vec_len outcomes ≤ vec_capacity lists.old) }
+    ensures len { (vec_len desks.new ≡ vec_len outcomes) × (vec_len lists.new ≡ vec_len outcomes) }
+    ensures capacity { vec_capacity desks.new ≡ vec_capacity desks.old }
+    ensures played { result ≡ true → ArePlayed workers (map line_of rows.now) desks.new.items (map (λ v. answers_of v.items) lists.new.items) }
+{
+    let mut whole = true;
+    while let Some(outcome) = outcomes.pop() {
+        let Outcome {
+            desk,
+            replies,
+            whole: ended,
+        } = outcome;
+        desks.push_reserved(set_down(desk));
+        lists.push_reserved(replies);
+        whole &= ended;
+    }
+    whole
+}
+
+/// Sets down the desks of workers that were not started.
+fn set_down_all<C: Ledger, R: Ledger, D: Ledger, A: Ledger>(
+    mut spent: Vec<Carried<C, R, D, A>>,
+    desks: &mut Vec<Desk<C, R, D, A>>,
+)
+    requires room { vec_len desks.old + vec_len spent ≤ vec_capacity desks.old }
+    ensures none { vec_len spent ≡ 0 → desks.new.items ≡ desks.old.items }
+{
+    while let Some(desk) = spent.pop() {
+        desks.push_reserved(set_down(desk));
+    }
+}
+
+/// Plays a script by workers, each in a thread of its own: a row of a lane is played by the worker whose number
+/// is the lane's modulo the workers', each worker plays its rows in their order, and the gate is asked before
+/// and after each row, outside the lock. At its end a worker gives back the leases that its lanes still hold.
+/// Which worker comes first is not said, nor that two of them run at the same time.
+///
+/// All room for desks and replies is made before a worker is started. Refused, in this order: more than
+/// 1,024 desks that would be out (`LimitReached`); want of memory. Where memory is wanting, for a row or for a
+/// thread, the rows that were accepted before it stand, all leases are given back, and all desks are settled.
+pub fn play<
+    W: Threads + Wait + Sync,
+    G: Gate + Send + Sync,
+    N: Naming + Send + Sync,
+    C: Ledger + Send + Sync,
+    R: Ledger + Send + Sync,
+    D: Ledger + Send + Sync,
+    A: Ledger + Send + Sync,
+>(
+    rt: &W,
+    alloc: Global,
+    store: &Store<N, C, R, D, A>,
+    rows: &[Row],
+    workers: usize,
+    gate: &G,
+) -> Result<Played, Refusal>
+    requires { (0 < workers) × (workers ≤ MAX_WORKERS) }
+    ensures replies { IfOk result (λ p. length p.replies.items ≡ length rows.now) }
+    ensures each { IfOk result (λ p. (w : ℕ) → w < workers → (desk : Amounts) × IsPlayed workers w (map line_of rows.now) desk (own_answers workers w (map line_of rows.now) (answers_of p.replies.items))) }
+    ensures commands { IfOk result (λ p. p.settled.commands ≡ counted_commands (map line_of rows.now) (answers_of p.replies.items)) }
+    ensures received { IfOk result (λ p. p.settled.received ≡ counted_bytes (map line_of rows.now) (answers_of p.replies.items)) }
+    ensures refused { IfErr result (λ e. (e ≡ LimitReached) ⊎ (e ≡ Memory)) }
+{
+    let mut lists = lists_for(alloc, rows, workers)?;
+    let merged = Vec::with_capacity(alloc, rows.len())?;
+    let jobs = Vec::with_capacity(alloc, workers)?;
+    let room = Ended {
+        outcomes: Vec::with_capacity(alloc, workers)?,
+        spent: Vec::with_capacity(alloc, workers)?,
+    };
+    let mut desks = store.desks(rt, workers as u64)?;
+    let jobs = jobs_of(rows, &mut desks, &mut lists, jobs);
+    let halt = AtomicBool::new(false);
+    let Ended { outcomes, spent } = play_all(rt, alloc, store, gate, rows, &halt, jobs, room);
+    let started = spent.is_empty();
+    let ended = collect(rows, workers, outcomes, &mut desks, &mut lists);
+    set_down_all(spent, &mut desks);
+    let settled = store.settle(rt, desks);
+    if started && ended {
+        Ok(Played {
+            replies: in_row_order(rows, lists, merged),
+            settled,
+        })
+    } else {
+        Err(Refusal::Memory)
+    }
+}

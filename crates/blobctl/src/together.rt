@@ -1,0 +1,87 @@
+//! Rows played by several workers on a store that they share.
+ghost use Rattle.std.specs.Prelude.{◌≡◌, ◌≢◌, ◌⊎◌, IfErr, OnOk, length, map};
+ghost use Rattle.std.specs.Io.KnownBytes.{Appends};
+ghost use Rattle.blob_digest.specs.Keys.{Text};
+ghost use Rattle.blobctl.specs.Ending.{PlayedTogether};
+ghost use Rattle.blobctl.specs.Options.{CanWork, IsWithin};
+ghost use Rattle.row_player.specs.Lines.{line_of};
+
+use crate::fault::Fault;
+use crate::options::Options;
+use crate::output::write_replies;
+use blob_store::{Naming, Parts, Store, play};
+use row_player::{OpenGate, Row};
+use std::alloc::Global;
+use std::io::Write;
+use std::marker::Brand;
+use std::sync::Wait;
+use std::sync::ledger::Ledger;
+use std::thread::Threads;
+
+/// Plays all rows by workers on the store of these parts, which the type parameters name, and writes the replies
+/// and then the book.
+fn play_on<
+    T: Threads + Wait + Sync,
+    W: Write,
+    N: Naming + Send + Sync,
+    C: Ledger + Send + Sync,
+    R: Ledger + Send + Sync,
+    D: Ledger + Send + Sync,
+    A: Ledger + Send + Sync,
+>(
+    rt: &T,
+    alloc: Global,
+    writer: &mut W,
+    parts: Parts,
+    rows: &[Row],
+    workers: usize,
+) -> Result<(), Fault>
+    requires workers { CanWork workers }
+    requires pins { (parts.book.table ≡ N.table) × (length parts.book.slots ≡ N.slots) }
+    requires commands { (parts.commands.name ≡ C.name) × (parts.commands.parts ≡ C.parts) }
+    requires received { (parts.received.name ≡ R.name) × (parts.received.parts ≡ R.parts) }
+    requires closed { (parts.closed.name ≡ D.name) × (parts.closed.parts ≡ D.parts) }
+    requires abandoned { (parts.abandoned.name ≡ A.name) × (parts.abandoned.parts ≡ A.parts) }
+    ensures played { OnOk result ((text : Text) × Appends (W.contents writer.old) (W.contents writer.new) text × PlayedTogether workers (map line_of rows.now) text) }
+    ensures silent { IfErr result (λ e. e ≢ Fault.Write → writer.new ≡ writer.old) }
+    ensures refused { IfErr result (λ e. (e ≡ Fault.Memory) ⊎ (e ≡ Fault.Write)) }
+{
+    let store = Store::<N, C, R, D, A>::new(parts);
+    let Ok(played) = play(rt, alloc, &store, rows, workers, &OpenGate) else {
+        return Err(Fault::Memory);
+    };
+    let Ok(()) = write_replies(writer, played.replies.as_slice()) else {
+        return Err(Fault::Write);
+    };
+    let Ok(()) = store.print(rt, writer) else {
+        return Err(Fault::Write);
+    };
+    Ok(())
+}
+
+/// Plays all rows by workers on a new store, and writes the replies in the order of the rows, and then the book.
+/// Refused is want of memory, and then nothing is written; and what the writer refuses.
+pub fn play_together<T: Threads + Wait + Sync, W: Write>(
+    rt: &T,
+    alloc: Global,
+    writer: &mut W,
+    options: &Options,
+    rows: &[Row],
+) -> Result<(), Fault>
+    requires { IsWithin options.now }
+    ensures played { OnOk result ((text : Text) × Appends (W.contents writer.old) (W.contents writer.new) text × PlayedTogether options.now.workers (map line_of rows.now) text) }
+    ensures silent { IfErr result (λ e. e ≢ Fault.Write → writer.new ≡ writer.old) }
+    ensures refused { IfErr result (λ e. (e ≡ Fault.Memory) ⊎ (e ≡ Fault.Write)) }
+{
+    let Ok(parts) = Parts::new(alloc, &options.store) else {
+        return Err(Fault::Memory);
+    };
+    play_on::<T, W, Brand, Brand, Brand, Brand, Brand>(
+        rt,
+        alloc,
+        writer,
+        parts,
+        rows,
+        options.workers,
+    )
+}
