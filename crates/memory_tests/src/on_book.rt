@@ -125,7 +125,7 @@ fn mount(
     digest: &Digest,
     from: &RepoName,
 ) -> Result<Mount, Refusal> {
-    pinned.book.mount(repo, digest, from)
+    pinned.book.mount(repo, digest, Some(from))
 }
 
 fn put_manifest(pinned: &mut Pinned, repo: &RepoName, bytes: &[u8]) -> Result<Digest, Refusal> {

@@ -124,7 +124,7 @@ impl<'s, N: Naming, C: Ledger, R: Ledger, D: Ledger, A: Ledger, W: Wait> Shared<
         digest: &Digest,
         from: &RepoName,
     ) -> Result<Mount, Refusal> {
-        self.store.mount(self.rt, desk, repo, digest, from)
+        self.store.mount(self.rt, desk, repo, digest, Some(from))
     }
 
     fn put_manifest(
