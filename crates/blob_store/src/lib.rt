@@ -15,6 +15,8 @@ mod desk;
 mod kept;
 mod lease;
 #[cfg(test)]
+mod load_steps;
+#[cfg(test)]
 mod load_tests;
 mod names;
 mod parts;
