@@ -16,6 +16,8 @@ mod kept;
 mod lease;
 mod names;
 mod parts;
+#[cfg(test)]
+mod play_tests;
 mod playing;
 mod seat;
 mod store;

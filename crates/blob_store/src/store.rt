@@ -8,7 +8,6 @@ ghost use Rattle.store_book.specs.Catalog.{Catalog};
 ghost use Rattle.store_book.specs.Laws.{Sound};
 ghost use Rattle.store_book.specs.Printed.{book_text};
 ghost use Rattle.blob_store.specs.Totals.{nothing, plus, one, sum_of};
-
 ghost use Rattle.blob_digest.specs.declared.refusal.Refusal.TheVariants.{LimitReached, Memory};
 
 use crate::counters::Counters;

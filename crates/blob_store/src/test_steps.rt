@@ -210,7 +210,7 @@ impl<
         self.store.word(self.rt, 0)
     }
 
-    fn printed(&self) -> Vec<u8> {
+    pub fn printed(&self) -> Vec<u8> {
         let mut written: Vec<u8> = Vec::new(self.rt.alloc());
         self.store
             .print(self.rt, &mut written)

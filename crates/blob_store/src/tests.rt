@@ -24,6 +24,7 @@ enum Scene {
     Shares,
     Busy,
     Reading,
+    TwoWorkers,
 }
 
 impl<
@@ -245,43 +246,53 @@ fn play<
         Scene::Shares => test.shared(),
         Scene::Busy => test.busy(),
         Scene::Reading => test.reading(),
+        Scene::TwoWorkers => test.two_workers(),
     }
 }
 
-/// A scene on a store of two slots.
-fn play_on_a_store<W: Abort + AllocGlobal + Threads + Wait + Sync>(rt: &W, scene: Scene) {
-    let parts = Parts::new(rt.alloc(), &config(rt, 2, &["acme"])).expect(rt, "parts");
+/// A scene on a store of two slots and these tenants.
+fn play_on_a_store<W: Abort + AllocGlobal + Threads + Wait + Sync>(
+    rt: &W,
+    names: &[&str],
+    scene: Scene,
+) {
+    let parts = Parts::new(rt.alloc(), &config(rt, 2, names)).expect(rt, "parts");
     play::<Brand, Brand, Brand, Brand, Brand, W>(rt, parts, scene);
 }
 
 #[test]
 fn totals_are_the_sums_of_settled_desks(rt: HostRuntime) {
-    play_on_a_store(&rt, Scene::TwoDesks);
+    play_on_a_store(&rt, &["acme"], Scene::TwoDesks);
 }
 
 #[test]
 fn commands_go_through_the_lock(rt: HostRuntime) {
-    play_on_a_store(&rt, Scene::Commands);
+    play_on_a_store(&rt, &["acme"], Scene::Commands);
 }
 
 #[test]
 fn a_lease_keeps_its_slot(rt: HostRuntime) {
-    play_on_a_store(&rt, Scene::Leases);
+    play_on_a_store(&rt, &["acme"], Scene::Leases);
 }
 
 #[test]
 fn a_lease_is_shared_ten_times(rt: HostRuntime) {
-    play_on_a_store(&rt, Scene::Shares);
+    play_on_a_store(&rt, &["acme"], Scene::Shares);
 }
 
 #[test]
 fn a_session_is_busy_while_another_thread_appends(rt: HostRuntime) {
-    play_on_a_store(&rt, Scene::Busy);
+    play_on_a_store(&rt, &["acme"], Scene::Busy);
+}
+
+#[test]
+fn two_workers_play_at_the_same_time(rt: HostRuntime) {
+    play_on_a_store(&rt, &["acme", "other"], Scene::TwoWorkers);
 }
 
 #[test]
 fn a_lease_is_read_while_the_lock_is_held(rt: HostRuntime) {
-    play_on_a_store(&rt, Scene::Reading);
+    play_on_a_store(&rt, &["acme"], Scene::Reading);
 }
 
 /// Why a store of these slots and tenants isn't opened.
