@@ -20,6 +20,8 @@ mod load_steps;
 mod load_tests;
 mod names;
 mod parts;
+#[cfg(test)]
+mod play_tests;
 mod playing;
 mod seat;
 mod store;
