@@ -8,7 +8,6 @@ pub mod Reading
 pub mod Records
 pub mod Script
 pub mod Stops
-pub mod TableNames
 pub mod Tenants
 pub mod Texts
 pub mod Watching

@@ -2,30 +2,18 @@
 ghost use Rattle.std.specs.Prelude.{◌≡◌};
 
 use blob_digest::{Blob, ByteRange, Digest, Refusal, RepoName};
+use blob_store::Naming;
 use oci_manifest::Manifest;
 use pin_table::{Pin, Pins};
 use row_player::{Backend, BlobLease, Piece};
 use std::alloc::Global;
-use std::marker::{Brand, PhantomData};
+use std::marker::PhantomData;
 use std::sync::Arc;
 use store_book::{Book, Mount, Swept};
 
-/// A name of the pin table that a book, its pins and its leases belong to.
-pub trait TableName {
-    ghost use Rattle.atomic_table.specs.Seated.{TableId};
-
-    ghost table: { TableId };
-}
-
-impl TableName for Brand {
-    ghost use Rattle.blobctl.specs.TableNames.{no_table};
-
-    ghost table = { no_table };
-}
-
 /// A book with the words of its slots.
 #[derive(Drop)]
-pub struct PinnedBook<'p, N: TableName> {
+pub struct PinnedBook<'p, N: Naming> {
     pub book: Book,
     pub pins: &'p Pins,
     pub table: PhantomData<N>,
@@ -34,7 +22,7 @@ pub struct PinnedBook<'p, N: TableName> {
 }
 
 /// A lease of a blob: a share of its bytes, and a pin on its slot. It must be given back or shared.
-pub struct BookLease<'p, N: TableName> {
+pub struct BookLease<'p, N: Naming> {
     pins: &'p Pins,
     blob: Arc<Blob, Global>,
     pin: Pin,
@@ -43,7 +31,7 @@ pub struct BookLease<'p, N: TableName> {
     ghost there: { pins.now ≡ N.table },
 }
 
-impl<'p, N: TableName> BlobLease for BookLease<'p, N> {
+impl<'p, N: Naming> BlobLease for BookLease<'p, N> {
     ghost use Rattle.std.specs.Arc.{arc_value};
     ghost use Rattle.row_player.specs.Leases.{Lent};
 
@@ -106,7 +94,7 @@ impl<'p, N: TableName> BlobLease for BookLease<'p, N> {
     }
 }
 
-impl<'p, N: TableName> Backend for PinnedBook<'p, N> {
+impl<'p, N: Naming> Backend for PinnedBook<'p, N> {
     type Lease = BookLease<'p, N>;
 
     ghost use Rattle.blobctl.specs.Played.{Acts};

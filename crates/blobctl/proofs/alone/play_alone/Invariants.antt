@@ -1,4 +1,5 @@
+use Rattle.std.specs.Prelude.{length}
 use Rattle.blobctl.proofs.alone.play_alone.Given as goal
 
 abbrev pub ghosts-play_in : goal.ghosts-play_in
-ghosts-play_in a = record { table = a.pins.now }
+ghosts-play_in a = record { table = a.pins.now; slots = length a.book.slots }

@@ -1,7 +1,0 @@
--- The name of no pin table.
-use Rattle.std.specs.Prelude.{[]}
-use Rattle.atomic_table.specs.Seated.{TableId}
-
--- what a name stands for before a table is picked
-abbrev pub no_table : TableId
-no_table = record { words = 0; slots = 0; views_name = 0; atom = 0; block = 0; offset = 0; slot_names = [] }
