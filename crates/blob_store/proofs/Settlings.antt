@@ -24,8 +24,8 @@ played_more n lines ds ls d l are here =
     record {
       as_many = omega (arith, length-append ds (d ∷ []), length-append ls (l ∷ []), are.as_many);
       each = at_pushed (λ w answers. IsPlayed n w lines (get_or (ds ++ d ∷ []) w nothing) answers) ls l
-        (λ w e lt. subst (λ x. IsPlayed n w lines x (get_or ls w e)) (sym (get_or_append_left ds (d ∷ []) nothing w (omega (arith, lt, are.as_many)))) (are.each w e lt))
-        (subst (λ x. IsPlayed n (length ls) lines x l) (sym seam) here);
+          (λ w e lt. subst (λ x. IsPlayed n w lines x (get_or ls w e)) (sym (get_or_append_left ds (d ∷ []) nothing w (omega (arith, lt, are.as_many)))) (are.each w e lt))
+          (subst (λ x. IsPlayed n (length ls) lines x l) (sym seam) here);
     }
 
 commands_of_all : (ds : List Amounts) → (sum_of ds).commands ≡ sum_by (λ (a : Amounts). a.commands) ds

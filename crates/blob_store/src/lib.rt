@@ -15,9 +15,13 @@ mod desk;
 mod kept;
 mod lease;
 #[cfg(test)]
+mod load_steps;
+#[cfg(test)]
 mod load_tests;
 mod names;
 mod parts;
+#[cfg(test)]
+mod play_tests;
 mod playing;
 mod seat;
 mod store;

@@ -1,232 +1,24 @@
 //! Eight threads at full load while others sweep: every read gives the bytes that were uploaded, and at the
 //! end nothing is held, used or left over.
 
+use crate::load_steps::{
+    Load, Names, Own, Part, Player, Upload, manifest_of, players, sum_of, upload_of,
+};
 use crate::test_steps::TestStore;
 use crate::thread_tests::MAX_TURNS;
-use crate::{Desk, Lease, Naming, Settled, Totals};
+use crate::{Desk, Lease, Naming, Totals};
 use blob_digest::{Algorithm, Digest, Refusal};
 use std::alloc::AllocGlobal;
 use std::process::Abort;
 use std::sync::Wait;
-use std::sync::atomic::{AtomicBool, AtomicU32, Ordering};
+use std::sync::atomic::Ordering;
 use std::sync::ledger::Ledger;
 use std::thread;
-use std::thread::{Parker, Threads};
+use std::thread::Threads;
 use store_book::Mount;
 
 /// How many rounds a thread plays.
 const ROUNDS: u32 = 1000;
-
-/// After as many rounds of all threads a sweep is wanted.
-const BETWEEN_SWEEPS: u32 = 8;
-
-/// What a thread counted of its own: accepted commands, and bytes.
-#[derive(Clone, Copy, PartialEq, Eq, Debug)]
-struct Own {
-    commands: u64,
-    received: u64,
-    closed: u64,
-    abandoned: u64,
-}
-
-impl Own {
-    fn none() -> Own {
-        Own {
-            commands: 0,
-            received: 0,
-            closed: 0,
-            abandoned: 0,
-        }
-    }
-
-    fn settled(settled: Settled) -> Own {
-        Own {
-            commands: settled.commands,
-            received: settled.received,
-            closed: settled.closed,
-            abandoned: settled.abandoned,
-        }
-    }
-
-    /// So many commands more, and so many bytes received, closed and abandoned.
-    fn add(&mut self, commands: u64, received: u64, closed: u64, abandoned: u64) {
-        self.commands = self.commands.saturating_add(commands);
-        self.received = self.received.saturating_add(received);
-        self.closed = self.closed.saturating_add(closed);
-        self.abandoned = self.abandoned.saturating_add(abandoned);
-    }
-
-    /// What another thread counted besides.
-    fn add_all(&mut self, other: Own) {
-        self.add(
-            other.commands,
-            other.received,
-            other.closed,
-            other.abandoned,
-        );
-    }
-}
-
-/// A thread of the load: its two repositories, those of a neighbour, and what it counted.
-#[derive(Drop)]
-struct Player {
-    names: Names,
-    own: Own,
-}
-
-#[derive(Drop)]
-struct Names {
-    one: String,
-    two: String,
-    beside_one: String,
-    beside_two: String,
-}
-
-/// What a thread uploads in a round into one of its repositories: that repository's name, and then the rest.
-#[derive(Drop)]
-struct Upload<'p> {
-    repo: &'p str,
-    other: &'p str,
-    rest: String,
-    whole: String,
-    of: String,
-}
-
-/// A call on a session.
-#[derive(Clone, Copy)]
-enum Part<'p> {
-    /// These bytes at the end.
-    Append(&'p str),
-    /// A close by this digest, with these bytes.
-    Close(&'p str, &'p str),
-    Abandon,
-}
-
-/// What the threads of a load tell one another.
-#[derive(Drop)]
-struct Load {
-    /// Whether mounts, shares, manifests and the neighbours' sessions are mixed in.
-    mixed: bool,
-    /// The session of each thread.
-    numbers: [AtomicU32; 8],
-    /// The rounds of all threads.
-    played: AtomicU32,
-    ended: AtomicBool,
-    /// What the sweeping thread waits for.
-    wanted: Parker,
-}
-
-impl Load {
-    fn new(mixed: bool) -> Load {
-        Load {
-            mixed,
-            numbers: [
-                AtomicU32::new(0),
-                AtomicU32::new(0),
-                AtomicU32::new(0),
-                AtomicU32::new(0),
-                AtomicU32::new(0),
-                AtomicU32::new(0),
-                AtomicU32::new(0),
-                AtomicU32::new(0),
-            ],
-            played: AtomicU32::new(0),
-            ended: AtomicBool::new(false),
-            wanted: Parker::new(),
-        }
-    }
-
-    /// Counts a round, after which a sweep may be wanted.
-    fn count(&self) {
-        if self.played.fetch_add(1, Ordering::SeqCst) % BETWEEN_SWEEPS == 0 {
-            self.wanted.unpark();
-        }
-    }
-
-    /// All rounds are played.
-    fn end(&self) {
-        self.ended.store(true, Ordering::SeqCst);
-        self.wanted.unpark();
-    }
-
-    /// Tells of a thread's session.
-    fn tell(&self, place: usize, number: u32) {
-        if let Some(known) = self.numbers.as_slice().get(place % 8) {
-            known.store(number, Ordering::SeqCst);
-        }
-    }
-
-    /// The session of a thread.
-    fn ask(&self, place: usize) -> u32 {
-        match self.numbers.as_slice().get(place % 8) {
-            Some(known) => known.load(Ordering::SeqCst),
-            None => 0,
-        }
-    }
-}
-
-/// A repository of a thread.
-fn repo(rt: &(impl Abort + AllocGlobal), kind: &str, place: usize) -> String {
-    let number = place % 8;
-    format!(in rt.alloc(); "acme/{kind}{number}").expect(rt, "memory")
-}
-
-/// Eight threads.
-fn players(rt: &(impl Abort + AllocGlobal)) -> Vec<Player> {
-    let mut players = Vec::new(rt.alloc());
-    for place in 0..8_usize {
-        let names = Names {
-            one: repo(rt, "a", place),
-            two: repo(rt, "b", place),
-            beside_one: repo(rt, "a", place + 1),
-            beside_two: repo(rt, "b", place + 1),
-        };
-        let own = Own::none();
-        players.push(Player { names, own }).expect(rt, "memory");
-    }
-    players
-}
-
-/// What the threads counted.
-fn sum_of(players: &[Player]) -> Own {
-    let mut sum = Own::none();
-    for player in players {
-        sum.add_all(player.own);
-    }
-    sum
-}
-
-/// What a thread uploads in a round.
-fn upload_of<'p>(rt: &(impl Abort + AllocGlobal), names: &'p Names, round: u32) -> Upload<'p> {
-    let alloc = rt.alloc();
-    let (repo, other) = if round % 2 == 0 {
-        (names.one.as_str(), names.two.as_str())
-    } else {
-        (names.two.as_str(), names.one.as_str())
-    };
-    let algorithm = if round % 8 < 4 {
-        Algorithm::Sha256
-    } else {
-        Algorithm::Sha512
-    };
-    let rest = format!(in alloc; " in round {round}").expect(rt, "memory");
-    let whole = format!(in alloc; "{repo}{rest}").expect(rt, "memory");
-    let digest = Digest::of(algorithm, whole.as_bytes());
-    let of = format!(in alloc; "{digest}").expect(rt, "memory");
-    Upload {
-        repo,
-        other,
-        rest,
-        whole,
-        of,
-    }
-}
-
-/// A manifest whose config is the blob of a digest.
-fn manifest_of(rt: &(impl Abort + AllocGlobal), of: &str) -> String {
-    format!(in rt.alloc(); "{{\"schemaVersion\":2,\"config\":{{\"digest\":\"{of}\"}}}}")
-        .expect(rt, "memory")
-}
 
 impl<
     's,
@@ -358,12 +150,7 @@ impl<
     }
 
     /// Puts a manifest that keeps the blob, gets it and deletes it.
-    fn keeps_by_a_manifest(
-        &self,
-        desk: &mut Desk<C, R, D, A>,
-        own: &mut Own,
-        upload: &Upload<'_>,
-    ) {
+    fn keeps_by_a_manifest(&self, desk: &mut Desk<C, R, D, A>, own: &mut Own, upload: &Upload<'_>) {
         let rt = self.rt;
         let (repo, of) = (upload.repo, upload.of.as_str());
         let text = manifest_of(rt, of);

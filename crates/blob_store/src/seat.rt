@@ -48,8 +48,7 @@ impl<'s, N: Naming> BlobLease for Lease<'s, N> {
 }
 
 impl<'s, W: Wait, N: Naming, C: Ledger, R: Ledger, D: Ledger, A: Ledger> Backend
-    for Seat<'s, W, N, C, R, D, A>
-{
+    for Seat<'s, W, N, C, R, D, A> {
     type Lease = Lease<'s, N>;
 
     ghost use Rattle.blob_store.specs.Seats.{SeatActs};
@@ -83,8 +82,7 @@ impl<'s, W: Wait, N: Naming, C: Ledger, R: Ledger, D: Ledger, A: Ledger> Backend
         range: Option<ByteRange>,
         bytes: &[u8],
     ) -> Result<u64, Refusal> {
-        self.store
-            .close(self.rt, &mut self.desk, repo, number, digest, range, bytes)
+        self.store.close(self.rt, &mut self.desk, repo, number, digest, range, bytes)
     }
 
     fn abandon(&mut self, repo: &RepoName, number: u32) -> Result<u64, Refusal> {

@@ -11,7 +11,6 @@ ghost use Rattle.store_book.specs.SlotSteps.{HasPin};
 ghost use Rattle.store_book.specs.Sweeps.{IsSweep};
 ghost use Rattle.blob_store.specs.Found.{InSomeBook};
 ghost use Rattle.blob_store.specs.Totals.{nothing, plus, one, sum_of};
-
 ghost use Rattle.blob_digest.specs.declared.refusal.Refusal.TheVariants.{LimitReached, Memory};
 
 use crate::counters::Counters;

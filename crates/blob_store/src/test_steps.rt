@@ -286,12 +286,7 @@ impl<
     }
 
     /// A lease of a blob that a repository holds.
-    pub fn leases_from(
-        &self,
-        desk: &mut Desk<C, R, D, A>,
-        repo: &str,
-        of: &str,
-    ) -> Lease<'s, N> {
+    pub fn leases_from(&self, desk: &mut Desk<C, R, D, A>, repo: &str, of: &str) -> Lease<'s, N> {
         let of = digest(self.rt, of);
         self.store
             .lease(self.rt, desk, &name(self.rt, repo), &of)

@@ -35,6 +35,7 @@ enum Scene {
     LastGeneration,
     Loaded,
     LoadedWithAll,
+    TwoWorkers,
 }
 
 impl Scene {
@@ -309,13 +310,18 @@ fn play<
         Scene::LastGeneration => test.last_generation(),
         Scene::Loaded => test.loaded(false, LOADED),
         Scene::LoadedWithAll => test.loaded(true, LOADED_WITH_ALL),
+        Scene::TwoWorkers => test.two_workers(),
     }
 }
 
-/// A scene on a store of its own.
-fn play_on_a_store<W: Abort + AllocGlobal + Threads + Wait + Sync>(rt: &W, scene: Scene) {
+/// A scene on a store of its own, with these tenants.
+fn play_on_a_store<W: Abort + AllocGlobal + Threads + Wait + Sync>(
+    rt: &W,
+    names: &[&str],
+    scene: Scene,
+) {
     let (slots, first_generation) = scene.slots();
-    let mut config = config(rt, slots, &["acme"]);
+    let mut config = config(rt, slots, names);
     config.first_generation = first_generation;
     let parts = Parts::new(rt.alloc(), &config).expect(rt, "parts");
     play::<Brand, Brand, Brand, Brand, Brand, W>(rt, parts, scene);
@@ -323,47 +329,52 @@ fn play_on_a_store<W: Abort + AllocGlobal + Threads + Wait + Sync>(rt: &W, scene
 
 #[test]
 fn totals_are_the_sums_of_settled_desks(rt: HostRuntime) {
-    play_on_a_store(&rt, Scene::TwoDesks);
+    play_on_a_store(&rt, &["acme"], Scene::TwoDesks);
 }
 
 #[test]
 fn commands_go_through_the_lock(rt: HostRuntime) {
-    play_on_a_store(&rt, Scene::Commands);
+    play_on_a_store(&rt, &["acme"], Scene::Commands);
 }
 
 #[test]
 fn a_lease_keeps_its_slot(rt: HostRuntime) {
-    play_on_a_store(&rt, Scene::Leases);
+    play_on_a_store(&rt, &["acme"], Scene::Leases);
 }
 
 #[test]
 fn a_lease_is_shared_ten_times(rt: HostRuntime) {
-    play_on_a_store(&rt, Scene::Shares);
+    play_on_a_store(&rt, &["acme"], Scene::Shares);
 }
 
 #[test]
 fn a_session_is_busy_while_another_thread_appends(rt: HostRuntime) {
-    play_on_a_store(&rt, Scene::Busy);
+    play_on_a_store(&rt, &["acme"], Scene::Busy);
+}
+
+#[test]
+fn two_workers_play_at_the_same_time(rt: HostRuntime) {
+    play_on_a_store(&rt, &["acme", "other"], Scene::TwoWorkers);
 }
 
 #[test]
 fn a_lease_is_read_while_the_lock_is_held(rt: HostRuntime) {
-    play_on_a_store(&rt, Scene::Reading);
+    play_on_a_store(&rt, &["acme"], Scene::Reading);
 }
 
 #[test]
 fn a_slot_of_the_last_generation_is_retired(rt: HostRuntime) {
-    play_on_a_store(&rt, Scene::LastGeneration);
+    play_on_a_store(&rt, &["acme"], Scene::LastGeneration);
 }
 
 #[test]
 fn eight_threads_play_while_a_ninth_sweeps(rt: HostRuntime) {
-    play_on_a_store(&rt, Scene::Loaded);
+    play_on_a_store(&rt, &["acme"], Scene::Loaded);
 }
 
 #[test]
 fn eight_threads_play_all_commands_while_others_sweep_and_meet(rt: HostRuntime) {
-    play_on_a_store(&rt, Scene::LoadedWithAll);
+    play_on_a_store(&rt, &["acme"], Scene::LoadedWithAll);
 }
 
 /// A store of these slots and tenants, blobs of at most so many bytes, and a quota for each tenant isn't opened.
@@ -391,8 +402,20 @@ fn parts_are_refused_by_names_and_limits(rt: HostRuntime) {
         (1, [].as_slice(), 1, 1, Refusal::LimitReached),
         (0, ["acme"].as_slice(), 1, 1, Refusal::LimitReached),
         (65_537, ["acme"].as_slice(), 1, 1, Refusal::LimitReached),
-        (1, ["acme"].as_slice(), (1 << 40) + 1, 1, Refusal::LimitReached),
-        (1, ["acme"].as_slice(), 1, (1 << 50) + 1, Refusal::LimitReached),
+        (
+            1,
+            ["acme"].as_slice(),
+            (1 << 40) + 1,
+            1,
+            Refusal::LimitReached,
+        ),
+        (
+            1,
+            ["acme"].as_slice(),
+            1,
+            (1 << 50) + 1,
+            Refusal::LimitReached,
+        ),
     ] {
         refuses(&rt, slots, names, max_blob, quota, refusal);
     }

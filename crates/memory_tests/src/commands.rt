@@ -41,16 +41,20 @@ pub struct Names {
 const INDEX: &str = "{\"schemaVersion\":2,\"manifests\":[]}";
 
 /// A manifest that refers to `{}` and `abc`.
-const MANIFEST: &str = "{\"schemaVersion\":2,\"config\":{\"digest\":\"sha256:44136fa355b3678a1146ad16f7e8649e94fb4fc21fe77e8310c060f61caaff8a\"},\"layers\":[{\"digest\":\"sha256:ba7816bf8f01cfea414140de5dae2223b00361a396177a9cb410ff61f20015ad\"}]}";
+const MANIFEST: &str =
+    "{\"schemaVersion\":2,\"config\":{\"digest\":\"sha256:44136fa355b3678a1146ad16f7e8649e94fb4fc21fe77e8310c060f61caaff8a\"},\"layers\":[{\"digest\":\"sha256:ba7816bf8f01cfea414140de5dae2223b00361a396177a9cb410ff61f20015ad\"}]}";
 
 /// The text of the book before `abc` is closed in a second repository.
-const BEFORE: &str = "book\ntenant acme used 5 quota 1000 next 3\nrepository acme/one\nblob sha256:ba7816bf8f01cfea414140de5dae2223b00361a396177a9cb410ff61f20015ad size 3 links 1\nrepository acme/two\nsession 2 received 2\nend\n";
+const BEFORE: &str =
+    "book\ntenant acme used 5 quota 1000 next 3\nrepository acme/one\nblob sha256:ba7816bf8f01cfea414140de5dae2223b00361a396177a9cb410ff61f20015ad size 3 links 1\nrepository acme/two\nsession 2 received 2\nend\n";
 
 /// The text of the book after that.
-const AFTER: &str = "book\ntenant acme used 3 quota 1000 next 3\nrepository acme/one\nblob sha256:ba7816bf8f01cfea414140de5dae2223b00361a396177a9cb410ff61f20015ad size 3 links 2\nrepository acme/two\nblob sha256:ba7816bf8f01cfea414140de5dae2223b00361a396177a9cb410ff61f20015ad size 3 links 2\nend\n";
+const AFTER: &str =
+    "book\ntenant acme used 3 quota 1000 next 3\nrepository acme/one\nblob sha256:ba7816bf8f01cfea414140de5dae2223b00361a396177a9cb410ff61f20015ad size 3 links 2\nrepository acme/two\nblob sha256:ba7816bf8f01cfea414140de5dae2223b00361a396177a9cb410ff61f20015ad size 3 links 2\nend\n";
 
 /// The text of the book in the end.
-const LAST: &str = "book\ntenant acme used 5 quota 1000 next 6\nrepository acme/five\nblob sha256:44136fa355b3678a1146ad16f7e8649e94fb4fc21fe77e8310c060f61caaff8a size 2 links 2\nmanifest sha256:bc5857ac9458293d5111ab85c952172cd7f56bceb4e3014ddc4cafac8927b313 size 34 refs 0\nrepository acme/four\nblob sha256:44136fa355b3678a1146ad16f7e8649e94fb4fc21fe77e8310c060f61caaff8a size 2 links 2\nblob sha256:ba7816bf8f01cfea414140de5dae2223b00361a396177a9cb410ff61f20015ad size 3 links 4\nmanifest sha256:176cf333dad8e762df3dd189e7a101216269819fa10ceeb63d1578ebbb835a7a size 209 refs 2\nrepository acme/one\nblob sha256:ba7816bf8f01cfea414140de5dae2223b00361a396177a9cb410ff61f20015ad size 3 links 4\nrepository acme/three\nblob sha256:ba7816bf8f01cfea414140de5dae2223b00361a396177a9cb410ff61f20015ad size 3 links 4\nrepository acme/two\nblob sha256:ba7816bf8f01cfea414140de5dae2223b00361a396177a9cb410ff61f20015ad size 3 links 4\nend\n";
+const LAST: &str =
+    "book\ntenant acme used 5 quota 1000 next 6\nrepository acme/five\nblob sha256:44136fa355b3678a1146ad16f7e8649e94fb4fc21fe77e8310c060f61caaff8a size 2 links 2\nmanifest sha256:bc5857ac9458293d5111ab85c952172cd7f56bceb4e3014ddc4cafac8927b313 size 34 refs 0\nrepository acme/four\nblob sha256:44136fa355b3678a1146ad16f7e8649e94fb4fc21fe77e8310c060f61caaff8a size 2 links 2\nblob sha256:ba7816bf8f01cfea414140de5dae2223b00361a396177a9cb410ff61f20015ad size 3 links 4\nmanifest sha256:176cf333dad8e762df3dd189e7a101216269819fa10ceeb63d1578ebbb835a7a size 209 refs 2\nrepository acme/one\nblob sha256:ba7816bf8f01cfea414140de5dae2223b00361a396177a9cb410ff61f20015ad size 3 links 4\nrepository acme/three\nblob sha256:ba7816bf8f01cfea414140de5dae2223b00361a396177a9cb410ff61f20015ad size 3 links 4\nrepository acme/two\nblob sha256:ba7816bf8f01cfea414140de5dae2223b00361a396177a9cb410ff61f20015ad size 3 links 4\nend\n";
 
 /// The commands.
 pub fn commands(names: &Names) -> [Command<'_>; 26] {

@@ -1,8 +1,15 @@
-//! Calls of every crate while one growth is refused.
+//! Makes each call that may want memory, of every crate, while one growth of the process is refused.
+//!
+//! It stands on all libraries of the repository, and is no part of the product. Standard input has a number, of
+//! growths that are made before all else; the script `refuse_each` has one growth of the process refused, and so
+//! lets each growth of the calls be refused in turn. Each call has a line: it was accepted; or it was refused for
+//! want of memory, had changed nothing, and was accepted when it was made again; or what else came. A growth that is
+//! made for the calls, and by none of them, ends the program early.
 #![tactic(auto)]
 
 mod attempt;
 mod commands;
+mod links;
 mod makers;
 mod on_book;
 mod on_store;
@@ -11,6 +18,7 @@ mod slots;
 mod stopped;
 mod texts;
 
+use crate::links::play_links;
 use crate::makers::play_makers;
 use crate::on_book::play_on_book;
 use crate::on_store::play_on_store;
@@ -30,7 +38,9 @@ fn number_given(rt: &HostRuntime) -> u64 {
     let mut reader = rt.reader();
     if let Ok(count) = reader.read(&mut buffer) {
         for digit in buffer[..count].iter().filter(|b| b.is_ascii_digit()) {
-            number = number.wrapping_mul(10).wrapping_add(u64::from(*digit - b'0'));
+            number = number
+                .wrapping_mul(10)
+                .wrapping_add(u64::from(*digit - b'0'));
         }
     }
     number
@@ -51,6 +61,7 @@ fn play_all<R: Print + AllocGlobal + Wait>(rt: &R, first: u64) -> Result<(), Sto
     play_texts(rt)?;
     play_sessions(rt)?;
     play_slots(rt)?;
+    play_links(rt)?;
     play_on_book(rt)?;
     play_on_store(rt)
 }

@@ -50,9 +50,9 @@ pub struct Makers<'a> {
     tenants: Vec<Vec<(String, u64)>>,
 }
 
-/// Whether a pin world has the pins of the names from 1 to so many, and no other of the next four.
+/// Whether a pin world has the pins of the names from 1 to so many, and none up to 5 beside them.
 fn has_pins(world: &PinState, count: u64) -> bool {
-    (1..count + 5).all(|name| world.pin(name).is_some() == (name <= count))
+    (1..6u64).all(|name| world.pin(name).is_some() == (name <= count))
 }
 
 /// A manifest has so many references.
@@ -74,9 +74,9 @@ fn came(found: Result<Option<PinState>, Refusal>, pins: u64) -> Answer {
 
 /// Whether something was made.
 fn made<T: Drop>(found: Result<T, Refusal>) -> Answer {
-    match found {
-        Ok(_) => Answer::Wanted,
-        Err(refusal) => refused(refusal),
+    match found.err() {
+        None => Answer::Wanted,
+        Some(refusal) => refused(refusal),
     }
 }
 
@@ -172,7 +172,8 @@ impl<'a> Make<'a> {
 }
 
 /// A manifest that refers to `{}` and `abc`, of which the first comes twice.
-const MANIFEST: &[u8] = b"{\"schemaVersion\":2,\"config\":{\"digest\":\"sha256:44136fa355b3678a1146ad16f7e8649e94fb4fc21fe77e8310c060f61caaff8a\"},\"layers\":[{\"digest\":\"sha256:ba7816bf8f01cfea414140de5dae2223b00361a396177a9cb410ff61f20015ad\"},{\"digest\":\"sha256:44136fa355b3678a1146ad16f7e8649e94fb4fc21fe77e8310c060f61caaff8a\"}]}";
+const MANIFEST: &[u8] =
+    b"{\"schemaVersion\":2,\"config\":{\"digest\":\"sha256:44136fa355b3678a1146ad16f7e8649e94fb4fc21fe77e8310c060f61caaff8a\"},\"layers\":[{\"digest\":\"sha256:ba7816bf8f01cfea414140de5dae2223b00361a396177a9cb410ff61f20015ad\"},{\"digest\":\"sha256:44136fa355b3678a1146ad16f7e8649e94fb4fc21fe77e8310c060f61caaff8a\"}]}";
 
 /// A pin world of four slots, of which the first has this digest.
 fn given(alloc: Global, digest: Digest) -> Result<PinState, Stopped> {

@@ -84,12 +84,7 @@ fn filled(hand: Hand, bytes: &[u8]) -> Result<Hand, Hand> {
 }
 
 /// Takes a session, fills a chunk in, and puts it back. Where it can't be filled in, nothing has changed.
-fn fill(
-    pinned: &mut Pinned,
-    repo: &RepoName,
-    number: u32,
-    bytes: &[u8],
-) -> Result<u64, Refusal> {
+fn fill(pinned: &mut Pinned, repo: &RepoName, number: u32, bytes: &[u8]) -> Result<u64, Refusal> {
     let hand = pinned.book.take(repo, number, None, bytes.len() as u64)?;
     match filled(hand, bytes) {
         Ok(hand) => pinned.book.put_back(hand),
@@ -100,7 +95,7 @@ fn fill(
     }
 }
 
-/// Takes a session, fills its last chunk in, where need be twice, and finishes it.
+/// Takes a session, fills its last chunk in, and finishes it. Where it can't be filled in, nothing has changed.
 fn finish(
     pinned: &mut Pinned,
     repo: &RepoName,
@@ -109,17 +104,18 @@ fn finish(
     bytes: &[u8],
 ) -> Result<u64, Refusal> {
     let hand = pinned.book.take(repo, number, None, bytes.len() as u64)?;
-    let hand = match filled(hand, bytes) {
-        Ok(hand) => hand,
-        Err(hand) => match filled(hand, bytes) {
-            Ok(hand) => hand,
-            Err(hand) => hand,
-        },
-    };
-    if hand.filled() {
-        pinned.book.finish(&pinned.pins, hand, digest)
-    } else {
-        pinned.book.put_back(hand)
+    match filled(hand, bytes) {
+        Ok(hand) => {
+            if hand.filled() {
+                pinned.book.finish(&pinned.pins, hand, digest)
+            } else {
+                pinned.book.put_back(hand)
+            }
+        }
+        Err(hand) => {
+            let _ = pinned.book.put_back(hand)?;
+            Err(Refusal::Memory)
+        }
     }
 }
 
@@ -129,7 +125,7 @@ fn mount(
     digest: &Digest,
     from: &RepoName,
 ) -> Result<Mount, Refusal> {
-    pinned.book.mount(repo, digest, from)
+    pinned.book.mount(repo, digest, Some(from))
 }
 
 fn put_manifest(pinned: &mut Pinned, repo: &RepoName, bytes: &[u8]) -> Result<Digest, Refusal> {

@@ -46,10 +46,10 @@ struct Seen {
 
 /// The commands that a store is given, and what was seen of it.
 #[derive(Drop)]
-struct OnStore<'s, 'd, N: Naming, C: Ledger, R: Ledger, D: Ledger, A: Ledger, W: Wait> {
-    shared: &'s Shared<'s, N, C, R, D, A, W>,
+struct OnStore<'h, 's, 'd, 'c, 'n, N: Naming, C: Ledger, R: Ledger, D: Ledger, A: Ledger, W: Wait> {
+    shared: &'h Shared<'s, N, C, R, D, A, W>,
     desk: &'d mut Desk<C, R, D, A>,
-    commands: &'d [Command<'d>],
+    commands: &'c [Command<'n>],
     before: Seen,
     after: Seen,
 }
@@ -72,9 +72,15 @@ fn give_back_both<'s, N: Naming>(left: Lease<'s, N>, right: Lease<'s, N>) -> boo
     halves
 }
 
-impl<'s, N: Naming, C: Ledger, R: Ledger, D: Ledger, A: Ledger, W: Wait>
-    Shared<'s, N, C, R, D, A, W>
-{
+impl<'s, N: Naming, C: Ledger, R: Ledger, D: Ledger, A: Ledger, W: Wait> Shared<
+    's,
+    N,
+    C,
+    R,
+    D,
+    A,
+    W,
+> {
     fn word(&self, slot: u32) -> u64 {
         if slot < 4 {
             self.store.word(self.rt, slot)
@@ -118,7 +124,7 @@ impl<'s, N: Naming, C: Ledger, R: Ledger, D: Ledger, A: Ledger, W: Wait>
         digest: &Digest,
         from: &RepoName,
     ) -> Result<Mount, Refusal> {
-        self.store.mount(self.rt, desk, repo, digest, from)
+        self.store.mount(self.rt, desk, repo, digest, Some(from))
     }
 
     fn put_manifest(
@@ -130,12 +136,7 @@ impl<'s, N: Naming, C: Ledger, R: Ledger, D: Ledger, A: Ledger, W: Wait>
         self.store.put_manifest(self.rt, desk, repo, bytes)
     }
 
-    fn get_manifest(
-        &self,
-        desk: &mut Desk<C, R, D, A>,
-        repo: &RepoName,
-        bytes: &[u8],
-    ) -> Answer {
+    fn get_manifest(&self, desk: &mut Desk<C, R, D, A>, repo: &RepoName, bytes: &[u8]) -> Answer {
         let digest = Digest::of(Algorithm::Sha256, bytes);
         match self.store.get_manifest(self.rt, desk, repo, &digest) {
             Ok(manifest) => whether(manifest.bytes() == bytes),
@@ -169,7 +170,11 @@ impl<'s, N: Naming, C: Ledger, R: Ledger, D: Ledger, A: Ledger, W: Wait>
                 Err((refusal, lease)) => {
                     let whole = lease.weight() == 1024;
                     lease.give_back();
-                    if whole { refused(refusal) } else { Answer::Other }
+                    if whole {
+                        refused(refusal)
+                    } else {
+                        Answer::Other
+                    }
                 }
             },
             Err(refusal) => refused(refusal),
@@ -187,19 +192,17 @@ impl<'s, N: Naming, C: Ledger, R: Ledger, D: Ledger, A: Ledger, W: Wait>
         self.store.print(self.rt, &mut seen.text).is_ok()
     }
 
-    fn goes(
-        &self,
-        desk: &mut Desk<C, R, D, A>,
-        seen: &mut Seen,
-        command: &Command,
-    ) -> Answer {
+    fn goes(&self, desk: &mut Desk<C, R, D, A>, seen: &mut Seen, command: &Command) -> Answer {
         match command {
             Command::Start(repo, number) => judged(self.start(desk, repo), *number),
             Command::Append(repo, number, range, bytes, length) => {
                 judged(self.append(desk, repo, *number, *range, bytes), *length)
             }
             Command::Close(repo, number, digest, range, bytes, size) => {
-                judged(self.close(desk, repo, *number, digest, *range, bytes), *size)
+                judged(
+                    self.close(desk, repo, *number, digest, *range, bytes),
+                    *size,
+                )
             }
             Command::Fill(repo, number, bytes, length) => {
                 judged(self.append(desk, repo, *number, None, bytes), *length)
@@ -224,9 +227,8 @@ impl<'s, N: Naming, C: Ledger, R: Ledger, D: Ledger, A: Ledger, W: Wait>
     }
 }
 
-impl<'s, 'd, N: Naming, C: Ledger, R: Ledger, D: Ledger, A: Ledger, W: Wait> Calls
-    for OnStore<'s, 'd, N, C, R, D, A, W>
-{
+impl<'h, 's, 'd, 'c, 'n, N: Naming, C: Ledger, R: Ledger, D: Ledger, A: Ledger, W: Wait> Calls
+    for OnStore<'h, 's, 'd, 'c, 'n, N, C, R, D, A, W> {
     fn count(&self) -> usize {
         self.commands.len()
     }
@@ -260,14 +262,13 @@ impl<'s, 'd, N: Naming, C: Ledger, R: Ledger, D: Ledger, A: Ledger, W: Wait> Cal
 
 /// Desks that are handed out and settled at once.
 #[derive(Drop)]
-struct Desks<'s, N: Naming, C: Ledger, R: Ledger, D: Ledger, A: Ledger, W: Wait> {
-    shared: &'s Shared<'s, N, C, R, D, A, W>,
+struct Desks<'h, 's, N: Naming, C: Ledger, R: Ledger, D: Ledger, A: Ledger, W: Wait> {
+    shared: &'h Shared<'s, N, C, R, D, A, W>,
     totals: Totals,
 }
 
-impl<'s, N: Naming, C: Ledger, R: Ledger, D: Ledger, A: Ledger, W: Wait> Calls
-    for Desks<'s, N, C, R, D, A, W>
-{
+impl<'h, 's, N: Naming, C: Ledger, R: Ledger, D: Ledger, A: Ledger, W: Wait> Calls
+    for Desks<'h, 's, N, C, R, D, A, W> {
     fn count(&self) -> usize {
         1
     }
@@ -305,11 +306,35 @@ fn unseen(alloc: Global) -> Result<Seen, Stopped> {
     })
 }
 
+/// The handing out of desks.
+fn play_desks<'h, 's, N: Naming, C: Ledger, R: Ledger, D: Ledger, A: Ledger, W: Wait + Print>(
+    shared: &'h Shared<'s, N, C, R, D, A, W>,
+) -> Result<(), Stopped> {
+    let rt = shared.rt;
+    let mut calls = Desks {
+        shared,
+        totals: NOTHING,
+    };
+    play(rt, "Store", &mut calls)
+}
+
 /// The commands from the first of some desks.
-fn play_at<N: Naming, C: Ledger, R: Ledger, D: Ledger, A: Ledger, W: Wait + Print>(
-    shared: &Shared<'_, N, C, R, D, A, W>,
-    desks: &mut [Desk<C, R, D, A>],
-    commands: &[Command],
+fn play_at<
+    'h,
+    's,
+    'd,
+    'c,
+    'n,
+    N: Naming,
+    C: Ledger,
+    R: Ledger,
+    D: Ledger,
+    A: Ledger,
+    W: Wait + Print,
+>(
+    shared: &'h Shared<'s, N, C, R, D, A, W>,
+    desks: &'d mut [Desk<C, R, D, A>],
+    commands: &'c [Command<'n>],
     before: Seen,
     after: Seen,
 ) -> Result<(), Stopped> {
@@ -328,14 +353,7 @@ fn play_at<N: Naming, C: Ledger, R: Ledger, D: Ledger, A: Ledger, W: Wait + Prin
 }
 
 /// The commands on the store of these parts, and what its desk settles.
-fn play_in<
-    N: Naming,
-    C: Ledger,
-    R: Ledger,
-    D: Ledger,
-    A: Ledger,
-    W: AllocGlobal + Print + Wait,
->(
+fn play_in<N: Naming, C: Ledger, R: Ledger, D: Ledger, A: Ledger, W: AllocGlobal + Print + Wait>(
     rt: &W,
     parts: Parts,
     names: &Names,
@@ -352,21 +370,20 @@ fn play_in<
     let before = unseen(rt.alloc())?;
     let after = unseen(rt.alloc())?;
     let shared = Shared { rt, store: &store };
-    let mut handed = Desks {
-        shared: &shared,
-        totals: NOTHING,
-    };
-    play(rt, "Store", &mut handed)?;
+    play_desks(&shared)?;
     let mut desks = store.desks(rt, 1)?;
-    let played = play_at(&shared, desks.as_mut_slice(), commands.as_slice(), before, after);
+    let played = play_at(
+        &shared,
+        desks.as_mut_slice(),
+        commands.as_slice(),
+        before,
+        after,
+    );
     let settled = store.settle(rt, desks);
     played?;
     println!(rt;
         "Store settled: commands {}, received {}, closed {}, left {}",
-        settled.commands,
-        settled.received,
-        settled.closed,
-        settled.left
+        settled.commands, settled.received, settled.closed, settled.left
     )?;
     Ok(())
 }

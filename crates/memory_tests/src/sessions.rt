@@ -156,7 +156,11 @@ pub fn play_sessions<R: Print + AllocGlobal>(rt: &R) -> Result<(), Stopped> {
         Step::Start(1),
         Step::Fill(b"a", 1),
         Step::Fill(b"b", 2),
-        Step::FillLast(b"c", Algorithm::Sha256, 3),
+        Step::FillLast(
+            b"cdefghijklmnopqrstuvwxyzcdefghijklmnopqrstuvwxyzcdefghijklmnopqrstuvwxyzcdefghijklmnopqrstuvwxyz",
+            Algorithm::Sha256,
+            98,
+        ),
         Step::Start(2),
     ];
     let table = Table {

@@ -60,7 +60,10 @@ impl Calls for Slots {
 
     fn is_same(&mut self) -> bool {
         let seen = phases(&self.table);
-        let unplaced = self.blobs.last().map(|blob| self.table.find(&blob.digest()));
+        let unplaced = self
+            .blobs
+            .last()
+            .map(|blob| self.table.find(&blob.digest()));
         seen == self.seen && unplaced == Some(None)
     }
 

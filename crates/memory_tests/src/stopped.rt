@@ -2,8 +2,7 @@
 
 use blob_digest::Refusal;
 use std::alloc::{AllocError, AllocFailed};
-use std::fmt;
-use std::io;
+use std::{fmt, io};
 
 /// Why the calls end early.
 #[derive(Clone, Copy, PartialEq, Eq, Debug, Drop)]

@@ -293,11 +293,9 @@ impl Book {
 
     /// Links a blob that the tenant holds in the source or, without one, in any of its repositories, without
     /// an upload (OCI Distribution Specification 1.1, "Mounting a blob from another repository"). The
-    /// repository appears with it. Where the source is another tenant's, or isn't there, or doesn't hold the
-    /// blob, though another repository may, or where without a source no repository of the tenant holds it,
-    /// this opens a session in the repository, as `start` does. No bytes are copied; it takes the logarithm
-    /// of the number of links and of kept blobs, and a repository that appears moves those of its tenant
-    /// behind it.
+    /// repository appears with it. Where it isn't held there, though elsewhere perhaps, or the source is
+    /// another tenant's, this opens a session, as `start` does. No bytes are copied; it takes the logarithm
+    /// of the numbers of links and kept blobs, and a repository that appears moves its tenant's behind it.
     ///
     /// Refused, in this order: a tenant that is not there (`NameUnknown`); a tenant that has 1,024
     /// repositories where this one is new, and, where a session is opened, 64 sessions or no session

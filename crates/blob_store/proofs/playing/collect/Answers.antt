@@ -26,10 +26,10 @@ loop-outcome-preserved g c =
       list_room = omega (arith, was.list_room, c.push_reserved-in-Some.ensures.capacity);
       capacity = c.push_reserved.ensures.capacity ∙ was.capacity;
       played = λ both.
-        let parts = and_parts c.loop-outcome.whole c.in-Some.outcome.whole both in
-        let mine = at_last (λ k o. (w : ℕ) → w + k + 1 ≡ all → o.whole ≡ true → IsPlayed n w lines o.desk (answers_of o.replies.items)) c.pop.new.self.items c.in-Some.outcome each (length shown) place parts.1 in
-        let desk = subst (λ d. IsPlayed n (length shown) lines d (answers_of c.in-Some.outcome.replies.items)) (sym c.set_down.ensures) mine in
-        let more = played_more n lines c.loop-outcome.desks.items shown c.set_down.result (answers_of c.in-Some.outcome.replies.items) (was.played parts.0) desk in
-        let desks = subst (λ ds. ArePlayed n lines ds (shown ++ answers_of c.in-Some.outcome.replies.items ∷ [])) (sym c.push_reserved.ensures.items) more in
-        subst (ArePlayed n lines c.push_reserved.new.self.items) (sym (ap (map (λ v. answers_of v.items)) c.push_reserved-in-Some.ensures.items ∙ map-append (λ v. answers_of v.items) c.loop-outcome.lists.items (c.in-Some.outcome.replies ∷ []))) desks;
+          let parts = and_parts c.loop-outcome.whole c.in-Some.outcome.whole both in
+          let mine = at_last (λ k o. (w : ℕ) → w + k + 1 ≡ all → o.whole ≡ true → IsPlayed n w lines o.desk (answers_of o.replies.items)) c.pop.new.self.items c.in-Some.outcome each (length shown) place parts.1 in
+          let desk = subst (λ d. IsPlayed n (length shown) lines d (answers_of c.in-Some.outcome.replies.items)) (sym c.set_down.ensures) mine in
+          let more = played_more n lines c.loop-outcome.desks.items shown c.set_down.result (answers_of c.in-Some.outcome.replies.items) (was.played parts.0) desk in
+          let desks = subst (λ ds. ArePlayed n lines ds (shown ++ answers_of c.in-Some.outcome.replies.items ∷ [])) (sym c.push_reserved.ensures.items) more in
+          subst (ArePlayed n lines c.push_reserved.new.self.items) (sym (ap (map (λ v. answers_of v.items)) c.push_reserved-in-Some.ensures.items ∙ map-append (λ v. answers_of v.items) c.loop-outcome.lists.items (c.in-Some.outcome.replies ∷ []))) desks;
     }

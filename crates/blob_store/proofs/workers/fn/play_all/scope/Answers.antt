@@ -19,7 +19,7 @@ loop-job-preserved g c =
     record {
       jobs = at_first (λ k j. IsTurn n k j.worker.workers j.worker.number × IsReady n j.worker.number lines j.desk j.replies.items (vec_capacity j.replies)) c.pop.new.self.items c.in-Some.job jobs;
       children = subst (AllAt (λ w h. (h.promise.rows.now ≡ c.captures.rows.now) × (h.promise.worker.workers ≡ n) × (h.promise.worker.number ≡ w))) (sym c.push_reserved.ensures.items)
-        (at_pushed (λ w h. (h.promise.rows.now ≡ c.captures.rows.now) × (h.promise.worker.workers ≡ n) × (h.promise.worker.number ≡ w)) c.loop-job.children.items c.in-Ok-spawn_with.child was.children
+          (at_pushed (λ w h. (h.promise.rows.now ≡ c.captures.rows.now) × (h.promise.worker.workers ≡ n) × (h.promise.worker.number ≡ w)) c.loop-job.children.items c.in-Ok-spawn_with.child was.children
           (ap (λ p. p.rows.now) promised, ap (λ p. p.worker.workers) promised ∙ mine.0.among, ap (λ p. p.worker.number) promised ∙ number));
       all = omega (arith, was.all, count, c.push_reserved.ensures.len);
       room = omega (arith, was.room, c.push_reserved.ensures.capacity);
@@ -35,7 +35,7 @@ there-unplayed-requires g c κs within =
     let jobs = subst (AllAt (λ k j. IsTurn n k j.worker.workers j.worker.number × IsReady n j.worker.number lines j.desk j.replies.items (vec_capacity j.replies))) c.in-Some.ensures.items c.loop-job.invariant.jobs in
     let mine = at_last (λ k j. IsTurn n k j.worker.workers j.worker.number × IsReady n j.worker.number lines j.desk j.replies.items (vec_capacity j.replies)) c.pop.new.self.items c.in-Some.job jobs in
     let ready : IsReady c.in-Some.job.worker.workers c.in-Some.job.worker.number lines c.in-Some.job.desk c.in-Some.job.replies.items (vec_capacity c.in-Some.job.replies) =
-        subst (λ k. IsReady k c.in-Some.job.worker.number lines c.in-Some.job.desk c.in-Some.job.replies.items (vec_capacity c.in-Some.job.replies)) (sym mine.0.among) mine.1 in
+    subst (λ k. IsReady k c.in-Some.job.worker.number lines c.in-Some.job.desk c.in-Some.job.replies.items (vec_capacity c.in-Some.job.replies)) (sym mine.0.among) mine.1 in
     let same = c.in-Err.ensures.err in
     search rules
 
@@ -60,7 +60,7 @@ loop-child-preserved g c =
     record {
       children = at_first (λ w h. (h.promise.rows.now ≡ rows) × (h.promise.worker.workers ≡ n) × (h.promise.worker.number ≡ w)) left.items c.in-Some-pop.child children;
       outcomes = subst (AllAt (λ k o. (w : ℕ) → w + k + 1 ≡ total → o.whole ≡ true → IsPlayed n w lines o.desk (answers_of o.replies.items))) (sym c.push_reserved-in-Some-pop.ensures.items)
-        (at_pushed (λ k o. (w : ℕ) → w + k + 1 ≡ total → o.whole ≡ true → IsPlayed n w lines o.desk (answers_of o.replies.items)) c.loop-child.outcomes.items done
+          (at_pushed (λ k o. (w : ℕ) → w + k + 1 ≡ total → o.whole ≡ true → IsPlayed n w lines o.desk (answers_of o.replies.items)) c.loop-child.outcomes.items done
           (λ k d lt w at. was.outcomes k d lt w (at ∙ same))
           (λ w at. let number : length left.items ≡ w = omega (arith, at, more, left.ok.0, c.loop-child.outcomes.ok.0) in subst (λ k. done.whole ≡ true → IsPlayed n k lines done.desk (answers_of done.replies.items)) number of_one));
       all = omega (arith, was.all, count, more);
