@@ -43,7 +43,7 @@ pub fn refused(refusal: Refusal) -> Answer {
 
 /// What became of a call.
 #[derive(Clone, Copy, PartialEq, Eq, Debug)]
-enum Found {
+pub enum Found {
     /// It answered what it has to.
     Accepted,
     /// It found no memory once and had changed nothing, and then answered what it has to.
@@ -104,12 +104,24 @@ fn attempt<C: Calls>(calls: &mut C, place: usize) -> Found {
     }
 }
 
+/// Prints what became of a call: whose it is, its name and its place.
+pub fn print_found<R: Print>(
+    rt: &R,
+    whose: &str,
+    name: &str,
+    place: usize,
+    found: Found,
+) -> Result<(), Stopped> {
+    println!(rt; "{whose} {name} {place}: {found}")?;
+    Ok(())
+}
+
 /// Makes all calls in turn, and prints what becomes of each.
 pub fn play<R: Print, C: Calls>(rt: &R, whose: &str, calls: &mut C) -> Result<(), Stopped> {
     for place in 0..calls.count() {
         let found = attempt(calls, place);
         let name = calls.name(place);
-        println!(rt; "{whose} {name} {place}: {found}")?;
+        print_found(rt, whose, name, place, found)?;
     }
     Ok(())
 }

@@ -12,6 +12,7 @@ mod commands;
 mod links;
 mod makers;
 mod on_book;
+mod on_play;
 mod on_store;
 mod sessions;
 mod slots;
@@ -21,6 +22,7 @@ mod texts;
 use crate::links::play_links;
 use crate::makers::play_makers;
 use crate::on_book::play_on_book;
+use crate::on_play::play_on_play;
 use crate::on_store::play_on_store;
 use crate::sessions::play_sessions;
 use crate::slots::play_slots;
@@ -30,6 +32,7 @@ use std::alloc::{AllocError, AllocGlobal, Global};
 use std::io::{Print, Read};
 use std::process::ExitCode;
 use std::sync::Wait;
+use std::thread::Threads;
 
 /// The number that standard input has; 0 where it has none.
 fn number_given(rt: &HostRuntime) -> u64 {
@@ -55,7 +58,10 @@ fn grow(alloc: Global, count: u64) -> Result<(), AllocError> {
 }
 
 /// Makes the growths that come first, and then all calls.
-fn play_all<R: Print + AllocGlobal + Wait>(rt: &R, first: u64) -> Result<(), Stopped> {
+fn play_all<R: Print + AllocGlobal + Threads + Wait + Sync>(
+    rt: &R,
+    first: u64,
+) -> Result<(), Stopped> {
     grow(rt.alloc(), first)?;
     play_makers(rt)?;
     play_texts(rt)?;
@@ -63,7 +69,8 @@ fn play_all<R: Print + AllocGlobal + Wait>(rt: &R, first: u64) -> Result<(), Sto
     play_slots(rt)?;
     play_links(rt)?;
     play_on_book(rt)?;
-    play_on_store(rt)
+    play_on_store(rt)?;
+    play_on_play(rt)
 }
 
 fn main(rt: HostRuntime) -> ExitCode {
