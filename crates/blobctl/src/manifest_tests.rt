@@ -71,7 +71,14 @@ pub fn writes_filled(
 {
     let script = filled(alloc, script).expect(rt, "memory");
     let wanted = filled(alloc, wanted).expect(rt, "memory");
-    writes(rt, alloc, words, workers, script.as_bytes(), wanted.as_str());
+    writes(
+        rt,
+        alloc,
+        words,
+        workers,
+        script.as_bytes(),
+        wanted.as_str(),
+    );
 }
 
 /// A run by these arguments writes this text for a script whose replies are the same with one worker and

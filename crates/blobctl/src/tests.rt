@@ -90,7 +90,13 @@ fn options_are_read(rt: HostRuntime) {
         tenants.as_slice(),
     );
     let most = [("a", 1_125_899_906_842_624)];
-    let words = ["--slots", "65536", "--max-blob=0", "--workers=64", "a=1125899906842624"];
+    let words = [
+        "--slots",
+        "65536",
+        "--max-blob=0",
+        "--workers=64",
+        "a=1125899906842624",
+    ];
     gives(
         &rt,
         alloc,
