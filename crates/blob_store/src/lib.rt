@@ -1,11 +1,12 @@
-//! The store that threads share: the book with its totals under one lock, the desks of those who use it, and
-//! their leases.
+//! The store that threads share: the book with its totals under one lock, the desks of those who use it, their
+//! leases, and the workers that play a script on it.
 //!
 //! It stands on `store_book`, whose outcomes its contracts name, on `upload_table` for sessions in hand, on
-//! `pin_table` for the pins of leases, and on std's ledgers, whose shares the desks hold. Each time the lock is
-//! got, the book is sound, and the bytes received are those in sessions, closed and abandoned. What a desk
-//! got is what its accepted commands come to; once all desks are settled, the sums of their shares are the
-//! totals. A lease is read, shared and given back without the lock.
+//! `pin_table` for the pins of leases, on `row_player` for the rows that workers play, and on std's ledgers, whose
+//! shares the desks hold. Each time the lock is got, the book is sound, and the bytes received are those in sessions,
+//! closed and abandoned. What a desk got is what its accepted commands come to; once all desks are settled, the sums
+//! of their shares are the totals. A lease is read, shared and given back without the lock. Workers answer each row
+//! of a script once, in the order of the rows.
 #![tactic(auto)]
 
 mod carried;
@@ -42,6 +43,7 @@ pub use lease::Lease;
 pub use names::Naming;
 pub use parts::Parts;
 pub use playing::{MAX_WORKERS, Played, play};
+pub use row_player::{Gate, OpenGate, Reply, Row, Verb};
 pub use seat::Seat;
 pub use store::Store;
 pub use totals::Totals;
