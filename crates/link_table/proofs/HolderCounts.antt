@@ -1,11 +1,12 @@
--- What a link more or less does to the counts of those that hold a digest.
-use Rattle.std.proofs.Common.{◌≡◌, ℕ, ◌+◌, ◌<◌, ◌≤◌, Bool, true, false, cond, ◌&&◌, ◌||◌, ◌==◌, nat_lt, List, [], ◌∷◌, length, map, filter, Option, None, Some, is_some, refl, sym, ap, ◌∙◌, arith}
+-- What a link more or less does to the counts of those that hold a digest, each tenant's in a map of its own.
+use Rattle.std.proofs.Common.{◌≡◌, ℕ, ◌+◌, ◌<◌, ◌≤◌, Bool, true, false, cond, ◌&&◌, ◌||◌, ◌==◌, nat_lt, List, [], ◌∷◌, length, map, filter, get_or, set, Option, None, Some, is_some, refl, sym, ap, ◌∙◌, arith, subst, length-set}
+use Prim.Native.Nat.{zero, suc}
 use Rattle.std.specs.Prelude.{T, slice_get, count_by, unwrap_or, nat_eq}
-use Rattle.std.specs.Option.{option_eq}
-use Rattle.std.specs.List.{list_any, AllByRecursion, IsDistinct}
+use Rattle.std.specs.Option.{option_eq, option_map_or}
+use Rattle.std.specs.List.{All, list_any, AllByRecursion, IsDistinct}
 use Rattle.std.specs.Set.{is_member}
-use Rattle.std.specs.Ordering.{nat_cmp, eq_by_cmp, is_eq}
-use Rattle.std.specs.Cmp.{tied_then, tied_itself, unsigned_tied, eq_by_cmp_equiv}
+use Rattle.std.specs.Ordering.{eq_by_cmp, is_eq}
+use Rattle.std.specs.Cmp.{tied_itself, eq_by_cmp_equiv}
 use Rattle.std.specs.Cmp.Lexicographic.{nat_list_cmp_total, texts_ties}
 use Rattle.std.specs.BTreeMap as tree
 use Rattle.std.specs.Map.{lookup}
@@ -13,14 +14,16 @@ use Rattle.std.proofs.lemmas.Bool.{eqb-true, eq-eqb, and_parts, and_from, true�
 use Rattle.std.proofs.lemmas.Bool.Decides.{nat_tests}
 use Rattle.std.proofs.lemmas.List.{length-map}
 use Rattle.std.proofs.lemmas.List.Sums.{sum_by-cons, length-filter}
+use Rattle.std.proofs.lemmas.Option.{slice_get_read, slice_get_within, get_or_from_slice_get}
 use Rattle.std.proofs.lemmas.Map.Made.{length-le_from_is_member}
 use Rattle.blob_digest.specs.Keys.{Text, Link, text_cmp, link_cmp, same_text}
 use Rattle.blob_digest.specs.Rows.{IsApart}
 use Rattle.blob_digest.specs.Sets as sets
 use Rattle.blob_digest.proofs.KeyOrders.{link_cmp_total, exact_link, text_is_same, same_text_is, tied_text}
+use Rattle.blob_digest.proofs.OptionLemmas.{some_none}
 use Rattle.blob_digest.proofs.SortedRows.{IsApart-sorted}
 use Rattle.link_table.specs.Linked.{Tenant, tenant_of, is_tenants}
-use Rattle.link_table.specs.Holders.{Holding, holding_cmp, count_of, is_key, is_held, Counts}
+use Rattle.link_table.specs.Holders.{count_in, count_of, is_held, Counts}
 use Rattle.link_table.specs.TenantRepos.{Owned, IsOwned, links_shown, count}
 use Rattle.link_table.proofs.TenantRepos.{option_eq_some, links-there}
 use Rattle.std.specs.FinMap.{FinMap, find, get, insert, remove, entries, get-entries, entries_sorted, is_sorted, contains_key-keys}
@@ -28,46 +31,95 @@ use Rattle.blob_digest.proofs.MapSums.{sum_new, sum_split}
 
 -- ---- one count
 
-tie_is_key : (t : ℕ) (d : Text) (u : ℕ) (e : Text) → tree.is_at (holding_cmp (t, d)) (u, e) ≡ is_key t d u e
-tie_is_key t d u e = sym (tied_then (nat_cmp t u) (text_cmp d e)) ∙ (λ i. unsigned_tied t u i && sym (texts_ties d e) i)
-
 unwrapped : (b : Bool) (w o : Option ℕ) → unwrap_or (cond b w o) 0 ≡ cond b (unwrap_or w 0) (unwrap_or o 0)
 unwrapped true w o = refl
 unwrapped false w o = refl
 
 -- a map that has something else at one key
-count_of-update : (old new : tree.BTreeMap Holding ℕ) (t : ℕ) (d : Text) (w : Option ℕ) → ((q : Holding) → tree.get holding_cmp new q ≡ cond (tree.is_at (holding_cmp (t, d)) q) w (tree.get holding_cmp old q)) →
-    (u : ℕ) (e : Text) → count_of new u e ≡ cond (is_key t d u e) (unwrap_or w 0) (count_of old u e)
-count_of-update old new t d w put u e =
-    ap (λ o. unwrap_or o 0) (put (u, e)) ∙ unwrapped (tree.is_at (holding_cmp (t, d)) (u, e)) w (tree.get holding_cmp old (u, e))
-    ∙ ap (λ b. cond b (unwrap_or w 0) (count_of old u e)) (tie_is_key t d u e)
+module _ (old new : tree.BTreeMap Text ℕ) (d : Text) (w : Option ℕ) (put : (q : Text) → tree.get text_cmp new q ≡ cond (tree.is_at (text_cmp d) q) w (tree.get text_cmp old q)) where
+  count_in-update : (e : Text) → count_in new e ≡ cond (same_text d e) (unwrap_or w 0) (count_in old e)
+  count_in-update e =
+      ap (λ o. unwrap_or o 0) (put e) ∙ unwrapped (tree.is_at (text_cmp d) e) w (tree.get text_cmp old e)
+      ∙ ap (λ b. cond b (unwrap_or w 0) (count_in old e)) (sym (texts_ties d e))
+
+  -- the count at the key is one more
+  pub raised : unwrap_or w 0 ≡ count_in old d + 1 → (e : Text) → count_in new e ≡ count_in old e + cond (same_text d e) 1 0
+  raised is e = count_in-update e ∙ by_key (same_text d e) refl
+    where
+      by_key : (b : Bool) → same_text d e ≡ b → cond b (unwrap_or w 0) (count_in old e) ≡ count_in old e + cond b 1 0
+      by_key true key = is ∙ ap (λ k. count_in old k + 1) (text_is_same d e key)
+      by_key false key = omega arith
+
+  -- the count at the key is one less
+  pub lowered : unwrap_or w 0 + 1 ≡ count_in old d → (e : Text) → count_in new e + cond (same_text d e) 1 0 ≡ count_in old e
+  lowered is e = ap (λ n. n + cond (same_text d e) 1 0) (count_in-update e) ∙ by_key (same_text d e) refl
+    where
+      by_key : (b : Bool) → same_text d e ≡ b → cond b (unwrap_or w 0) (count_in old e) + cond b 1 0 ≡ count_in old e
+      by_key true key = is ∙ ap (count_in old) (text_is_same d e key)
+      by_key false key = omega arith
+
+-- ---- a list of which one element was put anew
+
+slice_get-set_same : {A : Type 0} (xs : List A) (t : ℕ) (old new : A) → slice_get xs t ≡ Some old → slice_get (set xs t new) t ≡ Some new
+slice_get-set_same [] t old new at = some_none (sym at)
+slice_get-set_same (x ∷ xs) zero old new at = refl
+slice_get-set_same (x ∷ xs) (suc t) old new at = slice_get-set_same xs t old new at
+
+slice_get-set_other : {A : Type 0} (xs : List A) (t u : ℕ) (new : A) → (t ≡ u → ⊥) → slice_get (set xs t new) u ≡ slice_get xs u
+slice_get-set_other [] t u new differ = refl
+slice_get-set_other (x ∷ xs) zero zero new differ = absurd (differ refl)
+slice_get-set_other (x ∷ xs) zero (suc u) new differ = refl
+slice_get-set_other (x ∷ xs) (suc t) zero new differ = refl
+slice_get-set_other (x ∷ xs) (suc t) (suc u) new differ = slice_get-set_other xs t u new (λ e. differ (ap suc e))
+
+-- ---- one tenant's counts
+
+-- whether this is the tenant and the digest
+abbrev is_key : ℕ → Text → ℕ → Text → Bool
+is_key t d u e = (t == u) && same_text d e
 
 -- the key itself
-pub is_key_itself : (t : ℕ) (d : Text) → is_key t d t d ≡ true
+is_key_itself : (t : ℕ) (d : Text) → is_key t d t d ≡ true
 is_key_itself t d = and_from (t == t) (same_text d d) (eq-eqb t t refl) (same_text_is d d refl)
 
-same_count : (m : tree.BTreeMap Holding ℕ) (t : ℕ) (d : Text) (u : ℕ) (e : Text) → is_key t d u e ≡ true → count_of m t d ≡ count_of m u e
-same_count m t d u e is =
-    let parts = and_parts (t == u) (same_text d e) is in
-    (λ i. count_of m (eqb-true t u parts.0 i) (text_is_same d e parts.1 i))
+module _ (holders : List (tree.BTreeMap Text ℕ)) (t : ℕ) (old : tree.BTreeMap Text ℕ) (at : slice_get holders t ≡ Some old) where
+  -- what the tenant's map has
+  count_of-at : (e : Text) → count_of holders t e ≡ count_in old e
+  count_of-at e = ap (λ o. option_map_or (λ m. count_in m e) o 0) at
 
--- the count at the key is one more
-pub raised : (old new : tree.BTreeMap Holding ℕ) (t : ℕ) (d : Text) (w : ℕ) → w ≡ count_of old t d + 1 → ((q : Holding) → tree.get holding_cmp new q ≡ cond (tree.is_at (holding_cmp (t, d)) q) (Some w) (tree.get holding_cmp old q)) →
-    (u : ℕ) (e : Text) → count_of new u e ≡ count_of old u e + cond (is_key t d u e) 1 0
-raised old new t d w is put u e = count_of-update old new t d (Some w) put u e ∙ by_key (is_key t d u e) refl
-  where
-    by_key : (b : Bool) → is_key t d u e ≡ b → cond b w (count_of old u e) ≡ count_of old u e + cond b 1 0
-    by_key true key = is ∙ ap (λ n. n + 1) (same_count old t d u e key)
-    by_key false key = omega arith
+  count_of-there : (u : ℕ) (e : Text) → (t == u) ≡ true → count_in old e ≡ count_of holders u e
+  count_of-there u e is = sym (count_of-at e) ∙ ap (λ k. count_of holders k e) (eqb-true t u is)
 
--- the count at the key is one less
-pub lowered : (old new : tree.BTreeMap Holding ℕ) (t : ℕ) (d : Text) (w : Option ℕ) → unwrap_or w 0 + 1 ≡ count_of old t d → ((q : Holding) → tree.get holding_cmp new q ≡ cond (tree.is_at (holding_cmp (t, d)) q) w (tree.get holding_cmp old q)) →
-    (u : ℕ) (e : Text) → count_of new u e + cond (is_key t d u e) 1 0 ≡ count_of old u e
-lowered old new t d w is put u e = ap (λ n. n + cond (is_key t d u e) 1 0) (count_of-update old new t d w put u e) ∙ by_key (is_key t d u e) refl
-  where
-    by_key : (b : Bool) → is_key t d u e ≡ b → cond b (unwrap_or w 0) (count_of old u e) + cond b 1 0 ≡ count_of old u e
-    by_key true key = is ∙ same_count old t d u e key
-    by_key false key = omega arith
+  -- another map in its place
+  count_of-set : (new : tree.BTreeMap Text ℕ) (u : ℕ) (e : Text) → count_of (set holders t new) u e ≡ cond (t == u) (count_in new e) (count_of holders u e)
+  count_of-set new u e = by_tenant (t == u) refl
+    where
+      by_tenant : (b : Bool) → (t == u) ≡ b → count_of (set holders t new) u e ≡ cond b (count_in new e) (count_of holders u e)
+      by_tenant true is = ap (λ k. count_of (set holders t new) k e) (sym (eqb-true t u is)) ∙ ap (λ o. option_map_or (λ m. count_in m e) o 0) (slice_get-set_same holders t old new at)
+      by_tenant false is = ap (λ o. option_map_or (λ m. count_in m e) o 0) (slice_get-set_other holders t u new (λ same. true≢false (sym (eq-eqb t u same) ∙ is)))
+
+  -- one with a count more, with one less, and with the same
+  module _ (new : tree.BTreeMap Text ℕ) (d : Text) where
+    more_of : ((e : Text) → count_in new e ≡ count_in old e + cond (same_text d e) 1 0) → (u : ℕ) (e : Text) → count_of (set holders t new) u e ≡ count_of holders u e + cond (is_key t d u e) 1 0
+    more_of more u e = count_of-set new u e ∙ by_tenant (t == u) refl
+      where
+        by_tenant : (b : Bool) → (t == u) ≡ b → cond b (count_in new e) (count_of holders u e) ≡ count_of holders u e + cond (b && same_text d e) 1 0
+        by_tenant true is = more e ∙ ap (λ n. n + cond (same_text d e) 1 0) (count_of-there u e is)
+        by_tenant false is = omega arith
+
+    less_of : ((e : Text) → count_in new e + cond (same_text d e) 1 0 ≡ count_in old e) → (u : ℕ) (e : Text) → count_of (set holders t new) u e + cond (is_key t d u e) 1 0 ≡ count_of holders u e
+    less_of less u e = ap (λ n. n + cond (is_key t d u e) 1 0) (count_of-set new u e) ∙ by_tenant (t == u) refl
+      where
+        by_tenant : (b : Bool) → (t == u) ≡ b → cond b (count_in new e) (count_of holders u e) + cond (b && same_text d e) 1 0 ≡ count_of holders u e
+        by_tenant true is = less e ∙ count_of-there u e is
+        by_tenant false is = omega arith
+
+  same_of : (new : tree.BTreeMap Text ℕ) → ((e : Text) → count_in new e ≡ count_in old e) → (u : ℕ) (e : Text) → count_of (set holders t new) u e ≡ count_of holders u e
+  same_of new same u e = count_of-set new u e ∙ by_tenant (t == u) refl
+    where
+      by_tenant : (b : Bool) → (t == u) ≡ b → cond b (count_in new e) (count_of holders u e) ≡ count_of holders u e
+      by_tenant true is = same e ∙ count_of-there u e is
+      by_tenant false is = refl
 
 -- ---- the counts of the links
 
@@ -79,9 +131,13 @@ counted_any p (x ∷ xs) = ap (nat_lt 0) (sum_by-cons (λ y. cond (p y) 1 0) x x
     by_test true rest = grind (arith, nat_tests)
     by_test false rest = (let same : 0 + count_by p xs ≡ count_by p xs = omega arith in ap (nat_lt 0) same) ∙ rest
 
+-- a tenant's map
+pub holders_at : (tenants : List Tenant) (links : FinMap link_cmp ℕ) (holders : List (tree.BTreeMap Text ℕ)) → Counts tenants links holders → (t : ℕ) → t < length tenants → (m : tree.BTreeMap Text ℕ) → m ≡ get_or holders t m → slice_get holders t ≡ Some m
+holders_at tenants links holders counts t lt m read = slice_get_read holders (length holders) t m refl (omega (arith, counts.one_each)) read
+
 -- whether a tenant holds a digest, as its count tells
-pub held-counted : (tenants : List Tenant) (links : FinMap link_cmp ℕ) (holders : tree.BTreeMap Holding ℕ) → Counts tenants links holders → (t : ℕ) (d : Text) → nat_lt 0 (count_of holders t d) ≡ list_any (is_held tenants t d) (entries links)
-held-counted tenants links holders counts t d = ap (nat_lt 0) (counts t d) ∙ counted_any (is_held tenants t d) (entries links)
+pub held-counted : (tenants : List Tenant) (links : FinMap link_cmp ℕ) (holders : List (tree.BTreeMap Text ℕ)) → Counts tenants links holders → (t : ℕ) (m : tree.BTreeMap Text ℕ) → slice_get holders t ≡ Some m → (d : Text) → nat_lt 0 (count_in m d) ≡ list_any (is_held tenants t d) (entries links)
+held-counted tenants links holders counts t m at d = ap (nat_lt 0) (sym (count_of-at holders t m at d) ∙ counts.counted t d) ∙ counted_any (is_held tenants t d) (entries links)
 
 swap_and : (a b : Bool) → (a && b) ≡ (b && a)
 swap_and true true = refl
@@ -93,51 +149,78 @@ swap_and false false = refl
 held_is_key : (tenants : List Tenant) (t : ℕ) (r d : Text) (n : ℕ) → is_tenants tenants t r ≡ true → (u : ℕ) (e : Text) → is_held tenants u e ((r, d), n) ≡ is_key t d u e
 held_is_key tenants t r d n own u e = ap (λ o. same_text d e && option_eq nat_eq o (Some u)) (option_eq_some (tenant_of tenants r) t own) ∙ swap_and (same_text d e) (t == u)
 
-module _ (tenants : List Tenant) (links : FinMap link_cmp ℕ) (old new : tree.BTreeMap Holding ℕ) (counts : Counts tenants links old) (t : ℕ) (r d : Text) (n : ℕ) (own : is_tenants tenants t r ≡ true) where
-  same_less : (a b k m : ℕ) → a + k ≡ m → m ≡ k + b → a ≡ b
-  same_less a b k m p q = omega arith
+module _ (tenants : List Tenant) (links : FinMap link_cmp ℕ) (holders : List (tree.BTreeMap Text ℕ)) (counts : Counts tenants links holders) (t : ℕ) (old : tree.BTreeMap Text ℕ) (at : slice_get holders t ≡ Some old) where
+  one_each_set : (new : tree.BTreeMap Text ℕ) → length (set holders t new) ≡ length tenants
+  one_each_set new = length-set holders t new ∙ counts.one_each
 
-  turned : (a b : ℕ) → a + b ≡ b + a
-  turned a b = omega arith
+  -- counts that didn't change
+  pub Counts-same : (new : tree.BTreeMap Text ℕ) → ((e : Text) → count_in new e ≡ count_in old e) → Counts tenants links (set holders t new)
+  Counts-same new same = record {
+    one_each = one_each_set new;
+    counted = λ u e. same_of holders t old at new same u e ∙ counts.counted u e;
+  }
 
-  -- a link more
-  pub Counts-insert : get links (r, d) ≡ None → ((u : ℕ) (e : Text) → count_of new u e ≡ count_of old u e + cond (is_key t d u e) 1 0) → Counts tenants (insert links (r, d) n) new
-  Counts-insert none more u e =
-      more u e ∙ (λ j. counts u e j + cond (sym (held_is_key tenants t r d n own u e) j) 1 0)
-      ∙ turned (count_by (is_held tenants u e) (entries links)) (cond (is_held tenants u e ((r, d), n)) 1 0)
-      ∙ sym (sum_new link_cmp_total exact_link (λ x. cond (is_held tenants u e x) 1 0) links (r, d) n none)
+  -- what was raised and lowered again is as before
+  pub Counts-back : (more back again : tree.BTreeMap Text ℕ) (d : Text) → ((e : Text) → count_in more e ≡ count_in old e + cond (same_text d e) 1 0) →
+      back ≡ get_or (set holders t more) t back → ((e : Text) → count_in again e + cond (same_text d e) 1 0 ≡ count_in back e) → Counts tenants links (set (set holders t more) t again)
+  Counts-back more back again d up read down =
+      let there = slice_get_read (set holders t more) (length (set holders t more)) t back refl (omega (arith, slice_get_within holders t old at, length-set holders t more)) read in record {
+        one_each = length-set (set holders t more) t again ∙ one_each_set more;
+        counted = λ u e. same_less (count_of (set (set holders t more) t again) u e) (count_of holders u e) (cond (is_key t d u e) 1 0) (less_of (set holders t more) t back there again d down u e ∙ more_of holders t old at more d up u e) ∙ counts.counted u e;
+      }
+    where
+      same_less : (a b k : ℕ) → a + k ≡ b + k → a ≡ b
+      same_less a b k p = omega arith
 
-  module _ (there : get links (r, d) ≡ Some n) where
-    before : (u : ℕ) (e : Text) → count_of old u e ≡ cond (is_key t d u e) 1 0 + count_by (is_held tenants u e) (entries (remove links (r, d)))
-    before u e =
-        counts u e ∙ sum_split link_cmp_total exact_link (λ x. cond (is_held tenants u e x) 1 0) links (r, d) n there
-        ∙ ap (λ b. cond b 1 0 + count_by (is_held tenants u e) (entries (remove links (r, d)))) (held_is_key tenants t r d n own u e)
+  module _ (new : tree.BTreeMap Text ℕ) (r d : Text) (n : ℕ) (own : is_tenants tenants t r ≡ true) where
+    same_less : (a b k m : ℕ) → a + k ≡ m → m ≡ k + b → a ≡ b
+    same_less a b k m p q = omega arith
 
-    -- what is linked is counted
-    pub some_counted : 0 < count_of old t d
-    some_counted =
-        let one : ◌≡◌ {A = ℕ} (cond (is_key t d t d) 1 0) 1 = ap (λ b. cond b 1 0) (is_key_itself t d) in
-        rw (before t d, one) (omega arith)
+    turned : (a b : ℕ) → a + b ≡ b + a
+    turned a b = omega arith
 
-    -- and afterwards counted once less
-    pub Counts-remove : ((u : ℕ) (e : Text) → count_of new u e + cond (is_key t d u e) 1 0 ≡ count_of old u e) → Counts tenants (remove links (r, d)) new
-    Counts-remove less u e = same_less (count_of new u e) (count_by (is_held tenants u e) (entries (remove links (r, d)))) (cond (is_key t d u e) 1 0) (count_of old u e) (less u e) (before u e)
+    -- a link more
+    pub Counts-insert : get links (r, d) ≡ None → ((e : Text) → count_in new e ≡ count_in old e + cond (same_text d e) 1 0) → Counts tenants (insert links (r, d) n) (set holders t new)
+    Counts-insert none more = record {
+      one_each = one_each_set new;
+      counted = λ u e.
+          more_of holders t old at new d more u e ∙ (λ j. counts.counted u e j + cond (sym (held_is_key tenants t r d n own u e) j) 1 0)
+          ∙ turned (count_by (is_held tenants u e) (entries links)) (cond (is_held tenants u e ((r, d), n)) 1 0)
+          ∙ sym (sum_new link_cmp_total exact_link (λ x. cond (is_held tenants u e x) 1 0) links (r, d) n none);
+    }
 
--- what was raised and lowered again is as before
-pub Counts-back : (tenants : List Tenant) (links : FinMap link_cmp ℕ) (old more back : tree.BTreeMap Holding ℕ) (t : ℕ) (d : Text) → Counts tenants links old →
-    ((u : ℕ) (e : Text) → count_of more u e ≡ count_of old u e + cond (is_key t d u e) 1 0) → ((u : ℕ) (e : Text) → count_of back u e + cond (is_key t d u e) 1 0 ≡ count_of more u e) → Counts tenants links back
-Counts-back tenants links old more back t d counts up down u e = same (count_of back u e) (count_of old u e) (cond (is_key t d u e) 1 0) (down u e ∙ up u e) ∙ counts u e
+    module _ (there : get links (r, d) ≡ Some n) where
+      before : (u : ℕ) (e : Text) → count_of holders u e ≡ cond (is_key t d u e) 1 0 + count_by (is_held tenants u e) (entries (remove links (r, d)))
+      before u e =
+          counts.counted u e ∙ sum_split link_cmp_total exact_link (λ x. cond (is_held tenants u e x) 1 0) links (r, d) n there
+          ∙ ap (λ b. cond b 1 0 + count_by (is_held tenants u e) (entries (remove links (r, d)))) (held_is_key tenants t r d n own u e)
+
+      -- what is linked is counted
+      pub some_counted : 0 < count_in old d
+      some_counted =
+          let one : ◌≡◌ {A = ℕ} (cond (is_key t d t d) 1 0) 1 = ap (λ b. cond b 1 0) (is_key_itself t d) in
+          rw (sym (count_of-at holders t old at d) ∙ before t d, one) (omega arith)
+
+      -- and afterwards counted once less
+      pub Counts-remove : ((e : Text) → count_in new e + cond (same_text d e) 1 0 ≡ count_in old e) → Counts tenants (remove links (r, d)) (set holders t new)
+      Counts-remove less = record {
+        one_each = one_each_set new;
+        counted = λ u e. same_less (count_of (set holders t new) u e) (count_by (is_held tenants u e) (entries (remove links (r, d)))) (cond (is_key t d u e) 1 0) (count_of holders u e) (less_of holders t old at new d less u e) (before u e);
+      }
+
+-- empty maps count no links
+pub Counts-opening : (tenants : List Tenant) (links : FinMap link_cmp ℕ) (holders : List (tree.BTreeMap Text ℕ)) → entries links ≡ [] → length holders ≡ length tenants → All tree.IsEmpty holders → Counts tenants links holders
+Counts-opening tenants links holders none many empty = record {
+  one_each = many;
+  counted = λ t d. nothing_at t d (slice_get holders t) refl ∙ sym (ap (count_by (is_held tenants t d)) none);
+}
   where
-    same : (a b k : ℕ) → a + k ≡ b + k → a ≡ b
-    same a b k p = omega arith
-
--- counts that didn't change
-pub Counts-same : (tenants : List Tenant) (links : FinMap link_cmp ℕ) (old new : tree.BTreeMap Holding ℕ) → Counts tenants links old → ((u : ℕ) (e : Text) → count_of new u e ≡ count_of old u e) → Counts tenants links new
-Counts-same tenants links old new counts same u e = same u e ∙ counts u e
-
--- an empty map counts no links
-pub Counts-opening : (tenants : List Tenant) (links : FinMap link_cmp ℕ) (holders : tree.BTreeMap Holding ℕ) → entries links ≡ [] → tree.IsEmpty holders → Counts tenants links holders
-Counts-opening tenants links holders none empty t d = ap (λ es. unwrap_or (lookup (tree.is_at (holding_cmp (t, d))) es) 0) empty ∙ sym (ap (count_by (is_held tenants t d)) none)
+    nothing_at : (t : ℕ) (d : Text) (o : Option (tree.BTreeMap Text ℕ)) → slice_get holders t ≡ o → option_map_or (λ m. count_in m d) o 0 ≡ 0
+    nothing_at t d None at = refl
+    nothing_at t d (Some m) at =
+        let is : get_or holders t m ≡ m = get_or_from_slice_get holders t m m at in
+        let none_in : m.entries ≡ [] = subst tree.IsEmpty is (empty t m (slice_get_within holders t m at)) in
+        ap (λ es. unwrap_or (lookup (tree.is_at (text_cmp d)) es) 0) none_in
 
 -- ---- a tenant's repositories bound its counts
 
@@ -204,6 +287,6 @@ module _ (tenants : List Tenant) (t : ℕ) (d : Text) where
       from_T false h = absurd h
 
 -- a tenant's count of a digest is at most the number of its repositories
-pub count_of-most : (tenants : List Tenant) (by_tenant : List Owned) → IsOwned tenants by_tenant → (holders : tree.BTreeMap Holding ℕ) → Counts tenants (links_shown by_tenant) holders → (t : ℕ) (s : Owned) → slice_get by_tenant t ≡ Some s → (d : Text) → count_of holders t d ≤ count s
-count_of-most tenants by_tenant owned holders counts t s at d =
-    rw (counts t d) (held_within tenants t d (links_shown by_tenant) s.repos (λ r own there. owned.known t s r d at (ap is_some (sym (links-there tenants by_tenant owned t s at r own d)) ∙ there)))
+pub count_in-most : (tenants : List Tenant) (by_tenant : List Owned) → IsOwned tenants by_tenant → (holders : List (tree.BTreeMap Text ℕ)) → Counts tenants (links_shown by_tenant) holders → (t : ℕ) (s : Owned) → slice_get by_tenant t ≡ Some s → (m : tree.BTreeMap Text ℕ) → slice_get holders t ≡ Some m → (d : Text) → count_in m d ≤ count s
+count_in-most tenants by_tenant owned holders counts t s at m there d =
+    rw (sym (count_of-at holders t m there d) ∙ counts.counted t d) (held_within tenants t d (links_shown by_tenant) s.repos (λ r own there. owned.known t s r d at (ap is_some (sym (links-there tenants by_tenant owned t s at r own d)) ∙ there)))

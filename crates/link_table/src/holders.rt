@@ -1,47 +1,62 @@
-//! How many repositories of each tenant hold each digest.
+//! How many repositories of a tenant hold each digest.
 
-ghost use Rattle.std.specs.Prelude.{◌≡◌, ℕ, ◌+◌, ◌-◌, ◌<◌, ◌^◌, OnOk, OnErr, IfErr, if◌then◌else◌};
-ghost use Rattle.blob_digest.specs.Keys.{Text};
+ghost use Rattle.std.specs.Prelude.{◌≡◌, ◌+◌, ◌-◌, ◌<◌, ◌^◌, OnOk, OnErr, IfOk, IfErr, length, if◌then◌else◌};
+ghost use Rattle.std.specs.List.{All};
+ghost use Rattle.std.specs.BTreeMap as tree;
+ghost use Rattle.blob_digest.specs.Keys.{Text, same_text};
 ghost use Rattle.blob_digest.specs.declared.refusal.Refusal.TheVariants.{Memory};
-ghost use Rattle.link_table.specs.Holders.{count_of, is_key};
+ghost use Rattle.link_table.specs.Holders.{count_in};
 
 use blob_digest::{Digest, Refusal};
+use std::alloc::Global;
 use std::collections::BTreeMap;
 
-/// The number of the repositories of a tenant that hold a digest, where there is one.
-pub type Holders = BTreeMap<(u16, Digest), u64>;
+/// For each digest that some repositories of a tenant hold, how many do.
+pub type Holders = BTreeMap<Digest, u64>;
+
+/// As many tenants, of which none holds a digest.
+pub fn no_holders(alloc: Global, count: usize) -> Result<Vec<Holders>, Refusal>
+    ensures ok { IfOk result (λ v. (length v.items ≡ count) × All tree.IsEmpty v.items) }
+    ensures refused { IfErr result (λ e. e ≡ Memory) }
+{
+    let mut holders = Vec::with_capacity(alloc, count)?;
+    for _ in 0..count {
+        holders.push(BTreeMap::new(alloc))?;
+    }
+    Ok(holders)
+}
 
 /// How many repositories of a tenant hold a digest.
-pub fn holders_of(holders: &Holders, tenant: u16, digest: &Digest) -> u64
-    ensures { result ≡ count_of holders.now tenant digest.now }
+pub fn holders_of(holders: &Holders, digest: &Digest) -> u64
+    ensures { result ≡ count_in holders.now digest.now }
 {
-    holders.get(&(tenant, *digest)).copied().unwrap_or(0)
+    holders.get(digest).copied().unwrap_or(0)
 }
 
 /// One more repository of a tenant holds a digest. Refused is want of memory alone, and then nothing
 /// has changed.
-pub fn raise(holders: &mut Holders, tenant: u16, digest: &Digest) -> Result<(), Refusal>
-    requires { count_of holders.old tenant digest.now + 1 < 2 ^ 64 }
-    ensures ok { OnOk result ((t : ℕ) (d : Text) → count_of holders.new t d ≡ count_of holders.old t d + (if is_key tenant digest.now t d then 1 else 0)) }
-    ensures err { OnErr result ((t : ℕ) (d : Text) → count_of holders.new t d ≡ count_of holders.old t d) }
+pub fn raise(holders: &mut Holders, digest: &Digest) -> Result<(), Refusal>
+    requires { count_in holders.old digest.now + 1 < 2 ^ 64 }
+    ensures ok { OnOk result ((d : Text) → count_in holders.new d ≡ count_in holders.old d + (if same_text digest.now d then 1 else 0)) }
+    ensures err { OnErr result ((d : Text) → count_in holders.new d ≡ count_in holders.old d) }
     ensures refused { IfErr result (λ e. e ≡ Memory) }
 {
-    let count = holders_of(holders, tenant, digest) + 1;
-    holders.insert((tenant, *digest), count)?;
+    let count = holders_of(holders, digest) + 1;
+    holders.insert(*digest, count)?;
     Ok(())
 }
 
 /// One repository of a tenant less holds a digest. It takes no memory.
-pub fn lower(holders: &mut Holders, tenant: u16, digest: &Digest)
-    requires { 0 < count_of holders.old tenant digest.now }
-    ensures { (t : ℕ) (d : Text) → count_of holders.new t d + (if is_key tenant digest.now t d then 1 else 0) ≡ count_of holders.old t d }
+pub fn lower(holders: &mut Holders, digest: &Digest)
+    requires { 0 < count_in holders.old digest.now }
+    ensures { (d : Text) → count_in holders.new d + (if same_text digest.now d then 1 else 0) ≡ count_in holders.old d }
 {
-    let count = holders_of(holders, tenant, digest);
+    let count = holders_of(holders, digest);
     if count == 1 {
-        holders.remove(&(tenant, *digest));
+        holders.remove(digest);
         return;
     }
-    match holders.insert((tenant, *digest), count - 1) {
+    match holders.insert(*digest, count - 1) {
         Ok(_) => {}
         Err(_) => unreachable!(),
     }

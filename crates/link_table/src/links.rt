@@ -10,7 +10,7 @@ ghost use Rattle.link_table.specs.Linked.{is_tenants, known_tenant, used_in, quo
 ghost use Rattle.link_table.specs.Tenancy.{Opens, AreTenants, RefusesTenants, tenants_shown};
 
 use crate::blobs::Blobs;
-use crate::holders::{Holders, holders_of, lower, raise};
+use crate::holders::{Holders, holders_of, lower, no_holders, raise};
 use crate::manifest_table::ManifestTable;
 use crate::manifests::Manifests;
 use crate::tenant_repos::TenantRepos;
@@ -19,7 +19,6 @@ use crate::weigh::{weight_with, weight_without};
 use blob_digest::{Digest, Refusal, RepoName};
 use oci_manifest::Manifest;
 use std::alloc::Global;
-use std::collections::BTreeMap;
 use std::marker::Model;
 use std::sync::Arc;
 
@@ -31,15 +30,15 @@ use std::sync::Arc;
 /// bytes. Each tenant has its repositories in the order of their names, and each repository its blobs
 /// in an ordered map and its manifests in another. To find a repository takes the logarithm of the
 /// numbers of tenants and of the tenant's repositories, and one that comes or goes moves those of its
-/// tenant behind it, at most 1,024. The table counts for each tenant and digest how many repositories
-/// hold it, and finds a count in the logarithm of their number.
+/// tenant behind it, at most 1,024. Each tenant has a count for each digest that its repositories hold,
+/// of how many do, which is found in the logarithm of the number of those digests.
 #[derive(Drop)]
 pub struct Links {
     alloc: Global,
     tenants: Vec<(String, u64)>,
     repos: Vec<TenantRepos>,
     manifests: ManifestTable,
-    holders: Holders,
+    holders: Vec<Holders>,
     weights: Vec<u64>,
     charges: Vec<u64>,
 }
@@ -59,7 +58,7 @@ impl Model for Links {
 
     ghost view = { λ a. record { tenants = tenants_shown a.tenants.items; repos = repos_shown a.repos.items; links = links_shown a.repos.items; manifests = a.manifests; charges = a.charges.items } };
 
-    ghost invariant = { λ a. IsSound (tenants_shown a.tenants.items) (links_shown a.repos.items) a.weights.items a.charges.items × IsOwned (tenants_shown a.tenants.items) a.repos.items × Counts (tenants_shown a.tenants.items) (links_shown a.repos.items) a.holders };
+    ghost invariant = { λ a. IsSound (tenants_shown a.tenants.items) (links_shown a.repos.items) a.weights.items a.charges.items × IsOwned (tenants_shown a.tenants.items) a.repos.items × Counts (tenants_shown a.tenants.items) (links_shown a.repos.items) a.holders.items };
 }
 
 /// As many tenants without repositories.
@@ -90,12 +89,13 @@ impl Links {
         let weights = vec![in alloc; 0u64; count]?;
         let charges = vec![in alloc; 0u64; count]?;
         let repos = no_repos(alloc, count)?;
+        let holders = no_holders(alloc, count)?;
         Ok(Links {
             alloc,
             tenants,
             repos,
             manifests: ManifestTable::new(alloc),
-            holders: BTreeMap::new(alloc),
+            holders,
             weights,
             charges,
         })
@@ -198,8 +198,8 @@ impl Links {
     }
 
     /// Links a blob of this digest and size in a repository of a tenant, and answers whether the
-    /// link is new. Want of memory is refused. Beside finding the repository and the count of those that
-    /// hold the digest, it takes the logarithm of the number of the repository's blobs.
+    /// link is new. Want of memory is refused. Beside finding the repository, it takes the logarithm of
+    /// the number of digests that the tenant holds.
     pub fn link(
         &mut self,
         tenant: u16,
@@ -217,11 +217,11 @@ impl Links {
         if self.repos[tenant as usize].holds(repo, digest) {
             return Ok(false);
         }
-        let held = holders_of(&self.holders, tenant, digest) > 0;
+        let held = holders_of(&self.holders[tenant as usize], digest) > 0;
         let weight = weight_with(self.weights[tenant as usize], held, size);
-        raise(&mut self.holders, tenant, digest)?;
+        raise(&mut self.holders[tenant as usize], digest)?;
         if let Err(e) = self.repos[tenant as usize].link(repo, digest, size) {
-            lower(&mut self.holders, tenant, digest);
+            lower(&mut self.holders[tenant as usize], digest);
             return Err(e);
         }
         self.weights[tenant as usize] = weight;
@@ -237,8 +237,8 @@ impl Links {
     {
         match self.repos[tenant as usize].unlink(repo, digest) {
             Some(size) => {
-                lower(&mut self.holders, tenant, digest);
-                let held = holders_of(&self.holders, tenant, digest) > 0;
+                lower(&mut self.holders[tenant as usize], digest);
+                let held = holders_of(&self.holders[tenant as usize], digest) > 0;
                 self.weights[tenant as usize] = weight_without(
                     self.weights[tenant as usize],
                     held,
@@ -260,12 +260,13 @@ impl Links {
         }
     }
 
-    /// Whether some repository of a tenant holds the blob of a digest: whether its count isn't 0.
+    /// Whether some repository of a tenant holds the blob of a digest: whether its count isn't 0. It takes
+    /// the logarithm of the number of digests that the tenant holds.
     pub fn tenant_holds(&self, tenant: u16, digest: &Digest) -> bool
         requires { tenant < length self.now.tenants }
         ensures { result ≡ fmap.contains_key (blobs_of self.now tenant) digest.now }
     {
-        holders_of(&self.holders, tenant, digest) > 0
+        holders_of(&self.holders[tenant as usize], digest) > 0
     }
 
     /// The i-th repository of a tenant, in the order of their names, from 0. It takes the same time for

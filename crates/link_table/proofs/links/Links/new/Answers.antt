@@ -18,11 +18,13 @@ invariant_of-result c =
     let w : c.in_ok-weights.weights.items ≡ replicate (length c.in_ok-tenants.tenants.items) 0 = search rules in
     let k : c.in_ok-charges.charges.items ≡ replicate (length c.in_ok-tenants.tenants.items) 0 = search rules in
     let s = rw c.as_slice-count.ensures.value at c.in_ok-repos.ensures.ok in
+    let holders = rw c.as_slice-count.ensures.value at c.in_ok-holders.ensures.ok in
     let links = ap links_shown s ∙ links-opening (length c.in_ok-tenants.tenants.items) in (
       IsSound-opening tenants (links_shown c.in_ok-repos.repos.items) c.in_ok-weights.weights.items c.in_ok-charges.charges.items
           c.in_ok-tenants.ensures.kept links (w ∙ ap (λ m. replicate m 0) (sym n)) (k ∙ ap (λ m. replicate m 0) (sym n)),
       IsOwned-opening tenants c.in_ok-repos.repos.items (length c.in_ok-tenants.tenants.items) (sym n) s,
-      Counts-opening tenants (links_shown c.in_ok-repos.repos.items) c.new-2.result (ap entries links ∙ entries-empty link_cmp ℕ) c.new-2.ensures.empty,
+      Counts-opening tenants (links_shown c.in_ok-repos.repos.items) c.in_ok-holders.holders.items (ap entries links ∙ entries-empty link_cmp ℕ)
+          (holders.0 ∙ sym n) holders.1,
     )
 
 pub returns-clause-opened : goal.returns-clause-opened

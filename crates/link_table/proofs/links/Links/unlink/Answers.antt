@@ -1,9 +1,9 @@
-use Rattle.std.proofs.Common.{◌∙◌, ap, sym, is_some, nat_lt}
+use Rattle.std.proofs.Common.{◌∙◌, ap, sym, set, is_some, nat_lt}
 use Rattle.std.proofs.lemmas.Bool.{false≢true}
 use Rattle.std.specs.FinMap.{remove}
 use Rattle.link_table.specs.TenantRepos.{Owned, links_shown}
 use Rattle.link_table.specs.Tenancy.{tenants_shown}
-use Rattle.link_table.proofs.HolderCounts.{held-counted, some_counted, Counts-remove}
+use Rattle.link_table.proofs.HolderCounts.{holders_at, held-counted, some_counted, Counts-remove}
 use Rattle.link_table.proofs.TenantRepos.{links-there, links-remove, repos-same}
 use Rattle.link_table.proofs.Soundness.{contains-blob, light_enough, IsSound-unlink}
 use Rattle.link_table.proofs.Tables.{owned_at, IsOwned-unlink}
@@ -13,11 +13,13 @@ pub lower-requires : goal.lower-requires
 lower-requires c =
     let tenants = tenants_shown c.self.inside.tenants.items in
     let by_tenant = c.self.inside.repos.items in
+    let lt = rw (← c.self.view_is) at c.requires.there in
     let own = rw (← c.self.view_is) at c.requires.own in
     let s = c.index_mut.result.now in
-    let at = owned_at tenants by_tenant c.self.invariant.1 c.args.tenant (rw (← c.self.view_is) at c.requires.there) s c.index_mut.ensures.value in
+    let at = owned_at tenants by_tenant c.self.invariant.1 c.args.tenant lt s c.index_mut.ensures.value in
     let there = links-there tenants by_tenant c.self.invariant.1 c.args.tenant s at c.args.repo.now own c.args.digest.now ∙ sym c.in-Some.ensures.value in
-    some_counted tenants (links_shown by_tenant) c.self.inside.holders c.self.inside.holders c.self.invariant.2 c.args.tenant c.args.repo.now c.args.digest.now c.in-Some.size own there
+    let counted = holders_at tenants (links_shown by_tenant) c.self.inside.holders.items c.self.invariant.2 c.args.tenant lt c.index_mut-in-Some.result.now c.index_mut-in-Some.ensures.value in
+    some_counted tenants (links_shown by_tenant) c.self.inside.holders.items c.self.invariant.2 c.args.tenant c.index_mut-in-Some.result.now counted c.index_mut-in-Some.result.now c.args.repo.now c.args.digest.now c.in-Some.size own there
 
 pub weight_without-requires : goal.weight_without-requires
 weight_without-requires c =
@@ -29,9 +31,12 @@ weight_without-requires c =
     let at = owned_at tenants by_tenant c.self.invariant.1 c.args.tenant lt s c.index_mut.ensures.value in
     let there = links-there tenants by_tenant c.self.invariant.1 c.args.tenant s at c.args.repo.now own c.args.digest.now ∙ sym c.in-Some.ensures.value in
     let without = remove (links_shown by_tenant) (c.args.repo.now, c.args.digest.now) in
-    let counts = Counts-remove tenants (links_shown by_tenant) c.self.inside.holders c.lower.new.holders c.self.invariant.2 c.args.tenant c.args.repo.now c.args.digest.now c.in-Some.size own there c.lower.ensures in
-    let held = ap (nat_lt 0) c.holders_of-held.ensures ∙ held-counted tenants without c.lower.new.holders counts c.args.tenant c.args.digest.now ∙ sym (contains-blob tenants c.args.tenant c.args.digest.now without) in
-    light_enough tenants (links_shown by_tenant) c.self.inside.weights.items c.self.inside.charges.items c.self.invariant.0 c.args.tenant lt c.args.repo.now c.args.digest.now c.in-Some.size own there (nat_lt 0 c.holders_of-held.result) held c.index.result.now c.index.ensures
+    let before = holders_at tenants (links_shown by_tenant) c.self.inside.holders.items c.self.invariant.2 c.args.tenant lt c.index_mut-in-Some.result.now c.index_mut-in-Some.ensures.value in
+    let counts = Counts-remove tenants (links_shown by_tenant) c.self.inside.holders.items c.self.invariant.2 c.args.tenant c.index_mut-in-Some.result.now before c.lower.new.holders c.args.repo.now c.args.digest.now c.in-Some.size own there c.lower.ensures in
+    let holders = set c.self.inside.holders.items c.args.tenant c.lower.new.holders in
+    let after = holders_at tenants without holders counts c.args.tenant lt c.index.result.now c.index.ensures in
+    let held = ap (nat_lt 0) c.holders_of-held.ensures ∙ held-counted tenants without holders counts c.args.tenant c.index.result.now after c.args.digest.now ∙ sym (contains-blob tenants c.args.tenant c.args.digest.now without) in
+    light_enough tenants (links_shown by_tenant) c.self.inside.weights.items c.self.inside.charges.items c.self.invariant.0 c.args.tenant lt c.args.repo.now c.args.digest.now c.in-Some.size own there (nat_lt 0 c.holders_of-held.result) held c.index-in-Some.result.now c.index-in-Some.ensures
 
 pub invariant_of-self : goal.invariant_of-self
 invariant_of-self c =
@@ -43,11 +48,14 @@ invariant_of-self c =
     let at = owned_at tenants by_tenant c.self.invariant.1 c.args.tenant lt s c.index_mut.ensures.value in
     let there = links-there tenants by_tenant c.self.invariant.1 c.args.tenant s at c.args.repo.now own c.args.digest.now ∙ sym c.in-Some.ensures.value in
     let without = remove (links_shown by_tenant) (c.args.repo.now, c.args.digest.now) in
-    let counts = Counts-remove tenants (links_shown by_tenant) c.self.inside.holders c.lower.new.holders c.self.invariant.2 c.args.tenant c.args.repo.now c.args.digest.now c.in-Some.size own there c.lower.ensures in
-    let held = ap (nat_lt 0) c.holders_of-held.ensures ∙ held-counted tenants without c.lower.new.holders counts c.args.tenant c.args.digest.now ∙ sym (contains-blob tenants c.args.tenant c.args.digest.now without) in
+    let before = holders_at tenants (links_shown by_tenant) c.self.inside.holders.items c.self.invariant.2 c.args.tenant lt c.index_mut-in-Some.result.now c.index_mut-in-Some.ensures.value in
+    let counts = Counts-remove tenants (links_shown by_tenant) c.self.inside.holders.items c.self.invariant.2 c.args.tenant c.index_mut-in-Some.result.now before c.lower.new.holders c.args.repo.now c.args.digest.now c.in-Some.size own there c.lower.ensures in
+    let holders = set c.self.inside.holders.items c.args.tenant c.lower.new.holders in
+    let after = holders_at tenants without holders counts c.args.tenant lt c.index.result.now c.index.ensures in
+    let held = ap (nat_lt 0) c.holders_of-held.ensures ∙ held-counted tenants without holders counts c.args.tenant c.index.result.now after c.args.digest.now ∙ sym (contains-blob tenants c.args.tenant c.args.digest.now without) in
     let links = links-remove tenants by_tenant c.self.invariant.1 c.args.tenant s at c.args.repo.now own c.args.digest.now c.unlink.new.self (ap (λ (x : Owned). x.links) c.in-Some.ensures.gone) in (
       rw links (IsSound-unlink tenants (links_shown by_tenant) c.self.inside.weights.items c.self.inside.charges.items c.self.invariant.0 c.args.tenant lt c.args.repo.now c.args.digest.now c.in-Some.size own there (nat_lt 0 c.holders_of-held.result) held
-          c.index.result.now c.index.ensures c.weight_without.result c.weight_without.ensures),
+          c.index-in-Some.result.now c.index-in-Some.ensures c.weight_without.result c.weight_without.ensures),
       IsOwned-unlink tenants by_tenant c.self.invariant.1 c.self.inside.manifests c.self.inside.charges.items c.args.tenant s at c.args.repo.now own c.unlink.new.self c.args.digest.now c.in-Some.ensures.gone,
       rw links counts,
     )
