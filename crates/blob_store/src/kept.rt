@@ -1,6 +1,6 @@
 //! What lies under the lock.
 
-ghost use Rattle.std.specs.Prelude.{◌≡◌, ◌≢◌, ◌⊎◌, ◌+◌, ◌<◌, None, Some, IfErr, IfOk, IfSome, OnErr, OnOk, true, length, sum_by, vec_len, not};
+ghost use Rattle.std.specs.Prelude.{◌≡◌, ◌≢◌, ◌⊎◌, ◌+◌, ◌<◌, None, Some, IfErr, IfOk, IfSome, OnErr, OnOk, Err, true, length, sum_by, vec_len, not, if◌then◌else◌};
 ghost use Rattle.std.specs.Arc.{arc_value};
 ghost use Rattle.std.specs.FinMap.{empty};
 ghost use Rattle.std.specs.Option.{option_copied};
@@ -13,7 +13,7 @@ ghost use Rattle.store_book.specs.Laws.{Sound};
 ghost use Rattle.store_book.specs.Pinned.{blob_bytes};
 ghost use Rattle.store_book.specs.Printed.{book_text};
 ghost use Rattle.store_book.specs.SlotSteps.{EachSlot, HasLast, HasPin, IsHousing, IsLending, IsQuiet, IsStill, IsSweptSlot, ReadsWord};
-ghost use Rattle.store_book.specs.Steps.{start, status, abandon, mount, delete, put_manifest, get_manifest, delete_manifest, take, put_back, finish, given_back};
+ghost use Rattle.store_book.specs.Steps.{check_tenant, start, status, abandon, mount, delete, put_manifest, get_manifest, delete_manifest, take, put_back, finish, given_back};
 ghost use Rattle.store_book.specs.Sweeps.{IsSweep};
 ghost use Rattle.blob_store.specs.Found.{IsSoundOf};
 ghost use Rattle.blob_store.specs.Totals.{nothing, plus, one, sum_of};
@@ -177,18 +177,27 @@ impl<N: Naming, C: Ledger, R: Ledger, D: Ledger, A: Ledger> Kept<N, C, R, D, A> 
         Ok(())
     }
 
-    /// Keeps a manifest, as `Book::put_manifest` does, counted.
-    pub fn put_manifest(
+    /// Refuses a repository for which no command is accepted: as `LimitReached`, where one more command can't
+    /// be counted, and else as `Book::check_tenant` does. Nothing is counted.
+    pub fn check_tenant(&self, repo: &RepoName) -> Result<(), Refusal>
+        ensures { result ≡ (if has_room self.now 0 then check_tenant self.now.book.catalog repo.now else Err LimitReached) }
+    {
+        self.room(0)?;
+        self.book.check_tenant(repo)
+    }
+
+    /// Keeps a manifest that was read, as `Book::keep_manifest` does, counted.
+    pub fn keep_manifest(
         &mut self,
         desk: &mut Desk<C, R, D, A>,
         repo: &RepoName,
-        bytes: &[u8],
+        manifest: Manifest,
     ) -> Result<Digest, Refusal>
-        ensures does { Does (λ d. d) result (self.old, desk.old) (self.new, desk.new) (counted (λ _. one 0 0 0) (λ C. put_manifest C repo.now bytes.now) (self.old, desk.old)) }
-        ensures digest { IfOk result (λ d. d ≡ sha256_text bytes.now) }
+        ensures does { Does (λ d. d) result (self.old, desk.old) (self.new, desk.new) (counted (λ _. one 0 0 0) (λ C. put_manifest C repo.now manifest) (self.old, desk.old)) }
+        ensures digest { IfOk result (λ d. d ≡ sha256_text manifest) }
     {
         self.room(0)?;
-        let digest = self.book.put_manifest(repo, bytes)?;
+        let digest = self.book.keep_manifest(repo, manifest)?;
         self.counters.add(desk, 0, 0, 0);
         Ok(digest)
     }

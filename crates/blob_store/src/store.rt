@@ -21,21 +21,22 @@ use crate::names::Naming;
 use crate::parts::Parts;
 use crate::totals::Totals;
 use blob_digest::{Algorithm, ByteRange, Digest, Refusal, RepoName};
-use oci_manifest::Manifest;
+use oci_manifest::{Manifest, read};
 use pin_table::Pins;
 use std::alloc::Global;
+use std::hint::spin_loop;
 use std::io::{self, Write};
 use std::sync::ledger::Ledger;
-use std::sync::{Arc, Mutex, Wait};
+use std::sync::{Arc, Mutex, MutexGuard, Wait};
 use store_book::{Mount, Swept};
 use upload_table::Hand;
 
 /// A store that threads share: the pins, and one lock around the book with the totals.
 ///
 /// Each command is the lock around one function of `Kept`, of the same name, whose contract says what it does
-/// to the book and the totals; `append` and `close` are the lock around two of them, and copy and hash
-/// between the two without it. Here it is said what a command does to the desk of its caller. All of them
-/// may wait for the lock.
+/// to the book and the totals; `append`, `close` and `put_manifest` are the lock around two of them, and copy
+/// and hash between the two without it. Here it is said what a command does to the desk of its caller. All of
+/// them may wait for the lock.
 #[derive(Drop)]
 pub struct Store<N: Naming, C: Ledger, R: Ledger, D: Ledger, A: Ledger> {
     pins: Pins,
@@ -43,6 +44,9 @@ pub struct Store<N: Naming, C: Ledger, R: Ledger, D: Ledger, A: Ledger> {
     alloc: Global,
     ghost named: { pins ≡ N.table },
 }
+
+/// How often the lock is tried before a thread sleeps until it is free.
+const TRIES: u32 = 64;
 
 /// Fills a chunk in: one that is to be the last is hashed by the algorithm that is named.
 fn fill_in(hand: Hand, bytes: &[u8], last: Option<Algorithm>) -> Result<Hand, Hand>
@@ -84,6 +88,18 @@ impl<N: Naming, C: Ledger, R: Ledger, D: Ledger, A: Ledger> Store<N, C, R, D, A>
         }
     }
 
+    /// The lock, once it is free. Commands hold it so shortly that it is tried some times before the thread sleeps:
+    /// a sleep and a wake cost several times what most commands do under it.
+    fn locked(&self, rt: &impl Wait) -> MutexGuard<'_, Kept<N, C, R, D, A>> {
+        for _ in 0..TRIES {
+            if let Some(kept) = self.kept.try_lock() {
+                return kept;
+            }
+            spin_loop();
+        }
+        self.kept.lock(rt)
+    }
+
     /// Makes desks with empty shares.
     ///
     /// Refused, in this order: no desks, or more than 1,024 that would be out (`LimitReached`); want of
@@ -92,7 +108,7 @@ impl<N: Naming, C: Ledger, R: Ledger, D: Ledger, A: Ledger> Store<N, C, R, D, A>
         ensures made { IfOk result (λ v. (vec_len v ≡ count) × (sum_of v.items ≡ nothing)) }
         ensures refused { IfErr result (λ e. (e ≡ LimitReached) ⊎ (e ≡ Memory)) }
     {
-        self.kept.lock(rt).desks(self.alloc, count)
+        self.locked(rt).desks(self.alloc, count)
     }
 
     /// Settles desks: the sums of their shares, and the number of desks still out. Where that is 0, the totals
@@ -100,14 +116,14 @@ impl<N: Naming, C: Ledger, R: Ledger, D: Ledger, A: Ledger> Store<N, C, R, D, A>
     pub fn settle(&self, rt: &impl Wait, desks: Vec<Desk<C, R, D, A>>) -> Settled
         ensures { (result.commands ≡ (sum_of desks.items).commands) × (result.received ≡ (sum_of desks.items).received) × (result.closed ≡ (sum_of desks.items).closed) × (result.abandoned ≡ (sum_of desks.items).abandoned) }
     {
-        self.kept.lock(rt).settle(desks)
+        self.locked(rt).settle(desks)
     }
 
     /// The totals.
     pub fn totals(&self, rt: &impl Wait) -> Totals
         ensures { result.received ≡ result.in_sessions + result.closed + result.abandoned }
     {
-        self.kept.lock(rt).totals()
+        self.locked(rt).totals()
     }
 
     /// Opens a session in a repository, and answers its number (OCI Distribution Specification 1.1,
@@ -125,7 +141,7 @@ impl<N: Naming, C: Ledger, R: Ledger, D: Ledger, A: Ledger> Store<N, C, R, D, A>
         ensures ok { OnOk result (desk.new ≡ plus desk.old (one 0 0 0)) }
         ensures err { OnErr result (desk.new ≡ desk.old) }
     {
-        self.kept.lock(rt).start(desk, repo)
+        self.locked(rt).start(desk, repo)
     }
 
     /// How many bytes a session has received (OCI Distribution Specification 1.1, "Pushing a blob in
@@ -143,7 +159,7 @@ impl<N: Naming, C: Ledger, R: Ledger, D: Ledger, A: Ledger> Store<N, C, R, D, A>
         ensures ok { OnOk result (desk.new ≡ plus desk.old (one 0 0 0)) }
         ensures err { OnErr result (desk.new ≡ desk.old) }
     {
-        self.kept.lock(rt).status(desk, repo, number)
+        self.locked(rt).status(desk, repo, number)
     }
 
     /// Takes a session in hand under the lock, and fills the chunk in without it: one that is to be the last is
@@ -162,11 +178,11 @@ impl<N: Naming, C: Ledger, R: Ledger, D: Ledger, A: Ledger> Store<N, C, R, D, A>
         ensures ends { IfOk result (λ h. IfSome range (λ r. sum_by length h.chunks + length bytes.now ≡ r.end + 1)) }
     {
         let len = bytes.len() as u64;
-        let hand = self.kept.lock(rt).take(repo, number, range, len)?;
+        let hand = self.locked(rt).take(repo, number, range, len)?;
         match fill_in(hand, bytes, last) {
             Ok(hand) => Ok(hand),
             Err(hand) => {
-                let _ = self.kept.lock(rt).give_up(hand);
+                let _ = self.locked(rt).give_up(hand);
                 Err(Refusal::Memory)
             }
         }
@@ -195,7 +211,7 @@ impl<N: Naming, C: Ledger, R: Ledger, D: Ledger, A: Ledger> Store<N, C, R, D, A>
         ensures ends { IfOk result (λ n. IfSome range (λ r. n ≡ r.end + 1)) }
     {
         let hand = self.fill(rt, repo, number, range, bytes, None)?;
-        self.kept.lock(rt).put_back(desk, hand)
+        self.locked(rt).put_back(desk, hand)
     }
 
     /// Closes a session with its last chunk, which may be empty: its bytes become the blob of this
@@ -223,7 +239,7 @@ impl<N: Naming, C: Ledger, R: Ledger, D: Ledger, A: Ledger> Store<N, C, R, D, A>
     {
         let algorithm = digest.algorithm();
         let whole = self.fill(rt, repo, number, range, bytes, Some(algorithm))?;
-        self.kept.lock(rt).finish(&self.pins, desk, whole, digest)
+        self.locked(rt).finish(&self.pins, desk, whole, digest)
     }
 
     /// Gives a session up with its bytes, and answers how many it had received. Its number is not
@@ -241,7 +257,7 @@ impl<N: Naming, C: Ledger, R: Ledger, D: Ledger, A: Ledger> Store<N, C, R, D, A>
         ensures ok { IfOk result (λ n. desk.new ≡ plus desk.old (one 0 0 n)) }
         ensures err { OnErr result (desk.new ≡ desk.old) }
     {
-        self.kept.lock(rt).abandon(desk, repo, number)
+        self.locked(rt).abandon(desk, repo, number)
     }
 
     /// Links a blob that the tenant holds in the source or, without one, in any of its repositories, without
@@ -263,7 +279,7 @@ impl<N: Naming, C: Ledger, R: Ledger, D: Ledger, A: Ledger> Store<N, C, R, D, A>
         ensures ok { OnOk result (desk.new ≡ plus desk.old (one 0 0 0)) }
         ensures err { OnErr result (desk.new ≡ desk.old) }
     {
-        self.kept.lock(rt).mount(desk, repo, digest, from)
+        self.locked(rt).mount(desk, repo, digest, from)
     }
 
     /// Takes the link to a blob out of a repository (OCI Distribution Specification 1.1, "Deleting
@@ -282,11 +298,12 @@ impl<N: Naming, C: Ledger, R: Ledger, D: Ledger, A: Ledger> Store<N, C, R, D, A>
         ensures ok { OnOk result (desk.new ≡ plus desk.old (one 0 0 0)) }
         ensures err { OnErr result (desk.new ≡ desk.old) }
     {
-        self.kept.lock(rt).delete(desk, repo, digest)
+        self.locked(rt).delete(desk, repo, digest)
     }
 
     /// Keeps a manifest under the SHA-256 digest of its bytes, and answers that digest (OCI
-    /// Distribution Specification 1.1, "Pushing Manifests"). The repository appears with it.
+    /// Distribution Specification 1.1, "Pushing Manifests"). The repository appears with it. The bytes are
+    /// parsed, hashed and copied without the lock.
     ///
     /// Refused, in this order: a tenant that is not there (`NameUnknown`); more than 4,194,304 bytes
     /// (`SizeInvalid`); bytes that are no manifest (`ManifestInvalid`); a reference that the repository
@@ -304,7 +321,9 @@ impl<N: Naming, C: Ledger, R: Ledger, D: Ledger, A: Ledger> Store<N, C, R, D, A>
         ensures err { OnErr result (desk.new ≡ desk.old) }
         ensures digest { IfOk result (λ d. d ≡ sha256_text bytes.now) }
     {
-        self.kept.lock(rt).put_manifest(desk, repo, bytes)
+        self.locked(rt).check_tenant(repo)?;
+        let manifest = read(self.alloc, bytes)?;
+        self.locked(rt).keep_manifest(desk, repo, manifest)
     }
 
     /// The manifest that a repository has under a digest (OCI Distribution Specification 1.1, "Pulling
@@ -323,7 +342,7 @@ impl<N: Naming, C: Ledger, R: Ledger, D: Ledger, A: Ledger> Store<N, C, R, D, A>
         ensures err { OnErr result (desk.new ≡ desk.old) }
         ensures digest { IfOk result (λ m. sha256_text (arc_value m) ≡ digest.now) }
     {
-        self.kept.lock(rt).get_manifest(desk, repo, digest)
+        self.locked(rt).get_manifest(desk, repo, digest)
     }
 
     /// Takes a manifest out of a repository (OCI Distribution Specification 1.1, "Deleting Manifests"). It
@@ -341,7 +360,7 @@ impl<N: Naming, C: Ledger, R: Ledger, D: Ledger, A: Ledger> Store<N, C, R, D, A>
         ensures ok { OnOk result (desk.new ≡ plus desk.old (one 0 0 0)) }
         ensures err { OnErr result (desk.new ≡ desk.old) }
     {
-        self.kept.lock(rt).delete_manifest(desk, repo, digest)
+        self.locked(rt).delete_manifest(desk, repo, digest)
     }
 
     /// Leases a blob that a repository holds. While the lease is out, no sweep frees the blob's slot.
@@ -360,7 +379,7 @@ impl<N: Naming, C: Ledger, R: Ledger, D: Ledger, A: Ledger> Store<N, C, R, D, A>
         ensures err { OnErr result (desk.new ≡ desk.old) }
         ensures leased { IfOk result (λ l. (l.hold.digest ≡ digest.now) × (l.hold.weight ≡ 1024)) }
     {
-        let (pin, blob) = self.kept.lock(rt).lease(&self.pins, desk, repo, digest)?;
+        let (pin, blob) = self.locked(rt).lease(&self.pins, desk, repo, digest)?;
         Ok(Lease::new(&self.pins, blob, pin))
     }
 
@@ -370,7 +389,7 @@ impl<N: Naming, C: Ledger, R: Ledger, D: Ledger, A: Ledger> Store<N, C, R, D, A>
     pub fn sweep(&self, rt: &impl Wait) -> Swept
         ensures { InSomeBook N.slots (λ b. (C : Catalog) × IsSweep b.catalog result C) }
     {
-        self.kept.lock(rt).sweep(&self.pins)
+        self.locked(rt).sweep(&self.pins)
     }
 
     /// The lease with all that it had. Under the lock its slot is found used, in its generation, with its
@@ -385,7 +404,7 @@ impl<N: Naming, C: Ledger, R: Ledger, D: Ledger, A: Ledger> Store<N, C, R, D, A>
             pin,
             names: _,
         } = lease;
-        let pin = self.kept.lock(rt).verify(&self.pins, pin);
+        let pin = self.locked(rt).verify(&self.pins, pin);
         Lease::new(pins, blob, pin)
     }
 
@@ -394,7 +413,7 @@ impl<N: Naming, C: Ledger, R: Ledger, D: Ledger, A: Ledger> Store<N, C, R, D, A>
     pub fn word(&self, rt: &impl Wait, slot: u32) -> u64
         requires { slot < N.slots }
     {
-        self.kept.lock(rt).word(&self.pins, slot)
+        self.locked(rt).word(&self.pins, slot)
     }
 
     /// Writes the text of the book, without taking memory, as `Book::print` does.
@@ -403,6 +422,6 @@ impl<N: Naming, C: Ledger, R: Ledger, D: Ledger, A: Ledger> Store<N, C, R, D, A>
     pub fn print<W: Write>(&self, rt: &impl Wait, writer: &mut W) -> io::Result<()>
         ensures { OnOk result ((C : Catalog) × Sound C × Appends (W.contents writer.old) (W.contents writer.new) (book_text C)) }
     {
-        self.kept.lock(rt).print(writer)
+        self.locked(rt).print(writer)
     }
 }

@@ -87,10 +87,9 @@ pub is_some-of : {A : Type 0} (f : A → Text) (o : Option A) (x : Option Text) 
 is_some-of f None x b e h = sym (ap is_some e) ∙ h
 is_some-of f (Some a) x b e h = sym (ap is_some e) ∙ h
 
--- a manifest that was read from these bytes, which it keeps
-pub read_from : (bytes m kept : Text) (refs : List Text) (name : Text) → m ≡ bytes → kept ≡ m → length kept ≤ max_manifest → refs_of m ≡ Some refs → name ≡ sha256_text m → IsManifest bytes refs name
-read_from bytes m kept refs name is shown fits named agrees =
-    subst (λ (x : Text). IsManifest x refs name) is (record { named = named; agrees = agrees; fits = subst (λ (x : Text). length x ≤ max_manifest) shown fits })
+-- a manifest by what it keeps
+pub read_from : (bytes kept : Text) (refs : List Text) (name : Text) → kept ≡ bytes → length kept ≤ max_manifest → refs_of bytes ≡ Some refs → name ≡ sha256_text bytes → IsManifest bytes refs name
+read_from bytes kept refs name shown fits named agrees = record { named = named; agrees = agrees; fits = subst (λ (x : Text). length x ≤ max_manifest) shown fits }
 
 module _ (l : Linked) (t : ℕ) (repo bytes : Text) where
   -- a repository that appeared has the manifest put into it

@@ -27,6 +27,12 @@ Outcome A = OutcomeIn Catalog A
 abbrev pub tenant : Catalog → Text → Result ℕ Refusal
 tenant C repo = ok_or (tenant_of C.tenants repo) NameUnknown
 
+-- refuses a repository of no tenant
+abbrev pub check_tenant : Catalog → Text → Result (Unit {0}) Refusal
+check_tenant C repo = do
+  _ ← tenant C repo
+  Ok tt
+
 -- the tenant's session of this number, where it is of this repository
 abbrev pub session : Catalog → ℕ → Text → ℕ → Result Session Refusal
 session C t repo number = session_in (fmap.get C.sessions (t, number)) repo

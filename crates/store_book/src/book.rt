@@ -2,14 +2,14 @@ ghost use Rattle.std.specs.Prelude.{◌≡◌, ◌≢◌, ◌<◌, length, Some,
 ghost use Rattle.std.specs.FinMap.{get};
 ghost use Rattle.std.specs.Option.{option_copied};
 ghost use Rattle.blob_digest.specs.declared.refusal.Refusal.TheVariants.{UploadUnknown};
-ghost use Rattle.blob_digest.specs.Outcomes.{Answers, Does, DoesExactly};
+ghost use Rattle.blob_digest.specs.Outcomes.{Does, DoesExactly};
 ghost use Rattle.link_table.specs.Tenancy.{tenants_shown};
 ghost use Rattle.store_book.specs.Laws.{Sound};
 ghost use Rattle.store_book.specs.Pinned.{blob_bytes};
 ghost use Rattle.store_book.specs.Openings.{OpensBook, RefusesBook};
 ghost use Rattle.store_book.specs.Printed.{book_text};
 ghost use Rattle.store_book.specs.SlotSteps.{EachSlot, HasLast, HasPin, IsCrowded, IsHousing, IsLending, IsQuiet, IsStill, IsSweptSlot, Leases, ReadsWord};
-ghost use Rattle.store_book.specs.Steps.{start, status, append, close, abandon, mount, delete, put_manifest, get_manifest, delete_manifest, take, put_back, finish, given_back};
+ghost use Rattle.store_book.specs.Steps.{start, status, append, close, abandon, mount, delete, take, put_back, finish, given_back};
 ghost use Rattle.store_book.specs.Sweeps.{IsSweep};
 ghost use Rattle.upload_table.specs.Sessions.{taken_session};
 ghost use Rattle.upload_table.specs.Uploaded.{IsFull};
@@ -18,14 +18,12 @@ ghost use Rattle.std.specs.Io.KnownBytes.{Appends};
 
 use crate::config::{Config, copied};
 use crate::keep::{find_linked, keep, link_slot};
-use crate::manifests::{add_manifest, check_linked};
 use crate::mount::{Mount, find_source};
 use crate::pinned_slots::PinnedSlots;
 use crate::print::print_book;
 use crate::sweep::{Swept, sweep_slots};
 use blob_digest::{Blob, ByteRange, Digest, Refusal, RepoName};
 use link_table::Links;
-use oci_manifest::{Manifest, read};
 use pin_table::{Pin, Pins};
 use std::alloc::Global;
 use std::io::{self, Write};
@@ -36,7 +34,7 @@ use upload_table::{Hand, Uploads};
 /// The book: what every tenant's repositories hold, and what is being uploaded to them.
 #[derive(Drop)]
 pub struct Book {
-    alloc: Global,
+    pub(crate) alloc: Global,
     pub(crate) links: Links,
     pub(crate) uploads: Uploads,
     pub(crate) slots: PinnedSlots,
@@ -347,70 +345,6 @@ impl Book {
         }
         self.links.unlink(tenant, repo, digest);
         self.slots.link_down(slot);
-        Ok(())
-    }
-
-    /// Keeps a manifest under the SHA-256 digest of its bytes, and answers that digest (OCI
-    /// Distribution Specification 1.1, "Pushing Manifests"). The repository appears with it. One that
-    /// is there stays as it is. No tenant is charged for manifests. The bytes are parsed, hashed and
-    /// copied once; each reference takes the logarithm of the number of links, and, where the manifest
-    /// is new, that of the references of the repository's manifests.
-    ///
-    /// Refused, in this order: a tenant that is not there (`NameUnknown`); more than 4,194,304 bytes
-    /// (`SizeInvalid`); bytes that are no manifest (`ManifestInvalid`); a reference that the repository
-    /// doesn't hold (`ManifestBlobUnknown`, with the first); where the manifest is new, a tenant that
-    /// has 1,024 repositories and not this one, or a repository that has 1,024 manifests
-    /// (`LimitReached`); want of memory. A refusal leaves no repository behind.
-    pub fn put_manifest(&mut self, repo: &RepoName, bytes: &[u8]) -> Result<Digest, Refusal>
-        ensures does { Does (λ d. d) result self.old.catalog self.new.catalog (put_manifest self.old.catalog repo.now bytes.now) }
-        ensures slots { (self.new.table ≡ self.old.table) × (self.new.slots ≡ self.old.slots) }
-    {
-        let tenant = self.links.tenant(repo)?;
-        let manifest = read(self.alloc, bytes)?;
-        check_linked(&self.links, repo, manifest.refs())?;
-        let digest = manifest.digest();
-        if self.links.manifest(repo, &digest).is_some() {
-            return Ok(digest);
-        }
-        let manifest = Arc::new(self.alloc, manifest)?;
-        add_manifest(&mut self.links, tenant, repo, manifest)?;
-        Ok(digest)
-    }
-
-    /// A manifest that a repository has under a digest (OCI Distribution Specification 1.1, "Pulling
-    /// manifests"). Manifests are kept under SHA-256 digests alone. The bytes are shared, not copied; it
-    /// takes the logarithm of the number of manifests.
-    ///
-    /// Refused, in this order: a tenant that is not there (`NameUnknown`); a digest under which the
-    /// repository has no manifest (`ManifestUnknown`); want of memory.
-    pub fn get_manifest(
-        &self,
-        repo: &RepoName,
-        digest: &Digest,
-    ) -> Result<Arc<Manifest, Global>, Refusal>
-        ensures { Answers (λ m. m.value) result (get_manifest self.now.catalog repo.now digest.now) }
-    {
-        let _ = self.links.tenant(repo)?;
-        let Some(manifest) = self.links.manifest(repo, digest) else {
-            return Err(Refusal::ManifestUnknown);
-        };
-        Ok(manifest.clone()?)
-    }
-
-    /// Takes a manifest out of a repository (OCI Distribution Specification 1.1, "Deleting Manifests").
-    /// Who has it from `get_manifest` keeps it. It takes no memory.
-    ///
-    /// Refused, in this order: a tenant that is not there (`NameUnknown`); a digest under which the
-    /// repository has no manifest (`ManifestUnknown`).
-    pub fn delete_manifest(&mut self, repo: &RepoName, digest: &Digest) -> Result<(), Refusal>
-        ensures does { DoesExactly (λ u. u) result self.old.catalog self.new.catalog (delete_manifest self.old.catalog repo.now digest.now) }
-        ensures slots { (self.new.table ≡ self.old.table) × (self.new.slots ≡ self.old.slots) }
-    {
-        let _ = self.links.tenant(repo)?;
-        let Some(_) = self.links.manifest(repo, digest) else {
-            return Err(Refusal::ManifestUnknown);
-        };
-        self.links.drop_manifest(repo, digest);
         Ok(())
     }
 

@@ -1,14 +1,16 @@
-//! Manifests of a repository: whether it holds what they refer to, and how one is added.
+//! Manifests of a repository: whether it holds what they refer to, how one is added, and the book's commands on them.
 
 ghost use Rattle.std.specs.Prelude.{◌≡◌, ◌<◌, length, true, false};
-ghost use Rattle.blob_digest.specs.Outcomes.{Does};
+ghost use Rattle.blob_digest.specs.Outcomes.{Answers, Does, DoesExactly};
 ghost use Rattle.blob_digest.specs.Sets as set;
 ghost use Rattle.link_table.specs.Linked.{is_tenants, HasNoLinks};
 ghost use Rattle.store_book.specs.Keeping.{all_held, with_manifest_on};
+ghost use Rattle.store_book.specs.Steps.{check_tenant, put_manifest, get_manifest, delete_manifest};
 
+use crate::book::Book;
 use blob_digest::{Digest, Refusal, RepoName};
 use link_table::Links;
-use oci_manifest::Manifest;
+use oci_manifest::{Manifest, read};
 use std::alloc::Global;
 use std::sync::Arc;
 
@@ -53,5 +55,93 @@ pub(crate) fn add_manifest(
             }
             Err(refusal)
         }
+    }
+}
+
+impl Book {
+    /// Refuses a repository whose tenant is not there (`NameUnknown`), as every command does before all else.
+    /// Tenants never change. It takes the logarithm of their number, and no memory.
+    pub fn check_tenant(&self, repo: &RepoName) -> Result<(), Refusal>
+        ensures { result ≡ check_tenant self.now.catalog repo.now }
+    {
+        let _ = self.links.tenant(repo)?;
+        Ok(())
+    }
+
+    /// Keeps a manifest under the SHA-256 digest of its bytes, and answers that digest (OCI
+    /// Distribution Specification 1.1, "Pushing Manifests"). The repository appears with it. One that
+    /// is there stays as it is. No tenant is charged for manifests. The bytes are parsed, hashed and
+    /// copied once; the rest is `keep_manifest`.
+    ///
+    /// Refused, in this order: a tenant that is not there (`NameUnknown`); more than 4,194,304 bytes
+    /// (`SizeInvalid`); bytes that are no manifest (`ManifestInvalid`); what `keep_manifest` refuses. A
+    /// refusal leaves no repository behind.
+    pub fn put_manifest(&mut self, repo: &RepoName, bytes: &[u8]) -> Result<Digest, Refusal>
+        ensures does { Does (λ d. d) result self.old.catalog self.new.catalog (put_manifest self.old.catalog repo.now bytes.now) }
+        ensures slots { (self.new.table ≡ self.old.table) × (self.new.slots ≡ self.old.slots) }
+    {
+        self.check_tenant(repo)?;
+        let manifest = read(self.alloc, bytes)?;
+        self.keep_manifest(repo, manifest)
+    }
+
+    /// Keeps a manifest that was read, as `put_manifest` does with its bytes, of which it is the last part: none
+    /// is hashed or copied. Each reference takes the logarithm of the number of links, and, where the manifest is
+    /// new, that of the references of the repository's manifests.
+    ///
+    /// Refused, in this order: a tenant that is not there (`NameUnknown`); a reference that the repository
+    /// doesn't hold (`ManifestBlobUnknown`, with the first); where the manifest is new, a tenant that
+    /// has 1,024 repositories and not this one, or a repository that has 1,024 manifests
+    /// (`LimitReached`); want of memory. A refusal leaves no repository behind.
+    pub fn keep_manifest(&mut self, repo: &RepoName, manifest: Manifest) -> Result<Digest, Refusal>
+        ensures does { Does (λ d. d) result self.old.catalog self.new.catalog (put_manifest self.old.catalog repo.now manifest) }
+        ensures slots { (self.new.table ≡ self.old.table) × (self.new.slots ≡ self.old.slots) }
+    {
+        let tenant = self.links.tenant(repo)?;
+        check_linked(&self.links, repo, manifest.refs())?;
+        let digest = manifest.digest();
+        if self.links.manifest(repo, &digest).is_some() {
+            return Ok(digest);
+        }
+        let manifest = Arc::new(self.alloc, manifest)?;
+        add_manifest(&mut self.links, tenant, repo, manifest)?;
+        Ok(digest)
+    }
+
+    /// A manifest that a repository has under a digest (OCI Distribution Specification 1.1, "Pulling
+    /// manifests"). Manifests are kept under SHA-256 digests alone. The bytes are shared, not copied; it
+    /// takes the logarithm of the number of manifests.
+    ///
+    /// Refused, in this order: a tenant that is not there (`NameUnknown`); a digest under which the
+    /// repository has no manifest (`ManifestUnknown`); want of memory.
+    pub fn get_manifest(
+        &self,
+        repo: &RepoName,
+        digest: &Digest,
+    ) -> Result<Arc<Manifest, Global>, Refusal>
+        ensures { Answers (λ m. m.value) result (get_manifest self.now.catalog repo.now digest.now) }
+    {
+        let _ = self.links.tenant(repo)?;
+        let Some(manifest) = self.links.manifest(repo, digest) else {
+            return Err(Refusal::ManifestUnknown);
+        };
+        Ok(manifest.clone()?)
+    }
+
+    /// Takes a manifest out of a repository (OCI Distribution Specification 1.1, "Deleting Manifests").
+    /// Who has it from `get_manifest` keeps it. It takes no memory.
+    ///
+    /// Refused, in this order: a tenant that is not there (`NameUnknown`); a digest under which the
+    /// repository has no manifest (`ManifestUnknown`).
+    pub fn delete_manifest(&mut self, repo: &RepoName, digest: &Digest) -> Result<(), Refusal>
+        ensures does { DoesExactly (λ u. u) result self.old.catalog self.new.catalog (delete_manifest self.old.catalog repo.now digest.now) }
+        ensures slots { (self.new.table ≡ self.old.table) × (self.new.slots ≡ self.old.slots) }
+    {
+        let _ = self.links.tenant(repo)?;
+        let Some(_) = self.links.manifest(repo, digest) else {
+            return Err(Refusal::ManifestUnknown);
+        };
+        self.links.drop_manifest(repo, digest);
+        Ok(())
     }
 }

@@ -2,12 +2,12 @@ use Rattle.std.proofs.Common.{ap, arith, length, ◌∙◌}
 use Rattle.blob_store.specs.Totals.{one}
 use Rattle.blob_store.proofs.SessionSums.{put_manifest_sums}
 use Rattle.blob_store.proofs.Rooms.{added, room_given}
-use Rattle.blob_store.proofs.kept.Kept.put_manifest.Goals as goal
+use Rattle.blob_store.proofs.kept.Kept.keep_manifest.Goals as goal
 
 pub invariant_of-self-2 : goal.invariant_of-self-2
 invariant_of-self-2 g c =
     let was = c.self.invariant in
-    let sums = put_manifest_sums c.self.inside.book.catalog c.put_manifest.new.self.catalog c.args.repo.now c.args.bytes.now c.in_ok-digest.digest c.in_ok-digest.ensures.does in
+    let sums = put_manifest_sums c.self.inside.book.catalog c.keep_manifest.new.self.catalog c.args.repo.now c.args.manifest c.in_ok-digest.digest c.in_ok-digest.ensures.does in
     let hands = sums.hands in
     let reserve = sums.reserve in
     let bytes = sums.bytes in
@@ -18,6 +18,6 @@ invariant_of-self-2 g c =
       omega (arith, was.0, room.0, totals.commands),
       omega (arith, was.1, room.1, totals.received),
       omega (arith, was.4, bytes, totals.received, totals.closed, totals.abandoned),
-      c.put_manifest.ensures.slots.0 ∙ was.5,
-      ap length c.put_manifest.ensures.slots.1 ∙ was.6,
+      c.keep_manifest.ensures.slots.0 ∙ was.5,
+      ap length c.keep_manifest.ensures.slots.1 ∙ was.6,
     )
