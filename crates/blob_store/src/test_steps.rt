@@ -71,7 +71,7 @@ pub enum Step<'a> {
     Mount(&'a str, &'a str, &'a str, Result<Mount, Refusal>),
     Delete(&'a str, &'a str, Result<(), Refusal>),
     /// A put of these bytes, which answers their digest.
-    PutManifest(&'a str, &'a str),
+    PutManifest(&'a str, &'a str, Result<(), Refusal>),
     /// A get of the manifest of these bytes.
     GetManifest(&'a str, &'a str),
     /// A delete of the manifest of these bytes.
@@ -244,9 +244,12 @@ impl<
             Step::Abandon(repo, number, wanted) => self.abandon(desk, repo, *number) == *wanted,
             Step::Mount(repo, of, from, wanted) => self.mount(desk, repo, of, from) == *wanted,
             Step::Delete(repo, of, wanted) => self.delete(desk, repo, of) == *wanted,
-            Step::PutManifest(repo, bytes) => {
-                let of = Digest::of(Algorithm::Sha256, bytes.as_bytes());
-                self.put_manifest(desk, repo, bytes.as_bytes()) == Ok(of)
+            Step::PutManifest(repo, bytes, wanted) => {
+                let wanted = match wanted {
+                    Ok(()) => Ok(Digest::of(Algorithm::Sha256, bytes.as_bytes())),
+                    Err(refusal) => Err(*refusal),
+                };
+                self.put_manifest(desk, repo, bytes.as_bytes()) == wanted
             }
             Step::GetManifest(repo, bytes) => self.gets_manifest(desk, repo, bytes.as_bytes()),
             Step::DeleteManifest(repo, bytes, wanted) => {

@@ -123,9 +123,9 @@ fn mount(
     pinned: &mut Pinned,
     repo: &RepoName,
     digest: &Digest,
-    from: &RepoName,
+    from: Option<&RepoName>,
 ) -> Result<Mount, Refusal> {
-    pinned.book.mount(repo, digest, Some(from))
+    pinned.book.mount(repo, digest, from)
 }
 
 fn put_manifest(pinned: &mut Pinned, repo: &RepoName, bytes: &[u8]) -> Result<Digest, Refusal> {
@@ -194,7 +194,7 @@ fn goes(pinned: &mut Pinned, seen: &mut Seen, command: &Command) -> Answer {
             judged(finish(pinned, repo, *number, digest, bytes), *size)
         }
         Command::Mount(repo, digest, from, wanted) => {
-            judged(mount(pinned, repo, digest, from), *wanted)
+            judged(mount(pinned, repo, digest, *from), *wanted)
         }
         Command::PutManifest(repo, bytes) => {
             let digest = Digest::of(Algorithm::Sha256, bytes);

@@ -122,9 +122,9 @@ impl<'s, N: Naming, C: Ledger, R: Ledger, D: Ledger, A: Ledger, W: Wait> Shared<
         desk: &mut Desk<C, R, D, A>,
         repo: &RepoName,
         digest: &Digest,
-        from: &RepoName,
+        from: Option<&RepoName>,
     ) -> Result<Mount, Refusal> {
-        self.store.mount(self.rt, desk, repo, digest, Some(from))
+        self.store.mount(self.rt, desk, repo, digest, from)
     }
 
     fn put_manifest(
@@ -211,7 +211,7 @@ impl<'s, N: Naming, C: Ledger, R: Ledger, D: Ledger, A: Ledger, W: Wait> Shared<
                 judged(self.close(desk, repo, *number, digest, None, bytes), *size)
             }
             Command::Mount(repo, digest, from, wanted) => {
-                judged(self.mount(desk, repo, digest, from), *wanted)
+                judged(self.mount(desk, repo, digest, *from), *wanted)
             }
             Command::PutManifest(repo, bytes) => {
                 let digest = Digest::of(Algorithm::Sha256, bytes);
