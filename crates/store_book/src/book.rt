@@ -292,8 +292,9 @@ impl Book {
     /// Links a blob that the tenant holds in the source or, without one, in any of its repositories, without
     /// an upload (OCI Distribution Specification 1.1, "Mounting a blob from another repository"). The
     /// repository appears with it. Where it isn't held there, though elsewhere perhaps, or the source is
-    /// another tenant's, this opens a session, as `start` does. No bytes are copied; it takes the logarithm
-    /// of the numbers of links and kept blobs, and a repository that appears moves its tenant's behind it.
+    /// another tenant's, this opens a session, as `start` does. No bytes are copied. Beside finding the
+    /// repositories, it takes the logarithm of the number of digests that the tenant holds and, where it
+    /// links the blob, of that of kept blobs; a repository that appears moves its tenant's behind it.
     ///
     /// Refused, in this order: a tenant that is not there (`NameUnknown`); a tenant that has 1,024
     /// repositories where this one is new, and, where a session is opened, 64 sessions or no session
@@ -326,8 +327,8 @@ impl Book {
 
     /// Takes the link to a blob out of a repository (OCI Distribution Specification 1.1, "Deleting
     /// Blobs"). The blob stays in its slot, and other repositories keep their links. It takes no
-    /// memory, and the logarithm of the number of links, of kept blobs and of the references of the
-    /// repository's manifests.
+    /// memory, and beside finding the repository the logarithm of the number of digests that the tenant
+    /// holds, of kept blobs and of the references of the repository's manifests.
     ///
     /// Refused, in this order: a tenant that is not there (`NameUnknown`); a digest that is not linked
     /// in the repository (`BlobUnknown`); one that a manifest of the repository refers to
