@@ -48,6 +48,12 @@ Can p (Reclaim k) = IsIn p k Condemned × IsClear k p.pins
 Can p (Look k) = k < length p.rows
 Can p (Verify n) = IsSome (hold_named n p.pins)
 
+-- the event adds a pin, which takes memory
+abbrev pub AddsPin : Event → Type 0
+AddsPin (Lend k n) = Unit {0}
+AddsPin (Share n m) = Unit {0}
+AddsPin _ = ⊥
+
 -- ---- what an event changes
 
 -- a row that is given a digest

@@ -4,7 +4,7 @@ ghost use Rattle.std.specs.Prelude.{◌≡◌, ◌⊎◌, ◌+◌, ◌<◌, ◌�
 ghost use Rattle.std.specs.Option.{option_map, option_map_or};
 ghost use Rattle.blob_digest.specs.declared.refusal.Refusal.TheVariants.{LimitReached, Memory};
 ghost use Rattle.pin_core.specs.World.{IsState, holds_of, hold_named, opening, row, weight_on, word_row};
-ghost use Rattle.pin_core.specs.Events.{Can, IsIn, IsOutside, after, with_row};
+ghost use Rattle.pin_core.specs.Events.{AddsPin, Can, IsIn, IsOutside, after, with_row};
 ghost use Rattle.pin_core.specs.declared.event.Event.TheVariants.{Give, Lend, Share, Leave, Condemn, Revive, Reclaim, Look, Verify};
 
 use crate::event::Event;
@@ -224,12 +224,13 @@ impl PinState {
         drop_named(&mut self.pins, pin);
     }
 
-    /// Makes an event that can happen. Refused with `Memory` alone, and then the state is as it was.
+    /// Makes an event that can happen. Refused with `Memory` alone, a `Lend` or a `Share` only, which add a pin;
+    /// then the state is as it was.
     pub fn change(&mut self, event: &Event) -> Result<(), Refusal>
         requires { Can self.old event.now }
         ensures ok { OnOk result (self.new ≡ after self.old event.now) }
         ensures err { OnErr result (self.new ≡ self.old) }
-        ensures refused { IfErr result (λ e. e ≡ Memory) }
+        ensures refused { IfErr result (λ e. (e ≡ Memory) × AddsPin event.now) }
     {
         match *event {
             Event::Give { slot, digest } => self.give(slot, digest),
