@@ -1,12 +1,12 @@
 -- What the desks of all workers come to.
-use Rattle.std.proofs.Common.{◌≡◌, ◌∙◌, ◌<◌, ◌+◌, ◌++◌, ◌∷◌, [], ℕ, List, ap, arith, get_or, length, length-append, refl, subst, sym}
+use Rattle.std.proofs.Common.{◌≡◌, ◌∙◌, ◌<◌, ◌++◌, ◌∷◌, [], ℕ, List, ap, arith, get_or, length, length-append, refl, subst, sym}
 use Rattle.std.specs.List.{sum_by}
 use Rattle.std.proofs.Math.Seq.{get_or-append_seam}
 use Rattle.std.proofs.lemmas.List.{get_or_append_left}
 use Rattle.std.proofs.lemmas.List.Sums.{sum_by-cons}
 use Rattle.blob_store.specs.Seats.{SeatActs}
 use Rattle.blob_store.specs.Totals.{Amounts, nothing, sum_of}
-use Rattle.blob_store.specs.Workers.{AllAt, ArePlayed, IsPlayed}
+use Rattle.blob_store.specs.Workers.{ArePlayed, IsPlayed}
 use Rattle.blob_store.proofs.Places.{at_pushed}
 use Rattle.row_player.specs.Answers.{Answer}
 use Rattle.row_player.specs.Counts.{chunk_with, counted_bytes, counted_commands, row_amount}

@@ -1,5 +1,5 @@
 -- What workers answer.
-use Rattle.std.specs.Prelude.{◌≡◌, ◌≤◌, ◌<◌, ℕ, ◌+◌, Bool, true, List, [], length, get_or}
+use Rattle.std.specs.Prelude.{◌≡◌, ◌≤◌, ◌<◌, ℕ, ◌+◌, List, [], length, get_or}
 use Rattle.blob_store.specs.Totals.{Amounts, nothing}
 use Rattle.blob_store.specs.Seats.{SeatActs}
 use Rattle.row_player.specs.Answers.{Answer}

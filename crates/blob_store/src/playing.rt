@@ -121,10 +121,11 @@ fn set_down_all<C: Ledger, R: Ledger, D: Ledger, A: Ledger>(
     }
 }
 
-/// Plays a script by workers, each in a thread of its own: a row of a lane is played by the worker whose number
-/// is the lane's modulo the workers', each worker plays its rows in their order, and the gate is asked before
-/// and after each row, outside the lock. At its end a worker gives back the leases that its lanes still hold.
-/// Which worker comes first is not said, nor that two of them run at the same time.
+/// Plays a script by workers, the first in the calling thread and each other one in a thread of its own: a row of
+/// a lane is played by the worker whose number is the lane's modulo the workers', each worker plays its rows in
+/// their order, and the gate is asked before and after each row, outside the lock. At its end a worker gives back
+/// the leases that its lanes still hold. Which worker comes first is not said, nor that two of them run at the
+/// same time.
 ///
 /// All room for desks and replies is made before a worker is started. Refused, in this order: more than
 /// 1,024 desks that would be out (`LimitReached`); want of memory. Where memory is wanting, for a row or for a

@@ -46,7 +46,18 @@ pub struct Store<N: Naming, C: Ledger, R: Ledger, D: Ledger, A: Ledger> {
 }
 
 /// How often the lock is tried before a thread sleeps until it is free.
-const TRIES: u32 = 64;
+const TRIES: u32 = 20;
+
+/// How many turns a thread waits from one try to the next: the time of some commands, so that whoever has the lock
+/// may come back to it while the book's memory is still near.
+const TURNS: u32 = 1000;
+
+/// Waits for a moment, without letting the processor go.
+fn pause() {
+    for _ in 0..TURNS {
+        spin_loop();
+    }
+}
 
 /// Fills a chunk in: one that is to be the last is hashed by the algorithm that is named.
 fn fill_in(hand: Hand, bytes: &[u8], last: Option<Algorithm>) -> Result<Hand, Hand>
@@ -88,14 +99,14 @@ impl<N: Naming, C: Ledger, R: Ledger, D: Ledger, A: Ledger> Store<N, C, R, D, A>
         }
     }
 
-    /// The lock, once it is free. Commands hold it so shortly that it is tried some times before the thread sleeps:
-    /// a sleep and a wake cost several times what most commands do under it.
+    /// The lock, once it is free. Most commands hold it for a microsecond, so it is tried some times before the
+    /// thread sleeps, which with its wake costs several times that.
     fn locked(&self, rt: &impl Wait) -> MutexGuard<'_, Kept<N, C, R, D, A>> {
         for _ in 0..TRIES {
             if let Some(kept) = self.kept.try_lock() {
                 return kept;
             }
-            spin_loop();
+            pause();
         }
         self.kept.lock(rt)
     }

@@ -120,8 +120,8 @@ fn spend_all<C: Ledger, R: Ledger, D: Ledger, A: Ledger>(
     spent
 }
 
-/// Plays each job in a thread of its own, the last one first, and joins them all. Once one can't be started,
-/// none that follows is, and those that have not begun play nothing.
+/// Plays the last job in the calling thread, once each other one was started in a thread of its own, and joins
+/// these. Once one can't be started, none that follows is, and those that have not begun play nothing.
 pub fn play_all<
     W: Threads + Wait + Sync,
     G: Gate + Send + Sync,
@@ -166,6 +166,9 @@ pub fn play_all<
                     spent: spend_all(jobs, spent),
                 };
             };
+            let Some(own) = jobs.pop() else {
+                return Ended { outcomes, spent };
+            };
             while let Some(job) = jobs.pop() {
                 let worker = job.worker;
                 let promise = Plays { rows, worker };
@@ -184,10 +187,12 @@ pub fn play_all<
                 }
             }
             let spent = spend_all(jobs, spent);
+            let outcome = work(rt, alloc, store, gate, rows, halt, own);
             while let Some(child) = children.pop() {
                 outcomes.push_reserved(child.join(rt));
             }
             stays(rows, count);
+            outcomes.push_reserved(outcome);
             Ended { outcomes, spent }
         },
     )

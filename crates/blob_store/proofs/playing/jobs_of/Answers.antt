@@ -1,4 +1,4 @@
-use Rattle.std.proofs.Common.{◌≡◌, ◌+◌, ◌≤◌, ◌∙◌, [], ap, arith, length, map, refl, subst, sym, vec_capacity}
+use Rattle.std.proofs.Common.{◌≡◌, ◌≤◌, ◌∙◌, [], ap, arith, length, map, refl, subst, sym, vec_capacity}
 use Rattle.blob_store.specs.Totals.{sum_of}
 use Rattle.blob_store.specs.Workers.{AllAt, IsReady, IsTurn}
 use Rattle.blob_store.proofs.Places.{at_first, at_last, at_pushed}

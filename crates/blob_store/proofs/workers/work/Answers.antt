@@ -1,4 +1,4 @@
-use Rattle.std.proofs.Common.{◌≡◌, ◌∙◌, map, sym, subst}
+use Rattle.std.proofs.Common.{◌∙◌, map, sym, subst}
 use Rattle.blob_store.specs.Seats.{SeatActs}
 use Rattle.blob_store.specs.Totals.{nothing}
 use Rattle.row_player.specs.Answers.{answers_of}
