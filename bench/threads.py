@@ -2,14 +2,15 @@
 """What several workers gain.
 
 Each workload is one script, played with 1, 2 and 4 workers. It has four lanes, each of a tenant of its own, so that
-the workers share nothing but the store. A line tells the wall time in milliseconds for each number of workers, and
-how many times as fast as one worker the most are. The whole script is read and parsed by one thread before it is
-played; the line "read and refused" is what that takes of an upload.
+the workers share nothing but the store. The lines of a workload tell the median and the least of the wall times, in
+milliseconds, for each number of workers, and how many times as fast as one worker the most are. The whole script is
+read and parsed by one thread before it is played; the line "read and refused" is what that takes of an upload.
 
     bench/threads.py [--mib N] [--runs N] [WORKLOAD..]
 """
 import argparse
 import os
+import statistics
 
 from play import row, sha256, wall_seconds
 
@@ -66,7 +67,7 @@ def workloads(mib):
 def main():
     words = argparse.ArgumentParser(description=__doc__, formatter_class=argparse.RawDescriptionHelpFormatter)
     words.add_argument("--mib", type=int, default=160, help="the length of all uploads in MiB (160)")
-    words.add_argument("--runs", type=int, default=3, help="the least of so many runs counts (3)")
+    words.add_argument("--runs", type=int, default=9, help="how many runs of each, taken in turn (9)")
     words.add_argument("workload", nargs="*", help="refused, uploads, small (all)")
     options = words.parse_args()
     known = workloads(options.mib)
@@ -76,9 +77,14 @@ def main():
     for name in options.workload or known:
         says, make = known[name]
         script = make().encode()
-        took = [wall_seconds(["--workers", str(n), *limits], script, options.runs) for n in WORKERS]
-        times = "".join(f"{seconds * 1000:12.0f}" for seconds in took)
-        print(f"{times} {took[0] / took[-1]:7.2f}  {says}", flush=True)
+        took = {workers: [] for workers in WORKERS}
+        for _ in range(options.runs):
+            for workers in WORKERS:
+                took[workers].append(wall_seconds(["--workers", str(workers), *limits], script, 1))
+        for kind, of in (("median", statistics.median), ("least", min)):
+            times = [of(took[workers]) for workers in WORKERS]
+            line = "".join(f"{seconds * 1000:12.0f}" for seconds in times)
+            print(f"{line}{times[0] / times[-1]:8.2f}  {says}, {kind}")
 
 
 if __name__ == "__main__":
