@@ -1,25 +1,19 @@
--- A text of digits in lower case is the hex text of some bytes.
-use Rattle.std.proofs.Common.{◌≡◌, ℕ, zero, suc, ◌+◌, ◌-◌, ◌*◌, ◌/◌, ◌%◌, ◌<◌, ◌==◌, Bool, true, ◌&&◌, ◌||◌, not, nat_le, nat_lt, if◌then◌else◌, inl, inr, List, [], ◌∷◌, length, slice_index, Result, Ok, Err, refl, sym, ap, ◌∙◌, arith, ltb-true}
+-- A text of digits in lower case is the hex text of the bytes that are computed from its digits.
+use Rattle.std.proofs.Common.{◌≡◌, ℕ, zero, suc, ◌+◌, ◌*◌, ◌/◌, ◌%◌, ◌<◌, ◌==◌, Bool, true, ◌&&◌, ◌||◌, not, nat_lt, inl, inr, List, [], ◌∷◌, length, slice_index, refl, sym, ap, ◌∙◌, arith, ltb-true}
 use Rattle.std.proofs.lemmas.Bool.{and_parts, cases_lt, eqb-true}
 use Rattle.std.proofs.lemmas.Bool.Decides.{nat_tests}
-use Rattle.std.proofs.lemmas.List.Elements.{All-head, All-tail}
 use Rattle.std.specs.List.{AllPass}
-use Rattle.std.specs.Result.{result_unwrap_or}
-use Rattle.std.specs.Prelude.{MatchResult}
-use Rattle.hex.specs.Hex.{IsBytes, decode_sized, encode_lower, encode_with, lower_digits}
-use Rattle.hex.specs.declared.error.FromHexError.{FromHexError}
-use Rattle.hex.proofs.HexLemmas.{decode_sized-encode_lower, length-encode_with}
-use Rattle.blob_digest.specs.Digests.{is_spelled, is_lower_hex}
+use Rattle.hex.specs.Hex.{encode_lower, encode_with, lower_digits}
+use Rattle.hex.proofs.Pairs.{drop-pair}
+use Rattle.std.proofs.lemmas.List.{append_assoc, take_more_set}
+use Rattle.std.specs.Prelude.{slice_set}
+use Rattle.blob_digest.specs.Digests.{digit_of, is_spelled, is_lower_hex}
 use Rattle.std.specs.List.{list_all, starts_with}
 use Rattle.std.specs.Prelude.{nat_eq, drop, take, ◌++◌}
 use Rattle.std.proofs.lemmas.List.{length-drop}
 use Rattle.std.proofs.lemmas.List.Sums.{AllPass-from_list_all}
 use Rattle.std.proofs.lemmas.Slice.Eq.{bytes_eq-Decides}
 use Rattle.std.proofs.lemmas.List.{take-append-drop}
-
--- the value of a digit
-abbrev digit_of : ℕ → ℕ
-digit_of c = if nat_le c 57 then c - 48 else c - 87
 
 -- whether a digit stands at its value's place in the table
 abbrev spells : ℕ → Bool
@@ -50,58 +44,8 @@ digit c h =
     let parts = and_parts (slice_index lower_digits (digit_of c) == c) (nat_lt (digit_of c) 16) (rw h at both) in
     (eqb-true (slice_index lower_digits (digit_of c)) c parts.0, ltb-true (digit_of c) 16 parts.1)
 
-IsBytes-cons : (b : ℕ) (rest : List ℕ) → b < 256 → IsBytes rest → IsBytes (b ∷ rest)
-IsBytes-cons b rest h hs zero = h
-IsBytes-cons b rest h hs (suc i) = hs i
-
 cons_two : (a b c d : ℕ) (s t : List ℕ) → a ≡ b → c ≡ d → s ≡ t → (a ∷ c ∷ s) ≡ (b ∷ d ∷ t)
 cons_two a b c d s t x y z = cc
-
--- digits in lower case, of even number, are the text of some bytes
-pub lower_is_text : (s : List ℕ) → length s % 2 ≡ 0 → AllPass is_lower_hex s
-    → (bytes : List ℕ) × (s ≡ encode_lower bytes) × IsBytes bytes
-unfolding encode_with
-lower_is_text [] even h = ([], refl, λ k. omega arith)
-lower_is_text (a ∷ []) even h = absurd (omega arith)
-lower_is_text (a ∷ b ∷ rest) even h =
-    let P : ℕ → Type 0 = λ c. is_lower_hex c ≡ true in
-    let tail = All-tail P a (b ∷ rest) h in
-    let da = digit a (All-head P a (b ∷ rest) h) in
-    let db = digit b (All-head P b rest tail) in
-    let ih = lower_is_text rest (omega arith) (All-tail P b rest tail) in
-    let high : (digit_of a * 16 + digit_of b) / 16 ≡ digit_of a = omega arith in
-    let low : (digit_of a * 16 + digit_of b) % 16 ≡ digit_of b = omega arith in
-    let ea : slice_index lower_digits ((digit_of a * 16 + digit_of b) / 16) ≡ a = ap (slice_index lower_digits) high ∙ da.0 in
-    let eb : slice_index lower_digits ((digit_of a * 16 + digit_of b) % 16) ≡ b = ap (slice_index lower_digits) low ∙ db.0 in
-    let fits : digit_of a * 16 + digit_of b < 256 = omega arith in
-    ((digit_of a * 16 + digit_of b) ∷ ih.0, sym (cons_two _ _ _ _ _ _ ea eb (sym ih.1)), IsBytes-cons _ _ fits ih.2)
-
--- what decodes from digits in lower case has these as its text
-pub text_of_decoded : (s : List ℕ) (n : ℕ) (bytes : List ℕ) → length s ≡ 2 * n → AllPass is_lower_hex s → decode_sized s n ≡ Ok bytes → s ≡ encode_lower bytes
-text_of_decoded s n bytes len h decoded =
-    let found = lower_is_text s (omega arith) h in
-    let size : length found.0 ≡ n = omega (arith, length-encode_with lower_digits found.0, ap length found.1) in
-    let again : decode_sized s n ≡ Ok found.0 = ap (λ (x : List ℕ). decode_sized x n) found.1 ∙ decode_sized-encode_lower found.0 n size found.2 in
-    found.1 ∙ ap encode_lower (ap (λ (r : Result (List ℕ) FromHexError). result_unwrap_or r []) (sym again ∙ decoded))
-
--- digits in lower case decode
-pub lower_decodes : (s : List ℕ) (n : ℕ) → length s ≡ 2 * n → AllPass is_lower_hex s → (bytes : List ℕ) × (decode_sized s n ≡ Ok bytes)
-lower_decodes s n len h =
-    let found = lower_is_text s (omega arith) h in
-    let size : length found.0 ≡ n = omega (arith, length-encode_with lower_digits found.0, ap length found.1) in
-    (found.0, ap (λ (x : List ℕ). decode_sized x n) found.1 ∙ decode_sized-encode_lower found.0 n size found.2)
-
--- a slice that was written holds what its text decodes to
-pub written_ok : (d : Result (List ℕ) FromHexError) (r : Result Unit FromHexError) (out : List ℕ)
-    → MatchResult d (λ bytes. (r ≡ Ok tt) × (out ≡ bytes)) (λ e. r ≡ Err e) → r ≡ Ok tt → d ≡ Ok out
-written_ok (Ok bytes) r out h ok = ap Ok (sym h.1)
-written_ok (Err e) r out h ok = cc
-
--- what isn't written doesn't decode
-pub written_err : (d : Result (List ℕ) FromHexError) (r : Result Unit FromHexError) (out : List ℕ) (e : FromHexError)
-    → MatchResult d (λ bytes. (r ≡ Ok tt) × (out ≡ bytes)) (λ e. r ≡ Err e) → r ≡ Err e → (bytes : List ℕ) → d ≡ Ok bytes → ⊥
-written_err (Ok bytes) r out e h err xs found = cc
-written_err (Err d) r out e h err xs found = cc
 
 -- what the test says
 pub whole_of : (name text : List ℕ) (n : ℕ) → length name ≡ 7 → is_spelled name (2 * n) text ≡ true
@@ -112,3 +56,40 @@ whole_of name text n seven h =
     let size = eqb-true (length text) (7 + 2 * n) front.0 in
     let prefix : take 7 text ≡ name = sym (ap (λ k. take k text) seven) ∙ sym ((bytes_eq-Decides name (take (length name) text)).0 front.1) in
     (sym (take-append-drop 7 text) ∙ ap (λ x. x ++ drop 7 text) prefix, omega (arith, length-drop 7 text), AllPass-from_list_all is_lower_hex (drop 7 text) parts.1)
+
+-- the text of bytes and more bytes
+pub encoded-append : (xs ys : List ℕ) → encode_lower (xs ++ ys) ≡ encode_lower xs ++ encode_lower ys
+unfolding encode_with
+encoded-append [] ys = refl
+encoded-append (x ∷ xs) ys = ap (λ (rest : List ℕ). slice_index lower_digits (x / 16) ∷ slice_index lower_digits (x % 16) ∷ rest) (encoded-append xs ys)
+
+-- two digits are the text of their byte
+pub pair_text : (a b : ℕ) → is_lower_hex a ≡ true → is_lower_hex b ≡ true → encode_lower ((digit_of a * 16 + digit_of b) ∷ []) ≡ (a ∷ b ∷ [])
+unfolding encode_with
+pair_text a b ha hb =
+    let da = digit a ha in
+    let db = digit b hb in
+    let high : (digit_of a * 16 + digit_of b) / 16 ≡ digit_of a = omega arith in
+    let low : (digit_of a * 16 + digit_of b) % 16 ≡ digit_of b = omega arith in
+    cons_two _ _ _ _ _ _ (ap (slice_index lower_digits) high ∙ da.0) (ap (slice_index lower_digits) low ∙ db.0) refl
+
+-- one byte more is decoded
+pub decoded_more : (s out : List ℕ) (i v : ℕ) → 2 * i + 1 < length s → i < length out → AllPass is_lower_hex s
+    → v ≡ digit_of (slice_index s (2 * i)) * 16 + digit_of (slice_index s (2 * i + 1))
+    → encode_lower (take i out) ++ drop (2 * i) s ≡ s
+    → encode_lower (take (i + 1) (slice_set out i v)) ++ drop (2 * (i + 1)) s ≡ s
+decoded_more s out i v fits room h ev inv =
+    let a = slice_index s (2 * i) in
+    let b = slice_index s (2 * i + 1) in
+    let pair : encode_lower (v ∷ []) ≡ (a ∷ b ∷ []) = rw ev (pair_text a b (h (2 * i) 0 (omega arith)) (h (2 * i + 1) 0 fits)) in
+    let front = take_more_set out i v room in
+    let text : encode_lower (take i out ++ v ∷ []) ≡ encode_lower (take i out) ++ (a ∷ b ∷ []) = encoded-append (take i out) (v ∷ []) ∙ ap (λ (x : List ℕ). encode_lower (take i out) ++ x) pair in
+    ap (λ (x : List ℕ). encode_lower x ++ drop (2 * (i + 1)) s) front
+    ∙ ap (λ (x : List ℕ). x ++ drop (2 * (i + 1)) s) text
+    ∙ append_assoc (encode_lower (take i out)) (a ∷ b ∷ []) (drop (2 * (i + 1)) s)
+    ∙ ap (λ (x : List ℕ). encode_lower (take i out) ++ x) (sym (drop-pair s i fits))
+    ∙ inv
+
+pub decoded_none : (s : List ℕ) → encode_lower [] ++ s ≡ s
+unfolding encode_with
+decoded_none s = refl

@@ -7,7 +7,7 @@ ghost use Rattle.std.specs.Cmp.{partial_equiv_from_equiv};
 ghost use Rattle.std.specs.Cmp.Lexicographic.{slice_cmp, bytes_decides, nat_list_eq_equiv, nat_list_cmp_total, texts_ties, texts_po};
 ghost use Rattle.std.specs.Hash.{same_Alike};
 ghost use Rattle.blob_digest.specs.Checksums.{checksum_of, text_of, value_of};
-ghost use Rattle.blob_digest.specs.Digests.{IsDigestText, algorithm_of, hash_text, is_digest_text, is_lower_hex, is_spelled};
+ghost use Rattle.blob_digest.specs.Digests.{IsDigestText, algorithm_of, digit_of, hash_text, is_digest_text, is_lower_hex, is_spelled};
 
 use crate::algorithm::Algorithm;
 use crate::checksum::Checksum;
@@ -51,11 +51,15 @@ fn is_digit(c: u8) -> bool
     matches!(c, b'0'..=b'9' | b'a'..=b'f')
 }
 
-/// Whether each byte is a digit of the encoded part.
+/// Whether each byte is a digit of the encoded part. All are looked at, so that several can be at once.
 fn all_digits(text: &[u8]) -> bool
     ensures { result ≡ list_all is_lower_hex text.now }
 {
-    text.iter().all(|c| is_digit(*c))
+    let mut all = true;
+    for c in text {
+        all &= is_digit(*c);
+    }
+    all
 }
 
 /// Whether a text is this name and then so many digits.
@@ -74,15 +78,24 @@ fn encoded_part(text: &[u8]) -> &[u8]
     &text[7..]
 }
 
+/// The value of a digit. It is computed without a branch on the digit, which none could foretell.
+fn digit_value(c: u8) -> u8
+    requires { is_lower_hex c ≡ true }
+    ensures { result ≡ digit_of c }
+{
+    if c <= b'9' { c - b'0' } else { c - 87 }
+}
+
 /// The bytes that digits in lower case spell.
 fn decode(encoded: &[u8], value: &mut [u8])
     requires digits { list_all is_lower_hex encoded.now ≡ true }
     requires size { length encoded.now ≡ 2 * length value.old }
     ensures { encode_lower value.new ≡ encoded.now }
 {
-    match hex::decode_to_slice(encoded, value) {
-        Ok(()) => {}
-        Err(_) => unreachable!(),
+    'bytes: for i in 0..value.len() {
+        let high = digit_value(encoded[2 * i]);
+        let low = digit_value(encoded[2 * i + 1]);
+        value[i] = high * 16 + low;
     }
 }
 
