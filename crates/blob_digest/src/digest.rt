@@ -83,7 +83,7 @@ fn digit_value(c: u8) -> u8
     requires { is_lower_hex c ≡ true }
     ensures { result ≡ digit_of c }
 {
-    if c <= b'9' { c - b'0' } else { c - 87 }
+    if c <= b'9' { c - b'0' } else { c - b'a' + 10 }
 }
 
 /// The bytes that digits in lower case spell.
