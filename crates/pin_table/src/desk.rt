@@ -134,6 +134,21 @@ impl<'s> Desk<'s> {
         Some(self.pins.reclaim(&mut self.keeper, 0))
     }
 
+    /// The bound once a pin was lent and the others were given back, and after the pin is verified;
+    /// none where the slot isn't live or has no room.
+    pub fn bounds_around_verify(&mut self, others: &mut Vec<Lease<'s>>) -> Option<(u32, u32)> {
+        if self.keeper.phase(0) != Phase::Live {
+            return None;
+        }
+        let pin = self.pins.lend(&mut self.keeper, 0).ok()?;
+        give_all(others);
+        let before = self.keeper.bound(0);
+        let pin = self.pins.verify(&mut self.keeper, pin);
+        let after = self.keeper.bound(0);
+        self.pins.leave(pin);
+        Some((before, after))
+    }
+
     /// As many leases as there are to be had, up to that many.
     pub fn lend_many(&mut self, alloc: Global, count: u32) -> Vec<Lease<'s>> {
         let mut leases = Vec::new(alloc);

@@ -4,9 +4,10 @@
 //! It stands on `pin_core` for the world of slots and pins and for a word's layout, and on the kit's
 //! `atomic_table` for steps on words. It promises that between any two steps the words are those of
 //! a pin world to which events lead that can happen in their turn, that the keeper's rows are the
-//! rows of that world, that each step is its event of that world (`laws::steps`) and every list of
-//! steps one list of events (`laws::histories`), and that what a call says it found was found by a
-//! step of that call. No call but `Pins::new` takes memory, and none waits.
+//! rows of that world, and that each step of the kinds of `plays.rt` is its event of that world
+//! (`laws::steps`) and every list of such steps one list of events (`laws::histories`). What a call
+//! says it found was found by a step of that call where its body makes its steps by these kinds. No
+//! call but `Pins::new` takes memory, and none waits.
 #![tactic(auto)]
 
 mod keeper;

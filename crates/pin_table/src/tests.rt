@@ -95,6 +95,40 @@ fn the_words_of_one_slot(rt: HostRuntime) {
     slot_is(&rt, &desk, Phase::Live, 1, Some(digest_of(OBJ)));
 }
 
+fn reclaim_is(rt: &impl Abort, desk: &mut Desk<'_>, wanted: Reclaim) {
+    assert_eq!(rt; desk.reclaim(), Some(wanted));
+}
+
+#[test]
+fn a_held_slot_is_reclaimed_once_its_pin_has_left(rt: HostRuntime) {
+    let (pins, keeper) = Pins::new(rt.alloc(), 1, 0).expect(&rt, "memory");
+    let mut desk = open(&pins, keeper);
+    word_is(&rt, &mut desk, 0x0000_0000_8000_0000);
+    let lease = desk.lend().expect(&rt, "a live slot").expect(&rt, "room");
+    word_is(&rt, &mut desk, 0x0000_0000_8000_0400);
+    assert!(rt; desk.condemn());
+    word_is(&rt, &mut desk, 0x0000_0000_c000_0400);
+    reclaim_is(&rt, &mut desk, Reclaim::Held { weight: 1024 });
+    word_is(&rt, &mut desk, 0x0000_0000_c000_0400);
+    lease.give_back();
+    word_is(&rt, &mut desk, 0x0000_0000_c000_0000);
+    reclaim_is(&rt, &mut desk, Reclaim::Freed);
+    word_is(&rt, &mut desk, 0x0000_0001_0000_0000);
+    assert!(rt; desk.give(digest_of(OBJ)));
+    word_is(&rt, &mut desk, 0x0000_0001_8000_0000);
+}
+
+#[test]
+fn a_verify_sets_the_bound_to_the_sum_that_is_there(rt: HostRuntime) {
+    let alloc = rt.alloc();
+    let (pins, keeper) = Pins::new(alloc, 1, 0).expect(&rt, "memory");
+    let mut desk = open(&pins, keeper);
+    let mut others = desk.lend_many(alloc, 2);
+    let bounds = desk.bounds_around_verify(&mut others);
+    assert_eq!(rt; bounds, Some((3072, 1024)));
+    end(others);
+}
+
 /// Whether a pin on slot 0 in generation 0 has this digest and weight.
 fn is_pin(pin: &Pin, digest: Digest, weight: u32) -> bool {
     pin.slot() == 0 && pin.generation() == 0 && pin.digest() == digest && pin.weight() == weight

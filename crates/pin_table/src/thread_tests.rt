@@ -103,11 +103,7 @@ fn condemn_while_they_leave(
     sum: u32,
     condemned: &AtomicBool,
 ) -> (Option<Reclaim>, Option<Reclaim>) {
-    for _ in 0..MAX_TURNS {
-        if unpack(desk.word()).weight < sum {
-            break;
-        }
-    }
+    await_less(desk, sum);
     desk.condemn();
     let first = desk.reclaim();
     condemned.store(true, Ordering::SeqCst);
@@ -152,8 +148,19 @@ struct Seen {
     condemned: u32,
 }
 
-/// Lends at the limit, so many times, and looks at the word after each. The leases go to the list.
+/// Waits until a lease of the sum has left the slot, for so many turns.
+fn await_less(desk: &mut Desk<'_>, sum: u32) {
+    for _ in 0..MAX_TURNS {
+        if unpack(desk.word()).weight < sum {
+            break;
+        }
+    }
+}
+
+/// Lends at the limit, so many times, from when a lease has left on, and looks at the word after
+/// each. The leases go to the list.
 fn lend_at_the_limit<'s>(desk: &mut Desk<'s>, leases: &mut Vec<Lease<'s>>, times: u32) -> Seen {
+    await_less(desk, 0x3fff_fc00);
     let mut seen = Seen {
         lent: 0,
         refused: 0,
