@@ -18,9 +18,9 @@ use Rattle.upload_table.specs.Uploaded.{Uploaded}
 use Rattle.store_book.specs.BookState.{SlotSeen}
 use Rattle.store_book.specs.Catalog.{Text, Catalog, holds}
 use Rattle.store_book.specs.Keeping.{linked_slot}
-use Rattle.store_book.specs.Layers.{resident_of, book_catalog, IsBook}
-use Rattle.store_book.specs.Pinned.{Pinned, IsFull, row_of, seen, all_seen, bounded, with_both}
-use Rattle.store_book.specs.SlotSteps.{EachSlot, IsCrowded, IsLending}
+use Rattle.store_book.specs.Layers.{resident_of, book_catalog, book_state, IsBook}
+use Rattle.store_book.specs.Pinned.{Pinned, IsFull, blob_digest, row_of, seen, all_seen, bounded, lent_on, one_more}
+use Rattle.store_book.specs.SlotSteps.{EachSlot, FindsNoRoom, IsCrowded, IsLending}
 use Rattle.store_book.specs.Steps.{lease, with_lent}
 use Rattle.store_book.proofs.Changing.{catalog-change, lend-KeepsTies, resident_at, IsTied-change}
 use Rattle.store_book.proofs.LawfulLease.{Sound-after_lease}
@@ -75,9 +75,16 @@ module _ (l : Linked) (u : Uploaded) (slots : List Slot) (max_blob t : ℕ) (rep
     pub IsBook-lease : (slots1 : List Slot) → slots1 ≡ slots' → IsBook l u slots1 max_blob
     IsBook-lease slots1 is = subst (λ (x : List Slot). IsBook l u x max_blob) (sym is) leased_book
 
+    -- what was shared is the blob of the digest
+    shared_blob : (blob : Text × Text) → Some blob ≡ option_map (λ (h : Held). (h.digest, h.bytes)) (held_at slots k) → blob ≡ (held.0.digest, held.0.bytes)
+    shared_blob blob shared = some_same (shared ∙ ap (option_map (λ (h : Held). (h.digest, h.bytes))) held.1)
+
+    pub shared_digest : (blob : Text × Text) → Some blob ≡ option_map (λ (h : Held). (h.digest, h.bytes)) (held_at slots k) → blob_digest blob ≡ digest
+    shared_digest blob shared = ap blob_digest (shared_blob blob shared) ∙ held.2
+
     pub lease_ok : (slots1 : List Slot) (blob : Text × Text) → slots1 ≡ slots' → Some blob ≡ option_map (λ (h : Held). (h.digest, h.bytes)) (held_at slots k) → lease false C repo digest ≡ Ok (blob.1, book_catalog l u slots1 max_blob)
     lease_ok slots1 blob is shared =
-        let same : blob ≡ (held.0.digest, held.0.bytes) = some_same (shared ∙ ap (option_map (λ (h : Held). (h.digest, h.bytes))) held.1) in
+        let same = shared_blob blob shared in
         leased ∙ (λ i. Ok ((sym same i).1, book_catalog l u (sym is i) max_blob))
 
     -- the pin has the digest
@@ -87,6 +94,25 @@ module _ (l : Linked) (u : Uploaded) (slots : List Slot) (max_blob t : ℕ) (rep
         some_same (sym has_digest ∙ ap (λ (r : PinRow). r.digest) (row-at slots k s.0 s.1) ∙ ap (option_map (λ (h : Held). h.digest)) s.2) ∙ held.2
 
 -- ---- what is seen
+
+-- two slots that show the same but for their bounds
+abbrev ShowsSame : SlotSeen → SlotSeen → Type 0
+ShowsSame a b = (b.generation ≡ a.generation) × (b.phase ≡ a.phase) × (b.digest ≡ a.digest)
+
+shows_same : (s t : Slot) (n m : ℕ) (a b : SlotSeen) → a ≡ seen s n → b ≡ seen t m → seen t 0 ≡ seen s 0 → ShowsSame a b
+shows_same s t n m a b is now same = (
+  ap (λ (z : SlotSeen). z.generation) now ∙ ap (λ (z : SlotSeen). z.generation) same ∙ sym (ap (λ (z : SlotSeen). z.generation) is),
+  ap (λ (z : SlotSeen). z.phase) now ∙ ap (λ (z : SlotSeen). z.phase) same ∙ sym (ap (λ (z : SlotSeen). z.phase) is),
+  ap (λ (z : SlotSeen). z.digest) now ∙ ap (λ (z : SlotSeen). z.digest) same ∙ sym (ap (λ (z : SlotSeen). z.digest) is),
+)
+
+lend-seen : (s : Slot) → seen (on_held lend s) 0 ≡ seen s 0
+lend-seen s = by_content s.content
+  where
+    by_content : (c : Content) → seen (record { generation = s.generation; content = content_with lend c }) 0 ≡ seen (record { generation = s.generation; content = c }) 0
+    by_content Free = refl
+    by_content (Used h) = refl
+    by_content Retired = refl
 
 -- a look lets no reader in
 pub EachSlot-looked : (digest : Text) (p q : Pinned) (k n : ℕ) → n ≤ slice_index p.bounds k → q ≡ bounded k n p → (q.table ≡ p.table) × EachSlot (IsLending digest) (all_seen p.slots p.bounds) (all_seen q.slots q.bounds)
@@ -101,7 +127,8 @@ EachSlot-looked digest p q k n le is = subst (λ (x : Pinned). (x.table ≡ p.ta
         let old : a.bound ≡ slice_index p.bounds j = ap (λ (z : SlotSeen). z.bound) x.2 in
         let new : b.bound ≡ slice_index (slice_set p.bounds k n) j = ap (λ (z : SlotSeen). z.bound) y.2 in
         let lower = index-set-le p.bounds k n j le in
-        (ap (λ (z : SlotSeen). z.generation) y.2 ∙ ap (λ (z : Slot). z.generation) (sym same) ∙ sym (ap (λ (z : SlotSeen). z.generation) x.2), λ rises. absurd (omega arith)),
+        let kept = shows_same x.0 y.0 _ _ a b x.2 y.2 (ap (λ (z : Slot). seen z 0) (sym same)) in
+        (kept.0, (λ rises. absurd (omega arith)), kept.1, kept.2),
   ),
 )
 
@@ -117,13 +144,8 @@ index-set-most [] k n = omega arith
 index-set-most (x ∷ xs) zero n = omega arith
 index-set-most (x ∷ xs) (suc k) n = index-set-most xs k n
 
-lend_digest : (c : Content) → option_map (λ (h : Held). h.digest) (held_in (content_with lend c)) ≡ option_map (λ (h : Held). h.digest) (held_in c)
-lend_digest Free = refl
-lend_digest (Used h) = refl
-lend_digest Retired = refl
-
 -- a lease lets one reader in, on the slot of its digest
-pub EachSlot-lent : (digest : Text) (p q : Pinned) (k n : ℕ) (h : Held) → held_at p.slots k ≡ Some h → h.digest ≡ digest → n ≤ slice_index p.bounds k + new_weight → q ≡ with_both k (on_held lend) n p →
+pub EachSlot-lent : (digest : Text) (p q : Pinned) (k n : ℕ) (h : Held) → held_at p.slots k ≡ Some h → h.digest ≡ digest → n ≤ slice_index p.bounds k + new_weight → q ≡ lent_on k n p →
     (q.table ≡ p.table) × EachSlot (IsLending digest) (all_seen p.slots p.bounds) (all_seen q.slots q.bounds)
 EachSlot-lent digest p q k n h at is_digest le is = subst (λ (x : Pinned). (x.table ≡ p.table) × EachSlot (IsLending digest) (all_seen p.slots p.bounds) (all_seen x.slots x.bounds)) (sym is) (
   refl,
@@ -140,21 +162,24 @@ EachSlot-lent digest p q k n h at is_digest le is = subst (λ (x : Pinned). (x.t
               let same : on_held lend x.0 ≡ y.0 = some_same (sym (slot-same p.slots k (on_held lend) x.0 here) ∙ ap (slice_get (with_slot p.slots k (on_held lend))) (sym e) ∙ y.1) in
               let most = index-set-most p.bounds k n in
               let old_k : a.bound ≡ slice_index p.bounds k = old ∙ ap (slice_index p.bounds) e in
-              let new_k : b.bound ≡ slice_index (slice_set p.bounds k n) k = new ∙ ap (slice_index (slice_set p.bounds k n)) e in (
-                ap (λ (z : SlotSeen). z.generation) y.2 ∙ ap (λ (z : Slot). z.generation) (sym same) ∙ sym (ap (λ (z : SlotSeen). z.generation) x.2),
-                λ rises. (
-                  ap (λ (z : SlotSeen). z.digest) y.2 ∙ ap (λ (z : Slot). option_map (λ (g : Held). g.digest) (held_in z.content)) (sym same) ∙ lend_digest x.0.content
-                      ∙ ap (option_map (λ (g : Held). g.digest)) (sym (ap (λ o. option_map_or (λ (z : Slot). held_in z.content) o None) here) ∙ at) ∙ ap Some is_digest,
-                  omega arith,
-                ),
-              )
+              let new_k : b.bound ≡ slice_index (slice_set p.bounds k n) k = new ∙ ap (slice_index (slice_set p.bounds k n)) e in
+              let kept = shows_same x.0 y.0 _ _ a b x.2 y.2 (ap (λ (z : Slot). seen z 0) (sym same) ∙ lend-seen x.0) in
+              let held : a.digest ≡ Some digest = ap (λ (z : SlotSeen). z.digest) x.2 ∙ ap (option_map (λ (g : Held). g.digest)) (sym (ap (λ o. option_map_or (λ (z : Slot). held_in z.content) o None) here) ∙ at) ∙ ap Some is_digest in
+              (kept.0, (λ rises. (kept.2 ∙ held, omega arith)), kept.1, kept.2)
           | inr other ↦
               let same : x.0 ≡ y.0 = some_same (sym x.1 ∙ sym (slot-other p.slots k (on_held lend) j other) ∙ y.1) in
-              let kept : slice_index (slice_set p.bounds k n) j ≡ slice_index p.bounds j = get_or-set_other p.bounds k j n 0 other in
-              (ap (λ (z : SlotSeen). z.generation) y.2 ∙ ap (λ (z : Slot). z.generation) (sym same) ∙ sym (ap (λ (z : SlotSeen). z.generation) x.2), λ rises. absurd (omega arith))
+              let stays : slice_index (slice_set p.bounds k n) j ≡ slice_index p.bounds j = get_or-set_other p.bounds k j n 0 other in
+              let kept = shows_same x.0 y.0 _ _ a b x.2 y.2 (ap (λ (z : Slot). seen z 0) (sym same)) in
+              (kept.0, (λ rises. absurd (omega arith)), kept.1, kept.2)
         ],
   ),
 )
+
+one_more-at : (looks : List ℕ) (k : ℕ) → slice_index (one_more k looks) k ≡ slice_index looks k + 1
+one_more-at [] zero = refl
+one_more-at [] (suc k) = one_more-at [] k
+one_more-at (n ∷ looks) zero = refl
+one_more-at (n ∷ looks) (suc k) = one_more-at looks k
 
 -- a look that found no room
 pub IsCrowded-full : (p q : Pinned) (k : ℕ) (digest : Text) (h : Held) → held_at p.slots k ≡ Some h → h.digest ≡ digest → length p.bounds ≡ length p.slots → IsFull k p q → IsCrowded digest (all_seen q.slots q.bounds)
@@ -165,3 +190,17 @@ IsCrowded-full p q k digest h at is one_each full =
     let passes = full.full in
     subst (λ (x : Pinned). IsCrowded digest (all_seen x.slots x.bounds)) (sym full.after)
     (k, seen s.0 (slice_index (slice_set p.bounds k full.weight) k), seen-get p.slots (slice_set p.bounds k full.weight) k s.0 s.1, ap (option_map (λ (x : Held). x.digest)) s.2 ∙ ap Some is, omega arith)
+
+pub finds_no_room : (l : Linked) (u : Uploaded) (max_blob : ℕ) (p q : Pinned) (k : ℕ) (digest : Text) (h : Held) → held_at p.slots k ≡ Some h → h.digest ≡ digest → length p.bounds ≡ length p.slots → IsFull k p q →
+    FindsNoRoom digest (book_state l u p max_blob) (book_state l u q max_blob)
+unfolding IsCrowded-full
+finds_no_room l u max_blob p q k digest h at is one_each full =
+    let crowded = IsCrowded-full p q k digest h at is one_each full in
+    record {
+      slot = crowded.0;
+      found = crowded.1;
+      there = crowded.2;
+      held = crowded.3;
+      full = crowded.4;
+      looked = ap (λ (x : Pinned). slice_index x.looks k) full.after ∙ one_more-at p.looks k;
+    }

@@ -1,4 +1,4 @@
--- What contracts see of a book: its catalog, and beside it its table of words and what they say of its slots.
+-- What contracts see of a book: its catalog, and beside it its table of words, what they say of its slots, and how often the keeper looked at each.
 use Rattle.std.specs.Prelude.{ℕ, Option, List, ◌≡◌, ◌==◌, cond}
 use Rattle.std.proofs.Common.{refl}
 use Rattle.std.specs.Coded.{Coded, code_by, coded×, coded_ℕ, coded_list, coded_option}
@@ -16,10 +16,12 @@ pub record SlotSeen : Type 0 where
   pub digest : Option Text
   pub bound : ℕ
 
+-- the catalog, the table of words, each slot, and for each slot how often the keeper has looked at its word
 pub record BookState : Type 0 where
   pub catalog : Catalog
   pub table : TableId
   pub slots : List SlotSeen
+  pub looks : List ℕ
 
 -- ---- the code by which a proof tells states apart
 
@@ -48,5 +50,5 @@ coded_slot =
 
 abbrev pub coded_state : Coded BookState
 coded_state =
-    code_by (Catalog × (TableId × List SlotSeen)) (coded× coded_catalog (coded× table_id_coded (coded_list coded_slot)))
-    (λ s. (s.catalog, (s.table, s.slots))) (λ p. record { catalog = p.0; table = p.1.0; slots = p.1.1 }) (λ _. refl)
+    code_by (Catalog × (TableId × (List SlotSeen × List ℕ))) (coded× coded_catalog (coded× table_id_coded (coded× (coded_list coded_slot) (coded_list coded_ℕ))))
+    (λ s. (s.catalog, (s.table, (s.slots, s.looks)))) (λ p. record { catalog = p.0; table = p.1.0; slots = p.1.1.0; looks = p.1.1.1 }) (λ _. refl)

@@ -59,7 +59,7 @@ abbrev pub book_catalog : Linked → Uploaded → List Slot → ℕ → Catalog
 book_catalog l u slots max_blob = catalog_from l u slots (lent_marks slots) max_blob
 
 abbrev pub book_state : Linked → Uploaded → Pinned → ℕ → BookState
-book_state l u pinned max_blob = record { catalog = book_catalog l u pinned.slots max_blob; table = pinned.table; slots = all_seen pinned.slots pinned.bounds }
+book_state l u pinned max_blob = record { catalog = book_catalog l u pinned.slots max_blob; table = pinned.table; slots = all_seen pinned.slots pinned.bounds; looks = pinned.looks }
 
 -- What the book keeps of its layers, besides that their catalog is sound.
 pub record IsTied (l : Linked) (slots : List Slot) (lent : List Bool) (C : Catalog) : Type 0 where

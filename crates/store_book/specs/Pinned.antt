@@ -2,9 +2,11 @@
 use Rattle.pin_core.specs.World.{row, row_word, max_weight, Keeps}
 use Rattle.pin_core.specs.declared.world.Hold.{Hold}
 use Rattle.pin_core.specs.Events.{new_weight, lent_hold}
-use Rattle.pin_table.specs.Calls.{PinValue}
+use Rattle.pin_table.specs.Calls.{KeeperValue, PinValue}
+use Rattle.pin_table.specs.declared.view.Sight.{Sight}
 use Rattle.pin_table.specs.declared.reclaim.Reclaim.{Reclaim}
 use Rattle.pin_table.specs.declared.reclaim.Reclaim.TheVariants as reclaim
+use Prim.Native.Nat.{zero, suc}
 use Rattle.std.specs.Prelude.{◌≡◌, ◌+◌, ◌<◌, ◌≤◌, ◌^◌, ℕ, Some, List, [], ◌∷◌, length, map, cond, slice_get, slice_index, slice_set, Bool, false}
 use Rattle.std.specs.Option.{option_map, option_map_or}
 use Rattle.atomic_table.specs.Seated.{TableId}
@@ -26,11 +28,12 @@ pin_phase Retired = pin.Retired
 abbrev pub row_of : Slot → PinRow
 row_of s = record { generation = s.generation; phase = pin_phase s.content; digest = option_map (λ h. h.digest) (held_in s.content) }
 
--- the slots, the bound on the sum of the weights on each, and the table of their words
+-- the slots, the bound on the sum of the weights on each, how often the keeper has looked at each, and the table of their words
 pub record Pinned : Type 0 where
   pub table : TableId
   pub slots : List Slot
   pub bounds : List ℕ
+  pub looks : List ℕ
 
 -- The keeper's rows are the slots', and the bound of a used slot that isn't marked as lent is 0.
 pub record IsPinned (slots : List Slot) (rows : List PinRow) (bounds : List ℕ) : Type 0 where
@@ -41,6 +44,24 @@ pub record IsPinned (slots : List Slot) (rows : List PinRow) (bounds : List ℕ)
 -- whether the slot k holds a blob without links
 abbrev pub is_orphan_at : List Slot → ℕ → Bool
 is_orphan_at slots k = option_map_or is_orphan (slice_get slots k) false
+
+-- ---- looks
+
+-- the slot k was looked at once more; a slot past the end of the list hadn't been looked at
+abbrev pub one_more : ℕ → List ℕ → List ℕ
+one_more zero [] = 1 ∷ []
+one_more (suc k) [] = 0 ∷ one_more k []
+one_more zero (n ∷ looks) = (n + 1) ∷ looks
+one_more (suc k) (n ∷ looks) = n ∷ one_more k looks
+
+-- how often each slot is among the words that were found
+abbrev pub looks_in : List Sight → List ℕ
+looks_in [] = []
+looks_in (x ∷ xs) = one_more x.slot (looks_in xs)
+
+-- how often the keeper has looked at each slot
+abbrev pub looks_of : KeeperValue → List ℕ
+looks_of keeper = looks_in keeper.seen
 
 -- ---- what is seen
 
@@ -58,15 +79,19 @@ all_seen (s ∷ slots) (b ∷ bounds) = seen s b ∷ all_seen slots bounds
 
 -- the slot k changes, and its bound is b
 abbrev pub with_both : ℕ → (Slot → Slot) → ℕ → Pinned → Pinned
-with_both k f b p = record { table = p.table; slots = with_slot p.slots k f; bounds = slice_set p.bounds k b }
+with_both k f b p = record { table = p.table; slots = with_slot p.slots k f; bounds = slice_set p.bounds k b; looks = p.looks }
 
 -- the slot k changes
 abbrev pub slotted : ℕ → (Slot → Slot) → Pinned → Pinned
-slotted k f p = record { table = p.table; slots = with_slot p.slots k f; bounds = p.bounds }
+slotted k f p = record { table = p.table; slots = with_slot p.slots k f; bounds = p.bounds; looks = p.looks }
 
--- the bound of the slot k is b
+-- a look at the slot k found the sum b, which its bound is now
 abbrev pub bounded : ℕ → ℕ → Pinned → Pinned
-bounded k b p = record { table = p.table; slots = p.slots; bounds = slice_set p.bounds k b }
+bounded k b p = record { table = p.table; slots = p.slots; bounds = slice_set p.bounds k b; looks = one_more k p.looks }
+
+-- a look at the slot k, and then a lend on it, whose blob is marked as lent; the bound is b
+abbrev pub lent_on : ℕ → ℕ → Pinned → Pinned
+lent_on k b p = record { table = p.table; slots = with_slot p.slots k (on_held lend); bounds = slice_set p.bounds k b; looks = one_more k p.looks }
 
 -- Each slot stays in its generation, and its bound doesn't rise; so do the words' table.
 pub record Quietly (p q : Pinned) : Type 0 where
@@ -83,11 +108,11 @@ pin_on k p = record { table = p.table; hold = lent_hold k (row (map row_of p.slo
 pub record IsLent (k : ℕ) (p q : Pinned) (pin : PinValue) : Type 0 where
   pub bound : ℕ
   pub within : bound ≤ slice_index p.bounds k + new_weight
-  pub after : q ≡ with_both k (on_held lend) bound p
+  pub after : q ≡ lent_on k bound p
   pub is : pin ≡ pin_on k p
   pub digest : (row (map row_of p.slots) k).digest ≡ Some pin.hold.digest
 
--- The sum that was found on the slot k leaves no room for a pin. The bound is that sum.
+-- The sum that this look found on the slot k leaves no room for a pin. The bound is that sum.
 pub record IsFull (k : ℕ) (p q : Pinned) : Type 0 where
   pub weight : ℕ
   pub within : weight ≤ slice_index p.bounds k
@@ -116,6 +141,9 @@ pub record Verified (h : Hold) (p q : Pinned) : Type 0 where
   pub within : weight ≤ slice_index p.bounds h.slot
   pub after : q ≡ bounded h.slot weight p
 
--- the bytes of a blob
+-- the digest and the bytes of a blob
+abbrev pub blob_digest : Text × Text → Text
+blob_digest blob = blob.0
+
 abbrev pub blob_bytes : Text × Text → Text
 blob_bytes blob = blob.1

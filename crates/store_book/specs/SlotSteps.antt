@@ -1,5 +1,5 @@
 -- What commands and sweeps do to slots, beside what they do to the catalog.
-use Rattle.std.specs.Prelude.{◌≡◌, ◌<◌, ◌≤◌, ◌+◌, ◌^◌, ◌⊎◌, ℕ, Bool, true, Some, None, Result, List, length, slice_get}
+use Rattle.std.specs.Prelude.{◌≡◌, ◌<◌, ◌≤◌, ◌+◌, ◌^◌, ◌⊎◌, ℕ, Bool, true, Some, None, Result, List, length, slice_get, slice_index}
 use Rattle.std.specs.FinMap as fmap
 use Rattle.blob_digest.specs.Digests.{is_digest_of}
 use Rattle.blob_digest.specs.Keys.{Text}
@@ -30,13 +30,26 @@ pub data IsHousing (digest : Text) (a b : SlotSeen) : Type 0 where
   still : IsQuiet a b → b.phase ≡ a.phase → b.digest ≡ a.digest → IsHousing digest a b
   housed : IsQuiet a b → (a.phase ≡ phase.Free) ⊎ (a.digest ≡ Some digest) → b.phase ≡ phase.Live → b.digest ≡ Some digest → IsHousing digest a b
 
--- or one reader more, where it has this digest
+-- a slot stays in its generation and what it is, with its digest; where it has this one, one reader more may be let to it
 abbrev pub IsLending : Text → SlotSeen → SlotSeen → Type 0
-IsLending digest a b = (b.generation ≡ a.generation) × (a.bound < b.bound → (b.digest ≡ Some digest) × (b.bound ≤ a.bound + 1024))
+IsLending digest a b = (b.generation ≡ a.generation) × (a.bound < b.bound → (b.digest ≡ Some digest) × (b.bound ≤ a.bound + 1024)) × (b.phase ≡ a.phase) × (b.digest ≡ a.digest)
 
 -- a look found no room for a reader more on the slot of this digest
 abbrev pub IsCrowded : Text → List SlotSeen → Type 0
 IsCrowded digest slots = (k : ℕ) × (s : SlotSeen) × (slice_get slots k ≡ Some s) × (s.digest ≡ Some digest) × (2 ^ 30 ≤ s.bound + 1024)
+
+-- The slot of this digest was looked at once more, and the sum that was found, which is its bound now, leaves no room for a reader.
+pub record FindsNoRoom (digest : Text) (old new : BookState) : Type 0 where
+  pub slot : ℕ
+  pub found : SlotSeen
+  pub there : slice_get new.slots slot ≡ Some found
+  pub held : found.digest ≡ Some digest
+  pub full : 2 ^ 30 ≤ found.bound + 1024
+  pub looked : slice_index new.looks slot ≡ slice_index old.looks slot + 1
+
+-- no slot was looked at, and none has changed
+abbrev pub IsUnasked : BookState → BookState → Type 0
+IsUnasked old new = (new.slots ≡ old.slots) × (new.looks ≡ old.looks)
 
 -- A lease does what its definition says, and is refused for its readers only where a look found no room for one more.
 pub record Leases {A : Type 0} (view : A → Text) (result : Result A Refusal) (C C' : Catalog) (new : List SlotSeen) (repo digest : Text) : Type 0 where

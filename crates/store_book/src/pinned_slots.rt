@@ -1,6 +1,6 @@
 //! The slots with the keeper of their words.
 
-ghost use Rattle.std.specs.Prelude.{◌≡◌, ◌≢◌, ◌⊎◌, ◌+◌, ◌<◌, ◌^◌, length, replicate, None, Some, IfOk, IfErr, OnErr, MatchResult, IsTrue, ◌↔◌, true, false};
+ghost use Rattle.std.specs.Prelude.{◌≡◌, ◌≢◌, ◌⊎◌, ◌+◌, ◌<◌, ◌^◌, [], length, replicate, None, Some, IfOk, IfErr, OnErr, MatchResult, IsTrue, ◌↔◌, true, false};
 ghost use Rattle.std.specs.Option.{option_map};
 ghost use Rattle.std.specs.Arc.{arc_value};
 ghost use Rattle.blob_digest.specs.declared.refusal.Refusal.TheVariants.{LimitReached, Memory, StoreFull, TooManyReaders};
@@ -26,11 +26,11 @@ pub struct PinnedSlots {
 }
 
 impl Model for PinnedSlots {
-    ghost use Rattle.store_book.specs.Pinned.{Pinned, IsPinned};
+    ghost use Rattle.store_book.specs.Pinned.{Pinned, IsPinned, looks_of};
 
     ghost Value = { Pinned };
 
-    ghost view = { λ a. record { table = a.keeper.table; slots = a.slots; bounds = a.keeper.bounds } };
+    ghost view = { λ a. record { table = a.keeper.table; slots = a.slots; bounds = a.keeper.bounds; looks = looks_of a.keeper } };
 
     ghost invariant = { λ a. IsPinned a.slots a.keeper.rows a.keeper.bounds };
 }
@@ -42,7 +42,7 @@ impl PinnedSlots {
         slots: u32,
         first_generation: u32,
     ) -> Result<(PinnedSlots, Pins), Refusal>
-        ensures made { IfOk result (λ r. ¬ IsOutside slots × (r.0 ≡ record { table = r.1; slots = replicate slots (empty_slot first_generation); bounds = replicate slots 0 })) }
+        ensures made { IfOk result (λ r. ¬ IsOutside slots × (r.0 ≡ record { table = r.1; slots = replicate slots (empty_slot first_generation); bounds = replicate slots 0; looks = [] })) }
         ensures refused { IfErr result (λ e. ((e ≡ LimitReached) × IsOutside slots) ⊎ ((e ≡ Memory) × ¬ IsOutside slots)) }
     {
         let table = SlotTable::new(alloc, slots, first_generation)?;
@@ -158,7 +158,7 @@ impl PinnedSlots {
 
     /// A new pin on a live slot, whose blob is marked as lent.
     ///
-    /// Refused, as `TooManyReaders`, only where the look finds no room for one more.
+    /// Refused, as `TooManyReaders`, only where this call's look finds no room for one more.
     pub fn lend(&mut self, pins: &Pins, slot: u32) -> Result<Pin, Refusal>
         requires table { self.old.table ≡ pins.now }
         requires live { phase_at self.old.slots slot ≡ phase.Live }

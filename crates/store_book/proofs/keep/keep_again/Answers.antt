@@ -36,7 +36,7 @@ returns-after-is_new-clause-ok c =
     elim c.if-is_new.branch [
       | then-is_new w ↦
           kept_new c.args.slots.now.slots c.args.slot c.args.blob c.requires.there test c.args.links.now c.link.new.self c.if-is_new.slots.slots c.args.repo.now (rw (c.digest.ensures.value, c.bytes-2.ensures.value, w.if-is_new.true) at c.in-Ok.ensures)
-          (ap (λ (p : Pinned). p.slots) (w.slots-is ∙ w.link_up.ensures ∙ ap (λ (q : Pinned). record { table = q.table; slots = with_slot q.slots c.args.slot (on_held raise); bounds = q.bounds }) c.revive.ensures))
+          (ap (λ (p : Pinned). p.slots) (w.slots-is ∙ w.link_up.ensures ∙ ap (λ (q : Pinned). record { table = q.table; slots = with_slot q.slots c.args.slot (on_held raise); bounds = q.bounds; looks = q.looks }) c.revive.ensures))
       | else-is_new w ↦
           kept_old c.args.slots.now.slots c.args.slot c.args.blob c.requires.there test c.args.links.now c.link.new.self c.if-is_new.slots.slots c.args.repo.now (rw (c.digest.ensures.value, c.bytes-2.ensures.value, w.if-is_new.false) at c.in-Ok.ensures)
           (ap (λ (p : Pinned). p.slots) (w.slots-is ∙ c.revive.ensures))

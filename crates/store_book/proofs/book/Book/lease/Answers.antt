@@ -3,7 +3,7 @@ use Rattle.std.proofs.lemmas.Result.{err_from_is_err_and}
 use Rattle.store_book.specs.Layers.{book_catalog}
 use Rattle.store_book.specs.Pinned.{Pinned}
 use Rattle.store_book.proofs.Looking.{EachSlot-still}
-use Rattle.store_book.proofs.Leasing.{lease_ok, lease_unknown, lent_digest, live_there, held, lease_full, EachSlot-looked, EachSlot-lent, IsCrowded-full, IsBook-lease}
+use Rattle.store_book.proofs.Leasing.{lease_ok, lease_unknown, lent_digest, live_there, held, lease_full, shared_digest, EachSlot-looked, EachSlot-lent, IsCrowded-full, IsBook-lease, finds_no_room}
 use Rattle.pin_table.specs.Calls.{PinValue}
 use Rattle.store_book.specs.BookState.{BookState}
 use Rattle.store_book.proofs.book.Book.lease.Goals as goal
@@ -61,7 +61,15 @@ returns-in_err-pin-clause-readers c =
     let p = err_from_is_err_and c.from_residual-in_err-pin.result c.from_residual-in_err-pin.ensures.1 in
     let e = c.in_err-pin.ensures in
     let h = held c.self.inside.links c.self.inside.uploads c.self.inside.slots.slots c.self.inside.max_blob c.in_ok-tenant.field-0 c.args.repo.now c.args.digest.now c.self.invariant (sym c.in_ok-tenant.ensures.known) c.in-Some.slot (rw c.table.ensures at (sym c.in-Some.ensures)) in
-    rw p.1 (λ _. IsCrowded-full c.self.inside.slots c.lend.new.self c.in-Some.slot c.args.digest.now h.0 h.1 h.2 c.share.ensures.one_each e.1)
+    rw (p.1, ← c.self.view_is) (λ _. finds_no_room c.self.inside.links c.self.inside.uploads c.self.inside.max_blob c.self.inside.slots c.lend.new.self c.in-Some.slot c.args.digest.now h.0 h.1 h.2 c.share.ensures.one_each e.1)
+
+pub returns-in_err-pin-clause-others : goal.returns-in_err-pin-clause-others
+returns-in_err-pin-clause-others c =
+    let p = err_from_is_err_and c.from_residual-in_err-pin.result c.from_residual-in_err-pin.ensures.1 in
+    rw p.1 (λ other. absurd (other (p.2 ∙ c.in_err-pin.ensures.0)))
+
+pub returns-clause-blob : goal.returns-clause-blob
+returns-clause-blob c = shared_digest c.self.inside.links c.self.inside.uploads c.self.inside.slots.slots c.self.inside.max_blob c.in_ok-tenant.field-0 c.args.repo.now c.args.digest.now c.self.invariant (sym c.in_ok-tenant.ensures.known) c.in-Some.slot (rw c.table.ensures at (sym c.in-Some.ensures)) c.in_ok-blob.blob.value c.in_ok-blob.ensures.value
 
 pub returns-in_err-pin-clause-refused : goal.returns-in_err-pin-clause-refused
 returns-in_err-pin-clause-refused c =

@@ -5,6 +5,7 @@ use Rattle.std.specs.Prelude.{List}
 use Rattle.pin_core.specs.Events.{new_weight, lent_hold}
 use Rattle.pin_core.specs.World.{row}
 use Rattle.pin_table.specs.Calls.{KeeperValue}
+use Rattle.store_book.specs.Pinned.{looks_of}
 use Rattle.store_book.proofs.Pinning.{IsPinned-lent}
 use Rattle.store_book.proofs.pinned_slots.PinnedSlots.lend.Goals as goal
 
@@ -22,7 +23,7 @@ returns c =
     rw (← c.self.view_is) (record {
       bound = e.weight + new_weight;
       within = omega arith;
-      after = λ i. record { table = (e.after i).table; slots = c.lend-2.ensures i; bounds = bounds i };
+      after = λ i. record { table = (e.after i).table; slots = c.lend-2.ensures i; bounds = bounds i; looks = looks_of (e.after i) };
       is = e.pin ∙ ap (λ (rs : List PinRow). record { table = c.self.inside.keeper.table; hold = lent_hold c.args.slot (row rs c.args.slot) }) c.self.invariant.same_rows;
       digest = ap (λ (rs : List PinRow). (row rs c.args.slot).digest) (sym c.self.invariant.same_rows) ∙ e.digest;
     })

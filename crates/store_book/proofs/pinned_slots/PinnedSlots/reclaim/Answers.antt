@@ -1,7 +1,7 @@
 use Rattle.std.proofs.Common.{◌≡◌, ◌+◌, ◌<◌, ◌^◌, ap, ◌∙◌, arith}
 use Rattle.slot_table.specs.declared.phase.Phase.TheVariants as phase
 use Rattle.slot_table.specs.Slots.{generation_at, phase_at}
-use Rattle.store_book.specs.Pinned.{Pinned}
+use Rattle.store_book.specs.Pinned.{Pinned, looks_of}
 use Rattle.store_book.proofs.Reclaiming.{generation_row, IsPinned-freed, IsPinned-retired}
 use Rattle.store_book.proofs.pinned_slots.PinnedSlots.reclaim.Goals as goal
 
@@ -22,11 +22,11 @@ returns-in-Freed-clause-answer c =
     let e = c.in-Freed.ensures.answer in
     let is : phase_at c.self.inside.slots c.args.slot ≡ phase.Condemned = ap (λ (p : Pinned). phase_at p.slots c.args.slot) c.self.view_is ∙ c.requires.condemned in
     let young : generation_at c.self.inside.slots c.args.slot + 1 < 2 ^ 32 = (let g = generation_row c.self.inside.slots c.self.inside.keeper.rows c.self.inside.keeper.bounds c.self.invariant c.args.slot is in let y = e.0 in omega arith) in
-    rw (c.in-Freed.is, ← c.self.view_is) (young, (λ i. record { table = (e.1 i).table; slots = c.free.ensures i; bounds = (e.1 i).bounds }))
+    rw (c.in-Freed.is, ← c.self.view_is) (young, (λ i. record { table = (e.1 i).table; slots = c.free.ensures i; bounds = (e.1 i).bounds; looks = looks_of (e.1 i) }))
 
 pub returns-in-Retired-clause-answer : goal.returns-in-Retired-clause-answer
 returns-in-Retired-clause-answer c =
     let e = c.in-Retired.ensures.answer in
     let is : phase_at c.self.inside.slots c.args.slot ≡ phase.Condemned = ap (λ (p : Pinned). phase_at p.slots c.args.slot) c.self.view_is ∙ c.requires.condemned in
     let last : generation_at c.self.inside.slots c.args.slot + 1 ≡ 2 ^ 32 = (let g = generation_row c.self.inside.slots c.self.inside.keeper.rows c.self.inside.keeper.bounds c.self.invariant c.args.slot is in let y = e.0 in omega arith) in
-    rw (c.in-Retired.is, ← c.self.view_is) (last, (λ i. record { table = (e.1 i).table; slots = c.retire.ensures i; bounds = (e.1 i).bounds }))
+    rw (c.in-Retired.is, ← c.self.view_is) (last, (λ i. record { table = (e.1 i).table; slots = c.retire.ensures i; bounds = (e.1 i).bounds; looks = looks_of (e.1 i) }))

@@ -1,6 +1,7 @@
 use Rattle.std.proofs.Common.{◌≡◌, ◌≢◌, rules, sym}
 use Rattle.slot_table.specs.declared.phase.Phase.TheVariants as phase
 use Rattle.slot_table.specs.Slots.{phase_at}
+use Rattle.store_book.specs.Pinned.{looks_of}
 use Rattle.store_book.proofs.Pinning.{IsPinned-revived, revived-same}
 use Rattle.store_book.proofs.pinned_slots.PinnedSlots.revive.Goals as goal
 
@@ -12,4 +13,4 @@ invariant_of-self c =
 pub returns-else-eq : goal.returns-else-eq
 returns-else-eq c =
     let is : phase_at c.self.inside.slots c.args.slot ≢ phase.Condemned = search rules in
-    rw (← c.self.view_is) (λ i. record { table = c.self.inside.keeper.table; slots = sym (revived-same c.self.inside.slots c.args.slot is) i; bounds = c.self.inside.keeper.bounds })
+    rw (← c.self.view_is) (λ i. record { table = c.self.inside.keeper.table; slots = sym (revived-same c.self.inside.slots c.args.slot is) i; bounds = c.self.inside.keeper.bounds; looks = looks_of c.self.inside.keeper })
