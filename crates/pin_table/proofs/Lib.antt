@@ -2,6 +2,7 @@ pub mod Orders
 pub mod Bits
 pub mod Names
 pub mod Holds
+pub mod Accounts
 pub mod Agreement
 pub mod Steps
 pub mod Guests

@@ -11,7 +11,7 @@ use Rattle.pin_core.specs.Laws.{Reclaims, world_at}
 use Rattle.pin_table.specs.declared.view.Kept.{Kept}
 use Rattle.pin_table.specs.declared.view.View.{View}
 use Rattle.pin_table.specs.declared.view.View.TheVariants.{Keeper, Pin}
-use Rattle.pin_table.specs.Rule.{Agrees, Ruled, all_found, all_seen, opening_view}
+use Rattle.pin_table.specs.Rule.{Agrees, Ruled, opening_view}
 use Rattle.pin_table.specs.Steps.{SeatStep, look, give, lend, hand, leave, condemn, revive, reclaim, miss, share, verify, IsMade, words_after, views_after, IsEvent}
 
 -- All kinds of step. A new table agrees with free slots; and each step leads from every world with which the table agrees before it to one with which it agrees after it.
@@ -71,13 +71,12 @@ Histories = (n g : ℕ) (xs : List SeatStep) → AreMade (new_table n g) xs → 
 
 -- ---- what the rule says at any moment
 
--- Of words and views under the rule, from n free slots of generation g: the law of the core holds of the events that led there; what the keeper has seen is what the looks among them found; and the slot of each pin that a seat has is used and its own by the keeper's rows, and its word counts the pin.
+-- Of words and views under the rule, from n free slots of generation g: the law of the core holds of the events that led there; and the slot of each pin that a seat has is used and its own by the keeper's rows, and its word counts the pin.
 pub record Running (n g : ℕ) (words : List ℕ) (views : List View) : Type 0 where
   pub events : List Event
   pub happen : Happens (opening n g) events
   pub reclaims : Reclaims (opening n g) events
   pub agrees : Agrees words views (after_all (opening n g) events)
-  pub found : all_found (opening n g) events ≡ all_seen views
   pub keeps : (v : Kept) (id : ℕ) (h : Hold) → get_elem? views 0 ≡ some (Keeper v) → get_elem? views id ≡ some (Pin h) → Keeps v.rows h
   pub counts : (v : Kept) (id : ℕ) (h : Hold) → get_elem? views 0 ≡ some (Keeper v) → get_elem? views id ≡ some (Pin h)
       → (weight : ℕ) × (slice_index words h.slot ≡ row_word (row v.rows h.slot) weight) × (h.weight ≤ weight) × (weight ≤ max_weight)
