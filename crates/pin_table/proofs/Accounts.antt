@@ -36,9 +36,9 @@ none_since looks k (x ∷ xs) a = omega (arith, sum_by-cons (gone_since k (slice
         (λ (ne : g.hold.slot ≢ k). none_apart (g.look == slice_index looks k + 1) (weight_at k g.hold) (weight_apart k g.hold ne))
 
 -- whatever step counts one look more at a slot has the sum that weighs there for the bound
-pub told_true : (n : ℕ) (bs ls ts bs' ls' ts' : List ℕ) (others : List View) (hs hs' : List Hold) (k : ℕ) → k < n → Accounts n bs ls ts others hs → Accounts n bs' ls' ts' others hs'
+pub told_true : (m n : ℕ) (bs ls ts bs' ls' ts' : List ℕ) (others : List View) (hs hs' : List Hold) (k : ℕ) → k < n → Accounts m bs ls ts others hs → Accounts n bs' ls' ts' others hs'
     → slice_index ls' k ≡ slice_index ls k + 1 → slice_index bs' k ≡ weight_on k hs'
-told_true n bs ls ts bs' ls' ts' others hs hs' k l a b one =
+told_true m n bs ls ts bs' ls' ts' others hs hs' k l a b one =
     let z = none_since ls k others a.past in
     let at = b.at_bounds k l in
     let same = ap (λ i. sum_by (gone_since k i) others) one in omega arith

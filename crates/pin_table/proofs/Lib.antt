@@ -12,3 +12,4 @@ pub mod Allowed
 pub mod Seats
 pub mod Told
 pub mod Moments
+pub mod Looks
