@@ -2,7 +2,7 @@
 use Rattle.std.proofs.Common.{◌≡◌, ◌≢◌, ℕ, zero, suc, ◌≤◌, ◌<◌, List, [], ◌∷◌, ◌++◌, length, set, sum_by, refl, sym, ap, ◌∙◌, subst, arith}
 use Rattle.std.specs.Prelude.{slice_index, IsPermutation}
 use Rattle.std.specs.List.{All}
-use Rattle.std.proofs.lemmas.List.{append-nil, append_assoc, length-set, get_or-set_other}
+use Rattle.std.proofs.lemmas.List.{length-set, get_or-set_other}
 use Rattle.std.proofs.lemmas.Grind.{get_or-set_at}
 use Rattle.std.proofs.lemmas.List.Sorted.{sum_by-IsPermutation}
 use mathlib.Core.Logic.{dite}
@@ -18,7 +18,7 @@ use Rattle.pin_core.specs.Events.{Can, after, Happens, after_all, with_row, with
 use Rattle.pin_table.specs.declared.view.Kept.{Kept}
 use Rattle.pin_table.specs.declared.view.View.{View}
 use Rattle.pin_table.specs.declared.view.View.TheVariants.{Keeper}
-use Rattle.pin_table.specs.Rule.{Agrees, Ruled, all_found, all_holds, all_seen, found_by, IsGuest}
+use Rattle.pin_table.specs.Rule.{Accounts, Agrees, Ruled, all_holds, IsGuest}
 use Rattle.pin_table.specs.Steps.{Leads}
 
 -- ---- the events behind the rule
@@ -31,49 +31,23 @@ happens_push : (p : PinWorld) (es : List Event) (e : Event) → Happens p es →
 happens_push p [] e h can = (can, tt)
 happens_push p (x ∷ es) e h can = (h.0, happens_push (after p x) es e h.1 can)
 
-found_push : (p : PinWorld) (es : List Event) (e : Event) → all_found p (es ++ e ∷ []) ≡ found_by (after_all p es) e ++ all_found p es
-found_push p [] e = sym (append-nil (found_by p e))
-found_push p (x ∷ es) e = ap (λ l. l ++ found_by p x) (found_push (after p x) es e) ∙ append_assoc (found_by (after_all (after p x) es) e) (all_found (after p x) es) (found_by p x)
-
 -- one event more
-pub advanced : (n g : ℕ) (ws ws' : List ℕ) (vs vs' : List View) (r : Ruled n g ws vs) (e : Event) → Leads (after_all (opening n g) r.events) e ws' vs' → all_seen vs' ≡ found_by (after_all (opening n g) r.events) e ++ all_seen vs → Ruled n g ws' vs'
-advanced n g ws ws' vs vs' r e leads seen = record {
+pub advanced : (n g : ℕ) (ws ws' : List ℕ) (vs vs' : List View) (r : Ruled n g ws vs) (e : Event) → Leads (after_all (opening n g) r.events) e ws' vs' → Ruled n g ws' vs'
+advanced n g ws ws' vs vs' r e leads = record {
   events = r.events ++ e ∷ [];
   happen = happens_push (opening n g) r.events e r.happen leads.0;
   agrees = subst (λ p. Agrees ws' vs' p) (sym (after_push (opening n g) r.events e)) leads.1;
-  found = found_push (opening n g) r.events e ∙ ap (λ l. found_by (after_all (opening n g) r.events) e ++ l) r.found ∙ sym seen;
 }
 
--- ---- what the keeper has seen
+-- ---- what agreeing says
 
 -- the keeper's view, where it is known
 pub is_keeper : {ws : List ℕ} {vs : List View} {p : PinWorld} (a : Agrees ws vs p) (v : Kept) → get_elem? vs 0 ≡ some (Keeper v) → a.keeper ≡ v
 is_keeper a v at = let first : some (Keeper a.keeper) ≡ some (Keeper v) = ap (λ l. get_elem? l 0) (sym a.seats) ∙ at in cc
 
-pub seen_first : {ws : List ℕ} {vs : List View} {p : PinWorld} (a : Agrees ws vs p) (v : Kept) → get_elem? vs 0 ≡ some (Keeper v) → all_seen vs ≡ v.seen
-seen_first a v at = ap (λ l. all_seen l) a.seats ∙ ap (λ (x : Kept). x.seen) (is_keeper a v at)
-
--- after a step of the keeper's seat
-pub seen_after : {ws : List ℕ} {vs : List View} {p : PinWorld} (a : Agrees ws vs p) (u : Kept) → all_seen (set vs 0 (Keeper u)) ≡ u.seen
-seen_after a u = ap (λ l. all_seen (set l 0 (Keeper u))) a.seats
-
--- after a step of another seat
-pub seen_apart : {ws : List ℕ} {vs : List View} {p : PinWorld} (a : Agrees ws vs p) (place : ℕ) (u : View) → all_seen (set vs (suc place) u) ≡ all_seen vs
-seen_apart a place u = ap (λ l. all_seen (set l (suc place) u)) a.seats ∙ sym (ap (λ l. all_seen l) a.seats)
-
--- after a split of the keeper's seat, and of another
-pub seen_handed : {ws : List ℕ} {vs : List View} {p : PinWorld} (a : Agrees ws vs p) (u : Kept) (w : View) → all_seen (set vs 0 (Keeper u) ++ w ∷ []) ≡ u.seen
-seen_handed a u w = ap (λ l. all_seen (set l 0 (Keeper u) ++ w ∷ [])) a.seats
-
-pub seen_split : {ws : List ℕ} {vs : List View} {p : PinWorld} (a : Agrees ws vs p) (place : ℕ) (u w : View) → all_seen (set vs (suc place) u ++ w ∷ []) ≡ all_seen vs
-seen_split a place u w = ap (λ l. all_seen (set l (suc place) u ++ w ∷ [])) a.seats ∙ sym (ap (λ l. all_seen l) a.seats)
-
--- after a join of another seat to the keeper's
-pub seen_joined : {ws : List ℕ} {vs : List View} {p : PinWorld} (a : Agrees ws vs p) (u : Kept) (id : ℕ) (w : View) → ¬ (id ≡ 0) → all_seen (set (set vs 0 (Keeper u)) id w) ≡ u.seen
-seen_joined a u zero w ne = absurd (ne refl)
-seen_joined a u (suc place) w ne = ap (λ l. all_seen (set (set l 0 (Keeper u)) (suc place) w)) a.seats
-
--- ---- what agreeing says
+-- what weighs on a slot is within the keeper's bound
+pub within_bound : {ws : List ℕ} {vs : List View} {p : PinWorld} (a : Agrees ws vs p) (k : ℕ) → k < length p.rows → weight_on k (holds_of p) ≤ slice_index a.keeper.bounds k
+within_bound a k l = let e = a.accounts.at_bounds k l in omega arith
 
 -- the sums over the world's pins are those over the pins of the seats
 pub sums : {ws : List ℕ} {vs : List View} {p : PinWorld} (a : Agrees ws vs p) (f : Hold → ℕ) → sum_by f (holds_of p) ≡ sum_by f (all_holds vs)
@@ -88,12 +62,11 @@ pub record Change (p : PinWorld) (k m b : ℕ) (q : PinWorld) : Type 0 where
   pub is : m ≡ word q k
   pub words : (j : ℕ) → j ≢ k → word q j ≡ word p j
   pub weights : (j : ℕ) → j ≢ k → weight_on j (holds_of q) ≡ weight_on j (holds_of p)
-  pub bound : weight_on k (holds_of q) ≤ b
   pub limit : b ≤ max_weight
 
 pub changed : (ws : List ℕ) (vs : List View) (p q : PinWorld) (a : Agrees ws vs p) (k m b : ℕ) (u : Kept) (others : List View) → All IsGuest others → q.rows ≡ u.rows → u.bounds ≡ set a.keeper.bounds k b
-    → IsPermutation (all_holds (Keeper u ∷ others)) (holds_of q) → IsState q → Change p k m b q → Agrees (set ws k m) (Keeper u ∷ others) q
-changed ws vs p q a k m b u others guests rows bounds pins state c = record {
+    → IsPermutation (all_holds (Keeper u ∷ others)) (holds_of q) → IsState q → Change p k m b q → Accounts (length p.rows) u.bounds u.looks u.lent others (holds_of q) → Agrees (set ws k m) (Keeper u ∷ others) q
+changed ws vs p q a k m b u others guests rows bounds pins state c accounts = record {
   keeper = u;
   others = others;
   seats = refl;
@@ -105,10 +78,7 @@ changed ws vs p q a k m b u others guests rows bounds pins state c = record {
   at_words = λ j l. dite (ℕ_discrete j k)
       (λ e. get_or-set_at ws k j m 0 e (let w = c.within in omega (arith, a.all_words)) ∙ c.is ∙ ap (λ i. word q i) (sym e))
       (λ ne. get_or-set_other ws k j m 0 ne ∙ a.at_words j (below j l) ∙ sym (c.words j ne));
-  all_bounds = ap (λ x. length x) bounds ∙ length-set a.keeper.bounds k b ∙ a.all_bounds ∙ sym c.as_long;
-  at_bounds = λ j l. subst (λ bs. weight_on j (holds_of q) ≤ slice_index bs j) (sym bounds) (dite (ℕ_discrete j k)
-      (λ (e : j ≡ k). let here : slice_index (set a.keeper.bounds k b) j ≡ b = at_bound j e in let w : weight_on j (holds_of q) ≤ b = subst (λ i. weight_on i (holds_of q) ≤ b) (sym e) c.bound in omega arith)
-      (λ (ne : j ≢ k). let there : slice_index (set a.keeper.bounds k b) j ≡ slice_index a.keeper.bounds j = get_or-set_other a.keeper.bounds k j b 0 ne in let w = c.weights j ne in let old = a.at_bounds j (below j l) in omega arith));
+  accounts = subst (λ n. Accounts n u.bounds u.looks u.lent others (holds_of q)) (sym c.as_long) accounts;
   limits = λ j l. subst (λ bs. slice_index bs j ≤ max_weight) (sym bounds) (dite (ℕ_discrete j k)
       (λ (e : j ≡ k). let here : slice_index (set a.keeper.bounds k b) j ≡ b = at_bound j e in let w = c.limit in omega arith)
       (λ (ne : j ≢ k). let there : slice_index (set a.keeper.bounds k b) j ≡ slice_index a.keeper.bounds j = get_or-set_other a.keeper.bounds k j b 0 ne in let old = a.limits j (below j l) in omega arith));
@@ -118,42 +88,40 @@ changed ws vs p q a k m b u others guests rows bounds pins state c = record {
     below j l = omega (arith, c.as_long, l)
 
     at_bound : (j : ℕ) → j ≡ k → slice_index (set a.keeper.bounds k b) j ≡ b
-    at_bound j e = get_or-set_at a.keeper.bounds k j b 0 e (let w = c.within in omega (arith, a.all_bounds))
+    at_bound j e = get_or-set_at a.keeper.bounds k j b 0 e (let w = c.within in omega (arith, a.accounts.all_bounds))
 
 -- only the row of k has changed
-pub row_changed : (p : PinWorld) (k m b : ℕ) (r : PinRow) → k < length p.rows → m ≡ row_word r (weight_on k (holds_of p)) → weight_on k (holds_of p) ≤ b → b ≤ max_weight → Change p k m b (with_row k r p)
-row_changed p k m b r l is bound limit = record {
+pub row_changed : (p : PinWorld) (k m b : ℕ) (r : PinRow) → k < length p.rows → m ≡ row_word r (weight_on k (holds_of p)) → b ≤ max_weight → Change p k m b (with_row k r p)
+row_changed p k m b r l is limit = record {
   within = l;
   as_long = length-set p.rows k r;
   is = is ∙ ap (λ x. row_word x (weight_on k (holds_of p))) (sym (get_or-set_at p.rows k k r no_row refl l));
   words = λ j ne. ap (λ x. row_word x (weight_on j (holds_of p))) (get_or-set_other p.rows k j r no_row ne);
   weights = λ j ne. refl;
-  bound = bound;
   limit = limit;
 }
 
 -- only pins on k have changed
 pub pins_changed : (p : PinWorld) (k m b : ℕ) (es : List PinEntry) → k < length p.rows → m ≡ row_word (row p.rows k) (weight_on k (holds_of (with_pins es p)))
-    → ((j : ℕ) → j ≢ k → weight_on j (holds_of (with_pins es p)) ≡ weight_on j (holds_of p)) → weight_on k (holds_of (with_pins es p)) ≤ b → b ≤ max_weight → Change p k m b (with_pins es p)
-pins_changed p k m b es l is same bound limit = record {
+    → ((j : ℕ) → j ≢ k → weight_on j (holds_of (with_pins es p)) ≡ weight_on j (holds_of p)) → b ≤ max_weight → Change p k m b (with_pins es p)
+pins_changed p k m b es l is same limit = record {
   within = l;
   as_long = refl;
   is = is;
   words = λ j ne. ap (λ w. row_word (row p.rows j) w) (same j ne);
   weights = same;
-  bound = bound;
   limit = limit;
 }
 
 -- nothing but the bound of k
-pub unchanged : (p : PinWorld) (k m b : ℕ) → k < length p.rows → m ≡ word p k → weight_on k (holds_of p) ≤ b → b ≤ max_weight → Change p k m b p
-unchanged p k m b l is bound limit = record { within = l; as_long = refl; is = is; words = λ j ne. refl; weights = λ j ne. refl; bound = bound; limit = limit }
+pub unchanged : (p : PinWorld) (k m b : ℕ) → k < length p.rows → m ≡ word p k → b ≤ max_weight → Change p k m b p
+unchanged p k m b l is limit = record { within = l; as_long = refl; is = is; words = λ j ne. refl; weights = λ j ne. refl; limit = limit }
 
 -- ---- only seats have changed
 
 pub regrouped : (ws : List ℕ) (vs : List View) (p : PinWorld) (es : List PinEntry) (a : Agrees ws vs p) (u : Kept) (others : List View) → All IsGuest others → u.rows ≡ a.keeper.rows → u.bounds ≡ a.keeper.bounds
-    → IsPermutation (all_holds (Keeper u ∷ others)) (holds_of (with_pins es p)) → IsState (with_pins es p) → ((j : ℕ) → weight_on j (holds_of (with_pins es p)) ≡ weight_on j (holds_of p)) → Agrees ws (Keeper u ∷ others) (with_pins es p)
-regrouped ws vs p es a u others guests rows bounds pins state same = record {
+    → IsPermutation (all_holds (Keeper u ∷ others)) (holds_of (with_pins es p)) → IsState (with_pins es p) → ((j : ℕ) → weight_on j (holds_of (with_pins es p)) ≡ weight_on j (holds_of p)) → Accounts (length p.rows) u.bounds u.looks u.lent others (holds_of (with_pins es p)) → Agrees ws (Keeper u ∷ others) (with_pins es p)
+regrouped ws vs p es a u others guests rows bounds pins state same accounts = record {
   keeper = u;
   others = others;
   seats = refl;
@@ -163,7 +131,6 @@ regrouped ws vs p es a u others guests rows bounds pins state same = record {
   state = state;
   all_words = a.all_words;
   at_words = λ j l. a.at_words j l ∙ ap (λ w. row_word (row p.rows j) w) (sym (same j));
-  all_bounds = ap (λ x. length x) bounds ∙ a.all_bounds;
-  at_bounds = λ j l. subst (λ bs. weight_on j (holds_of (with_pins es p)) ≤ slice_index bs j) (sym bounds) (let w = same j in let old = a.at_bounds j l in omega arith);
+  accounts = accounts;
   limits = λ j l. subst (λ bs. slice_index bs j ≤ max_weight) (sym bounds) (a.limits j l);
 }

@@ -4,7 +4,7 @@ use Rattle.std.specs.Prelude.{slice_index}
 use Rattle.std.specs.Option.{IsSomeAnd}
 use Rattle.std.proofs.lemmas.List.{length-replicate, get_or-replicate, set-get_or}
 use Rattle.std.proofs.lemmas.List.Elements.{All-nil, All-set, All-push}
-use Rattle.std.proofs.lemmas.List.Sums.{sum_by-append}
+use Rattle.std.proofs.lemmas.List.Sums.{sum_by-append, sum_by_push}
 use Rattle.std.proofs.lemmas.List.Sorted.{IsPermutation-refl}
 use mathlib.Core.Option.{some}
 use lib.ListN.{get_elem?}
@@ -19,12 +19,13 @@ use Rattle.pin_core.proofs.Shares.{shared_sum}
 use Rattle.pin_table.specs.declared.view.Kept.{Kept}
 use Rattle.pin_table.specs.declared.view.View.{View}
 use Rattle.pin_table.specs.declared.view.View.TheVariants.{Keeper, Pin, Left, Spent}
-use Rattle.pin_table.specs.Rule.{Agrees, all_holds, holds_in, in_hand, kept, IsGuest, opening_view}
-use Rattle.pin_table.specs.Plays.{weightless, with_hand, own_seat}
+use Rattle.pin_table.specs.Rule.{Accounts, Agrees, all_holds, gone, gone_at, gone_since, holds_in, in_hand, kept, IsGuest, IsPast, opening_view}
+use Rattle.pin_table.specs.Plays.{with_hand, own_seat}
 use Rattle.pin_table.specs.Steps.{Leads}
 use Rattle.pin_table.proofs.Orders.{one, one_self, permutes}
 use Rattle.pin_table.proofs.Names.{fresh, unnamed, name_of, left_sum, shared_sums}
 use Rattle.pin_table.proofs.Holds.{sum_set, sum_push, sum_one, sum_at, all_counted, weight_same, weight_apart}
+use Rattle.pin_table.proofs.Accounts.{leaves_kept, regrouped_kept, view_set}
 use Rattle.pin_table.proofs.Agreement.{is_keeper, sums, changed, pins_changed, regrouped}
 
 -- what is known where the seat id has the pin h: its place among the others, and its name
@@ -71,27 +72,27 @@ left_word : (n g b t t' w : ℕ) → n < 18446744073709551616 → n ≡ g * 4294
 left_word n g b t t' w fits is less small = omega arith
 
 pub leaves : {ws : List ℕ} {vs : List View} {p : PinWorld} {id : ℕ} {h : Hold} (c : Pinned ws vs p id h) → slice_index ws h.slot < 18446744073709551616
-    → Leads p (Leave c.name) (set ws h.slot ((slice_index ws h.slot + (18446744073709551616 - h.weight)) % 18446744073709551616)) (set vs id (Left (weightless h)))
+    → Leads p (Leave c.name) (set ws h.slot ((slice_index ws h.slot + (18446744073709551616 - h.weight)) % 18446744073709551616)) (set vs id (Left (gone h (slice_index c.agrees.keeper.looks h.slot))))
 leaves {ws} {vs} {p} {id} {h} c fits =
     let a = c.agrees in
     let k : ℕ = h.slot in
-    let u = Left (weightless h) in
+    let u = Left (gone h (slice_index a.keeper.looks k)) in
     let can : Can p (Leave c.name) = ap is_some c.named in
     let q = after p (Leave c.name) in
     let n = slice_index ws k in
     let m : ℕ = (n + (18446744073709551616 - h.weight)) % 18446744073709551616 in
     let within : k < length p.rows = c.keeps.there in
-    let gone : (f : Hold → ℕ) → sum_by f (holds_of q) + f h ≡ sum_by f (holds_of p) = λ f. left_sum f c.name p.pins h a.state.named c.named in
-    let less : weight_on k (holds_of q) + h.weight ≡ weight_on k (holds_of p) = omega (arith, gone (weight_at k), weight_same h) in
+    let lost : (f : Hold → ℕ) → sum_by f (holds_of q) + f h ≡ sum_by f (holds_of p) = λ f. left_sum f c.name p.pins h a.state.named c.named in
+    let less : weight_on k (holds_of q) + h.weight ≡ weight_on k (holds_of p) = omega (arith, lost (weight_at k), weight_same h) in
     let made : m ≡ row_word (row p.rows k) (weight_on k (holds_of q)) =
     left_word n (row p.rows k).generation (phase_bits (row p.rows k).phase) (weight_on k (holds_of p)) (weight_on k (holds_of q)) h.weight fits (a.at_words k within) less (small h c.weighs) in
-    let b = a.at_bounds k within in
     let others = set a.others c.place u in
     let pins = permutes (all_holds (Keeper a.keeper ∷ others)) (holds_of q)
-    (λ f. omega (arith, sum_by-append f (in_hand a.keeper.hand) (all_holds others), seat_sums a f, gone f, sum_set f a.others c.place (Pin h) u c.at, sum_one f h)) in
+    (λ f. omega (arith, sum_by-append f (in_hand a.keeper.hand) (all_holds others), seat_sums a f, lost f, sum_set f a.others c.place (Pin h) u c.at, sum_one f h)) in
     let bound : a.keeper.bounds ≡ set a.keeper.bounds k (slice_index a.keeper.bounds k) = bound_same a k in
-    let made' = changed ws vs p q a k m (slice_index a.keeper.bounds k) a.keeper others (All-set IsGuest a.others c.place u refl a.guests) a.rows bound pins (state_after p (Leave c.name) can a.state)
-    (pins_changed p k m (slice_index a.keeper.bounds k) q.pins within made (λ j ne. let z : weight_at j h ≡ 0 = weight_apart j h (λ e. ne (sym e)) in omega (arith, gone (weight_at j))) (omega arith) (a.limits k within)) in
+    let made' = changed ws vs p q a k m (slice_index a.keeper.bounds k) a.keeper others (All-set IsGuest a.others c.place u tt a.guests) a.rows bound pins (state_after p (Leave c.name) can a.state)
+    (pins_changed p k m (slice_index a.keeper.bounds k) q.pins within made (λ j ne. let z : weight_at j h ≡ 0 = weight_apart j h (λ e. ne (sym e)) in omega (arith, lost (weight_at j))) (a.limits k within))
+    (leaves_kept (length p.rows) a.keeper.bounds a.keeper.looks a.keeper.lent a.others c.place (holds_of p) (holds_of q) h c.at (λ j. lost (weight_at j)) a.accounts) in
     (can, subst (λ l. Agrees (set ws k m) (set l id u) q) (sym a.seats) (subst (λ i. Agrees (set ws k m) (set (Keeper a.keeper ∷ a.others) i u) q) (sym c.id_is) made'))
   where
     bound_same : (a : Agrees ws vs p) (k : ℕ) → a.keeper.bounds ≡ set a.keeper.bounds k (slice_index a.keeper.bounds k)
@@ -111,8 +112,11 @@ shares {ws} {vs} {p} {id} {h} c more =
     let others = set a.others c.place (Pin g) ++ Pin g ∷ [] in
     let pins = permutes (all_holds (Keeper a.keeper ∷ others)) (holds_of q)
     (λ f. omega (arith, sum_by-append f (in_hand a.keeper.hand) (all_holds others), seat_sums a f, shared_sums f c.name second p.pins h a.state.named c.named, sum_push f (set a.others c.place (Pin g)) (Pin g), sum_set f a.others c.place (Pin h) (Pin g) c.at, sum_one f h, sum_one f g)) in
+    let still : (f : View → ℕ) → f (Pin h) ≡ 0 → f (Pin g) ≡ 0 → sum_by f others ≡ sum_by f a.others = λ f x y. omega (arith, sum_by_push f (set a.others c.place (Pin g)) (Pin g), view_set f a.others c.place (Pin h) (Pin g) c.at) in
     let guests = All-push IsGuest (set a.others c.place (Pin g)) (Pin g) (All-set IsGuest a.others c.place (Pin g) tt a.guests) tt in
-    let made = regrouped ws vs p q.pins a a.keeper others guests refl refl pins (state_after p (Share c.name second) can a.state) (λ j. shared_sum j c.name second p.pins a.state.named big a.state.weights) in
+    let made = regrouped ws vs p q.pins a a.keeper others guests refl refl pins (state_after p (Share c.name second) can a.state) (λ j. shared_sum j c.name second p.pins a.state.named big a.state.weights)
+    (regrouped_kept (length p.rows) a.keeper.bounds a.keeper.looks a.keeper.lent a.others others (holds_of p) (holds_of q) (λ k. still (gone_at k) refl refl) (λ k look. still (gone_since k look) refl refl) (λ j. shared_sum j c.name second p.pins a.state.named big a.state.weights)
+    (All-push (IsPast a.keeper.looks) (set a.others c.place (Pin g)) (Pin g) (All-set (IsPast a.keeper.looks) a.others c.place (Pin g) tt a.accounts.past) tt) a.accounts) in
     (can, subst (λ l. Agrees ws (set l id (Pin g) ++ Pin g ∷ []) q) (sym a.seats) (subst (λ i. Agrees ws (set (Keeper a.keeper ∷ a.others) i (Pin g) ++ Pin g ∷ []) q) (sym c.id_is) made))
 
 -- ---- the keeper's hand
@@ -120,6 +124,14 @@ shares {ws} {vs} {p} {id} {h} c more =
 own_seat_sum : (f : Hold → ℕ) (o : Option Hold) → sum_by f (holds_in (own_seat o)) ≡ sum_by f (in_hand o)
 own_seat_sum f None = refl
 own_seat_sum f (Some h) = refl
+
+own_seat_none : (f : View → ℕ) → ((h : Hold) → f (Pin h) ≡ 0) → f Spent ≡ 0 → (o : Option Hold) → f (own_seat o) ≡ 0
+own_seat_none f pin spent None = spent
+own_seat_none f pin spent (Some h) = pin h
+
+own_seat_past : (looks : List ℕ) (o : Option Hold) → IsPast looks (own_seat o)
+own_seat_past looks None = tt
+own_seat_past looks (Some h) = tt
 
 own_seat_guest : (o : Option Hold) → IsGuest (own_seat o)
 own_seat_guest None = tt
@@ -132,8 +144,12 @@ hands_out {ws} {vs} {p} a v at =
     let others = a.others ++ own_seat v.hand ∷ [] in
     let pins = permutes (all_holds (Keeper u ∷ others)) (holds_of p)
     (λ f. omega (arith, seat_sums a f, ap (λ (x : Kept). sum_by f (in_hand x.hand)) same, sum_push f a.others (own_seat v.hand), own_seat_sum f v.hand)) in
+    let still : (f : View → ℕ) → ((h : Hold) → f (Pin h) ≡ 0) → f Spent ≡ 0 → sum_by f others ≡ sum_by f a.others = λ f x y. omega (arith, sum_by_push f a.others (own_seat v.hand), own_seat_none f x y v.hand) in
+    let accounts = regrouped_kept (length p.rows) a.keeper.bounds a.keeper.looks a.keeper.lent a.others others (holds_of p) (holds_of p) (λ k. still (gone_at k) (λ h. refl) refl) (λ k look. still (gone_since k look) (λ h. refl) refl) (λ j. refl)
+    (All-push (IsPast a.keeper.looks) a.others (own_seat v.hand) a.accounts.past (own_seat_past a.keeper.looks v.hand)) a.accounts in
     subst (λ l. Agrees ws (set l 0 (Keeper u) ++ own_seat v.hand ∷ []) p) (sym a.seats)
-    (regrouped ws vs p p.pins a u others (All-push IsGuest a.others (own_seat v.hand) a.guests (own_seat_guest v.hand)) (sym (ap (λ (x : Kept). x.rows) same)) (sym (ap (λ (x : Kept). x.bounds) same)) pins a.state (λ j. refl))
+    (regrouped ws vs p p.pins a u others (All-push IsGuest a.others (own_seat v.hand) a.guests (own_seat_guest v.hand)) (sym (ap (λ (x : Kept). x.rows) same)) (sym (ap (λ (x : Kept). x.bounds) same)) pins a.state (λ j. refl)
+    (subst (λ (x : Kept). Accounts (length p.rows) x.bounds x.looks x.lent others (holds_of p)) same accounts))
 
 -- a pin goes from its seat into the hand
 pub record Taken (ws : List ℕ) (vs : List View) (p : PinWorld) (v : Kept) (id : ℕ) (h : Hold) : Type 0 where
@@ -151,6 +167,9 @@ takes_in {ws} {vs} {p} a v (suc place) h at empty ne there =
     let c = pinned a (suc place) h (ap (λ l. get_elem? l (suc place)) a.seats ∙ here) in
     let others = set a.others place Spent in
     let none : (f : Hold → ℕ) → sum_by f (in_hand a.keeper.hand) ≡ 0 = λ f. ap (λ (x : Kept). sum_by f (in_hand x.hand)) same ∙ ap (λ o. sum_by f (in_hand o)) empty in
+    let still : (f : View → ℕ) → f (Pin h) ≡ 0 → f Spent ≡ 0 → sum_by f others ≡ sum_by f a.others = λ f x y. omega (arith, view_set f a.others place (Pin h) Spent here) in
+    let accounts = regrouped_kept (length p.rows) a.keeper.bounds a.keeper.looks a.keeper.lent a.others others (holds_of p) (holds_of p) (λ k. still (gone_at k) refl refl) (λ k look. still (gone_since k look) refl refl) (λ j. refl)
+    (All-set (IsPast a.keeper.looks) a.others place Spent tt a.accounts.past) a.accounts in
     let pins = permutes (all_holds (Keeper u ∷ others)) (holds_of p)
     (λ f. omega (arith, seat_sums a f, none f, sum_by-append f (h ∷ []) (all_holds others), sum_set f a.others place (Pin h) Spent here, sum_one f h)) in record {
       name = c.name;
@@ -158,7 +177,8 @@ takes_in {ws} {vs} {p} a v (suc place) h at empty ne there =
       leads = (
         ap is_some c.named,
         subst (λ l. Agrees ws (set (set l 0 (Keeper u)) (suc place) Spent) p) (sym a.seats)
-            (regrouped ws vs p p.pins a u others (All-set IsGuest a.others place Spent tt a.guests) (sym (ap (λ (x : Kept). x.rows) same)) (sym (ap (λ (x : Kept). x.bounds) same)) pins a.state (λ j. refl)),
+            (regrouped ws vs p p.pins a u others (All-set IsGuest a.others place Spent tt a.guests) (sym (ap (λ (x : Kept). x.rows) same)) (sym (ap (λ (x : Kept). x.bounds) same)) pins a.state (λ j. refl)
+            (subst (λ (x : Kept). Accounts (length p.rows) x.bounds x.looks x.lent others (holds_of p)) same accounts)),
       );
     }
 
@@ -168,7 +188,7 @@ pub opens : (n g : ℕ) → Agrees (replicate n (word_of g Free 0)) (opening_vie
 opens n g =
     let r : PinRow = record { generation = g; phase = Free; digest = None } in
     let rs = replicate n r in record {
-      keeper = kept rs (replicate n 0) None [];
+      keeper = kept rs (replicate n 0) (replicate n 0) (replicate n 0) None;
       others = [];
       seats = refl;
       guests = All-nil IsGuest;
@@ -177,7 +197,16 @@ opens n g =
       state = state_opening n g;
       all_words = length-replicate n (word_of g Free 0) ∙ sym (length-replicate n r);
       at_words = λ k h. let l : k < n = omega (arith, length-replicate n r) in get_or-replicate n k (word_of g Free 0) 0 l ∙ sym (let x : row rs k ≡ r = get_or-replicate n k r no_row l in ap (λ y. row_word y 0) x);
-      all_bounds = length-replicate n 0 ∙ sym (length-replicate n r);
-      at_bounds = λ k h. omega arith;
-      limits = λ k h. let l : k < n = omega (arith, length-replicate n r) in let z : slice_index (replicate n 0) k ≡ 0 = get_or-replicate n k 0 0 l in omega arith;
+      accounts = record {
+        all_bounds = length-replicate n 0 ∙ sym (length-replicate n r);
+        all_looks = length-replicate n 0 ∙ sym (length-replicate n r);
+        all_lent = length-replicate n 0 ∙ sym (length-replicate n r);
+        at_lent = λ k h. zero_at k (omega (arith, length-replicate n r));
+        at_bounds = λ k h. zero_at k (omega (arith, length-replicate n r));
+        past = All-nil (IsPast (replicate n 0));
+      };
+      limits = λ k h. let z = zero_at k (omega (arith, length-replicate n r)) in omega arith;
     }
+  where
+    zero_at : (k : ℕ) → k < n → slice_index (replicate n 0) k ≡ 0
+    zero_at k l = get_or-replicate n k 0 0 l

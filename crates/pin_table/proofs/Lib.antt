@@ -2,6 +2,7 @@ pub mod Orders
 pub mod Bits
 pub mod Names
 pub mod Holds
+pub mod Accounts
 pub mod Agreement
 pub mod Steps
 pub mod Guests
@@ -11,3 +12,4 @@ pub mod Allowed
 pub mod Seats
 pub mod Told
 pub mod Moments
+pub mod Looks

@@ -36,7 +36,6 @@ running_words n g words views r =
       happen = r.happen;
       reclaims = reclamation.from_opening n g r.events r.happen;
       agrees = r.agrees;
-      found = r.found;
       keeps = λ v id h first at. kept words views p r.agrees v id h first at;
       counts = λ v id h first at. counted words views p r.agrees v id h first at;
     }

@@ -1,12 +1,11 @@
 -- What a call knows of the keeper's seat and of its rows, from the table and the range that it asks for.
-use Rattle.std.proofs.Common.{◌≡◌, ℕ, ◌<◌, List, ◌∷◌, length, get_or, set, refl, sym, ap, ◌∙◌, subst, arith}
+use Rattle.std.proofs.Common.{◌≡◌, ℕ, ◌<◌, List, length, get_or, set, refl, sym, ap, ◌∙◌, subst, arith}
 use Rattle.std.proofs.lemmas.Option.{get_or_from_slice_get, slice_get_read}
 use Rattle.atomic_table.specs.Seated.{TableId}
 use Rattle.pin_core.specs.declared.world.PinRow.{PinRow}
 use Rattle.pin_core.specs.declared.world.Hold.{Hold}
-use Rattle.pin_core.specs.World.{no_row, row, row_word}
-use Rattle.pin_table.specs.declared.view.Sight.{Sight}
-use Rattle.pin_table.specs.Rule.{sight}
+use Rattle.pin_core.specs.World.{no_row, row}
+use Rattle.pin_table.specs.Rule.{raised}
 use Rattle.pin_table.specs.Calls.{KeeperValue, Verified, found}
 
 -- the keeper's table is t, and its rows are those that contracts see, the slot k among them
@@ -17,8 +16,8 @@ pub record Sits (z t : TableId) (rs : List PinRow) (s : KeeperValue) (k : ℕ) :
   pub phase : (row rs k).phase ≡ (row s.rows k).phase
   pub rows : rs ≡ s.rows
 
-pub sits : (z t : TableId) (rs : List PinRow) (bs : List ℕ) (ss : List Sight) (s : KeeperValue) (k : ℕ) → record { table = z; rows = rs; bounds = bs; seen = ss } ≡ s → s.table ≡ t → z.words ≡ length rs → k < length s.rows → Sits z t rs s k
-sits z t rs bs ss s k is named words l =
+pub sits : (z t : TableId) (rs : List PinRow) (bs ls ts : List ℕ) (s : KeeperValue) (k : ℕ) → record { table = z; rows = rs; bounds = bs; looks = ls; lent = ts } ≡ s → s.table ≡ t → z.words ≡ length rs → k < length s.rows → Sits z t rs s k
+sits z t rs bs ls ts s k is named words l =
     let same : z ≡ t = ap (λ (x : KeeperValue). x.table) is ∙ named in
     let rows : rs ≡ s.rows = ap (λ (x : KeeperValue). x.rows) is in
     let len : length rs ≡ length s.rows = ap (λ r. length r) rows in
@@ -30,11 +29,11 @@ pub read_row : (rs : List PinRow) (k : ℕ) (r : PinRow) → k < length rs → r
 read_row rs k r l is = get_or_from_slice_get rs k r no_row (slice_get_read rs (length rs) k r refl l is)
 
 -- the keeper, after its table and lists were named anew
-pub keeper_is : (z y : TableId) (rs : List PinRow) (bs cs : List ℕ) (ss ts : List Sight) (s : KeeperValue) (k b : ℕ) → record { table = z; rows = rs; bounds = bs; seen = ss } ≡ s → y ≡ z → cs ≡ set bs k b → ts ≡ sight k (row_word (row rs k) b) ∷ ss
-    → record { table = y; rows = rs; bounds = cs; seen = ts } ≡ found k b s
-keeper_is z y rs bs cs ss ts s k b is same to saw =
-    let start : KeeperValue = record { table = z; rows = rs; bounds = bs; seen = ss } in
-    let first : record { table = y; rows = rs; bounds = cs; seen = ts } ≡ found k b start = λ i. record { table = same i; rows = rs; bounds = to i; seen = saw i } in
+pub keeper_is : (z y : TableId) (rs : List PinRow) (bs cs ls ms ts us : List ℕ) (s : KeeperValue) (k b : ℕ) → record { table = z; rows = rs; bounds = bs; looks = ls; lent = ts } ≡ s → y ≡ z → cs ≡ set bs k b → ms ≡ raised k 1 ls → us ≡ ts
+    → record { table = y; rows = rs; bounds = cs; looks = ms; lent = us } ≡ found k b s
+keeper_is z y rs bs cs ls ms ts us s k b is same to counts out =
+    let start : KeeperValue = record { table = z; rows = rs; bounds = bs; looks = ls; lent = ts } in
+    let first : record { table = y; rows = rs; bounds = cs; looks = ms; lent = us } ≡ found k b start = λ i. record { table = same i; rows = rs; bounds = to i; looks = counts i; lent = out i } in
     first ∙ ap (λ x. found k b x) is
 
 pub verified : (h g : Hold) (s t : KeeperValue) → h ≡ g → Verified h s t → Verified g s t

@@ -7,10 +7,10 @@ use Rattle.pin_core.specs.declared.event.Event.TheVariants.{Give, Lend, Leave, C
 use Rattle.pin_core.specs.World.{PinWorld, holds_of, row, weight_on}
 use Rattle.pin_table.specs.declared.view.Kept.{Kept}
 use Rattle.pin_table.specs.declared.view.View.{View}
-use Rattle.pin_table.specs.declared.view.View.TheVariants.{Keeper}
-use Rattle.pin_table.specs.Rule.{Agrees}
-use Rattle.pin_table.specs.Plays.{Finds, Move, Seated, reclaimed, with_sight}
-use Rattle.pin_table.specs.Steps.{SeatStep, look, give, lend, hand, leave, condemn, revive, reclaim, miss, share, verify, Exchanges, IsEvent, IsMade, Leads, OfKeeper, views_after, words_after}
+use Rattle.pin_table.specs.declared.view.View.TheVariants.{Keeper, Left}
+use Rattle.pin_table.specs.Rule.{Agrees, gone}
+use Rattle.pin_table.specs.Plays.{Finds, Move, Seated, reclaimed, with_look}
+use Rattle.pin_table.specs.Steps.{SeatStep, look, give, lend, hand, leave, condemn, revive, reclaim, miss, share, verify, Exchanges, IsEvent, IsMade, Leads, OfKeeper, looks_of, views_after, words_after}
 use Rattle.pin_table.specs.Laws.{StepsAreEvents}
 use Rattle.pin_table.proofs.Bits.{one_sum}
 use Rattle.pin_table.proofs.Names.{fresh}
@@ -26,13 +26,13 @@ module _ (ws : List ℕ) (vs : List View) (p : PinWorld) (a : Agrees ws vs p) wh
   led e l m id u me words is leads = subst (λ x. Leads p e m (set vs id x)) (sym (ap (λ (y : Seated). y.0) is)) (subst (λ x. Leads p e x (set vs id u)) words leads)
 
   -- a load, which found this sum
-  looked_by : (v : Kept) (k weight : ℕ) (me : Seated) → Keeping ws vs p v k → Finds k (slice_index ws k) v weight → me ≡ (Keeper (with_sight k (slice_index ws k) weight v), []) → Leads p (Look k) ws (set vs 0 me.0)
+  looked_by : (v : Kept) (k weight : ℕ) (me : Seated) → Keeping ws vs p v k → Finds k (slice_index ws k) v weight → me ≡ (Keeper (with_look k weight v), []) → Leads p (Look k) ws (set vs 0 me.0)
   looked_by v k weight me c finds is =
       let r = row v.rows k in
       let most = c.finds.fits in
       let same = one_sum r.generation r.generation (weight_on k (holds_of p)) weight r.phase r.phase (omega arith) finds.fits (sym c.finds.word ∙ finds.word) in
-      led (Look k) (set ws k (slice_index ws k)) ws 0 (Keeper (with_sight k (slice_index ws k) weight v)) me (set-get_or ws k 0) is
-      (subst (λ x. Leads p (Look k) (set ws k (slice_index ws k)) (set vs 0 (Keeper (with_sight k (slice_index ws k) x v)))) same (looks c))
+      led (Look k) (set ws k (slice_index ws k)) ws 0 (Keeper (with_look k weight v)) me (set-get_or ws k 0) is
+      (subst (λ x. Leads p (Look k) (set ws k (slice_index ws k)) (set vs 0 (Keeper (with_look k x v)))) same (looks c))
 
   -- an exchange that is made, and one that isn't
   made_by : (v : Kept) (s : Move) (me : Seated) → OfKeeper ws vs v s → Exchanges v s → slice_index ws s.word ≡ s.first → reclaimed s (Keeper v, []) (slice_index ws s.word) me → Leads p (Reclaim s.word) (set ws s.word s.second) (set vs 0 me.0)
@@ -55,7 +55,7 @@ module _ (ws : List ℕ) (vs : List View) (p : PinWorld) (a : Agrees ws vs p) wh
         c.named,
         led (Leave c.name) _ _ id _ me
             (ap (λ k. set ws k ((slice_index ws k + (18446744073709551616 - h.weight)) % 18446744073709551616)) (sym t.2) ∙ ap (λ x. set ws s.word ((slice_index ws s.word + (18446744073709551616 - x)) % 18446744073709551616)) (sym t.3))
-            t.4 (leaves c fits),
+            (t.4 ∙ ap (λ look. (Left (gone h look), [])) (ap (λ l. slice_index (looks_of l) h.slot) c.agrees.seats)) (leaves c fits),
       )
   by_step (condemn v s me) t = led (Condemn s.word) _ _ 0 _ me (ap (λ x. set ws s.word (bit_or (slice_index ws s.word) x)) (sym t.2)) t.3 (condemns (kept_by v s t.0) t.1)
   by_step (revive v s me) t = led (Revive s.word) _ _ 0 _ me (ap (λ x. set ws s.word (bit_and (slice_index ws s.word) x)) (sym t.2)) t.3 (revives (kept_by v s t.0) t.0.1.1 t.1)

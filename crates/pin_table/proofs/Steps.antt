@@ -15,14 +15,15 @@ use Rattle.pin_core.proofs.Held.{free_unused, state_after, unused}
 use Rattle.pin_table.specs.declared.view.Kept.{Kept}
 use Rattle.pin_table.specs.declared.view.View.{View}
 use Rattle.pin_table.specs.declared.view.View.TheVariants.{Keeper}
-use Rattle.pin_table.specs.Rule.{Agrees, all_holds, in_hand}
-use Rattle.pin_table.specs.Plays.{Finds, HandKept, with_bound, with_row, with_hand, with_sight}
+use Rattle.pin_table.specs.Rule.{Accounts, Agrees, all_holds, in_hand}
+use Rattle.pin_table.specs.Plays.{Finds, HandKept, with_hand, with_lent, with_look, with_row}
 use Rattle.pin_table.specs.Steps.{Leads}
 use Rattle.pin_table.proofs.Bits.{set_used, set_condemned, clear_condemned}
 use Rattle.pin_table.proofs.Orders.{one, one_self, permutes}
 use Rattle.pin_table.proofs.Names.{fresh, unnamed, lent_sum}
 use Rattle.pin_table.proofs.Holds.{sum_one, all_counted, weight_same, weight_apart, weight_none, none_left}
-use Rattle.pin_table.proofs.Agreement.{is_keeper, sums, Change, changed, row_changed, pins_changed, unchanged}
+use Rattle.pin_table.proofs.Accounts.{lends_kept, looks_kept}
+use Rattle.pin_table.proofs.Agreement.{is_keeper, within_bound, sums, Change, changed, row_changed, pins_changed, unchanged}
 
 -- what is known before a step of the keeper's seat on the word k
 pub record Keeping (ws : List ℕ) (vs : List View) (p : PinWorld) (v : Kept) (k : ℕ) : Type 0 where
@@ -38,7 +39,7 @@ pub keeping : {ws : List ℕ} {vs : List View} {p : PinWorld} (a : Agrees ws vs 
 keeping {ws} {vs} {p} a v k at l =
     let same = is_keeper a v at in
     let rows : p.rows ≡ v.rows = a.rows ∙ ap (λ (x : Kept). x.rows) same in
-    let bound : weight_on k (holds_of p) ≤ slice_index v.bounds k = subst (λ (x : Kept). weight_on k (holds_of p) ≤ slice_index x.bounds k) same (a.at_bounds k l) in
+    let bound : weight_on k (holds_of p) ≤ slice_index v.bounds k = subst (λ (x : Kept). weight_on k (holds_of p) ≤ slice_index x.bounds k) same (within_bound a k l) in
     let limit : slice_index v.bounds k ≤ max_weight = subst (λ (x : Kept). slice_index x.bounds k ≤ max_weight) same (a.limits k l) in record {
       agrees = a;
       same = same;
@@ -48,16 +49,20 @@ keeping {ws} {vs} {p} a v k at l =
       finds = record { word = a.at_words k l ∙ ap (λ rs. row_word (row rs k) (weight_on k (holds_of p))) rows; within = bound; fits = omega arith };
     }
 
+-- what was lent and the bounds, by what the keeper knows
+accounts : {ws : List ℕ} {vs : List View} {p : PinWorld} {v : Kept} {k : ℕ} (c : Keeping ws vs p v k) → Accounts (length p.rows) v.bounds v.looks v.lent c.agrees.others (holds_of p)
+accounts {p = p} c = subst (λ (x : Kept). Accounts (length p.rows) x.bounds x.looks x.lent c.agrees.others (holds_of p)) c.same c.agrees.accounts
+
 -- the keeper's step: its view becomes u, and the world q
 pub by_keeper : {ws : List ℕ} {vs : List View} {p : PinWorld} {v : Kept} {k : ℕ} (c : Keeping ws vs p v k) (m b : ℕ) (u : Kept) (q : PinWorld) → q.rows ≡ u.rows → u.bounds ≡ set v.bounds k b
-    → ((f : Hold → ℕ) → sum_by f (in_hand u.hand) + sum_by f (holds_of p) ≡ sum_by f (in_hand v.hand) + sum_by f (holds_of q)) → IsState q → Change p k m b q → Agrees (set ws k m) (set vs 0 (Keeper u)) q
-by_keeper {ws} {vs} {p} {v} {k} c m b u q rows bounds hands state change =
+    → ((f : Hold → ℕ) → sum_by f (in_hand u.hand) + sum_by f (holds_of p) ≡ sum_by f (in_hand v.hand) + sum_by f (holds_of q)) → IsState q → Change p k m b q → Accounts (length p.rows) u.bounds u.looks u.lent c.agrees.others (holds_of q) → Agrees (set ws k m) (set vs 0 (Keeper u)) q
+by_keeper {ws} {vs} {p} {v} {k} c m b u q rows bounds hands state change accounts =
     let a = c.agrees in
     let pins = permutes (all_holds (Keeper u ∷ a.others)) (holds_of q) (λ f.
     let before : sum_by f (holds_of p) ≡ sum_by f (in_hand v.hand ++ all_holds a.others) = sums a f ∙ ap (λ l. sum_by f (all_holds l)) a.seats ∙ ap (λ (x : Kept). sum_by f (in_hand x.hand ++ all_holds a.others)) c.same in
     omega (arith, hands f, before, sum_by-append f (in_hand v.hand) (all_holds a.others), sum_by-append f (in_hand u.hand) (all_holds a.others))) in
     subst (λ l. Agrees (set ws k m) (set l 0 (Keeper u)) q) (sym a.seats)
-    (changed ws vs p q a k m b u a.others a.guests rows (bounds ∙ ap (λ (x : Kept). set x.bounds k b) (sym c.same)) pins state change)
+    (changed ws vs p q a k m b u a.others a.guests rows (bounds ∙ ap (λ (x : Kept). set x.bounds k b) (sym c.same)) pins state change accounts)
 
 -- the bound that stays
 pub bound_kept : (v : Kept) (k : ℕ) → v.bounds ≡ set v.bounds k (slice_index v.bounds k)
@@ -78,15 +83,18 @@ hand_kept {ws} {vs} {p} {v} {k} c = by_hand v.hand refl
 -- ---- Look
 
 pub looks : {ws : List ℕ} {vs : List View} {p : PinWorld} {v : Kept} {k : ℕ} → Keeping ws vs p v k
-    → Leads p (Look k) (set ws k (slice_index ws k)) (set vs 0 (Keeper (with_sight k (slice_index ws k) (weight_on k (holds_of p)) v)))
+    → Leads p (Look k) (set ws k (slice_index ws k)) (set vs 0 (Keeper (with_look k (weight_on k (holds_of p)) v)))
 looks {ws} {vs} {p} {v} {k} c =
-    let w : ℕ = weight_on k (holds_of p) in
-    (c.within, by_keeper c (slice_index ws k) w (with_sight k (slice_index ws k) w v) p c.rows refl (λ f. refl) c.agrees.state (unchanged p k (slice_index ws k) w c.within (c.agrees.at_words k c.within) (omega arith) c.finds.fits))
+    let w : ℕ = weight_on k (holds_of p) in (
+      c.within,
+      by_keeper c (slice_index ws k) w (with_look k w v) p c.rows refl (λ f. refl) c.agrees.state (unchanged p k (slice_index ws k) w c.within (c.agrees.at_words k c.within) c.finds.fits)
+          (looks_kept (length p.rows) v.bounds v.looks v.lent c.agrees.others (holds_of p) k w c.within refl (accounts c)),
+    )
 
 -- ---- Give
 
 pub gives : {ws : List ℕ} {vs : List View} {p : PinWorld} {v : Kept} {k : ℕ} (d : Text) → Keeping ws vs p v k → (row v.rows k).phase ≡ Free → IsNew d v.rows
-    → Leads p (Give k d) (set ws k (bit_or (slice_index ws k) 2147483648)) (set vs 0 (Keeper (with_bound k 0 (with_row k (given_row d (row v.rows k)) v))))
+    → Leads p (Give k d) (set ws k (bit_or (slice_index ws k) 2147483648)) (set vs 0 (Keeper (with_look k 0 (with_row k (given_row d (row v.rows k)) v))))
 gives {ws} {vs} {p} {v} {k} d c free new =
     let free' : (row p.rows k).phase ≡ Free = ap (λ rs. (row rs k).phase) c.rows ∙ free in
     let can : Can p (Give k d) = ((c.within, free'), subst (λ rs. IsNew d rs) (sym c.rows) new) in
@@ -96,9 +104,10 @@ gives {ws} {vs} {p} {v} {k} d c free new =
     let at : n ≡ word_of (row p.rows k).generation Free 0 = c.agrees.at_words k c.within ∙ ap (λ x. word_of (row p.rows k).generation x (weight_on k (holds_of p))) free' ∙ ap (λ x. word_of (row p.rows k).generation Free x) zero_on in
     let made : bit_or n 2147483648 ≡ row_word r (weight_on k (holds_of p)) = set_used n (row p.rows k).generation (omega arith) ∙ omega arith in (
       can,
-      by_keeper c (bit_or n 2147483648) 0 (with_bound k 0 (with_row k (given_row d (row v.rows k)) v)) (after p (Give k d))
+      by_keeper c (bit_or n 2147483648) 0 (with_look k 0 (with_row k (given_row d (row v.rows k)) v)) (after p (Give k d))
           (ap (λ rs. set rs k (given_row d (row rs k))) c.rows) refl (λ f. refl) (state_after p (Give k d) can c.agrees.state)
-          (row_changed p k (bit_or n 2147483648) 0 r c.within made (omega arith) (omega arith)),
+          (row_changed p k (bit_or n 2147483648) 0 r c.within made (omega arith))
+          (looks_kept (length p.rows) v.bounds v.looks v.lent c.agrees.others (holds_of p) k 0 c.within (sym zero_on) (accounts c)),
     )
 
 -- ---- Lend
@@ -107,7 +116,7 @@ lent_word : (n g w : ℕ) → n < 18446744073709551616 → n ≡ g * 4294967296 
 lent_word n g w fits is l = omega arith
 
 pub lends : {ws : List ℕ} {vs : List View} {p : PinWorld} {v : Kept} {k : ℕ} → Keeping ws vs p v k → slice_index ws k < 18446744073709551616 → v.hand ≡ None → (row v.rows k).phase ≡ Live → slice_index v.bounds k + new_weight ≤ max_weight
-    → Leads p (Lend k (fresh p.pins)) (set ws k ((slice_index ws k + 1024) % 18446744073709551616)) (set vs 0 (Keeper (with_hand (Some (lent_hold k (row v.rows k))) (with_bound k (slice_index v.bounds k + new_weight) v))))
+    → Leads p (Lend k (fresh p.pins)) (set ws k ((slice_index ws k + 1024) % 18446744073709551616)) (set vs 0 (Keeper (with_hand (Some (lent_hold k (row v.rows k))) (with_lent k v))))
 lends {ws} {vs} {p} {v} {k} c fits empty live room =
     let name = fresh p.pins in
     let live' : (row p.rows k).phase ≡ Live = ap (λ rs. (row rs k).phase) c.rows ∙ live in
@@ -126,10 +135,11 @@ lends {ws} {vs} {p} {v} {k} c fits empty live room =
     let made : m ≡ row_word (row p.rows k) (weight_on k (holds_of q)) =
     lent_word n (row p.rows k).generation w fits at (omega arith) ∙ ap (λ x. word_of (row p.rows k).generation Live x) (sym more) ∙ ap (λ x. word_of (row p.rows k).generation x (weight_on k (holds_of q))) (sym live') in (
       can,
-      by_keeper c m (slice_index v.bounds k + new_weight) (with_hand (Some h) (with_bound k (slice_index v.bounds k + new_weight) v)) q c.rows refl
+      by_keeper c m (slice_index v.bounds k + new_weight) (with_hand (Some h) (with_lent k v)) q c.rows refl
           (λ f. let none : sum_by f (in_hand v.hand) ≡ 0 = ap (λ o. sum_by f (in_hand o)) empty in omega (arith, total f, none, sum_one f h, ap f same))
           (state_after p (Lend k name) can c.agrees.state)
-          (pins_changed p k m (slice_index v.bounds k + new_weight) q.pins c.within made (λ j ne. let z : weight_at j g ≡ 0 = weight_apart j g (λ e. ne (sym e)) in omega (arith, total (weight_at j))) (omega arith) room),
+          (pins_changed p k m (slice_index v.bounds k + new_weight) q.pins c.within made (λ j ne. let z : weight_at j g ≡ 0 = weight_apart j g (λ e. ne (sym e)) in omega (arith, total (weight_at j))) room)
+          (lends_kept (length p.rows) v.bounds v.looks v.lent c.agrees.others (holds_of p) (holds_of q) g c.within (λ j. total (weight_at j)) (accounts c)),
     )
 
 -- ---- Condemn and Revive
@@ -149,7 +159,7 @@ condemns {ws} {vs} {p} {v} {k} c live =
       can,
       by_keeper c (bit_or n 1073741824) (slice_index v.bounds k) (with_row k (in_phase Condemned (row v.rows k)) v) (after p (Condemn k))
           (ap (λ rs. set rs k (in_phase Condemned (row rs k))) c.rows) (bound_kept v k) (λ f. refl) (state_after p (Condemn k) can c.agrees.state)
-          (row_changed p k (bit_or n 1073741824) (slice_index v.bounds k) r c.within made c.finds.within c.limit),
+          (row_changed p k (bit_or n 1073741824) (slice_index v.bounds k) r c.within made c.limit) (accounts c),
     )
 
 pub revives : {ws : List ℕ} {vs : List View} {p : PinWorld} {v : Kept} {k : ℕ} → Keeping ws vs p v k → slice_index ws k < 18446744073709551616 → (row v.rows k).phase ≡ Condemned
@@ -167,13 +177,13 @@ revives {ws} {vs} {p} {v} {k} c fits dead =
       can,
       by_keeper c (bit_and n 18446744072635809791) (slice_index v.bounds k) (with_row k (in_phase Live (row v.rows k)) v) (after p (Revive k))
           (ap (λ rs. set rs k (in_phase Live (row rs k))) c.rows) (bound_kept v k) (λ f. refl) (state_after p (Revive k) can c.agrees.state)
-          (row_changed p k (bit_and n 18446744072635809791) (slice_index v.bounds k) r c.within made c.finds.within c.limit),
+          (row_changed p k (bit_and n 18446744072635809791) (slice_index v.bounds k) r c.within made c.limit) (accounts c),
     )
 
 -- ---- Reclaim
 
 pub reclaims : {ws : List ℕ} {vs : List View} {p : PinWorld} {v : Kept} {k : ℕ} (old new : ℕ) → Keeping ws vs p v k → (row v.rows k).phase ≡ Condemned → old ≡ row_word (row v.rows k) 0 → new ≡ row_word (reclaimed_row (row v.rows k)) 0 → slice_index ws k ≡ old
-    → Leads p (Reclaim k) (set ws k new) (set vs 0 (Keeper (with_bound k 0 (with_row k (reclaimed_row (row v.rows k)) v))))
+    → Leads p (Reclaim k) (set ws k new) (set vs 0 (Keeper (with_look k 0 (with_row k (reclaimed_row (row v.rows k)) v))))
 reclaims {ws} {vs} {p} {v} {k} old new c dead old_is new_is hit =
     let dead' : (row p.rows k).phase ≡ Condemned = ap (λ rs. (row rs k).phase) c.rows ∙ dead in
     let found = c.finds.word in
@@ -182,7 +192,8 @@ reclaims {ws} {vs} {p} {v} {k} old new c dead old_is new_is hit =
     let r = reclaimed_row (row p.rows k) in
     let made : new ≡ row_word r (weight_on k (holds_of p)) = new_is ∙ ap (λ rs. row_word (reclaimed_row (row rs k)) 0) (sym c.rows) ∙ ap (λ x. row_word r x) (sym zero_on) in (
       can,
-      by_keeper c new 0 (with_bound k 0 (with_row k (reclaimed_row (row v.rows k)) v)) (after p (Reclaim k))
+      by_keeper c new 0 (with_look k 0 (with_row k (reclaimed_row (row v.rows k)) v)) (after p (Reclaim k))
           (ap (λ rs. set rs k (reclaimed_row (row rs k))) c.rows) refl (λ f. refl) (state_after p (Reclaim k) can c.agrees.state)
-          (row_changed p k new 0 r c.within made (omega arith) (omega arith)),
+          (row_changed p k new 0 r c.within made (omega arith))
+          (looks_kept (length p.rows) v.bounds v.looks v.lent c.agrees.others (holds_of p) k 0 c.within (sym zero_on) (accounts c)),
     )

@@ -1,22 +1,22 @@
 -- What contracts see of the keeper and of a pin, and what the calls change.
-use Rattle.std.specs.Prelude.{◌≡◌, ℕ, ◌+◌, ◌<◌, ◌≤◌, replicate, List, [], ◌∷◌, slice_set, slice_index, Some}
+use Rattle.std.specs.Prelude.{◌≡◌, ℕ, ◌+◌, ◌<◌, ◌≤◌, replicate, List, slice_set, slice_index, Some}
 use Rattle.atomic_table.specs.Seated.{TableId}
 use Rattle.pin_core.specs.declared.world.PinRow.{PinRow}
 use Rattle.pin_core.specs.declared.world.Hold.{Hold}
 use Rattle.pin_core.specs.World.{Keeps, row, row_word, opening, max_weight}
 use Rattle.pin_core.specs.Events.{new_weight, last_generation, reclaimed_row, lent_hold, half}
-use Rattle.pin_table.specs.declared.view.Sight.{Sight}
 use Rattle.pin_table.specs.declared.view.View.{View}
-use Rattle.pin_table.specs.Rule.{sight}
+use Rattle.pin_table.specs.Rule.{raised}
 use Rattle.pin_table.specs.declared.reclaim.Reclaim.{Reclaim}
 use Rattle.pin_table.specs.declared.reclaim.Reclaim.TheVariants.{Freed, Retired, Held}
 
--- the keeper: its table, by slot number the rows and the bounds on the sums of weights, and what its looks found, the last first
+-- the keeper: its table, and by slot number the rows, the bounds on the sums of weights, how often it looked, and what it ever lent
 pub record KeeperValue : Type 0 where
   pub table : TableId
   pub rows : List PinRow
   pub bounds : List ℕ
-  pub seen : List Sight
+  pub looks : List ℕ
+  pub lent : List ℕ
 
 -- a pin: its table, and what it holds
 pub record PinValue : Type 0 where
@@ -33,23 +33,23 @@ seat_value t u = record { table = t; view = u }
 
 -- the keeper of n free slots of generation g
 abbrev pub opened : TableId → ℕ → ℕ → KeeperValue
-opened t n g = record { table = t; rows = (opening n g).rows; bounds = replicate n 0; seen = [] }
+opened t n g = record { table = t; rows = (opening n g).rows; bounds = replicate n 0; looks = replicate n 0; lent = replicate n 0 }
 
--- the keeper with another row and bound for the slot k
+-- the keeper with another row and bound for the slot k, at which it looked once more
 abbrev pub with_both : ℕ → PinRow → ℕ → KeeperValue → KeeperValue
-with_both k r b s = record { table = s.table; rows = slice_set s.rows k r; bounds = slice_set s.bounds k b; seen = s.seen }
+with_both k r b s = record { table = s.table; rows = slice_set s.rows k r; bounds = slice_set s.bounds k b; looks = raised k 1 s.looks; lent = s.lent }
 
 -- the keeper with another row for the slot k
 abbrev pub rowed : ℕ → PinRow → KeeperValue → KeeperValue
-rowed k r s = record { table = s.table; rows = slice_set s.rows k r; bounds = s.bounds; seen = s.seen }
+rowed k r s = record { table = s.table; rows = slice_set s.rows k r; bounds = s.bounds; looks = s.looks; lent = s.lent }
 
--- the keeper with another bound for the slot k
-abbrev pub bounded : ℕ → ℕ → KeeperValue → KeeperValue
-bounded k b s = record { table = s.table; rows = s.rows; bounds = slice_set s.bounds k b; seen = s.seen }
+-- the keeper after it lent a new pin on the slot k
+abbrev pub lent_on : ℕ → KeeperValue → KeeperValue
+lent_on k s = record { table = s.table; rows = s.rows; bounds = raised k new_weight s.bounds; looks = s.looks; lent = raised k new_weight s.lent }
 
--- the keeper after it found the word of its row for the slot k, with this sum, which the bound becomes
+-- the keeper after it looked once more at the slot k, and found this sum on it, which the bound becomes
 abbrev pub found : ℕ → ℕ → KeeperValue → KeeperValue
-found k weight s = record { table = s.table; rows = s.rows; bounds = slice_set s.bounds k weight; seen = sight k (row_word (row s.rows k) weight) ∷ s.seen }
+found k weight s = record { table = s.table; rows = s.rows; bounds = slice_set s.bounds k weight; looks = raised k 1 s.looks; lent = s.lent }
 
 -- the word n of the slot k was found: its row's, with a sum within the bound, which the bound becomes
 pub record Looked (k n : ℕ) (s t : KeeperValue) : Type 0 where
@@ -69,7 +69,8 @@ pub record Lent (k : ℕ) (s t : KeeperValue) (p : PinValue) : Type 0 where
   pub weight : ℕ
   pub within : weight ≤ slice_index s.bounds k
   pub room : weight + new_weight ≤ max_weight
-  pub after : t ≡ bounded k (weight + new_weight) (found k weight s)
+  pub after : t ≡ lent_on k (found k weight s)
+  pub bound : slice_index t.bounds k ≡ weight + new_weight
   pub pin : p ≡ lent_pin k s
   pub digest : (row s.rows k).digest ≡ Some p.hold.digest
 

@@ -1,5 +1,5 @@
 -- Each step of a pin table is its event of the pin world; what that says of whole histories of steps, and of the words at any moment.
-use Rattle.std.specs.Prelude.{◌≡◌, ℕ, ◌≤◌, List, [], ◌∷◌, take, length, replicate, sum_by, slice_index}
+use Rattle.std.specs.Prelude.{◌≡◌, ℕ, ◌+◌, ◌<◌, ◌≤◌, List, [], ◌∷◌, take, length, replicate, sum_by, slice_index, slice_set}
 use mathlib.Core.Option.{some}
 use lib.ListN.{get_elem?}
 use Rattle.pin_core.specs.declared.world.Phase.TheVariants.{Free}
@@ -10,8 +10,8 @@ use Rattle.pin_core.specs.Events.{Happens, after_all}
 use Rattle.pin_core.specs.Laws.{Reclaims, world_at}
 use Rattle.pin_table.specs.declared.view.Kept.{Kept}
 use Rattle.pin_table.specs.declared.view.View.{View}
-use Rattle.pin_table.specs.declared.view.View.TheVariants.{Keeper, Pin}
-use Rattle.pin_table.specs.Rule.{Agrees, Ruled, all_found, all_seen, opening_view}
+use Rattle.pin_table.specs.declared.view.View.TheVariants.{Keeper, Left, Pin}
+use Rattle.pin_table.specs.Rule.{Agrees, Ruled, gone, opening_view}
 use Rattle.pin_table.specs.Steps.{SeatStep, look, give, lend, hand, leave, condemn, revive, reclaim, miss, share, verify, IsMade, words_after, views_after, IsEvent}
 
 -- All kinds of step. A new table agrees with free slots; and each step leads from every world with which the table agrees before it to one with which it agrees after it.
@@ -71,13 +71,12 @@ Histories = (n g : ℕ) (xs : List SeatStep) → AreMade (new_table n g) xs → 
 
 -- ---- what the rule says at any moment
 
--- Of words and views under the rule, from n free slots of generation g: the law of the core holds of the events that led there; what the keeper has seen is what the looks among them found; and the slot of each pin that a seat has is used and its own by the keeper's rows, and its word counts the pin.
+-- Of words and views under the rule, from n free slots of generation g: the law of the core holds of the events that led there; and the slot of each pin that a seat has is used and its own by the keeper's rows, and its word counts the pin.
 pub record Running (n g : ℕ) (words : List ℕ) (views : List View) : Type 0 where
   pub events : List Event
   pub happen : Happens (opening n g) events
   pub reclaims : Reclaims (opening n g) events
   pub agrees : Agrees words views (after_all (opening n g) events)
-  pub found : all_found (opening n g) events ≡ all_seen views
   pub keeps : (v : Kept) (id : ℕ) (h : Hold) → get_elem? views 0 ≡ some (Keeper v) → get_elem? views id ≡ some (Pin h) → Keeps v.rows h
   pub counts : (v : Kept) (id : ℕ) (h : Hold) → get_elem? views 0 ≡ some (Keeper v) → get_elem? views id ≡ some (Pin h)
       → (weight : ℕ) × (slice_index words h.slot ≡ row_word (row v.rows h.slot) weight) × (h.weight ≤ weight) × (weight ≤ max_weight)
@@ -85,3 +84,12 @@ pub record Running (n g : ℕ) (words : List ℕ) (views : List View) : Type 0 w
 -- At every moment, over every interleaving of the steps of any seats.
 abbrev pub RunningWords : Type 0
 RunningWords = (n g : ℕ) (words : List ℕ) (views : List View) → Ruled n g words views → Running n g words views
+
+-- ---- looks
+
+-- Of whatever kind a step is that keeps the rule: where it is of the keeper's seat, on a word, and counts one look more at the slot k, that slot's word is then its row's with the bound for its sum; and where the pin of a seat leaves, the seat bears the count of the looks at its slot as it is.
+pub record LooksAreTrue : Type 0 where
+  pub found : (n g : ℕ) (words words' : List ℕ) (v u : Kept) (others : List View) (k : ℕ) → Ruled n g words (Keeper v ∷ others) → Ruled n g words' (Keeper u ∷ others) → k < length u.rows
+      → slice_index u.looks k ≡ slice_index v.looks k + 1 → slice_index words' k ≡ row_word (row u.rows k) (slice_index u.bounds k)
+  pub left : (n g : ℕ) (words words' : List ℕ) (v : Kept) (others : List View) (place : ℕ) (h : Hold) (look : ℕ) → get_elem? others place ≡ some (Pin h) → Ruled n g words (Keeper v ∷ others)
+      → Ruled n g words' (Keeper v ∷ slice_set others place (Left (gone h look))) → look ≡ slice_index v.looks h.slot

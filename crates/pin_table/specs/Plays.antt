@@ -1,5 +1,5 @@
 -- What each kind of step finds, and what the seat knows after it.
-use Rattle.std.specs.Prelude.{◌≡◌, ◌≢◌, ℕ, ◌+◌, ◌≤◌, ◌⊎◌, List, ◌∷◌, slice_set, slice_index, Option, Some, None}
+use Rattle.std.specs.Prelude.{◌≡◌, ◌≢◌, ℕ, ◌≤◌, ◌⊎◌, List, slice_set, slice_index, Option, Some, None}
 use Rattle.atomic_table.specs.Table.{Me, Step}
 use Rattle.blob_digest.specs.Keys.{Text}
 use Rattle.pin_core.specs.declared.world.Phase.TheVariants.{Live, Condemned}
@@ -10,7 +10,7 @@ use Rattle.pin_core.specs.Events.{new_weight, given_row, in_phase, reclaimed_row
 use Rattle.pin_table.specs.declared.view.Kept.{Kept}
 use Rattle.pin_table.specs.declared.view.View.{View}
 use Rattle.pin_table.specs.declared.view.View.TheVariants.{Keeper, Pin, Left, Spent}
-use Rattle.pin_table.specs.Rule.{kept, sight}
+use Rattle.pin_table.specs.Rule.{gone, kept, raised}
 
 -- a seat: its view; no seat of a pin table holds a slot of memory
 abbrev pub Seated : Type 0
@@ -20,20 +20,21 @@ Seated = Me (Unit {0}) View
 abbrev pub Move : Type 0
 Move = Step (Unit {0})
 
--- what the keeper knows, with another bound or another row for the slot k
-abbrev pub with_bound : ℕ → ℕ → Kept → Kept
-with_bound k b v = kept v.rows (slice_set v.bounds k b) v.hand v.seen
-
+-- what the keeper knows, with another row for the slot k
 abbrev pub with_row : ℕ → PinRow → Kept → Kept
-with_row k r v = kept (slice_set v.rows k r) v.bounds v.hand v.seen
+with_row k r v = kept (slice_set v.rows k r) v.bounds v.looks v.lent v.hand
 
 -- the same with this hand
 abbrev pub with_hand : Option Hold → Kept → Kept
-with_hand hand v = kept v.rows v.bounds hand v.seen
+with_hand hand v = kept v.rows v.bounds v.looks v.lent hand
 
--- what the keeper knows after a look that found the word n of the slot k, with this sum
-abbrev pub with_sight : ℕ → ℕ → ℕ → Kept → Kept
-with_sight k n weight v = kept v.rows (slice_set v.bounds k weight) v.hand (sight k n ∷ v.seen)
+-- the same with a new pin's weight more on the slot k
+abbrev pub with_lent : ℕ → Kept → Kept
+with_lent k v = kept v.rows (raised k new_weight v.bounds) v.looks (raised k new_weight v.lent) v.hand
+
+-- what the keeper knows after one more look at the slot k, on which it found this sum
+abbrev pub with_look : ℕ → ℕ → Kept → Kept
+with_look k weight v = kept v.rows (slice_set v.bounds k weight) (raised k 1 v.looks) v.lent v.hand
 
 -- the keeper found the word n of the slot k: its row's, with this sum, which is within the bound
 pub record Finds (k n : ℕ) (v : Kept) (weight : ℕ) : Type 0 where
@@ -48,28 +49,24 @@ HandKept rows (Some h) = Keeps rows h
 
 -- ---- steps on a word
 
--- the keeper looked: it has seen the word, and the bound is the sum in it
+-- the keeper looked once more, and the bound is the sum in the word
 abbrev pub looked : Move → Seated → ℕ → Seated → Type 0
-looked s (Keeper v, c) n me = (weight : ℕ) × Finds s.word n v weight × HandKept v.rows v.hand × (me ≡ (Keeper (with_sight s.word n weight v), c))
+looked s (Keeper v, c) n me = (weight : ℕ) × Finds s.word n v weight × HandKept v.rows v.hand × (me ≡ (Keeper (with_look s.word weight v), c))
 looked s (u, c) n me = me ≡ (u, c)
 
--- the keeper gave the slot this digest
+-- the keeper gave the slot this digest, and knows that nothing weighs on it
 abbrev pub gave : Text → Move → Seated → ℕ → Seated → Type 0
-gave d s (Keeper v, c) n me = me ≡ (Keeper (with_bound s.word 0 (with_row s.word (given_row d (row v.rows s.word)) v)), c)
+gave d s (Keeper v, c) n me = me ≡ (Keeper (with_look s.word 0 (with_row s.word (given_row d (row v.rows s.word)) v)), c)
 gave d s (u, c) n me = me ≡ (u, c)
 
--- the keeper has a new pin in its hand, and the bound is higher by the pin's weight
+-- the keeper has a new pin in its hand, and lent its weight
 abbrev pub lent : Move → Seated → ℕ → Seated → Type 0
-lent s (Keeper v, c) n me = me ≡ (Keeper (with_hand (Some (lent_hold s.word (row v.rows s.word))) (with_bound s.word (slice_index v.bounds s.word + new_weight) v)), c)
+lent s (Keeper v, c) n me = me ≡ (Keeper (with_hand (Some (lent_hold s.word (row v.rows s.word))) (with_lent s.word v)), c)
 lent s (u, c) n me = me ≡ (u, c)
 
--- the same pin with no weight
-abbrev pub weightless : Hold → Hold
-weightless h = record { slot = h.slot; generation = h.generation; digest = h.digest; weight = 0 }
-
--- the pin was left
+-- the pin was left, when the keeper had looked so often at its slot
 abbrev pub left : Move → Seated → ℕ → Seated → Type 0
-left s (Pin h, c) n me = me ≡ (Left (weightless h), c)
+left s (Pin h, c) n me = (look : ℕ) × (me ≡ (Left (gone h look), c))
 left s (u, c) n me = me ≡ (u, c)
 
 -- the keeper condemned the slot
@@ -85,8 +82,8 @@ revived s (u, c) n me = me ≡ (u, c)
 -- where the word was the one expected the slot is reclaimed, and else the keeper looked
 abbrev pub reclaimed : Move → Seated → ℕ → Seated → Type 0
 reclaimed s (Keeper v, c) n me =
-    ((n ≡ s.first) × (me ≡ (Keeper (with_bound s.word 0 (with_row s.word (reclaimed_row (row v.rows s.word)) v)), c)))
-    ⊎ ((n ≢ s.first) × ((weight : ℕ) × Finds s.word n v weight × (me ≡ (Keeper (with_sight s.word n weight v), c))))
+    ((n ≡ s.first) × (me ≡ (Keeper (with_look s.word 0 (with_row s.word (reclaimed_row (row v.rows s.word)) v)), c)))
+    ⊎ ((n ≢ s.first) × ((weight : ℕ) × Finds s.word n v weight × (me ≡ (Keeper (with_look s.word weight v), c))))
 reclaimed s (u, c) n me = me ≡ (u, c)
 
 -- ---- splits and joins of seats
@@ -113,7 +110,7 @@ halved u = u
 abbrev pub pin_of : View → Option Hold
 pin_of (Pin h) = Some h
 pin_of (Keeper v) = None
-pin_of (Left h) = None
+pin_of (Left g) = None
 pin_of Spent = None
 
 abbrev pub taken_in : View → View → View

@@ -1,31 +1,41 @@
 -- The rule of a pin table: between any two steps its words are those of a pin world, whose rows are the keeper's and whose pins are those of the seats.
-use Rattle.std.specs.Prelude.{◌≡◌, ℕ, ◌<◌, ◌≤◌, List, [], ◌∷◌, ◌++◌, length, replicate, slice_index, Option, Some, None, IsPermutation}
+use Rattle.std.specs.Prelude.{◌≡◌, ℕ, ◌+◌, ◌==◌, ◌<◌, ◌≤◌, cond, List, [], ◌∷◌, ◌++◌, length, replicate, slice_index, slice_set, sum_by, Option, Some, None, IsPermutation}
 use Rattle.std.specs.List.{All}
 use Rattle.pin_core.specs.declared.world.PinRow.{PinRow}
 use Rattle.pin_core.specs.declared.world.Hold.{Hold}
 use Rattle.pin_core.specs.declared.event.Event.{Event}
-use Rattle.pin_core.specs.declared.event.Event.TheVariants.{Give, Lend, Share, Leave, Condemn, Revive, Reclaim, Look, Verify}
-use Rattle.pin_core.specs.World.{PinWorld, IsState, holds_of, weight_on, word, max_weight, opening}
-use Rattle.pin_core.specs.Events.{Happens, after, after_all}
-use Rattle.pin_table.specs.declared.view.Sight.{Sight}
+use Rattle.pin_core.specs.World.{PinWorld, IsState, holds_of, weight_at, weight_on, word, max_weight, opening}
+use Rattle.pin_core.specs.Events.{Happens, after_all}
+use Rattle.pin_table.specs.declared.view.Gone.{Gone}
 use Rattle.pin_table.specs.declared.view.Kept.{Kept}
 use Rattle.pin_table.specs.declared.view.View.{View}
 use Rattle.pin_table.specs.declared.view.View.TheVariants.{Keeper, Pin, Left, Spent}
 
--- the word n, found on the slot k
-abbrev pub sight : ℕ → ℕ → Sight
-sight k n = record { slot = k; word = n }
+-- what the keeper knows: the rows; of each slot a bound on the sum of weights, how often the keeper looked at it, and what it ever lent; and the pin in its hand
+abbrev pub kept : List PinRow → List ℕ → List ℕ → List ℕ → Option Hold → Kept
+kept rows bounds looks lent hand = record { rows = rows; bounds = bounds; looks = looks; lent = lent; hand = hand }
 
--- what the keeper knows: the rows, a bound on the sum of weights of each slot, the pin in its hand, and what its looks found, the last first
-abbrev pub kept : List PinRow → List ℕ → Option Hold → List Sight → Kept
-kept rows bounds hand seen = record { rows = rows; bounds = bounds; hand = hand; seen = seen }
+-- a pin that left when the keeper had looked so often at its slot
+abbrev pub gone : Hold → ℕ → Gone
+gone h look = record { hold = h; look = look }
 
--- what the keeper's looks found; nothing for another seat
-abbrev pub seen_by : View → List Sight
-seen_by (Keeper v) = v.seen
-seen_by (Pin h) = []
-seen_by (Left h) = []
-seen_by Spent = []
+-- the list with n more at k
+abbrev pub raised : ℕ → ℕ → List ℕ → List ℕ
+raised k n l = slice_set l k (slice_index l k + n)
+
+-- how often the keeper looked at each slot; nothing for another seat
+abbrev pub looks_by : View → List ℕ
+looks_by (Keeper v) = v.looks
+looks_by (Pin h) = []
+looks_by (Left g) = []
+looks_by Spent = []
+
+-- what the keeper ever lent on each slot; nothing for another seat
+abbrev pub lent_by : View → List ℕ
+lent_by (Keeper v) = v.lent
+lent_by (Pin h) = []
+lent_by (Left g) = []
+lent_by Spent = []
 
 -- the pin in the hand, if there is one
 abbrev pub in_hand : Option Hold → List Hold
@@ -36,7 +46,7 @@ in_hand (Some h) = h ∷ []
 abbrev pub holds_in : View → List Hold
 holds_in (Keeper v) = in_hand v.hand
 holds_in (Pin h) = h ∷ []
-holds_in (Left h) = []
+holds_in (Left g) = []
 holds_in Spent = []
 
 -- the pins of all seats
@@ -44,12 +54,44 @@ abbrev pub all_holds : List View → List Hold
 all_holds [] = []
 all_holds (v ∷ vs) = holds_in v ++ all_holds vs
 
--- the seat isn't the keeper's, and a pin that was left weighs nothing
+-- the seat isn't the keeper's
 abbrev pub IsGuest : View → Type 0
 IsGuest (Keeper v) = ⊥
 IsGuest (Pin h) = Unit {0}
-IsGuest (Left h) = h.weight ≡ 0
+IsGuest (Left g) = Unit {0}
 IsGuest Spent = Unit {0}
+
+-- ---- what was lent, what weighs now, and what left
+
+-- what a seat's pin weighed on the slot k, if it left
+abbrev pub gone_at : ℕ → View → ℕ
+gone_at k (Keeper v) = 0
+gone_at k (Pin h) = 0
+gone_at k (Left g) = weight_at k g.hold
+gone_at k Spent = 0
+
+-- the same, if it left when the keeper had looked so often at its slot
+abbrev pub gone_since : ℕ → ℕ → View → ℕ
+gone_since k look (Keeper v) = 0
+gone_since k look (Pin h) = 0
+gone_since k look (Left g) = cond (g.look == look) (weight_at k g.hold) 0
+gone_since k look Spent = 0
+
+-- no pin left after a look that is still to come
+abbrev pub IsPast : List ℕ → View → Type 0
+IsPast looks (Keeper v) = Unit {0}
+IsPast looks (Pin h) = Unit {0}
+IsPast looks (Left g) = g.look ≤ slice_index looks g.hold.slot
+IsPast looks Spent = Unit {0}
+
+-- Of n slots: what was ever lent on one is what weighs on it now and what left it; and its bound is what weighs on it now and what left it since the keeper's last look.
+pub record Accounts (n : ℕ) (bounds looks lent : List ℕ) (others : List View) (holds : List Hold) : Type 0 where
+  pub all_bounds : length bounds ≡ n
+  pub all_looks : length looks ≡ n
+  pub all_lent : length lent ≡ n
+  pub at_lent : (k : ℕ) → k < n → slice_index lent k ≡ weight_on k holds + sum_by (gone_at k) others
+  pub at_bounds : (k : ℕ) → k < n → slice_index bounds k ≡ weight_on k holds + sum_by (gone_since k (slice_index looks k)) others
+  pub past : All (IsPast looks) others
 
 -- The words and what the seats know are those of the pin world w.
 pub record Agrees (words : List ℕ) (views : List View) (w : PinWorld) : Type 0 where
@@ -66,40 +108,16 @@ pub record Agrees (words : List ℕ) (views : List View) (w : PinWorld) : Type 0
   -- there is a word for each slot, and it is the world's
   pub all_words : length words ≡ length w.rows
   pub at_words : (k : ℕ) → k < length w.rows → slice_index words k ≡ word w k
-  -- the sum of weights on a slot is at most the keeper's bound: its last look and what it lent since
-  pub all_bounds : length keeper.bounds ≡ length w.rows
-  pub at_bounds : (k : ℕ) → k < length w.rows → weight_on k (holds_of w) ≤ slice_index keeper.bounds k
+  -- what was lent and the bounds are those of the world's pins and of the pins that left
+  pub accounts : Accounts (length w.rows) keeper.bounds keeper.looks keeper.lent others (holds_of w)
   pub limits : (k : ℕ) → k < length w.rows → slice_index keeper.bounds k ≤ max_weight
 
--- what an event finds: a look the word of its slot, and no other event anything
-abbrev pub found_by : PinWorld → Event → List Sight
-found_by w (Look k) = sight k (word w k) ∷ []
-found_by w (Give k d) = []
-found_by w (Lend k n) = []
-found_by w (Share n m) = []
-found_by w (Leave n) = []
-found_by w (Condemn k) = []
-found_by w (Revive k) = []
-found_by w (Reclaim k) = []
-found_by w (Verify n) = []
-
--- what the looks of a list of events find, the last first
-abbrev pub all_found : PinWorld → List Event → List Sight
-all_found w [] = []
-all_found w (e ∷ es) = all_found (after w e) es ++ found_by w e
-
--- what the keeper's looks found, by the view of the first seat
-abbrev pub all_seen : List View → List Sight
-all_seen [] = []
-all_seen (v ∷ vs) = seen_by v
-
--- The rule: from n free slots of generation g, events that can happen in their turn lead to a world with which words and seats agree, and what the keeper has seen is what the looks among them found.
+-- The rule: from n free slots of generation g, events that can happen in their turn lead to a world with which words and seats agree.
 pub record Ruled (n g : ℕ) (words : List ℕ) (views : List View) : Type 0 where
   pub events : List Event
   pub happen : Happens (opening n g) events
   pub agrees : Agrees words views (after_all (opening n g) events)
-  pub found : all_found (opening n g) events ≡ all_seen views
 
 -- what the keeper knows of n free slots of generation g
 abbrev pub opening_view : ℕ → ℕ → View
-opening_view n g = Keeper (kept (opening n g).rows (replicate n 0) None [])
+opening_view n g = Keeper (kept (opening n g).rows (replicate n 0) (replicate n 0) (replicate n 0) None)

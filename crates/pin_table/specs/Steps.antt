@@ -11,9 +11,9 @@ use Rattle.pin_core.specs.World.{PinWorld, hold_named, row, row_word, max_weight
 use Rattle.pin_core.specs.Events.{Can, after, IsNew, new_weight, reclaimed_row}
 use Rattle.pin_table.specs.declared.view.Kept.{Kept}
 use Rattle.pin_table.specs.declared.view.View.{View}
-use Rattle.pin_table.specs.declared.view.View.TheVariants.{Keeper, Pin, Spent}
-use Rattle.pin_table.specs.Rule.{Agrees}
-use Rattle.pin_table.specs.Plays.{Move, Seated, looked, gave, lent, left, condemned, revived, reclaimed, empty_handed, handed, halved, taken_in}
+use Rattle.pin_table.specs.declared.view.View.TheVariants.{Keeper, Left, Pin, Spent}
+use Rattle.pin_table.specs.Rule.{Agrees, gone, looks_by}
+use Rattle.pin_table.specs.Plays.{Move, Seated, looked, gave, lent, condemned, revived, reclaimed, empty_handed, handed, halved, taken_in}
 
 -- A step: what its seat knows, which word and operands it has, and the seat after it.
 pub data SeatStep : Type 0 where
@@ -51,6 +51,11 @@ not_condemned = 0xffff_ffff_bfff_ffff
 abbrev pub Exchanges : Kept → Move → Type 0
 Exchanges v s = ((row v.rows s.word).phase ≡ Condemned) × (s.first ≡ row_word (row v.rows s.word) 0) × (s.second ≡ row_word (reclaimed_row (row v.rows s.word)) 0)
 
+-- how often the keeper looked at each slot, by the view of the first seat
+abbrev pub looks_of : List View → List ℕ
+looks_of [] = []
+looks_of (v ∷ vs) = looks_by v
+
 module _ (words : List ℕ) (views : List View) where
   -- the keeper knows v, and the step's word is there
   abbrev pub OfKeeper : Kept → Move → Type 0
@@ -62,7 +67,7 @@ module _ (words : List ℕ) (views : List View) where
   IsMade (give v s me d) = OfKeeper v s × ((row v.rows s.word).phase ≡ Free) × IsNew d v.rows × (s.first ≡ used_bit) × gave d s (Keeper v, []) (slice_index words s.word) me
   IsMade (lend v s me) = OfKeeper v s × (v.hand ≡ None) × ((row v.rows s.word).phase ≡ Live) × (slice_index v.bounds s.word + new_weight ≤ max_weight) × (s.first ≡ new_weight) × lent s (Keeper v, []) (slice_index words s.word) me
   IsMade (hand v) = get_elem? views 0 ≡ some (Keeper v)
-  IsMade (leave id h s me) = (get_elem? views id ≡ some (Pin h)) × IsWord words s.word × (s.word ≡ h.slot) × (s.first ≡ h.weight) × left s (Pin h, []) (slice_index words s.word) me
+  IsMade (leave id h s me) = (get_elem? views id ≡ some (Pin h)) × IsWord words s.word × (s.word ≡ h.slot) × (s.first ≡ h.weight) × (me ≡ (Left (gone h (slice_index (looks_of views) h.slot)), []))
   IsMade (condemn v s me) = OfKeeper v s × ((row v.rows s.word).phase ≡ Live) × (s.first ≡ condemned_bit) × condemned s (Keeper v, []) (slice_index words s.word) me
   IsMade (revive v s me) = OfKeeper v s × ((row v.rows s.word).phase ≡ Condemned) × (s.first ≡ not_condemned) × revived s (Keeper v, []) (slice_index words s.word) me
   IsMade (reclaim v s me) = OfKeeper v s × Exchanges v s × (slice_index words s.word ≡ s.first) × reclaimed s (Keeper v, []) (slice_index words s.word) me

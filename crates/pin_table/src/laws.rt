@@ -1,6 +1,6 @@
 //! Laws of the steps on words, of their histories, and of the words at any moment.
 
-ghost use Rattle.pin_table.specs.Laws.{StepsAreEvents, Histories, RunningWords};
+ghost use Rattle.pin_table.specs.Laws.{StepsAreEvents, Histories, RunningWords, LooksAreTrue};
 
 /// Each kind of step is its event: from each pin world with which words and seats agree before the
 /// step, the event can happen, and after the step they agree with the world after it. A split of the
@@ -22,4 +22,11 @@ pub fn histories()
 /// digest in the keeper's rows, and counts the pin in its word.
 pub fn running_words()
     ensures { RunningWords }
+{}
+
+/// A look is true, of whatever kind the step is that makes it: a step of the keeper's seat after which
+/// it has looked once more at a slot leaves it the sum in the slot's word for its bound, and a pin
+/// that leaves bears the count of the looks as it is.
+pub fn looks()
+    ensures { LooksAreTrue }
 {}

@@ -9,8 +9,9 @@ ghost use Rattle.pin_core.specs.declared.world.Phase.TheVariants.{Free, Live, Co
 ghost use Rattle.pin_core.specs.Events.{IsNew, IsOutside, given_row, in_phase, new_weight};
 ghost use Rattle.pin_table.specs.declared.view.Kept.{Kept};
 ghost use Rattle.pin_table.specs.declared.view.View.TheVariants.{Keeper as KeeperView, Left as LeftView};
-ghost use Rattle.pin_table.specs.Plays.{gave, weightless};
-ghost use Rattle.pin_table.specs.Calls.{opened, with_both, rowed, bounded, seat_value, halved_pin, lent_pin, Looked, Lent, Crowded, Reclaims, IsUnheld, Verified};
+ghost use Rattle.pin_table.specs.Plays.{gave};
+ghost use Rattle.pin_table.specs.Rule.{gone};
+ghost use Rattle.pin_table.specs.Calls.{opened, with_both, rowed, lent_on, seat_value, halved_pin, lent_pin, Looked, Lent, Crowded, Reclaims, IsUnheld, Verified};
 
 use crate::keeper::Keeper;
 use crate::pin::{Left, Pin};
@@ -145,7 +146,8 @@ impl Pins {
         requires within { slot < length keeper.old.rows }
         requires live { (row keeper.old.rows slot).phase ≡ Live }
         requires room { slice_index keeper.old.bounds slot + new_weight ≤ max_weight }
-        ensures bound { keeper.new ≡ bounded slot (slice_index keeper.old.bounds slot + new_weight) keeper.old }
+        ensures bound { keeper.new ≡ lent_on slot keeper.old }
+        ensures sum { slice_index keeper.new.bounds slot ≡ slice_index keeper.old.bounds slot + new_weight }
         ensures pin { result ≡ lent_pin slot keeper.old }
         ensures digest { (row keeper.old.rows slot).digest ≡ Some result.hold.digest }
     {
@@ -267,10 +269,10 @@ impl Pins {
     }
 
     /// Ends a pin: its weight leaves its slot's word. What comes back is the pin's own seat, which
-    /// weighs nothing.
+    /// weighs nothing any more and keeps what the pin held.
     pub fn leave(&self, pin: Pin) -> Left
         requires table { pin.table ≡ self.now }
-        ensures { result ≡ seat_value self.now (LeftView (weightless pin.hold)) }
+        ensures { (look : ℕ) × (result ≡ seat_value self.now (LeftView (gone pin.hold look))) }
     {
         let Pin { hold, mut seat } = pin;
         let shared = &self.table.shared;

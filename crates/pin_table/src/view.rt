@@ -3,20 +3,21 @@
 use pin_core::{Hold, PinRow};
 use std::collections::LinkedList;
 
-/// A word that the keeper found on a slot.
-pub struct Sight {
-    pub slot: u32,
-    pub word: u64,
-}
-
-/// What the keeper knows: the rows of all slots; of each slot a bound on the sum of weights, which
-/// is the keeper's last look and what it lent since; the pin that it has in its hand in the middle
-/// of a call; and all that its looks found, the last first.
+/// What the keeper knows: of all slots the rows; by slot number a bound on the sum of weights, which
+/// is what the keeper's last look found and what it lent since, how often it looked, and what it ever
+/// lent; and the pin that it has in its hand in the middle of a call.
 pub struct Kept {
     pub rows: LinkedList<PinRow>,
     pub bounds: LinkedList<u32>,
+    pub looks: LinkedList<u64>,
+    pub lent: LinkedList<u64>,
     pub hand: Option<Hold>,
-    pub seen: LinkedList<Sight>,
+}
+
+/// A pin that was left, and how often the keeper had looked at its slot by then.
+pub struct Gone {
+    pub hold: Hold,
+    pub look: u64,
 }
 
 /// What a seat stands for.
@@ -25,8 +26,8 @@ pub enum View {
     Keeper(Kept),
     /// A pin.
     Pin(Hold),
-    /// A pin that was left. It weighs nothing.
-    Left(Hold),
+    /// A pin that was left. It counts for nothing in its slot's word.
+    Left(Gone),
     /// A seat whose pin is elsewhere.
     Spent,
 }

@@ -1,0 +1,63 @@
+-- Whatever step counts a look has found the word.
+use Rattle.std.proofs.Common.{◌≡◌, ℕ, suc, ◌+◌, ◌<◌, List, ◌∷◌, length, drop, set, sum_by, sym, ap, ◌∙◌, subst, refl, arith, pow_pos}
+use Rattle.std.specs.Prelude.{slice_index}
+use mathlib.Core.Option.{some}
+use lib.ListN.{get_elem?}
+use Rattle.pin_core.specs.declared.world.Hold.{Hold}
+use Rattle.pin_core.specs.World.{PinWorld, IsWeight, holds_of, row, row_word, weight_at, weight_on}
+use Rattle.pin_table.specs.declared.view.Kept.{Kept}
+use Rattle.pin_table.specs.declared.view.View.{View}
+use Rattle.pin_table.specs.declared.view.View.TheVariants.{Keeper, Left, Pin}
+use Rattle.pin_table.specs.Rule.{Accounts, Agrees, all_holds, gone, in_hand}
+use Rattle.pin_table.specs.Laws.{LooksAreTrue}
+use Rattle.pin_table.proofs.Holds.{sum_one, sum_set, weight_same}
+use Rattle.pin_table.proofs.Accounts.{left_now, told_true}
+use Rattle.pin_table.proofs.Agreement.{is_keeper}
+use Rattle.pin_table.proofs.Guests.{pinned, seat_sums}
+
+-- what agrees with the words, where the seats are known
+pub record Known (ws : List ℕ) (v : Kept) (others : List View) (p : PinWorld) : Type 0 where
+  pub rows : p.rows ≡ v.rows
+  pub words : (k : ℕ) → k < length p.rows → slice_index ws k ≡ row_word (row v.rows k) (weight_on k (holds_of p))
+  pub sums : (f : Hold → ℕ) → sum_by f (holds_of p) ≡ sum_by f (in_hand v.hand) + sum_by f (all_holds others)
+  pub accounts : Accounts (length p.rows) v.bounds v.looks v.lent others (holds_of p)
+
+pub known : {ws : List ℕ} {v : Kept} {others : List View} {p : PinWorld} → Agrees ws (Keeper v ∷ others) p → Known ws v others p
+known {ws} {v} {others} {p} a =
+    let same = is_keeper a v refl in
+    let rest : a.others ≡ others = ap (λ l. drop 1 l) (sym a.seats) in
+    let rows : p.rows ≡ v.rows = a.rows ∙ ap (λ (x : Kept). x.rows) same in record {
+      rows = rows;
+      words = λ k l. a.at_words k l ∙ ap (λ rs. row_word (row rs k) (weight_on k (holds_of p))) rows;
+      sums = λ f. seat_sums a f ∙ ap (λ (x : Kept). sum_by f (in_hand x.hand) + sum_by f (all_holds a.others)) same ∙ ap (λ l. sum_by f (in_hand v.hand) + sum_by f (all_holds l)) rest;
+      accounts = subst (λ l. Accounts (length p.rows) v.bounds v.looks v.lent l (holds_of p)) rest (subst (λ (x : Kept). Accounts (length p.rows) x.bounds x.looks x.lent a.others (holds_of p)) same a.accounts);
+    }
+
+found_true : {ws ws' : List ℕ} {v u : Kept} {others : List View} {p q : PinWorld} → Agrees ws (Keeper v ∷ others) p → Agrees ws' (Keeper u ∷ others) q → (k : ℕ) → k < length u.rows → slice_index u.looks k ≡ slice_index v.looks k + 1
+    → slice_index ws' k ≡ row_word (row u.rows k) (slice_index u.bounds k)
+found_true {v = v} {u = u} {others = others} {p = p} {q = q} a b k l one =
+    let x = known a in
+    let y = known b in
+    let long = ap (λ rs. length rs) y.rows in
+    let there : k < length q.rows = omega arith in
+    y.words k there ∙ ap (λ w. row_word (row u.rows k) w) (sym (told_true _ _ v.bounds v.looks v.lent u.bounds u.looks u.lent others (holds_of p) (holds_of q) k there x.accounts y.accounts one))
+
+left_counts : {ws ws' : List ℕ} {v : Kept} {others : List View} {p q : PinWorld} (place : ℕ) (h : Hold) (look : ℕ) → get_elem? others place ≡ some (Pin h) → Agrees ws (Keeper v ∷ others) p → Agrees ws' (Keeper v ∷ set others place (Left (gone h look))) q
+    → look ≡ slice_index v.looks h.slot
+left_counts {v = v} {others = others} {p = p} {q = q} place h look at a b =
+    let x = known a in
+    let y = known b in
+    let c = pinned a (suc place) h at in
+    let power = pow_pos c.weighs.0 in
+    let weight = c.weighs.2 in
+    let f = weight_at h.slot in
+    let less : weight_on h.slot (holds_of q) + h.weight ≡ weight_on h.slot (holds_of p) = omega (arith, x.sums f, y.sums f, sum_set f others place (Pin h) (Left (gone h look)) at, sum_one f h, weight_same h) in
+    let same : q.rows ≡ p.rows = y.rows ∙ sym x.rows in
+    left_now (length p.rows) v.bounds v.looks v.lent others place (holds_of p) (holds_of q) h look at c.keeps.there less (omega arith) x.accounts
+    (subst (λ rs. Accounts (length rs) v.bounds v.looks v.lent (set others place (Left (gone h look))) (holds_of q)) same y.accounts)
+
+pub looks : LooksAreTrue
+looks = record {
+  found = λ n g ws ws' v u others k r t l one. found_true r.agrees t.agrees k l one;
+  left = λ n g ws ws' v others place h look at r t. left_counts place h look at r.agrees t.agrees;
+}
