@@ -19,14 +19,14 @@ use Rattle.store_book.specs.BookState.{SlotSeen}
 use Rattle.store_book.specs.Catalog.{Text, Catalog, holds}
 use Rattle.store_book.specs.Keeping.{linked_slot}
 use Rattle.store_book.specs.Layers.{resident_of, book_catalog, book_state, IsBook}
-use Rattle.store_book.specs.Pinned.{Pinned, IsFull, blob_digest, row_of, seen, all_seen, bounded, lent_on, one_more}
+use Rattle.store_book.specs.Pinned.{Pinned, IsFull, blob_digest, row_of, seen, all_seen, bounded, lent_on}
 use Rattle.store_book.specs.SlotSteps.{EachSlot, FindsNoRoom, IsCrowded, IsLending}
 use Rattle.store_book.specs.Steps.{lease, with_lent}
 use Rattle.store_book.proofs.Changing.{catalog-change, lend-KeepsTies, resident_at, IsTied-change}
 use Rattle.store_book.proofs.LawfulLease.{Sound-after_lease}
 use Rattle.store_book.proofs.LinkedSlots.{holds_linked, linked_live, linked_none, linked_some}
 use Rattle.store_book.proofs.MapLemmas.{some_same}
-use Rattle.store_book.proofs.Pinning.{index-set-le, length-all_seen, row-at, seen-at}
+use Rattle.store_book.proofs.Pinning.{index-set-le, index-set-most, length-all_seen, row-at, seen-at}
 use Rattle.store_book.proofs.SlotLemmas.{length-with_slot, phase_live, slot_of_held, slot-same, slot-other}
 use Rattle.store_book.proofs.Ties.{held_of}
 
@@ -139,11 +139,6 @@ seen-get (x ∷ slots) [] (suc k) s at = seen-get slots [] k s at
 seen-get (x ∷ slots) (b ∷ bounds) zero s at = ap (λ (y : Slot). Some (seen y b)) (some_same at)
 seen-get (x ∷ slots) (b ∷ bounds) (suc k) s at = seen-get slots bounds k s at
 
-index-set-most : (xs : List ℕ) (k n : ℕ) → slice_index (slice_set xs k n) k ≤ n
-index-set-most [] k n = omega arith
-index-set-most (x ∷ xs) zero n = omega arith
-index-set-most (x ∷ xs) (suc k) n = index-set-most xs k n
-
 -- a lease lets one reader in, on the slot of its digest
 pub EachSlot-lent : (digest : Text) (p q : Pinned) (k n : ℕ) (h : Held) → held_at p.slots k ≡ Some h → h.digest ≡ digest → n ≤ slice_index p.bounds k + new_weight → q ≡ lent_on k n p →
     (q.table ≡ p.table) × EachSlot (IsLending digest) (all_seen p.slots p.bounds) (all_seen q.slots q.bounds)
@@ -175,12 +170,6 @@ EachSlot-lent digest p q k n h at is_digest le is = subst (λ (x : Pinned). (x.t
   ),
 )
 
-one_more-at : (looks : List ℕ) (k : ℕ) → slice_index (one_more k looks) k ≡ slice_index looks k + 1
-one_more-at [] zero = refl
-one_more-at [] (suc k) = one_more-at [] k
-one_more-at (n ∷ looks) zero = refl
-one_more-at (n ∷ looks) (suc k) = one_more-at looks k
-
 -- a look that found no room
 pub IsCrowded-full : (p q : Pinned) (k : ℕ) (digest : Text) (h : Held) → held_at p.slots k ≡ Some h → h.digest ≡ digest → length p.bounds ≡ length p.slots → IsFull k p q → IsCrowded digest (all_seen q.slots q.bounds)
 IsCrowded-full p q k digest h at is one_each full =
@@ -191,10 +180,12 @@ IsCrowded-full p q k digest h at is one_each full =
     subst (λ (x : Pinned). IsCrowded digest (all_seen x.slots x.bounds)) (sym full.after)
     (k, seen s.0 (slice_index (slice_set p.bounds k full.weight) k), seen-get p.slots (slice_set p.bounds k full.weight) k s.0 s.1, ap (option_map (λ (x : Held). x.digest)) s.2 ∙ ap Some is, omega arith)
 
-pub finds_no_room : (l : Linked) (u : Uploaded) (max_blob : ℕ) (p q : Pinned) (k : ℕ) (digest : Text) (h : Held) → held_at p.slots k ≡ Some h → h.digest ≡ digest → length p.bounds ≡ length p.slots → IsFull k p q →
+pub finds_no_room : (l : Linked) (u : Uploaded) (max_blob : ℕ) (p q : Pinned) (k : ℕ) (digest : Text) (h : Held) → held_at p.slots k ≡ Some h → h.digest ≡ digest → length p.bounds ≡ length p.slots → length p.looks ≡ length p.slots → IsFull k p q →
     FindsNoRoom digest (book_state l u p max_blob) (book_state l u q max_blob)
 unfolding IsCrowded-full
-finds_no_room l u max_blob p q k digest h at is one_each full =
+finds_no_room l u max_blob p q k digest h at is one_each looks full =
+    let s = slot_of_held p.slots k h at in
+    let lt = slice_get_within p.slots k s.0 s.1 in
     let crowded = IsCrowded-full p q k digest h at is one_each full in
     record {
       slot = crowded.0;
@@ -202,5 +193,5 @@ finds_no_room l u max_blob p q k digest h at is one_each full =
       there = crowded.2;
       held = crowded.3;
       full = crowded.4;
-      looked = ap (λ (x : Pinned). slice_index x.looks k) full.after ∙ one_more-at p.looks k;
+      looked = ap (λ (x : Pinned). slice_index x.looks k) full.after ∙ get_or-set_same p.looks k (slice_index p.looks k + 1) 0 (omega arith);
     }

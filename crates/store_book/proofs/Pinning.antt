@@ -1,5 +1,5 @@
 -- The slots and the keeper's rows agree, call by call; and what is seen of the slots.
-use Rattle.std.proofs.Common.{◌≡◌, ℕ, ◌<◌, ◌≤◌, ◌⊎◌, Bool, true, false, cond, List, [], ◌∷◌, length, map, get_or, Option, Some, None, refl, sym, ap, ◌∙◌, subst, arith, inl, inr}
+use Rattle.std.proofs.Common.{◌≡◌, ℕ, ◌+◌, ◌<◌, ◌≤◌, ◌⊎◌, Bool, true, false, cond, List, [], ◌∷◌, length, map, get_or, Option, Some, None, refl, sym, ap, ◌∙◌, subst, arith, inl, inr}
 use Prim.Native.Nat.{zero, suc}
 use Rattle.std.specs.Prelude.{slice_get, slice_index, slice_set, replicate, ◌≢◌, nat_le, ◌&&◌, Result, Ok, Err, if◌then◌else◌}
 use Rattle.std.specs.Option.{option_map, option_map_or}
@@ -11,6 +11,7 @@ use Rattle.pin_core.specs.declared.world.Phase.TheVariants as pin
 use Rattle.pin_core.specs.declared.world.PinRow.{PinRow}
 use Rattle.pin_core.specs.Events.{IsNew, given_row, in_phase}
 use Rattle.pin_core.specs.World.{row, no_row}
+use Rattle.pin_table.specs.Rule.{raised}
 use Rattle.slot_table.specs.declared.phase.Phase.TheVariants as phase
 use Rattle.slot_table.specs.Slots.{opening as slots_opening}
 use Rattle.blob_digest.specs.declared.refusal.Refusal.{Refusal}
@@ -333,6 +334,22 @@ revived-same (s ∷ slots) zero not = ap (λ (x : Slot). x ∷ slots) (λ i. rec
         at false is e = λ i. Used (record { digest = x.digest; bytes = x.bytes; condemned = sym is i; lent = x.lent; links = x.links })
     by_content Retired e = refl
 revived-same (s ∷ slots) (suc k) not = with_slot-suc s slots k (on_held (mark false)) ∙ ap (λ xs. s ∷ xs) (revived-same slots k not)
+
+-- ---- looks
+
+-- what was written is there, or nothing
+pub index-set-most : (xs : List ℕ) (k n : ℕ) → slice_index (slice_set xs k n) k ≤ n
+index-set-most [] k n = omega arith
+index-set-most (x ∷ xs) zero n = omega arith
+index-set-most (x ∷ xs) (suc k) n = index-set-most xs k n
+
+-- one count of looks for each slot, where a slot changes
+pub one_each-kept : (slots : List Slot) (looks : List ℕ) (k : ℕ) (f : Slot → Slot) → length looks ≡ length slots → length looks ≡ length (with_slot slots k f)
+one_each-kept slots looks k f each = each ∙ sym (length-with_slot slots k f)
+
+-- and where it was looked at first
+pub one_each-looked : (slots : List Slot) (looks : List ℕ) (k : ℕ) (f : Slot → Slot) → length looks ≡ length slots → length (raised k 1 looks) ≡ length (with_slot slots k f)
+one_each-looked slots looks k f each = length-set looks k (slice_index looks k + 1) ∙ one_each-kept slots looks k f each
 
 -- ---- opening
 

@@ -2,11 +2,10 @@
 use Rattle.pin_core.specs.World.{row, row_word, max_weight, Keeps}
 use Rattle.pin_core.specs.declared.world.Hold.{Hold}
 use Rattle.pin_core.specs.Events.{new_weight, lent_hold}
-use Rattle.pin_table.specs.Calls.{KeeperValue, PinValue}
-use Rattle.pin_table.specs.declared.view.Sight.{Sight}
+use Rattle.pin_table.specs.Calls.{PinValue}
+use Rattle.pin_table.specs.Rule.{raised}
 use Rattle.pin_table.specs.declared.reclaim.Reclaim.{Reclaim}
 use Rattle.pin_table.specs.declared.reclaim.Reclaim.TheVariants as reclaim
-use Prim.Native.Nat.{zero, suc}
 use Rattle.std.specs.Prelude.{◌≡◌, ◌+◌, ◌<◌, ◌≤◌, ◌^◌, ℕ, Some, List, [], ◌∷◌, length, map, cond, slice_get, slice_index, slice_set, Bool, false}
 use Rattle.std.specs.Option.{option_map, option_map_or}
 use Rattle.atomic_table.specs.Seated.{TableId}
@@ -45,24 +44,6 @@ pub record IsPinned (slots : List Slot) (rows : List PinRow) (bounds : List ℕ)
 abbrev pub is_orphan_at : List Slot → ℕ → Bool
 is_orphan_at slots k = option_map_or is_orphan (slice_get slots k) false
 
--- ---- looks
-
--- the slot k was looked at once more; a slot past the end of the list hadn't been looked at
-abbrev pub one_more : ℕ → List ℕ → List ℕ
-one_more zero [] = 1 ∷ []
-one_more (suc k) [] = 0 ∷ one_more k []
-one_more zero (n ∷ looks) = (n + 1) ∷ looks
-one_more (suc k) (n ∷ looks) = n ∷ one_more k looks
-
--- how often each slot is among the words that were found
-abbrev pub looks_in : List Sight → List ℕ
-looks_in [] = []
-looks_in (x ∷ xs) = one_more x.slot (looks_in xs)
-
--- how often the keeper has looked at each slot
-abbrev pub looks_of : KeeperValue → List ℕ
-looks_of keeper = looks_in keeper.seen
-
 -- ---- what is seen
 
 -- a slot with its bound
@@ -77,9 +58,9 @@ all_seen (s ∷ slots) (b ∷ bounds) = seen s b ∷ all_seen slots bounds
 
 -- ---- what the calls change
 
--- the slot k changes, and its bound is b
+-- the slot k changes once it was looked at, and its bound is b
 abbrev pub with_both : ℕ → (Slot → Slot) → ℕ → Pinned → Pinned
-with_both k f b p = record { table = p.table; slots = with_slot p.slots k f; bounds = slice_set p.bounds k b; looks = p.looks }
+with_both k f b p = record { table = p.table; slots = with_slot p.slots k f; bounds = slice_set p.bounds k b; looks = raised k 1 p.looks }
 
 -- the slot k changes
 abbrev pub slotted : ℕ → (Slot → Slot) → Pinned → Pinned
@@ -87,11 +68,11 @@ slotted k f p = record { table = p.table; slots = with_slot p.slots k f; bounds 
 
 -- a look at the slot k found the sum b, which its bound is now
 abbrev pub bounded : ℕ → ℕ → Pinned → Pinned
-bounded k b p = record { table = p.table; slots = p.slots; bounds = slice_set p.bounds k b; looks = one_more k p.looks }
+bounded k b p = record { table = p.table; slots = p.slots; bounds = slice_set p.bounds k b; looks = raised k 1 p.looks }
 
 -- a look at the slot k, and then a lend on it, whose blob is marked as lent; the bound is b
 abbrev pub lent_on : ℕ → ℕ → Pinned → Pinned
-lent_on k b p = record { table = p.table; slots = with_slot p.slots k (on_held lend); bounds = slice_set p.bounds k b; looks = one_more k p.looks }
+lent_on k b p = record { table = p.table; slots = with_slot p.slots k (on_held lend); bounds = slice_set p.bounds k b; looks = raised k 1 p.looks }
 
 -- Each slot stays in its generation, and its bound doesn't rise; so do the words' table.
 pub record Quietly (p q : Pinned) : Type 0 where

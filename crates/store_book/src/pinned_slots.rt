@@ -26,13 +26,14 @@ pub struct PinnedSlots {
 }
 
 impl Model for PinnedSlots {
-    ghost use Rattle.store_book.specs.Pinned.{Pinned, IsPinned, looks_of};
+    ghost use Rattle.std.specs.Prelude.{◌≡◌, length};
+    ghost use Rattle.store_book.specs.Pinned.{Pinned, IsPinned};
 
     ghost Value = { Pinned };
 
-    ghost view = { λ a. record { table = a.keeper.table; slots = a.slots; bounds = a.keeper.bounds; looks = looks_of a.keeper } };
+    ghost view = { λ a. record { table = a.keeper.table; slots = a.slots; bounds = a.keeper.bounds; looks = a.keeper.looks } };
 
-    ghost invariant = { λ a. IsPinned a.slots a.keeper.rows a.keeper.bounds };
+    ghost invariant = { λ a. IsPinned a.slots a.keeper.rows a.keeper.bounds × (length a.keeper.looks ≡ length a.slots) };
 }
 
 impl PinnedSlots {
@@ -42,7 +43,7 @@ impl PinnedSlots {
         slots: u32,
         first_generation: u32,
     ) -> Result<(PinnedSlots, Pins), Refusal>
-        ensures made { IfOk result (λ r. ¬ IsOutside slots × (r.0 ≡ record { table = r.1; slots = replicate slots (empty_slot first_generation); bounds = replicate slots 0; looks = [] })) }
+        ensures made { IfOk result (λ r. ¬ IsOutside slots × (r.0 ≡ record { table = r.1; slots = replicate slots (empty_slot first_generation); bounds = replicate slots 0; looks = replicate slots 0 })) }
         ensures refused { IfErr result (λ e. ((e ≡ LimitReached) × IsOutside slots) ⊎ ((e ≡ Memory) × ¬ IsOutside slots)) }
     {
         let table = SlotTable::new(alloc, slots, first_generation)?;
@@ -148,7 +149,7 @@ impl PinnedSlots {
         requires live { phase_at self.now.slots slot ≡ phase.Live }
         ensures value { IfOk result (λ b. Some (arc_value b) ≡ option_map (λ h. (h.digest, h.bytes)) (held_at self.now.slots slot)) }
         ensures refused { IfErr result (λ e. e ≡ Memory) }
-        ensures one_each { length self.now.bounds ≡ length self.now.slots }
+        ensures one_each { (length self.now.bounds ≡ length self.now.slots) × (length self.now.looks ≡ length self.now.slots) }
     {
         match self.slots.blob(slot) {
             Some(blob) => Ok(Arc::try_clone(blob)?),

@@ -1,7 +1,8 @@
 use Rattle.std.proofs.Common.{◌≡◌, ◌+◌, ◌<◌, ◌^◌, ap, ◌∙◌, arith}
 use Rattle.slot_table.specs.declared.phase.Phase.TheVariants as phase
-use Rattle.slot_table.specs.Slots.{generation_at, phase_at}
-use Rattle.store_book.specs.Pinned.{Pinned, looks_of}
+use Rattle.slot_table.specs.Slots.{emptied, generation_at, phase_at, spent}
+use Rattle.store_book.specs.Pinned.{Pinned}
+use Rattle.store_book.proofs.Pinning.{one_each-looked}
 use Rattle.store_book.proofs.Reclaiming.{generation_row, IsPinned-freed, IsPinned-retired}
 use Rattle.store_book.proofs.pinned_slots.PinnedSlots.reclaim.Goals as goal
 
@@ -9,24 +10,24 @@ pub invariant_of-self : goal.invariant_of-self
 invariant_of-self c =
     let e = c.in-Freed.ensures.answer in
     let is : phase_at c.self.inside.slots c.args.slot ≡ phase.Condemned = ap (λ (p : Pinned). phase_at p.slots c.args.slot) c.self.view_is ∙ c.requires.condemned in
-    rw (c.free.ensures, e.1) (IsPinned-freed c.self.inside.slots c.self.inside.keeper.rows c.self.inside.keeper.bounds c.self.invariant c.args.slot is e.0)
+    rw (c.free.ensures, e.1) (IsPinned-freed c.self.inside.slots c.self.inside.keeper.rows c.self.inside.keeper.bounds c.self.invariant.0 c.args.slot is e.0, one_each-looked c.self.inside.slots c.self.inside.keeper.looks c.args.slot emptied c.self.invariant.1)
 
 pub invariant_of-self-in-Retired : goal.invariant_of-self-in-Retired
 invariant_of-self-in-Retired c =
     let e = c.in-Retired.ensures.answer in
     let is : phase_at c.self.inside.slots c.args.slot ≡ phase.Condemned = ap (λ (p : Pinned). phase_at p.slots c.args.slot) c.self.view_is ∙ c.requires.condemned in
-    rw (c.retire.ensures, e.1) (IsPinned-retired c.self.inside.slots c.self.inside.keeper.rows c.self.inside.keeper.bounds c.self.invariant c.args.slot is e.0)
+    rw (c.retire.ensures, e.1) (IsPinned-retired c.self.inside.slots c.self.inside.keeper.rows c.self.inside.keeper.bounds c.self.invariant.0 c.args.slot is e.0, one_each-looked c.self.inside.slots c.self.inside.keeper.looks c.args.slot spent c.self.invariant.1)
 
 pub returns-in-Freed-clause-answer : goal.returns-in-Freed-clause-answer
 returns-in-Freed-clause-answer c =
     let e = c.in-Freed.ensures.answer in
     let is : phase_at c.self.inside.slots c.args.slot ≡ phase.Condemned = ap (λ (p : Pinned). phase_at p.slots c.args.slot) c.self.view_is ∙ c.requires.condemned in
-    let young : generation_at c.self.inside.slots c.args.slot + 1 < 2 ^ 32 = (let g = generation_row c.self.inside.slots c.self.inside.keeper.rows c.self.inside.keeper.bounds c.self.invariant c.args.slot is in let y = e.0 in omega arith) in
-    rw (c.in-Freed.is, ← c.self.view_is) (young, (λ i. record { table = (e.1 i).table; slots = c.free.ensures i; bounds = (e.1 i).bounds; looks = looks_of (e.1 i) }))
+    let young : generation_at c.self.inside.slots c.args.slot + 1 < 2 ^ 32 = (let g = generation_row c.self.inside.slots c.self.inside.keeper.rows c.self.inside.keeper.bounds c.self.invariant.0 c.args.slot is in let y = e.0 in omega arith) in
+    rw (c.in-Freed.is, ← c.self.view_is) (young, (λ i. record { table = (e.1 i).table; slots = c.free.ensures i; bounds = (e.1 i).bounds; looks = (e.1 i).looks }))
 
 pub returns-in-Retired-clause-answer : goal.returns-in-Retired-clause-answer
 returns-in-Retired-clause-answer c =
     let e = c.in-Retired.ensures.answer in
     let is : phase_at c.self.inside.slots c.args.slot ≡ phase.Condemned = ap (λ (p : Pinned). phase_at p.slots c.args.slot) c.self.view_is ∙ c.requires.condemned in
-    let last : generation_at c.self.inside.slots c.args.slot + 1 ≡ 2 ^ 32 = (let g = generation_row c.self.inside.slots c.self.inside.keeper.rows c.self.inside.keeper.bounds c.self.invariant c.args.slot is in let y = e.0 in omega arith) in
-    rw (c.in-Retired.is, ← c.self.view_is) (last, (λ i. record { table = (e.1 i).table; slots = c.retire.ensures i; bounds = (e.1 i).bounds; looks = looks_of (e.1 i) }))
+    let last : generation_at c.self.inside.slots c.args.slot + 1 ≡ 2 ^ 32 = (let g = generation_row c.self.inside.slots c.self.inside.keeper.rows c.self.inside.keeper.bounds c.self.invariant.0 c.args.slot is in let y = e.0 in omega arith) in
+    rw (c.in-Retired.is, ← c.self.view_is) (last, (λ i. record { table = (e.1 i).table; slots = c.retire.ensures i; bounds = (e.1 i).bounds; looks = (e.1 i).looks }))

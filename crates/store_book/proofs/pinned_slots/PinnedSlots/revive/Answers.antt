@@ -1,16 +1,15 @@
-use Rattle.std.proofs.Common.{◌≡◌, ◌≢◌, rules, sym}
+use Rattle.std.proofs.Common.{◌≡◌, ◌≢◌, false, rules, sym}
 use Rattle.slot_table.specs.declared.phase.Phase.TheVariants as phase
-use Rattle.slot_table.specs.Slots.{phase_at}
-use Rattle.store_book.specs.Pinned.{looks_of}
-use Rattle.store_book.proofs.Pinning.{IsPinned-revived, revived-same}
+use Rattle.slot_table.specs.Slots.{mark, on_held, phase_at}
+use Rattle.store_book.proofs.Pinning.{IsPinned-revived, one_each-kept, revived-same}
 use Rattle.store_book.proofs.pinned_slots.PinnedSlots.revive.Goals as goal
 
 pub invariant_of-self : goal.invariant_of-self
 invariant_of-self c =
     let is : phase_at c.self.inside.slots c.args.slot ≡ phase.Condemned = search rules in
-    rw (c.revive.ensures, c.revive-then-eq.ensures) (IsPinned-revived c.self.inside.slots c.self.inside.keeper.rows c.self.inside.keeper.bounds c.self.invariant c.args.slot is)
+    rw (c.revive.ensures, c.revive-then-eq.ensures) (IsPinned-revived c.self.inside.slots c.self.inside.keeper.rows c.self.inside.keeper.bounds c.self.invariant.0 c.args.slot is, one_each-kept c.self.inside.slots c.self.inside.keeper.looks c.args.slot (on_held (mark false)) c.self.invariant.1)
 
 pub returns-else-eq : goal.returns-else-eq
 returns-else-eq c =
     let is : phase_at c.self.inside.slots c.args.slot ≢ phase.Condemned = search rules in
-    rw (← c.self.view_is) (λ i. record { table = c.self.inside.keeper.table; slots = sym (revived-same c.self.inside.slots c.args.slot is) i; bounds = c.self.inside.keeper.bounds; looks = looks_of c.self.inside.keeper })
+    rw (← c.self.view_is) (λ i. record { table = c.self.inside.keeper.table; slots = sym (revived-same c.self.inside.slots c.args.slot is) i; bounds = c.self.inside.keeper.bounds; looks = c.self.inside.keeper.looks })
