@@ -1,6 +1,7 @@
 //! Laws of the steps on words, of their histories, and of the words at any moment.
 
-ghost use Rattle.pin_table.specs.Laws.{StepsAreEvents, Histories, RunningWords, LooksAreTrue};
+ghost use Rattle.pin_table.specs.Laws.{StepsAreEvents, Histories, RunningWords};
+ghost use Rattle.pin_table.specs.Looks.{LooksAreTrue};
 
 /// Each kind of step is its event: from each pin world with which words and seats agree before the
 /// step, the event can happen, and after the step they agree with the world after it. A split of the
