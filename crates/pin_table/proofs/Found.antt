@@ -17,10 +17,10 @@ use Rattle.pin_core.specs.World.{PinWorld, holds_of, opening, row, weight_at, we
 use Rattle.pin_core.specs.Events.{after, after_all, given_row, half, in_phase, reclaimed_row}
 use Rattle.pin_table.specs.declared.view.Kept.{Kept}
 use Rattle.pin_table.specs.declared.view.View.{View}
-use Rattle.pin_table.specs.declared.view.View.TheVariants.{Keeper, Left, Pin}
+use Rattle.pin_table.specs.declared.view.View.TheVariants.{Keeper, Left, Pin, Spent}
 use Rattle.pin_table.specs.Rule.{all_holds, gone, gone_at, gone_since, holds_in, in_hand}
-use Rattle.pin_table.specs.Looks.{CallMoment, FoundByCall, Follows, IsCall, IsUnderRule, Weighed, by_call, by_leave, by_share, end, seats_on}
-use Rattle.pin_table.proofs.Holds.{sum_one, sum_set}
+use Rattle.pin_table.specs.Looks.{CallMoment, EndedByCall, FoundByCall, Follows, FollowsPin, IsCall, IsPinCall, IsUnderRule, Weighed, by_call, by_leave, by_share, end, seats_on}
+use Rattle.pin_table.proofs.Holds.{sum_one, sum_set, weight_same}
 use Rattle.pin_table.proofs.Accounts.{none_after, since_at, view_set}
 use Rattle.pin_table.proofs.Known.{known}
 
@@ -207,3 +207,28 @@ found_by_call n g m xs k back c l empty empty' none one lent held =
     by_walk : {v : ℕ} → Weighed k v xs ⊎ (v ≡ v + 1) → Weighed k v xs
     by_walk (inl found) = found
     by_walk (inr is) = absurd (omega arith)
+
+-- ---- a call on a pin
+
+own_total : (m x : CallMoment) (k : ℕ) → Sums m k → Sums x k → FollowsPin m x → total k x.own ≡ total k m.own
+own_total m x k a b (inr own) = ap (λ vs. total k vs) own
+own_total m x k a b (inl apart) =
+    let lent = ap (λ (v : Kept). slice_index v.lent k) apart.0 in
+    let hand = ap (λ (v : Kept). weight_on k (in_hand v.hand)) apart.0 in
+    let others = ap (λ vs. total k vs) apart.1 in
+    omega (arith, a.lent, b.lent, a.hand_is, b.hand_is)
+
+pin_total : (n g k : ℕ) → k < n → (m : CallMoment) (xs : List CallMoment) → IsPinCall n g m xs → total k (end m xs).own ≡ total k m.own
+pin_total n g k l m [] c = refl
+pin_total n g k l m (x ∷ xs) c = pin_total n g k l x xs c.2 ∙ own_total m x k (sums_of n g m k c.0 l) (sums_of n g x k (at x xs c.2) l) c.1
+  where
+    at : (y : CallMoment) (ys : List CallMoment) → IsPinCall n g y ys → IsUnderRule n g y
+    at y [] r = r
+    at y (z ∷ zs) r = r.0
+
+pub ended_by_call : (n g : ℕ) → EndedByCall n g
+ended_by_call n g m xs h place look c l own there =
+    let k : ℕ = h.slot in
+    let last = end m xs in
+    let begun = ap (λ vs. total k vs) own in
+    omega (arith, pin_total n g k l m xs c, sum_one (weight_at k) h, sum_by-cons (gone_at k) (Pin h) [], weight_same h, view_set (gone_at k) last.own place (Left (gone h look)) Spent there)

@@ -13,7 +13,7 @@ use Rattle.pin_table.specs.Looks.{LooksAreTrue}
 use Rattle.pin_table.proofs.Holds.{sum_one, sum_set, weight_same}
 use Rattle.pin_table.proofs.Accounts.{left_now, told_true}
 use Rattle.pin_table.proofs.Guests.{pinned}
-use Rattle.pin_table.proofs.Found.{found_by_call}
+use Rattle.pin_table.proofs.Found.{ended_by_call, found_by_call}
 use Rattle.pin_table.proofs.Known.{Known, known}
 
 found_true : {ws ws' : List ℕ} {v u : Kept} {others : List View} {p q : PinWorld} → Agrees ws (Keeper v ∷ others) p → Agrees ws' (Keeper u ∷ others) q → (k : ℕ) → k < length u.rows → slice_index u.looks k ≡ slice_index v.looks k + 1
@@ -43,5 +43,6 @@ pub looks : LooksAreTrue
 looks = record {
   found = λ n g ws ws' v u others k r t l one. found_true r.agrees t.agrees k l one;
   left = λ n g ws ws' v others place h look at r t. left_counts place h look at r.agrees t.agrees;
-  called = λ n g. found_by_call n g;
+  called = found_by_call;
+  ended = ended_by_call;
 }

@@ -67,8 +67,24 @@ abbrev pub FoundByCall : ℕ → ℕ → Type 0
 FoundByCall n g = (m : CallMoment) (xs : List CallMoment) (k back : ℕ) → IsCall n g m xs → k < n → m.keeper.hand ≡ None → (end m xs).keeper.hand ≡ None → sum_by (gone_at k) m.own ≡ 0 → slice_index (end m xs).keeper.looks k ≡ slice_index m.keeper.looks k + 1
     → slice_index (end m xs).keeper.lent k + seats_on k m.own ≡ slice_index m.keeper.lent k + back → back ≤ seats_on k (end m xs).own → (weight : ℕ) × Weighed k weight xs × (slice_index (end m xs).keeper.bounds k ≡ weight + back)
 
+-- ---- a call on a pin
+
+-- One moment of a call on a pin follows another: by a step of its own seats, over which the keeper and the seats of others stay; or by any step of these.
+abbrev pub FollowsPin : CallMoment → CallMoment → Type 0
+FollowsPin m x = ((x.keeper ≡ m.keeper) × (x.others ≡ m.others)) ⊎ (x.own ≡ m.own)
+
+-- the moments of a call on a pin from m on
+abbrev pub IsPinCall : ℕ → ℕ → CallMoment → List CallMoment → Type 0
+IsPinCall n g m [] = IsUnderRule n g m
+IsPinCall n g m (x ∷ xs) = IsUnderRule n g m × FollowsPin m x × IsPinCall n g x xs
+
+-- A call on a pin that has a seat in the end which says that this pin left: nothing of the pin is left in its slot's word.
+abbrev pub EndedByCall : ℕ → ℕ → Type 0
+EndedByCall n g = (m : CallMoment) (xs : List CallMoment) (h : Hold) (place look : ℕ) → IsPinCall n g m xs → h.slot < n → m.own ≡ Pin h ∷ [] → get_elem? (end m xs).own place ≡ some (Left (gone h look)) → seats_on h.slot (end m xs).own ≡ 0
+
 -- It is so of every table.
 pub record LooksAreTrue : Type 0 where
   pub found : (n g : ℕ) → FoundByStep n g
   pub left : (n g : ℕ) → LeftByStep n g
   pub called : (n g : ℕ) → FoundByCall n g
+  pub ended : (n g : ℕ) → EndedByCall n g
