@@ -23,23 +23,34 @@ none_apart true n z = z
 none_apart false n z = refl
 
 -- nothing has left since a look that is still to come
-none_since : (looks : List ℕ) (k : ℕ) (others : List View) → All (IsPast looks) others → sum_by (gone_since k (slice_index looks k + 1)) others ≡ 0
-none_since looks k [] a = refl
-none_since looks k (x ∷ xs) a = omega (arith, sum_by-cons (gone_since k (slice_index looks k + 1)) x xs, one x (All-head (IsPast looks) x xs a), none_since looks k xs (All-tail (IsPast looks) x xs a))
+pub none_after : (looks : List ℕ) (k c : ℕ) (others : List View) → slice_index looks k < c → All (IsPast looks) others → sum_by (gone_since k c) others ≡ 0
+none_after looks k c [] l a = refl
+none_after looks k c (x ∷ xs) l a = omega (arith, sum_by-cons (gone_since k c) x xs, one x (All-head (IsPast looks) x xs a), none_after looks k c xs l (All-tail (IsPast looks) x xs a))
   where
-    one : (y : View) → IsPast looks y → gone_since k (slice_index looks k + 1) y ≡ 0
+    one : (y : View) → IsPast looks y → gone_since k c y ≡ 0
     one (Keeper v) p = refl
     one (Pin h) p = refl
     one Spent p = refl
     one (Left g) p = dite (ℕ_discrete g.hold.slot k)
-        (λ (e : g.hold.slot ≡ k). let l : g.look ≤ slice_index looks k = subst (λ j. g.look ≤ slice_index looks j) e p in ap (λ b. cond b (weight_at k g.hold) 0) (ne_eqb g.look (slice_index looks k + 1) (λ s. omega arith)))
-        (λ (ne : g.hold.slot ≢ k). none_apart (g.look == slice_index looks k + 1) (weight_at k g.hold) (weight_apart k g.hold ne))
+        (λ (e : g.hold.slot ≡ k). let m : g.look ≤ slice_index looks k = subst (λ j. g.look ≤ slice_index looks j) e p in ap (λ b. cond b (weight_at k g.hold) 0) (ne_eqb g.look c (λ s. omega arith)))
+        (λ (ne : g.hold.slot ≢ k). none_apart (g.look == c) (weight_at k g.hold) (weight_apart k g.hold ne))
+
+-- what left since a look is at most what left
+pub since_at : (k c : ℕ) (v : View) → gone_since k c v ≤ gone_at k v
+since_at k c (Keeper v) = omega arith
+since_at k c (Pin h) = omega arith
+since_at k c Spent = omega arith
+since_at k c (Left g) = by_test (g.look == c)
+  where
+    by_test : (b : Bool) → cond b (weight_at k g.hold) 0 ≤ weight_at k g.hold
+    by_test true = omega arith
+    by_test false = omega arith
 
 -- whatever step counts one look more at a slot has the sum that weighs there for the bound
 pub told_true : (m n : ℕ) (bs ls ts bs' ls' ts' : List ℕ) (others : List View) (hs hs' : List Hold) (k : ℕ) → k < n → Accounts m bs ls ts others hs → Accounts n bs' ls' ts' others hs'
     → slice_index ls' k ≡ slice_index ls k + 1 → slice_index bs' k ≡ weight_on k hs'
 told_true m n bs ls ts bs' ls' ts' others hs hs' k l a b one =
-    let z = none_since ls k others a.past in
+    let z = none_after ls k (slice_index ls k + 1) others (omega arith) a.past in
     let at = b.at_bounds k l in
     let same = ap (λ i. sum_by (gone_since k i) others) one in omega arith
 
@@ -84,7 +95,7 @@ looks_kept n bs ls ts others hs k w l is a = record {
   at_bounds = λ j m. dite (ℕ_discrete j k)
       (λ (e : j ≡ k).
       let here : slice_index (set bs k w) j ≡ w = get_or-set_at bs k j w 0 e (omega (arith, a.all_bounds)) in
-      let z = none_since ls k others a.past in
+      let z = none_after ls k (slice_index ls k + 1) others (omega arith) a.past in
       here ∙ omega arith ∙ ap (λ i. weight_on i hs + sum_by (gone_since i (slice_index ls k + 1)) others) (sym e) ∙ ap (λ i. weight_on j hs + sum_by (gone_since j i) others) (sym (at_look j e)))
       (λ (ne : j ≢ k). get_or-set_other bs k j w 0 ne ∙ a.at_bounds j m ∙ ap (λ i. weight_on j hs + sum_by (gone_since j i) others) (sym (get_or-set_other ls k j (slice_index ls k + 1) 0 ne)));
   past = later ls (raised k 1 ls) (λ j. dite (ℕ_discrete j k)

@@ -12,4 +12,6 @@ pub mod Allowed
 pub mod Seats
 pub mod Told
 pub mod Moments
+pub mod Known
+pub mod Found
 pub mod Looks

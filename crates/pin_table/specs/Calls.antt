@@ -43,9 +43,9 @@ with_both k r b s = record { table = s.table; rows = slice_set s.rows k r; bound
 abbrev pub rowed : ℕ → PinRow → KeeperValue → KeeperValue
 rowed k r s = record { table = s.table; rows = slice_set s.rows k r; bounds = s.bounds; looks = s.looks; lent = s.lent }
 
--- the keeper after it lent a new pin on the slot k
-abbrev pub lent_on : ℕ → KeeperValue → KeeperValue
-lent_on k s = record { table = s.table; rows = s.rows; bounds = raised k new_weight s.bounds; looks = s.looks; lent = raised k new_weight s.lent }
+-- the keeper after it lent a new pin on the slot k, with this bound
+abbrev pub lent_on : ℕ → ℕ → KeeperValue → KeeperValue
+lent_on k b s = record { table = s.table; rows = s.rows; bounds = slice_set s.bounds k b; looks = s.looks; lent = raised k new_weight s.lent }
 
 -- the keeper after it looked once more at the slot k, and found this sum on it, which the bound becomes
 abbrev pub found : ℕ → ℕ → KeeperValue → KeeperValue
@@ -69,8 +69,7 @@ pub record Lent (k : ℕ) (s t : KeeperValue) (p : PinValue) : Type 0 where
   pub weight : ℕ
   pub within : weight ≤ slice_index s.bounds k
   pub room : weight + new_weight ≤ max_weight
-  pub after : t ≡ lent_on k (found k weight s)
-  pub bound : slice_index t.bounds k ≡ weight + new_weight
+  pub after : t ≡ lent_on k (weight + new_weight) (found k weight s)
   pub pin : p ≡ lent_pin k s
   pub digest : (row s.rows k).digest ≡ Some p.hold.digest
 

@@ -1,5 +1,5 @@
 -- Each step of a pin table is its event of the pin world; what that says of whole histories of steps, and of the words at any moment.
-use Rattle.std.specs.Prelude.{◌≡◌, ℕ, ◌+◌, ◌<◌, ◌≤◌, List, [], ◌∷◌, take, length, replicate, sum_by, slice_index, slice_set}
+use Rattle.std.specs.Prelude.{◌≡◌, ℕ, ◌≤◌, List, [], ◌∷◌, take, length, replicate, sum_by, slice_index}
 use mathlib.Core.Option.{some}
 use lib.ListN.{get_elem?}
 use Rattle.pin_core.specs.declared.world.Phase.TheVariants.{Free}
@@ -10,8 +10,8 @@ use Rattle.pin_core.specs.Events.{Happens, after_all}
 use Rattle.pin_core.specs.Laws.{Reclaims, world_at}
 use Rattle.pin_table.specs.declared.view.Kept.{Kept}
 use Rattle.pin_table.specs.declared.view.View.{View}
-use Rattle.pin_table.specs.declared.view.View.TheVariants.{Keeper, Left, Pin}
-use Rattle.pin_table.specs.Rule.{Agrees, Ruled, gone, opening_view}
+use Rattle.pin_table.specs.declared.view.View.TheVariants.{Keeper, Pin}
+use Rattle.pin_table.specs.Rule.{Agrees, Ruled, opening_view}
 use Rattle.pin_table.specs.Steps.{SeatStep, look, give, lend, hand, leave, condemn, revive, reclaim, miss, share, verify, IsMade, words_after, views_after, IsEvent}
 
 -- All kinds of step. A new table agrees with free slots; and each step leads from every world with which the table agrees before it to one with which it agrees after it.
@@ -84,12 +84,3 @@ pub record Running (n g : ℕ) (words : List ℕ) (views : List View) : Type 0 w
 -- At every moment, over every interleaving of the steps of any seats.
 abbrev pub RunningWords : Type 0
 RunningWords = (n g : ℕ) (words : List ℕ) (views : List View) → Ruled n g words views → Running n g words views
-
--- ---- looks
-
--- Of whatever kind a step is that keeps the rule: where it is of the keeper's seat, on a word, and counts one look more at the slot k, that slot's word is then its row's with the bound for its sum; and where the pin of a seat leaves, the seat bears the count of the looks at its slot as it is.
-pub record LooksAreTrue : Type 0 where
-  pub found : (n g : ℕ) (words words' : List ℕ) (v u : Kept) (others : List View) (k : ℕ) → Ruled n g words (Keeper v ∷ others) → Ruled n g words' (Keeper u ∷ others) → k < length u.rows
-      → slice_index u.looks k ≡ slice_index v.looks k + 1 → slice_index words' k ≡ row_word (row u.rows k) (slice_index u.bounds k)
-  pub left : (n g : ℕ) (words words' : List ℕ) (v : Kept) (others : List View) (place : ℕ) (h : Hold) (look : ℕ) → get_elem? others place ≡ some (Pin h) → Ruled n g words (Keeper v ∷ others)
-      → Ruled n g words' (Keeper v ∷ slice_set others place (Left (gone h look))) → look ≡ slice_index v.looks h.slot

@@ -3,3 +3,4 @@ pub mod Plays
 pub mod Calls
 pub mod Steps
 pub mod Laws
+pub mod Looks

@@ -1,6 +1,7 @@
-//! Laws of the steps on words, of their histories, and of the words at any moment.
+//! Laws of the steps on words, of their histories, of the words at any moment, and of looks.
 
-ghost use Rattle.pin_table.specs.Laws.{StepsAreEvents, Histories, RunningWords, LooksAreTrue};
+ghost use Rattle.pin_table.specs.Laws.{StepsAreEvents, Histories, RunningWords};
+ghost use Rattle.pin_table.specs.Looks.{LooksAreTrue};
 
 /// Each kind of step is its event: from each pin world with which words and seats agree before the
 /// step, the event can happen, and after the step they agree with the world after it. A split of the
@@ -24,9 +25,12 @@ pub fn running_words()
     ensures { RunningWords }
 {}
 
-/// A look is true, of whatever kind the step is that makes it: a step of the keeper's seat after which
-/// it has looked once more at a slot leaves it the sum in the slot's word for its bound, and a pin
-/// that leaves bears the count of the looks as it is.
+/// A look is true, of whatever kinds the steps are that make it. After a step of the keeper's seat
+/// that counts one look more at a slot, the bound is the sum in the slot's word; a pin that leaves
+/// bears the count of looks as it is. So a call of any number of steps that counts one look more and
+/// has in the end the pins that it had and lent has for the bound what others' pins weighed at a
+/// moment of the call, and its own. And a call on a pin that ends with a seat which says that the pin
+/// left has left nothing of it in the word.
 pub fn looks()
     ensures { LooksAreTrue }
 {}

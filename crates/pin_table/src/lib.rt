@@ -5,9 +5,9 @@
 //! `atomic_table` for steps on words. It promises that between any two steps the words are those of
 //! a pin world to which events lead that can happen in their turn, that the keeper's rows are the
 //! rows of that world, and that each step of the kinds of `plays.rt` is its event of that world
-//! (`laws::steps`) and every list of such steps one list of events (`laws::histories`). What a call
-//! says it found was found by a step of that call where its body makes its steps by these kinds. No
-//! call but `Pins::new` takes memory, and none waits.
+//! (`laws::steps`) and every list of such steps one list of events (`laws::histories`). Whatever
+//! kinds of steps the body of a call makes, a sum that the call says it found was there at a moment
+//! of that call (`laws::looks`). No call but `Pins::new` takes memory, and none waits.
 #![tactic(auto)]
 
 mod keeper;

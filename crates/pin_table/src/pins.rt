@@ -146,8 +146,7 @@ impl Pins {
         requires within { slot < length keeper.old.rows }
         requires live { (row keeper.old.rows slot).phase ≡ Live }
         requires room { slice_index keeper.old.bounds slot + new_weight ≤ max_weight }
-        ensures bound { keeper.new ≡ lent_on slot keeper.old }
-        ensures sum { slice_index keeper.new.bounds slot ≡ slice_index keeper.old.bounds slot + new_weight }
+        ensures bound { keeper.new ≡ lent_on slot (slice_index keeper.old.bounds slot + new_weight) keeper.old }
         ensures pin { result ≡ lent_pin slot keeper.old }
         ensures digest { (row keeper.old.rows slot).digest ≡ Some result.hold.digest }
     {

@@ -17,8 +17,7 @@ returns c =
       weight = l.weight;
       within = l.within;
       room = omega arith;
-      after = c.add_pin.ensures.bound ∙ ap (lent_on k) l.after;
-      bound = c.add_pin.ensures.sum ∙ ap (λ n. n + new_weight) l.bound;
+      after = c.add_pin.ensures.bound ∙ ap (λ n. lent_on k (n + new_weight) c.look.new.keeper) l.bound ∙ ap (lent_on k (l.weight + new_weight)) l.after;
       pin = c.add_pin.ensures.pin ∙ ap (lent_pin k) l.after;
       digest = ap (λ (x : KeeperValue). (row x.rows k).digest) (sym l.after) ∙ c.add_pin.ensures.digest;
     }
