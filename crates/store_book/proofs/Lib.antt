@@ -63,6 +63,7 @@ pub mod Consistency
 pub mod Isolated
 pub mod SameText
 pub mod Cases
+pub mod WorkedDigests
 pub mod WorkedExamples
 pub mod WorkedManifests
 pub mod WorkedLimits

@@ -1,7 +1,11 @@
--- Manifests on small literals. What bytes refer to is given, and the digest of bytes is not computed.
-use Rattle.std.proofs.Common.{◌≡◌, true, false, [], ◌∷◌, ◌++◌, length, Some, None, Ok, Err, refl, sym, ap, ◌∙◌}
-use Rattle.std.specs.Prelude.{codes, nat_lt}
-use Rattle.std.specs.List.{flat_map}
+-- Manifests of two small blobs. Of bytes it is given what they refer to, and whether they are too long. At the end stand bytes of which
+-- each of these premises holds.
+use Rattle.std.proofs.Common.{◌≡◌, ℕ, true, false, List, [], ◌∷◌, ◌++◌, length, Option, Some, None, Ok, Err, refl, sym, ap, ◌∙◌}
+use Rattle.std.specs.Prelude.{codes, nat_lt, ◌+◌, replicate, option_and_then, option_map, if◌then◌else◌}
+use Rattle.std.specs.List.{flat_map, list_all}
+use Rattle.std.proofs.lemmas.List.{length-replicate}
+use Rattle.std.proofs.lemmas.Str.{IsUtf8-from_ascii, is_utf8-from_IsUtf8}
+use Rattle.blob_digest.proofs.Ascii.{IsAscii-from_test}
 use Rattle.std.specs.FinMap.{get, insert, remove, empty, entries, get-empty, get-insert, entries-insert}
 use Rattle.std.specs.Cmp.Lexicographic.{nat_list_cmp_total}
 use Rattle.blob_digest.specs.declared.refusal.Refusal.TheVariants.{SizeInvalid, ManifestInvalid, ManifestUnknown, ManifestBlobUnknown, Referenced}
@@ -10,23 +14,24 @@ use Rattle.blob_digest.specs.Sets as set
 use Rattle.blob_digest.proofs.KeyOrders.{link_cmp_total, exact_link}
 use Rattle.blob_digest.proofs.RowLemmas.{entries-empty}
 use Rattle.blob_digest.proofs.MapSums.{get-remove_same}
-use Rattle.oci_manifest.specs.Manifests.{refs_of, max_manifest}
+use Rattle.oci_manifest.specs.Manifests.{named, once, refs_of, max_manifest}
+use Rattle.serde_json.specs.Read.{number_of, read as json_value}
+use Rattle.json.specs.Lex.{lex, punctuate}
+use Rattle.json.specs.Json.{items, members, value}
+use Rattle.json.specs.Text.{content}
+use Rattle.json.specs.Word.{after_number, word}
+use Rattle.fast_float.specs.Text.{scan}
 use Rattle.store_book.specs.Catalog.{Text, Catalog, opening}
 use Rattle.store_book.specs.Steps.{put_manifest, get_manifest, delete_manifest, with_manifest, delete}
 use Rattle.store_book.specs.Printed.{manifest_text, manifest_line}
 use Rattle.store_book.proofs.MapLemmas.{get-insert_at, remove-insert_new}
+use Rattle.store_book.proofs.WorkedDigests.{abc, abc_bytes, obj, obj_bytes}
 
 abbrev one : Text
 one = codes "acme/one"
 
 abbrev fresh : Text
 fresh = codes "acme/new"
-
-abbrev obj : Text
-obj = codes "e"
-
-abbrev abc : Text
-abc = codes "d"
 
 -- a tenant of 1,000 bytes
 abbrev empty_book : Catalog
@@ -36,13 +41,13 @@ abbrev one_linked : Catalog
 one_linked = record empty_book {
   repos = set.insert set.none one;
   links = set.insert set.none (one, obj);
-  residents = insert empty obj (record { bytes = codes "{}"; condemned = false; lent = false });
+  residents = insert empty obj (record { bytes = obj_bytes; condemned = false; lent = false });
 }
 
 abbrev both_linked : Catalog
 both_linked = record one_linked {
   links = set.insert one_linked.links (one, abc);
-  residents = insert one_linked.residents abc (record { bytes = codes "abc"; condemned = false; lent = false });
+  residents = insert one_linked.residents abc (record { bytes = abc_bytes; condemned = false; lent = false });
 }
 
 -- an image manifest of two blobs
@@ -105,3 +110,37 @@ no_manifest m fits read = rw (fits, read) refl
 
 too_long : (m : Text) → nat_lt max_manifest (length m) ≡ true → put_manifest empty_book one m ≡ Err SizeInvalid
 too_long m long = rw long refl
+
+-- ---- there are such bytes
+
+-- what ASCII bytes refer to, by the value that they read as
+refs_read : (bytes : Text) (refs : Option (List Text)) → list_all (λ b. nat_lt b 128) bytes ≡ true → option_map once (option_and_then named (json_value bytes)) ≡ refs → refs_of bytes ≡ refs
+unfolding refs_of
+refs_read bytes refs ascii is =
+    ap (λ b. option_map once (option_and_then named (if b then json_value bytes else None))) (is_utf8-from_IsUtf8 bytes (IsUtf8-from_ascii bytes (IsAscii-from_test bytes ascii))) ∙ is
+
+-- an image manifest whose config is the empty object, and whose one layer has three bytes
+abbrev image : Text
+image = codes "{\"schemaVersion\":2,\"config\":{\"digest\":\"sha256:44136fa355b3678a1146ad16f7e8649e94fb4fc21fe77e8310c060f61caaff8a\"},\"layers\":[{\"digest\":\"sha256:ba7816bf8f01cfea414140de5dae2223b00361a396177a9cb410ff61f20015ad\"}]}"
+
+image_is_met : (nat_lt max_manifest (length image) ≡ false) × (refs_of image ≡ Some (obj ∷ abc ∷ []))
+unfolding number_of lex punctuate items members value content word after_number scan
+image_is_met = (refl, refs_read image _ refl refl)
+
+abbrev index : Text
+index = codes "{\"schemaVersion\":2,\"manifests\":[]}"
+
+index_is_met : (nat_lt max_manifest (length index) ≡ false) × (refs_of index ≡ Some [])
+unfolding number_of lex punctuate items members value content word after_number scan
+index_is_met = (refl, refs_read index _ refl refl)
+
+nothing_is_met : (nat_lt max_manifest (length obj_bytes) ≡ false) × (refs_of obj_bytes ≡ None)
+unfolding lex punctuate items members value content word
+nothing_is_met = (refl, refs_read obj_bytes _ refl refl)
+
+-- one byte more than a manifest may have
+long_is_met : (m : Text) × (nat_lt max_manifest (length m) ≡ true)
+long_is_met = of_length (max_manifest + 1) refl
+  where
+    of_length : (n : ℕ) → nat_lt max_manifest n ≡ true → (m : Text) × (nat_lt max_manifest (length m) ≡ true)
+    of_length n more = (replicate n 32, rw (length-replicate {A = ℕ} n 32) more)

@@ -1,11 +1,10 @@
--- Leases and sweeps on small literals. Which digest bytes have is given.
+-- Leases, sweeps and closes on small literals.
 use Rattle.std.proofs.Common.{◌≡◌, ℕ, true, false, Bool, [], ◌∷◌, Option, Some, None, Ok, Err, refl, sym, ap, ◌∙◌, subst, inl, inr, ⊎_elim}
 use Rattle.std.specs.Prelude.{codes, ◌&&◌, not, is_none, count_by}
 use Rattle.std.specs.FinMap.{FinMap, get, insert, empty, entries, get-empty, get-insert, get-remove, entries-insert, len-entries}
 use Rattle.std.specs.Cmp.Lexicographic.{nat_list_cmp_total}
 use Rattle.std.proofs.lemmas.Map.Lookups.{exact_bytes}
 use Rattle.blob_digest.specs.declared.refusal.Refusal.TheVariants.{StoreFull, TooManyReaders}
-use Rattle.blob_digest.specs.Digests.{is_digest_of}
 use Rattle.blob_digest.specs.Sets as set
 use Rattle.blob_digest.proofs.KeyOrders.{number_cmp_total, link_cmp_total}
 use Rattle.blob_digest.proofs.RowLemmas.{entries-empty}
@@ -17,19 +16,17 @@ use Rattle.store_book.proofs.MapLemmas.{got-insert, get-insert_at, get-insert_ot
 use Rattle.store_book.proofs.SweepLemmas.{idle_sweep}
 use Rattle.std.proofs.lemmas.Bool.{false≢true}
 use Rattle.store_book.proofs.SetMembers.{nothing}
+use Rattle.store_book.proofs.WorkedDigests.{abc, abc_bytes, abc_named, obj, obj_bytes, obj_named}
 
 abbrev one : Text
 one = codes "acme/one"
-
-abbrev abc : Text
-abc = codes "d"
 
 abbrev swept : ℕ → ℕ → ℕ → ℕ → Swept
 swept condemned freed held retired = record { condemned = condemned; freed = freed; held = held; retired = retired }
 
 -- a store with one slot, which holds three bytes
 abbrev with_blob : Bool → Bool → FinMap text_cmp Resident
-with_blob condemned lent = insert empty abc (record { bytes = codes "abc"; condemned = condemned; lent = lent })
+with_blob condemned lent = insert empty abc (record { bytes = abc_bytes; condemned = condemned; lent = lent })
 
 abbrev kept : Catalog
 kept = record (opening (record { name = codes "acme"; quota = 1000 } ∷ []) 1 10) {
@@ -38,7 +35,7 @@ kept = record (opening (record { name = codes "acme"; quota = 1000 } ∷ []) 1 1
   residents = with_blob false false;
 }
 
-blob_is_lent : lease false kept one abc ≡ Ok (codes "abc", with_lent kept abc (record { bytes = codes "abc"; condemned = false; lent = false }))
+blob_is_lent : lease false kept one abc ≡ Ok (abc_bytes, with_lent kept abc (record { bytes = abc_bytes; condemned = false; lent = false }))
 blob_is_lent = simp (get-insert {X = Unit {0}} link_cmp_total, get-insert {X = Resident} nat_list_cmp_total) refl
 
 blob_is_crowded : lease true kept one abc ≡ Err TooManyReaders
@@ -57,7 +54,7 @@ emptied retired = record (unlinked false false) { residents = empty; retired = r
 -- ---- sweeps of the one blob
 
 abbrev blob : Bool → Bool → Resident
-blob condemned lent = record { bytes = codes "abc"; condemned = condemned; lent = lent }
+blob condemned lent = record { bytes = abc_bytes; condemned = condemned; lent = lent }
 
 is_only : (b : Resident) (d : Text) (x : Resident) → get (insert {R = text_cmp} empty abc b) d ≡ Some x → (d ≡ abc) × (b ≡ x)
 is_only b d x h = ⊎_elim (λ e. e) (λ h. nothing (get-empty text_cmp d) h) (got-insert nat_list_cmp_total exact_bytes empty abc b d x h)
@@ -145,14 +142,28 @@ unlent_is_gone n m k C' sweep = at (get C'.residents abc) (subst (λ p. IsLeft p
     at None left = refl
     at (Some x) left = absurd (false≢true left.0)
 
+abbrev linked : Bool → Catalog
+linked lent = record kept { residents = with_blob false lent }
+
+is_linked : (lent : Bool) → is_orphan (linked lent) abc ≡ false
+is_linked lent = simp (entries-insert {X = Unit {0}} nat_list_cmp_total, get-insert {X = Unit {0}} link_cmp_total, get-empty, entries-empty) refl
+
 -- a linked blob stays, whatever a sweep does
-linked_stays : (lent : Bool) (s : Swept) (C' : Catalog) → IsSweep (record kept { residents = with_blob false lent }) s C' → (s ≡ swept 0 0 0 0) × (C' ≡ record kept { residents = with_blob false lent })
-linked_stays lent s C' sweep = idle_sweep (record kept { residents = with_blob false lent }) C' s sweep (λ d b found.
+linked_stays : (lent : Bool) (s : Swept) (C' : Catalog) → IsSweep (linked lent) s C' → (s ≡ swept 0 0 0 0) × (C' ≡ linked lent)
+linked_stays lent s C' sweep = idle_sweep (linked lent) C' s sweep (λ d b found.
     let e = is_only (blob false lent) d b found in
-    (ap (is_orphan (record kept { residents = with_blob false lent })) e.0 ∙ is_linked, ap (λ (x : Resident). x.condemned) (sym e.1)))
-  where
-    is_linked : is_orphan (record kept { residents = with_blob false lent }) abc ≡ false
-    is_linked = simp (entries-insert {X = Unit {0}} nat_list_cmp_total, get-insert {X = Unit {0}} link_cmp_total, get-empty, entries-empty) refl
+    (ap (is_orphan (linked lent)) e.0 ∙ is_linked lent, ap (λ (x : Resident). x.condemned) (sym e.1)))
+
+-- and there is such a sweep
+linked_is_left : (lent : Bool) → IsSweep (linked lent) (swept 0 0 0 0) (linked lent)
+linked_is_left lent = record {
+  orphans = λ d b found. subst (λ o. IsLeft o b (get (linked lent).residents d)) (sym (ap (is_orphan (linked lent)) (is_only (blob false lent) d b found).0 ∙ is_linked lent)) found;
+  no_others = λ d none. none;
+  rest = refl;
+  condemned = simp (entries-insert {X = Resident} nat_list_cmp_total, entries-insert {X = Unit {0}} nat_list_cmp_total, get-insert {X = Unit {0}} link_cmp_total, get-empty, entries-empty) refl;
+  gone = simp (entries-insert {X = Resident} nat_list_cmp_total, get-insert {X = Resident} nat_list_cmp_total, entries-empty) refl;
+  held = simp (entries-insert {X = Resident} nat_list_cmp_total, entries-empty) refl;
+}
 
 -- ---- closes in a store of one slot
 
@@ -161,31 +172,31 @@ abbrev uploading : Catalog → Text → Catalog
 uploading C bytes = record C { sessions = insert empty (0, 2) (record { repo = one; chunks = Home (bytes ∷ []) }) }
 
 -- a condemned blob that is uploaded again is live again, and is still marked as lent
-revived : is_digest_of abc (codes "abc") ≡ true → close (uploading (unlinked true true) (codes "abc")) one 2 abc None [] ≡ Ok (3, stored (uploading (unlinked true true) (codes "abc")) 0 one 2 abc (codes "abc"))
-revived named =
+revived : close (uploading (unlinked true true) abc_bytes) one 2 abc None [] ≡ Ok (3, stored (uploading (unlinked true true) abc_bytes) 0 one 2 abc abc_bytes)
+revived =
     simp (get-insert {X = Session} number_cmp_total, entries-insert {X = Session} number_cmp_total, entries-insert {X = Resident} nat_list_cmp_total, entries-insert {X = Unit {0}} nat_list_cmp_total, get-remove {X = Unit {0}} link_cmp_total, get-insert {X = Unit {0}} link_cmp_total, get-insert {X = Resident} nat_list_cmp_total, entries-empty)
-    (rw named refl)
+    (rw abc_named refl)
 
-revived_blob : get (stored (uploading (unlinked true true) (codes "abc")) 0 one 2 abc (codes "abc")).residents abc ≡ Some (blob false true)
+revived_blob : get (stored (uploading (unlinked true true) abc_bytes) 0 one 2 abc abc_bytes).residents abc ≡ Some (blob false true)
 revived_blob = simp (get-insert {X = Resident} nat_list_cmp_total) refl
 
 -- the slot is used, by a linked blob or by one whose link is gone, or it is retired: there is no room for another
-full_while_linked : is_digest_of (codes "e") (codes "{}") ≡ true → close (uploading kept (codes "{}")) one 2 (codes "e") None [] ≡ Err StoreFull
-full_while_linked named =
+full_while_linked : close (uploading kept obj_bytes) one 2 obj None [] ≡ Err StoreFull
+full_while_linked =
     simp (len-entries, get-insert {X = Session} number_cmp_total, entries-insert {X = Session} number_cmp_total, entries-insert {X = Resident} nat_list_cmp_total, entries-insert {X = Unit {0}} nat_list_cmp_total, get-insert {X = Unit {0}} link_cmp_total, get-insert {X = Resident} nat_list_cmp_total, get-empty, entries-empty)
-    (rw named refl)
+    (rw obj_named refl)
 
-full_while_unlinked : is_digest_of (codes "e") (codes "{}") ≡ true → close (uploading (unlinked false false) (codes "{}")) one 2 (codes "e") None [] ≡ Err StoreFull
-full_while_unlinked named =
+full_while_unlinked : close (uploading (unlinked false false) obj_bytes) one 2 obj None [] ≡ Err StoreFull
+full_while_unlinked =
     simp (len-entries, get-insert {X = Session} number_cmp_total, entries-insert {X = Session} number_cmp_total, entries-insert {X = Resident} nat_list_cmp_total, entries-insert {X = Unit {0}} nat_list_cmp_total, get-remove {X = Unit {0}} link_cmp_total, get-insert {X = Unit {0}} link_cmp_total, get-insert {X = Resident} nat_list_cmp_total, get-empty, entries-empty)
-    (rw named refl)
+    (rw obj_named refl)
 
-full_once_retired : is_digest_of (codes "e") (codes "{}") ≡ true → close (uploading (emptied 1) (codes "{}")) one 2 (codes "e") None [] ≡ Err StoreFull
-full_once_retired named =
+full_once_retired : close (uploading (emptied 1) obj_bytes) one 2 obj None [] ≡ Err StoreFull
+full_once_retired =
     simp (len-entries, get-insert {X = Session} number_cmp_total, entries-insert {X = Session} number_cmp_total, entries-insert {X = Unit {0}} nat_list_cmp_total, get-remove {X = Unit {0}} link_cmp_total, get-empty, entries-empty)
-    (rw named refl)
+    (rw obj_named refl)
 
-room_once_freed : is_digest_of (codes "e") (codes "{}") ≡ true → close (uploading (emptied 0) (codes "{}")) one 2 (codes "e") None [] ≡ Ok (2, stored (uploading (emptied 0) (codes "{}")) 0 one 2 (codes "e") (codes "{}"))
-room_once_freed named =
+room_once_freed : close (uploading (emptied 0) obj_bytes) one 2 obj None [] ≡ Ok (2, stored (uploading (emptied 0) obj_bytes) 0 one 2 obj obj_bytes)
+room_once_freed =
     simp (len-entries, get-insert {X = Session} number_cmp_total, entries-insert {X = Session} number_cmp_total, entries-insert {X = Unit {0}} nat_list_cmp_total, get-remove {X = Unit {0}} link_cmp_total, get-empty, entries-empty)
-    (rw named refl)
+    (rw obj_named refl)
