@@ -1,5 +1,5 @@
 -- What the table asks of each step: that the rule is kept, whatever the table is when the word changes.
-use Rattle.std.proofs.Common.{◌≡◌, ℕ, ◌+◌, ◌-◌, ◌%◌, ◌≤◌, ◌<◌, List, [], ◌∷◌, ◌++◌, length, set, replicate, Some, None, inl, inr, refl, sym, ap, ◌∙◌, subst, arith}
+use Rattle.std.proofs.Common.{◌≡◌, ℕ, ◌+◌, ◌-◌, ◌%◌, ◌≤◌, ◌<◌, List, [], ◌∷◌, ◌++◌, length, set, replicate, Some, None, inl, inr, refl, sym, ap, subst, arith}
 use Rattle.std.specs.Prelude.{slice_index, slice_set, bit_or, bit_and, ◌==◌}
 use mathlib.Core.Option.{some, none}
 use lib.ListN.{get_elem?}
@@ -12,7 +12,7 @@ use Rattle.pin_core.specs.declared.world.Hold.{Hold}
 use Rattle.pin_core.specs.declared.event.Event.{Event}
 use Rattle.pin_core.specs.declared.event.Event.TheVariants.{Give, Lend, Leave, Share, Condemn, Revive, Reclaim, Look, Verify}
 use Rattle.pin_core.specs.World.{PinWorld, holds_of, weight_on, row, row_word, word_of, max_weight, opening}
-use Rattle.pin_core.specs.Events.{IsNew, new_weight, reclaimed_row, after_all, in_phase, given_row, half, lent_hold}
+use Rattle.pin_core.specs.Events.{IsNew, new_weight, reclaimed_row, after_all, in_phase, given_row, lent_hold}
 use Rattle.pin_table.specs.declared.view.Kept.{Kept}
 use Rattle.pin_table.specs.declared.view.View.{View}
 use Rattle.pin_table.specs.declared.view.View.TheVariants.{Keeper, Pin, Left, Spent}

@@ -1,23 +1,21 @@
 -- A call of any steps that counts one look has found what others' pins weighed at one of its moments.
-use Rattle.std.proofs.Common.{◌≡◌, ◌≢◌, ◌⊎◌, ℕ, zero, suc, ◌+◌, ◌≤◌, ◌<◌, List, [], ◌∷◌, ◌++◌, length, set, sum_by, None, inl, inr, refl, sym, ap, ◌∙◌, subst, arith}
+use Rattle.std.proofs.Common.{◌≡◌, ◌≢◌, ◌⊎◌, ℕ, ◌+◌, ◌≤◌, ◌<◌, List, [], ◌∷◌, ◌++◌, length, set, sum_by, None, inl, inr, refl, sym, ap, ◌∙◌, subst, arith}
 use Rattle.std.specs.Prelude.{slice_index}
 use Rattle.std.proofs.lemmas.Bool.{cases_lt}
 use Rattle.std.proofs.lemmas.List.{length-set, length-replicate}
 use Rattle.std.proofs.lemmas.List.Sums.{sum_by-append, sum_by-cons, sum_by-le-sum_by, sum_by_push}
 use Rattle.std.proofs.lemmas.List.Sorted.{sum_by-IsPermutation}
 use mathlib.Core.Logic.{dite}
-use mathlib.Core.Option.{some}
-use lib.ListN.{get_elem?}
 use native.Mathlib.Decide.{ℕ_discrete}
 use Rattle.pin_core.specs.declared.world.Phase.TheVariants.{Free}
 use Rattle.pin_core.specs.declared.world.Hold.{Hold}
 use Rattle.pin_core.specs.declared.event.Event.{Event}
 use Rattle.pin_core.specs.declared.event.Event.TheVariants.{Give, Lend, Share, Leave, Condemn, Revive, Reclaim, Look, Verify}
-use Rattle.pin_core.specs.World.{PinWorld, holds_of, opening, row, weight_at, weight_on}
-use Rattle.pin_core.specs.Events.{after, after_all, given_row, half, in_phase, reclaimed_row}
+use Rattle.pin_core.specs.World.{PinWorld, opening, row, weight_at, weight_on}
+use Rattle.pin_core.specs.Events.{after, after_all, given_row, half, reclaimed_row}
 use Rattle.pin_table.specs.declared.view.Kept.{Kept}
 use Rattle.pin_table.specs.declared.view.View.{View}
-use Rattle.pin_table.specs.declared.view.View.TheVariants.{Keeper, Left, Pin, Spent}
+use Rattle.pin_table.specs.declared.view.View.TheVariants.{Left, Pin, Spent}
 use Rattle.pin_table.specs.Rule.{all_holds, gone, gone_at, gone_since, holds_in, in_hand}
 use Rattle.pin_table.specs.Looks.{CallMoment, EndedByCall, FoundByCall, Follows, FollowsPin, IsCall, IsPinCall, IsUnderRule, Weighed, by_call, by_leave, by_share, end, seats_on}
 use Rattle.pin_table.proofs.Holds.{sum_one, sum_set, weight_same}

@@ -1,20 +1,20 @@
 -- Whatever step counts a look has found the word.
-use Rattle.std.proofs.Common.{◌≡◌, ℕ, suc, ◌+◌, ◌<◌, List, ◌∷◌, length, drop, set, sum_by, sym, ap, ◌∙◌, subst, refl, arith, pow_pos}
+use Rattle.std.proofs.Common.{◌≡◌, ℕ, suc, ◌+◌, ◌<◌, List, ◌∷◌, length, set, sym, ap, ◌∙◌, subst, arith, pow_pos}
 use Rattle.std.specs.Prelude.{slice_index}
 use mathlib.Core.Option.{some}
 use lib.ListN.{get_elem?}
 use Rattle.pin_core.specs.declared.world.Hold.{Hold}
-use Rattle.pin_core.specs.World.{PinWorld, IsWeight, holds_of, row, row_word, weight_at, weight_on}
+use Rattle.pin_core.specs.World.{PinWorld, holds_of, row, row_word, weight_at, weight_on}
 use Rattle.pin_table.specs.declared.view.Kept.{Kept}
 use Rattle.pin_table.specs.declared.view.View.{View}
 use Rattle.pin_table.specs.declared.view.View.TheVariants.{Keeper, Left, Pin}
-use Rattle.pin_table.specs.Rule.{Accounts, Agrees, all_holds, gone, in_hand}
+use Rattle.pin_table.specs.Rule.{Accounts, Agrees, gone}
 use Rattle.pin_table.specs.Looks.{LooksAreTrue}
 use Rattle.pin_table.proofs.Holds.{sum_one, sum_set, weight_same}
 use Rattle.pin_table.proofs.Accounts.{left_now, told_true}
 use Rattle.pin_table.proofs.Guests.{pinned}
 use Rattle.pin_table.proofs.Found.{ended_by_call, found_by_call}
-use Rattle.pin_table.proofs.Known.{Known, known}
+use Rattle.pin_table.proofs.Known.{known}
 
 found_true : {ws ws' : List ℕ} {v u : Kept} {others : List View} {p q : PinWorld} → Agrees ws (Keeper v ∷ others) p → Agrees ws' (Keeper u ∷ others) q → (k : ℕ) → k < length u.rows → slice_index u.looks k ≡ slice_index v.looks k + 1
     → slice_index ws' k ≡ row_word (row u.rows k) (slice_index u.bounds k)
