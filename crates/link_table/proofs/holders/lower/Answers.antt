@@ -1,4 +1,4 @@
-use Rattle.std.proofs.Common.{◌≡◌, ◌+◌, ◌-◌, ◌<◌, None, Some, arith, sym}
+use Rattle.std.proofs.Common.{◌≡◌, ◌+◌, ◌-◌, None, Some, arith}
 use Rattle.blob_digest.specs.Trees.{map_of}
 use Rattle.link_table.specs.Holders.{count_in}
 use Rattle.link_table.proofs.HolderCounts.{changed_at, lowered, no_zero, none_not_zero, not_zero, uncounted}
