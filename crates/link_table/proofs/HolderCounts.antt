@@ -1,7 +1,7 @@
 -- What a link more or less does to the counts of those that hold a digest, each tenant's in a map of its own.
 use Rattle.std.proofs.Common.{◌≡◌, ℕ, ◌+◌, ◌<◌, ◌≤◌, Bool, true, false, cond, ◌&&◌, ◌||◌, ◌==◌, nat_lt, List, [], ◌∷◌, length, map, filter, get_or, set, Option, None, Some, is_some, refl, sym, ap, ◌∙◌, arith, subst, length-set}
 use Prim.Native.Nat.{zero, suc}
-use Rattle.std.specs.Prelude.{T, slice_get, count_by, unwrap_or, nat_eq}
+use Rattle.std.specs.Prelude.{T, ◌≢◌, slice_get, count_by, unwrap_or, nat_eq}
 use Rattle.std.specs.Option.{option_eq, option_map_or}
 use Rattle.std.specs.List.{All, list_any, AllByRecursion, IsDistinct}
 use Rattle.std.specs.Set.{is_member}
@@ -20,13 +20,16 @@ use Rattle.blob_digest.specs.Keys.{Text, Link, text_cmp, link_cmp, same_text}
 use Rattle.blob_digest.specs.Rows.{IsApart}
 use Rattle.blob_digest.specs.Sets as sets
 use Rattle.blob_digest.proofs.KeyOrders.{link_cmp_total, exact_link, text_is_same, same_text_is, tied_text}
-use Rattle.blob_digest.proofs.OptionLemmas.{some_none}
+use Rattle.blob_digest.proofs.OptionLemmas.{some_none, some_same}
 use Rattle.blob_digest.proofs.SortedRows.{IsApart-sorted}
+use Rattle.blob_digest.proofs.Trees.{get_is}
+use Rattle.blob_digest.specs.Trees.{map_of}
 use Rattle.link_table.specs.Linked.{Tenant, tenant_of, is_tenants}
-use Rattle.link_table.specs.Holders.{count_in, count_of, is_held, Counts}
+use Rattle.link_table.specs.Holders.{count_in, count_of, is_held, Counts, HasNoZero}
 use Rattle.link_table.specs.TenantRepos.{Owned, IsOwned, links_shown, count}
 use Rattle.link_table.proofs.TenantRepos.{option_eq_some, links-there}
-use Rattle.std.specs.FinMap.{FinMap, find, get, insert, remove, entries, get-entries, entries_sorted, is_sorted, contains_key-keys}
+use Rattle.std.specs.FinMap as fmap
+use Rattle.std.specs.FinMap.{FinMap, find, get, get-empty, insert, remove, entries, get-entries, entries_sorted, is_sorted, contains_key-keys}
 use Rattle.blob_digest.proofs.MapSums.{sum_new, sum_split}
 
 -- ---- one count
@@ -35,12 +38,39 @@ unwrapped : (b : Bool) (w o : Option ℕ) → unwrap_or (cond b w o) 0 ≡ cond 
 unwrapped true w o = refl
 unwrapped false w o = refl
 
+-- a tree that has something else at one key is a map that does
+pub changed_at : (old new : tree.BTreeMap Text ℕ) (d : Text) (w : Option ℕ) → ((q : Text) → tree.get text_cmp new q ≡ cond (tree.is_at (text_cmp d) q) w (tree.get text_cmp old q)) → (q : Text) → get (map_of new) q ≡ cond (tree.is_at (text_cmp d) q) w (get (map_of old) q)
+changed_at old new d w put q = sym (get_is new q) ∙ put q ∙ ap (cond (tree.is_at (text_cmp d) q) w) (get_is old q)
+
+-- what has no row has no count
+pub uncounted : (m : tree.BTreeMap Text ℕ) (d : Text) → tree.get text_cmp m d ≡ None → count_in (map_of m) d ≡ 0
+uncounted m d none = ap (λ o. unwrap_or o 0) (sym (get_is m d) ∙ none)
+
+-- no count, and one above 0
+pub none_not_zero : ◌≡◌ {A = Option ℕ} None (Some 0) → ⊥
+none_not_zero e = cc
+
+pub not_zero : (n : ℕ) → 0 < n → ◌≡◌ {A = Option ℕ} (Some n) (Some 0) → ⊥
+not_zero n some e = (let zero_is : n ≡ 0 = some_same e in omega (arith, some, zero_is))
+
+-- an empty tree counts nothing
+pub none_zero : (m : tree.BTreeMap Text ℕ) → m.entries ≡ [] → HasNoZero (map_of m)
+none_zero m none d zero_at = some_none (sym zero_at ∙ sym (get_is m d) ∙ ap (λ es. lookup (tree.is_at (text_cmp d)) es) none)
+
 -- a map that has something else at one key
-module _ (old new : tree.BTreeMap Text ℕ) (d : Text) (w : Option ℕ) (put : (q : Text) → tree.get text_cmp new q ≡ cond (tree.is_at (text_cmp d) q) w (tree.get text_cmp old q)) where
+module _ (old new : FinMap text_cmp ℕ) (d : Text) (w : Option ℕ) (put : (q : Text) → get new q ≡ cond (tree.is_at (text_cmp d) q) w (get old q)) where
   count_in-update : (e : Text) → count_in new e ≡ cond (same_text d e) (unwrap_or w 0) (count_in old e)
   count_in-update e =
-      ap (λ o. unwrap_or o 0) (put e) ∙ unwrapped (tree.is_at (text_cmp d) e) w (tree.get text_cmp old e)
+      ap (λ o. unwrap_or o 0) (put e) ∙ unwrapped (tree.is_at (text_cmp d) e) w (get old e)
       ∙ ap (λ b. cond b (unwrap_or w 0) (count_in old e)) (sym (texts_ties d e))
+
+  -- no count is 0 where the new one isn't
+  pub no_zero : w ≢ Some 0 → HasNoZero old → HasNoZero new
+  no_zero other before e zero_at = by_key (tree.is_at (text_cmp d) e) (sym (put e) ∙ zero_at)
+    where
+      by_key : (b : Bool) → cond b w (get old e) ≡ Some 0 → ⊥
+      by_key true here = other here
+      by_key false there = before e there
 
   -- the count at the key is one more
   pub raised : unwrap_or w 0 ≡ count_in old d + 1 → (e : Text) → count_in new e ≡ count_in old e + cond (same_text d e) 1 0
@@ -82,7 +112,7 @@ is_key t d u e = (t == u) && same_text d e
 is_key_itself : (t : ℕ) (d : Text) → is_key t d t d ≡ true
 is_key_itself t d = and_from (t == t) (same_text d d) (eq-eqb t t refl) (same_text_is d d refl)
 
-module _ (holders : List (tree.BTreeMap Text ℕ)) (t : ℕ) (old : tree.BTreeMap Text ℕ) (at : slice_get holders t ≡ Some old) where
+module _ (holders : List (FinMap text_cmp ℕ)) (t : ℕ) (old : FinMap text_cmp ℕ) (at : slice_get holders t ≡ Some old) where
   -- what the tenant's map has
   count_of-at : (e : Text) → count_of holders t e ≡ count_in old e
   count_of-at e = ap (λ o. option_map_or (λ m. count_in m e) o 0) at
@@ -91,7 +121,7 @@ module _ (holders : List (tree.BTreeMap Text ℕ)) (t : ℕ) (old : tree.BTreeMa
   count_of-there u e is = sym (count_of-at e) ∙ ap (λ k. count_of holders k e) (eqb-true t u is)
 
   -- another map in its place
-  count_of-set : (new : tree.BTreeMap Text ℕ) (u : ℕ) (e : Text) → count_of (set holders t new) u e ≡ cond (t == u) (count_in new e) (count_of holders u e)
+  count_of-set : (new : FinMap text_cmp ℕ) (u : ℕ) (e : Text) → count_of (set holders t new) u e ≡ cond (t == u) (count_in new e) (count_of holders u e)
   count_of-set new u e = by_tenant (t == u) refl
     where
       by_tenant : (b : Bool) → (t == u) ≡ b → count_of (set holders t new) u e ≡ cond b (count_in new e) (count_of holders u e)
@@ -99,7 +129,7 @@ module _ (holders : List (tree.BTreeMap Text ℕ)) (t : ℕ) (old : tree.BTreeMa
       by_tenant false is = ap (λ o. option_map_or (λ m. count_in m e) o 0) (slice_get-set_other holders t u new (λ same. true≢false (sym (eq-eqb t u same) ∙ is)))
 
   -- one with a count more, with one less, and with the same
-  module _ (new : tree.BTreeMap Text ℕ) (d : Text) where
+  module _ (new : FinMap text_cmp ℕ) (d : Text) where
     more_of : ((e : Text) → count_in new e ≡ count_in old e + cond (same_text d e) 1 0) → (u : ℕ) (e : Text) → count_of (set holders t new) u e ≡ count_of holders u e + cond (is_key t d u e) 1 0
     more_of more u e = count_of-set new u e ∙ by_tenant (t == u) refl
       where
@@ -114,7 +144,7 @@ module _ (holders : List (tree.BTreeMap Text ℕ)) (t : ℕ) (old : tree.BTreeMa
         by_tenant true is = less e ∙ count_of-there u e is
         by_tenant false is = omega arith
 
-  same_of : (new : tree.BTreeMap Text ℕ) → ((e : Text) → count_in new e ≡ count_in old e) → (u : ℕ) (e : Text) → count_of (set holders t new) u e ≡ count_of holders u e
+  same_of : (new : FinMap text_cmp ℕ) → ((e : Text) → count_in new e ≡ count_in old e) → (u : ℕ) (e : Text) → count_of (set holders t new) u e ≡ count_of holders u e
   same_of new same u e = count_of-set new u e ∙ by_tenant (t == u) refl
     where
       by_tenant : (b : Bool) → (t == u) ≡ b → cond b (count_in new e) (count_of holders u e) ≡ count_of holders u e
@@ -132,11 +162,11 @@ counted_any p (x ∷ xs) = ap (nat_lt 0) (sum_by-cons (λ y. cond (p y) 1 0) x x
     by_test false rest = (let same : 0 + count_by p xs ≡ count_by p xs = omega arith in ap (nat_lt 0) same) ∙ rest
 
 -- a tenant's map
-pub holders_at : (tenants : List Tenant) (links : FinMap link_cmp ℕ) (holders : List (tree.BTreeMap Text ℕ)) → Counts tenants links holders → (t : ℕ) → t < length tenants → (m : tree.BTreeMap Text ℕ) → m ≡ get_or holders t m → slice_get holders t ≡ Some m
+pub holders_at : (tenants : List Tenant) (links : FinMap link_cmp ℕ) (holders : List (FinMap text_cmp ℕ)) → Counts tenants links holders → (t : ℕ) → t < length tenants → (m : FinMap text_cmp ℕ) → m ≡ get_or holders t m → slice_get holders t ≡ Some m
 holders_at tenants links holders counts t lt m read = slice_get_read holders (length holders) t m refl (omega (arith, counts.one_each)) read
 
 -- whether a tenant holds a digest, as its count tells
-pub held-counted : (tenants : List Tenant) (links : FinMap link_cmp ℕ) (holders : List (tree.BTreeMap Text ℕ)) → Counts tenants links holders → (t : ℕ) (m : tree.BTreeMap Text ℕ) → slice_get holders t ≡ Some m → (d : Text) → nat_lt 0 (count_in m d) ≡ list_any (is_held tenants t d) (entries links)
+pub held-counted : (tenants : List Tenant) (links : FinMap link_cmp ℕ) (holders : List (FinMap text_cmp ℕ)) → Counts tenants links holders → (t : ℕ) (m : FinMap text_cmp ℕ) → slice_get holders t ≡ Some m → (d : Text) → nat_lt 0 (count_in m d) ≡ list_any (is_held tenants t d) (entries links)
 held-counted tenants links holders counts t m at d = ap (nat_lt 0) (sym (count_of-at holders t m at d) ∙ counts.counted t d) ∙ counted_any (is_held tenants t d) (entries links)
 
 swap_and : (a b : Bool) → (a && b) ≡ (b && a)
@@ -149,19 +179,19 @@ swap_and false false = refl
 held_is_key : (tenants : List Tenant) (t : ℕ) (r d : Text) (n : ℕ) → is_tenants tenants t r ≡ true → (u : ℕ) (e : Text) → is_held tenants u e ((r, d), n) ≡ is_key t d u e
 held_is_key tenants t r d n own u e = ap (λ o. same_text d e && option_eq nat_eq o (Some u)) (option_eq_some (tenant_of tenants r) t own) ∙ swap_and (same_text d e) (t == u)
 
-module _ (tenants : List Tenant) (links : FinMap link_cmp ℕ) (holders : List (tree.BTreeMap Text ℕ)) (counts : Counts tenants links holders) (t : ℕ) (old : tree.BTreeMap Text ℕ) (at : slice_get holders t ≡ Some old) where
-  one_each_set : (new : tree.BTreeMap Text ℕ) → length (set holders t new) ≡ length tenants
+module _ (tenants : List Tenant) (links : FinMap link_cmp ℕ) (holders : List (FinMap text_cmp ℕ)) (counts : Counts tenants links holders) (t : ℕ) (old : FinMap text_cmp ℕ) (at : slice_get holders t ≡ Some old) where
+  one_each_set : (new : FinMap text_cmp ℕ) → length (set holders t new) ≡ length tenants
   one_each_set new = length-set holders t new ∙ counts.one_each
 
   -- counts that didn't change
-  pub Counts-same : (new : tree.BTreeMap Text ℕ) → ((e : Text) → count_in new e ≡ count_in old e) → Counts tenants links (set holders t new)
+  pub Counts-same : (new : FinMap text_cmp ℕ) → ((e : Text) → count_in new e ≡ count_in old e) → Counts tenants links (set holders t new)
   Counts-same new same = record {
     one_each = one_each_set new;
     counted = λ u e. same_of holders t old at new same u e ∙ counts.counted u e;
   }
 
   -- what was raised and lowered again is as before
-  pub Counts-back : (more back again : tree.BTreeMap Text ℕ) (d : Text) → ((e : Text) → count_in more e ≡ count_in old e + cond (same_text d e) 1 0) →
+  pub Counts-back : (more back again : FinMap text_cmp ℕ) (d : Text) → ((e : Text) → count_in more e ≡ count_in old e + cond (same_text d e) 1 0) →
       back ≡ get_or (set holders t more) t back → ((e : Text) → count_in again e + cond (same_text d e) 1 0 ≡ count_in back e) → Counts tenants links (set (set holders t more) t again)
   Counts-back more back again d up read down =
       let there = slice_get_read (set holders t more) (length (set holders t more)) t back refl (omega (arith, slice_get_within holders t old at, length-set holders t more)) read in record {
@@ -172,7 +202,7 @@ module _ (tenants : List Tenant) (links : FinMap link_cmp ℕ) (holders : List (
       same_less : (a b k : ℕ) → a + k ≡ b + k → a ≡ b
       same_less a b k p = omega arith
 
-  module _ (new : tree.BTreeMap Text ℕ) (r d : Text) (n : ℕ) (own : is_tenants tenants t r ≡ true) where
+  module _ (new : FinMap text_cmp ℕ) (r d : Text) (n : ℕ) (own : is_tenants tenants t r ≡ true) where
     same_less : (a b k m : ℕ) → a + k ≡ m → m ≡ k + b → a ≡ b
     same_less a b k m p q = omega arith
 
@@ -208,19 +238,22 @@ module _ (tenants : List Tenant) (links : FinMap link_cmp ℕ) (holders : List (
         counted = λ u e. same_less (count_of (set holders t new) u e) (count_by (is_held tenants u e) (entries (remove links (r, d)))) (cond (is_key t d u e) 1 0) (count_of holders u e) (less_of holders t old at new d less u e) (before u e);
       }
 
+abbrev empty_map : FinMap text_cmp ℕ
+empty_map = fmap.empty
+
 -- empty maps count no links
-pub Counts-opening : (tenants : List Tenant) (links : FinMap link_cmp ℕ) (holders : List (tree.BTreeMap Text ℕ)) → entries links ≡ [] → length holders ≡ length tenants → All tree.IsEmpty holders → Counts tenants links holders
+pub Counts-opening : (tenants : List Tenant) (links : FinMap link_cmp ℕ) (holders : List (FinMap text_cmp ℕ)) → entries links ≡ [] → length holders ≡ length tenants → All (λ h. h ≡ empty_map) holders → Counts tenants links holders
 Counts-opening tenants links holders none many empty = record {
   one_each = many;
   counted = λ t d. nothing_at t d (slice_get holders t) refl ∙ sym (ap (count_by (is_held tenants t d)) none);
 }
   where
-    nothing_at : (t : ℕ) (d : Text) (o : Option (tree.BTreeMap Text ℕ)) → slice_get holders t ≡ o → option_map_or (λ m. count_in m d) o 0 ≡ 0
+    nothing_at : (t : ℕ) (d : Text) (o : Option (FinMap text_cmp ℕ)) → slice_get holders t ≡ o → option_map_or (λ m. count_in m d) o 0 ≡ 0
     nothing_at t d None at = refl
     nothing_at t d (Some m) at =
         let is : get_or holders t m ≡ m = get_or_from_slice_get holders t m m at in
-        let none_in : m.entries ≡ [] = subst tree.IsEmpty is (empty t m (slice_get_within holders t m at)) in
-        ap (λ es. unwrap_or (lookup (tree.is_at (text_cmp d)) es) 0) none_in
+        let none_in : m ≡ empty_map = subst (λ k. k ≡ empty_map) is (empty t m (slice_get_within holders t m at)) in
+        ap (λ k. count_in k d) none_in ∙ ap (λ o. unwrap_or o 0) (get-empty text_cmp d)
 
 -- ---- a tenant's repositories bound its counts
 
@@ -287,6 +320,6 @@ module _ (tenants : List Tenant) (t : ℕ) (d : Text) where
       from_T false h = absurd h
 
 -- a tenant's count of a digest is at most the number of its repositories
-pub count_in-most : (tenants : List Tenant) (by_tenant : List Owned) → IsOwned tenants by_tenant → (holders : List (tree.BTreeMap Text ℕ)) → Counts tenants (links_shown by_tenant) holders → (t : ℕ) (s : Owned) → slice_get by_tenant t ≡ Some s → (m : tree.BTreeMap Text ℕ) → slice_get holders t ≡ Some m → (d : Text) → count_in m d ≤ count s
+pub count_in-most : (tenants : List Tenant) (by_tenant : List Owned) → IsOwned tenants by_tenant → (holders : List (FinMap text_cmp ℕ)) → Counts tenants (links_shown by_tenant) holders → (t : ℕ) (s : Owned) → slice_get by_tenant t ≡ Some s → (m : FinMap text_cmp ℕ) → slice_get holders t ≡ Some m → (d : Text) → count_in m d ≤ count s
 count_in-most tenants by_tenant owned holders counts t s at m there d =
     rw (sym (count_of-at holders t m there d) ∙ counts.counted t d) (held_within tenants t d (links_shown by_tenant) s.repos (λ r own there. owned.known t s r d at (ap is_some (sym (links-there tenants by_tenant owned t s at r own d)) ∙ there)))

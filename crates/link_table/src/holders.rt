@@ -1,8 +1,8 @@
 //! How many repositories of a tenant hold each digest.
 
 ghost use Rattle.std.specs.Prelude.{◌≡◌, ◌+◌, ◌-◌, ◌<◌, ◌^◌, OnOk, OnErr, IfOk, IfErr, length, if◌then◌else◌};
+ghost use Rattle.std.specs.FinMap as fmap;
 ghost use Rattle.std.specs.List.{All};
-ghost use Rattle.std.specs.BTreeMap as tree;
 ghost use Rattle.blob_digest.specs.Keys.{Text, same_text};
 ghost use Rattle.blob_digest.specs.declared.refusal.Refusal.TheVariants.{Memory};
 ghost use Rattle.link_table.specs.Holders.{count_in};
@@ -10,18 +10,51 @@ ghost use Rattle.link_table.specs.Holders.{count_in};
 use blob_digest::{Digest, Refusal};
 use std::alloc::Global;
 use std::collections::BTreeMap;
+use std::marker::Model;
 
-/// For each digest that some repositories of a tenant hold, how many do.
-pub type Holders = BTreeMap<Digest, u64>;
+/// For each digest that some repositories of a tenant hold, how many do. A digest that none holds has no
+/// entry, so that there are as many entries as the tenant holds digests.
+#[derive(Drop)]
+pub struct Holders {
+    counts: BTreeMap<Digest, u64>,
+}
+
+impl Model for Holders {
+    ghost use Rattle.std.specs.Prelude.{ℕ};
+    ghost use Rattle.std.specs.Coded.{coded_ℕ};
+    ghost use Rattle.std.specs.FinMap as fmap;
+    ghost use Rattle.blob_digest.specs.Keys.{text_cmp, coded_text};
+    ghost use Rattle.blob_digest.specs.Trees.{map_of};
+    ghost use Rattle.link_table.specs.Holders.{HasNoZero};
+
+    ghost Value = { fmap.FinMap text_cmp ℕ };
+
+    ghost coded = { fmap.code coded_text coded_ℕ };
+
+    ghost view = { λ a. map_of a.counts };
+
+    ghost invariant = { λ a. HasNoZero (map_of a.counts) };
+}
+
+impl Holders {
+    /// Of no digest. It takes no memory.
+    fn new(alloc: Global) -> Holders
+        ensures { result ≡ fmap.empty }
+    {
+        Holders {
+            counts: BTreeMap::new(alloc),
+        }
+    }
+}
 
 /// As many tenants, of which none holds a digest.
 pub fn no_holders(alloc: Global, count: usize) -> Result<Vec<Holders>, Refusal>
-    ensures ok { IfOk result (λ v. (length v.items ≡ count) × All tree.IsEmpty v.items) }
+    ensures ok { IfOk result (λ v. (length v.items ≡ count) × All (λ h. h ≡ fmap.empty) v.items) }
     ensures refused { IfErr result (λ e. e ≡ Memory) }
 {
     let mut holders = Vec::with_capacity(alloc, count)?;
     for _ in 0..count {
-        holders.push(BTreeMap::new(alloc))?;
+        holders.push(Holders::new(alloc))?;
     }
     Ok(holders)
 }
@@ -30,7 +63,7 @@ pub fn no_holders(alloc: Global, count: usize) -> Result<Vec<Holders>, Refusal>
 pub fn holders_of(holders: &Holders, digest: &Digest) -> u64
     ensures { result ≡ count_in holders.now digest.now }
 {
-    holders.get(digest).copied().unwrap_or(0)
+    holders.counts.get(digest).copied().unwrap_or(0)
 }
 
 /// One more repository of a tenant holds a digest. Refused is want of memory alone, and then nothing
@@ -42,7 +75,7 @@ pub fn raise(holders: &mut Holders, digest: &Digest) -> Result<(), Refusal>
     ensures refused { IfErr result (λ e. e ≡ Memory) }
 {
     let count = holders_of(holders, digest) + 1;
-    holders.insert(*digest, count)?;
+    holders.counts.insert(*digest, count)?;
     Ok(())
 }
 
@@ -53,10 +86,10 @@ pub fn lower(holders: &mut Holders, digest: &Digest)
 {
     let count = holders_of(holders, digest);
     if count == 1 {
-        holders.remove(digest);
+        holders.counts.remove(digest);
         return;
     }
-    match holders.insert(*digest, count - 1) {
+    match holders.counts.insert(*digest, count - 1) {
         Ok(_) => {}
         Err(_) => unreachable!(),
     }

@@ -4,7 +4,6 @@ ghost use Rattle.oci_manifest.specs.Manifests.{refs_of, max_manifest};
 
 use crate::references::references;
 use blob_digest::{Algorithm, Digest, Refusal};
-use indexmap::IndexSet;
 use std::alloc::Global;
 use std::marker::Model;
 
@@ -17,7 +16,7 @@ pub const MAX_MANIFEST: usize = 4_194_304;
 pub struct Manifest {
     bytes: Vec<u8>,
     digest: Digest,
-    refs: IndexSet<Digest>,
+    refs: Vec<Digest>,
 }
 
 impl Model for Manifest {
@@ -28,7 +27,7 @@ impl Model for Manifest {
 
     ghost view = { λ a. a.bytes.items };
 
-    ghost invariant = { λ a. IsManifest a.bytes.items a.refs.keys a.digest };
+    ghost invariant = { λ a. IsManifest a.bytes.items a.refs.items a.digest };
 }
 
 /// The SHA-256 digest of bytes, which no other algorithm reads.

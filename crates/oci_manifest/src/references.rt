@@ -5,9 +5,9 @@ ghost use Rattle.serde_json.specs.View.{view, items_view};
 ghost use Rattle.oci_manifest.specs.Manifests.{described, document_of, is_filled, is_skipped, is_version_2, image_refs, layer_refs, listed, named, once, refs_of};
 
 use blob_digest::{Digest, Refusal};
-use indexmap::IndexSet;
 use serde_json::Value;
 use std::alloc::{AllocError, Global};
+use std::collections::BTreeSet;
 
 /// The digest that a descriptor names.
 fn described(descriptor: &Value) -> Option<Digest>
@@ -109,16 +109,20 @@ fn named(alloc: Global, root: &Value) -> Result<Option<Vec<Digest>>, AllocError>
     }
 }
 
-/// Each digest once, at its first place.
-fn once(alloc: Global, digests: &[Digest]) -> Result<IndexSet<Digest>, Refusal>
-    ensures value { IfOk result (λ seen. seen.keys ≡ once digests.now) }
+/// Each digest once, at its first place. Doubles are found among those that came before in the order of
+/// their texts, so that each digest takes the logarithm of their number, whichever digests a client picks.
+fn once(alloc: Global, digests: &[Digest]) -> Result<Vec<Digest>, Refusal>
+    ensures value { IfOk result (λ kept. kept.items ≡ once digests.now) }
     ensures refused { IfErr result (λ e. e ≡ Refusal.Memory) }
 {
-    let mut seen = IndexSet::new(alloc);
+    let mut seen = BTreeSet::new(alloc);
+    let mut kept = Vec::new(alloc);
     for digest in digests {
-        seen.insert(*digest)?;
+        if seen.insert(*digest)? {
+            kept.push(*digest)?;
+        }
     }
-    Ok(seen)
+    Ok(kept)
 }
 
 /// The JSON value that the bytes read as.
@@ -140,8 +144,8 @@ fn document(alloc: Global, bytes: &[u8]) -> Result<Value, Refusal>
 
 /// The references of a manifest's bytes.
 #[tactic(auto, unfolding(crate::specs::Manifests::refs_of))]
-pub(crate) fn references(alloc: Global, bytes: &[u8]) -> Result<IndexSet<Digest>, Refusal>
-    ensures value { IfOk result (λ refs. refs_of bytes.now ≡ Some refs.keys) }
+pub(crate) fn references(alloc: Global, bytes: &[u8]) -> Result<Vec<Digest>, Refusal>
+    ensures value { IfOk result (λ refs. refs_of bytes.now ≡ Some refs.items) }
     ensures refused { IfErr result (λ e. (e ≡ Refusal.Memory) ⊎ ((e ≡ Refusal.ManifestInvalid) × (refs_of bytes.now ≡ None))) }
 {
     let root = document(alloc, bytes)?;
