@@ -114,7 +114,7 @@ module _ (tenants : List Tenant) (slots first max_blob : ℕ) where
 
 -- what the layers were made with makes a book
 module _ (given : List Tenant) (l' : Linked) (u' : Uploaded) (p : Pinned) (t : TableId) (count first max_blob n : ℕ) (opened : Opens given l') (small : max_blob ≤ 2 ^ 40) (within : ¬ IsOutside count)
-    (made : p ≡ record { table = t; slots = replicate count (empty_slot first); bounds = replicate count 0; looks = [] }) (uploads_are : u' ≡ uploads.opening n 1) (one_each : n ≡ length l'.tenants) where
+    (made : p ≡ record { table = t; slots = replicate count (empty_slot first); bounds = replicate count 0; looks = replicate count 0 }) (uploads_are : u' ≡ uploads.opening n 1) (one_each : n ≡ length l'.tenants) where
   slots_are : new_slots count first ≡ p.slots
   slots_are = sym (ap (λ (x : Pinned). x.slots) made)
 
