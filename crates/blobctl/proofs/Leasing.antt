@@ -11,12 +11,13 @@ use Rattle.blob_digest.specs.declared.refusal.Refusal.{Refusal}
 use Rattle.blob_digest.specs.declared.refusal.Refusal.TheVariants.{NameUnknown, BlobUnknown, Memory, TooManyReaders}
 use Rattle.slot_table.specs.declared.phase.Phase.TheVariants as phase
 use Rattle.store_book.specs.Catalog.{Catalog, Resident, holds, tenant_of}
+use Rattle.store_book.specs.Runs as runs
 use Rattle.store_book.specs.Steps.{Outcome, lease, with_lent}
 use Rattle.store_book.specs.BookState.{SlotSeen}
 use Rattle.store_book.specs.SlotSteps as slots
 use Rattle.row_player.specs.Answers.{Answer, Bytes, Refused}
 use Rattle.row_player.specs.Commands.{Lease}
-use Rattle.blobctl.specs.Played.{ActsCall, RisesByOne, told}
+use Rattle.blobctl.specs.Played.{ActsCall, RisesByOne, row_answer, told}
 
 -- ---- slots
 
@@ -84,26 +85,30 @@ module _ (C : Catalog) (digest : Text) where
   refused_alike (Some t) false None r e = inl e
   refused_alike (Some t) false (Some b) r e = inr (let h = e in cc)
 
--- a command's outcome, as an answer tells it
-pub does_told : {A B : Type 0} (view : A → B) (answer : B → Answer) (r : Result A Refusal) (C C' : Catalog) (o : OutcomeIn Catalog B) (Rise : Type 0) → Does view r C C' o → Rise
-    → MatchResult r (λ x. (told answer o ≡ Ok (answer (view x), C')) × Rise) (λ e. ((e ≢ Memory → (told answer o ≡ Err e) ⊎ ⊥) × (C' ≡ C)) × Rise)
-does_told view answer (Ok x) C C' o Rise h rise = (ap (told answer) h, rise)
-does_told view answer (Err e) C C' o Rise h rise = (((λ other. inl (ap (told answer) (h.0 other))), h.1), rise)
+-- a command's outcome, as a row's answer tells it
+pub does_told : {A B : Type 0} (view : A → B) (inner : B → runs.Answer) (answer : runs.Answer → Answer) (r : Result A Refusal) (C C' : Catalog) (o : OutcomeIn Catalog B) (Rise : Type 0) → Does view r C C' o → Rise
+    → MatchResult r (λ x. (told answer (runs.answered inner o) ≡ Ok (answer (inner (view x)), C')) × Rise) (λ e. ((e ≢ Memory → (told answer (runs.answered inner o) ≡ Err e) ⊎ ⊥) × (C' ≡ C)) × Rise)
+does_told view inner answer (Ok x) C C' o Rise h rise = (ap (λ o. told answer (runs.answered inner o)) h, rise)
+does_told view inner answer (Err e) C C' o Rise h rise = (((λ other. inl (ap (λ o. told answer (runs.answered inner o)) (h.0 other))), h.1), rise)
 
 module _ (C : Catalog) (repo digest : Text) where
   abbrev look_at : Bool → Outcome Text
   look_at crowded = leasing crowded C digest (tenant_of C.tenants repo) (not (holds C repo digest)) (fmap.get C.residents digest)
 
-  leased_alike : (crowded : Bool) (x : Text × Catalog) → look_at crowded ≡ Ok x → told Bytes (lease false C repo digest) ≡ Ok (Bytes x.0, x.1)
-  leased_alike true x e = absurd (none_where_crowded C digest (tenant_of C.tenants repo) (not (holds C repo digest)) (fmap.get C.residents digest) x e)
-  leased_alike false x e = ap (told Bytes) e
+  -- what a lease's row is answered
+  abbrev row_of : Outcome Text → Outcome Answer
+  row_of o = told (row_answer (Lease repo digest)) (runs.answered runs.Bytes o)
 
-  refused_or_crowded : (seen : List SlotSeen) (r : Refusal) (crowded : Bool) → look_at crowded ≡ Err r → (crowded ≡ true → slots.IsCrowded digest seen) → (told Bytes (lease false C repo digest) ≡ Err r) ⊎ ((r ≡ TooManyReaders) × slots.IsCrowded digest seen)
+  leased_alike : (crowded : Bool) (x : Text × Catalog) → look_at crowded ≡ Ok x → row_of (lease false C repo digest) ≡ Ok (Bytes x.0, x.1)
+  leased_alike true x e = absurd (none_where_crowded C digest (tenant_of C.tenants repo) (not (holds C repo digest)) (fmap.get C.residents digest) x e)
+  leased_alike false x e = ap row_of e
+
+  refused_or_crowded : (seen : List SlotSeen) (r : Refusal) (crowded : Bool) → look_at crowded ≡ Err r → (crowded ≡ true → slots.IsCrowded digest seen) → (row_of (lease false C repo digest) ≡ Err r) ⊎ ((r ≡ TooManyReaders) × slots.IsCrowded digest seen)
   refused_or_crowded seen r true e look = elim (refused_alike C digest (tenant_of C.tenants repo) (not (holds C repo digest)) (fmap.get C.residents digest) r e) [
-    | inl alike ↦ inl (ap (told Bytes) alike)
+    | inl alike ↦ inl (ap row_of alike)
     | inr readers ↦ inr (readers, look refl)
   ]
-  refused_or_crowded seen r false e look = inl (ap (told Bytes) e)
+  refused_or_crowded seen r false e look = inl (ap row_of e)
 
 -- a book's lease, as rows ask for it
 pub lease_acts : {A : Type 0} (view : A → Text) (r : Result A Refusal) (C C' : Catalog) (seen : List SlotSeen) (repo digest : Text) → slots.Leases view r C C' seen repo digest

@@ -7,6 +7,7 @@ pub mod OneRun
 pub mod Records
 pub mod Replies
 pub mod SameCommands
+pub mod ScriptRuns
 pub mod SomeCommand
 pub mod SomeRun
 pub mod TenantLists

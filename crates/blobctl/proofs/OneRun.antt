@@ -16,12 +16,13 @@ use Rattle.blob_digest.specs.declared.refusal.Refusal.TheVariants as no
 use Rattle.oci_manifest.specs.Manifests.{refs_of, max_manifest}
 use Rattle.std.specs.Option.{ok_or}
 use Rattle.store_book.specs.Catalog.{Catalog, Resident, opening, text_cmp}
+use Rattle.store_book.specs.Runs as runs
 use Rattle.store_book.specs.Steps.{Outcome, tenant, start, append, close, abandon, mount, delete, put_manifest, delete_manifest, stored, was_lent, has_source, link_held, start_instead, has_manifest, add_manifest, check, session, not_busy, unreferenced, referrer, all_linked, manifest, linked, names, has_slot, within_quota, whole_in, lacks_room_for, cannot_open, is_full_of_manifests}
 use Rattle.store_book.specs.Sweeps.{IsLeft, IsSweep, is_orphan}
 use Rattle.store_book.specs.declared.sweep.Swept.{Swept}
 use Rattle.row_player.specs.Answers.{Answer, Cleaned, Refused}
 use Rattle.row_player.specs.Commands.{Command, Start, Status, Append, Close, Abandon, Mount, Delete, PutManifest, GetManifest, DeleteManifest, Lease, Sweeps, is_lease, uses_repo}
-use Rattle.blobctl.specs.Played.{Happens, answered, outcome, read, told}
+use Rattle.blobctl.specs.Played.{Happens, answered, outcome, row_answer, told}
 use Rattle.row_player.specs.Plays.{Plays, RowStep, State, StoreRow, StoreStep, VerifiesLease, give_back_of, name_of, named, piece_of, read_of, second_of, shared_in}
 use Rattle.csv.specs.Machine.{next_record}
 use Rattle.csv.specs.Reading.{AreRecords, Reached}
@@ -116,8 +117,13 @@ unfolding Keeps
 told_keeps answer (Ok x) keeps y e = ok_keeps (answer x.0) x.1 (keeps x refl) y e
 told_keeps answer (Err r) keeps y e = absurd (let h = e in cc)
 
+answered_keeps : {A : Type 0} (answer : A → runs.Answer) (o : Outcome A) → Keeps o → Keeps (runs.answered answer o)
+unfolding Keeps
+answered_keeps answer (Ok x) keeps y e = ok_keeps (answer x.0) x.1 (keeps x refl) y e
+answered_keeps answer (Err r) keeps y e = absurd (let h = e in cc)
+
 module _ (C : Catalog) (none : LentNone C) where
-  read_keeps : {A : Type 0} (answer : A → Answer) (r : Result A Refusal) → Keeps (read answer C r)
+  read_keeps : {A : Type 0} (answer : A → runs.Answer) (r : Result A Refusal) → Keeps (runs.told answer C r)
   unfolding Keeps
   read_keeps answer (Ok x) y e = ok_keeps (answer x) C none y e
   read_keeps answer (Err r) y e = absurd (let h = e in cc)
@@ -143,24 +149,27 @@ module _ (C : Catalog) (none : LentNone C) where
   instead_keeps : (repo : Text) → Keeps (start_instead C repo)
   instead_keeps repo = bind_keeps (start C repo) _ (λ s is. ok_keeps _ _ (start_none repo s is))
 
+  run_keeps : (c : Command) → is_lease c ≡ false → Keeps (runs.outcome false C c)
+  run_keeps (Start repo) no_lease = answered_keeps _ _ (start_keeps repo)
+  run_keeps (Status repo n) no_lease = read_keeps _ _
+  run_keeps (Append repo n range bytes) no_lease =
+      answered_keeps _ (append C repo n range bytes) (bind_keeps (tenant C repo) _ (λ t _. bind_keeps (check C t repo n range (length bytes)) _ (λ m _. bind_keeps (within_quota C t (length bytes)) _ (λ _ _. ok_keeps _ _ none))))
+  run_keeps (Close repo n digest range bytes) no_lease =
+      answered_keeps _ (close C repo n digest range bytes) (bind_keeps (tenant C repo) _ (λ t _. bind_keeps (check C t repo n range (length bytes)) _ (λ m _. bind_keeps (within_quota C t (length bytes)) _ (λ _ _. bind_keeps (refuse (not (names C digest (whole_in C.sessions (t, n) bytes))) no.DigestInvalid) _ (λ _ _. bind_keeps (has_slot C digest) _ (λ _ _. ok_keeps _ _ (stored_none t repo n digest (whole_in C.sessions (t, n) bytes))))))))
+  run_keeps (Abandon repo n) no_lease =
+      answered_keeps _ (abandon C repo n) (bind_keeps (tenant C repo) _ (λ t _. bind_keeps (session C t repo n) _ (λ s _. bind_keeps (not_busy s.chunks) _ (λ _ _. ok_keeps _ _ none))))
+  run_keeps (Mount repo digest from) no_lease =
+      answered_keeps _ (mount C repo digest from) (bind_keeps (tenant C repo) _ (λ t _. if_keeps (has_source C t digest from) (link_held C t repo digest) (start_instead C repo) (bind_keeps (refuse (lacks_room_for C t repo) no.LimitReached) _ (λ _ _. ok_keeps _ _ none)) (instead_keeps repo)))
+  run_keeps (Delete repo digest) no_lease =
+      answered_keeps _ (delete C repo digest) (bind_keeps (tenant C repo) _ (λ t _. bind_keeps (linked C repo digest) _ (λ _ _. bind_keeps (unreferenced (referrer C repo digest)) _ (λ _ _. ok_keeps _ _ none))))
+  run_keeps (PutManifest repo bytes) no_lease =
+      answered_keeps _ (put_manifest C repo bytes) (bind_keeps (tenant C repo) _ (λ t _. bind_keeps (refuse (nat_lt max_manifest (length bytes)) no.SizeInvalid) _ (λ _ _. bind_keeps (ok_or (refs_of bytes) no.ManifestInvalid) _ (λ refs _. bind_keeps (all_linked C repo refs) _ (λ _ _. if_keeps (has_manifest C repo (sha256_text bytes)) _ (add_manifest C t repo bytes) (ok_keeps _ _ none) (bind_keeps (refuse (lacks_room_for C t repo) no.LimitReached) _ (λ _ _. bind_keeps (refuse (is_full_of_manifests C repo) no.LimitReached) _ (λ _ _. ok_keeps _ _ none))))))))
+  run_keeps (GetManifest repo digest) no_lease = read_keeps _ _
+  run_keeps (DeleteManifest repo digest) no_lease = answered_keeps _ (delete_manifest C repo digest) (bind_keeps (tenant C repo) _ (λ t _. bind_keeps (manifest C repo digest) _ (λ _ _. ok_keeps _ _ none)))
+  run_keeps (Lease repo digest) no_lease = absurd (false≢true (sym no_lease))
+
   outcome_keeps : (c : Command) → is_lease c ≡ false → Keeps (outcome C c)
-  outcome_keeps (Start repo) no_lease = told_keeps _ _ (start_keeps repo)
-  outcome_keeps (Status repo n) no_lease = read_keeps _ _
-  outcome_keeps (Append repo n range bytes) no_lease =
-      told_keeps _ (append C repo n range bytes) (bind_keeps (tenant C repo) _ (λ t _. bind_keeps (check C t repo n range (length bytes)) _ (λ m _. bind_keeps (within_quota C t (length bytes)) _ (λ _ _. ok_keeps _ _ none))))
-  outcome_keeps (Close repo n digest range bytes) no_lease =
-      told_keeps _ (close C repo n digest range bytes) (bind_keeps (tenant C repo) _ (λ t _. bind_keeps (check C t repo n range (length bytes)) _ (λ m _. bind_keeps (within_quota C t (length bytes)) _ (λ _ _. bind_keeps (refuse (not (names C digest (whole_in C.sessions (t, n) bytes))) no.DigestInvalid) _ (λ _ _. bind_keeps (has_slot C digest) _ (λ _ _. ok_keeps _ _ (stored_none t repo n digest (whole_in C.sessions (t, n) bytes))))))))
-  outcome_keeps (Abandon repo n) no_lease =
-      told_keeps _ (abandon C repo n) (bind_keeps (tenant C repo) _ (λ t _. bind_keeps (session C t repo n) _ (λ s _. bind_keeps (not_busy s.chunks) _ (λ _ _. ok_keeps _ _ none))))
-  outcome_keeps (Mount repo digest from) no_lease =
-      told_keeps _ (mount C repo digest from) (bind_keeps (tenant C repo) _ (λ t _. if_keeps (has_source C t digest from) (link_held C t repo digest) (start_instead C repo) (bind_keeps (refuse (lacks_room_for C t repo) no.LimitReached) _ (λ _ _. ok_keeps _ _ none)) (instead_keeps repo)))
-  outcome_keeps (Delete repo digest) no_lease =
-      told_keeps _ (delete C repo digest) (bind_keeps (tenant C repo) _ (λ t _. bind_keeps (linked C repo digest) _ (λ _ _. bind_keeps (unreferenced (referrer C repo digest)) _ (λ _ _. ok_keeps _ _ none))))
-  outcome_keeps (PutManifest repo bytes) no_lease =
-      told_keeps _ (put_manifest C repo bytes) (bind_keeps (tenant C repo) _ (λ t _. bind_keeps (refuse (nat_lt max_manifest (length bytes)) no.SizeInvalid) _ (λ _ _. bind_keeps (ok_or (refs_of bytes) no.ManifestInvalid) _ (λ refs _. bind_keeps (all_linked C repo refs) _ (λ _ _. if_keeps (has_manifest C repo (sha256_text bytes)) _ (add_manifest C t repo bytes) (ok_keeps _ _ none) (bind_keeps (refuse (lacks_room_for C t repo) no.LimitReached) _ (λ _ _. bind_keeps (refuse (is_full_of_manifests C repo) no.LimitReached) _ (λ _ _. ok_keeps _ _ none))))))))
-  outcome_keeps (GetManifest repo digest) no_lease = read_keeps _ _
-  outcome_keeps (DeleteManifest repo digest) no_lease = told_keeps _ (delete_manifest C repo digest) (bind_keeps (tenant C repo) _ (λ t _. bind_keeps (manifest C repo digest) _ (λ _ _. ok_keeps _ _ none)))
-  outcome_keeps (Lease repo digest) no_lease = absurd (false≢true (sym no_lease))
+  outcome_keeps c no_lease = told_keeps (row_answer c) (runs.outcome false C c) (run_keeps c no_lease)
 
   answered_none : (o : Outcome Answer) → Keeps o → LentNone (answered C o).1
   unfolding Keeps

@@ -12,6 +12,7 @@ use Rattle.blob_digest.specs.declared.refusal.Refusal.{Refusal}
 use Rattle.blob_digest.specs.declared.refusal.Refusal.TheVariants as no
 use Rattle.oci_manifest.specs.Manifests.{refs_of, max_manifest}
 use Rattle.store_book.specs.Catalog.{Catalog, Chunks, Home, InHand, Session as Upload, holds, received, same_text, tenant_of}
+use Rattle.store_book.specs.Runs as runs
 use Rattle.store_book.specs.Steps as steps
 use Rattle.store_book.specs.Steps.{length_after, not_busy, session_in, whole_in}
 use Rattle.store_book.specs.declared.mount.Mount.{Mount as Mounting}
@@ -20,7 +21,7 @@ use Rattle.store_book.proofs.SomeSweep.{after, some_sweep, swept}
 use Rattle.row_player.specs.Answers.{Answer, Session, Received, Stored, Abandoned, Deleted, Manifest, Body, Bytes, Leased, Shared, Verified, NoLease, NameTaken, Cleaned, Refused, mount_answer}
 use Rattle.row_player.specs.Commands.{Command, Start, Status, Append, Close, Abandon, Mount, Delete, PutManifest, GetManifest, DeleteManifest, Lease, uses_repo}
 use Rattle.row_player.specs.Leases.{Leases, Lent, Name, halved, new_lease}
-use Rattle.blobctl.specs.Played.{Happens, answered, outcome, read, told}
+use Rattle.blobctl.specs.Played.{Happens, answered, outcome, row_answer, told}
 use Rattle.row_player.specs.Plays.{Plays, RowStep, State, VerifiesLease, LendsWhereFree, give_back_of, name_of, named, piece_of, read_of, second_of, share_of, shared_in}
 use Rattle.row_player.specs.Rows.{Line}
 use Rattle.row_player.specs.declared.row.Verb.{Verb}
@@ -139,31 +140,31 @@ abbrev Told : steps.Outcome Answer → Type 0
 Told (Ok x) = Good x.0
 Told (Err e) = wants_memory e ≡ false
 
-told_good : {A : Type 0} (answer : A → Answer) → ((a : A) → Good (answer a)) → (o : steps.Outcome A) → Fine o → Told (told answer o)
-told_good answer good (Ok x) fine = good x.0
-told_good answer good (Err e) fine = fine
+told_good : {A : Type 0} (inner : A → runs.Answer) (answer : runs.Answer → Answer) → ((a : A) → Good (answer (inner a))) → (o : steps.Outcome A) → Fine o → Told (told answer (runs.answered inner o))
+told_good inner answer good (Ok x) fine = good x.0
+told_good inner answer good (Err e) fine = fine
 
 mount_good : (m : Mounting) → Good (mount_answer m)
 mount_good mounting.Mounted = tt
 mount_good (mounting.Session number) = tt
 
 module _ (C : Catalog) where
-  read_good : {A : Type 0} (answer : A → Answer) → ((a : A) → Good (answer a)) → (r : Result A Refusal) → Fine r → Told (read answer C r)
-  read_good answer good (Ok x) fine = good x
-  read_good answer good (Err e) fine = fine
+  read_good : {A : Type 0} (inner : A → runs.Answer) (answer : runs.Answer → Answer) → ((a : A) → Good (answer (inner a))) → (r : Result A Refusal) → Fine r → Told (told answer (runs.told inner C r))
+  read_good inner answer good (Ok x) fine = good x
+  read_good inner answer good (Err e) fine = fine
 
   outcome_good : (c : Command) → Told (outcome C c)
-  outcome_good (Start repo) = told_good Session (λ _. tt) (steps.start C repo) (start_fine C repo)
-  outcome_good (Status repo n) = read_good Received (λ _. tt) (steps.status C repo n) (status_fine C repo n)
-  outcome_good (Append repo n range bytes) = told_good Received (λ _. tt) (steps.append C repo n range bytes) (append_fine C repo n range bytes)
-  outcome_good (Close repo n digest range bytes) = told_good Stored (λ _. tt) (steps.close C repo n digest range bytes) (close_fine C repo n digest range bytes)
-  outcome_good (Abandon repo n) = told_good (λ _. Abandoned) (λ _. tt) (steps.abandon C repo n) (abandon_fine C repo n)
-  outcome_good (Mount repo digest from) = told_good mount_answer mount_good (steps.mount C repo digest from) (mount_fine C repo digest from)
-  outcome_good (Delete repo digest) = told_good (λ _. Deleted) (λ _. tt) (steps.delete C repo digest) (delete_fine C repo digest)
-  outcome_good (PutManifest repo bytes) = told_good Manifest (λ _. tt) (steps.put_manifest C repo bytes) (put_fine C repo bytes)
-  outcome_good (GetManifest repo digest) = read_good Body (λ _. tt) (steps.get_manifest C repo digest) (get_fine C repo digest)
-  outcome_good (DeleteManifest repo digest) = told_good (λ _. Deleted) (λ _. tt) (steps.delete_manifest C repo digest) (drop_fine C repo digest)
-  outcome_good (Lease repo digest) = told_good Bytes (λ _. tt) (steps.lease false C repo digest) (lease_fine C repo digest)
+  outcome_good (Start repo) = told_good runs.Number (row_answer (Start repo)) (λ _. tt) (steps.start C repo) (start_fine C repo)
+  outcome_good (Status repo n) = read_good runs.Number (row_answer (Status repo n)) (λ _. tt) (steps.status C repo n) (status_fine C repo n)
+  outcome_good (Append repo n range bytes) = told_good runs.Number (row_answer (Append repo n range bytes)) (λ _. tt) (steps.append C repo n range bytes) (append_fine C repo n range bytes)
+  outcome_good (Close repo n digest range bytes) = told_good runs.Number (row_answer (Close repo n digest range bytes)) (λ _. tt) (steps.close C repo n digest range bytes) (close_fine C repo n digest range bytes)
+  outcome_good (Abandon repo n) = told_good runs.Number (row_answer (Abandon repo n)) (λ _. tt) (steps.abandon C repo n) (abandon_fine C repo n)
+  outcome_good (Mount repo digest from) = told_good runs.Mounting (row_answer (Mount repo digest from)) mount_good (steps.mount C repo digest from) (mount_fine C repo digest from)
+  outcome_good (Delete repo digest) = told_good (λ _. runs.Done) (row_answer (Delete repo digest)) (λ _. tt) (steps.delete C repo digest) (delete_fine C repo digest)
+  outcome_good (PutManifest repo bytes) = told_good runs.Bytes (row_answer (PutManifest repo bytes)) (λ _. tt) (steps.put_manifest C repo bytes) (put_fine C repo bytes)
+  outcome_good (GetManifest repo digest) = read_good runs.Bytes (row_answer (GetManifest repo digest)) (λ _. tt) (steps.get_manifest C repo digest) (get_fine C repo digest)
+  outcome_good (DeleteManifest repo digest) = told_good (λ _. runs.Done) (row_answer (DeleteManifest repo digest)) (λ _. tt) (steps.delete_manifest C repo digest) (drop_fine C repo digest)
+  outcome_good (Lease repo digest) = told_good runs.Bytes (row_answer (Lease repo digest)) (λ _. tt) (steps.lease false C repo digest) (lease_fine C repo digest)
 
   answered_good : (o : steps.Outcome Answer) → Told o → Good (answered C o).0
   answered_good (Ok x) good = good
@@ -210,8 +211,8 @@ module _ (s : State Catalog) (line : Line) where
   Lending o = (a : Answer) × (t : State Catalog) × LendsWhereFree Happens o s line a t × Good a
 
   lends : (o : steps.Outcome Text) → steps.lease false s.0 line.repo line.digest ≡ o → Fine o → Lending None
-  lends (Ok x) is fine = (Leased (length x.0), (x.1, fmap.insert s.1 (name_of line) (new_lease x.0)), inl (x.0, ap (λ (o : steps.Outcome Text). answered s.0 (told Bytes o)) (sym is), refl, refl), tt)
-  lends (Err e) is fine = (Refused e, s, inr (e, ap (λ (o : steps.Outcome Text). answered s.0 (told Bytes o)) (sym is), refl, refl), fine)
+  lends (Ok x) is fine = (Leased (length x.0), (x.1, fmap.insert s.1 (name_of line) (new_lease x.0)), inl (x.0, ap (λ (o : steps.Outcome Text). answered s.0 (told (row_answer (Lease line.repo line.digest)) (runs.answered runs.Bytes o))) (sym is), refl, refl), tt)
+  lends (Err e) is fine = (Refused e, s, inr (e, ap (λ (o : steps.Outcome Text). answered s.0 (told (row_answer (Lease line.repo line.digest)) (runs.answered runs.Bytes o))) (sym is), refl, refl), fine)
 
   lending : (o : Option Lent) → Lending o
   lending (Some lease) = (NameTaken, s, (refl, refl), tt)

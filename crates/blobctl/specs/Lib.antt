@@ -7,6 +7,7 @@ pub mod Played
 pub mod Reading
 pub mod Records
 pub mod Script
+pub mod ScriptRuns
 pub mod Stops
 pub mod Tenants
 pub mod Texts

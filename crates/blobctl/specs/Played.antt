@@ -7,6 +7,7 @@ use Rattle.blob_digest.specs.declared.refusal.Refusal.TheVariants.{Memory, TooMa
 use Rattle.store_book.specs.Catalog.{Catalog}
 use Rattle.store_book.specs.Openings.{OpensCatalog}
 use Rattle.store_book.specs.Printed.{book_text}
+use Rattle.store_book.specs.Runs as runs
 use Rattle.store_book.specs.Steps as steps
 use Rattle.store_book.specs.BookState.{BookState, SlotSeen}
 use Rattle.store_book.specs.SlotSteps.{EachSlot, HasLast, IsCrowded}
@@ -20,29 +21,34 @@ use Rattle.row_player.specs.Replies.{replies_text}
 use Rattle.row_player.specs.Rows.{Line}
 use Rattle.blobctl.specs.Script.{AreRowsOf}
 
--- the outcome of a command, with what it gives as an answer
+-- what a row is answered where its command gives this number
+abbrev pub number_answer : Command → ℕ → Answer
+number_answer (Start repo) n = Session n
+number_answer (Close repo number digest range bytes) n = Stored n
+number_answer (Abandon repo number) n = Abandoned
+number_answer command n = Received n
+
+-- what it is answered where its command gives these bytes; a lease is answered by the bytes of its blob
+abbrev pub bytes_answer : Command → Text → Answer
+bytes_answer (PutManifest repo body) bytes = Manifest bytes
+bytes_answer (GetManifest repo digest) bytes = Body bytes
+bytes_answer command bytes = Bytes bytes
+
+-- what a row is answered where its command is answered so
+abbrev pub row_answer : Command → runs.Answer → Answer
+row_answer command (runs.Number n) = number_answer command n
+row_answer command (runs.Mounting mounted) = mount_answer mounted
+row_answer command (runs.Bytes bytes) = bytes_answer command bytes
+row_answer command runs.Done = Deleted
+
+-- an outcome with its answer told as that of a row
 abbrev pub told : {A : Type 0} → (A → Answer) → steps.Outcome A → steps.Outcome Answer
 told answer (Ok x) = Ok (answer x.0, x.1)
 told answer (Err refusal) = Err refusal
 
--- the same of a command that changes nothing
-abbrev pub read : {A : Type 0} → (A → Answer) → Catalog → Result A Refusal → steps.Outcome Answer
-read answer C (Ok x) = Ok (answer x, C)
-read answer C (Err refusal) = Err refusal
-
--- what a command answers and leaves; a lease answers the bytes of its blob
+-- what a command answers and leaves, where no slot has too many readers
 abbrev pub outcome : Catalog → Command → steps.Outcome Answer
-outcome C (Start repo) = told Session (steps.start C repo)
-outcome C (Status repo number) = read Received C (steps.status C repo number)
-outcome C (Append repo number range bytes) = told Received (steps.append C repo number range bytes)
-outcome C (Close repo number digest range bytes) = told Stored (steps.close C repo number digest range bytes)
-outcome C (Abandon repo number) = told (λ _. Abandoned) (steps.abandon C repo number)
-outcome C (Mount repo digest from) = told mount_answer (steps.mount C repo digest from)
-outcome C (Delete repo digest) = told (λ _. Deleted) (steps.delete C repo digest)
-outcome C (PutManifest repo bytes) = told Manifest (steps.put_manifest C repo bytes)
-outcome C (GetManifest repo digest) = read Body C (steps.get_manifest C repo digest)
-outcome C (DeleteManifest repo digest) = told (λ _. Deleted) (steps.delete_manifest C repo digest)
-outcome C (Lease repo digest) = told Bytes (steps.lease false C repo digest)
+outcome C command = told (row_answer command) (runs.outcome false C command)
 
 -- what an outcome answers and leaves: a refusal changes nothing
 abbrev pub answered : Catalog → steps.Outcome Answer → Answer × Catalog

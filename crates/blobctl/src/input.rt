@@ -1,5 +1,5 @@
 //! Reads a script to its end.
-ghost use Rattle.std.specs.Prelude.{◌≡◌, ◌⊎◌, ◌+◌, ◌<◌, ◌≤◌, ◌++◌, true, IfOk, IfErr, OnErr, OnOk, length, take};
+ghost use Rattle.std.specs.Prelude.{◌≡◌, ◌⊎◌, ◌+◌, ◌<◌, ◌≤◌, ◌++◌, true, false, IfOk, IfErr, OnErr, OnOk, length, take};
 ghost use Rattle.std.specs.Io.KnownBytes.{Consumes, IsAtEnd};
 ghost use Rattle.blobctl.specs.Ending.{HasNotFailed, IsReadWhole};
 ghost use Rattle.blobctl.specs.Inputs.{IsTooLong, TakesAtMost, max_script};
@@ -36,11 +36,12 @@ fn add_piece<R: Read>(
     Ok(count)
 }
 
-/// The bytes of a reader up to its end. Any failure of a read ends the reading, an interrupted read
+/// The bytes of a reader up to its end, of which no read has failed before. Any failure of a read ends the reading, an interrupted read
 /// too, so that where bytes are answered no read failed. No more than one byte past the longest
 /// script is taken. `Read` comes only where a read failed or the script is too long, and a failed read
 /// is never told as want of memory, nor that as `Read`.
 pub fn read_script<R: Read>(alloc: Global, reader: &mut Watched<R>) -> Result<Vec<u8>, Fault>
+    requires { has_failed reader.old ≡ false }
     ensures whole { IfOk result (λ v. IsReadWhole R.remaining reader.old reader.new v.items) }
     ensures most { TakesAtMost (R.remaining (inner_of reader.old)) (R.remaining (inner_of reader.new)) (max_script + 1) }
     ensures refused { IfErr result (λ e. ((e ≡ Fault.Memory) × HasNotFailed reader.old reader.new) ⊎ ((e ≡ Fault.Read) × ((has_failed reader.new ≡ true) ⊎ IsTooLong (R.remaining (inner_of reader.old)) (R.remaining (inner_of reader.new))))) }

@@ -1,5 +1,8 @@
 //! What follows from the definitions alone.
 ghost use Rattle.blobctl.specs.OneText.{HasOneText, HasText};
+ghost use Rattle.blobctl.specs.ScriptRuns.{BooksFollowRows, ScriptsAreRuns};
+
+use store_book::laws::isolation;
 
 /// A script without bad rows has a text on each opening catalog, and where none of its rows leases a
 /// blob it has no other: the replies and the book that are written for it are determined by the
@@ -8,3 +11,14 @@ pub fn one_text()
     ensures some { HasText }
     ensures most { HasOneText }
 {}
+
+/// A script's replies and book are those of a run of commands and sweeps as the law on tenants has it: of the
+/// commands that its rows spell. So the book depends on each tenant's rows alone, in their order. This is said of
+/// scripts in which no reply is that the store is full or that a name is taken, and no two closes bring different
+/// bytes that have the same digest.
+pub fn tenants_rows()
+    ensures runs { ScriptsAreRuns }
+    ensures books { BooksFollowRows }
+{
+    isolation();
+}

@@ -4,13 +4,20 @@
 //! The script is read from standard input: CSV records (RFC 4180) of seven fields, `lane`, `command`,
 //! `repo`, `key`, `digest`, `range` and `body`. The arguments are read first; then the script is read
 //! to its end, then all of it is checked, then it is played, and then the replies and the book are
-//! written. The program stands on `store_book` for the store, `csv` for the records and `clap` for
-//! the arguments.
+//! written. The program stands on `row_player` for the rows, on `store_book` and `pin_table` for the
+//! book that one worker has, on `blob_store` for the store that several share, on `csv` for the records
+//! and on `clap` for the arguments.
 //!
-//! It promises, of the function `run`: what a run that ends well has written is the replies and the
-//! book that the definitions of the store give for the script's rows; a bad row is the first one; a
-//! bad row, a read fault and want of memory write nothing; a read fault comes only where a read
-//! failed or the script is too long, and where the run ends otherwise no read failed.
+//! It promises, of the function `run`: what a run of one worker that ends well has written is the
+//! replies and the book that the definitions of the store give for the script's rows; what one of
+//! several workers has written is one reply for each row, in the order of the rows, those of each worker
+//! as its rows in their order are answered, and a sound book; a bad row is the first one; a bad row, a
+//! read fault and want of memory write nothing; a read fault comes only where a read failed or the
+//! script is too long, and where the run ends otherwise no read failed. A write fault where no write
+//! failed is ruled out by tests alone.
+//!
+//! Of the definitions it proves (`laws`) that a script has a text, and no other where it leases nothing,
+//! and that its replies and book are a run of each tenant's commands, which don't see each other.
 #![tactic(auto)]
 
 ghost use Rattle.std.specs.Prelude.{◌≡◌, ◌⊎◌, IfOk};
@@ -60,7 +67,7 @@ use std::sync::Wait;
 use std::thread::Threads;
 use std::{env, io};
 
-/// Runs on standard input and output, with threads. What is written is collected first, so that a fault of
+/// Runs on standard input and output, with threads where there are several workers. What is written is collected first, so that a fault of
 /// the last write is a write fault too.
 fn run_here(
     rt: &HostRuntime,

@@ -1,12 +1,12 @@
 //! A run: reads a script, plays it, and writes the replies and the book.
-ghost use Rattle.std.specs.Prelude.{◌≡◌, ◌≢◌, ◌+◌, IfOk, IfErr, OnOk, map};
+ghost use Rattle.std.specs.Prelude.{◌≡◌, ◌≢◌, ◌+◌, false, IfOk, IfErr, OnOk, map};
 ghost use Rattle.blob_digest.specs.Keys.{Text};
 ghost use Rattle.blobctl.specs.Ending.{EndsTogether, EndsWell, Explains, IsReadWhole};
 ghost use Rattle.blobctl.specs.Inputs.{TakesAtMost, max_script};
 ghost use Rattle.row_player.specs.Lines.{line_of};
 ghost use Rattle.blobctl.specs.Options.{IsWithin};
 ghost use Rattle.blobctl.specs.Script.{AreRowsOf};
-ghost use Rattle.blobctl.specs.Watching.{inner_of};
+ghost use Rattle.blobctl.specs.Watching.{has_failed, inner_of};
 ghost use Rattle.store_book.specs.Openings.{tenants_shown};
 
 use crate::alone::play_alone;
@@ -25,6 +25,7 @@ use std::thread::Threads;
 
 /// The rows of the script that a reader gives. The script is let go with the last of them.
 fn read_all<R: Read>(alloc: Global, reader: &mut Watched<R>) -> Result<Vec<Row>, Fault>
+    requires { has_failed reader.old ≡ false }
     ensures rows { IfOk result (λ v. (script : Text) × IsReadWhole R.remaining reader.old reader.new script × AreRowsOf script (map line_of v.items)) }
     ensures most { TakesAtMost (R.remaining (inner_of reader.old)) (R.remaining (inner_of reader.new)) (max_script + 1) }
     ensures fault { IfErr result (λ e. (e ≢ Fault.Write) × Explains R.remaining reader.old reader.new e) }
@@ -37,7 +38,7 @@ fn read_all<R: Read>(alloc: Global, reader: &mut Watched<R>) -> Result<Vec<Row>,
 /// says, and writes the replies in the order of the rows, and then the book. It starts no thread, and waits
 /// for none.
 ///
-/// A bad row, a read fault and want of memory write nothing. A bad row is the script's first one, and
+/// No read of the reader has failed before. A bad row, a read fault and want of memory write nothing. A bad row is the script's first one, and
 /// a read fault comes only where a read failed or the script is longer than 268,435,456 bytes; where
 /// the run ends in another way, no read failed and the script was no longer. One byte more than that
 /// is read at most. After a write fault nothing is known of what was written. Writing takes no memory. While it plays, the
@@ -49,7 +50,8 @@ pub fn run_one<R: Read, W: Write>(
     writer: &mut W,
     options: &Options,
 ) -> Result<(), Fault>
-    requires { IsWithin options.now }
+    requires within { IsWithin options.now }
+    requires unfailed { has_failed reader.old ≡ false }
     ensures played { OnOk result (EndsWell R.remaining reader.old reader.new (W.contents writer.old) (W.contents writer.new) (tenants_shown options.now.store.tenants.items) options.now.store.slots options.now.store.max_blob) }
     ensures most { TakesAtMost (R.remaining (inner_of reader.old)) (R.remaining (inner_of reader.new)) (max_script + 1) }
     ensures silent { IfErr result (λ e. e ≢ Fault.Write → writer.new ≡ writer.old) }
@@ -76,7 +78,8 @@ pub fn run<T: Threads + Wait + Sync, R: Read, W: Write>(
     writer: &mut W,
     options: &Options,
 ) -> Result<(), Fault>
-    requires { IsWithin options.now }
+    requires within { IsWithin options.now }
+    requires unfailed { has_failed reader.old ≡ false }
     ensures played { options.now.workers ≡ 1 → OnOk result (EndsWell R.remaining reader.old reader.new (W.contents writer.old) (W.contents writer.new) (tenants_shown options.now.store.tenants.items) options.now.store.slots options.now.store.max_blob) }
     ensures together { options.now.workers ≢ 1 → OnOk result (EndsTogether R.remaining reader.old reader.new (W.contents writer.old) (W.contents writer.new) options.now.workers) }
     ensures most { TakesAtMost (R.remaining (inner_of reader.old)) (R.remaining (inner_of reader.new)) (max_script + 1) }

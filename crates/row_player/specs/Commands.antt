@@ -7,23 +7,10 @@ use Rattle.blob_digest.specs.Ranges.{IsRangeText}
 use Rattle.blob_digest.specs.declared.range.ByteRange.{ByteRange}
 use Rattle.blob_digest.specs.declared.refusal.Refusal.{Refusal}
 use Rattle.blob_digest.specs.declared.refusal.Refusal.TheVariants.{NameInvalid, DigestInvalid, SizeInvalid}
+pub use Rattle.store_book.specs.Runs.{Command, Start, Status, Append, Close, Abandon, Mount, Delete, PutManifest, GetManifest, DeleteManifest, Lease}
 use Rattle.row_player.specs.Rows.{Line, session_number}
 use Rattle.row_player.specs.declared.row.Verb.{Verb}
 use Rattle.row_player.specs.declared.row.Verb.TheVariants as verb
-
--- A command with what it names: a repository, a session's number, a digest, a range and bytes; for a mount a digest and its source, if it names one.
-pub data Command : Type 0 where
-  Start : Text → Command
-  Status : Text → ℕ → Command
-  Append : Text → ℕ → Option ByteRange → Text → Command
-  Close : Text → ℕ → Text → Option ByteRange → Text → Command
-  Abandon : Text → ℕ → Command
-  Mount : Text → Text → Option Text → Command
-  Delete : Text → Text → Command
-  PutManifest : Text → Text → Command
-  GetManifest : Text → Text → Command
-  DeleteManifest : Text → Text → Command
-  Lease : Text → Text → Command
 
 -- what a store is asked for: a command, that a lease of a blob of this size be verified, or a sweep
 pub data Request : Type 0 where

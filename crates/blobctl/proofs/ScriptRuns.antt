@@ -1,0 +1,205 @@
+-- The rows of a script are a run of commands and sweeps.
+use Rattle.std.proofs.Common.{◌≡◌, ◌≢◌, ◌⊎◌, ◌∙◌, ◌∷◌, [], ℕ, List, Bool, false, true, inl, inr, length, Option, Some, None, Result, Ok, Err, ap, refl, subst, sym}
+use Rattle.std.specs.Prelude.{◌&&◌, if◌then◌else◌}
+use Rattle.std.specs.List.{AllByRecursion}
+use Rattle.std.proofs.lemmas.Bool.{false≢true}
+use Rattle.blob_digest.specs.Keys.{Text}
+use Rattle.blob_digest.specs.Tenants.{Tenant, is_tenants}
+use Rattle.blob_digest.specs.declared.refusal.Refusal.{Refusal}
+use Rattle.store_book.specs.Catalog.{Catalog, opening}
+use Rattle.store_book.specs.Isolation.{IsFair, NoCollision, brought_in, commands, events_of}
+use Rattle.store_book.specs.Runs as runs
+use Rattle.store_book.specs.Steps.{Outcome}
+use Rattle.store_book.specs.declared.mount.Mount.TheVariants as mounting
+use Rattle.row_player.specs.Answers.{Answer, Bytes, Leased, NameTaken, Refused}
+use Rattle.row_player.specs.Commands.{Command, Start, Status, Append, Close, Abandon, Mount, Delete, PutManifest, GetManifest, DeleteManifest, Lease, IsMisspelt, Spells, is_lease, uses_repo}
+use Rattle.row_player.specs.Leases.{Lent}
+use Rattle.row_player.specs.Plays.{LendsWhereFree, Plays, RowStep, State, StoreStep, VerifiesLease, named as lease_named}
+use Rattle.row_player.specs.Rows.{Line}
+use Rattle.row_player.specs.declared.row.Verb.{Verb}
+use Rattle.row_player.specs.declared.row.Verb.TheVariants as verb
+use Rattle.row_player.proofs.Counting.{names_repo}
+use Rattle.blobctl.specs.Played.{Happens, HappensCall, answered, row_answer, told}
+use Rattle.blobctl.specs.ScriptRuns.{AreEventsOf, IsEvent, IsNoEvent, rows_of, shown_reply}
+use Rattle.blobctl.proofs.SameCommands.{same_command, well_spelt}
+
+-- ---- one row
+
+-- what a row's command answers
+abbrev plain : Command → Result runs.Answer Refusal → Answer
+plain c (Ok a) = row_answer c a
+plain c (Err e) = Refused e
+
+asked : (C C' : Catalog) (c : Command) (answer : Answer) (o : Outcome runs.Answer) → runs.outcome false C c ≡ o → ◌≡◌ {A = Answer × Catalog} (answer, C') (answered C (told (row_answer c) o))
+    → (r : Result runs.Answer Refusal) × runs.IsCase C c r C' × (answer ≡ plain c r)
+asked C C' c answer (Ok x) is h = (Ok x.0, is ∙ (λ i. Ok (x.0, sym (ap (λ (p : Answer × Catalog). p.1) h) i)), ap (λ (p : Answer × Catalog). p.0) h)
+asked C C' c answer (Err e) is h = (Err e, (inl (false, is), ap (λ (p : Answer × Catalog). p.1) h), ap (λ (p : Answer × Catalog). p.0) h)
+
+plain_shown : (c : Command) (r : Result runs.Answer Refusal) → is_lease c ≡ false → plain c r ≡ shown_reply c r
+plain_shown c (Err e) none = refl
+plain_shown (Start repo) (Ok a) none = refl
+plain_shown (Status repo n) (Ok a) none = refl
+plain_shown (Append repo n range bytes) (Ok a) none = refl
+plain_shown (Close repo n digest range bytes) (Ok a) none = refl
+plain_shown (Abandon repo n) (Ok a) none = refl
+plain_shown (Mount repo digest from) (Ok a) none = refl
+plain_shown (Delete repo digest) (Ok a) none = refl
+plain_shown (PutManifest repo bytes) (Ok a) none = refl
+plain_shown (GetManifest repo digest) (Ok a) none = refl
+plain_shown (DeleteManifest repo digest) (Ok a) none = refl
+plain_shown (Lease repo digest) (Ok a) none = absurd (false≢true (sym none))
+
+module _ (repo digest : Text) where
+  lent_shown : (bytes : Text) (r : Result runs.Answer Refusal) → Bytes bytes ≡ plain (Lease repo digest) r → Leased (length bytes) ≡ shown_reply (Lease repo digest) r
+  lent_shown bytes (Ok (runs.Bytes b)) e = (let same : bytes ≡ b = (let h = e in cc) in ap (λ (t : Text). Leased (length t)) same)
+  lent_shown bytes (Ok (runs.Number n)) e = absurd (let h = e in cc)
+  lent_shown bytes (Ok (runs.Mounting mounting.Mounted)) e = absurd (let h = e in cc)
+  lent_shown bytes (Ok (runs.Mounting (mounting.Session n))) e = absurd (let h = e in cc)
+  lent_shown bytes (Ok runs.Done) e = absurd (let h = e in cc)
+  lent_shown bytes (Err refusal) e = absurd (let h = e in cc)
+
+  refused_shown : (refusal : Refusal) (r : Result runs.Answer Refusal) → Refused refusal ≡ plain (Lease repo digest) r → Refused refusal ≡ shown_reply (Lease repo digest) r
+  refused_shown refusal (Ok (runs.Bytes b)) e = absurd (let h = e in cc)
+  refused_shown refusal (Ok (runs.Number n)) e = e
+  refused_shown refusal (Ok (runs.Mounting m)) e = e
+  refused_shown refusal (Ok runs.Done) e = e
+  refused_shown refusal (Err r) e = e
+
+-- what a row is in a run: no event, or one
+abbrev Told : Catalog → Line → Answer → Catalog → Type 0
+Told C line a C' = (IsNoEvent line a × (C' ≡ C)) ⊎ ((e : runs.Event) × IsEvent line a e × runs.Happens C e C')
+
+module _ (C C' : Catalog) (line : Line) (a : Answer) where
+  command_told : (c : Command) → Spells line c → is_lease c ≡ false → HappensCall C c a C' → Told C line a C'
+  command_told c spells none h = let x = asked C C' c a (runs.outcome false C c) refl h in inr (runs.Called c x.0, (spells, x.2 ∙ plain_shown c x.0 none), x.1)
+
+  store_told : StoreStep Happens C line a C' → Told C line a C'
+  store_told step = elim step [
+    | inl r ↦ inl (inl r.0, r.1)
+    | inr d ↦ command_told d.0 d.1 d.2 d.3
+  ]
+
+  -- a row of a lease that a lane has is no event
+  no_event : (v : Verb) → uses_repo v ≡ false → v ≢ verb.Sweep → line.verb ≡ v → IsNoEvent line a
+  no_event v none other is = inr (inr (ap uses_repo is ∙ none, λ e. other (sym is ∙ e)))
+
+  verify_told : (o : Option Lent) → VerifiesLease Happens o C a C' → C' ≡ C
+  verify_told None h = h.1
+  verify_told (Some lease) h = h.1
+
+module _ (s t : State Catalog) (line : Line) (a : Answer) where
+  lease_told : (o : Option Lent) → Spells line (Lease line.repo line.digest) → LendsWhereFree Happens o s line a t → Told s.0 line a t.0
+  lease_told (Some lease) spells h = inl (inr (inl (spells.0, h.0)), ap (λ (x : State Catalog). x.0) h.1)
+  lease_told None spells h = elim h [
+    | inl l ↦
+        let c = Lease line.repo line.digest in
+        let x = asked s.0 t.0 c (Bytes l.0) (runs.outcome false s.0 c) refl l.1 in
+        inr (runs.Called c x.0, (spells, l.2 ∙ lent_shown line.repo line.digest l.0 x.0 x.2), x.1)
+    | inr r ↦
+        let c = Lease line.repo line.digest in
+        let x = asked s.0 t.0 c (Refused r.0) (runs.outcome false s.0 c) refl r.1 in
+        inr (runs.Called c x.0, (spells, r.2 ∙ refused_shown line.repo line.digest r.0 x.0 x.2), x.1)
+  ]
+
+  row_told : RowStep Happens s line a t → Told s.0 line a t.0
+  row_told step = elim step [
+    | inl store ↦ store_told s.0 t.0 line a store.0
+    | inr (inl lends) ↦ lease_told (lease_named s.1 line) lends.0 lends.1
+    | inr (inr (inl reads)) ↦ inl (no_event s.0 t.0 line a verb.Read refl (λ e. absurd (let h = e in cc)) reads.0, ap (λ (x : State Catalog). x.0) reads.2)
+    | inr (inr (inr (inl shares))) ↦ inl (no_event s.0 t.0 line a verb.Share refl (λ e. absurd (let h = e in cc)) shares.0, shares.2)
+    | inr (inr (inr (inr (inl looks)))) ↦ inl (no_event s.0 t.0 line a verb.Verify refl (λ e. absurd (let h = e in cc)) looks.0, verify_told s.0 t.0 line a (lease_named s.1 line) looks.1)
+    | inr (inr (inr (inr (inr (inl returns))))) ↦ inl (no_event s.0 t.0 line a verb.GiveBack refl (λ e. absurd (let h = e in cc)) returns.0, returns.2)
+    | inr (inr (inr (inr (inr (inr sweeps))))) ↦ inr (runs.Cleaned sweeps.1.0, (sweeps.0, sweeps.1.1), sweeps.1.2)
+  ]
+
+-- ---- all rows
+
+-- the rows and answers are these events, which lead from one catalog to another
+abbrev Run : Catalog → List Line → List Answer → Catalog → Type 0
+Run C lines answers C' = (es : List runs.Event) × AreEventsOf lines answers es × runs.IsRun C es C'
+
+row_first : (C D C' : Catalog) (line : Line) (a : Answer) (lines : List Line) (answers : List Answer) → Told C line a D → Run D lines answers C' → Run C (line ∷ lines) (a ∷ answers) C'
+row_first C D C' line a lines answers here rest = elim here [
+  | inl h ↦ (rest.0, inl (h.0, rest.1), subst (λ (X : Catalog). runs.IsRun X rest.0 C') h.1 rest.2)
+  | inr h ↦ (h.0 ∷ rest.0, inr (h.0, rest.0, refl, h.1, rest.1), (D, h.2, rest.2))
+]
+
+pub plays_run : (s t : State Catalog) (lines : List Line) (answers : List Answer) → Plays Happens s lines answers t → Run s.0 lines answers t.0
+plays_run s t [] [] h = ([], refl, ap (λ (x : State Catalog). x.0) h)
+plays_run s t [] (a ∷ as') h = absurd h
+plays_run s t (l ∷ ls) [] h = absurd h
+plays_run s t (l ∷ ls) (a ∷ as') h = row_first s.0 h.0.0 t.0 l a ls as' (row_told s h.0 l a h.1) (plays_run h.0 t ls as' h.3)
+
+-- ---- the commands that rows spell
+
+-- the commands of rows, each of which spells one or is refused for a field
+abbrev pub Spell : List Line → List Command → Type 0
+Spell [] cs = cs ≡ []
+Spell (l ∷ ls) cs = (((r : Refusal) × IsMisspelt l r) × Spell ls cs) ⊎ ((c : Command) × (rest : List Command) × (cs ≡ c ∷ rest) × Spells l c × Spell ls rest)
+
+pub one_spelling : (ls : List Line) (cs ds : List Command) → Spell ls cs → Spell ls ds → cs ≡ ds
+one_spelling [] cs ds h k = h ∙ sym k
+one_spelling (l ∷ ls) cs ds h k = elim h [
+  | inl a ↦ elim k [
+    | inl b ↦ one_spelling ls cs ds a.1 b.1
+    | inr b ↦ absurd (well_spelt l b.0 a.0.0 b.3 a.0.1)
+  ]
+  | inr a ↦ elim k [
+    | inl b ↦ absurd (well_spelt l a.0 b.0.0 a.3 b.0.1)
+    | inr b ↦ a.2 ∙ (λ i. same_command l a.0 b.0 a.3 b.3 i ∷ one_spelling ls a.1 b.1 a.4 b.4 i) ∙ sym b.2
+  ]
+]
+
+repo_named : (l : Line) (c : Command) → Spells l c → runs.repo_of c ≡ l.repo
+repo_named l (Start repo) h = h.1.0
+repo_named l (Status repo n) h = h.1.0
+repo_named l (Append repo n range bytes) h = h.1.0
+repo_named l (Close repo n digest range bytes) h = h.1.0
+repo_named l (Abandon repo n) h = h.1.0
+repo_named l (Mount repo digest from) h = h.1.0
+repo_named l (Delete repo digest) h = h.1.0
+repo_named l (PutManifest repo bytes) h = h.1.0
+repo_named l (GetManifest repo digest) h = h.1.0
+repo_named l (DeleteManifest repo digest) h = h.1.0
+repo_named l (Lease repo digest) h = h.1.0
+
+module _ (l : Line) (R : List Line) where
+  called : (b : Bool) (c : Command) (reply : Result runs.Answer Refusal) (E : List runs.Event) → Spells l c → Spell R (commands E) → Spell (if b then l ∷ R else R) (commands (if b then runs.Called c reply ∷ E else E))
+  called true c reply E spells rest = inr (c, commands E, refl, spells, rest)
+  called false c reply E spells rest = rest
+
+  refused : (b : Bool) (cs : List Command) → (r : Refusal) × IsMisspelt l r → Spell R cs → Spell (if b then l ∷ R else R) cs
+  refused true cs bad rest = inl (bad, rest)
+  refused false cs bad rest = rest
+
+  skipped : (b : Bool) (cs : List Command) → uses_repo l.verb ≡ false → Spell R cs → Spell (if uses_repo l.verb && b then l ∷ R else R) cs
+  skipped b cs none rest = rw none rest
+
+module _ (tenants : List Tenant) (t : ℕ) where
+  event_spelled : (l : Line) (ls : List Line) (a : Answer) (e : runs.Event) (rest : List runs.Event) → IsEvent l a e → Spell (rows_of tenants t ls) (commands (events_of tenants t rest)) → Spell (rows_of tenants t (l ∷ ls)) (commands (events_of tenants t (e ∷ rest)))
+  event_spelled l ls a (runs.Called c reply) rest h more =
+      let R = rows_of tenants t ls in
+      let all = commands (events_of tenants t (runs.Called c reply ∷ rest)) in
+      let here = called l R (is_tenants tenants t (runs.repo_of c)) c reply (events_of tenants t rest) h.0 more in
+      let named = subst (λ (r : Text). Spell (if is_tenants tenants t r then l ∷ R else R) all) (repo_named l c h.0) here in
+      subst (λ (u : Bool). Spell (if u && is_tenants tenants t l.repo then l ∷ R else R) all) (sym (names_repo l c h.0)) named
+  event_spelled l ls a (runs.Cleaned swept) rest h more = skipped l (rows_of tenants t ls) (is_tenants tenants t l.repo) (commands (events_of tenants t rest)) (ap uses_repo h.0) more
+  -- the commands among a tenant's events are those that its rows spell
+  pub spelled_of : (lines : List Line) (answers : List Answer) (es : List runs.Event) → AreEventsOf lines answers es → AllByRecursion (λ answer. answer ≢ NameTaken) answers → Spell (rows_of tenants t lines) (commands (events_of tenants t es))
+  spelled_of [] [] es h free = subst (λ (xs : List runs.Event). commands (events_of tenants t xs) ≡ []) (sym h) refl
+  spelled_of [] (a ∷ as') es h free = absurd h
+  spelled_of (l ∷ ls) [] es h free = absurd h
+  spelled_of (l ∷ ls) (a ∷ as') es h free = elim h [
+    | inl (inl bad, more) ↦ refused l (rows_of tenants t ls) (uses_repo l.verb && is_tenants tenants t l.repo) (commands (events_of tenants t es)) (bad.1.0, bad.1.1) (spelled_of ls as' es more free.1)
+    | inl (inr (inl taken), more) ↦ absurd (free.0 taken.1)
+    | inl (inr (inr own), more) ↦ skipped l (rows_of tenants t ls) (is_tenants tenants t l.repo) (commands (events_of tenants t es)) own.0 (spelled_of ls as' es more free.1)
+    | inr e ↦ subst (λ (xs : List runs.Event). Spell (rows_of tenants t (l ∷ ls)) (commands (events_of tenants t xs))) (sym e.2) (event_spelled l ls a e.0 e.1 e.3 (spelled_of ls as' e.1 e.4 free.1))
+  ]
+
+-- ---- the premises of the law on tenants
+
+abbrev FairFrom : Catalog → List runs.Event → Catalog → Type 0
+FairFrom C es C' = (run : runs.IsRun C es C') × NoCollision (brought_in es C C' run)
+
+pub fair_from : (tenants : List Tenant) (slots max_blob : ℕ) (C C' : Catalog) (es : List runs.Event) → C ≡ opening tenants slots max_blob → FairFrom C es C' → IsFair tenants slots max_blob es C'
+fair_from tenants slots max_blob C C' es same h = let k = subst (λ (X : Catalog). FairFrom X es C') same h in record { run = k.0; no_collision = k.1 }

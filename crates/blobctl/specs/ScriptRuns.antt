@@ -1,0 +1,74 @@
+-- The replies and the book of a script are those of a run of commands and sweeps, and so the book depends on each tenant's rows alone.
+use Rattle.std.specs.Prelude.{◌≡◌, ◌≢◌, ◌⊎◌, ℕ, ◌&&◌, false, if◌then◌else◌, List, [], ◌∷◌, Result, Ok, Err, length}
+use Rattle.std.specs.List.{AllByRecursion}
+use Rattle.blob_digest.specs.Keys.{Text}
+use Rattle.blob_digest.specs.Tenants.{Tenant, is_tenants}
+use Rattle.blob_digest.specs.declared.refusal.Refusal.{Refusal}
+use Rattle.store_book.specs.Isolation.{IsUncrowded, NoCollision, brought_in}
+use Rattle.store_book.specs.Printed.{book_text}
+use Rattle.store_book.specs.Runs as runs
+use Rattle.row_player.specs.Answers.{Answer, Leased, NameTaken, Cleaned, Refused}
+use Rattle.row_player.specs.Commands.{Command, Lease, Spells, uses_repo}
+use Rattle.row_player.specs.Plays.{IsRefused}
+use Rattle.row_player.specs.Rows.{Line}
+use Rattle.row_player.specs.declared.row.Verb.TheVariants as verb
+use Rattle.blobctl.specs.Played.{Played, row_answer}
+
+-- ---- the events of rows
+
+-- what a row shows where its command is answered so: of a lease the size of its blob
+abbrev pub shown_answer : Command → runs.Answer → Answer
+shown_answer (Lease repo digest) (runs.Bytes bytes) = Leased (length bytes)
+shown_answer command answer = row_answer command answer
+
+abbrev pub shown_reply : Command → Result runs.Answer Refusal → Answer
+shown_reply command (Ok answer) = shown_answer command answer
+shown_reply command (Err refusal) = Refused refusal
+
+-- a row is no event: a field of it spells nothing, the name of its lease is taken, or it is the row of a lease that the lane has
+abbrev pub IsNoEvent : Line → Answer → Type 0
+IsNoEvent line answer = IsRefused line answer ⊎ ((line.verb ≡ verb.Lease) × (answer ≡ NameTaken)) ⊎ ((uses_repo line.verb ≡ false) × (line.verb ≢ verb.Sweep))
+
+-- a row with its answer is this event: the command that it spells with its reply, or a sweep with its counts
+abbrev pub IsEvent : Line → Answer → runs.Event → Type 0
+IsEvent line answer (runs.Called command reply) = Spells line command × (answer ≡ shown_reply command reply)
+IsEvent line answer (runs.Cleaned swept) = (line.verb ≡ verb.Sweep) × (answer ≡ Cleaned swept)
+
+-- the events of rows with these answers, in their order
+abbrev pub AreEventsOf : List Line → List Answer → List runs.Event → Type 0
+AreEventsOf [] [] events = events ≡ []
+AreEventsOf (line ∷ lines) (answer ∷ answers) events =
+    (IsNoEvent line answer × AreEventsOf lines answers events)
+    ⊎ ((event : runs.Event) × (rest : List runs.Event) × (events ≡ event ∷ rest) × IsEvent line answer event × AreEventsOf lines answers rest)
+AreEventsOf lines answers events = ⊥
+
+-- the rows and answers of a script are these events, which lead from its first catalog to its last
+pub record IsRunOf {tenants : List Tenant} {slots max_blob : ℕ} {script text : Text} (one : Played tenants slots max_blob script text) (events : List runs.Event) : Type 0 where
+  pub told : AreEventsOf one.rows one.answers events
+  pub run : runs.IsRun one.first events one.last
+
+-- Each script that is played is a run of its commands and sweeps.
+abbrev pub ScriptsAreRuns : Type 0
+ScriptsAreRuns = (tenants : List Tenant) (slots max_blob : ℕ) (script text : Text) (one : Played tenants slots max_blob script text) → (events : List runs.Event) × IsRunOf one events
+
+-- ---- tenants
+
+-- the rows that name a tenant's repository first
+abbrev pub rows_of : List Tenant → ℕ → List Line → List Line
+rows_of tenants t [] = []
+rows_of tenants t (line ∷ lines) = if uses_repo line.verb && is_tenants tenants t line.repo then line ∷ rows_of tenants t lines else rows_of tenants t lines
+
+-- No two closes bring different wholes that have the same digest, and no reply is one that the rows of others can cause: no slot is free, or
+-- the lane has a lease of the name. Too many readers and want of memory are no replies of a script.
+pub record IsUndisturbed {tenants : List Tenant} {slots max_blob : ℕ} {script text : Text} (one : Played tenants slots max_blob script text) : Type 0 where
+  pub events : List runs.Event
+  pub is_run : IsRunOf one events
+  pub no_collision : NoCollision (brought_in events one.first one.last is_run.run)
+  pub uncrowded : AllByRecursion IsUncrowded events
+  pub unnamed : AllByRecursion (λ answer. answer ≢ NameTaken) one.answers
+
+-- So the book's text is the same after any two scripts that have the same rows in the same order for each tenant, however these lie among
+-- those of the others, and wherever there are sweeps.
+abbrev pub BooksFollowRows : Type 0
+BooksFollowRows = (tenants : List Tenant) (slots max_blob : ℕ) (script text other written : Text) (one : Played tenants slots max_blob script text) (two : Played tenants slots max_blob other written) →
+    IsUndisturbed one → IsUndisturbed two → ((t : ℕ) → rows_of one.first.tenants t one.rows ≡ rows_of one.first.tenants t two.rows) → book_text one.last ≡ book_text two.last
