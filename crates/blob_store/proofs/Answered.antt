@@ -5,11 +5,14 @@ use Rattle.std.specs.FinMap.{get}
 use Rattle.std.specs.Io.KnownBytes.{Appends}
 use Rattle.blob_digest.specs.Digests.{is_digest_of, sha256_text}
 use Rattle.blob_digest.specs.declared.refusal.Refusal.TheVariants.{BlobUnknown, ManifestUnknown, TooManyReaders}
+use Rattle.store_book.specs.BookState.{BookState}
 use Rattle.store_book.specs.Catalog.{Text, Resident, Catalog}
-use Rattle.store_book.specs.Laws.{Lawful, Sound}
+use Rattle.store_book.specs.Laws.{Lawful}
 use Rattle.store_book.specs.Printed.{book_text}
 use Rattle.store_book.specs.Steps.{tenant, get_manifest, linked, linked_blob, lease, with_lent, refuse}
 use Rattle.store_book.proofs.Outcomes.{answer_by, bound_ok, left_by, some_of_ok}
+use Rattle.blob_store.specs.Found.{InSomeBook, IsSoundOf}
+use Rattle.blob_store.specs.Naming.{Setting}
 
 -- ---- blobs and manifests
 
@@ -43,9 +46,10 @@ manifest_digest C repo digest bytes lawful answered =
 
 -- ---- the text
 
-pub some_book : {A E : Type 0} (r : Result A E) (C : Catalog) (before after : Option (List ℕ)) → Sound C → OnOk r (Appends before after (book_text C)) → OnOk r ((D : Catalog) × Sound D × Appends before after (book_text D))
-some_book (Ok a) C before after sound text = (C, sound, text)
-some_book (Err e) C before after sound text = tt
+pub some_book : {A E : Type 0} (r : Result A E) (slots : ℕ) (setting : Setting) (book : BookState) (before after : Option (List ℕ)) → IsSoundOf slots setting book → OnOk r (Appends before after (book_text book.catalog))
+    → OnOk r (InSomeBook slots setting (λ b. Appends before after (book_text b.catalog)))
+some_book (Ok a) slots setting book before after sound text = (book, sound, text)
+some_book (Err e) slots setting book before after sound text = tt
 
 -- ---- refusals
 

@@ -1,5 +1,6 @@
 pub mod Sums
 pub mod Answered
+pub mod Refusals
 pub mod SessionSums
 pub mod Rooms
 pub mod Places

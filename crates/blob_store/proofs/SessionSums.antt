@@ -1,4 +1,4 @@
--- What each command does to the number of sessions in hand, to the reserve, and to the bytes in sessions.
+-- What each command does to the number of sessions in hand, to the reserve, and to the bytes in sessions; what the store was made with stays.
 use Rattle.std.proofs.Common.{◌≡◌, ◌≢◌, ℕ, ◌+◌, not, [], List, length, Option, Some, None, Result, Ok, Err, is_ok, Bool, true, false, refl, sym, ap, ◌∙◌, subst, arith}
 use Rattle.std.specs.Prelude.{IfSome, if◌then◌else◌, nat_lt}
 use Rattle.std.specs.Option.{ok_or, option_map_or}
@@ -24,12 +24,14 @@ use Rattle.store_book.proofs.LawfulHands.{home_chunks, received-with_chunk, take
 use Rattle.store_book.proofs.Outcomes.{answer_by, bound_ok, left_by, session_found}
 use Rattle.blob_store.proofs.Answered.{lent}
 use Rattle.blob_store.specs.Counting.{hand_of, in_hand, reserved, in_sessions, filled_length}
+use Rattle.blob_store.specs.Naming.{setting_of}
 
--- how many are in hand, the reserve and the bytes from one catalog to another
+-- how many are in hand, the reserve and the bytes from one catalog to another of the same setting
 pub record Sums (C C' : Catalog) (out : ℕ) (held : ℕ) (brought : ℕ) (back : ℕ) (freed : ℕ) (left : ℕ) : Type 0 where
   pub hands : in_hand C' + back ≡ in_hand C + out
   pub reserve : reserved C' + freed ≡ reserved C + held
   pub bytes : in_sessions C' + left ≡ in_sessions C + brought
+  pub setting : setting_of C' ≡ setting_of C
 
 abbrev bytes_of : Number × Session → ℕ
 bytes_of e = received e.1
@@ -45,6 +47,7 @@ module _ (C : Catalog) (key : Number) (s : Session) (found : get C.sessions key 
     hands = sum_changed number_cmp_total exact_number hand_of C.sessions key s w found;
     reserve = sum_changed number_cmp_total exact_number reserve_of C.sessions key s w found;
     bytes = sum_changed number_cmp_total exact_number bytes_of C.sessions key s w found;
+    setting = refl;
   }
 
   pub without : Sums C (record C { sessions = remove C.sessions key }) 0 0 0 (hand_of (key, s)) (reserve_of (key, s)) (received s)
@@ -52,19 +55,19 @@ module _ (C : Catalog) (key : Number) (s : Session) (found : get C.sessions key 
       let a = sum_split number_cmp_total exact_number hand_of C.sessions key s found in
       let b = sum_split number_cmp_total exact_number reserve_of C.sessions key s found in
       let d = sum_split number_cmp_total exact_number bytes_of C.sessions key s found in
-      record { hands = omega arith; reserve = omega arith; bytes = omega arith }
+      record { hands = omega arith; reserve = omega arith; bytes = omega arith; setting = refl }
 
 pub no_sessions : (m : FinMap number_cmp Session) (f : Number × Session → ℕ) → m ≡ empty → 0 ≡ sum_by f (entries m)
 no_sessions m f none = sym (ap (λ (n : FinMap number_cmp Session). sum_by f (entries n)) none ∙ ap (sum_by f) (entries-empty number_cmp Session))
 
 -- ---- the commands
 
-pub still_sums : (C C' : Catalog) → C'.sessions ≡ C.sessions → Sums C C' 0 0 0 0 0 0
-still_sums C C' same =
+pub still_sums : (C C' : Catalog) → C'.sessions ≡ C.sessions → setting_of C' ≡ setting_of C → Sums C C' 0 0 0 0 0 0
+still_sums C C' same made =
     let x = ap (λ m. sum_by hand_of (entries m)) same in
     let y = ap (λ m. sum_by reserve_of (entries m)) same in
     let z = ap (λ m. sum_by bytes_of (entries m)) same in
-    record { hands = omega arith; reserve = omega arith; bytes = omega arith }
+    record { hands = omega arith; reserve = omega arith; bytes = omega arith; setting = made }
 
 pub put_manifest_sums : (C C' : Catalog) (repo bytes digest : Text) → put_manifest C repo bytes ≡ Ok (digest, C') → Sums C C' 0 0 0 0 0 0
 put_manifest_sums C C' repo bytes digest stepped =
@@ -75,16 +78,16 @@ put_manifest_sums C C' repo bytes digest stepped =
     by a.0 (has_manifest C repo (sha256_text bytes)) e.2
   where
     by : (t : ℕ) (b : Bool) → (if b then Ok (sha256_text bytes, C) else add_manifest C t repo bytes) ≡ Ok (digest, C') → Sums C C' 0 0 0 0 0 0
-    by t true h = still_sums C C' (ap (λ (D : Catalog). D.sessions) (sym (left_by h)))
+    by t true h = still_sums C C' (ap (λ (D : Catalog). D.sessions) (sym (left_by h))) (ap setting_of (sym (left_by h)))
     by t false h =
         let x = bound_ok (refuse (lacks_room_for C t repo) LimitReached) _ (digest, C') h in
         let y = bound_ok (refuse (is_full_of_manifests C repo) LimitReached) _ (digest, C') x.2 in
-        still_sums C C' (ap (λ (D : Catalog). D.sessions) (sym (left_by y.2)))
+        still_sums C C' (ap (λ (D : Catalog). D.sessions) (sym (left_by y.2))) (ap setting_of (sym (left_by y.2)))
 
 pub lease_sums : (C C' : Catalog) (crowded : Bool) (repo digest bytes : Text) → lease crowded C repo digest ≡ Ok (bytes, C') → Sums C C' 0 0 0 0 0 0
 lease_sums C C' crowded repo digest bytes stepped =
     let l = lent C C' crowded repo digest bytes stepped in
-    still_sums C C' (ap (λ (D : Catalog). D.sessions) (sym l.left))
+    still_sums C C' (ap (λ (D : Catalog). D.sessions) (sym l.left)) (ap setting_of (sym l.left))
 
 pub start_sums : (C C' : Catalog) (repo : Text) (n : ℕ) → Lawful C → start C repo ≡ Ok (n, C') → Sums C C' 0 0 0 0 0 0
 start_sums C C' repo n lawful stepped =
@@ -97,7 +100,7 @@ start_sums C C' repo n lawful stepped =
     let x = sum_new number_cmp_total exact_number hand_of C.sessions key new none in
     let y = sum_new number_cmp_total exact_number reserve_of C.sessions key new none in
     let z = sum_new number_cmp_total exact_number bytes_of C.sessions key new none in
-    subst (λ (D : Catalog). Sums C D 0 0 0 0 0 0) (left_by d.2) (record { hands = omega arith; reserve = omega arith; bytes = omega arith })
+    subst (λ (D : Catalog). Sums C D 0 0 0 0 0 0) (left_by d.2) (record { hands = omega arith; reserve = omega arith; bytes = omega arith; setting = refl })
 
 pub mount_sums : (C C' : Catalog) (repo digest : Text) (from : Option Text) (m : Mount) → Lawful C → mount C repo digest from ≡ Ok (m, C') → Sums C C' 0 0 0 0 0 0
 mount_sums C C' repo digest from m lawful stepped =
@@ -107,7 +110,7 @@ mount_sums C C' repo digest from m lawful stepped =
     by : (t : ℕ) (b : Bool) → (if b then link_held C t repo digest else start_instead C repo) ≡ Ok (m, C') → Sums C C' 0 0 0 0 0 0
     by t true h =
         let d = bound_ok (refuse (lacks_room_for C t repo) LimitReached) _ (m, C') h in
-        subst (λ (D : Catalog). Sums C D 0 0 0 0 0 0) (left_by d.2) (record { hands = refl; reserve = refl; bytes = refl })
+        subst (λ (D : Catalog). Sums C D 0 0 0 0 0 0) (left_by d.2) (record { hands = refl; reserve = refl; bytes = refl; setting = refl })
     by t false h =
         let d = bound_ok (start C repo) _ (m, C') h in
         subst (λ (D : Catalog). Sums C D 0 0 0 0 0 0) (left_by d.2) (start_sums C d.0.1 repo d.0.0 lawful d.1)
@@ -125,7 +128,7 @@ abandon_sums C C' repo number n stepped =
     let x = change.hands in
     let y = change.reserve in
     let z = change.bytes in
-    subst (λ (D : Catalog). Sums C D 0 0 0 0 0 n) (left_by d.2) (record { hands = omega arith; reserve = omega arith; bytes = omega arith })
+    subst (λ (D : Catalog). Sums C D 0 0 0 0 0 n) (left_by d.2) (record { hands = omega arith; reserve = omega arith; bytes = omega arith; setting = refl })
 
 pub take_sums : (C C' : Catalog) (repo : Text) (number n : ℕ) (range : Option ByteRange) (hand : Taken) → take C repo number range n ≡ Ok (hand, C') → Sums C C' 1 n 0 0 0 0
 take_sums C C' repo number n range hand stepped =
@@ -139,7 +142,7 @@ take_sums C C' repo number n range hand stepped =
     let x = change.hands in
     let y = change.reserve in
     let z = change.bytes in
-    subst (λ (D : Catalog). Sums C D 1 n 0 0 0 0) ((λ i. record C { sessions = sym same i }) ∙ p.left) (record { hands = omega arith; reserve = omega arith; bytes = omega arith })
+    subst (λ (D : Catalog). Sums C D 1 n 0 0 0 0) ((λ i. record C { sessions = sym same i }) ∙ p.left) (record { hands = omega arith; reserve = omega arith; bytes = omega arith; setting = refl })
 
 -- ---- hands that come back
 
@@ -165,7 +168,7 @@ module _ (C : Catalog) (h : Taken) (s : Session) (here : taken_session (get C.se
       let x = change.hands in
       let y = change.reserve in
       let z = change.bytes in
-      record { hands = omega arith; reserve = omega arith; bytes = omega arith }
+      record { hands = omega arith; reserve = omega arith; bytes = omega arith; setting = refl }
 
   pub gone_sums : Sums C (record C { sessions = remove C.sessions h.key }) 0 0 0 1 h.reserved (sum_by length h.chunks)
   gone_sums =
@@ -176,13 +179,13 @@ module _ (C : Catalog) (h : Taken) (s : Session) (here : taken_session (get C.se
       let x = change.hands in
       let y = change.reserve in
       let z = change.bytes in
-      record { hands = omega arith; reserve = omega arith; bytes = omega arith }
+      record { hands = omega arith; reserve = omega arith; bytes = omega arith; setting = refl }
 
   pub given_back_sums : Sums C (given_back C h) 0 0 0 1 h.reserved 0
   given_back_sums =
       let change = home_sums h.chunks in
       let z = change.bytes in
-      subst (λ (D : Catalog). Sums C D 0 0 0 1 h.reserved 0) (λ i. record C { sessions = brought_home C.sessions h (sym here i) }) (record { hands = change.hands; reserve = change.reserve; bytes = omega arith })
+      subst (λ (D : Catalog). Sums C D 0 0 0 1 h.reserved 0) (λ i. record C { sessions = brought_home C.sessions h (sym here i) }) (record { hands = change.hands; reserve = change.reserve; bytes = omega arith; setting = refl })
 
 -- a refused finish of a hand whose session is there
 pub refused_sums : (C D : Catalog) (h : Taken) → D ≡ given_back C h → is_ok (taken_session (get C.sessions h.key) h) ≡ true → Sums C D 0 0 0 1 h.reserved 0
@@ -225,7 +228,7 @@ put_back_sums C C' h n stepped =
     let change = home_sums C h b.0 b.1 (chunks_of h) in
     let all = chunks_long h in
     let z = change.bytes in
-    subst (λ (D : Catalog). Sums C D 0 0 (filled_length h) 1 h.reserved 0) ((λ i. record C { sessions = same i }) ∙ left_by a.2) (record { hands = change.hands; reserve = change.reserve; bytes = omega arith })
+    subst (λ (D : Catalog). Sums C D 0 0 (filled_length h) 1 h.reserved 0) ((λ i. record C { sessions = same i }) ∙ left_by a.2) (record { hands = change.hands; reserve = change.reserve; bytes = omega arith; setting = refl })
   where
     snd_of : {A B : Type 0} {x y : A} {u v : B} → ◌≡◌ {A = Result (A × B) Refusal} (Ok (x, u)) (Ok (y, v)) → u ≡ v
     snd_of {A} {B} {x} {y} {u} {v} e = let p : ◌≡◌ {A = A × B} (x, u) (y, v) = cc in λ i. (p i).1
@@ -242,7 +245,7 @@ finish_sums C C' h digest n proper full stepped =
     let d = bound_ok (has_slot C digest) _ (n, C') b.2 in
     let change = gone_sums C h a.0 a.1 in
     record {
-      sums = subst (λ (D : Catalog). Sums C D 0 0 0 1 h.reserved (sum_by length h.chunks)) (left_by d.2) (record { hands = change.hands; reserve = change.reserve; bytes = change.bytes });
+      sums = subst (λ (D : Catalog). Sums C D 0 0 0 1 h.reserved (sum_by length h.chunks)) (left_by d.2) (record { hands = change.hands; reserve = change.reserve; bytes = change.bytes; setting = refl });
       size = sym (answer_by d.2) ∙ whole_long h proper full;
     }
 

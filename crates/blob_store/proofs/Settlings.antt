@@ -1,21 +1,23 @@
 -- What the desks of all workers come to.
 use Rattle.std.proofs.Common.{◌≡◌, ◌∙◌, ◌<◌, ◌++◌, ◌∷◌, [], ℕ, List, ap, arith, get_or, length, length-append, refl, subst, sym}
-use Rattle.std.specs.List.{sum_by}
+use Rattle.std.specs.List.{sum_by, zip}
 use Rattle.std.proofs.Math.Seq.{get_or-append_seam}
 use Rattle.std.proofs.lemmas.List.{get_or_append_left}
 use Rattle.std.proofs.lemmas.List.Sums.{sum_by-cons}
 use Rattle.blob_store.specs.Seats.{SeatActs}
-use Rattle.blob_store.specs.Totals.{Amounts, nothing, sum_of}
-use Rattle.blob_store.specs.Workers.{ArePlayed, IsPlayed}
+use Rattle.blob_store.specs.Totals.{Amounts, nothing, plus, sum_of}
+use Rattle.blob_store.specs.Workers.{ArePlayed, AreSettled, IsPlayed}
+use Rattle.blob_store.specs.declared.desk.Settled.{Settled}
 use Rattle.blob_store.proofs.Places.{at_pushed}
 use Rattle.row_player.specs.Answers.{Answer}
-use Rattle.row_player.specs.Counts.{chunk_with, counted_bytes, counted_commands, row_amount}
-use Rattle.row_player.specs.Leases.{none}
+use Rattle.row_player.specs.Counts.{abandoned_with, chunk_with, closed_with, counted, row_amount}
+use Rattle.row_player.specs.Leases as leases
+use Rattle.row_player.specs.Plays.{Plays, State}
 use Rattle.row_player.specs.Rows.{Line}
 use Rattle.row_player.specs.Shares.{AreTogether, own_answers, own_rows}
-use Rattle.row_player.proofs.Counting.{bytes_counted, commands_counted}
+use Rattle.row_player.proofs.Counting.{abandoned_counted, bytes_counted, closed_counted, commands_counted}
 use Rattle.row_player.proofs.PlayedRows.{one_each}
-use Rattle.row_player.proofs.Partitions.{sum_of_workers}
+use Rattle.row_player.proofs.Partitions.{sum_of_workers, worker_within}
 
 -- one worker more
 pub played_more : (n : ℕ) (lines : List Line) (ds : List Amounts) (ls : List (List Answer)) (d : Amounts) (l : List Answer) → ArePlayed n lines ds ls → IsPlayed n (length ls) lines d l → ArePlayed n lines (ds ++ d ∷ []) (ls ++ l ∷ [])
@@ -28,46 +30,58 @@ played_more n lines ds ls d l are here =
           (subst (λ x. IsPlayed n (length ls) lines x l) (sym seam) here);
     }
 
-commands_of_all : (ds : List Amounts) → (sum_of ds).commands ≡ sum_by (λ (a : Amounts). a.commands) ds
-commands_of_all [] = refl
-commands_of_all (d ∷ ds) = let rest = commands_of_all ds in let all = sum_by-cons (λ (a : Amounts). a.commands) d ds in omega (arith, rest, all)
+-- ---- one quantity of all desks
 
-received_of_all : (ds : List Amounts) → (sum_of ds).received ≡ sum_by (λ (a : Amounts). a.received) ds
-received_of_all [] = refl
-received_of_all (d ∷ ds) = let rest = received_of_all ds in let all = sum_by-cons (λ (a : Amounts). a.received) d ds in omega (arith, rest, all)
+sum_zero : {X : Type 0} (xs : List X) → sum_by (λ _. 0) xs ≡ 0
+sum_zero [] = refl
+sum_zero (x ∷ xs) = let rest = sum_zero xs in let all = sum_by-cons (λ _. 0) x xs in omega (arith, rest, all)
 
-module _ (lines : List Line) (ds : List Amounts) (lists : List (List Answer)) (answers : List Answer) (some : 0 < length ds) (are : ArePlayed (length ds) lines ds lists) (together : AreTogether (length ds) lines (λ w. get_or lists w []) answers) where
-  commands_of_each : (w : ℕ) → w < length ds → (get_or ds w nothing).commands ≡ counted_commands (own_rows (length ds) w lines) (get_or lists w [])
-  commands_of_each w lt =
-      let played = are.each w [] (omega (arith, lt, are.as_many)) in
-      commands_counted SeatActs (λ a. a.commands) (λ s request answer t h. h.commands) (nothing, none) (get_or ds w nothing, played.0) (own_rows (length ds) w lines) (get_or lists w []) played.1 ∙ omega arith
+module _ (f : Amounts → ℕ) (none : f nothing ≡ 0) (adds : (a b : Amounts) → f (plus a b) ≡ f a + f b) where
+  of_all : (ds : List Amounts) → f (sum_of ds) ≡ sum_by f ds
+  of_all [] = none
+  of_all (d ∷ ds) = let here = adds d (sum_of ds) in let rest = of_all ds in let all = sum_by-cons f d ds in omega (arith, here, rest, all)
 
-  received_of_each : (w : ℕ) → w < length ds → (get_or ds w nothing).received ≡ counted_bytes (own_rows (length ds) w lines) (get_or lists w [])
-  received_of_each w lt =
-      let played = are.each w [] (omega (arith, lt, are.as_many)) in
-      bytes_counted SeatActs (λ a. a.received) (λ s request answer t h. h.received) (nothing, none) (get_or ds w nothing, played.0) (own_rows (length ds) w lines) (get_or lists w []) played.1 ∙ omega arith
+  module _ (lines : List Line) (ds : List Amounts) (lists : List (List Answer)) (answers : List Answer) (some : 0 < length ds) (are : ArePlayed (length ds) lines ds lists) (together : AreTogether (length ds) lines (λ w. get_or lists w []) answers) where
+    -- what each desk has of it is what its worker's rows come to
+    all_counted : (value : Line → Answer → ℕ)
+        → ((old new : State Amounts) (ls : List Line) (as : List Answer) → Plays SeatActs old ls as new → f new.0 ≡ f old.0 + counted value ls as)
+        → f (sum_of ds) ≡ counted value lines answers
+    all_counted value counts =
+        of_all ds ∙ sum_of_workers (row_amount value) f ds nothing lines (λ w. get_or lists w []) answers some together (λ w lt.
+        let played = are.each w [] (omega (arith, lt, are.as_many)) in
+        let here = counts (nothing, leases.none) (get_or ds w nothing, played.0) (own_rows (length ds) w lines) (get_or lists w []) played.1 in
+        omega (arith, here, none))
 
-  all_commands : (sum_of ds).commands ≡ counted_commands lines answers
-  all_commands = commands_of_all ds ∙ sum_of_workers (row_amount (λ _. 1)) (λ (a : Amounts). a.commands) ds nothing lines (λ w. get_or lists w []) answers some together commands_of_each
+    -- or nothing, where the rows come to nothing
+    all_unchanged : (value : Line → Answer → ℕ)
+        → ((old new : State Amounts) (ls : List Line) (as : List Answer) → Plays SeatActs old ls as new → counted value ls as ≡ 0 → f new.0 ≡ f old.0)
+        → counted value lines answers ≡ 0 → f (sum_of ds) ≡ 0
+    all_unchanged value counts nought =
+        of_all ds ∙ sum_of_workers (λ _. 0) f ds nothing lines (λ w. get_or lists w []) answers some together (λ w lt.
+        let played = are.each w [] (omega (arith, lt, are.as_many)) in
+        let within = worker_within (row_amount value) (length ds) w lines answers together.one_each in
+        let own = ap (λ xs. counted value (own_rows (length ds) w lines) xs) (together.shares w lt) in
+        let here = counts (nothing, leases.none) (get_or ds w nothing, played.0) (own_rows (length ds) w lines) (get_or lists w []) played.1 (omega (arith, own, within, nought)) in
+        here ∙ none ∙ sym (sum_zero (zip (own_rows (length ds) w lines) (get_or lists w [])))) ∙ sum_zero (zip lines answers)
 
-  all_received : (sum_of ds).received ≡ counted_bytes lines answers
-  all_received = received_of_all ds ∙ sum_of_workers (row_amount (λ line. chunk_with line.verb line.body)) (λ (a : Amounts). a.received) ds nothing lines (λ w. get_or lists w []) answers some together received_of_each
-
--- the desks of all workers have the commands and the bytes of the rows
-pub record AreSettled (lines : List Line) (answers : List Answer) (all : Amounts) : Type 0 where
-  pub commands : all.commands ≡ counted_commands lines answers
-  pub received : all.received ≡ counted_bytes lines answers
-
-pub are_settled : (n : ℕ) (lines : List Line) (ds : List Amounts) (lists : List (List Answer)) (answers : List Answer) → length ds ≡ n → 0 < n → ArePlayed n lines ds lists → AreTogether n lines (λ w. get_or lists w []) answers → AreSettled lines answers (sum_of ds)
-are_settled n lines ds lists answers size =
-    subst (λ k. 0 < k → ArePlayed k lines ds lists → AreTogether k lines (λ w. get_or lists w []) answers → AreSettled lines answers (sum_of ds)) size
-    (λ some are together. record { commands = all_commands lines ds lists answers some are together; received = all_received lines ds lists answers some are together })
+-- the desks of all workers have what the rows come to
+pub are_settled : (n : ℕ) (lines : List Line) (ds : List Amounts) (lists : List (List Answer)) (answers : List Answer) (settled : Settled) → length ds ≡ n → 0 < n → ArePlayed n lines ds lists → AreTogether n lines (λ w. get_or lists w []) answers
+    → (settled.commands ≡ (sum_of ds).commands) × (settled.received ≡ (sum_of ds).received) × (settled.closed ≡ (sum_of ds).closed) × (settled.abandoned ≡ (sum_of ds).abandoned) → AreSettled lines answers settled
+are_settled n lines ds lists answers settled size some are together sums =
+    subst (λ k. 0 < k → ArePlayed k lines ds lists → AreTogether k lines (λ w. get_or lists w []) answers → AreSettled lines answers settled) size
+    (λ some are together. record {
+      commands = sums.0 ∙ all_counted (λ a. a.commands) refl (λ a b. refl) lines ds lists answers some are together (λ _ _. 1) (commands_counted SeatActs (λ a. a.commands) (λ s request answer t h. h.commands));
+      received = sums.1 ∙ all_counted (λ a. a.received) refl (λ a b. refl) lines ds lists answers some are together (λ line _. chunk_with line.verb line.body) (bytes_counted SeatActs (λ a. a.received) (λ s request answer t h. h.received));
+      closed = sums.2 ∙ all_counted (λ a. a.closed) refl (λ a b. refl) lines ds lists answers some are together (λ line answer. closed_with line.verb answer) (closed_counted SeatActs (λ a. a.closed) (λ s request answer t h. h.closed));
+      abandoned = λ none. sums.3 ∙ all_unchanged (λ a. a.abandoned) refl (λ a b. refl) lines ds lists answers some are together (λ line _. abandoned_with line.verb) (abandoned_counted SeatActs (λ a. a.abandoned) (λ s request answer t h. h.abandoned)) none;
+    })
+    some are together
 
 -- each worker has an answer for each of its rows
 pub whole_lists : (n : ℕ) (lines : List Line) (ds : List Amounts) (ls : List (List Answer)) → ArePlayed n lines ds ls → (w : ℕ) → w < length ls → length (get_or ls w []) ≡ length (own_rows n w lines)
 whole_lists n lines ds ls are w lt =
     let played = are.each w [] lt in
-    one_each SeatActs (nothing, none) (get_or ds w nothing, played.0) (own_rows n w lines) (get_or ls w []) played.1
+    one_each SeatActs (nothing, leases.none) (get_or ds w nothing, played.0) (own_rows n w lines) (get_or ls w []) played.1
 
 -- and these are the answers at its rows
 pub each_played : (n : ℕ) (lines : List Line) (ds : List Amounts) (ls : List (List Answer)) (answers : List Answer) → length ls ≡ n → ArePlayed n lines ds ls → AreTogether n lines (λ w. get_or ls w []) answers

@@ -1,8 +1,19 @@
 -- What contracts see of a store's parts, which have names of their own.
-use Rattle.std.specs.Prelude.{ℕ}
+use Rattle.std.specs.Prelude.{ℕ, List}
 use Rattle.std.proofs.Common.{refl}
 use Rattle.std.specs.Coded.{Coded, code_by, coded×, coded_ℕ}
 use Rattle.store_book.specs.BookState.{BookState, coded_state}
+use Rattle.store_book.specs.Catalog.{Catalog, Tenant}
+
+-- What a store is made with, and no command changes: its tenants in the order of their names, with their quotas, its slots, and its limit on blobs.
+pub record Setting : Type 0 where
+  pub tenants : List Tenant
+  pub slots : ℕ
+  pub max_blob : ℕ
+
+-- the setting that a catalog has
+abbrev pub setting_of : Catalog → Setting
+setting_of C = record { tenants = C.tenants; slots = C.slots; max_blob = C.max_blob }
 
 -- a new ledger: its name, and the number of parts into which its shares are cut
 pub record Mark : Type 0 where

@@ -2,7 +2,9 @@
 use Rattle.std.specs.Prelude.{◌≡◌, ◌≤◌, ◌<◌, ℕ, ◌+◌, List, [], length, get_or}
 use Rattle.blob_store.specs.Totals.{Amounts, nothing}
 use Rattle.blob_store.specs.Seats.{SeatActs}
+use Rattle.blob_store.specs.declared.desk.Settled.{Settled}
 use Rattle.row_player.specs.Answers.{Answer}
+use Rattle.row_player.specs.Counts.{counted_abandons, counted_bytes, counted_closed, counted_commands}
 use Rattle.row_player.specs.Leases.{Leases, none}
 use Rattle.row_player.specs.Plays.{Plays}
 use Rattle.row_player.specs.Rows.{Line}
@@ -22,6 +24,14 @@ IsPlayed workers worker lines desk answers = (left : Leases) × Plays SeatActs (
 pub record ArePlayed (workers : ℕ) (lines : List Line) (desks : List Amounts) (lists : List (List Answer)) : Type 0 where
   pub as_many : length desks ≡ length lists
   pub each : AllAt (λ w answers. IsPlayed workers w lines (get_or desks w nothing) answers) lists
+
+-- What workers settle is what the answers to the rows say: the accepted commands, the bytes of their chunks, and the sizes of what was
+-- closed. What was abandoned has no number in an answer; it is nothing where no row gave a session up.
+pub record AreSettled (lines : List Line) (answers : List Answer) (settled : Settled) : Type 0 where
+  pub commands : settled.commands ≡ counted_commands lines answers
+  pub received : settled.received ≡ counted_bytes lines answers
+  pub closed : settled.closed ≡ counted_closed lines answers
+  pub abandoned : counted_abandons lines answers ≡ 0 → settled.abandoned ≡ 0
 
 -- a worker has nothing on its desk yet, and room for its replies
 pub record IsReady (workers worker : ℕ) (lines : List Line) (desk : Amounts) (replies : List Reply) (room : ℕ) : Type 0 where

@@ -1,6 +1,6 @@
 //! What lies under the lock.
 
-ghost use Rattle.std.specs.Prelude.{◌≡◌, ◌≢◌, ◌⊎◌, ◌+◌, ◌<◌, None, Some, IfErr, IfOk, IfSome, OnErr, OnOk, Err, true, length, sum_by, vec_len, not, if◌then◌else◌};
+ghost use Rattle.std.specs.Prelude.{◌≡◌, ◌≢◌, ◌⊎◌, ◌+◌, ◌<◌, None, Some, IfErr, IfOk, IfSome, MatchResult, OnErr, OnOk, Err, true, length, sum_by, vec_len, not, if◌then◌else◌};
 ghost use Rattle.std.specs.Arc.{arc_value};
 ghost use Rattle.std.specs.FinMap.{empty};
 ghost use Rattle.std.specs.Option.{option_copied};
@@ -16,8 +16,9 @@ ghost use Rattle.store_book.specs.SlotSteps.{EachSlot, HasLast, HasPin, IsHousin
 ghost use Rattle.store_book.specs.Steps.{check_tenant, start, status, abandon, mount, delete, put_manifest, get_manifest, delete_manifest, take, put_back, finish, given_back};
 ghost use Rattle.store_book.specs.Sweeps.{IsSweep};
 ghost use Rattle.blob_store.specs.Found.{IsSoundOf};
+ghost use Rattle.blob_store.specs.Naming.{setting_of};
 ghost use Rattle.blob_store.specs.Totals.{nothing, plus, one, sum_of};
-ghost use Rattle.blob_store.specs.Counting.{IsBalanced, Lends, has_room, in_sessions, with_catalog, with_slots, uncounted, accepted, counted, reserving, filled_length, handing_out, unchanged};
+ghost use Rattle.blob_store.specs.Counting.{IsBalanced, Lends, cannot_hand_out, has_room, in_sessions, with_catalog, with_slots, uncounted, accepted, counted, reserving, filled_length, handing_out, unchanged};
 
 use crate::counters::Counters;
 use crate::desk::{Desk, Settled};
@@ -54,6 +55,7 @@ pub struct Kept<N: Naming, C: Ledger, R: Ledger, D: Ledger, A: Ledger> {
 impl<N: Naming, C: Ledger, R: Ledger, D: Ledger, A: Ledger> Model for Kept<N, C, R, D, A> {
     ghost use Rattle.std.specs.Prelude.{◌≡◌, ◌+◌, ◌<◌, ◌^◌, length};
     ghost use Rattle.blob_store.specs.Counting.{Content, coded_content, IsBalanced, in_hand, reserved};
+    ghost use Rattle.blob_store.specs.Naming.{setting_of};
 
     ghost Value = { Content };
 
@@ -61,14 +63,14 @@ impl<N: Naming, C: Ledger, R: Ledger, D: Ledger, A: Ledger> Model for Kept<N, C,
 
     ghost view = { λ k. record { book = k.book; counts = k.counters } };
 
-    ghost invariant = { λ k. (k.hands ≡ in_hand k.book.catalog) × (k.reserve ≡ reserved k.book.catalog) × (k.counters.totals.commands + k.hands < 2 ^ 64) × (k.counters.totals.received + k.reserve < 2 ^ 64) × IsBalanced (record { book = k.book; counts = k.counters }) × (k.book.table ≡ N.table) × (length k.book.slots ≡ N.slots) };
+    ghost invariant = { λ k. (k.hands ≡ in_hand k.book.catalog) × (k.reserve ≡ reserved k.book.catalog) × (k.counters.totals.commands + k.hands < 2 ^ 64) × (k.counters.totals.received + k.reserve < 2 ^ 64) × IsBalanced (record { book = k.book; counts = k.counters }) × (k.book.table ≡ N.table) × (length k.book.slots ≡ N.slots) × (setting_of k.book.catalog ≡ N.setting) };
 }
 
 impl<N: Naming, C: Ledger, R: Ledger, D: Ledger, A: Ledger> Kept<N, C, R, D, A> {
-    /// The value of a book without sessions, with the slots that the name says, and nothing counted.
+    /// The value of a book without sessions, with the slots and the setting that the name says, and nothing counted.
     pub fn new(book: Book, counters: Counters<C, R, D, A>) -> Kept<N, C, R, D, A>
         requires book { book.catalog.sessions ≡ empty }
-        requires named { (book.table ≡ N.table) × (length book.slots ≡ N.slots) }
+        requires named { (book.table ≡ N.table) × (length book.slots ≡ N.slots) × (setting_of book.catalog ≡ N.setting) }
         requires counters { counters ≡ record { totals = nothing; settled = nothing; desks = 0 } }
         ensures { result ≡ record { book = book; counts = counters } }
     {
@@ -81,12 +83,12 @@ impl<N: Naming, C: Ledger, R: Ledger, D: Ledger, A: Ledger> Kept<N, C, R, D, A> 
         }
     }
 
-    /// Changes nothing, and tells what holds at all times: the catalog is sound, and what was received is
-    /// in sessions, was closed or was abandoned.
+    /// Changes nothing, and tells what holds at all times: the catalog is sound and of the setting that the store was
+    /// made with, and what was received is in sessions, was closed or was abandoned.
     pub fn audit(&self)
         ensures sound { Sound self.now.book.catalog }
         ensures balanced { IsBalanced self.now }
-        ensures named { (self.now.book.table ≡ N.table) × (length self.now.book.slots ≡ N.slots) }
+        ensures named { (self.now.book.table ≡ N.table) × (length self.now.book.slots ≡ N.slots) × (setting_of self.now.book.catalog ≡ N.setting) }
     {
         self.book.audit();
     }
@@ -260,7 +262,7 @@ impl<N: Naming, C: Ledger, R: Ledger, D: Ledger, A: Ledger> Kept<N, C, R, D, A> 
     /// Goes over the slots, as `Book::sweep` does. Nothing is counted. What is swept is a sound book.
     pub fn sweep(&mut self, pins: &Pins) -> Swept
         requires table { pins.now ≡ N.table }
-        ensures sound { IsSoundOf N.slots self.old.book }
+        ensures sound { IsSoundOf N.slots N.setting self.old.book }
         ensures sweeps { IsSweep self.old.book.catalog result self.new.book.catalog }
         ensures slots { EachSlot IsSweptSlot self.old.book.slots self.new.book.slots }
         ensures retired { 0 < result.retired → HasLast self.old.book.slots }
@@ -274,7 +276,7 @@ impl<N: Naming, C: Ledger, R: Ledger, D: Ledger, A: Ledger> Kept<N, C, R, D, A> 
     /// book.
     pub fn verify(&mut self, pins: &Pins, pin: Pin) -> Pin
         requires table { (pins.now ≡ N.table) × (pin.table ≡ N.table) }
-        ensures sound { IsSoundOf N.slots self.old.book }
+        ensures sound { IsSoundOf N.slots N.setting self.old.book }
         ensures same { result ≡ pin }
         ensures kept { HasPin pin.hold self.old.book }
         ensures content { (self.new.book.catalog ≡ self.old.book.catalog) × (self.new.counts ≡ self.old.counts) }
@@ -295,11 +297,12 @@ impl<N: Naming, C: Ledger, R: Ledger, D: Ledger, A: Ledger> Kept<N, C, R, D, A> 
         self.book.word(pins, slot)
     }
 
-    /// Writes the text of the book, as `Book::print` does. What is printed is a sound catalog.
+    /// Writes the text of the book, as `Book::print` does. What is printed is a sound catalog of the store's setting.
     pub fn print<W: Write>(&self, writer: &mut W) -> io::Result<()>
-        ensures sound { Sound self.now.book.catalog }
+        ensures sound { IsSoundOf N.slots N.setting self.now.book }
         ensures text { OnOk result (Appends (W.contents writer.old) (W.contents writer.new) (book_text self.now.book.catalog)) }
     {
+        self.audit();
         self.book.print(writer)
     }
 
@@ -393,6 +396,7 @@ impl<N: Naming, C: Ledger, R: Ledger, D: Ledger, A: Ledger> Kept<N, C, R, D, A> 
     pub fn desks(&mut self, alloc: Global, count: u64) -> Result<Vec<Desk<C, R, D, A>>, Refusal>
         ensures made { IfOk result (λ v. (vec_len v ≡ count) × (sum_of v.items ≡ nothing)) }
         ensures does { Does (λ _. tt) result self.old self.new (handing_out count self.old) }
+        ensures limit { cannot_hand_out self.old count ≡ true → MatchResult result (λ _. ⊥) (λ e. e ≡ LimitReached) }
         ensures refused { IfErr result (λ e. (e ≡ LimitReached) ⊎ (e ≡ Refusal.Memory)) }
     {
         if count == 0 || count > MAX_DESKS || self.counters.desks() > MAX_DESKS - count {

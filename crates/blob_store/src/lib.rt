@@ -13,17 +13,25 @@ mod carried;
 mod column;
 mod counters;
 mod desk;
+#[cfg(test)]
+mod desk_tests;
 mod kept;
 mod lease;
+#[cfg(test)]
+mod lend_tests;
 #[cfg(test)]
 mod load_steps;
 #[cfg(test)]
 mod load_tests;
+#[cfg(test)]
+mod lock_tests;
 mod names;
 mod parts;
 #[cfg(test)]
 mod play_tests;
 mod playing;
+#[cfg(test)]
+mod refusal_tests;
 mod seat;
 mod store;
 #[cfg(test)]

@@ -67,7 +67,7 @@ impl<
         match self.makes(desk, repo, number, Part::Append("")) {
             Ok(_) => own.add(1, 0, 0, 0),
             Err(Refusal::Busy) | Err(Refusal::UploadUnknown) => {}
-            Err(refusal) => assert_eq!(self.rt; refusal, Refusal::Busy),
+            Err(refusal) => panic!(self.rt; "no bytes are refused: {refusal}"),
         }
     }
 
@@ -121,7 +121,7 @@ impl<
             }
             Err((refusal, lease)) => {
                 lease.give_back();
-                assert_eq!(self.rt; refusal, Refusal::Busy);
+                panic!(self.rt; "a lease isn't shared: {refusal}");
             }
         }
     }

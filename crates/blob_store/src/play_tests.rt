@@ -1,41 +1,118 @@
-//! A script that two workers play.
+//! Scripts that one worker and two workers play, and what a gate is asked.
+
+ghost use Rattle.std.specs.Prelude.{◌<◌, ◌≤◌};
 
 use crate::test_steps::{ABC, TestStore};
+use crate::thread_tests::awaits;
 use crate::{Naming, Settled, play};
 use row_player::{Gate, Reply, Row, Verb, has_fields};
 use std::alloc::AllocGlobal;
 use std::process::Abort;
 use std::sync::Wait;
-use std::sync::atomic::{AtomicBool, Ordering};
+use std::sync::atomic::{AtomicBool, AtomicU32, Ordering};
 use std::sync::ledger::Ledger;
 use std::thread::Threads;
 
-/// As many turns as a worker waits for the other.
-const MAX_TURNS: u64 = 1_000_000_000;
+/// How often a gate was asked about a row.
+#[derive(Drop)]
+struct Asked {
+    before: AtomicU32,
+    after: AtomicU32,
+}
+
+/// How often a gate was asked about each row, and whether ever about another lane than the row's, or after a row
+/// before it was asked before it.
+#[derive(Drop)]
+struct Tally<'r> {
+    rows: &'r [Row],
+    asked: Vec<Asked>,
+    wrong: AtomicBool,
+}
+
+impl<'r> Tally<'r> {
+    fn new(rt: &(impl Abort + AllocGlobal), rows: &'r [Row]) -> Tally<'r> {
+        let mut asked = Vec::new(rt.alloc());
+        for _ in rows {
+            let none = Asked {
+                before: AtomicU32::new(0),
+                after: AtomicU32::new(0),
+            };
+            asked.push(none).expect(rt, "memory");
+        }
+        Tally {
+            rows,
+            asked,
+            wrong: AtomicBool::new(false),
+        }
+    }
+
+    /// What was asked about a row of this lane.
+    fn of(&self, lane: u8, row: usize) -> Option<&Asked> {
+        if self.rows.get(row)?.lane != lane {
+            return None;
+        }
+        self.asked.as_slice().get(row)
+    }
+
+    fn tell(&self, is_right: bool) {
+        if !is_right {
+            self.wrong.store(true, Ordering::SeqCst);
+        }
+    }
+
+    fn before(&self, lane: u8, row: usize) {
+        match self.of(lane, row) {
+            Some(asked) => {
+                let first = asked.before.fetch_add(1, Ordering::SeqCst) == 0;
+                self.tell(first && asked.after.load(Ordering::SeqCst) == 0);
+            }
+            None => self.tell(false),
+        }
+    }
+
+    fn after(&self, lane: u8, row: usize) {
+        match self.of(lane, row) {
+            Some(asked) => {
+                let first = asked.after.fetch_add(1, Ordering::SeqCst) == 0;
+                self.tell(first && asked.before.load(Ordering::SeqCst) == 1);
+            }
+            None => self.tell(false),
+        }
+    }
+
+    /// Whether the gate was asked once before and once after each row.
+    fn is_whole(&self) -> bool {
+        for asked in self.asked.iter() {
+            if asked.before.load(Ordering::SeqCst) != 1 || asked.after.load(Ordering::SeqCst) != 1 {
+                return false;
+            }
+        }
+        !self.wrong.load(Ordering::SeqCst)
+    }
+}
 
 /// A gate at which the first rows of two lanes, which are the first two of the script, wait for each other.
 #[derive(Drop)]
-struct Meeting {
+struct Meeting<'r> {
+    tally: Tally<'r>,
     zero: AtomicBool,
     one: AtomicBool,
     missed: AtomicBool,
 }
 
-impl Meeting {
+impl<'r> Meeting<'r> {
     /// Tells that one lane has come, and waits for the other.
     fn meet(&self, own: &AtomicBool, other: &AtomicBool) {
         own.store(true, Ordering::SeqCst);
-        for _ in 0..MAX_TURNS {
-            if other.load(Ordering::SeqCst) {
-                return;
-            }
+        if !awaits(other) {
+            self.missed.store(true, Ordering::SeqCst);
         }
-        self.missed.store(true, Ordering::SeqCst);
     }
 }
 
-impl Gate for Meeting {
-    fn before(&self, _lane: u8, row: usize) {
+impl<'r> Gate for Meeting<'r> {
+    fn before(&self, lane: u8, row: usize) {
+        self.tally.before(lane, row);
         match row {
             0 => self.meet(&self.zero, &self.one),
             1 => self.meet(&self.one, &self.zero),
@@ -43,16 +120,56 @@ impl Gate for Meeting {
         }
     }
 
-    fn after(&self, _lane: u8, _row: usize) {}
+    fn after(&self, lane: u8, row: usize) {
+        self.tally.after(lane, row);
+    }
+}
+
+/// A gate that finds by the store's totals that a row isn't played before it is asked, and is played after: one
+/// worker plays them, and each is accepted and counted.
+#[derive(Drop)]
+struct Watch<
+    'r,
+    's,
+    N: Naming + Send + Sync,
+    C: Ledger + Send + Sync,
+    R: Ledger + Send + Sync,
+    D: Ledger + Send + Sync,
+    A: Ledger + Send + Sync,
+    W: Abort + AllocGlobal + Threads + Wait + Sync,
+> {
+    tally: Tally<'r>,
+    test: TestStore<'s, N, C, R, D, A, W>,
+}
+
+impl<
+    'r,
+    's,
+    N: Naming + Send + Sync,
+    C: Ledger + Send + Sync,
+    R: Ledger + Send + Sync,
+    D: Ledger + Send + Sync,
+    A: Ledger + Send + Sync,
+    W: Abort + AllocGlobal + Threads + Wait + Sync,
+> Gate for Watch<'r, 's, N, C, R, D, A, W> {
+    fn before(&self, lane: u8, row: usize) {
+        self.tally.before(lane, row);
+        self.tally.tell(self.test.counted() == row as u64);
+    }
+
+    fn after(&self, lane: u8, row: usize) {
+        self.tally.after(lane, row);
+        self.tally.tell(self.test.counted() == (row as u64).saturating_add(1));
+    }
 }
 
 /// A lane, a command with its fields repository, key, digest, range and body, and the text of its reply.
-type Line = (u8, Verb, [&'static str; 5], &'static str);
+pub type Line = (u8, Verb, [&'static str; 5], &'static str);
 
 const NOTHING_SWEPT: &str = "swept condemned 0 freed 0 held 0 retired 0";
 
 /// Two lanes upload the same blob into repositories of two tenants, while a third sweeps.
-const LINES: [Line; 11] = [
+pub const LINES: [Line; 11] = [
     (0, Verb::Start, ["acme/one", "", "", "", ""], "session 1"),
     (1, Verb::Start, ["other/one", "", "", "", ""], "session 1"),
     (2, Verb::Sweep, ["", "", "", "", ""], NOTHING_SWEPT),
@@ -86,27 +203,51 @@ const LINES: [Line; 11] = [
     (1, Verb::Close, ["other/one", "1", ABC, "", ""], "stored 3"),
 ];
 
+/// Rows of three lanes, each of them a command that is accepted.
+const COUNTED: [Line; 7] = [
+    (3, Verb::Start, ["acme/one", "", "", "", ""], "session 1"),
+    (0, Verb::Start, ["other/one", "", "", "", ""], "session 1"),
+    (
+        0,
+        Verb::Append,
+        ["other/one", "1", "", "", "ab"],
+        "received 2",
+    ),
+    (
+        3,
+        Verb::Append,
+        ["acme/one", "1", "", "", "abc"],
+        "received 3",
+    ),
+    (7, Verb::Status, ["acme/one", "1", "", "", ""], "received 3"),
+    (3, Verb::Close, ["acme/one", "1", ABC, "", ""], "stored 3"),
+    (0, Verb::Abandon, ["other/one", "1", "", "", ""], "abandoned"),
+];
+
 const BOOK: &str =
     "book\ntenant acme used 3 quota 1099511627776 next 2\nrepository acme/one\nblob sha256:ba7816bf8f01cfea414140de5dae2223b00361a396177a9cb410ff61f20015ad size 3 links 2\ntenant other used 3 quota 1099511627776 next 2\nrepository other/one\nblob sha256:ba7816bf8f01cfea414140de5dae2223b00361a396177a9cb410ff61f20015ad size 3 links 2\nend\n";
 
-fn bytes(rt: &(impl Abort + AllocGlobal), text: &str) -> Vec<u8> {
-    let mut all = Vec::new(rt.alloc());
-    all.extend_from_slice(text.as_bytes()).expect(rt, "memory");
-    all
+fn bytes(rt: &(impl Abort + AllocGlobal), text: &[u8]) -> Vec<u8> {
+    Vec::from_slice(rt.alloc(), text).expect(rt, "memory")
 }
 
-/// The row of a line.
-fn row(rt: &(impl Abort + AllocGlobal), line: &Line) -> Row {
-    let (lane, verb, fields, _) = line;
-    let repo = bytes(rt, fields[0]);
-    let key = bytes(rt, fields[1]);
-    let digest = bytes(rt, fields[2]);
-    let range = bytes(rt, fields[3]);
-    let body = bytes(rt, fields[4]);
-    assert!(rt; has_fields(*verb, &repo, &key, &digest, &range, &body));
+/// A row of these fields: repository, key, digest and range, and the body.
+pub fn row_of(
+    rt: &(impl Abort + AllocGlobal),
+    lane: u8,
+    verb: Verb,
+    fields: [&str; 4],
+    body: &[u8],
+) -> Row {
+    let repo = bytes(rt, fields[0].as_bytes());
+    let key = bytes(rt, fields[1].as_bytes());
+    let digest = bytes(rt, fields[2].as_bytes());
+    let range = bytes(rt, fields[3].as_bytes());
+    let body = bytes(rt, body);
+    assert!(rt; has_fields(verb, &repo, &key, &digest, &range, &body));
     Row {
-        lane: *lane,
-        verb: *verb,
+        lane,
+        verb,
         repo,
         key,
         digest,
@@ -115,11 +256,33 @@ fn row(rt: &(impl Abort + AllocGlobal), line: &Line) -> Row {
     }
 }
 
-/// Whether a reply prints this text.
-fn prints(rt: &(impl Abort + AllocGlobal), reply: &Reply, wanted: &str) -> bool {
-    let mut text = String::new(rt.alloc());
-    reply.write(&mut text).expect(rt, "memory");
-    text.as_str() == wanted
+/// The rows of lines.
+pub fn rows_of(rt: &(impl Abort + AllocGlobal), lines: &[Line]) -> Vec<Row> {
+    let mut rows = Vec::new(rt.alloc());
+    for (lane, verb, [repo, key, digest, range, body], _) in lines {
+        let row = row_of(rt, *lane, *verb, [repo, key, digest, range], body.as_bytes());
+        rows.push(row).expect(rt, "memory");
+    }
+    rows
+}
+
+/// Each reply prints its text.
+pub fn expect_replies(rt: &(impl Abort + AllocGlobal), replies: &[Reply], wanted: &[&str]) {
+    assert_eq!(rt; replies.len(), wanted.len());
+    for (reply, text) in replies.iter().zip(wanted) {
+        let mut printed = String::new(rt.alloc());
+        reply.write(&mut printed).expect(rt, "memory");
+        assert_eq!(rt; printed.as_str(), *text);
+    }
+}
+
+/// The texts of the replies to lines.
+fn texts(rt: &(impl Abort + AllocGlobal), lines: &[Line]) -> Vec<&'static str> {
+    let mut texts = Vec::new(rt.alloc());
+    for (_, _, _, text) in lines {
+        texts.push(*text).expect(rt, "memory");
+    }
+    texts
 }
 
 impl<
@@ -131,26 +294,42 @@ impl<
     A: Ledger + Send + Sync,
     W: Abort + AllocGlobal + Threads + Wait + Sync,
 > TestStore<'s, N, C, R, D, A, W> {
-    /// Two workers are in their rows at the same time, and what they settle is what was accepted.
+    /// How many commands the store has counted.
+    fn counted(&self) -> u64 {
+        self.store.totals(self.rt).commands
+    }
+
+    /// Plays lines by so many workers, and finds the replies that they have to give. What was settled.
+    fn plays_lines<G: Gate + Send + Sync>(
+        &self,
+        lines: &[Line],
+        rows: &[Row],
+        workers: usize,
+        gate: &G,
+    ) -> Settled
+        requires { (0 < workers) × (workers ≤ 64) }
+    {
+        let rt = self.rt;
+        let played = play(rt, rt.alloc(), self.store, rows, workers, gate).expect(rt, "memory");
+        let wanted = texts(rt, lines);
+        expect_replies(rt, played.replies.as_slice(), wanted.as_slice());
+        played.settled
+    }
+
+    /// Two workers are in their rows at the same time, what they settle is what was accepted, and the gate is asked
+    /// once before and once after each row.
     pub fn two_workers(&self) {
         let rt = self.rt;
-        let mut rows = Vec::new(rt.alloc());
-        for line in LINES.iter() {
-            rows.push(row(rt, line)).expect(rt, "memory");
-        }
+        let rows = rows_of(rt, LINES.as_slice());
         let gate = Meeting {
+            tally: Tally::new(rt, rows.as_slice()),
             zero: AtomicBool::new(false),
             one: AtomicBool::new(false),
             missed: AtomicBool::new(false),
         };
-        let played = play(rt, rt.alloc(), self.store, rows.as_slice(), 2, &gate).expect(
-            rt, "memory",
-        );
+        let settled = self.plays_lines(LINES.as_slice(), rows.as_slice(), 2, &gate);
         assert!(rt; !gate.missed.load(Ordering::SeqCst));
-        assert_eq!(rt; played.replies.len(), LINES.len());
-        for (reply, line) in played.replies.iter().zip(LINES.iter()) {
-            assert!(rt; prints(rt, reply, line.3));
-        }
+        assert!(rt; gate.tally.is_whole());
         let sums = Settled {
             commands: 8,
             received: 6,
@@ -158,7 +337,27 @@ impl<
             abandoned: 0,
             left: 0,
         };
-        assert_eq!(rt; played.settled, sums);
+        assert_eq!(rt; settled, sums);
         assert!(rt; self.printed().as_slice() == BOOK.as_bytes());
+    }
+
+    /// The gate is asked before a row is played and after, with the row's lane, by one worker of several lanes.
+    pub fn one_worker(&self) {
+        let rt = self.rt;
+        let rows = rows_of(rt, COUNTED.as_slice());
+        let gate = Watch {
+            tally: Tally::new(rt, rows.as_slice()),
+            test: *self,
+        };
+        let settled = self.plays_lines(COUNTED.as_slice(), rows.as_slice(), 1, &gate);
+        assert!(rt; gate.tally.is_whole());
+        let sums = Settled {
+            commands: 7,
+            received: 5,
+            closed: 3,
+            abandoned: 2,
+            left: 0,
+        };
+        assert_eq!(rt; settled, sums);
     }
 }

@@ -2,9 +2,8 @@
 ghost use Rattle.std.specs.Prelude.{ℕ, ◌≡◌, ◌⊎◌, ◌+◌, ◌<◌, ◌≤◌, [], IfOk, IfErr, true, length, map, vec_len, vec_capacity};
 ghost use Rattle.blob_digest.specs.declared.refusal.Refusal.TheVariants.{LimitReached, Memory};
 ghost use Rattle.blob_store.specs.Totals.{Amounts, nothing, sum_of};
-ghost use Rattle.blob_store.specs.Workers.{AllAt, ArePlayed, IsPlayed, IsReady, IsTurn};
+ghost use Rattle.blob_store.specs.Workers.{AllAt, ArePlayed, AreSettled, IsPlayed, IsReady, IsTurn};
 ghost use Rattle.row_player.specs.Answers.{answers_of};
-ghost use Rattle.row_player.specs.Counts.{counted_bytes, counted_commands};
 ghost use Rattle.row_player.specs.Lines.{line_of};
 ghost use Rattle.row_player.specs.Shares.{own_answers, own_rows};
 
@@ -149,8 +148,7 @@ pub fn play<
     requires { (0 < workers) × (workers ≤ MAX_WORKERS) }
     ensures replies { IfOk result (λ p. length p.replies.items ≡ length rows.now) }
     ensures each { IfOk result (λ p. (w : ℕ) → w < workers → (desk : Amounts) × IsPlayed workers w (map line_of rows.now) desk (own_answers workers w (map line_of rows.now) (answers_of p.replies.items))) }
-    ensures commands { IfOk result (λ p. p.settled.commands ≡ counted_commands (map line_of rows.now) (answers_of p.replies.items)) }
-    ensures received { IfOk result (λ p. p.settled.received ≡ counted_bytes (map line_of rows.now) (answers_of p.replies.items)) }
+    ensures settled { IfOk result (λ p. AreSettled (map line_of rows.now) (answers_of p.replies.items) p.settled) }
     ensures refused { IfErr result (λ e. (e ≡ LimitReached) ⊎ (e ≡ Memory)) }
 {
     let mut lists = lists_for(alloc, rows, workers)?;

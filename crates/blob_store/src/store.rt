@@ -1,17 +1,18 @@
 //! The store that threads share.
 
-ghost use Rattle.std.specs.Prelude.{◌≡◌, ◌⊎◌, ◌+◌, ◌<◌, IfErr, IfOk, IfSome, None, OnErr, OnOk, Some, length, sum_by, vec_len};
+ghost use Rattle.std.specs.Prelude.{◌≡◌, ◌⊎◌, ◌+◌, ◌<◌, ◌≤◌, IfErr, IfOk, IfSome, MatchResult, None, OnErr, OnOk, Some, length, sum_by, vec_len};
 ghost use Rattle.std.specs.Arc.{arc_value};
 ghost use Rattle.std.specs.Io.KnownBytes.{Appends};
 ghost use Rattle.blob_digest.specs.Digests.{sha256_text};
+ghost use Rattle.oci_manifest.specs.Manifests.{max_manifest, refs_of};
 ghost use Rattle.store_book.specs.Catalog.{Catalog};
-ghost use Rattle.store_book.specs.Laws.{Sound};
 ghost use Rattle.store_book.specs.Printed.{book_text};
 ghost use Rattle.store_book.specs.SlotSteps.{HasPin};
 ghost use Rattle.store_book.specs.Sweeps.{IsSweep};
 ghost use Rattle.blob_store.specs.Found.{InSomeBook};
+ghost use Rattle.blob_store.specs.Naming.{setting_of};
 ghost use Rattle.blob_store.specs.Totals.{nothing, plus, one, sum_of};
-ghost use Rattle.blob_digest.specs.declared.refusal.Refusal.TheVariants.{LimitReached, Memory};
+ghost use Rattle.blob_digest.specs.declared.refusal.Refusal.TheVariants.{LimitReached, ManifestInvalid, Memory, NameUnknown, SizeInvalid};
 
 use crate::counters::Counters;
 use crate::desk::{Desk, Settled};
@@ -37,6 +38,8 @@ use upload_table::Hand;
 /// to the book and the totals; `append`, `close` and `put_manifest` are the lock around two of them, and copy
 /// and hash between the two without it. Here it is said what a command does to the desk of its caller. All of
 /// them may wait for the lock.
+///
+/// A command can't be counted where, with those in hand, 2^64 would be accepted or 2^64 bytes received.
 #[derive(Drop)]
 pub struct Store<N: Naming, C: Ledger, R: Ledger, D: Ledger, A: Ledger> {
     pins: Pins,
@@ -73,10 +76,11 @@ fn fill_in(hand: Hand, bytes: &[u8], last: Option<Algorithm>) -> Result<Hand, Ha
 }
 
 impl<N: Naming, C: Ledger, R: Ledger, D: Ledger, A: Ledger> Store<N, C, R, D, A> {
-    /// The store of these parts, which the type parameters name: the table of the pins with its slots, and
-    /// the ledgers of accepted commands, of bytes received, closed and abandoned.
+    /// The store of these parts, which the type parameters name: the table of the pins with its slots, what the book
+    /// was made with, and the ledgers of accepted commands, of bytes received, closed and abandoned.
     pub fn new(parts: Parts) -> Store<N, C, R, D, A>
         requires pins { (parts.book.table ≡ N.table) × (length parts.book.slots ≡ N.slots) }
+        requires setting { setting_of parts.book.catalog ≡ N.setting }
         requires commands { (parts.commands.name ≡ C.name) × (parts.commands.parts ≡ C.parts) }
         requires received { (parts.received.name ≡ R.name) × (parts.received.parts ≡ R.parts) }
         requires closed { (parts.closed.name ≡ D.name) × (parts.closed.parts ≡ D.parts) }
@@ -117,6 +121,7 @@ impl<N: Naming, C: Ledger, R: Ledger, D: Ledger, A: Ledger> Store<N, C, R, D, A>
     /// memory.
     pub fn desks(&self, rt: &impl Wait, count: u64) -> Result<Vec<Desk<C, R, D, A>>, Refusal>
         ensures made { IfOk result (λ v. (vec_len v ≡ count) × (sum_of v.items ≡ nothing)) }
+        ensures limit { (count ≡ 0) ⊎ (1024 < count) → MatchResult result (λ _. ⊥) (λ e. e ≡ LimitReached) }
         ensures refused { IfErr result (λ e. (e ≡ LimitReached) ⊎ (e ≡ Memory)) }
     {
         self.locked(rt).desks(self.alloc, count)
@@ -140,9 +145,9 @@ impl<N: Naming, C: Ledger, R: Ledger, D: Ledger, A: Ledger> Store<N, C, R, D, A>
     /// Opens a session in a repository, and answers its number (OCI Distribution Specification 1.1,
     /// "Pushing a blob in chunks", the opening POST). The repository appears with it.
     ///
-    /// Refused, in this order: a tenant that is not there (`NameUnknown`); a tenant that has 1,024
-    /// repositories where this one is new, or 64 sessions, or no session number left
-    /// (`LimitReached`); want of memory.
+    /// Refused, in this order: a command that can't be counted (`LimitReached`); a tenant that is not there
+    /// (`NameUnknown`); a tenant that has 1,024 repositories where this one is new, or 64 sessions, or no session
+    /// number left (`LimitReached`); want of memory.
     pub fn start(
         &self,
         rt: &impl Wait,
@@ -158,8 +163,8 @@ impl<N: Naming, C: Ledger, R: Ledger, D: Ledger, A: Ledger> Store<N, C, R, D, A>
     /// How many bytes a session has received (OCI Distribution Specification 1.1, "Pushing a blob in
     /// chunks", the GET of a session's location). It takes no memory.
     ///
-    /// Refused, in this order: a tenant that is not there (`NameUnknown`); a session that is not there
-    /// or another repository's (`UploadUnknown`).
+    /// Refused, in this order: a command that can't be counted (`LimitReached`); a tenant that is not there
+    /// (`NameUnknown`); a session that is not there or another repository's (`UploadUnknown`).
     pub fn status(
         &self,
         rt: &impl Wait,
@@ -203,11 +208,11 @@ impl<N: Naming, C: Ledger, R: Ledger, D: Ledger, A: Ledger> Store<N, C, R, D, A>
     /// "Pushing a blob in chunks"). A chunk without a range goes at the end. The bytes are copied and hashed
     /// without the lock, while the session is busy.
     ///
-    /// Refused, in this order: a tenant that is not there (`NameUnknown`); a session that is not there
-    /// or another repository's (`UploadUnknown`); a session that another call has in hand (`Busy`); a range
-    /// of another length than the bytes, or a session past the size limit (`SizeInvalid`); a range that does
-    /// not start at the received length (`RangeInvalid`); a use past the quota (`Quota`); want of memory. A
-    /// refusal leaves the session as it was.
+    /// Refused, in this order: a command that can't be counted (`LimitReached`); a tenant that is not there
+    /// (`NameUnknown`); a session that is not there or another repository's (`UploadUnknown`); a session that
+    /// another call has in hand (`Busy`); a range of another length than the bytes, or a session past the size
+    /// limit (`SizeInvalid`); a range that does not start at the received length (`RangeInvalid`); a use past the
+    /// quota (`Quota`); want of memory. A refusal leaves the session as it was.
     pub fn append(
         &self,
         rt: &impl Wait,
@@ -256,8 +261,9 @@ impl<N: Naming, C: Ledger, R: Ledger, D: Ledger, A: Ledger> Store<N, C, R, D, A>
     /// Gives a session up with its bytes, and answers how many it had received. Its number is not
     /// given again. It takes no memory.
     ///
-    /// Refused, in this order: a tenant that is not there (`NameUnknown`); a session that is not there
-    /// or another repository's (`UploadUnknown`); a session that another call has in hand (`Busy`).
+    /// Refused, in this order: a command that can't be counted (`LimitReached`); a tenant that is not there
+    /// (`NameUnknown`); a session that is not there or another repository's (`UploadUnknown`); a session that
+    /// another call has in hand (`Busy`).
     pub fn abandon(
         &self,
         rt: &impl Wait,
@@ -276,9 +282,9 @@ impl<N: Naming, C: Ledger, R: Ledger, D: Ledger, A: Ledger> Store<N, C, R, D, A>
     /// source doesn't hold it, or is another tenant's, or where without a source no repository of the tenant
     /// holds it, this opens a session, as `start` does.
     ///
-    /// Refused, in this order: a tenant that is not there (`NameUnknown`); a tenant that has 1,024
-    /// repositories where this one is new, and, where a session is opened, 64 sessions or no session
-    /// number left (`LimitReached`); want of memory.
+    /// Refused, in this order: a command that can't be counted (`LimitReached`); a tenant that is not there
+    /// (`NameUnknown`); a tenant that has 1,024 repositories where this one is new, and, where a session is
+    /// opened, 64 sessions or no session number left (`LimitReached`); want of memory.
     pub fn mount(
         &self,
         rt: &impl Wait,
@@ -296,9 +302,9 @@ impl<N: Naming, C: Ledger, R: Ledger, D: Ledger, A: Ledger> Store<N, C, R, D, A>
     /// Takes the link to a blob out of a repository (OCI Distribution Specification 1.1, "Deleting
     /// Blobs"). It takes no memory.
     ///
-    /// Refused, in this order: a tenant that is not there (`NameUnknown`); a digest that is not linked
-    /// in the repository (`BlobUnknown`); one that a manifest of the repository refers to
-    /// (`Referenced`, with the least digest of such a manifest).
+    /// Refused, in this order: a command that can't be counted (`LimitReached`); a tenant that is not there
+    /// (`NameUnknown`); a digest that is not linked in the repository (`BlobUnknown`); one that a manifest of the
+    /// repository refers to (`Referenced`, with the least digest of such a manifest).
     pub fn delete(
         &self,
         rt: &impl Wait,
@@ -316,11 +322,11 @@ impl<N: Naming, C: Ledger, R: Ledger, D: Ledger, A: Ledger> Store<N, C, R, D, A>
     /// Distribution Specification 1.1, "Pushing Manifests"). The repository appears with it. The bytes are
     /// parsed, hashed and copied without the lock.
     ///
-    /// Refused, in this order: a tenant that is not there (`NameUnknown`); more than 4,194,304 bytes
-    /// (`SizeInvalid`); bytes that are no manifest (`ManifestInvalid`); a reference that the repository
-    /// doesn't hold (`ManifestBlobUnknown`, with the first); where the manifest is new, a tenant that
-    /// has 1,024 repositories and not this one, or a repository that has 1,024 manifests
-    /// (`LimitReached`); want of memory.
+    /// Refused, in this order: a command that can't be counted (`LimitReached`); a tenant that is not there
+    /// (`NameUnknown`); more than 4,194,304 bytes (`SizeInvalid`); bytes that are no manifest
+    /// (`ManifestInvalid`); a reference that the repository doesn't hold (`ManifestBlobUnknown`, with the first);
+    /// where the manifest is new, a tenant that has 1,024 repositories and not this one, or a repository that has
+    /// 1,024 manifests (`LimitReached`); want of memory.
     pub fn put_manifest(
         &self,
         rt: &impl Wait,
@@ -331,6 +337,10 @@ impl<N: Naming, C: Ledger, R: Ledger, D: Ledger, A: Ledger> Store<N, C, R, D, A>
         ensures ok { OnOk result (desk.new ≡ plus desk.old (one 0 0 0)) }
         ensures err { OnErr result (desk.new ≡ desk.old) }
         ensures digest { IfOk result (λ d. d ≡ sha256_text bytes.now) }
+        ensures too_long { max_manifest < length bytes.now → MatchResult result (λ _. ⊥) (λ e. (e ≡ LimitReached) ⊎ (e ≡ NameUnknown) ⊎ (e ≡ SizeInvalid)) }
+        ensures size { IfErr result (λ e. e ≡ SizeInvalid → max_manifest < length bytes.now) }
+        ensures no_manifest { refs_of bytes.now ≡ None → length bytes.now ≤ max_manifest → MatchResult result (λ _. ⊥) (λ e. (e ≡ LimitReached) ⊎ (e ≡ NameUnknown) ⊎ (e ≡ ManifestInvalid) ⊎ (e ≡ Memory)) }
+        ensures invalid { IfErr result (λ e. e ≡ ManifestInvalid → refs_of bytes.now ≡ None) }
     {
         self.locked(rt).check_tenant(repo)?;
         let manifest = read(self.alloc, bytes)?;
@@ -340,8 +350,8 @@ impl<N: Naming, C: Ledger, R: Ledger, D: Ledger, A: Ledger> Store<N, C, R, D, A>
     /// The manifest that a repository has under a digest (OCI Distribution Specification 1.1, "Pulling
     /// manifests"). Its bytes are shared, not copied.
     ///
-    /// Refused, in this order: a tenant that is not there (`NameUnknown`); a digest under which the
-    /// repository has no manifest (`ManifestUnknown`); want of memory.
+    /// Refused, in this order: a command that can't be counted (`LimitReached`); a tenant that is not there
+    /// (`NameUnknown`); a digest under which the repository has no manifest (`ManifestUnknown`); want of memory.
     pub fn get_manifest(
         &self,
         rt: &impl Wait,
@@ -359,8 +369,8 @@ impl<N: Naming, C: Ledger, R: Ledger, D: Ledger, A: Ledger> Store<N, C, R, D, A>
     /// Takes a manifest out of a repository (OCI Distribution Specification 1.1, "Deleting Manifests"). It
     /// takes no memory.
     ///
-    /// Refused, in this order: a tenant that is not there (`NameUnknown`); a digest under which the
-    /// repository has no manifest (`ManifestUnknown`).
+    /// Refused, in this order: a command that can't be counted (`LimitReached`); a tenant that is not there
+    /// (`NameUnknown`); a digest under which the repository has no manifest (`ManifestUnknown`).
     pub fn delete_manifest(
         &self,
         rt: &impl Wait,
@@ -376,9 +386,9 @@ impl<N: Naming, C: Ledger, R: Ledger, D: Ledger, A: Ledger> Store<N, C, R, D, A>
 
     /// Leases a blob that a repository holds. While the lease is out, no sweep frees the blob's slot.
     ///
-    /// Refused, in this order: a tenant that is not there (`NameUnknown`); a digest that is not linked
-    /// in the repository (`BlobUnknown`); a slot that has no room for one reader more
-    /// (`TooManyReaders`); want of memory.
+    /// Refused, in this order: a command that can't be counted (`LimitReached`); a tenant that is not there
+    /// (`NameUnknown`); a digest that is not linked in the repository (`BlobUnknown`); a slot that has no room
+    /// for one reader more (`TooManyReaders`); want of memory.
     pub fn lease(
         &self,
         rt: &impl Wait,
@@ -398,7 +408,7 @@ impl<N: Naming, C: Ledger, R: Ledger, D: Ledger, A: Ledger> Store<N, C, R, D, A>
     /// that no lease holds. It goes over the slots once, and takes no memory. What it answers is the count of a
     /// sweep of a sound book.
     pub fn sweep(&self, rt: &impl Wait) -> Swept
-        ensures { InSomeBook N.slots (λ b. (C : Catalog) × IsSweep b.catalog result C) }
+        ensures { InSomeBook N.slots N.setting (λ b. (C : Catalog) × IsSweep b.catalog result C) }
     {
         self.locked(rt).sweep(&self.pins)
     }
@@ -407,7 +417,7 @@ impl<N: Naming, C: Ledger, R: Ledger, D: Ledger, A: Ledger> Store<N, C, R, D, A>
     /// digest. It takes no memory.
     pub fn verify<'s>(&'s self, rt: &impl Wait, lease: Lease<'s, N>) -> Lease<'s, N>
         ensures same { result ≡ lease.entry }
-        ensures kept { InSomeBook N.slots (HasPin lease.entry.hold) }
+        ensures kept { InSomeBook N.slots N.setting (HasPin lease.entry.hold) }
     {
         let Lease {
             pins,
@@ -427,11 +437,12 @@ impl<N: Naming, C: Ledger, R: Ledger, D: Ledger, A: Ledger> Store<N, C, R, D, A>
         self.locked(rt).word(&self.pins, slot)
     }
 
-    /// Writes the text of the book, without taking memory, as `Book::print` does.
+    /// Writes the text of the book, without taking memory, as `Book::print` does: that of a sound book with the
+    /// tenants, the quotas, the slots and the limit on blobs that the store was made with.
     ///
     /// Refused is what the writer refuses.
     pub fn print<W: Write>(&self, rt: &impl Wait, writer: &mut W) -> io::Result<()>
-        ensures { OnOk result ((C : Catalog) × Sound C × Appends (W.contents writer.old) (W.contents writer.new) (book_text C)) }
+        ensures { OnOk result (InSomeBook N.slots N.setting (λ b. Appends (W.contents writer.old) (W.contents writer.new) (book_text b.catalog))) }
     {
         self.locked(rt).print(writer)
     }

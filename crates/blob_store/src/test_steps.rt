@@ -1,6 +1,6 @@
 //! What the tests are written with: a store under names, and the commands of a table, each with its answer.
 
-ghost use Rattle.std.specs.Prelude.{◌<◌};
+ghost use Rattle.std.specs.Prelude.{◌<◌, ◌≤◌};
 
 use crate::{Desk, Lease, Naming, Store};
 use blob_digest::{Algorithm, ByteRange, Digest, Refusal, RepoName};
@@ -80,13 +80,13 @@ pub enum Step<'a> {
     Sweep(u32, u32, u32),
     /// A sweep that condemns so many blobs and retires their slots.
     Retire(u32),
-    /// The word of slot 0 is this.
-    Word(u64),
+    /// The word of a slot is this.
+    Word(u32, u64),
     /// The text of the book is this.
     Prints(&'a str),
 }
 
-/// A store, with what runs the test.
+/// A store of so many slots, with what runs the test.
 #[derive(Clone, Copy)]
 pub struct TestStore<
     's,
@@ -99,6 +99,8 @@ pub struct TestStore<
 > {
     pub rt: &'s W,
     pub store: &'s Store<N, C, R, D, A>,
+    pub slots: u32,
+    pub ghost there: { slots ≤ N.slots },
 }
 
 impl<
@@ -214,10 +216,12 @@ impl<
         self.store.sweep(self.rt)
     }
 
-    fn word(&self) -> u64
-        requires { 0 < N.slots }
-    {
-        self.store.word(self.rt, 0)
+    /// The word of a slot, where the store has that slot.
+    fn word(&self, slot: u32) -> Option<u64> {
+        if slot < self.slots {
+            return Some(self.store.word(self.rt, slot));
+        }
+        None
     }
 
     pub fn printed(&self) -> Vec<u8> {
@@ -229,9 +233,7 @@ impl<
     }
 
     /// Whether a step answers what it has to.
-    fn goes(&self, desk: &mut Desk<C, R, D, A>, step: &Step) -> bool
-        requires { 0 < N.slots }
-    {
+    fn goes(&self, desk: &mut Desk<C, R, D, A>, step: &Step) -> bool {
         match step {
             Step::Start(repo, wanted) => self.start(desk, repo) == *wanted,
             Step::Status(repo, number, wanted) => self.status(desk, repo, *number) == *wanted,
@@ -273,15 +275,13 @@ impl<
                 };
                 self.sweep() == wanted
             }
-            Step::Word(wanted) => self.word() == *wanted,
+            Step::Word(slot, wanted) => self.word(*slot) == Some(*wanted),
             Step::Prints(wanted) => self.printed().as_slice() == wanted.as_bytes(),
         }
     }
 
     /// Plays a table of commands on one desk.
-    pub fn plays(&self, desk: &mut Desk<C, R, D, A>, steps: &[Step])
-        requires { 0 < N.slots }
-    {
+    pub fn plays(&self, desk: &mut Desk<C, R, D, A>, steps: &[Step]) {
         let rt = self.rt;
         for step in steps {
             assert!(rt; self.goes(desk, step));

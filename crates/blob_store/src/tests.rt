@@ -1,6 +1,7 @@
 //! Worked examples on a store that has names.
 
-ghost use Rattle.std.specs.Prelude.{◌≡◌, ◌<◌, length};
+ghost use Rattle.std.specs.Prelude.{◌≡◌, ◌≤◌, length};
+ghost use Rattle.blob_store.specs.Naming.{setting_of};
 
 use crate::test_steps::{ABC, OBJ, ONE, Step, TWO, TestStore, config};
 use crate::{Lease, Naming, Parts, Settled, Store, Totals};
@@ -11,7 +12,7 @@ use std::process::Abort;
 use std::sync::Wait;
 use std::sync::ledger::Ledger;
 use std::thread::Threads;
-use store_book::Mount;
+use store_book::{Config, Mount};
 
 const MANIFEST: &str = "{\"schemaVersion\":2,\"manifests\":[]}";
 
@@ -36,6 +37,11 @@ enum Scene {
     Loaded,
     LoadedWithAll,
     TwoWorkers,
+    OneWorker,
+    AllDesks,
+    MostLeases,
+    GreatChunks,
+    Refusals,
 }
 
 impl Scene {
@@ -43,6 +49,7 @@ impl Scene {
     fn slots(self) -> (u32, u32) {
         match self {
             Scene::LastGeneration => (1, 4_294_967_295),
+            Scene::Refusals => (1, 0),
             Scene::Loaded | Scene::LoadedWithAll => (64, 0),
             _ => (2, 0),
         }
@@ -59,21 +66,19 @@ impl<
     W: Abort + AllocGlobal + Threads + Wait + Sync,
 > TestStore<'s, N, C, R, D, A, W> {
     /// So many desks are refused.
-    fn refuses_desks(&self, count: u64) {
+    pub fn refuses_desks(&self, count: u64) {
         let rt = self.rt;
         match self.store.desks(rt, count) {
             Ok(desks) => {
                 self.store.settle(rt, desks);
-                assert!(rt; false);
+                panic!(rt; "{count} desks are made");
             }
             Err(refusal) => assert_eq!(rt; refusal, Refusal::LimitReached),
         }
     }
 
     /// Two desks get their shares, and settle.
-    fn two_desks(&self)
-        requires { 0 < N.slots }
-    {
+    fn two_desks(&self) {
         let rt = self.rt;
         self.refuses_desks(0);
         self.refuses_desks(1025);
@@ -112,9 +117,7 @@ impl<
     }
 
     /// Each command that needs no lease.
-    fn commands(&self)
-        requires { 0 < N.slots }
-    {
+    fn commands(&self) {
         let rt = self.rt;
         let mut desks = self.store.desks(rt, 1).expect(rt, "a desk");
         let steps = [
@@ -153,22 +156,20 @@ impl<
     }
 
     /// The slot of the last generation is retired, and takes no other blob.
-    fn last_generation(&self)
-        requires { 0 < N.slots }
-    {
+    fn last_generation(&self) {
         let rt = self.rt;
         let mut desks = self.store.desks(rt, 1).expect(rt, "a desk");
         let steps = [
             Step::Start(ONE, Ok(1)),
             Step::Close(ONE, 1, ABC, "", "abc", Ok(3)),
-            Step::Word(0xffff_ffff_8000_0000),
+            Step::Word(0, 0xffff_ffff_8000_0000),
             Step::Delete(ONE, ABC, Ok(())),
             Step::Retire(1),
-            Step::Word(0xffff_ffff_4000_0000),
+            Step::Word(0, 0xffff_ffff_4000_0000),
             Step::Start(ONE, Ok(2)),
             Step::Close(ONE, 2, OBJ, "", "{}", Err(Refusal::StoreFull)),
             Step::Sweep(0, 0, 0),
-            Step::Word(0xffff_ffff_4000_0000),
+            Step::Word(0, 0xffff_ffff_4000_0000),
         ];
         self.plays(&mut desks[0], &steps);
         self.store.settle(rt, desks);
@@ -206,9 +207,7 @@ impl<
     }
 
     /// A lease keeps the slot of a deleted blob until it is given back.
-    fn leased(&self)
-        requires { 0 < N.slots }
-    {
+    fn leased(&self) {
         let rt = self.rt;
         let mut desks = self.store.desks(rt, 1).expect(rt, "a desk");
         let before = [
@@ -218,19 +217,25 @@ impl<
         self.plays(&mut desks[0], &before);
         let lease = self.leases(&mut desks[0], ABC);
         let meanwhile = [
-            Step::Word(0x0000_0000_8000_0400),
+            Step::Word(0, 0x0000_0000_8000_0400),
+            Step::Word(1, 0),
+            Step::Start(ONE, Ok(2)),
+            Step::Close(ONE, 2, OBJ, "", "{}", Ok(2)),
+            Step::Word(1, 0x0000_0000_8000_0000),
             Step::Delete(ONE, ABC, Ok(())),
-            Step::Sweep(1, 0, 1),
-            Step::Word(0x0000_0000_c000_0400),
+            Step::Delete(ONE, OBJ, Ok(())),
+            Step::Sweep(2, 1, 1),
+            Step::Word(0, 0x0000_0000_c000_0400),
+            Step::Word(1, 0x0000_0001_0000_0000),
         ];
         self.plays(&mut desks[0], &meanwhile);
         let lease = self.store.verify(rt, lease);
         self.reads(&lease);
         lease.give_back();
         let after = [
-            Step::Word(0x0000_0000_c000_0000),
+            Step::Word(0, 0x0000_0000_c000_0000),
             Step::Sweep(0, 1, 0),
-            Step::Word(0x0000_0001_0000_0000),
+            Step::Word(0, 0x0000_0001_0000_0000),
         ];
         self.plays(&mut desks[0], &after);
         self.store.settle(rt, desks);
@@ -244,16 +249,14 @@ impl<
                 left
             }
             Err((refusal, lease)) => {
-                assert_eq!(self.rt; refusal, Refusal::Busy);
-                lease
+                lease.give_back();
+                panic!(self.rt; "a lease isn't shared: {refusal}")
             }
         }
     }
 
     /// A lease is shared ten times, and no more.
-    fn shared(&self)
-        requires { 0 < N.slots }
-    {
+    fn shared(&self) {
         let rt = self.rt;
         let mut desks = self.store.desks(rt, 1).expect(rt, "a desk");
         let before = [
@@ -271,7 +274,7 @@ impl<
             Ok((left, right)) => {
                 left.give_back();
                 right.give_back();
-                assert!(rt; false);
+                panic!(rt; "a lease of weight 1 is shared");
             }
             Err((refusal, lease)) => {
                 assert_eq!(rt; refusal, Refusal::WeightSpent);
@@ -279,7 +282,7 @@ impl<
                 lease.give_back();
             }
         }
-        self.plays(&mut desks[0], &[Step::Word(0x0000_0000_8000_0000)]);
+        self.plays(&mut desks[0], &[Step::Word(0, 0x0000_0000_8000_0000)]);
         self.store.settle(rt, desks);
     }
 }
@@ -292,16 +295,21 @@ fn play<
     D: Ledger + Send + Sync,
     A: Ledger + Send + Sync,
     W: Abort + AllocGlobal + Threads + Wait + Sync,
->(rt: &W, parts: Parts, scene: Scene)
+>(rt: &W, parts: Parts, slots: u32, scene: Scene)
     requires pins { (parts.book.table ≡ N.table) × (length parts.book.slots ≡ N.slots) }
-    requires some { 0 < length parts.book.slots }
+    requires setting { setting_of parts.book.catalog ≡ N.setting }
+    requires there { slots ≤ length parts.book.slots }
     requires commands { (parts.commands.name ≡ C.name) × (parts.commands.parts ≡ C.parts) }
     requires received { (parts.received.name ≡ R.name) × (parts.received.parts ≡ R.parts) }
     requires closed { (parts.closed.name ≡ D.name) × (parts.closed.parts ≡ D.parts) }
     requires abandoned { (parts.abandoned.name ≡ A.name) × (parts.abandoned.parts ≡ A.parts) }
 {
     let store = Store::<N, C, R, D, A>::new(parts);
-    let test = TestStore { rt, store: &store };
+    let test = TestStore {
+        rt,
+        store: &store,
+        slots,
+    };
     match scene {
         Scene::TwoDesks => test.two_desks(),
         Scene::Commands => test.commands(),
@@ -313,6 +321,11 @@ fn play<
         Scene::Loaded => test.loaded(false, LOADED),
         Scene::LoadedWithAll => test.loaded(true, LOADED_WITH_ALL),
         Scene::TwoWorkers => test.two_workers(),
+        Scene::OneWorker => test.one_worker(),
+        Scene::AllDesks => test.all_desks(),
+        Scene::MostLeases => test.lends_the_most(),
+        Scene::GreatChunks => test.fills_without_the_lock(),
+        Scene::Refusals => test.refusals(),
     }
 }
 
@@ -325,8 +338,11 @@ fn play_on_a_store<W: Abort + AllocGlobal + Threads + Wait + Sync>(
     let (slots, first_generation) = scene.slots();
     let mut config = config(rt, slots, names);
     config.first_generation = first_generation;
+    if let Scene::Refusals = scene {
+        limit(&mut config, 8, 10);
+    }
     let parts = Parts::new(rt.alloc(), &config).expect(rt, "parts");
-    play::<Brand, Brand, Brand, Brand, Brand, W>(rt, parts, scene);
+    play::<Brand, Brand, Brand, Brand, Brand, W>(rt, parts, config.slots, scene);
 }
 
 #[test]
@@ -360,6 +376,31 @@ fn two_workers_play_at_the_same_time(rt: HostRuntime) {
 }
 
 #[test]
+fn a_gate_is_asked_before_and_after_each_row(rt: HostRuntime) {
+    play_on_a_store(&rt, &["acme", "other"], Scene::OneWorker);
+}
+
+#[test]
+fn all_desks_are_out_at_once(rt: HostRuntime) {
+    play_on_a_store(&rt, &["acme", "other"], Scene::AllDesks);
+}
+
+#[test]
+fn a_blob_that_had_the_most_leases_is_lent_again(rt: HostRuntime) {
+    play_on_a_store(&rt, &["acme"], Scene::MostLeases);
+}
+
+#[test]
+fn great_chunks_are_filled_without_the_lock(rt: HostRuntime) {
+    play_on_a_store(&rt, &["acme"], Scene::GreatChunks);
+}
+
+#[test]
+fn two_workers_are_refused_as_each_command_says(rt: HostRuntime) {
+    play_on_a_store(&rt, &["acme", "other"], Scene::Refusals);
+}
+
+#[test]
 fn a_lease_is_read_while_the_lock_is_held(rt: HostRuntime) {
     play_on_a_store(&rt, &["acme"], Scene::Reading);
 }
@@ -379,6 +420,14 @@ fn eight_threads_play_all_commands_while_others_sweep_and_meet(rt: HostRuntime) 
     play_on_a_store(&rt, &["acme"], Scene::LoadedWithAll);
 }
 
+/// Blobs of at most so many bytes, and a quota for each tenant.
+fn limit(config: &mut Config, max_blob: u64, quota: u64) {
+    config.max_blob = max_blob;
+    for tenant in config.tenants.iter_mut() {
+        tenant.1 = quota;
+    }
+}
+
 /// A store of these slots and tenants, blobs of at most so many bytes, and a quota for each tenant isn't opened.
 fn refuses(
     rt: &(impl Abort + AllocGlobal),
@@ -389,10 +438,7 @@ fn refuses(
     refusal: Refusal,
 ) {
     let mut config = config(rt, slots, names);
-    config.max_blob = max_blob;
-    for tenant in config.tenants.iter_mut() {
-        tenant.1 = quota;
-    }
+    limit(&mut config, max_blob, quota);
     assert_eq!(rt; Parts::new(rt.alloc(), &config).err(), Some(refusal));
 }
 

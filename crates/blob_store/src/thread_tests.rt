@@ -13,7 +13,7 @@ use std::thread::Threads;
 use std::{io, thread};
 
 /// As many turns as a thread waits for another.
-pub const MAX_TURNS: u32 = 100_000_000;
+pub const MAX_TURNS: u32 = 1_000_000_000;
 
 /// The bytes of a chunk: 256 KiB.
 const CHUNK: usize = 262_144;
@@ -22,7 +22,7 @@ const CHUNK: usize = 262_144;
 const MAX_CHUNKS: u32 = 1024;
 
 /// Waits until a flag is set, for so many turns at most. Whether it is.
-fn awaits(flag: &AtomicBool) -> bool {
+pub fn awaits(flag: &AtomicBool) -> bool {
     for _ in 0..MAX_TURNS {
         if flag.load(Ordering::SeqCst) {
             return true;

@@ -41,7 +41,8 @@ pub struct Ended<C: Ledger, R: Ledger, D: Ledger, A: Ledger> {
     pub spent: Vec<Carried<C, R, D, A>>,
 }
 
-/// What a worker promises: it plays its rows.
+/// What a worker promises: where it came to the end of its rows, it has played them with its replies, and its desk
+/// got what they come to.
 #[derive(Clone, Copy)]
 pub struct Plays<'r> {
     rows: &'r [Row],
@@ -53,7 +54,7 @@ impl<'r, C: Ledger, R: Ledger, D: Ledger, A: Ledger> Promise<Outcome<C, R, D, A>
 }
 
 /// Plays a worker's rows on the store, and gives back the leases that its lanes still hold. It plays
-/// nothing once another worker could not be started.
+/// nothing where another worker could not be started before it begins, and plays on once it has begun.
 fn work<W: Wait, G: Gate, N: Naming, C: Ledger, R: Ledger, D: Ledger, A: Ledger>(
     rt: &W,
     alloc: Global,
@@ -120,8 +121,9 @@ fn spend_all<C: Ledger, R: Ledger, D: Ledger, A: Ledger>(
     spent
 }
 
-/// Plays the last job in the calling thread, once each other one was started in a thread of its own, and joins
-/// these. Once one can't be started, none that follows is, and those that have not begun play nothing.
+/// Plays the last job, the first worker's, in the calling thread, once each other one was started in a thread of its
+/// own, and joins these. Once one can't be started, none that follows is, and those that have not begun play nothing,
+/// the caller's among them.
 pub fn play_all<
     W: Threads + Wait + Sync,
     G: Gate + Send + Sync,

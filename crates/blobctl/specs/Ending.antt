@@ -3,6 +3,7 @@ use Rattle.std.specs.Prelude.{◌≡◌, ◌⊎◌, ◌<◌, ◌≤◌, ℕ, Lis
 use Rattle.std.specs.Io.KnownBytes.{Appends, Consumes}
 use Rattle.blob_digest.specs.Keys.{Text}
 use Rattle.blob_digest.specs.Tenants.{Tenant}
+use Rattle.blob_store.specs.Naming.{setting_of}
 use Rattle.blob_store.specs.Totals.{Amounts}
 use Rattle.blob_store.specs.Workers.{IsPlayed}
 use Rattle.blobctl.specs.Inputs.{IsTooLong, max_script}
@@ -13,6 +14,7 @@ use Rattle.row_player.specs.Rows.{Line}
 use Rattle.row_player.specs.Shares.{own_answers}
 use Rattle.store_book.specs.Catalog.{Catalog}
 use Rattle.store_book.specs.Laws.{Sound}
+use Rattle.store_book.specs.Openings.{OpensCatalog}
 use Rattle.store_book.specs.Printed.{book_text}
 use Rattle.blobctl.specs.Script.{AreRowsOf, IsFirstBad}
 use Rattle.blobctl.specs.Watching.{has_failed, inner_of}
@@ -39,25 +41,29 @@ pub record EndsWell {R : Type 0} (remaining : R → Option (List ℕ)) (old new 
   pub written : Appends held holds text
   pub played : Played tenants slots max_blob script text
 
--- What workers that play rows together write: one reply to each row, in the order of the rows, of which each worker's are those of
--- playing its rows in their order; and then a book that is sound.
-pub record PlayedTogether (workers : ℕ) (rows : List Line) (text : Text) : Type 0 where
+-- What workers that play rows together on a store of these tenants and limits write: one reply to each row, in the order of the rows, of
+-- which each worker's are those of playing its rows in their order; and then a book that is sound, of the tenants, quotas, slots and limit
+-- on blobs that the store was opened with.
+pub record PlayedTogether (workers : ℕ) (tenants : List Tenant) (slots max_blob : ℕ) (rows : List Line) (text : Text) : Type 0 where
   pub answers : List Answer
   pub one_each : length answers ≡ length rows
   pub own : (w : ℕ) → w < workers → (desk : Amounts) × IsPlayed workers w rows desk (own_answers workers w rows answers)
+  pub first : Catalog
+  pub opened : OpensCatalog tenants slots max_blob first
   pub last : Catalog
   pub sound : Sound last
+  pub same : setting_of last ≡ setting_of first
   pub written : text ≡ replies_text answers ++ book_text last
 
 -- what a run of several workers that ends well has read is a script, and what it has written is theirs
-pub record EndsTogether {R : Type 0} (remaining : R → Option (List ℕ)) (old new : Watched R) (held holds : Option (List ℕ)) (workers : ℕ) : Type 0 where
+pub record EndsTogether {R : Type 0} (remaining : R → Option (List ℕ)) (old new : Watched R) (held holds : Option (List ℕ)) (workers : ℕ) (tenants : List Tenant) (slots max_blob : ℕ) : Type 0 where
   pub script : Text
   pub read : IsReadWhole remaining old new script
   pub rows : List Line
   pub all : AreRowsOf script rows
   pub text : Text
   pub written : Appends held holds text
-  pub played : PlayedTogether workers rows text
+  pub played : PlayedTogether workers tenants slots max_blob rows text
 
 -- Why a run ends early: the first bad row of what was read whole; a failed read, or too long a script; a write, after the script was
 -- read whole and has good rows alone; or want of memory, with no read that failed.

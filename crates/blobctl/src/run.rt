@@ -81,7 +81,7 @@ pub fn run<T: Threads + Wait + Sync, R: Read, W: Write>(
     requires within { IsWithin options.now }
     requires unfailed { has_failed reader.old ≡ false }
     ensures played { options.now.workers ≡ 1 → OnOk result (EndsWell R.remaining reader.old reader.new (W.contents writer.old) (W.contents writer.new) (tenants_shown options.now.store.tenants.items) options.now.store.slots options.now.store.max_blob) }
-    ensures together { options.now.workers ≢ 1 → OnOk result (EndsTogether R.remaining reader.old reader.new (W.contents writer.old) (W.contents writer.new) options.now.workers) }
+    ensures together { options.now.workers ≢ 1 → OnOk result (EndsTogether R.remaining reader.old reader.new (W.contents writer.old) (W.contents writer.new) options.now.workers (tenants_shown options.now.store.tenants.items) options.now.store.slots options.now.store.max_blob) }
     ensures most { TakesAtMost (R.remaining (inner_of reader.old)) (R.remaining (inner_of reader.new)) (max_script + 1) }
     ensures silent { IfErr result (λ e. e ≢ Fault.Write → writer.new ≡ writer.old) }
     ensures fault { IfErr result (λ e. Explains R.remaining reader.old reader.new e) }

@@ -4,7 +4,9 @@ ghost use Rattle.std.specs.Io.KnownBytes.{Appends};
 ghost use Rattle.blob_digest.specs.Keys.{Text};
 ghost use Rattle.blobctl.specs.Ending.{PlayedTogether};
 ghost use Rattle.blobctl.specs.Options.{CanWork, IsWithin};
+ghost use Rattle.blob_store.specs.Naming.{setting_of};
 ghost use Rattle.row_player.specs.Lines.{line_of};
+ghost use Rattle.store_book.specs.Openings.{OpensBook, tenants_shown};
 
 use crate::fault::Fault;
 use crate::options::Options;
@@ -18,8 +20,8 @@ use std::sync::Wait;
 use std::sync::ledger::Ledger;
 use std::thread::Threads;
 
-/// Plays all rows by workers on the store of these parts, which the type parameters name, and writes the replies
-/// and then the book.
+/// Plays all rows by workers on the store of these parts, which were made by the options and which the type
+/// parameters name, and writes the replies and then the book.
 fn play_on<
     T: Threads + Wait + Sync,
     W: Write,
@@ -33,21 +35,23 @@ fn play_on<
     alloc: Global,
     writer: &mut W,
     parts: Parts,
+    options: &Options,
     rows: &[Row],
-    workers: usize,
 ) -> Result<(), Fault>
-    requires workers { CanWork workers }
+    requires workers { CanWork options.now.workers }
+    requires opened { OpensBook (tenants_shown options.now.store.tenants.items) options.now.store.slots options.now.store.max_blob options.now.store.first_generation parts.book }
     requires pins { (parts.book.table ≡ N.table) × (length parts.book.slots ≡ N.slots) }
+    requires setting { setting_of parts.book.catalog ≡ N.setting }
     requires commands { (parts.commands.name ≡ C.name) × (parts.commands.parts ≡ C.parts) }
     requires received { (parts.received.name ≡ R.name) × (parts.received.parts ≡ R.parts) }
     requires closed { (parts.closed.name ≡ D.name) × (parts.closed.parts ≡ D.parts) }
     requires abandoned { (parts.abandoned.name ≡ A.name) × (parts.abandoned.parts ≡ A.parts) }
-    ensures played { OnOk result ((text : Text) × Appends (W.contents writer.old) (W.contents writer.new) text × PlayedTogether workers (map line_of rows.now) text) }
+    ensures played { OnOk result ((text : Text) × Appends (W.contents writer.old) (W.contents writer.new) text × PlayedTogether options.now.workers (tenants_shown options.now.store.tenants.items) options.now.store.slots options.now.store.max_blob (map line_of rows.now) text) }
     ensures silent { IfErr result (λ e. e ≢ Fault.Write → writer.new ≡ writer.old) }
     ensures refused { IfErr result (λ e. (e ≡ Fault.Memory) ⊎ (e ≡ Fault.Write)) }
 {
     let store = Store::<N, C, R, D, A>::new(parts);
-    let Ok(played) = play(rt, alloc, &store, rows, workers, &OpenGate) else {
+    let Ok(played) = play(rt, alloc, &store, rows, options.workers, &OpenGate) else {
         return Err(Fault::Memory);
     };
     let Ok(()) = write_replies(writer, played.replies.as_slice()) else {
@@ -59,7 +63,8 @@ fn play_on<
     Ok(())
 }
 
-/// Plays all rows by workers on a new store, and writes the replies in the order of the rows, and then the book.
+/// Plays all rows by workers on a new store, and writes the replies in the order of the rows, and then the book, which
+/// has the tenants, the quotas, the slots and the limit on blobs of the options.
 /// Refused is want of memory, and then nothing is written; and what the writer refuses.
 pub fn play_together<T: Threads + Wait + Sync, W: Write>(
     rt: &T,
@@ -69,7 +74,7 @@ pub fn play_together<T: Threads + Wait + Sync, W: Write>(
     rows: &[Row],
 ) -> Result<(), Fault>
     requires { IsWithin options.now }
-    ensures played { OnOk result ((text : Text) × Appends (W.contents writer.old) (W.contents writer.new) text × PlayedTogether options.now.workers (map line_of rows.now) text) }
+    ensures played { OnOk result ((text : Text) × Appends (W.contents writer.old) (W.contents writer.new) text × PlayedTogether options.now.workers (tenants_shown options.now.store.tenants.items) options.now.store.slots options.now.store.max_blob (map line_of rows.now) text) }
     ensures silent { IfErr result (λ e. e ≢ Fault.Write → writer.new ≡ writer.old) }
     ensures refused { IfErr result (λ e. (e ≡ Fault.Memory) ⊎ (e ≡ Fault.Write)) }
 {
@@ -81,7 +86,7 @@ pub fn play_together<T: Threads + Wait + Sync, W: Write>(
         alloc,
         writer,
         parts,
+        options,
         rows,
-        options.workers,
     )
 }

@@ -1,6 +1,7 @@
 //! A script that two workers play.
 
 ghost use Rattle.std.specs.Prelude.{◌≡◌, length};
+ghost use Rattle.blob_store.specs.Naming.{setting_of};
 
 use crate::attempt::{Answer, Found, print_found, refused, whether};
 use crate::commands::config;
@@ -122,6 +123,7 @@ fn play_in<
     A: Ledger + Send + Sync,
 >(rt: &W, alloc: Global, parts: Parts, rows: &[Row]) -> Result<(), Stopped>
     requires pins { (parts.book.table ≡ N.table) × (length parts.book.slots ≡ N.slots) }
+    requires setting { setting_of parts.book.catalog ≡ N.setting }
     requires commands { (parts.commands.name ≡ C.name) × (parts.commands.parts ≡ C.parts) }
     requires received { (parts.received.name ≡ R.name) × (parts.received.parts ≡ R.parts) }
     requires closed { (parts.closed.name ≡ D.name) × (parts.closed.parts ≡ D.parts) }

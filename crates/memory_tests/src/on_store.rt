@@ -1,6 +1,7 @@
 //! The commands on a store that threads share, from one desk.
 
 ghost use Rattle.std.specs.Prelude.{◌≡◌, length};
+ghost use Rattle.blob_store.specs.Naming.{setting_of};
 
 use crate::attempt::{Answer, Calls, judged, play, refused, whether};
 use crate::commands::{Command, Names, commands, config};
@@ -359,6 +360,7 @@ fn play_in<N: Naming, C: Ledger, R: Ledger, D: Ledger, A: Ledger, W: AllocGlobal
     names: &Names,
 ) -> Result<(), Stopped>
     requires pins { (parts.book.table ≡ N.table) × (length parts.book.slots ≡ N.slots) }
+    requires setting { setting_of parts.book.catalog ≡ N.setting }
     requires four { length parts.book.slots ≡ 4 }
     requires commands { (parts.commands.name ≡ C.name) × (parts.commands.parts ≡ C.parts) }
     requires received { (parts.received.name ≡ R.name) × (parts.received.parts ≡ R.parts) }

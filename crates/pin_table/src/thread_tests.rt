@@ -201,8 +201,9 @@ fn no_sum_runs_into_the_condemned_bit(rt: HostRuntime) {
     );
     assert_eq!(rt; seen.condemned, 0);
     assert_eq!(rt; seen.lent.saturating_add(seen.refused), 1_000_000);
-    assert!(rt; seen.lent > 0);
     assert_eq!(rt; count_all(lists.as_slice()), 0);
+    let after = lend_at_the_limit(&mut desk, &mut more, 1);
+    assert_eq!(rt; (after.lent, after.refused, after.condemned), (1, 0, 0));
     let weight = u64::from(unpack(desk.word()).weight);
     assert_eq!(rt; weight, (more.len() as u64).saturating_mul(1024));
     end_all(lists);

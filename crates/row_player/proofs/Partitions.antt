@@ -1,5 +1,5 @@
 -- Sums over the rows of all workers.
-use Rattle.std.proofs.Common.{◌≡◌, ◌≢◌, ◌<◌, ◌≤◌, ◌+◌, ◌%◌, ◌==◌, ◌∙◌, ◌∷◌, [], ℕ, List, true, false, cond, ap, arith, get_or, length, map, refl, sym, take}
+use Rattle.std.proofs.Common.{◌≡◌, ◌≢◌, ◌<◌, ◌≤◌, ◌+◌, ◌%◌, ◌==◌, ◌∙◌, ◌∷◌, [], ℕ, Bool, List, true, false, cond, ap, arith, get_or, length, map, refl, sym, take}
 use Prim.Native.Nat.{zero, suc}
 use Rattle.std.specs.List.{filter, sum_by, zip}
 use Rattle.std.proofs.lemmas.Bool.{eqb-true, eq-eqb, true≢false}
@@ -97,6 +97,24 @@ own_pairs n w (line ∷ lines) (answer ∷ answers) size =
       | true ↦ ap (λ ps. (line, answer) ∷ ps) rest
       | false ↦ rest
     ]
+
+-- what is filtered comes to no more than all
+sum_within : {X : Type 0} (p : X → Bool) (g : X → ℕ) (xs : List X) → sum_by g (filter p xs) ≤ sum_by g xs
+sum_within p g [] = omega arith
+sum_within p g (x ∷ xs) =
+    let rest = sum_within p g xs in
+    let all = sum_by-cons g x xs in
+    elim (p x) as (λ b. sum_by g (cond b (x ∷ filter p xs) (filter p xs)) ≤ sum_by g (x ∷ xs)) [
+      | true ↦ let kept = sum_by-cons g x (filter p xs) in omega (arith, rest, all, kept)
+      | false ↦ omega (arith, rest, all)
+    ]
+
+-- What a worker's rows come to is no more than what all come to.
+pub worker_within : (g : Line × Answer → ℕ) (n w : ℕ) (lines : List Line) (answers : List Answer) → length answers ≡ length lines → sum_by g (zip (own_rows n w lines) (own_answers n w lines answers)) ≤ sum_by g (zip lines answers)
+worker_within g n w lines answers size =
+    let within = sum_within (λ (p : Line × Answer). is_own n w p.0) g (zip lines answers) in
+    let same = ap (sum_by g) (own_pairs n w lines answers size) in
+    omega (arith, within, same)
 
 -- What stands at each worker is the sum over its rows with its answers; then the sum of what stands there is that over all rows
 -- with the answers in their order.

@@ -38,8 +38,8 @@ returns-then-ended-clause-each g c =
     let together = subst (λ m. AreTogether m lines (λ w. get_or shown w []) answers) size c.in_row_order.ensures in
     each_played n lines c.collect-ended.new.desks.items shown answers (length-map lists.items (λ v. answers_of v.items) ∙ size) are together
 
-pub returns-then-ended-clause-commands : goal.returns-then-ended-clause-commands
-returns-then-ended-clause-commands g c =
+pub returns-then-ended-clause-settled : goal.returns-then-ended-clause-settled
+returns-then-ended-clause-settled g c =
     let n = c.args.workers in
     let lists = c.collect-ended.new.lists in
     let desks = c.collect-ended.new.desks in
@@ -51,21 +51,7 @@ returns-then-ended-clause-commands g c =
     let shown = map (λ v. answers_of v.items) lists.items in
     let are = c.collect-ended.ensures.played c.if-ended.true in
     let together = subst (λ m. AreTogether m lines (λ w. get_or shown w []) answers) size c.in_row_order.ensures in
-    let all = are_settled n lines desks.items shown answers desk_size c.requires.0 are together in
-    c.settle-settled.ensures.0 ∙ ap (λ ds. (sum_of ds).commands) (c.set_down_all.ensures.none none) ∙ all.commands
-
-pub returns-then-ended-clause-received : goal.returns-then-ended-clause-received
-returns-then-ended-clause-received g c =
-    let n = c.args.workers in
-    let lists = c.collect-ended.new.lists in
-    let desks = c.collect-ended.new.desks in
-    let lines = map line_of c.args.rows.now in
-    let answers = answers_of c.in_row_order.result.items in
-    let none = eqb-true (vec_len c.play_all-outcomes.result.spent) 0 (sym c.is_empty-started.ensures ∙ c.if-started.true) in
-    let size : length lists.items ≡ n = omega (arith, none, lists.ok.0, c.collect-ended.ensures.len.1, c.play_all-outcomes.ensures.len, c.jobs_of-jobs.ensures.len, c.in_ok-desks.ensures.made.0) in
-    let desk_size : length desks.items ≡ n = omega (arith, size, lists.ok.0, desks.ok.0, c.collect-ended.ensures.len.0, c.collect-ended.ensures.len.1) in
-    let shown = map (λ v. answers_of v.items) lists.items in
-    let are = c.collect-ended.ensures.played c.if-ended.true in
-    let together = subst (λ m. AreTogether m lines (λ w. get_or shown w []) answers) size c.in_row_order.ensures in
-    let all = are_settled n lines desks.items shown answers desk_size c.requires.0 are together in
-    c.settle-settled.ensures.1 ∙ ap (λ ds. (sum_of ds).received) (c.set_down_all.ensures.none none) ∙ all.received
+    let sums = c.settle-settled.ensures in
+    let same = c.set_down_all.ensures.none none in
+    are_settled n lines desks.items shown answers c.settle-settled.result desk_size c.requires.0 are together
+    (sums.0 ∙ ap (λ ds. (sum_of ds).commands) same, sums.1 ∙ ap (λ ds. (sum_of ds).received) same, sums.2 ∙ ap (λ ds. (sum_of ds).closed) same, sums.3 ∙ ap (λ ds. (sum_of ds).abandoned) same)

@@ -1,8 +1,9 @@
 use Rattle.std.specs.Prelude.{length}
+use Rattle.blob_store.specs.Naming.{setting_of}
 use Rattle.blob_store.proofs.tests.play_on_a_store.Given as goal
 
 abbrev pub ghosts-play-N-Naming : goal.ghosts-play-N-Naming
-ghosts-play-N-Naming g a = record { table = a.parts.book.table; slots = length a.parts.book.slots }
+ghosts-play-N-Naming g a = record { table = a.parts.book.table; slots = length a.parts.book.slots; setting = setting_of a.parts.book.catalog }
 
 abbrev pub ghosts-play-C-Ledger : goal.ghosts-play-C-Ledger
 ghosts-play-C-Ledger g a = record { name = a.parts.commands.name; parts = a.parts.commands.parts }

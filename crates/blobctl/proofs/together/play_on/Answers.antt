@@ -12,14 +12,17 @@ returns-clause-played g c =
     let replies = c.in-Ok.played.replies.items in
     let wrote = rw c.as_slice.ensures.value at c.in-Ok-write_replies.ensures in
     let book = c.in-Ok-print.ensures in (
-      replies_text (answers_of replies) ++ book_text book.0,
+      replies_text (answers_of replies) ++ book_text book.0.catalog,
       appends-more _ _ _ _ _ wrote book.2,
       record {
         answers = answers_of replies;
         one_each = length-map replies answer_of ∙ c.in-Ok.ensures.replies ∙ sym (length-map c.args.rows.now line_of);
         own = c.in-Ok.ensures.each;
-        last = book.0;
-        sound = book.1;
+        first = c.args.parts.book.catalog;
+        opened = c.requires.opened.catalog;
+        last = book.0.catalog;
+        sound = book.1.sound;
+        same = book.1.made ∙ sym c.requires.setting;
         written = refl;
       },
     )

@@ -1,8 +1,9 @@
 use Rattle.std.specs.Prelude.{length}
+use Rattle.blob_store.specs.Naming.{setting_of}
 use Rattle.memory_tests.proofs.on_store.play_on_store.Given as goal
 
 abbrev pub ghosts-play_in-N-Naming : goal.ghosts-play_in-N-Naming
-ghosts-play_in-N-Naming g a = record { table = a.parts.book.table; slots = length a.parts.book.slots }
+ghosts-play_in-N-Naming g a = record { table = a.parts.book.table; slots = length a.parts.book.slots; setting = setting_of a.parts.book.catalog }
 
 abbrev pub ghosts-play_in-C-Ledger : goal.ghosts-play_in-C-Ledger
 ghosts-play_in-C-Ledger g a = record { name = a.parts.commands.name; parts = a.parts.commands.parts }

@@ -27,4 +27,5 @@ invariant_of-self-2 g c =
       omega (arith, was.4, bytes, totals.received, totals.closed, totals.abandoned),
       c.abandon.ensures.slots.0 ∙ was.5,
       ap length c.abandon.ensures.slots.1 ∙ was.6,
+      sums.setting ∙ was.7,
     )

@@ -1,5 +1,6 @@
 use Rattle.std.proofs.Common.{ap, arith, ◌∙◌}
 use Rattle.store_book.specs.Catalog.{Catalog}
+use Rattle.blob_store.specs.Naming.{setting_of}
 use Rattle.blob_store.specs.Totals.{one}
 use Rattle.blob_store.proofs.SessionSums.{finish_sums, full_is, refused_sums, still_sums, unknown_stays}
 use Rattle.blob_store.proofs.Rooms.{added}
@@ -67,6 +68,7 @@ invariant_of-self g c =
       omega (arith, was.4, bytes, value, size, totals.received, totals.closed, totals.abandoned),
       c.finish.ensures.slots.0 ∙ was.5,
       c.finish.ensures.slots.1.0 ∙ was.6,
+      sums.setting ∙ was.7,
     )
 
 pub overflow_sub-self-in_default : goal.overflow_sub-self-in_default
@@ -99,6 +101,7 @@ invariant_of-self-in_default g c =
       omega (arith, was.4, bytes),
       c.finish.ensures.slots.0 ∙ was.5,
       c.finish.ensures.slots.1.0 ∙ was.6,
+      sums.setting ∙ was.7,
     )
 
 pub invariant_of-self-in-UploadUnknown : goal.invariant_of-self-in-UploadUnknown
@@ -106,7 +109,7 @@ invariant_of-self-in-UploadUnknown g c =
     let was = c.self.invariant in
     let is = c.in-UploadUnknown.is in
     let same = unknown_stays c.self.inside.book.catalog c.finish.new.self.catalog c.args.hand c.args.digest.now c.in-Err.ensures.does.1 (rw is at c.in-Err.ensures.does.0 (λ e. absurd cc)) in
-    let sums = still_sums c.self.inside.book.catalog c.finish.new.self.catalog (ap (λ (C : Catalog). C.sessions) same) in
+    let sums = still_sums c.self.inside.book.catalog c.finish.new.self.catalog (ap (λ (C : Catalog). C.sessions) same) (ap setting_of same) in
     let hands = sums.hands in
     let reserve = sums.reserve in
     let bytes = sums.bytes in (
@@ -117,6 +120,7 @@ invariant_of-self-in-UploadUnknown g c =
       omega (arith, was.4, bytes),
       c.finish.ensures.slots.0 ∙ was.5,
       c.finish.ensures.slots.1.0 ∙ was.6,
+      sums.setting ∙ was.7,
     )
 
 pub returns-in-Ok-clause-length : goal.returns-in-Ok-clause-length

@@ -33,4 +33,5 @@ invariant_of-self-2 g c =
       omega (arith, was.4, bytes, unfilled),
       c.put_back.ensures.slots.0 ∙ was.5,
       ap length c.put_back.ensures.slots.1 ∙ was.6,
+      sums.setting ∙ was.7,
     )

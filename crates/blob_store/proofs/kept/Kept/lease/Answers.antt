@@ -25,6 +25,7 @@ invariant_of-self-2 g c =
       omega (arith, was.4, bytes, totals.received, totals.closed, totals.abandoned),
       c.lease.ensures.slots.0 ∙ was.5,
       c.lease.ensures.slots.1.0 ∙ was.6,
+      sums.setting ∙ was.7,
     )
 
 pub returns-clause-content : goal.returns-clause-content

@@ -21,4 +21,5 @@ invariant_of-self-2 g c =
       omega (arith, was.4, bytes, totals.received, totals.closed, totals.abandoned),
       c.mount.ensures.slots.0 ∙ was.5,
       ap length c.mount.ensures.slots.1 ∙ was.6,
+      sums.setting ∙ was.7,
     )

@@ -20,4 +20,5 @@ invariant_of-result g c =
       omega arith,
       c.requires.named.0,
       c.requires.named.1,
+      c.requires.named.2,
     )

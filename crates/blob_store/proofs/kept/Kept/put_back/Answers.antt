@@ -51,4 +51,5 @@ invariant_of-self-2 g c =
       omega (arith, was.4, bytes, value, filled, totals.received, totals.closed, totals.abandoned),
       c.put_back.ensures.slots.0 ∙ was.5,
       ap length c.put_back.ensures.slots.1 ∙ was.6,
+      sums.setting ∙ was.7,
     )

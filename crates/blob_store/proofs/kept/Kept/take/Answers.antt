@@ -18,4 +18,5 @@ invariant_of-self-2 g c =
       omega (arith, was.4, bytes),
       c.take.ensures.slots.0 ∙ was.5,
       ap length c.take.ensures.slots.1 ∙ was.6,
+      sums.setting ∙ was.7,
     )

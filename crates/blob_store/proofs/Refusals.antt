@@ -1,0 +1,99 @@
+-- What a put of a manifest that was read is not refused for.
+use Rattle.std.proofs.Common.{◌≡◌, ◌≢◌, ◌<◌, ◌∙◌, ℕ, Bool, true, false, not, List, [], ◌∷◌, length, Option, Some, None, Result, Ok, Err, refl, subst, sym}
+use Rattle.std.specs.Prelude.{IfErr, IsSome, if◌then◌else◌, nat_lt}
+use Rattle.std.specs.Option.{ok_or}
+use Rattle.std.proofs.lemmas.Bool.{ltb-true}
+use Rattle.blob_digest.specs.Digests.{sha256_text}
+use Rattle.blob_digest.specs.declared.refusal.Refusal.{Refusal}
+use Rattle.blob_digest.specs.declared.refusal.Refusal.TheVariants.{LimitReached, ManifestBlobUnknown, ManifestInvalid, Memory, NameUnknown, SizeInvalid}
+use Rattle.blob_digest.specs.Outcomes.{Does, ◌>>=◌, refuse}
+use Rattle.oci_manifest.specs.Manifests.{max_manifest, refs_of}
+use Rattle.store_book.specs.Catalog.{Text, Catalog, holds, tenant_of}
+use Rattle.store_book.specs.Steps.{add_manifest, all_linked, has_manifest, is_full_of_manifests, lacks_room_for, put_manifest, tenant}
+use Rattle.blob_store.specs.Counting.{Content, counted, has_room}
+use Rattle.blob_store.specs.Totals.{Amounts}
+
+-- not what bytes are refused for that are no manifest, or too many
+abbrev pub IsOther : Refusal → Type 0
+IsOther e = (e ≢ SizeInvalid) × (e ≢ ManifestInvalid)
+
+-- an outcome is refused for nothing else
+abbrev IsRefusedForOther : {A : Type 0} → Result A Refusal → Type 0
+IsRefusedForOther (Ok a) = Unit {0}
+IsRefusedForOther (Err e) = IsOther e
+
+past : {A B : Type 0} (x : Result A Refusal) (f : A → Result B Refusal) → IsRefusedForOther x → ((a : A) → IsRefusedForOther (f a)) → IsRefusedForOther (x >>= f)
+past (Ok a) f first rest = rest a
+past (Err e) f first rest = first
+
+limit : (b : Bool) → IsRefusedForOther (refuse b LimitReached)
+limit true = (λ e. absurd cc, λ e. absurd cc)
+limit false = tt
+
+of_tenant : (o : Option ℕ) → IsRefusedForOther (ok_or o NameUnknown)
+of_tenant (Some t) = tt
+of_tenant None = (λ e. absurd cc, λ e. absurd cc)
+
+of_length : (m : Text) → (max_manifest < length m → ⊥) → IsRefusedForOther (refuse (nat_lt max_manifest (length m)) SizeInvalid)
+of_length m fits = elim (nat_lt max_manifest (length m)) as (λ b. nat_lt max_manifest (length m) ≡ b → IsRefusedForOther (refuse b SizeInvalid)) [
+  | true ↦ λ is. absurd (fits (ltb-true max_manifest (length m) is))
+  | false ↦ λ is. tt
+] refl
+
+of_refs : (o : Option (List Text)) → IsSome o → IsRefusedForOther (ok_or o ManifestInvalid)
+of_refs (Some refs) some = tt
+of_refs None some = absurd cc
+
+of_links : (C : Catalog) (repo : Text) (refs : List Text) → IsRefusedForOther (all_linked C repo refs)
+of_links C repo [] = tt
+of_links C repo (digest ∷ refs) = elim (holds C repo digest) as (λ b. IsRefusedForOther (if b then all_linked C repo refs else Err (ManifestBlobUnknown digest))) [
+  | true ↦ of_links C repo refs
+  | false ↦ (λ e. absurd cc, λ e. absurd cc)
+]
+
+of_put : (C : Catalog) (repo m : Text) → (max_manifest < length m → ⊥) → IsSome (refs_of m) → IsRefusedForOther (put_manifest C repo m)
+of_put C repo m fits some =
+    past (tenant C repo) _ (of_tenant (tenant_of C.tenants repo)) (λ t.
+    past (refuse (nat_lt max_manifest (length m)) SizeInvalid) _ (of_length m fits) (λ _.
+    past (ok_or (refs_of m) ManifestInvalid) _ (of_refs (refs_of m) some) (λ refs.
+    past (all_linked C repo refs) _ (of_links C repo refs) (λ _.
+    elim (has_manifest C repo (sha256_text m)) as (λ b. IsRefusedForOther (if b then Ok (sha256_text m, C) else add_manifest C t repo m)) [
+      | true ↦ tt
+      | false ↦ past (refuse (lacks_room_for C t repo) LimitReached) _ (limit (lacks_room_for C t repo)) (λ _. past (refuse (is_full_of_manifests C repo) LimitReached) _ (limit (is_full_of_manifests C repo)) (λ _. tt))
+    ]))))
+
+-- a manifest that was read is put, or refused for something else
+put_refused : {A : Type 0} (view : A → Text) (r : Result A Refusal) (amounts : Text → Amounts) (old new : Content × Amounts) (repo m : Text) → (max_manifest < length m → ⊥) → IsSome (refs_of m)
+    → Does view r old new (counted amounts (λ C. put_manifest C repo m) old) → IfErr r IsOther
+put_refused view (Ok a) amounts old new repo m fits some does = tt
+put_refused view (Err e) amounts old new repo m fits some does =
+    let all : IsRefusedForOther (counted amounts (λ C. put_manifest C repo m) old) =
+    past (refuse (not (has_room old.0 0)) LimitReached) _ (limit (not (has_room old.0 0))) (λ _. past (put_manifest old.0.book.catalog repo m) _ (of_put old.0.book.catalog repo m fits some) (λ done. tt)) in (
+      λ is. (subst IsRefusedForOther (does.0 (λ memory. different_size (sym is ∙ memory))) all).0 is,
+      λ is. (subst IsRefusedForOther (does.0 (λ memory. different_manifest (sym is ∙ memory))) all).1 is,
+    )
+  where
+    different_size : ◌≡◌ {A = Refusal} SizeInvalid Memory → ⊥
+    different_size h = absurd cc
+
+    different_manifest : ◌≡◌ {A = Refusal} ManifestInvalid Memory → ⊥
+    different_manifest h = absurd cc
+
+module _ {A : Type 0} (view : A → Text) (r : Result A Refusal) (amounts : Text → Amounts) (old new : Content × Amounts) (repo m bytes : Text) (same : m ≡ bytes) (fits : max_manifest < length bytes → ⊥) (some : IsSome (refs_of bytes))
+  (does : Does view r old new (counted amounts (λ C. put_manifest C repo m) old)) where
+  other : IfErr r IsOther
+  other = put_refused view r amounts old new repo m (subst (λ (x : Text). max_manifest < length x → ⊥) (sym same) fits) (subst (λ (x : Text). IsSome (refs_of x)) (sym same) some) does
+
+  pub no_size : (P : Type 0) → IfErr r (λ e. e ≡ SizeInvalid → P)
+  no_size P = by r other
+    where
+      by : (r : Result A Refusal) → IfErr r IsOther → IfErr r (λ e. e ≡ SizeInvalid → P)
+      by (Ok a) h = tt
+      by (Err e) h = λ is. absurd (h.0 is)
+
+  pub no_manifest : (P : Type 0) → IfErr r (λ e. e ≡ ManifestInvalid → P)
+  no_manifest P = by r other
+    where
+      by : (r : Result A Refusal) → IfErr r IsOther → IfErr r (λ e. e ≡ ManifestInvalid → P)
+      by (Ok a) h = tt
+      by (Err e) h = λ is. absurd (h.1 is)

@@ -1,0 +1,76 @@
+//! A blob that is lent as often as it can be, and again once all leases are back.
+
+use crate::test_steps::{ABC, ONE, Step, TestStore, digest, name};
+use crate::{Desk, Lease, Naming};
+use blob_digest::Refusal;
+use std::alloc::{AllocFailed, AllocGlobal};
+use std::process::Abort;
+use std::sync::Wait;
+use std::sync::ledger::Ledger;
+use std::thread::Threads;
+
+/// The most leases of a blob: as many times 1024 as are less than 2^30.
+const MOST: usize = 1_048_575;
+
+/// Gives all leases back.
+fn give_all_back<N: Naming>(mut leases: Vec<Lease<'_, N>>) {
+    while let Some(lease) = leases.pop() {
+        lease.give_back();
+    }
+    leases.destroy_empty();
+}
+
+impl<
+    's,
+    N: Naming + Send + Sync,
+    C: Ledger + Send + Sync,
+    R: Ledger + Send + Sync,
+    D: Ledger + Send + Sync,
+    A: Ledger + Send + Sync,
+    W: Abort + AllocGlobal + Threads + Wait + Sync,
+> TestStore<'s, N, C, R, D, A, W> {
+    /// Lends `abc` again and again, and puts the leases into the list. What the first refused one was refused for, of
+    /// one more than there can be.
+    fn lends_on(
+        &self,
+        desk: &mut Desk<C, R, D, A>,
+        leases: &mut Vec<Lease<'s, N>>,
+    ) -> Option<Refusal> {
+        let repo = name(self.rt, ONE);
+        let of = digest(self.rt, ABC);
+        for _ in 0..MOST + 1 {
+            match self.store.lease(self.rt, desk, &repo, &of) {
+                Ok(lease) => {
+                    if let Err(failed) = leases.push(lease) {
+                        let AllocFailed { value } = failed;
+                        value.give_back();
+                    }
+                }
+                Err(refusal) => return Some(refusal),
+            }
+        }
+        None
+    }
+
+    /// A blob is lent as often as it can be, and all leases are given back; and that once more.
+    pub fn lends_the_most(&self) {
+        let rt = self.rt;
+        let mut desks = self.store.desks(rt, 1).expect(rt, "a desk");
+        let before = [
+            Step::Start(ONE, Ok(1)),
+            Step::Close(ONE, 1, ABC, "", "abc", Ok(3)),
+        ];
+        self.plays(&mut desks[0], &before);
+        for _ in 0..2_u32 {
+            let mut leases = Vec::new(rt.alloc());
+            let refused = self.lends_on(&mut desks[0], &mut leases);
+            let count = leases.len();
+            self.plays(&mut desks[0], &[Step::Word(0, 0x0000_0000_bfff_fc00)]);
+            give_all_back(leases);
+            self.plays(&mut desks[0], &[Step::Word(0, 0x0000_0000_8000_0000)]);
+            assert!(rt; refused == Some(Refusal::TooManyReaders));
+            assert_eq!(rt; count, MOST);
+        }
+        self.store.settle(rt, desks);
+    }
+}
