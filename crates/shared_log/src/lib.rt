@@ -21,7 +21,7 @@ mod view;
 
 pub use log::{SharedLog, Writer};
 pub use rule::Event;
-pub use view::{Contents, Entry, Known, View};
+pub use view::{Entry, Known};
 
 #[cfg(test)]
 mod tests;
