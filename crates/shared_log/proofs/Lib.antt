@@ -1,0 +1,5 @@
+pub mod Lists
+pub mod Keeps
+pub mod Allowed
+pub mod Told
+pub mod Runs
