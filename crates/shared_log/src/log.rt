@@ -62,7 +62,7 @@ impl<E> Writer<E> {
 }
 
 impl<E> SharedLog<E> {
-    /// An empty log with no writer. It takes memory for one word, here alone.
+    /// An empty log with no writer. No other call takes memory.
     pub fn new(alloc: Global) -> Result<SharedLog<E>, AllocError>
         ensures { IfOk result (λ l. (l.entries ≡ []) × (l.writers ≡ 0)) }
     {
