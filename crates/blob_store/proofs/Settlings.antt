@@ -1,5 +1,5 @@
 -- What the desks of all workers come to.
-use Rattle.std.proofs.Common.{◌≡◌, ◌∙◌, ◌<◌, ◌++◌, ◌∷◌, [], ℕ, List, ap, arith, get_or, length, length-append, refl, subst, sym}
+use Rattle.std.proofs.Common.{◌≡◌, ◌∙◌, ◌+◌, ◌<◌, ◌++◌, ◌∷◌, [], ℕ, List, ap, arith, get_or, length, length-append, refl, subst, sym}
 use Rattle.std.specs.List.{sum_by, zip}
 use Rattle.std.proofs.Math.Seq.{get_or-append_seam}
 use Rattle.std.proofs.lemmas.List.{get_or_append_left}
@@ -44,7 +44,7 @@ module _ (f : Amounts → ℕ) (none : f nothing ≡ 0) (adds : (a b : Amounts) 
   module _ (lines : List Line) (ds : List Amounts) (lists : List (List Answer)) (answers : List Answer) (some : 0 < length ds) (are : ArePlayed (length ds) lines ds lists) (together : AreTogether (length ds) lines (λ w. get_or lists w []) answers) where
     -- what each desk has of it is what its worker's rows come to
     all_counted : (value : Line → Answer → ℕ)
-        → ((old new : State Amounts) (ls : List Line) (as : List Answer) → Plays SeatActs old ls as new → f new.0 ≡ f old.0 + counted value ls as)
+        → ((old new : State Amounts) (own : List Line) (given : List Answer) → Plays SeatActs old own given new → f new.0 ≡ f old.0 + counted value own given)
         → f (sum_of ds) ≡ counted value lines answers
     all_counted value counts =
         of_all ds ∙ sum_of_workers (row_amount value) f ds nothing lines (λ w. get_or lists w []) answers some together (λ w lt.
@@ -54,14 +54,14 @@ module _ (f : Amounts → ℕ) (none : f nothing ≡ 0) (adds : (a b : Amounts) 
 
     -- or nothing, where the rows come to nothing
     all_unchanged : (value : Line → Answer → ℕ)
-        → ((old new : State Amounts) (ls : List Line) (as : List Answer) → Plays SeatActs old ls as new → counted value ls as ≡ 0 → f new.0 ≡ f old.0)
+        → ((old new : State Amounts) (own : List Line) (given : List Answer) → Plays SeatActs old own given new → counted value own given ≡ 0 → f new.0 ≡ f old.0)
         → counted value lines answers ≡ 0 → f (sum_of ds) ≡ 0
     all_unchanged value counts nought =
         of_all ds ∙ sum_of_workers (λ _. 0) f ds nothing lines (λ w. get_or lists w []) answers some together (λ w lt.
         let played = are.each w [] (omega (arith, lt, are.as_many)) in
         let within = worker_within (row_amount value) (length ds) w lines answers together.one_each in
-        let own = ap (λ xs. counted value (own_rows (length ds) w lines) xs) (together.shares w lt) in
-        let here = counts (nothing, leases.none) (get_or ds w nothing, played.0) (own_rows (length ds) w lines) (get_or lists w []) played.1 (omega (arith, own, within, nought)) in
+        let mine = ap (λ xs. counted value (own_rows (length ds) w lines) xs) (together.shares w lt) in
+        let here = counts (nothing, leases.none) (get_or ds w nothing, played.0) (own_rows (length ds) w lines) (get_or lists w []) played.1 (omega (arith, mine, within, nought)) in
         here ∙ none ∙ sym (sum_zero (zip (own_rows (length ds) w lines) (get_or lists w [])))) ∙ sum_zero (zip lines answers)
 
 -- the desks of all workers have what the rows come to

@@ -52,7 +52,7 @@ impl<
         None
     }
 
-    /// A blob is lent as often as it can be, and all leases are given back; and that once more.
+    /// A blob is lent as often as it can be, all leases are given back, and it is lent again.
     pub fn lends_the_most(&self) {
         let rt = self.rt;
         let mut desks = self.store.desks(rt, 1).expect(rt, "a desk");
@@ -61,16 +61,17 @@ impl<
             Step::Close(ONE, 1, ABC, "", "abc", Ok(3)),
         ];
         self.plays(&mut desks[0], &before);
-        for _ in 0..2_u32 {
-            let mut leases = Vec::new(rt.alloc());
-            let refused = self.lends_on(&mut desks[0], &mut leases);
-            let count = leases.len();
-            self.plays(&mut desks[0], &[Step::Word(0, 0x0000_0000_bfff_fc00)]);
-            give_all_back(leases);
-            self.plays(&mut desks[0], &[Step::Word(0, 0x0000_0000_8000_0000)]);
-            assert!(rt; refused == Some(Refusal::TooManyReaders));
-            assert_eq!(rt; count, MOST);
-        }
+        let mut leases = Vec::new(rt.alloc());
+        let refused = self.lends_on(&mut desks[0], &mut leases);
+        let count = leases.len();
+        self.plays(&mut desks[0], &[Step::Word(0, 0x0000_0000_bfff_fc00)]);
+        give_all_back(leases);
+        assert!(rt; refused == Some(Refusal::TooManyReaders));
+        assert_eq!(rt; count, MOST);
+        self.plays(&mut desks[0], &[Step::Word(0, 0x0000_0000_8000_0000)]);
+        let again = self.leases(&mut desks[0], ABC);
+        self.plays(&mut desks[0], &[Step::Word(0, 0x0000_0000_8000_0400)]);
+        again.give_back();
         self.store.settle(rt, desks);
     }
 }

@@ -13,18 +13,18 @@ use std::sync::ledger::Ledger;
 use std::thread;
 use std::thread::Threads;
 
-/// The bytes of a great chunk: 32 MiB.
-const GREAT: usize = 33_554_432;
+/// The bytes of a great chunk: 4 MiB.
+const GREAT: usize = 4_194_304;
 
 /// So often the totals are read while a great call is on its way. A call that had the lock all the time would let some
 /// hundreds through, before it gets the lock and after.
-const MANY: u64 = 100_000;
+const MANY: u64 = 10_000;
 
 /// How often a great call is made at most, until the other thread has got through so often.
 const ATTEMPTS: u32 = 8;
 
 /// How often a great manifest is put in one attempt.
-const PUTS: u32 = 16;
+const PUTS: u32 = 2;
 
 /// A call that takes its time.
 #[derive(Clone, Copy)]

@@ -130,6 +130,7 @@ impl<'r> Gate for Meeting<'r> {
 #[derive(Drop)]
 struct Watch<
     'r,
+    't,
     's,
     N: Naming + Send + Sync,
     C: Ledger + Send + Sync,
@@ -139,11 +140,12 @@ struct Watch<
     W: Abort + AllocGlobal + Threads + Wait + Sync,
 > {
     tally: Tally<'r>,
-    test: TestStore<'s, N, C, R, D, A, W>,
+    test: &'t TestStore<'s, N, C, R, D, A, W>,
 }
 
 impl<
     'r,
+    't,
     's,
     N: Naming + Send + Sync,
     C: Ledger + Send + Sync,
@@ -151,7 +153,7 @@ impl<
     D: Ledger + Send + Sync,
     A: Ledger + Send + Sync,
     W: Abort + AllocGlobal + Threads + Wait + Sync,
-> Gate for Watch<'r, 's, N, C, R, D, A, W> {
+> Gate for Watch<'r, 't, 's, N, C, R, D, A, W> {
     fn before(&self, lane: u8, row: usize) {
         self.tally.before(lane, row);
         self.tally.tell(self.test.counted() == row as u64);
@@ -347,7 +349,7 @@ impl<
         let rows = rows_of(rt, COUNTED.as_slice());
         let gate = Watch {
             tally: Tally::new(rt, rows.as_slice()),
-            test: *self,
+            test: self,
         };
         let settled = self.plays_lines(COUNTED.as_slice(), rows.as_slice(), 1, &gate);
         assert!(rt; gate.tally.is_whole());

@@ -87,7 +87,7 @@ pub enum Step<'a> {
 }
 
 /// A store of so many slots, with what runs the test.
-#[derive(Clone, Copy)]
+#[derive(Drop)]
 pub struct TestStore<
     's,
     N: Naming + Send + Sync,
