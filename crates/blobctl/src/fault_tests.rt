@@ -3,7 +3,7 @@
 ghost use Rattle.blobctl.specs.Options.{CanWork};
 
 use crate::fault::Fault;
-use crate::script_tests::{UPLOAD, UPLOADED, fails, plays, run_on};
+use crate::script_tests::{Goes, UPLOAD, UPLOADED, fails, plays, run_on};
 use std::alloc::Global;
 use std::io;
 use std::io::{ErrorKind, Read};
@@ -52,22 +52,24 @@ fn a_failed_read_is_a_read_fault(rt: HostRuntime) {
         }
     }
     let sound = upload_failing_at(u32::MAX, ErrorKind::Other);
-    match run_on(&rt, alloc, &["acme=1000"], 1, sound, u32::MAX).0 {
+    match run_on(&rt, alloc, &["acme=1000"], 1, sound, Goes::Well).0 {
         Ok(held) => assert!(rt; held.as_slice() == UPLOADED.as_bytes()),
         Err(fault) => assert!(rt; false, "{fault}"),
     }
 }
 
-/// Each call of the writer fails in turn, in a run of so many workers.
+/// Each call of the writer fails in turn, and then takes no bytes, in a run of so many workers.
 fn faults_at_each_write(rt: &(impl Abort + Threads + Wait + Sync), alloc: Global, workers: usize)
     requires { CanWork workers }
 {
-    let calls = run_on(rt, alloc, &["acme=1000"], workers, UPLOAD, u32::MAX).1;
+    let calls = run_on(rt, alloc, &["acme=1000"], workers, UPLOAD, Goes::Well).1;
     assert!(rt; calls > 0);
-    for fails_at in 0..calls {
-        match run_on(rt, alloc, &["acme=1000"], workers, UPLOAD, fails_at).0 {
-            Ok(_) => assert!(rt; false, "call {fails_at} failed"),
-            Err(fault) => assert_eq!(rt; fault, Fault::Write),
+    for at in 0..calls {
+        for goes in [Goes::Fails(at), Goes::TakesNothing(at)] {
+            match run_on(rt, alloc, &["acme=1000"], workers, UPLOAD, goes).0 {
+                Ok(_) => assert!(rt; false, "call {at} went wrong"),
+                Err(fault) => assert_eq!(rt; fault, Fault::Write),
+            }
         }
     }
 }

@@ -20,20 +20,33 @@ pub const UPLOAD: &[u8] =
 pub const UPLOADED: &str =
     "1 session 1\n2 received 1\n3 received 3\n4 stored 3\nbook\ntenant acme used 3 quota 1000 next 2\nrepository acme/one\nblob sha256:ba7816bf8f01cfea414140de5dae2223b00361a396177a9cb410ff61f20015ad size 3 links 1\nend\n";
 
-/// A writer of at most four bytes at a time that fails at one of its calls, and goes on after it.
+/// Which call of a writer goes wrong, and how.
+#[derive(Clone, Copy, Debug)]
+pub enum Goes {
+    /// None.
+    Well,
+    /// The call of this number fails.
+    Fails(u32),
+    /// The call of this number takes no bytes.
+    TakesNothing(u32),
+}
+
+/// A writer of at most four bytes at a time, one of whose calls may go wrong, and that goes on after it.
 #[derive(Drop)]
 struct Full {
     held: Vec<u8>,
     call: u32,
-    fails_at: u32,
+    goes: Goes,
 }
 
 impl Write for Full {
     fn write(&mut self, buf: &[u8]) -> io::Result<usize> {
         let call = self.call;
         self.call = call.saturating_add(1);
-        if call == self.fails_at {
-            return Err(io::Error::from(ErrorKind::StorageFull));
+        match self.goes {
+            Goes::Fails(at) if at == call => return Err(io::Error::from(ErrorKind::StorageFull)),
+            Goes::TakesNothing(at) if at == call => return Ok(0),
+            _ => {}
         }
         let count = buf.len().min(4);
         match self.held.extend_from_slice(&buf[..count]) {
@@ -55,7 +68,7 @@ pub fn run_on<R: Read + Drop>(
     words: &[&str],
     workers: usize,
     reader: R,
-    fails_at: u32,
+    goes: Goes,
 ) -> (Result<Vec<u8>, Fault>, u32)
     requires { CanWork workers }
 {
@@ -67,7 +80,7 @@ pub fn run_on<R: Read + Drop>(
     let mut writer = Full {
         held: Vec::new(alloc),
         call: 0,
-        fails_at,
+        goes,
     };
     let ended = run(rt, alloc, &mut reader, &mut writer, &options);
     let Full { held, call, .. } = writer;
@@ -88,7 +101,7 @@ pub fn writes(
 )
     requires { CanWork workers }
 {
-    match run_on(rt, alloc, words, workers, script, u32::MAX).0 {
+    match run_on(rt, alloc, words, workers, script, Goes::Well).0 {
         Ok(held) => assert!(rt;
             held.as_slice() == wanted.as_bytes(),
             "it wrote another text"
@@ -117,7 +130,7 @@ pub fn fails<R: Read + Drop>(
     reader: R,
     wanted: Fault,
 ) {
-    let (ended, calls) = run_on(rt, alloc, &["acme=1000"], 2, reader, u32::MAX);
+    let (ended, calls) = run_on(rt, alloc, &["acme=1000"], 2, reader, Goes::Well);
     match ended {
         Ok(_) => assert!(rt; false, "it ended well, and not with {wanted}"),
         Err(fault) => assert_eq!(rt; fault, wanted),
@@ -330,7 +343,7 @@ fn a_row_too_many_is_bad(rt: HostRuntime) {
     let script = rows_for_nobody(&rt, alloc, 65_537);
     fails(&rt, alloc, script.as_slice(), Fault::BadRow(65_537));
     let most = rows_for_nobody(&rt, alloc, 65_536);
-    match run_on(&rt, alloc, &["acme=1000"], 2, most.as_slice(), u32::MAX).0 {
+    match run_on(&rt, alloc, &["acme=1000"], 2, most.as_slice(), Goes::Well).0 {
         Ok(held) => {
             let end =
                 b"\n65536 refused NameUnknown\nbook\ntenant acme used 0 quota 1000 next 1\nend\n";
