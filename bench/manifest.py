@@ -5,7 +5,7 @@ A manifest of 4 MiB names some 49,000 digests. It is put into a repository that 
 read and refused. A line tells the processor time of a reference in microseconds, and how many times as much as that of
 an ordinary manifest it is, whose digests are those of some blobs. The others have digests that a client picked: such
 as differ in their last bytes alone, in rising order; and such as std's hasher, whose seed is fixed, puts into one place
-of a table, which takes a minute to find. What the script itself takes to read is measured by the same rows for a tenant
+of a table, which takes some minutes to find. What the script itself takes to read is measured by the same rows for a tenant
 that isn't there, and taken off.
 
     bench/manifest.py [--rows N] [--runs N]

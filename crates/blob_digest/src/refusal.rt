@@ -9,7 +9,10 @@ use std::error::Error;
 use std::fmt;
 
 /// Why a call is refused. One enum serves every layer; each call says which of these it gives, and
-/// in which order it looks for them. A refused call changes nothing.
+/// in which order it looks for them. A refused call changes nothing but this: one that was given a hand
+/// spends it, and a finish, unless it is `UploadUnknown`, brings the hand's session home as it was before
+/// it was taken; a lease may lower the keeper's bound on a slot's readers; and of a script that several
+/// workers play, the rows that were accepted before `Memory` stand.
 ///
 /// It is printed as its name, and then its fields: numbers in decimal, digests as their texts. Where
 /// the OCI Distribution Specification 1.1, "Error Codes", has a code for the case, it is named beside

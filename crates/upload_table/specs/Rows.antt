@@ -1,4 +1,4 @@
--- What a tenant's rows and a hand stand for, and what is true of them. No public contract cites this.
+-- What a tenant's rows and a hand stand for, and what is true of them. What contracts see of `Hand` and `RepoSessions`, and what a `Hand` keeps, is made of these.
 use Rattle.std.specs.Prelude.{◌≡◌, ℕ, ◌+◌, ◌<◌, ◌^◌, ◌==◌, ◌&&◌, ◌++◌, Bool, true, false, List, [], ◌∷◌, Option, Some, None, drop, filter, length, map, sum, sum_by, take, nat_lt, if◌then◌else◌}
 use Rattle.std.specs.Option.{option_map}
 use Rattle.std.specs.List.{AllByRecursion}

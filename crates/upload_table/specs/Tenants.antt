@@ -1,4 +1,4 @@
--- The sessions of one tenant by number, and those of all tenants together. No public contract cites this.
+-- The sessions of one tenant by number, and those of all tenants together, which is what contracts see of `Uploads`.
 use Rattle.std.specs.Prelude.{ℕ, ◌+◌, ◌^◌, ◌||◌, nat_le, Bool, List, [], ◌∷◌, ◌++◌, length, map, sum_by, Ok, Err, if◌then◌else◌}
 use Rattle.std.proofs.Common.{refl}
 use Rattle.std.specs.Option.{option_map_or}

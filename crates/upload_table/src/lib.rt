@@ -8,9 +8,11 @@
 //! A session changes by way of a `Hand`: `take` moves its chunks out of the table and reserves bytes for
 //! one more, `Hand::fill` copies and hashes that one without the table, and `put_back` moves all of them
 //! in again. To close a session, `finish` moves the bytes of the hand into a blob, and then `forget`
-//! drops the session, or `reopen` takes the blob back and leaves the session as before it was taken. No
-//! byte is copied twice, and each goes through each of the two hashes once; those of a last chunk go
-//! through the one alone that the close asks for, where `Hand::fill_last` is told which.
+//! drops the session, or `reopen` takes the blob back and leaves the session as before it was taken.
+//! `fill` alone copies bytes: those of its chunk, and those before them where their list has to grow. Each
+//! byte goes through each of the two hashes once; those of a last chunk go through the one alone that the
+//! close asks for, where `Hand::fill_last` is told which, and through the other as well where the hand is
+//! put back after all.
 #![tactic(auto)]
 
 mod hand;

@@ -14,7 +14,7 @@ const ABC_512: &str =
 
 const OBJ: &str = "sha256:44136fa355b3678a1146ad16f7e8649e94fb4fc21fe77e8310c060f61caaff8a";
 
-/// The sessions of one tenant.
+/// The sessions of two tenants.
 #[derive(Drop)]
 struct Table {
     uploads: Uploads,
@@ -27,7 +27,7 @@ impl Model for Table {
 
     ghost view = { λ _. tt };
 
-    ghost invariant = { λ a. length a.uploads.next ≡ 1 };
+    ghost invariant = { λ a. length a.uploads.next ≡ 2 };
 }
 
 /// What follows once a session has been sealed.
@@ -43,11 +43,21 @@ impl Table {
     }
 
     fn take(&mut self, repo: &RepoName, number: u32, len: u64) -> Result<Hand, Refusal> {
-        let _ = self.uploads.received_home(0, repo, number)?;
-        if self.uploads.total(0) > 1_000 || len > 1_000 {
+        self.take_at(0, repo, number, len)
+    }
+
+    fn take_at(
+        &mut self,
+        tenant: u16,
+        repo: &RepoName,
+        number: u32,
+        len: u64,
+    ) -> Result<Hand, Refusal> {
+        let _ = self.uploads.received_home(tenant, repo, number)?;
+        if tenant > 1 || self.uploads.total(tenant) > 1_000 || len > 1_000 {
             return Err(Refusal::LimitReached);
         }
-        Ok(self.uploads.take(0, number, len))
+        Ok(self.uploads.take(tenant, number, len))
     }
 
     fn put_back(&mut self, hand: Hand) -> Result<u64, Refusal> {
@@ -112,7 +122,7 @@ fn fill_last(hand: Hand, bytes: &[u8], algorithm: Algorithm) -> Hand {
 
 fn opened(rt: &impl Abort, alloc: Global, first_number: u32) -> Table {
     Table {
-        uploads: Uploads::new(alloc, 1, first_number).expect(rt, "memory"),
+        uploads: Uploads::new(alloc, 2, first_number).expect(rt, "memory"),
     }
 }
 
@@ -236,6 +246,62 @@ fn stands_at(
     wanted: Option<(u32, u64)>,
 ) {
     assert_eq!(rt; table.uploads.session_at(0, repo, i), wanted);
+}
+
+fn starts_at(rt: &impl Abort, table: &mut Table, tenant: u16, repo: &RepoName, wanted: u32) {
+    assert!(rt; tenant < 2);
+    assert_eq!(rt; table.uploads.start(tenant, repo), Ok(wanted));
+}
+
+/// Takes session 1 of a tenant, for so many bytes.
+fn takes_at(rt: &impl Abort, table: &mut Table, tenant: u16, repo: &RepoName, len: u64) -> Hand {
+    table.take_at(tenant, repo, 1, len).expect(rt, "a hand")
+}
+
+/// What session 1 of a tenant has received for a repository, what the tenant's sessions count, and its next
+/// number.
+fn comes_to(
+    rt: &impl Abort,
+    table: &Table,
+    tenant: u16,
+    repo: &RepoName,
+    received: Result<u64, Refusal>,
+    total: u64,
+    next: u64,
+) {
+    assert!(rt; tenant < 2);
+    assert_eq!(rt; table.uploads.received_home(tenant, repo, 1), received);
+    assert_eq!(rt; table.uploads.total(tenant), total);
+    assert_eq!(rt; table.uploads.next(tenant), next);
+}
+
+#[test]
+fn two_tenants_have_sessions_of_their_own(rt: HostRuntime) {
+    let alloc = rt.alloc();
+    let one = name(&rt, alloc, b"acme/one");
+    let other = name(&rt, alloc, b"other/one");
+    let mut table = opened(&rt, alloc, 1);
+    for (tenant, repo, number) in [
+        (0, &one, 1),
+        (1, &other, 1),
+        (0, &one, 2),
+        (1, &other, 2),
+        (0, &one, 3),
+    ] {
+        starts_at(&rt, &mut table, tenant, repo, number);
+    }
+    let chunk = takes_at(&rt, &mut table, 1, &other, 3);
+    puts_back(&rt, &mut table, fill(chunk, b"abc"), Ok(3));
+    comes_to(&rt, &table, 0, &one, Ok(0), 0, 4);
+    comes_to(&rt, &table, 1, &other, Ok(3), 3, 3);
+    comes_to(&rt, &table, 1, &one, Err(Refusal::UploadUnknown), 3, 3);
+    let hand = takes_at(&rt, &mut table, 0, &one, 2);
+    comes_to(&rt, &table, 0, &one, Err(Refusal::Busy), 2, 4);
+    comes_to(&rt, &table, 1, &other, Ok(3), 3, 3);
+    puts_back(&rt, &mut table, hand, Ok(0));
+    removes(&rt, &mut table, &one, 1);
+    comes_to(&rt, &table, 0, &one, Err(Refusal::UploadUnknown), 0, 4);
+    comes_to(&rt, &table, 1, &other, Ok(3), 3, 3);
 }
 
 #[test]

@@ -270,7 +270,7 @@ impl Uploads {
         self.tenants[tenant as usize].charged()
     }
 
-    /// The number of the tenant's next session, at most 2^32.
+    /// The number that the tenant's next session gets, which is 2^32 where all numbers below were given.
     pub fn next(&self, tenant: u16) -> u64
         requires { tenant < length self.now.next }
         ensures { result ≡ slice_index self.now.next tenant }
