@@ -18,8 +18,8 @@ use Rattle.upload_table.specs.Uploaded.{Uploaded}
 use Rattle.store_book.specs.BookState.{SlotSeen}
 use Rattle.store_book.specs.Catalog.{Text, Catalog, holds}
 use Rattle.store_book.specs.Keeping.{linked_slot}
-use Rattle.store_book.specs.Layers.{resident_of, book_catalog, book_state, IsBook}
-use Rattle.store_book.specs.Pinned.{Pinned, IsFull, blob_digest, row_of, seen, all_seen, bounded, lent_on, one_more}
+use Rattle.store_book.specs.Layers.{resident_of, book_catalog, IsBook}
+use Rattle.store_book.specs.Pinned.{Pinned, IsFull, blob_digest, row_of, seen, all_seen, bounded, lent_on, one_more, shown}
 use Rattle.store_book.specs.SlotSteps.{EachSlot, FindsNoRoom, IsCrowded, IsLending}
 use Rattle.store_book.specs.Steps.{lease, with_lent}
 use Rattle.store_book.proofs.Changing.{catalog-change, lend-KeepsTies, resident_at, IsTied-change}
@@ -27,6 +27,7 @@ use Rattle.store_book.proofs.LawfulLease.{Sound-after_lease}
 use Rattle.store_book.proofs.LinkedSlots.{holds_linked, linked_live, linked_none, linked_some}
 use Rattle.store_book.proofs.MapLemmas.{some_same}
 use Rattle.store_book.proofs.Pinning.{index-set-le, length-all_seen, row-at, seen-at}
+use Rattle.store_book.proofs.Shown.{EachSlot-shown, get-with_looks, one_more-at}
 use Rattle.store_book.proofs.SlotLemmas.{length-with_slot, phase_live, slot_of_held, slot-same, slot-other}
 use Rattle.store_book.proofs.Ties.{held_of}
 
@@ -115,8 +116,8 @@ lend-seen s = by_content s.content
     by_content Retired = refl
 
 -- a look lets no reader in
-pub EachSlot-looked : (digest : Text) (p q : Pinned) (k n : ℕ) → n ≤ slice_index p.bounds k → q ≡ bounded k n p → (q.table ≡ p.table) × EachSlot (IsLending digest) (all_seen p.slots p.bounds) (all_seen q.slots q.bounds)
-EachSlot-looked digest p q k n le is = subst (λ (x : Pinned). (x.table ≡ p.table) × EachSlot (IsLending digest) (all_seen p.slots p.bounds) (all_seen x.slots x.bounds)) (sym is) (
+each_looked : (digest : Text) (p q : Pinned) (k n : ℕ) → n ≤ slice_index p.bounds k → q ≡ bounded k n p → (q.table ≡ p.table) × EachSlot (IsLending digest) (all_seen p.slots p.bounds) (all_seen q.slots q.bounds)
+each_looked digest p q k n le is = subst (λ (x : Pinned). (x.table ≡ p.table) × EachSlot (IsLending digest) (all_seen p.slots p.bounds) (all_seen x.slots x.bounds)) (sym is) (
   refl,
   (
     length-all_seen p.slots (slice_set p.bounds k n) ∙ sym (length-all_seen p.slots p.bounds),
@@ -145,9 +146,9 @@ index-set-most (x ∷ xs) zero n = omega arith
 index-set-most (x ∷ xs) (suc k) n = index-set-most xs k n
 
 -- a lease lets one reader in, on the slot of its digest
-pub EachSlot-lent : (digest : Text) (p q : Pinned) (k n : ℕ) (h : Held) → held_at p.slots k ≡ Some h → h.digest ≡ digest → n ≤ slice_index p.bounds k + new_weight → q ≡ lent_on k n p →
+each_lent : (digest : Text) (p q : Pinned) (k n : ℕ) (h : Held) → held_at p.slots k ≡ Some h → h.digest ≡ digest → n ≤ slice_index p.bounds k + new_weight → q ≡ lent_on k n p →
     (q.table ≡ p.table) × EachSlot (IsLending digest) (all_seen p.slots p.bounds) (all_seen q.slots q.bounds)
-EachSlot-lent digest p q k n h at is_digest le is = subst (λ (x : Pinned). (x.table ≡ p.table) × EachSlot (IsLending digest) (all_seen p.slots p.bounds) (all_seen x.slots x.bounds)) (sym is) (
+each_lent digest p q k n h at is_digest le is = subst (λ (x : Pinned). (x.table ≡ p.table) × EachSlot (IsLending digest) (all_seen p.slots p.bounds) (all_seen x.slots x.bounds)) (sym is) (
   refl,
   (
     length-all_seen (with_slot p.slots k (on_held lend)) (slice_set p.bounds k n) ∙ length-with_slot p.slots k (on_held lend) ∙ sym (length-all_seen p.slots p.bounds),
@@ -175,32 +176,34 @@ EachSlot-lent digest p q k n h at is_digest le is = subst (λ (x : Pinned). (x.t
   ),
 )
 
-one_more-at : (looks : List ℕ) (k : ℕ) → slice_index (one_more k looks) k ≡ slice_index looks k + 1
-one_more-at [] zero = refl
-one_more-at [] (suc k) = one_more-at [] k
-one_more-at (n ∷ looks) zero = refl
-one_more-at (n ∷ looks) (suc k) = one_more-at looks k
+-- the same with how often each slot was looked at
+pub EachSlot-looked : (digest : Text) (p q : Pinned) (k n : ℕ) → n ≤ slice_index p.bounds k → q ≡ bounded k n p → (q.table ≡ p.table) × EachSlot (IsLending digest) (shown p) (shown q)
+EachSlot-looked digest p q k n le is = let e = each_looked digest p q k n le is in (e.0, EachSlot-shown (IsLending digest) (λ a b n m r. r) p q e.1)
+
+pub EachSlot-lent : (digest : Text) (p q : Pinned) (k n : ℕ) (h : Held) → held_at p.slots k ≡ Some h → h.digest ≡ digest → n ≤ slice_index p.bounds k + new_weight → q ≡ lent_on k n p → (q.table ≡ p.table) × EachSlot (IsLending digest) (shown p) (shown q)
+EachSlot-lent digest p q k n h at is_digest le is = let e = each_lent digest p q k n h at is_digest le is in (e.0, EachSlot-shown (IsLending digest) (λ a b n m r. r) p q e.1)
 
 -- a look that found no room
-pub IsCrowded-full : (p q : Pinned) (k : ℕ) (digest : Text) (h : Held) → held_at p.slots k ≡ Some h → h.digest ≡ digest → length p.bounds ≡ length p.slots → IsFull k p q → IsCrowded digest (all_seen q.slots q.bounds)
-IsCrowded-full p q k digest h at is one_each full =
+pub finds_no_room : (p q : Pinned) (k : ℕ) (digest : Text) (h : Held) → held_at p.slots k ≡ Some h → h.digest ≡ digest → length p.bounds ≡ length p.slots → IsFull k p q → FindsNoRoom digest (shown p) (shown q)
+finds_no_room p q k digest h at is one_each full =
     let s = slot_of_held p.slots k h at in
     let lt = slice_get_within p.slots k s.0 s.1 in
     let weight : slice_index (slice_set p.bounds k full.weight) k ≡ full.weight = get_or-set_same p.bounds k full.weight 0 (omega arith) in
     let passes = full.full in
-    subst (λ (x : Pinned). IsCrowded digest (all_seen x.slots x.bounds)) (sym full.after)
-    (k, seen s.0 (slice_index (slice_set p.bounds k full.weight) k), seen-get p.slots (slice_set p.bounds k full.weight) k s.0 s.1, ap (option_map (λ (x : Held). x.digest)) s.2 ∙ ap Some is, omega arith)
-
-pub finds_no_room : (l : Linked) (u : Uploaded) (max_blob : ℕ) (p q : Pinned) (k : ℕ) (digest : Text) (h : Held) → held_at p.slots k ≡ Some h → h.digest ≡ digest → length p.bounds ≡ length p.slots → IsFull k p q →
-    FindsNoRoom digest (book_state l u p max_blob) (book_state l u q max_blob)
-unfolding IsCrowded-full
-finds_no_room l u max_blob p q k digest h at is one_each full =
-    let crowded = IsCrowded-full p q k digest h at is one_each full in
     record {
-      slot = crowded.0;
-      found = crowded.1;
-      there = crowded.2;
-      held = crowded.3;
-      full = crowded.4;
-      looked = ap (λ (x : Pinned). slice_index x.looks k) full.after ∙ one_more-at p.looks k;
+      slot = k;
+      before = record (seen s.0 (slice_index p.bounds k)) { looks = slice_index p.looks k };
+      was = get-with_looks p.looks (all_seen p.slots p.bounds) k _ (seen-get p.slots p.bounds k s.0 s.1);
+      held = ap (option_map (λ (x : Held). x.digest)) s.2 ∙ ap Some is;
+      weight = full.weight;
+      full = omega arith;
+      after =
+          ap (λ (x : Pinned). slice_get (shown x) k) full.after
+          ∙ get-with_looks (one_more k p.looks) (all_seen p.slots (slice_set p.bounds k full.weight)) k _ (seen-get p.slots (slice_set p.bounds k full.weight) k s.0 s.1)
+          ∙ (λ i. Some (record (seen s.0 (weight i)) { looks = one_more-at p.looks k i }));
     }
+
+pub IsCrowded-full : (p q : Pinned) (k : ℕ) (digest : Text) (h : Held) → held_at p.slots k ≡ Some h → h.digest ≡ digest → length p.bounds ≡ length p.slots → IsFull k p q → IsCrowded digest (shown q)
+IsCrowded-full p q k digest h at is one_each full =
+    let f = finds_no_room p q k digest h at is one_each full in
+    (f.slot, record f.before { bound = f.weight; looks = f.before.looks + 1 }, f.after, f.held, f.full)
