@@ -13,7 +13,7 @@ use Rattle.store_book.specs.Catalog.{Text, Catalog, count, holds}
 use Rattle.store_book.specs.Steps.{delete, referrer}
 use Rattle.store_book.specs.Keeping.{linked_slot}
 use Rattle.store_book.specs.Layers.{lent_marks, catalog_from, book_catalog, IsTied, IsBook}
-use Rattle.store_book.specs.Pinned.{Pinned, all_seen, slotted}
+use Rattle.store_book.specs.Pinned.{Pinned, shown, slotted, with_looks}
 use Rattle.store_book.proofs.Pinning.{all_seen-with_slot, lower-seen}
 use Rattle.store_book.proofs.Counts.{count-unlink}
 use Rattle.store_book.proofs.LentMarks.{marks-on}
@@ -23,8 +23,8 @@ use Rattle.store_book.proofs.SlotLemmas.{phase_live}
 use Rattle.store_book.proofs.Ties.{links_of-remove, catalog-relink, IsTied-unlink, lower-KeepsBlob, held_of}
 
 -- a count that falls isn't seen
-pub slots_kept : (p q : Pinned) (k : ℕ) → q ≡ slotted k (on_held lower) p → (q.table ≡ p.table) × (all_seen q.slots q.bounds ≡ all_seen p.slots p.bounds)
-slots_kept p q k is = (ap (λ (x : Pinned). x.table) is, ap (λ (x : Pinned). all_seen x.slots x.bounds) is ∙ all_seen-with_slot p.slots k (on_held lower) p.bounds lower-seen)
+pub slots_kept : (p q : Pinned) (k : ℕ) → q ≡ slotted k (on_held lower) p → (q.table ≡ p.table) × (shown q ≡ shown p)
+slots_kept p q k is = (ap (λ (x : Pinned). x.table) is, ap shown is ∙ ap (with_looks p.looks) (all_seen-with_slot p.slots k (on_held lower) p.bounds lower-seen))
 
 module _ (l : Linked) (u : Uploaded) (slots : List Slot) (max_blob t : ℕ) (repo digest : Text) (book : IsBook l u slots max_blob) (known : known_tenant l repo ≡ Ok t) where
   abbrev C : Catalog

@@ -10,10 +10,11 @@ use Rattle.link_table.specs.Linked.{Linked}
 use Rattle.store_book.specs.BookState.{SlotSeen}
 use Rattle.store_book.specs.Catalog.{Text}
 use Rattle.store_book.specs.Keeping.{IsKept, again, anew, revived}
-use Rattle.store_book.specs.Pinned.{Pinned, Quietly, seen, all_seen}
+use Rattle.store_book.specs.Pinned.{Pinned, Quietly, seen, all_seen, shown}
 use Rattle.store_book.specs.SlotSteps.{EachSlot, IsHousing, still, housed}
 use Rattle.store_book.proofs.MapLemmas.{some_same}
 use Rattle.store_book.proofs.Pinning.{seen-at}
+use Rattle.store_book.proofs.Shown.{EachSlot-shown, housing_blind}
 use Rattle.store_book.proofs.SlotLemmas.{slot-other, slot-same, with_slot-twice}
 use Rattle.store_book.proofs.Ties.{held_of}
 
@@ -69,8 +70,8 @@ raised_live Retired h e = absurd cc
 held_slot : (p : Pinned) (k : ℕ) (h : Held) (s : Slot) → held_at p.slots k ≡ Some h → slice_get p.slots k ≡ Some s → held_in s.content ≡ Some h
 held_slot p k h s at here = sym (ap (λ o. option_map_or (λ (x : Slot). held_in x.content) o None) here) ∙ at
 
-pub EachSlot-housed : (p q : Pinned) (l l' : Linked) (repo : Text) (blob : Text × Text) → Quietly p q → IsKept l p.slots repo blob l' q.slots → EachSlot (IsHousing blob.0) (all_seen p.slots p.bounds) (all_seen q.slots q.bounds)
-EachSlot-housed p q l l' repo blob quiet (again k h place at bytes links slots_are) = by (contains_key l.links (repo, blob.0)) slots_are
+each_housed : (p q : Pinned) (l l' : Linked) (repo : Text) (blob : Text × Text) → Quietly p q → IsKept l p.slots repo blob l' q.slots → EachSlot (IsHousing blob.0) (all_seen p.slots p.bounds) (all_seen q.slots q.bounds)
+each_housed p q l l' repo blob quiet (again k h place at bytes links slots_are) = by (contains_key l.links (repo, blob.0)) slots_are
   where
     is_digest : h.digest ≡ blob.0
     is_digest = let g = held_of p.slots blob.0 k place in ap (λ (x : Held). x.digest) (some_same (sym at ∙ g.1)) ∙ g.2
@@ -81,6 +82,10 @@ EachSlot-housed p q l l' repo blob quiet (again k h place at bytes links slots_a
     by : (b : Bool) → q.slots ≡ (if b then revived p.slots k else with_slot (revived p.slots k) k (on_held raise)) → EachSlot (IsHousing blob.0) (all_seen p.slots p.bounds) (all_seen q.slots q.bounds)
     by true is = one_housed p q blob.0 quiet k (on_held (mark false)) is was (λ s here. (let live = revived_live s.content h (held_slot p k h s at here) in (live.0, live.1 ∙ ap Some is_digest)))
     by false is = one_housed p q blob.0 quiet k (λ s. on_held raise (on_held (mark false) s)) (is ∙ with_slot-twice p.slots k (on_held (mark false)) (on_held raise)) was (λ s here. (let live = raised_live s.content h (held_slot p k h s at here) in (live.0, live.1 ∙ ap Some is_digest)))
-EachSlot-housed p q l l' repo blob quiet (anew k none free links slots_are) =
+each_housed p q l l' repo blob quiet (anew k none free links slots_are) =
     one_housed p q blob.0 quiet k (λ s. on_held raise (fill blob s)) (slots_are ∙ with_slot-twice p.slots k (fill blob) (on_held raise))
     (λ s here. inl (sym (ap (λ o. option_map_or (λ (x : Slot). phase_in x.content) o phase.Retired) here) ∙ free)) (λ s here. (refl, refl))
+
+-- the same with how often each slot was looked at
+pub EachSlot-housed : (p q : Pinned) (l l' : Linked) (repo : Text) (blob : Text × Text) → Quietly p q → IsKept l p.slots repo blob l' q.slots → EachSlot (IsHousing blob.0) (shown p) (shown q)
+EachSlot-housed p q l l' repo blob quiet kept = EachSlot-shown (IsHousing blob.0) (housing_blind blob.0) p q (each_housed p q l l' repo blob quiet kept)

@@ -11,6 +11,7 @@ use Rattle.blob_digest.specs.declared.refusal.Refusal.TheVariants.{BlobUnknown, 
 use Rattle.pin_core.specs.declared.world.PinRow.{PinRow}
 use Rattle.pin_core.specs.World.{row}
 use Rattle.pin_core.specs.Events.{new_weight}
+use Rattle.pin_table.specs.Rule.{raised}
 use Rattle.slot_table.specs.declared.phase.Phase.TheVariants as phase
 use Rattle.slot_table.specs.Slots.{Slot, Held, Content, Free, Used, Retired, content_with, held_at, held_in, phase_at, with_slot, on_held, lend}
 use Rattle.link_table.specs.Linked.{Linked, known_tenant}
@@ -18,8 +19,8 @@ use Rattle.upload_table.specs.Uploaded.{Uploaded}
 use Rattle.store_book.specs.BookState.{SlotSeen}
 use Rattle.store_book.specs.Catalog.{Text, Catalog, holds}
 use Rattle.store_book.specs.Keeping.{linked_slot}
-use Rattle.store_book.specs.Layers.{resident_of, book_catalog, book_state, IsBook}
-use Rattle.store_book.specs.Pinned.{Pinned, IsFull, blob_digest, row_of, seen, all_seen, bounded, lent_on}
+use Rattle.store_book.specs.Layers.{resident_of, book_catalog, IsBook}
+use Rattle.store_book.specs.Pinned.{Pinned, IsFull, blob_digest, row_of, seen, all_seen, bounded, lent_on, shown}
 use Rattle.store_book.specs.SlotSteps.{EachSlot, FindsNoRoom, IsCrowded, IsLending}
 use Rattle.store_book.specs.Steps.{lease, with_lent}
 use Rattle.store_book.proofs.Changing.{catalog-change, lend-KeepsTies, resident_at, IsTied-change}
@@ -27,6 +28,7 @@ use Rattle.store_book.proofs.LawfulLease.{Sound-after_lease}
 use Rattle.store_book.proofs.LinkedSlots.{holds_linked, linked_live, linked_none, linked_some}
 use Rattle.store_book.proofs.MapLemmas.{some_same}
 use Rattle.store_book.proofs.Pinning.{index-set-le, index-set-most, length-all_seen, row-at, seen-at}
+use Rattle.store_book.proofs.Shown.{EachSlot-shown, get-with_looks}
 use Rattle.store_book.proofs.SlotLemmas.{length-with_slot, phase_live, slot_of_held, slot-same, slot-other}
 use Rattle.store_book.proofs.Ties.{held_of}
 
@@ -115,8 +117,8 @@ lend-seen s = by_content s.content
     by_content Retired = refl
 
 -- a look lets no reader in
-pub EachSlot-looked : (digest : Text) (p q : Pinned) (k n : ℕ) → n ≤ slice_index p.bounds k → q ≡ bounded k n p → (q.table ≡ p.table) × EachSlot (IsLending digest) (all_seen p.slots p.bounds) (all_seen q.slots q.bounds)
-EachSlot-looked digest p q k n le is = subst (λ (x : Pinned). (x.table ≡ p.table) × EachSlot (IsLending digest) (all_seen p.slots p.bounds) (all_seen x.slots x.bounds)) (sym is) (
+each_looked : (digest : Text) (p q : Pinned) (k n : ℕ) → n ≤ slice_index p.bounds k → q ≡ bounded k n p → (q.table ≡ p.table) × EachSlot (IsLending digest) (all_seen p.slots p.bounds) (all_seen q.slots q.bounds)
+each_looked digest p q k n le is = subst (λ (x : Pinned). (x.table ≡ p.table) × EachSlot (IsLending digest) (all_seen p.slots p.bounds) (all_seen x.slots x.bounds)) (sym is) (
   refl,
   (
     length-all_seen p.slots (slice_set p.bounds k n) ∙ sym (length-all_seen p.slots p.bounds),
@@ -140,9 +142,9 @@ seen-get (x ∷ slots) (b ∷ bounds) zero s at = ap (λ (y : Slot). Some (seen 
 seen-get (x ∷ slots) (b ∷ bounds) (suc k) s at = seen-get slots bounds k s at
 
 -- a lease lets one reader in, on the slot of its digest
-pub EachSlot-lent : (digest : Text) (p q : Pinned) (k n : ℕ) (h : Held) → held_at p.slots k ≡ Some h → h.digest ≡ digest → n ≤ slice_index p.bounds k + new_weight → q ≡ lent_on k n p →
+each_lent : (digest : Text) (p q : Pinned) (k n : ℕ) (h : Held) → held_at p.slots k ≡ Some h → h.digest ≡ digest → n ≤ slice_index p.bounds k + new_weight → q ≡ lent_on k n p →
     (q.table ≡ p.table) × EachSlot (IsLending digest) (all_seen p.slots p.bounds) (all_seen q.slots q.bounds)
-EachSlot-lent digest p q k n h at is_digest le is = subst (λ (x : Pinned). (x.table ≡ p.table) × EachSlot (IsLending digest) (all_seen p.slots p.bounds) (all_seen x.slots x.bounds)) (sym is) (
+each_lent digest p q k n h at is_digest le is = subst (λ (x : Pinned). (x.table ≡ p.table) × EachSlot (IsLending digest) (all_seen p.slots p.bounds) (all_seen x.slots x.bounds)) (sym is) (
   refl,
   (
     length-all_seen (with_slot p.slots k (on_held lend)) (slice_set p.bounds k n) ∙ length-with_slot p.slots k (on_held lend) ∙ sym (length-all_seen p.slots p.bounds),
@@ -170,28 +172,37 @@ EachSlot-lent digest p q k n h at is_digest le is = subst (λ (x : Pinned). (x.t
   ),
 )
 
--- a look that found no room
-pub IsCrowded-full : (p q : Pinned) (k : ℕ) (digest : Text) (h : Held) → held_at p.slots k ≡ Some h → h.digest ≡ digest → length p.bounds ≡ length p.slots → IsFull k p q → IsCrowded digest (all_seen q.slots q.bounds)
-IsCrowded-full p q k digest h at is one_each full =
-    let s = slot_of_held p.slots k h at in
-    let lt = slice_get_within p.slots k s.0 s.1 in
-    let weight : slice_index (slice_set p.bounds k full.weight) k ≡ full.weight = get_or-set_same p.bounds k full.weight 0 (omega arith) in
-    let passes = full.full in
-    subst (λ (x : Pinned). IsCrowded digest (all_seen x.slots x.bounds)) (sym full.after)
-    (k, seen s.0 (slice_index (slice_set p.bounds k full.weight) k), seen-get p.slots (slice_set p.bounds k full.weight) k s.0 s.1, ap (option_map (λ (x : Held). x.digest)) s.2 ∙ ap Some is, omega arith)
+-- the same with how often each slot was looked at
+pub EachSlot-looked : (digest : Text) (p q : Pinned) (k n : ℕ) → n ≤ slice_index p.bounds k → q ≡ bounded k n p → (q.table ≡ p.table) × EachSlot (IsLending digest) (shown p) (shown q)
+EachSlot-looked digest p q k n le is = let e = each_looked digest p q k n le is in (e.0, EachSlot-shown (IsLending digest) (λ a b n m r. r) p q e.1)
 
-pub finds_no_room : (l : Linked) (u : Uploaded) (max_blob : ℕ) (p q : Pinned) (k : ℕ) (digest : Text) (h : Held) → held_at p.slots k ≡ Some h → h.digest ≡ digest → length p.bounds ≡ length p.slots → length p.looks ≡ length p.slots → IsFull k p q →
-    FindsNoRoom digest (book_state l u p max_blob) (book_state l u q max_blob)
-unfolding IsCrowded-full
-finds_no_room l u max_blob p q k digest h at is one_each looks full =
+pub EachSlot-lent : (digest : Text) (p q : Pinned) (k n : ℕ) (h : Held) → held_at p.slots k ≡ Some h → h.digest ≡ digest → n ≤ slice_index p.bounds k + new_weight → q ≡ lent_on k n p → (q.table ≡ p.table) × EachSlot (IsLending digest) (shown p) (shown q)
+EachSlot-lent digest p q k n h at is_digest le is = let e = each_lent digest p q k n h at is_digest le is in (e.0, EachSlot-shown (IsLending digest) (λ a b n m r. r) p q e.1)
+
+-- a look that found no room
+pub finds_no_room : (p q : Pinned) (k : ℕ) (digest : Text) (h : Held) → held_at p.slots k ≡ Some h → h.digest ≡ digest → (length p.bounds ≡ length p.slots) × (length p.looks ≡ length p.slots) → IsFull k p q → FindsNoRoom digest (shown p) (shown q)
+finds_no_room p q k digest h at is one_each full =
     let s = slot_of_held p.slots k h at in
     let lt = slice_get_within p.slots k s.0 s.1 in
-    let crowded = IsCrowded-full p q k digest h at is one_each full in
+    let bounds = one_each.0 in
+    let looks = one_each.1 in
+    let weight : slice_index (slice_set p.bounds k full.weight) k ≡ full.weight = get_or-set_same p.bounds k full.weight 0 (omega arith) in
+    let looked : slice_index (raised k 1 p.looks) k ≡ slice_index p.looks k + 1 = get_or-set_same p.looks k (slice_index p.looks k + 1) 0 (omega arith) in
+    let passes = full.full in
     record {
-      slot = crowded.0;
-      found = crowded.1;
-      there = crowded.2;
-      held = crowded.3;
-      full = crowded.4;
-      looked = ap (λ (x : Pinned). slice_index x.looks k) full.after ∙ get_or-set_same p.looks k (slice_index p.looks k + 1) 0 (omega arith);
+      slot = k;
+      before = record (seen s.0 (slice_index p.bounds k)) { looks = slice_index p.looks k };
+      was = get-with_looks p.looks (all_seen p.slots p.bounds) k _ (seen-get p.slots p.bounds k s.0 s.1);
+      held = ap (option_map (λ (x : Held). x.digest)) s.2 ∙ ap Some is;
+      weight = full.weight;
+      full = omega arith;
+      after =
+          ap (λ (x : Pinned). slice_get (shown x) k) full.after
+          ∙ get-with_looks (raised k 1 p.looks) (all_seen p.slots (slice_set p.bounds k full.weight)) k _ (seen-get p.slots (slice_set p.bounds k full.weight) k s.0 s.1)
+          ∙ (λ i. Some (record (seen s.0 (weight i)) { looks = looked i }));
     }
+
+pub IsCrowded-full : (p q : Pinned) (k : ℕ) (digest : Text) (h : Held) → held_at p.slots k ≡ Some h → h.digest ≡ digest → (length p.bounds ≡ length p.slots) × (length p.looks ≡ length p.slots) → IsFull k p q → IsCrowded digest (shown q)
+IsCrowded-full p q k digest h at is one_each full =
+    let f = finds_no_room p q k digest h at is one_each full in
+    (f.slot, record f.before { bound = f.weight; looks = f.before.looks + 1 }, f.after, f.held, f.full)

@@ -31,6 +31,7 @@ pub mod Abandoning
 pub mod LentMarks
 pub mod Changing
 pub mod Pinning
+pub mod Shown
 pub mod Reclaiming
 pub mod Finds
 pub mod Sweeping

@@ -1,13 +1,14 @@
 -- Words that are read, and pins that are verified.
-use Rattle.std.proofs.Common.{◌≡◌, ℕ, ◌<◌, ◌≤◌, ◌⊎◌, Bool, true, false, cond, length, map, Option, Some, None, refl, sym, ap, ◌∙◌, subst, arith, inl, inr}
+use Rattle.std.proofs.Common.{◌≡◌, ℕ, ◌+◌, ◌<◌, ◌≤◌, ◌⊎◌, Bool, true, false, cond, length, map, Option, Some, None, refl, sym, ap, ◌∙◌, subst, arith, inl, inr}
 use Rattle.std.specs.Prelude.{slice_get, slice_index, slice_set}
 use Rattle.std.specs.Option.{option_map, option_map_or}
 use Rattle.std.specs.FinMap.{get}
-use Rattle.std.proofs.lemmas.List.{length-map}
+use Rattle.std.proofs.lemmas.List.{get_or-set_same, length-map}
 use Rattle.pin_core.specs.declared.world.Hold.{Hold}
 use Rattle.pin_core.specs.declared.world.Phase.TheVariants as pin
 use Rattle.pin_core.specs.declared.world.PinRow.{PinRow}
 use Rattle.pin_core.specs.World.{IsUsed, row, row_word, word_of}
+use Rattle.pin_table.specs.Rule.{raised}
 use Rattle.slot_table.specs.declared.phase.Phase.TheVariants as phase
 use Rattle.slot_table.specs.Slots.{Slot, Held, Content, Free, Used, Retired, held_at, held_in, phase_in}
 use Rattle.link_table.specs.Linked.{Linked}
@@ -15,16 +16,17 @@ use Rattle.upload_table.specs.Uploaded.{Uploaded}
 use Rattle.store_book.specs.BookState.{SlotSeen}
 use Rattle.store_book.specs.Catalog.{Catalog}
 use Rattle.store_book.specs.Layers.{book_catalog, book_state, resident_of, IsBook}
-use Rattle.store_book.specs.Pinned.{Looked, Pinned, Verified, pin_phase, row_of, seen, all_seen, bounded}
+use Rattle.store_book.specs.Pinned.{Looked, Pinned, Verified, pin_phase, row_of, seen, all_seen, bounded, shown, with_looks}
 use Rattle.store_book.specs.SlotSteps.{EachSlot, HasPin, IsStill, ReadsWord, word_phase}
 use Rattle.store_book.proofs.Changing.{resident_at}
 use Rattle.store_book.proofs.Leasing.{seen-get}
 use Rattle.store_book.proofs.MapLemmas.{some_same}
 use Rattle.store_book.proofs.Pinning.{get_within, index-set-le, length-all_seen, row-at, seen-at}
+use Rattle.store_book.proofs.Shown.{EachSlot-shown, get-with_looks, length-with_looks}
 
 -- a look lowers a bound and nothing else
-pub EachSlot-still : (p q : Pinned) (k n : ℕ) → n ≤ slice_index p.bounds k → q ≡ bounded k n p → (q.table ≡ p.table) × EachSlot IsStill (all_seen p.slots p.bounds) (all_seen q.slots q.bounds)
-EachSlot-still p q k n le is = subst (λ (x : Pinned). (x.table ≡ p.table) × EachSlot IsStill (all_seen p.slots p.bounds) (all_seen x.slots x.bounds)) (sym is) (
+each_still : (p q : Pinned) (k n : ℕ) → n ≤ slice_index p.bounds k → q ≡ bounded k n p → (q.table ≡ p.table) × EachSlot IsStill (all_seen p.slots p.bounds) (all_seen q.slots q.bounds)
+each_still p q k n le is = subst (λ (x : Pinned). (x.table ≡ p.table) × EachSlot IsStill (all_seen p.slots p.bounds) (all_seen x.slots x.bounds)) (sym is) (
   refl,
   (
     length-all_seen p.slots (slice_set p.bounds k n) ∙ sym (length-all_seen p.slots p.bounds),
@@ -38,6 +40,10 @@ EachSlot-still p q k n le is = subst (λ (x : Pinned). (x.table ≡ p.table) × 
   ),
 )
 
+-- the same with how often each slot was looked at
+pub EachSlot-still : (p q : Pinned) (k n : ℕ) → n ≤ slice_index p.bounds k → q ≡ bounded k n p → (q.table ≡ p.table) × EachSlot IsStill (shown p) (shown q)
+EachSlot-still p q k n le is = let e = each_still p q k n le is in (e.0, EachSlot-shown IsStill (λ a b n m r. r) p q e.1)
+
 phase_word : (c : Content) → pin_phase c ≡ word_phase (phase_in c)
 phase_word Free = refl
 phase_word (Used h) = by h.condemned
@@ -47,20 +53,21 @@ phase_word (Used h) = by h.condemned
     by false = refl
 phase_word Retired = refl
 
-pub reads_word : (p q : Pinned) (k n : ℕ) → k < length (all_seen p.slots p.bounds) → Looked k n p q → ReadsWord k n (all_seen p.slots p.bounds) (all_seen q.slots q.bounds)
-reads_word p q k n lt looked =
-    let long = length-all_seen p.slots p.bounds in
+pub reads_word : (p q : Pinned) (k n : ℕ) → k < length (shown p) → length p.looks ≡ length p.slots → Looked k n p q → ReadsWord k n (shown p) (shown q)
+reads_word p q k n lt each looked =
+    let long = length-with_looks p.looks (all_seen p.slots p.bounds) ∙ length-all_seen p.slots p.bounds in
     let s = get_within p.slots k (omega arith) in
+    let once : slice_index (raised k 1 p.looks) k ≡ slice_index p.looks k + 1 = get_or-set_same p.looks k (slice_index p.looks k + 1) 0 (omega arith) in
     record {
-      slot = seen s.0 (slice_index p.bounds k);
-      there = seen-get p.slots p.bounds k s.0 s.1;
+      slot = record (seen s.0 (slice_index p.bounds k)) { looks = slice_index p.looks k };
+      there = get-with_looks p.looks (all_seen p.slots p.bounds) k _ (seen-get p.slots p.bounds k s.0 s.1);
       weight = looked.weight;
       reads = looked.word ∙ ap (λ (r : PinRow). row_word r looked.weight) (row-at p.slots k s.0 s.1) ∙ ap (λ x. word_of s.0.generation x looked.weight) (phase_word s.0.content);
       within = looked.within;
       after =
-          ap (λ (x : Pinned). slice_get (all_seen x.slots q.bounds) k) looked.after
-          ∙ seen-get p.slots q.bounds k s.0 s.1
-          ∙ ap (λ b. Some (seen s.0 b)) looked.bound;
+          ap (λ (x : Pinned). slice_get (with_looks x.looks (all_seen x.slots q.bounds)) k) looked.after
+          ∙ get-with_looks (raised k 1 p.looks) (all_seen p.slots q.bounds) k _ (seen-get p.slots q.bounds k s.0 s.1)
+          ∙ (λ i. Some (record (seen s.0 (looked.bound i)) { looks = once i }));
     }
 
 module _ (l : Linked) (u : Uploaded) (p q : Pinned) (max_blob : ℕ) (h : Hold) (book : IsBook l u p.slots max_blob) (verified : Verified h p q) where
@@ -96,8 +103,8 @@ module _ (l : Linked) (u : Uploaded) (p q : Pinned) (max_blob : ℕ) (h : Hold) 
       let x = held_of_digest (held_in s.0.content) digest in
       let found = blob_there s.0 x.0 s.1 x.1 x.2 in
       record {
-        slot = seen s.0 (slice_index p.bounds h.slot);
-        there = seen-get p.slots p.bounds h.slot s.0 s.1;
+        slot = record (seen s.0 (slice_index p.bounds h.slot)) { looks = slice_index p.looks h.slot };
+        there = get-with_looks p.looks (all_seen p.slots p.bounds) h.slot _ (seen-get p.slots p.bounds h.slot s.0 s.1);
         used = used_phase s.0.content (subst (λ (r : PinRow). IsUsed r.phase) is_row keeps.used);
         generation = ap (λ (r : PinRow). r.generation) (sym is_row) ∙ keeps.generation;
         digest = digest;

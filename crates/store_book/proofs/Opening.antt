@@ -22,7 +22,8 @@ use Rattle.store_book.specs.Catalog.{Text, Tenant, Resident, Catalog, text_cmp, 
 use Rattle.store_book.specs.Laws.{Sound}
 use Rattle.atomic_table.specs.Seated.{TableId}
 use Rattle.pin_core.specs.Events.{IsOutside}
-use Rattle.store_book.specs.Pinned.{Pinned, all_seen}
+use Rattle.store_book.specs.Pinned.{Pinned, shown, with_looks}
+use Rattle.store_book.proofs.Shown.{shown-opening}
 use Rattle.store_book.proofs.Pinning.{seen-opening}
 use Rattle.store_book.specs.Layers.{links_of, resident_rows, lent_marks, book_catalog, book_state, IsBook}
 use Rattle.store_book.specs.Openings.{IsSized, OpensBook}
@@ -144,5 +145,5 @@ module _ (given : List Tenant) (l' : Linked) (u' : Uploaded) (p : Pinned) (t : T
       rising = opened.tenants.rising;
       empty = (λ i. book_catalog (opened.empty i) (sym upload_is i) (sym slots_are i) max_blob) ∙ catalog-opening l'.tenants count first max_blob;
     };
-    slots = ap (λ (x : Pinned). all_seen x.slots x.bounds) made ∙ seen-opening count first;
+    slots = ap shown made ∙ ap (with_looks (replicate count 0)) (seen-opening count first) ∙ shown-opening count _;
   }

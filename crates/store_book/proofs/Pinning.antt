@@ -369,7 +369,7 @@ IsPinned-opening n first = record {
     zeros (suc m) zero = refl
     zeros (suc m) (suc k) = zeros m k
 
-pub seen-opening : (n first : ℕ) → all_seen (replicate n (empty_slot first)) (replicate n 0) ≡ replicate n (record { generation = first; phase = phase.Free; digest = None; bound = 0 })
+pub seen-opening : (n first : ℕ) → all_seen (replicate n (empty_slot first)) (replicate n 0) ≡ replicate n (record { generation = first; phase = phase.Free; digest = None; bound = 0; looks = 0 })
 seen-opening zero first = refl
 seen-opening (suc n) first = ap (λ (xs : List SlotSeen). seen (empty_slot first) 0 ∷ xs) (seen-opening n first)
 

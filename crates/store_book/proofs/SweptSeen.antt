@@ -6,7 +6,7 @@ use Rattle.slot_table.specs.declared.phase.Phase.TheVariants as phase
 use Rattle.slot_table.specs.Slots.{Slot, Held, Content, Free, Used, Retired, held_in, is_orphan, content_with, mark}
 use Rattle.store_book.specs.BookState.{SlotSeen}
 use Rattle.store_book.specs.Catalog.{Text}
-use Rattle.store_book.specs.Pinned.{Pinned, seen, all_seen}
+use Rattle.store_book.specs.Pinned.{Pinned, seen, all_seen, shown}
 use Rattle.store_book.specs.SlotSteps.{EachSlot, HasLast, IsSweptSlot, same, condemned, freed, retired}
 use Rattle.store_book.specs.SweptSlots.{Sweeps, IsTurned}
 use Rattle.store_book.specs.SweptSlots as turns
@@ -15,6 +15,7 @@ use Rattle.store_book.proofs.Leasing.{seen-get}
 use Rattle.store_book.proofs.MapLemmas.{some_same}
 use Rattle.store_book.proofs.Pinning.{le-self, length-all_seen, seen-at}
 use Rattle.store_book.proofs.Reclaiming.{orphan_held}
+use Rattle.store_book.proofs.Shown.{EachSlot-shown, get-with_looks, swept_blind}
 
 -- a slot in its generation, with what it holds
 abbrev slot_with : ℕ → Content → Slot
@@ -41,8 +42,8 @@ seen_turned s t n m (turns.freed is young e zeroed) = let d = digest_of s n is i
 seen_turned s t n m (turns.retired is last e zeroed) = let d = digest_of s n is in retired d.0 d.1 last (λ i. seen (e i) (zeroed i))
 
 module _ (p q : Pinned) (swept : Swept) (sweep : Sweeps p q swept) where
-  pub EachSlot-swept : EachSlot IsSweptSlot (all_seen p.slots p.bounds) (all_seen q.slots q.bounds)
-  EachSlot-swept = (
+  each_swept : EachSlot IsSweptSlot (all_seen p.slots p.bounds) (all_seen q.slots q.bounds)
+  each_swept = (
     length-all_seen q.slots q.bounds ∙ sweep.long ∙ sym (length-all_seen p.slots p.bounds),
     λ k a b at_a at_b.
         let s = seen-at p.slots p.bounds k a at_a in
@@ -53,5 +54,10 @@ module _ (p q : Pinned) (swept : Swept) (sweep : Sweeps p q swept) where
         (subst (λ (x : Slot). IsSweptSlot (seen s.0 (slice_index p.bounds k)) (seen x (slice_index q.bounds k))) is (seen_turned s.0 e.0 (slice_index p.bounds k) (slice_index q.bounds k) e.2))),
   )
 
-  pub HasLast-swept : 0 < swept.retired → HasLast (all_seen p.slots p.bounds)
-  HasLast-swept some = let s = sweep.last some in (s.0, seen s.1 (slice_index p.bounds s.0), seen-get p.slots p.bounds s.0 s.1 s.2, s.3)
+  pub EachSlot-swept : EachSlot IsSweptSlot (shown p) (shown q)
+  EachSlot-swept = EachSlot-shown IsSweptSlot swept_blind p q each_swept
+
+  pub HasLast-swept : 0 < swept.retired → HasLast (shown p)
+  HasLast-swept some =
+      let s = sweep.last some in
+      (s.0, record (seen s.1 (slice_index p.bounds s.0)) { looks = slice_index p.looks s.0 }, get-with_looks p.looks (all_seen p.slots p.bounds) s.0 _ (seen-get p.slots p.bounds s.0 s.1 s.2), s.3)

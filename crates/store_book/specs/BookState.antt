@@ -1,4 +1,4 @@
--- What contracts see of a book: its catalog, and beside it its table of words, what they say of its slots, and how often the keeper looked at each.
+-- What contracts see of a book: its catalog, and beside it its table of words and what they say of its slots.
 use Rattle.std.specs.Prelude.{ℕ, Option, List, ◌≡◌, ◌==◌, cond}
 use Rattle.std.proofs.Common.{refl}
 use Rattle.std.specs.Coded.{Coded, code_by, coded×, coded_ℕ, coded_list, coded_option}
@@ -9,19 +9,18 @@ use Rattle.slot_table.specs.declared.phase.Phase.TheVariants as phase
 use Rattle.store_book.specs.Catalog.{Catalog, coded_catalog}
 
 -- A slot with the keeper's view of it: its generation, what it is, the digest of its blob where it is used, and a bound on the sum of
--- the weights that readers have of it, which is the last look at that sum and what was lent since.
+-- the weights that readers have of it, which is the last look at that sum and what was lent since; and how often the keeper has looked.
 pub record SlotSeen : Type 0 where
   pub generation : ℕ
   pub phase : Phase
   pub digest : Option Text
   pub bound : ℕ
+  pub looks : ℕ
 
--- the catalog, the table of words, each slot, and for each slot how often the keeper has looked at its word
 pub record BookState : Type 0 where
   pub catalog : Catalog
   pub table : TableId
   pub slots : List SlotSeen
-  pub looks : List ℕ
 
 -- ---- the code by which a proof tells states apart
 
@@ -45,10 +44,10 @@ coded_phase = code_by ℕ coded_ℕ phase_number phase_numbered phase_back
 
 abbrev pub coded_slot : Coded SlotSeen
 coded_slot =
-    code_by (ℕ × (Phase × (Option Text × ℕ))) (coded× coded_ℕ (coded× coded_phase (coded× (coded_option coded_text) coded_ℕ)))
-    (λ s. (s.generation, (s.phase, (s.digest, s.bound)))) (λ p. record { generation = p.0; phase = p.1.0; digest = p.1.1.0; bound = p.1.1.1 }) (λ _. refl)
+    code_by (ℕ × (Phase × (Option Text × (ℕ × ℕ)))) (coded× coded_ℕ (coded× coded_phase (coded× (coded_option coded_text) (coded× coded_ℕ coded_ℕ))))
+    (λ s. (s.generation, (s.phase, (s.digest, (s.bound, s.looks))))) (λ p. record { generation = p.0; phase = p.1.0; digest = p.1.1.0; bound = p.1.1.1.0; looks = p.1.1.1.1 }) (λ _. refl)
 
 abbrev pub coded_state : Coded BookState
 coded_state =
-    code_by (Catalog × (TableId × (List SlotSeen × List ℕ))) (coded× coded_catalog (coded× table_id_coded (coded× (coded_list coded_slot) (coded_list coded_ℕ))))
-    (λ s. (s.catalog, (s.table, (s.slots, s.looks)))) (λ p. record { catalog = p.0; table = p.1.0; slots = p.1.1.0; looks = p.1.1.1 }) (λ _. refl)
+    code_by (Catalog × (TableId × List SlotSeen)) (coded× coded_catalog (coded× table_id_coded (coded_list coded_slot)))
+    (λ s. (s.catalog, (s.table, s.slots))) (λ p. record { catalog = p.0; table = p.1.0; slots = p.1.1 }) (λ _. refl)

@@ -7,7 +7,7 @@ use Rattle.slot_table.specs.Slots.{Slot, Held, Content, Free, Used, Retired, is_
 use Rattle.link_table.specs.Linked.{Linked, used_in}
 use Rattle.upload_table.specs.Uploaded.{Uploaded}
 use Rattle.store_book.specs.BookState.{BookState}
-use Rattle.store_book.specs.Pinned.{Pinned, all_seen}
+use Rattle.store_book.specs.Pinned.{Pinned, shown}
 use Rattle.store_book.specs.Catalog.{Text, Link, Resident, Catalog, text_cmp, link_cmp, in_sessions_of, count, used}
 use Rattle.store_book.specs.Laws.{Sound}
 
@@ -59,7 +59,7 @@ abbrev pub book_catalog : Linked → Uploaded → List Slot → ℕ → Catalog
 book_catalog l u slots max_blob = catalog_from l u slots (lent_marks slots) max_blob
 
 abbrev pub book_state : Linked → Uploaded → Pinned → ℕ → BookState
-book_state l u pinned max_blob = record { catalog = book_catalog l u pinned.slots max_blob; table = pinned.table; slots = all_seen pinned.slots pinned.bounds; looks = pinned.looks }
+book_state l u pinned max_blob = record { catalog = book_catalog l u pinned.slots max_blob; table = pinned.table; slots = shown pinned }
 
 -- What the book keeps of its layers, besides that their catalog is sound.
 pub record IsTied (l : Linked) (slots : List Slot) (lent : List Bool) (C : Catalog) : Type 0 where

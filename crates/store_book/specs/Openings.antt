@@ -26,7 +26,7 @@ pub record OpensBook (given : List Tenant) (count max_blob first : ℕ) (book : 
   pub limits : IsWithinLimits given
   pub sized : IsSized count max_blob
   pub catalog : OpensCatalog given count max_blob book.catalog
-  pub slots : book.slots ≡ replicate count (record { generation = first; phase = phase.Free; digest = None; bound = 0 })
+  pub slots : book.slots ≡ replicate count (record { generation = first; phase = phase.Free; digest = None; bound = 0; looks = 0 })
 
 -- Why a book isn't opened: for a tenant's name, and else for a limit. Want of memory may come in place of either.
 abbrev pub RefusesBook : Refusal → List Tenant → ℕ → ℕ → Type 0

@@ -46,15 +46,25 @@ is_orphan_at slots k = option_map_or is_orphan (slice_get slots k) false
 
 -- ---- what is seen
 
--- a slot with its bound
+-- a slot with its bound, before its looks are told
 abbrev pub seen : Slot → ℕ → SlotSeen
-seen s bound = record { generation = s.generation; phase = phase_in s.content; digest = option_map (λ h. h.digest) (held_in s.content); bound = bound }
+seen s bound = record { generation = s.generation; phase = phase_in s.content; digest = option_map (λ h. h.digest) (held_in s.content); bound = bound; looks = 0 }
 
 -- each slot with its bound
 abbrev pub all_seen : List Slot → List ℕ → List SlotSeen
 all_seen [] bounds = []
 all_seen (s ∷ slots) [] = seen s 0 ∷ all_seen slots []
 all_seen (s ∷ slots) (b ∷ bounds) = seen s b ∷ all_seen slots bounds
+
+-- slots with how often each was looked at
+abbrev pub with_looks : List ℕ → List SlotSeen → List SlotSeen
+with_looks looks [] = []
+with_looks [] (s ∷ slots) = record s { looks = 0 } ∷ with_looks [] slots
+with_looks (n ∷ looks) (s ∷ slots) = record s { looks = n } ∷ with_looks looks slots
+
+-- all that is seen of the slots
+abbrev pub shown : Pinned → List SlotSeen
+shown p = with_looks p.looks (all_seen p.slots p.bounds)
 
 -- ---- what the calls change
 

@@ -1,5 +1,5 @@
 -- What commands and sweeps do to slots, beside what they do to the catalog.
-use Rattle.std.specs.Prelude.{◌≡◌, ◌<◌, ◌≤◌, ◌+◌, ◌^◌, ◌⊎◌, ℕ, Bool, true, Some, None, Result, List, length, slice_get, slice_index}
+use Rattle.std.specs.Prelude.{◌≡◌, ◌<◌, ◌≤◌, ◌+◌, ◌^◌, ◌⊎◌, ℕ, Bool, true, Some, None, Result, List, length, slice_get}
 use Rattle.std.specs.FinMap as fmap
 use Rattle.blob_digest.specs.Digests.{is_digest_of}
 use Rattle.blob_digest.specs.Keys.{Text}
@@ -39,17 +39,14 @@ abbrev pub IsCrowded : Text → List SlotSeen → Type 0
 IsCrowded digest slots = (k : ℕ) × (s : SlotSeen) × (slice_get slots k ≡ Some s) × (s.digest ≡ Some digest) × (2 ^ 30 ≤ s.bound + 1024)
 
 -- The slot of this digest was looked at once more, and the sum that was found, which is its bound now, leaves no room for a reader.
-pub record FindsNoRoom (digest : Text) (old new : BookState) : Type 0 where
+pub record FindsNoRoom (digest : Text) (old new : List SlotSeen) : Type 0 where
   pub slot : ℕ
-  pub found : SlotSeen
-  pub there : slice_get new.slots slot ≡ Some found
-  pub held : found.digest ≡ Some digest
-  pub full : 2 ^ 30 ≤ found.bound + 1024
-  pub looked : slice_index new.looks slot ≡ slice_index old.looks slot + 1
-
--- no slot was looked at, and none has changed
-abbrev pub IsUnasked : BookState → BookState → Type 0
-IsUnasked old new = (new.slots ≡ old.slots) × (new.looks ≡ old.looks)
+  pub before : SlotSeen
+  pub was : slice_get old slot ≡ Some before
+  pub held : before.digest ≡ Some digest
+  pub weight : ℕ
+  pub full : 2 ^ 30 ≤ weight + 1024
+  pub after : slice_get new slot ≡ Some (record before { bound = weight; looks = before.looks + 1 })
 
 -- A lease does what its definition says, and is refused for its readers only where a look found no room for one more.
 pub record Leases {A : Type 0} (view : A → Text) (result : Result A Refusal) (C C' : Catalog) (new : List SlotSeen) (repo digest : Text) : Type 0 where
@@ -70,14 +67,14 @@ word_phase phase.Retired = word.Retired
 abbrev pub IsStill : SlotSeen → SlotSeen → Type 0
 IsStill a b = (b.generation ≡ a.generation) × (b.phase ≡ a.phase) × (b.digest ≡ a.digest) × (b.bound ≤ a.bound)
 
--- The word n of the slot k was read: the slot's generation and phase, and a sum of weights within its bound, which the bound is now.
+-- The word n of the slot k was read, by one look: the slot's generation and phase, and a sum of weights within its bound, which the bound is now.
 pub record ReadsWord (k n : ℕ) (old new : List SlotSeen) : Type 0 where
   pub slot : SlotSeen
   pub there : slice_get old k ≡ Some slot
   pub weight : ℕ
   pub reads : n ≡ word_of slot.generation (word_phase slot.phase) weight
   pub within : weight ≤ slot.bound
-  pub after : slice_get new k ≡ Some (record slot { bound = weight })
+  pub after : slice_get new k ≡ Some (record slot { bound = weight; looks = slot.looks + 1 })
 
 -- A pin's slot is used and its own: it has the pin's generation and digest, and so has the blob that is kept of that digest.
 pub record HasPin (h : Hold) (book : BookState) : Type 0 where
@@ -95,8 +92,8 @@ pub record HasPin (h : Hold) (book : BookState) : Type 0 where
 pub data IsSweptSlot (a b : SlotSeen) : Type 0 where
   same : IsStill a b → IsSweptSlot a b
   condemned : a.phase ≡ phase.Live → IsStill (record a { phase = phase.Condemned }) b → IsSweptSlot a b
-  freed : (d : Text) → a.digest ≡ Some d → a.generation + 1 < 2 ^ 32 → b ≡ record { generation = a.generation + 1; phase = phase.Free; digest = None; bound = 0 } → IsSweptSlot a b
-  retired : (d : Text) → a.digest ≡ Some d → a.generation + 1 ≡ 2 ^ 32 → b ≡ record { generation = a.generation; phase = phase.Retired; digest = None; bound = 0 } → IsSweptSlot a b
+  freed : (d : Text) → a.digest ≡ Some d → a.generation + 1 < 2 ^ 32 → b ≡ record { generation = a.generation + 1; phase = phase.Free; digest = None; bound = 0; looks = b.looks } → IsSweptSlot a b
+  retired : (d : Text) → a.digest ≡ Some d → a.generation + 1 ≡ 2 ^ 32 → b ≡ record { generation = a.generation; phase = phase.Retired; digest = None; bound = 0; looks = b.looks } → IsSweptSlot a b
 
 -- some slot is in its last generation
 abbrev pub HasLast : List SlotSeen → Type 0

@@ -8,7 +8,7 @@ ghost use Rattle.store_book.specs.Laws.{Sound};
 ghost use Rattle.store_book.specs.Pinned.{blob_bytes, blob_digest};
 ghost use Rattle.store_book.specs.Openings.{OpensBook, RefusesBook};
 ghost use Rattle.store_book.specs.Printed.{book_text};
-ghost use Rattle.store_book.specs.SlotSteps.{EachSlot, FindsNoRoom, HasLast, HasPin, IsHousing, IsLending, IsQuiet, IsStill, IsSweptSlot, IsUnasked, Leases, ReadsWord};
+ghost use Rattle.store_book.specs.SlotSteps.{EachSlot, FindsNoRoom, HasLast, HasPin, IsHousing, IsLending, IsQuiet, IsStill, IsSweptSlot, Leases, ReadsWord};
 ghost use Rattle.store_book.specs.Steps.{start, status, append, close, abandon, mount, delete, take, put_back, finish, given_back};
 ghost use Rattle.store_book.specs.Sweeps.{IsSweep};
 ghost use Rattle.upload_table.specs.Sessions.{taken_session};
@@ -353,8 +353,8 @@ impl Book {
     /// marked as lent. While the pin is out, no sweep frees the slot.
     ///
     /// Refused, in this order: a tenant that is not there (`NameUnknown`); a digest that is not linked
-    /// in the repository (`BlobUnknown`); a slot on which the keeper's look finds no room for one
-    /// reader more (`TooManyReaders`); want of memory.
+    /// in the repository (`BlobUnknown`); a slot on which this call's look finds no room for one reader
+    /// more (`TooManyReaders`); want of memory, which comes before any look.
     pub fn lease(
         &mut self,
         pins: &Pins,
@@ -363,8 +363,8 @@ impl Book {
     ) -> Result<(Pin, Arc<Blob, Global>), Refusal>
         requires table { self.old.table ≡ pins.now }
         ensures does { Leases (λ r. blob_bytes (arc_value r.1)) result self.old.catalog self.new.catalog self.new.slots repo.now digest.now }
-        ensures readers { IfErr result (λ e. e ≡ Refusal.TooManyReaders → FindsNoRoom digest.now self.old self.new) }
-        ensures others { IfErr result (λ e. e ≢ Refusal.TooManyReaders → IsUnasked self.old self.new) }
+        ensures readers { IfErr result (λ e. e ≡ Refusal.TooManyReaders → FindsNoRoom digest.now self.old.slots self.new.slots) }
+        ensures others { IfErr result (λ e. e ≢ Refusal.TooManyReaders → self.new.slots ≡ self.old.slots) }
         ensures blob { IfOk result (λ r. blob_digest (arc_value r.1) ≡ digest.now) }
         ensures pin { IfOk result (λ r. (r.0.table ≡ pins.now) × (r.0.hold.digest ≡ digest.now) × (r.0.hold.weight ≡ 1024)) }
         ensures slots { (self.new.table ≡ self.old.table) × EachSlot (IsLending digest.now) self.old.slots self.new.slots }

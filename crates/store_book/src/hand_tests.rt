@@ -8,6 +8,9 @@ use upload_table::Hand;
 
 const OVER: Refusal = Refusal::Quota { used: 4, quota: 5 };
 
+/// The digest of `ab`.
+const AB: &str = "sha256:fb8e20fc2e4c3f248c60c39bd652f3c1347298bb977b8b4d5903b85055620603";
+
 fn taken(
     rt: &(impl Abort + AllocGlobal),
     store: &mut Store,
@@ -73,7 +76,7 @@ fn finish(
     hand: Hand,
     of: &str,
 ) -> Result<u64, Refusal> {
-    if !hand.filled() {
+    if !hand.filled() && hand.reserved() > 0 {
         let _ = put_back(store, hand)?;
         return Err(Refusal::Memory);
     }
@@ -162,5 +165,47 @@ fn a_hand_of_another_book_changes_nothing(rt: HostRuntime) {
         Step::Abandon("acme/one", 1, Err(Refusal::Busy)),
         Step::Status("acme/one", 1, Ok(2)),
     ];
+    plays(&rt, &mut book, &script);
+}
+
+#[test]
+fn a_hand_that_reserves_nothing_is_finished_unfilled(rt: HostRuntime) {
+    let mut book = started(&rt, 1000);
+    let hand = takes(&rt, &mut book, "", 0);
+    finishes(&rt, &mut book, hand, ABC, Err(Refusal::DigestInvalid));
+    let hand = takes(&rt, &mut book, "", 0);
+    finishes(&rt, &mut book, hand, AB, Ok(2));
+    let script = [
+        Step::Status("acme/one", 1, Err(Refusal::UploadUnknown)),
+        Step::Prints(
+            "book\ntenant acme used 2 quota 1000 next 2\nrepository acme/one\nblob sha256:fb8e20fc2e4c3f248c60c39bd652f3c1347298bb977b8b4d5903b85055620603 size 2 links 1\nend\n",
+        ),
+    ];
+    plays(&rt, &mut book, &script);
+}
+
+/// Of a tenant, session 1 of `acme/one` has `xy`.
+fn other_started(rt: &(impl Abort + AllocGlobal)) -> Store {
+    let one = "acme/one";
+    let mut book = small(rt, 64, 1048576, 1000);
+    let script = [
+        Step::Start(one, Ok(1)),
+        Step::Append(one, 1, "", "xy", Ok(2)),
+    ];
+    plays(rt, &mut book, &script);
+    book
+}
+
+#[test]
+fn a_hand_of_another_book_with_the_same_lengths_is_put_back(rt: HostRuntime) {
+    let mut book = started(&rt, 1000);
+    let mut other = other_started(&rt);
+    let hand = fill(takes(&rt, &mut book, "", 1), "c");
+    let own = takes(&rt, &mut other, "", 1);
+    puts_back(&rt, &mut other, hand, Ok(3));
+    puts_back(&rt, &mut other, own, Err(Refusal::UploadUnknown));
+    let script = [Step::Close("acme/one", 1, ABC, "", "", Ok(3))];
+    plays(&rt, &mut other, &script);
+    let script = [Step::Abandon("acme/one", 1, Err(Refusal::Busy))];
     plays(&rt, &mut book, &script);
 }

@@ -4,7 +4,7 @@ ghost use Rattle.std.specs.Prelude.{◌≡◌, ◌≢◌, ◌<◌, length, true,
 ghost use Rattle.std.specs.Option.{option_map_or};
 ghost use Rattle.slot_table.specs.Slots.{held_at, phase_at, slot_of};
 ghost use Rattle.slot_table.specs.declared.phase.Phase.TheVariants as phase;
-ghost use Rattle.store_book.specs.Pinned.{all_seen, Quietly};
+ghost use Rattle.store_book.specs.Pinned.{shown, Quietly};
 ghost use Rattle.store_book.specs.Keeping.{bytes_at, linked_slot, CanKeep, IsKept, IsUnkept};
 
 use crate::pinned_slots::PinnedSlots;
@@ -67,7 +67,7 @@ pub(crate) fn link_slot(
     ensures ok { OnOk result (IsKept links.old slots.old.slots repo.now (digest.now, bytes_at slots.old.slots slot) links.new slots.new.slots) }
     ensures memory { IfErr result (λ e. e ≡ Refusal.Memory) }
     ensures err { OnErr result ((links.new ≡ links.old) × (slots.new ≡ slots.old)) }
-    ensures seen { (slots.new.table ≡ slots.old.table) × (all_seen slots.new.slots slots.new.bounds ≡ all_seen slots.old.slots slots.old.bounds) }
+    ensures seen { (slots.new.table ≡ slots.old.table) × (shown slots.new ≡ shown slots.old) }
 {
     let size = held_len(slots.table(), slot);
     let is_new = links.link(tenant, repo, digest, size)?;

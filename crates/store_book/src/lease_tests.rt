@@ -4,7 +4,7 @@ ghost use Rattle.std.specs.Prelude.{◌≡◌};
 
 use crate::Mount;
 use crate::test_steps::{
-    ABC, OBJ, Step, Store, digest, digest_of, fill, name, opened_at, play, plays, small,
+    ABC, ABC_512, OBJ, Step, Store, book, digest, digest_of, fill, name, opened_at, play, plays, small,
 };
 use blob_digest::{Blob, Refusal};
 use pin_table::Pin;
@@ -172,6 +172,30 @@ fn a_repository_lends_what_it_holds(rt: HostRuntime) {
         ("acme/three", ABC, None),
     ] {
         assert_eq!(rt; refuses(&rt, &mut store, repo, of), refusal);
+    }
+}
+
+/// A lease of a digest has the blob of that digest, and a pin of it.
+fn lends_its_own(rt: &(impl Abort + AllocGlobal), store: &mut Store, of: &str)
+    ensures { store.new.book.table ≡ store.old.book.table }
+{
+    let lease = leases(rt, store, of);
+    assert_eq!(rt; lease.blob.digest(), digest(rt, of));
+    assert_eq!(rt; lease.pin.digest(), digest(rt, of));
+    assert_eq!(rt; lease.blob.bytes(), b"abc".as_slice());
+    give_back(store, lease);
+}
+
+#[test]
+fn each_of_two_digests_is_lent_as_its_own_blob(rt: HostRuntime) {
+    let mut store = book(&rt, &[("acme", 6)]);
+    let script = [
+        Step::Upload("acme/one", ABC, "abc", Ok(3)),
+        Step::Upload("acme/one", ABC_512, "abc", Ok(3)),
+    ];
+    plays(&rt, &mut store, &script);
+    for of in [ABC, ABC_512] {
+        lends_its_own(&rt, &mut store, of);
     }
 }
 

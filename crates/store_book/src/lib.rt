@@ -4,7 +4,8 @@
 //! It stands on `link_table`, `upload_table` and `slot_table`, which keep the parts, on `pin_table`,
 //! whose keeper it has, for the words of the slots, on `oci_manifest`, which reads manifests, and on
 //! `blob_digest` for names, digests and blobs. Contracts see a book as a catalog of finite sets and
-//! maps, and beside it of each slot its generation, what it is, its digest and a bound on its readers.
+//! maps, and beside it of each slot its generation, what it is, its digest, a bound on its readers, and
+//! how often the keeper has looked at it.
 //! Each command's contract is the outcome that the definitions give it: the first refusal that
 //! applies, with nothing changed, or its answer and the catalog after it. A book is sound at all
 //! times: each blob's bytes have its digest, each linked digest is kept, what a manifest refers to is
@@ -30,6 +31,8 @@ mod mount;
 mod mount_tests;
 mod pinned_slots;
 mod print;
+#[cfg(test)]
+mod reader_tests;
 #[cfg(test)]
 mod refusal_tests;
 mod sweep;

@@ -174,7 +174,8 @@ impl PinnedSlots {
     pub fn word(&mut self, pins: &Pins, slot: u32) -> u64
         requires table { self.old.table ≡ pins.now }
         requires within { slot < length self.old.slots }
-        ensures { Looked slot result self.old self.new }
+        ensures read { Looked slot result self.old self.new }
+        ensures one_each { length self.old.looks ≡ length self.old.slots }
     {
         pins.look(&mut self.keeper, slot)
     }

@@ -201,10 +201,3 @@ fn a_session_is_asked_for_and_given_up(rt: HostRuntime) {
     ];
     plays(&rt, &mut book, &script);
 }
-
-#[test]
-fn the_laws_hold(_rt: HostRuntime) {
-    crate::laws::counts_and_uses();
-    crate::laws::soundness();
-    crate::laws::isolation();
-}

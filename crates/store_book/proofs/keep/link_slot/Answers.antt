@@ -2,7 +2,7 @@ use Rattle.std.proofs.Common.{◌≡◌, List, ◌∙◌, ap, sym, subst}
 use Rattle.slot_table.specs.declared.phase.Phase.TheVariants as phase
 use Rattle.slot_table.specs.Slots.{Slot, with_slot, on_held, raise}
 use Rattle.store_book.specs.Keeping.{bytes_at, revived, IsKept}
-use Rattle.store_book.specs.Pinned.{Pinned, all_seen}
+use Rattle.store_book.specs.Pinned.{Pinned, shown, with_looks}
 use Rattle.store_book.proofs.KeepCalls.{size_there, again_new, again_old}
 use Rattle.store_book.proofs.Pinning.{all_seen-with_slot, raise-seen, revived-same}
 use Rattle.store_book.proofs.keep.link_slot.Goals as goal
@@ -27,6 +27,6 @@ pub returns-clause-seen : goal.returns-clause-seen
 returns-clause-seen c = elim c.if-is_new.branch [
   | then-is_new w ↦
       let is = w.slots-is ∙ w.link_up.ensures in
-      (ap (λ (p : Pinned). p.table) is, ap (λ (p : Pinned). all_seen p.slots p.bounds) is ∙ all_seen-with_slot c.args.slots.now.slots c.args.slot (on_held raise) c.args.slots.now.bounds raise-seen)
-  | else-is_new w ↦ (ap (λ (p : Pinned). p.table) w.slots-is, ap (λ (p : Pinned). all_seen p.slots p.bounds) w.slots-is)
+      (ap (λ (p : Pinned). p.table) is, ap shown is ∙ ap (with_looks c.args.slots.now.looks) (all_seen-with_slot c.args.slots.now.slots c.args.slot (on_held raise) c.args.slots.now.bounds raise-seen))
+  | else-is_new w ↦ (ap (λ (p : Pinned). p.table) w.slots-is, ap shown w.slots-is)
 ]

@@ -5,7 +5,7 @@ use Rattle.blob_digest.specs.Keys.{Text}
 use Rattle.upload_table.specs.Sessions.{Session}
 use Rattle.upload_table.specs.Uploaded.{repo_at, reopened, with_sessions}
 use Rattle.store_book.specs.BookState.{BookState}
-use Rattle.store_book.specs.Pinned.{Pinned, all_seen}
+use Rattle.store_book.specs.Pinned.{Pinned, shown}
 use Rattle.store_book.specs.SlotSteps.{EachSlot, IsHousing}
 use Rattle.store_book.proofs.Housing.{EachSlot-housed}
 use Rattle.store_book.specs.Keeping.{IsKept, IsUnkept}
@@ -13,6 +13,7 @@ use Rattle.store_book.specs.Layers.{book_catalog}
 use Rattle.store_book.specs.Steps.{given_back}
 use Rattle.store_book.proofs.Finishing.{found, finish_charged, finish_ok, finish_other_digest, finish_unkept, given_back_is, layer_finished, layer_refused, layer_unknown, reserve_charged, same_tenants, CanKeep-finished, IsBook-finish, IsBook-given_back}
 use Rattle.store_book.proofs.PuttingBack.{here_tenant}
+use Rattle.store_book.proofs.Shown.{Quietly-shown}
 use Rattle.store_book.proofs.book.Book.finish.Goals as goal
 
 pub discharge-requires : goal.discharge-requires
@@ -94,7 +95,7 @@ returns-in-Ok-keep-clause-does c =
     rw (← c.self.view_is, size) (finish_ok c.self.inside.links c.self.inside.uploads c.self.inside.slots.slots c.self.inside.max_blob c.args.hand c.args.digest.now c.self.invariant (record { pieces = c.reserved-reserved.ensures.pieces; last = c.reserved-reserved.ensures.last }) c.requires.full p.0 p.1 p.2 c.keep.new.links c.keep.new.slots.slots kept c.discharge-in-Ok-keep.new.self c.forget.new.self links uploads)
 
 pub returns-in-Ok-keep-clause-slots : goal.returns-in-Ok-keep-clause-slots
-returns-in-Ok-keep-clause-slots c = let q = c.in-Ok-keep.ensures.quiet in rw (← c.self.view_is) (q.table, q.slots)
+returns-in-Ok-keep-clause-slots c = rw (← c.self.view_is) (Quietly-shown c.self.inside.slots c.keep.new.slots c.in-Ok-keep.ensures.quiet)
 
 pub returns-in-Err-keep-clause-does : goal.returns-in-Err-keep-clause-does
 returns-in-Err-keep-clause-does c =
@@ -118,7 +119,7 @@ returns-in_default-clause-does c =
 pub returns-in-Ok-keep-clause-housed : goal.returns-in-Ok-keep-clause-housed
 returns-in-Ok-keep-clause-housed c =
     let p = layer_finished c.self.inside.uploads c.args.hand c.args.digest.now c.in-Ok.both.0 c.finish.new.self c.in-Ok.ensures.does in
-    rw (← c.self.view_is) (subst (λ (b : Text × Text). EachSlot (IsHousing b.0) (all_seen c.self.inside.slots.slots c.self.inside.slots.bounds) (all_seen c.keep.new.slots.slots c.keep.new.slots.bounds)) p.3
+    rw (← c.self.view_is) (subst (λ (b : Text × Text). EachSlot (IsHousing b.0) (shown c.self.inside.slots) (shown c.keep.new.slots)) p.3
     (EachSlot-housed c.self.inside.slots c.keep.new.slots c.self.inside.links c.keep.new.links c.repo_of-repo.result.now c.in-Ok.both.0 c.in-Ok-keep.ensures.quiet c.in-Ok-keep.ensures.ok))
 
 pub returns-in_default-clause-taken : goal.returns-in_default-clause-taken

@@ -29,7 +29,7 @@ returns-in_err-pin-clause-does c =
     rw (p.1, p.2, e.0, ← c.self.view_is) (record {
       crowded = true;
       does = ((λ other. lease_full c.self.inside.links c.self.inside.uploads c.self.inside.slots.slots c.self.inside.max_blob c.in_ok-tenant.field-0 c.args.repo.now c.args.digest.now c.self.invariant (sym c.in_ok-tenant.ensures.known) c.in-Some.slot (rw c.table.ensures at (sym c.in-Some.ensures))), ap (λ (x : Pinned). book_catalog c.self.inside.links c.self.inside.uploads x.slots c.self.inside.max_blob) e.1.after);
-      look = λ _. IsCrowded-full c.self.inside.slots c.lend.new.self c.in-Some.slot c.args.digest.now h.0 h.1 h.2 c.share.ensures.one_each.0 e.1;
+      look = λ _. IsCrowded-full c.self.inside.slots c.lend.new.self c.in-Some.slot c.args.digest.now h.0 h.1 h.2 c.share.ensures.one_each e.1;
     })
 
 pub returns-in_err-pin-clause-slots : goal.returns-in_err-pin-clause-slots
@@ -61,7 +61,7 @@ returns-in_err-pin-clause-readers c =
     let p = err_from_is_err_and c.from_residual-in_err-pin.result c.from_residual-in_err-pin.ensures.1 in
     let e = c.in_err-pin.ensures in
     let h = held c.self.inside.links c.self.inside.uploads c.self.inside.slots.slots c.self.inside.max_blob c.in_ok-tenant.field-0 c.args.repo.now c.args.digest.now c.self.invariant (sym c.in_ok-tenant.ensures.known) c.in-Some.slot (rw c.table.ensures at (sym c.in-Some.ensures)) in
-    rw (p.1, ← c.self.view_is) (λ _. finds_no_room c.self.inside.links c.self.inside.uploads c.self.inside.max_blob c.self.inside.slots c.lend.new.self c.in-Some.slot c.args.digest.now h.0 h.1 h.2 c.share.ensures.one_each.0 c.share.ensures.one_each.1 e.1)
+    rw (p.1, ← c.self.view_is) (λ _. finds_no_room c.self.inside.slots c.lend.new.self c.in-Some.slot c.args.digest.now h.0 h.1 h.2 c.share.ensures.one_each e.1)
 
 pub returns-in_err-pin-clause-others : goal.returns-in_err-pin-clause-others
 returns-in_err-pin-clause-others c =
