@@ -80,7 +80,7 @@ put_refused view (Err e) amounts old new repo m fits some does =
     different_manifest h = absurd cc
 
 module _ {A : Type 0} (view : A → Text) (r : Result A Refusal) (amounts : Text → Amounts) (old new : Content × Amounts) (repo m bytes : Text) (same : m ≡ bytes) (fits : max_manifest < length bytes → ⊥) (some : IsSome (refs_of bytes))
-  (does : Does view r old new (counted amounts (λ C. put_manifest C repo m) old)) where
+    (does : Does view r old new (counted amounts (λ C. put_manifest C repo m) old)) where
   other : IfErr r IsOther
   other = put_refused view r amounts old new repo m (subst (λ (x : Text). max_manifest < length x → ⊥) (sym same) fits) (subst (λ (x : Text). IsSome (refs_of x)) (sym same) some) does
 

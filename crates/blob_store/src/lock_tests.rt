@@ -51,7 +51,8 @@ fn great_manifest(rt: &(impl Abort + AllocGlobal)) -> Vec<u8> {
     let tail = "\"}}";
     let mut text = Vec::from_slice(alloc, head.as_bytes()).expect(rt, "memory");
     let filler = Vec::from_elem(alloc, b'a', 4_194_200).expect(rt, "memory");
-    text.extend_from_slice(filler.as_slice()).expect(rt, "memory");
+    text.extend_from_slice(filler.as_slice())
+        .expect(rt, "memory");
     text.extend_from_slice(tail.as_bytes()).expect(rt, "memory");
     text
 }

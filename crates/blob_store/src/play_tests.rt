@@ -161,7 +161,8 @@ impl<
 
     fn after(&self, lane: u8, row: usize) {
         self.tally.after(lane, row);
-        self.tally.tell(self.test.counted() == (row as u64).saturating_add(1));
+        self.tally
+            .tell(self.test.counted() == (row as u64).saturating_add(1));
     }
 }
 
@@ -223,7 +224,12 @@ const COUNTED: [Line; 7] = [
     ),
     (7, Verb::Status, ["acme/one", "1", "", "", ""], "received 3"),
     (3, Verb::Close, ["acme/one", "1", ABC, "", ""], "stored 3"),
-    (0, Verb::Abandon, ["other/one", "1", "", "", ""], "abandoned"),
+    (
+        0,
+        Verb::Abandon,
+        ["other/one", "1", "", "", ""],
+        "abandoned",
+    ),
 ];
 
 const BOOK: &str =
@@ -262,7 +268,13 @@ pub fn row_of(
 pub fn rows_of(rt: &(impl Abort + AllocGlobal), lines: &[Line]) -> Vec<Row> {
     let mut rows = Vec::new(rt.alloc());
     for (lane, verb, [repo, key, digest, range, body], _) in lines {
-        let row = row_of(rt, *lane, *verb, [repo, key, digest, range], body.as_bytes());
+        let row = row_of(
+            rt,
+            *lane,
+            *verb,
+            [repo, key, digest, range],
+            body.as_bytes(),
+        );
         rows.push(row).expect(rt, "memory");
     }
     rows

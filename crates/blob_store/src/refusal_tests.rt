@@ -49,7 +49,11 @@ const OF_NOBODY: [Case; 11] = [
     (Verb::Delete, ["", ABC, "", ""], "refused NameUnknown"),
     (Verb::PutManifest, ["", "", "", "x"], "refused NameUnknown"),
     (Verb::GetManifest, ["", ABC, "", ""], "refused NameUnknown"),
-    (Verb::DeleteManifest, ["", ABC, "", ""], "refused NameUnknown"),
+    (
+        Verb::DeleteManifest,
+        ["", ABC, "", ""],
+        "refused NameUnknown",
+    ),
     (Verb::Lease, ["r", ABC, "", ""], "refused NameUnknown"),
 ];
 
@@ -61,22 +65,54 @@ const OF_ONE: [Case; 27] = [
     (Verb::Close, ["2", ABC, "", ""], "refused UploadUnknown"),
     (Verb::Abandon, ["2", "", "", ""], "refused UploadUnknown"),
     (Verb::Append, ["1", "", "0-1", "abc"], "refused SizeInvalid"),
-    (Verb::Append, ["1", "", "", "abcdefghi"], "refused SizeInvalid"),
-    (Verb::Append, ["1", "", "1-3", "abc"], "refused RangeInvalid received 0"),
+    (
+        Verb::Append,
+        ["1", "", "", "abcdefghi"],
+        "refused SizeInvalid",
+    ),
+    (
+        Verb::Append,
+        ["1", "", "1-3", "abc"],
+        "refused RangeInvalid received 0",
+    ),
     (Verb::Close, ["1", ABC, "0-1", "abc"], "refused SizeInvalid"),
-    (Verb::Close, ["1", ABC, "1-3", "abc"], "refused RangeInvalid received 0"),
+    (
+        Verb::Close,
+        ["1", ABC, "1-3", "abc"],
+        "refused RangeInvalid received 0",
+    ),
     (Verb::Append, ["1", "", "", "abcdefgh"], "received 8"),
     (Verb::Start, ["", "", "", ""], "session 2"),
-    (Verb::Append, ["2", "", "", "abc"], "refused Quota used 8 quota 10"),
-    (Verb::Close, ["2", ABC, "", "abc"], "refused Quota used 8 quota 10"),
+    (
+        Verb::Append,
+        ["2", "", "", "abc"],
+        "refused Quota used 8 quota 10",
+    ),
+    (
+        Verb::Close,
+        ["2", ABC, "", "abc"],
+        "refused Quota used 8 quota 10",
+    ),
     (Verb::Close, ["1", ABC, "", ""], "refused DigestInvalid"),
     (Verb::Abandon, ["1", "", "", ""], "abandoned"),
     (Verb::Delete, ["", ABC, "", ""], "refused BlobUnknown"),
     (Verb::Lease, ["r", ABC, "", ""], "refused BlobUnknown"),
-    (Verb::PutManifest, ["", "", "", "no manifest"], "refused ManifestInvalid"),
+    (
+        Verb::PutManifest,
+        ["", "", "", "no manifest"],
+        "refused ManifestInvalid",
+    ),
     (Verb::PutManifest, ["", "", "", IMAGE], MISSING),
-    (Verb::GetManifest, ["", ABC, "", ""], "refused ManifestUnknown"),
-    (Verb::DeleteManifest, ["", ABC, "", ""], "refused ManifestUnknown"),
+    (
+        Verb::GetManifest,
+        ["", ABC, "", ""],
+        "refused ManifestUnknown",
+    ),
+    (
+        Verb::DeleteManifest,
+        ["", ABC, "", ""],
+        "refused ManifestUnknown",
+    ),
     (Verb::Close, ["2", ABC, "", "abc"], "stored 3"),
     (Verb::PutManifest, ["", "", "", IMAGE], IMAGE_KEPT),
     (Verb::Delete, ["", ABC, "", ""], REFERENCED),
@@ -88,7 +124,11 @@ const OF_ONE: [Case; 27] = [
 const OF_ONE_TOO_MANY: [Case; 3] = [
     (Verb::Start, ["", "", "", ""], "refused LimitReached"),
     (Verb::Mount, ["", ABC, "", ""], "refused LimitReached"),
-    (Verb::PutManifest, ["", "", "", INDEX], "refused LimitReached"),
+    (
+        Verb::PutManifest,
+        ["", "", "", INDEX],
+        "refused LimitReached",
+    ),
 ];
 
 /// Rows with the texts of their replies.
@@ -114,13 +154,7 @@ impl Script {
     }
 
     /// Cases in a repository.
-    fn add_all(
-        &mut self,
-        rt: &(impl Abort + AllocGlobal),
-        lane: u8,
-        repo: &str,
-        cases: &[Case],
-    ) {
+    fn add_all(&mut self, rt: &(impl Abort + AllocGlobal), lane: u8, repo: &str, cases: &[Case]) {
         for case in cases {
             self.add(rt, lane, repo, *case, case.1[3].as_bytes());
         }
@@ -133,7 +167,11 @@ impl Script {
         let last = format!(in alloc; "{tenant}/last").expect(rt, "memory");
         let put = (Verb::PutManifest, ["", "", "", INDEX], INDEX_KEPT);
         let long = (Verb::PutManifest, ["", "", "", ""], "refused SizeInvalid");
-        let invalid = (Verb::PutManifest, ["", "", "", ""], "refused ManifestInvalid");
+        let invalid = (
+            Verb::PutManifest,
+            ["", "", "", ""],
+            "refused ManifestInvalid",
+        );
         let body = Vec::from_elem(alloc, b'a', TOO_MANY).expect(rt, "memory");
         let body = body.as_slice();
         self.add_all(rt, lane, "nobody/x", OF_NOBODY.as_slice());
@@ -177,9 +215,15 @@ impl<
         };
         script.add_lane(rt, 0, "acme");
         script.add_lane(rt, 1, "other");
-        let played = play(rt, rt.alloc(), self.store, script.rows.as_slice(), 2, &OpenGate).expect(
-            rt, "memory",
-        );
+        let played = play(
+            rt,
+            rt.alloc(),
+            self.store,
+            script.rows.as_slice(),
+            2,
+            &OpenGate,
+        )
+        .expect(rt, "memory");
         expect_replies(rt, played.replies.as_slice(), script.replies.as_slice());
     }
 }

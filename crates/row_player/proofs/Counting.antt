@@ -80,7 +80,7 @@ not_accepted value line answer none = elim (uses_repo line.verb) as (λ b. (if b
 -- What a store counts goes from one number to another by an amount: `Goes` has it so for no amount, and for the sum of two.
 module _ (Goes : ℕ → ℕ → ℕ → Type 0) (stays : (a b : ℕ) → b ≡ a → Goes a 0 b) (both : (a x b y c : ℕ) → Goes a x b → Goes b y c → Goes a (x + y) c) where
   module _ (of_command : Command → Answer → ℕ) (of_line : Line → Answer → ℕ) (agree : (line : Line) (command : Command) (answer : Answer) → Spells line command → of_command command answer ≡ of_line line answer)
-    (lent : (line : Line) (bytes : Text) → Spells line (Lease line.repo line.digest) → of_line line (Bytes bytes) ≡ of_line line (Leased (length bytes))) where
+      (lent : (line : Line) (bytes : Text) → Spells line (Lease line.repo line.digest) → of_line line (Bytes bytes) ≡ of_line line (Leased (length bytes))) where
     -- a command comes to what its row comes to, and so does a lease, whose bytes the row tells the length of
     command_amount : (line : Line) (command : Command) (answer : Answer) → Spells line command → request_amount of_command (Calls command) answer ≡ row_amount of_line (line, answer)
     command_amount line command answer spells = rw (names_repo line command spells, agree line command answer spells) refl
