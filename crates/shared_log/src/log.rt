@@ -4,7 +4,7 @@ ghost use Rattle.std.specs.Prelude.{◌≡◌, [], IfOk};
 ghost use Rattle.shared_log.specs.Entries.{events_by};
 ghost use Rattle.shared_log.specs.Calls.{Agrees, with_writer, new_writer, with_entry, has_appended, has_seen, with_entries, has_written};
 
-use crate::rule::{Append, Event, Events, Ground, Hand, NewWriter, Nothing, One, Place, Token};
+use crate::rule::{Append, Event, Events, Hand, NewWriter, Nothing, One, Place, Token, Words};
 use atomic_table::Badge;
 use std::alloc::{AllocError, Global};
 use std::marker::Model;
@@ -14,7 +14,7 @@ use std::mem;
 /// all entries so far, and how many writers there are.
 #[derive(Drop)]
 pub struct SharedLog<E> {
-    ground: Ground<E>,
+    words: Words<E>,
     place: Place<E>,
 }
 
@@ -26,9 +26,9 @@ impl<E> Model for SharedLog<E> {
 
     ghost Value = { calls.Log E };
 
-    ghost view = { λ l. calls.log l.ground.shared.table_id (calls.contents_of l.place.me.0) };
+    ghost view = { λ l. calls.log l.words.shared.table_id (calls.contents_of l.place.me.0) };
 
-    ghost invariant = { λ l. (l.place.id ≡ 0) × (l.place.table_id ≡ l.ground.shared.table_id) × (l.place.me ≡ (Owner (contents (calls.contents_of l.place.me.0).entries (calls.contents_of l.place.me.0).writers None), [])) × (0 < l.ground.shared.table_id.words) };
+    ghost invariant = { λ l. (l.place.id ≡ 0) × (l.place.table_id ≡ l.words.shared.table_id) × (l.place.me ≡ (Owner (contents (calls.contents_of l.place.me.0).entries (calls.contents_of l.place.me.0).writers None), [])) × (0 < l.words.shared.table_id.words) };
 }
 
 /// The right to append to a log under one number. Contracts see the log's name, the number, the beginning of the
@@ -66,8 +66,8 @@ impl<E> SharedLog<E> {
     pub fn new(alloc: Global) -> Result<SharedLog<E>, AllocError>
         ensures { IfOk result (λ l. (l.entries ≡ []) × (l.writers ≡ 0)) }
     {
-        let (ground, place) = Ground::of_words(alloc, &[0], &())?;
-        Ok(SharedLog { ground, place })
+        let (words, place) = Words::of_words(alloc, &[0], &())?;
+        Ok(SharedLog { words, place })
     }
 
     /// A writer with the next number, which has seen the log and appended nothing.
@@ -75,8 +75,8 @@ impl<E> SharedLog<E> {
         ensures log { self.new ≡ with_writer self.old }
         ensures writer { result ≡ new_writer self.old }
     {
-        let ground = &self.ground;
-        let shared = &ground.shared;
+        let words = &self.words;
+        let shared = &words.shared;
         shared.load::<Append<Nothing>>(&mut self.place, 0);
         let seat = shared.split_seat::<NewWriter>(&mut self.place);
         Writer {
@@ -111,8 +111,8 @@ impl<E> SharedLog<E> {
         ensures log { self.new ≡ with_entries writer.old.number D.events self.old }
         ensures writer { writer.new ≡ has_written D.events self.old.entries writer.old }
     {
-        let ground = &self.ground;
-        let shared = &ground.shared;
+        let words = &self.words;
+        let shared = &words.shared;
         let token = mem::replace(&mut writer.token, Badge::blank());
         shared.join_seat::<Hand>(&mut self.place, token.into_seat());
         shared.load::<Append<D>>(&mut self.place, 0);

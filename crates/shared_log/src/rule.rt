@@ -93,7 +93,7 @@ impl<E, D: Events<E>> Play<(), View<E>> for Append<D> {
 }
 
 /// One word and no slot, under the rule.
-pub type Ground<E> = Table<(), View<E>, (), Logged<E>, Global>;
+pub type Words<E> = Table<(), View<E>, (), Logged<E>, Global>;
 
 /// The owner's seat.
 pub type Place<E> = Seat<(), View<E>>;

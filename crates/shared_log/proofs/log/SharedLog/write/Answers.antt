@@ -41,7 +41,7 @@ split_seat-seat-requires g c =
     let l = c.load.ensures in
     let held = one_view _ _ (Held k) (ap (λ t. t.views) (sym c.replace-token.ensures.value) ∙ x.2) c.writer.invariant.0 in
     let has = taken o.entries o.writers k _ _ _ i.2 held j.2 in
-    let told = appends_at g.D.Events.events (step c.self.inside.ground.shared.table_id.slots 0 0 0 none) (contents o.entries o.writers (Some k)) _ _ _ has l.2 in
+    let told = appends_at g.D.Events.events (step c.self.inside.words.shared.table_id.slots 0 0 0 none) (contents o.entries o.writers (Some k)) _ _ _ has l.2 in
     (l.0 ∙ j.0 ∙ i.1, i.3, hand_allowed _ _ _ _ _ (l.1 ∙ j.1 ∙ i.0) (ap (λ m. m.0) told.1))
 
 pub invariant_of-writer : goal.invariant_of-writer
@@ -53,6 +53,6 @@ invariant_of-writer g c =
     let events = g.D.Events.events in
     let held = one_view _ _ (Held k) (ap (λ t. t.views) (sym c.replace-token.ensures.value) ∙ x.2) c.writer.invariant.0 in
     let has = taken o.entries o.writers k _ _ _ i.2 held c.join_seat.ensures.2 in
-    let told = appends_at events (step c.self.inside.ground.shared.table_id.slots 0 0 0 none) (contents o.entries o.writers (Some k)) _ _ _ has c.load.ensures.2 in
+    let told = appends_at events (step c.self.inside.words.shared.table_id.slots 0 0 0 none) (contents o.entries o.writers (Some k)) _ _ _ has c.load.ensures.2 in
     let view = ap (λ m. m.0) c.split_seat-seat.ensures.4 ∙ ap handed (ap (λ m. m.0) told.1) in
     sits _ _ (c.into_badge.ensures.2 ∙ ap (λ v. v ∷ []) view) (events_own k.number o.entries events ∙ ap (λ xs. xs ++ events) told.0.hand.own)

@@ -18,5 +18,5 @@ split_seat-seat-requires g c =
     let i = c.self.invariant in
     let o = contents_of c.self.inside.place.me.0 in
     let l = c.load.ensures in
-    let told = appends_at [] (step c.self.inside.ground.shared.table_id.slots 0 0 0 none) (contents o.entries o.writers None) _ _ _ i.2 l.2 in
+    let told = appends_at [] (step c.self.inside.words.shared.table_id.slots 0 0 0 none) (contents o.entries o.writers None) _ _ _ i.2 l.2 in
     (l.0 ∙ i.1, i.3, cut_allowed _ _ o.entries o.writers (l.1 ∙ i.0) (ap (λ m. m.0) told.1))
