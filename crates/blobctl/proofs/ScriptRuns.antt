@@ -184,6 +184,7 @@ module _ (tenants : List Tenant) (t : ℕ) where
       let named = subst (λ (r : Text). Spell (if is_tenants tenants t r then l ∷ R else R) all) (repo_named l c h.0) here in
       subst (λ (u : Bool). Spell (if u && is_tenants tenants t l.repo then l ∷ R else R) all) (sym (names_repo l c h.0)) named
   event_spelled l ls a (runs.Cleaned swept) rest h more = skipped l (rows_of tenants t ls) (is_tenants tenants t l.repo) (commands (events_of tenants t rest)) (ap uses_repo h.0) more
+
   -- the commands among a tenant's events are those that its rows spell
   pub spelled_of : (lines : List Line) (answers : List Answer) (es : List runs.Event) → AreEventsOf lines answers es → AllByRecursion (λ answer. answer ≢ NameTaken) answers → Spell (rows_of tenants t lines) (commands (events_of tenants t es))
   spelled_of [] [] es h free = subst (λ (xs : List runs.Event). commands (events_of tenants t xs) ≡ []) (sym h) refl

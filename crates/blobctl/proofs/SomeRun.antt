@@ -18,7 +18,7 @@ use Rattle.store_book.specs.Steps.{length_after, not_busy, session_in, whole_in}
 use Rattle.store_book.specs.declared.mount.Mount.{Mount as Mounting}
 use Rattle.store_book.specs.declared.mount.Mount.TheVariants as mounting
 use Rattle.store_book.proofs.SomeSweep.{after, some_sweep, swept}
-use Rattle.row_player.specs.Answers.{Answer, Session, Received, Stored, Abandoned, Deleted, Manifest, Body, Bytes, Leased, Shared, Verified, NoLease, NameTaken, Cleaned, Refused, mount_answer}
+use Rattle.row_player.specs.Answers.{Answer, Leased, Shared, Verified, NoLease, NameTaken, Cleaned, Refused, mount_answer}
 use Rattle.row_player.specs.Commands.{Command, Start, Status, Append, Close, Abandon, Mount, Delete, PutManifest, GetManifest, DeleteManifest, Lease, uses_repo}
 use Rattle.row_player.specs.Leases.{Leases, Lent, Name, halved, new_lease}
 use Rattle.blobctl.specs.Played.{Happens, answered, outcome, row_answer, told}

@@ -1,5 +1,5 @@
 -- What a script does to a store, and the text that is written then.
-use Rattle.std.specs.Prelude.{◌≡◌, ◌≢◌, ◌⊎◌, ℕ, ◌+◌, ◌<◌, ◌≤◌, false, List, ◌++◌, Result, Ok, Err}
+use Rattle.std.specs.Prelude.{◌≡◌, ◌≢◌, ◌⊎◌, ℕ, ◌+◌, ◌<◌, ◌≤◌, false, List, ◌++◌, Ok, Err}
 use Rattle.blob_digest.specs.Keys.{Text}
 use Rattle.blob_digest.specs.Tenants.{Tenant}
 use Rattle.blob_digest.specs.declared.refusal.Refusal.{Refusal}
@@ -14,7 +14,7 @@ use Rattle.store_book.specs.SlotSteps.{EachSlot, HasLast, IsCrowded}
 use Rattle.store_book.specs.Sweeps.{IsSweep}
 use Rattle.store_book.specs.declared.sweep.Swept.{Swept}
 use Rattle.row_player.specs.Answers.{Answer, Session, Received, Stored, Abandoned, Deleted, Manifest, Body, Bytes, Verified, Cleaned, Refused, mount_answer}
-use Rattle.row_player.specs.Commands.{Command, Start, Status, Append, Close, Abandon, Mount, Delete, PutManifest, GetManifest, DeleteManifest, Lease, Request, Calls, Verifies, Sweeps}
+use Rattle.row_player.specs.Commands.{Command, Start, Close, Abandon, PutManifest, GetManifest, Lease, Request, Calls, Verifies, Sweeps}
 use Rattle.row_player.specs.Leases as leases
 use Rattle.row_player.specs.Plays.{Plays}
 use Rattle.row_player.specs.Replies.{replies_text}

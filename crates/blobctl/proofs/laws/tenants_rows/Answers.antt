@@ -1,4 +1,4 @@
-use Rattle.std.proofs.Common.{◌∙◌, List, subst, sym}
+use Rattle.std.proofs.Common.{◌∙◌, List, subst}
 use Rattle.store_book.specs.Isolation.{commands, events_of}
 use Rattle.row_player.specs.Leases.{none}
 use Rattle.row_player.specs.Rows.{Line}
