@@ -3,7 +3,7 @@ use Rattle.std.proofs.Common.{◌≡◌, Bool, true, false, cond, List, [], ◌�
 use Prim.Native.Nat.{zero, suc}
 use Rattle.std.specs.Prelude.{codes, if◌then◌else◌}
 use Rattle.std.specs.List.{AllByRecursion, Contains}
-use Rattle.std.specs.FinMap.{get, remove, empty, entries, get-empty, get-insert, get-remove, entries-insert, len-entries}
+use Rattle.std.specs.FinMap.{get, remove, empty, get-empty, get-insert, get-remove, entries-insert, len-entries}
 use Rattle.std.specs.Cmp.Lexicographic.{nat_list_cmp_total}
 use Rattle.std.proofs.lemmas.Map.Lookups.{exact_bytes}
 use Rattle.blob_digest.specs.Keys.{same_text}
@@ -184,8 +184,31 @@ other_swept = record {
 -- ---- the run
 
 abbrev both_run : IsRun empty_book called both_mounted
-both_run = (other_open, second_opens, (other_stored, second_stores, (other_again, second_opens_again, (other_both, second_stores_another, (both_open, first_opens, (both_stored, first_stores,
-    (one_deleted, second_deletes, (both_deleted, second_deletes_another, (cleaned, other_swept, (both_mounted, first_mounts, refl))))))))))
+both_run = (
+  other_open,
+  second_opens,
+  (
+    other_stored,
+    second_stores,
+    (
+      other_again,
+      second_opens_again,
+      (
+        other_both,
+        second_stores_another,
+        (
+          both_open,
+          first_opens,
+          (
+            both_stored,
+            first_stores,
+            (one_deleted, second_deletes, (both_deleted, second_deletes_another, (cleaned, other_swept, (both_mounted, first_mounts, refl)))),
+          ),
+        ),
+      ),
+    ),
+  ),
+)
 
 brought_first : named abc (whole_of other_open x 1 abc_bytes) ≡ (abc, abc_bytes) ∷ []
 brought_first = simp (get-insert {X = Session} number_cmp_total) (rw abc_named refl)

@@ -4,7 +4,8 @@ ghost use Rattle.std.specs.Prelude.{◌≡◌};
 
 use crate::Mount;
 use crate::test_steps::{
-    ABC, ABC_512, OBJ, Step, Store, book, digest, digest_of, fill, name, opened_at, play, plays, small,
+    ABC, ABC_512, OBJ, Step, Store, book, digest, digest_of, fill, name, opened_at, play, plays,
+    small,
 };
 use blob_digest::{Blob, Refusal};
 use pin_table::Pin;

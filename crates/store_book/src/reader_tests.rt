@@ -108,7 +108,11 @@ fn lends_again(rt: &(impl Abort + AllocGlobal), shelf: &mut Shelf<'_>) {
 #[test]
 fn the_most_leases_come_back_and_are_lent_again(rt: HostRuntime) {
     let mut store = small(&rt, 1, 1048576, 1000);
-    play(&rt, &mut store, &Step::Upload("acme/one", ABC, "abc", Ok(3)));
+    play(
+        &rt,
+        &mut store,
+        &Step::Upload("acme/one", ABC, "abc", Ok(3)),
+    );
     let Store { book, pins } = store;
     let mut shelf = Shelf {
         pins: &pins,
