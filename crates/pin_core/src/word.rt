@@ -52,7 +52,7 @@ pub fn pack(row: WordRow) -> u64
     u64::from(row.generation) * GENERATION + phase_bits(row.phase) + u64::from(row.weight)
 }
 
-/// What a word says. Every number of 64 bits is the word of exactly one slot.
+/// What a word says. Every number of 64 bits is the word of exactly one generation, phase and sum of weights.
 pub fn unpack(word: u64) -> WordRow
     ensures weight { result.weight < 2 ^ 30 }
     ensures inverse { word ≡ word_of result.generation result.phase result.weight }
