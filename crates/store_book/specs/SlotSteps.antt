@@ -38,7 +38,7 @@ IsLending digest a b = (b.generation ≡ a.generation) × (a.bound < b.bound →
 abbrev pub IsCrowded : Text → List SlotSeen → Type 0
 IsCrowded digest slots = (k : ℕ) × (s : SlotSeen) × (slice_get slots k ≡ Some s) × (s.digest ≡ Some digest) × (2 ^ 30 ≤ s.bound + 1024)
 
--- The slot of this digest was looked at once more, and the sum that was found, which is its bound now, leaves no room for a reader.
+-- The slot of this digest was looked at once more, nothing else of it has changed but its bound, and the bound has no room for a reader.
 pub record FindsNoRoom (digest : Text) (old new : List SlotSeen) : Type 0 where
   pub slot : ℕ
   pub before : SlotSeen
