@@ -81,12 +81,5 @@ pub fn play_together<T: Threads + Wait + Sync, W: Write>(
     let Ok(parts) = Parts::new(alloc, &options.store) else {
         return Err(Fault::Memory);
     };
-    play_on::<T, W, Brand, Brand, Brand, Brand, Brand>(
-        rt,
-        alloc,
-        writer,
-        parts,
-        options,
-        rows,
-    )
+    play_on::<T, W, Brand, Brand, Brand, Brand, Brand>(rt, alloc, writer, parts, options, rows)
 }
