@@ -78,11 +78,18 @@ fn give_back(readers: &mut Vec<Reader<'_>>, count: usize) {
     }
 }
 
-/// Gives all leases back, and ends the list.
-fn end(mut readers: Vec<Reader<'_>>) {
+/// Gives all leases back.
+fn give_all(readers: &mut Vec<Reader<'_>>)
+    ensures { vec_len readers.new ≡ 0 }
+{
     while let Some(reader) = readers.pop() {
         reader.leave();
     }
+}
+
+/// Gives all leases back, and ends the list.
+fn end(mut readers: Vec<Reader<'_>>) {
+    give_all(&mut readers);
     readers.destroy_empty();
 }
 
