@@ -1,7 +1,7 @@
 -- What is seen of the slots, with how often each was looked at.
 use Rattle.std.proofs.Common.{◌≡◌, ℕ, List, [], ◌∷◌, length, Some, refl, sym, ap, ◌∙◌, subst}
 use Prim.Native.Nat.{zero, suc}
-use Rattle.std.specs.Prelude.{slice_get, slice_index, replicate, ◌+◌}
+use Rattle.std.specs.Prelude.{slice_get, slice_index, replicate}
 use Rattle.store_book.specs.BookState.{SlotSeen}
 use Rattle.store_book.specs.Catalog.{Text}
 use Rattle.store_book.specs.Pinned.{Pinned, Quietly, all_seen, shown, with_looks}

@@ -1,12 +1,15 @@
 -- The limits on numbers: the last that is accepted, and the first that is refused.
-use Rattle.std.proofs.Common.{◌≡◌, ℕ, ◌^◌, true, false, length, [], Option, Some, Ok, Err, refl}
-use Rattle.std.specs.Prelude.{nat_lt}
+use Rattle.std.proofs.Common.{◌≡◌, ℕ, ◌^◌, true, false, length, List, [], ◌∷◌, Option, Some, Ok, Err, refl}
+use Rattle.std.specs.Prelude.{codes, nat_lt}
+use Rattle.std.specs.FinMap.{get-insert}
+use Rattle.std.specs.Cmp.Lexicographic.{nat_list_cmp_total}
 use Rattle.blob_digest.specs.declared.refusal.Refusal.TheVariants.{LimitReached}
 use Rattle.blob_digest.specs.Digests.{sha256_text}
 use Rattle.blob_digest.specs.Sets as set
 use Rattle.oci_manifest.specs.Manifests.{refs_of, max_manifest}
 use Rattle.store_book.specs.declared.mount.Mount.TheVariants as mounting
-use Rattle.store_book.specs.Catalog.{Text, Catalog, tenant_of, open_sessions, next_of, repos_of, manifests_of}
+use Rattle.blob_digest.proofs.RowLemmas.{entries-empty}
+use Rattle.store_book.specs.Catalog.{Text, Tenant, Catalog, opening, tenant_of, open_sessions, next_of, repos_of, manifests_of}
 use Rattle.store_book.specs.Steps.{start, new_session, mount, has_source, with_link, put_manifest, with_manifest, has_manifest}
 
 module _ (C : Catalog) (t : ℕ) (repo : Text) (known : tenant_of C.tenants repo ≡ Some t) where
@@ -39,3 +42,23 @@ module _ (C : Catalog) (t : ℕ) (repo : Text) (known : tenant_of C.tenants repo
 
     manifest_again : has_manifest C repo (sha256_text bytes) ≡ true → manifests_of C repo ≡ 1024 → put_manifest C repo bytes ≡ Ok (sha256_text bytes, C)
     manifest_again old full = rw (known, fits, read, old) refl
+
+-- ---- the premises can be met: a tenant that has given its last number and has no session open
+
+abbrev acme : List Tenant
+acme = record { name = codes "acme"; quota = 3 } ∷ []
+
+abbrev one : Text
+one = codes "acme/one"
+
+abbrev all_given : Catalog
+all_given = record (opening acme 64 10) { repos = set.insert set.none one; next = 2 ^ 32 ∷ [] }
+
+is_there : set.contains all_given.repos one ≡ true
+is_there = simp (get-insert {X = Unit {0}} nat_list_cmp_total) refl
+
+none_open : open_sessions all_given 0 ≡ 0
+none_open = simp entries-empty refl
+
+all_given_refused : start all_given one ≡ Err LimitReached
+all_given_refused = no_number_left all_given 0 one refl is_there none_open refl
