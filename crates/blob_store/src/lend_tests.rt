@@ -1,5 +1,7 @@
 //! A blob that is lent as often as it can be, and again once all leases are back.
 
+ghost use Rattle.std.specs.Prelude.{◌≡◌, vec_len};
+
 use crate::test_steps::{ABC, ONE, Step, TestStore, digest, name};
 use crate::{Desk, Lease, Naming};
 use blob_digest::Refusal;
@@ -13,10 +15,17 @@ use std::thread::Threads;
 const MOST: usize = 1_048_575;
 
 /// Gives all leases back.
-fn give_all_back<N: Naming>(mut leases: Vec<Lease<'_, N>>) {
+fn give_all<N: Naming>(leases: &mut Vec<Lease<'_, N>>)
+    ensures { vec_len leases.new ≡ 0 }
+{
     while let Some(lease) = leases.pop() {
         lease.give_back();
     }
+}
+
+/// Gives all leases back, and ends the list.
+fn give_all_back<N: Naming>(mut leases: Vec<Lease<'_, N>>) {
+    give_all(&mut leases);
     leases.destroy_empty();
 }
 

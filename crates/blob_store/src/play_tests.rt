@@ -60,6 +60,18 @@ impl<'r> Tally<'r> {
         }
     }
 
+    /// Whether the gate was asked once before and once after each row.
+    fn is_whole(&self) -> bool {
+        for asked in self.asked.iter() {
+            if asked.before.load(Ordering::SeqCst) != 1 || asked.after.load(Ordering::SeqCst) != 1 {
+                return false;
+            }
+        }
+        !self.wrong.load(Ordering::SeqCst)
+    }
+}
+
+impl<'r> Gate for Tally<'r> {
     fn before(&self, lane: u8, row: usize) {
         match self.of(lane, row) {
             Some(asked) => {
@@ -78,16 +90,6 @@ impl<'r> Tally<'r> {
             }
             None => self.tell(false),
         }
-    }
-
-    /// Whether the gate was asked once before and once after each row.
-    fn is_whole(&self) -> bool {
-        for asked in self.asked.iter() {
-            if asked.before.load(Ordering::SeqCst) != 1 || asked.after.load(Ordering::SeqCst) != 1 {
-                return false;
-            }
-        }
-        !self.wrong.load(Ordering::SeqCst)
     }
 }
 
@@ -122,47 +124,6 @@ impl<'r> Gate for Meeting<'r> {
 
     fn after(&self, lane: u8, row: usize) {
         self.tally.after(lane, row);
-    }
-}
-
-/// A gate that finds by the store's totals that a row isn't played before it is asked, and is played after: one
-/// worker plays them, and each is accepted and counted.
-#[derive(Drop)]
-struct Watch<
-    'r,
-    't,
-    's,
-    N: Naming + Send + Sync,
-    C: Ledger + Send + Sync,
-    R: Ledger + Send + Sync,
-    D: Ledger + Send + Sync,
-    A: Ledger + Send + Sync,
-    W: Abort + AllocGlobal + Threads + Wait + Sync,
-> {
-    tally: Tally<'r>,
-    test: &'t TestStore<'s, N, C, R, D, A, W>,
-}
-
-impl<
-    'r,
-    't,
-    's,
-    N: Naming + Send + Sync,
-    C: Ledger + Send + Sync,
-    R: Ledger + Send + Sync,
-    D: Ledger + Send + Sync,
-    A: Ledger + Send + Sync,
-    W: Abort + AllocGlobal + Threads + Wait + Sync,
-> Gate for Watch<'r, 't, 's, N, C, R, D, A, W> {
-    fn before(&self, lane: u8, row: usize) {
-        self.tally.before(lane, row);
-        self.tally.tell(self.test.counted() == row as u64);
-    }
-
-    fn after(&self, lane: u8, row: usize) {
-        self.tally.after(lane, row);
-        self.tally
-            .tell(self.test.counted() == (row as u64).saturating_add(1));
     }
 }
 
@@ -239,18 +200,19 @@ fn bytes(rt: &(impl Abort + AllocGlobal), text: &[u8]) -> Vec<u8> {
     Vec::from_slice(rt.alloc(), text).expect(rt, "memory")
 }
 
-/// A row of these fields: repository, key, digest and range, and the body.
+/// A row of a repository, of these fields, which are key, digest and range, and of the body.
 pub fn row_of(
     rt: &(impl Abort + AllocGlobal),
     lane: u8,
     verb: Verb,
-    fields: [&str; 4],
+    repo: &str,
+    fields: [&'static str; 3],
     body: &[u8],
 ) -> Row {
-    let repo = bytes(rt, fields[0].as_bytes());
-    let key = bytes(rt, fields[1].as_bytes());
-    let digest = bytes(rt, fields[2].as_bytes());
-    let range = bytes(rt, fields[3].as_bytes());
+    let repo = bytes(rt, repo.as_bytes());
+    let key = bytes(rt, fields[0].as_bytes());
+    let digest = bytes(rt, fields[1].as_bytes());
+    let range = bytes(rt, fields[2].as_bytes());
     let body = bytes(rt, body);
     assert!(rt; has_fields(verb, &repo, &key, &digest, &range, &body));
     Row {
@@ -272,7 +234,8 @@ pub fn rows_of(rt: &(impl Abort + AllocGlobal), lines: &[Line]) -> Vec<Row> {
             rt,
             *lane,
             *verb,
-            [repo, key, digest, range],
+            repo,
+            [*key, *digest, *range],
             body.as_bytes(),
         );
         rows.push(row).expect(rt, "memory");
@@ -308,11 +271,6 @@ impl<
     A: Ledger + Send + Sync,
     W: Abort + AllocGlobal + Threads + Wait + Sync,
 > TestStore<'s, N, C, R, D, A, W> {
-    /// How many commands the store has counted.
-    fn counted(&self) -> u64 {
-        self.store.totals(self.rt).commands
-    }
-
     /// Plays lines by so many workers, and finds the replies that they have to give. What was settled.
     fn plays_lines<G: Gate + Send + Sync>(
         &self,
@@ -355,16 +313,13 @@ impl<
         assert!(rt; self.printed().as_slice() == BOOK.as_bytes());
     }
 
-    /// The gate is asked before a row is played and after, with the row's lane, by one worker of several lanes.
+    /// The gate is asked once before and once after each row, with the row's lane, by one worker of several lanes.
     pub fn one_worker(&self) {
         let rt = self.rt;
         let rows = rows_of(rt, COUNTED.as_slice());
-        let gate = Watch {
-            tally: Tally::new(rt, rows.as_slice()),
-            test: self,
-        };
+        let gate = Tally::new(rt, rows.as_slice());
         let settled = self.plays_lines(COUNTED.as_slice(), rows.as_slice(), 1, &gate);
-        assert!(rt; gate.tally.is_whole());
+        assert!(rt; gate.is_whole());
         let sums = Settled {
             commands: 7,
             received: 5,

@@ -148,7 +148,7 @@ impl Script {
         body: &[u8],
     ) {
         let (verb, [key, digest, range, _], reply) = case;
-        let row = row_of(rt, lane, verb, [repo, key, digest, range], body);
+        let row = row_of(rt, lane, verb, repo, [key, digest, range], body);
         self.rows.push(row).expect(rt, "memory");
         self.replies.push(reply).expect(rt, "memory");
     }
@@ -172,12 +172,12 @@ impl Script {
             ["", "", "", ""],
             "refused ManifestInvalid",
         );
-        let body = Vec::from_elem(alloc, b'a', TOO_MANY).expect(rt, "memory");
-        let body = body.as_slice();
+        let too_many = Vec::from_elem(alloc, b'a', TOO_MANY).expect(rt, "memory");
+        let most = Vec::from_elem(alloc, b'a', 4_194_304).expect(rt, "memory");
         self.add_all(rt, lane, "nobody/x", OF_NOBODY.as_slice());
         self.add_all(rt, lane, one.as_str(), OF_ONE.as_slice());
-        self.add(rt, lane, one.as_str(), long, body);
-        self.add(rt, lane, one.as_str(), invalid, &body[..4_194_304]);
+        self.add(rt, lane, one.as_str(), long, too_many.as_slice());
+        self.add(rt, lane, one.as_str(), invalid, most.as_slice());
         for number in 1..1024_u32 {
             let repo = format!(in alloc; "{tenant}/r{number}").expect(rt, "memory");
             self.add(rt, lane, repo.as_str(), put, INDEX.as_bytes());
