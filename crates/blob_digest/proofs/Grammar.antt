@@ -1,13 +1,10 @@
 -- The grammar of a digest's text and its test.
 use Rattle.std.proofs.Math.Seq.{drop-append_seam, take-append_seam}
 use Rattle.std.proofs.lemmas.Slice.Eq.{bytes_eq-Decides}
-use Rattle.std.proofs.lemmas.Bool.{or_right}
-use Rattle.std.proofs.Common.{length-append, sym, false, nat_eq, ◌||◌, ◌+◌, ◌⊎◌}
-use Rattle.std.specs.List.{starts_with}
-use Rattle.std.proofs.Common.{◌≡◌, ℕ, zero, suc, ◌*◌, ◌/◌, ◌%◌, ◌<◌, ◌≤◌, Bool, true, ◌&&◌, inl, inr, List, [], ◌∷◌, ◌++◌, codes, length, slice_index, drop, refl, ap, ◌∙◌, arith}
-use Rattle.std.proofs.lemmas.Bool.{and_parts, cases_lt, eq-eqb}
+use Rattle.std.proofs.lemmas.Bool.{or_right, and_parts, cases_lt, eq-eqb}
+use Rattle.std.proofs.Common.{length-append, sym, false, nat_eq, ◌||◌, ◌+◌, ◌⊎◌, ◌≡◌, ℕ, zero, suc, ◌*◌, ◌/◌, ◌%◌, ◌<◌, ◌≤◌, Bool, true, ◌&&◌, inl, inr, List, [], ◌∷◌, ◌++◌, codes, length, slice_index, drop, refl, ap, ◌∙◌, arith}
+use Rattle.std.specs.List.{starts_with, list_all}
 use Rattle.std.proofs.lemmas.List.Sums.{list_all-from_AllPass, AllPass-from_list_all}
-use Rattle.std.specs.List.{list_all}
 use Rattle.hex.specs.Hex.{IsBytes, encode_lower, encode_with, lower_digits}
 use Rattle.hex.proofs.HexLemmas.{length-encode_with}
 use Rattle.blob_digest.specs.Digests.{IsSpelled, is_spelled, IsDigestText, is_digest_text, is_lower_hex}

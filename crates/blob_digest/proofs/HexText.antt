@@ -2,18 +2,14 @@
 use Rattle.std.proofs.Common.{◌≡◌, ℕ, zero, suc, ◌+◌, ◌*◌, ◌/◌, ◌%◌, ◌<◌, ◌==◌, Bool, true, ◌&&◌, ◌||◌, not, nat_lt, inl, inr, List, [], ◌∷◌, length, slice_index, refl, sym, ap, ◌∙◌, arith, ltb-true}
 use Rattle.std.proofs.lemmas.Bool.{and_parts, cases_lt, eqb-true}
 use Rattle.std.proofs.lemmas.Bool.Decides.{nat_tests}
-use Rattle.std.specs.List.{AllPass}
+use Rattle.std.specs.List.{AllPass, list_all, starts_with}
 use Rattle.hex.specs.Hex.{encode_lower, encode_with, lower_digits}
 use Rattle.hex.proofs.Pairs.{drop-pair}
-use Rattle.std.proofs.lemmas.List.{append_assoc, take_more_set}
-use Rattle.std.specs.Prelude.{slice_set}
+use Rattle.std.proofs.lemmas.List.{append_assoc, take_more_set, length-drop, take-append-drop}
+use Rattle.std.specs.Prelude.{slice_set, nat_eq, drop, take, ◌++◌}
 use Rattle.blob_digest.specs.Digests.{digit_of, is_spelled, is_lower_hex}
-use Rattle.std.specs.List.{list_all, starts_with}
-use Rattle.std.specs.Prelude.{nat_eq, drop, take, ◌++◌}
-use Rattle.std.proofs.lemmas.List.{length-drop}
 use Rattle.std.proofs.lemmas.List.Sums.{AllPass-from_list_all}
 use Rattle.std.proofs.lemmas.Slice.Eq.{bytes_eq-Decides}
-use Rattle.std.proofs.lemmas.List.{take-append-drop}
 
 -- whether a digit stands at its value's place in the table
 abbrev spells : ℕ → Bool

@@ -3,14 +3,6 @@ pub mod DigestOrder
 pub mod Grammar
 pub mod HexText
 pub mod KeyOrders
-pub mod ListLemmas
-pub mod MapSums
 pub mod NameGrammar
 pub mod NameTexts
-pub mod OptionLemmas
 pub mod RangeTexts
-pub mod RowLemmas
-pub mod SetLemmas
-pub mod SortedRows
-pub mod Trees
-pub mod Walks

@@ -1,12 +1,10 @@
 -- A machine for names, and that it takes what the grammar has.
 use Rattle.std.proofs.Common.{◌≡◌, ◌<◌, ◌++◌, ◌∷◌, ◌==◌, [], ◌∙◌, inl, inr, ℕ, List, true, false, ap, sym, refl, arith, length, codes, subst}
-use Rattle.std.proofs.lemmas.Bool.{eqb-true}
+use Rattle.std.proofs.lemmas.Bool.{eqb-true, and_parts, cases_Bool}
 use Rattle.std.proofs.lemmas.Bool.Decides.{nat_tests}
-use Rattle.std.proofs.lemmas.List.{length-append}
+use Rattle.std.proofs.lemmas.List.{length-append, append_assoc, append-nil}
 use Rattle.std.specs.Prelude.{if◌then◌else◌}
 use Rattle.std.specs.List.{list_all}
-use Rattle.std.proofs.lemmas.Bool.{and_parts, cases_Bool}
-use Rattle.std.proofs.lemmas.List.{append_assoc, append-nil}
 use Rattle.blob_digest.specs.Names.{IsComponent, IsPath, IsRun, IsSeparator, component, is_alnum, is_dash, joined, run, slashed}
 use Rattle.blob_digest.specs.NameMachine.{after, accepts, alnum_or_dead}
 use Rattle.blob_digest.specs.declared.name.State.{State}

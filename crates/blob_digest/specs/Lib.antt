@@ -7,7 +7,4 @@ pub mod Names
 pub mod Outcomes
 pub mod Ranges
 pub mod Refusals
-pub mod Rows
-pub mod Sets
 pub mod Tenants
-pub mod Trees

@@ -6,11 +6,14 @@ use Rattle.std.specs.Io.KnownBytes.{Appends}
 use Rattle.blob_digest.specs.Digests.{is_digest_of, sha256_text}
 use Rattle.blob_digest.specs.declared.refusal.Refusal.TheVariants.{BlobUnknown, ManifestUnknown, TooManyReaders}
 use Rattle.store_book.specs.BookState.{BookState}
-use Rattle.store_book.specs.Catalog.{Text, Resident, Catalog}
-use Rattle.store_book.specs.Laws.{Lawful}
-use Rattle.store_book.specs.Printed.{book_text}
-use Rattle.store_book.specs.Steps.{tenant, get_manifest, linked, linked_blob, lease, with_lent, refuse}
-use Rattle.store_book.proofs.Outcomes.{answer_by, bound_ok, left_by, some_of_ok}
+use Rattle.finite_maps.specs.Texts.{Text}
+use Rattle.store_model.specs.Catalog.{Resident, Catalog}
+use Rattle.store_model.specs.Invariant.{Lawful}
+use Rattle.store_model.specs.BookText.{book_text}
+use Rattle.store_model.specs.Commands.{tenant, get_manifest, linked, linked_blob, lease, with_lent}
+use Rattle.finite_maps.specs.Outcomes.{refuse}
+use Rattle.store_model.proofs.Commands.Accepted.{answer_by, left_by}
+use Rattle.finite_maps.proofs.Outcomes.{bound_ok, some_of_ok}
 use Rattle.blob_store.specs.Found.{InSomeBook, IsSoundOf}
 use Rattle.blob_store.specs.Naming.{Setting}
 

@@ -6,10 +6,12 @@ use Rattle.std.proofs.lemmas.Bool.{ltb-true}
 use Rattle.blob_digest.specs.Digests.{sha256_text}
 use Rattle.blob_digest.specs.declared.refusal.Refusal.{Refusal}
 use Rattle.blob_digest.specs.declared.refusal.Refusal.TheVariants.{LimitReached, ManifestBlobUnknown, ManifestInvalid, Memory, NameUnknown, SizeInvalid}
-use Rattle.blob_digest.specs.Outcomes.{Does, ◌>>=◌, refuse}
+use Rattle.blob_digest.specs.Outcomes.{Does}
+use Rattle.finite_maps.specs.Outcomes.{◌>>=◌, refuse}
 use Rattle.oci_manifest.specs.Manifests.{max_manifest, refs_of}
-use Rattle.store_book.specs.Catalog.{Text, Catalog, holds, tenant_of}
-use Rattle.store_book.specs.Steps.{add_manifest, all_linked, has_manifest, is_full_of_manifests, lacks_room_for, put_manifest, tenant}
+use Rattle.finite_maps.specs.Texts.{Text}
+use Rattle.store_model.specs.Catalog.{Catalog, holds, tenant_of}
+use Rattle.store_model.specs.Commands.{add_manifest, all_linked, has_manifest, is_full_of_manifests, lacks_room_for, put_manifest, tenant}
 use Rattle.blob_store.specs.Counting.{Content, counted, has_room}
 use Rattle.blob_store.specs.Totals.{Amounts}
 

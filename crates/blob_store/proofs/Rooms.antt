@@ -4,7 +4,7 @@ use Rattle.std.specs.Prelude.{nat_lt}
 use Rattle.std.proofs.lemmas.Bool.{and_parts, ltb-true}
 use Rattle.blob_digest.specs.declared.refusal.Refusal.{Refusal}
 use Rattle.blob_digest.specs.declared.refusal.Refusal.TheVariants.{LimitReached}
-use Rattle.blob_digest.specs.Outcomes.{refuse}
+use Rattle.finite_maps.specs.Outcomes.{refuse}
 use Rattle.blob_store.specs.Counting.{Content, has_room, in_hand, reserved}
 use Rattle.blob_store.specs.Totals.{Amounts, Counts, plus}
 

@@ -7,21 +7,22 @@ use Rattle.std.specs.FinMap.{FinMap, empty, entries, get, insert, remove}
 use Rattle.blob_digest.specs.declared.range.ByteRange.{ByteRange}
 use Rattle.blob_digest.specs.declared.refusal.Refusal.{Refusal}
 use Rattle.blob_digest.specs.declared.refusal.Refusal.TheVariants.{DigestInvalid, LimitReached, ManifestInvalid, SizeInvalid, StoreFull, UploadUnknown}
-use Rattle.blob_digest.specs.Outcomes.{◌>>=◌}
+use Rattle.finite_maps.specs.Outcomes.{◌>>=◌, refuse}
 use Rattle.blob_digest.specs.Digests.{sha256_text}
 use Rattle.blob_digest.proofs.KeyOrders.{number_cmp_total, exact_number}
-use Rattle.blob_digest.proofs.MapSums.{sum_changed, sum_new, sum_split}
-use Rattle.blob_digest.proofs.RowLemmas.{entries-empty}
-use Rattle.upload_table.specs.Sessions.{are_home, brought_home, chunks_of, not_busy, put_back_in, reserved_of, take_in, taken_session, whole_of, with_chunks}
-use Rattle.upload_table.specs.Uploaded.{IsFull}
+use Rattle.finite_maps.proofs.Sums.{sum_changed, sum_new, sum_split}
+use Rattle.finite_maps.proofs.Rows.{entries-empty}
+use Rattle.store_model.specs.Sessions.{are_home, brought_home, chunks_of, not_busy, put_back_in, reserved_of, take_in, taken_session, whole_of, with_chunks, IsFull}
 use Rattle.oci_manifest.specs.Manifests.{refs_of, max_manifest}
-use Rattle.store_book.specs.Catalog.{Text, Number, Chunks, Home, InHand, Session, Taken, Catalog, number_cmp, received, next_of}
-use Rattle.store_book.specs.Laws.{Lawful}
-use Rattle.store_book.specs.declared.mount.Mount.{Mount}
-use Rattle.store_book.specs.Steps.{tenant, session, lacks_room_for, cannot_open, has_slot, is_full_for, names, refuse, start, mount, has_source, link_held, start_instead, abandon, put_manifest, all_linked, has_manifest, add_manifest, is_full_of_manifests, lease, take, put_back, given_back, finish}
-use Rattle.store_book.proofs.LawOpen.{fresh}
-use Rattle.store_book.proofs.LawfulHands.{home_chunks, received-with_chunk, taken_found, took, whole_long, IsProper}
-use Rattle.store_book.proofs.Outcomes.{answer_by, bound_ok, left_by, session_found}
+use Rattle.finite_maps.specs.Texts.{Text}
+use Rattle.store_model.specs.Catalog.{Number, Chunks, Home, InHand, Session, Taken, Catalog, number_cmp, received, next_of}
+use Rattle.store_model.specs.Invariant.{Lawful}
+use Rattle.store_model.specs.declared.mount.Mount.{Mount}
+use Rattle.store_model.specs.Commands.{tenant, session, lacks_room_for, cannot_open, has_slot, is_full_for, names, start, mount, has_source, link_held, start_instead, abandon, put_manifest, all_linked, has_manifest, add_manifest, is_full_of_manifests, lease, take, put_back, given_back, finish}
+use Rattle.store_model.proofs.Invariant.NewSession.{fresh}
+use Rattle.store_model.proofs.Commands.Hands.{home_chunks, received-with_chunk, taken_found, took, whole_long, IsProper}
+use Rattle.store_model.proofs.Commands.Accepted.{answer_by, left_by, session_found}
+use Rattle.finite_maps.proofs.Outcomes.{bound_ok}
 use Rattle.blob_store.proofs.Answered.{lent}
 use Rattle.blob_store.specs.Counting.{hand_of, in_hand, reserved, in_sessions, filled_length}
 use Rattle.blob_store.specs.Naming.{setting_of}

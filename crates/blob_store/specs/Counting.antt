@@ -6,12 +6,14 @@ use Rattle.std.specs.FinMap as fmap
 use Rattle.std.specs.Coded.{Coded, code_by, coded×, coded_ℕ}
 use Rattle.blob_digest.specs.declared.refusal.Refusal.TheVariants.{LimitReached}
 use Rattle.blob_digest.specs.declared.refusal.Refusal.{Refusal}
-use Rattle.blob_digest.specs.Outcomes.{Does, OutcomeIn, ◌>>=◌, refuse}
-use Rattle.upload_table.specs.Sessions.{Taken, are_home, received, reserved_of}
-use Rattle.store_book.specs.Catalog.{Text, Catalog, Number, Session}
+use Rattle.blob_digest.specs.Outcomes.{Does, OutcomeIn}
+use Rattle.finite_maps.specs.Outcomes.{◌>>=◌, refuse}
+use Rattle.store_model.specs.Sessions.{Taken, are_home, received, reserved_of}
+use Rattle.finite_maps.specs.Texts.{Text}
+use Rattle.store_model.specs.Catalog.{Catalog, Number, Session}
 use Rattle.store_book.specs.BookState.{BookState, SlotSeen, coded_state}
 use Rattle.store_book.specs.SlotSteps.{IsCrowded}
-use Rattle.store_book.specs.Steps.{Outcome, lease}
+use Rattle.store_model.specs.Commands.{Outcome, lease}
 use Rattle.blob_store.specs.Totals.{Amounts, Counts, one, plus}
 
 -- the book, and what is counted

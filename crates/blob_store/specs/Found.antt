@@ -2,7 +2,7 @@
 use Rattle.std.specs.Prelude.{◌≡◌, ℕ, length}
 use Rattle.blob_store.specs.Naming.{Setting, setting_of}
 use Rattle.store_book.specs.BookState.{BookState}
-use Rattle.store_book.specs.Laws.{Sound}
+use Rattle.store_model.specs.Invariant.{Sound}
 
 -- a book of so many slots whose catalog is sound and of this setting
 pub record IsSoundOf (slots : ℕ) (setting : Setting) (book : BookState) : Type 0 where

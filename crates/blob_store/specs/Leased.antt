@@ -1,5 +1,5 @@
 -- What contracts see of a lease.
-use Rattle.blob_digest.specs.Keys.{Text}
+use Rattle.finite_maps.specs.Texts.{Text}
 use Rattle.pin_core.specs.declared.world.Hold.{Hold}
 use Rattle.pin_core.specs.Events.{half}
 

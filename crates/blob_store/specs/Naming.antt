@@ -3,7 +3,7 @@ use Rattle.std.specs.Prelude.{ℕ, List}
 use Rattle.std.proofs.Common.{refl}
 use Rattle.std.specs.Coded.{Coded, code_by, coded×, coded_ℕ}
 use Rattle.store_book.specs.BookState.{BookState, coded_state}
-use Rattle.store_book.specs.Catalog.{Catalog, Tenant}
+use Rattle.store_model.specs.Catalog.{Catalog, Tenant}
 
 -- What a store is made with, and no command changes: its tenants in the order of their names, with their quotas, its slots, and its limit on blobs.
 pub record Setting : Type 0 where

@@ -21,7 +21,7 @@ use Rattle.std.specs.Int.{saturate_unsigned}
 use Rattle.std.specs.Ordering.{nat_cmp, ord_max}
 use Rattle.clap.proofs.OnLiterals.{clap_on_literals}
 use Rattle.clap.specs.declared.error.kind.ErrorKind.{ErrorKind}
-use Rattle.blob_digest.specs.Keys.{Text}
+use Rattle.finite_maps.specs.Texts.{Text}
 use Rattle.blobctl.specs.Arguments.{HasNumber, RefusesFound, RefusesWords, program, tenant_words}
 use Rattle.blobctl.specs.Stops.{IsStopFor}
 use Rattle.blobctl.specs.Tenants.{HasBadTenant}

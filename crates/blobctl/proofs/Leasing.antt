@@ -5,14 +5,15 @@ use Rattle.std.specs.Option.{ok_or}
 use Rattle.std.specs.FinMap as fmap
 use Rattle.std.proofs.lemmas.Bool.{cases_lt}
 use Rattle.std.proofs.lemmas.Option.{same_Some}
-use Rattle.blob_digest.specs.Keys.{Text}
-use Rattle.blob_digest.specs.Outcomes.{Does, OutcomeIn, ◌>>=◌, refuse}
+use Rattle.finite_maps.specs.Texts.{Text}
+use Rattle.blob_digest.specs.Outcomes.{Does, OutcomeIn}
+use Rattle.finite_maps.specs.Outcomes.{◌>>=◌, refuse}
 use Rattle.blob_digest.specs.declared.refusal.Refusal.{Refusal}
 use Rattle.blob_digest.specs.declared.refusal.Refusal.TheVariants.{NameUnknown, BlobUnknown, Memory, TooManyReaders}
 use Rattle.slot_table.specs.declared.phase.Phase.TheVariants as phase
-use Rattle.store_book.specs.Catalog.{Catalog, Resident, holds, tenant_of}
-use Rattle.store_book.specs.Runs as runs
-use Rattle.store_book.specs.Steps.{Outcome, lease, with_lent}
+use Rattle.store_model.specs.Catalog.{Catalog, Resident, holds, tenant_of}
+use Rattle.store_model.specs.Runs as runs
+use Rattle.store_model.specs.Commands.{Outcome, lease, with_lent}
 use Rattle.store_book.specs.BookState.{SlotSeen}
 use Rattle.store_book.specs.SlotSteps as slots
 use Rattle.row_player.specs.Answers.{Answer, Bytes, Refused}

@@ -11,10 +11,10 @@ use Rattle.std.proofs.lemmas.List.Sorted.{sum_by-IsPermutation}
 use Rattle.std.proofs.lemmas.List.Sums.{sum_by-cons}
 use Rattle.std.proofs.lemmas.Map.Keys.{sorted_head, sorted_tail}
 use Rattle.std.proofs.lemmas.Map.Lookups.{exact_bytes}
-use Rattle.blob_digest.specs.Keys.{Text, text_cmp, same_text}
+use Rattle.finite_maps.specs.Texts.{Text, text_cmp, same_text}
 use Rattle.blob_digest.specs.Tenants.{Tenant}
-use Rattle.blob_digest.proofs.KeyOrders.{same_itself, same_text_is, text_is_same}
-use Rattle.store_book.specs.Catalog.{Catalog, opening}
+use Rattle.finite_maps.proofs.Texts.{same_itself, same_text_is, text_is_same}
+use Rattle.store_model.specs.Catalog.{Catalog, opening}
 use Rattle.store_book.specs.Openings.{OpensCatalog}
 
 abbrev names : List Tenant → List Text

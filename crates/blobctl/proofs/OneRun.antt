@@ -9,17 +9,17 @@ use Rattle.std.proofs.lemmas.Map.Lookups.{exact_bytes}
 use Rattle.std.proofs.lemmas.Option.{same_Some}
 use Rattle.std.specs.Ordering.{eq_by_cmp}
 use Rattle.blob_digest.specs.Digests.{sha256_text}
-use Rattle.blob_digest.specs.Keys.{Text}
-use Rattle.blob_digest.specs.Outcomes.{◌>>=◌, refuse}
+use Rattle.finite_maps.specs.Texts.{Text, text_cmp}
+use Rattle.finite_maps.specs.Outcomes.{◌>>=◌, refuse}
 use Rattle.blob_digest.specs.declared.refusal.Refusal.{Refusal}
 use Rattle.blob_digest.specs.declared.refusal.Refusal.TheVariants as no
 use Rattle.oci_manifest.specs.Manifests.{refs_of, max_manifest}
 use Rattle.std.specs.Option.{ok_or}
-use Rattle.store_book.specs.Catalog.{Catalog, Resident, opening, text_cmp}
-use Rattle.store_book.specs.Runs as runs
-use Rattle.store_book.specs.Steps.{Outcome, tenant, start, append, close, abandon, mount, delete, put_manifest, delete_manifest, stored, was_lent, has_source, link_held, start_instead, has_manifest, add_manifest, check, session, not_busy, unreferenced, referrer, all_linked, manifest, linked, names, has_slot, within_quota, whole_in, lacks_room_for, cannot_open, is_full_of_manifests}
-use Rattle.store_book.specs.Sweeps.{IsLeft, IsSweep, is_orphan}
-use Rattle.store_book.specs.declared.sweep.Swept.{Swept}
+use Rattle.store_model.specs.Catalog.{Catalog, Resident, opening}
+use Rattle.store_model.specs.Runs as runs
+use Rattle.store_model.specs.Commands.{Outcome, tenant, start, append, close, abandon, mount, delete, put_manifest, delete_manifest, stored, was_lent, has_source, link_held, start_instead, has_manifest, add_manifest, check, session, not_busy, unreferenced, referrer, all_linked, manifest, linked, names, has_slot, within_quota, whole_in, lacks_room_for, cannot_open, is_full_of_manifests}
+use Rattle.store_model.specs.Sweep.{IsLeft, IsSweep, is_orphan}
+use Rattle.store_model.specs.declared.swept.Swept.{Swept}
 use Rattle.row_player.specs.Answers.{Answer, Cleaned, Refused}
 use Rattle.row_player.specs.Commands.{Command, Start, Status, Append, Close, Abandon, Mount, Delete, PutManifest, GetManifest, DeleteManifest, Lease, Sweeps, is_lease, uses_repo}
 use Rattle.blobctl.specs.Played.{Happens, answered, outcome, row_answer, told}

@@ -6,7 +6,7 @@ use Rattle.csv.specs.Reading.{ReadRecord, default_config, strip_bom, took_first}
 use Rattle.csv.specs.declared.parser.State.TheVariants as st
 use Rattle.csv.specs.declared.reader.Reader.{Reader}
 use Rattle.csv.proofs.ReadFacts.{rows-more}
-use Rattle.blob_digest.specs.Keys.{Text}
+use Rattle.finite_maps.specs.Texts.{Text}
 use Rattle.blobctl.specs.Reading.{IsAfter}
 use Rattle.blobctl.specs.Records.{Record, row_of}
 use Rattle.row_player.specs.Rows.{Line}

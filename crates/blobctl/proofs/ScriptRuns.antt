@@ -3,14 +3,14 @@ use Rattle.std.proofs.Common.{◌≡◌, ◌≢◌, ◌⊎◌, ◌∙◌, ◌∷
 use Rattle.std.specs.Prelude.{◌&&◌, if◌then◌else◌}
 use Rattle.std.specs.List.{AllByRecursion}
 use Rattle.std.proofs.lemmas.Bool.{false≢true}
-use Rattle.blob_digest.specs.Keys.{Text}
+use Rattle.finite_maps.specs.Texts.{Text}
 use Rattle.blob_digest.specs.Tenants.{Tenant, is_tenants}
 use Rattle.blob_digest.specs.declared.refusal.Refusal.{Refusal}
-use Rattle.store_book.specs.Catalog.{Catalog, opening}
-use Rattle.store_book.specs.Isolation.{IsFair, NoCollision, brought_in, commands, events_of}
-use Rattle.store_book.specs.Runs as runs
-use Rattle.store_book.specs.Steps.{Outcome}
-use Rattle.store_book.specs.declared.mount.Mount.TheVariants as mounting
+use Rattle.store_model.specs.Catalog.{Catalog, opening}
+use Rattle.store_model.specs.Noninterference.{IsFair, NoCollision, brought_in, commands, events_of}
+use Rattle.store_model.specs.Runs as runs
+use Rattle.store_model.specs.Commands.{Outcome}
+use Rattle.store_model.specs.declared.mount.Mount.TheVariants as mounting
 use Rattle.row_player.specs.Answers.{Answer, Bytes, Leased, NameTaken, Refused}
 use Rattle.row_player.specs.Commands.{Command, Start, Status, Append, Close, Abandon, Mount, Delete, PutManifest, GetManifest, DeleteManifest, Lease, IsMisspelt, Spells, is_lease, uses_repo}
 use Rattle.row_player.specs.Leases.{Lent}

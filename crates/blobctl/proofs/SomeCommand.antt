@@ -3,7 +3,7 @@ use Rattle.std.proofs.Common.{◌≡◌, ◌≢◌, ◌⊎◌, ◌∙◌, ◌∷
 use Rattle.std.specs.Prelude.{is_some, nat_le, option_and_then, map}
 use Rattle.std.proofs.lemmas.Bool.{false≢true, leb-true, le-leb, and_parts}
 use Rattle.blob_digest.specs.Digests.{IsDigestText, is_digest_text}
-use Rattle.blob_digest.specs.Keys.{Text}
+use Rattle.finite_maps.specs.Texts.{Text}
 use Rattle.blob_digest.specs.Names.{IsPath, IsRepoName}
 use Rattle.blob_digest.specs.Ranges.{range_of}
 use Rattle.blob_digest.specs.declared.range.ByteRange.{ByteRange}

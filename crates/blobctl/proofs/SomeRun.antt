@@ -5,19 +5,19 @@ use Rattle.std.specs.FinMap as fmap
 use Rattle.std.specs.Option.{ok_or}
 use Rattle.std.proofs.lemmas.Bool.{false≢true}
 use Rattle.blob_digest.specs.Digests.{sha256_text}
-use Rattle.blob_digest.specs.Keys.{Text}
-use Rattle.blob_digest.specs.Outcomes.{◌>>=◌, refuse}
+use Rattle.finite_maps.specs.Texts.{Text, same_text}
+use Rattle.finite_maps.specs.Outcomes.{◌>>=◌, refuse}
 use Rattle.blob_digest.specs.declared.range.ByteRange.{ByteRange}
 use Rattle.blob_digest.specs.declared.refusal.Refusal.{Refusal}
 use Rattle.blob_digest.specs.declared.refusal.Refusal.TheVariants as no
 use Rattle.oci_manifest.specs.Manifests.{refs_of, max_manifest}
-use Rattle.store_book.specs.Catalog.{Catalog, Chunks, Home, InHand, Session as Upload, holds, received, same_text, tenant_of}
-use Rattle.store_book.specs.Runs as runs
-use Rattle.store_book.specs.Steps as steps
-use Rattle.store_book.specs.Steps.{length_after, not_busy, session_in, whole_in}
-use Rattle.store_book.specs.declared.mount.Mount.{Mount as Mounting}
-use Rattle.store_book.specs.declared.mount.Mount.TheVariants as mounting
-use Rattle.store_book.proofs.SomeSweep.{after, some_sweep, swept}
+use Rattle.store_model.specs.Catalog.{Catalog, Chunks, Home, InHand, Session as Upload, holds, received, tenant_of}
+use Rattle.store_model.specs.Runs as runs
+use Rattle.store_model.specs.Commands as steps
+use Rattle.store_model.specs.Commands.{length_after, not_busy, session_in, whole_in}
+use Rattle.store_model.specs.declared.mount.Mount.{Mount as Mounting}
+use Rattle.store_model.specs.declared.mount.Mount.TheVariants as mounting
+use Rattle.store_model.proofs.Commands.SomeSweep.{after, some_sweep, swept}
 use Rattle.row_player.specs.Answers.{Answer, Leased, Shared, Verified, NoLease, NameTaken, Cleaned, Refused, mount_answer}
 use Rattle.row_player.specs.Commands.{Command, Start, Status, Append, Close, Abandon, Mount, Delete, PutManifest, GetManifest, DeleteManifest, Lease, uses_repo}
 use Rattle.row_player.specs.Leases.{Leases, Lent, Name, halved, new_lease}

@@ -7,9 +7,9 @@ use Rattle.std.proofs.lemmas.Bool.{or_parts}
 use Rattle.std.specs.Borrow.{Bor}
 use Rattle.std.specs.declared.alloc.Global.{Global}
 use Rattle.std.specs.List.{All, list_any}
-use Rattle.blob_digest.specs.Keys.{Text, same_text}
+use Rattle.finite_maps.specs.Texts.{Text, same_text}
 use Rattle.blob_digest.specs.Tenants.{Tenant}
-use Rattle.blob_digest.proofs.KeyOrders.{text_is_same}
+use Rattle.finite_maps.proofs.Texts.{text_is_same}
 use Rattle.store_book.specs.Openings.{tenants_shown}
 use Rattle.blobctl.specs.Tenants.{HasBadTenant, IsRefusedAfter, IsTenantWord, SpellTenants}
 use Rattle.blobctl.specs.declared.options.Stop.{Stop}

@@ -1,7 +1,7 @@
 -- How a run ends.
 use Rattle.std.specs.Prelude.{◌≡◌, ◌⊎◌, ◌<◌, ◌≤◌, ℕ, List, ◌++◌, Option, IfSome, length, true}
 use Rattle.std.specs.Io.KnownBytes.{Appends, Consumes}
-use Rattle.blob_digest.specs.Keys.{Text}
+use Rattle.finite_maps.specs.Texts.{Text}
 use Rattle.blob_digest.specs.Tenants.{Tenant}
 use Rattle.blob_store.specs.Naming.{setting_of}
 use Rattle.blob_store.specs.Totals.{Amounts}
@@ -12,10 +12,10 @@ use Rattle.row_player.specs.Answers.{Answer}
 use Rattle.row_player.specs.Replies.{replies_text}
 use Rattle.row_player.specs.Rows.{Line}
 use Rattle.row_player.specs.Shares.{own_answers}
-use Rattle.store_book.specs.Catalog.{Catalog}
-use Rattle.store_book.specs.Laws.{Sound}
+use Rattle.store_model.specs.Catalog.{Catalog}
+use Rattle.store_model.specs.Invariant.{Sound}
 use Rattle.store_book.specs.Openings.{OpensCatalog}
-use Rattle.store_book.specs.Printed.{book_text}
+use Rattle.store_model.specs.BookText.{book_text}
 use Rattle.blobctl.specs.Script.{AreRowsOf, IsFirstBad}
 use Rattle.blobctl.specs.Watching.{has_failed, inner_of}
 use Rattle.blobctl.specs.declared.fault.Fault.{Fault}

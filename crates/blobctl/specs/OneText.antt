@@ -1,8 +1,8 @@
 -- A script without bad rows has a text, and no other where none of its rows leases a blob.
 use Rattle.std.specs.Prelude.{◌≡◌, ◌≢◌, ℕ, List, [], ◌∷◌}
-use Rattle.blob_digest.specs.Keys.{Text}
+use Rattle.finite_maps.specs.Texts.{Text}
 use Rattle.blob_digest.specs.Tenants.{Tenant}
-use Rattle.store_book.specs.Catalog.{Catalog}
+use Rattle.store_model.specs.Catalog.{Catalog}
 use Rattle.store_book.specs.Openings.{OpensCatalog}
 use Rattle.blobctl.specs.Played.{Played}
 use Rattle.row_player.specs.Rows.{Line}

@@ -1,18 +1,18 @@
 -- What a script does to a store, and the text that is written then.
 use Rattle.std.specs.Prelude.{◌≡◌, ◌≢◌, ◌⊎◌, ℕ, ◌+◌, ◌<◌, ◌≤◌, false, List, ◌++◌, Ok, Err}
-use Rattle.blob_digest.specs.Keys.{Text}
+use Rattle.finite_maps.specs.Texts.{Text}
 use Rattle.blob_digest.specs.Tenants.{Tenant}
 use Rattle.blob_digest.specs.declared.refusal.Refusal.{Refusal}
 use Rattle.blob_digest.specs.declared.refusal.Refusal.TheVariants.{Memory, TooManyReaders}
-use Rattle.store_book.specs.Catalog.{Catalog}
+use Rattle.store_model.specs.Catalog.{Catalog}
 use Rattle.store_book.specs.Openings.{OpensCatalog}
-use Rattle.store_book.specs.Printed.{book_text}
-use Rattle.store_book.specs.Runs as runs
-use Rattle.store_book.specs.Steps as steps
+use Rattle.store_model.specs.BookText.{book_text}
+use Rattle.store_model.specs.Runs as runs
+use Rattle.store_model.specs.Commands as steps
 use Rattle.store_book.specs.BookState.{BookState, SlotSeen}
 use Rattle.store_book.specs.SlotSteps.{EachSlot, HasLast, IsCrowded}
-use Rattle.store_book.specs.Sweeps.{IsSweep}
-use Rattle.store_book.specs.declared.sweep.Swept.{Swept}
+use Rattle.store_model.specs.Sweep.{IsSweep}
+use Rattle.store_model.specs.declared.swept.Swept.{Swept}
 use Rattle.row_player.specs.Answers.{Answer, Session, Received, Stored, Abandoned, Deleted, Manifest, Body, Bytes, Verified, Cleaned, Refused, mount_answer}
 use Rattle.row_player.specs.Commands.{Command, Start, Close, Abandon, PutManifest, GetManifest, Lease, Request, Calls, Verifies, Sweeps}
 use Rattle.row_player.specs.Leases as leases

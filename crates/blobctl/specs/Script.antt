@@ -3,7 +3,7 @@ use Rattle.std.specs.Prelude.{⊤, ◌≡◌, ◌⊎◌, ◌≤◌, ℕ, ◌+◌
 use Rattle.csv.specs.Reading.{AreRecords, Reached, default_config, strip_bom}
 use Rattle.csv.specs.declared.parser.State.{State}
 use Rattle.csv.specs.declared.parser.State.TheVariants as st
-use Rattle.blob_digest.specs.Keys.{Text}
+use Rattle.finite_maps.specs.Texts.{Text}
 use Rattle.blobctl.specs.declared.fault.Fault.{Fault}
 use Rattle.blobctl.specs.declared.fault.Fault.TheVariants.{BadRow, Read, Write, Memory}
 use Rattle.blobctl.specs.Records.{Record, row_of}

@@ -1,12 +1,12 @@
 -- The replies and the book of a script are those of a run of commands and sweeps, and so the book depends on each tenant's rows alone.
 use Rattle.std.specs.Prelude.{◌≡◌, ◌≢◌, ◌⊎◌, ℕ, ◌&&◌, false, if◌then◌else◌, List, [], ◌∷◌, Result, Ok, Err, length}
 use Rattle.std.specs.List.{AllByRecursion}
-use Rattle.blob_digest.specs.Keys.{Text}
+use Rattle.finite_maps.specs.Texts.{Text}
 use Rattle.blob_digest.specs.Tenants.{Tenant, is_tenants}
 use Rattle.blob_digest.specs.declared.refusal.Refusal.{Refusal}
-use Rattle.store_book.specs.Isolation.{IsUncrowded, NoCollision, brought_in}
-use Rattle.store_book.specs.Printed.{book_text}
-use Rattle.store_book.specs.Runs as runs
+use Rattle.store_model.specs.Noninterference.{IsUncrowded, NoCollision, brought_in}
+use Rattle.store_model.specs.BookText.{book_text}
+use Rattle.store_model.specs.Runs as runs
 use Rattle.row_player.specs.Answers.{Answer, Leased, NameTaken, Cleaned, Refused}
 use Rattle.row_player.specs.Commands.{Command, Lease, Spells, uses_repo}
 use Rattle.row_player.specs.Plays.{IsRefused}

@@ -2,7 +2,7 @@
 use Rattle.std.specs.Prelude.{⊤, ◌≡◌, ◌≢◌, ℕ, codes, string_bytes}
 use Rattle.clap.specs.declared.error.kind.ErrorKind.{ErrorKind}
 use Rattle.clap.specs.declared.error.kind.ErrorKind.TheVariants.{DisplayHelp, OutOfMemory}
-use Rattle.blob_digest.specs.Keys.{Text}
+use Rattle.finite_maps.specs.Texts.{Text}
 use Rattle.blobctl.specs.declared.options.Stop.{Stop}
 use Rattle.blobctl.specs.declared.options.Stop.TheVariants.{Help, Usage, BadTenant, Memory}
 

@@ -1,7 +1,7 @@
 -- The tenants that the arguments name.
 use Rattle.std.specs.Prelude.{◌≡◌, ◌⊎◌, ◌<◌, ◌≤◌, ◌==◌, List, [], ◌∷◌, ◌++◌, Some, length, true}
 use Rattle.std.specs.List.{after_first, before_first, list_any, position_or_len}
-use Rattle.blob_digest.specs.Keys.{Text, same_text}
+use Rattle.finite_maps.specs.Texts.{Text, same_text}
 use Rattle.blob_digest.specs.Names.{IsComponent}
 use Rattle.blob_digest.specs.Ranges.{number_of}
 use Rattle.blob_digest.specs.Tenants.{Tenant}

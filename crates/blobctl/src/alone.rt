@@ -8,7 +8,7 @@ ghost use Rattle.blobctl.specs.Played.{Acts, Happens};
 ghost use Rattle.row_player.specs.Plays.{Plays};
 ghost use Rattle.blobctl.specs.Script.{max_rows};
 ghost use Rattle.std.specs.Prelude.{◌≤◌, length};
-ghost use Rattle.store_book.specs.Catalog.{Catalog};
+ghost use Rattle.store_model.specs.Catalog.{Catalog};
 ghost use Rattle.store_book.specs.Openings.{OpensCatalog, tenants_shown};
 
 use crate::options::Options;

@@ -1,7 +1,7 @@
 //! Writes the replies and the book.
 ghost use Rattle.std.specs.Prelude.{◌≡◌, ◌++◌, IfErr, OnOk};
 ghost use Rattle.std.specs.Io.KnownBytes.{Appends};
-ghost use Rattle.store_book.specs.Printed.{book_text};
+ghost use Rattle.store_model.specs.BookText.{book_text};
 ghost use Rattle.row_player.specs.Answers.{answer_of, answers_of};
 ghost use Rattle.row_player.specs.Replies.{replies_text, reply_line};
 

@@ -1,6 +1,6 @@
 //! A run: reads a script, plays it, and writes the replies and the book.
 ghost use Rattle.std.specs.Prelude.{◌≡◌, ◌≢◌, ◌+◌, false, IfOk, IfErr, OnOk, map};
-ghost use Rattle.blob_digest.specs.Keys.{Text};
+ghost use Rattle.finite_maps.specs.Texts.{Text};
 ghost use Rattle.blobctl.specs.Ending.{EndsTogether, EndsWell, Explains, IsReadWhole};
 ghost use Rattle.blobctl.specs.Inputs.{TakesAtMost, max_script};
 ghost use Rattle.row_player.specs.Lines.{line_of};

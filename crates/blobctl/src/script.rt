@@ -1,7 +1,7 @@
 //! Reads the rows of a script.
 ghost use Rattle.std.specs.Prelude.{◌≡◌, ◌⊎◌, ◌++◌, ◌∷◌, [], List, true, false, IfOk, IfErr, OnOk, Some, None, map};
 ghost use Rattle.csv.specs.Records.{fields_of};
-ghost use Rattle.blob_digest.specs.Keys.{Text};
+ghost use Rattle.finite_maps.specs.Texts.{Text};
 ghost use Rattle.row_player.specs.Lines.{line_of};
 ghost use Rattle.blobctl.specs.Reading.{IsAfter};
 ghost use Rattle.blobctl.specs.Records.{Record, row_of};

@@ -1,7 +1,7 @@
 //! Reads the tenants that the arguments name.
 ghost use Rattle.std.specs.Prelude.{◌≡◌, ◌⊎◌, ◌<◌, ◌++◌, ◌∷◌, [], false, IfOk, IfErr, OnOk, MatchOption, length, map, string_bytes};
 ghost use Rattle.std.specs.List.{list_any};
-ghost use Rattle.blob_digest.specs.Keys.{same_text};
+ghost use Rattle.finite_maps.specs.Texts.{same_text};
 ghost use Rattle.blob_digest.specs.Tenants.{Tenant};
 ghost use Rattle.store_book.specs.Openings.{HasNames, IsWithinLimits, max_tenants, tenants_shown};
 ghost use Rattle.blobctl.specs.Tenants.{HasBadTenant, IsRefusedAfter, IsTenantWord, SpellTenants};

@@ -1,7 +1,7 @@
 //! Rows played by several workers on a store that they share.
 ghost use Rattle.std.specs.Prelude.{◌≡◌, ◌≢◌, ◌⊎◌, IfErr, OnOk, length, map};
 ghost use Rattle.std.specs.Io.KnownBytes.{Appends};
-ghost use Rattle.blob_digest.specs.Keys.{Text};
+ghost use Rattle.finite_maps.specs.Texts.{Text};
 ghost use Rattle.blobctl.specs.Ending.{PlayedTogether};
 ghost use Rattle.blobctl.specs.Options.{CanWork, IsWithin};
 ghost use Rattle.blob_store.specs.Naming.{setting_of};

@@ -4,8 +4,9 @@ use Rattle.std.specs.Ordering.{eq_by_cmp, is_eq}
 use Rattle.std.specs.Cmp.{tied_itself}
 use Rattle.std.specs.Cmp.Lexicographic.{nat_list_cmp_total}
 use Rattle.std.specs.FinMap.{FinMap, get, insert, empty, get-insert, get-remove, get-empty}
-use Rattle.blob_digest.specs.Sets as set
-use Rattle.blob_digest.specs.Keys.{Text, Link, link_cmp}
+use Rattle.finite_maps.specs.Sets as set
+use Rattle.finite_maps.specs.Texts.{Text}
+use Rattle.blob_digest.specs.Keys.{Link, link_cmp}
 use Rattle.blob_digest.specs.declared.refusal.Refusal.{Refusal}
 use Rattle.blob_digest.specs.declared.refusal.Refusal.TheVariants.{LimitReached}
 use Rattle.blob_digest.proofs.KeyOrders.{link_cmp_total}

@@ -16,21 +16,23 @@ use Rattle.std.proofs.lemmas.List.{length-map}
 use Rattle.std.proofs.lemmas.List.Sums.{sum_by-cons, length-filter}
 use Rattle.std.proofs.lemmas.Option.{slice_get_read, slice_get_within, get_or_from_slice_get}
 use Rattle.std.proofs.lemmas.Map.Made.{length-le_from_is_member}
-use Rattle.blob_digest.specs.Keys.{Text, Link, text_cmp, link_cmp, same_text}
-use Rattle.blob_digest.specs.Rows.{IsApart}
-use Rattle.blob_digest.specs.Sets as sets
-use Rattle.blob_digest.proofs.KeyOrders.{link_cmp_total, exact_link, text_is_same, same_text_is, tied_text}
-use Rattle.blob_digest.proofs.OptionLemmas.{some_none, some_same}
-use Rattle.blob_digest.proofs.SortedRows.{IsApart-sorted}
-use Rattle.blob_digest.proofs.Trees.{get_is}
-use Rattle.blob_digest.specs.Trees.{map_of}
+use Rattle.finite_maps.specs.Texts.{Text, text_cmp, same_text}
+use Rattle.blob_digest.specs.Keys.{Link, link_cmp}
+use Rattle.finite_maps.specs.Rows.{IsApart}
+use Rattle.finite_maps.specs.Sets as sets
+use Rattle.blob_digest.proofs.KeyOrders.{link_cmp_total, exact_link}
+use Rattle.finite_maps.proofs.Texts.{text_is_same, same_text_is, tied_text}
+use Rattle.finite_maps.proofs.Options.{some_none, some_same, option_eq_some}
+use Rattle.finite_maps.proofs.Sorted.{IsApart-sorted}
+use Rattle.finite_maps.proofs.Trees.{get_is}
+use Rattle.finite_maps.specs.Trees.{map_of}
 use Rattle.link_table.specs.Linked.{Tenant, tenant_of, is_tenants}
 use Rattle.link_table.specs.Holders.{count_in, count_of, is_held, Counts, HasNoZero}
 use Rattle.link_table.specs.TenantRepos.{Owned, IsOwned, links_shown, count}
-use Rattle.link_table.proofs.TenantRepos.{option_eq_some, links-there}
+use Rattle.link_table.proofs.TenantRepos.{links-there}
 use Rattle.std.specs.FinMap as fmap
 use Rattle.std.specs.FinMap.{FinMap, find, get, get-empty, insert, remove, entries, get-entries, entries_sorted, is_sorted, contains_key-keys}
-use Rattle.blob_digest.proofs.MapSums.{sum_new, sum_split}
+use Rattle.finite_maps.proofs.Sums.{sum_new, sum_split}
 
 -- ---- one count
 

@@ -2,7 +2,6 @@ pub mod Accepted
 pub mod HolderCounts
 pub mod ManifestRows
 pub mod ManifestTableRows
-pub mod Parts
 pub mod Soundness
 pub mod Tables
 pub mod TenantLists

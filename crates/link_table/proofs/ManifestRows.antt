@@ -23,16 +23,16 @@ use Rattle.std.proofs.lemmas.Bool.{true≢false, false_from_ne_true, le-leb, lt-
 use Rattle.std.proofs.lemmas.List.{length-map}
 use Rattle.std.proofs.lemmas.List.Folds.{list_any_more}
 use Rattle.std.proofs.lemmas.Map.Lookups.{exact_bytes}
-use Rattle.blob_digest.specs.Keys.{Text, text_cmp, same_text}
-use Rattle.blob_digest.proofs.KeyOrders.{text_is_same, tied_text}
-use Rattle.blob_digest.proofs.OptionLemmas.{some_same, some_none}
-use Rattle.blob_digest.proofs.SortedRows.{entries-sorted}
-use Rattle.blob_digest.proofs.Trees.{get_is}
+use Rattle.finite_maps.specs.Texts.{Text, text_cmp, same_text}
+use Rattle.finite_maps.proofs.Texts.{text_is_same, tied_text}
+use Rattle.finite_maps.proofs.Options.{some_same, some_none}
+use Rattle.finite_maps.proofs.Sorted.{entries-sorted}
+use Rattle.finite_maps.proofs.Trees.{get_is}
 use Rattle.blob_digest.specs.Digests.{sha256_text}
 use Rattle.blob_digest.specs.declared.refusal.Refusal.TheVariants.{LimitReached}
 use Rattle.oci_manifest.specs.Manifests.{refs_of, refers}
 use Rattle.link_table.specs.Manifests.{Kept, kept, refer_cmp, is_pair, IsIndexed, put_in, referrer_in}
-use Rattle.link_table.proofs.Parts.{insert_by, remove_by}
+use Rattle.finite_maps.proofs.Parts.{insert_by, remove_by}
 
 sym_text : (a b : Text) → same_text a b ≡ same_text b a
 sym_text a b = texts_ties a b ∙ (eq_by_cmp_equiv nat_list_cmp_total).symm a b ∙ sym (texts_ties b a)

@@ -9,26 +9,28 @@ use Rattle.std.specs.List.{flat_map, find as first}
 use Rattle.std.specs.Option.{option_map, option_map_or}
 use Rattle.std.specs.BTreeMap as tree
 use Rattle.std.proofs.lemmas.Map.Lookups.{exact_bytes}
-use Rattle.blob_digest.specs.Trees.{map_of}
-use Rattle.blob_digest.proofs.Trees.{get_is, insert_is}
+use Rattle.finite_maps.specs.Trees.{map_of}
+use Rattle.finite_maps.proofs.Trees.{get_is, insert_is}
 use Rattle.std.specs.FinMap.{FinMap, find, get, entries, empty, insert, remove, len, contains_key, from_entries, is_sorted, get-empty, get-entries, get-from_entries, get-insert, get-remove, entries_sorted, len-entries, same_map}
 use Rattle.std.specs.FinMap.Entries.{below_all, find_tied}
-use Rattle.blob_digest.specs.Rows.{IsApart}
+use Rattle.finite_maps.specs.Rows.{IsApart}
 use Rattle.blob_digest.specs.declared.refusal.Refusal.{Refusal}
 use Rattle.blob_digest.specs.declared.refusal.Refusal.TheVariants.{LimitReached}
 use Rattle.std.proofs.lemmas.List.{length-map}
 use Rattle.std.proofs.lemmas.List.Sums.{length-filter}
-use Rattle.blob_digest.specs.Keys.{Text, Link, text_cmp, link_cmp, same_text}
+use Rattle.finite_maps.specs.Texts.{Text, text_cmp, same_text}
+use Rattle.blob_digest.specs.Keys.{Link, link_cmp}
 use Rattle.blob_digest.specs.Digests.{sha256_text}
 use Rattle.blob_digest.specs.Outcomes.{OutcomeIn, Does}
-use Rattle.blob_digest.proofs.KeyOrders.{link_cmp_total, exact_link, tied_text}
-use Rattle.blob_digest.proofs.OptionLemmas.{some_none}
-use Rattle.blob_digest.proofs.RowLemmas.{entries-empty}
-use Rattle.blob_digest.proofs.SortedRows.{entries-sorted, IsApart-sorted}
+use Rattle.blob_digest.proofs.KeyOrders.{link_cmp_total, exact_link}
+use Rattle.finite_maps.proofs.Texts.{tied_text}
+use Rattle.finite_maps.proofs.Options.{some_none}
+use Rattle.finite_maps.proofs.Rows.{entries-empty}
+use Rattle.finite_maps.proofs.Sorted.{entries-sorted, IsApart-sorted}
 use Rattle.oci_manifest.specs.Manifests.{refers}
 use Rattle.link_table.specs.Manifests.{Kept, put_in, referrer_in}
 use Rattle.link_table.specs.ManifestTable.{ManifestBytes, Groups, group_rows, flat, manifest_bytes, manifests_in, manifests_on, referrer_on, put_on}
-use Rattle.link_table.proofs.Parts.{or_else, find-++, insert_by, remove_by, remove_absent, where_key-agree, where_key-all}
+use Rattle.finite_maps.proofs.Parts.{or_else, find-++, insert_by, remove_by, remove_absent, where_key-agree, where_key-all}
 
 from_T : (b : Bool) → T b → b ≡ true
 from_T true h = refl

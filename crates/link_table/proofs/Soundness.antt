@@ -10,15 +10,16 @@ use Rattle.std.specs.FinMap.{FinMap, find, get, insert, remove, entries, empty, 
 use Rattle.std.proofs.lemmas.Bool.{cases_eq, ne_eqb}
 use Rattle.std.proofs.lemmas.List.{length-replicate, get_or-replicate}
 use Rattle.std.proofs.lemmas.Option.{slice_get_read, get_or_from_slice_get}
-use Rattle.blob_digest.specs.Keys.{Text, Link, text_cmp, link_cmp, same_text}
+use Rattle.finite_maps.specs.Texts.{Text, text_cmp, same_text}
+use Rattle.blob_digest.specs.Keys.{Link, link_cmp}
 use Rattle.blob_digest.proofs.KeyOrders.{link_cmp_total, exact_link}
-use Rattle.blob_digest.proofs.RowLemmas.{entries-empty}
-use Rattle.blob_digest.proofs.MapSums.{insert_back}
+use Rattle.finite_maps.proofs.Rows.{entries-empty}
+use Rattle.finite_maps.proofs.Sums.{insert_back}
 use Rattle.link_table.specs.Linked.{Tenant, Linked, sizes, blobs, total_size, is_tenants, tenant_of, IsSizeOf, link}
 use Rattle.link_table.specs.Tenancy.{AreTenants}
 use Rattle.link_table.specs.Running.{IsSound}
 use Rattle.link_table.specs.Holders.{is_held}
-use Rattle.link_table.proofs.TenantRepos.{option_eq_some}
+use Rattle.finite_maps.proofs.Options.{option_eq_some}
 use Rattle.link_table.proofs.Weights.{HasOneSize-insert, HasOneSize-remove, total-insert, total-other, total-remove, total-remove_other}
 
 -- a repository has one tenant

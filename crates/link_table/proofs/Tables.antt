@@ -11,14 +11,16 @@ use Rattle.std.specs.FinMap.{get, insert, remove, empty, entries, get-insert, ge
 use Rattle.std.proofs.lemmas.Map.Lookups.{exact_bytes}
 use Rattle.std.proofs.lemmas.Option.{slice_get_read}
 use Rattle.std.proofs.lemmas.Bool.{true≢false}
-use Rattle.blob_digest.specs.Sets as sets
-use Rattle.blob_digest.specs.Keys.{Text, Link, text_cmp, link_cmp}
+use Rattle.finite_maps.specs.Sets as sets
+use Rattle.finite_maps.specs.Texts.{Text, text_cmp}
+use Rattle.blob_digest.specs.Keys.{Link, link_cmp}
 use Rattle.blob_digest.specs.Outcomes.{Does}
 use Rattle.blob_digest.specs.declared.refusal.Refusal.{Refusal}
 use Rattle.blob_digest.specs.declared.refusal.Refusal.TheVariants.{LimitReached}
-use Rattle.blob_digest.proofs.KeyOrders.{link_cmp_total, exact_link, tied_text}
-use Rattle.blob_digest.proofs.OptionLemmas.{some_same, some_none}
-use Rattle.blob_digest.proofs.RowLemmas.{entries-empty, no_tie}
+use Rattle.blob_digest.proofs.KeyOrders.{link_cmp_total, exact_link}
+use Rattle.finite_maps.proofs.Texts.{tied_text}
+use Rattle.finite_maps.proofs.Options.{some_same, some_none}
+use Rattle.finite_maps.proofs.Rows.{entries-empty, no_tie}
 use Rattle.link_table.specs.Linked.{Linked, Tenant, is_tenants, appear, cannot_appear, HasNoLinks}
 use Rattle.link_table.specs.ManifestTable.{ManifestBytes}
 use Rattle.link_table.specs.TenantRepos.{Owned, IsOwned, repos_shown, links_shown, appear_on, count, nothing}

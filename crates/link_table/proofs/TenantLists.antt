@@ -16,11 +16,12 @@ use Rattle.std.proofs.lemmas.List.Elements.{All-map}
 use Rattle.std.proofs.lemmas.List.Quantifiers.{position-Some}
 use Rattle.std.proofs.lemmas.List.Sorted.{All-permutation, length_permutation, sum_by-IsPermutation, IsPermutation-sym, IsPermutation-map}
 use Rattle.std.proofs.lemmas.List.Sums.{sum_by-cons}
-use Rattle.blob_digest.proofs.KeyOrders.{same_itself, text_is_same}
-use Rattle.blob_digest.specs.Keys.{Text, text_cmp, same_text, tenant_name}
+use Rattle.finite_maps.proofs.Texts.{same_itself, text_is_same}
+use Rattle.finite_maps.specs.Texts.{Text, text_cmp, same_text}
+use Rattle.blob_digest.specs.Names.{tenant_name}
 use Rattle.blob_digest.specs.Names.{IsComponent}
 use Rattle.blob_digest.specs.Tenants.{Tenant, tenant_of, is_tenants}
-use Rattle.blob_digest.proofs.RowLemmas.{position-map, sum_by-map}
+use Rattle.finite_maps.proofs.Rows.{position-map, sum_by-map}
 use Rattle.link_table.specs.Tenancy.{HasNames, IsWithinLimits, AreTenants, tenant_shown, tenants_shown}
 
 -- ---- how many pass a test

@@ -4,10 +4,10 @@ use Rattle.std.specs.Prelude.{OnOk, OnErr, nat_le}
 use Rattle.std.specs.Cmp.Lexicographic.{nat_list_cmp_total}
 use Rattle.std.proofs.lemmas.Bool.{le-leb, lt-leb, and_from, and_left, and_right}
 use Rattle.std.proofs.lemmas.Map.Lookups.{exact_bytes}
-use Rattle.blob_digest.specs.Sets as set
-use Rattle.blob_digest.specs.Keys.{Text}
+use Rattle.finite_maps.specs.Sets as set
+use Rattle.finite_maps.specs.Texts.{Text}
 use Rattle.blob_digest.specs.declared.refusal.Refusal.TheVariants.{LimitReached}
-use Rattle.blob_digest.proofs.SetLemmas.{insert_there}
+use Rattle.finite_maps.proofs.Sets.{insert_there}
 use Rattle.link_table.specs.TenantRepos.{Owned, appear_on, count}
 
 pub appear_there : (s : Owned) (q : Text) → set.contains s.repos q ≡ true → appear_on s q ≡ Ok (false, s)
@@ -21,11 +21,6 @@ appear_full s q none many = rw (and_from (not (set.contains s.repos q)) (nat_le 
 
 pub appear_new : (s : Owned) (q : Text) → set.contains s.repos q ≡ false → count s < 1024 → appear_on s q ≡ Ok (true, record s { repos = set.insert s.repos q })
 appear_new s q none few = rw (and_right (not (set.contains s.repos q)) (nat_le 1024 (count s)) (lt-leb 1024 (count s) few), none) refl
-
--- what isn't there
-pub is_none : {A : Type 0} (o : Option A) → is_some o ≡ false → o ≡ None
-is_none None h = refl
-is_none (Some x) h = cc
 
 pub on_ok : {A E P Q : Type 0} (r : Result A E) → (P → Q) → OnOk r P → OnOk r Q
 on_ok (Ok x) gives h = gives h

@@ -16,19 +16,21 @@ use Rattle.std.proofs.lemmas.Bool.{and_from}
 use Rattle.std.proofs.lemmas.List.{length-map, length-set}
 use Rattle.std.proofs.lemmas.Map.Lookups.{exact_bytes}
 use Rattle.std.proofs.lemmas.Option.{slice_get_read}
-use Rattle.blob_digest.specs.Sets as sets
-use Rattle.blob_digest.specs.Keys.{Text, Link, text_cmp, link_cmp, same_text}
-use Rattle.blob_digest.proofs.KeyOrders.{link_cmp_total, exact_link, tied_text}
-use Rattle.blob_digest.proofs.ListLemmas.{map-remove}
-use Rattle.blob_digest.proofs.OptionLemmas.{some_same, some_none}
-use Rattle.blob_digest.proofs.RowLemmas.{from_entries-remove, entries-empty}
-use Rattle.blob_digest.proofs.SortedRows.{IsApart-sorted, is_sorted-remove, entries-sorted, from_entries-put, is_sorted_put, gap, missing, put_at, found_at, map_at}
-use Rattle.blob_digest.proofs.Trees.{get_is}
-use Rattle.blob_digest.specs.Rows.{IsApart}
+use Rattle.finite_maps.specs.Sets as sets
+use Rattle.finite_maps.specs.Texts.{Text, text_cmp, same_text}
+use Rattle.blob_digest.specs.Keys.{Link, link_cmp}
+use Rattle.blob_digest.proofs.KeyOrders.{link_cmp_total, exact_link}
+use Rattle.finite_maps.proofs.Texts.{tied_text}
+use Rattle.finite_maps.proofs.Lists.{map-remove}
+use Rattle.finite_maps.proofs.Options.{some_same, some_none}
+use Rattle.finite_maps.proofs.Rows.{from_entries-remove, entries-empty}
+use Rattle.finite_maps.proofs.Sorted.{IsApart-sorted, is_sorted-remove, entries-sorted, from_entries-put, is_sorted_put, gap, missing, put_at, found_at, map_at}
+use Rattle.finite_maps.proofs.Trees.{get_is}
+use Rattle.finite_maps.specs.Rows.{IsApart}
 use Rattle.link_table.specs.TenantRepos.{blobs_on, count}
 use Rattle.link_table.specs.Rows.{named, links_in, owned_shown, IsInOrder, AreRepos}
 use Rattle.link_table.specs.declared.repo.Repo.{Repo}
-use Rattle.link_table.proofs.Parts.{find_nowhere, find_in_part, find-set_part, where_key-agree, where_key-all}
+use Rattle.finite_maps.proofs.Parts.{find_nowhere, find_in_part, find-set_part, where_key-agree, where_key-all}
 
 -- ---- the repositories
 

@@ -13,21 +13,18 @@ use Rattle.std.proofs.lemmas.Bool.{eqb-true, true≢false}
 use Rattle.std.proofs.lemmas.List.{length-set}
 use Rattle.std.proofs.lemmas.List.Sums.{length-filter}
 use Rattle.std.proofs.lemmas.Map.Lookups.{exact_bytes}
-use Rattle.blob_digest.specs.Sets as sets
-use Rattle.blob_digest.specs.Keys.{Text, Link, text_cmp, link_cmp, same_text}
+use Rattle.finite_maps.specs.Sets as sets
+use Rattle.finite_maps.specs.Texts.{Text, text_cmp, same_text}
+use Rattle.blob_digest.specs.Keys.{Link, link_cmp}
 use Rattle.blob_digest.specs.Tenants.{repos_in}
-use Rattle.blob_digest.proofs.KeyOrders.{link_cmp_total, exact_link, text_is_same}
-use Rattle.blob_digest.proofs.ListLemmas.{filter-map}
-use Rattle.blob_digest.proofs.OptionLemmas.{some_same, some_none, not_some}
-use Rattle.blob_digest.proofs.RowLemmas.{entries-empty}
+use Rattle.blob_digest.proofs.KeyOrders.{link_cmp_total, exact_link}
+use Rattle.finite_maps.proofs.Texts.{text_is_same}
+use Rattle.finite_maps.proofs.Lists.{filter-map}
+use Rattle.finite_maps.proofs.Options.{some_same, some_none, not_some, option_eq_some}
+use Rattle.finite_maps.proofs.Rows.{entries-empty}
 use Rattle.link_table.specs.Linked.{Tenant, is_tenants, tenant_of}
 use Rattle.link_table.specs.TenantRepos.{Owned, IsOwned, repos_shown, links_shown, blobs_on, count}
-use Rattle.link_table.proofs.Parts.{find_nowhere, find_in_part, find-set_part, flat_map-same, insert_by, remove_by, where_key-agree, where_key-all}
-
--- an answer that is compared
-pub option_eq_some : (o : Option ℕ) (t : ℕ) → option_eq nat_eq o (Some t) ≡ true → o ≡ Some t
-option_eq_some None t e = cc
-option_eq_some (Some x) t e = ap Some (eqb-true x t e)
+use Rattle.finite_maps.proofs.Parts.{find_nowhere, find_in_part, find-set_part, flat_map-same, insert_by, remove_by, where_key-agree, where_key-all}
 
 -- a repository has one tenant
 one_tenant : (tenants : List Tenant) (t u : ℕ) (r : Text) → is_tenants tenants t r ≡ true → is_tenants tenants u r ≡ true → u ≡ t

@@ -14,9 +14,9 @@ use Rattle.std.specs.FinMap.{is_sorted}
 use Rattle.std.specs.FinMap.Entries.{below_all}
 use Rattle.std.proofs.lemmas.Bool.{and_from, cases_order, cases_lt, true≢false}
 use Rattle.std.proofs.lemmas.List.Quantifiers.{position-Some}
-use Rattle.blob_digest.specs.Keys.{Text, text_cmp, same_text}
-use Rattle.blob_digest.proofs.RowLemmas.{is_some-position, sum_by-map}
-use Rattle.blob_digest.proofs.SortedRows.{gap}
+use Rattle.finite_maps.specs.Texts.{Text, text_cmp, same_text}
+use Rattle.finite_maps.proofs.Rows.{is_some-position, sum_by-map}
+use Rattle.finite_maps.proofs.Sorted.{gap}
 use Rattle.link_table.specs.Tenancy.{AreTenants, tenant_shown, tenants_shown}
 use Rattle.link_table.proofs.TenantLists.{two_places, once}
 

@@ -7,11 +7,13 @@ use Rattle.std.specs.Cmp.Lexicographic.{nat_list_cmp_total}
 use Rattle.std.specs.FinMap.{FinMap, entries, find, get, insert, remove, from_entries, get-entries, get-from_entries, get-insert, get-remove, same_map}
 use Rattle.std.proofs.lemmas.Bool.{true≢false}
 use Rattle.std.proofs.lemmas.Map.Lookups.{exact_bytes}
-use Rattle.blob_digest.proofs.OptionLemmas.{some_none, some_same}
-use Rattle.blob_digest.specs.Keys.{Text, Link, text_cmp, link_cmp}
-use Rattle.blob_digest.proofs.KeyOrders.{link_cmp_total, exact_link, tied_text}
-use Rattle.blob_digest.proofs.RowLemmas.{no_tie}
-use Rattle.blob_digest.proofs.MapSums.{sum_new, insert-remove, insert_back}
+use Rattle.finite_maps.proofs.Options.{some_none, some_same}
+use Rattle.finite_maps.specs.Texts.{Text, text_cmp}
+use Rattle.blob_digest.specs.Keys.{Link, link_cmp}
+use Rattle.blob_digest.proofs.KeyOrders.{link_cmp_total, exact_link}
+use Rattle.finite_maps.proofs.Texts.{tied_text}
+use Rattle.finite_maps.proofs.Rows.{no_tie}
+use Rattle.finite_maps.proofs.Sums.{sum_new, insert-remove, insert_back}
 use Rattle.link_table.specs.Linked.{sizes, blobs, total_size, HasOneSize, IsSizeOf}
 
 miss : (k : Link) (e : Link × ℕ) (es : List (Link × ℕ)) → (k ≡ e.0 → ⊥) → find link_cmp k (e ∷ es) ≡ find link_cmp k es

@@ -4,9 +4,11 @@ use Rattle.std.proofs.Common.{refl}
 use Rattle.std.specs.Option.{option_map_or, ok_or}
 use Rattle.std.specs.FinMap as fmap
 use Rattle.std.specs.Coded.{Coded, code_by, coded×, coded_ℕ, coded_list}
-use Rattle.blob_digest.specs.Sets as set
-use Rattle.blob_digest.specs.Keys.{Text, Link, text_cmp, link_cmp, same_text, coded_text, coded_link}
-use Rattle.blob_digest.specs.Outcomes.{OutcomeIn, refuse, ◌>>=◌}
+use Rattle.finite_maps.specs.Sets as set
+use Rattle.finite_maps.specs.Texts.{Text, text_cmp, same_text, coded_text}
+use Rattle.blob_digest.specs.Keys.{Link, link_cmp, coded_link}
+use Rattle.blob_digest.specs.Outcomes.{OutcomeIn}
+use Rattle.finite_maps.specs.Outcomes.{refuse, ◌>>=◌}
 use Rattle.blob_digest.specs.declared.refusal.Refusal.{Refusal}
 use Rattle.blob_digest.specs.declared.refusal.Refusal.TheVariants.{LimitReached, NameUnknown, Quota}
 use Rattle.link_table.specs.ManifestTable.{ManifestBytes, put_on}

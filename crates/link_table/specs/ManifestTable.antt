@@ -5,9 +5,10 @@ use Rattle.std.specs.List.{find, flat_map}
 use Rattle.std.specs.BTreeMap.{BTreeMap}
 use Rattle.std.specs.FinMap as fmap
 use Rattle.blob_digest.specs.Digests.{sha256_text}
-use Rattle.blob_digest.specs.Keys.{Text, Link, text_cmp, link_cmp, same_text}
+use Rattle.finite_maps.specs.Texts.{Text, text_cmp, same_text}
+use Rattle.blob_digest.specs.Keys.{Link, link_cmp}
 use Rattle.blob_digest.specs.Outcomes.{OutcomeIn}
-use Rattle.blob_digest.specs.Trees.{map_of}
+use Rattle.finite_maps.specs.Trees.{map_of}
 use Rattle.blob_digest.specs.declared.refusal.Refusal.TheVariants.{LimitReached}
 use Rattle.oci_manifest.specs.Manifests.{refers}
 use Rattle.link_table.specs.Manifests.{Kept}

@@ -2,7 +2,8 @@
 use Rattle.std.specs.Prelude.{◌≡◌, ◌≤◌, ℕ, List, length, map, true}
 use Rattle.std.specs.List.{flat_map}
 use Rattle.std.specs.FinMap as fmap
-use Rattle.blob_digest.specs.Keys.{Text, Link, text_cmp}
+use Rattle.finite_maps.specs.Texts.{Text, text_cmp}
+use Rattle.blob_digest.specs.Keys.{Link}
 use Rattle.link_table.specs.TenantRepos.{Owned}
 use Rattle.link_table.specs.declared.repo.Repo.{Repo}
 

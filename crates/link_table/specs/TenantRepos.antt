@@ -4,9 +4,10 @@ use Rattle.std.proofs.Common.{refl}
 use Rattle.std.specs.List.{flat_map}
 use Rattle.std.specs.FinMap as fmap
 use Rattle.std.specs.Coded.{Coded, code_by, coded×, coded_ℕ}
-use Rattle.blob_digest.specs.Keys.{Text, text_cmp, link_cmp, same_text, coded_text, coded_link}
+use Rattle.finite_maps.specs.Texts.{Text, text_cmp, same_text, coded_text}
+use Rattle.blob_digest.specs.Keys.{link_cmp, coded_link}
 use Rattle.blob_digest.specs.Outcomes.{OutcomeIn}
-use Rattle.blob_digest.specs.Sets as set
+use Rattle.finite_maps.specs.Sets as set
 use Rattle.blob_digest.specs.declared.refusal.Refusal.TheVariants.{LimitReached}
 use Rattle.link_table.specs.Linked.{Tenant, is_tenants}
 

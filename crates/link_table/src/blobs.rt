@@ -17,7 +17,7 @@ impl<'a> Model for Blobs<'a> {
     ghost use Rattle.std.specs.Prelude.{List, ℕ, []};
     ghost use Rattle.std.specs.Option.{option_map_or};
     ghost use Rattle.std.specs.Coded.{coded_list, coded×, coded_ℕ};
-    ghost use Rattle.blob_digest.specs.Keys.{Text, coded_text};
+    ghost use Rattle.finite_maps.specs.Texts.{Text, coded_text};
 
     ghost Value = { List (Text × ℕ) };
 

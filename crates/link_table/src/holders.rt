@@ -3,7 +3,7 @@
 ghost use Rattle.std.specs.Prelude.{◌≡◌, ◌+◌, ◌-◌, ◌<◌, ◌^◌, OnOk, OnErr, IfOk, IfErr, length, if◌then◌else◌};
 ghost use Rattle.std.specs.FinMap as fmap;
 ghost use Rattle.std.specs.List.{All};
-ghost use Rattle.blob_digest.specs.Keys.{Text, same_text};
+ghost use Rattle.finite_maps.specs.Texts.{Text, same_text};
 ghost use Rattle.blob_digest.specs.declared.refusal.Refusal.TheVariants.{Memory};
 ghost use Rattle.link_table.specs.Holders.{count_in};
 
@@ -23,8 +23,8 @@ impl Model for Holders {
     ghost use Rattle.std.specs.Prelude.{ℕ};
     ghost use Rattle.std.specs.Coded.{coded_ℕ};
     ghost use Rattle.std.specs.FinMap as fmap;
-    ghost use Rattle.blob_digest.specs.Keys.{text_cmp, coded_text};
-    ghost use Rattle.blob_digest.specs.Trees.{map_of};
+    ghost use Rattle.finite_maps.specs.Texts.{text_cmp, coded_text};
+    ghost use Rattle.finite_maps.specs.Trees.{map_of};
     ghost use Rattle.link_table.specs.Holders.{HasNoZero};
 
     ghost Value = { fmap.FinMap text_cmp ℕ };

@@ -1,7 +1,7 @@
 ghost use Rattle.std.specs.Prelude.{◌≡◌, ◌+◌, ◌<◌, ◌≤◌, ◌^◌, length, replicate, true, false, slice_index, slice_get, Some, Ok, IfOk, IfErr};
 ghost use Rattle.std.specs.Option.{option_copied, option_map};
 ghost use Rattle.std.specs.FinMap as fmap;
-ghost use Rattle.blob_digest.specs.Sets as set;
+ghost use Rattle.finite_maps.specs.Sets as set;
 ghost use Rattle.blob_digest.specs.Outcomes.{Does, DoesExactly};
 ghost use Rattle.blob_digest.specs.declared.refusal.Refusal.TheVariants.{Memory};
 ghost use Rattle.link_table.specs.ManifestTable.{referrer_on, manifests_on};
@@ -44,7 +44,7 @@ pub struct Links {
 }
 
 impl Model for Links {
-    ghost use Rattle.blob_digest.specs.Sets as set;
+    ghost use Rattle.finite_maps.specs.Sets as set;
     ghost use Rattle.link_table.specs.Linked.{Linked, coded_linked};
 
     ghost Value = { Linked };

@@ -4,7 +4,7 @@ ghost use Rattle.std.specs.Prelude.{◌≡◌, None};
 ghost use Rattle.std.specs.Option.{option_map};
 ghost use Rattle.std.specs.BTreeMap as tree;
 ghost use Rattle.std.specs.FinMap as fmap;
-ghost use Rattle.blob_digest.specs.Keys.{Text, text_cmp};
+ghost use Rattle.finite_maps.specs.Texts.{Text, text_cmp};
 ghost use Rattle.blob_digest.specs.Outcomes.{Does};
 ghost use Rattle.link_table.specs.ManifestTable.{put_on, referrer_on, manifests_on};
 
@@ -27,7 +27,8 @@ pub struct ManifestTable {
 
 impl Model for ManifestTable {
     ghost use Rattle.std.specs.FinMap as fmap;
-    ghost use Rattle.blob_digest.specs.Keys.{coded_link, coded_text};
+    ghost use Rattle.blob_digest.specs.Keys.{coded_link};
+    ghost use Rattle.finite_maps.specs.Texts.{coded_text};
     ghost use Rattle.link_table.specs.ManifestTable.{ManifestBytes, manifest_bytes};
 
     ghost Value = { ManifestBytes };

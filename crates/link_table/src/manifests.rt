@@ -20,7 +20,7 @@ impl<'a> Model for Manifests<'a> {
     ghost use Rattle.std.specs.Prelude.{List, []};
     ghost use Rattle.std.specs.Option.{option_map_or};
     ghost use Rattle.std.specs.Coded.{coded_list, coded×};
-    ghost use Rattle.blob_digest.specs.Keys.{Text, coded_text};
+    ghost use Rattle.finite_maps.specs.Texts.{Text, coded_text};
     ghost use Rattle.link_table.specs.Manifests.{shared_bytes};
 
     ghost Value = { List (Text × Text) };

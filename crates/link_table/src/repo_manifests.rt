@@ -4,7 +4,7 @@ ghost use Rattle.std.specs.Prelude.{◌≡◌, ◌&&◌, ◌||◌, not, false, O
 ghost use Rattle.std.specs.Option.{option_map};
 ghost use Rattle.std.specs.BTreeSet.{contains};
 ghost use Rattle.std.specs.FinMap as fmap;
-ghost use Rattle.blob_digest.specs.Keys.{Text};
+ghost use Rattle.finite_maps.specs.Texts.{Text};
 ghost use Rattle.blob_digest.specs.Outcomes.{Does};
 ghost use Rattle.blob_digest.specs.declared.refusal.Refusal.TheVariants.{Memory};
 ghost use Rattle.link_table.specs.Manifests.{put_in, referrer_in, refer_cmp, is_pair, shared_bytes};
@@ -62,7 +62,7 @@ pub struct RepoManifests {
 impl Model for RepoManifests {
     ghost use Rattle.std.specs.Prelude.{ℕ};
     ghost use Rattle.std.specs.FinMap as fmap;
-    ghost use Rattle.blob_digest.specs.Keys.{Text, text_cmp, coded_text};
+    ghost use Rattle.finite_maps.specs.Texts.{Text, text_cmp, coded_text};
     ghost use Rattle.link_table.specs.Manifests.{Kept, kept, IsIndexed};
 
     ghost Value = { Kept };

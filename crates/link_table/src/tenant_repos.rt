@@ -3,7 +3,7 @@
 ghost use Rattle.std.specs.Prelude.{◌≡◌, ◌≤◌, OnOk, OnErr, IfErr, Some, true, slice_get, []};
 ghost use Rattle.std.specs.Option.{option_copied, option_map_or};
 ghost use Rattle.std.specs.FinMap as fmap;
-ghost use Rattle.blob_digest.specs.Sets as set;
+ghost use Rattle.finite_maps.specs.Sets as set;
 ghost use Rattle.blob_digest.specs.Outcomes.{Does};
 ghost use Rattle.blob_digest.specs.declared.refusal.Refusal.TheVariants.{Memory};
 ghost use Rattle.link_table.specs.Linked.{HasNoLinks};

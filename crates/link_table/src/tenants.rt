@@ -4,7 +4,7 @@ ghost use Rattle.std.specs.Prelude.{◌≡◌, ◌≤◌, ◌<◌, ◌↔◌, Is
 ghost use Rattle.std.specs.List.{All, IsAllAdjacentAnswer};
 ghost use Rattle.std.specs.List.Sorted.{IsPermutation, IsBinarySearchResult, IsSearchInRange};
 ghost use Rattle.std.specs.Ordering.{is_lt};
-ghost use Rattle.blob_digest.specs.Keys.{text_cmp, same_text};
+ghost use Rattle.finite_maps.specs.Texts.{text_cmp, same_text};
 ghost use Rattle.blob_digest.specs.Names.{IsComponent};
 ghost use Rattle.link_table.specs.Tenancy.{AreTenants, HasNames, IsWithinLimits, RefusesTenants, max_quota, tenants_shown};
 

@@ -7,7 +7,7 @@ use Rattle.serde_json.specs.Data.{Data, null, boolean, number, string, array, ob
 use Rattle.serde_json.specs.Find.{get, as_array, as_number, as_object, as_str, as_u64}
 use Rattle.serde_json.specs.Read.{read}
 use Rattle.blob_digest.specs.Digests.{is_digest_text, sha256_text}
-use Rattle.blob_digest.specs.Keys.{Text, same_text}
+use Rattle.finite_maps.specs.Texts.{Text, same_text}
 
 -- a text that is a digest
 abbrev pub digest_in : Text → Option Text

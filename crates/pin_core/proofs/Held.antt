@@ -4,10 +4,9 @@ use Rattle.std.specs.Prelude.{◌==◌}
 use Rattle.std.specs.List.{All}
 use Rattle.std.proofs.lemmas.List.{length-set, get_or-set_other}
 use Rattle.std.proofs.lemmas.Grind.{get_or-set_at}
-use Rattle.std.proofs.lemmas.List.Elements.{All-nil, All-cons, All-head, All-tail}
+use Rattle.std.proofs.lemmas.List.Elements.{All-nil, All-cons, All-head, All-tail, All-set, All-replicate, All-get_or}
 use mathlib.Core.Logic.{dite}
 use native.Mathlib.Decide.{ℕ_discrete}
-use Rattle.std.proofs.lemmas.List.Elements.{All-set, All-replicate, All-get_or}
 use Rattle.pin_core.specs.declared.world.Phase.{Phase}
 use Rattle.pin_core.specs.declared.world.Phase.TheVariants.{Free, Live, Condemned, Retired}
 use Rattle.pin_core.specs.declared.world.PinRow.{PinRow}
@@ -15,7 +14,7 @@ use Rattle.pin_core.specs.declared.world.Hold.{Hold}
 use Rattle.pin_core.specs.declared.world.PinEntry.{PinEntry}
 use Rattle.pin_core.specs.declared.event.Event.{Event}
 use Rattle.pin_core.specs.declared.event.Event.TheVariants.{Give, Lend, Share, Leave, Condemn, Revive, Reclaim, Look, Verify}
-use Rattle.blob_digest.specs.Keys.{Text}
+use Rattle.finite_maps.specs.Texts.{Text}
 use Rattle.pin_core.specs.World.{PinWorld, Keeps, HasDigest, IsState, IsUsed, IsWeight, max_weight, hold_named, holds_of, opening, row, no_row}
 use Rattle.pin_core.specs.Events.{Can, after, with_row, half, halve, second, entry, lent_hold, digest_or, given_row, in_phase, reclaimed_row}
 use Rattle.pin_core.proofs.Names.{hold_in, all_named, all_map, all_filter, all_push, clear_holds, named_push, named_filter, named_shared}

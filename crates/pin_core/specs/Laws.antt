@@ -5,7 +5,7 @@ use Rattle.pin_core.specs.declared.world.Phase.{Phase}
 use Rattle.pin_core.specs.declared.world.Hold.{Hold}
 use Rattle.pin_core.specs.declared.event.Event.{Event}
 use Rattle.pin_core.specs.declared.event.Event.TheVariants.{Give, Lend, Share, Leave}
-use Rattle.blob_digest.specs.Keys.{Text}
+use Rattle.finite_maps.specs.Texts.{Text}
 use Rattle.pin_core.specs.World.{PinWorld, Held, IsState, hold_named, row, opening, word, word_of, max_weight}
 use Rattle.pin_core.specs.Events.{after_all, Happens}
 

@@ -1,7 +1,7 @@
 -- Slots with generations, and the pins on them: reference counts with weights.
 use Rattle.std.specs.Prelude.{◌≡◌, ℕ, ◌+◌, ◌*◌, ◌^◌, ◌==◌, cond, ◌<◌, ◌≤◌, List, [], ◌∷◌, map, length, replicate, sum_by, slice_index_or, Option, Some, None}
 use Rattle.std.specs.List.{All}
-use Rattle.blob_digest.specs.Keys.{Text}
+use Rattle.finite_maps.specs.Texts.{Text}
 use Rattle.pin_core.specs.declared.world.Phase.{Phase}
 use Rattle.pin_core.specs.declared.world.Phase.TheVariants.{Free, Live, Condemned, Retired}
 use Rattle.pin_core.specs.declared.world.PinRow.{PinRow}

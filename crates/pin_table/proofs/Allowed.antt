@@ -6,7 +6,7 @@ use lib.ListN.{get_elem?}
 use prog.Atomic.{either}
 use Rattle.atomic_table.specs.Table.{State, Me, step, keeps, Allows, Splits, Joins}
 use Rattle.atomic_table.proofs.Lists.{exchanged}
-use Rattle.blob_digest.specs.Keys.{Text}
+use Rattle.finite_maps.specs.Texts.{Text}
 use Rattle.pin_core.specs.declared.world.Phase.TheVariants.{Free, Live, Condemned}
 use Rattle.pin_core.specs.declared.world.Hold.{Hold}
 use Rattle.pin_core.specs.declared.event.Event.{Event}

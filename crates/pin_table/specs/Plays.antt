@@ -1,7 +1,7 @@
 -- What each kind of step finds, and what the seat knows after it.
 use Rattle.std.specs.Prelude.{◌≡◌, ◌≢◌, ℕ, ◌≤◌, ◌⊎◌, List, slice_set, slice_index, Option, Some, None}
 use Rattle.atomic_table.specs.Table.{Me, Step}
-use Rattle.blob_digest.specs.Keys.{Text}
+use Rattle.finite_maps.specs.Texts.{Text}
 use Rattle.pin_core.specs.declared.world.Phase.TheVariants.{Live, Condemned}
 use Rattle.pin_core.specs.declared.world.PinRow.{PinRow}
 use Rattle.pin_core.specs.declared.world.Hold.{Hold}

@@ -15,7 +15,7 @@ impl Play<(), View> for Look {
 
 /// Names the digest that a slot is given, which is in the keeper's row and not in the word.
 pub trait Given {
-    ghost use Rattle.blob_digest.specs.Keys.{Text};
+    ghost use Rattle.finite_maps.specs.Texts.{Text};
 
     ghost digest: { Text };
 }

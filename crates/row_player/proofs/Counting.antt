@@ -3,7 +3,7 @@ use Rattle.std.proofs.Common.{◌≡◌, ◌+◌, ◌∙◌, ◌∷◌, [], ℕ,
 use Rattle.std.specs.Prelude.{◌&&◌, if◌then◌else◌}
 use Rattle.std.specs.List.{zip}
 use Rattle.std.proofs.lemmas.List.Sums.{sum_by-cons}
-use Rattle.blob_digest.specs.Keys.{Text}
+use Rattle.finite_maps.specs.Texts.{Text}
 use Rattle.row_player.specs.Answers.{Answer, Bytes, Leased, Refused}
 use Rattle.row_player.specs.Commands.{Command, Start, Status, Append, Close, Abandon, Mount, Delete, PutManifest, GetManifest, DeleteManifest, Lease, Request, Calls, Verifies, Sweeps, Spells, uses_repo}
 use Rattle.row_player.specs.Counts.{abandoned_of, abandoned_with, chunk_of, chunk_with, closed_of, closed_with, counted, counted_abandons, counted_bytes, counted_closed, counted_commands, is_accepted, request_amount, row_amount}

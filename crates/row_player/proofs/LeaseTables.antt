@@ -16,8 +16,8 @@ use Rattle.std.proofs.lemmas.Map.{lookup-none}
 use Rattle.std.proofs.lemmas.Map.Entries.{none_past_head}
 use Rattle.std.proofs.lemmas.Map.Keys.{IsDistinct-from_sorted, sorted_tail}
 use Rattle.std.proofs.lemmas.Map.Lookups.{exact_pairs, exact_unsigned, exact_bytes}
-use Rattle.blob_digest.specs.Keys.{text_cmp}
-use Rattle.blob_digest.proofs.MapSums.{insert-remove, insert_back}
+use Rattle.finite_maps.specs.Texts.{text_cmp}
+use Rattle.finite_maps.proofs.Sums.{insert-remove, insert_back}
 use Rattle.blob_digest.specs.declared.refusal.Refusal.{Refusal}
 use Rattle.blob_digest.specs.declared.refusal.Refusal.TheVariants.{Memory, WeightSpent}
 use Rattle.row_player.specs.Answers.{Shared, Refused}

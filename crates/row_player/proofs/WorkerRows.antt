@@ -6,7 +6,7 @@ use Rattle.std.proofs.lemmas.List.{append-nil, length-map, map-append, take-appe
 use Rattle.std.proofs.lemmas.List.Elements.{filter-append}
 use Rattle.std.proofs.lemmas.List.Sums.{length-filter}
 use Rattle.std.proofs.lemmas.Nat.{mod_below}
-use Rattle.blob_digest.proofs.ListLemmas.{filter-map}
+use Rattle.finite_maps.proofs.Lists.{filter-map}
 use Rattle.row_player.specs.Lines.{line_of}
 use Rattle.row_player.specs.Rows.{Line}
 use Rattle.row_player.specs.Shares.{is_own, own_rows}

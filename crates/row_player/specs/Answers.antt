@@ -1,11 +1,11 @@
 -- What a row is answered, as contracts see a reply: its numbers and texts, and not where they are kept.
 use Rattle.std.specs.Prelude.{ℕ, List, map}
 use Rattle.std.specs.Arc.{arc_value}
-use Rattle.blob_digest.specs.Keys.{Text}
+use Rattle.finite_maps.specs.Texts.{Text}
 use Rattle.blob_digest.specs.declared.refusal.Refusal.{Refusal}
-use Rattle.store_book.specs.declared.sweep.Swept.{Swept}
-use Rattle.store_book.specs.declared.mount.Mount.{Mount}
-use Rattle.store_book.specs.declared.mount.Mount.TheVariants as mounting
+use Rattle.store_model.specs.declared.swept.Swept.{Swept}
+use Rattle.store_model.specs.declared.mount.Mount.{Mount}
+use Rattle.store_model.specs.declared.mount.Mount.TheVariants as mounting
 use Rattle.row_player.specs.declared.reply.Reply.{Reply}
 use Rattle.row_player.specs.declared.reply.Reply.TheVariants as reply
 

@@ -1,13 +1,13 @@
 -- The command that a row spells, and the refusal of a row that spells none.
 use Rattle.std.specs.Prelude.{◌≡◌, ◌≢◌, ◌⊎◌, ℕ, Bool, true, false, Option, Some, None, []}
 use Rattle.blob_digest.specs.Digests.{IsDigestText}
-use Rattle.blob_digest.specs.Keys.{Text}
+use Rattle.finite_maps.specs.Texts.{Text}
 use Rattle.blob_digest.specs.Names.{IsRepoName}
 use Rattle.blob_digest.specs.Ranges.{IsRangeText}
 use Rattle.blob_digest.specs.declared.range.ByteRange.{ByteRange}
 use Rattle.blob_digest.specs.declared.refusal.Refusal.{Refusal}
 use Rattle.blob_digest.specs.declared.refusal.Refusal.TheVariants.{NameInvalid, DigestInvalid, SizeInvalid}
-pub use Rattle.store_book.specs.Runs.{Command, Start, Status, Append, Close, Abandon, Mount, Delete, PutManifest, GetManifest, DeleteManifest, Lease}
+pub use Rattle.store_model.specs.Runs.{Command, Start, Status, Append, Close, Abandon, Mount, Delete, PutManifest, GetManifest, DeleteManifest, Lease}
 use Rattle.row_player.specs.Rows.{Line, session_number}
 use Rattle.row_player.specs.declared.row.Verb.{Verb}
 use Rattle.row_player.specs.declared.row.Verb.TheVariants as verb

@@ -1,7 +1,7 @@
 -- What the accepted commands of a script come to.
 use Rattle.std.specs.Prelude.{ℕ, List, Bool, true, false, ◌&&◌, if◌then◌else◌, length}
 use Rattle.std.specs.List.{sum_by, zip}
-use Rattle.blob_digest.specs.Keys.{Text}
+use Rattle.finite_maps.specs.Texts.{Text}
 use Rattle.row_player.specs.Answers.{Answer, NoLease, NameTaken, Refused, Stored}
 use Rattle.row_player.specs.Commands.{Command, Abandon, Append, Close, Request, Calls, uses_repo}
 use Rattle.row_player.specs.Rows.{Line}

@@ -6,7 +6,7 @@ use Rattle.std.specs.Ordering.{nat_cmp, ordering_then}
 use Rattle.std.specs.Borrow.{Bor}
 use Rattle.std.specs.FinMap as fmap
 use Rattle.std.specs.BTreeMap as tree
-use Rattle.blob_digest.specs.Keys.{Text, text_cmp}
+use Rattle.finite_maps.specs.Texts.{Text, text_cmp}
 use Rattle.row_player.specs.Leases.{Lent, Leases, Name}
 
 -- a lane, and a name that stands in the script

@@ -5,7 +5,7 @@ use Rattle.std.specs.Ordering.{nat_cmp, ordering_then}
 use Rattle.std.specs.Coded.{Coded, code_by, coded×, coded_ℕ}
 use Rattle.std.specs.FinMap as fmap
 use Rattle.std.proofs.Common.{refl}
-use Rattle.blob_digest.specs.Keys.{Text, text_cmp, coded_text}
+use Rattle.finite_maps.specs.Texts.{Text, text_cmp, coded_text}
 
 -- a lease: its blob's bytes, and its weight
 pub record Lent : Type 0 where

@@ -1,7 +1,7 @@
 -- What the rows of a script do to what they are played on, by what a store may do.
 use Rattle.std.specs.Prelude.{◌≡◌, ◌≢◌, ◌⊎◌, ℕ, ◌+◌, ◌-◌, ◌==◌, if◌then◌else◌, nat_le, true, false, List, [], ◌∷◌, length, Option, Some, None, option_and_then, Result, Ok, Err}
 use Rattle.std.specs.FinMap as fmap
-use Rattle.blob_digest.specs.Keys.{Text}
+use Rattle.finite_maps.specs.Texts.{Text}
 use Rattle.blob_digest.specs.Ranges.{range_of}
 use Rattle.blob_digest.specs.declared.refusal.Refusal.{Refusal}
 use Rattle.blob_digest.specs.declared.refusal.Refusal.TheVariants.{Memory, SizeInvalid, WeightSpent}

@@ -3,9 +3,9 @@ use Rattle.std.specs.Prelude.{ℕ, List, ◌++◌, codes}
 use Rattle.std.specs.Fmt.{decimal}
 use Rattle.std.specs.List.{enumerate_from, flat_map}
 use Rattle.hex.specs.Hex.{encode_lower}
-use Rattle.blob_digest.specs.Keys.{Text}
+use Rattle.finite_maps.specs.Texts.{Text}
 use Rattle.blob_digest.specs.Refusals.{refusal_text}
-use Rattle.store_book.specs.declared.sweep.Swept.{Swept}
+use Rattle.store_model.specs.declared.swept.Swept.{Swept}
 use Rattle.row_player.specs.Answers.{Answer, Session, Received, Stored, Abandoned, Mounted, Deleted, Manifest, Body, Leased, Bytes, Shared, Verified, GivenBack, Cleaned, NoLease, NameTaken, Refused}
 
 -- what a sweep did

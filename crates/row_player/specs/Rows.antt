@@ -1,7 +1,7 @@
 -- The row of a script, and the fields that a command needs.
 use Rattle.std.specs.Prelude.{ℕ, ◌==◌, ◌&&◌, length, Bool, nat_le, if◌then◌else◌, Option, Some, None, option_and_then, is_some}
 use Rattle.std.specs.List.{list_all}
-use Rattle.blob_digest.specs.Keys.{Text}
+use Rattle.finite_maps.specs.Texts.{Text}
 use Rattle.blob_digest.specs.Names.{is_alnum}
 use Rattle.blob_digest.specs.Ranges.{number_of}
 use Rattle.row_player.specs.declared.row.Verb.{Verb}

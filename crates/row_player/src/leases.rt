@@ -3,7 +3,7 @@ ghost use Rattle.std.specs.Prelude.{◌≡◌, ◌≢◌, ◌⊎◌, ℕ, Some, 
 ghost use Rattle.std.specs.Option.{option_map};
 ghost use Rattle.std.specs.FinMap as fmap;
 ghost use Rattle.std.specs.BTreeMap as tree;
-ghost use Rattle.blob_digest.specs.Keys.{Text};
+ghost use Rattle.finite_maps.specs.Texts.{Text};
 ghost use Rattle.row_player.specs.Answers.{answer_of, Bytes, Refused};
 ghost use Rattle.row_player.specs.Commands.{Calls, Lease as LeaseCommand};
 ghost use Rattle.row_player.specs.Leases.{new_lease, none};

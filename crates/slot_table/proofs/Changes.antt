@@ -10,7 +10,7 @@ use Rattle.std.proofs.lemmas.List.{length-replicate}
 use Rattle.std.proofs.lemmas.List.Folds.{sum_by-replicate}
 use Rattle.std.proofs.Math.ListN.{length-set}
 use Rattle.std.proofs.lemmas.Option.{none-some}
-use Rattle.blob_digest.specs.Keys.{Text, text_cmp, same_text}
+use Rattle.finite_maps.specs.Texts.{Text, text_cmp, same_text}
 use Rattle.slot_table.specs.declared.phase.Phase.TheVariants as phase
 use Rattle.slot_table.specs.Slots.{Slot, Held, Content, Free, Used, Retired, held_in, held_at, phase_at, has_digest, is_free, slot_of, free_slots, fill, on_held, content_with, emptied, spent, empty_slot, IsTable}
 use Rattle.slot_table.specs.Indexes.{is_free_at, Finds, IsIndexed}

@@ -9,9 +9,9 @@ use Rattle.std.specs.Cmp.Lexicographic.{same_text as text_is}
 use Rattle.std.proofs.Math.Seq.{take-length}
 use Rattle.std.proofs.lemmas.Option.{slice_get-get_or}
 use Rattle.std.proofs.lemmas.List.Quantifiers.{position-Some}
-use Rattle.blob_digest.proofs.KeyOrders.{same_itself}
-use Rattle.blob_digest.proofs.RowLemmas.{is_some-position}
-use Rattle.blob_digest.specs.Keys.{Text, same_text}
+use Rattle.finite_maps.proofs.Texts.{same_itself}
+use Rattle.finite_maps.proofs.Rows.{is_some-position}
+use Rattle.finite_maps.specs.Texts.{Text, same_text}
 use Rattle.slot_table.specs.declared.phase.Phase.TheVariants as phase
 use Rattle.slot_table.specs.Slots.{Slot, Held, Content, Free, Used, Retired, held_in, held_at, phase_in, slot_of, has_digest, is_free, is_orphan, orphan_from, phase_at, opening, empty_slot}
 

@@ -7,8 +7,8 @@ use Rattle.std.proofs.lemmas.Bool.Decides.{eqb_tells}
 use Rattle.std.proofs.lemmas.Option.{none-some}
 use Rattle.std.proofs.lemmas.List.Folds.{position_or_len-set}
 use Rattle.std.specs.Cmp.Lexicographic.{texts_ties, other_text}
-use Rattle.blob_digest.proofs.KeyOrders.{text_is_same, same_text_is}
-use Rattle.blob_digest.specs.Keys.{Text, text_cmp, same_text}
+use Rattle.finite_maps.proofs.Texts.{text_is_same, same_text_is}
+use Rattle.finite_maps.specs.Texts.{Text, text_cmp, same_text}
 use Rattle.slot_table.specs.Slots.{Slot, Held, Content, Free, Used, Retired, held_in, held_at, has_digest, slot_of, fill, IsDistinct}
 use Rattle.slot_table.specs.Indexes.{Finds}
 use Rattle.slot_table.proofs.Finding.{not_held, held_of, holding}

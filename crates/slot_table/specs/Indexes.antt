@@ -2,7 +2,7 @@
 use Rattle.std.specs.Prelude.{◌≡◌, ℕ, ◌≤◌, ◌==◌, Bool, false, List, length, count_by, slice_get, if◌then◌else◌}
 use Rattle.std.specs.Option.{option_map_or}
 use Rattle.std.specs.BTreeMap as tree
-use Rattle.blob_digest.specs.Keys.{Text, text_cmp}
+use Rattle.finite_maps.specs.Texts.{Text, text_cmp}
 use Rattle.slot_table.specs.Slots.{Slot, slot_of, free_slots, is_free}
 
 -- the index has the digest of each used slot, with the slot, and nothing else

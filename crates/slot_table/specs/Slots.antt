@@ -1,7 +1,7 @@
 -- The slots of a store: what each holds, and what is found in them.
 use Rattle.std.specs.Prelude.{◌≡◌, ℕ, ◌+◌, ◌==◌, ◌≤◌, ◌&&◌, Bool, true, false, Option, Some, None, Result, Ok, Err, List, length, count_by, position, slice_get, slice_set, ◌-◌, cond, replicate, drop, nat_le, if◌then◌else◌}
 use Rattle.std.specs.Option.{option_map_or, option_map}
-use Rattle.blob_digest.specs.Keys.{Text, same_text}
+use Rattle.finite_maps.specs.Texts.{Text, same_text}
 use Rattle.blob_digest.specs.declared.refusal.Refusal.{Refusal}
 use Rattle.blob_digest.specs.declared.refusal.Refusal.TheVariants.{LimitReached}
 use Rattle.slot_table.specs.declared.phase.Phase.{Phase}

@@ -7,14 +7,17 @@ use Rattle.blob_digest.specs.declared.refusal.Refusal.{Refusal}
 use Rattle.blob_digest.specs.declared.refusal.Refusal.TheVariants.{NameUnknown}
 use Rattle.slot_table.specs.Slots.{Slot}
 use Rattle.link_table.specs.Linked.{Linked, discharge, known_tenant}
-use Rattle.upload_table.specs.Sessions.{Session, charged, home_in, not_busy, received, session_in, in_sessions}
+use Rattle.store_model.specs.Sessions.{Session, charged, home_in, not_busy, received, session_in, in_sessions}
 use Rattle.upload_table.specs.Uploaded.{Uploaded}
-use Rattle.store_book.specs.Catalog.{Text, Catalog, tenant_of}
-use Rattle.store_book.specs.Steps.{◌>>=◌, abandon}
+use Rattle.finite_maps.specs.Texts.{Text}
+use Rattle.store_model.specs.Catalog.{Catalog, tenant_of}
+use Rattle.finite_maps.specs.Outcomes.{◌>>=◌}
+use Rattle.store_model.specs.Commands.{abandon}
 use Rattle.store_book.specs.Layers.{book_catalog, IsBook}
-use Rattle.store_book.proofs.LawfulHands.{home_charged, home_chunks}
-use Rattle.store_book.proofs.LawfulAbandon.{Sound-after_abandon}
-use Rattle.store_book.proofs.Outcomes.{bound_ok, session_found, some_of_ok, tenant_there}
+use Rattle.store_model.proofs.Commands.Hands.{home_charged, home_chunks}
+use Rattle.store_model.proofs.Commands.Abandon.{Sound-after_abandon}
+use Rattle.finite_maps.proofs.Outcomes.{bound_ok, some_of_ok}
+use Rattle.store_model.proofs.Commands.Accepted.{session_found, tenant_there}
 use Rattle.store_book.proofs.SessionCharges.{session_charged, sums-gone}
 
 -- an answer by what was found at home

@@ -10,21 +10,21 @@ use Rattle.std.specs.FinMap.Entries.{below_all}
 use Rattle.std.proofs.lemmas.List.Concat.{flat_map-cons}
 use Rattle.std.proofs.lemmas.List.Folds.{flat_map-map}
 use Rattle.std.proofs.lemmas.List.Sums.{length-filter}
-use Rattle.blob_digest.proofs.ListLemmas.{all_weaker}
-use Rattle.store_book.proofs.MapLemmas.{is_true, flat_map-same, all_same, all_by_index}
-use Rattle.blob_digest.specs.Sets as set
+use Rattle.finite_maps.proofs.Lists.{all_weaker, is_true, flat_map-same, all_same, all_by_index}
+use Rattle.finite_maps.specs.Sets as set
 use Rattle.blob_digest.proofs.KeyOrders.{link_cmp_total, exact_link}
-use Rattle.blob_digest.proofs.RowLemmas.{found_value}
+use Rattle.finite_maps.proofs.Rows.{found_value}
 use Rattle.slot_table.specs.Slots.{Slot, Held, slot_of, links_at}
 use Rattle.link_table.specs.ManifestTable.{manifests_on}
 use Rattle.link_table.specs.Linked.{Linked, Tenant, used_in, blobs_in, repos_of}
-use Rattle.blob_digest.proofs.SortedRows.{IsApart-sorted, entries-sorted}
-use Rattle.upload_table.specs.Sessions.{listed, sessions_of}
+use Rattle.finite_maps.proofs.Sorted.{IsApart-sorted, entries-sorted}
+use Rattle.store_model.specs.Sessions.{listed, sessions_of}
 use Rattle.upload_table.specs.Uploaded.{Uploaded}
-use Rattle.store_book.specs.Catalog.{Text, Link, Resident, Catalog, is_of, link_cmp, same_text, used, size, count}
+use Rattle.finite_maps.specs.Texts.{Text, same_text}
+use Rattle.store_model.specs.Catalog.{Link, Resident, Catalog, is_of, link_cmp, used, size, count}
 use Rattle.store_book.specs.Layers.{links_of, lent_marks, book_catalog, IsBook}
 use Rattle.store_book.specs.Lines.{CanPrint, blob_row, links_to, session_row, repo_rows, tenant_rows, book_rows}
-use Rattle.store_book.specs.Printed.{blob_line, blob_text, book_line, book_text, end_line, manifest_row, manifest_text, repo_text, repository_line, tenant_line, tenant_text}
+use Rattle.store_model.specs.BookText.{blob_line, blob_text, book_line, book_text, end_line, manifest_row, manifest_text, repo_text, repository_line, tenant_line, tenant_text}
 use Rattle.store_book.proofs.Taking.{use_is}
 use Rattle.store_book.proofs.Ties.{held_of, not_resident}
 

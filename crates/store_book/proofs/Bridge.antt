@@ -11,17 +11,18 @@ use Rattle.std.specs.FinMap.{FinMap, find, entries, get, from_entries, keys, get
 use Rattle.std.proofs.lemmas.List.Sums.{sum_by-cons}
 use Rattle.std.proofs.lemmas.Bool.{false≢true, and_from, and_parts}
 use Rattle.std.proofs.lemmas.Map.Lookups.{exact_bytes}
-use Rattle.blob_digest.proofs.ListLemmas.{witness}
-use Rattle.blob_digest.proofs.OptionLemmas.{not_some, some_none, some_same}
-use Rattle.blob_digest.specs.Sets as set
-use Rattle.blob_digest.specs.Rows.{IsApart}
-use Rattle.blob_digest.proofs.KeyOrders.{link_cmp_total, tied_text}
-use Rattle.blob_digest.proofs.RowLemmas.{sum_by-from_entries}
-use Rattle.blob_digest.proofs.MapSums.{list_any_weaker}
+use Rattle.finite_maps.proofs.Lists.{witness, list_any_weaker}
+use Rattle.finite_maps.proofs.Options.{not_some, some_none, some_same}
+use Rattle.finite_maps.specs.Sets as set
+use Rattle.finite_maps.specs.Rows.{IsApart}
+use Rattle.blob_digest.proofs.KeyOrders.{link_cmp_total}
+use Rattle.finite_maps.proofs.Texts.{tied_text}
+use Rattle.finite_maps.proofs.Rows.{sum_by-from_entries}
 use Rattle.slot_table.specs.Slots.{Slot, Held, Free, Used, Retired, held_at, held_in, IsDistinct}
 use Rattle.link_table.specs.Linked.{Linked, blobs_of, total_size, used_in}
 use Rattle.link_table.proofs.Weights.{IsBlobs-blobs}
-use Rattle.store_book.specs.Catalog.{Text, Link, Resident, Catalog, text_cmp, link_cmp, is_of, is_tenants, holds, tenant_holds, used}
+use Rattle.finite_maps.specs.Texts.{Text, text_cmp}
+use Rattle.store_model.specs.Catalog.{Link, Resident, Catalog, link_cmp, is_of, is_tenants, holds, tenant_holds, used}
 use Rattle.upload_table.specs.Uploaded.{Uploaded}
 use Rattle.store_book.specs.Layers.{links_of, resident_of, with_resident, resident_rows, catalog_from, AreCharges, IsTied}
 

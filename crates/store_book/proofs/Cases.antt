@@ -1,20 +1,18 @@
--- What the contracts of the calls say is a case of a step, and each list of commands and sweeps has a run: so the laws of runs speak of something.
+-- What the contracts of the calls say is a case of a step.
 use Rattle.std.proofs.Common.{◌≡◌, ◌≢◌, Bool, true, false, List, [], ◌∷◌, Option, Some, None, Result, Ok, Err, refl, sym, ap, ◌∙◌, inl, inr}
 use Rattle.std.specs.Prelude.{◌⊎◌}
 use Rattle.blob_digest.specs.declared.refusal.Refusal.{Refusal}
-use Rattle.blob_digest.specs.declared.refusal.Refusal.TheVariants.{Memory}
+use Rattle.blob_digest.specs.declared.refusal.Refusal.TheVariants.{Memory, TooManyReaders}
 use Rattle.blob_digest.specs.Outcomes.{Does, DoesExactly, Answers}
-use Rattle.store_book.specs.Catalog.{Catalog}
-use Rattle.store_book.specs.Steps.{Outcome}
-use Rattle.store_book.specs.Runs.{Command, Answer, answered, told, outcome, takes_memory, IsCase, Event, Called, Cleaned, IsRun}
-use Rattle.blob_digest.specs.declared.refusal.Refusal.TheVariants.{TooManyReaders}
-use Rattle.store_book.specs.Catalog.{Text}
-use Rattle.store_book.specs.Steps.{tenant, refuse, linked_blob, lease}
-use Rattle.store_book.specs.Runs.{Lease, Bytes}
+use Rattle.store_model.specs.Catalog.{Catalog}
+use Rattle.store_model.specs.Commands.{Outcome, tenant, linked_blob, lease}
+use Rattle.store_model.specs.Runs.{Command, Answer, answered, told, outcome, takes_memory, IsCase, Event, Called, Cleaned, IsRun, Lease, Bytes}
+use Rattle.finite_maps.specs.Texts.{Text}
+use Rattle.finite_maps.specs.Outcomes.{refuse}
 use Rattle.store_book.specs.BookState.{SlotSeen}
 use Rattle.store_book.specs.SlotSteps.{Leases}
-use Rattle.store_book.proofs.Outcomes.{bound_ok, not_refused}
-use Rattle.store_book.proofs.SomeSweep.{swept, after, some_sweep}
+use Rattle.finite_maps.proofs.Outcomes.{bound_ok, not_refused}
+use Rattle.store_model.proofs.Commands.SomeSweep.{swept, after, some_sweep}
 
 is_memory : (e : Refusal) → (e ≡ Memory) ⊎ (e ≢ Memory)
 is_memory Memory = inl refl
@@ -72,25 +70,3 @@ module _ (C : Catalog) (repo digest : Text) where
       by : (e ≡ Memory) ⊎ (e ≢ Memory) → ((crowded : Bool) × (outcome crowded C (Lease repo digest) ≡ Err e)) ⊎ ((e ≡ Memory) × (true ≡ true))
       by (inl m) = inr (m, refl)
       by (inr n) = inl (does.crowded, ap (answered Bytes) (does.does.0 n))
-
--- ---- a run of what is wanted: a command each, or a sweep
-
-abbrev asked : List Event → List (Option Command)
-asked [] = []
-asked (Called command reply ∷ es) = Some command ∷ asked es
-asked (Cleaned s ∷ es) = None ∷ asked es
-
-pub record HasRun (C : Catalog) (wanted : List (Option Command)) : Type 0 where
-  pub events : List Event
-  pub last : Catalog
-  pub run : IsRun C events last
-  pub as_asked : asked events ≡ wanted
-
-pub has_run : (wanted : List (Option Command)) (C : Catalog) → HasRun C wanted
-has_run [] C = record { events = []; last = C; run = refl; as_asked = refl }
-has_run (None ∷ wanted) C = let p = has_run wanted (after C) in record { events = Cleaned (swept C) ∷ p.events; last = p.last; run = (after C, some_sweep C, p.run); as_asked = ap (λ w. None ∷ w) p.as_asked }
-has_run (Some command ∷ wanted) C = by (outcome false C command) refl (has_run wanted)
-  where
-    by : (o : Outcome Answer) → outcome false C command ≡ o → ((D : Catalog) → HasRun D wanted) → HasRun C (Some command ∷ wanted)
-    by (Ok x) is rest = let p = rest x.1 in record { events = Called command (Ok x.0) ∷ p.events; last = p.last; run = (x.1, is, p.run); as_asked = ap (λ w. Some command ∷ w) p.as_asked }
-    by (Err e) is rest = let p = rest C in record { events = Called command (Err e) ∷ p.events; last = p.last; run = (C, (inl (false, is), refl), p.run); as_asked = ap (λ w. Some command ∷ w) p.as_asked }

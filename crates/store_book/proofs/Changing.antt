@@ -11,12 +11,14 @@ use Rattle.std.proofs.lemmas.Map.Lookups.{exact_bytes}
 use Rattle.slot_table.specs.Slots.{Slot, Held, Content, Free, Used, Retired, held_at, held_in, IsDistinct, is_retired, with_slot, on_held, content_with, mark, lend}
 use Rattle.link_table.specs.Linked.{Linked}
 use Rattle.upload_table.specs.Uploaded.{Uploaded}
-use Rattle.store_book.specs.Catalog.{Text, Link, Resident, Catalog, text_cmp, count}
+use Rattle.finite_maps.specs.Texts.{Text, text_cmp}
+use Rattle.store_model.specs.Catalog.{Link, Resident, Catalog, count}
 use Rattle.store_book.specs.Layers.{resident_of, with_resident, resident_rows, residents_of, lent_marks, book_catalog, IsTied}
 use Rattle.store_book.proofs.Bridge.{IsDistinct-rest}
 use Rattle.store_book.proofs.Fills.{swapped}
 use Rattle.store_book.proofs.LentMarks.{length-marks}
-use Rattle.store_book.proofs.MapLemmas.{some_same, cases_key, get-insert_at, get-insert_other}
+use Rattle.finite_maps.proofs.Options.{some_same}
+use Rattle.finite_maps.proofs.Maps.{cases_key, get-insert_at, get-insert_other}
 use Rattle.store_book.proofs.SlotLemmas.{with_slot-suc, length-with_slot, count_by-with_slot, held_at-same, held_at-other, slot_of_held}
 
 abbrev rows_of : List Slot → List (Text × Resident)

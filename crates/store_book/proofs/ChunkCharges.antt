@@ -8,12 +8,12 @@ use Rattle.std.proofs.lemmas.Bool.{cases_eq}
 use Rattle.std.proofs.lemmas.List.{get_or-set_same, get_or-set_other}
 use Rattle.slot_table.specs.Slots.{Slot}
 use Rattle.link_table.specs.Linked.{Linked}
-use Rattle.upload_table.specs.Sessions.{Chunks, Session, at_home, charged, with_chunks}
+use Rattle.store_model.specs.Sessions.{Chunks, Session, at_home, charged, with_chunks}
 use Rattle.upload_table.specs.Uploaded.{Uploaded, with_sessions}
-use Rattle.store_book.specs.Catalog.{Number, Catalog, in_sessions_of, quota_of, used}
+use Rattle.store_model.specs.Catalog.{Number, Catalog, in_sessions_of, quota_of, used}
 use Rattle.store_book.specs.Layers.{book_catalog, IsBook}
-use Rattle.store_book.proofs.LawChunks.{used-chunks, used_other-chunks, Sound-chunks}
-use Rattle.store_book.proofs.SessionTenants.{session_tenant}
+use Rattle.store_model.proofs.Invariant.Chunks.{used-chunks, used_other-chunks, Sound-chunks}
+use Rattle.store_model.proofs.Invariant.SessionTenants.{session_tenant}
 
 module _ (l : Linked) (u : Uploaded) (slots : List Slot) (max_blob : ℕ) (book : IsBook l u slots max_blob) (key : Number) (s : Session) (chunks : Chunks) (found : get u.sessions key ≡ Some s) (m : ℕ) (charge : m + charged s ≡ slice_index l.charges key.0 + charged (record s { chunks = chunks })) where
   abbrev C : Catalog

@@ -3,21 +3,22 @@ use Rattle.std.proofs.Common.{◌≡◌, ℕ, ◌<◌, true, List, Some, None, O
 use Rattle.std.specs.Option.{option_map_or}
 use Rattle.std.specs.FinMap.{get, remove, contains_key}
 use Rattle.blob_digest.specs.declared.refusal.Refusal.TheVariants.{BlobUnknown, Referenced}
-use Rattle.blob_digest.proofs.OptionLemmas.{some_value}
-use Rattle.blob_digest.specs.Sets as set
+use Rattle.finite_maps.proofs.Options.{some_value}
+use Rattle.finite_maps.specs.Sets as set
 use Rattle.slot_table.specs.declared.phase.Phase.TheVariants as phase
 use Rattle.slot_table.specs.Slots.{Slot, Held, slot_of, held_at, phase_at, links_at, with_slot, on_held, lower}
 use Rattle.link_table.specs.Linked.{Linked, known_tenant, unlink}
 use Rattle.upload_table.specs.Uploaded.{Uploaded}
-use Rattle.store_book.specs.Catalog.{Text, Catalog, count, holds}
-use Rattle.store_book.specs.Steps.{delete, referrer}
+use Rattle.finite_maps.specs.Texts.{Text}
+use Rattle.store_model.specs.Catalog.{Catalog, count, holds}
+use Rattle.store_model.specs.Commands.{delete, referrer}
 use Rattle.store_book.specs.Keeping.{linked_slot}
 use Rattle.store_book.specs.Layers.{lent_marks, catalog_from, book_catalog, IsTied, IsBook}
 use Rattle.store_book.specs.Pinned.{Pinned, shown, slotted, with_looks}
 use Rattle.store_book.proofs.Pinning.{all_seen-with_slot, lower-seen}
-use Rattle.store_book.proofs.Counts.{count-unlink}
+use Rattle.store_model.proofs.Invariant.Counts.{count-unlink}
 use Rattle.store_book.proofs.LentMarks.{marks-on}
-use Rattle.store_book.proofs.LawfulDelete.{Sound-after_delete}
+use Rattle.store_model.proofs.Commands.Delete.{Sound-after_delete}
 use Rattle.store_book.proofs.LinkedSlots.{holds_linked, linked_live, linked_some, linked_none}
 use Rattle.store_book.proofs.SlotLemmas.{phase_live}
 use Rattle.store_book.proofs.Ties.{links_of-remove, catalog-relink, IsTied-unlink, lower-KeepsBlob, held_of}

@@ -9,8 +9,9 @@ use Rattle.std.specs.FinMap.{find, get, insert, get-from_entries, get-insert, sa
 use Rattle.std.proofs.lemmas.Map.Lookups.{exact_bytes}
 use Rattle.slot_table.specs.declared.phase.Phase.TheVariants as phase
 use Rattle.slot_table.specs.Slots.{Slot, Content, Free, Used, Retired, with_slot, fill, phase_at, phase_in}
-use Rattle.blob_digest.proofs.OptionLemmas.{some_none}
-use Rattle.store_book.specs.Catalog.{Text, Resident, text_cmp}
+use Rattle.finite_maps.proofs.Options.{some_none}
+use Rattle.finite_maps.specs.Texts.{Text, text_cmp}
+use Rattle.store_model.specs.Catalog.{Resident}
 use Rattle.store_book.proofs.SlotLemmas.{with_slot-suc}
 use Rattle.store_book.specs.Layers.{resident_of, with_resident, resident_rows, residents_of}
 

@@ -7,26 +7,28 @@ use Rattle.std.proofs.lemmas.Bool.{le-leb, false_from_ne_true, not-false}
 use Rattle.blob_digest.specs.declared.refusal.Refusal.{Refusal}
 use Rattle.blob_digest.specs.declared.refusal.Refusal.TheVariants.{DigestInvalid, StoreFull, UploadUnknown}
 use Rattle.blob_digest.specs.Digests.{is_digest_of}
-use Rattle.blob_digest.specs.Sets as set
-use Rattle.blob_digest.proofs.KeyOrders.{text_is_same}
+use Rattle.finite_maps.specs.Sets as set
+use Rattle.finite_maps.proofs.Texts.{text_is_same}
 use Rattle.slot_table.specs.Slots.{Slot, Held}
 use Rattle.link_table.specs.Linked.{Linked, known_tenant, discharge}
-use Rattle.upload_table.specs.Sessions.{Home, Session, Taken, are_taken, brought_home, charged, given_up, taken_session, whole_of, with_chunks}
-use Rattle.upload_table.specs.Uploaded.{Uploaded, IsFull, finish_upload, with_sessions}
-use Rattle.store_book.specs.Catalog.{Text, Catalog, in_sessions_of}
-use Rattle.store_book.specs.Steps.{◌>>=◌, finish, given_back, refuse, same_bytes, is_full_for}
+use Rattle.store_model.specs.Sessions.{Home, Session, Taken, are_taken, brought_home, charged, given_up, taken_session, whole_of, with_chunks, IsFull}
+use Rattle.upload_table.specs.Uploaded.{Uploaded, finish_upload, with_sessions}
+use Rattle.finite_maps.specs.Texts.{Text}
+use Rattle.store_model.specs.Catalog.{Catalog, in_sessions_of}
+use Rattle.finite_maps.specs.Outcomes.{◌>>=◌, refuse}
+use Rattle.store_model.specs.Commands.{finish, given_back, same_bytes, is_full_for}
 use Rattle.store_book.specs.Layers.{lent_marks, book_catalog, IsBook}
 use Rattle.store_book.specs.Keeping.{CanKeep, IsKept, IsUnkept, differs, full}
 use Rattle.store_book.proofs.KeptBlobs.{Keeps, IsKept-Keeps}
 use Rattle.store_book.proofs.LentMarks.{length-marks}
 use Rattle.store_book.proofs.Keepable.{CanKeep-book}
-use Rattle.store_book.proofs.LawfulFinish.{Sound-after_finish}
-use Rattle.store_book.proofs.LawfulHands.{whole_long, IsProper}
-use Rattle.store_book.proofs.MapLemmas.{some_same}
-use Rattle.store_book.proofs.Outcomes.{bound_ok, not_refused}
+use Rattle.store_model.proofs.Commands.Finish.{Sound-after_finish}
+use Rattle.store_model.proofs.Commands.Hands.{whole_long, IsProper}
+use Rattle.finite_maps.proofs.Options.{some_same}
+use Rattle.finite_maps.proofs.Outcomes.{bound_ok, not_refused}
 use Rattle.store_book.proofs.PuttingBack.{here_charged, here_small, here_tenant, session_here, IsBook-home}
 use Rattle.store_book.proofs.SessionCharges.{sums-gone}
-use Rattle.store_book.proofs.SessionTenants.{session_owner}
+use Rattle.store_model.proofs.Invariant.SessionTenants.{session_owner}
 use Rattle.store_book.proofs.Ties.{held_of, slot_is_resident, not_resident, rooms}
 
 module _ (l : Linked) (u : Uploaded) (slots : List Slot) (max_blob : ℕ) (h : Taken) (digest : Text) where

@@ -8,11 +8,11 @@ use Rattle.slot_table.specs.declared.phase.Phase.TheVariants as phase
 use Rattle.slot_table.specs.Slots.{Slot, Held, Content, Free, Used, Retired, held_at, held_in, phase_in, with_slot, on_held, content_with, fill, mark, raise}
 use Rattle.link_table.specs.Linked.{Linked}
 use Rattle.store_book.specs.BookState.{SlotSeen}
-use Rattle.store_book.specs.Catalog.{Text}
+use Rattle.finite_maps.specs.Texts.{Text}
 use Rattle.store_book.specs.Keeping.{IsKept, again, anew, revived}
 use Rattle.store_book.specs.Pinned.{Pinned, Quietly, seen, all_seen, shown}
 use Rattle.store_book.specs.SlotSteps.{EachSlot, IsHousing, still, housed}
-use Rattle.store_book.proofs.MapLemmas.{some_same}
+use Rattle.finite_maps.proofs.Options.{some_same}
 use Rattle.store_book.proofs.Pinning.{seen-at}
 use Rattle.store_book.proofs.Shown.{EachSlot-shown, housing_blind}
 use Rattle.store_book.proofs.SlotLemmas.{slot-other, slot-same, with_slot-twice}

@@ -7,7 +7,8 @@ use Rattle.std.specs.Cmp.{Equal-is}
 use Rattle.std.specs.Cmp.Lexicographic.{bytes_decides}
 use Rattle.std.specs.FinMap.{get, insert, remove, contains_key, get-insert, get-remove, get_tied, same_map}
 use Rattle.std.proofs.lemmas.Bool.{not-true, not-false}
-use Rattle.blob_digest.specs.Keys.{Text, Link, link_cmp}
+use Rattle.finite_maps.specs.Texts.{Text}
+use Rattle.blob_digest.specs.Keys.{Link, link_cmp}
 use Rattle.blob_digest.specs.declared.refusal.Refusal.TheVariants.{DigestInvalid}
 use Rattle.blob_digest.proofs.KeyOrders.{link_cmp_total, exact_link}
 use Rattle.slot_table.specs.declared.phase.Phase.TheVariants as phase
@@ -15,7 +16,7 @@ use Rattle.slot_table.specs.Slots.{Slot, Held, slot_of, held_at, links_at, phase
 use Rattle.link_table.specs.Linked.{Linked, link, unlink}
 use Rattle.store_book.specs.Keeping.{revived, bytes_at, CanKeep, IsKept, IsUnkept, again, anew, differs}
 use Rattle.store_book.proofs.Changing.{held_at-with, mark-KeepsTies}
-use Rattle.store_book.proofs.MapLemmas.{get-insert_at}
+use Rattle.finite_maps.proofs.Maps.{get-insert_at}
 use Rattle.store_book.proofs.SlotLemmas.{phase_live}
 use Rattle.store_book.proofs.Ties.{held_of}
 

@@ -1,21 +1,22 @@
 -- In a book, a blob that is not too long can be linked.
 use Rattle.std.proofs.Common.{◌≡◌, ℕ, ◌^◌, ◌<◌, ◌≤◌, true, List, length, Some, None, Ok, sym, ap, ◌∙◌, arith}
 use Rattle.std.specs.FinMap.{get}
-use Rattle.blob_digest.proofs.OptionLemmas.{not_some}
+use Rattle.finite_maps.proofs.Options.{not_some, some_same}
 use Rattle.blob_digest.specs.declared.refusal.Refusal.TheVariants.{NameUnknown}
-use Rattle.blob_digest.specs.Sets as set
+use Rattle.finite_maps.specs.Sets as set
 use Rattle.slot_table.specs.Slots.{Slot}
 use Rattle.link_table.specs.Linked.{Linked, known_tenant}
 use Rattle.upload_table.specs.Uploaded.{Uploaded}
-use Rattle.store_book.specs.Catalog.{Text, Resident, Catalog, tenant_of}
+use Rattle.finite_maps.specs.Texts.{Text}
+use Rattle.store_model.specs.Catalog.{Resident, Catalog, tenant_of}
 use Rattle.store_book.specs.Layers.{lent_marks, book_catalog, IsBook}
 use Rattle.store_book.specs.Keeping.{CanKeep}
 use Rattle.store_book.proofs.Taking.{use_is}
-use Rattle.store_book.proofs.Bounds.{count_small, used_small}
+use Rattle.store_model.proofs.Invariant.Bounds.{count_small, used_small}
 use Rattle.store_book.proofs.LentMarks.{length-marks}
-use Rattle.store_book.proofs.LawAppear.{is_own}
-use Rattle.store_book.proofs.MapLemmas.{some_same}
-use Rattle.store_book.proofs.Outcomes.{some_of_ok, tenant_there}
+use Rattle.store_model.proofs.Invariant.Repos.{is_own}
+use Rattle.finite_maps.proofs.Outcomes.{some_of_ok}
+use Rattle.store_model.proofs.Commands.Accepted.{tenant_there}
 use Rattle.store_book.proofs.Ties.{not_resident, slot_is_resident}
 
 module _ (l : Linked) (u : Uploaded) (slots : List Slot) (max_blob t : ℕ) (repo : Text) (blob : Text × Text) (book : IsBook l u slots max_blob)

@@ -10,29 +10,31 @@ use Rattle.std.specs.Cmp.Lexicographic.{nat_list_cmp_total}
 use Rattle.std.specs.Ordering.{eq_by_cmp}
 use Rattle.std.specs.FinMap.{FinMap, get, insert, len, contains_key, get-insert, same_map}
 use Rattle.std.proofs.lemmas.Map.Lookups.{exact_bytes}
-use Rattle.blob_digest.proofs.OptionLemmas.{some_value}
-use Rattle.blob_digest.specs.Sets as set
-use Rattle.blob_digest.proofs.KeyOrders.{link_cmp_total, exact_link, same_text_is}
-use Rattle.blob_digest.proofs.MapSums.{insert_back}
-use Rattle.blob_digest.proofs.SetLemmas.{insert_there}
+use Rattle.finite_maps.proofs.Options.{some_value, some_same}
+use Rattle.finite_maps.specs.Sets as set
+use Rattle.blob_digest.proofs.KeyOrders.{link_cmp_total, exact_link}
+use Rattle.finite_maps.proofs.Texts.{same_text_is}
+use Rattle.finite_maps.proofs.Sums.{insert_back}
+use Rattle.finite_maps.proofs.Sets.{insert_there}
 use Rattle.slot_table.specs.declared.phase.Phase.TheVariants as phase
 use Rattle.slot_table.specs.Slots.{Slot, Held, Content, Free, Used, Retired, phase_in, held_in, is_free, is_retired, with_slot, fill, on_held, raise, mark, phase_at, held_at, slot_of}
 use Rattle.link_table.specs.Linked.{Linked}
 use Rattle.upload_table.specs.Uploaded.{Uploaded}
-use Rattle.store_book.specs.Catalog.{Text, Link, Resident, Catalog, text_cmp, holds}
-use Rattle.store_book.specs.Steps.{was_lent, same_bytes, is_full_for}
-use Rattle.store_book.specs.Laws.{Lawful}
+use Rattle.finite_maps.specs.Texts.{Text, text_cmp}
+use Rattle.store_model.specs.Catalog.{Link, Resident, Catalog, holds}
+use Rattle.store_model.specs.Commands.{was_lent, same_bytes, is_full_for}
+use Rattle.store_model.specs.Invariant.{Lawful}
 use Rattle.store_book.specs.Layers.{links_of, lent_marks, resident_of, catalog_from, book_catalog, IsTied}
 use Rattle.store_book.specs.Keeping.{linked, revived, IsKept, again, anew}
-use Rattle.store_book.proofs.MapLemmas.{get-insert_at, some_same}
+use Rattle.finite_maps.proofs.Maps.{get-insert_at}
 use Rattle.store_book.proofs.LentMarks.{length-marks, marks-on, marks-fill, unmarked}
 use Rattle.store_book.proofs.Changing.{resident_at, mark-KeepsTies, held_at-with, catalog-change, IsTied-change}
-use Rattle.store_book.proofs.LawResident.{Lawful-put}
+use Rattle.store_model.proofs.Invariant.Blobs.{Lawful-put}
 use Rattle.store_book.proofs.Bridge.{holds_is}
 use Rattle.store_book.proofs.Ties.{links_of-insert, catalog-relink, IsTied-link, raise-KeepsBlob, held_of, slot_is_resident, not_resident, rooms}
 use Rattle.store_book.proofs.Fills.{stored}
 use Rattle.store_book.proofs.Placing.{catalog-fill, IsTied-fill, held_at-fill, free_slot}
-use Rattle.store_book.proofs.LawLink.{unlinked}
+use Rattle.store_model.proofs.Invariant.NewLink.{unlinked}
 
 -- where an element passes, some are counted
 counted_there : {A : Type 0} (p : A → Bool) (xs : List A) (k : ℕ) (x : A) → slice_get xs k ≡ Some x → p x ≡ true → 0 < count_by p xs

@@ -17,16 +17,17 @@ use Rattle.slot_table.specs.Slots.{Slot, Held, Content, Free, Used, Retired, con
 use Rattle.link_table.specs.Linked.{Linked, known_tenant}
 use Rattle.upload_table.specs.Uploaded.{Uploaded}
 use Rattle.store_book.specs.BookState.{SlotSeen}
-use Rattle.store_book.specs.Catalog.{Text, Catalog, holds}
+use Rattle.finite_maps.specs.Texts.{Text}
+use Rattle.store_model.specs.Catalog.{Catalog, holds}
 use Rattle.store_book.specs.Keeping.{linked_slot}
 use Rattle.store_book.specs.Layers.{resident_of, book_catalog, IsBook}
 use Rattle.store_book.specs.Pinned.{Pinned, IsFull, blob_digest, row_of, seen, all_seen, bounded, lent_on, shown}
 use Rattle.store_book.specs.SlotSteps.{EachSlot, FindsNoRoom, IsCrowded, IsLending}
-use Rattle.store_book.specs.Steps.{lease, with_lent}
+use Rattle.store_model.specs.Commands.{lease, with_lent}
 use Rattle.store_book.proofs.Changing.{catalog-change, lend-KeepsTies, resident_at, IsTied-change}
-use Rattle.store_book.proofs.LawfulLease.{Sound-after_lease}
+use Rattle.store_model.proofs.Commands.Lease.{Sound-after_lease}
 use Rattle.store_book.proofs.LinkedSlots.{holds_linked, linked_live, linked_none, linked_some}
-use Rattle.store_book.proofs.MapLemmas.{some_same}
+use Rattle.finite_maps.proofs.Options.{some_same}
 use Rattle.store_book.proofs.Pinning.{index-set-le, index-set-most, length-all_seen, row-at, seen-at}
 use Rattle.store_book.proofs.Shown.{EachSlot-shown, get-with_looks}
 use Rattle.store_book.proofs.SlotLemmas.{length-with_slot, phase_live, slot_of_held, slot-same, slot-other}

@@ -5,10 +5,10 @@ use Rattle.std.specs.Prelude.{slice_get}
 use Rattle.std.specs.Option.{option_map_or}
 use Rattle.slot_table.specs.declared.phase.Phase.TheVariants as phase
 use Rattle.slot_table.specs.Slots.{Slot, Held, Content, Free, Used, Retired, held_in, held_at, phase_at, with_slot, on_held, content_with, fill, mark}
-use Rattle.store_book.specs.Catalog.{Text}
+use Rattle.finite_maps.specs.Texts.{Text}
 use Rattle.store_book.specs.Keeping.{revived}
 use Rattle.store_book.specs.Layers.{is_lent, lent_marks}
-use Rattle.store_book.proofs.MapLemmas.{some_same}
+use Rattle.finite_maps.proofs.Options.{some_same}
 use Rattle.store_book.proofs.SlotLemmas.{map-with_slot, with_slot-suc}
 use Rattle.store_book.proofs.Placing.{free_slot}
 

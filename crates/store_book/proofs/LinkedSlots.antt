@@ -7,17 +7,16 @@ use Rattle.std.proofs.lemmas.Bool.{true≢false, false_from_ne_true, and_from}
 use Rattle.link_table.specs.Linked.{Linked, is_tenants, blobs_of}
 use Rattle.link_table.proofs.Weights.{IsBlobs, IsBlobs-blobs}
 use Rattle.upload_table.specs.Uploaded.{Uploaded}
-use Rattle.store_book.specs.Catalog.{Text, Resident, Catalog, is_of, holds, tenant_holds}
-use Rattle.store_book.specs.Steps.{has_source}
+use Rattle.finite_maps.specs.Texts.{Text}
+use Rattle.store_model.specs.Catalog.{Resident, Catalog, is_of, holds, tenant_holds}
+use Rattle.store_model.specs.Commands.{has_source}
 use Rattle.store_book.specs.Keeping.{linked_slot, source_slot}
 use Rattle.store_book.specs.Layers.{lent_marks, resident_of, book_catalog, IsBook}
 use Rattle.store_book.proofs.Bridge.{holds_is}
-use Rattle.store_book.proofs.LawLink.{is_held}
-use Rattle.store_book.proofs.LawfulMount.{source_of}
-use Rattle.blob_digest.proofs.OptionLemmas.{some_value}
-use Rattle.store_book.proofs.SetMembers.{nothing}
+use Rattle.store_model.proofs.Invariant.NewLink.{is_held}
+use Rattle.store_model.proofs.Commands.Mount.{source_of}
+use Rattle.finite_maps.proofs.Options.{some_value, nothing, some_same}
 use Rattle.store_book.proofs.Changing.{resident_at}
-use Rattle.store_book.proofs.MapLemmas.{some_same}
 use Rattle.store_book.proofs.Ties.{not_resident}
 
 -- an answer that hangs on a test

@@ -14,13 +14,13 @@ use Rattle.slot_table.specs.Slots.{Slot, Held, Content, Free, Used, Retired, hel
 use Rattle.link_table.specs.Linked.{Linked}
 use Rattle.upload_table.specs.Uploaded.{Uploaded}
 use Rattle.store_book.specs.BookState.{SlotSeen}
-use Rattle.store_book.specs.Catalog.{Catalog}
+use Rattle.store_model.specs.Catalog.{Catalog}
 use Rattle.store_book.specs.Layers.{book_catalog, book_state, resident_of, IsBook}
 use Rattle.store_book.specs.Pinned.{Looked, Pinned, Verified, pin_phase, row_of, seen, all_seen, bounded, shown, with_looks}
 use Rattle.store_book.specs.SlotSteps.{EachSlot, HasPin, IsStill, ReadsWord, word_phase}
 use Rattle.store_book.proofs.Changing.{resident_at}
 use Rattle.store_book.proofs.Leasing.{seen-get}
-use Rattle.store_book.proofs.MapLemmas.{some_same}
+use Rattle.finite_maps.proofs.Options.{some_same}
 use Rattle.store_book.proofs.Pinning.{get_within, index-set-le, length-all_seen, row-at, seen-at}
 use Rattle.store_book.proofs.Shown.{EachSlot-shown, get-with_looks, length-with_looks}
 

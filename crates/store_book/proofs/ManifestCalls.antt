@@ -8,24 +8,24 @@ use Rattle.std.specs.FinMap.{get, insert, contains_key}
 use Rattle.std.proofs.lemmas.Bool.{le-ltb}
 use Rattle.blob_digest.specs.Digests.{sha256_text}
 use Rattle.blob_digest.specs.Outcomes.{OutcomeIn}
-use Rattle.blob_digest.specs.Sets as set
+use Rattle.finite_maps.specs.Sets as set
 use Rattle.blob_digest.specs.declared.refusal.Refusal.{Refusal}
 use Rattle.blob_digest.specs.declared.refusal.Refusal.TheVariants.{LimitReached, ManifestUnknown, ManifestBlobUnknown}
-use Rattle.blob_digest.proofs.OptionLemmas.{some_same, some_none}
+use Rattle.finite_maps.proofs.Options.{some_same, some_none, no_value}
 use Rattle.slot_table.specs.Slots.{Slot}
 use Rattle.oci_manifest.specs.Manifests.{IsManifest, refs_of, max_manifest}
 use Rattle.link_table.specs.ManifestTable.{manifests_in}
 use Rattle.link_table.specs.Linked.{Linked, known_tenant, appear, cannot_appear, drop_manifest, put_manifest as put_manifest_on}
 use Rattle.upload_table.specs.Uploaded.{Uploaded}
-use Rattle.store_book.specs.Catalog.{Text, Catalog}
-use Rattle.store_book.specs.Steps.{put_manifest, get_manifest, delete_manifest, all_linked}
+use Rattle.finite_maps.specs.Texts.{Text}
+use Rattle.store_model.specs.Catalog.{Catalog}
+use Rattle.store_model.specs.Commands.{put_manifest, get_manifest, delete_manifest, all_linked}
 use Rattle.store_book.specs.Keeping.{all_held, with_manifest_on}
-use Rattle.store_book.specs.Laws.{Sound}
+use Rattle.store_model.specs.Invariant.{Sound}
 use Rattle.store_book.specs.Layers.{book_catalog, IsBook}
-use Rattle.store_book.proofs.Counts.{count-appear}
-use Rattle.store_book.proofs.SetMembers.{no_value}
+use Rattle.store_model.proofs.Invariant.Counts.{count-appear}
 use Rattle.store_book.proofs.LinkedSlots.{holds_linked}
-use Rattle.store_book.proofs.LawfulManifests.{Sound-after_put_manifest, Sound-after_delete_manifest}
+use Rattle.store_model.proofs.Commands.Manifests.{Sound-after_put_manifest, Sound-after_delete_manifest}
 
 module _ (l : Linked) (u : Uploaded) (slots : List Slot) (max_blob t : ℕ) (repo digest : Text) (known : known_tenant l repo ≡ Ok t) where
   abbrev C : Catalog

@@ -6,29 +6,31 @@ use Rattle.std.specs.FinMap.{get}
 use Rattle.std.proofs.lemmas.Map.Lookups.{exact_bytes}
 use Rattle.blob_digest.specs.declared.refusal.Refusal.{Refusal}
 use Rattle.blob_digest.specs.declared.refusal.Refusal.TheVariants.{NameUnknown}
-use Rattle.blob_digest.specs.Sets as set
+use Rattle.finite_maps.specs.Sets as set
 use Rattle.slot_table.specs.declared.phase.Phase.TheVariants as phase
 use Rattle.slot_table.specs.Slots.{Slot, Held, slot_of, held_at, phase_at}
 use Rattle.link_table.specs.Linked.{Linked, known_tenant, appear}
 use Rattle.upload_table.specs.Uploaded.{Uploaded}
-use Rattle.store_book.specs.declared.mount.Mount.TheVariants as mounting
-use Rattle.store_book.specs.Catalog.{Text, Resident, Catalog, tenant_of, is_of, holds}
-use Rattle.store_book.specs.Steps.{mount, has_source, start, start_instead, link_held, with_link, lacks_room_for}
+use Rattle.store_model.specs.declared.mount.Mount.TheVariants as mounting
+use Rattle.finite_maps.specs.Texts.{Text}
+use Rattle.store_model.specs.Catalog.{Resident, Catalog, tenant_of, is_of, holds}
+use Rattle.store_model.specs.Commands.{mount, has_source, start, start_instead, link_held, with_link, lacks_room_for}
 use Rattle.store_book.specs.Keeping.{bytes_at, source_slot, CanKeep, IsKept}
 use Rattle.store_book.specs.Layers.{lent_marks, book_catalog, IsBook}
-use Rattle.store_book.proofs.Bounds.{held_within, used_small}
-use Rattle.store_book.proofs.Counts.{count-appear}
+use Rattle.store_model.proofs.Invariant.Bounds.{held_within, used_small}
+use Rattle.store_model.proofs.Invariant.Counts.{count-appear}
 use Rattle.store_book.proofs.KeepCalls.{bytes_there}
 use Rattle.store_book.proofs.Keepable.{CanKeep-book}
 use Rattle.store_book.proofs.KeptBlobs.{Keeps, IsKept-Keeps, same_residents}
 use Rattle.store_book.proofs.LentMarks.{length-marks}
-use Rattle.store_book.proofs.LawAppear.{Lawful-appear, used-appear}
-use Rattle.store_book.proofs.LawLink.{is_held}
-use Rattle.store_book.proofs.LawfulMount.{source_of, Sound-after_mount}
+use Rattle.store_model.proofs.Invariant.Repos.{Lawful-appear, used-appear}
+use Rattle.store_model.proofs.Invariant.NewLink.{is_held}
+use Rattle.store_model.proofs.Commands.Mount.{source_of, Sound-after_mount}
 use Rattle.store_book.proofs.LinkedSlots.{linked_live, source_some, source_none}
 use Rattle.store_book.proofs.SlotLemmas.{phase_live}
-use Rattle.store_book.proofs.Outcomes.{some_of_ok, tenant_there}
-use Rattle.store_book.proofs.SetMembers.{now}
+use Rattle.finite_maps.proofs.Outcomes.{some_of_ok}
+use Rattle.store_model.proofs.Commands.Accepted.{tenant_there}
+use Rattle.finite_maps.proofs.Sets.{now}
 use Rattle.store_book.proofs.Starting.{ok_of_if, err_of_if}
 use Rattle.store_book.proofs.Ties.{held_of, slot_is_resident}
 

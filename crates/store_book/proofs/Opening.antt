@@ -9,17 +9,18 @@ use Rattle.std.proofs.lemmas.Bool.{leb-true, leb-false}
 use Rattle.std.proofs.lemmas.List.{length-replicate}
 use Rattle.std.proofs.lemmas.List.Elements.{recursion_from_All}
 use Rattle.std.proofs.lemmas.List.Sums.{sum_by-cons}
-use Rattle.blob_digest.specs.Sets as set
-use Rattle.blob_digest.proofs.RowLemmas.{entries-empty}
+use Rattle.finite_maps.specs.Sets as set
+use Rattle.finite_maps.proofs.Rows.{entries-empty}
 use Rattle.slot_table.specs.Slots.{Slot, held_at, empty_slot, is_retired}
 use Rattle.link_table.specs.Linked.{Linked}
 use Rattle.link_table.specs.Linked as links
 use Rattle.link_table.specs.Tenancy.{AreTenants, Opens}
-use Rattle.upload_table.specs.Sessions.{Session, share}
+use Rattle.store_model.specs.Sessions.{Session, share}
 use Rattle.upload_table.specs.Uploaded.{Uploaded}
 use Rattle.upload_table.specs.Uploaded as uploads
-use Rattle.store_book.specs.Catalog.{Text, Tenant, Resident, Catalog, text_cmp, link_cmp, number_cmp, opening}
-use Rattle.store_book.specs.Laws.{Sound}
+use Rattle.finite_maps.specs.Texts.{Text, text_cmp}
+use Rattle.store_model.specs.Catalog.{Tenant, Resident, Catalog, link_cmp, number_cmp, opening}
+use Rattle.store_model.specs.Invariant.{Sound}
 use Rattle.atomic_table.specs.Seated.{TableId}
 use Rattle.pin_core.specs.Events.{IsOutside}
 use Rattle.store_book.specs.Pinned.{Pinned, shown, with_looks}
@@ -28,8 +29,8 @@ use Rattle.store_book.proofs.Pinning.{seen-opening}
 use Rattle.store_book.specs.Layers.{links_of, resident_rows, lent_marks, book_catalog, book_state, IsBook}
 use Rattle.store_book.specs.Openings.{IsSized, OpensBook}
 use Rattle.store_book.proofs.LentMarks.{length-marks}
-use Rattle.store_book.proofs.LawfulOpening.{Sound-opening}
-use Rattle.store_book.proofs.SetMembers.{nothing}
+use Rattle.store_model.proofs.Commands.Opening.{Sound-opening}
+use Rattle.finite_maps.proofs.Options.{nothing}
 
 abbrev new_slots : ℕ → ℕ → List Slot
 new_slots slots first = replicate slots (empty_slot first)

@@ -13,16 +13,15 @@ use Rattle.pin_core.specs.Events.{IsNew, given_row, in_phase}
 use Rattle.pin_core.specs.World.{row, no_row}
 use Rattle.pin_table.specs.Rule.{raised}
 use Rattle.slot_table.specs.declared.phase.Phase.TheVariants as phase
-use Rattle.slot_table.specs.Slots.{opening as slots_opening}
+use Rattle.slot_table.specs.Slots.{opening as slots_opening, Slot, Held, Content, Free, Used, Retired, held_in, held_at, phase_in, phase_at, slot_of, with_slot, on_held, content_with, fill, mark, raise, lower, lend, empty_slot}
 use Rattle.blob_digest.specs.declared.refusal.Refusal.{Refusal}
 use Rattle.blob_digest.specs.declared.refusal.Refusal.TheVariants.{LimitReached}
-use Rattle.slot_table.specs.Slots.{Slot, Held, Content, Free, Used, Retired, held_in, held_at, phase_in, phase_at, slot_of, with_slot, on_held, content_with, fill, mark, raise, lower, lend, empty_slot}
 use Rattle.store_book.specs.BookState.{SlotSeen}
-use Rattle.store_book.specs.Catalog.{Text}
+use Rattle.finite_maps.specs.Texts.{Text}
 use Rattle.store_book.specs.Keeping.{revived}
 use Rattle.store_book.specs.Pinned.{Pinned, IsPinned, pin_phase, row_of, seen, all_seen, with_both, slotted, Quietly}
 use Rattle.store_book.specs.SlotSteps.{EachSlot, IsQuiet}
-use Rattle.store_book.proofs.MapLemmas.{some_same}
+use Rattle.finite_maps.proofs.Options.{some_same}
 use Rattle.store_book.proofs.Placing.{free_slot}
 use Rattle.store_book.proofs.SlotLemmas.{with_slot-suc, length-with_slot, slot-same, slot-other, map-with_slot, held_at-same, held_at-other}
 use Rattle.slot_table.proofs.Finding.{live_within}

@@ -10,15 +10,17 @@ use Rattle.std.proofs.lemmas.Map.Lookups.{exact_bytes}
 use Rattle.slot_table.specs.declared.phase.Phase.{Phase}
 use Rattle.slot_table.specs.declared.phase.Phase.TheVariants as phase
 use Rattle.slot_table.specs.Slots.{Slot, Held, Content, Free, Used, Retired, with_slot, fill, phase_at, phase_in, held_at, held_in, slot_of, is_retired}
-pub use Rattle.blob_digest.proofs.ListLemmas.{count_by-none}
-use Rattle.blob_digest.specs.Sets as set
+use Rattle.finite_maps.proofs.Lists.{count_by-none}
+use Rattle.finite_maps.specs.Sets as set
 use Rattle.link_table.specs.Linked.{Linked}
 use Rattle.upload_table.specs.Uploaded.{Uploaded}
-use Rattle.store_book.specs.Catalog.{Text, Link, Resident, Catalog, holds, count}
-use Rattle.store_book.specs.Laws.{Lawful}
+use Rattle.finite_maps.specs.Texts.{Text}
+use Rattle.store_model.specs.Catalog.{Link, Resident, Catalog, holds, count}
+use Rattle.store_model.specs.Invariant.{Lawful}
 use Rattle.store_book.specs.Layers.{catalog_from, IsTied}
-use Rattle.store_book.proofs.MapLemmas.{cases_key, get-insert_other, some_same}
-use Rattle.store_book.proofs.LawLink.{unlinked}
+use Rattle.finite_maps.proofs.Maps.{cases_key, get-insert_other}
+use Rattle.finite_maps.proofs.Options.{some_same}
+use Rattle.store_model.proofs.Invariant.NewLink.{unlinked}
 use Rattle.store_book.proofs.SlotLemmas.{length-with_slot, count_by-with_slot, held_at-other, held_at-same}
 use Rattle.store_book.proofs.Ties.{not_held, not_resident}
 use Rattle.store_book.proofs.Fills.{residents-fill, stored}

@@ -6,16 +6,18 @@ use Rattle.std.specs.FinMap.{get}
 use Rattle.blob_digest.specs.declared.refusal.Refusal.{Refusal}
 use Rattle.slot_table.specs.Slots.{Slot}
 use Rattle.link_table.specs.Linked.{Linked, discharge}
-use Rattle.upload_table.specs.Sessions.{Home, InHand, Session, Sessions, Taken, charged, chunks_of, put_back_in, taken_session, with_chunks}
+use Rattle.store_model.specs.Sessions.{Home, InHand, Session, Sessions, Taken, charged, chunks_of, put_back_in, taken_session, with_chunks}
 use Rattle.upload_table.specs.Uploaded.{Uploaded, put_back_upload, with_sessions}
-use Rattle.store_book.specs.Catalog.{Text, Catalog}
-use Rattle.store_book.specs.Steps.{◌>>=◌, put_back}
+use Rattle.finite_maps.specs.Texts.{Text}
+use Rattle.store_model.specs.Catalog.{Catalog}
+use Rattle.finite_maps.specs.Outcomes.{◌>>=◌}
+use Rattle.store_model.specs.Commands.{put_back}
 use Rattle.store_book.specs.Layers.{book_catalog, IsBook}
 use Rattle.store_book.proofs.ChunkCharges.{IsBook-chunks}
-use Rattle.store_book.proofs.LawfulHands.{all_chunks, spare, spare_is, taken_found, IsProper}
-use Rattle.store_book.proofs.Outcomes.{bound_ok}
+use Rattle.store_model.proofs.Commands.Hands.{all_chunks, spare, spare_is, taken_found, IsProper}
+use Rattle.finite_maps.proofs.Outcomes.{bound_ok}
 use Rattle.store_book.proofs.SessionCharges.{session_charged}
-use Rattle.store_book.proofs.SessionTenants.{session_tenant}
+use Rattle.store_model.proofs.Invariant.SessionTenants.{session_tenant}
 
 snd_of : {A B : Type 0} {x y : A} {u v : B} → ◌≡◌ {A = Result (A × B) Refusal} (Ok (x, u)) (Ok (y, v)) → (x ≡ y) × (u ≡ v)
 snd_of {A} {B} {x} {y} {u} {v} e = let p : ◌≡◌ {A = A × B} (x, u) (y, v) = cc in (λ i. (p i).0, λ i. (p i).1)

@@ -6,11 +6,11 @@ use Rattle.std.proofs.lemmas.Bool.{cases_eq}
 use Rattle.std.proofs.lemmas.List.{get_or-set_same, get_or-set_other}
 use Rattle.slot_table.specs.Slots.{Slot}
 use Rattle.link_table.specs.Linked.{Linked}
-use Rattle.upload_table.specs.Sessions.{Session, charged, in_sessions}
+use Rattle.store_model.specs.Sessions.{Session, charged, in_sessions}
 use Rattle.upload_table.specs.Uploaded.{Uploaded}
-use Rattle.store_book.specs.Catalog.{Catalog}
+use Rattle.store_model.specs.Catalog.{Catalog}
 use Rattle.store_book.specs.Layers.{book_catalog, IsBook}
-use Rattle.store_book.proofs.LawSession.{used-gone, used_other-gone}
+use Rattle.store_model.proofs.Invariant.LostSession.{used-gone, used_other-gone}
 
 module _ (l : Linked) (u : Uploaded) (slots : List Slot) (max_blob t number : ℕ) (book : IsBook l u slots max_blob) (there : t < length l.tenants) (s : Session) (found : get u.sessions (t, number) ≡ Some s) where
   abbrev C : Catalog

@@ -3,10 +3,10 @@ use Rattle.std.proofs.Common.{◌≡◌, ℕ, List, [], ◌∷◌, length, Some,
 use Prim.Native.Nat.{zero, suc}
 use Rattle.std.specs.Prelude.{slice_get, slice_index, replicate}
 use Rattle.store_book.specs.BookState.{SlotSeen}
-use Rattle.store_book.specs.Catalog.{Text}
+use Rattle.finite_maps.specs.Texts.{Text}
 use Rattle.store_book.specs.Pinned.{Pinned, Quietly, all_seen, shown, with_looks}
 use Rattle.store_book.specs.SlotSteps.{EachSlot, IsHousing, IsQuiet, IsSweptSlot, still, housed, same, condemned, freed, retired}
-use Rattle.store_book.proofs.MapLemmas.{some_same}
+use Rattle.finite_maps.proofs.Options.{some_same}
 
 pub length-with_looks : (looks : List ℕ) (xs : List SlotSeen) → length (with_looks looks xs) ≡ length xs
 length-with_looks looks [] = refl

@@ -6,23 +6,23 @@ use Rattle.std.specs.FinMap.{get}
 use Rattle.std.specs.Option.{option_map}
 use Rattle.std.proofs.lemmas.Bool.{not-true, not-false, true≢false}
 use Rattle.std.proofs.lemmas.Map.Lookups.{exact_bytes}
-use Rattle.blob_digest.proofs.OptionLemmas.{not_some}
+use Rattle.finite_maps.proofs.Options.{not_some}
 use Rattle.blob_digest.specs.declared.refusal.Refusal.{Refusal}
-use Rattle.blob_digest.specs.Sets as set
-use Rattle.blob_digest.proofs.SetLemmas.{insert_there, remove-insert}
+use Rattle.finite_maps.specs.Sets as set
+use Rattle.finite_maps.proofs.Sets.{insert_there, remove-insert, now}
 use Rattle.slot_table.specs.Slots.{Slot}
 use Rattle.link_table.specs.Linked.{Linked, HasNoLinks, known_tenant, appear, vanish}
 use Rattle.upload_table.specs.Uploaded.{Uploaded, start_upload, started}
-use Rattle.store_book.specs.Catalog.{Text, Catalog, in_sessions_of}
-use Rattle.store_book.specs.Steps.{start}
-use Rattle.store_book.specs.Laws.{Sound}
+use Rattle.finite_maps.specs.Texts.{Text}
+use Rattle.store_model.specs.Catalog.{Catalog, in_sessions_of}
+use Rattle.store_model.specs.Commands.{start}
+use Rattle.store_model.specs.Invariant.{Sound}
 use Rattle.store_book.specs.Layers.{book_catalog, IsBook}
 use Rattle.store_book.proofs.Bridge.{get-links_of, mark}
-use Rattle.store_book.proofs.Counts.{count-appear}
-use Rattle.store_book.proofs.LawAppear.{holds_none}
-use Rattle.store_book.proofs.LawOpen.{used-open}
-use Rattle.store_book.proofs.SetMembers.{now}
-use Rattle.store_book.proofs.LawfulStart.{Sound-after_start}
+use Rattle.store_model.proofs.Invariant.Counts.{count-appear}
+use Rattle.store_model.proofs.Invariant.Repos.{holds_none}
+use Rattle.store_model.proofs.Invariant.NewSession.{used-open}
+use Rattle.store_model.proofs.Commands.Start.{Sound-after_start}
 
 module _ {A E : Type 0} where
   pub ok_of_if : (b : Bool) (d : E) (x y : A) → (if b then Err d else Ok x) ≡ Ok y → (b ≡ false) × (x ≡ y)

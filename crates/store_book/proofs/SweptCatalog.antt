@@ -8,26 +8,27 @@ use Rattle.std.specs.FinMap.{entries, get}
 use Rattle.std.proofs.lemmas.Bool.{true≢false, false_from_ne_true, eq-eqb}
 use Rattle.std.proofs.lemmas.List.Sums.{sum_by-cons}
 use Rattle.std.proofs.lemmas.Option.{slice_get_within}
-use Rattle.blob_digest.specs.Sets as set
-use Rattle.blob_digest.proofs.ListLemmas.{count_by-none}
-use Rattle.blob_digest.proofs.RowLemmas.{sum_by-from_entries}
+use Rattle.finite_maps.specs.Sets as set
+use Rattle.finite_maps.proofs.Lists.{count_by-none}
+use Rattle.finite_maps.proofs.Rows.{sum_by-from_entries}
 use Rattle.slot_table.specs.Slots.{Slot, Held, Content, Free, Used, Retired, held_at, held_in, slot_of, is_orphan, on_held, content_with, mark, IsDistinct}
 use Rattle.slot_table.proofs.Indexing.{slot_of_none}
 use Rattle.link_table.specs.Linked.{Linked}
 use Rattle.upload_table.specs.Uploaded.{Uploaded}
-use Rattle.store_book.specs.Catalog.{Text, Link, Resident, Catalog, text_cmp, holds, count}
+use Rattle.finite_maps.specs.Texts.{Text, text_cmp}
+use Rattle.store_model.specs.Catalog.{Link, Resident, Catalog, holds, count}
 use Rattle.store_book.specs.Layers.{resident_of, with_resident, resident_rows, residents_of, lent_marks, book_catalog, IsBook}
 use Rattle.store_book.specs.Pinned.{Pinned}
-use Rattle.store_book.specs.Sweeps.{Swept, IsLeft, IsSweep}
-use Rattle.store_book.specs.Sweeps as sweeps
+use Rattle.store_model.specs.Sweep.{Swept, IsLeft, IsSweep}
+use Rattle.store_model.specs.Sweep as sweeps
 use Rattle.store_book.specs.SweptSlots.{Sweeps, IsTurned, is_live_orphan, kept, held, freed, retired}
 use Rattle.store_book.proofs.Bridge.{holds_is, IsApart-rows}
 use Rattle.store_book.proofs.Changing.{resident_at}
-use Rattle.store_book.proofs.Finds.{count_by-alike, count_by-parts}
-use Rattle.store_book.proofs.LawfulSweep.{linked_stays, Sound-sweep}
+use Rattle.finite_maps.proofs.Places.{count_by-alike, count_by-parts}
+use Rattle.store_model.proofs.Commands.Sweep.{linked_stays, Sound-sweep}
 use Rattle.store_book.proofs.LentMarks.{length-marks}
 use Rattle.store_book.proofs.LinkedSlots.{linked_live}
-use Rattle.store_book.proofs.MapLemmas.{some_same}
+use Rattle.finite_maps.proofs.Options.{some_same}
 use Rattle.store_book.proofs.Pinning.{get_within}
 use Rattle.store_book.proofs.Reclaiming.{orphan_held}
 use Rattle.store_book.proofs.SlotLemmas.{slot_of_held}

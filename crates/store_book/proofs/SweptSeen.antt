@@ -5,14 +5,14 @@ use Rattle.std.specs.Option.{option_map, option_map_or}
 use Rattle.slot_table.specs.declared.phase.Phase.TheVariants as phase
 use Rattle.slot_table.specs.Slots.{Slot, Held, Content, Free, Used, Retired, held_in, is_orphan, content_with, mark}
 use Rattle.store_book.specs.BookState.{SlotSeen}
-use Rattle.store_book.specs.Catalog.{Text}
+use Rattle.finite_maps.specs.Texts.{Text}
 use Rattle.store_book.specs.Pinned.{Pinned, seen, all_seen, shown}
 use Rattle.store_book.specs.SlotSteps.{EachSlot, HasLast, IsSweptSlot, same, condemned, freed, retired}
 use Rattle.store_book.specs.SweptSlots.{Sweeps, IsTurned}
 use Rattle.store_book.specs.SweptSlots as turns
-use Rattle.store_book.specs.Sweeps.{Swept}
+use Rattle.store_model.specs.Sweep.{Swept}
 use Rattle.store_book.proofs.Leasing.{seen-get}
-use Rattle.store_book.proofs.MapLemmas.{some_same}
+use Rattle.finite_maps.proofs.Options.{some_same}
 use Rattle.store_book.proofs.Pinning.{le-self, length-all_seen, seen-at}
 use Rattle.store_book.proofs.Reclaiming.{orphan_held}
 use Rattle.store_book.proofs.Shown.{EachSlot-shown, get-with_looks, swept_blind}

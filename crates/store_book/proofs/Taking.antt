@@ -10,16 +10,19 @@ use Rattle.blob_digest.specs.declared.refusal.Refusal.{Refusal}
 use Rattle.blob_digest.specs.declared.refusal.Refusal.TheVariants.{NameUnknown, Quota}
 use Rattle.slot_table.specs.Slots.{Slot}
 use Rattle.link_table.specs.Linked.{Linked, known_tenant, charge, charged, discharge, used_in, quota_in}
-use Rattle.upload_table.specs.Sessions.{InHand, are_home, check_in, hand_in, in_sessions, is_home, received, take_in, with_chunks}
+use Rattle.store_model.specs.Sessions.{InHand, are_home, check_in, hand_in, in_sessions, is_home, received, take_in, with_chunks}
 use Rattle.upload_table.specs.Uploaded.{Uploaded, with_sessions}
-use Rattle.store_book.specs.Catalog.{Text, Catalog, tenant_of, used, quota_of}
-use Rattle.store_book.specs.Steps.{◌>>=◌, refuse, take, within_quota}
+use Rattle.finite_maps.specs.Texts.{Text}
+use Rattle.store_model.specs.Catalog.{Catalog, tenant_of, used, quota_of}
+use Rattle.finite_maps.specs.Outcomes.{◌>>=◌, refuse}
+use Rattle.store_model.specs.Commands.{take, within_quota}
 use Rattle.store_book.specs.Layers.{book_catalog, lent_marks, IsBook}
 use Rattle.store_book.proofs.Bridge.{used_is}
 use Rattle.store_book.proofs.ChunkCharges.{IsBook-chunks}
-use Rattle.store_book.proofs.LawfulHands.{checked_home, home_charged, Checked}
-use Rattle.store_book.proofs.Outcomes.{not_refused, some_of_ok, tenant_there}
-use Rattle.store_book.proofs.Bounds.{quota_small}
+use Rattle.store_model.proofs.Commands.Hands.{checked_home, home_charged, Checked}
+use Rattle.finite_maps.proofs.Outcomes.{not_refused, some_of_ok}
+use Rattle.store_model.proofs.Commands.Accepted.{tenant_there}
+use Rattle.store_model.proofs.Invariant.Bounds.{quota_small}
 
 pub snd_ok : {S : Type 0} (x y : S) → ◌≡◌ {A = Result (Unit {0} × S) Refusal} (Ok (tt, x)) (Ok (tt, y)) → x ≡ y
 snd_ok {S} x y h = let p : ◌≡◌ {A = Unit {0} × S} (tt, x) (tt, y) = cc in λ i. (p i).1

@@ -8,20 +8,21 @@ use Rattle.std.specs.Cmp.{tied_itself, Equal-is}
 use Rattle.std.specs.FinMap.{FinMap, get, insert, remove, from_entries, get-insert, get-remove, get-from_entries, find, len, len-empty, len-insert, same_map}
 use Rattle.std.proofs.lemmas.Bool.{cases_eq}
 use Rattle.std.proofs.lemmas.List.Sums.{sum_by-cons}
-use Rattle.blob_digest.proofs.OptionLemmas.{not_some, some_same}
-use Rattle.blob_digest.specs.Sets as set
+use Rattle.finite_maps.proofs.Options.{not_some, some_same}
+use Rattle.finite_maps.specs.Sets as set
 use Rattle.blob_digest.proofs.KeyOrders.{link_cmp_total, exact_link}
-use Rattle.blob_digest.proofs.SetLemmas.{insert_there}
-use Rattle.blob_digest.proofs.MapSums.{insert-remove, get-remove_same}
-use Rattle.blob_digest.specs.Rows.{IsApart}
+use Rattle.finite_maps.proofs.Sets.{insert_there}
+use Rattle.finite_maps.proofs.Sums.{insert-remove, get-remove_same}
+use Rattle.finite_maps.specs.Rows.{IsApart}
 use Rattle.std.specs.Cmp.Lexicographic.{nat_list_cmp_total}
 pub use Rattle.slot_table.proofs.Finding.{held_of, not_held}
 use Rattle.slot_table.specs.Slots.{Slot, Held, Content, Free, Used, Retired, held_at, held_in, IsDistinct, is_retired, is_free, free_slots, slot_of, with_slot, on_held, content_with, raise, lower}
 use Rattle.link_table.specs.Linked.{Linked}
-use Rattle.store_book.specs.Catalog.{Text, Link, Resident, Catalog, text_cmp, link_cmp, holds, count}
+use Rattle.finite_maps.specs.Texts.{Text, text_cmp}
+use Rattle.store_model.specs.Catalog.{Link, Resident, Catalog, link_cmp, holds, count}
 use Rattle.upload_table.specs.Uploaded.{Uploaded}
 use Rattle.store_book.proofs.SlotLemmas.{with_slot-suc, length-with_slot, count_by-with_slot, held_at-same, held_at-other, slot_of_held}
-use Rattle.store_book.proofs.Counts.{count-link, count_other-link}
+use Rattle.store_model.proofs.Invariant.Counts.{count-link, count_other-link}
 use Rattle.store_book.specs.Layers.{links_of, resident_of, with_resident, resident_rows, residents_of, catalog_from, IsTied}
 use Rattle.store_book.proofs.Bridge.{get-links_of, mark, found_slot, IsApart-rows}
 

@@ -3,10 +3,10 @@ use Rattle.std.specs.Prelude.{ℕ, Option, List, ◌≡◌, ◌==◌, cond}
 use Rattle.std.proofs.Common.{refl}
 use Rattle.std.specs.Coded.{Coded, code_by, coded×, coded_ℕ, coded_list, coded_option}
 use Rattle.atomic_table.specs.Seated.{TableId, table_id_coded}
-use Rattle.blob_digest.specs.Keys.{Text, coded_text}
+use Rattle.finite_maps.specs.Texts.{Text, coded_text}
 use Rattle.slot_table.specs.declared.phase.Phase.{Phase}
 use Rattle.slot_table.specs.declared.phase.Phase.TheVariants as phase
-use Rattle.store_book.specs.Catalog.{Catalog, coded_catalog}
+use Rattle.store_model.specs.Catalog.{Catalog, coded_catalog}
 
 -- A slot with the keeper's view of it: its generation, what it is, the digest of its blob where it is used, and a bound on the sum of
 -- the weights that readers have of it, which is the last look at that sum and what was lent since; and how often the keeper has looked.

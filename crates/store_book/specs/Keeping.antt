@@ -2,9 +2,10 @@
 use Rattle.std.specs.Prelude.{◌≡◌, ◌≢◌, ℕ, ◌+◌, ◌<◌, ◌^◌, true, false, Option, Some, None, Result, Ok, Err, List, [], ◌∷◌, length, if◌then◌else◌}
 use Rattle.std.specs.Option.{option_map_or}
 use Rattle.std.specs.FinMap as fmap
-use Rattle.blob_digest.specs.Keys.{Text}
-use Rattle.blob_digest.specs.Outcomes.{OutcomeIn, ◌>>=◌}
-use Rattle.blob_digest.specs.Sets as set
+use Rattle.finite_maps.specs.Texts.{Text}
+use Rattle.blob_digest.specs.Outcomes.{OutcomeIn}
+use Rattle.finite_maps.specs.Outcomes.{◌>>=◌}
+use Rattle.finite_maps.specs.Sets as set
 use Rattle.blob_digest.specs.declared.refusal.Refusal.{Refusal}
 use Rattle.blob_digest.specs.declared.refusal.Refusal.TheVariants.{DigestInvalid, StoreFull, ManifestBlobUnknown}
 use Rattle.slot_table.specs.Slots.{Slot, Held, slot_of, held_at, phase_at, free_slots, with_slot, fill, on_held, raise, mark}

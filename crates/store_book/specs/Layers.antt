@@ -2,14 +2,15 @@
 use Rattle.std.specs.Prelude.{◌≡◌, ℕ, ◌<◌, Bool, false, Some, List, [], ◌∷◌, length, map, count_by, slice_index}
 use Rattle.std.specs.Option.{option_map_or}
 use Rattle.std.specs.FinMap as fmap
-use Rattle.blob_digest.specs.Sets as set
+use Rattle.finite_maps.specs.Sets as set
 use Rattle.slot_table.specs.Slots.{Slot, Held, Content, Free, Used, Retired, is_retired, held_at, held_in, IsDistinct}
 use Rattle.link_table.specs.Linked.{Linked, used_in}
 use Rattle.upload_table.specs.Uploaded.{Uploaded}
 use Rattle.store_book.specs.BookState.{BookState}
 use Rattle.store_book.specs.Pinned.{Pinned, shown}
-use Rattle.store_book.specs.Catalog.{Text, Link, Resident, Catalog, text_cmp, link_cmp, in_sessions_of, count, used}
-use Rattle.store_book.specs.Laws.{Sound}
+use Rattle.finite_maps.specs.Texts.{Text, text_cmp}
+use Rattle.store_model.specs.Catalog.{Link, Resident, Catalog, link_cmp, in_sessions_of, count, used}
+use Rattle.store_model.specs.Invariant.{Sound}
 
 -- the links without their sizes
 abbrev pub links_of : fmap.FinMap link_cmp ℕ → set.Set link_cmp

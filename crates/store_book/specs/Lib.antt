@@ -1,15 +1,8 @@
 pub mod BookState
-pub mod Catalog
-pub mod Isolation
 pub mod Keeping
-pub mod Laws
 pub mod Layers
 pub mod Lines
 pub mod Openings
 pub mod Pinned
-pub mod Printed
-pub mod Runs
 pub mod SlotSteps
-pub mod Steps
-pub mod Sweeps
 pub mod SweptSlots

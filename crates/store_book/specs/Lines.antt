@@ -2,13 +2,13 @@
 use Rattle.std.specs.Prelude.{◌≡◌, ◌≤◌, ℕ, ◌++◌, List, [], length, map, slice_get, slice_index}
 use Rattle.std.specs.Option.{option_map_or}
 use Rattle.std.specs.List.{flat_map, enumerate_from}
-use Rattle.blob_digest.specs.Keys.{Text}
+use Rattle.finite_maps.specs.Texts.{Text}
 use Rattle.slot_table.specs.Slots.{Slot, slot_of, links_at}
 use Rattle.link_table.specs.ManifestTable.{manifests_on}
 use Rattle.link_table.specs.Linked.{Linked, Tenant, blobs_in, repos_of, used_in}
-use Rattle.upload_table.specs.Sessions.{listed, sessions_of}
+use Rattle.store_model.specs.Sessions.{listed, sessions_of}
 use Rattle.upload_table.specs.Uploaded.{Uploaded}
-use Rattle.store_book.specs.Printed.{blob_line, book_line, end_line, manifest_row, repository_line, session_line, tenant_line}
+use Rattle.store_model.specs.BookText.{blob_line, book_line, end_line, manifest_row, repository_line, session_line, tenant_line}
 
 -- how many links the slots count of a digest
 abbrev pub links_to : List Slot → Text → ℕ

@@ -6,7 +6,8 @@ use Rattle.blob_digest.specs.declared.refusal.Refusal.TheVariants.{NameInvalid, 
 pub use Rattle.link_table.specs.Tenancy.{HasNames, IsWithinLimits, max_quota, max_tenants, tenant_shown, tenants_shown}
 use Rattle.slot_table.specs.declared.phase.Phase.TheVariants as phase
 use Rattle.store_book.specs.BookState.{BookState}
-use Rattle.store_book.specs.Catalog.{Tenant, Catalog, text_cmp, opening}
+use Rattle.store_model.specs.Catalog.{Tenant, Catalog, opening}
+use Rattle.finite_maps.specs.Texts.{text_cmp}
 
 -- 1 to 65,536 slots, and blobs of at most 2^40 bytes
 pub record IsSized (slots max_blob : ℕ) : Type 0 where

@@ -2,7 +2,7 @@
 use Rattle.std.specs.Prelude.{◌≡◌, ◌<◌, ◌≤◌, ◌+◌, ◌^◌, ◌⊎◌, ℕ, Bool, true, Some, None, Result, List, length, slice_get}
 use Rattle.std.specs.FinMap as fmap
 use Rattle.blob_digest.specs.Digests.{is_digest_of}
-use Rattle.blob_digest.specs.Keys.{Text}
+use Rattle.finite_maps.specs.Texts.{Text}
 use Rattle.blob_digest.specs.declared.refusal.Refusal.{Refusal}
 use Rattle.blob_digest.specs.Outcomes.{Does}
 use Rattle.pin_core.specs.World.{word_of}
@@ -12,8 +12,8 @@ use Rattle.pin_core.specs.declared.world.Phase.TheVariants as word
 use Rattle.slot_table.specs.declared.phase.Phase.{Phase}
 use Rattle.slot_table.specs.declared.phase.Phase.TheVariants as phase
 use Rattle.store_book.specs.BookState.{BookState, SlotSeen}
-use Rattle.store_book.specs.Catalog.{Catalog, Resident}
-use Rattle.store_book.specs.Steps.{lease}
+use Rattle.store_model.specs.Catalog.{Catalog, Resident}
+use Rattle.store_model.specs.Commands.{lease}
 
 -- each slot is related to what it was
 abbrev pub EachSlot : (SlotSeen → SlotSeen → Type 0) → List SlotSeen → List SlotSeen → Type 0

@@ -44,6 +44,5 @@ mod tests;
 pub use book::{Book, MAX_BLOB};
 pub use config::Config;
 pub use link_table::{MAX_QUOTA, MAX_TENANTS};
-pub use mount::Mount;
 pub use slot_table::MAX_SLOTS;
-pub use sweep::Swept;
+pub use store_model::{Mount, Swept};

@@ -1,4 +1,4 @@
-//! What a mount comes to, and where it takes the blob from.
+//! Where a mount takes the blob from.
 
 ghost use Rattle.std.specs.Prelude.{◌≡◌, ◌<◌, length};
 ghost use Rattle.std.specs.Option.{option_copied};
@@ -8,17 +8,6 @@ use crate::keep::find_linked;
 use blob_digest::{Digest, RepoName};
 use link_table::Links;
 use slot_table::SlotTable;
-
-/// What a mount comes to (OCI Distribution Specification 1.1, "Mounting a blob from another
-/// repository").
-#[derive(Clone, Copy, Debug, PartialEq, Eq)]
-pub enum Mount {
-    /// The blob is linked in the repository.
-    Mounted,
-    /// The source doesn't hold the blob or, without one, no repository of the tenant does, and an upload
-    /// session was opened for it: its number.
-    Session(u32),
-}
 
 /// The slot of the blob that a mount links: where the source is the tenant's and holds it or, without a
 /// source, where some repository of the tenant does.

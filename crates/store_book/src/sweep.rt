@@ -6,35 +6,21 @@ ghost use Rattle.store_book.specs.SweptSlots.{counting, Sweeps};
 
 use crate::pinned_slots::PinnedSlots;
 use pin_table::{Pins, Reclaim};
+use store_model::Swept;
 
-/// What a sweep did to the blobs that no repository links, and to their slots.
-#[derive(Clone, Copy, Debug, PartialEq, Eq, Drop)]
-pub struct Swept {
-    /// How many blobs were live, and were condemned.
-    pub condemned: u32,
-    /// How many slots were freed.
-    pub freed: u32,
-    /// How many slots are held by leases.
-    pub held: u32,
-    /// How many slots were retired, being in the last generation.
-    pub retired: u32,
-}
-
-impl Swept {
-    /// Counts one blob more: whether it was live, and what became of its slot.
-    fn count(&mut self, was_live: bool, became: Reclaim)
-        requires condemned { self.old.condemned + 1 < 2 ^ 32 }
-        requires reclaimed { self.old.freed + self.old.held + self.old.retired + 1 < 2 ^ 32 }
-        ensures { self.new ≡ counting was_live became self.old }
-    {
-        if was_live {
-            self.condemned += 1;
-        }
-        match became {
-            Reclaim::Freed => self.freed += 1,
-            Reclaim::Retired => self.retired += 1,
-            Reclaim::Held { .. } => self.held += 1,
-        }
+/// Counts one blob more: whether it was live, and what became of its slot.
+fn count(swept: &mut Swept, was_live: bool, became: Reclaim)
+    requires condemned { swept.old.condemned + 1 < 2 ^ 32 }
+    requires reclaimed { swept.old.freed + swept.old.held + swept.old.retired + 1 < 2 ^ 32 }
+    ensures { swept.new ≡ counting was_live became swept.old }
+{
+    if was_live {
+        swept.condemned += 1;
+    }
+    match became {
+        Reclaim::Freed => swept.freed += 1,
+        Reclaim::Retired => swept.retired += 1,
+        Reclaim::Held { .. } => swept.held += 1,
     }
 }
 
@@ -55,7 +41,7 @@ pub(crate) fn sweep_slots(slots: &mut PinnedSlots, pins: &Pins) -> Swept
     'orphans: while let Some(slot) = slots.table().orphans_from(from) {
         let was_live = slots.condemn(pins, slot);
         let became = slots.reclaim(pins, slot);
-        swept.count(was_live, became);
+        count(&mut swept, was_live, became);
         from = slot + 1;
     }
     swept

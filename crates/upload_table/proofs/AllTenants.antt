@@ -14,16 +14,17 @@ use Rattle.std.proofs.lemmas.List.{length-map, append-nil}
 use Rattle.std.proofs.lemmas.List.Elements.{filter-append}
 use Rattle.std.proofs.lemmas.List.Sums.{length-filter, sum_by-cons}
 use Rattle.std.proofs.lemmas.Option.{slice_get_past, slice_get_read}
-use Rattle.blob_digest.specs.Keys.{Number, Text, number_cmp, same_text}
+use Rattle.blob_digest.specs.Keys.{Number, number_cmp}
+use Rattle.finite_maps.specs.Texts.{Text, same_text}
 use Rattle.blob_digest.proofs.KeyOrders.{number_cmp_total, exact_number}
-use Rattle.blob_digest.proofs.ListLemmas.{filter-map}
-use Rattle.blob_digest.proofs.OptionLemmas.{some_none, some_same}
-use Rattle.blob_digest.proofs.RowLemmas.{entries-empty, sum_by-map}
-use Rattle.blob_digest.proofs.SortedRows.{entries-sorted}
+use Rattle.finite_maps.proofs.Lists.{filter-map}
+use Rattle.finite_maps.proofs.Options.{some_none, some_same}
+use Rattle.finite_maps.proofs.Rows.{entries-empty, sum_by-map}
+use Rattle.finite_maps.proofs.Sorted.{entries-sorted}
 use Rattle.blob_digest.specs.Outcomes.{Does, OutcomeIn}
 use Rattle.blob_digest.specs.declared.refusal.Refusal.{Refusal}
 use Rattle.blob_digest.specs.declared.refusal.Refusal.TheVariants.{LimitReached}
-use Rattle.upload_table.specs.Sessions.{Chunks, Home, Session, Sessions, charged, in_sessions, is_of_repo, open_in, sessions_of, share, with_chunks}
+use Rattle.store_model.specs.Sessions.{Chunks, Home, Session, Sessions, charged, in_sessions, is_of_repo, open_in, sessions_of, share, with_chunks}
 use Rattle.upload_table.specs.Tenants.{Numbered, charged_in, entries_from, is_spent, no_sessions, of_tenant, start_here, tenants_shown, with_chunks_here, without}
 use Rattle.upload_table.specs.Uploaded.{Uploaded, opening, start_upload, started, with_sessions}
 

@@ -5,11 +5,12 @@ use Rattle.std.specs.Option.{option_map_or}
 use Rattle.std.specs.List.{sum_by}
 use Rattle.std.specs.FinMap.{get}
 use Rattle.std.proofs.lemmas.Bool.{and_parts, eqb-true, false≢true}
-use Rattle.blob_digest.specs.Keys.{Number, Text}
+use Rattle.blob_digest.specs.Keys.{Number}
+use Rattle.finite_maps.specs.Texts.{Text}
 use Rattle.blob_digest.specs.Digests.{is_digest_of}
 use Rattle.blob_digest.specs.declared.refusal.Refusal.TheVariants.{DigestInvalid}
-use Rattle.blob_digest.proofs.OptionLemmas.{some_same}
-use Rattle.upload_table.specs.Sessions.{Chunks, Home, InHand, Session, Taken, at_home, brought_home, charged, chunks_in, chunks_of, given_up, hand_in, received_of, reserved_of, take_in, taken_session, whole_of, with_chunks}
+use Rattle.finite_maps.proofs.Options.{some_same}
+use Rattle.store_model.specs.Sessions.{Chunks, Home, InHand, Session, Taken, at_home, brought_home, charged, chunks_in, chunks_of, given_up, hand_in, received_of, reserved_of, take_in, taken_session, whole_of, with_chunks}
 use Rattle.upload_table.specs.Uploaded.{Rest, Uploaded, BeginsWith, CanReopen, cut, finish_upload, put_back_upload, reopened, with_sessions}
 use Rattle.upload_table.specs.Rows.{IsWhole}
 use Rattle.upload_table.specs.declared.upload.Pieces.{Pieces}

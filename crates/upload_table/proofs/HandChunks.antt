@@ -1,6 +1,5 @@
 -- The chunks of a hand: their lengths, and its bytes cut at the last one.
-use Rattle.std.proofs.Common.{◌≡◌, ◌≢◌, ℕ, ◌+◌, ◌≤◌, ◌<◌, Bool, true, false, List, [], ◌∷◌, ◌++◌, length, take, drop, Option, Some, None, refl, sym, ap, ◌∙◌, arith}
-use Rattle.std.proofs.Common.{length-drop}
+use Rattle.std.proofs.Common.{◌≡◌, ◌≢◌, ℕ, ◌+◌, ◌≤◌, ◌<◌, Bool, true, false, List, [], ◌∷◌, ◌++◌, length, take, drop, Option, Some, None, refl, sym, ap, ◌∙◌, arith, length-drop}
 use Rattle.std.specs.Prelude.{sum, IfSome, nat_lt}
 use Rattle.std.specs.Option.{option_map, option_map_or}
 use Rattle.std.specs.List.{AllByRecursion, concat, sum_by}
@@ -8,7 +7,7 @@ use Rattle.std.proofs.lemmas.Bool.Decides.{nat_tests}
 use Rattle.std.proofs.lemmas.List.{length-take-le, take-append-drop, append-nil}
 use Rattle.std.proofs.lemmas.List.Sums.{sum_by-cons, sum_by_push}
 use Rattle.std.proofs.Math.Seq.{drop-append_seam}
-use Rattle.upload_table.specs.Sessions.{Taken, chunks_of, whole_of, with_chunk}
+use Rattle.store_model.specs.Sessions.{Taken, chunks_of, whole_of, with_chunk}
 use Rattle.upload_table.specs.Uploaded.{cut}
 use Rattle.upload_table.specs.Rows.{taken, with_length, IsFilled, IsHand}
 use Rattle.upload_table.specs.declared.hashed.Hashed.{Hashed}

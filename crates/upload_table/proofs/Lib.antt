@@ -1,6 +1,5 @@
 pub mod Cuts
 pub mod HandChunks
-pub mod Filters
 pub mod TenantRows
 pub mod AllTenants
 pub mod TableCalls

@@ -6,8 +6,8 @@ use Rattle.std.specs.List.{AllByRecursion}
 use Rattle.std.specs.FinMap.{entries, get, remove}
 use Rattle.std.proofs.lemmas.Bool.{false≢true}
 use Rattle.std.proofs.lemmas.Option.{slice_get_past}
-use Rattle.blob_digest.specs.Keys.{Text, same_text}
-use Rattle.upload_table.specs.Sessions.{Chunks, Session, in_sessions, is_home, listed, sessions_of, with_chunks}
+use Rattle.finite_maps.specs.Texts.{Text, same_text}
+use Rattle.store_model.specs.Sessions.{Chunks, Session, in_sessions, is_home, listed, sessions_of, with_chunks}
 use Rattle.upload_table.specs.Tenants.{Numbered, charged_in, of_tenant, tenants_shown, with_chunks_here, without}
 use Rattle.upload_table.specs.Uploaded.{Uploaded, with_sessions}
 use Rattle.upload_table.specs.Rows.{entry_of, row_listed, rows_listed, AreWhole}

@@ -6,21 +6,20 @@ use Rattle.std.specs.declared.cmp.Ordering.TheVariants.{Less, Equal}
 use Rattle.std.specs.Ordering.{eq_by_cmp, is_eq, is_lt, nat_cmp}
 use Rattle.std.specs.List.{AllByRecursion, HoldsAt, remove, sum_by}
 use Rattle.std.specs.List.Sorted.{IsBinarySearchResult}
-use Rattle.std.specs.FinMap.{FinMap, find, get, insert, entries, from_entries, from_entries_push, get-from_entries, is_sorted, nat_cmp-IsAntisymmetric}
+use Rattle.std.specs.FinMap.{FinMap, find, get, insert, entries, from_entries, from_entries_push, get-from_entries, is_sorted, nat_cmp-IsAntisymmetric, remove as fremove}
 use Rattle.std.specs.Cmp.{eq_by_cmp_equiv, nat_cmp_total}
-use Rattle.std.specs.FinMap.{remove as fremove}
 use Rattle.std.specs.FinMap.Entries.{below_all}
 use Rattle.std.proofs.lemmas.Bool.{and_from, and_parts, false≢true, le-leb, lt-leb}
 use Rattle.std.proofs.lemmas.Bool.Decides.{nat_tests}
 use Rattle.std.proofs.lemmas.List.{length-map, map-set}
 use Rattle.std.proofs.lemmas.List.Sums.{sum_by-cons, sum_by-set, sum_by-remove, sum_by_push, get_or-le-sum_by}
-use Rattle.blob_digest.proofs.ListLemmas.{map-remove}
-use Rattle.blob_digest.proofs.RowLemmas.{from_entries-remove, from_entries-set, sum_by-map}
-use Rattle.blob_digest.proofs.SortedRows.{IsApart-sorted, entries-sorted, found_at, is_sorted-remove, map_at, missing}
-use Rattle.blob_digest.specs.Keys.{Text}
+use Rattle.finite_maps.proofs.Lists.{map-remove, all-push, all-remove, all-set, all_at, all_weaker, map-push, sum_by-alike}
+use Rattle.finite_maps.proofs.Rows.{from_entries-remove, from_entries-set, sum_by-map}
+use Rattle.finite_maps.proofs.Sorted.{IsApart-sorted, entries-sorted, found_at, is_sorted-remove, map_at, missing}
+use Rattle.finite_maps.specs.Texts.{Text}
 use Rattle.blob_digest.specs.declared.refusal.Refusal.TheVariants.{LimitReached}
-use Rattle.upload_table.specs.Sessions.{Chunks, Session, charged, is_home, received, received_of, reserved_of}
-use Rattle.upload_table.specs.Sessions as shown
+use Rattle.store_model.specs.Sessions.{Chunks, Session, charged, is_home, received, received_of, reserved_of}
+use Rattle.store_model.specs.Sessions as shown
 use Rattle.upload_table.specs.Tenants.{Numbered, charged_in, is_spent, start_here, with_chunks_here}
 use Rattle.upload_table.specs.Rows.{chunks_shown, content_charge, content_received, entry_of, is_at_home, session_of, shown_by, AreWhole, IsSound}
 use Rattle.upload_table.specs.declared.upload.Content.{Content}
@@ -29,36 +28,6 @@ use Rattle.upload_table.specs.declared.upload.Upload.{Upload}
 use Rattle.upload_table.proofs.Cuts.{sum_by-cut}
 
 -- ---- lists
-
-all-push : {A : Type 0} (P : A → Type 0) (xs : List A) (x : A) → AllByRecursion P xs → P x → AllByRecursion P (xs ++ x ∷ [])
-all-push P [] x all here = (here, tt)
-all-push P (y ∷ xs) x all here = (all.0, all-push P xs x all.1 here)
-
-all-remove : {A : Type 0} (P : A → Type 0) (xs : List A) (i : ℕ) → AllByRecursion P xs → AllByRecursion P (remove xs i)
-all-remove P [] zero all = tt
-all-remove P [] (suc i) all = tt
-all-remove P (x ∷ xs) zero all = all.1
-all-remove P (x ∷ xs) (suc i) all = (all.0, all-remove P xs i all.1)
-
-all-set : {A : Type 0} (P : A → Type 0) (xs : List A) (i : ℕ) (x : A) → AllByRecursion P xs → P x → AllByRecursion P (set xs i x)
-all-set P [] i x all here = tt
-all-set P (y ∷ xs) zero x all here = (here, all.1)
-all-set P (y ∷ xs) (suc i) x all here = (all.0, all-set P xs i x all.1 here)
-
-pub all_at : {A : Type 0} (P : A → Type 0) (xs : List A) (i : ℕ) (d : A) → i < length xs → AllByRecursion P xs → P (get_or xs i d)
-all_at P [] i d lt all = absurd (omega arith)
-all_at P (x ∷ xs) zero d lt all = all.0
-all_at P (x ∷ xs) (suc i) d lt all = all_at P xs i d (omega arith) all.1
-
-all_weaker : {A : Type 0} (P Q : A → Type 0) → ((x : A) → P x → Q x) → (xs : List A) → AllByRecursion P xs → AllByRecursion Q xs
-all_weaker P Q gives [] all = tt
-all_weaker P Q gives (x ∷ xs) all = (gives x all.0, all_weaker P Q gives xs all.1)
-
-map-push : {A B : Type 0} (f : A → B) (xs : List A) (x : A) → map f (xs ++ x ∷ []) ≡ map f xs ++ f x ∷ []
-map-push f [] x = refl
-map-push f (y ∷ xs) x = ap (λ ys. f y ∷ ys) (map-push f xs x)
-
--- ---- an order of keys
 
 module _ {K X : Type 0} (R : K → K → Ordering) where
   below_all-set : (q : K) (es : List (K × X)) (i : ℕ) (d f : K × X) → (get_or es i d).0 ≡ f.0 → below_all R q (set es i f) ≡ below_all R q es
@@ -129,10 +98,6 @@ charged_is u = at u.content
         let len : received_of (chunks_shown (Home p)) ≡ length p.bytes.items = sum_by-cut p.lens.items p.bytes.items le ∙ whole.lengths in
         omega (arith, len)
     at (InHand n m) whole = refl
-
-sum_by-alike : {A : Type 0} (P : A → Type 0) (f g : A → ℕ) → ((x : A) → P x → f x ≡ g x) → (xs : List A) → AllByRecursion P xs → sum_by f xs ≡ sum_by g xs
-sum_by-alike P f g alike [] all = refl
-sum_by-alike P f g alike (x ∷ xs) all = sum_by-cons f x xs ∙ (λ i. alike x all.0 i + sum_by-alike P f g alike xs all.1 i) ∙ sym (sum_by-cons g x xs)
 
 module _ (next sum_kept : ℕ) (rows : List Upload) (sound : IsSound next sum_kept rows) where
   pub entries-rows : entries (map_of rows) ≡ map entry_of rows

@@ -1,4 +1,3 @@
-pub mod Sessions
 pub mod Uploaded
 pub mod Rows
 pub mod Tenants

@@ -6,9 +6,9 @@ use Rattle.std.specs.FinMap as fmap
 use Rattle.std.specs.Ordering.{nat_cmp}
 use Rattle.blob_digest.specs.Digests.{algorithm_of, hash_text}
 use Rattle.blob_digest.specs.Hashing.{Hashes}
-use Rattle.blob_digest.specs.Keys.{Text, same_text}
-use Rattle.upload_table.specs.Sessions.{Chunks, Session, Taken}
-use Rattle.upload_table.specs.Sessions as shown
+use Rattle.finite_maps.specs.Texts.{Text, same_text}
+use Rattle.store_model.specs.Sessions.{Chunks, Session, Taken}
+use Rattle.store_model.specs.Sessions as shown
 use Rattle.upload_table.specs.Tenants.{Numbered}
 use Rattle.upload_table.specs.Uploaded.{cut}
 use Rattle.upload_table.specs.declared.hashed.Hashed.{Hashed}

@@ -5,10 +5,11 @@ use Rattle.std.specs.Option.{option_map_or}
 use Rattle.std.specs.Ordering.{nat_cmp}
 use Rattle.std.specs.FinMap as fmap
 use Rattle.std.specs.Coded.{Coded, code_by, coded×, coded_ℕ}
-use Rattle.blob_digest.specs.Keys.{Text, Number}
+use Rattle.finite_maps.specs.Texts.{Text}
+use Rattle.blob_digest.specs.Keys.{Number}
 use Rattle.blob_digest.specs.Outcomes.{OutcomeIn}
 use Rattle.blob_digest.specs.declared.refusal.Refusal.TheVariants.{LimitReached}
-use Rattle.upload_table.specs.Sessions.{Chunks, Home, Session, charged, coded_session}
+use Rattle.store_model.specs.Sessions.{Chunks, Home, Session, charged, coded_session}
 use Rattle.upload_table.specs.Uploaded.{Uploaded}
 
 -- a tenant's next number, and its sessions by number

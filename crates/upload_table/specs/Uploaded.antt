@@ -8,10 +8,12 @@ use Rattle.blob_digest.specs.declared.refusal.Refusal.TheVariants.{LimitReached,
 use Rattle.blob_digest.specs.declared.running.Running.{Running}
 use Rattle.blob_digest.specs.contracts.running.Running as running
 use Rattle.blob_digest.specs.Hashing.{Hashes}
-use Rattle.blob_digest.specs.Keys.{Text, Number}
+use Rattle.finite_maps.specs.Texts.{Text}
+use Rattle.blob_digest.specs.Keys.{Number}
 use Rattle.blob_digest.specs.Digests.{is_digest_of}
-use Rattle.blob_digest.specs.Outcomes.{OutcomeIn, ◌>>=◌, refuse}
-use Rattle.upload_table.specs.Sessions.{Home, InHand, Sessions, Taken, coded_session, open_in, put_back_in, taken_session, whole_of, with_chunks}
+use Rattle.blob_digest.specs.Outcomes.{OutcomeIn}
+use Rattle.finite_maps.specs.Outcomes.{◌>>=◌, refuse}
+use Rattle.store_model.specs.Sessions.{Home, InHand, Sessions, Taken, coded_session, open_in, put_back_in, taken_session, whole_of, with_chunks}
 
 -- bytes as chunks of given lengths, one after another
 abbrev pub cut : List ℕ → List ℕ → List (List ℕ)
@@ -76,10 +78,6 @@ finish_upload u h digest = do
   _ ← taken_session (fmap.get u.sessions h.key) h
   _ ← refuse (not (is_digest_of digest (whole_of h))) DigestInvalid
   Ok ((digest, whole_of h), u)
-
--- a chunk was filled in, or none is to come
-abbrev pub IsFull : Taken → Type 0
-IsFull h = h.last ≡ None → h.reserved ≡ 0
 
 -- ---- opening a hand again
 

@@ -4,8 +4,9 @@ ghost use Rattle.std.specs.Prelude.{◌≡◌, ◌≢◌, ◌+◌, ◌<◌, ◌�
 ghost use Rattle.std.specs.List.{AllByRecursion};
 ghost use Rattle.blob_digest.specs.Digests.{is_digest_of};
 ghost use Rattle.blob_digest.specs.Hashing.{Hashes};
-ghost use Rattle.upload_table.specs.Sessions.{chunks_of, whole_of};
-ghost use Rattle.upload_table.specs.Uploaded.{cut, BeginsWith, IsFull};
+ghost use Rattle.store_model.specs.Sessions.{chunks_of, whole_of};
+ghost use Rattle.upload_table.specs.Uploaded.{cut, BeginsWith};
+ghost use Rattle.store_model.specs.Sessions.{IsFull};
 ghost use Rattle.upload_table.specs.Rows.{with_length, IsHashOf, IsWhole};
 ghost use Rattle.std.specs.Vec.{vec_capacity};
 
@@ -29,7 +30,7 @@ pub struct Hand {
 
 impl Model for Hand {
     ghost use Rattle.std.specs.Vec.{vec_capacity};
-    ghost use Rattle.upload_table.specs.Sessions.{Taken, coded_taken};
+    ghost use Rattle.store_model.specs.Sessions.{Taken, coded_taken};
 
     ghost Value = { Taken };
 

@@ -2,7 +2,7 @@
 
 ghost use Rattle.std.specs.Prelude.{◌≡◌, position};
 ghost use Rattle.std.specs.Iterator.{YieldsFirst, item_count};
-ghost use Rattle.blob_digest.specs.Keys.{same_text};
+ghost use Rattle.finite_maps.specs.Texts.{same_text};
 
 use crate::upload::{Upload, received_of};
 use blob_digest::RepoName;

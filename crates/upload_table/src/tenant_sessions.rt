@@ -7,7 +7,7 @@ ghost use Rattle.std.specs.List.Sorted.{IsBinarySearchResult, IsSearchInRange};
 ghost use Rattle.std.specs.Ordering.{nat_cmp};
 ghost use Rattle.std.specs.FinMap as fmap;
 ghost use Rattle.blob_digest.specs.Outcomes.{Does};
-ghost use Rattle.upload_table.specs.Sessions.{Home, InHand, Session, charged, is_home};
+ghost use Rattle.store_model.specs.Sessions.{Home, InHand, Session, charged, is_home};
 ghost use Rattle.upload_table.specs.Uploaded.{cut};
 ghost use Rattle.upload_table.specs.Rows.{entry_of, session_of, AreWhole, IsWhole};
 ghost use Rattle.upload_table.specs.Tenants.{charged_in, is_spent, no_sessions, start_here, with_chunks_here, without};

@@ -3,7 +3,7 @@
 ghost use Rattle.std.specs.Prelude.{◌≡◌, ◌+◌, ◌<◌, ◌^◌, ◌++◌, [], IfOk, OnOk, OnErr, length, sum, true};
 ghost use Rattle.std.specs.Vec.{vec_capacity};
 ghost use Rattle.blob_digest.specs.Hashing.{Hashes};
-ghost use Rattle.upload_table.specs.Sessions.{length_after as length_after_chunk};
+ghost use Rattle.store_model.specs.Sessions.{length_after as length_after_chunk};
 ghost use Rattle.upload_table.specs.Rows.{content_charge, content_received, is_at_home, is_out, IsHashOf, IsSame, IsWhole};
 ghost use Rattle.upload_table.specs.Uploaded.{cut};
 ghost use Rattle.upload_table.specs.declared.upload.Content.TheVariants.{Home, InHand};

@@ -6,8 +6,9 @@ ghost use Rattle.std.specs.FinMap as fmap;
 ghost use Rattle.blob_digest.specs.Digests.{is_digest_of};
 ghost use Rattle.blob_digest.specs.Outcomes.{Does, DoesExactly};
 ghost use Rattle.blob_digest.specs.declared.refusal.Refusal.TheVariants.{Memory};
-ghost use Rattle.upload_table.specs.Sessions.{check_in, given_up, hand_in, home_in, in_sessions, is_home, received_in, session_in, sessions_of, listed, take_in, taken_session};
-ghost use Rattle.upload_table.specs.Uploaded.{finish_upload, opening, put_back_upload, repo_at, start_upload, with_sessions, CanReopen, IsFull, reopened};
+ghost use Rattle.store_model.specs.Sessions.{check_in, given_up, hand_in, home_in, in_sessions, is_home, received_in, session_in, sessions_of, listed, take_in, taken_session};
+ghost use Rattle.upload_table.specs.Uploaded.{finish_upload, opening, put_back_upload, repo_at, start_upload, with_sessions, CanReopen, reopened};
+ghost use Rattle.store_model.specs.Sessions.{IsFull};
 ghost use Rattle.upload_table.specs.Rows.{session_of, AreWhole};
 ghost use Rattle.upload_table.specs.Tenants.{no_sessions};
 

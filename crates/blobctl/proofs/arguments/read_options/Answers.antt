@@ -5,7 +5,7 @@ use Rattle.clap.specs.Kinds.{HasKind}
 use Rattle.clap.specs.Matches.{found_of}
 use Rattle.clap.specs.Simple.{App, is_simple, matches_of}
 use Rattle.clap.specs.Walk.{Row, rows_of}
-use Rattle.blob_digest.specs.Keys.{Text}
+use Rattle.finite_maps.specs.Texts.{Text}
 use Rattle.blobctl.specs.Arguments.{AreFound, program}
 use Rattle.blobctl.proofs.CommandLines.{program_is_free, program_is_simple, refused_found, refused_words}
 use Rattle.blobctl.proofs.arguments.read_options.Goals as goal

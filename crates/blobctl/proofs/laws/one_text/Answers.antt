@@ -1,6 +1,6 @@
 use Rattle.std.proofs.Common.{◌∙◌, ◌++◌, List, ap, refl, subst, sym}
-use Rattle.store_book.specs.Catalog.{Catalog}
-use Rattle.store_book.specs.Printed.{book_text}
+use Rattle.store_model.specs.Catalog.{Catalog}
+use Rattle.store_model.specs.BookText.{book_text}
 use Rattle.row_player.specs.Answers.{Answer}
 use Rattle.row_player.specs.Leases.{none}
 use Rattle.blobctl.specs.Played.{Happens}

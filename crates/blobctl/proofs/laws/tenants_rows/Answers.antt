@@ -1,5 +1,5 @@
 use Rattle.std.proofs.Common.{◌∙◌, List, subst}
-use Rattle.store_book.specs.Isolation.{commands, events_of}
+use Rattle.store_model.specs.Noninterference.{commands, events_of}
 use Rattle.row_player.specs.Leases.{none}
 use Rattle.row_player.specs.Rows.{Line}
 use Rattle.blobctl.specs.ScriptRuns.{rows_of}

@@ -1,5 +1,5 @@
 use Rattle.std.proofs.Common.{◌++◌, map, refl}
-use Rattle.store_book.specs.Printed.{book_text}
+use Rattle.store_model.specs.BookText.{book_text}
 use Rattle.row_player.specs.Answers.{answers_of}
 use Rattle.row_player.specs.Lines.{line_of}
 use Rattle.row_player.specs.Replies.{replies_text}

@@ -1,7 +1,7 @@
 use Rattle.std.proofs.Common.{◌≡◌, ◌<◌, ◌∙◌, ◌∷◌, [], arith, false, inl, inr, length, refl, rules, string_bytes, sym, true, vec_len}
 use Rattle.std.proofs.lemmas.List.{map-append}
 use Rattle.std.specs.List.{list_any}
-use Rattle.blob_digest.specs.Keys.{same_text}
+use Rattle.finite_maps.specs.Texts.{same_text}
 use Rattle.store_book.specs.Openings.{tenant_shown}
 use Rattle.blobctl.proofs.TenantLists.{any_named}
 use Rattle.blobctl.proofs.tenants.add_tenant.Goals as goal

@@ -2,11 +2,10 @@ use Rattle.std.proofs.Common.{◌≡◌, ◌≤◌, ◌+◌, ◌∙◌, ◌∷�
 use Rattle.std.specs.Borrow.{Bor}
 use Rattle.std.proofs.lemmas.List.{length-map}
 use Rattle.std.proofs.lemmas.Result.{err_from_is_err_and}
-use Rattle.blob_digest.specs.Keys.{Text}
+use Rattle.finite_maps.specs.Texts.{Text}
 use Rattle.blob_digest.specs.Tenants.{Tenant}
 use Rattle.blob_digest.specs.Names.{IsComponent}
-use Rattle.store_book.specs.Openings.{tenant_shown, tenants_shown}
-use Rattle.store_book.specs.Openings.{max_quota}
+use Rattle.store_book.specs.Openings.{tenant_shown, tenants_shown, max_quota}
 use Rattle.blobctl.proofs.TenantLists.{all_more, bad_word, once_more, one_spelled, words_more, words_round}
 use Rattle.blobctl.proofs.tenants.read_tenants.Goals as goal
 

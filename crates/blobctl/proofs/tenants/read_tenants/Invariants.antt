@@ -1,10 +1,9 @@
 use Rattle.std.proofs.Common.{◌≡◌, ◌≤◌, count_by, length, map, take}
 use Rattle.std.specs.List.{All}
-use Rattle.blob_digest.specs.Keys.{Text, same_text}
+use Rattle.finite_maps.specs.Texts.{Text, same_text}
 use Rattle.blob_digest.specs.Names.{IsComponent}
-use Rattle.store_book.specs.Openings.{tenants_shown}
+use Rattle.store_book.specs.Openings.{tenants_shown, max_quota, max_tenants}
 use Rattle.blobctl.specs.Tenants.{SpellTenants}
-use Rattle.store_book.specs.Openings.{max_quota, max_tenants}
 use Rattle.blobctl.proofs.tenants.read_tenants.Given as goal
 
 -- the words so far spell the tenants so far, which a store can have

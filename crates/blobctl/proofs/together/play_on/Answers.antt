@@ -1,7 +1,7 @@
 use Rattle.std.proofs.Common.{◌++◌, ◌∙◌, refl, sym}
 use Rattle.std.proofs.lemmas.List.{length-map}
 use Rattle.csv.proofs.WriteFacts.{appends-more}
-use Rattle.store_book.specs.Printed.{book_text}
+use Rattle.store_model.specs.BookText.{book_text}
 use Rattle.row_player.specs.Answers.{answer_of, answers_of}
 use Rattle.row_player.specs.Lines.{line_of}
 use Rattle.row_player.specs.Replies.{replies_text}

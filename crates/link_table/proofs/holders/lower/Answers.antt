@@ -1,5 +1,5 @@
 use Rattle.std.proofs.Common.{◌≡◌, ◌+◌, ◌-◌, None, Some, arith}
-use Rattle.blob_digest.specs.Trees.{map_of}
+use Rattle.finite_maps.specs.Trees.{map_of}
 use Rattle.link_table.specs.Holders.{count_in}
 use Rattle.link_table.proofs.HolderCounts.{changed_at, lowered, no_zero, none_not_zero, not_zero, uncounted}
 use Rattle.link_table.proofs.holders.lower.Goals as goal

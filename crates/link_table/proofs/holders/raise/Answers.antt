@@ -1,5 +1,5 @@
 use Rattle.std.proofs.Common.{◌+◌, Some, ap, arith}
-use Rattle.blob_digest.specs.Trees.{map_of}
+use Rattle.finite_maps.specs.Trees.{map_of}
 use Rattle.link_table.proofs.HolderCounts.{changed_at, no_zero, not_zero, raised}
 use Rattle.link_table.proofs.holders.raise.Goals as goal
 

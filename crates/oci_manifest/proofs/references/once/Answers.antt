@@ -3,7 +3,7 @@ use Rattle.std.proofs.lemmas.List.{get_or_default}
 use Rattle.std.specs.BTreeSet.{contains}
 use Rattle.std.specs.List.{list_any}
 use Rattle.std.specs.BTreeMap as tree
-use Rattle.blob_digest.specs.Keys.{text_cmp, same_text}
+use Rattle.finite_maps.specs.Texts.{text_cmp, same_text}
 use Rattle.oci_manifest.proofs.Doubles.{added, left_out, has_more, is_new, is_there}
 use Rattle.oci_manifest.proofs.references.once.Goals.{then-branch+in_ok-push, else-branch}
 use Rattle.oci_manifest.proofs.references.once.Goals as goal

@@ -1,7 +1,7 @@
 use Rattle.std.proofs.Common.{◌≡◌, take}
 use Rattle.std.specs.BTreeSet.{contains}
 use Rattle.std.specs.List.{list_any}
-use Rattle.blob_digest.specs.Keys.{Text, text_cmp, same_text}
+use Rattle.finite_maps.specs.Texts.{Text, text_cmp, same_text}
 use Rattle.oci_manifest.specs.Manifests.{once}
 use Rattle.oci_manifest.proofs.references.once.Given as goal
 

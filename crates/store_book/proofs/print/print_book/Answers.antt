@@ -2,8 +2,9 @@ use Rattle.std.proofs.Common.{◌<◌, ◌≤◌, ◌++◌, List, ℕ, length, a
 use Rattle.std.specs.Io.KnownBytes.{Appends}
 use Rattle.std.specs.List.{flat_map, enumerate_from}
 use Rattle.store_book.specs.Lines.{tenant_in, tenant_rows}
-use Rattle.store_book.specs.Printed.{book_line, end_line}
-use Rattle.store_book.proofs.Listing.{Appends-after, Appends-then, all_numbered, numbered}
+use Rattle.store_model.specs.BookText.{book_line, end_line}
+use Rattle.finite_maps.proofs.Writing.{Appends-after, Appends-then}
+use Rattle.store_book.proofs.Listing.{all_numbered, numbered}
 use Rattle.store_book.proofs.print.print_book.Goals as goal
 
 pub loop-tenant-preserved : goal.loop-tenant-preserved

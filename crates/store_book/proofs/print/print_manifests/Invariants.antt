@@ -3,7 +3,7 @@ use Rattle.std.specs.List.{flat_map}
 use Rattle.std.specs.Io.KnownBytes.{Appends}
 use Rattle.std.specs.Prelude.{Option}
 use Rattle.link_table.specs.ManifestTable.{manifests_on}
-use Rattle.store_book.specs.Printed.{manifest_row}
+use Rattle.store_model.specs.BookText.{manifest_row}
 use Rattle.store_book.proofs.print.print_manifests.Given as goal
 
 -- whoever writes the manifests that are left has written them all

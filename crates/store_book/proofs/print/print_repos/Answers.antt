@@ -1,7 +1,7 @@
 use Rattle.std.proofs.Common.{sym}
 use Rattle.link_table.specs.Linked.{repos_of}
 use Rattle.store_book.specs.Lines.{repo_rows}
-use Rattle.store_book.proofs.Listing.{Appends-next, Appends-all}
+use Rattle.finite_maps.proofs.Writing.{Appends-next, Appends-all}
 use Rattle.store_book.proofs.print.print_repos.Goals as goal
 
 pub loop-repo-preserved : goal.loop-repo-preserved

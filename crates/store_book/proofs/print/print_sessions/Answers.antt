@@ -1,5 +1,5 @@
 use Rattle.store_book.specs.Lines.{session_row}
-use Rattle.store_book.proofs.Listing.{Appends-step}
+use Rattle.finite_maps.proofs.Writing.{Appends-step}
 use Rattle.store_book.proofs.print.print_sessions.Goals as goal
 
 pub loop-number-preserved : goal.loop-number-preserved

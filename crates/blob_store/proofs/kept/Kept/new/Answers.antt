@@ -1,5 +1,5 @@
 use Rattle.std.proofs.Common.{ap, arith}
-use Rattle.upload_table.specs.Sessions.{received, reserved_of}
+use Rattle.store_model.specs.Sessions.{received, reserved_of}
 use Rattle.blob_store.specs.Counting.{hand_of}
 use Rattle.blob_store.specs.Totals.{Counts}
 use Rattle.blob_store.proofs.SessionSums.{no_sessions}

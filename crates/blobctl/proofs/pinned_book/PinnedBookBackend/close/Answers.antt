@@ -1,5 +1,5 @@
-use Rattle.store_book.specs.Steps.{close}
-use Rattle.store_book.specs.Runs.{Close, Number}
+use Rattle.store_model.specs.Commands.{close}
+use Rattle.store_model.specs.Runs.{Close, Number}
 use Rattle.blobctl.specs.Played.{row_answer}
 use Rattle.blobctl.proofs.Leasing.{does_told, quiet_rise}
 use Rattle.blobctl.proofs.pinned_book.PinnedBookBackend.close.Goals as goal

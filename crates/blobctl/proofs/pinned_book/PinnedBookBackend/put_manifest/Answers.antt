@@ -1,5 +1,5 @@
-use Rattle.store_book.specs.Steps.{put_manifest}
-use Rattle.store_book.specs.Runs.{Bytes, PutManifest}
+use Rattle.store_model.specs.Commands.{put_manifest}
+use Rattle.store_model.specs.Runs.{Bytes, PutManifest}
 use Rattle.blobctl.specs.Played.{row_answer}
 use Rattle.blobctl.proofs.Leasing.{does_told, same_rise}
 use Rattle.blobctl.proofs.pinned_book.PinnedBookBackend.put_manifest.Goals as goal

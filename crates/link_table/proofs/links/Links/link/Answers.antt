@@ -1,10 +1,9 @@
 use Rattle.std.proofs.Common.{ap, sym, ◌∙◌, is_some, nat_lt, true, Ok, set, arith}
 use Rattle.std.specs.FinMap.{get}
-use Rattle.blob_digest.proofs.OptionLemmas.{some_value}
+use Rattle.finite_maps.proofs.Options.{some_value, no_value as is_none}
 use Rattle.link_table.specs.TenantRepos.{Owned, links_shown}
 use Rattle.link_table.specs.Tenancy.{tenants_shown}
 use Rattle.link_table.proofs.HolderCounts.{holders_at, count_in-most, held-counted, Counts-insert, Counts-same, Counts-back}
-use Rattle.link_table.proofs.TenantRepoCalls.{is_none}
 use Rattle.link_table.proofs.TenantRepos.{links-there, repos-there, links-insert, links-same, repos-same}
 use Rattle.link_table.proofs.Soundness.{contains-blob, IsSound-link, link_there, link_new}
 use Rattle.link_table.proofs.Tables.{owned_at, linked_of, IsOwned-link, IsOwned-same}

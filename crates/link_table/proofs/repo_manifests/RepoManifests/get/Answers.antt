@@ -3,7 +3,7 @@ use Rattle.std.specs.declared.alloc.Global.{Global}
 use Rattle.std.specs.declared.sync.Arc.{Arc}
 use Rattle.std.specs.Option.{option_map}
 use Rattle.std.specs.FinMap.{get}
-use Rattle.blob_digest.specs.Keys.{Text}
+use Rattle.finite_maps.specs.Texts.{Text}
 use Rattle.link_table.specs.Manifests.{Kept}
 use Rattle.link_table.proofs.ManifestRows.{copied_value, get-kept}
 use Rattle.link_table.proofs.repo_manifests.RepoManifests.get.Goals as goal

@@ -1,10 +1,9 @@
 use Rattle.std.proofs.Common.{◌≡◌, ◌<◌, ◌≤◌, refl, sym, ap, ◌∙◌, arith, false, Some, Ok}
 use Rattle.std.specs.FinMap.{get, len, contains_key, insert}
 use Rattle.blob_digest.specs.Digests.{sha256_text}
-use Rattle.blob_digest.proofs.OptionLemmas.{some_same}
+use Rattle.finite_maps.proofs.Options.{some_same, no_value as is_none}
 use Rattle.oci_manifest.specs.Manifests.{refs_of}
 use Rattle.link_table.specs.Manifests.{kept, has_pair}
-use Rattle.link_table.proofs.TenantRepoCalls.{is_none}
 use Rattle.link_table.proofs.ManifestRows.{put_there, put_full, put_new, contains-kept, len-kept, unreferred, kept-insert, kept-same, IsIndexed-insert, undone}
 use Rattle.link_table.proofs.repo_manifests.RepoManifests.put.Goals as goal
 

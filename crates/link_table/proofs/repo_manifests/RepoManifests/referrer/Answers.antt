@@ -1,5 +1,5 @@
 use Rattle.std.proofs.Common.{sym, ap, ◌∙◌}
-use Rattle.blob_digest.proofs.KeyOrders.{text_is_same}
+use Rattle.finite_maps.proofs.Texts.{text_is_same}
 use Rattle.link_table.specs.Manifests.{Kept, referrer_in}
 use Rattle.link_table.proofs.ManifestRows.{referrer_empty, referrer_first, referrer_later}
 use Rattle.link_table.proofs.repo_manifests.RepoManifests.referrer.Goals as goal

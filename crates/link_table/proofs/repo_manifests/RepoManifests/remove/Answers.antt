@@ -3,7 +3,7 @@ use Rattle.std.specs.declared.alloc.Global.{Global}
 use Rattle.std.specs.declared.sync.Arc.{Arc}
 use Rattle.std.specs.Option.{option_map}
 use Rattle.std.specs.FinMap.{get, remove}
-use Rattle.blob_digest.specs.Keys.{Text}
+use Rattle.finite_maps.specs.Texts.{Text}
 use Rattle.oci_manifest.specs.Manifests.{refs_of}
 use Rattle.link_table.specs.Manifests.{Kept, kept, has_pair}
 use Rattle.link_table.proofs.ManifestRows.{get-kept, kept-remove, IsIndexed-remove}

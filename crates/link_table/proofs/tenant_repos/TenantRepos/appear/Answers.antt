@@ -1,7 +1,8 @@
 use Rattle.std.proofs.Common.{◌<◌, ◌≤◌, refl, arith, ap, sym, ◌∙◌, map, ℕ, true, Ok}
 use Rattle.std.specs.FinMap.{from_entries}
 use Rattle.std.proofs.lemmas.List.Edits.{length-insert}
-use Rattle.blob_digest.specs.Keys.{Text, Link, link_cmp}
+use Rattle.finite_maps.specs.Texts.{Text}
+use Rattle.blob_digest.specs.Keys.{Link, link_cmp}
 use Rattle.link_table.specs.Rows.{owned_shown}
 use Rattle.link_table.specs.TenantRepos.{count}
 use Rattle.link_table.specs.declared.repo.Repo.{Repo}

@@ -1,10 +1,11 @@
 use Rattle.std.proofs.Common.{sym, ◌∙◌, Some, set}
 use Rattle.std.proofs.lemmas.Bool.{false≢true}
 use Rattle.std.specs.FinMap.{from_entries}
-use Rattle.blob_digest.specs.Keys.{text_cmp, link_cmp}
+use Rattle.finite_maps.specs.Texts.{text_cmp}
+use Rattle.blob_digest.specs.Keys.{link_cmp}
 use Rattle.blob_digest.proofs.KeyOrders.{link_cmp_total, exact_link}
 use Rattle.link_table.specs.Rows.{owned_shown, links_in}
-use Rattle.link_table.proofs.Parts.{insert_by, flat_map-same}
+use Rattle.finite_maps.proofs.Parts.{insert_by, flat_map-same}
 use Rattle.link_table.proofs.TenantRepoCalls.{on_ok, on_err}
 use Rattle.link_table.proofs.TenantRepoRows.{AreRepos-set, absent, names-set, row_found, links-changed, same_links}
 use Rattle.link_table.proofs.tenant_repos.TenantRepos.link.Goals as goal

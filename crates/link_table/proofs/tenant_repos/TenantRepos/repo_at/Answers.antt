@@ -1,7 +1,7 @@
 use Rattle.std.proofs.Common.{refl, ap, sym, ◌∙◌, length, slice_get}
 use Rattle.std.specs.Option.{option_map}
 use Rattle.std.proofs.lemmas.Option.{slice_get-map, slice_get_read, slice_get_past}
-use Rattle.blob_digest.specs.Sets as set
+use Rattle.finite_maps.specs.Sets as set
 use Rattle.link_table.specs.TenantRepos.{Owned}
 use Rattle.link_table.specs.declared.repo.Repo.{Repo}
 use Rattle.link_table.proofs.TenantRepoRows.{items-rows}

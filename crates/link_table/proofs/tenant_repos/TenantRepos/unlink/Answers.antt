@@ -1,10 +1,10 @@
 use Rattle.std.proofs.Common.{ap, sym, ◌∙◌, None, set}
 use Rattle.std.specs.FinMap.{from_entries, get}
-use Rattle.blob_digest.specs.Keys.{text_cmp}
+use Rattle.finite_maps.specs.Texts.{text_cmp}
 use Rattle.blob_digest.proofs.KeyOrders.{link_cmp_total, exact_link}
 use Rattle.link_table.specs.Rows.{owned_shown}
 use Rattle.link_table.specs.TenantRepos.{Owned}
-use Rattle.link_table.proofs.Parts.{remove_by, remove_absent}
+use Rattle.finite_maps.proofs.Parts.{remove_by, remove_absent}
 use Rattle.link_table.proofs.TenantRepoRows.{AreRepos-set, names-set, row_found, links-changed, links-there, links-absent}
 use Rattle.link_table.proofs.tenant_repos.TenantRepos.unlink.Goals as goal
 

@@ -1,5 +1,5 @@
 use Rattle.std.proofs.Common.{refl}
-use Rattle.store_book.proofs.ByHand.{append_does, undone}
+use Rattle.store_model.proofs.Commands.ByHand.{append_does, undone}
 use Rattle.store_book.proofs.book.Book.append.Goals as goal
 
 pub returns-in-Ok-clause-does : goal.returns-in-Ok-clause-does

@@ -1,6 +1,6 @@
 use Rattle.std.proofs.Common.{subst}
 use Rattle.store_book.specs.BookState.{BookState}
-use Rattle.store_book.specs.Laws.{Sound}
+use Rattle.store_model.specs.Invariant.{Sound}
 use Rattle.store_book.proofs.book.Book.audit.Goals as goal
 
 pub returns : goal.returns

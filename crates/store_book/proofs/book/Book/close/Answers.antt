@@ -1,7 +1,7 @@
 use Rattle.std.proofs.Common.{refl, List, OnOk, subst}
 use Rattle.store_book.specs.BookState.{SlotSeen}
 use Rattle.store_book.specs.SlotSteps.{EachSlot, IsHousing}
-use Rattle.store_book.proofs.ByHand.{close_does, undone}
+use Rattle.store_model.proofs.Commands.ByHand.{close_does, undone}
 use Rattle.store_book.proofs.book.Book.close.Goals as goal
 
 pub returns-in-Ok-clause-does : goal.returns-in-Ok-clause-does

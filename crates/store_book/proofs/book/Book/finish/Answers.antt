@@ -1,8 +1,8 @@
 use Rattle.std.proofs.Common.{◌≡◌, [], Option, is_ok, length, ap, ◌∙◌, arith, subst}
 use Rattle.std.specs.Option.{option_map_or}
 use Rattle.std.specs.FinMap.{remove}
-use Rattle.blob_digest.specs.Keys.{Text}
-use Rattle.upload_table.specs.Sessions.{Session}
+use Rattle.finite_maps.specs.Texts.{Text}
+use Rattle.store_model.specs.Sessions.{Session}
 use Rattle.upload_table.specs.Uploaded.{repo_at, reopened, with_sessions}
 use Rattle.store_book.specs.BookState.{BookState}
 use Rattle.store_book.specs.Pinned.{Pinned, shown}
@@ -10,7 +10,7 @@ use Rattle.store_book.specs.SlotSteps.{EachSlot, IsHousing}
 use Rattle.store_book.proofs.Housing.{EachSlot-housed}
 use Rattle.store_book.specs.Keeping.{IsKept, IsUnkept}
 use Rattle.store_book.specs.Layers.{book_catalog}
-use Rattle.store_book.specs.Steps.{given_back}
+use Rattle.store_model.specs.Commands.{given_back}
 use Rattle.store_book.proofs.Finishing.{found, finish_charged, finish_ok, finish_other_digest, finish_unkept, given_back_is, layer_finished, layer_refused, layer_unknown, reserve_charged, same_tenants, CanKeep-finished, IsBook-finish, IsBook-given_back}
 use Rattle.store_book.proofs.PuttingBack.{here_tenant}
 use Rattle.store_book.proofs.Shown.{Quietly-shown}

@@ -1,11 +1,11 @@
 use Rattle.std.proofs.Common.{ap, sym, ◌∙◌, subst, refl}
 use Rattle.std.specs.Option.{option_copied}
 use Rattle.std.proofs.lemmas.Result.{err_from_is_err_and}
-use Rattle.blob_digest.specs.Sets as set
+use Rattle.finite_maps.specs.Sets as set
 use Rattle.link_table.specs.Linked.{Linked, HasNoLinks, vanish}
 use Rattle.store_book.specs.BookState.{BookState}
 use Rattle.store_book.specs.Layers.{book_catalog}
-use Rattle.store_book.specs.Steps.{start}
+use Rattle.store_model.specs.Commands.{start}
 use Rattle.store_book.specs.Pinned.{Pinned}
 use Rattle.store_book.proofs.Mounting.{session_ok, session_refused, mount_refused_first, can_link, live_source, mount_ok, IsBook-mount}
 use Rattle.store_book.proofs.Starting.{same_catalog, same_book, undone, unneeded, appeared_there, appeared_unlinked}

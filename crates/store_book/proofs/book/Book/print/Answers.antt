@@ -2,9 +2,9 @@ use Rattle.std.proofs.Common.{List, ℕ, ap, ◌∙◌, subst}
 use Rattle.std.specs.Prelude.{OnOk}
 use Rattle.std.specs.Io.KnownBytes.{Appends}
 use Rattle.store_book.specs.BookState.{BookState}
-use Rattle.store_book.specs.Laws.{Sound}
+use Rattle.store_model.specs.Invariant.{Sound}
 use Rattle.store_book.specs.Lines.{book_rows}
-use Rattle.store_book.specs.Printed.{book_text}
+use Rattle.store_model.specs.BookText.{book_text}
 use Rattle.store_book.proofs.BookTexts.{can_print, text_is}
 use Rattle.store_book.proofs.book.Book.print.Goals as goal
 

@@ -1,6 +1,6 @@
 use Rattle.std.proofs.Common.{Some, ap, ◌∙◌}
 use Rattle.std.specs.Vec.{vec_capacity}
-use Rattle.upload_table.specs.Sessions.{Taken}
+use Rattle.store_model.specs.Sessions.{Taken}
 use Rattle.upload_table.proofs.HandChunks.{hand_fill}
 use Rattle.upload_table.proofs.hand.Hand.fill_by.Goals as goal
 

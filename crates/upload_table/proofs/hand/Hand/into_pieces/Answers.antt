@@ -1,7 +1,7 @@
 use Rattle.std.proofs.Common.{ap, subst, ◌∙◌, ◌+◌, ◌≤◌, length}
 use Rattle.std.specs.List.{sum_by}
 use Rattle.std.specs.Vec.{vec_capacity}
-use Rattle.upload_table.specs.Sessions.{Taken, chunks_of}
+use Rattle.store_model.specs.Sessions.{Taken, chunks_of}
 use Rattle.upload_table.specs.Uploaded.{cut}
 use Rattle.upload_table.proofs.HandChunks.{hand_chunks, hand_fits}
 use Rattle.upload_table.proofs.hand.Hand.into_pieces.Goals as goal

@@ -1,7 +1,7 @@
 use Rattle.std.proofs.Common.{length, ap, ◌∙◌}
 use Rattle.std.specs.Vec.{vec_capacity}
 use Rattle.std.specs.List.{sum_by}
-use Rattle.upload_table.specs.Sessions.{Taken}
+use Rattle.store_model.specs.Sessions.{Taken}
 use Rattle.upload_table.proofs.HandChunks.{hand_received}
 use Rattle.upload_table.proofs.hand.Hand.received.Goals as goal
 

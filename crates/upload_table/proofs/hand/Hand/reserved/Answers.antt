@@ -1,7 +1,7 @@
 use Rattle.std.proofs.Common.{subst, ◌≢◌, []}
 use Rattle.std.specs.Vec.{vec_capacity}
 use Rattle.std.specs.List.{AllByRecursion}
-use Rattle.upload_table.specs.Sessions.{Taken}
+use Rattle.store_model.specs.Sessions.{Taken}
 use Rattle.upload_table.proofs.HandChunks.{hand_nonempty}
 use Rattle.upload_table.proofs.hand.Hand.reserved.Goals as goal
 

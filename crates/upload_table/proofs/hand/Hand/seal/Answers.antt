@@ -2,7 +2,7 @@ use Rattle.std.proofs.Common.{◌≡◌, ap, refl, sym, take, ◌∙◌}
 use Rattle.std.proofs.lemmas.Bool.{false≢true}
 use Rattle.std.specs.Vec.{vec_capacity}
 use Rattle.blob_digest.specs.Digests.{is_digest_of}
-use Rattle.upload_table.specs.Sessions.{Taken, whole_of}
+use Rattle.store_model.specs.Sessions.{Taken, whole_of}
 use Rattle.upload_table.specs.Uploaded.{cut}
 use Rattle.upload_table.proofs.Cuts.{cut-take}
 use Rattle.upload_table.proofs.HandChunks.{chunks_within, hand_whole, is_false}

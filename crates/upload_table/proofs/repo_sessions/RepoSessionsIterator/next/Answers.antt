@@ -1,8 +1,8 @@
 use Rattle.std.proofs.Common.{◌≡◌, ◌+◌, ◌-◌, suc, [], ◌∷◌, length, map, take, drop, arith, sym, ap, ◌∙◌, add-one}
 use Rattle.std.proofs.lemmas.List.{take_rest}
-use Rattle.blob_digest.specs.Keys.{same_text}
+use Rattle.finite_maps.specs.Texts.{same_text}
 use Rattle.upload_table.specs.Rows.{row_listed, rows_listed}
-use Rattle.upload_table.proofs.Filters.{filter-from, filter-nothing}
+use Rattle.finite_maps.proofs.Filters.{filter-from, filter-nothing}
 use Rattle.upload_table.proofs.repo_sessions.RepoSessionsIterator.next.Goals.{After-received_of}
 use Rattle.upload_table.proofs.repo_sessions.RepoSessionsIterator.next.Goals as goal
 

@@ -1,6 +1,6 @@
 use Rattle.std.proofs.Common.{◌+◌, Ok, ap, sym, ◌∙◌, refl, length}
 use Rattle.std.specs.FinMap.{insert}
-use Rattle.upload_table.specs.Sessions as shown
+use Rattle.store_model.specs.Sessions as shown
 use Rattle.upload_table.specs.declared.upload.Upload.{Upload}
 use Rattle.upload_table.specs.declared.upload.Content.TheVariants.{Home}
 use Rattle.upload_table.proofs.TenantRows.{map_of, shown-push, sound-push, start_open, start_spent}

@@ -1,8 +1,8 @@
 use Rattle.std.proofs.Common.{◌≡◌, ◌+◌, Some, ap, sym, ◌∙◌, arith, set, subst}
 use Rattle.std.specs.Option.{option_map}
 use Rattle.std.specs.FinMap.{get}
-use Rattle.upload_table.specs.Sessions.{Session, is_home}
-use Rattle.upload_table.specs.Sessions as shown
+use Rattle.store_model.specs.Sessions.{Session, is_home}
+use Rattle.store_model.specs.Sessions as shown
 use Rattle.upload_table.specs.Rows.{chunks_shown, content_charge, content_received, shown_by, AreWhole}
 use Rattle.upload_table.specs.Tenants.{Numbered, charged_in, with_chunks_here}
 use Rattle.upload_table.specs.declared.upload.Content.TheVariants.{InHand}

@@ -1,6 +1,6 @@
 use Rattle.std.proofs.Common.{◌≡◌, ap, ◌∙◌, arith, is_some}
 use Rattle.std.specs.FinMap.{get, remove}
-use Rattle.blob_digest.proofs.OptionLemmas.{some_value}
+use Rattle.finite_maps.proofs.Options.{some_value}
 use Rattle.upload_table.specs.Uploaded.{Rest, with_sessions}
 use Rattle.upload_table.proofs.TableCalls.{after-without, found_here, within}
 use Rattle.upload_table.proofs.uploads.Uploads.forget.Goals as goal

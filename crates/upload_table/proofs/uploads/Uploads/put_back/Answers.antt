@@ -1,8 +1,8 @@
 use Rattle.std.proofs.Common.{◌≡◌, Ok, length, ap, sym, ◌∙◌, arith, is_some}
 use Rattle.std.specs.List.{sum_by}
 use Rattle.std.specs.FinMap.{get}
-use Rattle.blob_digest.proofs.OptionLemmas.{some_same}
-use Rattle.upload_table.specs.Sessions.{Home, with_chunks}
+use Rattle.finite_maps.proofs.Options.{some_same}
+use Rattle.store_model.specs.Sessions.{Home, with_chunks}
 use Rattle.upload_table.specs.Uploaded.{with_sessions}
 use Rattle.upload_table.proofs.HandCalls.{put_back_known, put_fits, taken_value, whole_length}
 use Rattle.upload_table.proofs.TableCalls.{after-chunks, found_here, within}

@@ -3,8 +3,8 @@ use Rattle.std.specs.Prelude.{sum}
 use Rattle.std.specs.Option.{option_map_or}
 use Rattle.std.specs.List.{sum_by}
 use Rattle.std.specs.FinMap.{get}
-use Rattle.blob_digest.proofs.OptionLemmas.{some_same}
-use Rattle.upload_table.specs.Sessions.{Home, InHand, Session, charged, with_chunks}
+use Rattle.finite_maps.proofs.Options.{some_same}
+use Rattle.store_model.specs.Sessions.{Home, InHand, Session, charged, with_chunks}
 use Rattle.upload_table.specs.Uploaded.{Rest, cut, with_sessions}
 use Rattle.upload_table.proofs.Cuts.{sum_by-cut}
 use Rattle.upload_table.proofs.HandCalls.{whole_length}

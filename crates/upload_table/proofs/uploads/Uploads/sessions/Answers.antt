@@ -1,5 +1,5 @@
 use Rattle.std.proofs.Common.{ap, ◌∙◌, map}
-use Rattle.upload_table.specs.Sessions.{listed, sessions_of}
+use Rattle.store_model.specs.Sessions.{listed, sessions_of}
 use Rattle.upload_table.specs.Uploaded.{Uploaded}
 use Rattle.upload_table.proofs.AllTenants.{tenant_at}
 use Rattle.upload_table.proofs.TableCalls.{listed_nowhere, listed_there}

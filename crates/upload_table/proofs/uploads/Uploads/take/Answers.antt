@@ -1,7 +1,7 @@
 use Rattle.std.proofs.Common.{ap, sym, ◌∙◌, arith}
 use Rattle.std.specs.Option.{option_map}
 use Rattle.std.specs.FinMap.{get}
-use Rattle.upload_table.specs.Sessions.{Session, is_home}
+use Rattle.store_model.specs.Sessions.{Session, is_home}
 use Rattle.upload_table.proofs.HandCalls.{hand_is, take_is}
 use Rattle.upload_table.proofs.TableCalls.{after-chunks, charged_here, found_here, home_value, within}
 use Rattle.upload_table.proofs.uploads.Uploads.take.Goals as goal

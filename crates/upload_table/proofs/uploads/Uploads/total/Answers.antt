@@ -1,5 +1,5 @@
 use Rattle.std.proofs.Common.{ap, sym, ◌∙◌}
-use Rattle.upload_table.specs.Sessions.{in_sessions}
+use Rattle.store_model.specs.Sessions.{in_sessions}
 use Rattle.upload_table.specs.Uploaded.{Uploaded}
 use Rattle.upload_table.proofs.AllTenants.{charged_there, tenant_at, within_next}
 use Rattle.upload_table.proofs.uploads.Uploads.total.Goals as goal

@@ -1,0 +1,17 @@
+pub mod Agreement
+pub mod Filters
+pub mod Iterators
+pub mod Lists
+pub mod Mapped
+pub mod Maps
+pub mod Options
+pub mod Outcomes
+pub mod Parts
+pub mod Places
+pub mod Rows
+pub mod Sets
+pub mod Sorted
+pub mod Sums
+pub mod Texts
+pub mod Trees
+pub mod Writing

@@ -1,0 +1,19 @@
+-- Texts are the same where the order of texts says so.
+use Rattle.std.proofs.Common.{◌≡◌, true, refl}
+use Rattle.std.specs.Ordering.{eq_by_cmp}
+use Rattle.std.specs.Cmp.Lexicographic.{bytes_decides}
+use Rattle.std.proofs.lemmas.Map.Lookups.{exact_bytes}
+use Rattle.std.proofs.lemmas.Map.Views.{tells_apart}
+use Rattle.finite_maps.specs.Texts.{Text, text_cmp, same_text}
+
+pub same_text_is : (x y : Text) → x ≡ y → same_text x y ≡ true
+same_text_is x y e = (bytes_decides x y).1 e
+
+pub same_itself : (x : Text) → same_text x x ≡ true
+same_itself x = same_text_is x x refl
+
+pub text_is_same : (x y : Text) → same_text x y ≡ true → x ≡ y
+text_is_same x y e = (bytes_decides x y).0 e
+
+pub tied_text : (q x : Text) → eq_by_cmp text_cmp q x ≡ true → q ≡ x
+tied_text = tells_apart exact_bytes

@@ -1,0 +1,19 @@
+-- What each command, each sweep and each run keeps.
+pub mod Abandon
+pub mod Accepted
+pub mod AppendClose
+pub mod ByHand
+pub mod Delete
+pub mod Finish
+pub mod Hands
+pub mod Lease
+pub mod Manifests
+pub mod Mount
+pub mod Opening
+pub mod Referrers
+pub mod Runs
+pub mod SomeRun
+pub mod SomeSweep
+pub mod Start
+pub mod Sweep
+pub mod SweepAnswers

@@ -1,0 +1,62 @@
+-- An accepted abandon keeps all that is kept.
+use Rattle.std.proofs.Common.{◌≡◌, ℕ, Some, Ok, subst, arith, inl, inr, ◌+◌, ap}
+use Rattle.std.specs.FinMap.{get}
+use Rattle.std.proofs.lemmas.Bool.{cases_eq}
+use Rattle.blob_digest.specs.declared.refusal.Refusal.TheVariants.{NameUnknown}
+use Rattle.finite_maps.specs.Texts.{Text}
+use Rattle.store_model.specs.Catalog.{Session, Catalog, charged, tenant_of, used, received}
+use Rattle.store_model.specs.Commands.{tenant, session, not_busy, abandon, without_session}
+use Rattle.store_model.specs.Invariant.{Lawful, KeepsQuotas, FitsSlots, Sound}
+use Rattle.store_model.proofs.Invariant.LostSession.{Lawful-gone, used-gone, used_other-gone}
+use Rattle.store_model.proofs.Commands.Hands.{home_charged, home_chunks}
+use Rattle.finite_maps.proofs.Outcomes.{bound_ok, some_of_ok}
+use Rattle.store_model.proofs.Commands.Accepted.{left_by, answer_by, same_tenant, session_found}
+
+module _ (C C' : Catalog) (repo : Text) (number n : ℕ) (stepped : abandon C repo number ≡ Ok (n, C')) where
+  record Abandoned : Type 0 where
+    t : ℕ
+    known : tenant_of C.tenants repo ≡ Some t
+    s : Session
+    found : get C.sessions (t, number) ≡ Some s
+    counts : charged s ≡ received s
+    answer : received s ≡ n
+    left : without_session C t number ≡ C'
+
+  abandoned : Abandoned
+  abandoned =
+      let a = bound_ok (tenant C repo) _ (n, C') stepped in
+      let b = bound_ok (session C a.0 repo number) _ (n, C') a.2 in
+      let d = bound_ok (not_busy b.0.chunks) _ (n, C') b.2 in
+      let home = home_chunks b.0.chunks d.0 d.1 in
+      record { t = a.0; known = some_of_ok (tenant_of C.tenants repo) NameUnknown a.0 a.1; s = b.0; found = (session_found _ repo b.0 b.1).0; counts = home_charged b.0 home.0 home.1; answer = answer_by d.2; left = left_by d.2 }
+
+  -- the tenant's use falls by the session's length
+  pub used-after_abandon : (t : ℕ) → tenant_of C.tenants repo ≡ Some t → used C t ≡ used C' t + n
+  used-after_abandon t known =
+      let p = abandoned in
+      let is_t : p.t ≡ t = same_tenant (tenant_of C.tenants repo) p.t t p.known known in
+      let sum = used-gone C (p.t, number) p.s p.found in
+      let now : used (without_session C p.t number) p.t ≡ used C' p.t = ap (λ D. used D p.t) p.left in
+      let answer = p.answer in
+      let counts = p.counts in
+      let at : used C p.t ≡ used C' p.t + n = omega arith in
+      subst (λ u. used C u ≡ used C' u + n) is_t at
+
+  pub Lawful-after_abandon : Lawful C → Lawful C'
+  Lawful-after_abandon lawful = let p = abandoned in subst (λ (D : Catalog). Lawful D) p.left (Lawful-gone C (p.t, number) lawful)
+
+  pub KeepsQuotas-after_abandon : KeepsQuotas C → KeepsQuotas C'
+  KeepsQuotas-after_abandon keeps =
+      let p = abandoned in
+      subst (λ (D : Catalog). KeepsQuotas D) p.left (λ u there.
+      let k = keeps u there in
+      elim (cases_eq u p.t) [
+        | inl e ↦ rw e (let less = used-gone C (p.t, number) p.s p.found in let k = rw e at k in omega arith)
+        | inr other ↦ let same = used_other-gone C (p.t, number) p.s p.found u other in omega arith
+      ])
+
+  pub FitsSlots-after_abandon : FitsSlots C → FitsSlots C'
+  FitsSlots-after_abandon fits = subst (λ (D : Catalog). FitsSlots D) abandoned.left (record { some = fits.some; few = fits.few; fit = fits.fit })
+
+  pub Sound-after_abandon : Sound C → Sound C'
+  Sound-after_abandon sound = record { lawful = Lawful-after_abandon sound.lawful; quotas = KeepsQuotas-after_abandon sound.quotas; slots = FitsSlots-after_abandon sound.slots }

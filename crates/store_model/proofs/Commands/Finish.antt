@@ -1,0 +1,113 @@
+-- An accepted finish keeps all that is kept. What the session counted moves into the blob's length, which the tenant uses once.
+use Rattle.std.proofs.Common.{◌≡◌, ◌≢◌, ℕ, ◌+◌, ◌≤◌, true, false, not, length, Option, Some, None, Ok, refl, sym, ap, ◌∙◌, subst, arith, inl, inr}
+use Rattle.std.specs.Prelude.{◌&&◌, nat_le, if◌then◌else◌}
+use Rattle.std.specs.Cmp.Lexicographic.{nat_list_cmp_total}
+use Rattle.std.specs.FinMap.{get, insert, len}
+use Rattle.std.proofs.lemmas.Bool.{cases_eq, leb-false, not-false, and_parts}
+use Rattle.std.proofs.lemmas.Map.Lookups.{exact_bytes}
+use Rattle.blob_digest.specs.declared.refusal.Refusal.TheVariants.{DigestInvalid}
+use Rattle.blob_digest.specs.Digests.{is_digest_of}
+use Rattle.finite_maps.specs.Sets as set
+use Rattle.finite_maps.specs.Texts.{Text}
+use Rattle.store_model.specs.Catalog.{Session, Resident, Catalog, Taken, charged, tenant_of, tenant_holds, used, quota_of}
+use Rattle.store_model.specs.Commands.{finish, has_slot, is_full_for, names, same_bytes, stored, taken_session, was_lent, whole_of}
+use Rattle.finite_maps.specs.Outcomes.{refuse}
+use Rattle.store_model.specs.Invariant.{Lawful, KeepsQuotas, FitsSlots, Sound}
+use Rattle.finite_maps.proofs.Texts.{text_is_same}
+use Rattle.finite_maps.proofs.Maps.{get-insert_at}
+use Rattle.store_model.proofs.Invariant.Repos.{is_own, is_no_other}
+use Rattle.store_model.proofs.Invariant.Blobs.{Lawful-put, used-put, FitsSlots-put}
+use Rattle.store_model.proofs.Invariant.NewLink.{Lawful-link, used_other-link}
+use Rattle.store_model.proofs.Invariant.LostSession.{Lawful-gone, used-gone, used_other-gone}
+use Rattle.store_model.proofs.Invariant.Use.{used-link}
+use Rattle.store_model.proofs.Commands.Hands.{taken_found, whole_long, IsProper}
+use Rattle.finite_maps.proofs.Outcomes.{bound_ok, not_refused}
+use Rattle.store_model.proofs.Commands.Accepted.{left_by, answer_by}
+use Rattle.store_model.proofs.Invariant.SessionTenants.{session_owner, session_tenant}
+use Rattle.store_model.specs.Sessions.{IsFull}
+
+-- a blob that is there has these very bytes
+bytes_kept : (x : Option Resident) (bytes : Text) → same_bytes x bytes ≡ true → (old : Resident) → x ≡ Some old → length old.bytes ≡ length bytes
+bytes_kept None bytes same old e = absurd cc
+bytes_kept (Some b) bytes same old e = let is : b ≡ old = cc in ap (λ (y : Resident). length y.bytes) (sym is) ∙ ap length (text_is_same b.bytes bytes same)
+
+module _ (C : Catalog) (t number : ℕ) (repo digest whole : Text) (s : Session) (lawful : Lawful C) (known : tenant_of C.tenants repo ≡ Some t) (found : get C.sessions (t, number) ≡ Some s) (of_repo : s.repo ≡ repo) (same : same_bytes (get C.residents digest) whole ≡ true) where
+  abbrev blob : Resident
+  blob = record { bytes = whole; condemned = false; lent = was_lent (get C.residents digest) }
+
+  abbrev put : Catalog
+  put = record C { residents = insert C.residents digest blob }
+
+  abbrev linked : Catalog
+  linked = record put { links = set.insert C.links (repo, digest) }
+
+  abbrev after : Catalog
+  after = stored C t repo number digest whole
+
+  there : set.contains C.repos repo ≡ true
+  there = ap (λ (r : Text). set.contains C.repos r) (sym of_repo) ∙ (lawful.sessions (t, number) s found).repo
+
+  now_kept : get put.residents digest ≡ Some blob
+  now_kept = get-insert_at nat_list_cmp_total exact_bytes C.residents digest blob
+
+  module _ (is_digest : is_digest_of digest whole ≡ true) where
+    pub Lawful-close : Lawful after
+    Lawful-close = Lawful-gone linked (t, number) (Lawful-link put repo digest (Lawful-put C digest blob refl lawful is_digest) there blob now_kept refl)
+
+  -- the session's length goes, and the blob's comes where the tenant didn't hold it
+  pub used-close : used after t + charged s + (if tenant_holds C t digest then length whole else 0) ≡ used C t + length whole
+  used-close =
+      let a : used put t ≡ used C t = used-put C digest blob lawful (bytes_kept (get C.residents digest) whole same) t in
+      let b : used linked t + (if tenant_holds C t digest then length whole else 0) ≡ used put t + length whole = used-link put t repo digest blob there (is_own C t repo known) now_kept in
+      let c : used linked t ≡ used after t + charged s = used-gone linked (t, number) s found in
+      omega arith
+
+  pub used_other-close : (u : ℕ) → u ≢ t → used after u ≡ used C u
+  used_other-close u other =
+      let a : used put u ≡ used C u = used-put C digest blob lawful (bytes_kept (get C.residents digest) whole same) u in
+      let b : used linked u ≡ used put u = used_other-link put repo digest u (is_no_other C t u repo known other) in
+      let c : used linked u ≡ used after u = used_other-gone linked (t, number) s found u other in
+      omega arith
+
+  pub KeepsQuotas-close : (n : ℕ) → length whole ≡ charged s + n → used C t + n ≤ quota_of C t → KeepsQuotas C → KeepsQuotas after
+  KeepsQuotas-close n long within keeps = λ u in_tenants. elim (cases_eq u t) [
+    | inl e ↦ rw e (let sum = used-close in omega arith)
+    | inr other ↦ let alike = used_other-close u other in let k = keeps u in_tenants in omega arith
+  ]
+
+  pub FitsSlots-close : is_full_for C digest ≡ false → FitsSlots C → FitsSlots after
+  FitsSlots-close free fits =
+      let f = FitsSlots-put C digest blob fits (λ new. leb-false C.slots (len C.residents + C.retired) (sym (ap (λ b. not b && nat_le C.slots (len C.residents + C.retired)) new) ∙ free)) in
+      record { some = f.some; few = f.few; fit = f.fit }
+
+module _ (C C' : Catalog) (h : Taken) (digest : Text) (n : ℕ) (proper : IsProper h) (full : IsFull h) (stepped : finish C h digest ≡ Ok (n, C')) where
+  -- what an accepted finish met
+  pub record Finished : Type 0 where
+    pub s : Session
+    pub here : taken_session (get C.sessions h.key) h ≡ Ok s
+    pub named : names C digest (whole_of h) ≡ true
+    pub housed_ok : has_slot C digest ≡ Ok tt
+    pub answer : length (whole_of h) ≡ n
+    pub left : stored C h.key.0 s.repo h.key.1 digest (whole_of h) ≡ C'
+
+  pub finished : Finished
+  finished =
+      let a = bound_ok (taken_session (get C.sessions h.key) h) _ (n, C') stepped in
+      let d = bound_ok (refuse (not (names C digest (whole_of h))) DigestInvalid) _ (n, C') a.2 in
+      let e = bound_ok (has_slot C digest) _ (n, C') d.2 in
+      record { s = a.0; here = a.1; named = not-false _ (not_refused _ _ _ d.1); housed_ok = e.1; answer = answer_by e.2; left = left_by e.2 }
+
+  pub Sound-after_finish : Sound C → Sound C'
+  Sound-after_finish sound =
+      let p = finished in
+      let f = taken_found (get C.sessions h.key) h p.s p.here in
+      let both = and_parts (is_digest_of digest (whole_of h)) (same_bytes (get C.residents digest) (whole_of h)) p.named in
+      let known = session_owner C sound.lawful h.key p.s f.0 in
+      let there = session_tenant C sound.lawful h.key p.s f.0 in
+      let counts : charged p.s ≡ length (whole_of h) = rw f.1 (sym (whole_long h proper full)) in
+      let within : used C h.key.0 + 0 ≤ quota_of C h.key.0 = let keeps = sound.quotas h.key.0 there in omega arith in
+      subst (λ (D : Catalog). Sound D) p.left (record {
+        lawful = Lawful-close C h.key.0 h.key.1 p.s.repo digest (whole_of h) p.s sound.lawful known f.0 refl both.1 both.0;
+        quotas = KeepsQuotas-close C h.key.0 h.key.1 p.s.repo digest (whole_of h) p.s sound.lawful known f.0 refl both.1 0 (omega arith) within sound.quotas;
+        slots = FitsSlots-close C h.key.0 h.key.1 p.s.repo digest (whole_of h) p.s sound.lawful known f.0 refl both.1 (not_refused _ _ _ p.housed_ok) sound.slots;
+      })

@@ -1,0 +1,9 @@
+-- The definitions on small literals.
+pub mod Commands
+pub mod Digests
+pub mod Hands
+pub mod Isolation
+pub mod Limits
+pub mod Manifests
+pub mod Runs
+pub mod Sweeps

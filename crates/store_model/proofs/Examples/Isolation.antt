@@ -1,0 +1,251 @@
+-- A tenant with a second one beside it, and alone: its replies and its part are the same.
+use Rattle.std.proofs.Common.{◌≡◌, Bool, true, false, cond, List, [], ◌∷◌, ◌++◌, Option, None, Ok, refl, sym, ap, ◌∙◌, subst, inl, inr, arith}
+use Prim.Native.Nat.{zero, suc}
+use Rattle.std.specs.Prelude.{codes, if◌then◌else◌}
+use Rattle.std.specs.List.{AllByRecursion, Contains}
+use Rattle.std.specs.FinMap.{get, remove, empty, get-empty, get-insert, get-remove, entries-insert, len-entries}
+use Rattle.std.specs.Cmp.Lexicographic.{nat_list_cmp_total}
+use Rattle.std.proofs.lemmas.Map.Lookups.{exact_bytes}
+use Rattle.finite_maps.specs.Texts.{same_text, Text, text_cmp}
+use Rattle.finite_maps.specs.Sets as set
+use Rattle.blob_digest.proofs.KeyOrders.{number_cmp_total, exact_number, link_cmp_total}
+use Rattle.finite_maps.proofs.Sums.{entries-remove, get-remove_same}
+use Rattle.finite_maps.proofs.Rows.{entries-empty}
+use Rattle.store_model.specs.declared.mount.Mount.TheVariants as mounting
+use Rattle.store_model.specs.Catalog.{Tenant, Session, Resident, Catalog, opening}
+use Rattle.store_model.specs.Commands.{new_session, stored, with_link}
+use Rattle.store_model.specs.Runs.{Command, Event, Called, Cleaned, Start, Close, Mount, Delete, Number, Mounting, Done, outcome, IsRun}
+use Rattle.store_model.specs.Sweep.{Swept, is_orphan, IsLeft, IsSweep}
+use Rattle.store_model.specs.Noninterference.{events_of, commands, replies_alone, left_alone, outcome_alone, part, named, whole_of, brought_in, NoCollision, IsFair, IsUncrowded, IsAlone}
+use Rattle.store_model.proofs.Noninterference.Runs.{isolated}
+use Rattle.finite_maps.proofs.Maps.{get-insert_other, cases_key}
+use Rattle.finite_maps.proofs.Options.{nothing}
+use Rattle.store_model.proofs.Examples.Digests.{abc, abc_bytes, abc_named, obj, obj_bytes, obj_named}
+
+abbrev tenants : List Tenant
+tenants = record { name = codes "acme"; quota = 3 } ∷ record { name = codes "other"; quota = 9 } ∷ []
+
+abbrev one : Text
+one = codes "acme/one"
+
+abbrev two : Text
+two = codes "acme/two"
+
+abbrev x : Text
+x = codes "other/x"
+
+abbrev empty_book : Catalog
+empty_book = opening tenants 64 10
+
+-- ---- the first tenant alone
+
+-- the mount finds nothing of the tenant's, the session that it opens is closed, and the second mount finds the blob
+abbrev own : List Command
+own = Mount one abc None ∷ Close one 1 abc None abc_bytes ∷ Mount two abc None ∷ []
+
+abbrev alone_open : Catalog
+alone_open = new_session empty_book 0 one
+
+abbrev alone_stored : Catalog
+alone_stored = stored alone_open 0 one 1 abc abc_bytes
+
+abbrev alone_mounted : Catalog
+alone_mounted = with_link alone_stored two abc
+
+opens_alone : outcome_alone empty_book (Mount one abc None) ≡ Ok (Mounting (mounting.Session 1), alone_open)
+opens_alone = simp (get-empty, entries-empty) refl
+
+stores_alone : outcome_alone alone_open (Close one 1 abc None abc_bytes) ≡ Ok (Number 3, alone_stored)
+stores_alone = simp (get-insert {X = Session} number_cmp_total, entries-insert {X = Session} number_cmp_total, get-empty, entries-empty) (rw abc_named refl)
+
+mounts_alone : outcome_alone alone_stored (Mount two abc None) ≡ Ok (Mounting mounting.Mounted, alone_mounted)
+mounts_alone = simp (entries-insert {X = Unit {0}} nat_list_cmp_total, get-insert {X = Unit {0}} nat_list_cmp_total, get-insert {X = Unit {0}} link_cmp_total, get-empty, entries-empty) refl
+
+own_replies_alone : replies_alone empty_book own ≡ Ok (Mounting (mounting.Session 1)) ∷ Ok (Number 3) ∷ Ok (Mounting mounting.Mounted) ∷ []
+own_replies_alone = rw (opens_alone, stores_alone, mounts_alone) refl
+
+own_left_alone : left_alone empty_book own ≡ alone_mounted
+own_left_alone = rw (opens_alone, stores_alone, mounts_alone) refl
+
+-- ---- with a second one, which stores the same blob first, and another one, and deletes both again; a sweep then takes the other one away
+
+abbrev swept : Swept
+swept = record { condemned = 1; freed = 1; held = 0; retired = 0 }
+
+abbrev called : List Event
+called = Called (Start x) (Ok (Number 1)) ∷ Called (Close x 1 abc None abc_bytes) (Ok (Number 3)) ∷ Called (Start x) (Ok (Number 2)) ∷ Called (Close x 2 obj None obj_bytes) (Ok (Number 2))
+    ∷ Called (Mount one abc None) (Ok (Mounting (mounting.Session 1))) ∷ Called (Close one 1 abc None abc_bytes) (Ok (Number 3))
+    ∷ Called (Delete x abc) (Ok Done) ∷ Called (Delete x obj) (Ok Done) ∷ Cleaned swept ∷ Called (Mount two abc None) (Ok (Mounting mounting.Mounted)) ∷ []
+
+own_commands : commands (events_of tenants 0 called) ≡ own
+own_commands = refl
+
+abbrev other_open : Catalog
+other_open = new_session empty_book 1 x
+
+abbrev other_stored : Catalog
+other_stored = stored other_open 1 x 1 abc abc_bytes
+
+abbrev other_again : Catalog
+other_again = new_session other_stored 1 x
+
+abbrev other_both : Catalog
+other_both = stored other_again 1 x 2 obj obj_bytes
+
+abbrev both_open : Catalog
+both_open = new_session other_both 0 one
+
+abbrev both_stored : Catalog
+both_stored = stored both_open 0 one 1 abc abc_bytes
+
+abbrev one_deleted : Catalog
+one_deleted = record both_stored { links = set.remove both_stored.links (x, abc) }
+
+abbrev both_deleted : Catalog
+both_deleted = record one_deleted { links = set.remove one_deleted.links (x, obj) }
+
+abbrev cleaned : Catalog
+cleaned = record both_deleted { residents = remove both_deleted.residents obj }
+
+abbrev both_mounted : Catalog
+both_mounted = with_link cleaned two abc
+
+second_opens : outcome false empty_book (Start x) ≡ Ok (Number 1, other_open)
+second_opens = simp (get-empty, entries-empty) refl
+
+second_stores : outcome false other_open (Close x 1 abc None abc_bytes) ≡ Ok (Number 3, other_stored)
+second_stores = simp (len-entries, entries-insert {X = Session} number_cmp_total, get-insert {X = Session} number_cmp_total, entries-insert {X = Unit {0}} nat_list_cmp_total, get-empty, entries-empty) (rw abc_named refl)
+
+second_opens_again : outcome false other_stored (Start x) ≡ Ok (Number 2, other_again)
+second_opens_again = simp (entries-remove {X = Session} number_cmp_total exact_number, entries-insert {X = Session} number_cmp_total, entries-insert {X = Unit {0}} nat_list_cmp_total, get-insert {X = Unit {0}} nat_list_cmp_total, get-empty, entries-empty) refl
+
+second_stores_another : outcome false other_again (Close x 2 obj None obj_bytes) ≡ Ok (Number 2, other_both)
+second_stores_another = simp (len-entries, entries-remove {X = Session} number_cmp_total exact_number, entries-insert {X = Session} number_cmp_total, get-insert {X = Session} number_cmp_total, entries-insert {X = Unit {0}} nat_list_cmp_total, get-insert {X = Unit {0}} link_cmp_total, entries-insert {X = Resident} nat_list_cmp_total, get-insert {X = Resident} nat_list_cmp_total, get-empty, entries-empty) (rw obj_named refl)
+
+-- the second one's blob is no source
+first_opens : outcome false other_both (Mount one abc None) ≡ Ok (Mounting (mounting.Session 1), both_open)
+first_opens = simp (entries-remove {X = Session} number_cmp_total exact_number, entries-insert {X = Session} number_cmp_total, entries-insert {X = Unit {0}} nat_list_cmp_total, get-insert {X = Unit {0}} nat_list_cmp_total, get-insert {X = Unit {0}} link_cmp_total, get-insert {X = Resident} nat_list_cmp_total, get-empty, entries-empty) refl
+
+first_stores : outcome false both_open (Close one 1 abc None abc_bytes) ≡ Ok (Number 3, both_stored)
+first_stores = simp (len-entries, entries-remove {X = Session} number_cmp_total exact_number, entries-insert {X = Session} number_cmp_total, get-insert {X = Session} number_cmp_total, entries-insert {X = Unit {0}} nat_list_cmp_total, get-insert {X = Unit {0}} link_cmp_total, entries-insert {X = Resident} nat_list_cmp_total, get-insert {X = Resident} nat_list_cmp_total, get-empty, entries-empty) (rw abc_named refl)
+
+second_deletes : outcome false both_stored (Delete x abc) ≡ Ok (Done, one_deleted)
+second_deletes = simp (get-insert {X = Unit {0}} link_cmp_total, entries-empty) refl
+
+second_deletes_another : outcome false one_deleted (Delete x obj) ≡ Ok (Done, both_deleted)
+second_deletes_another = simp (get-remove {X = Unit {0}} link_cmp_total, get-insert {X = Unit {0}} link_cmp_total, entries-empty) refl
+
+first_mounts : outcome false cleaned (Mount two abc None) ≡ Ok (Mounting mounting.Mounted, both_mounted)
+first_mounts = simp (entries-insert {X = Unit {0}} nat_list_cmp_total, get-insert {X = Unit {0}} nat_list_cmp_total, get-remove {X = Unit {0}} link_cmp_total, get-insert {X = Unit {0}} link_cmp_total, get-empty, entries-empty) refl
+
+-- ---- the sweep
+
+-- the first one holds the one blob, and nobody the other
+is_linked : is_orphan both_deleted abc ≡ false
+is_linked = simp (entries-insert {X = Unit {0}} nat_list_cmp_total, get-remove {X = Unit {0}} link_cmp_total, get-insert {X = Unit {0}} link_cmp_total, entries-empty) refl
+
+is_unlinked : is_orphan both_deleted obj ≡ true
+is_unlinked = simp (entries-insert {X = Unit {0}} nat_list_cmp_total, get-remove {X = Unit {0}} link_cmp_total, get-insert {X = Unit {0}} link_cmp_total, get-empty, entries-empty) refl
+
+no_third_blob : (d : Text) → ¬ (d ≡ abc) → ¬ (d ≡ obj) → get both_deleted.residents d ≡ None
+no_third_blob d other another =
+    get-insert_other nat_list_cmp_total exact_bytes other_both.residents abc _ d other
+    ∙ get-insert_other nat_list_cmp_total exact_bytes other_stored.residents obj _ d another
+    ∙ get-insert_other nat_list_cmp_total exact_bytes empty abc _ d other ∙ get-empty text_cmp d
+
+same_abc : get cleaned.residents abc ≡ get both_deleted.residents abc
+same_abc = get-remove nat_list_cmp_total both_deleted.residents obj abc
+
+other_swept : IsSweep both_deleted swept cleaned
+other_swept = record {
+  orphans = λ d b found. elim (cases_key nat_list_cmp_total exact_bytes d abc) [
+    | inl e ↦ subst (λ q. IsLeft (is_orphan both_deleted q) b (get cleaned.residents q)) (sym e) (subst (λ o. IsLeft o b (get cleaned.residents abc)) (sym is_linked) (same_abc ∙ ap (get both_deleted.residents) (sym e) ∙ found))
+    | inr other ↦ elim (cases_key nat_list_cmp_total exact_bytes d obj) [
+      | inl e ↦
+          subst (λ q. IsLeft (is_orphan both_deleted q) b (get cleaned.residents q)) (sym e)
+          (subst (λ o. IsLeft o b (get cleaned.residents obj)) (sym is_unlinked) (subst (λ now. IsLeft true b now) (sym (get-remove_same nat_list_cmp_total exact_bytes both_deleted.residents obj)) tt))
+      | inr another ↦ nothing (no_third_blob d other another) found
+    ]
+  ];
+  no_others = λ d none. stays_out d none;
+  rest = refl;
+  condemned = simp (entries-insert {X = Resident} nat_list_cmp_total, get-insert {X = Resident} nat_list_cmp_total, entries-insert {X = Unit {0}} nat_list_cmp_total, get-remove {X = Unit {0}} link_cmp_total, get-insert {X = Unit {0}} link_cmp_total, get-empty, entries-empty) refl;
+  gone = simp (get-remove {X = Resident} nat_list_cmp_total, entries-insert {X = Resident} nat_list_cmp_total, get-insert {X = Resident} nat_list_cmp_total, get-empty, entries-empty) refl;
+  held = simp (entries-remove {X = Resident} nat_list_cmp_total exact_bytes, entries-insert {X = Resident} nat_list_cmp_total, get-insert {X = Resident} nat_list_cmp_total, get-empty, entries-empty) refl;
+}
+  where
+    none_either : (gone : Bool) (o : Option Resident) → o ≡ None → cond gone None o ≡ None
+    none_either true o none = refl
+    none_either false o none = none
+
+    stays_out : (d : Text) → get both_deleted.residents d ≡ None → get cleaned.residents d ≡ None
+    stays_out d none = get-remove nat_list_cmp_total both_deleted.residents obj d ∙ none_either _ _ none
+
+-- ---- the run
+
+abbrev both_run : IsRun empty_book called both_mounted
+both_run = (
+  other_open,
+  second_opens,
+  (
+    other_stored,
+    second_stores,
+    (
+      other_again,
+      second_opens_again,
+      (
+        other_both,
+        second_stores_another,
+        (
+          both_open,
+          first_opens,
+          (
+            both_stored,
+            first_stores,
+            (one_deleted, second_deletes, (both_deleted, second_deletes_another, (cleaned, other_swept, (both_mounted, first_mounts, refl)))),
+          ),
+        ),
+      ),
+    ),
+  ),
+)
+
+brought_first : named abc (whole_of other_open x 1 abc_bytes) ≡ (abc, abc_bytes) ∷ []
+brought_first = simp (get-insert {X = Session} number_cmp_total) (rw abc_named refl)
+
+brought_second : named obj (whole_of other_again x 2 obj_bytes) ≡ (obj, obj_bytes) ∷ []
+brought_second = simp (get-insert {X = Session} number_cmp_total) (rw obj_named refl)
+
+brought_third : named abc (whole_of both_open one 1 abc_bytes) ≡ (abc, abc_bytes) ∷ []
+brought_third = simp (get-insert {X = Session} number_cmp_total) (rw abc_named refl)
+
+abbrev all_brought : List (Text × Text)
+all_brought = (abc, abc_bytes) ∷ (obj, obj_bytes) ∷ (abc, abc_bytes) ∷ []
+
+is_brought : brought_in called empty_book both_mounted both_run ≡ all_brought
+is_brought = λ i. brought_first i ++ (brought_second i ++ (brought_third i ++ []))
+
+-- the whole that is brought with a digest
+abbrev whole_with : Text → Text
+whole_with d = if same_text d abc then abc_bytes else obj_bytes
+
+brought_with : (d whole : Text) → Contains all_brought (d, whole) → whole_with d ≡ whole
+brought_with d whole (zero, lt, is) = ap (λ (p : Text × Text). whole_with p.0) (sym is) ∙ ap (λ (p : Text × Text). p.1) is
+brought_with d whole (suc zero, lt, is) = ap (λ (p : Text × Text). whole_with p.0) (sym is) ∙ ap (λ (p : Text × Text). p.1) is
+brought_with d whole (suc (suc zero), lt, is) = ap (λ (p : Text × Text). whole_with p.0) (sym is) ∙ ap (λ (p : Text × Text). p.1) is
+brought_with d whole (suc (suc (suc n)), lt, is) = absurd (omega arith)
+
+-- ---- the premises of the law, and what it says
+
+fair : IsFair tenants 64 10 called both_mounted
+fair = record { run = both_run; no_collision = subst NoCollision (sym is_brought) (λ d a b first second. sym (brought_with d a first) ∙ brought_with d b second) }
+
+uncrowded : AllByRecursion IsUncrowded (events_of tenants 0 called)
+uncrowded = (tt, (tt, (tt, tt)))
+
+-- what the first tenant is told and has is what it would be alone
+first_alone : IsAlone tenants 64 10 0 called both_mounted
+first_alone = isolated tenants 64 10 0 called both_mounted fair uncrowded
+
+same_part : part both_mounted 0 ≡ part alone_mounted 0
+same_part = first_alone.part ∙ ap (λ C. part C 0) own_left_alone

@@ -1,0 +1,15 @@
+-- What each change of a field keeps: the catalog lawful, the counts and the uses right.
+pub mod Blobs
+pub mod Bounds
+pub mod Chunks
+pub mod Counts
+pub mod DistinctUse
+pub mod LostLink
+pub mod LostSession
+pub mod Manifests
+pub mod NewLink
+pub mod NewSession
+pub mod Repos
+pub mod SessionTenants
+pub mod TenantNames
+pub mod Use

@@ -1,0 +1,72 @@
+-- A blob that is put keeps the catalog lawful, and no use changes.
+use Rattle.std.proofs.Common.{◌≡◌, ℕ, ◌+◌, ◌<◌, ◌≤◌, true, false, cond, length, Some, None, refl, ap, ◌∙◌, subst, arith, inl, inr, ⊎_elim}
+use Rattle.std.specs.Cmp.Lexicographic.{nat_list_cmp_total}
+use Rattle.std.specs.FinMap.{get, insert, len, contains_key, len-insert}
+use Rattle.std.proofs.lemmas.Map.Lookups.{exact_bytes}
+use Rattle.blob_digest.specs.Digests.{is_digest_of}
+use Rattle.finite_maps.specs.Texts.{Text}
+use Rattle.store_model.specs.Catalog.{Resident, Catalog, tenant_holds, blob_share, used}
+use Rattle.store_model.specs.Invariant.{Lawful, FitsSlots}
+use Rattle.finite_maps.proofs.Sums.{sum_new, sum_changed}
+use Rattle.finite_maps.proofs.Maps.{get-insert_at, get-insert_other, got-insert, cases_key}
+use Rattle.store_model.proofs.Invariant.NewLink.{unlinked, is_unheld}
+
+module _ (C : Catalog) (d : Text) (b : Resident) where
+  abbrev after : Catalog
+  after = record C { residents = insert C.residents d b }
+
+  module _ (sound : b.condemned ≡ false) where
+    kept_now : (x : Text) → (old : Resident) × (get C.residents x ≡ Some old) × (old.condemned ≡ false) → (new : Resident) × (get after.residents x ≡ Some new) × (new.condemned ≡ false)
+    kept_now x k = elim (cases_key nat_list_cmp_total exact_bytes x d) [
+      | inl e ↦ (b, ap (get after.residents) e ∙ get-insert_at nat_list_cmp_total exact_bytes C.residents d b, sound)
+      | inr differ ↦ (k.0, get-insert_other nat_list_cmp_total exact_bytes C.residents d b x differ ∙ k.1, k.2)
+    ]
+
+    pub Lawful-put : Lawful C → is_digest_of d b.bytes ≡ true → Lawful after
+    Lawful-put lawful is_digest = record {
+      content = λ x now h. ⊎_elim
+          (λ e. subst (λ (y : Resident). is_digest_of x y.bytes ≡ true) e.1 (ap (λ (q : Text). is_digest_of q b.bytes) e.0 ∙ is_digest))
+          (lawful.content x now)
+          (got-insert nat_list_cmp_total exact_bytes C.residents d b x now h);
+      links = λ l h. let k = lawful.links l h in record { repo = k.repo; kept = kept_now l.1 k.kept };
+      manifests = λ l bytes h. let k = lawful.manifests l bytes h in record { repo = k.repo; name = k.name; small = k.small; refs = k.refs };
+      sessions = λ q s h. let k = lawful.sessions q s h in record { repo = k.repo; tenant = k.tenant; chunks = k.chunks; small = k.small; positive = k.positive; number = k.number };
+      tenants = lawful.tenants;
+      numbers = lawful.numbers;
+      limits = record {
+        tenants = lawful.limits.tenants;
+        names_rise = lawful.limits.names_rise;
+        first = lawful.limits.first;
+        max_blob = lawful.limits.max_blob;
+        quotas = lawful.limits.quotas;
+        next = lawful.limits.next;
+        sessions = lawful.limits.sessions;
+        repos = lawful.limits.repos;
+        manifests = lawful.limits.manifests;
+        names = lawful.limits.names;
+      };
+    }
+
+  -- a blob that is there keeps its length
+  pub used-put : Lawful C → ((old : Resident) → get C.residents d ≡ Some old → length old.bytes ≡ length b.bytes) → (u : ℕ) → used after u ≡ used C u
+  used-put lawful same u = elim (get C.residents d) as (λ x. get C.residents d ≡ x → used after u ≡ used C u) [
+    | None ↦ λ none.
+        let sum = sum_new nat_list_cmp_total exact_bytes (blob_share C u) C.residents d b none in
+        let nothing : blob_share C u (d, b) ≡ 0 = ap (λ h. cond h (length b.bytes) 0) (is_unheld C u d (unlinked C lawful d none)) in
+        omega arith
+    | Some old ↦ λ found.
+        let sum = sum_changed nat_list_cmp_total exact_bytes (blob_share C u) C.residents d old b found in
+        let share : blob_share C u (d, old) ≡ blob_share C u (d, b) = ap (λ n. cond (tenant_holds C u d) n 0) (same old found) in
+        omega arith
+  ] refl
+
+  -- a blob that is there takes no slot, and a new one takes a free one
+  pub FitsSlots-put : FitsSlots C → (contains_key C.residents d ≡ false → len C.residents + C.retired < C.slots) → FitsSlots after
+  FitsSlots-put fits free = record {
+    some = fits.some;
+    few = fits.few;
+    fit = elim (contains_key C.residents d) as (λ h. contains_key C.residents d ≡ h → len after.residents + C.retired ≤ C.slots) [
+      | true ↦ λ h. let now : len after.residents ≡ len C.residents = len-insert nat_list_cmp_total C.residents d b ∙ ap (λ x. cond x (len C.residents) (len C.residents + 1)) h in let fit = fits.fit in omega arith
+      | false ↦ λ h. let now : len after.residents ≡ len C.residents + 1 = len-insert nat_list_cmp_total C.residents d b ∙ ap (λ x. cond x (len C.residents) (len C.residents + 1)) h in let room = free h in omega arith
+    ] refl;
+  }

@@ -1,0 +1,84 @@
+-- A manifest that is put, and one that is taken out, keep the catalog lawful. No use changes.
+use Rattle.std.proofs.Common.{◌≡◌, ℕ, ◌+◌, ◌<◌, ◌≤◌, true, false, cond, List, length, Some, None, refl, sym, ap, subst, arith, inl, inr}
+use Rattle.std.specs.List.{AllByRecursion}
+use Rattle.std.specs.FinMap.{get, insert, remove}
+use Rattle.blob_digest.specs.Digests.{sha256_text}
+use Rattle.finite_maps.specs.Sets as set
+use Rattle.oci_manifest.specs.Manifests.{refs_of, max_manifest}
+use Rattle.finite_maps.specs.Texts.{Text, same_text}
+use Rattle.store_model.specs.Catalog.{Link, Catalog, holds, manifests_of}
+use Rattle.store_model.specs.Invariant.{Lawful, LawfulManifest}
+use Rattle.blob_digest.proofs.KeyOrders.{link_cmp_total, exact_link}
+use Rattle.finite_maps.proofs.Texts.{text_is_same}
+use Rattle.finite_maps.proofs.Sums.{sum_new}
+use Rattle.finite_maps.proofs.Maps.{got-insert, got-remove, sum_at}
+
+module _ (C : Catalog) (lawful : Lawful C) (r bytes : Text) where
+  abbrev key : Link
+  key = (r, sha256_text bytes)
+
+  abbrev after : Catalog
+  after = record C { manifests = insert C.manifests key bytes }
+
+  pub Lawful-put_manifest : set.contains C.repos r ≡ true → length bytes ≤ max_manifest → (refs : List Text) → refs_of bytes ≡ Some refs → AllByRecursion (λ d. holds C r d ≡ true) refs →
+      get C.manifests key ≡ None → manifests_of C r < 1024 → Lawful after
+  Lawful-put_manifest there small refs read linked absent few = record {
+    content = lawful.content;
+    links = λ l h. let k = lawful.links l h in record { repo = k.repo; kept = k.kept };
+    manifests = λ l x h. elim (got-insert link_cmp_total exact_link C.manifests key bytes l x h) [
+      | inl e ↦
+          let new : LawfulManifest after key bytes = record { repo = there; name = refl; small = small; refs = (refs, read, linked) } in
+          subst (λ (y : Text). LawfulManifest after l y) e.1 (subst (λ (q : Link). LawfulManifest after q bytes) (sym e.0) new)
+      | inr old ↦ let k = lawful.manifests l x old in record { repo = k.repo; name = k.name; small = k.small; refs = k.refs }
+    ];
+    sessions = λ q s h. let k = lawful.sessions q s h in record { repo = k.repo; tenant = k.tenant; chunks = k.chunks; small = k.small; positive = k.positive; number = k.number };
+    tenants = lawful.tenants;
+    numbers = lawful.numbers;
+    limits = record {
+      tenants = lawful.limits.tenants;
+      names_rise = lawful.limits.names_rise;
+      first = lawful.limits.first;
+      max_blob = lawful.limits.max_blob;
+      quotas = lawful.limits.quotas;
+      next = lawful.limits.next;
+      sessions = lawful.limits.sessions;
+      repos = lawful.limits.repos;
+      names = lawful.limits.names;
+      manifests = λ q.
+          let sum : manifests_of after q ≡ cond (same_text r q) 1 0 + manifests_of C q = sum_new link_cmp_total exact_link (λ e. cond (same_text e.0.0 q) 1 0) C.manifests key bytes absent in
+          let before = lawful.limits.manifests q in
+          elim (same_text r q) as (λ b. same_text r q ≡ b → manifests_of after q ≤ 1024) [
+            | true ↦ λ e. let one : cond {A = ℕ} (same_text r q) 1 0 ≡ 1 = ap (λ b. cond b 1 0) e in let same : manifests_of C r ≡ manifests_of C q = ap (manifests_of C) (text_is_same r q e) in omega arith
+            | false ↦ λ e. let none : cond {A = ℕ} (same_text r q) 1 0 ≡ 0 = ap (λ b. cond b 1 0) e in omega arith
+          ] refl;
+    };
+  }
+
+module _ (C : Catalog) (lawful : Lawful C) (key : Link) where
+  abbrev without : Catalog
+  without = record C { manifests = remove C.manifests key }
+
+  pub Lawful-drop_manifest : Lawful without
+  Lawful-drop_manifest = record {
+    content = lawful.content;
+    links = λ l h. let k = lawful.links l h in record { repo = k.repo; kept = k.kept };
+    manifests = λ l x h. let k = lawful.manifests l x (got-remove link_cmp_total exact_link C.manifests key l x h) in record { repo = k.repo; name = k.name; small = k.small; refs = k.refs };
+    sessions = λ q s h. let k = lawful.sessions q s h in record { repo = k.repo; tenant = k.tenant; chunks = k.chunks; small = k.small; positive = k.positive; number = k.number };
+    tenants = lawful.tenants;
+    numbers = lawful.numbers;
+    limits = record {
+      tenants = lawful.limits.tenants;
+      names_rise = lawful.limits.names_rise;
+      first = lawful.limits.first;
+      max_blob = lawful.limits.max_blob;
+      quotas = lawful.limits.quotas;
+      next = lawful.limits.next;
+      sessions = lawful.limits.sessions;
+      repos = lawful.limits.repos;
+      names = lawful.limits.names;
+      manifests = λ q.
+          let sum = sum_at link_cmp_total exact_link (λ e. cond (same_text e.0.0 q) 1 0) C.manifests key in
+          let before = lawful.limits.manifests q in
+          omega arith;
+    };
+  }

@@ -1,0 +1,4 @@
+pub mod Commands
+pub mod Examples
+pub mod Invariant
+pub mod Noninterference

@@ -1,0 +1,162 @@
+-- Two catalogs that are alike to a tenant, and what a tenant can't tell them apart by.
+use Rattle.std.proofs.Common.{T, ◌≡◌, ℕ, ◌+◌, Bool, true, false, cond, not, List, [], ◌∷◌, ◌++◌, length, map, Option, Some, None, is_some, refl, sym, ap, ◌∙◌, subst, arith}
+use Rattle.std.specs.Prelude.{◌==◌, ◌&&◌, nat_le, slice_get}
+use Rattle.std.specs.Option.{option_map, option_map_or}
+use Rattle.std.specs.declared.cmp.Ordering.{Ordering}
+use Rattle.std.specs.Ordering.{eq_by_cmp, is_lt}
+use Rattle.std.specs.Cmp.Lexicographic.{nat_list_cmp_total, same_text as text_is}
+use Rattle.std.specs.List.{sum_by, filter, concat}
+use Rattle.std.specs.FinMap.{entries, get, get-entries, entries_sorted}
+use Rattle.std.specs.FinMap.Entries.{where_key, is_sorted, below_all, is_sorted-where_key, find-where_key, same_entries, find as find_key}
+use Rattle.std.proofs.lemmas.Bool.{true≢false, false≢true, eq-eqb, and_left, and_parts}
+use Rattle.std.proofs.lemmas.List.Sums.{sum_by-cons}
+use Rattle.std.proofs.lemmas.Map.Lookups.{exact_bytes}
+use Rattle.blob_digest.specs.declared.range.ByteRange.{ByteRange}
+use Rattle.finite_maps.specs.Sets as set
+use Rattle.finite_maps.specs.Texts.{Text, text_cmp, same_text}
+use Rattle.store_model.specs.Catalog.{Link, Number, Session, Resident, Catalog, tenant_of, is_tenants, is_of, quota_of, holds, tenant_holds, share, in_sessions_of, blob_share, used, next_of, open_sessions, repos_of, manifests_of, received}
+use Rattle.store_model.specs.Sessions.{at_home}
+use Rattle.finite_maps.specs.Outcomes.{◌>>=◌}
+use Rattle.store_model.specs.Commands.{whole_in, session, session_in, not_busy, check, length_after, lacks_room_for, referrer, refers}
+use Rattle.store_model.specs.Noninterference.{blobs_of}
+use Rattle.blob_digest.proofs.KeyOrders.{number_cmp_total, exact_number, link_cmp_total, exact_link}
+use Rattle.finite_maps.proofs.Lists.{list_any_same, witness}
+use Rattle.finite_maps.proofs.Mapped.{find-over, sorted-over, below-over, map_none}
+use Rattle.finite_maps.proofs.Agreement.{AgreeOn, sum_agree, find_agree, any_agree, count_agree}
+
+-- Alike to a tenant: all that is its own is the same. What is kept of blobs isn't compared.
+pub record Alike (t : ℕ) (C D : Catalog) : Type 0 where
+  pub tenants : C.tenants ≡ D.tenants
+  pub max_blob : C.max_blob ≡ D.max_blob
+  pub numbers : length C.next ≡ length D.next
+  pub next : next_of C t ≡ next_of D t
+  pub repos : AgreeOn (is_of C t) C.repos D.repos
+  pub links : AgreeOn (λ l. is_of C t l.0) C.links D.links
+  pub manifests : AgreeOn (λ l. is_of C t l.0) C.manifests D.manifests
+  pub sessions : AgreeOn (λ n. n.0 == t) C.sessions D.sessions
+
+-- What holds of each catalog of a run, where `content` gives the whole that was brought with a digest.
+pub record Consistent (content : Text → Text) (C : Catalog) : Type 0 where
+  pub repos : (r : Text) → set.contains C.repos r ≡ true → is_some (tenant_of C.tenants r) ≡ true
+  pub links : (l : Link) → set.contains C.links l ≡ true → set.contains C.repos l.0 ≡ true
+  pub kept : (l : Link) → set.contains C.links l ≡ true → is_some (get C.residents l.1) ≡ true
+  pub manifests : (l : Link) (b : Text) → get C.manifests l ≡ Some b → set.contains C.repos l.0 ≡ true
+  pub sessions : (k : Number) (s : Session) → get C.sessions k ≡ Some s → set.contains C.repos s.repo ≡ true
+  pub bytes : (d : Text) (b : Resident) → get C.residents d ≡ Some b → b.bytes ≡ content d
+
+-- ---- lists of blobs
+
+-- the bytes of a blob that a tenant holds
+pub find-blobs : (C : Catalog) (t : ℕ) (q : Text) → find_key text_cmp q (blobs_of C t) ≡ cond (tenant_holds C t q) (option_map (λ b. b.bytes) (get C.residents q)) None
+find-blobs C t q =
+    find-over text_cmp (λ (b : Resident). b.bytes) q (where_key text_cmp (tenant_holds C t) (entries C.residents))
+    ∙ ap (option_map (λ b. b.bytes)) (find-where_key text_cmp (tenant_holds C t) q (λ x tie. ap (tenant_holds C t) (sym (exact_bytes q x tie))) (entries C.residents)
+    ∙ ap (λ y. cond (tenant_holds C t q) y None) (sym (get-entries C.residents q)))
+    ∙ map_none (λ b. b.bytes) (tenant_holds C t q) (get C.residents q)
+
+sum-blobs : (C : Catalog) (t : ℕ) (es : List (Text × Resident)) →
+    sum_by (λ (e : Text × Text). length e.1) (map (λ (e : Text × Resident). (e.0, e.1.bytes)) (filter (λ e. tenant_holds C t e.0) es)) ≡ sum_by (blob_share C t) es
+sum-blobs C t [] = refl
+sum-blobs C t (e ∷ es) =
+    elim (tenant_holds C t e.0) as (λ b. tenant_holds C t e.0 ≡ b →
+    sum_by (λ (e : Text × Text). length e.1) (map (λ (e : Text × Resident). (e.0, e.1.bytes)) (cond b (e ∷ filter (λ e. tenant_holds C t e.0) es) (filter (λ e. tenant_holds C t e.0) es))) ≡ sum_by (blob_share C t) (e ∷ es)) [
+      | true ↦ λ h.
+          sum_by-cons (λ (e : Text × Text). length e.1) (e.0, e.1.bytes) (map (λ (e : Text × Resident). (e.0, e.1.bytes)) (filter (λ e. tenant_holds C t e.0) es))
+          ∙ (let term : blob_share C t e ≡ length e.1.bytes = rw h refl in let all = sum_by-cons (blob_share C t) e es in let rest = sum-blobs C t es in omega arith)
+      | false ↦ λ h. (let term : blob_share C t e ≡ 0 = rw h refl in let all = sum_by-cons (blob_share C t) e es in let rest = sum-blobs C t es in omega arith)
+    ] refl
+
+-- a tenant's use is what its blobs and its sessions come to
+pub used-blobs : (C : Catalog) (t : ℕ) → used C t ≡ sum_by (λ (e : Text × Text). length e.1) (blobs_of C t) + in_sessions_of C t
+used-blobs C t = ap (λ n. n + in_sessions_of C t) (sym (sum-blobs C t (entries C.residents)))
+
+module _ (content : Text → Text) (C : Catalog) (consistent : Consistent content C) where
+  -- what a tenant holds is kept, with the bytes that were brought
+  pub held_kept : (t : ℕ) (q : Text) → tenant_holds C t q ≡ true → is_some (get C.residents q) ≡ true
+  held_kept t q h = let w = witness (λ r. is_of C t r && holds C r q) (set.items C.repos) h in consistent.kept (w.0, q) (and_parts (is_of C t w.0) (holds C w.0 q) w.1).1
+
+  bytes_at : (t : ℕ) (q : Text) (x : Option Resident) (b : Bool) → get C.residents q ≡ x → (b ≡ true → is_some x ≡ true) → cond b (option_map (λ b. b.bytes) x) None ≡ cond b (Some (content q)) None
+  bytes_at t q x false found there = refl
+  bytes_at t q None true found there = absurd (false≢true (there refl))
+  bytes_at t q (Some y) true found there = ap Some (consistent.bytes q y found)
+
+  pub blobs_are : (t : ℕ) (q : Text) → find_key text_cmp q (blobs_of C t) ≡ cond (tenant_holds C t q) (Some (content q)) None
+  blobs_are t q = find-blobs C t q ∙ bytes_at t q (get C.residents q) (tenant_holds C t q) refl (held_kept t q)
+
+-- ---- what is the same in catalogs that are alike
+
+module _ (t : ℕ) (C D : Catalog) (alike : Alike t C D) where
+  pub of_same : (r : Text) → is_of C t r ≡ is_of D t r
+  of_same r = ap (λ ts. is_tenants ts t r) alike.tenants
+
+  pub holds_same : (r d : Text) → is_of C t r ≡ true → holds C r d ≡ holds D r d
+  holds_same r d own = ap is_some (alike.links (r, d) own)
+
+  both_hold : (r d : Text) (b : Bool) → is_of C t r ≡ b → (b && holds C r d) ≡ (b && holds D r d)
+  both_hold r d true own = holds_same r d own
+  both_hold r d false other = refl
+
+  pub own_holds_same : (r d : Text) → (is_of C t r && holds C r d) ≡ (is_of D t r && holds D r d)
+  own_holds_same r d = both_hold r d (is_of C t r) refl ∙ ap (λ b. b && holds D r d) (of_same r)
+
+  pub tenant_holds_same : (d : Text) → tenant_holds C t d ≡ tenant_holds D t d
+  tenant_holds_same d =
+      any_agree nat_list_cmp_total exact_bytes (is_of C t) (λ r. is_of C t r && holds C r d) C.repos D.repos alike.repos (λ r off. and_left (is_of C t r) (holds C r d) off)
+      ∙ list_any_same (λ r. is_of C t r && holds C r d) (λ r. is_of D t r && holds D r d) (λ r. own_holds_same r d) (set.items D.repos)
+
+  pub repos_same : repos_of C t ≡ repos_of D t
+  repos_same =
+      count_agree nat_list_cmp_total exact_bytes (is_of C t) (is_of C t) C.repos D.repos alike.repos (λ r off. off)
+      ∙ ap (λ ts. repos_of (record D { tenants = ts }) t) alike.tenants
+
+  pub room_same : (r : Text) → is_of C t r ≡ true → lacks_room_for C t r ≡ lacks_room_for D t r
+  room_same r own = λ i. not (is_some (alike.repos r own i)) && nat_le 1024 (repos_same i)
+
+  pub open_same : open_sessions C t ≡ open_sessions D t
+  open_same = sum_agree number_cmp_total exact_number (λ n. n.0 == t) (λ e. cond (e.0.0 == t) 1 0) C.sessions D.sessions alike.sessions (λ e off. ap (λ b. cond b 1 0) off)
+
+  pub in_sessions_same : in_sessions_of C t ≡ in_sessions_of D t
+  in_sessions_same = sum_agree number_cmp_total exact_number (λ n. n.0 == t) (share t) C.sessions D.sessions alike.sessions (λ e off. rw off refl)
+
+  pub session_found : (n : ℕ) → get C.sessions (t, n) ≡ get D.sessions (t, n)
+  session_found n = alike.sessions (t, n) (eq-eqb t t refl)
+
+  pub session_same : (r : Text) (n : ℕ) → session C t r n ≡ session D t r n
+  session_same r n = ap (λ s. session_in s r) (session_found n)
+
+  pub check_same : (r : Text) (n : ℕ) (g : Option ByteRange) (len : ℕ) → check C t r n g len ≡ check D t r n g len
+  check_same r n g len = λ i. (session_in (session_found n i) r >>= λ s. not_busy s.chunks >>= λ _. length_after (alike.max_blob i) (received s) g len)
+
+  pub whole_same : (n : ℕ) (last : Text) → whole_in C.sessions (t, n) last ≡ whole_in D.sessions (t, n) last
+  whole_same n last = ap (λ o. concat (option_map_or (λ s. at_home s.chunks) o []) ++ last) (session_found n)
+
+  pub quota_same : quota_of C t ≡ quota_of D t
+  quota_same = ap (λ ts. option_map_or (λ x. x.quota) (slice_get ts t) 0) alike.tenants
+
+  other_repo : (r q : Text) → is_of C t r ≡ true → (b : Bool) → same_text q r ≡ b → is_of C t q ≡ false → b ≡ false
+  other_repo r q own true is off = absurd (true≢false (sym own ∙ ap (is_of C t) (sym (text_is q r (sym is))) ∙ off))
+  other_repo r q own false is off = refl
+
+  pub manifests_same : (r : Text) → is_of C t r ≡ true → manifests_of C r ≡ manifests_of D r
+  manifests_same r own =
+      sum_agree link_cmp_total exact_link (λ l. is_of C t l.0) (λ e. cond (same_text e.0.0 r) 1 0) C.manifests D.manifests alike.manifests
+      (λ e off. ap (λ b. cond b 1 0) (other_repo r e.0.0 own (same_text e.0.0 r) refl off))
+
+  pub referrer_same : (r d : Text) → is_of C t r ≡ true → referrer C r d ≡ referrer D r d
+  referrer_same r d own =
+      ap (option_map (λ e. e.0.1)) (find_agree link_cmp_total exact_link (λ l. is_of C t l.0) (λ e. same_text e.0.0 r && refers e.1 d) C.manifests D.manifests alike.manifests
+      (λ e off. and_left (same_text e.0.0 r) (refers e.1 d) (other_repo r e.0.0 own (same_text e.0.0 r) refl off)))
+
+  module _ (content : Text → Text) (consistent_C : Consistent content C) (consistent_D : Consistent content D) where
+    pub blobs_same : blobs_of C t ≡ blobs_of D t
+    blobs_same =
+        same_entries text_cmp nat_list_cmp_total exact_bytes (blobs_of C t) (blobs_of D t) (sorted C) (sorted D)
+        (λ q. blobs_are content C consistent_C t q ∙ ap (λ b. cond b (Some (content q)) None) (tenant_holds_same q) ∙ sym (blobs_are content D consistent_D t q))
+      where
+        sorted : (X : Catalog) → T (is_sorted text_cmp (blobs_of X t))
+        sorted X =
+            subst T (sym (sorted-over text_cmp (λ (b : Resident). b.bytes) (where_key text_cmp (tenant_holds X t) (entries X.residents))))
+            (is_sorted-where_key text_cmp (tenant_holds X t) (entries X.residents) (entries_sorted X.residents))
+
+    pub used_same : used C t ≡ used D t
+    used_same = used-blobs C t ∙ (λ i. sum_by (λ (e : Text × Text). length e.1) (blobs_same i) + in_sessions_same i) ∙ sym (used-blobs D t)

@@ -1,0 +1,100 @@
+-- When a catalog is lawful.
+use Rattle.std.specs.Prelude.{◌≡◌, ◌≢◌, ℕ, ◌+◌, ◌<◌, ◌≤◌, ◌^◌, true, false, Some, Err, List, [], length, IsSome, map, sum_by, count_by}
+use Rattle.std.specs.List.{AllByRecursion}
+use Rattle.std.specs.Ordering.{eq_by_cmp}
+use Rattle.std.specs.List.Sorted.{IsStrictlySortedBy}
+use Rattle.std.specs.FinMap as fmap
+use Rattle.blob_digest.specs.Digests.{sha256_text, is_digest_of}
+use Rattle.finite_maps.specs.Sets as set
+use Rattle.oci_manifest.specs.Manifests.{refs_of, max_manifest}
+use Rattle.std.specs.declared.cmp.Ordering.TheVariants.{Less}
+use Rattle.blob_digest.specs.declared.refusal.Refusal.TheVariants.{Referenced}
+use Rattle.store_model.specs.Commands.{refers, delete}
+use Rattle.finite_maps.specs.Texts.{Text, text_cmp}
+use Rattle.store_model.specs.Catalog.{Link, Number, Session, Resident, Catalog, is_of, tenant_of, quota_of, holds, count, size, used, held_digests, in_sessions_of, next_of, open_sessions, repos_of, manifests_of, charged}
+use Rattle.store_model.specs.Sessions.{at_home}
+
+-- a session is of its own tenant, in a repository that is there, with no empty chunk, with its reserve within the limit, under a number that was given
+pub record LawfulSession (C : Catalog) (key : Number) (s : Session) : Type 0 where
+  pub repo : set.contains C.repos s.repo ≡ true
+  pub tenant : is_of C key.0 s.repo ≡ true
+  pub chunks : AllByRecursion (λ c. c ≢ []) (at_home s.chunks)
+  pub small : charged s ≤ C.max_blob
+  pub positive : 0 < key.1
+  pub number : key.1 < next_of C key.0
+
+-- a manifest is stored under the digest of its bytes, and each of its references is linked where it is
+pub record LawfulManifest (C : Catalog) (l : Link) (bytes : Text) : Type 0 where
+  pub repo : set.contains C.repos l.0 ≡ true
+  pub name : l.1 ≡ sha256_text bytes
+  pub small : length bytes ≤ max_manifest
+  pub refs : (refs : List Text) × (refs_of bytes ≡ Some refs) × AllByRecursion (λ d. holds C l.0 d ≡ true) refs
+
+-- a linked digest is resident and not condemned
+pub record LawfulLink (C : Catalog) (l : Link) : Type 0 where
+  pub repo : set.contains C.repos l.0 ≡ true
+  pub kept : (b : Resident) × (fmap.get C.residents l.1 ≡ Some b) × (b.condemned ≡ false)
+
+-- the limits on numbers
+pub record WithinLimits (C : Catalog) : Type 0 where
+  pub tenants : (0 < length C.tenants) × (length C.tenants ≤ 256)
+  pub names_rise : IsStrictlySortedBy text_cmp (map (λ t. t.name) C.tenants)
+  pub max_blob : C.max_blob ≤ 2 ^ 40
+  pub quotas : AllByRecursion (λ t. t.quota ≤ 2 ^ 50) C.tenants
+  pub first : (t : ℕ) → t < length C.tenants → 0 < next_of C t
+  pub next : (t : ℕ) → next_of C t ≤ 2 ^ 32
+  pub sessions : (t : ℕ) → open_sessions C t ≤ 64
+  pub repos : (t : ℕ) → repos_of C t ≤ 1024
+  pub manifests : (r : Text) → manifests_of C r ≤ 1024
+  pub names : (r : Text) → set.contains C.repos r ≡ true → length r ≤ 255
+
+pub record Lawful (C : Catalog) : Type 0 where
+  pub content : (d : Text) (b : Resident) → fmap.get C.residents d ≡ Some b → is_digest_of d b.bytes ≡ true
+  pub links : (l : Link) → set.contains C.links l ≡ true → LawfulLink C l
+  pub manifests : (l : Link) (bytes : Text) → fmap.get C.manifests l ≡ Some bytes → LawfulManifest C l bytes
+  pub sessions : (key : Number) (s : Session) → fmap.get C.sessions key ≡ Some s → LawfulSession C key s
+  pub tenants : (r : Text) → set.contains C.repos r ≡ true → IsSome (tenant_of C.tenants r)
+  pub numbers : length C.next ≡ length C.tenants
+  pub limits : WithinLimits C
+
+-- No tenant passes its quota.
+abbrev pub KeepsQuotas : Catalog → Type 0
+KeepsQuotas C = (t : ℕ) → t < length C.tenants → used C t ≤ quota_of C t
+
+-- Each resident blob and each retired slot has a slot.
+pub record FitsSlots (C : Catalog) : Type 0 where
+  pub some : 0 < C.slots
+  pub few : C.slots ≤ 65536
+  pub fit : fmap.len C.residents + C.retired ≤ C.slots
+
+-- All that is kept from the opening catalog on.
+pub record Sound (C : Catalog) : Type 0 where
+  pub lawful : Lawful C
+  pub quotas : KeepsQuotas C
+  pub slots : FitsSlots C
+
+-- ---- what the counts and the uses are
+
+-- The number of repositories that hold a digest is the number of links to it.
+abbrev pub CountsAreLinks : Type 0
+CountsAreLinks = (C : Catalog) → Lawful C → (d : Text) → count C d ≡ count_by (λ l. eq_by_cmp text_cmp d l.1) (set.items C.links)
+
+-- What a tenant uses is the sum over the distinct digests that its repositories hold, each by its blob's length, and over its sessions.
+abbrev pub UsesAreDistinct : Type 0
+UsesAreDistinct = (C : Catalog) → Lawful C → (t : ℕ) → used C t ≡ sum_by (size C) (set.items (held_digests C t)) + in_sessions_of C t
+
+-- ---- what can't be deleted
+
+-- a manifest of a repository refers to a digest
+abbrev pub RefersTo : Catalog → Text → Text → Text → Type 0
+RefersTo C repo name digest = (bytes : Text) × (fmap.get C.manifests (repo, name) ≡ Some bytes) × (refers bytes digest ≡ true)
+
+-- the least digest of a manifest of a repository that refers to a digest
+pub record IsLeastReferrer (C : Catalog) (repo digest name : Text) : Type 0 where
+  pub refers : RefersTo C repo name digest
+  pub least : (other : Text) → RefersTo C repo other digest → text_cmp other name ≢ Less
+
+-- A blob to which a manifest of the repository refers can't be deleted from it, and the least such manifest is named.
+abbrev pub ReferencedStays : Type 0
+ReferencedStays = (C : Catalog) → Lawful C → (repo digest name : Text) → RefersTo C repo name digest →
+    (least : Text) × IsLeastReferrer C repo digest least × (delete C repo digest ≡ Err (Referenced least))

@@ -1,0 +1,30 @@
+//! Laws of the definitions alone. Each is the contract of a function that does nothing.
+
+ghost use Rattle.store_model.specs.Invariant.{CountsAreLinks, ReferencedStays, UsesAreDistinct};
+ghost use Rattle.store_model.specs.Noninterference.{TenantsAreAlone, TextsAreTheSame};
+ghost use Rattle.store_model.specs.Runs.{RunsExist, RunsStaySound};
+
+/// The count of a digest is the number of links to it, and a tenant's use is the sum over the
+/// distinct digests that its repositories hold and over its sessions, in every lawful catalog.
+pub fn counts_and_uses()
+    ensures counts { CountsAreLinks }
+    ensures uses { UsesAreDistinct }
+{}
+
+/// Commands and sweeps keep a catalog sound, every list of them has a run, and a blob to which a
+/// manifest of its repository refers can't be deleted from it.
+pub fn soundness()
+    ensures runs { RunsStaySound }
+    ensures exist { RunsExist }
+    ensures referenced { ReferencedStays }
+{}
+
+/// Tenants don't see each other. Whatever the others do, a tenant is told, and has at the end, what
+/// its own commands alone would give. So the text of the book depends only on the commands of each
+/// tenant, in their order. This is said of every list of commands and sweeps in which no reply to the
+/// tenant is that the store is full, that a blob has too many readers, or that memory is wanting, and
+/// no two closes bring different bytes that have the same digest.
+pub fn isolation()
+    ensures alone { TenantsAreAlone }
+    ensures same_text { TextsAreTheSame }
+{}
