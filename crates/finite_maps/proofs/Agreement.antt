@@ -2,15 +2,15 @@
 use Rattle.std.proofs.Common.{◌≡◌, ℕ, ◌+◌, Bool, true, false, cond, List, [], ◌∷◌, map, Option, Some, None, refl, sym, ap, ◌∙◌, arith}
 use Rattle.std.specs.Prelude.{◌||◌}
 use Rattle.std.specs.declared.cmp.Ordering.{Ordering}
-use Rattle.std.specs.declared.cmp.Ordering.TheVariants.{Equal}
 use Rattle.std.specs.Ordering.{eq_by_cmp}
 use Rattle.std.specs.Cmp.{IsTotalOrder, Equal-is}
 use Rattle.std.specs.List.{sum_by, count_by, list_any, find}
-use Rattle.std.specs.FinMap.{FinMap, entries, keys, get, insert, remove, get-insert, get-remove, get-entries, same_map, IsAntisymmetric, from_sorted, get-from_sorted, entries-from_sorted, entries_sorted}
-use Rattle.std.specs.FinMap.Entries.{where_key, is_sorted-where_key, find-where_key, find as find_key}
+use Rattle.std.specs.FinMap.{FinMap, entries, keys, get, insert, remove, get-insert, get-remove, IsAntisymmetric}
+use Rattle.std.specs.FinMap.Entries.{where_key}
 use Rattle.std.proofs.lemmas.Bool.{true≢false}
 use Rattle.std.proofs.lemmas.List.Sums.{sum_by-cons}
 use Rattle.finite_maps.proofs.Rows.{sum_by-map}
+use Rattle.finite_maps.proofs.Parts.{where_key-agree}
 
 abbrev pub AgreeOn : {K X : Type 0} {R : K → K → Ordering} → (K → Bool) → FinMap R X → FinMap R X → Type 0
 AgreeOn p m n = (q : _) → p q ≡ true → get m q ≡ get n q
@@ -45,9 +45,6 @@ module _ {K X : Type 0} (R : K → K → Ordering) (p : K → Bool) where
 
 -- ---- maps
 
-alike_keys : {K : Type 0} {R : K → K → Ordering} → IsAntisymmetric R → (p : K → Bool) (q x : K) → R q x ≡ Equal → p x ≡ p q
-alike_keys same p q x tie = ap p (sym (same q x tie))
-
 module _ {K X : Type 0} {R : K → K → Ordering} (o : IsTotalOrder R) (same : IsAntisymmetric R) where
   pub agree_insert : (p : K → Bool) (m n : FinMap R X) (k : K) (v : X) → AgreeOn p m n → AgreeOn p (insert m k v) (insert n k v)
   agree_insert p m n k v agree q is = get-insert o m k v q ∙ ap (cond (eq_by_cmp R q k) (Some v)) (agree q is) ∙ sym (get-insert o n k v q)
@@ -65,30 +62,14 @@ module _ {K X : Type 0} {R : K → K → Ordering} (o : IsTotalOrder R) (same : 
   pub unseen_remove : (p : K → Bool) (m : FinMap R X) (k : K) → p k ≡ false → AgreeOn p (remove m k) m
   unseen_remove p m k off q is = get-remove o m k q ∙ elsewhere p k q None (get m q) (eq_by_cmp R q k) refl off is
 
-  pub at_once : (b : Bool) (x y : Option X) → (b ≡ true → x ≡ y) → cond b x None ≡ cond b y None
-  at_once true x y h = h refl
-  at_once false x y h = refl
-
-  -- maps that agree have the same entries there
-  pub same_where : (p : K → Bool) (m n : FinMap R X) → AgreeOn p m n → where_key R p (entries m) ≡ where_key R p (entries n)
-  same_where p m n agree =
-      let sm = is_sorted-where_key R p (entries m) (entries_sorted m) in
-      let sn = is_sorted-where_key R p (entries n) (entries_sorted n) in
-      let at : (x : FinMap R X) (q : K) → find_key R q (where_key R p (entries x)) ≡ cond (p q) (get x q) None =
-      λ x q. find-where_key R p q (alike_keys same p q) (entries x) ∙ ap (λ y. cond (p q) y None) (sym (get-entries x q)) in
-      sym (entries-from_sorted R (where_key R p (entries m)) sm)
-      ∙ ap entries (same_map o same (from_sorted (where_key R p (entries m))) (from_sorted (where_key R p (entries n))) (λ q.
-      get-from_sorted R (where_key R p (entries m)) q sm ∙ at m q ∙ at_once (p q) (get m q) (get n q) (agree q) ∙ sym (at n q) ∙ sym (get-from_sorted R (where_key R p (entries n)) q sn)))
-      ∙ entries-from_sorted R (where_key R p (entries n)) sn
-
   pub sum_agree : (p : K → Bool) (f : K × X → ℕ) (m n : FinMap R X) → AgreeOn p m n → ((e : K × X) → p e.0 ≡ false → f e ≡ 0) → sum_by f (entries m) ≡ sum_by f (entries n)
-  sum_agree p f m n agree none = sym (sum_off R p f none (entries m)) ∙ ap (sum_by f) (same_where p m n agree) ∙ sum_off R p f none (entries n)
+  sum_agree p f m n agree none = sym (sum_off R p f none (entries m)) ∙ ap (sum_by f) (where_key-agree o same p m n agree) ∙ sum_off R p f none (entries n)
 
   pub find_agree : (p : K → Bool) (g : K × X → Bool) (m n : FinMap R X) → AgreeOn p m n → ((e : K × X) → p e.0 ≡ false → g e ≡ false) → find g (entries m) ≡ find g (entries n)
-  find_agree p g m n agree none = sym (find_off R p g none (entries m)) ∙ ap (find g) (same_where p m n agree) ∙ find_off R p g none (entries n)
+  find_agree p g m n agree none = sym (find_off R p g none (entries m)) ∙ ap (find g) (where_key-agree o same p m n agree) ∙ find_off R p g none (entries n)
 
   pub any_agree : (p g : K → Bool) (m n : FinMap R X) → AgreeOn p m n → ((k : K) → p k ≡ false → g k ≡ false) → list_any g (keys m) ≡ list_any g (keys n)
-  any_agree p g m n agree none = sym (any_off R p g none (entries m)) ∙ ap (λ es. list_any g (map (λ e. e.0) es)) (same_where p m n agree) ∙ any_off R p g none (entries n)
+  any_agree p g m n agree none = sym (any_off R p g none (entries m)) ∙ ap (λ es. list_any g (map (λ e. e.0) es)) (where_key-agree o same p m n agree) ∙ any_off R p g none (entries n)
 
   count_sum : (g : K → Bool) (m : FinMap R X) → count_by g (keys m) ≡ sum_by (λ (e : K × X). cond (g e.0) 1 0) (entries m)
   count_sum g m = sum_by-map (λ k. cond (g k) 1 0) (λ (e : K × X). e.0) (entries m)

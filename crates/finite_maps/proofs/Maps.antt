@@ -12,6 +12,7 @@ use Rattle.std.proofs.lemmas.Bool.{true≢false}
 use Rattle.finite_maps.proofs.Options.{some_same}
 use Rattle.finite_maps.proofs.Rows.{no_tie, entries-empty}
 use Rattle.finite_maps.proofs.Sums.{sum_new, sum_split, insert-remove, insert_back, get-remove_same}
+use Rattle.finite_maps.proofs.Parts.{remove_absent}
 
 -- what a key adds to a sum
 abbrev pub term : {K X : Type 0} → (K × X → ℕ) → K → Option X → ℕ
@@ -60,12 +61,6 @@ module _ {K : Type 0} {R : K → K → Ordering} (o : IsTotalOrder R) (same : Is
       | inr differ ↦ ap is_some (get-insert_other m k v q differ) ∙ h
     ]
 
-    remove_none : (m : FinMap R X) (k : K) → get m k ≡ None → remove m k ≡ m
-    remove_none m k none = same_map o same (remove m k) m (λ q. elim (cases_key q k) [
-      | inl e ↦ ap (get (remove m k)) e ∙ get-remove_same o same m k ∙ sym (ap (get m) e ∙ none)
-      | inr differ ↦ get-remove_other m k q differ
-    ])
-
     -- a new key that was added and taken out
     pub remove-insert_new : (m : FinMap R X) (k : K) (v : X) → get m k ≡ None → remove (insert m k v) k ≡ m
     remove-insert_new m k v none = same_map o same (remove (insert m k v) k) m (λ q. elim (cases_key q k) [
@@ -96,7 +91,7 @@ module _ {K : Type 0} {R : K → K → Ordering} (o : IsTotalOrder R) (same : Is
 
     pub sum_at : (f : K × X → ℕ) (m : FinMap R X) (k : K) → sum_by f (entries m) ≡ term f k (get m k) + sum_by f (entries (remove m k))
     sum_at f m k = elim (get m k) as (λ x. get m k ≡ x → sum_by f (entries m) ≡ term f k x + sum_by f (entries (remove m k))) [
-      | None ↦ λ none. ap (λ (n : FinMap R X). sum_by f (entries n)) (sym (remove_none m k none)) ∙ sym (zero-add (sum_by f (entries (remove m k))))
+      | None ↦ λ none. ap (λ (n : FinMap R X). sum_by f (entries n)) (sym (remove_absent o same m k none)) ∙ sym (zero-add (sum_by f (entries (remove m k))))
       | Some v ↦ λ found. sum_split o same f m k v found
     ] refl
 

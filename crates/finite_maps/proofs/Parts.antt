@@ -96,7 +96,8 @@ module _ {K X : Type 0} {R : K → K → Ordering} (o : IsTotalOrder R) (same : 
   pub remove_absent : (m : FinMap R X) (k : K) → get m k ≡ None → remove m k ≡ m
   remove_absent m k none = sym (remove_by m m k (λ q. nothing_at (eq_by_cmp R q k) (get m q) (λ tie. sym (get_tied o m q k ((Equal-is (R q k)).0 tie)) ∙ none)))
 
-  as_passes : (b : Bool) (x y : Option X) → (b ≡ true → x ≡ y) → cond b x None ≡ cond b y None
+  -- options that are the same where the test holds
+  pub as_passes : (b : Bool) (x y : Option X) → (b ≡ true → x ≡ y) → cond b x None ≡ cond b y None
   as_passes true x y is = is refl
   as_passes false x y is = refl
 

@@ -4,7 +4,7 @@ use Prim.Native.Nat.{zero, suc}
 use Rattle.std.specs.Prelude.{slice_get, position, nat_le, ◌&&◌, ◌||◌, replicate}
 use Rattle.std.specs.Option.{option_map, option_map_or}
 use Rattle.std.specs.List.{list_any}
-use Rattle.std.proofs.lemmas.Bool.{and_from, le-leb}
+use Rattle.std.proofs.lemmas.Bool.{and_from, le-leb, or_right}
 use Rattle.std.specs.Cmp.Lexicographic.{same_text as text_is}
 use Rattle.std.proofs.Math.Seq.{take-length}
 use Rattle.std.proofs.lemmas.Option.{slice_get-get_or}
@@ -69,9 +69,6 @@ orphan_from-tail slots n o is =
     ap (option_map (λ i. n + i)) (is ∙ ap (position is_orphan) whole)
 
 -- ---- the slot of a digest
-
-or_right : (a b : Bool) → b ≡ true → (a || b) ≡ true
-or_right a b e = elim a as (λ x. (x || b) ≡ true) [ true ↦ refl | false ↦ e ]
 
 -- a blob's digest is found
 pub any_at : (slots : List Slot) (k : ℕ) (h : Held) → held_at slots k ≡ Some h → list_any (has_digest h.digest) slots ≡ true

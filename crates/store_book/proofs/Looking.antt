@@ -21,7 +21,8 @@ use Rattle.store_book.specs.SlotSteps.{EachSlot, HasPin, IsStill, ReadsWord, wor
 use Rattle.store_book.proofs.Changing.{resident_at}
 use Rattle.store_book.proofs.Leasing.{seen-get}
 use Rattle.finite_maps.proofs.Options.{some_same}
-use Rattle.store_book.proofs.Pinning.{get_within, index-set-le, length-all_seen, row-at, seen-at}
+use Rattle.finite_maps.proofs.Lists.{there_at}
+use Rattle.store_book.proofs.Pinning.{index-set-le, length-all_seen, row-at, seen-at}
 use Rattle.store_book.proofs.Shown.{EachSlot-shown, get-with_looks, length-with_looks}
 
 -- a look lowers a bound and nothing else
@@ -56,7 +57,7 @@ phase_word Retired = refl
 pub reads_word : (p q : Pinned) (k n : ℕ) → k < length (shown p) → length p.looks ≡ length p.slots → Looked k n p q → ReadsWord k n (shown p) (shown q)
 reads_word p q k n lt each looked =
     let long = length-with_looks p.looks (all_seen p.slots p.bounds) ∙ length-all_seen p.slots p.bounds in
-    let s = get_within p.slots k (omega arith) in
+    let s = there_at p.slots k (omega arith) in
     let once : slice_index (raised k 1 p.looks) k ≡ slice_index p.looks k + 1 = get_or-set_same p.looks k (slice_index p.looks k + 1) 0 (omega arith) in
     record {
       slot = record (seen s.0 (slice_index p.bounds k)) { looks = slice_index p.looks k };
@@ -97,7 +98,7 @@ module _ (l : Linked) (u : Uploaded) (p q : Pinned) (max_blob : ℕ) (h : Hold) 
       let keeps = verified.keeps in
       let there = keeps.there in
       let long = length-map p.slots row_of in
-      let s = get_within p.slots h.slot (omega arith) in
+      let s = there_at p.slots h.slot (omega arith) in
       let is_row : row (map row_of p.slots) h.slot ≡ row_of s.0 = row-at p.slots h.slot s.0 s.1 in
       let digest : option_map (λ (x : Held). x.digest) (held_in s.0.content) ≡ Some h.digest = ap (λ (r : PinRow). r.digest) (sym is_row) ∙ keeps.digest in
       let x = held_of_digest (held_in s.0.content) digest in

@@ -7,6 +7,7 @@ use Rattle.std.proofs.lemmas.Bool.{cases_eq}
 use Rattle.std.proofs.lemmas.List.{get_or-set_other, get_or-set_same, length-map, length-replicate}
 use Rattle.std.proofs.lemmas.Option.{slice_get_within}
 use Rattle.std.proofs.Math.ListN.{length-set}
+use Rattle.finite_maps.proofs.Lists.{there_at}
 use Rattle.pin_core.specs.declared.world.Phase.TheVariants as pin
 use Rattle.pin_core.specs.declared.world.PinRow.{PinRow}
 use Rattle.pin_core.specs.Events.{IsNew, given_row, in_phase}
@@ -33,11 +34,6 @@ get-map : {A B : Type 0} (f : A → B) (xs : List A) (k : ℕ) (x : A) (d : B) �
 get-map f [] k x d at = cc
 get-map f (y ∷ xs) zero x d at = ap f (some_same at)
 get-map f (y ∷ xs) (suc k) x d at = get-map f xs k x d at
-
-pub get_within : {A : Type 0} (xs : List A) (k : ℕ) → k < length xs → (x : A) × (slice_get xs k ≡ Some x)
-get_within [] k lt = absurd (omega arith)
-get_within (x ∷ xs) zero lt = (x, refl)
-get_within (x ∷ xs) (suc k) lt = get_within xs k (omega arith)
 
 -- ---- rows
 
@@ -134,7 +130,7 @@ Quietly-slotted p q r k f same quiet is = subst (λ x. Quietly p x) (sym is) (re
     length-all_seen (with_slot q.slots k f) q.bounds ∙ length-with_slot q.slots k f ∙ sym (length-all_seen q.slots q.bounds) ∙ quiet.slots.0,
     λ j a b at_a at_b.
         let now = seen-at (with_slot q.slots k f) q.bounds j b at_b in
-        let old = get_within (all_seen q.slots q.bounds) j (let lt = slice_get_within (with_slot q.slots k f) j now.0 now.1 in let long = length-with_slot q.slots k f in let longer = length-all_seen q.slots q.bounds in omega arith) in
+        let old = there_at (all_seen q.slots q.bounds) j (let lt = slice_get_within (with_slot q.slots k f) j now.0 now.1 in let long = length-with_slot q.slots k f in let longer = length-all_seen q.slots q.bounds in omega arith) in
         let was = seen-at q.slots q.bounds j old.0 old.1 in
         let before = quiet.slots.1 j a old.0 at_a old.1 in (
           ap (λ (x : SlotSeen). x.generation) now.2 ∙ generation-with_slot q.slots k f same j was.0 now.0 was.1 now.1 ∙ sym (ap (λ (x : SlotSeen). x.generation) was.2) ∙ before.0,
@@ -227,7 +223,7 @@ free_row slots rows bounds kept k free =
 
 pub new_digest : (slots : List Slot) (rows : List PinRow) (bounds : List ℕ) → IsPinned slots rows bounds → (d : Text) → slot_of slots d ≡ None → IsNew d rows
 new_digest slots rows bounds kept d none = subst (λ rs. IsNew d rs) (sym kept.same_rows) (λ k default lt used has.
-    let s = get_within slots k (let long = length-map slots row_of in omega arith) in
+    let s = there_at slots k (let long = length-map slots row_of in omega arith) in
     let is : get_or (map row_of slots) k default ≡ row_of s.0 = get-map row_of slots k s.0 default s.1 in
     held s.0 k s.1 (ap (λ (r : PinRow). r.digest) (sym is) ∙ has))
   where

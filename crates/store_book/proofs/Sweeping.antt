@@ -16,7 +16,7 @@ use Rattle.slot_table.specs.Slots.{Slot, Held, Content, Free, Used, Retired, hel
 use Rattle.store_book.specs.Layers.{is_lent}
 use Rattle.store_book.specs.Pinned.{Pinned, Reclaimed, is_orphan_at, slotted}
 use Rattle.store_book.specs.SweptSlots.{Sweeps, IsTurned, counting, is_live_orphan, kept, held, freed, retired}
-use Rattle.store_model.specs.Sweep.{Swept}
+use Rattle.store_model.specs.declared.swept.Swept.{Swept}
 use Rattle.finite_maps.proofs.Places.{IsFirst, get-drop, first, nowhere, count_by-nowhere}
 use Rattle.finite_maps.proofs.Options.{some_same}
 use Rattle.store_book.proofs.Pinning.{index-set-le}

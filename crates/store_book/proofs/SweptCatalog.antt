@@ -19,7 +19,8 @@ use Rattle.finite_maps.specs.Texts.{Text, text_cmp}
 use Rattle.store_model.specs.Catalog.{Link, Resident, Catalog, holds, count}
 use Rattle.store_book.specs.Layers.{resident_of, with_resident, resident_rows, residents_of, lent_marks, book_catalog, IsBook}
 use Rattle.store_book.specs.Pinned.{Pinned}
-use Rattle.store_model.specs.Sweep.{Swept, IsLeft, IsSweep}
+use Rattle.store_model.specs.declared.swept.Swept.{Swept}
+use Rattle.store_model.specs.Sweep.{IsLeft, IsSweep}
 use Rattle.store_model.specs.Sweep as sweeps
 use Rattle.store_book.specs.SweptSlots.{Sweeps, IsTurned, is_live_orphan, kept, held, freed, retired}
 use Rattle.store_book.proofs.Bridge.{holds_is, IsApart-rows}
@@ -29,7 +30,7 @@ use Rattle.store_model.proofs.Commands.Sweep.{linked_stays, Sound-sweep}
 use Rattle.store_book.proofs.LentMarks.{length-marks}
 use Rattle.store_book.proofs.LinkedSlots.{linked_live}
 use Rattle.finite_maps.proofs.Options.{some_same}
-use Rattle.store_book.proofs.Pinning.{get_within}
+use Rattle.finite_maps.proofs.Lists.{there_at}
 use Rattle.store_book.proofs.Reclaiming.{orphan_held}
 use Rattle.store_book.proofs.SlotLemmas.{slot_of_held}
 use Rattle.store_book.proofs.Ties.{held_of, not_resident}
@@ -101,7 +102,7 @@ module _ (l : Linked) (u : Uploaded) (p q : Pinned) (max_blob : ℕ) (swept : Sw
       let t = slot_of_held q.slots j x here in
       let lt = slice_get_within q.slots j t.0 t.1 in
       let long = sweep.long in
-      let s = get_within p.slots j (omega arith) in
+      let s = there_at p.slots j (omega arith) in
       let e = sweep.each j s.0 s.1 in
       origin_of j x s.0 e.0 (slice_index p.bounds j) (slice_index q.bounds j) s.1 (sym (held_there q.slots j e.0 e.1) ∙ here) e.2
 
@@ -260,7 +261,7 @@ module _ (l : Linked) (u : Uploaded) (p q : Pinned) (max_blob : ℕ) (swept : Sw
       alike k t now =
           let lt = slice_get_within q.slots k t now in
           let long = sweep.long in
-          let s = get_within p.slots k (omega arith) in
+          let s = there_at p.slots k (omega arith) in
           let e = sweep.each k s.0 s.1 in
           let same : e.0 ≡ t = some_same (sym e.1 ∙ now) in
           held_by k s.0 t (slice_index p.bounds k) (slice_index q.bounds k) s.1 (subst (λ (x : Slot). IsTurned s.0 (slice_index p.bounds k) x (slice_index q.bounds k)) same e.2)

@@ -10,7 +10,7 @@ use Rattle.store_book.specs.Pinned.{Pinned, seen, all_seen, shown}
 use Rattle.store_book.specs.SlotSteps.{EachSlot, HasLast, IsSweptSlot, same, condemned, freed, retired}
 use Rattle.store_book.specs.SweptSlots.{Sweeps, IsTurned}
 use Rattle.store_book.specs.SweptSlots as turns
-use Rattle.store_model.specs.Sweep.{Swept}
+use Rattle.store_model.specs.declared.swept.Swept.{Swept}
 use Rattle.store_book.proofs.Leasing.{seen-get}
 use Rattle.finite_maps.proofs.Options.{some_same}
 use Rattle.store_book.proofs.Pinning.{le-self, length-all_seen, seen-at}

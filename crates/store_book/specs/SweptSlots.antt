@@ -6,7 +6,7 @@ use Rattle.pin_table.specs.declared.reclaim.Reclaim.TheVariants as reclaim
 use Rattle.slot_table.specs.Slots.{Slot, held_in, is_orphan, is_retired, on_held, mark, emptied, spent}
 use Rattle.store_book.specs.Layers.{is_lent}
 use Rattle.store_book.specs.Pinned.{Pinned}
-use Rattle.store_model.specs.Sweep.{Swept}
+use Rattle.store_model.specs.declared.swept.Swept.{Swept}
 
 -- whether a slot holds a live blob without links
 abbrev pub is_live_orphan : Slot → Bool

@@ -29,6 +29,7 @@ use std::alloc::Global;
 use std::io::{self, Write};
 use std::marker::Model;
 use std::sync::Arc;
+use store_model::{Mount, Swept};
 use upload_table::{Hand, Uploads};
 
 /// The book: what every tenant's repositories hold, and what is being uploaded to them.

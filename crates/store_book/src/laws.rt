@@ -7,5 +7,5 @@ pub use store_model::laws::{counts_and_uses, isolation, soundness};
 
 /// In every book, a tenant's use, which is kept as a running number, is that of its catalog.
 pub fn uses_are_kept()
-    ensures kept { UsesAreKept }
+    ensures { UsesAreKept }
 {}

@@ -10,7 +10,8 @@ use Rattle.store_model.specs.Catalog.{Catalog}
 use Rattle.store_model.specs.Invariant.{Sound}
 use Rattle.store_model.specs.Commands
 use Rattle.store_model.specs.Commands.{Outcome}
-use Rattle.store_model.specs.Sweep.{Swept, IsSweep}
+use Rattle.store_model.specs.declared.swept.Swept.{Swept}
+use Rattle.store_model.specs.Sweep.{IsSweep}
 
 -- the commands that name a repository first, with what else they are given
 pub data Command : Type 0 where

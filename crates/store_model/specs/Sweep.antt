@@ -3,7 +3,7 @@ use Rattle.std.specs.Prelude.{◌≡◌, ◌+◌, ◌==◌, ◌&&◌, not, Bool,
 use Rattle.std.specs.FinMap as fmap
 use Rattle.finite_maps.specs.Texts.{Text}
 use Rattle.store_model.specs.Catalog.{Resident, Catalog, count}
-pub use Rattle.store_model.specs.declared.swept.Swept.{Swept}
+use Rattle.store_model.specs.declared.swept.Swept.{Swept}
 
 -- whether no repository holds a digest
 abbrev pub is_orphan : Catalog → Text → Bool

@@ -7,7 +7,8 @@ use Rattle.std.proofs.lemmas.Map.Lookups.{exact_bytes}
 use Rattle.finite_maps.proofs.Options.{some_same}
 use Rattle.finite_maps.specs.Texts.{Text, text_cmp}
 use Rattle.store_model.specs.Catalog.{Resident, Catalog}
-use Rattle.store_model.specs.Sweep.{Swept, is_orphan, IsLeft, IsSweep}
+use Rattle.store_model.specs.declared.swept.Swept.{Swept}
+use Rattle.store_model.specs.Sweep.{is_orphan, IsLeft, IsSweep}
 
 -- each resident blob after a sweep has the bytes of one before it
 pub left_bytes : (orphan : Bool) (b now : Resident) → IsLeft orphan b (Some now) → b.bytes ≡ now.bytes

@@ -11,7 +11,8 @@ use Rattle.finite_maps.specs.Sets as set
 use Rattle.finite_maps.specs.Texts.{Text}
 use Rattle.store_model.specs.Catalog.{Link, Resident, Catalog, tenant_holds, count, blob_share, used}
 use Rattle.store_model.specs.Invariant.{Lawful, KeepsQuotas, FitsSlots, Sound}
-use Rattle.store_model.specs.Sweep.{Swept, is_orphan, IsLeft, IsSweep}
+use Rattle.store_model.specs.declared.swept.Swept.{Swept}
+use Rattle.store_model.specs.Sweep.{is_orphan, IsLeft, IsSweep}
 use Rattle.store_model.proofs.Commands.SomeSweep.{left_bytes}
 use Rattle.finite_maps.proofs.Maps.{sum_alike, term}
 use Rattle.finite_maps.proofs.Lists.{sum_by-add, sum_by-ones}

@@ -7,7 +7,8 @@ use Rattle.std.specs.FinMap.{entries, get, same_map}
 use Rattle.std.proofs.lemmas.Map.Lookups.{exact_bytes}
 use Rattle.finite_maps.specs.Texts.{Text}
 use Rattle.store_model.specs.Catalog.{Resident, Catalog}
-use Rattle.store_model.specs.Sweep.{Swept, is_orphan, IsLeft, IsSweep}
+use Rattle.store_model.specs.declared.swept.Swept.{Swept}
+use Rattle.store_model.specs.Sweep.{is_orphan, IsLeft, IsSweep}
 use Rattle.finite_maps.proofs.Maps.{term, sum_zero}
 
 module _ (C C' : Catalog) (swept : Swept) (sweep : IsSweep C swept C') where

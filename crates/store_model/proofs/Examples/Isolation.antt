@@ -15,7 +15,8 @@ use Rattle.store_model.specs.declared.mount.Mount.TheVariants as mounting
 use Rattle.store_model.specs.Catalog.{Tenant, Session, Resident, Catalog, opening}
 use Rattle.store_model.specs.Commands.{new_session, stored, with_link}
 use Rattle.store_model.specs.Runs.{Command, Event, Called, Cleaned, Start, Close, Mount, Delete, Number, Mounting, Done, outcome, IsRun}
-use Rattle.store_model.specs.Sweep.{Swept, is_orphan, IsLeft, IsSweep}
+use Rattle.store_model.specs.declared.swept.Swept.{Swept}
+use Rattle.store_model.specs.Sweep.{is_orphan, IsLeft, IsSweep}
 use Rattle.store_model.specs.Noninterference.{events_of, commands, replies_alone, left_alone, outcome_alone, part, named, whole_of, brought_in, NoCollision, IsFair, IsUncrowded, IsAlone}
 use Rattle.store_model.proofs.Noninterference.Runs.{isolated}
 use Rattle.finite_maps.proofs.Maps.{get-insert_other, cases_key}

@@ -12,7 +12,8 @@ use Rattle.store_model.specs.Sessions.{Session}
 use Rattle.finite_maps.specs.Texts.{Text, text_cmp}
 use Rattle.store_model.specs.Catalog.{Catalog, Home, Resident, opening}
 use Rattle.store_model.specs.Commands.{lease, with_lent, delete, close, stored}
-use Rattle.store_model.specs.Sweep.{Swept, is_orphan, IsLeft, IsSweep}
+use Rattle.store_model.specs.declared.swept.Swept.{Swept}
+use Rattle.store_model.specs.Sweep.{is_orphan, IsLeft, IsSweep}
 use Rattle.finite_maps.proofs.Maps.{got-insert, get-insert_at, get-insert_other, cases_key}
 use Rattle.store_model.proofs.Commands.SweepAnswers.{idle_sweep}
 use Rattle.std.proofs.lemmas.Bool.{false≢true}

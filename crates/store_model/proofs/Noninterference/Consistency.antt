@@ -8,7 +8,8 @@ use Rattle.std.specs.Prelude.{nat_lt}
 use Rattle.std.specs.FinMap.{contains_key-keys, FinMap, get, insert, remove}
 use Rattle.std.proofs.lemmas.Bool.{ne_eqb, true≢false, and_parts}
 use Rattle.store_model.specs.Catalog.{count, Link, Number, Home, Session, Resident, Catalog, number_cmp, tenant_of, is_of, holds, next_of}
-use Rattle.store_model.specs.Sweep.{Swept, IsSweep, IsLeft, is_orphan}
+use Rattle.store_model.specs.declared.swept.Swept.{Swept}
+use Rattle.store_model.specs.Sweep.{IsSweep, IsLeft, is_orphan}
 use Rattle.finite_maps.proofs.Lists.{list_any_weaker, list_any_count}
 use Rattle.store_model.proofs.Noninterference.SameFor.{Alike, Consistent, held_kept}
 use Rattle.std.proofs.lemmas.Map.Lookups.{exact_bytes}

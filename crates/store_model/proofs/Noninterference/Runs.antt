@@ -24,7 +24,8 @@ use Rattle.store_model.specs.Runs.{Command, Answer, answered, takes_memory, outc
 use Rattle.store_model.specs.Noninterference.{events_of, commands, replies, part, outcome_alone, named, reply, left, replies_alone, left_alone, IsUncrowded, brought, brought_by, brought_in, NoCollision, IsFair, TenantsAreAlone}
 use Rattle.blob_digest.proofs.KeyOrders.{number_cmp_total, exact_number, link_cmp_total, exact_link}
 use Rattle.finite_maps.proofs.Lists.{all_by_index}
-use Rattle.finite_maps.proofs.Agreement.{AgreeOn, at_once}
+use Rattle.finite_maps.proofs.Agreement.{AgreeOn}
+use Rattle.finite_maps.proofs.Parts.{as_passes}
 use Rattle.finite_maps.proofs.Options.{nothing, no_member}
 use Rattle.store_model.proofs.Noninterference.SameFor.{Alike, Consistent, of_same, session_same, whole_same, blobs_same}
 use Rattle.store_model.proofs.Noninterference.StepConsistency.{Fits, Matches, own_command, known}
@@ -150,7 +151,7 @@ module _ (content : Text → Text) (tenants : List Tenant) (t : ℕ) where
 module _ {K X : Type 0} {R : K → K → Ordering} (o : IsTotalOrder R) (same : IsAntisymmetric R) where
   retain_agree : (p : K → Bool) (m n : FinMap R X) → AgreeOn p m n → retain_keys m p ≡ retain_keys n p
   retain_agree p m n agree = same_map o same (retain_keys m p) (retain_keys n p) (λ q.
-      get-retain_keys m p q (λ x tie. ap p (sym (same q x tie))) ∙ at_once o same (p q) (get m q) (get n q) (agree q) ∙ sym (get-retain_keys n p q (λ x tie. ap p (sym (same q x tie)))))
+      get-retain_keys m p q (λ x tie. ap p (sym (same q x tie))) ∙ as_passes o same (p q) (get m q) (get n q) (agree q) ∙ sym (get-retain_keys n p q (λ x tie. ap p (sym (same q x tie)))))
 
 -- catalogs that are alike to a tenant have the same part of it
 pub same_part : (content : Text → Text) (t : ℕ) (C D : Catalog) → Alike t C D → Consistent content C → Consistent content D → part C t ≡ part D t

@@ -9,7 +9,7 @@ use Rattle.std.specs.List.{AllByRecursion, filter, flat_map, enumerate_from, lis
 use Rattle.std.specs.Cmp.Lexicographic.{nat_list_cmp_total}
 use Rattle.std.specs.FinMap.{get, entries, same_map, contains_key-keys}
 use Rattle.std.specs.FinMap.Entries.{find as find_key}
-use Rattle.std.proofs.lemmas.Bool.{false≢true, eq-eqb}
+use Rattle.std.proofs.lemmas.Bool.{false≢true, eq-eqb, or_right}
 use Rattle.std.proofs.lemmas.Map.Lookups.{exact_bytes}
 use Rattle.finite_maps.specs.Sets as kept_set
 use Rattle.finite_maps.specs.Texts.{Text, text_cmp, same_text}
@@ -35,16 +35,12 @@ all_filtered P p (x ∷ xs) h = elim (p x) as (λ b. AllByRecursion P (cond b (x
   | false ↦ all_filtered P p xs h.1
 ]
 
-any_or : (a b : Bool) → b ≡ true → (a || b) ≡ true
-any_or true b h = refl
-any_or false b h = h
-
 module _ {K : Type 0} (R : K → K → Ordering) (o : IsTotalOrder R) where
   each_found : (xs : List K) → AllByRecursion (λ x. list_any (eq_by_cmp R x) xs ≡ true) xs
   each_found [] = tt
   each_found (x ∷ xs) = (
     ap (λ b. b || list_any (eq_by_cmp R x) xs) (ap is_eq (tied_itself o x)),
-    all_weaker (λ y. list_any (eq_by_cmp R y) xs ≡ true) (λ y. list_any (eq_by_cmp R y) (x ∷ xs) ≡ true) (λ y h. any_or (eq_by_cmp R y x) (list_any (eq_by_cmp R y) xs) h) xs (each_found xs),
+    all_weaker (λ y. list_any (eq_by_cmp R y) xs ≡ true) (λ y. list_any (eq_by_cmp R y) (x ∷ xs) ≡ true) (λ y h. or_right (eq_by_cmp R y x) (list_any (eq_by_cmp R y) xs) h) xs (each_found xs),
   )
 
   members : (s : kept_set.Set R) → AllByRecursion (λ x. kept_set.contains s x ≡ true) (kept_set.items s)

@@ -1,5 +1,5 @@
 use Rattle.store_book.proofs.Taking.{use_is}
 use Rattle.store_book.proofs.laws.uses_are_kept.Goals as goal
 
-pub returns-clause-kept : goal.returns-clause-kept
-returns-clause-kept c = λ l u slots max_blob book t there. use_is l u slots max_blob book t there
+pub returns : goal.returns
+returns c = λ l u slots max_blob book t there. use_is l u slots max_blob t book there

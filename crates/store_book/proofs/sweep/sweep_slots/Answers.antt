@@ -15,7 +15,7 @@ reclaim-became-requires-clause-condemned c =
 pub orphans-preserved : goal.orphans-preserved
 orphans-preserved c =
     let next = rw c.table.ensures at (sym c.in-Some.ensures) in
-    let first = o c.args.slots.now c.orphans.slots c.reclaim-became.new.self c.orphans.from c.in-Some.slot c.orphans.swept c.count.new.self c.condemn-was_live.result c.orphans.invariant next in
+    let first = o c.args.slots.now c.orphans.slots c.reclaim-became.new.self c.orphans.from c.in-Some.slot c.orphans.swept c.count.new.swept c.condemn-was_live.result c.orphans.invariant next in
     rw c.count.ensures (more c.args.slots.now c.orphans.slots c.reclaim-became.new.self c.orphans.from c.in-Some.slot c.orphans.swept (counting c.condemn-was_live.result c.reclaim-became.result c.orphans.swept) c.condemn-was_live.result c.orphans.invariant next
     c.condemn-was_live.ensures.live
     (became_of c.in-Some.slot c.orphans.slots c.condemn-was_live.new.self c.reclaim-became.new.self first.2.found c.orphans.swept c.condemn-was_live.result c.reclaim-became.result
