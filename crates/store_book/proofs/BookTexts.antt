@@ -126,5 +126,5 @@ module _ (l : Linked) (u : Uploaded) (slots : List Slot) (max_blob : ℕ) (book 
   pub can_print : CanPrint l u
   can_print = record {
     next = book.sound.lawful.numbers;
-    repos = λ t. let few = book.sound.lawful.limits.repos t in let same = length-filter (is_of C t) (set.items l.repos) in omega arith;
+    repos = λ t. let few = book.sound.lawful.few_repos t in let same = length-filter (is_of C t) (set.items l.repos) in omega arith;
   }

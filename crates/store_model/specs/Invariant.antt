@@ -1,5 +1,5 @@
 -- When a catalog is lawful.
-use Rattle.std.specs.Prelude.{◌≡◌, ◌≢◌, ℕ, ◌+◌, ◌<◌, ◌≤◌, ◌^◌, true, false, Some, Err, List, [], length, IsSome, map, sum_by, count_by}
+use Rattle.std.specs.Prelude.{◌≡◌, ◌≢◌, ℕ, ◌+◌, ◌<◌, ◌≤◌, ◌^◌, true, false, Some, Err, List, [], length, IsSome, map, sum_by, count_by, slice_index}
 use Rattle.std.specs.List.{AllByRecursion}
 use Rattle.std.specs.Ordering.{eq_by_cmp}
 use Rattle.std.specs.List.Sorted.{IsStrictlySortedBy}
@@ -11,43 +11,47 @@ use Rattle.std.specs.declared.cmp.Ordering.TheVariants.{Less}
 use Rattle.blob_digest.specs.declared.refusal.Refusal.TheVariants.{Referenced}
 use Rattle.store_model.specs.Commands.{refers, delete}
 use Rattle.finite_maps.specs.Texts.{Text, text_cmp}
-use Rattle.store_model.specs.Catalog.{Link, Number, Session, Resident, Catalog, is_of, tenant_of, quota_of, holds, count, size, used, held_digests, in_sessions_of, next_of, open_sessions, repos_of, manifests_of, charged}
+use Rattle.store_model.specs.Catalog.{Link, Number, Session, Resident, Catalog, is_of, tenant_of, quota_of, holds, count, size, used, held_digests, in_sessions_of, next_of, open_sessions, repos_of, manifests_of, charged, Tenant, is_tenants, link_cmp}
 use Rattle.store_model.specs.Sessions.{at_home}
 
 -- a session is of its own tenant, in a repository that is there, with no empty chunk, with its reserve within the limit, under a number that was given
-pub record LawfulSession (C : Catalog) (key : Number) (s : Session) : Type 0 where
-  pub repo : set.contains C.repos s.repo ≡ true
-  pub tenant : is_of C key.0 s.repo ≡ true
+pub record IsLawfulSession (known : List Tenant) (present : set.Set text_cmp) (longest : ℕ) (next : List ℕ) (key : Number) (s : Session) : Type 0 where
+  pub repo : set.contains present s.repo ≡ true
+  pub tenant : is_tenants known key.0 s.repo ≡ true
   pub chunks : AllByRecursion (λ c. c ≢ []) (at_home s.chunks)
-  pub small : charged s ≤ C.max_blob
+  pub small : charged s ≤ longest
   pub positive : 0 < key.1
-  pub number : key.1 < next_of C key.0
+  pub number : key.1 < slice_index next key.0
 
 -- a manifest is stored under the digest of its bytes, and each of its references is linked where it is
-pub record LawfulManifest (C : Catalog) (l : Link) (bytes : Text) : Type 0 where
-  pub repo : set.contains C.repos l.0 ≡ true
+pub record IsLawfulManifest (present : set.Set text_cmp) (links : set.Set link_cmp) (l : Link) (bytes : Text) : Type 0 where
+  pub repo : set.contains present l.0 ≡ true
   pub name : l.1 ≡ sha256_text bytes
   pub small : length bytes ≤ max_manifest
-  pub refs : (refs : List Text) × (refs_of bytes ≡ Some refs) × AllByRecursion (λ d. holds C l.0 d ≡ true) refs
+  pub refs : (refs : List Text) × (refs_of bytes ≡ Some refs) × AllByRecursion (λ d. set.contains links (l.0, d) ≡ true) refs
 
 -- a linked digest is resident and not condemned
-pub record LawfulLink (C : Catalog) (l : Link) : Type 0 where
-  pub repo : set.contains C.repos l.0 ≡ true
-  pub kept : (b : Resident) × (fmap.get C.residents l.1 ≡ Some b) × (b.condemned ≡ false)
+pub record IsLawfulLink (present : set.Set text_cmp) (residents : fmap.FinMap text_cmp Resident) (l : Link) : Type 0 where
+  pub repo : set.contains present l.0 ≡ true
+  pub kept : (b : Resident) × (fmap.get residents l.1 ≡ Some b) × (b.condemned ≡ false)
 
--- the limits on numbers
-pub record WithinLimits (C : Catalog) : Type 0 where
-  pub tenants : (0 < length C.tenants) × (length C.tenants ≤ 256)
-  pub names_rise : IsStrictlySortedBy text_cmp (map (λ t. t.name) C.tenants)
-  pub max_blob : C.max_blob ≤ 2 ^ 40
-  pub quotas : AllByRecursion (λ t. t.quota ≤ 2 ^ 50) C.tenants
-  pub first : (t : ℕ) → t < length C.tenants → 0 < next_of C t
-  pub next : (t : ℕ) → next_of C t ≤ 2 ^ 32
-  pub sessions : (t : ℕ) → open_sessions C t ≤ 64
-  pub repos : (t : ℕ) → repos_of C t ≤ 1024
-  pub manifests : (r : Text) → manifests_of C r ≤ 1024
-  pub names : (r : Text) → set.contains C.repos r ≡ true → length r ≤ 255
+-- the tenants, in the order of their names, and the limits that a store is made with
+pub record AreWithinLimits (known : List Tenant) (longest : ℕ) : Type 0 where
+  pub tenants : (0 < length known) × (length known ≤ 256)
+  pub names_rise : IsStrictlySortedBy text_cmp (map (λ t. t.name) known)
+  pub max_blob : longest ≤ 2 ^ 40
+  pub quotas : AllByRecursion (λ t. t.quota ≤ 2 ^ 50) known
 
+abbrev pub LawfulSession : Catalog → Number → Session → Type 0
+LawfulSession C = IsLawfulSession C.tenants C.repos C.max_blob C.next
+
+abbrev pub LawfulManifest : Catalog → Link → Text → Type 0
+LawfulManifest C = IsLawfulManifest C.repos C.links
+
+abbrev pub LawfulLink : Catalog → Link → Type 0
+LawfulLink C = IsLawfulLink C.repos C.residents
+
+-- Each field speaks of the parts of the catalog that it reads, so a command that leaves these leaves it as it is.
 pub record Lawful (C : Catalog) : Type 0 where
   pub content : (d : Text) (b : Resident) → fmap.get C.residents d ≡ Some b → is_digest_of d b.bytes ≡ true
   pub links : (l : Link) → set.contains C.links l ≡ true → LawfulLink C l
@@ -55,17 +59,26 @@ pub record Lawful (C : Catalog) : Type 0 where
   pub sessions : (key : Number) (s : Session) → fmap.get C.sessions key ≡ Some s → LawfulSession C key s
   pub tenants : (r : Text) → set.contains C.repos r ≡ true → IsSome (tenant_of C.tenants r)
   pub numbers : length C.next ≡ length C.tenants
-  pub limits : WithinLimits C
+  pub limits : AreWithinLimits C.tenants C.max_blob
+  pub from_one : (t : ℕ) → t < length C.tenants → 0 < next_of C t
+  pub few_numbers : (t : ℕ) → next_of C t ≤ 2 ^ 32
+  pub few_sessions : (t : ℕ) → open_sessions C t ≤ 64
+  pub few_repos : (t : ℕ) → repos_of C t ≤ 1024
+  pub few_manifests : (r : Text) → manifests_of C r ≤ 1024
+  pub short_names : (r : Text) → set.contains C.repos r ≡ true → length r ≤ 255
 
 -- No tenant passes its quota.
 abbrev pub KeepsQuotas : Catalog → Type 0
 KeepsQuotas C = (t : ℕ) → t < length C.tenants → used C t ≤ quota_of C t
 
 -- Each resident blob and each retired slot has a slot.
-pub record FitsSlots (C : Catalog) : Type 0 where
-  pub some : 0 < C.slots
-  pub few : C.slots ≤ 65536
-  pub fit : fmap.len C.residents + C.retired ≤ C.slots
+pub record FitSlots (slots : ℕ) (residents : fmap.FinMap text_cmp Resident) (retired : ℕ) : Type 0 where
+  pub some : 0 < slots
+  pub few : slots ≤ 65536
+  pub fit : fmap.len residents + retired ≤ slots
+
+abbrev pub FitsSlots : Catalog → Type 0
+FitsSlots C = FitSlots C.slots C.residents C.retired
 
 -- All that is kept from the opening catalog on.
 pub record Sound (C : Catalog) : Type 0 where

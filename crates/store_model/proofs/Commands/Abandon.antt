@@ -56,7 +56,7 @@ module _ (C C' : Catalog) (repo : Text) (number n : ℕ) (stepped : abandon C re
       ])
 
   pub FitsSlots-after_abandon : FitsSlots C → FitsSlots C'
-  FitsSlots-after_abandon fits = subst (λ (D : Catalog). FitsSlots D) abandoned.left (record { some = fits.some; few = fits.few; fit = fits.fit })
+  FitsSlots-after_abandon fits = subst (λ (D : Catalog). FitsSlots D) abandoned.left fits
 
   pub Sound-after_abandon : Sound C → Sound C'
   Sound-after_abandon sound = record { lawful = Lawful-after_abandon sound.lawful; quotas = KeepsQuotas-after_abandon sound.quotas; slots = FitsSlots-after_abandon sound.slots }

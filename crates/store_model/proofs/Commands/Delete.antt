@@ -59,7 +59,7 @@ module _ (C C' : Catalog) (repo digest : Text) (stepped : delete C repo digest �
       ])
 
   pub FitsSlots-after_delete : FitsSlots C → FitsSlots C'
-  FitsSlots-after_delete fits = subst (λ (D : Catalog). FitsSlots D) deleted.left (record { some = fits.some; few = fits.few; fit = fits.fit })
+  FitsSlots-after_delete fits = subst (λ (D : Catalog). FitsSlots D) deleted.left fits
 
   pub Sound-after_delete : Sound C → Sound C'
   Sound-after_delete sound = record { lawful = Lawful-after_delete sound.lawful; quotas = KeepsQuotas-after_delete sound.lawful sound.quotas; slots = FitsSlots-after_delete sound.slots }

@@ -57,7 +57,7 @@ module _ (C C' : Catalog) (repo bytes name : Text) (stepped : put_manifest C rep
         lawful_after = subst (λ (D : Catalog). Lawful D) is made;
         use_alike = λ u. ap (λ D. used D u) (sym is) ∙ used-appear C t repo lawful known u;
         keeps_after = λ keeps. subst (λ (D : Catalog). KeepsQuotas D) is (λ u there. let same = used-appear C t repo lawful known u in let k = keeps u there in omega arith);
-        fits_after = λ fits. subst (λ (D : Catalog). FitsSlots D) is (record { some = fits.some; few = fits.few; fit = fits.fit });
+        fits_after = λ fits. subst (λ (D : Catalog). FitsSlots D) is fits;
       }
 
   by_old : C ≡ C' → Put
@@ -114,7 +114,7 @@ module _ (C C' : Catalog) (repo name : Text) (stepped : delete_manifest C repo n
   KeepsQuotas-after_delete_manifest keeps = subst (λ (D : Catalog). KeepsQuotas D) gone keeps
 
   pub FitsSlots-after_delete_manifest : FitsSlots C → FitsSlots C'
-  FitsSlots-after_delete_manifest fits = subst (λ (D : Catalog). FitsSlots D) gone (record { some = fits.some; few = fits.few; fit = fits.fit })
+  FitsSlots-after_delete_manifest fits = subst (λ (D : Catalog). FitsSlots D) gone fits
 
   pub Sound-after_delete_manifest : Sound C → Sound C'
   Sound-after_delete_manifest sound = record { lawful = Lawful-after_delete_manifest sound.lawful; quotas = KeepsQuotas-after_delete_manifest sound.quotas; slots = FitsSlots-after_delete_manifest sound.slots }

@@ -80,7 +80,7 @@ module _ (C C' : Catalog) (repo digest : Text) (from : Option Text) (answer : Mo
             let same = used-mounted C t repo digest q lawful known own has short room u in
             let k = keeps u there in
             omega arith);
-        fits_after = λ fits. subst (λ (D : Catalog). FitsSlots D) is (record { some = fits.some; few = fits.few; fit = fits.fit });
+        fits_after = λ fits. subst (λ (D : Catalog). FitsSlots D) is fits;
       }
 
   by_session : (n : ℕ) (D : Catalog) → start C repo ≡ Ok (n, D) → D ≡ C' → Mounted

@@ -56,7 +56,7 @@ module _ (C C' : Catalog) (r : Text) (n : ℕ) (stepped : start C r ≡ Ok (n, C
       omega arith)
 
   pub FitsSlots-after_start : FitsSlots C → FitsSlots C'
-  FitsSlots-after_start fits = subst (λ (D : Catalog). FitsSlots D) passed.4 (record { some = fits.some; few = fits.few; fit = fits.fit })
+  FitsSlots-after_start fits = subst (λ (D : Catalog). FitsSlots D) passed.4 fits
 
   pub Sound-after_start : length r ≤ 255 → Sound C → Sound C'
   Sound-after_start short sound = record {

@@ -44,22 +44,17 @@ module _ (C C' : Catalog) (swept : Swept) (sweep : IsSweep C swept C') (lawful :
   lawful_after = record {
     content = λ d now h. content_from d now (get C.residents d) refl h;
     links = λ l h. let k = lawful.links l h in record { repo = k.repo; kept = (k.kept.0, linked_stays l h k.kept.0 k.kept.1, k.kept.2) };
-    manifests = λ l bytes h. let k = lawful.manifests l bytes h in record { repo = k.repo; name = k.name; small = k.small; refs = k.refs };
-    sessions = λ q s h. let k = lawful.sessions q s h in record { repo = k.repo; tenant = k.tenant; chunks = k.chunks; small = k.small; positive = k.positive; number = k.number };
+    manifests = lawful.manifests;
+    sessions = lawful.sessions;
     tenants = lawful.tenants;
     numbers = lawful.numbers;
-    limits = record {
-      tenants = lawful.limits.tenants;
-      names_rise = lawful.limits.names_rise;
-      first = lawful.limits.first;
-      max_blob = lawful.limits.max_blob;
-      quotas = lawful.limits.quotas;
-      next = lawful.limits.next;
-      sessions = lawful.limits.sessions;
-      repos = lawful.limits.repos;
-      manifests = lawful.limits.manifests;
-      names = lawful.limits.names;
-    };
+    limits = lawful.limits;
+    from_one = lawful.from_one;
+    few_numbers = lawful.few_numbers;
+    few_sessions = lawful.few_sessions;
+    few_repos = lawful.few_repos;
+    few_manifests = lawful.few_manifests;
+    short_names = lawful.short_names;
   }
 
   pub Lawful-sweep : Lawful C'

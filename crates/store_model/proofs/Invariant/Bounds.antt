@@ -89,7 +89,7 @@ pub count_small : (C : Catalog) → Lawful C → (d : Text) → count C d ≤ 26
 count_small C lawful d =
     let T : ℕ = length C.tenants in
     let xs : List Text = set.items C.repos in
-    let within : count_by (below C.tenants T) xs ≤ T * 1024 = count_below C.tenants xs lawful.limits.repos T in
+    let within : count_by (below C.tenants T) xs ≤ T * 1024 = count_below C.tenants xs lawful.few_repos T in
     let parts : count_by (below C.tenants T) xs + count_by (λ r. not (below C.tenants T r)) xs ≡ length xs = count_by-split (below C.tenants T) xs in
     let none : count_by (λ r. not (below C.tenants T r)) xs ≡ 0 = zero_of (count_by (λ r. not (below C.tenants T r)) xs) (sym (list_any_count (λ r. not (below C.tenants T r)) xs) ∙ no_stranger) in
     let most : count C d ≤ length xs = count_by-le-length (λ r. set.contains C.links (r, d)) xs in

@@ -60,23 +60,18 @@ module _ (C : Catalog) (key : Number) (s : Session) (chunks : Chunks) (found : g
     pub Lawful-chunks : Lawful C → Lawful after
     Lawful-chunks lawful = record {
       content = lawful.content;
-      links = λ l h. let k = lawful.links l h in record { repo = k.repo; kept = k.kept };
-      manifests = λ l bytes h. let k = lawful.manifests l bytes h in record { repo = k.repo; name = k.name; small = k.small; refs = k.refs };
+      links = lawful.links;
+      manifests = lawful.manifests;
       sessions = λ q x h. lawful_session lawful q x (sym (get-insert number_cmp_total C.sessions key new q) ∙ h);
       tenants = lawful.tenants;
       numbers = lawful.numbers;
-      limits = record {
-        tenants = lawful.limits.tenants;
-        names_rise = lawful.limits.names_rise;
-        first = lawful.limits.first;
-        max_blob = lawful.limits.max_blob;
-        quotas = lawful.limits.quotas;
-        next = lawful.limits.next;
-        sessions = λ u. let same = open_sessions-chunks u in let few = lawful.limits.sessions u in omega arith;
-        repos = lawful.limits.repos;
-        manifests = lawful.limits.manifests;
-        names = lawful.limits.names;
-      };
+      limits = lawful.limits;
+      from_one = lawful.from_one;
+      few_numbers = lawful.few_numbers;
+      few_sessions = λ u. let same = open_sessions-chunks u in let few = lawful.few_sessions u in omega arith;
+      few_repos = lawful.few_repos;
+      few_manifests = lawful.few_manifests;
+      short_names = lawful.short_names;
     }
 
     pub Sound-chunks : (key.0 < length C.tenants → used C key.0 + charged new ≤ quota_of C key.0 + charged s) → Sound C → Sound after

@@ -65,7 +65,7 @@ module _ (C : Catalog) (r d : Text) where
   pub Lawful-unlink : Lawful C → referrer C r d ≡ None → Lawful after
   Lawful-unlink lawful none = record {
     content = lawful.content;
-    links = λ l h. let k = lawful.links l (was_member link_cmp_total exact_link C.links (r, d) l h) in record { repo = k.repo; kept = k.kept };
+    links = λ l h. lawful.links l (was_member link_cmp_total exact_link C.links (r, d) l h);
     manifests = λ l bytes h.
         let k = lawful.manifests l bytes h in
         let other : (l.0 ≢ r) ⊎ (list_any (same_text d) k.refs.0 ≡ false) = elim (cases_key nat_list_cmp_total exact_bytes l.0 r) [
@@ -73,21 +73,16 @@ module _ (C : Catalog) (r d : Text) where
           | inr differ ↦ inl differ
         ] in
         record { repo = k.repo; name = k.name; small = k.small; refs = (k.refs.0, k.refs.1, refs_still l.0 k.refs.0 other k.refs.2) };
-    sessions = λ q s h. let k = lawful.sessions q s h in record { repo = k.repo; tenant = k.tenant; chunks = k.chunks; small = k.small; positive = k.positive; number = k.number };
+    sessions = lawful.sessions;
     tenants = lawful.tenants;
     numbers = lawful.numbers;
-    limits = record {
-      tenants = lawful.limits.tenants;
-      names_rise = lawful.limits.names_rise;
-      first = lawful.limits.first;
-      max_blob = lawful.limits.max_blob;
-      quotas = lawful.limits.quotas;
-      next = lawful.limits.next;
-      sessions = lawful.limits.sessions;
-      repos = lawful.limits.repos;
-      manifests = lawful.limits.manifests;
-      names = lawful.limits.names;
-    };
+    limits = lawful.limits;
+    from_one = lawful.from_one;
+    few_numbers = lawful.few_numbers;
+    few_sessions = lawful.few_sessions;
+    few_repos = lawful.few_repos;
+    few_manifests = lawful.few_manifests;
+    short_names = lawful.short_names;
   }
 
   module _ (there : holds C r d ≡ true) where

@@ -19,23 +19,18 @@ module _ (C : Catalog) (key : Number) where
   pub Lawful-gone : Lawful C → Lawful after
   Lawful-gone lawful = record {
     content = lawful.content;
-    links = λ l h. let k = lawful.links l h in record { repo = k.repo; kept = k.kept };
-    manifests = λ l bytes h. let k = lawful.manifests l bytes h in record { repo = k.repo; name = k.name; small = k.small; refs = k.refs };
-    sessions = λ q s h. let k = lawful.sessions q s (got-remove number_cmp_total exact_number C.sessions key q s h) in record { repo = k.repo; tenant = k.tenant; chunks = k.chunks; small = k.small; positive = k.positive; number = k.number };
+    links = lawful.links;
+    manifests = lawful.manifests;
+    sessions = λ q s h. lawful.sessions q s (got-remove number_cmp_total exact_number C.sessions key q s h);
     tenants = lawful.tenants;
     numbers = lawful.numbers;
-    limits = record {
-      tenants = lawful.limits.tenants;
-      names_rise = lawful.limits.names_rise;
-      first = lawful.limits.first;
-      max_blob = lawful.limits.max_blob;
-      quotas = lawful.limits.quotas;
-      next = lawful.limits.next;
-      repos = lawful.limits.repos;
-      manifests = lawful.limits.manifests;
-      names = lawful.limits.names;
-      sessions = λ u. let few = lawful.limits.sessions u in let less = fewer u in omega arith;
-    };
+    limits = lawful.limits;
+    from_one = lawful.from_one;
+    few_numbers = lawful.few_numbers;
+    few_repos = lawful.few_repos;
+    few_manifests = lawful.few_manifests;
+    short_names = lawful.short_names;
+    few_sessions = λ u. let few = lawful.few_sessions u in let less = fewer u in omega arith;
   }
 
   module _ (s : Session) (found : get C.sessions key ≡ Some s) where

@@ -24,34 +24,29 @@ module _ (C : Catalog) (lawful : Lawful C) (r bytes : Text) where
       get C.manifests key ≡ None → manifests_of C r < 1024 → Lawful after
   Lawful-put_manifest there small refs read linked absent few = record {
     content = lawful.content;
-    links = λ l h. let k = lawful.links l h in record { repo = k.repo; kept = k.kept };
+    links = lawful.links;
     manifests = λ l x h. elim (got-insert link_cmp_total exact_link C.manifests key bytes l x h) [
       | inl e ↦
           let new : LawfulManifest after key bytes = record { repo = there; name = refl; small = small; refs = (refs, read, linked) } in
           subst (λ (y : Text). LawfulManifest after l y) e.1 (subst (λ (q : Link). LawfulManifest after q bytes) (sym e.0) new)
-      | inr old ↦ let k = lawful.manifests l x old in record { repo = k.repo; name = k.name; small = k.small; refs = k.refs }
+      | inr old ↦ lawful.manifests l x old
     ];
-    sessions = λ q s h. let k = lawful.sessions q s h in record { repo = k.repo; tenant = k.tenant; chunks = k.chunks; small = k.small; positive = k.positive; number = k.number };
+    sessions = lawful.sessions;
     tenants = lawful.tenants;
     numbers = lawful.numbers;
-    limits = record {
-      tenants = lawful.limits.tenants;
-      names_rise = lawful.limits.names_rise;
-      first = lawful.limits.first;
-      max_blob = lawful.limits.max_blob;
-      quotas = lawful.limits.quotas;
-      next = lawful.limits.next;
-      sessions = lawful.limits.sessions;
-      repos = lawful.limits.repos;
-      names = lawful.limits.names;
-      manifests = λ q.
-          let sum : manifests_of after q ≡ cond (same_text r q) 1 0 + manifests_of C q = sum_new link_cmp_total exact_link (λ e. cond (same_text e.0.0 q) 1 0) C.manifests key bytes absent in
-          let before = lawful.limits.manifests q in
-          elim (same_text r q) as (λ b. same_text r q ≡ b → manifests_of after q ≤ 1024) [
-            | true ↦ λ e. let one : cond {A = ℕ} (same_text r q) 1 0 ≡ 1 = ap (λ b. cond b 1 0) e in let same : manifests_of C r ≡ manifests_of C q = ap (manifests_of C) (text_is_same r q e) in omega arith
-            | false ↦ λ e. let none : cond {A = ℕ} (same_text r q) 1 0 ≡ 0 = ap (λ b. cond b 1 0) e in omega arith
-          ] refl;
-    };
+    limits = lawful.limits;
+    from_one = lawful.from_one;
+    few_numbers = lawful.few_numbers;
+    few_sessions = lawful.few_sessions;
+    few_repos = lawful.few_repos;
+    short_names = lawful.short_names;
+    few_manifests = λ q.
+        let sum : manifests_of after q ≡ cond (same_text r q) 1 0 + manifests_of C q = sum_new link_cmp_total exact_link (λ e. cond (same_text e.0.0 q) 1 0) C.manifests key bytes absent in
+        let before = lawful.few_manifests q in
+        elim (same_text r q) as (λ b. same_text r q ≡ b → manifests_of after q ≤ 1024) [
+          | true ↦ λ e. let one : cond {A = ℕ} (same_text r q) 1 0 ≡ 1 = ap (λ b. cond b 1 0) e in let same : manifests_of C r ≡ manifests_of C q = ap (manifests_of C) (text_is_same r q e) in omega arith
+          | false ↦ λ e. let none : cond {A = ℕ} (same_text r q) 1 0 ≡ 0 = ap (λ b. cond b 1 0) e in omega arith
+        ] refl;
   }
 
 module _ (C : Catalog) (lawful : Lawful C) (key : Link) where
@@ -61,24 +56,19 @@ module _ (C : Catalog) (lawful : Lawful C) (key : Link) where
   pub Lawful-drop_manifest : Lawful without
   Lawful-drop_manifest = record {
     content = lawful.content;
-    links = λ l h. let k = lawful.links l h in record { repo = k.repo; kept = k.kept };
-    manifests = λ l x h. let k = lawful.manifests l x (got-remove link_cmp_total exact_link C.manifests key l x h) in record { repo = k.repo; name = k.name; small = k.small; refs = k.refs };
-    sessions = λ q s h. let k = lawful.sessions q s h in record { repo = k.repo; tenant = k.tenant; chunks = k.chunks; small = k.small; positive = k.positive; number = k.number };
+    links = lawful.links;
+    manifests = λ l x h. lawful.manifests l x (got-remove link_cmp_total exact_link C.manifests key l x h);
+    sessions = lawful.sessions;
     tenants = lawful.tenants;
     numbers = lawful.numbers;
-    limits = record {
-      tenants = lawful.limits.tenants;
-      names_rise = lawful.limits.names_rise;
-      first = lawful.limits.first;
-      max_blob = lawful.limits.max_blob;
-      quotas = lawful.limits.quotas;
-      next = lawful.limits.next;
-      sessions = lawful.limits.sessions;
-      repos = lawful.limits.repos;
-      names = lawful.limits.names;
-      manifests = λ q.
-          let sum = sum_at link_cmp_total exact_link (λ e. cond (same_text e.0.0 q) 1 0) C.manifests key in
-          let before = lawful.limits.manifests q in
-          omega arith;
-    };
+    limits = lawful.limits;
+    from_one = lawful.from_one;
+    few_numbers = lawful.few_numbers;
+    few_sessions = lawful.few_sessions;
+    few_repos = lawful.few_repos;
+    short_names = lawful.short_names;
+    few_manifests = λ q.
+        let sum = sum_at link_cmp_total exact_link (λ e. cond (same_text e.0.0 q) 1 0) C.manifests key in
+        let before = lawful.few_manifests q in
+        omega arith;
   }

@@ -58,26 +58,21 @@ module _ (C : Catalog) (r d : Text) where
     content = lawful.content;
     links = λ l h. ⊎_elim
         (λ e. subst (λ (x : Link). LawfulLink after x) (sym e) (let k : LawfulLink after (r, d) = record { repo = there; kept = (b, kept, sound) } in k))
-        (λ old. let k = lawful.links l old in record { repo = k.repo; kept = k.kept })
+        (lawful.links l)
         (member link_cmp_total exact_link C.links (r, d) l h);
     manifests = λ l bytes h.
         let k = lawful.manifests l bytes h in
         record { repo = k.repo; name = k.name; small = k.small; refs = (k.refs.0, k.refs.1, all_weaker (λ x. holds C l.0 x ≡ true) (λ x. holds after l.0 x ≡ true) (λ x. still link_cmp_total exact_link C.links (r, d) (l.0, x)) k.refs.0 k.refs.2) };
-    sessions = λ q s h. let k = lawful.sessions q s h in record { repo = k.repo; tenant = k.tenant; chunks = k.chunks; small = k.small; positive = k.positive; number = k.number };
+    sessions = lawful.sessions;
     tenants = lawful.tenants;
     numbers = lawful.numbers;
-    limits = record {
-      tenants = lawful.limits.tenants;
-      names_rise = lawful.limits.names_rise;
-      first = lawful.limits.first;
-      max_blob = lawful.limits.max_blob;
-      quotas = lawful.limits.quotas;
-      next = lawful.limits.next;
-      sessions = lawful.limits.sessions;
-      repos = lawful.limits.repos;
-      manifests = lawful.limits.manifests;
-      names = lawful.limits.names;
-    };
+    limits = lawful.limits;
+    from_one = lawful.from_one;
+    few_numbers = lawful.few_numbers;
+    few_sessions = lawful.few_sessions;
+    few_repos = lawful.few_repos;
+    few_manifests = lawful.few_manifests;
+    short_names = lawful.short_names;
   }
 
   -- another tenant holds what it held

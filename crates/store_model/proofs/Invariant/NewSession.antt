@@ -48,13 +48,13 @@ module _ (C : Catalog) (t : ℕ) (r : Text) (lawful : Lawful C) where
         let room : next_of C t < 2 ^ 32 = leb-false (2 ^ 32) (next_of C t) (or_parts (nat_le 64 (open_sessions C t)) (nat_le (2 ^ 32) (next_of C t)) opens).1 in
         elim (cases_eq u t) [
           | inl e ↦ rw (e, get_or-set_same C.next t (next_of C t + 1) 0 in_next) (omega arith)
-          | inr other ↦ rw (get_or-set_other C.next t u (next_of C t + 1) 0 other) (lawful.limits.next u)
+          | inr other ↦ rw (get_or-set_other C.next t u (next_of C t + 1) 0 other) (lawful.few_numbers u)
         ]
 
     open_few : (u : ℕ) → open_sessions after u ≤ 64
     open_few u =
         let sum = sum_new number_cmp_total exact_number (λ e. cond (e.0.0 == u) 1 0) C.sessions (t, next_of C t) new fresh in
-        let before = lawful.limits.sessions u in
+        let before = lawful.few_sessions u in
         let few : open_sessions C t < 64 = leb-false 64 (open_sessions C t) (or_parts _ _ opens).0 in
         elim (cases_eq u t) [
           | inl e ↦ let one : cond {A = ℕ} (t == u) 1 0 ≡ 1 = ap (λ b. cond b 1 0) (eq-eqb t u (sym e)) in let same : open_sessions C u ≡ open_sessions C t = ap (open_sessions C) e in omega arith
@@ -67,7 +67,7 @@ module _ (C : Catalog) (t : ℕ) (r : Text) (lawful : Lawful C) where
       tenant = own;
       chunks = tt;
       small = omega arith;
-      positive = lawful.limits.first t there;
+      positive = lawful.from_one t there;
       number = rw (get_or-set_same C.next t (next_of C t + 1) 0 in_next) (omega arith);
     }
 
@@ -84,21 +84,16 @@ module _ (C : Catalog) (t : ℕ) (r : Text) (lawful : Lawful C) where
     pub Lawful-open : Lawful after
     Lawful-open = record {
       content = lawful.content;
-      links = λ l h. let k = lawful.links l h in record { repo = k.repo; kept = k.kept };
-      manifests = λ l bytes h. let k = lawful.manifests l bytes h in record { repo = k.repo; name = k.name; small = k.small; refs = k.refs };
+      links = lawful.links;
+      manifests = lawful.manifests;
       sessions = session_lawful;
       tenants = lawful.tenants;
       numbers = length-set C.next t (next_of C t + 1) ∙ lawful.numbers;
-      limits = record {
-        tenants = lawful.limits.tenants;
-        names_rise = lawful.limits.names_rise;
-        max_blob = lawful.limits.max_blob;
-        quotas = lawful.limits.quotas;
-        first = λ u lt. let one = lawful.limits.first u lt in let more = no_less u in omega (arith, one, more);
-        next = next_small;
-        sessions = open_few;
-        repos = lawful.limits.repos;
-        manifests = lawful.limits.manifests;
-        names = lawful.limits.names;
-      };
+      limits = lawful.limits;
+      from_one = λ u lt. let one = lawful.from_one u lt in let more = no_less u in omega (arith, one, more);
+      few_numbers = next_small;
+      few_sessions = open_few;
+      few_repos = lawful.few_repos;
+      few_manifests = lawful.few_manifests;
+      short_names = lawful.short_names;
     }
