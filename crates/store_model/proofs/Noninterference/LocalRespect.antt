@@ -24,7 +24,7 @@ use Rattle.store_model.specs.Runs.{Command, Answer, answered, told, outcome, rep
 use Rattle.blob_digest.proofs.KeyOrders.{number_cmp_total, exact_number, link_cmp_total, exact_link}
 use Rattle.finite_maps.proofs.Outcomes.{bound_ok, not_refused, some_of_ok}
 use Rattle.finite_maps.proofs.Agreement.{AgreeOn, unseen_insert, unseen_remove}
-use Rattle.store_model.proofs.Noninterference.SameFor.{Alike, of_same}
+use Rattle.store_model.proofs.Noninterference.SameFor.{Alike, of_same, visible, with_repos, with_links, with_manifests, with_sessions}
 use Rattle.store_model.proofs.Noninterference.StepConsistency.{longer}
 
 -- the catalog that an accepted command leaves
@@ -149,79 +149,25 @@ module _ (C : Catalog) (u : ℕ) (r : Text) (other : is_of C u r ≡ false) wher
   }
 
   unseen_sessions : (m : FinMap number_cmp Session) → AgreeOn (λ n. n.0 == u) m C.sessions → Unseen (record C { sessions = m })
-  unseen_sessions m agree = record { tenants = refl; max_blob = refl; numbers = refl; next = refl; repos = λ q is. refl; links = λ q is. refl; manifests = λ q is. refl; sessions = agree }
+  unseen_sessions m agree = with_sessions u (visible C) (visible C) (alike_itself u C) m C.sessions agree
 
   pub unseen_close : (housed : Catalog → Text → Result (Unit {0}) Refusal) (n : ℕ) (d : Text) (g : Option ByteRange) (b : Text) → Leaves Unseen (Commands.close_by housed C r n d g b)
-  unseen_close housed n d g b = close_leaves Unseen C r housed n d g b (λ t after k _ _. record {
-    tenants = refl;
-    max_blob = refl;
-    numbers = refl;
-    next = refl;
-    repos = λ q is. refl;
-    manifests = λ q is. refl;
-    links = unseen_insert link_cmp_total exact_link (λ l. is_of C u l.0) C.links (r, d) tt other;
-    sessions = unseen_remove number_cmp_total exact_number (λ n. n.0 == u) C.sessions (t, n) (apart t k);
-  })
+  unseen_close housed n d g b = close_leaves Unseen C r housed n d g b (λ t after k _ _. with_sessions u _ _ (with_links u (visible C) (visible C) (alike_itself u C) _ C.links (unseen_insert link_cmp_total exact_link (λ l. is_of C u l.0) C.links (r, d) tt other)) _ C.sessions (unseen_remove number_cmp_total exact_number (λ n. n.0 == u) C.sessions (t, n) (apart t k)))
 
   pub unseen_mount : (d : Text) (from : Option Text) → Leaves Unseen (Commands.mount C r d from)
-  unseen_mount d from = mount_leaves Unseen C r d from unseen_new (λ t k _. record {
-    tenants = refl;
-    max_blob = refl;
-    numbers = refl;
-    next = refl;
-    manifests = λ q is. refl;
-    sessions = λ q is. refl;
-    repos = unseen_insert nat_list_cmp_total exact_bytes (is_of C u) C.repos r tt other;
-    links = unseen_insert link_cmp_total exact_link (λ l. is_of C u l.0) C.links (r, d) tt other;
-  })
+  unseen_mount d from = mount_leaves Unseen C r d from unseen_new (λ t k _. with_links u _ _ (with_repos u (visible C) (visible C) (alike_itself u C) _ C.repos (unseen_insert nat_list_cmp_total exact_bytes (is_of C u) C.repos r tt other)) _ C.links (unseen_insert link_cmp_total exact_link (λ l. is_of C u l.0) C.links (r, d) tt other))
 
   pub unseen_delete : (d : Text) → Leaves Unseen (Commands.delete C r d)
-  unseen_delete d = delete_leaves Unseen C r d (record {
-    tenants = refl;
-    max_blob = refl;
-    numbers = refl;
-    next = refl;
-    repos = λ q is. refl;
-    manifests = λ q is. refl;
-    sessions = λ q is. refl;
-    links = unseen_remove link_cmp_total exact_link (λ l. is_of C u l.0) C.links (r, d) other;
-  })
+  unseen_delete d = delete_leaves Unseen C r d (with_links u (visible C) (visible C) (alike_itself u C) _ C.links (unseen_remove link_cmp_total exact_link (λ l. is_of C u l.0) C.links (r, d) other))
 
   pub unseen_put : (b : Text) → Leaves Unseen (Commands.put_manifest C r b)
-  unseen_put b = put_leaves Unseen C r b (alike_itself u C) (λ t k. record {
-    tenants = refl;
-    max_blob = refl;
-    numbers = refl;
-    next = refl;
-    links = λ q is. refl;
-    sessions = λ q is. refl;
-    repos = unseen_insert nat_list_cmp_total exact_bytes (is_of C u) C.repos r tt other;
-    manifests = unseen_insert link_cmp_total exact_link (λ l. is_of C u l.0) C.manifests (r, sha256_text b) b other;
-  })
+  unseen_put b = put_leaves Unseen C r b (alike_itself u C) (λ t k. with_manifests u _ _ (with_repos u (visible C) (visible C) (alike_itself u C) _ C.repos (unseen_insert nat_list_cmp_total exact_bytes (is_of C u) C.repos r tt other)) _ C.manifests (unseen_insert link_cmp_total exact_link (λ l. is_of C u l.0) C.manifests (r, sha256_text b) b other))
 
   pub unseen_delete_manifest : (m : Text) → Leaves Unseen (Commands.delete_manifest C r m)
-  unseen_delete_manifest m = delete_manifest_leaves Unseen C r m (record {
-    tenants = refl;
-    max_blob = refl;
-    numbers = refl;
-    next = refl;
-    repos = λ q is. refl;
-    links = λ q is. refl;
-    sessions = λ q is. refl;
-    manifests = unseen_remove link_cmp_total exact_link (λ l. is_of C u l.0) C.manifests (r, m) other;
-  })
+  unseen_delete_manifest m = delete_manifest_leaves Unseen C r m (with_manifests u (visible C) (visible C) (alike_itself u C) _ C.manifests (unseen_remove link_cmp_total exact_link (λ l. is_of C u l.0) C.manifests (r, m) other))
 
   pub unseen_lease : (crowded : Bool) (d : Text) → Leaves Unseen (Commands.lease crowded C r d)
-  unseen_lease crowded d = lease_leaves Unseen C r crowded d (λ b found. record {
-    tenants = refl;
-    max_blob = refl;
-    numbers = refl;
-    next = refl;
-    repos = λ q is. refl;
-    links = λ q is. refl;
-    manifests = λ q is. refl;
-    sessions = λ q is. refl;
-  })
+  unseen_lease crowded d = lease_leaves Unseen C r crowded d (λ b found. alike_itself u C)
 
   pub unseen_start : Leaves Unseen (Commands.start C r)
   unseen_start = start_leaves Unseen C r unseen_new

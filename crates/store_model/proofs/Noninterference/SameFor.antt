@@ -1,12 +1,12 @@
 -- Two catalogs that are alike to a tenant, and what a tenant can't tell them apart by.
 use Rattle.std.proofs.Common.{T, ◌≡◌, ℕ, ◌+◌, Bool, true, false, cond, not, List, [], ◌∷◌, ◌++◌, length, map, Option, Some, None, is_some, refl, sym, ap, ◌∙◌, subst, arith}
-use Rattle.std.specs.Prelude.{◌==◌, ◌&&◌, nat_le, slice_get}
+use Rattle.std.specs.Prelude.{◌==◌, ◌&&◌, nat_le, slice_get, slice_index}
 use Rattle.std.specs.Option.{option_map, option_map_or}
 use Rattle.std.specs.declared.cmp.Ordering.{Ordering}
 use Rattle.std.specs.Ordering.{eq_by_cmp, is_lt}
 use Rattle.std.specs.Cmp.Lexicographic.{nat_list_cmp_total, same_text as text_is}
 use Rattle.std.specs.List.{sum_by, filter, concat}
-use Rattle.std.specs.FinMap.{entries, get, get-entries, entries_sorted}
+use Rattle.std.specs.FinMap.{FinMap, entries, get, get-entries, entries_sorted}
 use Rattle.std.specs.FinMap.Entries.{where_key, is_sorted, below_all, is_sorted-where_key, find-where_key, same_entries, find as find_key}
 use Rattle.std.proofs.lemmas.Bool.{true≢false, false≢true, eq-eqb, and_left, and_parts}
 use Rattle.std.proofs.lemmas.List.Sums.{sum_by-cons}
@@ -14,7 +14,7 @@ use Rattle.std.proofs.lemmas.Map.Lookups.{exact_bytes}
 use Rattle.blob_digest.specs.declared.range.ByteRange.{ByteRange}
 use Rattle.finite_maps.specs.Sets as set
 use Rattle.finite_maps.specs.Texts.{Text, text_cmp, same_text}
-use Rattle.store_model.specs.Catalog.{Link, Number, Session, Resident, Catalog, tenant_of, is_tenants, is_of, quota_of, holds, tenant_holds, share, in_sessions_of, blob_share, used, next_of, open_sessions, repos_of, manifests_of, received}
+use Rattle.store_model.specs.Catalog.{Link, Number, Session, Resident, Catalog, tenant_of, is_tenants, is_of, quota_of, holds, tenant_holds, share, in_sessions_of, blob_share, used, next_of, open_sessions, repos_of, manifests_of, received, Tenant, link_cmp, number_cmp}
 use Rattle.store_model.specs.Sessions.{at_home}
 use Rattle.finite_maps.specs.Outcomes.{◌>>=◌}
 use Rattle.store_model.specs.Commands.{whole_in, session, session_in, not_busy, check, length_after, lacks_room_for, referrer, refers}
@@ -24,16 +24,48 @@ use Rattle.finite_maps.proofs.Lists.{list_any_same, witness}
 use Rattle.finite_maps.proofs.Mapped.{find-over, sorted-over, below-over, map_none}
 use Rattle.finite_maps.proofs.Agreement.{AgreeOn, sum_agree, find_agree, any_agree, count_agree}
 
--- Alike to a tenant: all that is its own is the same. What is kept of blobs isn't compared.
-pub record Alike (t : ℕ) (C D : Catalog) : Type 0 where
+-- what a tenant can see something of: all but the blobs and the slots
+pub record Visible : Type 0 where
+  pub tenants : List Tenant
+  pub max_blob : ℕ
+  pub next : List ℕ
+  pub repos : set.Set text_cmp
+  pub links : set.Set link_cmp
+  pub manifests : FinMap link_cmp Text
+  pub sessions : FinMap number_cmp Session
+
+abbrev pub visible : Catalog → Visible
+visible C = record { tenants = C.tenants; max_blob = C.max_blob; next = C.next; repos = C.repos; links = C.links; manifests = C.manifests; sessions = C.sessions }
+
+-- Alike to a tenant: all that is its own is the same.
+pub record AreAlike (t : ℕ) (C D : Visible) : Type 0 where
   pub tenants : C.tenants ≡ D.tenants
   pub max_blob : C.max_blob ≡ D.max_blob
   pub numbers : length C.next ≡ length D.next
-  pub next : next_of C t ≡ next_of D t
-  pub repos : AgreeOn (is_of C t) C.repos D.repos
-  pub links : AgreeOn (λ l. is_of C t l.0) C.links D.links
-  pub manifests : AgreeOn (λ l. is_of C t l.0) C.manifests D.manifests
+  pub next : slice_index C.next t ≡ slice_index D.next t
+  pub repos : AgreeOn (is_tenants C.tenants t) C.repos D.repos
+  pub links : AgreeOn (λ l. is_tenants C.tenants t l.0) C.links D.links
+  pub manifests : AgreeOn (λ l. is_tenants C.tenants t l.0) C.manifests D.manifests
   pub sessions : AgreeOn (λ n. n.0 == t) C.sessions D.sessions
+
+-- Two catalogs are alike to a tenant. What is kept of blobs isn't compared.
+abbrev pub Alike : ℕ → Catalog → Catalog → Type 0
+Alike t C D = AreAlike t (visible C) (visible D)
+
+-- ---- a part that is changed on both sides
+
+module _ (t : ℕ) (C D : Visible) (alike : AreAlike t C D) where
+  pub with_repos : (r s : set.Set text_cmp) → AgreeOn (is_tenants C.tenants t) r s → AreAlike t (record C { repos = r }) (record D { repos = s })
+  with_repos r s agree = record { tenants = alike.tenants; max_blob = alike.max_blob; numbers = alike.numbers; next = alike.next; repos = agree; links = alike.links; manifests = alike.manifests; sessions = alike.sessions }
+
+  pub with_links : (r s : set.Set link_cmp) → AgreeOn (λ l. is_tenants C.tenants t l.0) r s → AreAlike t (record C { links = r }) (record D { links = s })
+  with_links r s agree = record { tenants = alike.tenants; max_blob = alike.max_blob; numbers = alike.numbers; next = alike.next; repos = alike.repos; links = agree; manifests = alike.manifests; sessions = alike.sessions }
+
+  pub with_manifests : (r s : FinMap link_cmp Text) → AgreeOn (λ l. is_tenants C.tenants t l.0) r s → AreAlike t (record C { manifests = r }) (record D { manifests = s })
+  with_manifests r s agree = record { tenants = alike.tenants; max_blob = alike.max_blob; numbers = alike.numbers; next = alike.next; repos = alike.repos; links = alike.links; manifests = agree; sessions = alike.sessions }
+
+  pub with_sessions : (r s : FinMap number_cmp Session) → AgreeOn (λ n. n.0 == t) r s → AreAlike t (record C { sessions = r }) (record D { sessions = s })
+  with_sessions r s agree = record { tenants = alike.tenants; max_blob = alike.max_blob; numbers = alike.numbers; next = alike.next; repos = alike.repos; links = alike.links; manifests = alike.manifests; sessions = agree }
 
 -- What holds of each catalog of a run, where `content` gives the whole that was brought with a digest.
 pub record Consistent (content : Text → Text) (C : Catalog) : Type 0 where

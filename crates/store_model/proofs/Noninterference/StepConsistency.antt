@@ -29,7 +29,7 @@ use Rattle.finite_maps.proofs.Texts.{same_itself}
 use Rattle.finite_maps.proofs.Options.{option_eq_some}
 use Rattle.finite_maps.proofs.Outcomes.{bound_ok}
 use Rattle.finite_maps.proofs.Agreement.{AgreeOn, agree_insert, agree_remove}
-use Rattle.store_model.proofs.Noninterference.SameFor.{Alike, Consistent, of_same, holds_same, own_holds_same, tenant_holds_same, room_same, open_same, session_found, session_same, check_same, whole_same, quota_same, manifests_same, referrer_same, used_same}
+use Rattle.store_model.proofs.Noninterference.SameFor.{Alike, visible, with_repos, with_links, with_manifests, with_sessions, Consistent, of_same, holds_same, own_holds_same, tenant_holds_same, room_same, open_same, session_found, session_same, check_same, whole_same, quota_same, manifests_same, referrer_same, used_same}
 
 -- The outcomes among others and alone: the same answer and catalogs that are alike, or the same refusal. Only among others the store can be full.
 abbrev pub Matches : {A : Type 0} → ℕ → Outcome A → Outcome A → Type 0
@@ -171,31 +171,13 @@ module _ (content : Text → Text) (t : ℕ) (C D : Catalog) (alike : Alike t C 
       same_check t _ _ (check_same t C D alike r n g (length b)) _ _ (λ after _.
       same_check t _ _ (quota_alike (length b)) _ _ (λ _ _. (
         refl,
-        record {
-          tenants = alike.tenants;
-          max_blob = alike.max_blob;
-          numbers = alike.numbers;
-          next = alike.next;
-          repos = alike.repos;
-          links = alike.links;
-          manifests = alike.manifests;
-          sessions = agree_append (λ k. k.0 == t) C.sessions D.sessions (t, n) b alike.sessions (session_found t C D alike n);
-        },
+        with_sessions t (visible C) (visible D) alike _ _ (agree_append (λ k. k.0 == t) C.sessions D.sessions (t, n) b alike.sessions (session_found t C D alike n)),
       ))))
 
   pub own_abandon : (n : ℕ) → Matches t (Commands.abandon C r n) (Commands.abandon D r n)
   own_abandon n = with_tenant _ _ (same_check t _ _ (session_same t C D alike r n) _ _ (λ s _. same_check t (not_busy s.chunks) (not_busy s.chunks) refl _ _ (λ _ _. (
     refl,
-    record {
-      tenants = alike.tenants;
-      max_blob = alike.max_blob;
-      numbers = alike.numbers;
-      next = alike.next;
-      repos = alike.repos;
-      links = alike.links;
-      manifests = alike.manifests;
-      sessions = agree_remove number_cmp_total exact_number (λ k. k.0 == t) C.sessions D.sessions (t, n) alike.sessions;
-    },
+    with_sessions t (visible C) (visible D) alike _ _ (agree_remove number_cmp_total exact_number (λ k. k.0 == t) C.sessions D.sessions (t, n) alike.sessions),
   ))))
 
   -- ---- links
@@ -209,16 +191,7 @@ module _ (content : Text → Text) (t : ℕ) (C D : Catalog) (alike : Alike t C 
       same_if t (has_source C t d from) (has_source D t d from) (source_same d from) _ _ _ _
       (λ _. same_check t (refuse (lacks_room_for C t r) LimitReached) (refuse (lacks_room_for D t r) LimitReached) (ap (λ b. refuse b LimitReached) (room_same t C D alike r own)) _ _ (λ _ _. (
         refl,
-        record {
-          tenants = alike.tenants;
-          max_blob = alike.max_blob;
-          numbers = alike.numbers;
-          next = alike.next;
-          manifests = alike.manifests;
-          sessions = alike.sessions;
-          repos = agree_insert nat_list_cmp_total exact_bytes (is_of C t) C.repos D.repos r tt alike.repos;
-          links = agree_insert link_cmp_total exact_link (λ l. is_of C t l.0) C.links D.links (r, d) tt alike.links;
-        },
+        with_links t _ _ (with_repos t (visible C) (visible D) alike _ _ (agree_insert nat_list_cmp_total exact_bytes (is_of C t) C.repos D.repos r tt alike.repos)) _ _ (agree_insert link_cmp_total exact_link (λ l. is_of C t l.0) C.links D.links (r, d) tt alike.links),
       )))
       (λ _. started_match t _ _ own_start))
 
@@ -230,16 +203,7 @@ module _ (content : Text → Text) (t : ℕ) (C D : Catalog) (alike : Alike t C 
       same_check t _ _ (linked_same d) _ _ (λ _ _.
       same_check t (unreferenced (Commands.referrer C r d)) (unreferenced (Commands.referrer D r d)) (ap unreferenced (referrer_same t C D alike r d own)) _ _ (λ _ _. (
         refl,
-        record {
-          tenants = alike.tenants;
-          max_blob = alike.max_blob;
-          numbers = alike.numbers;
-          next = alike.next;
-          repos = alike.repos;
-          manifests = alike.manifests;
-          sessions = alike.sessions;
-          links = agree_remove link_cmp_total exact_link (λ l. is_of C t l.0) C.links D.links (r, d) alike.links;
-        },
+        with_links t (visible C) (visible D) alike _ _ (agree_remove link_cmp_total exact_link (λ l. is_of C t l.0) C.links D.links (r, d) alike.links),
       ))))
 
   -- ---- manifests
@@ -261,16 +225,7 @@ module _ (content : Text → Text) (t : ℕ) (C D : Catalog) (alike : Alike t C 
       (λ _. same_check t (refuse (lacks_room_for C t r) LimitReached) (refuse (lacks_room_for D t r) LimitReached) (ap (λ b. refuse b LimitReached) (room_same t C D alike r own)) _ _ (λ _ _.
       same_check t (refuse (is_full_of_manifests C r) LimitReached) (refuse (is_full_of_manifests D r) LimitReached) (λ i. refuse (nat_le 1024 (manifests_same t C D alike r own i)) LimitReached) _ _ (λ _ _. (
         refl,
-        record {
-          tenants = alike.tenants;
-          max_blob = alike.max_blob;
-          numbers = alike.numbers;
-          next = alike.next;
-          links = alike.links;
-          sessions = alike.sessions;
-          repos = agree_insert nat_list_cmp_total exact_bytes (is_of C t) C.repos D.repos r tt alike.repos;
-          manifests = agree_insert link_cmp_total exact_link (λ l. is_of C t l.0) C.manifests D.manifests (r, sha256_text b) b alike.manifests;
-        },
+        with_manifests t _ _ (with_repos t (visible C) (visible D) alike _ _ (agree_insert nat_list_cmp_total exact_bytes (is_of C t) C.repos D.repos r tt alike.repos)) _ _ (agree_insert link_cmp_total exact_link (λ l. is_of C t l.0) C.manifests D.manifests (r, sha256_text b) b alike.manifests),
       ))))))))
 
   pub own_get : (m : Text) → Matches t (told runs.Bytes C (Commands.get_manifest C r m)) (told runs.Bytes D (Commands.get_manifest D r m))
@@ -279,16 +234,7 @@ module _ (content : Text → Text) (t : ℕ) (C D : Catalog) (alike : Alike t C 
   pub own_delete_manifest : (m : Text) → Matches t (Commands.delete_manifest C r m) (Commands.delete_manifest D r m)
   own_delete_manifest m = with_tenant _ _ (same_check t _ _ (ap (λ o. ok_or o ManifestUnknown) (found_same m)) _ _ (λ b _. (
     refl,
-    record {
-      tenants = alike.tenants;
-      max_blob = alike.max_blob;
-      numbers = alike.numbers;
-      next = alike.next;
-      repos = alike.repos;
-      links = alike.links;
-      sessions = alike.sessions;
-      manifests = agree_remove link_cmp_total exact_link (λ l. is_of C t l.0) C.manifests D.manifests (r, m) alike.manifests;
-    },
+    with_manifests t (visible C) (visible D) alike _ _ (agree_remove link_cmp_total exact_link (λ l. is_of C t l.0) C.manifests D.manifests (r, m) alike.manifests),
   )))
 
   -- ---- leases and closes
@@ -304,16 +250,7 @@ module _ (content : Text → Text) (t : ℕ) (C D : Catalog) (alike : Alike t C 
       leased (Some b) None e f p q = absurd (false≢true q)
       leased (Some b) (Some c) e f p q = (
         consistent_C.bytes d b e ∙ sym (consistent_D.bytes d c f),
-        record {
-          tenants = alike.tenants;
-          max_blob = alike.max_blob;
-          numbers = alike.numbers;
-          next = alike.next;
-          repos = alike.repos;
-          links = alike.links;
-          manifests = alike.manifests;
-          sessions = alike.sessions;
-        },
+        alike,
       )
 
       by : (b c : Bool) → holds C r d ≡ b → c ≡ b →
@@ -341,16 +278,7 @@ module _ (content : Text → Text) (t : ℕ) (C D : Catalog) (alike : Alike t C 
       full true = refl
       full false = (
         ap length (whole_same t C D alike n b),
-        record {
-          tenants = alike.tenants;
-          max_blob = alike.max_blob;
-          numbers = alike.numbers;
-          next = alike.next;
-          repos = alike.repos;
-          manifests = alike.manifests;
-          links = agree_insert link_cmp_total exact_link (λ l. is_of C t l.0) C.links D.links (r, d) tt alike.links;
-          sessions = agree_remove number_cmp_total exact_number (λ k. k.0 == t) C.sessions D.sessions (t, n) alike.sessions;
-        },
+        with_sessions t _ _ (with_links t (visible C) (visible D) alike _ _ (agree_insert link_cmp_total exact_link (λ l. is_of C t l.0) C.links D.links (r, d) tt alike.links)) _ _ (agree_remove number_cmp_total exact_number (λ k. k.0 == t) C.sessions D.sessions (t, n) alike.sessions),
       )
 
 -- ---- any of them
