@@ -1,8 +1,6 @@
 pub mod BookState
-pub mod Keeping
+pub mod Internal
 pub mod Layers
-pub mod Lines
 pub mod Openings
 pub mod Pinned
 pub mod SlotSteps
-pub mod SweptSlots

@@ -5,7 +5,7 @@ ghost use Rattle.std.specs.Option.{option_map_or};
 ghost use Rattle.slot_table.specs.Slots.{held_at, phase_at, slot_of};
 ghost use Rattle.slot_table.specs.declared.phase.Phase.TheVariants as phase;
 ghost use Rattle.store_book.specs.Pinned.{shown, Quietly};
-ghost use Rattle.store_book.specs.Keeping.{bytes_at, linked_slot, CanKeep, IsKept, IsUnkept};
+ghost use Rattle.store_book.specs.Internal.Keeping.{bytes_at, linked_slot, CanKeep, IsKept, IsUnkept};
 
 use crate::pinned_slots::PinnedSlots;
 use blob_digest::{Blob, Digest, Refusal, RepoName};

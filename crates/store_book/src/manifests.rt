@@ -4,7 +4,7 @@ ghost use Rattle.std.specs.Prelude.{◌≡◌, ◌<◌, length, true, false};
 ghost use Rattle.blob_digest.specs.Outcomes.{Answers, Does, DoesExactly};
 ghost use Rattle.finite_maps.specs.Sets as set;
 ghost use Rattle.link_table.specs.Linked.{is_tenants, HasNoLinks};
-ghost use Rattle.store_book.specs.Keeping.{all_held, with_manifest_on};
+ghost use Rattle.store_book.specs.Internal.Keeping.{all_held, with_manifest_on};
 ghost use Rattle.store_model.specs.Commands.{check_tenant, put_manifest, get_manifest, delete_manifest};
 
 use crate::book::Book;

@@ -2,7 +2,7 @@
 
 ghost use Rattle.std.specs.Prelude.{◌≡◌, ◌<◌, length};
 ghost use Rattle.std.specs.Option.{option_copied};
-ghost use Rattle.store_book.specs.Keeping.{source_slot};
+ghost use Rattle.store_book.specs.Internal.Keeping.{source_slot};
 
 use crate::keep::find_linked;
 use blob_digest::{Digest, RepoName};

@@ -7,7 +7,7 @@ ghost use Rattle.link_table.specs.ManifestTable.{manifests_on};
 ghost use Rattle.link_table.specs.Linked.{blobs_in, repos_of};
 ghost use Rattle.store_model.specs.Sessions.{listed, sessions_of};
 ghost use Rattle.store_model.specs.BookText.{blob_line, manifest_line, manifest_row, repository_line, session_line, tenant_line};
-ghost use Rattle.store_book.specs.Lines.{CanPrint, blob_row, book_rows, links_to as links_counted, repo_rows, session_row, tenant_in, tenant_rows};
+ghost use Rattle.store_book.specs.Internal.Lines.{CanPrint, blob_row, book_rows, links_to as links_counted, repo_rows, session_row, tenant_in, tenant_rows};
 
 use blob_digest::{Digest, RepoName};
 use link_table::Links;

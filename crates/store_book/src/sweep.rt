@@ -2,7 +2,7 @@
 //! them.
 
 ghost use Rattle.std.specs.Prelude.{◌≡◌, ◌+◌, ◌<◌, ◌≤◌, ◌^◌, length};
-ghost use Rattle.store_book.specs.SweptSlots.{counting, Sweeps};
+ghost use Rattle.store_book.specs.Internal.SweptSlots.{counting, Sweeps};
 
 use crate::pinned_slots::PinnedSlots;
 use pin_table::{Pins, Reclaim};

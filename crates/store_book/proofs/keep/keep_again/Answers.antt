@@ -1,8 +1,8 @@
 use Rattle.std.proofs.Common.{◌≡◌, true, false, rules, refl, sym, ap, ◌∙◌}
 use Rattle.slot_table.specs.Slots.{with_slot, on_held, raise, mark, phase_at}
 use Rattle.store_book.specs.Pinned.{Pinned, Quietly}
-use Rattle.store_book.proofs.KeepCalls.{test_at, differs_by_test, again_size, awake_live, awake_room, kept_new, kept_old}
-use Rattle.store_book.proofs.Pinning.{Quietly-same, Quietly-slotted}
+use Rattle.store_book.proofs.Layers.KeepCalls.{test_at, differs_by_test, again_size, awake_live, awake_room, kept_new, kept_old}
+use Rattle.store_book.proofs.Slots.Pinned.{Quietly-same, Quietly-slotted}
 use Rattle.store_book.proofs.keep.keep_again.Goals as goal
 use Rattle.store_book.proofs.keep.keep_again.Goals.{then-is_new, else-is_new}
 

@@ -1,8 +1,8 @@
 use Rattle.std.proofs.Common.{◌∙◌, ap, refl, length}
 use Rattle.slot_table.specs.Slots.{on_held, raise}
 use Rattle.store_book.specs.Pinned.{Pinned}
-use Rattle.store_book.proofs.Pinning.{Quietly-placed, Quietly-slotted}
-use Rattle.store_book.proofs.KeepCalls.{link_there, unlink-link, kept_anew}
+use Rattle.store_book.proofs.Slots.Pinned.{Quietly-placed, Quietly-slotted}
+use Rattle.store_book.proofs.Layers.KeepCalls.{link_there, unlink-link, kept_anew}
 use Rattle.store_book.proofs.keep.keep_anew.Goals as goal
 
 pub unlink-requires-clause-linked : goal.unlink-requires-clause-linked

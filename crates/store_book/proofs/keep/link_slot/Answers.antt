@@ -1,10 +1,10 @@
 use Rattle.std.proofs.Common.{◌≡◌, List, ◌∙◌, ap, sym, subst}
 use Rattle.slot_table.specs.declared.phase.Phase.TheVariants as phase
 use Rattle.slot_table.specs.Slots.{Slot, with_slot, on_held, raise}
-use Rattle.store_book.specs.Keeping.{bytes_at, revived, IsKept}
+use Rattle.store_book.specs.Internal.Keeping.{bytes_at, revived, IsKept}
 use Rattle.store_book.specs.Pinned.{Pinned, shown, with_looks}
-use Rattle.store_book.proofs.KeepCalls.{size_there, again_new, again_old}
-use Rattle.store_book.proofs.Pinning.{all_seen-with_slot, raise-seen, revived-same}
+use Rattle.store_book.proofs.Layers.KeepCalls.{size_there, again_new, again_old}
+use Rattle.store_book.proofs.Slots.Pinned.{all_seen-with_slot, raise-seen, revived-same}
 use Rattle.store_book.proofs.keep.link_slot.Goals as goal
 use Rattle.store_book.proofs.keep.link_slot.Goals.{then-is_new, else-is_new}
 

@@ -1,4 +1,4 @@
-use Rattle.store_book.proofs.Taking.{use_is}
+use Rattle.store_book.proofs.Refine.Take.{use_is}
 use Rattle.store_book.proofs.laws.uses_are_kept.Goals as goal
 
 pub returns : goal.returns

@@ -2,8 +2,8 @@ use Rattle.std.proofs.Common.{ap, ◌∙◌}
 use Rattle.finite_maps.specs.Sets as set
 use Rattle.link_table.specs.Linked.{Linked, vanish}
 use Rattle.link_table.proofs.Accepted.{appear-contains}
-use Rattle.store_book.proofs.ManifestCalls.{appeared_put}
-use Rattle.store_book.proofs.Starting.{undone, unneeded}
+use Rattle.store_book.proofs.Refine.Manifests.{appeared_put}
+use Rattle.store_book.proofs.Refine.Start.{undone, unneeded}
 use Rattle.store_book.proofs.manifests.add_manifest.Goals as goal
 use Rattle.store_book.proofs.manifests.add_manifest.Goals.{then-is_new, else-is_new}
 

@@ -2,7 +2,7 @@ use Rattle.std.proofs.Common.{◌≡◌, refl, sym, ◌∙◌, length, arith, So
 use Rattle.std.specs.Prelude.{slice_get}
 use Rattle.std.proofs.lemmas.List.{get_or_default}
 use Rattle.std.proofs.lemmas.Option.{slice_get_read}
-use Rattle.store_book.proofs.ManifestCalls.{held_next, held_not, held_all}
+use Rattle.store_book.proofs.Refine.Manifests.{held_next, held_not, held_all}
 use Rattle.store_book.proofs.manifests.check_linked.Goals as goal
 
 pub loop-digest-preserved : goal.loop-digest-preserved

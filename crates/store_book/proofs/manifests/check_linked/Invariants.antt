@@ -1,5 +1,5 @@
 use Rattle.std.proofs.Common.{◌≡◌, drop}
-use Rattle.store_book.specs.Keeping.{all_held}
+use Rattle.store_book.specs.Internal.Keeping.{all_held}
 use Rattle.store_book.proofs.manifests.check_linked.Given as goal
 
 -- those before are held

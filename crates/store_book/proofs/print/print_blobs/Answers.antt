@@ -1,4 +1,4 @@
-use Rattle.store_book.specs.Lines.{blob_row}
+use Rattle.store_book.specs.Internal.Lines.{blob_row}
 use Rattle.finite_maps.proofs.Writing.{Appends-step}
 use Rattle.store_book.proofs.print.print_blobs.Goals as goal
 

@@ -3,7 +3,7 @@ use Rattle.std.specs.List.{flat_map}
 use Rattle.std.specs.Io.KnownBytes.{Appends}
 use Rattle.std.specs.Prelude.{Option}
 use Rattle.link_table.specs.Linked.{blobs_in}
-use Rattle.store_book.specs.Lines.{blob_row}
+use Rattle.store_book.specs.Internal.Lines.{blob_row}
 use Rattle.store_book.proofs.print.print_blobs.Given as goal
 
 -- whoever writes the blobs that are left has written them all

@@ -1,10 +1,10 @@
 use Rattle.std.proofs.Common.{◌<◌, ◌≤◌, ◌++◌, List, ℕ, length, arith, subst}
 use Rattle.std.specs.Io.KnownBytes.{Appends}
 use Rattle.std.specs.List.{flat_map, enumerate_from}
-use Rattle.store_book.specs.Lines.{tenant_in, tenant_rows}
+use Rattle.store_book.specs.Internal.Lines.{tenant_in, tenant_rows}
 use Rattle.store_model.specs.BookText.{book_line, end_line}
 use Rattle.finite_maps.proofs.Writing.{Appends-after, Appends-then}
-use Rattle.store_book.proofs.Listing.{all_numbered, numbered}
+use Rattle.store_book.proofs.Refine.Tenants.{all_numbered, numbered}
 use Rattle.store_book.proofs.print.print_book.Goals as goal
 
 pub loop-tenant-preserved : goal.loop-tenant-preserved

@@ -1,7 +1,7 @@
 use Rattle.std.proofs.Common.{◌++◌, take}
 use Rattle.std.specs.List.{flat_map, enumerate_from}
 use Rattle.std.specs.Io.KnownBytes.{Appends}
-use Rattle.store_book.specs.Lines.{tenant_rows}
+use Rattle.store_book.specs.Internal.Lines.{tenant_rows}
 use Rattle.store_model.specs.BookText.{book_line}
 use Rattle.store_book.proofs.print.print_book.Given as goal
 

@@ -1,6 +1,6 @@
 use Rattle.std.proofs.Common.{sym}
 use Rattle.link_table.specs.Linked.{repos_of}
-use Rattle.store_book.specs.Lines.{repo_rows}
+use Rattle.store_book.specs.Internal.Lines.{repo_rows}
 use Rattle.finite_maps.proofs.Writing.{Appends-next, Appends-all}
 use Rattle.store_book.proofs.print.print_repos.Goals as goal
 

@@ -2,7 +2,7 @@ use Rattle.std.proofs.Common.{◌-◌, length, take}
 use Rattle.std.specs.List.{flat_map}
 use Rattle.std.specs.Io.KnownBytes.{Appends}
 use Rattle.link_table.specs.Linked.{repos_of}
-use Rattle.store_book.specs.Lines.{repo_rows}
+use Rattle.store_book.specs.Internal.Lines.{repo_rows}
 use Rattle.store_book.proofs.print.print_repos.Given as goal
 
 abbrev pub invariant-loop-repo : goal.invariant-loop-repo

@@ -1,4 +1,4 @@
-use Rattle.store_book.specs.Lines.{session_row}
+use Rattle.store_book.specs.Internal.Lines.{session_row}
 use Rattle.finite_maps.proofs.Writing.{Appends-step}
 use Rattle.store_book.proofs.print.print_sessions.Goals as goal
 

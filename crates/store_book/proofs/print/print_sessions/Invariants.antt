@@ -3,7 +3,7 @@ use Rattle.std.specs.List.{flat_map}
 use Rattle.std.specs.Io.KnownBytes.{Appends}
 use Rattle.std.specs.Prelude.{Option}
 use Rattle.store_model.specs.Sessions.{listed, sessions_of}
-use Rattle.store_book.specs.Lines.{session_row}
+use Rattle.store_book.specs.Internal.Lines.{session_row}
 use Rattle.store_book.proofs.print.print_sessions.Given as goal
 
 -- whoever writes the sessions that are left has written them all

@@ -2,7 +2,7 @@ use Rattle.std.proofs.Common.{List, ℕ, subst, ◌∙◌}
 use Rattle.std.specs.Io.KnownBytes.{Appends}
 use Rattle.store_model.specs.BookText.{tenant_line}
 use Rattle.finite_maps.proofs.Writing.{Appends-then}
-use Rattle.store_book.proofs.Listing.{name_is, quota_is}
+use Rattle.store_book.proofs.Refine.Tenants.{name_is, quota_is}
 use Rattle.store_book.proofs.print.print_tenant.Goals as goal
 
 pub returns : goal.returns

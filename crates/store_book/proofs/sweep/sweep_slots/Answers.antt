@@ -1,8 +1,8 @@
 use Rattle.std.proofs.Common.{ap, sym, ◌∙◌}
 use Rattle.slot_table.specs.Slots.{phase_at}
 use Rattle.store_book.specs.Pinned.{Pinned}
-use Rattle.store_book.specs.SweptSlots.{counting}
-use Rattle.store_book.proofs.Sweeping.{became_of, ends, more, o, orphan_condemned, orphan_next, orphan_place}
+use Rattle.store_book.specs.Internal.SweptSlots.{counting}
+use Rattle.store_book.proofs.Slots.Swept.{became_of, ends, more, o, orphan_condemned, orphan_next, orphan_place}
 use Rattle.store_book.proofs.sweep.sweep_slots.Goals as goal
 
 pub condemn-was_live-requires-clause-orphan : goal.condemn-was_live-requires-clause-orphan

@@ -1,5 +1,5 @@
 use Rattle.std.proofs.Common.{◌-◌, length}
-use Rattle.store_book.proofs.Sweeping.{IsPartly}
+use Rattle.store_book.proofs.Slots.Swept.{IsPartly}
 use Rattle.store_book.proofs.sweep.sweep_slots.Given as goal
 
 abbrev pub invariant-orphans : goal.invariant-orphans

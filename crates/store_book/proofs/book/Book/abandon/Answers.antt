@@ -1,5 +1,5 @@
 use Rattle.std.proofs.Common.{sym}
-use Rattle.store_book.proofs.Abandoning.{abandoned_charged, IsBook-abandon}
+use Rattle.store_book.proofs.Refine.Abandon.{abandoned_charged, IsBook-abandon}
 use Rattle.store_book.proofs.book.Book.abandon.Goals as goal
 
 pub discharge-requires-clause-charged : goal.discharge-requires-clause-charged

@@ -1,6 +1,6 @@
 use Rattle.std.proofs.Common.{sym, ap, refl}
 use Rattle.store_book.specs.Pinned.{Pinned}
-use Rattle.store_book.proofs.Deleting.{delete_unknown, live_there, counted_there, delete_ok, delete_referenced, IsBook-delete, slots_kept}
+use Rattle.store_book.proofs.Refine.Delete.{delete_unknown, live_there, counted_there, delete_ok, delete_referenced, IsBook-delete, slots_kept}
 use Rattle.store_book.proofs.book.Book.delete.Goals as goal
 
 pub returns-in_default-clause-does : goal.returns-in_default-clause-does

@@ -1,7 +1,7 @@
 use Rattle.std.proofs.Common.{sym, subst}
 use Rattle.link_table.specs.Linked.{Linked}
 use Rattle.store_book.specs.Layers.{IsBook}
-use Rattle.store_book.proofs.ManifestCalls.{IsBook-delete_manifest}
+use Rattle.store_book.proofs.Refine.Manifests.{IsBook-delete_manifest}
 use Rattle.store_book.proofs.book.Book.delete_manifest.Goals as goal
 
 pub invariant_of-self : goal.invariant_of-self

@@ -7,13 +7,13 @@ use Rattle.upload_table.specs.Uploaded.{repo_at, reopened, with_sessions}
 use Rattle.store_book.specs.BookState.{BookState}
 use Rattle.store_book.specs.Pinned.{Pinned, shown}
 use Rattle.store_book.specs.SlotSteps.{EachSlot, IsHousing}
-use Rattle.store_book.proofs.Housing.{EachSlot-housed}
-use Rattle.store_book.specs.Keeping.{IsKept, IsUnkept}
+use Rattle.store_book.proofs.Slots.Housed.{EachSlot-housed}
+use Rattle.store_book.specs.Internal.Keeping.{IsKept, IsUnkept}
 use Rattle.store_book.specs.Layers.{book_catalog}
 use Rattle.store_model.specs.Commands.{given_back}
-use Rattle.store_book.proofs.Finishing.{found, finish_charged, finish_ok, finish_other_digest, finish_unkept, given_back_is, layer_finished, layer_refused, layer_unknown, reserve_charged, same_tenants, CanKeep-finished, IsBook-finish, IsBook-given_back}
-use Rattle.store_book.proofs.PuttingBack.{here_tenant}
-use Rattle.store_book.proofs.Shown.{Quietly-shown}
+use Rattle.store_book.proofs.Refine.Finish.{found, finish_charged, finish_ok, finish_other_digest, finish_unkept, given_back_is, layer_finished, layer_refused, layer_unknown, reserve_charged, same_tenants, CanKeep-finished, IsBook-finish, IsBook-given_back}
+use Rattle.store_book.proofs.Refine.PutBack.{here_tenant}
+use Rattle.store_book.proofs.Slots.Shown.{Quietly-shown}
 use Rattle.store_book.proofs.book.Book.finish.Goals as goal
 
 pub discharge-requires : goal.discharge-requires

@@ -3,10 +3,10 @@ use Rattle.std.proofs.lemmas.Result.{err_from_is_err_and}
 use Rattle.std.specs.FinMap.{get}
 use Rattle.blob_digest.specs.Digests.{sha256_text}
 use Rattle.store_book.specs.BookState.{BookState}
-use Rattle.store_book.specs.Keeping.{with_manifest_on}
+use Rattle.store_book.specs.Internal.Keeping.{with_manifest_on}
 use Rattle.store_book.specs.Layers.{book_catalog}
-use Rattle.store_book.proofs.ManifestCalls.{is_some-of, read_from, put_unlinked, put_there, put_refused, put_ok, IsBook-put_manifest}
-use Rattle.store_book.proofs.Starting.{absent_unlinked}
+use Rattle.store_book.proofs.Refine.Manifests.{is_some-of, read_from, put_unlinked, put_there, put_refused, put_ok, IsBook-put_manifest}
+use Rattle.store_book.proofs.Refine.Start.{absent_unlinked}
 use Rattle.store_book.proofs.book.Book.keep_manifest.Goals as goal
 
 pub returns-in_err-check_linked-clause-does : goal.returns-in_err-check_linked-clause-does

@@ -2,8 +2,8 @@ use Rattle.std.proofs.Common.{true, false, refl, sym, ap, ◌∙◌}
 use Rattle.std.proofs.lemmas.Result.{err_from_is_err_and}
 use Rattle.store_book.specs.Layers.{book_catalog}
 use Rattle.store_book.specs.Pinned.{Pinned}
-use Rattle.store_book.proofs.Looking.{EachSlot-still}
-use Rattle.store_book.proofs.Leasing.{lease_ok, lease_unknown, lent_digest, live_there, held, lease_full, shared_digest, EachSlot-looked, EachSlot-lent, IsCrowded-full, IsBook-lease, finds_no_room}
+use Rattle.store_book.proofs.Refine.Look.{EachSlot-still}
+use Rattle.store_book.proofs.Refine.Lease.{lease_ok, lease_unknown, lent_digest, live_there, held, lease_full, shared_digest, EachSlot-looked, EachSlot-lent, IsCrowded-full, IsBook-lease, finds_no_room}
 use Rattle.pin_table.specs.Calls.{PinValue}
 use Rattle.store_book.specs.BookState.{BookState}
 use Rattle.store_book.proofs.book.Book.lease.Goals as goal

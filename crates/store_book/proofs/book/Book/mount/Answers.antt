@@ -7,8 +7,8 @@ use Rattle.store_book.specs.BookState.{BookState}
 use Rattle.store_book.specs.Layers.{book_catalog}
 use Rattle.store_model.specs.Commands.{start}
 use Rattle.store_book.specs.Pinned.{Pinned}
-use Rattle.store_book.proofs.Mounting.{session_ok, session_refused, mount_refused_first, can_link, live_source, mount_ok, IsBook-mount}
-use Rattle.store_book.proofs.Starting.{same_catalog, same_book, undone, unneeded, appeared_there, appeared_unlinked}
+use Rattle.store_book.proofs.Refine.Mount.{session_ok, session_refused, mount_refused_first, can_link, live_source, mount_ok, IsBook-mount}
+use Rattle.store_book.proofs.Refine.Start.{same_catalog, same_book, undone, unneeded, appeared_there, appeared_unlinked}
 use Rattle.store_book.proofs.book.Book.mount.Goals as goal
 use Rattle.store_book.proofs.book.Book.mount.Goals.{then-appeared, else-appeared}
 

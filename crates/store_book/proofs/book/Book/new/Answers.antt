@@ -1,6 +1,6 @@
 use Rattle.std.proofs.Common.{◌≤◌, ◌^◌, arith}
 use Rattle.link_table.specs.Tenancy.{tenants_shown}
-use Rattle.store_book.proofs.Opening.{opened_book, opens_book}
+use Rattle.store_book.proofs.Refine.New.{opened_book, opens_book}
 use Rattle.store_book.proofs.book.Book.new.Goals as goal
 
 pub invariant_of-book : goal.invariant_of-book

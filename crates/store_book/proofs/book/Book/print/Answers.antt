@@ -3,9 +3,9 @@ use Rattle.std.specs.Prelude.{OnOk}
 use Rattle.std.specs.Io.KnownBytes.{Appends}
 use Rattle.store_book.specs.BookState.{BookState}
 use Rattle.store_model.specs.Invariant.{Sound}
-use Rattle.store_book.specs.Lines.{book_rows}
+use Rattle.store_book.specs.Internal.Lines.{book_rows}
 use Rattle.store_model.specs.BookText.{book_text}
-use Rattle.store_book.proofs.BookTexts.{can_print, text_is}
+use Rattle.store_book.proofs.Refine.Print.{can_print, text_is}
 use Rattle.store_book.proofs.book.Book.print.Goals as goal
 
 pub print_book-requires : goal.print_book-requires

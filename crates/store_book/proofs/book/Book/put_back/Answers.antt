@@ -1,6 +1,6 @@
 use Rattle.std.proofs.Common.{◌≡◌, sym, ◌∙◌}
 use Rattle.store_model.proofs.Commands.Hands.{spare, spare_filled, spare_unfilled}
-use Rattle.store_book.proofs.PuttingBack.{put_back_charged, put_back_tenant, IsBook-put_back}
+use Rattle.store_book.proofs.Refine.PutBack.{put_back_charged, put_back_tenant, IsBook-put_back}
 use Rattle.store_book.proofs.book.Book.put_back.Goals.{then-filled, else-filled}
 use Rattle.store_book.proofs.book.Book.put_back.Goals as goal
 

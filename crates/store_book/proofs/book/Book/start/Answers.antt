@@ -3,7 +3,7 @@ use Rattle.std.proofs.lemmas.Result.{err_from_is_err_and}
 use Rattle.link_table.proofs.Accepted.{appear-own}
 use Rattle.store_book.specs.BookState.{BookState}
 use Rattle.store_book.specs.Layers.{book_catalog}
-use Rattle.store_book.proofs.Starting.{same_catalog, same_book, start_ok, start_refused, start_refused_first, undone, unneeded, IsBook-start, appeared_there, appeared_unlinked}
+use Rattle.store_book.proofs.Refine.Start.{same_catalog, same_book, start_ok, start_refused, start_refused_first, undone, unneeded, IsBook-start, appeared_there, appeared_unlinked}
 use Rattle.store_book.proofs.book.Book.start.Goals as goal
 use Rattle.store_book.proofs.book.Book.start.Goals.{then-is_new, else-is_new}
 

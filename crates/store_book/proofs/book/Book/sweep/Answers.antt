@@ -1,5 +1,5 @@
-use Rattle.store_book.proofs.SweptCatalog.{IsBook-sweep, IsSweep-slots}
-use Rattle.store_book.proofs.SweptSeen.{EachSlot-swept, HasLast-swept}
+use Rattle.store_book.proofs.Refine.Sweep.{IsBook-sweep, IsSweep-slots}
+use Rattle.store_book.proofs.Slots.SweptSeen.{EachSlot-swept, HasLast-swept}
 use Rattle.store_book.proofs.book.Book.sweep.Goals as goal
 
 pub invariant_of-self : goal.invariant_of-self

@@ -2,7 +2,7 @@ use Rattle.std.proofs.Common.{ap, sym, ◌∙◌}
 use Rattle.std.proofs.lemmas.Result.{err_from_is_err_and}
 use Rattle.store_book.specs.BookState.{BookState}
 use Rattle.store_book.specs.Layers.{book_catalog}
-use Rattle.store_book.proofs.Taking.{home_there, sessions_small, take_ok, take_over, IsBook-take}
+use Rattle.store_book.proofs.Refine.Take.{home_there, sessions_small, take_ok, take_over, IsBook-take}
 use Rattle.store_book.proofs.book.Book.take.Goals as goal
 
 pub returns-in_err-charge-clause-does : goal.returns-in_err-charge-clause-does

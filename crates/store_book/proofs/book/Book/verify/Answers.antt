@@ -1,4 +1,4 @@
-use Rattle.store_book.proofs.Looking.{EachSlot-still, HasPin-verified}
+use Rattle.store_book.proofs.Refine.Look.{EachSlot-still, HasPin-verified}
 use Rattle.store_book.proofs.book.Book.verify.Goals as goal
 
 pub returns-clause-kept : goal.returns-clause-kept

@@ -1,9 +1,9 @@
 use Rattle.std.proofs.Common.{ap, length, ◌<◌, ◌∙◌, subst, sym}
 use Rattle.store_book.specs.BookState.{BookState}
 use Rattle.store_book.specs.Pinned.{all_seen}
-use Rattle.store_book.proofs.Pinning.{length-all_seen}
-use Rattle.store_book.proofs.Shown.{length-with_looks}
-use Rattle.store_book.proofs.Looking.{reads_word, EachSlot-still}
+use Rattle.store_book.proofs.Slots.Pinned.{length-all_seen}
+use Rattle.store_book.proofs.Slots.Shown.{length-with_looks}
+use Rattle.store_book.proofs.Refine.Look.{reads_word, EachSlot-still}
 use Rattle.store_book.proofs.book.Book.word.Goals as goal
 
 pub word-requires-clause-within : goal.word-requires-clause-within

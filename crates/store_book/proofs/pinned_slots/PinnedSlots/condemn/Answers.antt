@@ -2,8 +2,8 @@ use Rattle.std.proofs.Common.{◌≢◌, true, rules, sym, ap, ◌∙◌}
 use Rattle.slot_table.specs.declared.phase.Phase.TheVariants as phase
 use Rattle.slot_table.specs.Slots.{mark, on_held, phase_at}
 use Rattle.store_book.specs.Pinned.{Pinned, is_orphan_at}
-use Rattle.store_book.proofs.Pinning.{IsPinned-marked, one_each-kept}
-use Rattle.store_book.proofs.Reclaiming.{condemned-same, orphan_held, orphan_slot}
+use Rattle.store_book.proofs.Slots.Pinned.{IsPinned-marked, one_each-kept}
+use Rattle.store_book.proofs.Slots.Reclaimed.{condemned-same, orphan_held, orphan_slot}
 use Rattle.store_book.proofs.pinned_slots.PinnedSlots.condemn.Goals as goal
 
 pub invariant_of-self : goal.invariant_of-self

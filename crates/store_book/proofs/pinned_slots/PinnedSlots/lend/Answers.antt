@@ -6,7 +6,7 @@ use Rattle.slot_table.specs.Slots.{lend, on_held}
 use Rattle.pin_core.specs.Events.{new_weight, lent_hold}
 use Rattle.pin_core.specs.World.{row}
 use Rattle.pin_table.specs.Calls.{KeeperValue}
-use Rattle.store_book.proofs.Pinning.{IsPinned-lent, one_each-looked}
+use Rattle.store_book.proofs.Slots.Pinned.{IsPinned-lent, one_each-looked}
 use Rattle.store_book.proofs.pinned_slots.PinnedSlots.lend.Goals as goal
 
 pub invariant_of-self-2 : goal.invariant_of-self-2

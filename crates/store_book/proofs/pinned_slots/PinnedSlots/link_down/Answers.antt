@@ -1,6 +1,6 @@
 use Rattle.std.proofs.Common.{refl}
 use Rattle.slot_table.specs.Slots.{on_held, lower}
-use Rattle.store_book.proofs.Pinning.{lower-row, IsPinned-kept, one_each-kept}
+use Rattle.store_book.proofs.Slots.Pinned.{lower-row, IsPinned-kept, one_each-kept}
 use Rattle.store_book.proofs.pinned_slots.PinnedSlots.link_down.Goals as goal
 
 pub invariant_of-self : goal.invariant_of-self

@@ -1,6 +1,6 @@
 use Rattle.std.proofs.Common.{refl}
 use Rattle.slot_table.specs.Slots.{on_held, raise}
-use Rattle.store_book.proofs.Pinning.{raise-row, IsPinned-kept, one_each-kept}
+use Rattle.store_book.proofs.Slots.Pinned.{raise-row, IsPinned-kept, one_each-kept}
 use Rattle.store_book.proofs.pinned_slots.PinnedSlots.link_up.Goals as goal
 
 pub invariant_of-self : goal.invariant_of-self

@@ -1,7 +1,7 @@
 use Rattle.std.proofs.Common.{sym, ◌∙◌}
 use Rattle.std.proofs.lemmas.List.{length-replicate}
 use Rattle.slot_table.specs.Slots.{empty_slot}
-use Rattle.store_book.proofs.Pinning.{IsPinned-opening, opened_slots}
+use Rattle.store_book.proofs.Slots.Pinned.{IsPinned-opening, opened_slots}
 use Rattle.store_book.proofs.pinned_slots.PinnedSlots.new.Goals as goal
 
 pub invariant_of-result : goal.invariant_of-result

@@ -1,7 +1,7 @@
 use Rattle.std.proofs.Common.{ap, ◌∙◌}
 use Rattle.slot_table.specs.Slots.{fill, slot_of}
 use Rattle.store_book.specs.Pinned.{Pinned}
-use Rattle.store_book.proofs.Pinning.{new_digest, IsPinned-placed, one_each-looked}
+use Rattle.store_book.proofs.Slots.Pinned.{new_digest, IsPinned-placed, one_each-looked}
 use Rattle.store_book.proofs.pinned_slots.PinnedSlots.place.Goals as goal
 
 pub give-requires-clause-new : goal.give-requires-clause-new

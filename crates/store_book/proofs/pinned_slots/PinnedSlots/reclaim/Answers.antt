@@ -2,8 +2,8 @@ use Rattle.std.proofs.Common.{◌≡◌, ◌+◌, ◌<◌, ◌^◌, ap, ◌∙�
 use Rattle.slot_table.specs.declared.phase.Phase.TheVariants as phase
 use Rattle.slot_table.specs.Slots.{emptied, generation_at, phase_at, spent}
 use Rattle.store_book.specs.Pinned.{Pinned}
-use Rattle.store_book.proofs.Pinning.{one_each-looked}
-use Rattle.store_book.proofs.Reclaiming.{generation_row, IsPinned-freed, IsPinned-retired}
+use Rattle.store_book.proofs.Slots.Pinned.{one_each-looked}
+use Rattle.store_book.proofs.Slots.Reclaimed.{generation_row, IsPinned-freed, IsPinned-retired}
 use Rattle.store_book.proofs.pinned_slots.PinnedSlots.reclaim.Goals as goal
 
 pub invariant_of-self : goal.invariant_of-self

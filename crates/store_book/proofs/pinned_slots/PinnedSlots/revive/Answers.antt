@@ -1,7 +1,7 @@
 use Rattle.std.proofs.Common.{◌≡◌, ◌≢◌, false, rules, sym}
 use Rattle.slot_table.specs.declared.phase.Phase.TheVariants as phase
 use Rattle.slot_table.specs.Slots.{mark, on_held, phase_at}
-use Rattle.store_book.proofs.Pinning.{IsPinned-revived, one_each-kept, revived-same}
+use Rattle.store_book.proofs.Slots.Pinned.{IsPinned-revived, one_each-kept, revived-same}
 use Rattle.store_book.proofs.pinned_slots.PinnedSlots.revive.Goals as goal
 
 pub invariant_of-self : goal.invariant_of-self

@@ -1,0 +1,302 @@
+-- A blob that was linked: what the catalog keeps then, and that the layers agree.
+use Rattle.std.proofs.Common.{◌≡◌, ℕ, ◌+◌, ◌<◌, Bool, true, false, cond, not, List, [], ◌∷◌, length, Option, Some, None, is_some, refl, sym, ap, ◌∙◌, subst, arith}
+use Prim.Native.Nat.{zero, suc}
+use Rattle.std.specs.Prelude.{slice_get, nat_le, ◌&&◌, if◌then◌else◌}
+use Rattle.std.specs.Option.{option_map_or}
+use Rattle.std.specs.List.{count_by}
+use Rattle.std.proofs.lemmas.List.Sums.{sum_by-cons}
+use Rattle.std.proofs.lemmas.Bool.Decides.{nat_tests}
+use Rattle.std.specs.Cmp.Lexicographic.{nat_list_cmp_total}
+use Rattle.std.specs.Ordering.{eq_by_cmp}
+use Rattle.std.specs.FinMap.{FinMap, get, insert, len, contains_key, get-insert, same_map}
+use Rattle.std.proofs.lemmas.Map.Lookups.{exact_bytes}
+use Rattle.finite_maps.proofs.Options.{some_value, some_same}
+use Rattle.finite_maps.specs.Sets as set
+use Rattle.blob_digest.proofs.KeyOrders.{link_cmp_total, exact_link}
+use Rattle.finite_maps.proofs.Texts.{same_text_is}
+use Rattle.finite_maps.proofs.Sums.{insert_back}
+use Rattle.finite_maps.proofs.Sets.{insert_there}
+use Rattle.slot_table.specs.declared.phase.Phase.TheVariants as phase
+use Rattle.slot_table.specs.Slots.{Slot, Held, Content, Free, Used, Retired, phase_in, held_in, is_free, is_retired, with_slot, fill, on_held, raise, mark, phase_at, held_at, slot_of}
+use Rattle.link_table.specs.Linked.{Linked}
+use Rattle.upload_table.specs.Uploaded.{Uploaded}
+use Rattle.finite_maps.specs.Texts.{Text, text_cmp}
+use Rattle.store_model.specs.Catalog.{Link, Resident, Catalog, holds}
+use Rattle.store_model.specs.Commands.{was_lent, same_bytes, is_full_for}
+use Rattle.store_model.specs.Invariant.{Lawful}
+use Rattle.store_book.specs.Layers.{links_of, lent_marks, resident_of, catalog_from, book_catalog, IsTied}
+use Rattle.store_book.specs.Internal.Keeping.{linked, revived, IsKept, again, anew}
+use Rattle.finite_maps.proofs.Maps.{get-insert_at}
+use Rattle.store_book.proofs.Slots.Lent.{length-marks, marks-on, marks-fill, unmarked}
+use Rattle.store_book.proofs.Slots.Changed.{resident_at, mark-KeepsTies, held_at-with, catalog-change, IsTied-change}
+use Rattle.store_model.proofs.Invariant.Blobs.{Lawful-put}
+use Rattle.store_book.proofs.Layers.Sums.{holds_is}
+use Rattle.store_book.proofs.Layers.Ties.{links_of-insert, catalog-relink, IsTied-link, raise-KeepsBlob, held_of, slot_is_resident, not_resident, rooms}
+use Rattle.store_book.proofs.Slots.Filled.{stored}
+use Rattle.store_book.proofs.Slots.Placed.{catalog-fill, IsTied-fill, held_at-fill, free_slot}
+use Rattle.store_model.proofs.Invariant.NewLink.{unlinked}
+
+-- where an element passes, some are counted
+counted_there : {A : Type 0} (p : A → Bool) (xs : List A) (k : ℕ) (x : A) → slice_get xs k ≡ Some x → p x ≡ true → 0 < count_by p xs
+counted_there p [] k x at passes = cc
+counted_there p (y ∷ xs) zero x at passes =
+    let same : y ≡ x = cc in
+    let sum : count_by p (y ∷ xs) ≡ cond (p y) 1 0 + count_by p xs = sum_by-cons (λ z. cond (p z) 1 0) y xs in
+    let one : cond {A = ℕ} (p y) 1 0 ≡ 1 = ap (λ b. cond b 1 0) (ap p same ∙ passes) in
+    omega arith
+counted_there p (y ∷ xs) (suc k) x at passes =
+    let sum : count_by p (y ∷ xs) ≡ cond (p y) 1 0 + count_by p xs = sum_by-cons (λ z. cond (p z) 1 0) y xs in
+    let rest = counted_there p xs k x at passes in
+    omega arith
+
+free_is : (slots : List Slot) (k : ℕ) (s : Slot) → slice_get slots k ≡ Some s → phase_at slots k ≡ phase.Free → is_free s ≡ true
+free_is slots k s at free = by_content s.content refl (sym (ap (λ o. option_map_or (λ x. phase_in x.content) o phase.Retired) at) ∙ free)
+  where
+    by_content : (c : Content) → s.content ≡ c → phase_in c ≡ phase.Free → is_free (record s { content = c }) ≡ true
+    by_content Free e f = refl
+    by_content (Used h) e f = elim h.condemned as (λ b. cond b phase.Condemned phase.Live ≡ phase.Free → is_free (record s { content = Used h }) ≡ true) [ true ↦ λ g. cc | false ↦ λ g. cc ] f
+    by_content Retired e f = cc
+
+le-false : (a b : ℕ) → b < a → nat_le a b ≡ false
+le-false a b h = grind (arith, nat_tests)
+
+insert_twice : (m : FinMap text_cmp Resident) (k : Text) (v w : Resident) → insert (insert m k v) k w ≡ insert m k w
+insert_twice m k v w = same_map nat_list_cmp_total exact_bytes (insert (insert m k v) k w) (insert m k w) (λ q.
+    get-insert nat_list_cmp_total (insert m k v) k w q
+    ∙ ap (cond (eq_by_cmp text_cmp q k) (Some w)) (get-insert nat_list_cmp_total m k v q)
+    ∙ both (eq_by_cmp text_cmp q k) (get m q)
+    ∙ sym (get-insert nat_list_cmp_total m k w q))
+  where
+    both : (b : Bool) (o : Option Resident) → cond b (Some w) (cond b (Some v) o) ≡ cond b (Some w) o
+    both true o = refl
+    both false o = refl
+
+-- what was lent is not
+abbrev blob_of : Catalog → Text × Text → Resident
+blob_of C blob = record { bytes = blob.1; condemned = false; lent = was_lent (get C.residents blob.0) }
+
+-- the catalog with the blob, linked
+abbrev pub keeping : Catalog → Text → Text × Text → Catalog
+keeping C repo blob = record C { links = set.insert C.links (repo, blob.0); residents = insert C.residents blob.0 (blob_of C blob) }
+
+module _ (l : Linked) (u : Uploaded) (slots : List Slot) (max_blob : ℕ) (repo : Text) (blob : Text × Text) where
+  abbrev C : Catalog
+  C = book_catalog l u slots max_blob
+
+  -- what is known where a blob was linked
+  pub record Keeps (l' : Linked) (slots' : List Slot) : Type 0 where
+    pub catalog : book_catalog l' u slots' max_blob ≡ keeping C repo blob
+    pub tied : IsTied l' slots' (lent_marks slots') (book_catalog l' u slots' max_blob)
+    pub links : l' ≡ linked l repo blob
+    pub same : same_bytes (get C.residents blob.0) blob.1 ≡ true
+    pub housed : is_full_for C blob.0 ≡ false
+
+  module _ (tied : IsTied l slots (lent_marks slots) C) (lawful : Lawful C) (there : set.contains l.repos repo ≡ true) where
+    named : (k : Link) → set.contains (links_of l.links) k ≡ true → set.contains l.repos k.0 ≡ true
+    named k h = (lawful.links k h).repo
+
+    module _ (k : ℕ) (h : Held) (at : held_at slots k ≡ Some h) (digest : h.digest ≡ blob.0) (bytes : h.bytes ≡ blob.1) (live : h.condemned ≡ false) where
+      resident : (b : Resident) × (get C.residents h.digest ≡ Some b) × (b.bytes ≡ h.bytes) × (b.condemned ≡ h.condemned)
+      resident = slot_is_resident slots (lent_marks slots) (length-marks slots) tied.distinct k h at
+
+      kept : get C.residents blob.0 ≡ Some resident.0
+      kept = ap (get C.residents) (sym digest) ∙ resident.1
+
+      whole_blob : (b : Resident) → get C.residents blob.0 ≡ Some b → b.bytes ≡ blob.1 → b.condemned ≡ false → blob_of C blob ≡ b
+      whole_blob b found bytes uncondemned = λ i. record { bytes = sym bytes i; condemned = sym uncondemned i; lent = was_lent (found i) }
+
+      -- a blob that is kept already changes no blob
+      pub same_residents : insert C.residents blob.0 (blob_of C blob) ≡ C.residents
+      same_residents = ap (insert C.residents blob.0) (whole_blob resident.0 kept (resident.2 ∙ bytes) (resident.3 ∙ live)) ∙ insert_back nat_list_cmp_total exact_bytes C.residents blob.0 resident.0 kept
+
+      size : length blob.1 ≡ length resident.0.bytes
+      size = ap length (sym (resident.2 ∙ bytes))
+
+      same_there : same_bytes (get C.residents blob.0) blob.1 ≡ true
+      same_there = ap (λ o. same_bytes o blob.1) kept ∙ same_text_is resident.0.bytes blob.1 (resident.2 ∙ bytes)
+
+      housed_there : is_full_for C blob.0 ≡ false
+      housed_there = ap (λ o. not (is_some o) && nat_le C.slots (len C.residents + C.retired)) kept
+
+      module _ (old : contains_key l.links (repo, blob.0) ≡ true) where
+        found : (n : ℕ) × (get l.links (repo, blob.0) ≡ Some n)
+        found = some_value (get l.links (repo, blob.0)) old
+
+        same_links : insert l.links (repo, blob.0) (length blob.1) ≡ l.links
+        same_links =
+            let b = tied.sizes (repo, blob.0) found.0 found.1 in
+            let is : b.0 ≡ resident.0 = some_same (sym b.1 ∙ kept) in
+            let n : found.0 ≡ length blob.1 = b.2 ∙ ap (λ (x : Resident). length x.bytes) is ∙ sym size in
+            insert_back link_cmp_total exact_link l.links (repo, blob.0) (length blob.1) (found.1 ∙ ap Some n)
+
+        held_before : set.contains C.links (repo, blob.0) ≡ true
+        held_before = holds_is l u slots (lent_marks slots) max_blob tied named repo blob.0 ∙ old
+
+        -- a link that was there leaves all as it was
+        pub Keeps-old : Keeps (linked l repo blob) slots
+        Keeps-old =
+            let same_l : linked l repo blob ≡ l = λ i. record l { links = same_links i } in
+            let links : set.insert C.links (repo, blob.0) ≡ C.links = insert_there link_cmp_total exact_link C.links (repo, blob.0) held_before in
+            record {
+              catalog = (λ i. book_catalog (same_l i) u slots max_blob) ∙ (λ i. record C { links = sym links i; residents = sym same_residents i });
+              tied = subst (λ (x : Linked). IsTied x slots (lent_marks slots) (book_catalog x u slots max_blob)) (sym same_l) tied;
+              links = refl;
+              same = same_there;
+              housed = housed_there;
+            }
+
+      module _ (new : contains_key l.links (repo, blob.0) ≡ false) where
+        abbrev raised : List Slot
+        raised = with_slot slots k (on_held raise)
+
+        not_held_before : holds C repo h.digest ≡ false
+        not_held_before = ap (holds C repo) digest ∙ holds_is l u slots (lent_marks slots) max_blob tied named repo blob.0 ∙ new
+
+        relinked : catalog_from (linked l repo blob) u raised (lent_marks slots) max_blob ≡ record C { links = set.insert C.links (repo, blob.0) }
+        relinked =
+            catalog-relink l (insert l.links (repo, blob.0) (length blob.1)) u slots (lent_marks slots) max_blob k h at raise raise-KeepsBlob tied
+            ∙ (λ i. record C { links = links_of-insert l.links (repo, blob.0) (length blob.1) i })
+
+        tied_then : IsTied (linked l repo blob) raised (lent_marks slots) (catalog_from (linked l repo blob) u raised (lent_marks slots) max_blob)
+        tied_then =
+            subst (λ (d : Text). IsTied (record l { links = insert l.links (repo, d) (length blob.1) }) raised (lent_marks slots) (catalog_from (record l { links = insert l.links (repo, d) (length blob.1) }) u raised (lent_marks slots) max_blob))
+            digest (IsTied-link l u slots (lent_marks slots) max_blob k h at tied repo there (length blob.1) resident.0 resident.1 size not_held_before)
+
+        -- a new link counts in its slot
+        pub Keeps-new : Keeps (linked l repo blob) raised
+        Keeps-new =
+            let marks : lent_marks slots ≡ lent_marks raised = sym (marks-on raise (λ h. refl) slots k) in
+            record {
+              catalog = (λ i. catalog_from (linked l repo blob) u raised (sym marks i) max_blob) ∙ relinked ∙ (λ i. record C { links = set.insert C.links (repo, blob.0); residents = sym same_residents i });
+              tied = subst (λ (m : List Bool). IsTied (linked l repo blob) raised m (catalog_from (linked l repo blob) u raised m max_blob)) marks tied_then;
+              links = refl;
+              same = same_there;
+              housed = housed_there;
+            }
+
+    module _ (k : ℕ) (none : slot_of slots blob.0 ≡ None) (free : phase_at slots k ≡ phase.Free) where
+      abbrev slots1 : List Slot
+      slots1 = with_slot slots k (fill blob)
+
+      abbrev slots2 : List Slot
+      slots2 = with_slot slots1 k (on_held raise)
+
+      slot_there : (s : Slot) × (slice_get slots k ≡ Some s) × (held_in s.content ≡ None) × (is_retired s ≡ false)
+      slot_there = free_slot slots k free
+
+      abbrev C1 : Catalog
+      C1 = catalog_from l u slots1 (lent_marks slots) max_blob
+
+      filled_catalog : C1 ≡ record C { residents = insert C.residents blob.0 (stored blob false) }
+      filled_catalog = catalog-fill l u slots (lent_marks slots) max_blob k blob false free (unmarked slots k free) none
+
+      filled_tied : IsTied l slots1 (lent_marks slots) C1
+      filled_tied = IsTied-fill l u slots (lent_marks slots) max_blob k blob false free (unmarked slots k free) none tied lawful
+
+      absent : get C.residents blob.0 ≡ None
+      absent = not_resident slots (lent_marks slots) blob.0 none
+
+      abbrev filled : Held
+      filled = record { digest = blob.0; bytes = blob.1; condemned = false; lent = false; links = 0 }
+
+      in_slot : held_at slots1 k ≡ Some filled
+      in_slot = held_at-fill l u slots (lent_marks slots) max_blob k blob false free (unmarked slots k free) none
+
+      kept_now : get C1.residents blob.0 ≡ Some (stored blob false)
+      kept_now = ap (λ (D : Catalog). get D.residents blob.0) filled_catalog ∙ get-insert_at nat_list_cmp_total exact_bytes C.residents blob.0 (stored blob false)
+
+      tied_now : IsTied (linked l repo blob) slots2 (lent_marks slots) (catalog_from (linked l repo blob) u slots2 (lent_marks slots) max_blob)
+      tied_now = IsTied-link l u slots1 (lent_marks slots) max_blob k filled in_slot filled_tied repo there (length blob.1) (stored blob false) kept_now refl (unlinked C lawful blob.0 absent repo)
+
+      catalog_now : catalog_from (linked l repo blob) u slots2 (lent_marks slots) max_blob ≡ keeping C repo blob
+      catalog_now =
+          catalog-relink l (insert l.links (repo, blob.0) (length blob.1)) u slots1 (lent_marks slots) max_blob k filled in_slot raise raise-KeepsBlob filled_tied
+          ∙ (λ i. record C1 { links = links_of-insert l.links (repo, blob.0) (length blob.1) i })
+          ∙ (λ i. record (filled_catalog i) { links = set.insert C.links (repo, blob.0) })
+          ∙ (λ i. record C { links = set.insert C.links (repo, blob.0); residents = insert C.residents blob.0 (record { bytes = blob.1; condemned = false; lent = was_lent (sym absent i) }) })
+
+      -- a blob that filled a free slot is kept, with one link
+      pub Keeps-filled : Keeps (linked l repo blob) slots2
+      Keeps-filled =
+          let marks : lent_marks slots ≡ lent_marks slots2 = sym (marks-on raise (λ h. refl) slots1 k ∙ marks-fill blob slots k free) in
+          record {
+            catalog = (λ i. catalog_from (linked l repo blob) u slots2 (sym marks i) max_blob) ∙ catalog_now;
+            tied = subst (λ (m : List Bool). IsTied (linked l repo blob) slots2 m (catalog_from (linked l repo blob) u slots2 m max_blob)) marks tied_now;
+            links = refl;
+            same = ap (λ o. same_bytes o blob.1) absent;
+            housed = ap (λ o. not (is_some o) && nat_le C.slots (len C.residents + C.retired)) absent ∙ has_room;
+          }
+        where
+          has_room : nat_le C.slots (len C.residents + C.retired) ≡ false
+          has_room =
+              let sum = rooms l u slots (lent_marks slots) max_blob (length-marks slots) tied.distinct in
+              let some = counted_there is_free slots k slot_there.0 slot_there.1 (free_is slots k slot_there.0 slot_there.1 free) in
+              le-false C.slots (len C.residents + C.retired) (omega arith)
+
+-- ---- what linking a blob left
+
+module _ (l : Linked) (u : Uploaded) (slots : List Slot) (max_blob : ℕ) (repo : Text) (blob : Text × Text) where
+  abbrev B : Catalog
+  B = book_catalog l u slots max_blob
+
+  module _ (tied : IsTied l slots (lent_marks slots) B) (lawful : Lawful B) (there : set.contains l.repos repo ≡ true) where
+    module _ (k : ℕ) (h : Held) (at : held_at slots k ≡ Some h) (digest : h.digest ≡ blob.0) (bytes : h.bytes ≡ blob.1) where
+      abbrev live_again : List Slot
+      live_again = revived slots k
+
+      abbrev live_one : Resident
+      live_one = record { bytes = h.bytes; condemned = false; lent = h.lent }
+
+      -- the catalog with the blob live
+      abbrev D : Catalog
+      D = record B { residents = insert B.residents h.digest live_one }
+
+      catalog_live_again : book_catalog l u live_again max_blob ≡ D
+      catalog_live_again = catalog-change (mark false) (mark-KeepsTies false) l u slots max_blob k h at tied
+
+      was : get B.residents h.digest ≡ Some (resident_of h.lent h)
+      was = resident_at slots k h at tied.distinct
+
+      lawful_live_again : Lawful (book_catalog l u live_again max_blob)
+      lawful_live_again = subst (λ (X : Catalog). Lawful X) (sym catalog_live_again) (Lawful-put B h.digest live_one refl lawful (lawful.content h.digest (resident_of h.lent h) was))
+
+      twice : (b : Resident) → insert (insert B.residents h.digest live_one) blob.0 b ≡ insert B.residents blob.0 b
+      twice b = ap (λ (d : Text). insert (insert B.residents d live_one) blob.0 b) digest ∙ insert_twice B.residents blob.0 live_one b
+
+      same_lent : was_lent (get D.residents blob.0) ≡ was_lent (get B.residents blob.0)
+      same_lent =
+          ap (λ (d : Text). was_lent (get D.residents d)) (sym digest) ∙ ap was_lent (get-insert_at nat_list_cmp_total exact_bytes B.residents h.digest live_one)
+          ∙ sym (ap (λ (d : Text). was_lent (get B.residents d)) (sym digest) ∙ ap was_lent was)
+
+      keeping_live_again : keeping (book_catalog l u live_again max_blob) repo blob ≡ keeping B repo blob
+      keeping_live_again =
+          (λ i. keeping (catalog_live_again i) repo blob)
+          ∙ (λ i. record B { links = set.insert B.links (repo, blob.0); residents = twice (record { bytes = blob.1; condemned = false; lent = was_lent (get D.residents blob.0) }) i })
+          ∙ (λ i. record B { links = set.insert B.links (repo, blob.0); residents = insert B.residents blob.0 (record { bytes = blob.1; condemned = false; lent = same_lent i }) })
+
+      Keeps-live_again : (l' : Linked) (slots' : List Slot) → Keeps l u live_again max_blob repo blob l' slots' → Keeps l u slots max_blob repo blob l' slots'
+      Keeps-live_again l' slots' keeps =
+          let kept : get B.residents blob.0 ≡ Some (resident_of h.lent h) = ap (get B.residents) (sym digest) ∙ was in
+          record {
+            catalog = keeps.catalog ∙ keeping_live_again;
+            tied = keeps.tied;
+            links = keeps.links;
+            same = ap (λ o. same_bytes o blob.1) kept ∙ same_text_is h.bytes blob.1 bytes;
+            housed = ap (λ o. not (is_some o) && nat_le B.slots (len B.residents + B.retired)) kept;
+          }
+
+      by_link : (b : Bool) → contains_key l.links (repo, blob.0) ≡ b → Keeps l u live_again max_blob repo blob (linked l repo blob) (if b then live_again else with_slot live_again k (on_held raise))
+      by_link true is = Keeps-old l u live_again max_blob repo blob (IsTied-change (mark false) (mark-KeepsTies false) l u slots max_blob k h at tied) lawful_live_again there k (mark false h) (held_at-with (mark false) (mark-KeepsTies false) slots k h at) digest bytes refl is
+      by_link false is = Keeps-new l u live_again max_blob repo blob (IsTied-change (mark false) (mark-KeepsTies false) l u slots max_blob k h at tied) lawful_live_again there k (mark false h) (held_at-with (mark false) (mark-KeepsTies false) slots k h at) digest bytes refl is
+
+      Keeps-again : Keeps l u slots max_blob repo blob (linked l repo blob) (if contains_key l.links (repo, blob.0) then live_again else with_slot live_again k (on_held raise))
+      Keeps-again = Keeps-live_again _ _ (by_link (contains_key l.links (repo, blob.0)) refl)
+
+    pub IsKept-Keeps : (l' : Linked) (slots' : List Slot) → IsKept l slots repo blob l' slots' → Keeps l u slots max_blob repo blob l' slots'
+    IsKept-Keeps l' slots' (again k h place at bytes links slots_are) =
+        let held = held_of slots blob.0 k place in
+        let same : held.0 ≡ h = some_same (sym held.1 ∙ at) in
+        let digest : h.digest ≡ blob.0 = ap (λ (x : Held). x.digest) (sym same) ∙ held.2 in
+        subst (λ (x : Linked). Keeps l u slots max_blob repo blob x slots') (sym links) (subst (λ (x : List Slot). Keeps l u slots max_blob repo blob (linked l repo blob) x) (sym slots_are) (Keeps-again k h at digest bytes))
+    IsKept-Keeps l' slots' (anew k none free links slots_are) =
+        subst (λ (x : Linked). Keeps l u slots max_blob repo blob x slots') (sym links) (subst (λ (x : List Slot). Keeps l u slots max_blob repo blob (linked l repo blob) x) (sym slots_are) (Keeps-filled l u slots max_blob repo blob tied lawful there k none free))

@@ -1,0 +1,280 @@
+-- The ties between the layers after a link more or less.
+use Rattle.std.proofs.Common.{◌≡◌, ℕ, ◌+◌, ◌-◌, Bool, true, false, cond, List, [], ◌∷◌, length, Option, Some, None, is_some, refl, sym, ap, ◌∙◌, subst, arith, inl, inr}
+use Prim.Native.Nat.{zero, suc}
+use Rattle.std.specs.Option.{option_map}
+use Rattle.std.specs.List.{count_by}
+use Rattle.std.specs.Ordering.{eq_by_cmp, is_eq}
+use Rattle.std.specs.Cmp.{tied_itself, Equal-is}
+use Rattle.std.specs.FinMap.{FinMap, get, insert, remove, from_entries, get-insert, get-remove, get-from_entries, find, len, len-empty, len-insert, same_map}
+use Rattle.std.proofs.lemmas.Bool.{cases_eq}
+use Rattle.std.proofs.lemmas.List.Sums.{sum_by-cons}
+use Rattle.finite_maps.proofs.Options.{not_some, some_same}
+use Rattle.finite_maps.specs.Sets as set
+use Rattle.blob_digest.proofs.KeyOrders.{link_cmp_total, exact_link}
+use Rattle.finite_maps.proofs.Sets.{insert_there}
+use Rattle.finite_maps.proofs.Sums.{insert-remove, get-remove_same}
+use Rattle.finite_maps.specs.Rows.{IsApart}
+use Rattle.std.specs.Cmp.Lexicographic.{nat_list_cmp_total}
+pub use Rattle.slot_table.proofs.Finding.{held_of, not_held}
+use Rattle.slot_table.specs.Slots.{Slot, Held, Content, Free, Used, Retired, held_at, held_in, IsDistinct, is_retired, is_free, free_slots, slot_of, with_slot, on_held, content_with, raise, lower}
+use Rattle.link_table.specs.Linked.{Linked}
+use Rattle.finite_maps.specs.Texts.{Text, text_cmp}
+use Rattle.store_model.specs.Catalog.{Link, Resident, Catalog, link_cmp, holds, count}
+use Rattle.upload_table.specs.Uploaded.{Uploaded}
+use Rattle.store_book.proofs.Slots.Writes.{with_slot-suc, length-with_slot, count_by-with_slot, held_at-same, held_at-other, slot_of_held}
+use Rattle.store_model.proofs.Invariant.Counts.{count-link, count_other-link}
+use Rattle.store_book.specs.Layers.{links_of, resident_of, with_resident, resident_rows, residents_of, catalog_from, IsTied}
+use Rattle.store_book.proofs.Layers.Sums.{get-links_of, mark, found_slot, IsApart-rows}
+
+-- ---- links without their sizes
+
+mark_at : (b : Bool) (n : ℕ) (o : Option ℕ) → option_map mark (cond b (Some n) o) ≡ cond b (Some tt) (option_map mark o)
+mark_at true n o = refl
+mark_at false n o = refl
+
+mark_none : (b : Bool) (o : Option ℕ) → option_map mark (cond b None o) ≡ cond b None (option_map mark o)
+mark_none true o = refl
+mark_none false o = refl
+
+pub links_of-insert : (links : FinMap link_cmp ℕ) (k : Link) (n : ℕ) → links_of (insert links k n) ≡ set.insert (links_of links) k
+links_of-insert links k n = same_map link_cmp_total exact_link (links_of (insert links k n)) (set.insert (links_of links) k) (λ q.
+    get-links_of (insert links k n) q ∙ ap (option_map mark) (get-insert link_cmp_total links k n q) ∙ mark_at (eq_by_cmp link_cmp q k) n (get links q)
+    ∙ ap (cond (eq_by_cmp link_cmp q k) (Some tt)) (sym (get-links_of links q)) ∙ sym (get-insert link_cmp_total (links_of links) k tt q))
+
+pub links_of-remove : (links : FinMap link_cmp ℕ) (k : Link) → links_of (remove links k) ≡ set.remove (links_of links) k
+links_of-remove links k = same_map link_cmp_total exact_link (links_of (remove links k)) (set.remove (links_of links) k) (λ q.
+    get-links_of (remove links k) q ∙ ap (option_map mark) (get-remove link_cmp_total links k q) ∙ mark_none (eq_by_cmp link_cmp q k) (get links q)
+    ∙ ap (cond (eq_by_cmp link_cmp q k) None) (sym (get-links_of links q)) ∙ sym (get-remove link_cmp_total (links_of links) k q))
+
+-- ---- one slot changes
+
+-- what a change of a count leaves
+pub record KeepsBlob (g : Held → Held) : Type 0 where
+  pub digest : (h : Held) → (g h).digest ≡ h.digest
+  pub resident : (h : Held) (lent : Bool) → resident_of lent (g h) ≡ resident_of lent h
+
+pub raise-KeepsBlob : KeepsBlob raise
+raise-KeepsBlob = record { digest = λ h. refl; resident = λ h lent. refl }
+
+pub lower-KeepsBlob : KeepsBlob lower
+lower-KeepsBlob = record { digest = λ h. refl; resident = λ h lent. refl }
+
+module _ (g : Held → Held) (keeps : KeepsBlob g) where
+  same_content : (c : Content) (m : Bool) (rest : List (Text × Resident)) → with_resident (content_with g c) m rest ≡ with_resident c m rest
+  same_content Free m rest = refl
+  same_content (Used h) m rest = λ i. (keeps.digest h i, keeps.resident h m i) ∷ rest
+  same_content Retired m rest = refl
+
+  pub rows-with_slot : (slots : List Slot) (k : ℕ) (marks : List Bool) → resident_rows (with_slot slots k (on_held g)) marks ≡ resident_rows slots marks
+  rows-with_slot [] k marks = refl
+  rows-with_slot (s ∷ slots) zero [] = refl
+  rows-with_slot (s ∷ slots) zero (m ∷ marks) = same_content s.content m (resident_rows slots marks)
+  rows-with_slot (s ∷ slots) (suc k) [] = ap (λ x. resident_rows x []) (with_slot-suc s slots k (on_held g))
+  rows-with_slot (s ∷ slots) (suc k) (m ∷ marks) = ap (λ x. resident_rows x (m ∷ marks)) (with_slot-suc s slots k (on_held g)) ∙ ap (with_resident s.content m) (rows-with_slot slots k marks)
+
+  same_retired : (c : Content) (n : ℕ) → is_retired (record { generation = n; content = content_with g c }) ≡ is_retired (record { generation = n; content = c })
+  same_retired Free n = refl
+  same_retired (Used h) n = refl
+  same_retired Retired n = refl
+
+  pub retired-with_slot : (slots : List Slot) (k : ℕ) → count_by is_retired (with_slot slots k (on_held g)) ≡ count_by is_retired slots
+  retired-with_slot slots k = count_by-with_slot is_retired slots k (on_held g) (λ s at. same_retired s.content s.generation)
+
+  held_content : (c : Content) → held_in (content_with g c) ≡ option_map g (held_in c)
+  held_content Free = refl
+  held_content (Used h) = refl
+  held_content Retired = refl
+
+  pub held_at-on : (slots : List Slot) (k : ℕ) (h : Held) → held_at slots k ≡ Some h → held_at (with_slot slots k (on_held g)) k ≡ Some (g h)
+  held_at-on slots k h at =
+      let s = slot_of_held slots k h at in
+      held_at-same slots k (on_held g) s.0 s.1 ∙ held_content s.0.content ∙ ap (option_map g) s.2
+
+module _ (l : Linked) (links' : FinMap link_cmp ℕ) (u : Uploaded) (slots : List Slot) (marks : List Bool) (max_blob k : ℕ) (h : Held) (at : held_at slots k ≡ Some h) (g : Held → Held) (keeps : KeepsBlob g)
+    (tied : IsTied l slots marks (catalog_from l u slots marks max_blob)) where
+  abbrev before : Catalog
+  before = catalog_from l u slots marks max_blob
+
+  abbrev after : Catalog
+  after = record before { links = links_of links' }
+
+  abbrev slots' : List Slot
+  slots' = with_slot slots k (on_held g)
+
+  abbrev l' : Linked
+  l' = record l { links = links' }
+
+  -- a change of links and of one count is one of the catalog's links alone
+  pub catalog-relink : catalog_from l' u slots' marks max_blob ≡ after
+  catalog-relink = λ i. record {
+    tenants = l.tenants;
+    slots = length-with_slot slots k (on_held g) i;
+    max_blob = max_blob;
+    repos = l.repos;
+    links = links_of links';
+    manifests = before.manifests;
+    sessions = u.sessions;
+    next = u.next;
+    residents = from_entries {R = text_cmp} (rows-with_slot g keeps slots k marks i);
+    retired = retired-with_slot g keeps slots k i;
+  }
+
+  abbrev Origin : ℕ → Held → Type 0
+  Origin m x = (y : Held) × (held_at slots m ≡ Some y) × (x.digest ≡ y.digest)
+
+  origin : (m : ℕ) (x : Held) → held_at slots' m ≡ Some x → Origin m x
+  origin m x here = elim (cases_eq m k) [
+    | inl e ↦ (h, ap (held_at slots) e ∙ at, ap (λ (y : Held). y.digest) (sym (some_same (sym (held_at-on g keeps slots k h at) ∙ ap (held_at slots') (sym e) ∙ here))) ∙ keeps.digest h)
+    | inr other ↦ (x, sym (held_at-other slots k (on_held g) m other) ∙ here, refl)
+  ]
+
+  module _ (sizes : (key : Link) (n : ℕ) → get links' key ≡ Some n → (b : Resident) × (get before.residents key.1 ≡ Some b) × (n ≡ length b.bytes))
+      (counted : (g h).links ≡ count after h.digest) (others : (x : Text) → (x ≡ h.digest → ⊥) → count after x ≡ count before x) where
+    counts_after : (m : ℕ) (x : Held) → held_at slots' m ≡ Some x → x.links ≡ count after x.digest
+    counts_after m x here = elim (cases_eq m k) [
+      | inl e ↦ (let is : g h ≡ x = some_same (sym (held_at-on g keeps slots k h at) ∙ ap (held_at slots') (sym e) ∙ here) in
+          ap (λ (y : Held). y.links) (sym is) ∙ counted ∙ ap (count after) (sym (keeps.digest h) ∙ ap (λ (y : Held). y.digest) is))
+      | inr other ↦ (let there = sym (held_at-other slots k (on_held g) m other) ∙ here in
+          tied.counts m x there ∙ sym (others x.digest (λ same. other (tied.distinct m k x h there at same))))
+    ]
+
+    tied_after : IsTied l' slots' marks after
+    tied_after = record {
+      marks = tied.marks ∙ sym (length-with_slot slots k (on_held g));
+      distinct = λ a b x y at_a at_b same. (let p = origin a x at_a in let q = origin b y at_b in tied.distinct a b p.0 q.0 p.1 q.1 (sym p.2 ∙ same ∙ q.2));
+      sizes = sizes;
+      counts = counts_after;
+    }
+
+    pub IsTied-relink : IsTied l' slots' marks (catalog_from l' u slots' marks max_blob)
+    IsTied-relink = subst (λ (C : Catalog). IsTied l' slots' marks C) (sym catalog-relink) tied_after
+
+-- ---- what a mount and a delete leave
+
+same_key : (a b : Link) → eq_by_cmp link_cmp a b ≡ true → a ≡ b
+same_key a b tie = exact_link a b ((Equal-is (link_cmp a b)).0 tie)
+
+module _ (l : Linked) (u : Uploaded) (slots : List Slot) (marks : List Bool) (max_blob k : ℕ) (h : Held) (at : held_at slots k ≡ Some h)
+    (tied : IsTied l slots marks (catalog_from l u slots marks max_blob)) (r : Text) (there : set.contains l.repos r ≡ true) where
+  abbrev C : Catalog
+  C = catalog_from l u slots marks max_blob
+
+  -- a link of a resident blob, and its slot counts one more
+  pub IsTied-link : (n : ℕ) (b : Resident) → get C.residents h.digest ≡ Some b → n ≡ length b.bytes → holds C r h.digest ≡ false →
+      IsTied (record l { links = insert l.links (r, h.digest) n }) (with_slot slots k (on_held raise)) marks (catalog_from (record l { links = insert l.links (r, h.digest) n }) u (with_slot slots k (on_held raise)) marks max_blob)
+  IsTied-link n b kept size new =
+      let D : Catalog = record C { links = links_of (insert l.links (r, h.digest) n) } in
+      let same : D ≡ record C { links = set.insert C.links (r, h.digest) } = λ i. record C { links = links_of-insert l.links (r, h.digest) n i } in
+      let old : h.links ≡ count C h.digest = tied.counts k h at in
+      let more : count (record C { links = set.insert C.links (r, h.digest) }) h.digest ≡ 1 + count C h.digest = count-link C r h.digest there new in
+      let after : count D h.digest ≡ 1 + count C h.digest = ap (λ (X : Catalog). count X h.digest) same ∙ more in
+      let counted : h.links + 1 ≡ count D h.digest = omega arith in
+      IsTied-relink l (insert l.links (r, h.digest) n) u slots marks max_blob k h at raise raise-KeepsBlob tied
+      (λ key m found. sized key m (eq_by_cmp link_cmp key (r, h.digest)) refl (sym (get-insert link_cmp_total l.links (r, h.digest) n key) ∙ found))
+      counted
+      (λ x differ. ap (λ (X : Catalog). count X x) same ∙ count_other-link C r h.digest x differ)
+    where
+      sized : (key : Link) (m : ℕ) (t : Bool) → eq_by_cmp link_cmp key (r, h.digest) ≡ t → cond t (Some n) (get l.links key) ≡ Some m → (c : Resident) × (get C.residents key.1 ≡ Some c) × (m ≡ length c.bytes)
+      sized key m true tie found = (b, ap (λ (q : Link). get C.residents q.1) (same_key key (r, h.digest) tie) ∙ kept, sym (some_same found) ∙ size)
+      sized key m false tie found = tied.sizes key m found
+
+  -- a link less, and its slot counts one less
+  pub IsTied-unlink : (n : ℕ) → get l.links (r, h.digest) ≡ Some n →
+      IsTied (record l { links = remove l.links (r, h.digest) }) (with_slot slots k (on_held lower)) marks (catalog_from (record l { links = remove l.links (r, h.digest) }) u (with_slot slots k (on_held lower)) marks max_blob)
+  IsTied-unlink n linked =
+      let D : Catalog = record C { links = links_of (remove l.links (r, h.digest)) } in
+      let E : Catalog = record C { links = set.remove C.links (r, h.digest) } in
+      let same : D ≡ E = λ i. record C { links = links_of-remove l.links (r, h.digest) i } in
+      let contained : set.contains C.links (r, h.digest) ≡ true = ap is_some (get-links_of l.links (r, h.digest) ∙ ap (option_map mark) linked) in
+      let again : record E { links = set.insert E.links (r, h.digest) } ≡ C = λ i. record C { links = (insert-remove link_cmp_total exact_link C.links (r, h.digest) tt ∙ insert_there link_cmp_total exact_link C.links (r, h.digest) contained) i } in
+      let gone : holds E r h.digest ≡ false = ap is_some (get-remove_same link_cmp_total exact_link C.links (r, h.digest)) in
+      let old : h.links ≡ count C h.digest = tied.counts k h at in
+      let one_more : count C h.digest ≡ 1 + count E h.digest = sym (ap (λ (X : Catalog). count X h.digest) again) ∙ count-link E r h.digest there gone in
+      let less : h.links - 1 ≡ count E h.digest = omega arith in
+      IsTied-relink l (remove l.links (r, h.digest)) u slots marks max_blob k h at lower lower-KeepsBlob tied
+      (λ key m found. tied.sizes key m (kept_at key m (eq_by_cmp link_cmp key (r, h.digest)) (sym (get-remove link_cmp_total l.links (r, h.digest) key) ∙ found)))
+      (less ∙ sym (ap (λ (X : Catalog). count X h.digest) same))
+      (λ x differ. ap (λ (X : Catalog). count X x) same ∙ sym (sym (ap (λ (X : Catalog). count X x) again) ∙ count_other-link E r h.digest x differ))
+    where
+      kept_at : (key : Link) (m : ℕ) (b : Bool) → cond b None (get l.links key) ≡ Some m → get l.links key ≡ Some m
+      kept_at key m true e = cc
+      kept_at key m false e = e
+
+-- ---- slots that are full
+
+len-rows : (es : List (Text × Resident)) → IsApart text_cmp es → len (from_entries {R = text_cmp} es) ≡ length es
+len-rows [] apart = len-empty text_cmp Resident
+len-rows (e ∷ es) apart =
+    len-insert nat_list_cmp_total (from_entries {R = text_cmp} es) e.0 e.1
+    ∙ ap (λ o. cond (is_some o) (len (from_entries {R = text_cmp} es)) (len (from_entries {R = text_cmp} es) + 1)) (get-from_entries nat_list_cmp_total es e.0 ∙ apart.0)
+    ∙ ap (λ n. n + 1) (len-rows es apart.1) ∙ (let n : length es + 1 ≡ length (e ∷ es) = omega arith in n)
+
+each : (s : Slot) (m : Bool) (rest : List (Text × Resident)) → length (with_resident s.content m rest) + (cond (is_retired s) 1 0 + cond (is_free s) 1 0) ≡ length rest + 1
+each s m rest = elim s.content as (λ c. length (with_resident c m rest) + (cond (is_retired (record s { content = c })) 1 0 + cond (is_free (record s { content = c })) 1 0) ≡ length rest + 1) [
+  | Free ↦ omega arith
+  | Used h ↦ omega arith
+  | Retired ↦ omega arith
+]
+
+kinds : (slots : List Slot) (marks : List Bool) → length marks ≡ length slots → length (resident_rows slots marks) + (count_by is_retired slots + free_slots slots) ≡ length slots
+kinds [] marks e = refl
+kinds (s ∷ slots) [] e = absurd (let f : 0 ≡ suc (length slots) = e in omega arith)
+kinds (s ∷ slots) (m ∷ marks) e =
+    let f : suc (length marks) ≡ suc (length slots) = e in
+    let rest = kinds slots marks (omega arith) in
+    let a : count_by is_retired (s ∷ slots) ≡ cond (is_retired s) 1 0 + count_by is_retired slots = sum_by-cons (λ x. cond (is_retired x) 1 0) s slots in
+    let b : free_slots (s ∷ slots) ≡ cond (is_free s) 1 0 + free_slots slots = sum_by-cons (λ x. cond (is_free x) 1 0) s slots in
+    let c = each s m (resident_rows slots marks) in
+    let n : length (s ∷ slots) ≡ length slots + 1 = omega arith in
+    omega arith
+
+-- the catalog has room for a blob exactly where a slot is free
+pub rooms : (l : Linked) (u : Uploaded) (slots : List Slot) (marks : List Bool) (max_blob : ℕ) → length marks ≡ length slots → IsDistinct slots →
+    len (catalog_from l u slots marks max_blob).residents + (catalog_from l u slots marks max_blob).retired + free_slots slots ≡ length slots
+rooms l u slots marks max_blob one_each distinct =
+    let a = len-rows (resident_rows slots marks) (IsApart-rows slots marks distinct) in
+    let b = kinds slots marks one_each in
+    omega arith
+
+-- ---- where a digest is
+
+-- a digest without a slot isn't resident
+pub not_resident : (slots : List Slot) (marks : List Bool) (d : Text) → slot_of slots d ≡ None → get (residents_of slots marks) d ≡ None
+not_resident slots marks d none =
+    get-from_entries nat_list_cmp_total (resident_rows slots marks) d
+    ∙ not_some (find text_cmp d (resident_rows slots marks)) (λ b found. let f = found_slot slots marks d b found in not_held slots d none f.0 f.1 f.2 f.3)
+
+later : (c : Content) (m : Bool) (rest : List (Text × Resident)) (d : Text) → is_some (find text_cmp d rest) ≡ true → is_some (find text_cmp d (with_resident c m rest)) ≡ true
+later Free m rest d there = there
+later (Used h) m rest d there = elim (eq_by_cmp text_cmp d h.digest) as (λ b. is_some (cond b (Some (resident_of m h)) (find text_cmp d rest)) ≡ true) [ true ↦ refl | false ↦ there ]
+later Retired m rest d there = there
+
+here : (c : Content) (m : Bool) (rest : List (Text × Resident)) (h : Held) → held_in c ≡ Some h → is_some (find text_cmp h.digest (with_resident c m rest)) ≡ true
+here Free m rest h e = cc
+here (Used g) m rest h e =
+    let same : g ≡ h = cc in
+    ap (λ (x : Held). is_some (cond (eq_by_cmp text_cmp x.digest g.digest) (Some (resident_of m g)) (find text_cmp x.digest rest))) (sym same)
+    ∙ ap (λ b. is_some (cond b (Some (resident_of m g)) (find text_cmp g.digest rest))) (ap is_eq (tied_itself nat_list_cmp_total g.digest))
+here Retired m rest h e = cc
+
+held_found : (slots : List Slot) (marks : List Bool) → length marks ≡ length slots → (k : ℕ) (h : Held) → held_at slots k ≡ Some h → is_some (find text_cmp h.digest (resident_rows slots marks)) ≡ true
+held_found [] marks e k h at = cc
+held_found (s ∷ slots) [] e k h at = absurd (let f : 0 ≡ suc (length slots) = e in omega arith)
+held_found (s ∷ slots) (m ∷ marks) e zero h at = here s.content m (resident_rows slots marks) h at
+held_found (s ∷ slots) (m ∷ marks) e (suc k) h at =
+    let f : suc (length marks) ≡ suc (length slots) = e in
+    later s.content m (resident_rows slots marks) h.digest (held_found slots marks (omega arith) k h at)
+
+there_is : (o : Option Resident) → is_some o ≡ true → (b : Resident) × (o ≡ Some b)
+there_is None e = cc
+there_is (Some b) e = (b, refl)
+
+-- the blob of a slot is resident, with the slot's bytes and mark
+pub slot_is_resident : (slots : List Slot) (marks : List Bool) → length marks ≡ length slots → IsDistinct slots → (k : ℕ) (h : Held) → held_at slots k ≡ Some h →
+    (b : Resident) × (get (residents_of slots marks) h.digest ≡ Some b) × (b.bytes ≡ h.bytes) × (b.condemned ≡ h.condemned)
+slot_is_resident slots marks one_each distinct k h at =
+    let b = there_is (find text_cmp h.digest (resident_rows slots marks)) (held_found slots marks one_each k h at) in
+    let f = found_slot slots marks h.digest b.0 b.1 in
+    let place : f.0 ≡ k = distinct f.0 k f.1 h f.2 at f.3 in
+    let same : f.1 ≡ h = some_same (sym f.2 ∙ ap (held_at slots) place ∙ at) in
+    (b.0, get-from_entries nat_list_cmp_total (resident_rows slots marks) h.digest ∙ b.1, f.4 ∙ ap (λ (x : Held). x.bytes) same, f.5 ∙ ap (λ (x : Held). x.condemned) same)

@@ -1,0 +1,69 @@
+-- `Book::abandon`, from what its calls of the layers did.
+use Rattle.std.proofs.Common.{◌≡◌, ℕ, ◌-◌, ◌<◌, ◌≤◌, List, length, Some, Result, Ok, Err, refl, sym, ap, ◌∙◌, subst}
+use Rattle.std.specs.Prelude.{slice_index, slice_set}
+use Rattle.std.specs.FinMap.{get, remove}
+use Rattle.std.proofs.Math.ListN.{length-set}
+use Rattle.blob_digest.specs.declared.refusal.Refusal.{Refusal}
+use Rattle.blob_digest.specs.declared.refusal.Refusal.TheVariants.{NameUnknown}
+use Rattle.slot_table.specs.Slots.{Slot}
+use Rattle.link_table.specs.Linked.{Linked, discharge, known_tenant}
+use Rattle.store_model.specs.Sessions.{Session, charged, home_in, not_busy, received, session_in, in_sessions}
+use Rattle.upload_table.specs.Uploaded.{Uploaded}
+use Rattle.finite_maps.specs.Texts.{Text}
+use Rattle.store_model.specs.Catalog.{Catalog, tenant_of}
+use Rattle.finite_maps.specs.Outcomes.{◌>>=◌}
+use Rattle.store_model.specs.Commands.{abandon}
+use Rattle.store_book.specs.Layers.{book_catalog, IsBook}
+use Rattle.store_model.proofs.Commands.Hands.{home_charged, home_chunks}
+use Rattle.store_model.proofs.Commands.Abandon.{Sound-after_abandon}
+use Rattle.finite_maps.proofs.Outcomes.{bound_ok, some_of_ok}
+use Rattle.store_model.proofs.Commands.Accepted.{session_found, tenant_there}
+use Rattle.store_book.proofs.Layers.SessionCharges.{session_charged, sums-gone}
+
+-- an answer by what was found at home
+received_ok : (x : Result Session Refusal) (n : ℕ) → (x >>= λ s. not_busy s.chunks >>= λ _. Ok (received s)) ≡ Ok n → (s : Session) × (x ≡ Ok s) × (not_busy s.chunks ≡ Ok tt) × (received s ≡ n)
+received_ok (Ok s) n h = let b = bound_ok (not_busy s.chunks) (λ _. Ok (received s)) n h in (s, refl, b.1, cc b.2)
+received_ok (Err e) n h = absurd cc
+
+module _ (l : Linked) (u : Uploaded) (slots : List Slot) (max_blob t number : ℕ) (repo : Text) (known : known_tenant l repo ≡ Ok t) where
+  abbrev C : Catalog
+  C = book_catalog l u slots max_blob
+
+  module _ (n : ℕ) (answered : home_in u.sessions (t, number) repo ≡ Ok n) where
+    abbrev of_repo : (s : Session) × (session_in (get u.sessions (t, number)) repo ≡ Ok s) × (not_busy s.chunks ≡ Ok tt) × (received s ≡ n)
+    of_repo = received_ok (session_in (get u.sessions (t, number)) repo) n answered
+
+    found : get u.sessions (t, number) ≡ Some of_repo.0
+    found = (session_found (get u.sessions (t, number)) repo of_repo.0 of_repo.1).0
+
+    there : t < length l.tenants
+    there = tenant_there l.tenants repo t (some_of_ok (tenant_of l.tenants repo) NameUnknown t known)
+
+    abbrev l1 : Linked
+    l1 = discharge l t n
+
+    abbrev u1 : Uploaded
+    u1 = record u { sessions = remove u.sessions (t, number) }
+
+    abandoned : abandon C repo number ≡ Ok (n, book_catalog l1 u1 slots max_blob)
+    abandoned = rw (known, of_repo.1, of_repo.2) (ap (λ m. Ok (m, book_catalog l1 u1 slots max_blob)) of_repo.3)
+
+    counts : charged of_repo.0 ≡ n
+    counts = let home = home_chunks of_repo.0.chunks tt of_repo.2 in home_charged of_repo.0 home.0 home.1 ∙ of_repo.3
+
+    module _ (book : IsBook l u slots max_blob) where
+      pub abandoned_charged : n ≤ slice_index l.charges t
+      abandoned_charged = subst (λ m. m ≤ slice_index l.charges t) counts (session_charged l u slots max_blob t number book there of_repo.0 found)
+
+      sums_after : (v : ℕ) → v < length l.tenants → slice_index l1.charges v ≡ in_sessions u1.sessions v
+      sums_after v lt = subst (λ m. slice_index (slice_set l.charges t (slice_index l.charges t - m)) v ≡ in_sessions u1.sessions v) counts (sums-gone l u slots max_blob t number book there of_repo.0 found v lt)
+
+      -- a session that was given up leaves a book
+      pub IsBook-abandon : (l' : Linked) (u' : Uploaded) → l' ≡ l1 → u' ≡ u1 → IsBook l' u' slots max_blob
+      IsBook-abandon l' u' links uploads =
+          let now : IsBook l1 u1 slots max_blob = record {
+            sound = Sound-after_abandon C (book_catalog l1 u1 slots max_blob) repo number n abandoned book.sound;
+            tied = record { marks = book.tied.marks; distinct = book.tied.distinct; sizes = book.tied.sizes; counts = book.tied.counts };
+            charges = record { one_each = length-set l.charges t (slice_index l.charges t - n) ∙ book.charges.one_each; sums = sums_after };
+          } in
+          subst (λ (x : Linked). IsBook x u' slots max_blob) (sym links) (subst (λ (x : Uploaded). IsBook l1 x slots max_blob) (sym uploads) now)

@@ -1,0 +1,204 @@
+-- `Book::finish`, from what its calls of the layers did.
+use Rattle.std.proofs.Common.{◌≡◌, ℕ, ◌+◌, ◌-◌, ◌^◌, ◌<◌, ◌≤◌, Bool, true, false, not, List, length, Option, Some, None, Result, is_some, Ok, Err, refl, sym, ap, ◌∙◌, subst, arith}
+use Rattle.std.specs.Prelude.{nat_le, ◌&&◌, slice_index, slice_set, if◌then◌else◌}
+use Rattle.std.specs.FinMap.{get, remove, len}
+use Rattle.std.proofs.Math.ListN.{length-set}
+use Rattle.std.proofs.lemmas.Bool.{le-leb, false_from_ne_true, not-false}
+use Rattle.blob_digest.specs.declared.refusal.Refusal.{Refusal}
+use Rattle.blob_digest.specs.declared.refusal.Refusal.TheVariants.{DigestInvalid, StoreFull, UploadUnknown}
+use Rattle.blob_digest.specs.Digests.{is_digest_of}
+use Rattle.finite_maps.specs.Sets as set
+use Rattle.finite_maps.proofs.Texts.{text_is_same}
+use Rattle.slot_table.specs.Slots.{Slot, Held}
+use Rattle.link_table.specs.Linked.{Linked, known_tenant, discharge}
+use Rattle.store_model.specs.Sessions.{Home, Session, Taken, are_taken, brought_home, charged, given_up, taken_session, whole_of, with_chunks, IsFull}
+use Rattle.upload_table.specs.Uploaded.{Uploaded, finish_upload, with_sessions}
+use Rattle.finite_maps.specs.Texts.{Text}
+use Rattle.store_model.specs.Catalog.{Catalog, in_sessions_of}
+use Rattle.finite_maps.specs.Outcomes.{◌>>=◌, refuse}
+use Rattle.store_model.specs.Commands.{finish, given_back, same_bytes, is_full_for}
+use Rattle.store_book.specs.Layers.{lent_marks, book_catalog, IsBook}
+use Rattle.store_book.specs.Internal.Keeping.{CanKeep, IsKept, IsUnkept, differs, full}
+use Rattle.store_book.proofs.Layers.Keep.{Keeps, IsKept-Keeps}
+use Rattle.store_book.proofs.Slots.Lent.{length-marks}
+use Rattle.store_book.proofs.Layers.CanKeep.{CanKeep-book}
+use Rattle.store_model.proofs.Commands.Finish.{Sound-after_finish}
+use Rattle.store_model.proofs.Commands.Hands.{whole_long, IsProper}
+use Rattle.finite_maps.proofs.Options.{some_same}
+use Rattle.finite_maps.proofs.Outcomes.{bound_ok, not_refused}
+use Rattle.store_book.proofs.Refine.PutBack.{here_charged, here_small, here_tenant, session_here, IsBook-home}
+use Rattle.store_book.proofs.Layers.SessionCharges.{sums-gone}
+use Rattle.store_model.proofs.Invariant.SessionTenants.{session_owner}
+use Rattle.store_book.proofs.Layers.Ties.{held_of, slot_is_resident, not_resident, rooms}
+
+module _ (l : Linked) (u : Uploaded) (slots : List Slot) (max_blob : ℕ) (h : Taken) (digest : Text) where
+  abbrev C : Catalog
+  C = book_catalog l u slots max_blob
+
+  abbrev whole : Text
+  whole = whole_of h
+
+  pub finish_unknown : (e : Refusal) → taken_session (get u.sessions h.key) h ≡ Err e → finish C h digest ≡ Err e
+  finish_unknown e unknown = rw unknown refl
+
+  module _ (book : IsBook l u slots max_blob) (proper : IsProper h) (full_h : IsFull h) (s : Session) (here : taken_session (get u.sessions h.key) h ≡ Ok s) where
+    pub finish_other_digest : is_digest_of digest whole ≡ false → finish C h digest ≡ Err DigestInvalid
+    finish_other_digest other = rw (here, other) refl
+
+    pub found : get u.sessions h.key ≡ Some s
+    found = (session_here l u slots max_blob h book proper s here).0
+
+    repo_there : set.contains l.repos s.repo ≡ true
+    repo_there = (book.sound.lawful.sessions h.key s found).repo
+
+    pub known : known_tenant l s.repo ≡ Ok h.key.0
+    known = rw (session_owner C book.sound.lawful h.key s found) refl
+
+    long : length whole ≡ charged s
+    long = whole_long h proper full_h ∙ sym (here_charged l u slots max_blob h book proper s here)
+
+    whole_small : length whole ≤ 2 ^ 50
+    whole_small =
+        let small = (book.sound.lawful.sessions h.key s found).small in
+        let most = book.sound.lawful.limits.max_blob in
+        omega (arith, long, small, most)
+
+    -- the sealed blob can be linked
+    pub CanKeep-finished : (blob : Text × Text) → blob ≡ (digest, whole) → CanKeep l slots h.key.0 s.repo blob
+    CanKeep-finished blob is = CanKeep-book l u slots max_blob h.key.0 s.repo blob book known repo_there (rw is whole_small)
+
+    -- what is reserved, and the whole, were charged
+    pub reserve_charged : h.reserved ≤ slice_index l.charges h.key.0
+    reserve_charged = let small = here_small l u slots max_blob h book proper s here in omega arith
+
+    module _ (agrees : is_digest_of digest whole ≡ true) where
+      finish_other_bytes : same_bytes (get C.residents digest) whole ≡ false → finish C h digest ≡ Err DigestInvalid
+      finish_other_bytes other = rw (here, agrees, other) refl
+
+      finish_full : same_bytes (get C.residents digest) whole ≡ true → is_full_for C digest ≡ true → finish C h digest ≡ Err StoreFull
+      finish_full same is_full = rw (here, agrees, same, is_full) refl
+
+      -- a blob that can't be linked
+      pub finish_unkept : (e : Refusal) → IsUnkept slots (digest, whole) e → finish C h digest ≡ Err e
+      finish_unkept e (differs k x place at other is) =
+          let held = held_of slots digest k place in
+          let same : held.0 ≡ x = some_same (sym held.1 ∙ at) in
+          let named : x.digest ≡ digest = ap (λ (y : Held). y.digest) (sym same) ∙ held.2 in
+          let b = slot_is_resident slots (lent_marks slots) (length-marks slots) book.tied.distinct k x at in
+          let kept : get C.residents digest ≡ Some b.0 = ap (get C.residents) (sym named) ∙ b.1 in
+          let no_match : same_bytes (get C.residents digest) whole ≡ false =
+          ap (λ o. same_bytes o whole) kept ∙ false_from_ne_true (same_bytes (Some b.0) whole) (λ match. other (sym b.2 ∙ text_is_same b.0.bytes whole match)) in
+          finish_other_bytes no_match ∙ ap Err (sym is)
+      finish_unkept e (full none no_slot is) =
+          let absent = not_resident slots (lent_marks slots) digest none in
+          let sum = rooms l u slots (lent_marks slots) max_blob (length-marks slots) book.tied.distinct in
+          let crowded : nat_le C.slots (len C.residents + C.retired) ≡ true = le-leb C.slots (len C.residents + C.retired) (omega arith) in
+          let no_room : is_full_for C digest ≡ true = (λ i. not (is_some (absent i)) && crowded i) in
+          finish_full (ap (λ o. same_bytes o whole) absent) no_room ∙ ap Err (sym is)
+
+      module _ (l' : Linked) (slots' : List Slot) (kept : IsKept l slots s.repo (digest, whole) l' slots') where
+        keeps : Keeps l u slots max_blob s.repo (digest, whole) l' slots'
+        keeps = IsKept-Keeps l u slots max_blob s.repo (digest, whole) book.tied book.sound.lawful repo_there l' slots' kept
+
+        abbrev l1 : Linked
+        l1 = discharge l' h.key.0 (length whole)
+
+        abbrev u1 : Uploaded
+        u1 = with_sessions u (remove u.sessions h.key)
+
+        abbrev C1 : Catalog
+        C1 = book_catalog l1 u1 slots' max_blob
+
+        finished_as : finish C h digest ≡ Ok (length whole, C1)
+        finished_as = rw (here, agrees, keeps.same, keeps.housed) (λ i. Ok (length whole, record (sym keeps.catalog i) { sessions = remove u.sessions h.key }))
+
+        same_charges : l'.charges ≡ l.charges
+        same_charges = ap (λ (x : Linked). x.charges) keeps.links
+
+        pub same_tenants : length l'.tenants ≡ length l.tenants
+        same_tenants = ap (λ (x : Linked). length x.tenants) keeps.links
+
+        pub finish_charged : length whole ≤ slice_index l'.charges h.key.0
+        finish_charged =
+            let small = here_small l u slots max_blob h book proper s here in
+            let counts = whole_long h proper full_h in
+            rw same_charges (omega arith)
+
+        sums_after : (v : ℕ) → v < length l.tenants → slice_index (slice_set l.charges h.key.0 (slice_index l.charges h.key.0 - length whole)) v ≡ in_sessions_of C1 v
+        sums_after v lt = ap (λ n. slice_index (slice_set l.charges h.key.0 (slice_index l.charges h.key.0 - n)) v) long ∙ sums-gone l u slots max_blob h.key.0 h.key.1 book (here_tenant l u slots max_blob h book proper s here) s found v lt
+
+        -- a session that was finished leaves a book
+        finished_book : IsBook l1 u1 slots' max_blob
+        finished_book = record {
+          sound = Sound-after_finish C C1 h digest (length whole) proper full_h finished_as book.sound;
+          tied = record { marks = keeps.tied.marks; distinct = keeps.tied.distinct; sizes = keeps.tied.sizes; counts = keeps.tied.counts };
+          charges = record {
+            one_each = length-set l'.charges h.key.0 (slice_index l'.charges h.key.0 - length whole) ∙ ap length same_charges ∙ book.charges.one_each ∙ sym same_tenants;
+            sums = λ v lt. (λ i. slice_index (slice_set (same_charges i) h.key.0 (slice_index (same_charges i) h.key.0 - length whole)) v) ∙ sums_after v (let same = same_tenants in omega arith);
+          };
+        }
+
+        module _ (l'' : Linked) (u'' : Uploaded) (links : l'' ≡ l1) (uploads : u'' ≡ u1) where
+          pub finish_ok : finish C h digest ≡ Ok (length whole, book_catalog l'' u'' slots' max_blob)
+          finish_ok = finished_as ∙ (λ i. Ok (length whole, book_catalog (sym links i) (sym uploads i) slots' max_blob))
+
+          pub IsBook-finish : IsBook l'' u'' slots' max_blob
+          IsBook-finish = subst (λ (x : Linked). IsBook x u'' slots' max_blob) (sym links) (subst (λ (x : Uploaded). IsBook l1 x slots' max_blob) (sym uploads) finished_book)
+
+    -- ---- a refused finish
+
+    abbrev back : Uploaded
+    back = with_sessions u (given_up u.sessions h)
+
+    given : with_sessions u (with_chunks u.sessions h.key s (Home h.chunks)) ≡ back
+    given = ap (λ o. with_sessions u (brought_home u.sessions h o)) (sym here)
+
+    -- the session comes home, and its reserve is discharged
+    pub IsBook-given_back : (l' : Linked) (u' : Uploaded) → l' ≡ discharge l h.key.0 h.reserved → u' ≡ back → IsBook l' u' slots max_blob
+    IsBook-given_back l' u' links uploads =
+        let now = IsBook-home l u slots max_blob h book proper s here h.chunks h.reserved proper.pieces refl in
+        subst (λ (x : Linked). IsBook x u' slots max_blob) (sym links) (subst (λ (x : Uploaded). IsBook (discharge l h.key.0 h.reserved) x slots max_blob) (given ∙ sym uploads) now)
+
+  -- what it leaves is the catalog with the hand given back
+  pub given_back_is : (l' : Linked) (u' : Uploaded) (k : ℕ) → l' ≡ discharge l h.key.0 k → u' ≡ with_sessions u (given_up u.sessions h) → book_catalog l' u' slots max_blob ≡ given_back C h
+  given_back_is l' u' k links uploads = λ i. book_catalog (links i) (uploads i) slots max_blob
+
+-- why the layer refuses
+pub layer_refused : (u : Uploaded) (h : Taken) (digest : Text) (e : Refusal) → finish_upload u h digest ≡ Err e → (e ≡ UploadUnknown → ⊥) → (s : Session) × (taken_session (get u.sessions h.key) h ≡ Ok s) × (is_digest_of digest (whole_of h) ≡ false) × (e ≡ DigestInvalid)
+layer_refused u h digest e refused other = by (taken_session (get u.sessions h.key) h) refl
+  where
+    unknown : (o : Option Session) (d : Refusal) → taken_session o h ≡ Err d → d ≡ UploadUnknown
+    unknown None d is = cc
+    unknown (Some s) d is = test (are_taken h s.chunks) is
+      where
+        test : (b : Bool) → (if b then Ok s else Err UploadUnknown) ≡ Err d → d ≡ UploadUnknown
+        test true is = absurd cc
+        test false is = cc
+
+    by : (x : Result Session Refusal) → taken_session (get u.sessions h.key) h ≡ x → (s : Session) × (taken_session (get u.sessions h.key) h ≡ Ok s) × (is_digest_of digest (whole_of h) ≡ false) × (e ≡ DigestInvalid)
+    by (Ok s) here = digests (is_digest_of digest (whole_of h)) refl (rw here at refused)
+      where
+        digests : (b : Bool) → is_digest_of digest (whole_of h) ≡ b → ◌>>=◌ {B = (Text × Text) × Uploaded} (refuse (not (is_digest_of digest (whole_of h))) DigestInvalid) (λ _. Ok ((digest, whole_of h), u)) ≡ Err e → (s : Session) × (taken_session (get u.sessions h.key) h ≡ Ok s) × (is_digest_of digest (whole_of h) ≡ false) × (e ≡ DigestInvalid)
+        digests true agrees h = absurd (let k = rw agrees at h in cc)
+        digests false agrees h = (s, here, agrees, let k = rw agrees at h in cc)
+    by (Err d) here = absurd (other (let k : ◌≡◌ {A = Result ((Text × Text) × Uploaded) Refusal} (Err d) (Err e) = rw here at refused in let same : d ≡ e = cc in sym same ∙ unknown (get u.sessions h.key) d here))
+
+-- where the layer knows no such hand, nothing changes
+pub layer_unknown : (u : Uploaded) (h : Taken) (digest : Text) (e : Refusal) → finish_upload u h digest ≡ Err e → e ≡ UploadUnknown → with_sessions u (given_up u.sessions h) ≡ u
+layer_unknown u h digest e refused unknown = by (taken_session (get u.sessions h.key) h) refl
+  where
+    by : (x : Result Session Refusal) → taken_session (get u.sessions h.key) h ≡ x → with_sessions u (given_up u.sessions h) ≡ u
+    by (Ok s) here = digests (is_digest_of digest (whole_of h)) refl (rw here at refused)
+      where
+        digests : (b : Bool) → is_digest_of digest (whole_of h) ≡ b → ◌>>=◌ {B = (Text × Text) × Uploaded} (refuse (not (is_digest_of digest (whole_of h))) DigestInvalid) (λ _. Ok ((digest, whole_of h), u)) ≡ Err e → with_sessions u (given_up u.sessions h) ≡ u
+        digests true agrees h = absurd (let k = rw agrees at h in cc)
+        digests false agrees h = absurd (let k = rw (agrees, unknown) at h in cc)
+    by (Err d) here = ap (λ (o : Result Session Refusal). with_sessions u (brought_home u.sessions h o)) here
+
+-- a hand that the layer finishes is this book's
+pub layer_finished : (u : Uploaded) (h : Taken) (digest : Text) (blob : Text × Text) (u' : Uploaded) → finish_upload u h digest ≡ Ok (blob, u') → (s : Session) × (taken_session (get u.sessions h.key) h ≡ Ok s) × (is_digest_of digest (whole_of h) ≡ true) × (blob ≡ (digest, whole_of h)) × (u' ≡ u)
+layer_finished u h digest blob u' done =
+    let a = bound_ok (taken_session (get u.sessions h.key) h) _ (blob, u') done in
+    let b = bound_ok (refuse (not (is_digest_of digest (whole_of h))) DigestInvalid) _ (blob, u') a.2 in
+    let p : ◌≡◌ {A = (Text × Text) × Uploaded} ((digest, whole_of h), u) (blob, u') = cc b.2 in
+    (a.0, a.1, not-false _ (not_refused _ _ _ b.1), sym (λ i. (p i).0), sym (λ i. (p i).1))

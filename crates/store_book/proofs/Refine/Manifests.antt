@@ -1,0 +1,169 @@
+-- The calls of the book on manifests, from what their calls of the layers did.
+use Rattle.std.proofs.Common.{◌≡◌, ℕ, ◌+◌, ◌≤◌, Bool, true, false, cond, List, [], ◌∷◌, length, drop, Option, Some, None, Ok, Err, is_some, refl, sym, ap, ◌∙◌, subst, arith}
+use Prim.Native.Nat.{zero, suc}
+use native.Mathlib.Numerals.{unary_clauses}
+use Rattle.std.specs.Prelude.{slice_get, nat_le, nat_lt}
+use Rattle.std.specs.Option.{option_map}
+use Rattle.std.specs.FinMap.{get, insert, contains_key}
+use Rattle.std.proofs.lemmas.Bool.{le-ltb}
+use Rattle.blob_digest.specs.Digests.{sha256_text}
+use Rattle.blob_digest.specs.Outcomes.{OutcomeIn}
+use Rattle.finite_maps.specs.Sets as set
+use Rattle.blob_digest.specs.declared.refusal.Refusal.{Refusal}
+use Rattle.blob_digest.specs.declared.refusal.Refusal.TheVariants.{LimitReached, ManifestUnknown, ManifestBlobUnknown}
+use Rattle.finite_maps.proofs.Options.{some_same, some_none, no_value}
+use Rattle.slot_table.specs.Slots.{Slot}
+use Rattle.oci_manifest.specs.Manifests.{IsManifest, refs_of, max_manifest}
+use Rattle.link_table.specs.ManifestTable.{manifests_in}
+use Rattle.link_table.specs.Linked.{Linked, known_tenant, appear, cannot_appear, drop_manifest, put_manifest as put_manifest_on}
+use Rattle.upload_table.specs.Uploaded.{Uploaded}
+use Rattle.finite_maps.specs.Texts.{Text}
+use Rattle.store_model.specs.Catalog.{Catalog}
+use Rattle.store_model.specs.Commands.{put_manifest, get_manifest, delete_manifest, all_linked}
+use Rattle.store_book.specs.Internal.Keeping.{all_held, with_manifest_on}
+use Rattle.store_model.specs.Invariant.{Sound}
+use Rattle.store_book.specs.Layers.{book_catalog, IsBook}
+use Rattle.store_model.proofs.Invariant.Counts.{count-appear}
+use Rattle.store_book.proofs.Layers.LinkedSlots.{holds_linked}
+use Rattle.store_model.proofs.Commands.Manifests.{Sound-after_put_manifest, Sound-after_delete_manifest}
+
+module _ (l : Linked) (u : Uploaded) (slots : List Slot) (max_blob t : ℕ) (repo digest : Text) (known : known_tenant l repo ≡ Ok t) where
+  abbrev C : Catalog
+  C = book_catalog l u slots max_blob
+
+  abbrev after : Catalog
+  after = book_catalog (drop_manifest l repo digest) u slots max_blob
+
+  pub get_unknown : get l.manifests (repo, digest) ≡ None → get_manifest C repo digest ≡ Err ManifestUnknown
+  get_unknown none = rw (known, none) refl
+
+  pub get_there : (bytes : Text) → get l.manifests (repo, digest) ≡ Some bytes → get_manifest C repo digest ≡ Ok bytes
+  get_there bytes is = rw (known, is) refl
+
+  pub delete_unknown : get l.manifests (repo, digest) ≡ None → delete_manifest C repo digest ≡ Err ManifestUnknown
+  delete_unknown none = rw (known, none) refl
+
+  pub delete_there : (bytes : Text) → get l.manifests (repo, digest) ≡ Some bytes → delete_manifest C repo digest ≡ Ok (tt, after)
+  delete_there bytes is = rw (known, is) refl
+
+  -- a deleted manifest leaves a book
+  pub IsBook-delete_manifest : (bytes : Text) → get l.manifests (repo, digest) ≡ Some bytes → IsBook l u slots max_blob → IsBook (drop_manifest l repo digest) u slots max_blob
+  IsBook-delete_manifest bytes is book = record {
+    sound = Sound-after_delete_manifest C after repo digest (delete_there bytes is) book.sound;
+    tied = record { marks = book.tied.marks; distinct = book.tied.distinct; sizes = book.tied.sizes; counts = book.tied.counts };
+    charges = record { one_each = book.charges.one_each; sums = book.charges.sums };
+  }
+
+-- ---- the references of a manifest, one after the other
+
+next : (xs : List Text) (i : ℕ) (x : Text) → slice_get xs i ≡ Some x → drop i xs ≡ x ∷ drop (i + 1) xs
+next [] i x at = some_none (sym at)
+next (y ∷ ys) zero x at = ap (λ z. z ∷ ys) (some_same at)
+next (y ∷ ys) (suc i) x at = simp unary_clauses (simp unary_clauses at (next ys i x at))
+
+past : (xs : List Text) (i : ℕ) → length xs ≤ i → drop i xs ≡ []
+past [] zero le = refl
+past [] (suc i) le = refl
+past (y ∷ ys) zero le = absurd (omega arith)
+past (y ∷ ys) (suc i) le = past ys i (omega arith)
+
+module _ (l : Linked) (repo : Text) (xs : List Text) (i : ℕ) where
+  pub held_next : (x : Text) → slice_get xs i ≡ Some x → contains_key l.links (repo, x) ≡ true → all_held l repo (drop i xs) ≡ all_held l repo (drop (i + 1) xs)
+  held_next x at held = ap (all_held l repo) (next xs i x at) ∙ ap (λ b. cond b (all_held l repo (drop (i + 1) xs)) (Err (ManifestBlobUnknown x))) held
+
+  pub held_not : (x : Text) → slice_get xs i ≡ Some x → contains_key l.links (repo, x) ≡ false → all_held l repo (drop i xs) ≡ Err (ManifestBlobUnknown x)
+  held_not x at held = ap (all_held l repo) (next xs i x at) ∙ ap (λ b. cond b (all_held l repo (drop (i + 1) xs)) (Err (ManifestBlobUnknown x))) held
+
+  pub held_all : length xs ≤ i → all_held l repo (drop i xs) ≡ Ok tt
+  held_all le = ap (all_held l repo) (past xs i le)
+
+-- ---- putting a manifest
+
+same_state : {x y : Linked} → ◌≡◌ {A = OutcomeIn Linked (Unit {0})} (Ok (tt, x)) (Ok (tt, y)) → x ≡ y
+same_state {x} {y} h = let p : ◌≡◌ {A = Unit {0} × Linked} (tt, x) (tt, y) = cc in λ i. (p i).1
+
+-- what maps to a value is there exactly where the value is
+pub is_some-of : {A : Type 0} (f : A → Text) (o : Option A) (x : Option Text) (b : Bool) → option_map f o ≡ x → is_some o ≡ b → is_some x ≡ b
+is_some-of f None x b e h = sym (ap is_some e) ∙ h
+is_some-of f (Some a) x b e h = sym (ap is_some e) ∙ h
+
+-- a manifest by what it keeps
+pub read_from : (bytes kept : Text) (refs : List Text) (name : Text) → kept ≡ bytes → length kept ≤ max_manifest → refs_of bytes ≡ Some refs → name ≡ sha256_text bytes → IsManifest bytes refs name
+read_from bytes kept refs name shown fits named agrees = record { named = named; agrees = agrees; fits = subst (λ (x : Text). length x ≤ max_manifest) shown fits }
+
+module _ (l : Linked) (t : ℕ) (repo bytes : Text) where
+  -- a repository that appeared has the manifest put into it
+  pub appeared_put : (l' : Linked) (b : Bool) → appear l t repo ≡ Ok (b, l') → with_manifest_on l t repo bytes ≡ put_manifest_on l' repo bytes
+  appeared_put l' b shown = rw shown refl
+
+module _ (l : Linked) (u : Uploaded) (slots : List Slot) (max_blob t : ℕ) (repo bytes : Text) (refs : List Text) (name : Text) (book : IsBook l u slots max_blob) (known : known_tenant l repo ≡ Ok t) (read : IsManifest bytes refs name) where
+  abbrev B : Catalog
+  B = book_catalog l u slots max_blob
+
+  linked_is : (digests : List Text) → all_linked B repo digests ≡ all_held l repo digests
+  linked_is [] = refl
+  linked_is (d ∷ digests) = λ i. cond (holds_linked l u slots max_blob book repo d i) (linked_is digests i) (Err (ManifestBlobUnknown d))
+
+  fits : nat_lt max_manifest (length bytes) ≡ false
+  fits = le-ltb max_manifest (length bytes) read.fits
+
+  pub put_unlinked : (e : Refusal) → all_held l repo refs ≡ Err e → put_manifest B repo bytes ≡ Err e
+  put_unlinked e is = rw (known, fits, read.named, linked_is refs, is) refl
+
+  module _ (held : all_held l repo refs ≡ Ok tt) where
+    pub put_there : is_some (get l.manifests (repo, name)) ≡ true → put_manifest B repo bytes ≡ Ok (name, B)
+    put_there is =
+        let there : is_some (get l.manifests (repo, sha256_text bytes)) ≡ true = ap (λ d. is_some (get l.manifests (repo, d))) (sym read.agrees) ∙ is in
+        rw (known, fits, read.named, linked_is refs, held, there, read.agrees) refl
+
+    module _ (absent : is_some (get l.manifests (repo, name)) ≡ false) where
+      new : get l.manifests (repo, sha256_text bytes) ≡ None
+      new = no_value (get l.manifests (repo, sha256_text bytes)) (ap (λ d. is_some (get l.manifests (repo, d))) (sym read.agrees) ∙ absent)
+
+      pub put_refused : (e : Refusal) → with_manifest_on l t repo bytes ≡ Err e → put_manifest B repo bytes ≡ Err e
+      put_refused e refused = by_room (cannot_appear l t repo) refl
+        where
+          by_count : (full : Bool) → cannot_appear l t repo ≡ false → nat_le 1024 (manifests_in l.manifests repo) ≡ full → put_manifest B repo bytes ≡ Err e
+          by_count true room is = rw (known, fits, read.named, linked_is refs, held, new, room, is) (let h = rw (room, new, is) at refused in let same : LimitReached ≡ e = cc in ap Err same)
+          by_count false room is = absurd (let h = rw (room, new, is) at refused in cc)
+
+          by_room : (full : Bool) → cannot_appear l t repo ≡ full → put_manifest B repo bytes ≡ Err e
+          by_room true is = rw (known, fits, read.named, linked_is refs, held, new, is) (let h = rw is at refused in let same : LimitReached ≡ e = cc in ap Err same)
+          by_room false is = by_count (nat_le 1024 (manifests_in l.manifests repo)) is refl
+
+      -- what is left: the repository, and in it the manifest
+      abbrev l1 : Linked
+      l1 = record l { repos = set.insert l.repos repo; manifests = insert l.manifests (repo, sha256_text bytes) bytes }
+
+      added : (l' : Linked) → with_manifest_on l t repo bytes ≡ Ok (tt, l') → (cannot_appear l t repo ≡ false) × (nat_le 1024 (manifests_in l.manifests repo) ≡ false) × (l1 ≡ l')
+      added l' done = by_room (cannot_appear l t repo) refl
+        where
+          by_count : (full : Bool) → cannot_appear l t repo ≡ false → nat_le 1024 (manifests_in l.manifests repo) ≡ full → (cannot_appear l t repo ≡ false) × (nat_le 1024 (manifests_in l.manifests repo) ≡ false) × (l1 ≡ l')
+          by_count true room is = absurd (let h = rw (room, new, is) at done in cc)
+          by_count false room is = (room, is, (let h = rw (room, new, is) at done in same_state h))
+
+          by_room : (full : Bool) → cannot_appear l t repo ≡ full → (cannot_appear l t repo ≡ false) × (nat_le 1024 (manifests_in l.manifests repo) ≡ false) × (l1 ≡ l')
+          by_room true is = absurd (let h = rw is at done in cc)
+          by_room false is = by_count (nat_le 1024 (manifests_in l.manifests repo)) is refl
+
+      pub put_ok : (l' : Linked) → with_manifest_on l t repo bytes ≡ Ok (tt, l') → put_manifest B repo bytes ≡ Ok (name, book_catalog l' u slots max_blob)
+      put_ok l' done =
+          let a = added l' done in
+          rw (known, fits, read.named, linked_is refs, held, new, a.0, a.1, read.agrees) (λ i. Ok (sha256_text bytes, book_catalog (a.2 i) u slots max_blob))
+
+      -- a manifest that was put leaves a book
+      pub IsBook-put_manifest : (l' : Linked) → with_manifest_on l t repo bytes ≡ Ok (tt, l') → length repo ≤ 255 → IsBook l' u slots max_blob
+      IsBook-put_manifest l' done short =
+          let step = put_ok l' done in
+          let is = (added l' done).2 in
+          let sound = Sound-after_put_manifest B (book_catalog l' u slots max_blob) repo bytes name step short book.sound in
+          subst (λ (x : Linked). IsBook x u slots max_blob) is (record {
+            sound = subst (λ (x : Linked). Sound (book_catalog x u slots max_blob)) (sym is) sound;
+            tied = record {
+              marks = book.tied.marks;
+              distinct = book.tied.distinct;
+              sizes = book.tied.sizes;
+              counts = λ k h at. book.tied.counts k h at ∙ sym (count-appear B repo h.digest book.sound.lawful);
+            };
+            charges = record { one_each = book.charges.one_each; sums = book.charges.sums };
+          })

@@ -1,0 +1,130 @@
+-- The lines that the layers give are the book's text.
+use Rattle.std.proofs.Common.{◌≡◌, ℕ, ◌+◌, ◌<◌, ◌≤◌, Bool, true, false, cond, List, [], ◌∷◌, ◌++◌, length, map, get_or, Option, Some, None, refl, sym, ap, ◌∙◌, arith}
+use Rattle.std.specs.Prelude.{filter, ◌&&◌, slice_index}
+use Rattle.std.specs.declared.cmp.Ordering.{Ordering}
+use Rattle.std.specs.List.{flat_map, enumerate_from, AllByRecursion}
+use Rattle.std.specs.Ordering.{is_lt}
+use Rattle.std.specs.Option.{option_map_or}
+use Rattle.std.specs.FinMap.{FinMap, entries, entries_sorted, get, get-entries, is_sorted, keys}
+use Rattle.std.specs.FinMap.Entries.{below_all}
+use Rattle.std.proofs.lemmas.List.Concat.{flat_map-cons}
+use Rattle.std.proofs.lemmas.List.Folds.{flat_map-map}
+use Rattle.std.proofs.lemmas.List.Sums.{length-filter}
+use Rattle.finite_maps.proofs.Lists.{all_weaker, is_true, flat_map-same, all_same, all_by_index}
+use Rattle.finite_maps.specs.Sets as set
+use Rattle.blob_digest.proofs.KeyOrders.{link_cmp_total, exact_link}
+use Rattle.finite_maps.proofs.Rows.{found_value}
+use Rattle.slot_table.specs.Slots.{Slot, Held, slot_of, links_at}
+use Rattle.link_table.specs.ManifestTable.{manifests_on}
+use Rattle.link_table.specs.Linked.{Linked, Tenant, used_in, blobs_in, repos_of}
+use Rattle.finite_maps.proofs.Sorted.{IsApart-sorted, entries-sorted}
+use Rattle.store_model.specs.Sessions.{listed, sessions_of}
+use Rattle.upload_table.specs.Uploaded.{Uploaded}
+use Rattle.finite_maps.specs.Texts.{Text, same_text}
+use Rattle.store_model.specs.Catalog.{Link, Resident, Catalog, is_of, link_cmp, used, size, count}
+use Rattle.store_book.specs.Layers.{links_of, lent_marks, book_catalog, IsBook}
+use Rattle.store_book.specs.Internal.Lines.{CanPrint, blob_row, links_to, session_row, repo_rows, tenant_rows, book_rows}
+use Rattle.store_model.specs.BookText.{blob_line, blob_text, book_line, book_text, end_line, manifest_row, manifest_text, repo_text, repository_line, tenant_line, tenant_text}
+use Rattle.store_book.proofs.Refine.Take.{use_is}
+use Rattle.store_book.proofs.Layers.Ties.{held_of, not_resident}
+
+-- ---- lists
+
+numbers_below : (xs : List Tenant) (from n : ℕ) → from + length xs ≤ n → AllByRecursion (λ e. e.0 < n) (enumerate_from from xs)
+numbers_below [] from n h = tt
+numbers_below (x ∷ xs) from n h = (omega arith, numbers_below xs (from + 1) n (omega arith))
+
+-- ---- links
+
+abbrev no_link : Link × ℕ
+no_link = (([], []), 0)
+
+each_found : (links : FinMap link_cmp ℕ) → AllByRecursion (λ e. get links e.0 ≡ Some e.1) (entries links)
+each_found links =
+    all_by_index (λ e. get links e.0 ≡ Some e.1) no_link (entries links) (λ i lt.
+    get-entries links (get_or (entries links) i no_link).0
+    ∙ found_value link_cmp link_cmp_total (entries links) i no_link (get_or (entries links) i no_link).0 (IsApart-sorted link_cmp (entries links) (is_true (entries_sorted links))) lt refl)
+
+module _ {K X : Type 0} (R : K → K → Ordering) where
+  below_all-marked : (q : K) (es : List (K × X)) → below_all R q (set.marked (map (λ e. e.0) es)) ≡ below_all R q es
+  below_all-marked q [] = refl
+  below_all-marked q (e ∷ es) = ap (λ b. is_lt (R q e.0) && b) (below_all-marked q es)
+
+  is_sorted-marked : (es : List (K × X)) → is_sorted R (set.marked (map (λ e. e.0) es)) ≡ is_sorted R es
+  is_sorted-marked [] = refl
+  is_sorted-marked (e ∷ es) = λ i. below_all-marked e.0 es i && is_sorted-marked es i
+
+unmarked : {K : Type 0} (ks : List K) → map (λ (e : K × Unit {0}). e.0) (set.marked ks) ≡ ks
+unmarked [] = refl
+unmarked (k ∷ ks) = ap (λ t. k ∷ t) (unmarked ks)
+
+items_links : (links : FinMap link_cmp ℕ) → set.items (links_of links) ≡ keys links
+items_links links =
+    ap (map (λ e. e.0)) (entries-sorted link_cmp link_cmp_total exact_link (set.marked (keys links)) (is_sorted-marked link_cmp (entries links) ∙ is_true (entries_sorted links)))
+    ∙ unmarked (keys links)
+
+-- the rows of a repository's links, and its links in the catalog
+blobs_same : (f : Text × ℕ → Text) (g : Link → Text) (repo : Text) (es : List (Link × ℕ)) → AllByRecursion (λ e. f (e.0.1, e.1) ≡ g e.0) es →
+    flat_map f (map (λ e. (e.0.1, e.1)) (filter (λ e. same_text e.0.0 repo) es)) ≡ flat_map g (filter (λ l. same_text l.0 repo) (map (λ e. e.0) es))
+blobs_same f g repo [] same = refl
+blobs_same f g repo (e ∷ es) same = by_test (same_text e.0.0 repo) (blobs_same f g repo es same.1)
+  where
+    by_test : (b : Bool) → flat_map f (map (λ e. (e.0.1, e.1)) (filter (λ e. same_text e.0.0 repo) es)) ≡ flat_map g (filter (λ l. same_text l.0 repo) (map (λ e. e.0) es)) →
+        flat_map f (map (λ e. (e.0.1, e.1)) (cond b (e ∷ filter (λ e. same_text e.0.0 repo) es) (filter (λ e. same_text e.0.0 repo) es)))
+        ≡ flat_map g (cond b (e.0 ∷ filter (λ l. same_text l.0 repo) (map (λ e. e.0) es)) (filter (λ l. same_text l.0 repo) (map (λ e. e.0) es)))
+    by_test true rest = flat_map-cons f (e.0.1, e.1) _ ∙ (λ i. same.0 i ++ rest i) ∙ sym (flat_map-cons g e.0 _)
+    by_test false rest = rest
+
+-- ---- the book
+
+module _ (l : Linked) (u : Uploaded) (slots : List Slot) (max_blob : ℕ) (book : IsBook l u slots max_blob) where
+  abbrev C : Catalog
+  C = book_catalog l u slots max_blob
+
+  counted : (d : Text) (b : Resident) → get C.residents d ≡ Some b → links_to slots d ≡ count C d
+  counted d b kept = by_slot (slot_of slots d) refl
+    where
+      by_slot : (o : Option ℕ) → slot_of slots d ≡ o → option_map_or (links_at slots) o 0 ≡ count C d
+      by_slot None none = absurd (let gone = sym kept ∙ not_resident slots (lent_marks slots) d none in cc)
+      by_slot (Some k) found =
+          let h = held_of slots d k found in
+          ap (λ (o : Option Held). option_map_or (λ h. h.links) o 0) h.1 ∙ book.tied.counts k h.0 h.1 ∙ ap (count C) h.2
+
+  linked : (e : Link × ℕ) → get l.links e.0 ≡ Some e.1 → blob_row slots (e.0.1, e.1) ≡ blob_text C e.0
+  linked e there =
+      let b = book.tied.sizes e.0 e.1 there in
+      let length_is : e.1 ≡ size C e.0.1 = b.2 ∙ ap (λ o. option_map_or (λ (b : Resident). length b.bytes) o 0) (sym b.1) in
+      let links_are : links_to slots e.0.1 ≡ count C e.0.1 = counted e.0.1 b.0 b.1 in
+      λ i. blob_line e.0.1 (length_is i) (links_are i)
+
+  blobs_are : (repo : Text) → flat_map (blob_row slots) (blobs_in l repo) ≡ flat_map (blob_text C) (filter (λ l. same_text l.0 repo) (set.items C.links))
+  blobs_are repo =
+      blobs_same (blob_row slots) (blob_text C) repo (entries l.links) (all_weaker (λ e. get l.links e.0 ≡ Some e.1) (λ e. blob_row slots (e.0.1, e.1) ≡ blob_text C e.0) linked (entries l.links) (each_found l.links))
+      ∙ ap (λ (ls : List Link). flat_map (blob_text C) (filter (λ l. same_text l.0 repo) ls)) (sym (items_links l.links))
+
+  manifests_are : (repo : Text) → flat_map manifest_row (manifests_on l.manifests repo) ≡ flat_map manifest_text (filter (λ e. same_text e.0.0 repo) (entries C.manifests))
+  manifests_are repo = flat_map-map manifest_row (λ e. (e.0.1, e.1)) (filter (λ e. same_text e.0.0 repo) (entries l.manifests))
+
+  repo_is : (t : ℕ) (repo : Text) → repo_rows l u slots t repo ≡ repo_text C t repo
+  repo_is t repo = λ i. repository_line repo ++ blobs_are repo i ++ manifests_are repo i ++ flat_map-map session_row listed (sessions_of u.sessions t repo) i
+
+  tenant_is : (e : ℕ × Tenant) → e.0 < length l.tenants → tenant_rows l u slots e ≡ tenant_text C e
+  tenant_is e there =
+      let repos_are : flat_map (repo_rows l u slots e.0) (repos_of l e.0) ≡ flat_map (repo_text C e.0) (repos_of l e.0) =
+      flat_map-same (repo_rows l u slots e.0) (repo_text C e.0) (repos_of l e.0) (all_same (λ r. repo_rows l u slots e.0 r ≡ repo_text C e.0 r) (repo_is e.0) (repos_of l e.0)) in
+      let used_is : used_in l e.0 ≡ used C e.0 = use_is l u slots max_blob e.0 book there in
+      λ i. tenant_line e.1.name (used_is i) e.1.quota (slice_index u.next e.0) ++ repos_are i
+
+  -- the layers' lines are the book's text
+  pub text_is : book_rows l u slots ≡ book_text C
+  text_is =
+      ap (λ (t : Text). book_line ++ t ++ end_line)
+      (flat_map-same (tenant_rows l u slots) (tenant_text C) (enumerate_from 0 l.tenants)
+      (all_weaker (λ e. e.0 < length l.tenants) (λ e. tenant_rows l u slots e ≡ tenant_text C e) tenant_is (enumerate_from 0 l.tenants) (numbers_below l.tenants 0 (length l.tenants) (omega arith))))
+
+  -- a book can be printed
+  pub can_print : CanPrint l u
+  can_print = record {
+    next = book.sound.lawful.numbers;
+    repos = λ t. let few = book.sound.lawful.few_repos t in let same = length-filter (is_of C t) (set.items l.repos) in omega arith;
+  }

@@ -1,0 +1,132 @@
+-- `Book::start`, from what its calls of the layers did.
+use Rattle.std.proofs.Common.{◌≡◌, ℕ, ◌≤◌, Bool, true, false, List, length, Ok, Err, is_some, refl, sym, ap, ◌∙◌, subst, arith}
+use Rattle.std.specs.Prelude.{if◌then◌else◌}
+use Rattle.std.specs.Cmp.Lexicographic.{nat_list_cmp_total}
+use Rattle.std.specs.FinMap.{get}
+use Rattle.std.specs.Option.{option_map}
+use Rattle.std.proofs.lemmas.Bool.{not-true, not-false, true≢false}
+use Rattle.std.proofs.lemmas.Map.Lookups.{exact_bytes}
+use Rattle.finite_maps.proofs.Options.{not_some}
+use Rattle.blob_digest.specs.declared.refusal.Refusal.{Refusal}
+use Rattle.finite_maps.specs.Sets as set
+use Rattle.finite_maps.proofs.Sets.{insert_there, remove-insert, now}
+use Rattle.slot_table.specs.Slots.{Slot}
+use Rattle.link_table.specs.Linked.{Linked, HasNoLinks, known_tenant, appear, vanish}
+use Rattle.upload_table.specs.Uploaded.{Uploaded, start_upload, started}
+use Rattle.finite_maps.specs.Texts.{Text}
+use Rattle.store_model.specs.Catalog.{Catalog, in_sessions_of}
+use Rattle.store_model.specs.Commands.{start}
+use Rattle.store_model.specs.Invariant.{Sound}
+use Rattle.store_book.specs.Layers.{book_catalog, IsBook}
+use Rattle.store_book.proofs.Layers.Sums.{get-links_of, mark}
+use Rattle.store_model.proofs.Invariant.Counts.{count-appear}
+use Rattle.store_model.proofs.Invariant.Repos.{holds_none}
+use Rattle.store_model.proofs.Invariant.NewSession.{used-open}
+use Rattle.store_model.proofs.Commands.Start.{Sound-after_start}
+
+module _ {A E : Type 0} where
+  pub ok_of_if : (b : Bool) (d : E) (x y : A) → (if b then Err d else Ok x) ≡ Ok y → (b ≡ false) × (x ≡ y)
+  ok_of_if true d x y h = absurd cc
+  ok_of_if false d x y h = (refl, cc)
+
+  pub err_of_if : (b : Bool) (d e : E) (x : A) → (if b then Err d else Ok x) ≡ Err e → (b ≡ true) × (d ≡ e)
+  err_of_if true d e x h = (refl, cc)
+  err_of_if false d e x h = absurd cc
+
+-- layers that are as they were
+module _ (l l' : Linked) (u u' : Uploaded) (slots slots' : List Slot) (max_blob : ℕ) (links : l' ≡ l) (uploads : u' ≡ u) (slots_are : slots' ≡ slots) where
+  pub same_catalog : book_catalog l' u' slots' max_blob ≡ book_catalog l u slots max_blob
+  same_catalog = λ i. book_catalog (links i) (uploads i) (slots_are i) max_blob
+
+  pub same_book : IsBook l u slots max_blob → IsBook l' u' slots' max_blob
+  same_book book = subst (λ (x : Linked). IsBook x u' slots' max_blob) (sym links) (subst (λ (x : Uploaded). IsBook l x slots' max_blob) (sym uploads) (subst (λ (x : List Slot). IsBook l u x max_blob) (sym slots_are) book))
+
+module _ (l l' : Linked) (t : ℕ) (repo : Text) (b : Bool) (appeared : appear l t repo ≡ Ok (b, l')) where
+  -- what appeared is taken back
+  pub undone : b ≡ true → vanish l' repo ≡ l
+  undone new =
+      let a = ok_of_if _ _ _ _ appeared in
+      let absent : set.contains l.repos repo ≡ false = not-true _ ((λ i. (a.1 i).0) ∙ new) in
+      sym (ap (λ x. vanish x repo) (λ i. (a.1 i).1)) ∙ (λ i. record l { repos = remove-insert nat_list_cmp_total exact_bytes l.repos repo absent i })
+
+  pub unneeded : b ≡ false → l' ≡ l
+  unneeded old =
+      let a = ok_of_if _ _ _ _ appeared in
+      let there : set.contains l.repos repo ≡ true = not-false _ ((λ i. (a.1 i).0) ∙ old) in
+      sym (λ i. (a.1 i).1) ∙ (λ i. record l { repos = insert_there nat_list_cmp_total exact_bytes l.repos repo there i })
+
+module _ (l l' : Linked) (u : Uploaded) (slots : List Slot) (max_blob t : ℕ) (repo : Text) (b : Bool) where
+  abbrev C : Catalog
+  C = book_catalog l u slots max_blob
+
+  pub start_ok : (u' : Uploaded) (n : ℕ) → known_tenant l repo ≡ Ok t → appear l t repo ≡ Ok (b, l') → start_upload u t repo ≡ Ok (n, u') →
+      start C repo ≡ Ok (n, book_catalog l' u' slots max_blob)
+  start_ok u' n known appeared opened =
+      let a = ok_of_if _ _ _ _ appeared in
+      let s = ok_of_if _ _ _ _ opened in
+      rw (known, a.0, s.0) (λ i. Ok ((s.1 i).0, book_catalog ((a.1 i).1) ((s.1 i).1) slots max_blob))
+
+  pub start_refused_first : (e : Refusal) → known_tenant l repo ≡ Ok t → appear l t repo ≡ Err e → start C repo ≡ Err e
+  start_refused_first e known refused =
+      let a = err_of_if _ _ _ _ refused in
+      rw (known, a.0) (ap Err a.1)
+
+  pub start_refused : (e : Refusal) → known_tenant l repo ≡ Ok t → appear l t repo ≡ Ok (b, l') → start_upload u t repo ≡ Err e → start C repo ≡ Err e
+  start_refused e known appeared refused =
+      let a = ok_of_if _ _ _ _ appeared in
+      let s = err_of_if _ _ _ _ refused in
+      rw (known, a.0, s.0) (ap Err s.1)
+
+  module _ (book : IsBook l u slots max_blob) where
+    abbrev l1 : Linked
+    l1 = record l { repos = set.insert l.repos repo }
+
+    abbrev u1 : Uploaded
+    u1 = started u t repo
+
+    abbrev C1 : Catalog
+    C1 = book_catalog l1 u1 slots max_blob
+
+    same_sessions : (v : ℕ) → in_sessions_of C1 v ≡ in_sessions_of C v
+    same_sessions v = let same = used-open C t repo book.sound.lawful v in omega arith
+
+    opened_book : Sound C1 → IsBook l1 u1 slots max_blob
+    opened_book sound = record {
+      sound = sound;
+      tied = record {
+        marks = book.tied.marks;
+        distinct = book.tied.distinct;
+        sizes = book.tied.sizes;
+        counts = λ k h at. book.tied.counts k h at ∙ sym (count-appear C repo h.digest book.sound.lawful);
+      };
+      charges = record { one_each = book.charges.one_each; sums = λ v lt. book.charges.sums v lt ∙ sym (same_sessions v) };
+    }
+
+    -- a session that was opened leaves a book
+    pub IsBook-start : (u' : Uploaded) (n : ℕ) → length repo ≤ 255 → known_tenant l repo ≡ Ok t → appear l t repo ≡ Ok (b, l') → start_upload u t repo ≡ Ok (n, u') → IsBook l' u' slots max_blob
+    IsBook-start u' n short known appeared opened =
+        let a = ok_of_if _ _ _ _ appeared in
+        let s = ok_of_if _ _ _ _ opened in
+        let links : l1 ≡ l' = λ i. (a.1 i).1 in
+        let uploads : u1 ≡ u' = λ i. (s.1 i).1 in
+        let step : start C repo ≡ Ok (n, C1) = start_ok u' n known appeared opened ∙ (λ i. Ok (n, book_catalog (sym links i) (sym uploads i) slots max_blob)) in
+        let sound = Sound-after_start C C1 repo n step short book.sound in
+        subst (λ (x : Linked). IsBook x u' slots max_blob) links (subst (λ (x : Uploaded). IsBook l1 x slots max_blob) uploads (opened_book sound))
+
+-- what appeared is there, and has no links
+pub appeared_there : (l l' : Linked) (t : ℕ) (repo : Text) (b : Bool) → appear l t repo ≡ Ok (b, l') → set.contains l'.repos repo ≡ true
+appeared_there l l' t repo b appeared =
+    let a = ok_of_if _ _ _ _ appeared in
+    ap (λ (x : Linked). set.contains x.repos repo) (sym (λ i. (a.1 i).1)) ∙ now nat_list_cmp_total exact_bytes l.repos repo
+
+-- a repository that isn't there has no links
+pub absent_unlinked : (l : Linked) (u : Uploaded) (slots : List Slot) (max_blob : ℕ) (repo : Text) → IsBook l u slots max_blob → set.contains l.repos repo ≡ false → HasNoLinks l.links repo
+absent_unlinked l u slots max_blob repo book absent d =
+    let unheld = holds_none (book_catalog l u slots max_blob) repo book.sound.lawful absent d in
+    not_some (get l.links (repo, d)) (λ n at. true≢false (sym (ap is_some (get-links_of l.links (repo, d) ∙ ap (option_map mark) at)) ∙ unheld))
+
+pub appeared_unlinked : (l l' : Linked) (u : Uploaded) (slots : List Slot) (max_blob t : ℕ) (repo : Text) (b : Bool) → IsBook l u slots max_blob → appear l t repo ≡ Ok (b, l') → b ≡ true → HasNoLinks l'.links repo
+appeared_unlinked l l' u slots max_blob t repo b book appeared new d =
+    let a = ok_of_if _ _ _ _ appeared in
+    let absent : set.contains l.repos repo ≡ false = not-true _ ((λ i. (a.1 i).0) ∙ new) in
+    ap (λ (x : Linked). get x.links (repo, d)) (sym (λ i. (a.1 i).1)) ∙ absent_unlinked l u slots max_blob repo book absent d

@@ -1,0 +1,169 @@
+-- A kept blob is changed in its slot and keeps its digest, its bytes and its links: the catalog keeps the changed one, and the layers agree.
+use Rattle.std.proofs.Common.{◌≡◌, ℕ, Bool, true, false, cond, List, [], ◌∷◌, length, Option, Some, refl, sym, ap, ◌∙◌, subst, arith, inl, inr}
+use Prim.Native.Nat.{zero, suc}
+use Rattle.std.specs.Option.{option_map, option_map_or}
+use Rattle.std.specs.Ordering.{eq_by_cmp, is_eq}
+use Rattle.std.specs.Cmp.{tied_itself, Equal-is}
+use Rattle.std.specs.Cmp.Lexicographic.{nat_list_cmp_total}
+use Rattle.std.specs.FinMap.{find, get, insert, get-from_entries, get-insert, same_map}
+use Rattle.std.proofs.lemmas.Bool.{cases_eq, false_from_ne_true}
+use Rattle.std.proofs.lemmas.Map.Lookups.{exact_bytes}
+use Rattle.slot_table.specs.Slots.{Slot, Held, Content, Free, Used, Retired, held_at, held_in, IsDistinct, is_retired, with_slot, on_held, content_with, mark, lend}
+use Rattle.link_table.specs.Linked.{Linked}
+use Rattle.upload_table.specs.Uploaded.{Uploaded}
+use Rattle.finite_maps.specs.Texts.{Text, text_cmp}
+use Rattle.store_model.specs.Catalog.{Link, Resident, Catalog, count}
+use Rattle.store_book.specs.Layers.{resident_of, with_resident, resident_rows, residents_of, lent_marks, book_catalog, IsTied}
+use Rattle.store_book.proofs.Layers.Sums.{IsDistinct-rest}
+use Rattle.store_book.proofs.Slots.Filled.{swapped}
+use Rattle.store_book.proofs.Slots.Lent.{length-marks}
+use Rattle.finite_maps.proofs.Options.{some_same}
+use Rattle.finite_maps.proofs.Maps.{cases_key, get-insert_at, get-insert_other}
+use Rattle.store_book.proofs.Slots.Writes.{with_slot-suc, length-with_slot, count_by-with_slot, held_at-same, held_at-other, slot_of_held}
+
+abbrev rows_of : List Slot → List (Text × Resident)
+rows_of slots = resident_rows slots (lent_marks slots)
+
+-- two slots' digests differ
+apart : (s : Slot) (slots : List Slot) (x h : Held) (k : ℕ) → held_in s.content ≡ Some x → held_at slots k ≡ Some h → IsDistinct (s ∷ slots) → eq_by_cmp text_cmp h.digest x.digest ≡ false
+apart s slots x h k here at distinct = false_from_ne_true (eq_by_cmp text_cmp h.digest x.digest) (λ tie.
+    let same : suc k ≡ 0 = distinct (suc k) 0 h x at here (exact_bytes h.digest x.digest ((Equal-is (text_cmp h.digest x.digest)).0 tie)) in omega arith)
+
+-- the blob of a slot is resident, with its marks
+resident_row : (slots : List Slot) (k : ℕ) (h : Held) → held_at slots k ≡ Some h → IsDistinct slots → find text_cmp h.digest (rows_of slots) ≡ Some (resident_of h.lent h)
+resident_row [] k h at distinct = cc
+resident_row (s ∷ slots) zero h at distinct = by_content s.content at
+  where
+    by_content : (c : Content) → held_in c ≡ Some h → find text_cmp h.digest (with_resident c (option_map_or (λ x. x.lent) (held_in c) false) (rows_of slots)) ≡ Some (resident_of h.lent h)
+    by_content Free e = cc
+    by_content (Used x) e =
+        let same : x ≡ h = some_same e in
+        ap (λ (y : Held). cond (eq_by_cmp text_cmp h.digest y.digest) (Some (resident_of y.lent y)) (find text_cmp h.digest (rows_of slots))) same
+        ∙ ap (λ b. cond b (Some (resident_of h.lent h)) (find text_cmp h.digest (rows_of slots))) (ap is_eq (tied_itself nat_list_cmp_total h.digest))
+    by_content Retired e = cc
+resident_row (s ∷ slots) (suc k) h at distinct = by_content (resident_row slots k h at (IsDistinct-rest s slots distinct)) s.content refl
+  where
+    by_content : find text_cmp h.digest (rows_of slots) ≡ Some (resident_of h.lent h) → (c : Content) → s.content ≡ c → find text_cmp h.digest (with_resident c (option_map_or (λ x. x.lent) (held_in c) false) (rows_of slots)) ≡ Some (resident_of h.lent h)
+    by_content rest Free e = rest
+    by_content rest (Used x) e = ap (λ b. cond b (Some (resident_of x.lent x)) (find text_cmp h.digest (rows_of slots))) (apart s slots x h k (ap held_in e) at distinct) ∙ rest
+    by_content rest Retired e = rest
+
+pub resident_at : (slots : List Slot) (k : ℕ) (h : Held) → held_at slots k ≡ Some h → IsDistinct slots → get (residents_of slots (lent_marks slots)) h.digest ≡ Some (resident_of h.lent h)
+resident_at slots k h at distinct = get-from_entries nat_list_cmp_total (rows_of slots) h.digest ∙ resident_row slots k h at distinct
+
+-- a change keeps the digest, the bytes and the links
+pub record KeepsTies (g : Held → Held) : Type 0 where
+  pub digest : (h : Held) → (g h).digest ≡ h.digest
+  pub bytes : (h : Held) → (g h).bytes ≡ h.bytes
+  pub links : (h : Held) → (g h).links ≡ h.links
+
+pub mark-KeepsTies : (b : Bool) → KeepsTies (mark b)
+mark-KeepsTies b = record { digest = λ h. refl; bytes = λ h. refl; links = λ h. refl }
+
+pub lend-KeepsTies : KeepsTies lend
+lend-KeepsTies = record { digest = λ h. refl; bytes = λ h. refl; links = λ h. refl }
+
+module _ (g : Held → Held) (keeps : KeepsTies g) where
+  held_content : (c : Content) → held_in (content_with g c) ≡ option_map g (held_in c)
+  held_content Free = refl
+  held_content (Used h) = refl
+  held_content Retired = refl
+
+  pub held_at-with : (slots : List Slot) (k : ℕ) (h : Held) → held_at slots k ≡ Some h → held_at (with_slot slots k (on_held g)) k ≡ Some (g h)
+  held_at-with slots k h at =
+      let s = slot_of_held slots k h at in
+      held_at-same slots k (on_held g) s.0 s.1 ∙ held_content s.0.content ∙ ap (option_map g) s.2
+
+  same_retired : (c : Content) (n : ℕ) → is_retired (record { generation = n; content = content_with g c }) ≡ is_retired (record { generation = n; content = c })
+  same_retired Free n = refl
+  same_retired (Used h) n = refl
+  same_retired Retired n = refl
+
+  abbrev marked : Held → Resident
+  marked h = resident_of (g h).lent (g h)
+
+  abbrev Finds : List Slot → ℕ → Held → Text → Type 0
+  Finds slots k h q = find text_cmp q (rows_of (with_slot slots k (on_held g))) ≡ cond (eq_by_cmp text_cmp q h.digest) (Some (marked h)) (find text_cmp q (rows_of slots))
+
+  find-change : (slots : List Slot) (k : ℕ) (h : Held) (q : Text) → held_at slots k ≡ Some h → IsDistinct slots → Finds slots k h q
+  find-change [] k h q at distinct = cc
+  find-change (s ∷ slots) zero h q at distinct = by_content s.content at
+    where
+      twice : (b : Bool) (x y : Resident) (o : Option Resident) → cond b (Some x) o ≡ cond b (Some x) (cond b (Some y) o)
+      twice true x y o = refl
+      twice false x y o = refl
+
+      by_content : (c : Content) → held_in c ≡ Some h → find text_cmp q (with_resident (content_with g c) (option_map_or (λ x. x.lent) (held_in (content_with g c)) false) (rows_of slots))
+          ≡ cond (eq_by_cmp text_cmp q h.digest) (Some (marked h)) (find text_cmp q (with_resident c (option_map_or (λ x. x.lent) (held_in c) false) (rows_of slots)))
+      by_content Free e = cc
+      by_content (Used x) e =
+          let same : x ≡ h = some_same e in
+          ap (λ (d : Text). cond (eq_by_cmp text_cmp q d) (Some (marked x)) (find text_cmp q (rows_of slots))) (keeps.digest x)
+          ∙ twice (eq_by_cmp text_cmp q x.digest) (marked x) (resident_of x.lent x) (find text_cmp q (rows_of slots))
+          ∙ ap (λ (y : Held). cond (eq_by_cmp text_cmp q y.digest) (Some (marked y)) (cond (eq_by_cmp text_cmp q x.digest) (Some (resident_of x.lent x)) (find text_cmp q (rows_of slots)))) same
+      by_content Retired e = cc
+  find-change (s ∷ slots) (suc k) h q at distinct =
+      ap (λ (xs : List Slot). find text_cmp q (rows_of xs)) (with_slot-suc s slots k (on_held g)) ∙ by_content (find-change slots k h q at (IsDistinct-rest s slots distinct)) s.content refl
+    where
+      by_content : Finds slots k h q → (c : Content) → s.content ≡ c → find text_cmp q (with_resident c (option_map_or (λ x. x.lent) (held_in c) false) (rows_of (with_slot slots k (on_held g))))
+          ≡ cond (eq_by_cmp text_cmp q h.digest) (Some (marked h)) (find text_cmp q (with_resident c (option_map_or (λ x. x.lent) (held_in c) false) (rows_of slots)))
+      by_content rest Free e = rest
+      by_content rest (Used x) e =
+          ap (cond (eq_by_cmp text_cmp q x.digest) (Some (resident_of x.lent x))) rest
+          ∙ swapped (h.digest, h.bytes) q x.digest (marked h) (resident_of x.lent x) (find text_cmp q (rows_of slots)) (apart s slots x h k (ap held_in e) at distinct)
+      by_content rest Retired e = rest
+
+  module _ (l : Linked) (u : Uploaded) (slots : List Slot) (max_blob k : ℕ) (h : Held) (at : held_at slots k ≡ Some h) (tied : IsTied l slots (lent_marks slots) (book_catalog l u slots max_blob)) where
+    abbrev C : Catalog
+    C = book_catalog l u slots max_blob
+
+    abbrev slots' : List Slot
+    slots' = with_slot slots k (on_held g)
+
+    abbrev after : Catalog
+    after = record C { residents = insert C.residents h.digest (marked h) }
+
+    same_residents : residents_of slots' (lent_marks slots') ≡ after.residents
+    same_residents = same_map nat_list_cmp_total exact_bytes (residents_of slots' (lent_marks slots')) after.residents (λ q.
+        get-from_entries nat_list_cmp_total (rows_of slots') q
+        ∙ find-change slots k h q at tied.distinct
+        ∙ ap (cond (eq_by_cmp text_cmp q h.digest) (Some (marked h))) (sym (get-from_entries nat_list_cmp_total (rows_of slots) q))
+        ∙ sym (get-insert nat_list_cmp_total C.residents h.digest (marked h) q))
+
+    -- the catalog keeps the changed blob
+    pub catalog-change : book_catalog l u slots' max_blob ≡ after
+    catalog-change = λ i. record C {
+      slots = length-with_slot slots k (on_held g) i;
+      residents = same_residents i;
+      retired = count_by-with_slot is_retired slots k (on_held g) (λ s here. same_retired s.content s.generation) i;
+    }
+
+    abbrev Origin : ℕ → Held → Type 0
+    Origin m x = (y : Held) × (held_at slots m ≡ Some y) × (x.digest ≡ y.digest) × (x.links ≡ y.links)
+
+    origin : (m : ℕ) (x : Held) → held_at slots' m ≡ Some x → Origin m x
+    origin m x here = elim (cases_eq m k) [
+      | inl e ↦
+          let is : g h ≡ x = some_same (sym (held_at-with slots k h at) ∙ ap (held_at slots') (sym e) ∙ here) in
+          (h, ap (held_at slots) e ∙ at, ap (λ (y : Held). y.digest) (sym is) ∙ keeps.digest h, ap (λ (y : Held). y.links) (sym is) ∙ keeps.links h)
+      | inr other ↦ (x, sym (held_at-other slots k (on_held g) m other) ∙ here, refl, refl)
+    ]
+
+    sized : (key : Link) (n : ℕ) → get l.links key ≡ Some n → (b : Resident) × (get after.residents key.1 ≡ Some b) × (n ≡ length b.bytes)
+    sized key n found =
+        let b = tied.sizes key n found in
+        elim (cases_key nat_list_cmp_total exact_bytes key.1 h.digest) [
+          | inl e ↦
+              let is : b.0 ≡ resident_of h.lent h = some_same (sym b.1 ∙ ap (get C.residents) e ∙ resident_at slots k h at tied.distinct) in
+              (marked h, ap (get after.residents) e ∙ get-insert_at nat_list_cmp_total exact_bytes C.residents h.digest (marked h), b.2 ∙ ap (λ (x : Resident). length x.bytes) is ∙ ap length (sym (keeps.bytes h)))
+          | inr differ ↦ (b.0, get-insert_other nat_list_cmp_total exact_bytes C.residents h.digest (marked h) key.1 differ ∙ b.1, b.2)
+        ]
+
+    -- the layers agree then
+    pub IsTied-change : IsTied l slots' (lent_marks slots') (book_catalog l u slots' max_blob)
+    IsTied-change = subst (λ (D : Catalog). IsTied l slots' (lent_marks slots') D) (sym catalog-change) (record {
+      marks = length-marks slots';
+      distinct = λ a b x y at_a at_b same. (let o = origin a x at_a in let p = origin b y at_b in tied.distinct a b o.0 p.0 o.1 p.1 (sym o.2 ∙ same ∙ p.2));
+      sizes = sized;
+      counts = λ m x here. (let o = origin m x here in o.3 ∙ tied.counts m o.0 o.1 ∙ ap (count after) (sym o.2));
+    })

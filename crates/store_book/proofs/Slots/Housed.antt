@@ -1,0 +1,91 @@
+-- What is seen of the slots after a blob was kept.
+use Rattle.std.proofs.Common.{◌≡◌, ℕ, ◌⊎◌, Bool, true, false, Option, Some, None, refl, sym, ap, ◌∙◌, inl, inr}
+use Rattle.std.specs.Prelude.{slice_get, if◌then◌else◌}
+use Rattle.std.specs.Option.{option_map, option_map_or}
+use Rattle.std.specs.FinMap.{contains_key}
+use Rattle.std.proofs.lemmas.Bool.{cases_eq}
+use Rattle.slot_table.specs.declared.phase.Phase.TheVariants as phase
+use Rattle.slot_table.specs.Slots.{Slot, Held, Content, Free, Used, Retired, held_at, held_in, phase_in, with_slot, on_held, content_with, fill, mark, raise}
+use Rattle.link_table.specs.Linked.{Linked}
+use Rattle.store_book.specs.BookState.{SlotSeen}
+use Rattle.finite_maps.specs.Texts.{Text}
+use Rattle.store_book.specs.Internal.Keeping.{IsKept, again, anew, revived}
+use Rattle.store_book.specs.Pinned.{Pinned, Quietly, seen, all_seen, shown}
+use Rattle.store_book.specs.SlotSteps.{EachSlot, IsHousing, still, housed}
+use Rattle.finite_maps.proofs.Options.{some_same}
+use Rattle.store_book.proofs.Slots.Pinned.{seen-at}
+use Rattle.store_book.proofs.Slots.Shown.{EachSlot-shown, housing_blind}
+use Rattle.store_book.proofs.Slots.Writes.{slot-other, slot-same, with_slot-twice}
+use Rattle.store_book.proofs.Layers.Ties.{held_of}
+
+-- the digest of what a slot holds
+abbrev digest_in : Content → Option Text
+digest_in c = option_map (λ (h : Held). h.digest) (held_in c)
+
+-- ---- one slot changes
+
+module _ (p q : Pinned) (digest : Text) (quiet : Quietly p q) (k : ℕ) (f : Slot → Slot) (is : q.slots ≡ with_slot p.slots k f)
+    (was : (s : Slot) → slice_get p.slots k ≡ Some s → (phase_in s.content ≡ phase.Free) ⊎ (digest_in s.content ≡ Some digest))
+    (now : (s : Slot) → slice_get p.slots k ≡ Some s → (phase_in (f s).content ≡ phase.Live) × (digest_in (f s).content ≡ Some digest)) where
+  were : (s : Slot) (n : ℕ) (a : SlotSeen) → a ≡ seen s n → (phase_in s.content ≡ phase.Free) ⊎ (digest_in s.content ≡ Some digest) → (a.phase ≡ phase.Free) ⊎ (a.digest ≡ Some digest)
+  were s n a e (inl free) = inl (ap (λ (x : SlotSeen). x.phase) e ∙ free)
+  were s n a e (inr same) = inr (ap (λ (x : SlotSeen). x.digest) e ∙ same)
+
+  one_housed : EachSlot (IsHousing digest) (all_seen p.slots p.bounds) (all_seen q.slots q.bounds)
+  one_housed = (
+    quiet.slots.0,
+    λ j a b at_a at_b.
+        let x = seen-at p.slots p.bounds j a at_a in
+        let y = seen-at q.slots q.bounds j b at_b in
+        let stays = quiet.slots.1 j a b at_a at_b in
+        elim (cases_eq j k) [
+          | inl e ↦
+              let here : slice_get p.slots k ≡ Some x.0 = ap (slice_get p.slots) (sym e) ∙ x.1 in
+              let same : f x.0 ≡ y.0 = some_same (sym (slot-same p.slots k f x.0 here) ∙ ap (λ xs. slice_get xs k) (sym is) ∙ ap (slice_get q.slots) (sym e) ∙ y.1) in
+              let live = now x.0 here in
+              housed stays (were x.0 _ a x.2 (was x.0 here))
+              (ap (λ (z : SlotSeen). z.phase) y.2 ∙ ap (λ (z : Slot). phase_in z.content) (sym same) ∙ live.0)
+              (ap (λ (z : SlotSeen). z.digest) y.2 ∙ ap (λ (z : Slot). digest_in z.content) (sym same) ∙ live.1)
+          | inr other ↦
+              let same : x.0 ≡ y.0 = some_same (sym x.1 ∙ sym (slot-other p.slots k f j other) ∙ ap (λ xs. slice_get xs j) (sym is) ∙ y.1) in
+              still stays
+              (ap (λ (z : SlotSeen). z.phase) y.2 ∙ ap (λ (z : Slot). phase_in z.content) (sym same) ∙ sym (ap (λ (z : SlotSeen). z.phase) x.2))
+              (ap (λ (z : SlotSeen). z.digest) y.2 ∙ ap (λ (z : Slot). digest_in z.content) (sym same) ∙ sym (ap (λ (z : SlotSeen). z.digest) x.2))
+        ],
+  )
+
+-- ---- a blob is kept
+
+revived_live : (c : Content) (h : Held) → held_in c ≡ Some h → (phase_in (content_with (mark false) c) ≡ phase.Live) × (digest_in (content_with (mark false) c) ≡ Some h.digest)
+revived_live Free h e = absurd cc
+revived_live (Used x) h e = (refl, ap (λ (y : Held). Some y.digest) (some_same e))
+revived_live Retired h e = absurd cc
+
+raised_live : (c : Content) (h : Held) → held_in c ≡ Some h → (phase_in (content_with raise (content_with (mark false) c)) ≡ phase.Live) × (digest_in (content_with raise (content_with (mark false) c)) ≡ Some h.digest)
+raised_live Free h e = absurd cc
+raised_live (Used x) h e = (refl, ap (λ (y : Held). Some y.digest) (some_same e))
+raised_live Retired h e = absurd cc
+
+-- what a slot holds, by its place
+held_slot : (p : Pinned) (k : ℕ) (h : Held) (s : Slot) → held_at p.slots k ≡ Some h → slice_get p.slots k ≡ Some s → held_in s.content ≡ Some h
+held_slot p k h s at here = sym (ap (λ o. option_map_or (λ (x : Slot). held_in x.content) o None) here) ∙ at
+
+each_housed : (p q : Pinned) (l l' : Linked) (repo : Text) (blob : Text × Text) → Quietly p q → IsKept l p.slots repo blob l' q.slots → EachSlot (IsHousing blob.0) (all_seen p.slots p.bounds) (all_seen q.slots q.bounds)
+each_housed p q l l' repo blob quiet (again k h place at bytes links slots_are) = by (contains_key l.links (repo, blob.0)) slots_are
+  where
+    is_digest : h.digest ≡ blob.0
+    is_digest = let g = held_of p.slots blob.0 k place in ap (λ (x : Held). x.digest) (some_same (sym at ∙ g.1)) ∙ g.2
+
+    was : (s : Slot) → slice_get p.slots k ≡ Some s → (phase_in s.content ≡ phase.Free) ⊎ (digest_in s.content ≡ Some blob.0)
+    was s here = inr (ap (option_map (λ (x : Held). x.digest)) (held_slot p k h s at here) ∙ ap Some is_digest)
+
+    by : (b : Bool) → q.slots ≡ (if b then revived p.slots k else with_slot (revived p.slots k) k (on_held raise)) → EachSlot (IsHousing blob.0) (all_seen p.slots p.bounds) (all_seen q.slots q.bounds)
+    by true is = one_housed p q blob.0 quiet k (on_held (mark false)) is was (λ s here. (let live = revived_live s.content h (held_slot p k h s at here) in (live.0, live.1 ∙ ap Some is_digest)))
+    by false is = one_housed p q blob.0 quiet k (λ s. on_held raise (on_held (mark false) s)) (is ∙ with_slot-twice p.slots k (on_held (mark false)) (on_held raise)) was (λ s here. (let live = raised_live s.content h (held_slot p k h s at here) in (live.0, live.1 ∙ ap Some is_digest)))
+each_housed p q l l' repo blob quiet (anew k none free links slots_are) =
+    one_housed p q blob.0 quiet k (λ s. on_held raise (fill blob s)) (slots_are ∙ with_slot-twice p.slots k (fill blob) (on_held raise))
+    (λ s here. inl (sym (ap (λ o. option_map_or (λ (x : Slot). phase_in x.content) o phase.Retired) here) ∙ free)) (λ s here. (refl, refl))
+
+-- the same with how often each slot was looked at
+pub EachSlot-housed : (p q : Pinned) (l l' : Linked) (repo : Text) (blob : Text × Text) → Quietly p q → IsKept l p.slots repo blob l' q.slots → EachSlot (IsHousing blob.0) (shown p) (shown q)
+EachSlot-housed p q l l' repo blob quiet kept = EachSlot-shown (IsHousing blob.0) (housing_blind blob.0) p q (each_housed p q l l' repo blob quiet kept)

@@ -1,0 +1,4 @@
+-- No public contract cites these.
+pub mod Keeping
+pub mod Lines
+pub mod SweptSlots
