@@ -11,7 +11,7 @@ use blob_digest::{ByteRange, Digest, Refusal, RepoName};
 use oci_manifest::Manifest;
 use std::alloc::Global;
 use std::sync::Arc;
-use store_book::{Mount, Swept};
+use store_model::{Mount, Swept};
 
 /// A lease of a blob. It must be spent, by `share` or `give_back`.
 pub trait BlobLease {

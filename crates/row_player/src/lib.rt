@@ -2,7 +2,7 @@
 //!
 //! A row comes with its fields, which fit its command; what it is played on is any `Backend`: a book alone, or a
 //! place at a store that others use too. It stands on `blob_digest` for names, digests and ranges, on
-//! `oci_manifest` and `store_book` for what replies show, and on `hex` for their digits.
+//! `oci_manifest` and `store_model` for what replies show, and on `hex` for their digits.
 //!
 //! It promises, of whatever the backend may do: rows are played in their order, each with one answer; a row
 //! whose field spells nothing is refused for the first such field and changes nothing; else it asks the

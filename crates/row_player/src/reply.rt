@@ -10,7 +10,7 @@ use oci_manifest::Manifest;
 use std::alloc::Global;
 use std::fmt;
 use std::sync::Arc;
-use store_book::{Mount, Swept};
+use store_model::{Mount, Swept};
 
 /// The reply to a row. Manifests and blobs are shared with the book and not copied. Contracts see what is
 /// answered (`answer_of`).

@@ -11,7 +11,7 @@ use Rattle.std.specs.declared.cmp.Ordering.TheVariants.{Less}
 use Rattle.blob_digest.specs.declared.refusal.Refusal.TheVariants.{Referenced}
 use Rattle.store_model.specs.Commands.{refers, delete}
 use Rattle.finite_maps.specs.Texts.{Text, text_cmp}
-use Rattle.store_model.specs.Catalog.{Link, Number, Session, Resident, Catalog, is_of, tenant_of, quota_of, holds, count, size, used, held_digests, in_sessions_of, next_of, open_sessions, repos_of, manifests_of, charged, Tenant, is_tenants, link_cmp}
+use Rattle.store_model.specs.Catalog.{Link, Number, Session, Resident, Catalog, is_of, tenant_of, quota_of, holds, count, size, used, held_digests, in_sessions_of, open_sessions, manifests_of, charged, Tenant, is_tenants, repos_in, link_cmp}
 use Rattle.store_model.specs.Sessions.{at_home}
 
 -- a session is of its own tenant, in a repository that is there, with no empty chunk, with its reserve within the limit, under a number that was given
@@ -42,6 +42,18 @@ pub record AreWithinLimits (known : List Tenant) (longest : ℕ) : Type 0 where
   pub max_blob : longest ≤ 2 ^ 40
   pub quotas : AllByRecursion (λ t. t.quota ≤ 2 ^ 50) known
 
+-- each repository is a tenant's, no tenant has more than 1,024, and no name is longer than 255 bytes
+pub record AreLawfulRepositories (known : List Tenant) (present : set.Set text_cmp) : Type 0 where
+  pub owned : (r : Text) → set.contains present r ≡ true → IsSome (tenant_of known r)
+  pub few : (t : ℕ) → repos_in known present t ≤ 1024
+  pub short_names : (r : Text) → set.contains present r ≡ true → length r ≤ 255
+
+-- each tenant has a next session number, which begins with 1
+pub record AreLawfulNumbers (known : List Tenant) (next : List ℕ) : Type 0 where
+  pub one_each : length next ≡ length known
+  pub from_one : (t : ℕ) → t < length known → 0 < slice_index next t
+  pub few : (t : ℕ) → slice_index next t ≤ 2 ^ 32
+
 abbrev pub LawfulSession : Catalog → Number → Session → Type 0
 LawfulSession C = IsLawfulSession C.tenants C.repos C.max_blob C.next
 
@@ -57,15 +69,11 @@ pub record Lawful (C : Catalog) : Type 0 where
   pub links : (l : Link) → set.contains C.links l ≡ true → LawfulLink C l
   pub manifests : (l : Link) (bytes : Text) → fmap.get C.manifests l ≡ Some bytes → LawfulManifest C l bytes
   pub sessions : (key : Number) (s : Session) → fmap.get C.sessions key ≡ Some s → LawfulSession C key s
-  pub tenants : (r : Text) → set.contains C.repos r ≡ true → IsSome (tenant_of C.tenants r)
-  pub numbers : length C.next ≡ length C.tenants
+  pub repositories : AreLawfulRepositories C.tenants C.repos
+  pub numbering : AreLawfulNumbers C.tenants C.next
   pub limits : AreWithinLimits C.tenants C.max_blob
-  pub from_one : (t : ℕ) → t < length C.tenants → 0 < next_of C t
-  pub few_numbers : (t : ℕ) → next_of C t ≤ 2 ^ 32
   pub few_sessions : (t : ℕ) → open_sessions C t ≤ 64
-  pub few_repos : (t : ℕ) → repos_of C t ≤ 1024
   pub few_manifests : (r : Text) → manifests_of C r ≤ 1024
-  pub short_names : (r : Text) → set.contains C.repos r ≡ true → length r ≤ 255
 
 -- No tenant passes its quota.
 abbrev pub KeepsQuotas : Catalog → Type 0

@@ -125,6 +125,6 @@ module _ (l : Linked) (u : Uploaded) (slots : List Slot) (max_blob : ℕ) (book 
   -- a book can be printed
   pub can_print : CanPrint l u
   can_print = record {
-    next = book.sound.lawful.numbers;
-    repos = λ t. let few = book.sound.lawful.few_repos t in let same = length-filter (is_of C t) (set.items l.repos) in omega arith;
+    next = book.sound.lawful.numbering.one_each;
+    repos = λ t. let few = book.sound.lawful.repositories.few t in let same = length-filter (is_of C t) (set.items l.repos) in omega arith;
   }

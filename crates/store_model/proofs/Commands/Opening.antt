@@ -31,20 +31,24 @@ module _ (tenants : List Tenant) (slots max_blob : ℕ) where
     links = λ l h. no_member (get-empty link_cmp l) h;
     manifests = λ l bytes h. nothing (get-empty link_cmp l) h;
     sessions = λ key s h. nothing (get-empty number_cmp key) h;
-    tenants = λ r h. no_member (get-empty text_cmp r) h;
-    numbers = let f : Tenant → ℕ = λ _. 1 in length-map tenants f;
+    repositories = record {
+      owned = λ r h. no_member (get-empty text_cmp r) h;
+      few = λ t. rw (entries-empty text_cmp (Unit {0})) (omega arith);
+      short_names = λ r h. no_member (get-empty text_cmp r) h;
+    };
+    numbering = record {
+      one_each = let f : Tenant → ℕ = λ _. 1 in length-map tenants f;
+      from_one = one_each tenants;
+      few = λ t. let one : next_of C t ≤ 1 = one_or_none tenants t in omega arith;
+    };
     limits = record {
       tenants = (some, few);
       names_rise = rise;
       max_blob = small;
       quotas = quotas;
     };
-    from_one = one_each tenants;
-    few_numbers = λ t. let one : next_of C t ≤ 1 = one_or_none tenants t in omega arith;
     few_sessions = λ t. rw (entries-empty number_cmp Session) (omega arith);
-    few_repos = λ t. rw (entries-empty text_cmp (Unit {0})) (omega arith);
     few_manifests = λ r. rw (entries-empty link_cmp Text) (omega arith);
-    short_names = λ r h. no_member (get-empty text_cmp r) h;
   }
 
   pub Sound-opening : 0 < length tenants → length tenants ≤ 256 → IsStrictlySortedBy text_cmp (map (λ t. t.name) tenants) → max_blob ≤ 2 ^ 40 → AllByRecursion (λ t. t.quota ≤ 2 ^ 50) tenants → 0 < slots → slots ≤ 65536 → Sound C

@@ -132,7 +132,7 @@ pub referenced_stays : ReferencedStays
 referenced_stays C lawful repo digest name r =
     let k = lawful.manifests (repo, name) r.0 r.1 in
     let first = found_one C repo digest (find (is_referrer C repo digest) (entries C.manifests)) refl (none_found C repo digest name r) in
-    let t = some_value (tenant_of C.tenants repo) (lawful.tenants repo k.repo) in
+    let t = some_value (tenant_of C.tenants repo) (lawful.repositories.owned repo k.repo) in
     let held : holds C repo digest ≡ true = holds_referred C repo digest k.refs.0 k.refs.2 (sym (ap (λ x. option_map_or (list_any (same_text digest)) x false) k.refs.1) ∙ r.2) in (
       first.0.0.1,
       least_of C repo digest first.0 first.1,

@@ -46,15 +46,11 @@ module _ (C C' : Catalog) (swept : Swept) (sweep : IsSweep C swept C') (lawful :
     links = λ l h. let k = lawful.links l h in record { repo = k.repo; kept = (k.kept.0, linked_stays l h k.kept.0 k.kept.1, k.kept.2) };
     manifests = lawful.manifests;
     sessions = lawful.sessions;
-    tenants = lawful.tenants;
-    numbers = lawful.numbers;
+    repositories = lawful.repositories;
+    numbering = lawful.numbering;
     limits = lawful.limits;
-    from_one = lawful.from_one;
-    few_numbers = lawful.few_numbers;
     few_sessions = lawful.few_sessions;
-    few_repos = lawful.few_repos;
     few_manifests = lawful.few_manifests;
-    short_names = lawful.short_names;
   }
 
   pub Lawful-sweep : Lawful C'

@@ -31,15 +31,11 @@ module _ (C : Catalog) (d : Text) (b : Resident) where
       links = λ l h. let k = lawful.links l h in record { repo = k.repo; kept = kept_now l.1 k.kept };
       manifests = lawful.manifests;
       sessions = lawful.sessions;
-      tenants = lawful.tenants;
-      numbers = lawful.numbers;
+      repositories = lawful.repositories;
+      numbering = lawful.numbering;
       limits = lawful.limits;
-      from_one = lawful.from_one;
-      few_numbers = lawful.few_numbers;
       few_sessions = lawful.few_sessions;
-      few_repos = lawful.few_repos;
       few_manifests = lawful.few_manifests;
-      short_names = lawful.short_names;
     }
 
   -- a blob that is there keeps its length

@@ -89,7 +89,7 @@ pub count_small : (C : Catalog) → Lawful C → (d : Text) → count C d ≤ 26
 count_small C lawful d =
     let T : ℕ = length C.tenants in
     let xs : List Text = set.items C.repos in
-    let within : count_by (below C.tenants T) xs ≤ T * 1024 = count_below C.tenants xs lawful.few_repos T in
+    let within : count_by (below C.tenants T) xs ≤ T * 1024 = count_below C.tenants xs lawful.repositories.few T in
     let parts : count_by (below C.tenants T) xs + count_by (λ r. not (below C.tenants T r)) xs ≡ length xs = count_by-split (below C.tenants T) xs in
     let none : count_by (λ r. not (below C.tenants T r)) xs ≡ 0 = zero_of (count_by (λ r. not (below C.tenants T r)) xs) (sym (list_any_count (λ r. not (below C.tenants T r)) xs) ∙ no_stranger) in
     let most : count C d ≤ length xs = count_by-le-length (λ r. set.contains C.links (r, d)) xs in
@@ -102,7 +102,7 @@ count_small C lawful d =
     no_stranger : list_any (λ r. not (below C.tenants (length C.tenants) r)) (set.items C.repos) ≡ false
     no_stranger = false_from_ne_true (list_any (λ r. not (below C.tenants (length C.tenants) r)) (set.items C.repos)) (λ h.
         let r = some_member nat_list_cmp_total exact_bytes (λ r. not (below C.tenants (length C.tenants) r)) C.repos h in
-        let t = some_value (tenant_of C.tenants r.0) (lawful.tenants r.0 r.1) in
+        let t = some_value (tenant_of C.tenants r.0) (lawful.repositories.owned r.0 r.1) in
         let there : t.0 < length C.tenants = tenant_there C.tenants r.0 t.0 t.1 in
         let is : below C.tenants (length C.tenants) r.0 ≡ true = ap (λ o. option_map_or (λ t. nat_lt t (length C.tenants)) o false) t.1 ∙ lt-ltb t.0 (length C.tenants) there in
         true≢false (sym r.2 ∙ ap not is))

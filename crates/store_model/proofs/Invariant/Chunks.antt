@@ -63,15 +63,11 @@ module _ (C : Catalog) (key : Number) (s : Session) (chunks : Chunks) (found : g
       links = lawful.links;
       manifests = lawful.manifests;
       sessions = λ q x h. lawful_session lawful q x (sym (get-insert number_cmp_total C.sessions key new q) ∙ h);
-      tenants = lawful.tenants;
-      numbers = lawful.numbers;
+      repositories = lawful.repositories;
+      numbering = lawful.numbering;
       limits = lawful.limits;
-      from_one = lawful.from_one;
-      few_numbers = lawful.few_numbers;
       few_sessions = λ u. let same = open_sessions-chunks u in let few = lawful.few_sessions u in omega arith;
-      few_repos = lawful.few_repos;
       few_manifests = lawful.few_manifests;
-      short_names = lawful.short_names;
     }
 
     pub Sound-chunks : (key.0 < length C.tenants → used C key.0 + charged new ≤ quota_of C key.0 + charged s) → Sound C → Sound after

@@ -74,15 +74,11 @@ module _ (C : Catalog) (r d : Text) where
         ] in
         record { repo = k.repo; name = k.name; small = k.small; refs = (k.refs.0, k.refs.1, refs_still l.0 k.refs.0 other k.refs.2) };
     sessions = lawful.sessions;
-    tenants = lawful.tenants;
-    numbers = lawful.numbers;
+    repositories = lawful.repositories;
+    numbering = lawful.numbering;
     limits = lawful.limits;
-    from_one = lawful.from_one;
-    few_numbers = lawful.few_numbers;
     few_sessions = lawful.few_sessions;
-    few_repos = lawful.few_repos;
     few_manifests = lawful.few_manifests;
-    short_names = lawful.short_names;
   }
 
   module _ (there : holds C r d ≡ true) where

@@ -22,14 +22,10 @@ module _ (C : Catalog) (key : Number) where
     links = lawful.links;
     manifests = lawful.manifests;
     sessions = λ q s h. lawful.sessions q s (got-remove number_cmp_total exact_number C.sessions key q s h);
-    tenants = lawful.tenants;
-    numbers = lawful.numbers;
+    repositories = lawful.repositories;
+    numbering = lawful.numbering;
     limits = lawful.limits;
-    from_one = lawful.from_one;
-    few_numbers = lawful.few_numbers;
-    few_repos = lawful.few_repos;
     few_manifests = lawful.few_manifests;
-    short_names = lawful.short_names;
     few_sessions = λ u. let few = lawful.few_sessions u in let less = fewer u in omega arith;
   }
 

@@ -32,14 +32,10 @@ module _ (C : Catalog) (lawful : Lawful C) (r bytes : Text) where
       | inr old ↦ lawful.manifests l x old
     ];
     sessions = lawful.sessions;
-    tenants = lawful.tenants;
-    numbers = lawful.numbers;
+    repositories = lawful.repositories;
+    numbering = lawful.numbering;
     limits = lawful.limits;
-    from_one = lawful.from_one;
-    few_numbers = lawful.few_numbers;
     few_sessions = lawful.few_sessions;
-    few_repos = lawful.few_repos;
-    short_names = lawful.short_names;
     few_manifests = λ q.
         let sum : manifests_of after q ≡ cond (same_text r q) 1 0 + manifests_of C q = sum_new link_cmp_total exact_link (λ e. cond (same_text e.0.0 q) 1 0) C.manifests key bytes absent in
         let before = lawful.few_manifests q in
@@ -59,14 +55,10 @@ module _ (C : Catalog) (lawful : Lawful C) (key : Link) where
     links = lawful.links;
     manifests = λ l x h. lawful.manifests l x (got-remove link_cmp_total exact_link C.manifests key l x h);
     sessions = lawful.sessions;
-    tenants = lawful.tenants;
-    numbers = lawful.numbers;
+    repositories = lawful.repositories;
+    numbering = lawful.numbering;
     limits = lawful.limits;
-    from_one = lawful.from_one;
-    few_numbers = lawful.few_numbers;
     few_sessions = lawful.few_sessions;
-    few_repos = lawful.few_repos;
-    short_names = lawful.short_names;
     few_manifests = λ q.
         let sum = sum_at link_cmp_total exact_link (λ e. cond (same_text e.0.0 q) 1 0) C.manifests key in
         let before = lawful.few_manifests q in

@@ -64,15 +64,11 @@ module _ (C : Catalog) (r d : Text) where
         let k = lawful.manifests l bytes h in
         record { repo = k.repo; name = k.name; small = k.small; refs = (k.refs.0, k.refs.1, all_weaker (λ x. holds C l.0 x ≡ true) (λ x. holds after l.0 x ≡ true) (λ x. still link_cmp_total exact_link C.links (r, d) (l.0, x)) k.refs.0 k.refs.2) };
     sessions = lawful.sessions;
-    tenants = lawful.tenants;
-    numbers = lawful.numbers;
+    repositories = lawful.repositories;
+    numbering = lawful.numbering;
     limits = lawful.limits;
-    from_one = lawful.from_one;
-    few_numbers = lawful.few_numbers;
     few_sessions = lawful.few_sessions;
-    few_repos = lawful.few_repos;
     few_manifests = lawful.few_manifests;
-    short_names = lawful.short_names;
   }
 
   -- another tenant holds what it held

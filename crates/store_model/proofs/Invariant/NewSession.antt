@@ -35,7 +35,7 @@ module _ (C : Catalog) (t : ℕ) (r : Text) (lawful : Lawful C) where
 
   module _ (there : t < length C.tenants) (repo : set.contains C.repos r ≡ true) (own : is_of C t r ≡ true) (opens : cannot_open C t ≡ false) where
     in_next : t < length C.next
-    in_next = let same = lawful.numbers in omega arith
+    in_next = let same = lawful.numbering.one_each in omega arith
 
     no_less : (u : ℕ) → next_of C u ≤ next_of after u
     no_less u = elim (cases_eq u t) [
@@ -48,7 +48,7 @@ module _ (C : Catalog) (t : ℕ) (r : Text) (lawful : Lawful C) where
         let room : next_of C t < 2 ^ 32 = leb-false (2 ^ 32) (next_of C t) (or_parts (nat_le 64 (open_sessions C t)) (nat_le (2 ^ 32) (next_of C t)) opens).1 in
         elim (cases_eq u t) [
           | inl e ↦ rw (e, get_or-set_same C.next t (next_of C t + 1) 0 in_next) (omega arith)
-          | inr other ↦ rw (get_or-set_other C.next t u (next_of C t + 1) 0 other) (lawful.few_numbers u)
+          | inr other ↦ rw (get_or-set_other C.next t u (next_of C t + 1) 0 other) (lawful.numbering.few u)
         ]
 
     open_few : (u : ℕ) → open_sessions after u ≤ 64
@@ -67,7 +67,7 @@ module _ (C : Catalog) (t : ℕ) (r : Text) (lawful : Lawful C) where
       tenant = own;
       chunks = tt;
       small = omega arith;
-      positive = lawful.from_one t there;
+      positive = lawful.numbering.from_one t there;
       number = rw (get_or-set_same C.next t (next_of C t + 1) 0 in_next) (omega arith);
     }
 
@@ -87,13 +87,13 @@ module _ (C : Catalog) (t : ℕ) (r : Text) (lawful : Lawful C) where
       links = lawful.links;
       manifests = lawful.manifests;
       sessions = session_lawful;
-      tenants = lawful.tenants;
-      numbers = length-set C.next t (next_of C t + 1) ∙ lawful.numbers;
+      repositories = lawful.repositories;
+      numbering = record {
+        one_each = length-set C.next t (next_of C t + 1) ∙ lawful.numbering.one_each;
+        from_one = λ u lt. let one = lawful.numbering.from_one u lt in let more = no_less u in omega (arith, one, more);
+        few = next_small;
+      };
       limits = lawful.limits;
-      from_one = λ u lt. let one = lawful.from_one u lt in let more = no_less u in omega (arith, one, more);
-      few_numbers = next_small;
       few_sessions = open_few;
-      few_repos = lawful.few_repos;
       few_manifests = lawful.few_manifests;
-      short_names = lawful.short_names;
     }

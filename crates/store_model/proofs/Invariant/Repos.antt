@@ -50,10 +50,10 @@ module _ (C : Catalog) (t : ℕ) (r : Text) (lawful : Lawful C) (known : tenant_
 
   pub repos-appear : (u : ℕ) → lacks_room_for C t r ≡ false → repos_of after u ≤ 1024
   repos-appear u room = elim (set.contains C.repos r) as (λ b. set.contains C.repos r ≡ b → repos_of after u ≤ 1024) [
-    | true ↦ λ old. rw (insert_there nat_list_cmp_total exact_bytes C.repos r old) (lawful.few_repos u)
+    | true ↦ λ old. rw (insert_there nat_list_cmp_total exact_bytes C.repos r old) (lawful.repositories.few u)
     | false ↦ λ none.
         let sum : repos_of after u ≡ cond (is_of C u r) 1 0 + repos_of C u = count_new (is_of C u) C.repos r none in
-        let before = lawful.few_repos u in
+        let before = lawful.repositories.few u in
         let few : repos_of C t < 1024 = leb-false 1024 (repos_of C t) (second (set.contains C.repos r) (nat_le 1024 (repos_of C t)) none room) in
         elim (cases_eq u t) [
           | inl e ↦ let same : repos_of C u ≡ repos_of C t = ap (repos_of C) e in let one = at_most_one (is_of C u r) in omega arith
@@ -67,15 +67,15 @@ module _ (C : Catalog) (t : ℕ) (r : Text) (lawful : Lawful C) (known : tenant_
     links = λ l h. let k = lawful.links l h in record { repo = still nat_list_cmp_total exact_bytes C.repos r l.0 k.repo; kept = k.kept };
     manifests = λ l bytes h. let k = lawful.manifests l bytes h in record { repo = still nat_list_cmp_total exact_bytes C.repos r l.0 k.repo; name = k.name; small = k.small; refs = k.refs };
     sessions = λ key s h. let k = lawful.sessions key s h in record { repo = still nat_list_cmp_total exact_bytes C.repos r s.repo k.repo; tenant = k.tenant; chunks = k.chunks; small = k.small; positive = k.positive; number = k.number };
-    tenants = λ q h. ⊎_elim (λ e. subst (λ (x : Text). IsSome (tenant_of C.tenants x)) (sym e) (ap is_some known)) (lawful.tenants q) (member nat_list_cmp_total exact_bytes C.repos r q h);
-    numbers = lawful.numbers;
+    repositories = record {
+      owned = λ q h. ⊎_elim (λ e. subst (λ (x : Text). IsSome (tenant_of C.tenants x)) (sym e) (ap is_some known)) (lawful.repositories.owned q) (member nat_list_cmp_total exact_bytes C.repos r q h);
+      few = λ u. repos-appear u room;
+      short_names = λ q h. ⊎_elim (λ e. subst (λ (x : Text). length x ≤ 255) (sym e) short) (lawful.repositories.short_names q) (member nat_list_cmp_total exact_bytes C.repos r q h);
+    };
+    numbering = lawful.numbering;
     limits = lawful.limits;
-    from_one = lawful.from_one;
-    few_numbers = lawful.few_numbers;
     few_sessions = lawful.few_sessions;
     few_manifests = lawful.few_manifests;
-    few_repos = λ u. repos-appear u room;
-    short_names = λ q h. ⊎_elim (λ e. subst (λ (x : Text). length x ≤ 255) (sym e) short) (lawful.short_names q) (member nat_list_cmp_total exact_bytes C.repos r q h);
   }
 
   held_alike : (u : ℕ) (d : Text) → tenant_holds after u d ≡ tenant_holds C u d
