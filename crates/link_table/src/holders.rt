@@ -68,7 +68,7 @@ pub fn holders_of(holders: &Holders, digest: &Digest) -> u64
 
 /// One more repository of a tenant holds a digest. Refused is want of memory alone, and then nothing
 /// has changed.
-pub fn raise(holders: &mut Holders, digest: &Digest) -> Result<(), Refusal>
+pub fn increment(holders: &mut Holders, digest: &Digest) -> Result<(), Refusal>
     requires { count_in holders.old digest.now + 1 < 2 ^ 64 }
     ensures ok { OnOk result ((d : Text) → count_in holders.new d ≡ count_in holders.old d + (if same_text digest.now d then 1 else 0)) }
     ensures err { OnErr result ((d : Text) → count_in holders.new d ≡ count_in holders.old d) }
@@ -80,7 +80,7 @@ pub fn raise(holders: &mut Holders, digest: &Digest) -> Result<(), Refusal>
 }
 
 /// One repository of a tenant less holds a digest. It takes no memory.
-pub fn lower(holders: &mut Holders, digest: &Digest)
+pub fn decrement(holders: &mut Holders, digest: &Digest)
     requires { 0 < count_in holders.old digest.now }
     ensures { (d : Text) → count_in holders.new d + (if same_text digest.now d then 1 else 0) ≡ count_in holders.old d }
 {

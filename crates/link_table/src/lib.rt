@@ -17,7 +17,7 @@ mod repo;
 mod repo_manifests;
 mod tenant_repos;
 mod tenants;
-mod weigh;
+mod usage;
 
 pub use blobs::Blobs;
 pub use links::Links;

@@ -10,12 +10,12 @@ ghost use Rattle.link_table.specs.Linked.{is_tenants, known_tenant, used_in, quo
 ghost use Rattle.link_table.specs.Tenancy.{Opens, AreTenants, RefusesTenants, tenants_shown};
 
 use crate::blobs::Blobs;
-use crate::holders::{Holders, holders_of, lower, no_holders, raise};
+use crate::holders::{Holders, holders_of, decrement, no_holders, increment};
 use crate::manifest_table::ManifestTable;
 use crate::manifests::Manifests;
 use crate::tenant_repos::TenantRepos;
 use crate::tenants::{in_order, tenant_at};
-use crate::weigh::{weight_with, weight_without};
+use crate::usage::{bytes_with, bytes_without};
 use blob_digest::{Digest, Refusal, RepoName};
 use oci_manifest::Manifest;
 use std::alloc::Global;
@@ -39,7 +39,7 @@ pub struct Links {
     repos: Vec<TenantRepos>,
     manifests: ManifestTable,
     holders: Vec<Holders>,
-    weights: Vec<u64>,
+    blob_bytes: Vec<u64>,
     charges: Vec<u64>,
 }
 
@@ -58,7 +58,7 @@ impl Model for Links {
 
     ghost view = { λ a. record { tenants = tenants_shown a.tenants.items; repos = repos_shown a.repos.items; links = links_shown a.repos.items; manifests = a.manifests; charges = a.charges.items } };
 
-    ghost invariant = { λ a. IsSound (tenants_shown a.tenants.items) (links_shown a.repos.items) a.weights.items a.charges.items × IsOwned (tenants_shown a.tenants.items) a.repos.items × Counts (tenants_shown a.tenants.items) (links_shown a.repos.items) a.holders.items };
+    ghost invariant = { λ a. IsSound (tenants_shown a.tenants.items) (links_shown a.repos.items) a.blob_bytes.items a.charges.items × IsOwned (tenants_shown a.tenants.items) a.repos.items × Counts (tenants_shown a.tenants.items) (links_shown a.repos.items) a.holders.items };
 }
 
 /// As many tenants without repositories.
@@ -86,7 +86,7 @@ impl Links {
     {
         let tenants = in_order(tenants)?;
         let count = tenants.as_slice().len();
-        let weights = vec![in alloc; 0u64; count]?;
+        let blob_bytes = vec![in alloc; 0u64; count]?;
         let charges = vec![in alloc; 0u64; count]?;
         let repos = no_repos(alloc, count)?;
         let holders = no_holders(alloc, count)?;
@@ -96,7 +96,7 @@ impl Links {
             repos,
             manifests: ManifestTable::new(alloc),
             holders,
-            weights,
+            blob_bytes,
             charges,
         })
     }
@@ -146,7 +146,7 @@ impl Links {
         requires { tenant < length self.now.tenants }
         ensures { result ≡ used_in self.now tenant }
     {
-        self.weights[tenant as usize] + self.charges[tenant as usize]
+        self.blob_bytes[tenant as usize] + self.charges[tenant as usize]
     }
 
     /// Charges a tenant with some bytes, or answers `Quota` where its use and they pass its quota.
@@ -218,13 +218,13 @@ impl Links {
             return Ok(false);
         }
         let held = holders_of(&self.holders[tenant as usize], digest) > 0;
-        let weight = weight_with(self.weights[tenant as usize], held, size);
-        raise(&mut self.holders[tenant as usize], digest)?;
+        let weight = bytes_with(self.blob_bytes[tenant as usize], held, size);
+        increment(&mut self.holders[tenant as usize], digest)?;
         if let Err(e) = self.repos[tenant as usize].link(repo, digest, size) {
-            lower(&mut self.holders[tenant as usize], digest);
+            decrement(&mut self.holders[tenant as usize], digest);
             return Err(e);
         }
-        self.weights[tenant as usize] = weight;
+        self.blob_bytes[tenant as usize] = weight;
         Ok(true)
     }
 
@@ -237,10 +237,10 @@ impl Links {
     {
         match self.repos[tenant as usize].unlink(repo, digest) {
             Some(size) => {
-                lower(&mut self.holders[tenant as usize], digest);
+                decrement(&mut self.holders[tenant as usize], digest);
                 let held = holders_of(&self.holders[tenant as usize], digest) > 0;
-                self.weights[tenant as usize] = weight_without(
-                    self.weights[tenant as usize],
+                self.blob_bytes[tenant as usize] = bytes_without(
+                    self.blob_bytes[tenant as usize],
                     held,
                     size,
                 );

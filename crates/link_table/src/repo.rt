@@ -26,7 +26,7 @@ pub fn place_of(rows: &[Repo], repo: &RepoName) -> Result<usize, usize>
 
 /// A repository holds a blob of this digest and size. Refused is want of memory alone, and then
 /// nothing has changed.
-pub fn hold(repo: &mut Repo, digest: &Digest, size: u64) -> Result<(), Refusal>
+pub fn insert_blob(repo: &mut Repo, digest: &Digest, size: u64) -> Result<(), Refusal>
     ensures name { repo.new.name ≡ repo.old.name }
     ensures ok { OnOk result ((q : Text) → tree.get text_cmp repo.new.blobs q ≡ cond (tree.is_at (text_cmp digest.now) q) (Some size) (tree.get text_cmp repo.old.blobs q)) }
     ensures err { OnErr result (repo.new.blobs.entries ≡ repo.old.blobs.entries) }
@@ -38,7 +38,7 @@ pub fn hold(repo: &mut Repo, digest: &Digest, size: u64) -> Result<(), Refusal>
 
 /// A repository no longer holds the blob of a digest, whose size is answered, if it held one. It takes
 /// no memory.
-pub fn release(repo: &mut Repo, digest: &Digest) -> Option<u64>
+pub fn remove_blob(repo: &mut Repo, digest: &Digest) -> Option<u64>
     ensures name { repo.new.name ≡ repo.old.name }
     ensures value { result ≡ tree.get text_cmp repo.old.blobs digest.now }
     ensures gone { (q : Text) → tree.get text_cmp repo.new.blobs q ≡ cond (tree.is_at (text_cmp digest.now) q) None (tree.get text_cmp repo.old.blobs q) }

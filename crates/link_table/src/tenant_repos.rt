@@ -9,7 +9,7 @@ ghost use Rattle.blob_digest.specs.declared.refusal.Refusal.TheVariants.{Memory}
 ghost use Rattle.link_table.specs.Linked.{HasNoLinks};
 ghost use Rattle.link_table.specs.TenantRepos.{count, nothing, appear_on, blobs_on};
 
-use crate::repo::{Repo, hold, place_of, release};
+use crate::repo::{Repo, insert_blob, place_of, remove_blob};
 use blob_digest::{Digest, Refusal, RepoName};
 use std::alloc::Global;
 use std::collections::BTreeMap;
@@ -93,7 +93,7 @@ impl TenantRepos {
         ensures refused { IfErr result (λ e. e ≡ Memory) }
     {
         match place_of(self.repos.as_slice(), repo) {
-            Ok(place) => hold(&mut self.repos[place], digest, size),
+            Ok(place) => insert_blob(&mut self.repos[place], digest, size),
             Err(_) => unreachable!(),
         }
     }
@@ -104,7 +104,7 @@ impl TenantRepos {
         ensures gone { self.new ≡ record self.old { links = fmap.remove self.old.links (repo.now, digest.now) } }
     {
         match place_of(self.repos.as_slice(), repo) {
-            Ok(place) => release(&mut self.repos[place], digest),
+            Ok(place) => remove_blob(&mut self.repos[place], digest),
             Err(_) => None,
         }
     }

@@ -10,12 +10,12 @@ use native.Mathlib.Decide.{ℕ_discrete}
 use Rattle.pin_core.specs.declared.world.Phase.{Phase}
 use Rattle.pin_core.specs.declared.world.Phase.TheVariants.{Free, Live, Condemned, Retired}
 use Rattle.pin_core.specs.declared.world.PinRow.{PinRow}
-use Rattle.pin_core.specs.declared.world.Hold.{Hold}
+use Rattle.pin_core.specs.declared.world.PinRecord.{PinRecord}
 use Rattle.pin_core.specs.declared.world.PinEntry.{PinEntry}
 use Rattle.pin_core.specs.declared.event.Event.{Event}
 use Rattle.pin_core.specs.declared.event.Event.TheVariants.{Give, Lend, Share, Leave, Condemn, Revive, Reclaim, Look, Verify}
 use Rattle.finite_maps.specs.Texts.{Text}
-use Rattle.pin_core.specs.World.{PinWorld, Keeps, HasDigest, IsState, IsUsed, IsWeight, max_weight, hold_named, holds_of, opening, row, no_row}
+use Rattle.pin_core.specs.World.{PinWorld, IsValidPin, HasDigest, IsState, IsUsed, IsWeight, max_weight, hold_named, holds_of, opening, row, no_row}
 use Rattle.pin_core.specs.Events.{Can, after, with_row, half, halve, second, entry, lent_hold, digest_or, given_row, in_phase, reclaimed_row}
 use Rattle.pin_core.proofs.Names.{hold_in, all_named, all_map, all_filter, all_push, clear_holds, named_push, named_filter, named_shared}
 use Rattle.pin_core.proofs.Weights.{lent_fits, filter_fits}
@@ -36,7 +36,7 @@ pub record Same (p r : PinRow) : Type 0 where
   pub generation : r.generation ≡ p.generation
   pub digest : r.digest ≡ p.digest
 
-keeps_at : (rs rs' : List PinRow) (h : Hold) → length rs' ≡ length rs → Keeps rs h → Same (row rs h.slot) (row rs' h.slot) → Keeps rs' h
+keeps_at : (rs rs' : List PinRow) (h : PinRecord) → length rs' ≡ length rs → IsValidPin rs h → Same (row rs h.slot) (row rs' h.slot) → IsValidPin rs' h
 keeps_at rs rs' h len keeps same =
     let t : h.slot < length rs = keeps.there in
     record { there = omega arith; used = same.used keeps.used; generation = same.generation ∙ keeps.generation; digest = same.digest ∙ keeps.digest }
@@ -44,32 +44,32 @@ keeps_at rs rs' h len keeps same =
 as_it_was : (p r : PinRow) → r ≡ p → Same p r
 as_it_was p r e = record { used = λ u. subst (λ (x : PinRow). IsUsed x.phase) (sym e) u; generation = ap (λ (x : PinRow). x.generation) e; digest = ap (λ (x : PinRow). x.digest) e }
 
-pub keeps_same : (rs : List PinRow) (k : ℕ) (r : PinRow) (hs : List Hold) → k < length rs → Same (row rs k) r → All (Keeps rs) hs → All (Keeps (set rs k r)) hs
-keeps_same rs k r hs l same = all_each (Keeps rs) (Keeps (set rs k r)) (λ h keeps. keeps_at rs (set rs k r) h (length-set rs k r) keeps (dite (ℕ_discrete h.slot k)
+pub keeps_same : (rs : List PinRow) (k : ℕ) (r : PinRow) (hs : List PinRecord) → k < length rs → Same (row rs k) r → All (IsValidPin rs) hs → All (IsValidPin (set rs k r)) hs
+keeps_same rs k r hs l same = all_each (IsValidPin rs) (IsValidPin (set rs k r)) (λ h keeps. keeps_at rs (set rs k r) h (length-set rs k r) keeps (dite (ℕ_discrete h.slot k)
     (λ e. let here = get_or-set_at rs k h.slot r no_row e l in
     subst (λ x. Same (row rs h.slot) x) (sym here) (subst (λ j. Same (row rs j) r) (sym e) same))
     (λ ne. as_it_was (row rs h.slot) (row (set rs k r) h.slot) (get_or-set_other rs k h.slot r no_row ne)))) hs
 
-pub keeps_else : (rs : List PinRow) (k : ℕ) (r : PinRow) (hs : List Hold) → All (λ h. h.slot ≢ k) hs → All (Keeps rs) hs → All (Keeps (set rs k r)) hs
-keeps_else rs k r hs none all = all_both (λ h. h.slot ≢ k) (Keeps rs) (Keeps (set rs k r))
+pub keeps_else : (rs : List PinRow) (k : ℕ) (r : PinRow) (hs : List PinRecord) → All (λ h. h.slot ≢ k) hs → All (IsValidPin rs) hs → All (IsValidPin (set rs k r)) hs
+keeps_else rs k r hs none all = all_both (λ h. h.slot ≢ k) (IsValidPin rs) (IsValidPin (set rs k r))
     (λ h ne keeps. keeps_at rs (set rs k r) h (length-set rs k r) keeps (as_it_was (row rs h.slot) (row (set rs k r) h.slot) (get_or-set_other rs k h.slot r no_row ne))) hs none all
 
-pub unused : (rs : List PinRow) (k : ℕ) (hs : List Hold) → (IsUsed (row rs k).phase → ⊥) → All (Keeps rs) hs → All (λ h. h.slot ≢ k) hs
-unused rs k hs never = all_each (Keeps rs) (λ h. h.slot ≢ k) (λ h keeps e. never (subst (λ j. IsUsed (row rs j).phase) e keeps.used)) hs
+pub unused : (rs : List PinRow) (k : ℕ) (hs : List PinRecord) → (IsUsed (row rs k).phase → ⊥) → All (IsValidPin rs) hs → All (λ h. h.slot ≢ k) hs
+unused rs k hs never = all_each (IsValidPin rs) (λ h. h.slot ≢ k) (λ h keeps e. never (subst (λ j. IsUsed (row rs j).phase) e keeps.used)) hs
 
-half_keeps : (rs : List PinRow) (h : Hold) → Keeps rs h → Keeps rs (half h)
+half_keeps : (rs : List PinRow) (h : PinRecord) → IsValidPin rs h → IsValidPin rs (half h)
 half_keeps rs h k = record { there = k.there; used = k.used; generation = k.generation; digest = k.digest }
 
-halve_keeps : (rs : List PinRow) (n : ℕ) (e : PinEntry) → Keeps rs e.hold → Keeps rs (halve n e).hold
+halve_keeps : (rs : List PinRow) (n : ℕ) (e : PinEntry) → IsValidPin rs e.hold → IsValidPin rs (halve n e).hold
 halve_keeps rs n e k = by_name (e.name == n)
   where
-    by_name : (b : Bool) → Keeps rs (cond b (entry e.name (half e.hold)) e).hold
+    by_name : (b : Bool) → IsValidPin rs (cond b (entry e.name (half e.hold)) e).hold
     by_name true = half_keeps rs e.hold k
     by_name false = k
 
-second_keeps : (rs : List PinRow) (n m : ℕ) (es : List PinEntry) → All (Keeps rs) (map hold_in es) → (o : Option Hold) → hold_named n es ≡ o → All (Keeps rs) (map hold_in (second m o))
-second_keeps rs n m es a None e = All-nil (Keeps rs)
-second_keeps rs n m es a (Some h) e = All-cons (Keeps rs) (half h) [] (half_keeps rs h (all_named (Keeps rs) es n h e a)) (All-nil (Keeps rs))
+second_keeps : (rs : List PinRow) (n m : ℕ) (es : List PinEntry) → All (IsValidPin rs) (map hold_in es) → (o : Option PinRecord) → hold_named n es ≡ o → All (IsValidPin rs) (map hold_in (second m o))
+second_keeps rs n m es a None e = All-nil (IsValidPin rs)
+second_keeps rs n m es a (Some h) e = All-cons (IsValidPin rs) (half h) [] (half_keeps rs h (all_named (IsValidPin rs) es n h e a)) (All-nil (IsValidPin rs))
 
 -- a free slot isn't used
 pub free_unused : (p : Phase) → p ≡ Free → IsUsed p → ⊥
@@ -81,7 +81,7 @@ live_used p e = subst (λ (x : Phase). IsUsed x) (sym e) tt
 dead_used : (p : Phase) → p ≡ Condemned → IsUsed p
 dead_used p e = subst (λ (x : Phase). IsUsed x) (sym e) tt
 
-new_keeps : (rs : List PinRow) (k : ℕ) → k < length rs → (row rs k).phase ≡ Live → All HasDigest rs → Keeps rs (lent_hold k (row rs k))
+new_keeps : (rs : List PinRow) (k : ℕ) → k < length rs → (row rs k).phase ≡ Live → All HasDigest rs → IsValidPin rs (lent_hold k (row rs k))
 new_keeps rs k l live all =
     let u = live_used (row rs k).phase live in
     let d = (All-get_or HasDigest rs k no_row l all).0 u in
@@ -101,10 +101,10 @@ pub state_after : (p : PinWorld) (e : Event) → Can p e → IsState p → IsSta
 state_after p (Give k d) can g = let r = given_row d (row p.rows k) in
     record { held = keeps_else p.rows k r (holds_of p) (unused p.rows k (holds_of p) (free_unused (row p.rows k).phase can.0.1) g.held) g.held; named = g.named; weights = g.weights; fits = g.fits; digests = All-set HasDigest p.rows k r ((λ _. (d, refl)), (λ never. absurd (never tt))) g.digests }
 state_after p (Lend k n) can g = let h = lent_hold k (row p.rows k) in
-    record { held = all_push (Keeps p.rows) p.pins (entry n h ∷ []) g.held (All-cons (Keeps p.rows) h [] (new_keeps p.rows k can.0.0 can.0.1 g.digests) (All-nil (Keeps p.rows))); named = named_push p.pins n h g.named can.1; weights = all_push IsWeight p.pins (entry n h ∷ []) g.weights (All-cons IsWeight h [] (10, omega arith, refl) (All-nil IsWeight)); fits = lent_fits p.pins k n h refl refl g.fits can.2; digests = g.digests }
+    record { held = all_push (IsValidPin p.rows) p.pins (entry n h ∷ []) g.held (All-cons (IsValidPin p.rows) h [] (new_keeps p.rows k can.0.0 can.0.1 g.digests) (All-nil (IsValidPin p.rows))); named = named_push p.pins n h g.named can.1; weights = all_push IsWeight p.pins (entry n h ∷ []) g.weights (All-cons IsWeight h [] (10, omega arith, refl) (All-nil IsWeight)); fits = lent_fits p.pins k n h refl refl g.fits can.2; digests = g.digests }
 state_after p (Share n m) can g =
-    record { held = all_push (Keeps p.rows) (map (halve n) p.pins) (second m (hold_named n p.pins)) (all_map (Keeps p.rows) (halve n) (halve_keeps p.rows n) p.pins g.held) (second_keeps p.rows n m p.pins g.held (hold_named n p.pins) refl); named = named_shared p.pins n m g.named can.1; weights = shared_weights p.pins n m g.named can.0 g.weights; fits = λ k. subst (λ s. s ≤ max_weight) (sym (shared_sum k n m p.pins g.named can.0 g.weights)) (g.fits k); digests = g.digests }
-state_after p (Leave n) can g = record { held = all_filter (Keeps p.rows) (λ e. not (e.name == n)) p.pins g.held; named = named_filter (λ e. not (e.name == n)) p.pins g.named; weights = all_filter IsWeight (λ e. not (e.name == n)) p.pins g.weights; fits = filter_fits (λ e. not (e.name == n)) p.pins g.fits; digests = g.digests }
+    record { held = all_push (IsValidPin p.rows) (map (halve n) p.pins) (second m (hold_named n p.pins)) (all_map (IsValidPin p.rows) (halve n) (halve_keeps p.rows n) p.pins g.held) (second_keeps p.rows n m p.pins g.held (hold_named n p.pins) refl); named = named_shared p.pins n m g.named can.1; weights = shared_weights p.pins n m g.named can.0 g.weights; fits = λ k. subst (λ s. s ≤ max_weight) (sym (shared_sum k n m p.pins g.named can.0 g.weights)) (g.fits k); digests = g.digests }
+state_after p (Leave n) can g = record { held = all_filter (IsValidPin p.rows) (λ e. not (e.name == n)) p.pins g.held; named = named_filter (λ e. not (e.name == n)) p.pins g.named; weights = all_filter IsWeight (λ e. not (e.name == n)) p.pins g.weights; fits = filter_fits (λ e. not (e.name == n)) p.pins g.fits; digests = g.digests }
 state_after p (Condemn k) can g = let r = in_phase Condemned (row p.rows k) in let u = live_used (row p.rows k).phase can.1 in
     record { held = keeps_same p.rows k r (holds_of p) can.0 (record { used = λ _. tt; generation = refl; digest = refl }) g.held; named = g.named; weights = g.weights; fits = g.fits; digests = All-set HasDigest p.rows k r (phased p.rows k Condemned can.0 tt u g.digests) g.digests }
 state_after p (Revive k) can g = let r = in_phase Live (row p.rows k) in let u = dead_used (row p.rows k).phase can.1 in
@@ -115,7 +115,7 @@ state_after p (Look k) can g = g
 state_after p (Verify n) can g = g
 
 pub state_opening : (n g : ℕ) → IsState (opening n g)
-state_opening n g = record { held = All-nil (Keeps (opening n g).rows); named = tt; weights = All-nil IsWeight; fits = λ k. omega arith; digests = All-replicate HasDigest n (record { generation = g; phase = Free; digest = None }) ((λ u. absurd u), (λ _. refl)) }
+state_opening n g = record { held = All-nil (IsValidPin (opening n g).rows); named = tt; weights = All-nil IsWeight; fits = λ k. omega arith; digests = All-replicate HasDigest n (record { generation = g; phase = Free; digest = None }) ((λ u. absurd u), (λ _. refl)) }
 
 -- generations rise, and a slot that was given in a generation is free again only in a later one
 reclaimed_rises : (r : PinRow) → r.generation ≤ (reclaimed_row r).generation

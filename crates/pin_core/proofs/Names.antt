@@ -6,16 +6,16 @@ use Rattle.std.specs.List.{All, filter, list_any}
 use Rattle.std.proofs.lemmas.List.Elements.{All-nil, All-cons, All-head, All-tail}
 use mathlib.Core.Logic.{dite}
 use native.Mathlib.Decide.{ℕ_discrete}
-use Rattle.pin_core.specs.declared.world.Hold.{Hold}
+use Rattle.pin_core.specs.declared.world.PinRecord.{PinRecord}
 use Rattle.pin_core.specs.declared.world.PinEntry.{PinEntry}
 use Rattle.pin_core.specs.World.{hold_named, IsNamed}
 use Rattle.pin_core.specs.Events.{half, halve, second, entry}
 
-abbrev pub hold_in : PinEntry → Hold
+abbrev pub hold_in : PinEntry → PinRecord
 hold_in e = e.hold
 
 -- a named pin has what all have
-pub all_named : (P : Hold → Type 0) (es : List PinEntry) (n : ℕ) (h : Hold) → hold_named n es ≡ Some h → All P (map hold_in es) → P h
+pub all_named : (P : PinRecord → Type 0) (es : List PinEntry) (n : ℕ) (h : PinRecord) → hold_named n es ≡ Some h → All P (map hold_in es) → P h
 all_named P [] n h e a = absurd (cc)
 all_named P (x ∷ es) n h e a = by_name (x.name == n) e (λ f. all_named P es n h f (All-tail P x.hold (map hold_in es) a))
   where
@@ -23,11 +23,11 @@ all_named P (x ∷ es) n h e a = by_name (x.name == n) e (λ f. all_named P es n
     by_name true e rest = let same : x.hold ≡ h = cc in subst P same (All-head P x.hold (map hold_in es) a)
     by_name false e rest = rest e
 
-pub all_map : (P : Hold → Type 0) (f : PinEntry → PinEntry) → ((e : PinEntry) → P e.hold → P (f e).hold) → (es : List PinEntry) → All P (map hold_in es) → All P (map hold_in (map f es))
+pub all_map : (P : PinRecord → Type 0) (f : PinEntry → PinEntry) → ((e : PinEntry) → P e.hold → P (f e).hold) → (es : List PinEntry) → All P (map hold_in es) → All P (map hold_in (map f es))
 all_map P f law [] a = All-nil P
 all_map P f law (x ∷ es) a = All-cons P (f x).hold (map hold_in (map f es)) (law x (All-head P x.hold (map hold_in es) a)) (all_map P f law es (All-tail P x.hold (map hold_in es) a))
 
-pub all_filter : (P : Hold → Type 0) (p : PinEntry → Bool) → (es : List PinEntry) → All P (map hold_in es) → All P (map hold_in (filter p es))
+pub all_filter : (P : PinRecord → Type 0) (p : PinEntry → Bool) → (es : List PinEntry) → All P (map hold_in es) → All P (map hold_in (filter p es))
 all_filter P p [] a = All-nil P
 all_filter P p (x ∷ es) a = by_test (p x) (all_filter P p es (All-tail P x.hold (map hold_in es) a))
   where
@@ -35,17 +35,17 @@ all_filter P p (x ∷ es) a = by_test (p x) (all_filter P p es (All-tail P x.hol
     by_test true rest = All-cons P x.hold (map hold_in (filter p es)) (All-head P x.hold (map hold_in es) a) rest
     by_test false rest = rest
 
-pub all_push : (P : Hold → Type 0) (es : List PinEntry) (fs : List PinEntry) → All P (map hold_in es) → All P (map hold_in fs) → All P (map hold_in (es ++ fs))
+pub all_push : (P : PinRecord → Type 0) (es : List PinEntry) (fs : List PinEntry) → All P (map hold_in es) → All P (map hold_in fs) → All P (map hold_in (es ++ fs))
 all_push P [] fs a b = b
 all_push P (x ∷ es) fs a b = All-cons P x.hold (map hold_in (es ++ fs)) (All-head P x.hold (map hold_in es) a) (all_push P es fs (All-tail P x.hold (map hold_in es) a) b)
 
 -- the pin n is on the slot k
 pub record IsOn (es : List PinEntry) (n k : ℕ) : Type 0 where
-  pub hold : Hold
+  pub hold : PinRecord
   pub there : hold_named n es ≡ Some hold
   pub slot : hold.slot ≡ k
 
-found_push : (es fs : List PinEntry) (n : ℕ) (h : Hold) → hold_named n es ≡ Some h → hold_named n (es ++ fs) ≡ Some h
+found_push : (es fs : List PinEntry) (n : ℕ) (h : PinRecord) → hold_named n es ≡ Some h → hold_named n (es ++ fs) ≡ Some h
 found_push [] fs n h e = absurd (cc)
 found_push (x ∷ es) fs n h e = by_name (x.name == n) e (found_push es fs n h)
   where
@@ -57,7 +57,7 @@ pub on_push : (es fs : List PinEntry) (n k : ℕ) → IsOn es n k → IsOn (es +
 on_push es fs n k on = record { hold = on.hold; there = found_push es fs n on.hold on.there; slot = on.slot }
 
 -- a new name at the end
-pub named_last : (es : List PinEntry) (n : ℕ) (h : Hold) → hold_named n es ≡ None → hold_named n (es ++ entry n h ∷ []) ≡ Some h
+pub named_last : (es : List PinEntry) (n : ℕ) (h : PinRecord) → hold_named n es ≡ None → hold_named n (es ++ entry n h ∷ []) ≡ Some h
 named_last [] n h e = ap (λ b. cond b (Some h) None) (eq-eqb n n refl)
 named_last (x ∷ es) n h e = by_name (x.name == n) e (named_last es n h)
   where
@@ -85,7 +85,7 @@ on_halved m (x ∷ es) n k on = by_name (x.name == n) refl on.there (λ t. on_ha
   where
     by_name : (b : Bool) → (x.name == n) ≡ b → cond b (Some x.hold) (hold_named n es) ≡ Some on.hold → (hold_named n es ≡ Some on.hold → IsOn (map (halve m) es) n k) → IsOn (halve m x ∷ map (halve m) es) n k
     by_name true is e rest = let same : x.hold ≡ on.hold = cc in
-        record { hold = (halve m x).hold; there = ap (λ i. cond (i == n) (Some (halve m x).hold) (hold_named n (map (halve m) es))) (halved_hold m x) ∙ ap (λ b. cond b (Some (halve m x).hold) (hold_named n (map (halve m) es))) is; slot = halved_slot m x ∙ ap (λ (h : Hold). h.slot) same ∙ on.slot }
+        record { hold = (halve m x).hold; there = ap (λ i. cond (i == n) (Some (halve m x).hold) (hold_named n (map (halve m) es))) (halved_hold m x) ∙ ap (λ b. cond b (Some (halve m x).hold) (hold_named n (map (halve m) es))) is; slot = halved_slot m x ∙ ap (λ (h : PinRecord). h.slot) same ∙ on.slot }
     by_name false is e rest = let r = rest e in
         record { hold = r.hold; there = ap (λ i. cond (i == n) (Some (halve m x).hold) (hold_named n (map (halve m) es))) (halved_hold m x) ∙ ap (λ b. cond b (Some (halve m x).hold) (hold_named n (map (halve m) es))) is ∙ r.there; slot = r.slot }
 
@@ -102,7 +102,7 @@ on_filter m (x ∷ es) n k ne on = dite (ℕ_discrete x.name m)
     subst (λ b. IsOn (cond (not b) (x ∷ filter (λ e. not (e.name == m)) es) (filter (λ e. not (e.name == m)) es)) n k) (sym stays) (by_name (x.name == n) refl on.there (λ t. on_filter m es n k ne (record { hold = on.hold; there = t; slot = on.slot }))))
   where
     by_name : (b : Bool) → (x.name == n) ≡ b → cond b (Some x.hold) (hold_named n es) ≡ Some on.hold → (hold_named n es ≡ Some on.hold → IsOn (filter (λ e. not (e.name == m)) es) n k) → IsOn (x ∷ filter (λ e. not (e.name == m)) es) n k
-    by_name true is e rest = record { hold = x.hold; there = ap (λ b. cond b (Some x.hold) (hold_named n (filter (λ e. not (e.name == m)) es))) is; slot = (let same : x.hold ≡ on.hold = cc in ap (λ (h : Hold). h.slot) same) ∙ on.slot }
+    by_name true is e rest = record { hold = x.hold; there = ap (λ b. cond b (Some x.hold) (hold_named n (filter (λ e. not (e.name == m)) es))) is; slot = (let same : x.hold ≡ on.hold = cc in ap (λ (h : PinRecord). h.slot) same) ∙ on.slot }
     by_name false is e rest = let r = rest e in record { hold = r.hold; there = ap (λ b. cond b (Some x.hold) (hold_named n (filter (λ e. not (e.name == m)) es))) is ∙ r.there; slot = r.slot }
 
 pub none_halved : (m : ℕ) (es : List PinEntry) (n : ℕ) → hold_named n es ≡ None → hold_named n (map (halve m) es) ≡ None
@@ -116,7 +116,7 @@ none_halved m (x ∷ es) n e = by_name (x.name == n) refl e (none_halved m es n)
 -- ---- names of their own
 
 -- a pin that isn't there isn't there behind another name
-pub none_push : (es : List PinEntry) (a n : ℕ) (h : Hold) → hold_named a es ≡ None → n ≢ a → hold_named a (es ++ entry n h ∷ []) ≡ None
+pub none_push : (es : List PinEntry) (a n : ℕ) (h : PinRecord) → hold_named a es ≡ None → n ≢ a → hold_named a (es ++ entry n h ∷ []) ≡ None
 none_push [] a n h e ne = ap (λ b. cond b (Some h) None) (ne_eqb n a ne)
 none_push (x ∷ es) a n h e ne = by_name (x.name == a) e (λ f. none_push es a n h f ne)
   where
@@ -133,7 +133,7 @@ none_cons x es n e = by_name (x.name == n) refl e
     by_name false is e = (λ same. let t = eq-eqb x.name n same in absurd cc, e)
 
 -- a pin of a new name
-pub named_push : (es : List PinEntry) (n : ℕ) (h : Hold) → IsNamed es → hold_named n es ≡ None → IsNamed (es ++ entry n h ∷ [])
+pub named_push : (es : List PinEntry) (n : ℕ) (h : PinRecord) → IsNamed es → hold_named n es ≡ None → IsNamed (es ++ entry n h ∷ [])
 named_push [] n h all none = (refl, tt)
 named_push (x ∷ es) n h all none =
     let c = none_cons x es n none in
@@ -171,7 +171,7 @@ append_nil (x ∷ es) = ap (λ l. x ∷ l) (append_nil es)
 pub named_shared : (es : List PinEntry) (n m : ℕ) → IsNamed es → hold_named m es ≡ None → IsNamed (map (halve n) es ++ second m (hold_named n es))
 named_shared es n m all none = by_hold (hold_named n es)
   where
-    by_hold : (o : Option Hold) → IsNamed (map (halve n) es ++ second m o)
+    by_hold : (o : Option PinRecord) → IsNamed (map (halve n) es ++ second m o)
     by_hold None = subst (λ l. IsNamed l) (sym (append_nil (map (halve n) es))) (named_halved n es all)
     by_hold (Some h) = named_push (map (halve n) es) m (half h) (named_halved n es all) (none_halved n es m none)
 
@@ -216,7 +216,7 @@ removed (y ∷ es) (suc i) n x lt is name all =
     ∙ sym (ap (λ b. cond (not b) (y ∷ filter (λ e. not (e.name == n)) es) (filter (λ e. not (e.name == n)) es)) (ne_eqb y.name n other))
 
 -- the other half isn't halved again
-pub second_kept : (es : List PinEntry) (n m : ℕ) (h g : Hold) → hold_named n es ≡ Some h → hold_named m es ≡ None → map (halve n) (es ++ entry m g ∷ []) ≡ map (halve n) es ++ entry m g ∷ []
+pub second_kept : (es : List PinEntry) (n m : ℕ) (h g : PinRecord) → hold_named n es ≡ Some h → hold_named m es ≡ None → map (halve n) (es ++ entry m g ∷ []) ≡ map (halve n) es ++ entry m g ∷ []
 second_kept es n m h g there none =
     let other : m ≢ n = λ same. let e = ap (λ i. hold_named i es) same in absurd cc in
     map-append (halve n) es (entry m g ∷ []) ∙ ap (λ e. map (halve n) es ++ e ∷ []) (ap (λ b. cond b (entry m (half g)) (entry m g)) (ne_eqb m n other))

@@ -6,7 +6,7 @@ use Rattle.std.specs.Option.{IsSomeAnd}
 use Rattle.std.proofs.Math.Nat.{pow-suc}
 use Rattle.std.proofs.lemmas.List.Elements.{All-nil, All-cons, All-head, All-tail}
 use Rattle.std.proofs.lemmas.List.Sums.{sum_by-cons}
-use Rattle.pin_core.specs.declared.world.Hold.{Hold}
+use Rattle.pin_core.specs.declared.world.PinRecord.{PinRecord}
 use Rattle.pin_core.specs.declared.world.PinEntry.{PinEntry}
 use Rattle.pin_core.specs.World.{IsNamed, IsWeight, hold_named, weight_at}
 use Rattle.pin_core.specs.Events.{half, halve, second, entry}
@@ -14,7 +14,7 @@ use Rattle.pin_core.proofs.Names.{hold_in, all_named, all_push, none_cons}
 use Rattle.pin_core.proofs.Weights.{sum_of, sum_of-cons, sum_of-append}
 
 -- the pin that is shared
-pub shared_pin : (o : Option Hold) → IsSomeAnd o (λ h. 1 < h.weight) → (h : Hold) × (o ≡ Some h) × (1 < h.weight)
+pub shared_pin : (o : Option PinRecord) → IsSomeAnd o (λ h. 1 < h.weight) → (h : PinRecord) × (o ≡ Some h) × (1 < h.weight)
 shared_pin None big = absurd big
 shared_pin (Some h) big = (h, refl, big)
 
@@ -25,7 +25,7 @@ half_power w (suc e) le is big =
     let p : w ≡ 2 ^ e * 2 = is ∙ pow-suc 2 e in
     ((e, omega arith, omega arith), omega arith)
 
-pub half_weight : (h : Hold) → IsWeight h → 1 < h.weight → IsWeight (half h) × (h.weight / 2 + h.weight / 2 ≡ h.weight)
+pub half_weight : (h : PinRecord) → IsWeight h → 1 < h.weight → IsWeight (half h) × (h.weight / 2 + h.weight / 2 ≡ h.weight)
 half_weight h is big = half_power h.weight is.0 is.1 is.2 big
 
 -- where no pin has the name, none is halved
@@ -36,7 +36,7 @@ none_halved_at_all n (x ∷ es) none =
     ap (λ b. cond b (entry x.name (half x.hold)) x ∷ map (halve n) es) (ne_eqb x.name n c.0) ∙ ap (λ l. x ∷ l) (none_halved_at_all n es c.1)
 
 -- the pin of the name is first, or it stands behind the first
-pub named_cases : (n : ℕ) (x : PinEntry) (es : List PinEntry) (h : Hold) → IsNamed (x ∷ es) → hold_named n (x ∷ es) ≡ Some h
+pub named_cases : (n : ℕ) (x : PinEntry) (es : List PinEntry) (h : PinRecord) → IsNamed (x ∷ es) → hold_named n (x ∷ es) ≡ Some h
     → (((x.name == n) ≡ true) × (x.hold ≡ h) × (map (halve n) es ≡ es)) ⊎ (((x.name == n) ≡ false) × (hold_named n es ≡ Some h))
 named_cases n x es h all there = by_name (x.name == n) refl there
   where
@@ -54,12 +54,12 @@ halved_other : (n : ℕ) (x : PinEntry) → (x.name == n) ≡ false → halve n 
 halved_other n x is = ap (λ b. cond b (entry x.name (half x.hold)) x) is
 
 -- the pins with one halved
-halved_weights : (n : ℕ) (es : List PinEntry) (h : Hold) → IsNamed es → hold_named n es ≡ Some h → IsWeight (half h) → All IsWeight (map hold_in es) → All IsWeight (map hold_in (map (halve n) es))
+halved_weights : (n : ℕ) (es : List PinEntry) (h : PinRecord) → IsNamed es → hold_named n es ≡ Some h → IsWeight (half h) → All IsWeight (map hold_in es) → All IsWeight (map hold_in (map (halve n) es))
 halved_weights n [] h all there is a = a
 halved_weights n (x ∷ es) h all there is a = elim (named_cases n x es h all there) [
   | inl f ↦
       subst (λ l. All IsWeight (map hold_in l)) (sym (ap (λ y. y ∷ map (halve n) es) (halved_first n x f.0) ∙ ap (λ l. entry x.name (half x.hold) ∷ l) f.2))
-      (All-cons IsWeight (half x.hold) (map hold_in es) (subst (λ (g : Hold). IsWeight (half g)) (sym f.1) is) (All-tail IsWeight x.hold (map hold_in es) a))
+      (All-cons IsWeight (half x.hold) (map hold_in es) (subst (λ (g : PinRecord). IsWeight (half g)) (sym f.1) is) (All-tail IsWeight x.hold (map hold_in es) a))
   | inr b ↦
       subst (λ l. All IsWeight (map hold_in l)) (sym (ap (λ y. y ∷ map (halve n) es) (halved_other n x b.0)))
       (All-cons IsWeight x.hold (map hold_in (map (halve n) es)) (All-head IsWeight x.hold (map hold_in es) a) (halved_weights n es h all.1 b.1 is (All-tail IsWeight x.hold (map hold_in es) a)))
@@ -74,7 +74,7 @@ shared_weights es n m all big a =
     (all_push IsWeight (map (halve n) es) (entry m (half s.0) ∷ []) (halved_weights n es s.0 all s.1 is a) (All-cons IsWeight (half s.0) [] is (All-nil IsWeight)))
 
 -- two halves weigh what the whole does
-twice_at : (k : ℕ) (h : Hold) → h.weight / 2 + h.weight / 2 ≡ h.weight → weight_at k (half h) + weight_at k (half h) ≡ weight_at k h
+twice_at : (k : ℕ) (h : PinRecord) → h.weight / 2 + h.weight / 2 ≡ h.weight → weight_at k (half h) + weight_at k (half h) ≡ weight_at k h
 twice_at k h e = by_slot (h.slot == k)
   where
     by_slot : (b : Bool) → cond b (h.weight / 2) 0 + cond b (h.weight / 2) 0 ≡ cond b h.weight 0
@@ -82,14 +82,14 @@ twice_at k h e = by_slot (h.slot == k)
     by_slot false = omega arith
 
 -- any sum over the pins, with one of them halved
-pub halved_sum : (f : Hold → ℕ) (n : ℕ) (es : List PinEntry) (h : Hold) → IsNamed es → hold_named n es ≡ Some h → sum_by f (map hold_in (map (halve n) es)) + f h ≡ sum_by f (map hold_in es) + f (half h)
+pub halved_sum : (f : PinRecord → ℕ) (n : ℕ) (es : List PinEntry) (h : PinRecord) → IsNamed es → hold_named n es ≡ Some h → sum_by f (map hold_in (map (halve n) es)) + f h ≡ sum_by f (map hold_in es) + f (half h)
 halved_sum f n [] h all there = absurd cc
 halved_sum f n (x ∷ es) h all there = elim (named_cases n x es h all there) [
   | inl c ↦
       let a : sum_by f (map hold_in (map (halve n) (x ∷ es))) ≡ sum_by f (half x.hold ∷ map hold_in es) = ap (λ y. sum_by f (map hold_in (y ∷ map (halve n) es))) (halved_first n x c.0) ∙ ap (λ l. sum_by f (half x.hold ∷ map hold_in l)) c.2 in
       let b = sum_by-cons f (half x.hold) (map hold_in es) in
       let e = sum_by-cons f x.hold (map hold_in es) in
-      let d : f (half x.hold) ≡ f (half h) = ap (λ (g : Hold). f (half g)) c.1 in
+      let d : f (half x.hold) ≡ f (half h) = ap (λ (g : PinRecord). f (half g)) c.1 in
       let i : f x.hold ≡ f h = ap f c.1 in omega arith
   | inr g ↦
       let a : sum_by f (map hold_in (map (halve n) (x ∷ es))) ≡ sum_by f (x.hold ∷ map hold_in (map (halve n) es)) = ap (λ y. sum_by f (map hold_in (y ∷ map (halve n) es))) (halved_other n x g.0) in

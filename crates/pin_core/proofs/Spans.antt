@@ -6,7 +6,7 @@ use native.Mathlib.Decide.{dec_le}
 use Rattle.finite_maps.proofs.Lists.{there_at}
 use Rattle.pin_core.specs.declared.event.Event.{Event}
 use Rattle.pin_core.specs.declared.event.Event.TheVariants.{Give, Lend, Share, Leave, Condemn, Revive, Reclaim, Look, Verify}
-use Rattle.pin_core.specs.World.{PinWorld, Keeps, IsState, hold_named, opening, row, row_word, word}
+use Rattle.pin_core.specs.World.{PinWorld, IsValidPin, IsState, hold_named, opening, row, row_word, word}
 use Rattle.pin_core.proofs.Shares.{shared_sum}
 use Rattle.pin_core.specs.Events.{Can, after, Happens, half, halve, second, entry, lent_hold}
 use Rattle.pin_core.specs.Laws.{world_at, Given, Spanned, begun, lent, shared, generation_at, Reclaims, Reclamation}
@@ -88,7 +88,7 @@ apart p es h g i k n given span =
     let w = t.within in
     let on = spanned_on p es i n k h (omega arith) span in
     let good = state_at p es i h (omega arith) g in
-    let keeps = all_named (Keeps (world_at p es i).rows) (world_at p es i).pins n on.hold on.there good.held in
+    let keeps = all_named (IsValidPin (world_at p es i).rows) (world_at p es i).pins n on.hold on.there good.held in
     free_unused (row (world_at p es i).rows on.hold.slot).phase (ap (λ j. (row (world_at p es i).rows j).phase) on.slot ∙ t.can.0.1) keeps.used
 
 rises : (p : PinWorld) (es : List Event) → Happens p es → (i j k : ℕ) → i ≤ j → j ≤ length es → generation_at p es i k ≤ generation_at p es j k

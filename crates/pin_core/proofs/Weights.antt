@@ -3,7 +3,7 @@ use Rattle.std.proofs.Common.{◌≡◌, ℕ, ◌+◌, ◌≤◌, List, [], ◌�
 use Rattle.std.specs.Prelude.{◌==◌}
 use Rattle.std.specs.List.{filter}
 use Rattle.std.proofs.lemmas.List.Sums.{sum_by-cons}
-use Rattle.pin_core.specs.declared.world.Hold.{Hold}
+use Rattle.pin_core.specs.declared.world.PinRecord.{PinRecord}
 use Rattle.pin_core.specs.declared.world.PinEntry.{PinEntry}
 use Rattle.pin_core.specs.World.{weight_at, weight_on, max_weight}
 use Rattle.pin_core.specs.Events.{entry, new_weight}
@@ -21,7 +21,7 @@ sum_of-append k [] fs = omega arith
 sum_of-append k (x ∷ es) fs = let a = sum_of-cons k x (es ++ fs) in let b = sum_of-cons k x es in let c = sum_of-append k es fs in omega arith
 
 -- after a Lend
-pub lent_fits : (es : List PinEntry) (k n : ℕ) (h : Hold) → h.slot ≡ k → h.weight ≡ new_weight → ((j : ℕ) → sum_of j es ≤ max_weight) → sum_of k es + new_weight ≤ max_weight → (j : ℕ) → sum_of j (es ++ entry n h ∷ []) ≤ max_weight
+pub lent_fits : (es : List PinEntry) (k n : ℕ) (h : PinRecord) → h.slot ≡ k → h.weight ≡ new_weight → ((j : ℕ) → sum_of j es ≤ max_weight) → sum_of k es + new_weight ≤ max_weight → (j : ℕ) → sum_of j (es ++ entry n h ∷ []) ≤ max_weight
 lent_fits es k n h slot weight fits room j =
     let a = sum_of-append j es (entry n h ∷ []) in
     let b = sum_of-cons j (entry n h) [] in

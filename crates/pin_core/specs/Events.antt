@@ -6,7 +6,7 @@ use Rattle.finite_maps.specs.Texts.{Text}
 use Rattle.pin_core.specs.declared.world.Phase.{Phase}
 use Rattle.pin_core.specs.declared.world.Phase.TheVariants.{Free, Live, Condemned, Retired}
 use Rattle.pin_core.specs.declared.world.PinRow.{PinRow}
-use Rattle.pin_core.specs.declared.world.Hold.{Hold}
+use Rattle.pin_core.specs.declared.world.PinRecord.{PinRecord}
 use Rattle.pin_core.specs.declared.world.PinEntry.{PinEntry}
 use Rattle.pin_core.specs.declared.event.Event.{Event}
 use Rattle.pin_core.specs.declared.event.Event.TheVariants.{Give, Lend, Share, Leave, Condemn, Revive, Reclaim, Look, Verify}
@@ -74,15 +74,15 @@ digest_or None = []
 digest_or (Some d) = d
 
 -- a new pin on the slot k
-abbrev pub lent_hold : ℕ → PinRow → Hold
+abbrev pub lent_hold : ℕ → PinRow → PinRecord
 lent_hold k r = record { slot = k; generation = r.generation; digest = digest_or r.digest; weight = new_weight }
 
 -- a pin of half the weight
-abbrev pub half : Hold → Hold
+abbrev pub half : PinRecord → PinRecord
 half h = record { slot = h.slot; generation = h.generation; digest = h.digest; weight = h.weight / 2 }
 
 -- a pin under a name
-abbrev pub entry : ℕ → Hold → PinEntry
+abbrev pub entry : ℕ → PinRecord → PinEntry
 entry n h = record { name = n; hold = h }
 
 -- the pin named n keeps half of its weight
@@ -90,7 +90,7 @@ abbrev pub halve : ℕ → PinEntry → PinEntry
 halve n e = cond (e.name == n) (entry e.name (half e.hold)) e
 
 -- the other half, under the name m
-abbrev pub second : ℕ → Option Hold → List PinEntry
+abbrev pub second : ℕ → Option PinRecord → List PinEntry
 second m None = []
 second m (Some h) = entry m (half h) ∷ []
 

@@ -2,11 +2,11 @@
 use Rattle.std.specs.Prelude.{◌≡◌, ◌≢◌, ℕ, ◌<◌, ◌≤◌, List, take, length, slice_get, Some}
 use Prim.Native.Nat.{suc}
 use Rattle.pin_core.specs.declared.world.Phase.{Phase}
-use Rattle.pin_core.specs.declared.world.Hold.{Hold}
+use Rattle.pin_core.specs.declared.world.PinRecord.{PinRecord}
 use Rattle.pin_core.specs.declared.event.Event.{Event}
 use Rattle.pin_core.specs.declared.event.Event.TheVariants.{Give, Lend, Share, Leave}
 use Rattle.finite_maps.specs.Texts.{Text}
-use Rattle.pin_core.specs.World.{PinWorld, Held, IsState, hold_named, row, opening, word, word_of, max_weight}
+use Rattle.pin_core.specs.World.{PinWorld, PinsAreValid, IsState, hold_named, row, opening, word, word_of, max_weight}
 use Rattle.pin_core.specs.Events.{after_all, Happens}
 
 -- the world before the i-th event
@@ -27,13 +27,13 @@ Stays es j i n = (l : ℕ) → j ≤ l → l < i → slice_get es l ≢ Some (Le
 
 -- The place i lies in the span of a pin named n on the slot k: from the Lend or Share that made it, or from the start where it was there, it hasn't left.
 pub data Spanned (p : PinWorld) (es : List Event) : ℕ → ℕ → ℕ → Type 0 where
-  begun : (i n k : ℕ) (h : Hold) → hold_named n p.pins ≡ Some h → h.slot ≡ k → Stays es 0 i n → Spanned p es i n k
+  begun : (i n k : ℕ) (h : PinRecord) → hold_named n p.pins ≡ Some h → h.slot ≡ k → Stays es 0 i n → Spanned p es i n k
   lent : (j i n k : ℕ) → slice_get es j ≡ Some (Lend k n) → j < i → Stays es j i n → Spanned p es i n k
   shared : (j i m n k : ℕ) → Spanned p es j m k → slice_get es j ≡ Some (Share m n) → j < i → Stays es j i n → Spanned p es i n k
 
 -- What holds of a list of events from a world on: after each event the slot of every pin is used and its own, and what every state keeps holds; no slot is given while a pin is on it; a Share changes no word; generations never fall; and a slot is given at most once in a generation.
 pub record Reclaims (p : PinWorld) (es : List Event) : Type 0 where
-  pub held : (i : ℕ) → i ≤ length es → Held (world_at p es i)
+  pub held : (i : ℕ) → i ≤ length es → PinsAreValid (world_at p es i)
   pub states : (i : ℕ) → i ≤ length es → IsState (world_at p es i)
   pub apart : (i k n : ℕ) → Given es k i → Spanned p es i n k → ⊥
   pub steady : (i k n m : ℕ) → slice_get es i ≡ Some (Share n m) → word (world_at p es (suc i)) k ≡ word (world_at p es i) k

@@ -5,7 +5,7 @@ use Rattle.finite_maps.specs.Texts.{Text}
 use Rattle.pin_core.specs.declared.world.Phase.{Phase}
 use Rattle.pin_core.specs.declared.world.Phase.TheVariants.{Free, Live, Condemned, Retired}
 use Rattle.pin_core.specs.declared.world.PinRow.{PinRow}
-use Rattle.pin_core.specs.declared.world.Hold.{Hold}
+use Rattle.pin_core.specs.declared.world.PinRecord.{PinRecord}
 use Rattle.pin_core.specs.declared.world.PinEntry.{PinEntry}
 use Rattle.pin_core.specs.declared.word.WordRow.{WordRow}
 
@@ -30,19 +30,19 @@ abbrev pub row : List PinRow → ℕ → PinRow
 row rows k = slice_index_or rows k no_row
 
 -- what the pins hold, without their names
-abbrev pub holds_of : PinWorld → List Hold
+abbrev pub holds_of : PinWorld → List PinRecord
 holds_of p = map (λ e. e.hold) p.pins
 
 -- what a pin weighs on the slot k
-abbrev pub weight_at : ℕ → Hold → ℕ
+abbrev pub weight_at : ℕ → PinRecord → ℕ
 weight_at k h = cond (h.slot == k) h.weight 0
 
 -- the sum of the weights of the pins on the slot k
-abbrev pub weight_on : ℕ → List Hold → ℕ
+abbrev pub weight_on : ℕ → List PinRecord → ℕ
 weight_on k hs = sum_by (weight_at k) hs
 
 -- the pin of that name, if there is one
-abbrev pub hold_named : ℕ → List PinEntry → Option Hold
+abbrev pub hold_named : ℕ → List PinEntry → Option PinRecord
 hold_named n [] = None
 hold_named n (e ∷ es) = cond (e.name == n) (Some e.hold) (hold_named n es)
 
@@ -52,22 +52,22 @@ IsNamed [] = Unit {0}
 IsNamed (e ∷ es) = (hold_named e.name es ≡ None) × IsNamed es
 
 -- the slot is used, and has the pin's generation and digest
-pub record Keeps (rows : List PinRow) (h : Hold) : Type 0 where
+pub record IsValidPin (rows : List PinRow) (h : PinRecord) : Type 0 where
   pub there : h.slot < length rows
   pub used : IsUsed (row rows h.slot).phase
   pub generation : (row rows h.slot).generation ≡ h.generation
   pub digest : (row rows h.slot).digest ≡ Some h.digest
 
 -- the slot of each pin is used and its own
-abbrev pub Held : PinWorld → Type 0
-Held p = All (Keeps p.rows) (holds_of p)
+abbrev pub PinsAreValid : PinWorld → Type 0
+PinsAreValid p = All (IsValidPin p.rows) (holds_of p)
 
 -- a slot has a digest exactly where it is used
 abbrev pub HasDigest : PinRow → Type 0
 HasDigest r = (IsUsed r.phase → (d : Text) × (r.digest ≡ Some d)) × (¬ IsUsed r.phase → r.digest ≡ None)
 
 -- the weight is a power of two from 1 to 1024
-abbrev pub IsWeight : Hold → Type 0
+abbrev pub IsWeight : PinRecord → Type 0
 IsWeight h = (e : ℕ) × (e ≤ 10) × (h.weight ≡ 2 ^ e)
 
 -- n free slots of generation g, and no pin
@@ -104,7 +104,7 @@ pub record IsState (p : PinWorld) : Type 0 where
   pub named : IsNamed p.pins
   pub weights : All IsWeight (holds_of p)
   pub fits : (k : ℕ) → weight_on k (holds_of p) ≤ max_weight
-  pub held : Held p
+  pub held : PinsAreValid p
 
 -- the word of a row with a sum of weights
 abbrev pub row_word : PinRow → ℕ → ℕ

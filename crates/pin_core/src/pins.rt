@@ -5,10 +5,10 @@ ghost use Rattle.std.specs.List.{filter};
 ghost use Rattle.pin_core.specs.World.{IsNamed, hold_named, weight_on};
 ghost use Rattle.pin_core.specs.Events.{IsClear, half, halve};
 
-use crate::world::{Hold, PinEntry};
+use crate::world::{PinRecord, PinEntry};
 
 /// The pin of a name.
-pub fn find(pins: &[PinEntry], name: u64) -> Option<Hold>
+pub fn find(pins: &[PinEntry], name: u64) -> Option<PinRecord>
     ensures { result ≡ hold_named name pins.now }
 {
     for entry in pins {
@@ -40,10 +40,10 @@ pub fn is_clear(pins: &[PinEntry], slot: u32) -> bool
 }
 
 /// Half of a pin.
-pub fn halved(hold: &Hold) -> Hold
+pub fn halved(hold: &PinRecord) -> PinRecord
     ensures { result ≡ half hold.now }
 {
-    Hold {
+    PinRecord {
         slot: hold.slot,
         generation: hold.generation,
         digest: hold.digest,

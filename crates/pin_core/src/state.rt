@@ -11,7 +11,7 @@ use crate::event::Event;
 use crate::pins::{drop_named, find, halve_named, halved, is_clear, sum_on};
 use crate::rows::{given, in_phase, is_new, reclaimed};
 use crate::word::{MAX_WEIGHT, NEW_WEIGHT, WordRow};
-use crate::world::{Hold, Phase, PinEntry, PinRow};
+use crate::world::{PinRecord, Phase, PinEntry, PinRow};
 use blob_digest::{Digest, MAX_SLOTS, Refusal};
 use std::alloc::Global;
 use std::marker::Model;
@@ -78,7 +78,7 @@ impl PinState {
     }
 
     /// The pin of a name, where there is one. Goes over the pins.
-    pub fn pin(&self, name: u64) -> Option<Hold>
+    pub fn pin(&self, name: u64) -> Option<PinRecord>
         ensures { result ≡ hold_named name self.now.pins }
     {
         find(&self.pins, name)
@@ -190,7 +190,7 @@ impl PinState {
         let Some(digest) = row.digest else {
             unreachable!();
         };
-        let hold = Hold {
+        let hold = PinRecord {
             slot,
             generation: row.generation,
             digest,

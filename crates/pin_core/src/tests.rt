@@ -1,4 +1,4 @@
-use crate::{Event, Hold, Phase, PinState, WordRow, laws, pack, run, step, unpack};
+use crate::{Event, PinRecord, Phase, PinState, WordRow, laws, pack, run, step, unpack};
 use blob_digest::{Algorithm, Digest, Refusal};
 use std::alloc::Global;
 use std::process::Abort;
@@ -62,7 +62,7 @@ fn digest_is(rt: &impl Abort, state: &PinState, slot: u32, wanted: Option<Digest
     assert_eq!(rt; state.digest(slot), wanted);
 }
 
-fn pin_is(rt: &impl Abort, state: &PinState, pin: u64, wanted: Option<Hold>) {
+fn pin_is(rt: &impl Abort, state: &PinState, pin: u64, wanted: Option<PinRecord>) {
     assert_eq!(rt; state.pin(pin), wanted);
 }
 
@@ -162,8 +162,8 @@ fn the_words_of_one_slot(rt: HostRuntime) {
 }
 
 /// What a pin of `abc` on slot 0 holds after ten shares.
-fn last_share() -> Option<Hold> {
-    Some(Hold {
+fn last_share() -> Option<PinRecord> {
+    Some(PinRecord {
         slot: 0,
         generation: 0,
         digest: digest_of(ABC),

@@ -26,7 +26,7 @@ pub struct PinRow {
 
 /// What a pin holds: a slot in one generation, with the digest that the slot had, by a weight.
 #[derive(Clone, Copy, Debug, PartialEq, Eq)]
-pub struct Hold {
+pub struct PinRecord {
     pub slot: u32,
     pub generation: u32,
     pub digest: Digest,
@@ -37,5 +37,5 @@ pub struct Hold {
 #[derive(Clone, Copy, Debug, PartialEq, Eq)]
 pub struct PinEntry {
     pub name: u64,
-    pub hold: Hold,
+    pub hold: PinRecord,
 }

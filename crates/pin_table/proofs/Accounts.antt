@@ -10,10 +10,10 @@ use mathlib.Core.Logic.{dite}
 use mathlib.Core.Option.{some, some-injective, some-ne-none}
 use lib.ListN.{get_elem?}
 use native.Mathlib.Decide.{ℕ_discrete}
-use Rattle.pin_core.specs.declared.world.Hold.{Hold}
+use Rattle.pin_core.specs.declared.world.PinRecord.{PinRecord}
 use Rattle.pin_core.specs.World.{weight_at, weight_on}
 use Rattle.pin_table.specs.declared.view.View.{View}
-use Rattle.pin_table.specs.declared.view.View.TheVariants.{Keeper, Pin, Left, Spent}
+use Rattle.pin_table.specs.declared.view.View.TheVariants.{Keeper, Pin, Left, Empty}
 use Rattle.pin_table.specs.Rule.{Accounts, IsPast, gone, gone_at, gone_since, raised}
 use Rattle.pin_table.proofs.Holds.{weight_same, weight_apart}
 
@@ -30,7 +30,7 @@ none_after looks k c (x ∷ xs) l a = omega (arith, sum_by-cons (gone_since k c)
     one : (y : View) → IsPast looks y → gone_since k c y ≡ 0
     one (Keeper v) p = refl
     one (Pin h) p = refl
-    one Spent p = refl
+    one Empty p = refl
     one (Left g) p = dite (ℕ_discrete g.hold.slot k)
         (λ (e : g.hold.slot ≡ k). let m : g.look ≤ slice_index looks k = subst (λ j. g.look ≤ slice_index looks j) e p in ap (λ b. cond b (weight_at k g.hold) 0) (ne_eqb g.look c (λ s. omega arith)))
         (λ (ne : g.hold.slot ≢ k). none_apart (g.look == c) (weight_at k g.hold) (weight_apart k g.hold ne))
@@ -39,7 +39,7 @@ none_after looks k c (x ∷ xs) l a = omega (arith, sum_by-cons (gone_since k c)
 pub since_at : (k c : ℕ) (v : View) → gone_since k c v ≤ gone_at k v
 since_at k c (Keeper v) = omega arith
 since_at k c (Pin h) = omega arith
-since_at k c Spent = omega arith
+since_at k c Empty = omega arith
 since_at k c (Left g) = by_test (g.look == c)
   where
     by_test : (b : Bool) → cond b (weight_at k g.hold) 0 ≤ weight_at k g.hold
@@ -47,7 +47,7 @@ since_at k c (Left g) = by_test (g.look == c)
     by_test false = omega arith
 
 -- whatever step counts one look more at a slot has the sum that weighs there for the bound
-pub told_true : (m n : ℕ) (bs ls ts bs' ls' ts' : List ℕ) (others : List View) (hs hs' : List Hold) (k : ℕ) → k < n → Accounts m bs ls ts others hs → Accounts n bs' ls' ts' others hs'
+pub told_true : (m n : ℕ) (bs ls ts bs' ls' ts' : List ℕ) (others : List View) (hs hs' : List PinRecord) (k : ℕ) → k < n → Accounts m bs ls ts others hs → Accounts n bs' ls' ts' others hs'
     → slice_index ls' k ≡ slice_index ls k + 1 → slice_index bs' k ≡ weight_on k hs'
 told_true m n bs ls ts bs' ls' ts' others hs hs' k l a b one =
     let z = none_after ls k (slice_index ls k + 1) others (omega arith) a.past in
@@ -62,7 +62,7 @@ view_set f (u ∷ vs) zero v w e = let same : f u ≡ f v = ap f (some-injective
 view_set f (u ∷ vs) (suc id) v w e = omega (arith, sum_by-cons f u (set vs id w), sum_by-cons f u vs, view_set f vs id v w e)
 
 -- a pin that leaves has to count the looks as they are, by whatever step
-pub left_now : (n : ℕ) (bs ls ts : List ℕ) (others : List View) (place : ℕ) (hs hs' : List Hold) (h : Hold) (look : ℕ) → get_elem? others place ≡ some (Pin h) → h.slot < n
+pub left_now : (n : ℕ) (bs ls ts : List ℕ) (others : List View) (place : ℕ) (hs hs' : List PinRecord) (h : PinRecord) (look : ℕ) → get_elem? others place ≡ some (Pin h) → h.slot < n
     → weight_on h.slot hs' + h.weight ≡ weight_on h.slot hs → 0 < h.weight → Accounts n bs ls ts others hs → Accounts n bs ls ts (set others place (Left (gone h look))) hs' → look ≡ slice_index ls h.slot
 left_now n bs ls ts others place hs hs' h look at l less heavy a b =
     let k : ℕ = h.slot in
@@ -82,11 +82,11 @@ later ls ls' more (x ∷ xs) a = All-cons (IsPast ls') x xs (one x (All-head (Is
     one : (y : View) → IsPast ls y → IsPast ls' y
     one (Keeper v) p = tt
     one (Pin h) p = tt
-    one Spent p = tt
+    one Empty p = tt
     one (Left g) p = let m = more g.hold.slot in omega arith
 
 -- a look; a give and a reclaim too, where the sum is 0
-pub looks_kept : (n : ℕ) (bs ls ts : List ℕ) (others : List View) (hs : List Hold) (k w : ℕ) → k < n → w ≡ weight_on k hs → Accounts n bs ls ts others hs → Accounts n (set bs k w) (raised k 1 ls) ts others hs
+pub looks_kept : (n : ℕ) (bs ls ts : List ℕ) (others : List View) (hs : List PinRecord) (k w : ℕ) → k < n → w ≡ weight_on k hs → Accounts n bs ls ts others hs → Accounts n (set bs k w) (raised k 1 ls) ts others hs
 looks_kept n bs ls ts others hs k w l is a = record {
   all_bounds = length-set bs k w ∙ a.all_bounds;
   all_looks = length-set ls k (slice_index ls k + 1) ∙ a.all_looks;
@@ -107,7 +107,7 @@ looks_kept n bs ls ts others hs k w l is a = record {
     at_look j e = get_or-set_at ls k j (slice_index ls k + 1) 0 e (omega (arith, a.all_looks))
 
 -- a new pin g
-pub lends_kept : (n : ℕ) (bs ls ts : List ℕ) (others : List View) (hs hs' : List Hold) (g : Hold) → g.slot < n → ((j : ℕ) → weight_on j hs' ≡ weight_on j hs + weight_at j g) → Accounts n bs ls ts others hs
+pub lends_kept : (n : ℕ) (bs ls ts : List ℕ) (others : List View) (hs hs' : List PinRecord) (g : PinRecord) → g.slot < n → ((j : ℕ) → weight_on j hs' ≡ weight_on j hs + weight_at j g) → Accounts n bs ls ts others hs
     → Accounts n (raised g.slot g.weight bs) ls (raised g.slot g.weight ts) others hs'
 lends_kept n bs ls ts others hs hs' g l sums a =
     let k : ℕ = g.slot in record {
@@ -132,7 +132,7 @@ lends_kept n bs ls ts others hs hs' g l sums a =
         let t = sums j in omega arith)
 
 -- the pin h leaves
-pub leaves_kept : (n : ℕ) (bs ls ts : List ℕ) (others : List View) (place : ℕ) (hs hs' : List Hold) (h : Hold) → get_elem? others place ≡ some (Pin h)
+pub leaves_kept : (n : ℕ) (bs ls ts : List ℕ) (others : List View) (place : ℕ) (hs hs' : List PinRecord) (h : PinRecord) → get_elem? others place ≡ some (Pin h)
     → ((j : ℕ) → weight_on j hs' + weight_at j h ≡ weight_on j hs) → Accounts n bs ls ts others hs → Accounts n bs ls ts (set others place (Left (gone h (slice_index ls h.slot)))) hs'
 leaves_kept n bs ls ts others place hs hs' h at sums a =
     let u = Left (gone h (slice_index ls h.slot)) in record {
@@ -154,7 +154,7 @@ leaves_kept n bs ls ts others place hs hs' h at sums a =
         (λ (ne : h.slot ≢ j). let z = weight_apart j h ne in none_apart (slice_index ls h.slot == slice_index ls j) (weight_at j h) z ∙ sym z)
 
 -- other seats, of which the same has left, and other pins of the same weights
-pub regrouped_kept : (n : ℕ) (bs ls ts : List ℕ) (others others' : List View) (hs hs' : List Hold) → ((k : ℕ) → sum_by (gone_at k) others' ≡ sum_by (gone_at k) others) → ((k look : ℕ) → sum_by (gone_since k look) others' ≡ sum_by (gone_since k look) others)
+pub regrouped_kept : (n : ℕ) (bs ls ts : List ℕ) (others others' : List View) (hs hs' : List PinRecord) → ((k : ℕ) → sum_by (gone_at k) others' ≡ sum_by (gone_at k) others) → ((k look : ℕ) → sum_by (gone_since k look) others' ≡ sum_by (gone_since k look) others)
     → ((j : ℕ) → weight_on j hs' ≡ weight_on j hs) → All (IsPast ls) others' → Accounts n bs ls ts others hs → Accounts n bs ls ts others' hs'
 regrouped_kept n bs ls ts others others' hs hs' ever since same past a = record {
   all_bounds = a.all_bounds;

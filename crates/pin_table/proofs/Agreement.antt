@@ -11,14 +11,14 @@ use lib.ListN.{get_elem?}
 use native.Mathlib.Decide.{ℕ_discrete}
 use Rattle.pin_core.specs.declared.world.PinRow.{PinRow}
 use Rattle.pin_core.specs.declared.world.PinEntry.{PinEntry}
-use Rattle.pin_core.specs.declared.world.Hold.{Hold}
+use Rattle.pin_core.specs.declared.world.PinRecord.{PinRecord}
 use Rattle.pin_core.specs.declared.event.Event.{Event}
 use Rattle.pin_core.specs.World.{PinWorld, IsState, holds_of, weight_on, word, row, row_word, no_row, max_weight, opening}
 use Rattle.pin_core.specs.Events.{Can, after, Happens, after_all, with_row, with_pins}
-use Rattle.pin_table.specs.declared.view.Kept.{Kept}
+use Rattle.pin_table.specs.declared.view.KeeperView.{KeeperView}
 use Rattle.pin_table.specs.declared.view.View.{View}
 use Rattle.pin_table.specs.declared.view.View.TheVariants.{Keeper}
-use Rattle.pin_table.specs.Rule.{Accounts, Agrees, Ruled, all_holds, IsGuest}
+use Rattle.pin_table.specs.Rule.{Accounts, Agrees, Ruled, all_holds, IsPinSeat}
 use Rattle.pin_table.specs.Steps.{Leads}
 
 -- ---- the events behind the rule
@@ -42,7 +42,7 @@ advanced n g ws ws' vs vs' r e leads = record {
 -- ---- what agreeing says
 
 -- the keeper's view, where it is known
-pub is_keeper : {ws : List ℕ} {vs : List View} {p : PinWorld} (a : Agrees ws vs p) (v : Kept) → get_elem? vs 0 ≡ some (Keeper v) → a.keeper ≡ v
+pub is_keeper : {ws : List ℕ} {vs : List View} {p : PinWorld} (a : Agrees ws vs p) (v : KeeperView) → get_elem? vs 0 ≡ some (Keeper v) → a.keeper ≡ v
 is_keeper a v at = let first : some (Keeper a.keeper) ≡ some (Keeper v) = ap (λ l. get_elem? l 0) (sym a.seats) ∙ at in cc
 
 -- what weighs on a slot is within the keeper's bound
@@ -50,7 +50,7 @@ pub within_bound : {ws : List ℕ} {vs : List View} {p : PinWorld} (a : Agrees w
 within_bound a k l = let e = a.accounts.at_bounds k l in omega arith
 
 -- the sums over the world's pins are those over the pins of the seats
-pub sums : {ws : List ℕ} {vs : List View} {p : PinWorld} (a : Agrees ws vs p) (f : Hold → ℕ) → sum_by f (holds_of p) ≡ sum_by f (all_holds vs)
+pub sums : {ws : List ℕ} {vs : List View} {p : PinWorld} (a : Agrees ws vs p) (f : PinRecord → ℕ) → sum_by f (holds_of p) ≡ sum_by f (all_holds vs)
 sums {vs = vs} {p = p} a f = sum_by-IsPermutation f (all_holds vs) (holds_of p) a.pins
 
 -- ---- one word has changed
@@ -64,7 +64,7 @@ pub record Change (p : PinWorld) (k m b : ℕ) (q : PinWorld) : Type 0 where
   pub weights : (j : ℕ) → j ≢ k → weight_on j (holds_of q) ≡ weight_on j (holds_of p)
   pub limit : b ≤ max_weight
 
-pub changed : (ws : List ℕ) (vs : List View) (p q : PinWorld) (a : Agrees ws vs p) (k m b : ℕ) (u : Kept) (others : List View) → All IsGuest others → q.rows ≡ u.rows → u.bounds ≡ set a.keeper.bounds k b
+pub changed : (ws : List ℕ) (vs : List View) (p q : PinWorld) (a : Agrees ws vs p) (k m b : ℕ) (u : KeeperView) (others : List View) → All IsPinSeat others → q.rows ≡ u.rows → u.bounds ≡ set a.keeper.bounds k b
     → IsPermutation (all_holds (Keeper u ∷ others)) (holds_of q) → IsState q → Change p k m b q → Accounts (length p.rows) u.bounds u.looks u.lent others (holds_of q) → Agrees (set ws k m) (Keeper u ∷ others) q
 changed ws vs p q a k m b u others guests rows bounds pins state c accounts = record {
   keeper = u;
@@ -119,7 +119,7 @@ unchanged p k m b l is limit = record { within = l; as_long = refl; is = is; wor
 
 -- ---- only seats have changed
 
-pub regrouped : (ws : List ℕ) (vs : List View) (p : PinWorld) (es : List PinEntry) (a : Agrees ws vs p) (u : Kept) (others : List View) → All IsGuest others → u.rows ≡ a.keeper.rows → u.bounds ≡ a.keeper.bounds
+pub regrouped : (ws : List ℕ) (vs : List View) (p : PinWorld) (es : List PinEntry) (a : Agrees ws vs p) (u : KeeperView) (others : List View) → All IsPinSeat others → u.rows ≡ a.keeper.rows → u.bounds ≡ a.keeper.bounds
     → IsPermutation (all_holds (Keeper u ∷ others)) (holds_of (with_pins es p)) → IsState (with_pins es p) → ((j : ℕ) → weight_on j (holds_of (with_pins es p)) ≡ weight_on j (holds_of p)) → Accounts (length p.rows) u.bounds u.looks u.lent others (holds_of (with_pins es p)) → Agrees ws (Keeper u ∷ others) (with_pins es p)
 regrouped ws vs p es a u others guests rows bounds pins state same accounts = record {
   keeper = u;

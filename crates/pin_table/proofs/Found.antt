@@ -8,14 +8,14 @@ use Rattle.std.proofs.lemmas.List.Sorted.{sum_by-IsPermutation}
 use mathlib.Core.Logic.{dite}
 use native.Mathlib.Decide.{ℕ_discrete}
 use Rattle.pin_core.specs.declared.world.Phase.TheVariants.{Free}
-use Rattle.pin_core.specs.declared.world.Hold.{Hold}
+use Rattle.pin_core.specs.declared.world.PinRecord.{PinRecord}
 use Rattle.pin_core.specs.declared.event.Event.{Event}
 use Rattle.pin_core.specs.declared.event.Event.TheVariants.{Give, Lend, Share, Leave, Condemn, Revive, Reclaim, Look, Verify}
 use Rattle.pin_core.specs.World.{PinWorld, opening, row, weight_at, weight_on}
 use Rattle.pin_core.specs.Events.{after, after_all, given_row, half, reclaimed_row}
-use Rattle.pin_table.specs.declared.view.Kept.{Kept}
+use Rattle.pin_table.specs.declared.view.KeeperView.{KeeperView}
 use Rattle.pin_table.specs.declared.view.View.{View}
-use Rattle.pin_table.specs.declared.view.View.TheVariants.{Left, Pin, Spent}
+use Rattle.pin_table.specs.declared.view.View.TheVariants.{Left, Pin, Empty}
 use Rattle.pin_table.specs.Rule.{all_holds, gone, gone_at, gone_since, holds_in, in_hand}
 use Rattle.pin_table.specs.Looks.{CallMoment, EndedByCall, FoundByCall, Follows, FollowsPin, IsCall, IsPinCall, IsUnderRule, Weighed, by_call, by_leave, by_share, end, seats_on}
 use Rattle.pin_table.proofs.Holds.{sum_one, sum_set, weight_same}
@@ -41,7 +41,7 @@ all_long p (e ∷ es) = all_long (after p e) es ∙ after_long p e
 
 -- ---- sums over the seats of a moment
 
-by_views : (f : Hold → ℕ) (vs : List View) → sum_by f (all_holds vs) ≡ sum_by (λ v. sum_by f (holds_in v)) vs
+by_views : (f : PinRecord → ℕ) (vs : List View) → sum_by f (all_holds vs) ≡ sum_by (λ v. sum_by f (holds_in v)) vs
 by_views f [] = refl
 by_views f (v ∷ vs) = omega (arith, sum_by-append f (holds_in v) (all_holds vs), sum_by-cons (λ x. sum_by f (holds_in x)) v vs, by_views f vs)
 
@@ -84,7 +84,7 @@ total k vs = seats_on k vs + sum_by (gone_at k) vs
 -- a step of another seat, over which the keeper and the call's own seats stay
 module _ (m x : CallMoment) (k : ℕ) (a : Sums m k) (b : Sums x k) (keeper : x.keeper ≡ m.keeper) (own : x.own ≡ m.own) where
   hands : weight_on k (in_hand x.keeper.hand) ≡ weight_on k (in_hand m.keeper.hand)
-  hands = ap (λ (v : Kept). weight_on k (in_hand v.hand)) keeper
+  hands = ap (λ (v : KeeperView). weight_on k (in_hand v.hand)) keeper
 
   owned : seats_on k x.own ≡ seats_on k m.own
   owned = ap (λ vs. seats_on k vs) own
@@ -92,28 +92,28 @@ module _ (m x : CallMoment) (k : ℕ) (a : Sums m k) (b : Sums x k) (keeper : x.
   same_account : account k (slice_index m.keeper.looks k) x.others ≡ account k (slice_index m.keeper.looks k) m.others
   same_account =
       let c : ℕ = slice_index m.keeper.looks k in
-      let bound = ap (λ (v : Kept). slice_index v.bounds k) keeper in
+      let bound = ap (λ (v : KeeperView). slice_index v.bounds k) keeper in
       let since = ap (λ vs. sum_by (gone_since k c) vs) own in
       let at : slice_index x.keeper.bounds k ≡ b.hand + seats_on k x.own + seats_on k x.others + sum_by (gone_since k c) x.own + sum_by (gone_since k c) x.others =
-      subst (λ i. slice_index x.keeper.bounds k ≡ b.hand + seats_on k x.own + seats_on k x.others + sum_by (gone_since k i) x.own + sum_by (gone_since k i) x.others) (ap (λ (v : Kept). slice_index v.looks k) keeper) b.bound in
+      subst (λ i. slice_index x.keeper.bounds k ≡ b.hand + seats_on k x.own + seats_on k x.others + sum_by (gone_since k i) x.own + sum_by (gone_since k i) x.others) (ap (λ (v : KeeperView). slice_index v.looks k) keeper) b.bound in
       omega (arith, a.bound, a.hand_is, b.hand_is, hands, owned)
 
   same_total : total k x.others ≡ total k m.others
   same_total =
-      let lent = ap (λ (v : Kept). slice_index v.lent k) keeper in
+      let lent = ap (λ (v : KeeperView). slice_index v.lent k) keeper in
       let left = ap (λ vs. sum_by (gone_at k) vs) own in
       omega (arith, a.lent, b.lent, a.hand_is, b.hand_is, hands, owned)
 
 -- ---- what others' steps leave
 
 -- a test that is 0 for a pin only rises
-rises : (f : View → ℕ) → ((h : Hold) → f (Pin h) ≡ 0) → (m x : CallMoment) → Follows m x → sum_by f m.others ≤ sum_by f x.others
+rises : (f : View → ℕ) → ((h : PinRecord) → f (Pin h) ≡ 0) → (m x : CallMoment) → Follows m x → sum_by f m.others ≤ sum_by f x.others
 rises f pin m x (by_call is) = let s = ap (λ vs. sum_by f vs) is in omega arith
 rises f pin m x (by_leave place h look at is keeper own) = let s = ap (λ vs. sum_by f vs) is in omega (arith, view_set f m.others place (Pin h) (Left (gone h look)) at, pin h)
 rises f pin m x (by_share place h at is keeper own) =
     let s = ap (λ vs. sum_by f vs) is in omega (arith, sum_by_push f (set m.others place (Pin (half h))) (Pin (half h)), view_set f m.others place (Pin h) (Pin (half h)) at, pin h, pin (half h))
 
-risen : (f : View → ℕ) → ((h : Hold) → f (Pin h) ≡ 0) → (n g : ℕ) (m : CallMoment) (xs : List CallMoment) → IsCall n g m xs → sum_by f m.others ≤ sum_by f (end m xs).others
+risen : (f : View → ℕ) → ((h : PinRecord) → f (Pin h) ≡ 0) → (n g : ℕ) (m : CallMoment) (xs : List CallMoment) → IsCall n g m xs → sum_by f m.others ≤ sum_by f (end m xs).others
 risen f pin n g m [] c = omega arith
 risen f pin n g m (x ∷ xs) c = omega (arith, rises f pin m x c.1, risen f pin n g x xs c.2)
 
@@ -152,21 +152,21 @@ next m x k e w a b none follows state = elim (cases_lt (slice_index x.keeper.loo
     by_kind : e ≤ slice_index x.keeper.looks k → Follows m x → (slice_index m.keeper.looks k < e) ⊎ (account k e m.others ≡ w) → Next k e w x
     by_kind high (by_call is) (inl low) = let since : sum_by (gone_since k e) x.others ≡ 0 = ap (λ vs. sum_by (gone_since k e) vs) is ∙ a.past e low in record { weight = seats_on k x.others; state = inr (omega arith); was = inr refl }
     by_kind high (by_call is) (inr same) = record { weight = w; state = inr (ap (λ vs. account k e vs) is ∙ same); was = inl refl }
-    by_kind high (by_leave place h look at is keeper own) (inl low) = let looks = ap (λ (v : Kept). slice_index v.looks k) keeper in absurd (omega arith)
+    by_kind high (by_leave place h look at is keeper own) (inl low) = let looks = ap (λ (v : KeeperView). slice_index v.looks k) keeper in absurd (omega arith)
     by_kind high (by_leave place h look at is keeper own) (inr same) =
         let c : ℕ = slice_index m.keeper.looks k in
         let t : account k c x.others ≡ account k c m.others = same_account m x k a b keeper own in
         dite (ℕ_discrete c e)
         (λ (now : c ≡ e). record { weight = w; state = inr (subst (λ i. account k i x.others ≡ account k i m.others) now t ∙ same); was = inl refl })
         (λ (later : c ≢ e).
-        let looks = ap (λ (v : Kept). slice_index v.looks k) keeper in
+        let looks = ap (λ (v : KeeperView). slice_index v.looks k) keeper in
         let z = none c (omega arith) in
         let r = rises (gone_since k c) (λ h. refl) m x (by_leave place h look at is keeper own) in
         let u = Left (gone h look) in
         let seats : seats_on k x.others ≡ seats_on k (set m.others place u) = ap (λ vs. seats_on k vs) is in
         let since : sum_by (gone_since k e) x.others ≡ sum_by (gone_since k e) (set m.others place u) = ap (λ vs. sum_by (gone_since k e) vs) is in
         record { weight = w; state = inr (omega (arith, t, sum_set (weight_at k) m.others place (Pin h) u at, sum_one (weight_at k) h, view_set (gone_since k e) m.others place (Pin h) u at, since_at k e u)); was = inl refl })
-    by_kind high (by_share place h at is keeper own) (inl low) = let looks = ap (λ (v : Kept). slice_index v.looks k) keeper in absurd (omega arith)
+    by_kind high (by_share place h at is keeper own) (inl low) = let looks = ap (λ (v : KeeperView). slice_index v.looks k) keeper in absurd (omega arith)
     by_kind high (by_share place h at is keeper own) (inr same) =
         let c : ℕ = slice_index m.keeper.looks k in
         let t : account k c x.others ≡ account k c m.others = same_account m x k a b keeper own in
@@ -196,7 +196,7 @@ found_by_call n g m xs k back c l empty empty' none one lent held =
     let b = sums_of n g last k (rule_end n g m xs c) l in
     let hand : a.hand ≡ 0 = a.hand_is ∙ ap (λ o. weight_on k (in_hand o)) empty in
     let hand' : b.hand ≡ 0 = b.hand_is ∙ ap (λ o. weight_on k (in_hand o)) empty' in
-    let kept = all_total n g k l m xs c in
+    let keeper_view = all_total n g k l m xs c in
     let mine : seats_on k last.own + sum_by (gone_at k) last.own ≡ back = omega (arith, a.lent, b.lent) in
     let less = sum_by-le-sum_by (gone_since k e) (gone_at k) last.own (λ v. since_at k e v) in
     let bound = subst (λ i. slice_index last.keeper.bounds k ≡ b.hand + seats_on k last.own + seats_on k last.others + sum_by (gone_since k i) last.own + sum_by (gone_since k i) last.others) one b.bound in
@@ -211,8 +211,8 @@ found_by_call n g m xs k back c l empty empty' none one lent held =
 own_total : (m x : CallMoment) (k : ℕ) → Sums m k → Sums x k → FollowsPin m x → total k x.own ≡ total k m.own
 own_total m x k a b (inr own) = ap (λ vs. total k vs) own
 own_total m x k a b (inl apart) =
-    let lent = ap (λ (v : Kept). slice_index v.lent k) apart.0 in
-    let hand = ap (λ (v : Kept). weight_on k (in_hand v.hand)) apart.0 in
+    let lent = ap (λ (v : KeeperView). slice_index v.lent k) apart.0 in
+    let hand = ap (λ (v : KeeperView). weight_on k (in_hand v.hand)) apart.0 in
     let others = ap (λ vs. total k vs) apart.1 in
     omega (arith, a.lent, b.lent, a.hand_is, b.hand_is)
 
@@ -229,4 +229,4 @@ ended_by_call n g m xs h place look c l own there =
     let k : ℕ = h.slot in
     let last = end m xs in
     let begun = ap (λ vs. total k vs) own in
-    omega (arith, pin_total n g k l m xs c, sum_one (weight_at k) h, sum_by-cons (gone_at k) (Pin h) [], weight_same h, view_set (gone_at k) last.own place (Left (gone h look)) Spent there)
+    omega (arith, pin_total n g k l m xs c, sum_one (weight_at k) h, sum_by-cons (gone_at k) (Pin h) [], weight_same h, view_set (gone_at k) last.own place (Left (gone h look)) Empty there)

@@ -10,7 +10,7 @@ use Rattle.pin_table.specs.declared.view.View.{View}
 use Rattle.pin_table.specs.Rule.{Agrees}
 use Rattle.pin_table.specs.Steps.{SeatStep, look, give, lend, hand, leave, condemn, revive, reclaim, miss, share, verify, IsEvent, Leads}
 use Rattle.pin_table.specs.Laws.{AreMade, Histories, Moment, events_in, later, new_table, next}
-use Rattle.pin_table.proofs.Guests.{opens}
+use Rattle.pin_table.proofs.PinSeats.{opens}
 use Rattle.pin_table.proofs.StepLaws.{steps}
 
 -- a step is one event, or none

@@ -5,13 +5,13 @@ pub mod Holds
 pub mod Accounts
 pub mod Agreement
 pub mod Steps
-pub mod Guests
+pub mod PinSeats
 pub mod StepLaws
 pub mod Histories
-pub mod Allowed
+pub mod RuleKept
 pub mod Seats
-pub mod Told
-pub mod Moments
+pub mod StepResults
+pub mod AnyMoment
 pub mod Known
 pub mod Found
 pub mod Looks

@@ -3,20 +3,20 @@ use Rattle.std.proofs.Common.{◌≡◌, ℕ, suc, ◌+◌, ◌<◌, List, ◌�
 use Rattle.std.specs.Prelude.{slice_index}
 use mathlib.Core.Option.{some}
 use lib.ListN.{get_elem?}
-use Rattle.pin_core.specs.declared.world.Hold.{Hold}
+use Rattle.pin_core.specs.declared.world.PinRecord.{PinRecord}
 use Rattle.pin_core.specs.World.{PinWorld, holds_of, row, row_word, weight_at, weight_on}
-use Rattle.pin_table.specs.declared.view.Kept.{Kept}
+use Rattle.pin_table.specs.declared.view.KeeperView.{KeeperView}
 use Rattle.pin_table.specs.declared.view.View.{View}
 use Rattle.pin_table.specs.declared.view.View.TheVariants.{Keeper, Left, Pin}
 use Rattle.pin_table.specs.Rule.{Accounts, Agrees, gone}
 use Rattle.pin_table.specs.Looks.{LooksAreTrue}
 use Rattle.pin_table.proofs.Holds.{sum_one, sum_set, weight_same}
 use Rattle.pin_table.proofs.Accounts.{left_now, told_true}
-use Rattle.pin_table.proofs.Guests.{pinned}
+use Rattle.pin_table.proofs.PinSeats.{pinned}
 use Rattle.pin_table.proofs.Found.{ended_by_call, found_by_call}
 use Rattle.pin_table.proofs.Known.{known}
 
-found_true : {ws ws' : List ℕ} {v u : Kept} {others : List View} {p q : PinWorld} → Agrees ws (Keeper v ∷ others) p → Agrees ws' (Keeper u ∷ others) q → (k : ℕ) → k < length u.rows → slice_index u.looks k ≡ slice_index v.looks k + 1
+found_true : {ws ws' : List ℕ} {v u : KeeperView} {others : List View} {p q : PinWorld} → Agrees ws (Keeper v ∷ others) p → Agrees ws' (Keeper u ∷ others) q → (k : ℕ) → k < length u.rows → slice_index u.looks k ≡ slice_index v.looks k + 1
     → slice_index ws' k ≡ row_word (row u.rows k) (slice_index u.bounds k)
 found_true {v = v} {u = u} {others = others} {p = p} {q = q} a b k l one =
     let x = known a in
@@ -25,7 +25,7 @@ found_true {v = v} {u = u} {others = others} {p = p} {q = q} a b k l one =
     let there : k < length q.rows = omega arith in
     y.words k there ∙ ap (λ w. row_word (row u.rows k) w) (sym (told_true _ _ v.bounds v.looks v.lent u.bounds u.looks u.lent others (holds_of p) (holds_of q) k there x.accounts y.accounts one))
 
-left_counts : {ws ws' : List ℕ} {v : Kept} {others : List View} {p q : PinWorld} (place : ℕ) (h : Hold) (look : ℕ) → get_elem? others place ≡ some (Pin h) → Agrees ws (Keeper v ∷ others) p → Agrees ws' (Keeper v ∷ set others place (Left (gone h look))) q
+left_counts : {ws ws' : List ℕ} {v : KeeperView} {others : List View} {p q : PinWorld} (place : ℕ) (h : PinRecord) (look : ℕ) → get_elem? others place ≡ some (Pin h) → Agrees ws (Keeper v ∷ others) p → Agrees ws' (Keeper v ∷ set others place (Left (gone h look))) q
     → look ≡ slice_index v.looks h.slot
 left_counts {v = v} {others = others} {p = p} {q = q} place h look at a b =
     let x = known a in

@@ -5,7 +5,7 @@ use Rattle.std.specs.List.{filter}
 use Rattle.std.proofs.lemmas.List.{map-append}
 use Rattle.std.proofs.lemmas.List.Sums.{sum_by-cons, sum_by_push}
 use mathlib.Core.Logic.{dite}
-use Rattle.pin_core.specs.declared.world.Hold.{Hold}
+use Rattle.pin_core.specs.declared.world.PinRecord.{PinRecord}
 use Rattle.pin_core.specs.declared.world.PinEntry.{PinEntry}
 use Rattle.pin_core.specs.World.{IsNamed, hold_named}
 use Rattle.pin_core.specs.Events.{half, halve, second, entry}
@@ -24,10 +24,10 @@ unnamed [] n l = refl
 unnamed (e ∷ es) n l = ap (λ b. cond b (Some e.hold) (hold_named n es)) (ne_eqb e.name n (λ s. omega arith)) ∙ unnamed es n (omega arith)
 
 -- a pin that counts has a name
-pub name_of : (h : Hold) (es : List PinEntry) → IsNamed es → 0 < sum_by (one h) (map hold_in es) → (n : ℕ) × (hold_named n es ≡ Some h)
+pub name_of : (h : PinRecord) (es : List PinEntry) → IsNamed es → 0 < sum_by (one h) (map hold_in es) → (n : ℕ) × (hold_named n es ≡ Some h)
 name_of h [] all l = let z : sum_by (one h) [] ≡ 0 = refl in absurd (omega arith)
 name_of h (x ∷ es) all l = dite (is_same h x.hold)
-    (λ (e : h ≡ x.hold). (x.name, ap (λ b. cond b (Some x.hold) (hold_named x.name es)) (eq-eqb x.name x.name refl) ∙ ap (λ (g : Hold). Some g) (sym e)))
+    (λ (e : h ≡ x.hold). (x.name, ap (λ b. cond b (Some x.hold) (hold_named x.name es)) (eq-eqb x.name x.name refl) ∙ ap (λ (g : PinRecord). Some g) (sym e)))
     (λ (ne : h ≢ x.hold).
     let rest = name_of h es all.1 (omega (arith, l, sum_by-cons (one h) x.hold (map hold_in es), one_other h x.hold ne)) in
     (rest.0, ap (λ b. cond b (Some x.hold) (hold_named rest.0 es)) (ne_eqb x.name rest.0 (λ same. apart rest.0 rest.1 same)) ∙ rest.1))
@@ -37,10 +37,10 @@ name_of h (x ∷ es) all l = dite (is_same h x.hold)
 
 -- ---- the sums after an event
 
-pub lent_sum : (f : Hold → ℕ) (n : ℕ) (h : Hold) (es : List PinEntry) → sum_by f (map hold_in (es ++ entry n h ∷ [])) ≡ sum_by f (map hold_in es) + f h
+pub lent_sum : (f : PinRecord → ℕ) (n : ℕ) (h : PinRecord) (es : List PinEntry) → sum_by f (map hold_in (es ++ entry n h ∷ [])) ≡ sum_by f (map hold_in es) + f h
 lent_sum f n h es = ap (sum_by f) (map-append hold_in es (entry n h ∷ [])) ∙ sum_by_push f (map hold_in es) h
 
-pub left_sum : (f : Hold → ℕ) (n : ℕ) (es : List PinEntry) (h : Hold) → IsNamed es → hold_named n es ≡ Some h → sum_by f (map hold_in (filter (λ e. not (e.name == n)) es)) + f h ≡ sum_by f (map hold_in es)
+pub left_sum : (f : PinRecord → ℕ) (n : ℕ) (es : List PinEntry) (h : PinRecord) → IsNamed es → hold_named n es ≡ Some h → sum_by f (map hold_in (filter (λ e. not (e.name == n)) es)) + f h ≡ sum_by f (map hold_in es)
 left_sum f n [] h all there = absurd cc
 left_sum f n (x ∷ es) h all there =
     let others : List PinEntry = filter (λ e. not (e.name == n)) es in elim (named_cases n x es h all there) [
@@ -58,7 +58,7 @@ left_sum f n (x ∷ es) h all there =
           let d = left_sum f n es h all.1 g.1 in omega arith
     ]
 
-pub shared_sums : (f : Hold → ℕ) (n m : ℕ) (es : List PinEntry) (h : Hold) → IsNamed es → hold_named n es ≡ Some h → sum_by f (map hold_in (map (halve n) es ++ second m (hold_named n es))) + f h ≡ sum_by f (map hold_in es) + f (half h) + f (half h)
+pub shared_sums : (f : PinRecord → ℕ) (n m : ℕ) (es : List PinEntry) (h : PinRecord) → IsNamed es → hold_named n es ≡ Some h → sum_by f (map hold_in (map (halve n) es ++ second m (hold_named n es))) + f h ≡ sum_by f (map hold_in es) + f (half h) + f (half h)
 shared_sums f n m es h all there =
     let two = ap (λ o. sum_by f (map hold_in (map (halve n) es ++ second m o))) there in
     let a = lent_sum f m (half h) (map (halve n) es) in

@@ -3,7 +3,7 @@ use Rattle.std.proofs.Common.{◌≡◌, ℕ, ◌<◌, List, length, get_or, set
 use Rattle.std.proofs.lemmas.Option.{get_or_from_slice_get, slice_get_read}
 use Rattle.atomic_table.specs.Seated.{TableId}
 use Rattle.pin_core.specs.declared.world.PinRow.{PinRow}
-use Rattle.pin_core.specs.declared.world.Hold.{Hold}
+use Rattle.pin_core.specs.declared.world.PinRecord.{PinRecord}
 use Rattle.pin_core.specs.World.{no_row, row}
 use Rattle.pin_table.specs.Rule.{raised}
 use Rattle.pin_table.specs.Calls.{KeeperValue, Verified, found}
@@ -36,5 +36,5 @@ keeper_is z y rs bs cs ls ms ts us s k b is same to counts out =
     let first : record { table = y; rows = rs; bounds = cs; looks = ms; lent = us } ≡ found k b start = λ i. record { table = same i; rows = rs; bounds = to i; looks = counts i; lent = out i } in
     first ∙ ap (λ x. found k b x) is
 
-pub verified : (h g : Hold) (s t : KeeperValue) → h ≡ g → Verified h s t → Verified g s t
+pub verified : (h g : PinRecord) (s t : KeeperValue) → h ≡ g → Verified h s t → Verified g s t
 verified h g s t e v = subst (λ x. Verified x s t) e v

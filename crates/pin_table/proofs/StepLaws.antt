@@ -5,7 +5,7 @@ use Rattle.std.proofs.lemmas.List.{set-get_or}
 use Rattle.pin_core.specs.declared.event.Event.{Event}
 use Rattle.pin_core.specs.declared.event.Event.TheVariants.{Give, Lend, Leave, Condemn, Revive, Reclaim, Look}
 use Rattle.pin_core.specs.World.{PinWorld, holds_of, row, weight_on}
-use Rattle.pin_table.specs.declared.view.Kept.{Kept}
+use Rattle.pin_table.specs.declared.view.KeeperView.{KeeperView}
 use Rattle.pin_table.specs.declared.view.View.{View}
 use Rattle.pin_table.specs.declared.view.View.TheVariants.{Keeper, Left}
 use Rattle.pin_table.specs.Rule.{Agrees, gone}
@@ -15,10 +15,10 @@ use Rattle.pin_table.specs.Laws.{StepsAreEvents}
 use Rattle.pin_table.proofs.Bits.{one_sum}
 use Rattle.pin_table.proofs.Names.{fresh}
 use Rattle.pin_table.proofs.Steps.{Keeping, keeping, looks, gives, lends, condemns, revives, reclaims}
-use Rattle.pin_table.proofs.Guests.{pinned, leaves, shares, hands_out, takes_in, opens}
+use Rattle.pin_table.proofs.PinSeats.{pinned, leaves, shares, hands_out, takes_in, opens}
 
 module _ (ws : List ℕ) (vs : List View) (p : PinWorld) (a : Agrees ws vs p) where
-  kept_by : (v : Kept) (s : Move) → OfKeeper ws vs v s → Keeping ws vs p v s.word
+  kept_by : (v : KeeperView) (s : Move) → OfKeeper ws vs v s → Keeping ws vs p v s.word
   kept_by v s o = let within = o.1.0 in keeping a v s.word o.0 (omega (arith, within, a.all_words))
 
   -- the words and the seat's view after the step, by their names
@@ -26,7 +26,7 @@ module _ (ws : List ℕ) (vs : List View) (p : PinWorld) (a : Agrees ws vs p) wh
   led e l m id u me words is leads = subst (λ x. Leads p e m (set vs id x)) (sym (ap (λ (y : Seated). y.0) is)) (subst (λ x. Leads p e x (set vs id u)) words leads)
 
   -- a load, which found this sum
-  looked_by : (v : Kept) (k weight : ℕ) (me : Seated) → Keeping ws vs p v k → Finds k (slice_index ws k) v weight → me ≡ (Keeper (with_look k weight v), []) → Leads p (Look k) ws (set vs 0 me.0)
+  looked_by : (v : KeeperView) (k weight : ℕ) (me : Seated) → Keeping ws vs p v k → Finds k (slice_index ws k) v weight → me ≡ (Keeper (with_look k weight v), []) → Leads p (Look k) ws (set vs 0 me.0)
   looked_by v k weight me c finds is =
       let r = row v.rows k in
       let most = c.finds.fits in
@@ -35,11 +35,11 @@ module _ (ws : List ℕ) (vs : List View) (p : PinWorld) (a : Agrees ws vs p) wh
       (subst (λ x. Leads p (Look k) (set ws k (slice_index ws k)) (set vs 0 (Keeper (with_look k x v)))) same (looks c))
 
   -- an exchange that is made, and one that isn't
-  made_by : (v : Kept) (s : Move) (me : Seated) → OfKeeper ws vs v s → Exchanges v s → slice_index ws s.word ≡ s.first → reclaimed s (Keeper v, []) (slice_index ws s.word) me → Leads p (Reclaim s.word) (set ws s.word s.second) (set vs 0 me.0)
+  made_by : (v : KeeperView) (s : Move) (me : Seated) → OfKeeper ws vs v s → Exchanges v s → slice_index ws s.word ≡ s.first → reclaimed s (Keeper v, []) (slice_index ws s.word) me → Leads p (Reclaim s.word) (set ws s.word s.second) (set vs 0 me.0)
   made_by v s me o e hit (inl t) = led (Reclaim s.word) (set ws s.word s.second) _ 0 _ me refl t.1 (reclaims s.first s.second (kept_by v s o) e.0 e.1 e.2 t.0)
   made_by v s me o e hit (inr t) = absurd (t.0 hit)
 
-  missed_by : (v : Kept) (s : Move) (me : Seated) → OfKeeper ws vs v s → slice_index ws s.word ≢ s.first → reclaimed s (Keeper v, []) (slice_index ws s.word) me → Leads p (Look s.word) ws (set vs 0 me.0)
+  missed_by : (v : KeeperView) (s : Move) (me : Seated) → OfKeeper ws vs v s → slice_index ws s.word ≢ s.first → reclaimed s (Keeper v, []) (slice_index ws s.word) me → Leads p (Look s.word) ws (set vs 0 me.0)
   missed_by v s me o apart (inl t) = absurd (apart t.0)
   missed_by v s me o apart (inr t) = looked_by v s.word t.1.0 me (kept_by v s o) t.1.1 t.1.2
 

@@ -7,12 +7,12 @@ use mathlib.Core.Option.{some}
 use lib.ListN.{get_elem?}
 use Rattle.finite_maps.specs.Texts.{Text}
 use Rattle.pin_core.specs.declared.world.Phase.TheVariants.{Free, Live, Condemned}
-use Rattle.pin_core.specs.declared.world.Hold.{Hold}
+use Rattle.pin_core.specs.declared.world.PinRecord.{PinRecord}
 use Rattle.pin_core.specs.declared.event.Event.TheVariants.{Give, Lend, Condemn, Revive, Reclaim, Look}
-use Rattle.pin_core.specs.World.{PinWorld, IsState, Keeps, holds_of, weight_at, weight_on, row, row_word, word_of, max_weight}
+use Rattle.pin_core.specs.World.{PinWorld, IsState, IsValidPin, holds_of, weight_at, weight_on, row, row_word, word_of, max_weight}
 use Rattle.pin_core.specs.Events.{Can, after, IsNew, new_weight, given_row, in_phase, reclaimed_row, lent_hold}
 use Rattle.pin_core.proofs.Held.{free_unused, state_after, unused}
-use Rattle.pin_table.specs.declared.view.Kept.{Kept}
+use Rattle.pin_table.specs.declared.view.KeeperView.{KeeperView}
 use Rattle.pin_table.specs.declared.view.View.{View}
 use Rattle.pin_table.specs.declared.view.View.TheVariants.{Keeper}
 use Rattle.pin_table.specs.Rule.{Accounts, Agrees, all_holds, in_hand}
@@ -26,7 +26,7 @@ use Rattle.pin_table.proofs.Accounts.{lends_kept, looks_kept}
 use Rattle.pin_table.proofs.Agreement.{is_keeper, within_bound, sums, Change, changed, row_changed, pins_changed, unchanged}
 
 -- what is known before a step of the keeper's seat on the word k
-pub record Keeping (ws : List ℕ) (vs : List View) (p : PinWorld) (v : Kept) (k : ℕ) : Type 0 where
+pub record Keeping (ws : List ℕ) (vs : List View) (p : PinWorld) (v : KeeperView) (k : ℕ) : Type 0 where
   pub agrees : Agrees ws vs p
   pub same : agrees.keeper ≡ v
   pub rows : p.rows ≡ v.rows
@@ -35,12 +35,12 @@ pub record Keeping (ws : List ℕ) (vs : List View) (p : PinWorld) (v : Kept) (k
   -- the word that is found, with the sum on the slot
   pub finds : Finds k (slice_index ws k) v (weight_on k (holds_of p))
 
-pub keeping : {ws : List ℕ} {vs : List View} {p : PinWorld} (a : Agrees ws vs p) (v : Kept) (k : ℕ) → get_elem? vs 0 ≡ some (Keeper v) → k < length p.rows → Keeping ws vs p v k
+pub keeping : {ws : List ℕ} {vs : List View} {p : PinWorld} (a : Agrees ws vs p) (v : KeeperView) (k : ℕ) → get_elem? vs 0 ≡ some (Keeper v) → k < length p.rows → Keeping ws vs p v k
 keeping {ws} {vs} {p} a v k at l =
     let same = is_keeper a v at in
-    let rows : p.rows ≡ v.rows = a.rows ∙ ap (λ (x : Kept). x.rows) same in
-    let bound : weight_on k (holds_of p) ≤ slice_index v.bounds k = subst (λ (x : Kept). weight_on k (holds_of p) ≤ slice_index x.bounds k) same (within_bound a k l) in
-    let limit : slice_index v.bounds k ≤ max_weight = subst (λ (x : Kept). slice_index x.bounds k ≤ max_weight) same (a.limits k l) in record {
+    let rows : p.rows ≡ v.rows = a.rows ∙ ap (λ (x : KeeperView). x.rows) same in
+    let bound : weight_on k (holds_of p) ≤ slice_index v.bounds k = subst (λ (x : KeeperView). weight_on k (holds_of p) ≤ slice_index x.bounds k) same (within_bound a k l) in
+    let limit : slice_index v.bounds k ≤ max_weight = subst (λ (x : KeeperView). slice_index x.bounds k ≤ max_weight) same (a.limits k l) in record {
       agrees = a;
       same = same;
       rows = rows;
@@ -50,39 +50,39 @@ keeping {ws} {vs} {p} a v k at l =
     }
 
 -- what was lent and the bounds, by what the keeper knows
-accounts : {ws : List ℕ} {vs : List View} {p : PinWorld} {v : Kept} {k : ℕ} (c : Keeping ws vs p v k) → Accounts (length p.rows) v.bounds v.looks v.lent c.agrees.others (holds_of p)
-accounts {p = p} c = subst (λ (x : Kept). Accounts (length p.rows) x.bounds x.looks x.lent c.agrees.others (holds_of p)) c.same c.agrees.accounts
+accounts : {ws : List ℕ} {vs : List View} {p : PinWorld} {v : KeeperView} {k : ℕ} (c : Keeping ws vs p v k) → Accounts (length p.rows) v.bounds v.looks v.lent c.agrees.others (holds_of p)
+accounts {p = p} c = subst (λ (x : KeeperView). Accounts (length p.rows) x.bounds x.looks x.lent c.agrees.others (holds_of p)) c.same c.agrees.accounts
 
 -- the keeper's step: its view becomes u, and the world q
-pub by_keeper : {ws : List ℕ} {vs : List View} {p : PinWorld} {v : Kept} {k : ℕ} (c : Keeping ws vs p v k) (m b : ℕ) (u : Kept) (q : PinWorld) → q.rows ≡ u.rows → u.bounds ≡ set v.bounds k b
-    → ((f : Hold → ℕ) → sum_by f (in_hand u.hand) + sum_by f (holds_of p) ≡ sum_by f (in_hand v.hand) + sum_by f (holds_of q)) → IsState q → Change p k m b q → Accounts (length p.rows) u.bounds u.looks u.lent c.agrees.others (holds_of q) → Agrees (set ws k m) (set vs 0 (Keeper u)) q
+pub by_keeper : {ws : List ℕ} {vs : List View} {p : PinWorld} {v : KeeperView} {k : ℕ} (c : Keeping ws vs p v k) (m b : ℕ) (u : KeeperView) (q : PinWorld) → q.rows ≡ u.rows → u.bounds ≡ set v.bounds k b
+    → ((f : PinRecord → ℕ) → sum_by f (in_hand u.hand) + sum_by f (holds_of p) ≡ sum_by f (in_hand v.hand) + sum_by f (holds_of q)) → IsState q → Change p k m b q → Accounts (length p.rows) u.bounds u.looks u.lent c.agrees.others (holds_of q) → Agrees (set ws k m) (set vs 0 (Keeper u)) q
 by_keeper {ws} {vs} {p} {v} {k} c m b u q rows bounds hands state change accounts =
     let a = c.agrees in
     let pins = permutes (all_holds (Keeper u ∷ a.others)) (holds_of q) (λ f.
-    let before : sum_by f (holds_of p) ≡ sum_by f (in_hand v.hand ++ all_holds a.others) = sums a f ∙ ap (λ l. sum_by f (all_holds l)) a.seats ∙ ap (λ (x : Kept). sum_by f (in_hand x.hand ++ all_holds a.others)) c.same in
+    let before : sum_by f (holds_of p) ≡ sum_by f (in_hand v.hand ++ all_holds a.others) = sums a f ∙ ap (λ l. sum_by f (all_holds l)) a.seats ∙ ap (λ (x : KeeperView). sum_by f (in_hand x.hand ++ all_holds a.others)) c.same in
     omega (arith, hands f, before, sum_by-append f (in_hand v.hand) (all_holds a.others), sum_by-append f (in_hand u.hand) (all_holds a.others))) in
     subst (λ l. Agrees (set ws k m) (set l 0 (Keeper u)) q) (sym a.seats)
-    (changed ws vs p q a k m b u a.others a.guests rows (bounds ∙ ap (λ (x : Kept). set x.bounds k b) (sym c.same)) pins state change accounts)
+    (changed ws vs p q a k m b u a.others a.guests rows (bounds ∙ ap (λ (x : KeeperView). set x.bounds k b) (sym c.same)) pins state change accounts)
 
 -- the bound that stays
-pub bound_kept : (v : Kept) (k : ℕ) → v.bounds ≡ set v.bounds k (slice_index v.bounds k)
+pub bound_kept : (v : KeeperView) (k : ℕ) → v.bounds ≡ set v.bounds k (slice_index v.bounds k)
 bound_kept v k = sym (set-get_or v.bounds k 0)
 
 -- the pin in the hand is kept
-pub hand_kept : {ws : List ℕ} {vs : List View} {p : PinWorld} {v : Kept} {k : ℕ} → Keeping ws vs p v k → HandKept v.rows v.hand
+pub hand_kept : {ws : List ℕ} {vs : List View} {p : PinWorld} {v : KeeperView} {k : ℕ} → Keeping ws vs p v k → HandKept v.rows v.hand
 hand_kept {ws} {vs} {p} {v} {k} c = by_hand v.hand refl
   where
-    by_hand : (o : Option Hold) → v.hand ≡ o → HandKept v.rows o
+    by_hand : (o : Option PinRecord) → v.hand ≡ o → HandKept v.rows o
     by_hand None e = tt
     by_hand (Some h) e =
         let a = c.agrees in
         let before : sum_by (one h) (holds_of p) ≡ sum_by (one h) (in_hand (Some h) ++ all_holds a.others) =
-        sums a (one h) ∙ ap (λ l. sum_by (one h) (all_holds l)) a.seats ∙ ap (λ (x : Kept). sum_by (one h) (in_hand x.hand ++ all_holds a.others)) c.same ∙ ap (λ o. sum_by (one h) (in_hand o ++ all_holds a.others)) e in
-        subst (λ rs. Keeps rs h) c.rows (all_counted (Keeps p.rows) h (holds_of p) a.state.held (omega (arith, before, sum_by-append (one h) (h ∷ []) (all_holds a.others), sum_one (one h) h, one_self h)))
+        sums a (one h) ∙ ap (λ l. sum_by (one h) (all_holds l)) a.seats ∙ ap (λ (x : KeeperView). sum_by (one h) (in_hand x.hand ++ all_holds a.others)) c.same ∙ ap (λ o. sum_by (one h) (in_hand o ++ all_holds a.others)) e in
+        subst (λ rs. IsValidPin rs h) c.rows (all_counted (IsValidPin p.rows) h (holds_of p) a.state.held (omega (arith, before, sum_by-append (one h) (h ∷ []) (all_holds a.others), sum_one (one h) h, one_self h)))
 
 -- ---- Look
 
-pub looks : {ws : List ℕ} {vs : List View} {p : PinWorld} {v : Kept} {k : ℕ} → Keeping ws vs p v k
+pub looks : {ws : List ℕ} {vs : List View} {p : PinWorld} {v : KeeperView} {k : ℕ} → Keeping ws vs p v k
     → Leads p (Look k) (set ws k (slice_index ws k)) (set vs 0 (Keeper (with_look k (weight_on k (holds_of p)) v)))
 looks {ws} {vs} {p} {v} {k} c =
     let w : ℕ = weight_on k (holds_of p) in (
@@ -93,7 +93,7 @@ looks {ws} {vs} {p} {v} {k} c =
 
 -- ---- Give
 
-pub gives : {ws : List ℕ} {vs : List View} {p : PinWorld} {v : Kept} {k : ℕ} (d : Text) → Keeping ws vs p v k → (row v.rows k).phase ≡ Free → IsNew d v.rows
+pub gives : {ws : List ℕ} {vs : List View} {p : PinWorld} {v : KeeperView} {k : ℕ} (d : Text) → Keeping ws vs p v k → (row v.rows k).phase ≡ Free → IsNew d v.rows
     → Leads p (Give k d) (set ws k (bit_or (slice_index ws k) 2147483648)) (set vs 0 (Keeper (with_look k 0 (with_row k (given_row d (row v.rows k)) v))))
 gives {ws} {vs} {p} {v} {k} d c free new =
     let free' : (row p.rows k).phase ≡ Free = ap (λ rs. (row rs k).phase) c.rows ∙ free in
@@ -115,7 +115,7 @@ gives {ws} {vs} {p} {v} {k} d c free new =
 lent_word : (n g w : ℕ) → n < 18446744073709551616 → n ≡ g * 4294967296 + 2147483648 + w → w + 1024 < 1073741824 → (n + 1024) % 18446744073709551616 ≡ g * 4294967296 + 2147483648 + (w + 1024)
 lent_word n g w fits is l = omega arith
 
-pub lends : {ws : List ℕ} {vs : List View} {p : PinWorld} {v : Kept} {k : ℕ} → Keeping ws vs p v k → slice_index ws k < 18446744073709551616 → v.hand ≡ None → (row v.rows k).phase ≡ Live → slice_index v.bounds k + new_weight ≤ max_weight
+pub lends : {ws : List ℕ} {vs : List View} {p : PinWorld} {v : KeeperView} {k : ℕ} → Keeping ws vs p v k → slice_index ws k < 18446744073709551616 → v.hand ≡ None → (row v.rows k).phase ≡ Live → slice_index v.bounds k + new_weight ≤ max_weight
     → Leads p (Lend k (fresh p.pins)) (set ws k ((slice_index ws k + 1024) % 18446744073709551616)) (set vs 0 (Keeper (with_hand (Some (lent_hold k (row v.rows k))) (with_lent k v))))
 lends {ws} {vs} {p} {v} {k} c fits empty live room =
     let name = fresh p.pins in
@@ -129,7 +129,7 @@ lends {ws} {vs} {p} {v} {k} c fits empty live room =
     let q = after p (Lend k name) in
     let n = slice_index ws k in
     let m : ℕ = (n + 1024) % 18446744073709551616 in
-    let total : (f : Hold → ℕ) → sum_by f (holds_of q) ≡ sum_by f (holds_of p) + f g = λ f. lent_sum f name g p.pins in
+    let total : (f : PinRecord → ℕ) → sum_by f (holds_of q) ≡ sum_by f (holds_of p) + f g = λ f. lent_sum f name g p.pins in
     let more : weight_on k (holds_of q) ≡ w + 1024 = omega (arith, total (weight_at k), weight_same g) in
     let at : n ≡ word_of (row p.rows k).generation Live w = c.agrees.at_words k c.within ∙ ap (λ x. word_of (row p.rows k).generation x w) live' in
     let made : m ≡ row_word (row p.rows k) (weight_on k (holds_of q)) =
@@ -144,7 +144,7 @@ lends {ws} {vs} {p} {v} {k} c fits empty live room =
 
 -- ---- Condemn and Revive
 
-pub condemns : {ws : List ℕ} {vs : List View} {p : PinWorld} {v : Kept} {k : ℕ} → Keeping ws vs p v k → (row v.rows k).phase ≡ Live
+pub condemns : {ws : List ℕ} {vs : List View} {p : PinWorld} {v : KeeperView} {k : ℕ} → Keeping ws vs p v k → (row v.rows k).phase ≡ Live
     → Leads p (Condemn k) (set ws k (bit_or (slice_index ws k) 1073741824)) (set vs 0 (Keeper (with_row k (in_phase Condemned (row v.rows k)) v)))
 condemns {ws} {vs} {p} {v} {k} c live =
     let live' : (row p.rows k).phase ≡ Live = ap (λ rs. (row rs k).phase) c.rows ∙ live in
@@ -162,7 +162,7 @@ condemns {ws} {vs} {p} {v} {k} c live =
           (row_changed p k (bit_or n 1073741824) (slice_index v.bounds k) r c.within made c.limit) (accounts c),
     )
 
-pub revives : {ws : List ℕ} {vs : List View} {p : PinWorld} {v : Kept} {k : ℕ} → Keeping ws vs p v k → slice_index ws k < 18446744073709551616 → (row v.rows k).phase ≡ Condemned
+pub revives : {ws : List ℕ} {vs : List View} {p : PinWorld} {v : KeeperView} {k : ℕ} → Keeping ws vs p v k → slice_index ws k < 18446744073709551616 → (row v.rows k).phase ≡ Condemned
     → Leads p (Revive k) (set ws k (bit_and (slice_index ws k) 18446744072635809791)) (set vs 0 (Keeper (with_row k (in_phase Live (row v.rows k)) v)))
 revives {ws} {vs} {p} {v} {k} c fits dead =
     let dead' : (row p.rows k).phase ≡ Condemned = ap (λ rs. (row rs k).phase) c.rows ∙ dead in
@@ -182,7 +182,7 @@ revives {ws} {vs} {p} {v} {k} c fits dead =
 
 -- ---- Reclaim
 
-pub reclaims : {ws : List ℕ} {vs : List View} {p : PinWorld} {v : Kept} {k : ℕ} (old new : ℕ) → Keeping ws vs p v k → (row v.rows k).phase ≡ Condemned → old ≡ row_word (row v.rows k) 0 → new ≡ row_word (reclaimed_row (row v.rows k)) 0 → slice_index ws k ≡ old
+pub reclaims : {ws : List ℕ} {vs : List View} {p : PinWorld} {v : KeeperView} {k : ℕ} (old new : ℕ) → Keeping ws vs p v k → (row v.rows k).phase ≡ Condemned → old ≡ row_word (row v.rows k) 0 → new ≡ row_word (reclaimed_row (row v.rows k)) 0 → slice_index ws k ≡ old
     → Leads p (Reclaim k) (set ws k new) (set vs 0 (Keeper (with_look k 0 (with_row k (reclaimed_row (row v.rows k)) v))))
 reclaims {ws} {vs} {p} {v} {k} old new c dead old_is new_is hit =
     let dead' : (row p.rows k).phase ≡ Condemned = ap (λ rs. (row rs k).phase) c.rows ∙ dead in

@@ -2,8 +2,8 @@
 use Rattle.std.specs.Prelude.{◌≡◌, ℕ, ◌+◌, ◌<◌, ◌≤◌, replicate, List, slice_set, slice_index, Some}
 use Rattle.atomic_table.specs.Seated.{TableId}
 use Rattle.pin_core.specs.declared.world.PinRow.{PinRow}
-use Rattle.pin_core.specs.declared.world.Hold.{Hold}
-use Rattle.pin_core.specs.World.{Keeps, row, row_word, opening, max_weight}
+use Rattle.pin_core.specs.declared.world.PinRecord.{PinRecord}
+use Rattle.pin_core.specs.World.{IsValidPin, row, row_word, opening, max_weight}
 use Rattle.pin_core.specs.Events.{new_weight, last_generation, reclaimed_row, lent_hold, half}
 use Rattle.pin_table.specs.declared.view.View.{View}
 use Rattle.pin_table.specs.Rule.{raised}
@@ -21,7 +21,7 @@ pub record KeeperValue : Type 0 where
 -- a pin: its table, and what it holds
 pub record PinValue : Type 0 where
   pub table : TableId
-  pub hold : Hold
+  pub hold : PinRecord
 
 -- a seat: its table, and its view
 pub record SeatValue : Type 0 where
@@ -97,8 +97,8 @@ abbrev pub halved_pin : PinValue → PinValue
 halved_pin p = record { table = p.table; hold = half p.hold }
 
 -- the pin's slot is used and its own, and the sum found there is within the bound, which it becomes
-pub record Verified (h : Hold) (s t : KeeperValue) : Type 0 where
-  pub keeps : Keeps s.rows h
+pub record Verified (h : PinRecord) (s t : KeeperValue) : Type 0 where
+  pub keeps : IsValidPin s.rows h
   pub weight : ℕ
   pub within : weight ≤ slice_index s.bounds h.slot
   pub after : t ≡ found h.slot weight s

@@ -3,12 +3,12 @@ use Rattle.std.specs.Prelude.{◌≡◌, ℕ, ◌≤◌, List, [], ◌∷◌, ta
 use mathlib.Core.Option.{some}
 use lib.ListN.{get_elem?}
 use Rattle.pin_core.specs.declared.world.Phase.TheVariants.{Free}
-use Rattle.pin_core.specs.declared.world.Hold.{Hold}
+use Rattle.pin_core.specs.declared.world.PinRecord.{PinRecord}
 use Rattle.pin_core.specs.declared.event.Event.{Event}
-use Rattle.pin_core.specs.World.{PinWorld, Keeps, opening, row, row_word, word_of, max_weight}
+use Rattle.pin_core.specs.World.{PinWorld, IsValidPin, opening, row, row_word, word_of, max_weight}
 use Rattle.pin_core.specs.Events.{Happens, after_all}
 use Rattle.pin_core.specs.Laws.{Reclaims, world_at}
-use Rattle.pin_table.specs.declared.view.Kept.{Kept}
+use Rattle.pin_table.specs.declared.view.KeeperView.{KeeperView}
 use Rattle.pin_table.specs.declared.view.View.{View}
 use Rattle.pin_table.specs.declared.view.View.TheVariants.{Keeper, Pin}
 use Rattle.pin_table.specs.Rule.{Agrees, Ruled, opening_view}
@@ -77,8 +77,8 @@ pub record Running (n g : ℕ) (words : List ℕ) (views : List View) : Type 0 w
   pub happen : Happens (opening n g) events
   pub reclaims : Reclaims (opening n g) events
   pub agrees : Agrees words views (after_all (opening n g) events)
-  pub keeps : (v : Kept) (id : ℕ) (h : Hold) → get_elem? views 0 ≡ some (Keeper v) → get_elem? views id ≡ some (Pin h) → Keeps v.rows h
-  pub counts : (v : Kept) (id : ℕ) (h : Hold) → get_elem? views 0 ≡ some (Keeper v) → get_elem? views id ≡ some (Pin h)
+  pub keeps : (v : KeeperView) (id : ℕ) (h : PinRecord) → get_elem? views 0 ≡ some (Keeper v) → get_elem? views id ≡ some (Pin h) → IsValidPin v.rows h
+  pub counts : (v : KeeperView) (id : ℕ) (h : PinRecord) → get_elem? views 0 ≡ some (Keeper v) → get_elem? views id ≡ some (Pin h)
       → (weight : ℕ) × (slice_index words h.slot ≡ row_word (row v.rows h.slot) weight) × (h.weight ≤ weight) × (weight ≤ max_weight)
 
 -- At every moment, over every interleaving of the steps of any seats.

@@ -2,10 +2,10 @@
 use Rattle.std.specs.Prelude.{◌≡◌, ℕ, ◌+◌, ◌<◌, ◌≤◌, ◌⊎◌, List, [], ◌∷◌, ◌++◌, length, sum_by, slice_index, slice_set, None, IsPermutation}
 use mathlib.Core.Option.{some}
 use lib.ListN.{get_elem?}
-use Rattle.pin_core.specs.declared.world.Hold.{Hold}
+use Rattle.pin_core.specs.declared.world.PinRecord.{PinRecord}
 use Rattle.pin_core.specs.World.{row, row_word, weight_on}
 use Rattle.pin_core.specs.Events.{half}
-use Rattle.pin_table.specs.declared.view.Kept.{Kept}
+use Rattle.pin_table.specs.declared.view.KeeperView.{KeeperView}
 use Rattle.pin_table.specs.declared.view.View.{View}
 use Rattle.pin_table.specs.declared.view.View.TheVariants.{Keeper, Left, Pin}
 use Rattle.pin_table.specs.Rule.{Ruled, all_holds, gone, gone_at}
@@ -14,12 +14,12 @@ use Rattle.pin_table.specs.Rule.{Ruled, all_holds, gone, gone_at}
 
 -- a step of the keeper's seat on a word, of any kind, that counts one look more at the slot k: the slot's word is then its row's, with the bound for its sum
 abbrev pub FoundByStep : ℕ → ℕ → Type 0
-FoundByStep n g = (words words' : List ℕ) (v u : Kept) (others : List View) (k : ℕ) → Ruled n g words (Keeper v ∷ others) → Ruled n g words' (Keeper u ∷ others) → k < length u.rows → slice_index u.looks k ≡ slice_index v.looks k + 1
+FoundByStep n g = (words words' : List ℕ) (v u : KeeperView) (others : List View) (k : ℕ) → Ruled n g words (Keeper v ∷ others) → Ruled n g words' (Keeper u ∷ others) → k < length u.rows → slice_index u.looks k ≡ slice_index v.looks k + 1
     → slice_index words' k ≡ row_word (row u.rows k) (slice_index u.bounds k)
 
 -- a pin that leaves its seat, by a step of any kind, leaves there the count of looks at its slot as it is
 abbrev pub LeftByStep : ℕ → ℕ → Type 0
-LeftByStep n g = (words words' : List ℕ) (v : Kept) (others : List View) (place : ℕ) (h : Hold) (look : ℕ) → get_elem? others place ≡ some (Pin h) → Ruled n g words (Keeper v ∷ others)
+LeftByStep n g = (words words' : List ℕ) (v : KeeperView) (others : List View) (place : ℕ) (h : PinRecord) (look : ℕ) → get_elem? others place ≡ some (Pin h) → Ruled n g words (Keeper v ∷ others)
     → Ruled n g words' (Keeper v ∷ slice_set others place (Left (gone h look))) → look ≡ slice_index v.looks h.slot
 
 -- ---- a call of any steps
@@ -27,7 +27,7 @@ LeftByStep n g = (words words' : List ℕ) (v : Kept) (others : List View) (plac
 -- A moment of a call: the words, what the keeper knows, the seats of the call's own, and the seats of others.
 pub record CallMoment : Type 0 where
   pub words : List ℕ
-  pub keeper : Kept
+  pub keeper : KeeperView
   pub own : List View
   pub others : List View
 
@@ -40,8 +40,8 @@ pub record IsUnderRule (n g : ℕ) (m : CallMoment) : Type 0 where
 -- One moment follows another: by a step of the call, which may change all but the seats of others; or by one of another seat, whose pin leaves or is shared.
 pub data Follows (m x : CallMoment) : Type 0 where
   by_call : x.others ≡ m.others → Follows m x
-  by_leave : (place : ℕ) (h : Hold) (look : ℕ) → get_elem? m.others place ≡ some (Pin h) → x.others ≡ slice_set m.others place (Left (gone h look)) → x.keeper ≡ m.keeper → x.own ≡ m.own → Follows m x
-  by_share : (place : ℕ) (h : Hold) → get_elem? m.others place ≡ some (Pin h) → x.others ≡ slice_set m.others place (Pin (half h)) ++ Pin (half h) ∷ [] → x.keeper ≡ m.keeper → x.own ≡ m.own → Follows m x
+  by_leave : (place : ℕ) (h : PinRecord) (look : ℕ) → get_elem? m.others place ≡ some (Pin h) → x.others ≡ slice_set m.others place (Left (gone h look)) → x.keeper ≡ m.keeper → x.own ≡ m.own → Follows m x
+  by_share : (place : ℕ) (h : PinRecord) → get_elem? m.others place ≡ some (Pin h) → x.others ≡ slice_set m.others place (Pin (half h)) ++ Pin (half h) ∷ [] → x.keeper ≡ m.keeper → x.own ≡ m.own → Follows m x
 
 -- the moments of a call from m on
 abbrev pub IsCall : ℕ → ℕ → CallMoment → List CallMoment → Type 0
@@ -80,7 +80,7 @@ IsPinCall n g m (x ∷ xs) = IsUnderRule n g m × FollowsPin m x × IsPinCall n 
 
 -- A call on a pin that has a seat in the end which says that this pin left: nothing of the pin is left in its slot's word.
 abbrev pub EndedByCall : ℕ → ℕ → Type 0
-EndedByCall n g = (m : CallMoment) (xs : List CallMoment) (h : Hold) (place look : ℕ) → IsPinCall n g m xs → h.slot < n → m.own ≡ Pin h ∷ [] → get_elem? (end m xs).own place ≡ some (Left (gone h look)) → seats_on h.slot (end m xs).own ≡ 0
+EndedByCall n g = (m : CallMoment) (xs : List CallMoment) (h : PinRecord) (place look : ℕ) → IsPinCall n g m xs → h.slot < n → m.own ≡ Pin h ∷ [] → get_elem? (end m xs).own place ≡ some (Left (gone h look)) → seats_on h.slot (end m xs).own ≡ 0
 
 -- It is so of every table.
 pub record LooksAreTrue : Type 0 where

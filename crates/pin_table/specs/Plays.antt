@@ -4,13 +4,13 @@ use Rattle.atomic_table.specs.Table.{Me, Step}
 use Rattle.finite_maps.specs.Texts.{Text}
 use Rattle.pin_core.specs.declared.world.Phase.TheVariants.{Live, Condemned}
 use Rattle.pin_core.specs.declared.world.PinRow.{PinRow}
-use Rattle.pin_core.specs.declared.world.Hold.{Hold}
-use Rattle.pin_core.specs.World.{Keeps, row, row_word, max_weight}
+use Rattle.pin_core.specs.declared.world.PinRecord.{PinRecord}
+use Rattle.pin_core.specs.World.{IsValidPin, row, row_word, max_weight}
 use Rattle.pin_core.specs.Events.{new_weight, given_row, in_phase, reclaimed_row, lent_hold, half}
-use Rattle.pin_table.specs.declared.view.Kept.{Kept}
+use Rattle.pin_table.specs.declared.view.KeeperView.{KeeperView}
 use Rattle.pin_table.specs.declared.view.View.{View}
-use Rattle.pin_table.specs.declared.view.View.TheVariants.{Keeper, Pin, Left, Spent}
-use Rattle.pin_table.specs.Rule.{gone, kept, raised}
+use Rattle.pin_table.specs.declared.view.View.TheVariants.{Keeper, Pin, Left, Empty}
+use Rattle.pin_table.specs.Rule.{gone, keeper_view, raised}
 
 -- a seat: its view; no seat of a pin table holds a slot of memory
 abbrev pub Seated : Type 0
@@ -21,31 +21,31 @@ abbrev pub Move : Type 0
 Move = Step (Unit {0})
 
 -- what the keeper knows, with another row for the slot k
-abbrev pub with_row : ℕ → PinRow → Kept → Kept
-with_row k r v = kept (slice_set v.rows k r) v.bounds v.looks v.lent v.hand
+abbrev pub with_row : ℕ → PinRow → KeeperView → KeeperView
+with_row k r v = keeper_view (slice_set v.rows k r) v.bounds v.looks v.lent v.hand
 
 -- the same with this hand
-abbrev pub with_hand : Option Hold → Kept → Kept
-with_hand hand v = kept v.rows v.bounds v.looks v.lent hand
+abbrev pub with_hand : Option PinRecord → KeeperView → KeeperView
+with_hand hand v = keeper_view v.rows v.bounds v.looks v.lent hand
 
 -- the same with a new pin's weight more on the slot k
-abbrev pub with_lent : ℕ → Kept → Kept
-with_lent k v = kept v.rows (raised k new_weight v.bounds) v.looks (raised k new_weight v.lent) v.hand
+abbrev pub with_lent : ℕ → KeeperView → KeeperView
+with_lent k v = keeper_view v.rows (raised k new_weight v.bounds) v.looks (raised k new_weight v.lent) v.hand
 
 -- what the keeper knows after one more look at the slot k, on which it found this sum
-abbrev pub with_look : ℕ → ℕ → Kept → Kept
-with_look k weight v = kept v.rows (slice_set v.bounds k weight) (raised k 1 v.looks) v.lent v.hand
+abbrev pub with_look : ℕ → ℕ → KeeperView → KeeperView
+with_look k weight v = keeper_view v.rows (slice_set v.bounds k weight) (raised k 1 v.looks) v.lent v.hand
 
 -- the keeper found the word n of the slot k: its row's, with this sum, which is within the bound
-pub record Finds (k n : ℕ) (v : Kept) (weight : ℕ) : Type 0 where
+pub record Finds (k n : ℕ) (v : KeeperView) (weight : ℕ) : Type 0 where
   pub word : n ≡ row_word (row v.rows k) weight
   pub within : weight ≤ slice_index v.bounds k
   pub fits : weight ≤ max_weight
 
 -- the slot of the pin in the hand is used, and has the pin's generation and digest
-abbrev pub HandKept : List PinRow → Option Hold → Type 0
+abbrev pub HandKept : List PinRow → Option PinRecord → Type 0
 HandKept rows None = Unit {0}
-HandKept rows (Some h) = Keeps rows h
+HandKept rows (Some h) = IsValidPin rows h
 
 -- ---- steps on a word
 
@@ -89,17 +89,17 @@ reclaimed s (u, c) n me = me ≡ (u, c)
 -- ---- splits and joins of seats
 
 -- the pin in the keeper's hand gets a seat of its own
-abbrev pub empty_handed : View → View
-empty_handed (Keeper v) = Keeper (with_hand None v)
-empty_handed u = u
+abbrev pub without_transit : View → View
+without_transit (Keeper v) = Keeper (with_hand None v)
+without_transit u = u
 
-abbrev pub own_seat : Option Hold → View
-own_seat None = Spent
+abbrev pub own_seat : Option PinRecord → View
+own_seat None = Empty
 own_seat (Some h) = Pin h
 
-abbrev pub handed : View → View
-handed (Keeper v) = own_seat v.hand
-handed u = Spent
+abbrev pub transit_pin : View → View
+transit_pin (Keeper v) = own_seat v.hand
+transit_pin u = Empty
 
 -- a pin becomes two of half its weight
 abbrev pub halved : View → View
@@ -107,11 +107,11 @@ halved (Pin h) = Pin (half h)
 halved u = u
 
 -- the pin of a seat goes into the keeper's hand
-abbrev pub pin_of : View → Option Hold
+abbrev pub pin_of : View → Option PinRecord
 pin_of (Pin h) = Some h
 pin_of (Keeper v) = None
 pin_of (Left g) = None
-pin_of Spent = None
+pin_of Empty = None
 
 abbrev pub taken_in : View → View → View
 taken_in (Keeper v) u = Keeper (with_hand (pin_of u) v)

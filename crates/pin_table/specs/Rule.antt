@@ -2,21 +2,21 @@
 use Rattle.std.specs.Prelude.{◌≡◌, ℕ, ◌+◌, ◌==◌, ◌<◌, ◌≤◌, cond, List, [], ◌∷◌, ◌++◌, length, replicate, slice_index, slice_set, sum_by, Option, Some, None, IsPermutation}
 use Rattle.std.specs.List.{All}
 use Rattle.pin_core.specs.declared.world.PinRow.{PinRow}
-use Rattle.pin_core.specs.declared.world.Hold.{Hold}
+use Rattle.pin_core.specs.declared.world.PinRecord.{PinRecord}
 use Rattle.pin_core.specs.declared.event.Event.{Event}
 use Rattle.pin_core.specs.World.{PinWorld, IsState, holds_of, weight_at, weight_on, word, max_weight, opening}
 use Rattle.pin_core.specs.Events.{Happens, after_all}
 use Rattle.pin_table.specs.declared.view.Gone.{Gone}
-use Rattle.pin_table.specs.declared.view.Kept.{Kept}
+use Rattle.pin_table.specs.declared.view.KeeperView.{KeeperView}
 use Rattle.pin_table.specs.declared.view.View.{View}
-use Rattle.pin_table.specs.declared.view.View.TheVariants.{Keeper, Pin, Left, Spent}
+use Rattle.pin_table.specs.declared.view.View.TheVariants.{Keeper, Pin, Left, Empty}
 
 -- what the keeper knows: the rows; of each slot a bound on the sum of weights, how often the keeper looked at it, and what it ever lent; and the pin in its hand
-abbrev pub kept : List PinRow → List ℕ → List ℕ → List ℕ → Option Hold → Kept
-kept rows bounds looks lent hand = record { rows = rows; bounds = bounds; looks = looks; lent = lent; hand = hand }
+abbrev pub keeper_view : List PinRow → List ℕ → List ℕ → List ℕ → Option PinRecord → KeeperView
+keeper_view rows bounds looks lent hand = record { rows = rows; bounds = bounds; looks = looks; lent = lent; hand = hand }
 
 -- a pin that left when the keeper had looked so often at its slot
-abbrev pub gone : Hold → ℕ → Gone
+abbrev pub gone : PinRecord → ℕ → Gone
 gone h look = record { hold = h; look = look }
 
 -- the list with n more at k
@@ -28,38 +28,38 @@ abbrev pub looks_by : View → List ℕ
 looks_by (Keeper v) = v.looks
 looks_by (Pin h) = []
 looks_by (Left g) = []
-looks_by Spent = []
+looks_by Empty = []
 
 -- what the keeper ever lent on each slot; nothing for another seat
 abbrev pub lent_by : View → List ℕ
 lent_by (Keeper v) = v.lent
 lent_by (Pin h) = []
 lent_by (Left g) = []
-lent_by Spent = []
+lent_by Empty = []
 
 -- the pin in the hand, if there is one
-abbrev pub in_hand : Option Hold → List Hold
+abbrev pub in_hand : Option PinRecord → List PinRecord
 in_hand None = []
 in_hand (Some h) = h ∷ []
 
 -- the pins that a seat stands for: the one in the keeper's hand, or the seat's own
-abbrev pub holds_in : View → List Hold
+abbrev pub holds_in : View → List PinRecord
 holds_in (Keeper v) = in_hand v.hand
 holds_in (Pin h) = h ∷ []
 holds_in (Left g) = []
-holds_in Spent = []
+holds_in Empty = []
 
 -- the pins of all seats
-abbrev pub all_holds : List View → List Hold
+abbrev pub all_holds : List View → List PinRecord
 all_holds [] = []
 all_holds (v ∷ vs) = holds_in v ++ all_holds vs
 
 -- the seat isn't the keeper's
-abbrev pub IsGuest : View → Type 0
-IsGuest (Keeper v) = ⊥
-IsGuest (Pin h) = Unit {0}
-IsGuest (Left g) = Unit {0}
-IsGuest Spent = Unit {0}
+abbrev pub IsPinSeat : View → Type 0
+IsPinSeat (Keeper v) = ⊥
+IsPinSeat (Pin h) = Unit {0}
+IsPinSeat (Left g) = Unit {0}
+IsPinSeat Empty = Unit {0}
 
 -- ---- what was lent, what weighs now, and what left
 
@@ -68,24 +68,24 @@ abbrev pub gone_at : ℕ → View → ℕ
 gone_at k (Keeper v) = 0
 gone_at k (Pin h) = 0
 gone_at k (Left g) = weight_at k g.hold
-gone_at k Spent = 0
+gone_at k Empty = 0
 
 -- the same, if it left when the keeper had looked so often at its slot
 abbrev pub gone_since : ℕ → ℕ → View → ℕ
 gone_since k look (Keeper v) = 0
 gone_since k look (Pin h) = 0
 gone_since k look (Left g) = cond (g.look == look) (weight_at k g.hold) 0
-gone_since k look Spent = 0
+gone_since k look Empty = 0
 
 -- no pin left after a look that is still to come
 abbrev pub IsPast : List ℕ → View → Type 0
 IsPast looks (Keeper v) = Unit {0}
 IsPast looks (Pin h) = Unit {0}
 IsPast looks (Left g) = g.look ≤ slice_index looks g.hold.slot
-IsPast looks Spent = Unit {0}
+IsPast looks Empty = Unit {0}
 
 -- Of n slots: what was ever lent on one is what weighs on it now and what left it; and its bound is what weighs on it now and what left it since the keeper's last look.
-pub record Accounts (n : ℕ) (bounds looks lent : List ℕ) (others : List View) (holds : List Hold) : Type 0 where
+pub record Accounts (n : ℕ) (bounds looks lent : List ℕ) (others : List View) (holds : List PinRecord) : Type 0 where
   pub all_bounds : length bounds ≡ n
   pub all_looks : length looks ≡ n
   pub all_lent : length lent ≡ n
@@ -96,10 +96,10 @@ pub record Accounts (n : ℕ) (bounds looks lent : List ℕ) (others : List View
 -- The words and what the seats know are those of the pin world w.
 pub record Agrees (words : List ℕ) (views : List View) (w : PinWorld) : Type 0 where
   -- the first seat is the keeper's, and no other is
-  pub keeper : Kept
+  pub keeper : KeeperView
   pub others : List View
   pub seats : views ≡ Keeper keeper ∷ others
-  pub guests : All IsGuest others
+  pub guests : All IsPinSeat others
   -- the world's rows are the keeper's, and its pins are those of the seats, in any order
   pub rows : w.rows ≡ keeper.rows
   pub pins : IsPermutation (all_holds views) (holds_of w)
@@ -120,4 +120,4 @@ pub record Ruled (n g : ℕ) (words : List ℕ) (views : List View) : Type 0 whe
 
 -- what the keeper knows of n free slots of generation g
 abbrev pub opening_view : ℕ → ℕ → View
-opening_view n g = Keeper (kept (opening n g).rows (replicate n 0) (replicate n 0) (replicate n 0) None)
+opening_view n g = Keeper (keeper_view (opening n g).rows (replicate n 0) (replicate n 0) (replicate n 0) None)

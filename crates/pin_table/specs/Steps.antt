@@ -4,40 +4,40 @@ use mathlib.Core.Option.{some}
 use lib.ListN.{get_elem?}
 use Rattle.finite_maps.specs.Texts.{Text}
 use Rattle.pin_core.specs.declared.world.Phase.TheVariants.{Free, Live, Condemned}
-use Rattle.pin_core.specs.declared.world.Hold.{Hold}
+use Rattle.pin_core.specs.declared.world.PinRecord.{PinRecord}
 use Rattle.pin_core.specs.declared.event.Event.{Event}
 use Rattle.pin_core.specs.declared.event.Event.TheVariants.{Give, Lend, Share, Leave, Condemn, Revive, Reclaim, Look, Verify}
 use Rattle.pin_core.specs.World.{PinWorld, hold_named, row, row_word, max_weight, used_bit, condemned_bit}
 use Rattle.pin_core.specs.Events.{Can, after, IsNew, new_weight, reclaimed_row}
-use Rattle.pin_table.specs.declared.view.Kept.{Kept}
+use Rattle.pin_table.specs.declared.view.KeeperView.{KeeperView}
 use Rattle.pin_table.specs.declared.view.View.{View}
-use Rattle.pin_table.specs.declared.view.View.TheVariants.{Keeper, Left, Pin, Spent}
+use Rattle.pin_table.specs.declared.view.View.TheVariants.{Keeper, Left, Pin, Empty}
 use Rattle.pin_table.specs.Rule.{Agrees, gone, looks_by}
-use Rattle.pin_table.specs.Plays.{Move, Seated, looked, gave, lent, condemned, revived, reclaimed, empty_handed, handed, halved, taken_in}
+use Rattle.pin_table.specs.Plays.{Move, Seated, looked, gave, lent, condemned, revived, reclaimed, without_transit, transit_pin, halved, taken_in}
 
 -- A step: what its seat knows, which word and operands it has, and the seat after it.
 pub data SeatStep : Type 0 where
   -- the keeper's load
-  look : Kept → Move → Seated → SeatStep
+  look : KeeperView → Move → Seated → SeatStep
   -- its fetch_or of bit 31, with a digest
-  give : Kept → Move → Seated → Text → SeatStep
+  give : KeeperView → Move → Seated → Text → SeatStep
   -- its fetch_add of a new pin's weight
-  lend : Kept → Move → Seated → SeatStep
+  lend : KeeperView → Move → Seated → SeatStep
   -- a split of its seat
-  hand : Kept → SeatStep
+  hand : KeeperView → SeatStep
   -- a fetch_sub of a pin's weight, by the seat of that number
-  leave : ℕ → Hold → Move → Seated → SeatStep
+  leave : ℕ → PinRecord → Move → Seated → SeatStep
   -- the keeper's fetch_or of bit 30
-  condemn : Kept → Move → Seated → SeatStep
+  condemn : KeeperView → Move → Seated → SeatStep
   -- its fetch_and of all other bits
-  revive : Kept → Move → Seated → SeatStep
+  revive : KeeperView → Move → Seated → SeatStep
   -- its compare_exchange, where it is made and where it isn't
-  reclaim : Kept → Move → Seated → SeatStep
-  miss : Kept → Move → Seated → SeatStep
+  reclaim : KeeperView → Move → Seated → SeatStep
+  miss : KeeperView → Move → Seated → SeatStep
   -- a split of a pin's seat in halves
-  share : ℕ → Hold → SeatStep
+  share : ℕ → PinRecord → SeatStep
   -- a join of a pin's seat to the keeper's
-  verify : Kept → ℕ → Hold → SeatStep
+  verify : KeeperView → ℕ → PinRecord → SeatStep
 
 -- a word of the table, which has 64 bits
 abbrev pub IsWord : List ℕ → ℕ → Type 0
@@ -48,7 +48,7 @@ abbrev pub not_condemned : ℕ
 not_condemned = 0xffff_ffff_bfff_ffff
 
 -- a condemned slot's word without pins is to become that of the reclaimed slot
-abbrev pub Exchanges : Kept → Move → Type 0
+abbrev pub Exchanges : KeeperView → Move → Type 0
 Exchanges v s = ((row v.rows s.word).phase ≡ Condemned) × (s.first ≡ row_word (row v.rows s.word) 0) × (s.second ≡ row_word (reclaimed_row (row v.rows s.word)) 0)
 
 -- how often the keeper looked at each slot, by the view of the first seat
@@ -58,7 +58,7 @@ looks_of (v ∷ vs) = looks_by v
 
 module _ (words : List ℕ) (views : List View) where
   -- the keeper knows v, and the step's word is there
-  abbrev pub OfKeeper : Kept → Move → Type 0
+  abbrev pub OfKeeper : KeeperView → Move → Type 0
   OfKeeper v s = (get_elem? views 0 ≡ some (Keeper v)) × IsWord words s.word
 
   -- the step is made: its call asks for this, and it tells its seat that
@@ -96,14 +96,14 @@ module _ (views : List View) where
   views_after (look v s me) = slice_set views 0 me.0
   views_after (give v s me d) = slice_set views 0 me.0
   views_after (lend v s me) = slice_set views 0 me.0
-  views_after (hand v) = slice_set views 0 (empty_handed (Keeper v)) ++ handed (Keeper v) ∷ []
+  views_after (hand v) = slice_set views 0 (without_transit (Keeper v)) ++ transit_pin (Keeper v) ∷ []
   views_after (leave id h s me) = slice_set views id me.0
   views_after (condemn v s me) = slice_set views 0 me.0
   views_after (revive v s me) = slice_set views 0 me.0
   views_after (reclaim v s me) = slice_set views 0 me.0
   views_after (miss v s me) = slice_set views 0 me.0
   views_after (share id h) = slice_set views id (halved (Pin h)) ++ halved (Pin h) ∷ []
-  views_after (verify v id h) = slice_set (slice_set views 0 (taken_in (Keeper v) (Pin h))) id Spent
+  views_after (verify v id h) = slice_set (slice_set views 0 (taken_in (Keeper v) (Pin h))) id Empty
 
 -- the event can happen in the world, and words and views agree with the world after it
 abbrev pub Leads : PinWorld → Event → List ℕ → List View → Type 0

@@ -24,15 +24,15 @@ impl Model for Keeper {
     ghost use Rattle.std.specs.Prelude.{◌≡◌, [], length, None};
     ghost use Rattle.std.specs.List.{All};
     ghost use Rattle.pin_core.specs.World.{HasDigest};
-    ghost use Rattle.pin_table.specs.Rule.{kept, lent_by, looks_by};
+    ghost use Rattle.pin_table.specs.Rule.{keeper_view, lent_by, looks_by};
     ghost use Rattle.pin_table.specs.Calls.{KeeperValue};
-    ghost use Rattle.pin_table.specs.declared.view.View.TheVariants.{Keeper as KeeperView};
+    ghost use Rattle.pin_table.specs.declared.view.View.TheVariants.{Keeper as KeeperSeat};
 
     ghost Value = { KeeperValue };
 
     ghost view = { λ k. record { table = k.seat.table_id; rows = k.rows.items; bounds = k.bounds.items; looks = looks_by k.seat.me.0; lent = lent_by k.seat.me.0 } };
 
-    ghost invariant = { λ k. (k.seat.id ≡ 0) × (k.seat.me ≡ (KeeperView (kept k.rows.items k.bounds.items (looks_by k.seat.me.0) (lent_by k.seat.me.0) None), [])) × (k.seat.table_id.words ≡ length k.rows.items) × (length k.bounds.items ≡ length k.rows.items) × All HasDigest k.rows.items };
+    ghost invariant = { λ k. (k.seat.id ≡ 0) × (k.seat.me ≡ (KeeperSeat (keeper_view k.rows.items k.bounds.items (looks_by k.seat.me.0) (lent_by k.seat.me.0) None), [])) × (k.seat.table_id.words ≡ length k.rows.items) × (length k.bounds.items ≡ length k.rows.items) × All HasDigest k.rows.items };
 }
 
 impl Keeper {

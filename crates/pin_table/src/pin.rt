@@ -4,14 +4,14 @@ ghost use Rattle.std.specs.Prelude.{◌≡◌};
 
 use crate::rule::PinSeat;
 use blob_digest::Digest;
-use pin_core::Hold;
+use pin_core::PinRecord;
 use std::marker::Model;
 
 /// A pin on a slot: while it is out, the slot is used and has the pin's generation and digest.
 ///
 /// It can be neither copied nor dropped: `Pins::share` makes two of it, and `Pins::leave` ends it.
 pub struct Pin {
-    pub(crate) hold: Hold,
+    pub(crate) hold: PinRecord,
     pub(crate) seat: PinSeat,
 }
 

@@ -7,8 +7,8 @@ ghost use Rattle.blob_digest.specs.declared.refusal.Refusal.TheVariants.{LimitRe
 ghost use Rattle.pin_core.specs.World.{row, row_word, used_bit, max_weight};
 ghost use Rattle.pin_core.specs.declared.world.Phase.TheVariants.{Free, Live, Condemned};
 ghost use Rattle.pin_core.specs.Events.{IsNew, IsOutside, given_row, in_phase, new_weight};
-ghost use Rattle.pin_table.specs.declared.view.Kept.{Kept};
-ghost use Rattle.pin_table.specs.declared.view.View.TheVariants.{Keeper as KeeperView, Left as LeftView};
+ghost use Rattle.pin_table.specs.declared.view.KeeperView.{KeeperView};
+ghost use Rattle.pin_table.specs.declared.view.View.TheVariants.{Keeper as KeeperSeat, Left as LeftView};
 ghost use Rattle.pin_table.specs.Plays.{gave};
 ghost use Rattle.pin_table.specs.Rule.{gone};
 ghost use Rattle.pin_table.specs.Calls.{opened, with_both, rowed, lent_on, seat_value, halved_pin, lent_pin, Looked, Lent, Crowded, Reclaims, IsUnheld, Verified};
@@ -20,7 +20,7 @@ use crate::reclaim::Reclaim;
 use crate::rule::{Opening, PinSeat, PinShared, PinTable};
 use blob_digest::{Digest, MAX_SLOTS, Refusal};
 use pin_core::{
-    CONDEMNED, Hold, LAST_GENERATION, MAX_WEIGHT, NEW_WEIGHT, Phase, PinRow, USED, WordRow, given,
+    CONDEMNED, PinRecord, LAST_GENERATION, MAX_WEIGHT, NEW_WEIGHT, Phase, PinRow, USED, WordRow, given,
     halved, in_phase, pack, reclaimed, unpack,
 };
 use std::alloc::Global;
@@ -59,7 +59,7 @@ fn clear_word(row: &PinRow) -> u64
 fn give_as<D: Given>(shared: &PinShared, seat: &mut PinSeat, word: usize, digest: Digest)
     requires digest { digest ≡ D.digest }
     requires table { (seat.old.table_id ≡ shared.now.table_id) × (word < shared.now.table_id.words) }
-    requires keeper { (v : Kept) × (seat.old.id ≡ 0) × (seat.old.me ≡ (KeeperView v, [])) × (word < length v.rows) × ((row v.rows word).phase ≡ Free) × IsNew digest v.rows }
+    requires keeper { (v : KeeperView) × (seat.old.id ≡ 0) × (seat.old.me ≡ (KeeperSeat v, [])) × (word < length v.rows) × ((row v.rows word).phase ≡ Free) × IsNew digest v.rows }
     ensures seat { (seat.new.table_id ≡ seat.old.table_id) × (seat.new.id ≡ seat.old.id) }
     ensures step { (n : ℕ) × gave digest (step shared.now.table_id.slots word used_bit 0 none) seat.old.me n seat.new.me }
 {
@@ -159,7 +159,7 @@ impl Pins {
         shared.fetch_add::<Lend>(&mut keeper.seat, word, NEW_WEIGHT as u64);
         keeper.bounds[word] += NEW_WEIGHT;
         let seat = shared.split_seat::<Hand>(&mut keeper.seat);
-        let hold = Hold {
+        let hold = PinRecord {
             slot,
             generation: row.generation,
             digest,

@@ -86,20 +86,20 @@ impl Play<(), View> for Reclaiming {
 pub struct Hand;
 
 impl Split<View> for Hand {
-    ghost use Rattle.pin_table.specs.Plays.{empty_handed, handed};
+    ghost use Rattle.pin_table.specs.Plays.{without_transit, transit_pin};
 
-    ghost left = { empty_handed };
+    ghost left = { without_transit };
 
-    ghost right = { handed };
+    ghost right = { transit_pin };
 }
 
 impl Join<View> for Hand {
     ghost use Rattle.pin_table.specs.Plays.{taken_in};
-    ghost use Rattle.pin_table.specs.declared.view.View.TheVariants.{Spent};
+    ghost use Rattle.pin_table.specs.declared.view.View.TheVariants.{Empty};
 
     ghost both = { taken_in };
 
-    ghost spent = { Spent };
+    ghost spent = { Empty };
 }
 
 /// Half of a pin goes to a new seat.

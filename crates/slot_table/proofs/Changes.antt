@@ -12,7 +12,7 @@ use Rattle.std.proofs.Math.ListN.{length-set}
 use Rattle.std.proofs.lemmas.Option.{none-some}
 use Rattle.finite_maps.specs.Texts.{Text, text_cmp, same_text}
 use Rattle.slot_table.specs.declared.phase.Phase.TheVariants as phase
-use Rattle.slot_table.specs.Slots.{Slot, Held, Content, Free, Used, Retired, held_in, held_at, phase_at, has_digest, is_free, slot_of, free_slots, fill, on_held, content_with, emptied, spent, empty_slot, IsTable}
+use Rattle.slot_table.specs.Slots.{Slot, Held, Content, Free, Used, Retired, held_in, held_at, phase_at, has_digest, is_free, slot_of, free_slots, fill, on_held, content_with, emptied, retire, empty_slot, IsTable}
 use Rattle.slot_table.specs.Indexes.{is_free_at, Finds, IsIndexed}
 use Rattle.slot_table.proofs.Finding.{condemned_within}
 use Rattle.slot_table.proofs.Writes.{held-table, emptied-table, placed-table}
@@ -96,12 +96,12 @@ freed slots k old index into stack room more table kept le condemned is at =
     )
 
 -- a condemned slot is retired
-pub retired : (slots : List Slot) (k : ℕ) (old : Slot) (index into : tree.BTreeMap Text ℕ) (stack : List ℕ) (room : ℕ) → IsTable slots → IsIndexed slots index stack room →
+pub table_retired : (slots : List Slot) (k : ℕ) (old : Slot) (index into : tree.BTreeMap Text ℕ) (stack : List ℕ) (room : ℕ) → IsTable slots → IsIndexed slots index stack room →
     phase_at slots k ≡ phase.Condemned → old ≡ get_or slots k old → ((d : Text) → tree.get text_cmp into d ≡ cond (has_digest d old) None (tree.get text_cmp index d)) →
-    IsTable (set slots k (spent old)) × IsIndexed (set slots k (spent old)) into stack room
-retired slots k old index into stack room table kept condemned is at =
+    IsTable (set slots k (retire old)) × IsIndexed (set slots k (retire old)) into stack room
+table_retired slots k old index into stack room table kept condemned is at =
     let lt : k < length slots = condemned_within slots k condemned in
-    let new : Slot = spent old in
+    let new : Slot = retire old in
     let same : is_free new ≡ is_free old = sym (sym (free_at-read slots k old lt is) ∙ condemned-used slots k condemned) in
     let after : IsTable (set slots k new) = emptied-table slots k old new table lt is refl in (
       after,

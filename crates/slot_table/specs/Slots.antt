@@ -135,8 +135,8 @@ abbrev pub emptied : Slot → Slot
 emptied s = record { generation = s.generation + 1; content = Free }
 
 -- the slot is retired
-abbrev pub spent : Slot → Slot
-spent s = record s { content = Retired }
+abbrev pub retire : Slot → Slot
+retire s = record s { content = Retired }
 
 -- ---- what is true of every table
 

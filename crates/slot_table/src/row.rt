@@ -2,7 +2,7 @@
 
 ghost use Rattle.std.specs.Prelude.{◌≡◌, ◌+◌, ◌<◌, ◌^◌};
 ghost use Rattle.std.specs.Option.{option_map};
-ghost use Rattle.slot_table.specs.Slots.{empty_slot, held_in, is_orphan, phase_in, links_in, fill, on_held, raise, lower, lend, mark, emptied, spent};
+ghost use Rattle.slot_table.specs.Slots.{empty_slot, held_in, is_orphan, phase_in, links_in, fill, on_held, raise, lower, lend, mark, emptied, retire};
 
 use crate::phase::Phase;
 use blob_digest::Blob;
@@ -165,7 +165,7 @@ impl Row {
 
     /// The slot is retired.
     pub fn retire(&mut self)
-        ensures { self.new ≡ spent self.old }
+        ensures { self.new ≡ retire self.old }
     {
         self.cell = Cell::Retired;
     }

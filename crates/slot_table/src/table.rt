@@ -7,7 +7,7 @@ ghost use Rattle.std.specs.BTreeMap as tree;
 ghost use Rattle.finite_maps.specs.Texts.{Text, text_cmp};
 ghost use Rattle.blob_digest.specs.Outcomes.{Answers};
 ghost use Rattle.blob_digest.specs.declared.refusal.Refusal.TheVariants.{Memory, StoreFull};
-ghost use Rattle.slot_table.specs.Slots.{slot_of, held_at, phase_at, links_at, generation_at, free_slots, empty_slot, is_orphan, orphan_from, has_digest, opening, with_slot, fill, on_held, raise, lower, lend, mark, emptied, spent, IsDistinct, IsUnlinked};
+ghost use Rattle.slot_table.specs.Slots.{slot_of, held_at, phase_at, links_at, generation_at, free_slots, empty_slot, is_orphan, orphan_from, has_digest, opening, with_slot, fill, on_held, raise, lower, lend, mark, emptied, retire, IsDistinct, IsUnlinked};
 ghost use Rattle.slot_table.specs.declared.phase.Phase.TheVariants as phase;
 
 use crate::phase::Phase;
@@ -280,7 +280,7 @@ impl SlotTable {
     /// Retires a condemned slot. The slot's share of the blob is dropped. It takes no memory.
     pub fn retire(&mut self, slot: u32)
         requires { phase_at self.old slot ≡ phase.Condemned }
-        ensures { self.new ≡ with_slot self.old slot spent }
+        ensures { self.new ≡ with_slot self.old slot retire }
     {
         let row = &mut self.rows[slot as usize];
         forget(&mut self.index, row);

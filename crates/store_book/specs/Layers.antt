@@ -9,7 +9,7 @@ use Rattle.upload_table.specs.Uploaded.{Uploaded}
 use Rattle.store_book.specs.BookState.{BookState}
 use Rattle.store_book.specs.Pinned.{Pinned, shown}
 use Rattle.finite_maps.specs.Texts.{Text, text_cmp}
-use Rattle.store_model.specs.Catalog.{Link, Resident, Catalog, link_cmp, in_sessions_of, count, used}
+use Rattle.store_model.specs.Catalog.{Link, Resident, Catalog, link_cmp, session_charges_of, count, used}
 use Rattle.store_model.specs.Invariant.{Sound}
 
 -- the links without their sizes
@@ -76,7 +76,7 @@ pub record IsTied (l : Linked) (slots : List Slot) (lent : List Bool) (C : Catal
 -- each tenant is charged what its sessions have received and reserved
 pub record AreCharges (l : Linked) (C : Catalog) : Type 0 where
   pub one_each : length l.charges ≡ length l.tenants
-  pub sums : (t : ℕ) → t < length l.tenants → slice_index l.charges t ≡ in_sessions_of C t
+  pub sums : (t : ℕ) → t < length l.tenants → slice_index l.charges t ≡ session_charges_of C t
 
 -- What a book keeps: its catalog is sound, and its layers agree.
 pub record IsBook (l : Linked) (u : Uploaded) (slots : List Slot) (max_blob : ℕ) : Type 0 where

@@ -1,6 +1,6 @@
 -- The slots with the keeper of their words: what the two agree on, and what is seen of them.
-use Rattle.pin_core.specs.World.{row, row_word, max_weight, Keeps}
-use Rattle.pin_core.specs.declared.world.Hold.{Hold}
+use Rattle.pin_core.specs.World.{row, row_word, max_weight, IsValidPin}
+use Rattle.pin_core.specs.declared.world.PinRecord.{PinRecord}
 use Rattle.pin_core.specs.Events.{new_weight, lent_hold}
 use Rattle.pin_table.specs.Calls.{PinValue}
 use Rattle.pin_table.specs.Rule.{raised}
@@ -12,7 +12,7 @@ use Rattle.atomic_table.specs.Seated.{TableId}
 use Rattle.pin_core.specs.declared.world.Phase.{Phase}
 use Rattle.pin_core.specs.declared.world.Phase.TheVariants as pin
 use Rattle.pin_core.specs.declared.world.PinRow.{PinRow}
-use Rattle.slot_table.specs.Slots.{Slot, Held, Content, Free, Used, Retired, held_in, held_at, is_orphan, phase_in, generation_at, with_slot, on_held, lend, emptied, spent}
+use Rattle.slot_table.specs.Slots.{Slot, Held, Content, Free, Used, Retired, held_in, held_at, is_orphan, phase_in, generation_at, with_slot, on_held, lend, emptied, retire}
 use Rattle.finite_maps.specs.Texts.{Text}
 use Rattle.store_book.specs.BookState.{SlotSeen}
 use Rattle.store_book.specs.SlotSteps.{EachSlot, IsQuiet}
@@ -122,12 +122,12 @@ pub record Looked (k n : ℕ) (p q : Pinned) : Type 0 where
 -- within the bound.
 abbrev pub Reclaimed : ℕ → Pinned → Pinned → Reclaim → Type 0
 Reclaimed k p q reclaim.Freed = (generation_at p.slots k + 1 < 2 ^ 32) × (q ≡ with_both k emptied 0 p)
-Reclaimed k p q reclaim.Retired = (generation_at p.slots k + 1 ≡ 2 ^ 32) × (q ≡ with_both k spent 0 p)
+Reclaimed k p q reclaim.Retired = (generation_at p.slots k + 1 ≡ 2 ^ 32) × (q ≡ with_both k retire 0 p)
 Reclaimed k p q (reclaim.Held weight) = (0 < weight) × (weight ≤ slice_index p.bounds k) × (q ≡ bounded k weight p)
 
 -- The pin's slot is used and its own, and its bound doesn't rise.
-pub record Verified (h : Hold) (p q : Pinned) : Type 0 where
-  pub keeps : Keeps (map row_of p.slots) h
+pub record Verified (h : PinRecord) (p q : Pinned) : Type 0 where
+  pub keeps : IsValidPin (map row_of p.slots) h
   pub weight : ℕ
   pub within : weight ≤ slice_index p.bounds h.slot
   pub after : q ≡ bounded h.slot weight p

@@ -6,7 +6,7 @@ use Rattle.finite_maps.specs.Texts.{Text}
 use Rattle.blob_digest.specs.declared.refusal.Refusal.{Refusal}
 use Rattle.blob_digest.specs.Outcomes.{Does}
 use Rattle.pin_core.specs.World.{word_of}
-use Rattle.pin_core.specs.declared.world.Hold.{Hold}
+use Rattle.pin_core.specs.declared.world.PinRecord.{PinRecord}
 use Rattle.pin_core.specs.declared.world.Phase as pin
 use Rattle.pin_core.specs.declared.world.Phase.TheVariants as word
 use Rattle.slot_table.specs.declared.phase.Phase.{Phase}
@@ -77,7 +77,7 @@ pub record ReadsWord (k n : ℕ) (old new : List SlotSeen) : Type 0 where
   pub after : slice_get new k ≡ Some (record slot { bound = weight; looks = slot.looks + 1 })
 
 -- A pin's slot is used and its own: it has the pin's generation and digest, and so has the blob that is kept of that digest.
-pub record HasPin (h : Hold) (book : BookState) : Type 0 where
+pub record HasPin (h : PinRecord) (book : BookState) : Type 0 where
   pub slot : SlotSeen
   pub there : slice_get book.slots h.slot ≡ Some slot
   pub used : (slot.phase ≡ phase.Live) ⊎ (slot.phase ≡ phase.Condemned)

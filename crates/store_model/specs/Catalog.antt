@@ -11,7 +11,7 @@ use Rattle.finite_maps.specs.Texts.{Text, text_cmp, same_text, coded_text}
 pub use Rattle.blob_digest.specs.Names.{tenant_name}
 pub use Rattle.blob_digest.specs.Keys.{Link, Number, link_cmp, number_cmp, coded_link}
 pub use Rattle.blob_digest.specs.Tenants.{Tenant, tenant_of, is_tenants, repos_in, coded_tenant}
-pub use Rattle.store_model.specs.Sessions.{Chunks, Home, InHand, Session, Taken, charged, received, share, open_in, coded_session}
+pub use Rattle.store_model.specs.Sessions.{Chunks, Home, InHand, Session, Taken, charged, received, session_charge, open_in, coded_session}
 
 -- ---- what is kept
 
@@ -63,8 +63,8 @@ abbrev pub size : Catalog → Text → ℕ
 size C digest = option_map_or (λ b. length b.bytes) (fmap.get C.residents digest) 0
 
 -- what a tenant's sessions count in its use: the bytes received, and those reserved
-abbrev pub in_sessions_of : Catalog → ℕ → ℕ
-in_sessions_of C t = sum_by (share t) (fmap.entries C.sessions)
+abbrev pub session_charges_of : Catalog → ℕ → ℕ
+session_charges_of C t = sum_by (session_charge t) (fmap.entries C.sessions)
 
 -- what one blob adds to a tenant's use
 abbrev pub blob_share : Catalog → ℕ → Text × Resident → ℕ
@@ -72,7 +72,7 @@ blob_share C t e = if tenant_holds C t e.0 then length e.1.bytes else 0
 
 -- What a tenant uses: the length of each blob that some of its repositories holds, once, and what its sessions have received and reserved.
 abbrev pub used : Catalog → ℕ → ℕ
-used C t = sum_by (blob_share C t) (fmap.entries C.residents) + in_sessions_of C t
+used C t = sum_by (blob_share C t) (fmap.entries C.residents) + session_charges_of C t
 
 -- the digests that a tenant's repositories hold, each once
 abbrev pub held_digests : Catalog → ℕ → set.Set text_cmp

@@ -94,8 +94,8 @@ same_bytes None bytes = true
 same_bytes (Some b) bytes = same_text b.bytes bytes
 
 -- whether a digest is that of these bytes, and not kept with others
-abbrev pub names : Catalog → Text → Text → Bool
-names C digest bytes = is_digest_of digest bytes && same_bytes (fmap.get C.residents digest) bytes
+abbrev pub is_digest_accepted : Catalog → Text → Text → Bool
+is_digest_accepted C digest bytes = is_digest_of digest bytes && same_bytes (fmap.get C.residents digest) bytes
 
 -- whether a digest would want a slot where none is free
 abbrev pub is_full_for : Catalog → Text → Bool
@@ -124,7 +124,7 @@ close_by housed C repo number digest range last = do
   _ ← check C t repo number range (length last)
   _ ← within_quota C t (length last)
   let whole : Text = whole_in C.sessions (t, number) last
-  _ ← refuse (not (names C digest whole)) DigestInvalid
+  _ ← refuse (not (is_digest_accepted C digest whole)) DigestInvalid
   _ ← housed C digest
   Ok (length whole, stored C t repo number digest whole)
 
@@ -157,7 +157,7 @@ abbrev pub finish : Catalog → Taken → Text → Outcome ℕ
 finish C hand digest = do
   s ← taken_session (fmap.get C.sessions hand.key) hand
   let whole : Text = whole_of hand
-  _ ← refuse (not (names C digest whole)) DigestInvalid
+  _ ← refuse (not (is_digest_accepted C digest whole)) DigestInvalid
   _ ← has_slot C digest
   Ok (length whole, stored C hand.key.0 s.repo hand.key.1 digest whole)
 

@@ -70,12 +70,12 @@ abbrev pub charged : Session → ℕ
 charged s = received_of s.chunks + reserved_of s.chunks
 
 -- what one session adds to a tenant's sum
-abbrev pub share : ℕ → Number × Session → ℕ
-share t e = if e.0.0 == t then charged e.1 else 0
+abbrev pub session_charge : ℕ → Number × Session → ℕ
+session_charge t e = if e.0.0 == t then charged e.1 else 0
 
 -- what a tenant's sessions count in its use
-abbrev pub in_sessions : Sessions → ℕ → ℕ
-in_sessions sessions t = sum_by (share t) (fmap.entries sessions)
+abbrev pub session_charges : Sessions → ℕ → ℕ
+session_charges sessions t = sum_by (session_charge t) (fmap.entries sessions)
 
 -- how many sessions a tenant has open
 abbrev pub open_in : Sessions → ℕ → ℕ

@@ -24,8 +24,8 @@ use Rattle.finite_maps.proofs.Sorted.{entries-sorted}
 use Rattle.blob_digest.specs.Outcomes.{Does, OutcomeIn}
 use Rattle.blob_digest.specs.declared.refusal.Refusal.{Refusal}
 use Rattle.blob_digest.specs.declared.refusal.Refusal.TheVariants.{LimitReached}
-use Rattle.store_model.specs.Sessions.{Chunks, Home, Session, Sessions, charged, in_sessions, is_of_repo, open_in, sessions_of, share, with_chunks}
-use Rattle.upload_table.specs.Tenants.{Numbered, charged_in, entries_from, is_spent, no_sessions, of_tenant, start_here, tenants_shown, with_chunks_here, without}
+use Rattle.store_model.specs.Sessions.{Chunks, Home, Session, Sessions, charged, session_charges, is_of_repo, open_in, sessions_of, session_charge, with_chunks}
+use Rattle.upload_table.specs.Tenants.{Numbered, charged_in, entries_from, is_exhausted, no_sessions, of_tenant, start_here, tenants_shown, with_chunks_here, without}
 use Rattle.upload_table.specs.Uploaded.{Uploaded, opening, start_upload, started, with_sessions}
 
 -- ---- the entries are in order
@@ -157,14 +157,14 @@ module _ (tenants : List Numbered) (t : ℕ) (s : Numbered) (at : slice_get tena
       sym (length-filter (λ (e : Number × Session). e.0.0 == t) (entries (all_of tenants)))
       ∙ ap length (own_entries tenants t ∙ ap (map (of_tenant t)) own_is) ∙ length-map (entries s.sessions) (of_tenant t)
 
-  sum_share : (es : List (Number × Session)) → sum_by (share t) es ≡ sum_by (λ e. charged e.1) (filter (λ e. e.0.0 == t) es)
+  sum_share : (es : List (Number × Session)) → sum_by (session_charge t) es ≡ sum_by (λ e. charged e.1) (filter (λ e. e.0.0 == t) es)
   sum_share [] = refl
-  sum_share (e ∷ es) = sum_by-cons (share t) e es ∙ (elim (e.0.0 == t) as (λ b. cond b (charged e.1) 0 + sum_by (share t) es ≡ sum_by (λ f. charged f.1) (cond b (e ∷ filter (λ f. f.0.0 == t) es) (filter (λ f. f.0.0 == t) es))) [
+  sum_share (e ∷ es) = sum_by-cons (session_charge t) e es ∙ (elim (e.0.0 == t) as (λ b. cond b (charged e.1) 0 + sum_by (session_charge t) es ≡ sum_by (λ f. charged f.1) (cond b (e ∷ filter (λ f. f.0.0 == t) es) (filter (λ f. f.0.0 == t) es))) [
     | true ↦ ap (λ n. charged e.1 + n) (sum_share es) ∙ sym (sum_by-cons (λ (f : Number × Session). charged f.1) e (filter (λ f. f.0.0 == t) es))
     | false ↦ omega (arith, sum_share es)
   ])
 
-  pub charged_there : in_sessions (all_of tenants) t ≡ charged_in s
+  pub charged_there : session_charges (all_of tenants) t ≡ charged_in s
   charged_there =
       sum_share (entries (all_of tenants)) ∙ ap (sum_by (λ (e : Number × Session). charged e.1)) (own_entries tenants t ∙ ap (map (of_tenant t)) own_is)
       ∙ sum_by-map (λ (e : Number × Session). charged e.1) (of_tenant t) (entries s.sessions)
@@ -290,7 +290,7 @@ module _ (tenants : List Numbered) (t : ℕ) (s : Numbered) (at : slice_get tena
   for_all (Err e) = Err e
 
   start_outcome : (repo : Text) → start_upload (tenants_shown tenants) t repo ≡ for_all (start_here s repo)
-  start_outcome repo = ap (λ b. cond b (Err LimitReached) (Ok (slice_index (tenants_shown tenants).next t, started (tenants_shown tenants) t repo))) (λ i. nat_le 64 (counted_there tenants t s at i) || nat_le (2 ^ 32) (next_there tenants t s at i)) ∙ by (is_spent s)
+  start_outcome repo = ap (λ b. cond b (Err LimitReached) (Ok (slice_index (tenants_shown tenants).next t, started (tenants_shown tenants) t repo))) (λ i. nat_le 64 (counted_there tenants t s at i) || nat_le (2 ^ 32) (next_there tenants t s at i)) ∙ by (is_exhausted s)
     where
       session : Session
       session = record { repo = repo; chunks = Home [] }

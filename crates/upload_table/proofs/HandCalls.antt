@@ -13,11 +13,11 @@ use Rattle.finite_maps.proofs.Options.{some_same}
 use Rattle.store_model.specs.Sessions.{Chunks, Home, InHand, Session, Taken, at_home, brought_home, charged, chunks_in, chunks_of, given_up, hand_in, received_of, reserved_of, take_in, taken_session, whole_of, with_chunks}
 use Rattle.upload_table.specs.Uploaded.{Rest, Uploaded, BeginsWith, CanReopen, cut, finish_upload, put_back_upload, reopened, with_sessions}
 use Rattle.upload_table.specs.Rows.{IsWhole}
-use Rattle.upload_table.specs.declared.upload.Pieces.{Pieces}
+use Rattle.upload_table.specs.declared.upload.ChunkBuffer.{ChunkBuffer}
 use Rattle.upload_table.proofs.Cuts.{sum_by-cut}
 
 -- whole chunks are as long as their bytes
-pub whole_length : (p : Pieces) → IsWhole p → sum_by length (cut p.lens.items p.bytes.items) ≡ length p.bytes.items
+pub whole_length : (p : ChunkBuffer) → IsWhole p → sum_by length (cut p.lens.items p.bytes.items) ≡ length p.bytes.items
 whole_length p whole = sum_by-cut p.lens.items p.bytes.items (omega (arith, whole.lengths)) ∙ whole.lengths
 
 -- ---- the session of a hand
@@ -49,7 +49,7 @@ taken_value (Some x) h is = by x.chunks refl
 
 module _ (v : Uploaded) (h : Taken) (x : Session) (taken : IsTaken (get v.sessions h.key) h x) where
   -- chunks that are no longer than the hand's can be put there
-  pub put_fits : (p : Pieces) → IsWhole p → sum_by length (cut p.lens.items p.bytes.items) ≤ sum_by length h.chunks + h.reserved → (y : Session) → y ≡ x → length p.bytes.items ≤ charged y
+  pub put_fits : (p : ChunkBuffer) → IsWhole p → sum_by length (cut p.lens.items p.bytes.items) ≤ sum_by length h.chunks + h.reserved → (y : Session) → y ≡ x → length p.bytes.items ≤ charged y
   put_fits p whole le y same =
       let charge : charged x ≡ sum_by length h.chunks + h.reserved = ap (λ (c : Chunks). received_of c + reserved_of c) taken.chunks in
       omega (arith, charge, ap charged same, whole_length p whole, le)
@@ -76,7 +76,7 @@ module _ (v : Uploaded) (h : Taken) (x : Session) (taken : IsTaken (get v.sessio
 
 -- ---- a session that is taken
 
-module _ (v : Uploaded) (key : Number) (n : ℕ) (x : Session) (found : get v.sessions key ≡ Some x) (p : Pieces) (whole : IsWhole p) (home : Some x.chunks ≡ Some (Home (cut p.lens.items p.bytes.items))) where
+module _ (v : Uploaded) (key : Number) (n : ℕ) (x : Session) (found : get v.sessions key ≡ Some x) (p : ChunkBuffer) (whole : IsWhole p) (home : Some x.chunks ≡ Some (Home (cut p.lens.items p.bytes.items))) where
   pub hand_is : record { key = key; chunks = cut p.lens.items p.bytes.items; reserved = n; last = None } ≡ hand_in v.sessions key n
   hand_is =
       let chunks : chunks_in v.sessions key ≡ cut p.lens.items p.bytes.items = ap (λ o. option_map_or (λ (s : Session). at_home s.chunks) o []) found ∙ ap at_home (some_same home) in

@@ -11,7 +11,7 @@ use Rattle.store_model.specs.Sessions.{Taken, chunks_of, whole_of, with_chunk}
 use Rattle.upload_table.specs.Uploaded.{cut}
 use Rattle.upload_table.specs.Rows.{taken, with_length, IsFilled, IsHand}
 use Rattle.upload_table.specs.declared.hashed.Hashed.{Hashed}
-use Rattle.upload_table.specs.declared.upload.Pieces.{Pieces}
+use Rattle.upload_table.specs.declared.upload.ChunkBuffer.{ChunkBuffer}
 use Rattle.upload_table.proofs.Cuts.{concat-cut, cut-more, cut-push, cut-take, sum_by-cut}
 
 -- a test that can't hold fails
@@ -56,7 +56,7 @@ cut-last lens bytes n len = at (drop (sum lens) bytes) refl
         ∙ cut-push lens (take (sum lens) bytes) (b ∷ bs) front
         ∙ ap (λ cs. cs ++ (b ∷ bs) ∷ []) (cut-take lens bytes within))
 
-module _ (received reserved : ℕ) (p : Pieces) (room : ℕ) (whole : Option Hashed) (hand : IsHand received reserved p room whole) where
+module _ (received reserved : ℕ) (p : ChunkBuffer) (room : ℕ) (whole : Option Hashed) (hand : IsHand received reserved p room whole) where
   -- the chunks are among the bytes
   pub chunks_within : sum p.lens.items ≤ length p.bytes.items
   chunks_within = at whole hand.filled
@@ -91,7 +91,7 @@ module _ (received reserved : ℕ) (p : Pieces) (room : ℕ) (whole : Option Has
           cut-last p.lens.items p.bytes.items reserved len ∙ ap (λ k. with_chunk (cut p.lens.items p.bytes.items) (drop k p.bytes.items)) hand.lengths
 
   -- a chunk is filled in
-  pub hand_fill : (t n : ℕ) (new : Pieces) (w : Hashed) (chunk : List ℕ) → (taken t n received reserved p whole).last ≡ None → new.lens.items ≡ p.lens.items → new.bytes.items ≡ p.bytes.items ++ chunk →
+  pub hand_fill : (t n : ℕ) (new : ChunkBuffer) (w : Hashed) (chunk : List ℕ) → (taken t n received reserved p whole).last ≡ None → new.lens.items ≡ p.lens.items → new.bytes.items ≡ p.bytes.items ++ chunk →
       taken t n received reserved new (Some w) ≡ record (taken t n received reserved p whole) { last = Some chunk }
   hand_fill t n new w chunk empty lens bytes = at whole empty hand.filled
     where
@@ -112,7 +112,7 @@ chunks_of-length h = at h.last
     at (Some (b ∷ bs)) fits = omega (arith, sum_by_push (λ (c : List ℕ). length c) h.chunks (b ∷ bs), fits)
 
 -- so with the one that is filled in they fit into what was reserved
-pub hand_fits : (t n received reserved : ℕ) (p : Pieces) (room : ℕ) (whole : Option Hashed) → IsHand received reserved p room whole →
+pub hand_fits : (t n received reserved : ℕ) (p : ChunkBuffer) (room : ℕ) (whole : Option Hashed) → IsHand received reserved p room whole →
     sum_by length (chunks_of (taken t n received reserved p whole)) ≤ sum_by length (taken t n received reserved p whole).chunks + reserved
 hand_fits t n received reserved p room whole hand = chunks_of-length (taken t n received reserved p whole) (last whole hand.filled)
   where

@@ -7,7 +7,7 @@ use Rattle.std.specs.FinMap.{entries, get, remove}
 use Rattle.std.proofs.lemmas.Bool.{false≢true}
 use Rattle.std.proofs.lemmas.Option.{slice_get_past}
 use Rattle.finite_maps.specs.Texts.{Text, same_text}
-use Rattle.store_model.specs.Sessions.{Chunks, Session, in_sessions, is_home, listed, sessions_of, with_chunks}
+use Rattle.store_model.specs.Sessions.{Chunks, Session, session_charges, is_home, listed, sessions_of, with_chunks}
 use Rattle.upload_table.specs.Tenants.{Numbered, charged_in, of_tenant, tenants_shown, with_chunks_here, without}
 use Rattle.upload_table.specs.Uploaded.{Uploaded, with_sessions}
 use Rattle.upload_table.specs.Rows.{entry_of, row_listed, rows_listed, AreWhole}
@@ -31,8 +31,8 @@ module _ (tenants : List Numbered) (v : Uploaded) (shows : tenants_shown tenants
     pub found_here : get s.sessions n ≡ Some x
     found_here = sym (get_there tenants t s read n) ∙ ap (λ (u : Uploaded). get u.sessions (t, n)) shows ∙ found
 
-    pub charged_here : in_sessions v.sessions t ≡ charged_in s
-    charged_here = ap (λ (u : Uploaded). in_sessions u.sessions t) (sym shows) ∙ charged_there tenants t s read
+    pub charged_here : session_charges v.sessions t ≡ charged_in s
+    charged_here = ap (λ (u : Uploaded). session_charges u.sessions t) (sym shows) ∙ charged_there tenants t s read
 
     pub after-chunks : (new : Numbered) (c : Chunks) → new ≡ with_chunks_here s n c → tenants_shown (set tenants t new) ≡ with_sessions v (with_chunks v.sessions (t, n) x c)
     after-chunks new c is = shown-chunks tenants t s read new n c x is found_here ∙ ap (λ (u : Uploaded). with_sessions u (with_chunks u.sessions (t, n) x c)) shows

@@ -20,7 +20,7 @@ use Rattle.finite_maps.specs.Texts.{Text}
 use Rattle.blob_digest.specs.declared.refusal.Refusal.TheVariants.{LimitReached}
 use Rattle.store_model.specs.Sessions.{Chunks, Session, charged, is_home, received, received_of, reserved_of}
 use Rattle.store_model.specs.Sessions as shown
-use Rattle.upload_table.specs.Tenants.{Numbered, charged_in, is_spent, start_here, with_chunks_here}
+use Rattle.upload_table.specs.Tenants.{Numbered, charged_in, is_exhausted, start_here, with_chunks_here}
 use Rattle.upload_table.specs.Rows.{chunks_shown, content_charge, content_received, entry_of, is_at_home, session_of, shown_by, AreWhole, IsSound}
 use Rattle.upload_table.specs.declared.upload.Content.{Content}
 use Rattle.upload_table.specs.declared.upload.Content.TheVariants.{Home, InHand}
@@ -69,10 +69,10 @@ above_none n (e ∷ es) all =
 with_chunks_found : (s : Numbered) (n : ℕ) (x : Session) (c : Chunks) → get s.sessions n ≡ Some x → with_chunks_here s n c ≡ record s { sessions = insert s.sessions n (record x { chunks = c }) }
 with_chunks_found s n x c found = rw found refl
 
-pub start_spent : (s : Numbered) (repo : Text) → is_spent s ≡ true → start_here s repo ≡ Err LimitReached
+pub start_spent : (s : Numbered) (repo : Text) → is_exhausted s ≡ true → start_here s repo ≡ Err LimitReached
 start_spent s repo spent = rw spent refl
 
-pub start_open : (s : Numbered) (repo : Text) → is_spent s ≡ false → start_here s repo ≡ Ok (s.next, record { next = s.next + 1; sessions = insert s.sessions s.next (record { repo = repo; chunks = shown.Home [] }) })
+pub start_open : (s : Numbered) (repo : Text) → is_exhausted s ≡ false → start_here s repo ≡ Ok (s.next, record { next = s.next + 1; sessions = insert s.sessions s.next (record { repo = repo; chunks = shown.Home [] }) })
 start_open s repo open_ = rw open_ refl
 
 -- ---- one row
@@ -106,12 +106,12 @@ module _ (next sum_kept : ℕ) (rows : List Upload) (sound : IsSound next sum_ke
   pub count-rows : length (entries (map_of rows)) ≡ length rows
   count-rows = ap length entries-rows ∙ length-map rows entry_of
 
-  pub spent_many : 64 ≤ length rows → is_spent (shown_by next rows) ≡ true
+  pub spent_many : 64 ≤ length rows → is_exhausted (shown_by next rows) ≡ true
   spent_many many =
       let h : nat_le 64 (length (entries (map_of rows))) ≡ true = le-leb 64 (length (entries (map_of rows))) (omega (arith, count-rows, many)) in
       rw h refl
 
-  pub spent_few : length rows < 64 → is_spent (shown_by next rows) ≡ nat_le (2 ^ 32) next
+  pub spent_few : length rows < 64 → is_exhausted (shown_by next rows) ≡ nat_le (2 ^ 32) next
   spent_few few =
       let h : nat_le 64 (length (entries (map_of rows))) ≡ false = lt-leb 64 (length (entries (map_of rows))) (omega (arith, count-rows, few)) in
       rw h refl

@@ -15,7 +15,7 @@ use Rattle.upload_table.specs.declared.hashed.Hashed.{Hashed}
 use Rattle.upload_table.specs.declared.hashed.Hashed.TheVariants.{Both, One}
 use Rattle.upload_table.specs.declared.upload.Content.{Content}
 use Rattle.upload_table.specs.declared.upload.Content.TheVariants.{Home, InHand}
-use Rattle.upload_table.specs.declared.upload.Pieces.{Pieces}
+use Rattle.upload_table.specs.declared.upload.ChunkBuffer.{ChunkBuffer}
 use Rattle.upload_table.specs.declared.upload.Upload.{Upload}
 
 -- the chunks that a row stands for
@@ -35,7 +35,7 @@ abbrev pub shown_by : ℕ → List Upload → Numbered
 shown_by next rows = record { next = next; sessions = fmap.from_entries (map entry_of rows) }
 
 -- the lengths are those of chunks with bytes, and the hash is that of the bytes
-pub record IsWhole (p : Pieces) : Type 0 where
+pub record IsWhole (p : ChunkBuffer) : Type 0 where
   pub lengths : sum p.lens.items ≡ length p.bytes.items
   pub positive : AllByRecursion (λ n. 0 < n) p.lens.items
   pub hash : Hashes p.running p.bytes.items
@@ -82,7 +82,7 @@ rows_listed repo rows = map row_listed (filter (λ u. same_text u.repo repo) row
 -- ---- hands
 
 -- what a hand stands for
-abbrev pub taken : ℕ → ℕ → ℕ → ℕ → Pieces → Option Hashed → Taken
+abbrev pub taken : ℕ → ℕ → ℕ → ℕ → ChunkBuffer → Option Hashed → Taken
 taken tenant number received reserved p whole = record { key = (tenant, number); chunks = cut p.lens.items p.bytes.items; reserved = reserved; last = option_map (λ _. drop received p.bytes.items) whole }
 
 -- both hashes have taken in these bytes, or it is their digest by the algorithm that it names
@@ -91,11 +91,11 @@ IsHashOf (Both running) bytes = Hashes running bytes
 IsHashOf (One digest) bytes = digest ≡ hash_text (algorithm_of digest) bytes
 
 -- a chunk of the reserved length follows the others, there is room for its length, and all bytes are hashed; or no chunk does
-abbrev pub IsFilled : ℕ → ℕ → Pieces → ℕ → Option Hashed → Type 0
+abbrev pub IsFilled : ℕ → ℕ → ChunkBuffer → ℕ → Option Hashed → Type 0
 IsFilled received reserved p room None = length p.bytes.items ≡ received
 IsFilled received reserved p room (Some whole) = (length p.bytes.items ≡ received + reserved) × (length p.lens.items < room) × IsHashOf whole p.bytes.items
 
-pub record IsHand (received reserved : ℕ) (p : Pieces) (room : ℕ) (whole : Option Hashed) : Type 0 where
+pub record IsHand (received reserved : ℕ) (p : ChunkBuffer) (room : ℕ) (whole : Option Hashed) : Type 0 where
   pub lengths : sum p.lens.items ≡ received
   pub positive : AllByRecursion (λ n. 0 < n) p.lens.items
   pub hash : Hashes p.running (take received p.bytes.items)
@@ -107,6 +107,6 @@ abbrev pub with_length : List ℕ → ℕ → List ℕ
 with_length lens n = if nat_lt 0 n then lens ++ n ∷ [] else lens
 
 -- the same lengths and hash
-pub record IsSame (old new : Pieces) : Type 0 where
+pub record IsSame (old new : ChunkBuffer) : Type 0 where
   pub lens : new.lens.items ≡ old.lens.items
   pub running : new.running ≡ old.running

@@ -28,12 +28,12 @@ abbrev pub charged_in : Numbered → ℕ
 charged_in s = sum_by (λ e. charged e.1) (fmap.entries s.sessions)
 
 -- there are 64 sessions, or all numbers below 2^32 were given
-abbrev pub is_spent : Numbered → Bool
-is_spent s = nat_le 64 (length (fmap.entries s.sessions)) || nat_le (2 ^ 32) s.next
+abbrev pub is_exhausted : Numbered → Bool
+is_exhausted s = nat_le 64 (length (fmap.entries s.sessions)) || nat_le (2 ^ 32) s.next
 
 -- one more session, under the next number
 abbrev pub start_here : Numbered → Text → OutcomeIn Numbered ℕ
-start_here s repo = if is_spent s then Err LimitReached else Ok (s.next, record { next = s.next + 1; sessions = fmap.insert s.sessions s.next (record { repo = repo; chunks = Home [] }) })
+start_here s repo = if is_exhausted s then Err LimitReached else Ok (s.next, record { next = s.next + 1; sessions = fmap.insert s.sessions s.next (record { repo = repo; chunks = Home [] }) })
 
 -- the session of a number has these chunks from now on
 abbrev pub with_chunks_here : Numbered → ℕ → Chunks → Numbered

@@ -11,7 +11,7 @@ ghost use Rattle.upload_table.specs.Rows.{with_length, IsHashOf, IsWhole};
 ghost use Rattle.std.specs.Vec.{vec_capacity};
 
 use crate::hashed::Hashed;
-use crate::upload::{Pieces, extend, sum_of};
+use crate::upload::{ChunkBuffer, extend, sum_of};
 use blob_digest::{Algorithm, Blob, Digest, Running};
 use std::marker::Model;
 
@@ -24,7 +24,7 @@ pub struct Hand {
     number: u32,
     received: u64,
     reserved: u64,
-    pieces: Pieces,
+    pieces: ChunkBuffer,
     whole: Option<Hashed>,
 }
 
@@ -45,14 +45,14 @@ impl Model for Hand {
 
 /// What is left of a hand whose bytes have moved into a blob. `Uploads::forget` or `Uploads::reopen`
 /// takes it.
-pub struct Sealed {
+pub struct PendingClose {
     pub(crate) tenant: u16,
     pub(crate) number: u32,
     pub(crate) lens: Vec<u64>,
     pub(crate) running: Running,
 }
 
-impl Model for Sealed {
+impl Model for PendingClose {
     ghost use Rattle.std.specs.Prelude.{◌<◌};
     ghost use Rattle.std.specs.List.{AllByRecursion};
     ghost use Rattle.upload_table.specs.Uploaded.{Rest, coded_rest};
@@ -68,7 +68,7 @@ impl Model for Sealed {
 
 impl Hand {
     /// The hand of a session's chunks, not filled.
-    pub(crate) fn new(tenant: u16, number: u32, reserved: u64, pieces: Pieces) -> Hand
+    pub(crate) fn new(tenant: u16, number: u32, reserved: u64, pieces: ChunkBuffer) -> Hand
         requires whole { IsWhole pieces }
         requires fits { length pieces.bytes.items + reserved < 2 ^ 64 }
         ensures { result ≡ record { key = (tenant, number); chunks = cut pieces.lens.items pieces.bytes.items; reserved = reserved; last = None } }
@@ -181,7 +181,7 @@ impl Hand {
     }
 
     /// The chunks, and then the one that was filled in, where it has bytes. It takes no memory.
-    pub(crate) fn into_pieces(self) -> Pieces
+    pub(crate) fn into_pieces(self) -> ChunkBuffer
         ensures whole { IsWhole result }
         ensures chunks { cut result.lens.items result.bytes.items ≡ chunks_of self }
         ensures fits { sum_by length (chunks_of self) ≤ sum_by length self.chunks + self.reserved }
@@ -202,7 +202,7 @@ impl Hand {
 
     /// Moves the bytes into a blob of this digest. Where they have another, the chunks come back
     /// without the one that was filled in.
-    pub(crate) fn seal(self, digest: &Digest) -> Result<(Blob, Sealed), Pieces>
+    pub(crate) fn seal(self, digest: &Digest) -> Result<(Blob, PendingClose), ChunkBuffer>
         requires full { IsFull self }
         ensures blob { IfOk result (λ r. r.0 ≡ (digest.now, whole_of self)) }
         ensures agrees { IfOk result (λ r. is_digest_of digest.now (whole_of self) ≡ true) }
@@ -219,7 +219,7 @@ impl Hand {
             pieces,
             whole,
         } = self;
-        let Pieces {
+        let ChunkBuffer {
             bytes,
             lens,
             running,
@@ -232,7 +232,7 @@ impl Hand {
         match Blob::seal_found(bytes, found, digest) {
             Ok(blob) => Ok((
                 blob,
-                Sealed {
+                PendingClose {
                     tenant,
                     number,
                     lens,
@@ -241,7 +241,7 @@ impl Hand {
             )),
             Err(mut refused) => {
                 refused.truncate(received as usize);
-                Err(Pieces {
+                Err(ChunkBuffer {
                     bytes: refused,
                     lens,
                     running,
@@ -251,7 +251,7 @@ impl Hand {
     }
 
     /// Lets a hand go that is of no use.
-    pub(crate) fn spend(self) {
+    pub(crate) fn discard(self) {
         let Hand {
             tenant: _,
             number: _,
@@ -264,7 +264,7 @@ impl Hand {
 }
 
 /// The chunks with the last one, whose bytes are there and for whose length there is room.
-fn with_last(pieces: Pieces, received: usize, len: u64, hashed: Hashed) -> Pieces
+fn with_last(pieces: ChunkBuffer, received: usize, len: u64, hashed: Hashed) -> ChunkBuffer
     requires room { length pieces.lens.items < vec_capacity pieces.lens }
     requires within { received ≤ length pieces.bytes.items }
     requires front { Hashes pieces.running (take received pieces.bytes.items) }
@@ -273,7 +273,7 @@ fn with_last(pieces: Pieces, received: usize, len: u64, hashed: Hashed) -> Piece
     ensures lens { result.lens.items ≡ with_length pieces.lens.items len }
     ensures hash { Hashes result.running pieces.bytes.items }
 {
-    let Pieces {
+    let ChunkBuffer {
         bytes,
         mut lens,
         running,
@@ -285,21 +285,21 @@ fn with_last(pieces: Pieces, received: usize, len: u64, hashed: Hashed) -> Piece
             Err(_) => unreachable!(),
         }
     }
-    Pieces {
+    ChunkBuffer {
         bytes,
         lens,
         running,
     }
 }
 
-impl Sealed {
+impl PendingClose {
     /// The chunks again, their bytes moved back out of a blob that begins with them.
-    pub(crate) fn into_pieces(self, blob: Blob) -> Pieces
+    pub(crate) fn into_pieces(self, blob: Blob) -> ChunkBuffer
         requires { BeginsWith self blob.1 }
         ensures whole { IsWhole result }
         ensures chunks { cut result.lens.items result.bytes.items ≡ cut self.lens blob.1 }
     {
-        let Sealed {
+        let PendingClose {
             tenant: _,
             number: _,
             lens,
@@ -308,7 +308,7 @@ impl Sealed {
         let received = sum_of(lens.as_slice());
         let mut bytes = blob.into_bytes();
         bytes.truncate(received as usize);
-        Pieces {
+        ChunkBuffer {
             bytes,
             lens,
             running,

@@ -22,7 +22,7 @@ mod tenant_sessions;
 mod upload;
 mod uploads;
 
-pub use hand::{Hand, Sealed};
+pub use hand::{Hand, PendingClose};
 pub use repo_sessions::RepoSessions;
 pub use uploads::Uploads;
 

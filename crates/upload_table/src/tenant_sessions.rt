@@ -10,9 +10,9 @@ ghost use Rattle.blob_digest.specs.Outcomes.{Does};
 ghost use Rattle.store_model.specs.Sessions.{Home, InHand, Session, charged, is_home};
 ghost use Rattle.upload_table.specs.Uploaded.{cut};
 ghost use Rattle.upload_table.specs.Rows.{entry_of, session_of, AreWhole, IsWhole};
-ghost use Rattle.upload_table.specs.Tenants.{charged_in, is_spent, no_sessions, start_here, with_chunks_here, without};
+ghost use Rattle.upload_table.specs.Tenants.{charged_in, is_exhausted, no_sessions, start_here, with_chunks_here, without};
 
-use crate::upload::{Content, Pieces, Upload, charge_of, lift};
+use crate::upload::{Content, ChunkBuffer, Upload, charge_of, take_chunks};
 use blob_digest::{Refusal, RepoName};
 use std::alloc::Global;
 use std::marker::Model;
@@ -68,8 +68,8 @@ impl TenantSessions {
     }
 
     /// Whether no further session can be opened.
-    fn is_spent(&self) -> bool
-        ensures { result ≡ is_spent self.now }
+    fn is_exhausted(&self) -> bool
+        ensures { result ≡ is_exhausted self.now }
     {
         self.rows.as_slice().len() >= MAX_SESSIONS || self.next >= NUMBER_LIMIT
     }
@@ -80,14 +80,14 @@ impl TenantSessions {
     pub(crate) fn start(&mut self, alloc: Global, repo: &RepoName) -> Result<u32, Refusal>
         ensures { Does (λ n. n) result self.old self.new (start_here self.old repo.now) }
     {
-        if self.is_spent() {
+        if self.is_exhausted() {
             return Err(Refusal::LimitReached);
         }
         let number = self.next as u32;
         let row = Upload {
             number,
             repo: repo.clone()?,
-            content: Content::Home(Pieces::new(alloc)),
+            content: Content::Home(ChunkBuffer::new(alloc)),
         };
         self.rows.push(row)?;
         self.next += 1;
@@ -115,7 +115,7 @@ impl TenantSessions {
 
     /// Takes the chunks of a session that is at home, and reserves so many bytes for a chunk more. It
     /// takes no memory.
-    pub(crate) fn take(&mut self, number: u32, len: u64) -> Pieces
+    pub(crate) fn take(&mut self, number: u32, len: u64) -> ChunkBuffer
         requires home { is_home (fmap.get self.old.sessions number) ≡ true }
         requires room { charged_in self.old + len < 2 ^ 64 }
         ensures whole { IsWhole result }
@@ -126,7 +126,7 @@ impl TenantSessions {
         match place_of(self.rows.as_slice(), number) {
             Ok(i) => {
                 self.charged += len;
-                lift(&mut self.rows[i], len)
+                take_chunks(&mut self.rows[i], len)
             }
             Err(_) => unreachable!(),
         }
@@ -134,7 +134,7 @@ impl TenantSessions {
 
     /// Puts chunks home into a session, which counts no more with them than before, and answers their
     /// length. It takes no memory.
-    pub(crate) fn put_home(&mut self, number: u32, pieces: Pieces) -> u64
+    pub(crate) fn put_home(&mut self, number: u32, pieces: ChunkBuffer) -> u64
         requires there { IsSome (fmap.get self.old.sessions number) }
         requires less { (s : Session) → fmap.get self.old.sessions number ≡ Some s → length pieces.bytes.items ≤ charged s }
         requires whole { IsWhole pieces }

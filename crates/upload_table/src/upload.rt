@@ -15,7 +15,7 @@ use std::mem;
 
 /// The chunks of a session: their bytes, one after another, their lengths, and the hashes of the bytes.
 #[derive(Drop)]
-pub(crate) struct Pieces {
+pub(crate) struct ChunkBuffer {
     pub(crate) bytes: Vec<u8>,
     pub(crate) lens: Vec<u64>,
     pub(crate) running: Running,
@@ -24,7 +24,7 @@ pub(crate) struct Pieces {
 /// What the table has of a session: its chunks, or only their length while they are in hand.
 #[derive(Drop)]
 pub(crate) enum Content {
-    Home(Pieces),
+    Home(ChunkBuffer),
     InHand { received: u64, reserved: u64 },
 }
 
@@ -36,14 +36,14 @@ pub(crate) struct Upload {
     pub(crate) content: Content,
 }
 
-impl Pieces {
+impl ChunkBuffer {
     /// No chunks. It takes no memory.
-    pub(crate) fn new(alloc: Global) -> Pieces
+    pub(crate) fn new(alloc: Global) -> ChunkBuffer
         ensures whole { IsWhole result }
         ensures none { cut result.lens.items result.bytes.items ≡ [] }
         ensures empty { result.bytes.items ≡ [] }
     {
-        Pieces {
+        ChunkBuffer {
             bytes: Vec::new(alloc),
             lens: Vec::new(alloc),
             running: Running::new(),
@@ -89,7 +89,7 @@ pub(crate) fn is_in_hand(content: &Content, received: u64, reserved: u64) -> boo
 }
 
 /// Takes the chunks out of a session that is at home, and reserves so many bytes.
-pub(crate) fn lift(upload: &mut Upload, len: u64) -> Pieces
+pub(crate) fn take_chunks(upload: &mut Upload, len: u64) -> ChunkBuffer
     requires { is_at_home upload.old.content ≡ true }
     ensures pieces { upload.old.content ≡ Home result }
     ensures row { upload.new ≡ record upload.old { content = InHand (content_received upload.old.content) len } }
@@ -134,7 +134,7 @@ pub(crate) fn length_after(
 /// the one algorithm that is named, or else by both. The chunks' own hashes stay, so that they need not be
 /// hashed again where the last one goes.
 pub(crate) fn extend(
-    pieces: &mut Pieces,
+    pieces: &mut ChunkBuffer,
     chunk: &[u8],
     algorithm: Option<Algorithm>,
 ) -> Result<Hashed, AllocError>

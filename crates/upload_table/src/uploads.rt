@@ -6,13 +6,13 @@ ghost use Rattle.std.specs.FinMap as fmap;
 ghost use Rattle.blob_digest.specs.Digests.{is_digest_of};
 ghost use Rattle.blob_digest.specs.Outcomes.{Does, DoesExactly};
 ghost use Rattle.blob_digest.specs.declared.refusal.Refusal.TheVariants.{Memory};
-ghost use Rattle.store_model.specs.Sessions.{check_in, given_up, hand_in, home_in, in_sessions, is_home, received_in, session_in, sessions_of, listed, take_in, taken_session};
+ghost use Rattle.store_model.specs.Sessions.{check_in, given_up, hand_in, home_in, session_charges, is_home, received_in, session_in, sessions_of, listed, take_in, taken_session};
 ghost use Rattle.upload_table.specs.Uploaded.{finish_upload, opening, put_back_upload, repo_at, start_upload, with_sessions, CanReopen, reopened};
 ghost use Rattle.store_model.specs.Sessions.{IsFull};
 ghost use Rattle.upload_table.specs.Rows.{session_of, AreWhole};
 ghost use Rattle.upload_table.specs.Tenants.{no_sessions};
 
-use crate::hand::{Hand, Sealed};
+use crate::hand::{Hand, PendingClose};
 use crate::repo_sessions::RepoSessions;
 use crate::tenant_sessions::TenantSessions;
 use crate::upload::{Content, Upload, is_in_hand, length_after, received_of};
@@ -164,7 +164,7 @@ impl Uploads {
     /// no memory.
     pub fn take(&mut self, tenant: u16, number: u32, len: u64) -> Hand
         requires home { is_home (fmap.get self.old.sessions (tenant, number)) ≡ true }
-        requires room { in_sessions self.old.sessions tenant + len < 2 ^ 64 }
+        requires room { session_charges self.old.sessions tenant + len < 2 ^ 64 }
         ensures hand { result ≡ hand_in self.old.sessions (tenant, number) len }
         ensures taken { self.new ≡ with_sessions self.old (take_in self.old.sessions (tenant, number) len) }
     {
@@ -181,7 +181,7 @@ impl Uploads {
         ensures { DoesExactly (λ n. n) result self.old self.new (put_back_upload self.old hand) }
     {
         if !self.has_taken(&hand) {
-            hand.spend();
+            hand.discard();
             return Err(Refusal::UploadUnknown);
         }
         let (tenant, number) = (hand.tenant(), hand.number());
@@ -197,7 +197,7 @@ impl Uploads {
     /// Refused, in this order: a hand that no session of this table was taken into, as `put_back` does
     /// (`UploadUnknown`); other bytes than the digest's (`DigestInvalid`), and the session is then as
     /// before it was taken.
-    pub fn finish(&mut self, hand: Hand, digest: &Digest) -> Result<(Blob, Sealed), Refusal>
+    pub fn finish(&mut self, hand: Hand, digest: &Digest) -> Result<(Blob, PendingClose), Refusal>
         requires full { IsFull hand }
         ensures does { DoesExactly (λ r. r.0) result (with_sessions self.old (given_up self.old.sessions hand)) self.new (finish_upload self.old hand digest.now) }
         ensures agrees { IfOk result (λ r. is_digest_of r.0.0 r.0.1 ≡ true) }
@@ -205,7 +205,7 @@ impl Uploads {
         ensures restores { IfOk result (λ r. CanReopen self.new r.1 r.0.1 × (reopened self.new r.1 r.0.1 ≡ with_sessions self.old (given_up self.old.sessions hand))) }
     {
         if !self.has_taken(&hand) {
-            hand.spend();
+            hand.discard();
             return Err(Refusal::UploadUnknown);
         }
         let (tenant, number) = (hand.tenant(), hand.number());
@@ -219,7 +219,7 @@ impl Uploads {
     }
 
     /// The repository of a session whose hand was sealed.
-    pub fn repo_of(&self, sealed: &Sealed) -> &RepoName
+    pub fn repo_of(&self, sealed: &PendingClose) -> &RepoName
         requires { IsSome (fmap.get self.now.sessions sealed.now.key) }
         ensures { result.now ≡ repo_at self.now sealed.now.key }
     {
@@ -231,7 +231,7 @@ impl Uploads {
 
     /// Takes back the blob that a session in hand was sealed into: the session has the chunks that it had
     /// before it was taken. It takes no memory, and hashes nothing.
-    pub fn reopen(&mut self, sealed: Sealed, blob: Blob)
+    pub fn reopen(&mut self, sealed: PendingClose, blob: Blob)
         requires { CanReopen self.old sealed blob.1 }
         ensures { self.new ≡ reopened self.old sealed blob.1 }
     {
@@ -241,11 +241,11 @@ impl Uploads {
     }
 
     /// Forgets a session that was sealed.
-    pub fn forget(&mut self, sealed: Sealed)
+    pub fn forget(&mut self, sealed: PendingClose)
         requires { IsSome (fmap.get self.old.sessions sealed.key) }
         ensures { self.new ≡ with_sessions self.old (fmap.remove self.old.sessions sealed.key) }
     {
-        let Sealed {
+        let PendingClose {
             tenant,
             number,
             lens: _,
@@ -266,7 +266,7 @@ impl Uploads {
     /// is kept, in one step.
     pub fn total(&self, tenant: u16) -> u64
         requires there { tenant < length self.now.next }
-        ensures { result ≡ in_sessions self.now.sessions tenant }
+        ensures { result ≡ session_charges self.now.sessions tenant }
     {
         self.tenants[tenant as usize].charged()
     }

@@ -10,7 +10,7 @@ use Rattle.slot_table.specs.Slots.{Slot}
 use Rattle.link_table.specs.Linked.{Linked}
 use Rattle.store_model.specs.Sessions.{Chunks, Session, at_home, charged, with_chunks}
 use Rattle.upload_table.specs.Uploaded.{Uploaded, with_sessions}
-use Rattle.store_model.specs.Catalog.{Number, Catalog, in_sessions_of, quota_of, used}
+use Rattle.store_model.specs.Catalog.{Number, Catalog, session_charges_of, quota_of, used}
 use Rattle.store_book.specs.Layers.{book_catalog, IsBook}
 use Rattle.store_model.proofs.Invariant.Chunks.{used-chunks, used_other-chunks, Sound-chunks}
 use Rattle.store_model.proofs.Invariant.SessionTenants.{session_tenant}
@@ -25,7 +25,7 @@ module _ (l : Linked) (u : Uploaded) (slots : List Slot) (max_blob : ℕ) (book 
   there : key.0 < length l.tenants
   there = session_tenant C book.sound.lawful key s found
 
-  sums-chunks : (v : ℕ) → v < length l.tenants → slice_index (slice_set l.charges key.0 m) v ≡ in_sessions_of after v
+  sums-chunks : (v : ℕ) → v < length l.tenants → slice_index (slice_set l.charges key.0 m) v ≡ session_charges_of after v
   sums-chunks v lt = elim (cases_eq v key.0) [
     | inl e ↦
         let change = used-chunks C key s chunks found in

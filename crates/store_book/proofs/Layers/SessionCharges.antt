@@ -6,7 +6,7 @@ use Rattle.std.proofs.lemmas.Bool.{cases_eq}
 use Rattle.std.proofs.lemmas.List.{get_or-set_same, get_or-set_other}
 use Rattle.slot_table.specs.Slots.{Slot}
 use Rattle.link_table.specs.Linked.{Linked}
-use Rattle.store_model.specs.Sessions.{Session, charged, in_sessions}
+use Rattle.store_model.specs.Sessions.{Session, charged, session_charges}
 use Rattle.upload_table.specs.Uploaded.{Uploaded}
 use Rattle.store_model.specs.Catalog.{Catalog}
 use Rattle.store_book.specs.Layers.{book_catalog, IsBook}
@@ -24,7 +24,7 @@ module _ (l : Linked) (u : Uploaded) (slots : List Slot) (max_blob t number : �
       omega arith
 
   -- once a session is gone and discharged, the charges are what the others have received
-  pub sums-gone : (v : ℕ) → v < length l.tenants → slice_index (slice_set l.charges t (slice_index l.charges t - charged s)) v ≡ in_sessions (remove u.sessions (t, number)) v
+  pub sums-gone : (v : ℕ) → v < length l.tenants → slice_index (slice_set l.charges t (slice_index l.charges t - charged s)) v ≡ session_charges (remove u.sessions (t, number)) v
   sums-gone v lt = elim (cases_eq v t) [
     | inl e ↦
         let fall = used-gone C (t, number) s found in

@@ -7,7 +7,7 @@ use Rattle.blob_digest.specs.declared.refusal.Refusal.{Refusal}
 use Rattle.blob_digest.specs.declared.refusal.Refusal.TheVariants.{NameUnknown}
 use Rattle.slot_table.specs.Slots.{Slot}
 use Rattle.link_table.specs.Linked.{Linked, discharge, known_tenant}
-use Rattle.store_model.specs.Sessions.{Session, charged, home_in, not_busy, received, session_in, in_sessions}
+use Rattle.store_model.specs.Sessions.{Session, charged, home_in, not_busy, received, session_in, session_charges}
 use Rattle.upload_table.specs.Uploaded.{Uploaded}
 use Rattle.finite_maps.specs.Texts.{Text}
 use Rattle.store_model.specs.Catalog.{Catalog, tenant_of}
@@ -55,8 +55,8 @@ module _ (l : Linked) (u : Uploaded) (slots : List Slot) (max_blob t number : �
       pub abandoned_charged : n ≤ slice_index l.charges t
       abandoned_charged = subst (λ m. m ≤ slice_index l.charges t) counts (session_charged l u slots max_blob t number book there of_repo.0 found)
 
-      sums_after : (v : ℕ) → v < length l.tenants → slice_index l1.charges v ≡ in_sessions u1.sessions v
-      sums_after v lt = subst (λ m. slice_index (slice_set l.charges t (slice_index l.charges t - m)) v ≡ in_sessions u1.sessions v) counts (sums-gone l u slots max_blob t number book there of_repo.0 found v lt)
+      sums_after : (v : ℕ) → v < length l.tenants → slice_index l1.charges v ≡ session_charges u1.sessions v
+      sums_after v lt = subst (λ m. slice_index (slice_set l.charges t (slice_index l.charges t - m)) v ≡ session_charges u1.sessions v) counts (sums-gone l u slots max_blob t number book there of_repo.0 found v lt)
 
       -- a session that was given up leaves a book
       pub IsBook-abandon : (l' : Linked) (u' : Uploaded) → l' ≡ l1 → u' ≡ u1 → IsBook l' u' slots max_blob

@@ -14,7 +14,7 @@ use Rattle.link_table.specs.Linked.{Linked, known_tenant, discharge}
 use Rattle.store_model.specs.Sessions.{Home, Session, Taken, are_taken, brought_home, charged, given_up, taken_session, whole_of, with_chunks, IsFull}
 use Rattle.upload_table.specs.Uploaded.{Uploaded, finish_upload, with_sessions}
 use Rattle.finite_maps.specs.Texts.{Text}
-use Rattle.store_model.specs.Catalog.{Catalog, in_sessions_of}
+use Rattle.store_model.specs.Catalog.{Catalog, session_charges_of}
 use Rattle.finite_maps.specs.Outcomes.{◌>>=◌, refuse}
 use Rattle.store_model.specs.Commands.{finish, given_back, same_bytes, is_full_for}
 use Rattle.store_book.specs.Layers.{lent_marks, book_catalog, IsBook}
@@ -124,7 +124,7 @@ module _ (l : Linked) (u : Uploaded) (slots : List Slot) (max_blob : ℕ) (h : T
             let counts = whole_long h proper full_h in
             rw same_charges (omega arith)
 
-        sums_after : (v : ℕ) → v < length l.tenants → slice_index (slice_set l.charges h.key.0 (slice_index l.charges h.key.0 - length whole)) v ≡ in_sessions_of C1 v
+        sums_after : (v : ℕ) → v < length l.tenants → slice_index (slice_set l.charges h.key.0 (slice_index l.charges h.key.0 - length whole)) v ≡ session_charges_of C1 v
         sums_after v lt = ap (λ n. slice_index (slice_set l.charges h.key.0 (slice_index l.charges h.key.0 - n)) v) long ∙ sums-gone l u slots max_blob h.key.0 h.key.1 book (here_tenant l u slots max_blob h book proper s here) s found v lt
 
         -- a session that was finished leaves a book

@@ -4,7 +4,7 @@ use Rattle.std.specs.Prelude.{slice_get, slice_index, slice_set}
 use Rattle.std.specs.Option.{option_map, option_map_or}
 use Rattle.std.specs.FinMap.{get}
 use Rattle.std.proofs.lemmas.List.{get_or-set_same, length-map}
-use Rattle.pin_core.specs.declared.world.Hold.{Hold}
+use Rattle.pin_core.specs.declared.world.PinRecord.{PinRecord}
 use Rattle.pin_core.specs.declared.world.Phase.TheVariants as pin
 use Rattle.pin_core.specs.declared.world.PinRow.{PinRow}
 use Rattle.pin_core.specs.World.{IsUsed, row, row_word, word_of}
@@ -71,7 +71,7 @@ reads_word p q k n lt each looked =
           ∙ (λ i. Some (record (seen s.0 (looked.bound i)) { looks = once i }));
     }
 
-module _ (l : Linked) (u : Uploaded) (p q : Pinned) (max_blob : ℕ) (h : Hold) (book : IsBook l u p.slots max_blob) (verified : Verified h p q) where
+module _ (l : Linked) (u : Uploaded) (p q : Pinned) (max_blob : ℕ) (h : PinRecord) (book : IsBook l u p.slots max_blob) (verified : Verified h p q) where
   abbrev C : Catalog
   C = book_catalog l u p.slots max_blob
 

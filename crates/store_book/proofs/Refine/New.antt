@@ -15,7 +15,7 @@ use Rattle.slot_table.specs.Slots.{Slot, held_at, empty_slot, is_retired}
 use Rattle.link_table.specs.Linked.{Linked}
 use Rattle.link_table.specs.Linked as links
 use Rattle.link_table.specs.Tenancy.{AreTenants, Opens}
-use Rattle.store_model.specs.Sessions.{Session, share}
+use Rattle.store_model.specs.Sessions.{Session, session_charge}
 use Rattle.upload_table.specs.Uploaded.{Uploaded}
 use Rattle.upload_table.specs.Uploaded as uploads
 use Rattle.finite_maps.specs.Texts.{Text, text_cmp}
@@ -110,7 +110,7 @@ module _ (tenants : List Tenant) (slots first max_blob : ℕ) where
     };
     charges = record {
       one_each = length-replicate (length tenants) 0;
-      sums = λ t there. zeros (length tenants) t ∙ sym (ap (λ (es : List ((ℕ × ℕ) × Session)). sum_by (share t) es) (entries-empty number_cmp Session));
+      sums = λ t there. zeros (length tenants) t ∙ sym (ap (λ (es : List ((ℕ × ℕ) × Session)). sum_by (session_charge t) es) (entries-empty number_cmp Session));
     };
   }
 

@@ -14,7 +14,7 @@ use Rattle.slot_table.specs.Slots.{Slot}
 use Rattle.link_table.specs.Linked.{Linked, HasNoLinks, known_tenant, appear, vanish}
 use Rattle.upload_table.specs.Uploaded.{Uploaded, start_upload, started}
 use Rattle.finite_maps.specs.Texts.{Text}
-use Rattle.store_model.specs.Catalog.{Catalog, in_sessions_of}
+use Rattle.store_model.specs.Catalog.{Catalog, session_charges_of}
 use Rattle.store_model.specs.Commands.{start}
 use Rattle.store_model.specs.Invariant.{Sound}
 use Rattle.store_book.specs.Layers.{book_catalog, IsBook}
@@ -87,7 +87,7 @@ module _ (l l' : Linked) (u : Uploaded) (slots : List Slot) (max_blob t : ℕ) (
     abbrev C1 : Catalog
     C1 = book_catalog l1 u1 slots max_blob
 
-    same_sessions : (v : ℕ) → in_sessions_of C1 v ≡ in_sessions_of C v
+    same_sessions : (v : ℕ) → session_charges_of C1 v ≡ session_charges_of C v
     same_sessions v = let same = used-open C t repo book.sound.lawful v in omega arith
 
     opened_book : Sound C1 → IsBook l1 u1 slots max_blob

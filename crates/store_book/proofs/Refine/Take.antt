@@ -10,7 +10,7 @@ use Rattle.blob_digest.specs.declared.refusal.Refusal.{Refusal}
 use Rattle.blob_digest.specs.declared.refusal.Refusal.TheVariants.{NameUnknown, Quota}
 use Rattle.slot_table.specs.Slots.{Slot}
 use Rattle.link_table.specs.Linked.{Linked, known_tenant, charge, charged, discharge, used_in, quota_in}
-use Rattle.store_model.specs.Sessions.{InHand, are_home, check_in, hand_in, in_sessions, is_home, received, take_in, with_chunks}
+use Rattle.store_model.specs.Sessions.{InHand, are_home, check_in, hand_in, session_charges, is_home, received, take_in, with_chunks}
 use Rattle.upload_table.specs.Uploaded.{Uploaded, with_sessions}
 use Rattle.finite_maps.specs.Texts.{Text}
 use Rattle.store_model.specs.Catalog.{Catalog, tenant_of, used, quota_of}
@@ -68,7 +68,7 @@ module _ (l : Linked) (u : Uploaded) (slots : List Slot) (max_blob t : ℕ) (boo
   within_err n e there h = metered n there ∙ refused_is n e _ h
 
   -- what was charged fits a number
-  pub sessions_small : (n : ℕ) (l' : Linked) → t < length l.tenants → charge l t n ≡ Ok (tt, l') → in_sessions u.sessions t + n < 2 ^ 64
+  pub sessions_small : (n : ℕ) (l' : Linked) → t < length l.tenants → charge l t n ≡ Ok (tt, l') → session_charges u.sessions t + n < 2 ^ 64
   sessions_small n l' there h =
       let w = within_ok n l' there h in
       let within = ltb-false (quota_of C t) (used C t + n) (not_refused _ _ _ w.0) in

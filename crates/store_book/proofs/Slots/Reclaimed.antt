@@ -10,7 +10,7 @@ use Rattle.pin_core.specs.declared.world.PinRow.{PinRow}
 use Rattle.pin_core.specs.Events.{last_generation, reclaimed_row}
 use Rattle.pin_core.specs.World.{row}
 use Rattle.slot_table.specs.declared.phase.Phase.TheVariants as phase
-use Rattle.slot_table.specs.Slots.{Slot, Held, Content, Free, Used, Retired, held_in, held_at, phase_in, phase_at, generation_at, is_orphan, with_slot, on_held, content_with, mark, emptied, spent}
+use Rattle.slot_table.specs.Slots.{Slot, Held, Content, Free, Used, Retired, held_in, held_at, phase_in, phase_at, generation_at, is_orphan, with_slot, on_held, content_with, mark, emptied, retire}
 use Rattle.store_book.specs.Pinned.{IsPinned, is_orphan_at, row_of}
 use Rattle.store_book.proofs.Slots.Pinned.{condemned_slot, row-at, rows-write}
 use Rattle.store_book.proofs.Slots.Writes.{held_at-other, held_at-same, length-with_slot, with_slot-suc}
@@ -81,11 +81,11 @@ IsPinned-freed slots rows bounds kept k is young =
     cleared emptied (λ s. refl) slots rows bounds kept k r.0 r.1 r.2 (rw test refl)
 
 pub IsPinned-retired : (slots : List Slot) (rows : List PinRow) (bounds : List ℕ) → IsPinned slots rows bounds → (k : ℕ) → phase_at slots k ≡ phase.Condemned → (row rows k).generation ≡ last_generation →
-    IsPinned (with_slot slots k spent) (slice_set rows k (reclaimed_row (row rows k))) (slice_set bounds k 0)
+    IsPinned (with_slot slots k retire) (slice_set rows k (reclaimed_row (row rows k))) (slice_set bounds k 0)
 IsPinned-retired slots rows bounds kept k is last =
     let r = row_there slots rows bounds kept k is in
     let test : (r.0.generation == last_generation) ≡ true = eq-eqb r.0.generation last_generation (sym (ap (λ (x : PinRow). x.generation) r.2) ∙ last) in
-    cleared spent (λ s. refl) slots rows bounds kept k r.0 r.1 r.2 (rw test refl)
+    cleared retire (λ s. refl) slots rows bounds kept k r.0 r.1 r.2 (rw test refl)
 
 -- the generation of a condemned slot, by its row
 pub generation_row : (slots : List Slot) (rows : List PinRow) (bounds : List ℕ) → IsPinned slots rows bounds → (k : ℕ) → phase_at slots k ≡ phase.Condemned → generation_at slots k ≡ (row rows k).generation

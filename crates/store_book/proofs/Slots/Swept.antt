@@ -12,7 +12,7 @@ use Rattle.pin_table.specs.declared.reclaim.Reclaim.{Reclaim}
 use Rattle.pin_table.specs.declared.reclaim.Reclaim.TheVariants as reclaim
 use Rattle.pin_table.specs.Calls.{IsUnheld}
 use Rattle.slot_table.specs.declared.phase.Phase.TheVariants as phase
-use Rattle.slot_table.specs.Slots.{Slot, Held, Content, Free, Used, Retired, held_at, held_in, phase_at, phase_in, generation_at, is_orphan, is_retired, orphan_from, with_slot, on_held, content_with, mark, emptied, spent}
+use Rattle.slot_table.specs.Slots.{Slot, Held, Content, Free, Used, Retired, held_at, held_in, phase_at, phase_in, generation_at, is_orphan, is_retired, orphan_from, with_slot, on_held, content_with, mark, emptied, retire}
 use Rattle.store_book.specs.Layers.{is_lent}
 use Rattle.store_book.specs.Pinned.{Pinned, Reclaimed, is_orphan_at, slotted}
 use Rattle.store_book.specs.Internal.SweptSlots.{Sweeps, IsTurned, counting, is_live_orphan, kept, held, freed, retired}
@@ -214,10 +214,10 @@ became_of k q r1 r s n live reclaim.Retired at is e done unlent =
     let old = done.0 in
     let last : s.generation + 1 ≡ 2 ^ 32 = omega arith in
     record {
-      f = spent;
+      f = retire;
       bound = 0;
       table = ap (λ (x : Pinned). x.table) done.1 ∙ ap (λ (x : Pinned). x.table) e;
-      slots = ap (λ (x : Pinned). x.slots) done.1 ∙ ap (λ (x : Pinned). with_slot x.slots k spent) e ∙ with_slot-twice q.slots k (on_held (mark true)) spent;
+      slots = ap (λ (x : Pinned). x.slots) done.1 ∙ ap (λ (x : Pinned). with_slot x.slots k retire) e ∙ with_slot-twice q.slots k (on_held (mark true)) retire;
       bounds = ap (λ (x : Pinned). x.bounds) done.1 ∙ ap (λ (x : Pinned). slice_set x.bounds k 0) e;
       turned = retired is last refl (index-zeroed q.bounds k);
       condemned = refl;

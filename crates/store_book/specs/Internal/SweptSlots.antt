@@ -3,7 +3,7 @@ use Rattle.std.specs.Prelude.{◌≡◌, ◌+◌, ◌<◌, ◌≤◌, ◌^◌, �
 use Rattle.std.specs.Option.{option_map_or}
 use Rattle.pin_table.specs.declared.reclaim.Reclaim.{Reclaim}
 use Rattle.pin_table.specs.declared.reclaim.Reclaim.TheVariants as reclaim
-use Rattle.slot_table.specs.Slots.{Slot, held_in, is_orphan, is_retired, on_held, mark, emptied, spent}
+use Rattle.slot_table.specs.Slots.{Slot, held_in, is_orphan, is_retired, on_held, mark, emptied, retire}
 use Rattle.store_book.specs.Layers.{is_lent}
 use Rattle.store_book.specs.Pinned.{Pinned}
 use Rattle.store_model.specs.declared.swept.Swept.{Swept}
@@ -24,7 +24,7 @@ pub data IsTurned (s : Slot) (bound : ℕ) (t : Slot) (now : ℕ) : Type 0 where
   kept : is_orphan s ≡ false → t ≡ s → now ≡ bound → IsTurned s bound t now
   held : is_orphan s ≡ true → is_lent s ≡ true → t ≡ on_held (mark true) s → now ≤ bound → IsTurned s bound t now
   freed : is_orphan s ≡ true → s.generation + 1 < 2 ^ 32 → t ≡ emptied s → now ≡ 0 → IsTurned s bound t now
-  retired : is_orphan s ≡ true → s.generation + 1 ≡ 2 ^ 32 → t ≡ spent s → now ≡ 0 → IsTurned s bound t now
+  retired : is_orphan s ≡ true → s.generation + 1 ≡ 2 ^ 32 → t ≡ retire s → now ≡ 0 → IsTurned s bound t now
 
 -- Each slot is swept once, and the counts are those of its orphans: the live ones, those that are left, and all of them.
 pub record Sweeps (p q : Pinned) (swept : Swept) : Type 0 where

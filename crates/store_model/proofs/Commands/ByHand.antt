@@ -15,7 +15,7 @@ use Rattle.store_model.specs.Sessions.{append_in, at_home, brought_home, chunks_
 use Rattle.finite_maps.specs.Texts.{Text}
 use Rattle.store_model.specs.Catalog.{Number, Home, InHand, Session, Taken, Catalog, number_cmp, received}
 use Rattle.finite_maps.specs.Outcomes.{◌>>=◌, refuse}
-use Rattle.store_model.specs.Commands.{Outcome, append, check, close, finish, given_back, has_slot, names, put_back, stored, take, tenant, within_quota}
+use Rattle.store_model.specs.Commands.{Outcome, append, check, close, finish, given_back, has_slot, is_digest_accepted, put_back, stored, take, tenant, within_quota}
 use Rattle.store_model.proofs.Commands.Hands.{received-with_chunk, took, Checked, TookIn}
 use Rattle.finite_maps.proofs.Maps.{get-insert_at}
 use Rattle.finite_maps.proofs.Outcomes.{bound_ok}
@@ -145,7 +145,7 @@ module _ (C C1 : Catalog) (repo : Text) (number : ℕ) (range : Option ByteRange
   closed : (digest : Text) → finish C2 (record h { last = Some b }) digest ≡ close C repo number digest range b
   closed digest =
       rw (here (Some b)) (rw (p.tenant_ok, p.check_ok, p.quota_ok)
-      (λ i. refuse (not (names C digest (whole i))) DigestInvalid >>= λ _. has_slot C digest >>= λ _. Ok (length (whole i), record (stored C p.t (p.checked.of_repo i) number digest (whole i)) { sessions = remove_inserted C.sessions key out i })))
+      (λ i. refuse (not (is_digest_accepted C digest (whole i))) DigestInvalid >>= λ _. has_slot C digest >>= λ _. Ok (length (whole i), record (stored C p.t (p.checked.of_repo i) number digest (whole i)) { sessions = remove_inserted C.sessions key out i })))
 
   -- ---- the same of the hand and the catalog that the take left
 

@@ -10,7 +10,7 @@ use Rattle.blob_digest.specs.Digests.{is_digest_of}
 use Rattle.finite_maps.specs.Sets as set
 use Rattle.finite_maps.specs.Texts.{Text}
 use Rattle.store_model.specs.Catalog.{Session, Resident, Catalog, Taken, charged, tenant_of, tenant_holds, used, quota_of}
-use Rattle.store_model.specs.Commands.{finish, has_slot, is_full_for, names, same_bytes, stored, taken_session, was_lent, whole_of}
+use Rattle.store_model.specs.Commands.{finish, has_slot, is_full_for, is_digest_accepted, same_bytes, stored, taken_session, was_lent, whole_of}
 use Rattle.finite_maps.specs.Outcomes.{refuse}
 use Rattle.store_model.specs.Invariant.{Lawful, KeepsQuotas, FitsSlots, Sound}
 use Rattle.finite_maps.proofs.Texts.{text_is_same}
@@ -85,7 +85,7 @@ module _ (C C' : Catalog) (h : Taken) (digest : Text) (n : ℕ) (proper : IsProp
   pub record Finished : Type 0 where
     pub s : Session
     pub here : taken_session (get C.sessions h.key) h ≡ Ok s
-    pub named : names C digest (whole_of h) ≡ true
+    pub named : is_digest_accepted C digest (whole_of h) ≡ true
     pub housed_ok : has_slot C digest ≡ Ok tt
     pub answer : length (whole_of h) ≡ n
     pub left : stored C h.key.0 s.repo h.key.1 digest (whole_of h) ≡ C'
@@ -93,7 +93,7 @@ module _ (C C' : Catalog) (h : Taken) (digest : Text) (n : ℕ) (proper : IsProp
   pub finished : Finished
   finished =
       let a = bound_ok (taken_session (get C.sessions h.key) h) _ (n, C') stepped in
-      let d = bound_ok (refuse (not (names C digest (whole_of h))) DigestInvalid) _ (n, C') a.2 in
+      let d = bound_ok (refuse (not (is_digest_accepted C digest (whole_of h))) DigestInvalid) _ (n, C') a.2 in
       let e = bound_ok (has_slot C digest) _ (n, C') d.2 in
       record { s = a.0; here = a.1; named = not-false _ (not_refused _ _ _ d.1); housed_ok = e.1; answer = answer_by e.2; left = left_by e.2 }
 

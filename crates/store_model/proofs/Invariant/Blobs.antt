@@ -47,7 +47,7 @@ module _ (C : Catalog) (d : Text) (b : Resident) where
         omega arith
     | Some old ↦ λ found.
         let sum = sum_changed nat_list_cmp_total exact_bytes (blob_share C u) C.residents d old b found in
-        let share : blob_share C u (d, old) ≡ blob_share C u (d, b) = ap (λ n. cond (tenant_holds C u d) n 0) (same old found) in
+        let session_charge : blob_share C u (d, old) ≡ blob_share C u (d, b) = ap (λ n. cond (tenant_holds C u d) n 0) (same old found) in
         omega arith
   ] refl
 

@@ -115,5 +115,5 @@ used_small C sound t there = let within = sound.quotas t there in let quota = qu
 pub held_within : (C : Catalog) (t : ℕ) (d : Text) (b : Resident) → get C.residents d ≡ Some b → tenant_holds C t d ≡ true → length b.bytes ≤ used C t
 held_within C t d b kept held =
     let sum = sum_split nat_list_cmp_total exact_bytes (blob_share C t) C.residents d b kept in
-    let share : blob_share C t (d, b) ≡ length b.bytes = rw held refl in
+    let session_charge : blob_share C t (d, b) ≡ length b.bytes = rw held refl in
     omega arith

@@ -9,7 +9,7 @@ use Rattle.std.proofs.lemmas.Bool.{cases_eq, eq-eqb, ne_eqb}
 use Rattle.blob_digest.proofs.KeyOrders.{number_cmp_total, exact_number}
 use Rattle.finite_maps.proofs.Sums.{sum_changed}
 use Rattle.store_model.specs.Sessions.{at_home, with_chunks}
-use Rattle.store_model.specs.Catalog.{Number, Chunks, Session, Catalog, number_cmp, charged, quota_of, share, used, open_sessions}
+use Rattle.store_model.specs.Catalog.{Number, Chunks, Session, Catalog, number_cmp, charged, quota_of, session_charge, used, open_sessions}
 use Rattle.store_model.specs.Invariant.{Lawful, LawfulSession, Sound}
 
 module _ (C : Catalog) (key : Number) (s : Session) (chunks : Chunks) (found : get C.sessions key ≡ Some s) where
@@ -22,18 +22,18 @@ module _ (C : Catalog) (key : Number) (s : Session) (chunks : Chunks) (found : g
   -- the tenant's use changes as what the session counts, and no other's
   pub used-chunks : used after key.0 + charged s ≡ used C key.0 + charged new
   used-chunks =
-      let changed = sum_changed number_cmp_total exact_number (share key.0) C.sessions key s new found in
+      let changed = sum_changed number_cmp_total exact_number (session_charge key.0) C.sessions key s new found in
       let own : (key.0 == key.0) ≡ true = eq-eqb key.0 key.0 refl in
-      let now : share key.0 (key, new) ≡ charged new = rw own refl in
-      let before : share key.0 (key, s) ≡ charged s = rw own refl in
+      let now : session_charge key.0 (key, new) ≡ charged new = rw own refl in
+      let before : session_charge key.0 (key, s) ≡ charged s = rw own refl in
       omega arith
 
   pub used_other-chunks : (u : ℕ) → u ≢ key.0 → used after u ≡ used C u
   used_other-chunks u differ =
-      let changed = sum_changed number_cmp_total exact_number (share u) C.sessions key s new found in
+      let changed = sum_changed number_cmp_total exact_number (session_charge u) C.sessions key s new found in
       let other : (key.0 == u) ≡ false = ne_eqb key.0 u (λ e. differ (sym e)) in
-      let now : share u (key, new) ≡ 0 = rw other refl in
-      let before : share u (key, s) ≡ 0 = rw other refl in
+      let now : session_charge u (key, new) ≡ 0 = rw other refl in
+      let before : session_charge u (key, s) ≡ 0 = rw other refl in
       omega arith
 
   open_sessions-chunks : (u : ℕ) → open_sessions after u ≡ open_sessions C u

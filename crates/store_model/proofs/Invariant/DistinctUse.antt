@@ -12,7 +12,7 @@ use Rattle.std.specs.Cmp.Lexicographic.{nat_list_cmp_total}
 use Rattle.std.specs.FinMap.{FinMap, entries, get, get-empty, get-insert, contains_key-keys, IsAntisymmetric}
 use Rattle.std.proofs.lemmas.Map.Lookups.{exact_bytes}
 use Rattle.finite_maps.specs.Texts.{Text, text_cmp}
-use Rattle.store_model.specs.Catalog.{Link, Resident, Catalog, is_of, holds, tenant_holds, size, blob_share, used, in_sessions_of, held_digests}
+use Rattle.store_model.specs.Catalog.{Link, Resident, Catalog, is_of, holds, tenant_holds, size, blob_share, used, session_charges_of, held_digests}
 use Rattle.store_model.specs.Invariant.{Lawful}
 use Rattle.finite_maps.proofs.Maps.{term, sum_alike, map_induct}
 use Rattle.finite_maps.proofs.Lists.{list_any_count, list_any_weaker}
@@ -35,7 +35,7 @@ module _ (C : Catalog) (lawful : Lawful C) (t : ℕ) (sizes : FinMap text_cmp �
   alike d (Some b) found =
       at_held (tenant_holds C t d) d b (size C d) (ap (λ x. option_map_or (λ (y : Resident). length y.bytes) x 0) found) ∙ sym (ap (term value d) (each d))
 
-  pub used_by_sizes : used C t ≡ sum_by value (entries sizes) + in_sessions_of C t
+  pub used_by_sizes : used C t ≡ sum_by value (entries sizes) + session_charges_of C t
   used_by_sizes =
       let blobs : sum_by (blob_share C t) (entries C.residents) ≡ sum_by value (entries sizes) = sum_alike nat_list_cmp_total exact_bytes (blob_share C t) value C.residents sizes (λ d. alike d (get C.residents d) refl) in
       omega arith
@@ -110,7 +110,7 @@ module _ (C : Catalog) (lawful : Lawful C) (t : ℕ) where
       ∙ tenant_holds-by_links d
 
   -- What a tenant uses: the lengths of the set of digests linked in some of its repositories, and what its sessions have received.
-  pub used_by_digests : used C t ≡ sum_by (size C) (set.items (held_digests C t)) + in_sessions_of C t
+  pub used_by_digests : used C t ≡ sum_by (size C) (set.items (held_digests C t)) + session_charges_of C t
   used_by_digests =
       let one : Text × Unit {0} → ℕ = λ e. size C e.0 in
       let blobs : sum_by (blob_share C t) (entries C.residents) ≡ sum_by one (entries (held_digests C t)) = sum_alike nat_list_cmp_total exact_bytes (blob_share C t) one C.residents (held_digests C t) (λ d. equal d (get C.residents d) refl) in

@@ -3,7 +3,7 @@ use Rattle.std.proofs.Common.{◌≡◌, ◌≢◌, ℕ, ◌+◌, ◌≤◌, con
 use Rattle.std.specs.Prelude.{◌==◌}
 use Rattle.std.specs.FinMap.{get, remove}
 use Rattle.std.proofs.lemmas.Bool.{eq-eqb, ne_eqb}
-use Rattle.store_model.specs.Catalog.{Number, Session, Catalog, charged, share, used, open_sessions}
+use Rattle.store_model.specs.Catalog.{Number, Session, Catalog, charged, session_charge, used, open_sessions}
 use Rattle.store_model.specs.Invariant.{Lawful}
 use Rattle.blob_digest.proofs.KeyOrders.{number_cmp_total, exact_number}
 use Rattle.finite_maps.proofs.Sums.{sum_split}
@@ -33,12 +33,12 @@ module _ (C : Catalog) (key : Number) where
     -- the tenant's use falls by what the session counted, and no other's
     pub used-gone : used C key.0 ≡ used after key.0 + charged s
     used-gone =
-        let sum = sum_split number_cmp_total exact_number (share key.0) C.sessions key s found in
-        let own : share key.0 (key, s) ≡ charged s = ap (λ b. cond b (charged s) 0) (eq-eqb key.0 key.0 refl) in
+        let sum = sum_split number_cmp_total exact_number (session_charge key.0) C.sessions key s found in
+        let own : session_charge key.0 (key, s) ≡ charged s = ap (λ b. cond b (charged s) 0) (eq-eqb key.0 key.0 refl) in
         omega arith
 
     pub used_other-gone : (u : ℕ) → u ≢ key.0 → used C u ≡ used after u
     used_other-gone u other =
-        let sum = sum_split number_cmp_total exact_number (share u) C.sessions key s found in
-        let none : share u (key, s) ≡ 0 = ap (λ b. cond b (charged s) 0) (ne_eqb key.0 u (λ e. other (sym e))) in
+        let sum = sum_split number_cmp_total exact_number (session_charge u) C.sessions key s found in
+        let none : session_charge u (key, s) ≡ 0 = ap (λ b. cond b (charged s) 0) (ne_eqb key.0 u (λ e. other (sym e))) in
         omega arith

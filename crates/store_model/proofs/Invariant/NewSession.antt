@@ -6,7 +6,7 @@ use Rattle.std.proofs.lemmas.Bool.{cases_eq, leb-false, eq-eqb, ne_eqb, or_parts
 use Rattle.std.proofs.lemmas.List.{length-set}
 use Rattle.finite_maps.specs.Sets as set
 use Rattle.finite_maps.specs.Texts.{Text}
-use Rattle.store_model.specs.Catalog.{Number, Home, Session, Catalog, is_of, open_sessions, share, used, next_of}
+use Rattle.store_model.specs.Catalog.{Number, Home, Session, Catalog, is_of, open_sessions, session_charge, used, next_of}
 use Rattle.store_model.specs.Commands.{cannot_open}
 use Rattle.store_model.specs.Invariant.{Lawful, LawfulSession}
 use Rattle.blob_digest.proofs.KeyOrders.{number_cmp_total, exact_number}
@@ -29,8 +29,8 @@ module _ (C : Catalog) (t : ℕ) (r : Text) (lawful : Lawful C) where
 
   pub used-open : (u : ℕ) → used after u ≡ used C u
   used-open u =
-      let sum = sum_new number_cmp_total exact_number (share u) C.sessions (t, next_of C t) new fresh in
-      let none : share u ((t, next_of C t), new) ≡ 0 = elim (t == u) as (λ b. cond {A = ℕ} b 0 0 ≡ 0) [ true ↦ refl | false ↦ refl ] in
+      let sum = sum_new number_cmp_total exact_number (session_charge u) C.sessions (t, next_of C t) new fresh in
+      let none : session_charge u ((t, next_of C t), new) ≡ 0 = elim (t == u) as (λ b. cond {A = ℕ} b 0 0 ≡ 0) [ true ↦ refl | false ↦ refl ] in
       omega arith
 
   module _ (there : t < length C.tenants) (repo : set.contains C.repos r ≡ true) (own : is_of C t r ≡ true) (opens : cannot_open C t ≡ false) where

@@ -49,5 +49,5 @@ module _ (C : Catalog) (t : ℕ) (r d : Text) (b : Resident) (there : set.contai
       ap (sum_by (blob_share after t)) (entries-remove nat_list_cmp_total exact_bytes C.residents d)
       ∙ sum_by-where_key text_cmp (λ x. not (eq_by_cmp text_cmp d x)) (blob_share after t) (blob_share C t) (λ e other. ap (λ h. if h then length e.1.bytes else 0) (held_alike e.0 other)) (entries C.residents)
       ∙ ap (sum_by (blob_share C t)) (sym (entries-remove nat_list_cmp_total exact_bytes C.residents d)) in
-      let share : blob_share after t (d, b) ≡ length b.bytes = rw held_now refl in
+      let session_charge : blob_share after t (d, b) ≡ length b.bytes = rw held_now refl in
       omega arith

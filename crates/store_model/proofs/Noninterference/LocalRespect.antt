@@ -17,7 +17,7 @@ use Rattle.finite_maps.specs.Texts.{Text}
 use Rattle.store_model.specs.Catalog.{Number, Home, Session, Resident, Catalog, number_cmp, tenant_of, is_of, next_of}
 use Rattle.store_model.specs.Commands
 use Rattle.finite_maps.specs.Outcomes.{◌>>=◌, refuse}
-use Rattle.store_model.specs.Commands.{Outcome, tenant, session_in, not_busy, length_after, new_session, append_in, whole_in, names, same_bytes, stored, has_source, with_link, with_manifest, with_lent, linked, linked_blob, lacks_room_for, cannot_open, has_manifest, is_full_of_manifests, all_linked, unreferenced, within_quota, has_slot}
+use Rattle.store_model.specs.Commands.{Outcome, tenant, session_in, not_busy, length_after, new_session, append_in, whole_in, is_digest_accepted, same_bytes, stored, has_source, with_link, with_manifest, with_lent, linked, linked_blob, lacks_room_for, cannot_open, has_manifest, is_full_of_manifests, all_linked, unreferenced, within_quota, has_slot}
 use Rattle.store_model.specs.declared.mount.Mount.TheVariants as mounting
 use Rattle.store_model.specs.Runs as runs
 use Rattle.store_model.specs.Runs.{Command, Answer, answered, told, outcome, repo_of}
@@ -68,10 +68,10 @@ module _ (P : Catalog → Type 0) where
     append_leaves n g b new = of_tenant _ (λ t k. past (Commands.check C t r n g (length b)) _ (λ _ _. past (within_quota C t (length b)) _ (λ _ _. new t k)))
 
     pub close_leaves : (housed : Catalog → Text → Result (Unit {0}) Refusal) (n : ℕ) (d : Text) (g : Option ByteRange) (b : Text) →
-        ((t after : ℕ) → tenant_of C.tenants r ≡ Some t → Commands.check C t r n g (length b) ≡ Ok after → names C d (whole_in C.sessions (t, n) b) ≡ true → P (stored C t r n d (whole_in C.sessions (t, n) b))) →
+        ((t after : ℕ) → tenant_of C.tenants r ≡ Some t → Commands.check C t r n g (length b) ≡ Ok after → is_digest_accepted C d (whole_in C.sessions (t, n) b) ≡ true → P (stored C t r n d (whole_in C.sessions (t, n) b))) →
         Leaves P (Commands.close_by housed C r n d g b)
     close_leaves housed n d g b new =
-        of_tenant _ (λ t k. past (Commands.check C t r n g (length b)) _ (λ after checked. past (within_quota C t (length b)) _ (λ _ _. past (refuse (not (names C d (whole_in C.sessions (t, n) b))) DigestInvalid) _ (λ u h. past (housed C d) _ (λ _ _. new t after k checked (not-false (names C d (whole_in C.sessions (t, n) b)) (not_refused _ _ _ h)))))))
+        of_tenant _ (λ t k. past (Commands.check C t r n g (length b)) _ (λ after checked. past (within_quota C t (length b)) _ (λ _ _. past (refuse (not (is_digest_accepted C d (whole_in C.sessions (t, n) b))) DigestInvalid) _ (λ u h. past (housed C d) _ (λ _ _. new t after k checked (not-false (is_digest_accepted C d (whole_in C.sessions (t, n) b)) (not_refused _ _ _ h)))))))
 
     pub abandon_leaves : (n : ℕ) → ((t : ℕ) → tenant_of C.tenants r ≡ Some t → P (record C { sessions = remove C.sessions (t, n) })) → Leaves P (Commands.abandon C r n)
     abandon_leaves n new = of_tenant _ (λ t k. past (Commands.session C t r n) _ (λ s _. past (not_busy s.chunks) _ (λ _ _. new t k)))

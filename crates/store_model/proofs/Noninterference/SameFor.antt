@@ -14,7 +14,7 @@ use Rattle.std.proofs.lemmas.Map.Lookups.{exact_bytes}
 use Rattle.blob_digest.specs.declared.range.ByteRange.{ByteRange}
 use Rattle.finite_maps.specs.Sets as set
 use Rattle.finite_maps.specs.Texts.{Text, text_cmp, same_text}
-use Rattle.store_model.specs.Catalog.{Link, Number, Session, Resident, Catalog, tenant_of, is_tenants, is_of, quota_of, holds, tenant_holds, share, in_sessions_of, blob_share, used, next_of, open_sessions, repos_of, manifests_of, received, Tenant, link_cmp, number_cmp}
+use Rattle.store_model.specs.Catalog.{Link, Number, Session, Resident, Catalog, tenant_of, is_tenants, is_of, quota_of, holds, tenant_holds, session_charge, session_charges_of, blob_share, used, next_of, open_sessions, repos_of, manifests_of, received, Tenant, link_cmp, number_cmp}
 use Rattle.store_model.specs.Sessions.{at_home}
 use Rattle.finite_maps.specs.Outcomes.{◌>>=◌}
 use Rattle.store_model.specs.Commands.{whole_in, session, session_in, not_busy, check, length_after, lacks_room_for, referrer, refers}
@@ -99,8 +99,8 @@ sum-blobs C t (e ∷ es) =
     ] refl
 
 -- a tenant's use is what its blobs and its sessions come to
-pub used-blobs : (C : Catalog) (t : ℕ) → used C t ≡ sum_by (λ (e : Text × Text). length e.1) (blobs_of C t) + in_sessions_of C t
-used-blobs C t = ap (λ n. n + in_sessions_of C t) (sym (sum-blobs C t (entries C.residents)))
+pub used-blobs : (C : Catalog) (t : ℕ) → used C t ≡ sum_by (λ (e : Text × Text). length e.1) (blobs_of C t) + session_charges_of C t
+used-blobs C t = ap (λ n. n + session_charges_of C t) (sym (sum-blobs C t (entries C.residents)))
 
 module _ (content : Text → Text) (C : Catalog) (consistent : Consistent content C) where
   -- what a tenant holds is kept, with the bytes that were brought
@@ -147,8 +147,8 @@ module _ (t : ℕ) (C D : Catalog) (alike : Alike t C D) where
   pub open_same : open_sessions C t ≡ open_sessions D t
   open_same = sum_agree number_cmp_total exact_number (λ n. n.0 == t) (λ e. cond (e.0.0 == t) 1 0) C.sessions D.sessions alike.sessions (λ e off. ap (λ b. cond b 1 0) off)
 
-  pub in_sessions_same : in_sessions_of C t ≡ in_sessions_of D t
-  in_sessions_same = sum_agree number_cmp_total exact_number (λ n. n.0 == t) (share t) C.sessions D.sessions alike.sessions (λ e off. rw off refl)
+  pub in_sessions_same : session_charges_of C t ≡ session_charges_of D t
+  in_sessions_same = sum_agree number_cmp_total exact_number (λ n. n.0 == t) (session_charge t) C.sessions D.sessions alike.sessions (λ e off. rw off refl)
 
   pub session_found : (n : ℕ) → get C.sessions (t, n) ≡ get D.sessions (t, n)
   session_found n = alike.sessions (t, n) (eq-eqb t t refl)

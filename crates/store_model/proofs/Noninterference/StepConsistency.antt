@@ -18,7 +18,7 @@ use Rattle.finite_maps.specs.Texts.{Text, same_text}
 use Rattle.store_model.specs.Catalog.{Number, Home, Session, Resident, Catalog, number_cmp, tenant_of, is_of, holds, next_of, received}
 use Rattle.store_model.specs.Commands
 use Rattle.finite_maps.specs.Outcomes.{◌>>=◌, refuse}
-use Rattle.store_model.specs.Commands.{Outcome, tenant, session_in, not_busy, length_after, new_session, append_in, whole_in, same_bytes, names, is_full_for, stored, all_linked, has_source, with_link, with_manifest, with_lent, linked_blob, unreferenced, is_full_of_manifests, within_quota, lacks_room_for, cannot_open}
+use Rattle.store_model.specs.Commands.{Outcome, tenant, session_in, not_busy, length_after, new_session, append_in, whole_in, same_bytes, is_digest_accepted, is_full_for, stored, all_linked, has_source, with_link, with_manifest, with_lent, linked_blob, unreferenced, is_full_of_manifests, within_quota, lacks_room_for, cannot_open}
 use Rattle.store_model.specs.Sessions.{at_home, with_chunk}
 use Rattle.store_model.specs.declared.mount.Mount.TheVariants as mounting
 use Rattle.store_model.specs.Runs as runs
@@ -113,7 +113,7 @@ fits_whole content C t r d last n len after g there checked fits is =
     (subst (λ b. Fits content (if b then (d, whole_in C.sessions (t, n) last) ∷ [] else [])) is (subst (λ x. Fits content (named d x)) brings fits)).0
 
 -- where it fits, what is kept under the digest is the same
-pub names_alone : (content : Text → Text) (C : Catalog) (d w : Text) → Consistent content C → (is_digest_of d w ≡ true → content d ≡ w) → names C d w ≡ is_digest_of d w
+pub names_alone : (content : Text → Text) (C : Catalog) (d w : Text) → Consistent content C → (is_digest_of d w ≡ true → content d ≡ w) → is_digest_accepted C d w ≡ is_digest_of d w
 names_alone content C d w consistent fits = by (is_digest_of d w) refl
   where
     kept : (o : Option Resident) → get C.residents d ≡ o → content d ≡ w → same_bytes o w ≡ true
@@ -266,7 +266,7 @@ module _ (content : Text → Text) (t : ℕ) (C D : Catalog) (alike : Alike t C 
       same_check t _ _ (check_same t C D alike r n g (length b)) _ _ (λ after checked.
       same_check t _ _ (quota_alike (length b)) _ _ (λ _ _.
       let here = fits_whole content C t r d b n (length b) after g (known C t r own) checked fits in
-      same_check t (refuse (not (names C d (whole_in C.sessions (t, n) b))) DigestInvalid) (refuse (not (names D d (whole_in D.sessions (t, n) b))) DigestInvalid)
+      same_check t (refuse (not (is_digest_accepted C d (whole_in C.sessions (t, n) b))) DigestInvalid) (refuse (not (is_digest_accepted D d (whole_in D.sessions (t, n) b))) DigestInvalid)
       (ap (λ x. refuse (not x) DigestInvalid) (
       names_alone content C d (whole_in C.sessions (t, n) b) consistent_C here
       ∙ ap (is_digest_of d) (whole_same t C D alike n b)

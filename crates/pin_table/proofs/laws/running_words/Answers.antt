@@ -1,4 +1,4 @@
-use Rattle.pin_table.proofs.Moments.{running_words}
+use Rattle.pin_table.proofs.AnyMoment.{running_words}
 use Rattle.pin_table.proofs.laws.running_words.Goals as goal
 
 pub returns : goal.returns

@@ -1,6 +1,6 @@
 use Rattle.std.proofs.Common.{subst}
 use Rattle.pin_core.specs.Events.{IsNew}
-use Rattle.pin_table.proofs.Allowed.{give_allowed}
+use Rattle.pin_table.proofs.RuleKept.{give_allowed}
 use Rattle.pin_table.proofs.pins.give_as.Goals as goal
 
 pub fetch_or-requires : goal.fetch_or-requires

@@ -19,8 +19,8 @@ returns-then-holds c =
     let value = some_value (get s.links (c.args.repo.now, c.args.digest.now)) (sym c.holds.ensures.held ∙ c.if-holds.true) in
     rw (← c.self.view_is) (link_there (linked_of tenants by_tenant c.self.inside.manifests c.self.inside.charges.items) c.args.repo.now c.args.digest.now c.args.size value.0 (there ∙ value.1) (rw (← c.self.view_is) at c.requires.size))
 
-pub raise-requires : goal.raise-requires
-raise-requires c =
+pub increment-requires : goal.increment-requires
+increment-requires c =
     let tenants = tenants_shown c.self.inside.tenants.items in
     let by_tenant = c.self.inside.repos.items in
     let s = c.index.result.now in
@@ -44,7 +44,7 @@ invariant_of-self c =
     let links = links_shown c.self.inside.repos.items in
     let holders = c.self.inside.holders.items in
     let counted = holders_at tenants links holders c.self.invariant.2 c.args.tenant (rw (← c.self.view_is) at c.requires.there) c.index_mut.result.now c.index_mut.ensures.value in
-    (c.self.invariant.0, c.self.invariant.1, Counts-same tenants links holders c.self.invariant.2 c.args.tenant c.index_mut.result.now counted c.raise.new.holders c.in_err-raise.ensures.err)
+    (c.self.invariant.0, c.self.invariant.1, Counts-same tenants links holders c.self.invariant.2 c.args.tenant c.index_mut.result.now counted c.increment.new.holders c.in_err-increment.ensures.err)
 
 pub invariant_of-self-in-Err : goal.invariant_of-self-in-Err
 invariant_of-self-in-Err c =
@@ -57,8 +57,8 @@ invariant_of-self-in-Err c =
     let links = links-same tenants by_tenant c.self.invariant.1 c.args.tenant s at c.link.new.self (ap (λ (x : Owned). x.links) c.in-Err.ensures.err) in (
       rw links c.self.invariant.0,
       IsOwned-same tenants by_tenant c.self.invariant.1 c.self.inside.manifests c.self.inside.charges.items c.args.tenant s at c.args.repo.now (rw (← c.self.view_is) at c.requires.own) c.link.new.self c.in-Err.ensures.err,
-      rw links (Counts-back tenants (links_shown by_tenant) c.self.inside.holders.items c.self.invariant.2 c.args.tenant c.index_mut.result.now counted c.raise.new.holders c.index_mut-in-Err.result.now c.lower.new.holders c.args.digest.now
-          c.in_ok-raise.ensures.ok c.index_mut-in-Err.ensures.value c.lower.ensures),
+      rw links (Counts-back tenants (links_shown by_tenant) c.self.inside.holders.items c.self.invariant.2 c.args.tenant c.index_mut.result.now counted c.increment.new.holders c.index_mut-in-Err.result.now c.decrement.new.holders c.args.digest.now
+          c.in_ok-increment.ensures.ok c.index_mut-in-Err.ensures.value c.decrement.ensures),
     )
 
 pub invariant_of-self-2 : goal.invariant_of-self-2
@@ -77,10 +77,10 @@ invariant_of-self-2 c =
     let before = holders_at tenants (links_shown by_tenant) c.self.inside.holders.items c.self.invariant.2 c.args.tenant there c.index-2.result.now c.index-2.ensures in
     let counted = holders_at tenants (links_shown by_tenant) c.self.inside.holders.items c.self.invariant.2 c.args.tenant there c.index_mut.result.now c.index_mut.ensures.value in
     let held = ap (nat_lt 0) c.holders_of-held.ensures ∙ held-counted tenants (links_shown by_tenant) c.self.inside.holders.items c.self.invariant.2 c.args.tenant c.index-2.result.now before c.args.digest.now ∙ sym (contains-blob tenants c.args.tenant c.args.digest.now (links_shown by_tenant)) in (
-      rw links (IsSound-link tenants (links_shown by_tenant) c.self.inside.weights.items c.self.inside.charges.items c.self.invariant.0 c.args.tenant there c.args.repo.now c.args.digest.now c.args.size own
-          (rw (← c.self.view_is) at c.requires.size) (rw (← c.self.view_is) at c.requires.room) (nat_lt 0 c.holders_of-held.result) held c.index-3.result.now c.weight_with-weight.result c.index-3.ensures c.weight_with-weight.ensures),
+      rw links (IsSound-link tenants (links_shown by_tenant) c.self.inside.blob_bytes.items c.self.inside.charges.items c.self.invariant.0 c.args.tenant there c.args.repo.now c.args.digest.now c.args.size own
+          (rw (← c.self.view_is) at c.requires.size) (rw (← c.self.view_is) at c.requires.room) (nat_lt 0 c.holders_of-held.result) held c.index-3.result.now c.bytes_with-weight.result c.index-3.ensures c.bytes_with-weight.ensures),
       IsOwned-link tenants by_tenant c.self.invariant.1 c.self.inside.manifests c.self.inside.charges.items c.args.tenant s at c.args.repo.now own c.link.new.self c.args.digest.now c.args.size known c.in_default.ensures.ok,
-      rw links (Counts-insert tenants (links_shown by_tenant) c.self.inside.holders.items c.self.invariant.2 c.args.tenant c.index_mut.result.now counted c.raise.new.holders c.args.repo.now c.args.digest.now c.args.size own absent c.in_ok-raise.ensures.ok),
+      rw links (Counts-insert tenants (links_shown by_tenant) c.self.inside.holders.items c.self.invariant.2 c.args.tenant c.index_mut.result.now counted c.increment.new.holders c.args.repo.now c.args.digest.now c.args.size own absent c.in_ok-increment.ensures.ok),
     )
 
 pub returns : goal.returns

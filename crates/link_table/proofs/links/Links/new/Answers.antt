@@ -15,12 +15,12 @@ pub invariant_of-result : goal.invariant_of-result
 invariant_of-result c =
     let tenants = tenants_shown c.in_ok-tenants.tenants.items in
     let n : length tenants ≡ length c.in_ok-tenants.tenants.items = length-map c.in_ok-tenants.tenants.items tenant_shown in
-    let w : c.in_ok-weights.weights.items ≡ replicate (length c.in_ok-tenants.tenants.items) 0 = search rules in
+    let w : c.in_ok-blob_bytes.blob_bytes.items ≡ replicate (length c.in_ok-tenants.tenants.items) 0 = search rules in
     let k : c.in_ok-charges.charges.items ≡ replicate (length c.in_ok-tenants.tenants.items) 0 = search rules in
     let s = rw c.as_slice-count.ensures.value at c.in_ok-repos.ensures.ok in
     let holders = rw c.as_slice-count.ensures.value at c.in_ok-holders.ensures.ok in
     let links = ap links_shown s ∙ links-opening (length c.in_ok-tenants.tenants.items) in (
-      IsSound-opening tenants (links_shown c.in_ok-repos.repos.items) c.in_ok-weights.weights.items c.in_ok-charges.charges.items
+      IsSound-opening tenants (links_shown c.in_ok-repos.repos.items) c.in_ok-blob_bytes.blob_bytes.items c.in_ok-charges.charges.items
           c.in_ok-tenants.ensures.kept links (w ∙ ap (λ m. replicate m 0) (sym n)) (k ∙ ap (λ m. replicate m 0) (sym n)),
       IsOwned-opening tenants c.in_ok-repos.repos.items (length c.in_ok-tenants.tenants.items) (sym n) s,
       Counts-opening tenants (links_shown c.in_ok-repos.repos.items) c.in_ok-holders.holders.items (ap entries links ∙ entries-empty link_cmp ℕ)

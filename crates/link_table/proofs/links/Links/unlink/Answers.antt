@@ -9,8 +9,8 @@ use Rattle.link_table.proofs.Soundness.{contains-blob, light_enough, IsSound-unl
 use Rattle.link_table.proofs.Tables.{owned_at, IsOwned-unlink}
 use Rattle.link_table.proofs.links.Links.unlink.Goals as goal
 
-pub lower-requires : goal.lower-requires
-lower-requires c =
+pub decrement-requires : goal.decrement-requires
+decrement-requires c =
     let tenants = tenants_shown c.self.inside.tenants.items in
     let by_tenant = c.self.inside.repos.items in
     let lt = rw (← c.self.view_is) at c.requires.there in
@@ -21,8 +21,8 @@ lower-requires c =
     let counted = holders_at tenants (links_shown by_tenant) c.self.inside.holders.items c.self.invariant.2 c.args.tenant lt c.index_mut-in-Some.result.now c.index_mut-in-Some.ensures.value in
     some_counted tenants (links_shown by_tenant) c.self.inside.holders.items c.self.invariant.2 c.args.tenant c.index_mut-in-Some.result.now counted c.index_mut-in-Some.result.now c.args.repo.now c.args.digest.now c.in-Some.size own there
 
-pub weight_without-requires : goal.weight_without-requires
-weight_without-requires c =
+pub bytes_without-requires : goal.bytes_without-requires
+bytes_without-requires c =
     let tenants = tenants_shown c.self.inside.tenants.items in
     let by_tenant = c.self.inside.repos.items in
     let lt = rw (← c.self.view_is) at c.requires.there in
@@ -32,11 +32,11 @@ weight_without-requires c =
     let there = links-there tenants by_tenant c.self.invariant.1 c.args.tenant s at c.args.repo.now own c.args.digest.now ∙ sym c.in-Some.ensures.value in
     let without = remove (links_shown by_tenant) (c.args.repo.now, c.args.digest.now) in
     let before = holders_at tenants (links_shown by_tenant) c.self.inside.holders.items c.self.invariant.2 c.args.tenant lt c.index_mut-in-Some.result.now c.index_mut-in-Some.ensures.value in
-    let counts = Counts-remove tenants (links_shown by_tenant) c.self.inside.holders.items c.self.invariant.2 c.args.tenant c.index_mut-in-Some.result.now before c.lower.new.holders c.args.repo.now c.args.digest.now c.in-Some.size own there c.lower.ensures in
-    let holders = set c.self.inside.holders.items c.args.tenant c.lower.new.holders in
+    let counts = Counts-remove tenants (links_shown by_tenant) c.self.inside.holders.items c.self.invariant.2 c.args.tenant c.index_mut-in-Some.result.now before c.decrement.new.holders c.args.repo.now c.args.digest.now c.in-Some.size own there c.decrement.ensures in
+    let holders = set c.self.inside.holders.items c.args.tenant c.decrement.new.holders in
     let after = holders_at tenants without holders counts c.args.tenant lt c.index.result.now c.index.ensures in
     let held = ap (nat_lt 0) c.holders_of-held.ensures ∙ held-counted tenants without holders counts c.args.tenant c.index.result.now after c.args.digest.now ∙ sym (contains-blob tenants c.args.tenant c.args.digest.now without) in
-    light_enough tenants (links_shown by_tenant) c.self.inside.weights.items c.self.inside.charges.items c.self.invariant.0 c.args.tenant lt c.args.repo.now c.args.digest.now c.in-Some.size own there (nat_lt 0 c.holders_of-held.result) held c.index-in-Some.result.now c.index-in-Some.ensures
+    light_enough tenants (links_shown by_tenant) c.self.inside.blob_bytes.items c.self.inside.charges.items c.self.invariant.0 c.args.tenant lt c.args.repo.now c.args.digest.now c.in-Some.size own there (nat_lt 0 c.holders_of-held.result) held c.index-in-Some.result.now c.index-in-Some.ensures
 
 pub invariant_of-self : goal.invariant_of-self
 invariant_of-self c =
@@ -49,13 +49,13 @@ invariant_of-self c =
     let there = links-there tenants by_tenant c.self.invariant.1 c.args.tenant s at c.args.repo.now own c.args.digest.now ∙ sym c.in-Some.ensures.value in
     let without = remove (links_shown by_tenant) (c.args.repo.now, c.args.digest.now) in
     let before = holders_at tenants (links_shown by_tenant) c.self.inside.holders.items c.self.invariant.2 c.args.tenant lt c.index_mut-in-Some.result.now c.index_mut-in-Some.ensures.value in
-    let counts = Counts-remove tenants (links_shown by_tenant) c.self.inside.holders.items c.self.invariant.2 c.args.tenant c.index_mut-in-Some.result.now before c.lower.new.holders c.args.repo.now c.args.digest.now c.in-Some.size own there c.lower.ensures in
-    let holders = set c.self.inside.holders.items c.args.tenant c.lower.new.holders in
+    let counts = Counts-remove tenants (links_shown by_tenant) c.self.inside.holders.items c.self.invariant.2 c.args.tenant c.index_mut-in-Some.result.now before c.decrement.new.holders c.args.repo.now c.args.digest.now c.in-Some.size own there c.decrement.ensures in
+    let holders = set c.self.inside.holders.items c.args.tenant c.decrement.new.holders in
     let after = holders_at tenants without holders counts c.args.tenant lt c.index.result.now c.index.ensures in
     let held = ap (nat_lt 0) c.holders_of-held.ensures ∙ held-counted tenants without holders counts c.args.tenant c.index.result.now after c.args.digest.now ∙ sym (contains-blob tenants c.args.tenant c.args.digest.now without) in
     let links = links-remove tenants by_tenant c.self.invariant.1 c.args.tenant s at c.args.repo.now own c.args.digest.now c.unlink.new.self (ap (λ (x : Owned). x.links) c.in-Some.ensures.gone) in (
-      rw links (IsSound-unlink tenants (links_shown by_tenant) c.self.inside.weights.items c.self.inside.charges.items c.self.invariant.0 c.args.tenant lt c.args.repo.now c.args.digest.now c.in-Some.size own there (nat_lt 0 c.holders_of-held.result) held
-          c.index-in-Some.result.now c.index-in-Some.ensures c.weight_without.result c.weight_without.ensures),
+      rw links (IsSound-unlink tenants (links_shown by_tenant) c.self.inside.blob_bytes.items c.self.inside.charges.items c.self.invariant.0 c.args.tenant lt c.args.repo.now c.args.digest.now c.in-Some.size own there (nat_lt 0 c.holders_of-held.result) held
+          c.index-in-Some.result.now c.index-in-Some.ensures c.bytes_without.result c.bytes_without.ensures),
       IsOwned-unlink tenants by_tenant c.self.invariant.1 c.self.inside.manifests c.self.inside.charges.items c.args.tenant s at c.args.repo.now own c.unlink.new.self c.args.digest.now c.in-Some.ensures.gone,
       rw links counts,
     )

@@ -18,25 +18,25 @@ unreachable-requires c =
 pub invariant_of-self : goal.invariant_of-self
 invariant_of-self c =
     let found = row_found c.self.inside.repos.items c.args.repo.now c.in-Ok.place c.index_mut.result.now (rw c.as_slice.ensures.value at c.in-Ok.ensures.within) (rw c.as_slice.ensures.value at c.in-Ok.ensures.place) c.index_mut.ensures.value in
-    AreRepos-set c.self.inside.repos.items c.in-Ok.place c.index_mut.result.now c.hold.new.repo found.0 c.hold.ensures.name c.self.invariant
+    AreRepos-set c.self.inside.repos.items c.in-Ok.place c.index_mut.result.now c.insert_blob.new.repo found.0 c.insert_blob.ensures.name c.self.invariant
 
 pub returns-clause-ok : goal.returns-clause-ok
 returns-clause-ok c =
     let rows = c.self.inside.repos.items in
     let row = c.index_mut.result.now in
     let found = row_found rows c.args.repo.now c.in-Ok.place row (rw c.as_slice.ensures.value at c.in-Ok.ensures.within) (rw c.as_slice.ensures.value at c.in-Ok.ensures.place) c.index_mut.ensures.value in
-    let names = names-set rows c.in-Ok.place row c.hold.new.repo found.0 c.hold.ensures.name in
-    on_ok c.hold.result (λ is.
-    let links = insert_by link_cmp_total exact_link (owned_shown rows).links (owned_shown (set rows c.in-Ok.place c.hold.new.repo)).links (c.args.repo.now, c.args.digest.now) c.args.size
-    (links-changed rows c.self.invariant.order c.in-Ok.place row found.0 c.args.repo.now found.1 c.hold.new.repo c.args.digest.now (Some c.args.size) c.hold.ensures.name is) in
-    rw (← c.self.view_is) (λ j. record { repos = from_entries {R = text_cmp} (names j); links = links j })) c.hold.ensures.ok
+    let names = names-set rows c.in-Ok.place row c.insert_blob.new.repo found.0 c.insert_blob.ensures.name in
+    on_ok c.insert_blob.result (λ is.
+    let links = insert_by link_cmp_total exact_link (owned_shown rows).links (owned_shown (set rows c.in-Ok.place c.insert_blob.new.repo)).links (c.args.repo.now, c.args.digest.now) c.args.size
+    (links-changed rows c.self.invariant.order c.in-Ok.place row found.0 c.args.repo.now found.1 c.insert_blob.new.repo c.args.digest.now (Some c.args.size) c.insert_blob.ensures.name is) in
+    rw (← c.self.view_is) (λ j. record { repos = from_entries {R = text_cmp} (names j); links = links j })) c.insert_blob.ensures.ok
 
 pub returns-clause-err : goal.returns-clause-err
 returns-clause-err c =
     let rows = c.self.inside.repos.items in
     let row = c.index_mut.result.now in
     let found = row_found rows c.args.repo.now c.in-Ok.place row (rw c.as_slice.ensures.value at c.in-Ok.ensures.within) (rw c.as_slice.ensures.value at c.in-Ok.ensures.place) c.index_mut.ensures.value in
-    let names = names-set rows c.in-Ok.place row c.hold.new.repo found.0 c.hold.ensures.name in
-    on_err c.hold.result (λ is.
-    let links = flat_map-same link_cmp links_in rows c.in-Ok.place row c.hold.new.repo found.0 (same_links row c.hold.new.repo c.hold.ensures.name is) in
-    rw (← c.self.view_is) (λ j. record { repos = from_entries {R = text_cmp} (names j); links = from_entries {R = link_cmp} (links j) })) c.hold.ensures.err
+    let names = names-set rows c.in-Ok.place row c.insert_blob.new.repo found.0 c.insert_blob.ensures.name in
+    on_err c.insert_blob.result (λ is.
+    let links = flat_map-same link_cmp links_in rows c.in-Ok.place row c.insert_blob.new.repo found.0 (same_links row c.insert_blob.new.repo c.insert_blob.ensures.name is) in
+    rw (← c.self.view_is) (λ j. record { repos = from_entries {R = text_cmp} (names j); links = from_entries {R = link_cmp} (links j) })) c.insert_blob.ensures.err

@@ -11,14 +11,14 @@ use Rattle.link_table.proofs.tenant_repos.TenantRepos.unlink.Goals as goal
 pub invariant_of-self : goal.invariant_of-self
 invariant_of-self c =
     let found = row_found c.self.inside.repos.items c.args.repo.now c.in-Ok.place c.index_mut.result.now (rw c.as_slice.ensures.value at c.in-Ok.ensures.within) (rw c.as_slice.ensures.value at c.in-Ok.ensures.place) c.index_mut.ensures.value in
-    AreRepos-set c.self.inside.repos.items c.in-Ok.place c.index_mut.result.now c.release.new.repo found.0 c.release.ensures.name c.self.invariant
+    AreRepos-set c.self.inside.repos.items c.in-Ok.place c.index_mut.result.now c.remove_blob.new.repo found.0 c.remove_blob.ensures.name c.self.invariant
 
 pub returns-in-Ok-clause-value : goal.returns-in-Ok-clause-value
 returns-in-Ok-clause-value c =
     let rows = c.self.inside.repos.items in
     let row = c.index_mut.result.now in
     let found = row_found rows c.args.repo.now c.in-Ok.place row (rw c.as_slice.ensures.value at c.in-Ok.ensures.within) (rw c.as_slice.ensures.value at c.in-Ok.ensures.place) c.index_mut.ensures.value in
-    c.release.ensures.value ∙ sym (links-there rows c.self.invariant.order c.in-Ok.place row found.0 c.args.digest.now)
+    c.remove_blob.ensures.value ∙ sym (links-there rows c.self.invariant.order c.in-Ok.place row found.0 c.args.digest.now)
     ∙ ap (λ q. get (owned_shown rows).links (q, c.args.digest.now)) found.1 ∙ ap (λ (s : Owned). get s.links (c.args.repo.now, c.args.digest.now)) c.self.view_is
 
 pub returns-in-Ok-clause-gone : goal.returns-in-Ok-clause-gone
@@ -26,9 +26,9 @@ returns-in-Ok-clause-gone c =
     let rows = c.self.inside.repos.items in
     let row = c.index_mut.result.now in
     let found = row_found rows c.args.repo.now c.in-Ok.place row (rw c.as_slice.ensures.value at c.in-Ok.ensures.within) (rw c.as_slice.ensures.value at c.in-Ok.ensures.place) c.index_mut.ensures.value in
-    let names = names-set rows c.in-Ok.place row c.release.new.repo found.0 c.release.ensures.name in
-    let links = remove_by link_cmp_total exact_link (owned_shown rows).links (owned_shown (set rows c.in-Ok.place c.release.new.repo)).links (c.args.repo.now, c.args.digest.now)
-    (links-changed rows c.self.invariant.order c.in-Ok.place row found.0 c.args.repo.now found.1 c.release.new.repo c.args.digest.now None c.release.ensures.name c.release.ensures.gone) in
+    let names = names-set rows c.in-Ok.place row c.remove_blob.new.repo found.0 c.remove_blob.ensures.name in
+    let links = remove_by link_cmp_total exact_link (owned_shown rows).links (owned_shown (set rows c.in-Ok.place c.remove_blob.new.repo)).links (c.args.repo.now, c.args.digest.now)
+    (links-changed rows c.self.invariant.order c.in-Ok.place row found.0 c.args.repo.now found.1 c.remove_blob.new.repo c.args.digest.now None c.remove_blob.ensures.name c.remove_blob.ensures.gone) in
     rw (← c.self.view_is) (λ j. record { repos = from_entries {R = text_cmp} (names j); links = links j })
 
 pub returns-in-Err-clause-value : goal.returns-in-Err-clause-value

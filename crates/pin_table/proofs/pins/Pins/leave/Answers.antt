@@ -4,8 +4,8 @@ use Rattle.atomic_table.specs.Table.{step}
 use Rattle.pin_table.specs.declared.view.View.TheVariants.{Left}
 use Rattle.pin_table.specs.Rule.{gone}
 use Rattle.pin_table.specs.Calls.{seat_value}
-use Rattle.pin_table.proofs.Told.{left_at}
-use Rattle.pin_table.proofs.Allowed.{leave_allowed}
+use Rattle.pin_table.proofs.StepResults.{left_at}
+use Rattle.pin_table.proofs.RuleKept.{leave_allowed}
 use Rattle.pin_table.proofs.pins.Pins.leave.Goals as goal
 
 pub fetch_sub-requires : goal.fetch_sub-requires

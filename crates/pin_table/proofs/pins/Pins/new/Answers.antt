@@ -1,5 +1,5 @@
 use Rattle.std.proofs.Common.{◌≡◌, replicate, ap, ◌∙◌, rules}
-use Rattle.pin_table.proofs.Allowed.{new_allowed}
+use Rattle.pin_table.proofs.RuleKept.{new_allowed}
 use Rattle.pin_table.proofs.pins.Pins.new.Goals as goal
 
 pub of_words-requires : goal.of_words-requires

@@ -2,9 +2,9 @@ use Rattle.std.proofs.Common.{None, sym, ap, ◌∙◌}
 use Rattle.pin_core.specs.declared.world.PinRow.{PinRow}
 use Rattle.pin_core.specs.World.{row_word}
 use Rattle.pin_core.specs.Events.{reclaimed_row}
-use Rattle.pin_table.specs.Rule.{kept, lent_by, looks_by}
+use Rattle.pin_table.specs.Rule.{keeper_view, lent_by, looks_by}
 use Rattle.pin_table.proofs.Seats.{sits, read_row}
-use Rattle.pin_table.proofs.Allowed.{reclaim_allowed}
+use Rattle.pin_table.proofs.RuleKept.{reclaim_allowed}
 use Rattle.pin_table.proofs.pins.Pins.reclaim.Goals as goal
 
 pub compare_exchange-found-requires : goal.compare_exchange-found-requires
@@ -14,4 +14,4 @@ compare_exchange-found-requires c =
     let r = read_row c.keeper.inside.rows.items c.args.slot c.index.result.now t.within c.index.ensures in
     let old = c.clear_word-old.ensures ∙ ap (λ (x : PinRow). row_word x 0) (sym r) in
     let new = c.clear_word-new.ensures ∙ ap (λ (x : PinRow). row_word x 0) (c.reclaimed-next.ensures ∙ ap reclaimed_row (sym r)) in
-    (t.table, t.word, reclaim_allowed _ _ _ _ _ _ (kept c.keeper.inside.rows.items c.keeper.inside.bounds.items (looks_by c.keeper.inside.seat.me.0) (lent_by c.keeper.inside.seat.me.0) None) _ _ i.0 i.1 t.within (t.phase ∙ c.requires.condemned) old new)
+    (t.table, t.word, reclaim_allowed _ _ _ _ _ _ (keeper_view c.keeper.inside.rows.items c.keeper.inside.bounds.items (looks_by c.keeper.inside.seat.me.0) (lent_by c.keeper.inside.seat.me.0) None) _ _ i.0 i.1 t.within (t.phase ∙ c.requires.condemned) old new)

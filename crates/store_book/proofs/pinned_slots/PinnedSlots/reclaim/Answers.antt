@@ -1,6 +1,6 @@
 use Rattle.std.proofs.Common.{◌≡◌, ◌+◌, ◌<◌, ◌^◌, ap, ◌∙◌, arith}
 use Rattle.slot_table.specs.declared.phase.Phase.TheVariants as phase
-use Rattle.slot_table.specs.Slots.{emptied, generation_at, phase_at, spent}
+use Rattle.slot_table.specs.Slots.{emptied, generation_at, phase_at, retire}
 use Rattle.store_book.specs.Pinned.{Pinned}
 use Rattle.store_book.proofs.Slots.Pinned.{one_each-looked}
 use Rattle.store_book.proofs.Slots.Reclaimed.{generation_row, IsPinned-freed, IsPinned-retired}
@@ -16,7 +16,7 @@ pub invariant_of-self-in-Retired : goal.invariant_of-self-in-Retired
 invariant_of-self-in-Retired c =
     let e = c.in-Retired.ensures.answer in
     let is : phase_at c.self.inside.slots c.args.slot ≡ phase.Condemned = ap (λ (p : Pinned). phase_at p.slots c.args.slot) c.self.view_is ∙ c.requires.condemned in
-    rw (c.retire.ensures, e.1) (IsPinned-retired c.self.inside.slots c.self.inside.keeper.rows c.self.inside.keeper.bounds c.self.invariant.0 c.args.slot is e.0, one_each-looked c.self.inside.slots c.self.inside.keeper.looks c.args.slot spent c.self.invariant.1)
+    rw (c.retire.ensures, e.1) (IsPinned-retired c.self.inside.slots c.self.inside.keeper.rows c.self.inside.keeper.bounds c.self.invariant.0 c.args.slot is e.0, one_each-looked c.self.inside.slots c.self.inside.keeper.looks c.args.slot retire c.self.invariant.1)
 
 pub returns-in-Freed-clause-answer : goal.returns-in-Freed-clause-answer
 returns-in-Freed-clause-answer c =

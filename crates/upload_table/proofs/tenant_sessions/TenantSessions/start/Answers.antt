@@ -6,8 +6,8 @@ use Rattle.upload_table.specs.declared.upload.Content.TheVariants.{Home}
 use Rattle.upload_table.proofs.TenantRows.{map_of, shown-push, sound-push, start_open, start_spent}
 use Rattle.upload_table.proofs.tenant_sessions.TenantSessions.start.Goals as goal
 
-pub returns-then-is_spent : goal.returns-then-is_spent
-returns-then-is_spent c = ((λ _. start_spent c.args.self.now c.args.repo.now (sym c.is_spent.ensures ∙ c.if-is_spent.true)), refl)
+pub returns-then-is_exhausted : goal.returns-then-is_exhausted
+returns-then-is_exhausted c = ((λ _. start_spent c.args.self.now c.args.repo.now (sym c.is_exhausted.ensures ∙ c.if-is_exhausted.true)), refl)
 
 pub invariant_of-self-2 : goal.invariant_of-self-2
 invariant_of-self-2 c =
@@ -19,5 +19,5 @@ returns c =
     let row : Upload = record { number = c.self.inside.next; repo = c.in_ok-clone.field-0; content = Home c.new.result } in
     let pushed = ap map_of c.in_ok-push.ensures.items ∙ shown-push c.self.inside.next c.self.inside.charged c.self.inside.rows.items c.self.invariant row refl
     ∙ (λ j. insert (map_of c.self.inside.rows.items) c.self.inside.next (record { repo = c.in_ok-clone.ensures.cases j; chunks = shown.Home (c.new.ensures.none j) })) in
-    start_open c.args.self.now c.args.repo.now (sym c.is_spent.ensures ∙ c.if-is_spent.false)
+    start_open c.args.self.now c.args.repo.now (sym c.is_exhausted.ensures ∙ c.if-is_exhausted.false)
     ∙ rw (← c.self.view_is) (λ j. Ok (c.self.inside.next, record { next = c.self.inside.next + 1; sessions = sym pushed j }))

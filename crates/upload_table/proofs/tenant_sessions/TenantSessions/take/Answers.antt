@@ -16,14 +16,14 @@ overflow_add-self c =
     let kept = charged_kept c.self.inside.next c.self.inside.charged c.self.inside.rows.items c.self.invariant ∙ ap charged_in c.self.view_is in
     omega (arith, kept, c.requires.room)
 
-pub lift-requires : goal.lift-requires
-lift-requires c = home_row c.self.inside.next c.self.inside.charged c.self.inside.rows.items c.self.invariant c.args.number c.in-Ok.i c.index_mut.result.now (rw c.as_slice.ensures.value at c.in-Ok.ensures.within) (rw c.as_slice.ensures.value at c.in-Ok.ensures.place) c.index_mut.ensures.value (rw (← c.self.view_is) at c.requires.home)
+pub take_chunks-requires : goal.take_chunks-requires
+take_chunks-requires c = home_row c.self.inside.next c.self.inside.charged c.self.inside.rows.items c.self.invariant c.args.number c.in-Ok.i c.index_mut.result.now (rw c.as_slice.ensures.value at c.in-Ok.ensures.within) (rw c.as_slice.ensures.value at c.in-Ok.ensures.place) c.index_mut.ensures.value (rw (← c.self.view_is) at c.requires.home)
 
 pub invariant_of-self : goal.invariant_of-self
 invariant_of-self c =
     let row = c.index_mut.result.now in
-    let received : content_received row.content ≡ content_charge row.content = ap content_received c.lift.ensures.pieces ∙ sym (ap content_charge c.lift.ensures.pieces) in
-    rw c.lift.ensures.row (sound-set c.self.inside.next c.self.inside.charged c.self.inside.rows.items c.self.invariant c.args.number c.in-Ok.i c.index_mut.result.now (rw c.as_slice.ensures.value at c.in-Ok.ensures.within) (rw c.as_slice.ensures.value at c.in-Ok.ensures.place) c.index_mut.ensures.value (InHand (content_received row.content) c.args.len) (c.self.inside.charged + c.args.len) (omega (arith, received)) tt)
+    let received : content_received row.content ≡ content_charge row.content = ap content_received c.take_chunks.ensures.pieces ∙ sym (ap content_charge c.take_chunks.ensures.pieces) in
+    rw c.take_chunks.ensures.row (sound-set c.self.inside.next c.self.inside.charged c.self.inside.rows.items c.self.invariant c.args.number c.in-Ok.i c.index_mut.result.now (rw c.as_slice.ensures.value at c.in-Ok.ensures.within) (rw c.as_slice.ensures.value at c.in-Ok.ensures.place) c.index_mut.ensures.value (InHand (content_received row.content) c.args.len) (c.self.inside.charged + c.args.len) (omega (arith, received)) tt)
 
 pub unreachable-requires : goal.unreachable-requires
 unreachable-requires c =
@@ -31,22 +31,22 @@ unreachable-requires c =
     false≢true (sym (ap is_home none) ∙ (rw (← c.self.view_is) at c.requires.home))
 
 pub returns-clause-whole : goal.returns-clause-whole
-returns-clause-whole c = subst AreWhole c.lift.ensures.pieces (whole_row c.self.inside.next c.self.inside.charged c.self.inside.rows.items c.self.invariant c.args.number c.in-Ok.i c.index_mut.result.now (rw c.as_slice.ensures.value at c.in-Ok.ensures.within) (rw c.as_slice.ensures.value at c.in-Ok.ensures.place) c.index_mut.ensures.value)
+returns-clause-whole c = subst AreWhole c.take_chunks.ensures.pieces (whole_row c.self.inside.next c.self.inside.charged c.self.inside.rows.items c.self.invariant c.args.number c.in-Ok.i c.index_mut.result.now (rw c.as_slice.ensures.value at c.in-Ok.ensures.within) (rw c.as_slice.ensures.value at c.in-Ok.ensures.place) c.index_mut.ensures.value)
 
 pub returns-clause-fits : goal.returns-clause-fits
 returns-clause-fits c =
     let kept = charged_kept c.self.inside.next c.self.inside.charged c.self.inside.rows.items c.self.invariant ∙ ap charged_in c.self.view_is in
     let le = charge-le c.self.inside.next c.self.inside.charged c.self.inside.rows.items c.self.invariant c.args.number c.in-Ok.i c.index_mut.result.now (rw c.as_slice.ensures.value at c.in-Ok.ensures.within) (rw c.as_slice.ensures.value at c.in-Ok.ensures.place) c.index_mut.ensures.value in
-    omega (arith, kept, c.requires.room, le, ap content_charge c.lift.ensures.pieces)
+    omega (arith, kept, c.requires.room, le, ap content_charge c.take_chunks.ensures.pieces)
 
 pub returns-clause-chunks : goal.returns-clause-chunks
 returns-clause-chunks c =
     ap (λ (s : Numbered). option_map (λ (x : Session). x.chunks) (get s.sessions c.args.number)) (sym c.self.view_is)
-    ∙ ap (option_map (λ (x : Session). x.chunks)) (found c.self.inside.next c.self.inside.charged c.self.inside.rows.items c.self.invariant c.args.number c.in-Ok.i c.index_mut.result.now (rw c.as_slice.ensures.value at c.in-Ok.ensures.within) (rw c.as_slice.ensures.value at c.in-Ok.ensures.place) c.index_mut.ensures.value) ∙ ap (λ k. Some (chunks_shown k)) c.lift.ensures.pieces
+    ∙ ap (option_map (λ (x : Session). x.chunks)) (found c.self.inside.next c.self.inside.charged c.self.inside.rows.items c.self.invariant c.args.number c.in-Ok.i c.index_mut.result.now (rw c.as_slice.ensures.value at c.in-Ok.ensures.within) (rw c.as_slice.ensures.value at c.in-Ok.ensures.place) c.index_mut.ensures.value) ∙ ap (λ k. Some (chunks_shown k)) c.take_chunks.ensures.pieces
 
 pub returns-clause-taken : goal.returns-clause-taken
 returns-clause-taken c =
     let row = c.index_mut.result.now in
-    ap (λ (u : Upload). shown_by c.self.inside.next (set c.self.inside.rows.items c.in-Ok.i u)) c.lift.ensures.row
+    ap (λ (u : Upload). shown_by c.self.inside.next (set c.self.inside.rows.items c.in-Ok.i u)) c.take_chunks.ensures.row
     ∙ view-set c.self.inside.next c.self.inside.charged c.self.inside.rows.items c.self.invariant c.args.number c.in-Ok.i c.index_mut.result.now (rw c.as_slice.ensures.value at c.in-Ok.ensures.within) (rw c.as_slice.ensures.value at c.in-Ok.ensures.place) c.index_mut.ensures.value (InHand (content_received row.content) c.args.len)
-    ∙ (λ j. with_chunks_here (c.self.view_is j) c.args.number (shown.InHand (content_received (c.lift.ensures.pieces j)) c.args.len))
+    ∙ (λ j. with_chunks_here (c.self.view_is j) c.args.number (shown.InHand (content_received (c.take_chunks.ensures.pieces j)) c.args.len))

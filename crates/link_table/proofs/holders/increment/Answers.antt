@@ -1,7 +1,7 @@
 use Rattle.std.proofs.Common.{◌+◌, Some, ap, arith}
 use Rattle.finite_maps.specs.Trees.{map_of}
 use Rattle.link_table.proofs.HolderCounts.{changed_at, no_zero, not_zero, raised}
-use Rattle.link_table.proofs.holders.raise.Goals as goal
+use Rattle.link_table.proofs.holders.increment.Goals as goal
 
 pub invariant_of-holders-2 : goal.invariant_of-holders-2
 invariant_of-holders-2 c =

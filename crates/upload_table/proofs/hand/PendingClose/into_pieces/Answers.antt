@@ -2,7 +2,7 @@ use Rattle.std.proofs.Common.{◌≡◌, ap, take, ◌∙◌}
 use Rattle.std.specs.Prelude.{sum}
 use Rattle.upload_table.specs.Uploaded.{Rest, cut}
 use Rattle.upload_table.proofs.Cuts.{cut-take}
-use Rattle.upload_table.proofs.hand.Sealed.into_pieces.Goals as goal
+use Rattle.upload_table.proofs.hand.PendingClose.into_pieces.Goals as goal
 
 pub returns-clause-chunks : goal.returns-clause-chunks
 returns-clause-chunks c =

@@ -3,7 +3,7 @@
 ghost use Rattle.std.specs.Prelude.{◌≡◌, ◌+◌, ◌-◌, ◌<◌, ◌≤◌, ◌^◌, if◌then◌else◌};
 
 /// A tenant's weight with one more link of a blob that it holds already, or not.
-pub fn weight_with(weight: u64, held: bool, size: u64) -> u64
+pub fn bytes_with(weight: u64, held: bool, size: u64) -> u64
     requires { weight + size < 2 ^ 64 }
     ensures { result ≡ weight + (if held then 0 else size) }
 {
@@ -11,7 +11,7 @@ pub fn weight_with(weight: u64, held: bool, size: u64) -> u64
 }
 
 /// A tenant's weight with one link less of a blob that it still holds, or not.
-pub fn weight_without(weight: u64, held: bool, size: u64) -> u64
+pub fn bytes_without(weight: u64, held: bool, size: u64) -> u64
     requires { (if held then 0 else size) ≤ weight }
     ensures { result ≡ weight - (if held then 0 else size) }
 {

@@ -2,7 +2,7 @@ use Rattle.std.proofs.Common.{◌≡◌, ◌+◌, ◌-◌, None, Some, arith}
 use Rattle.finite_maps.specs.Trees.{map_of}
 use Rattle.link_table.specs.Holders.{count_in}
 use Rattle.link_table.proofs.HolderCounts.{changed_at, lowered, no_zero, none_not_zero, not_zero, uncounted}
-use Rattle.link_table.proofs.holders.lower.Goals as goal
+use Rattle.link_table.proofs.holders.decrement.Goals as goal
 
 pub invariant_of-holders : goal.invariant_of-holders
 invariant_of-holders c =

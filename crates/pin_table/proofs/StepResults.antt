@@ -1,23 +1,23 @@
 -- What a step told its seat, where the seat before it is known.
 use Rattle.std.proofs.Common.{◌≡◌, ℕ, [], Some, subst}
-use Rattle.pin_core.specs.declared.world.Hold.{Hold}
+use Rattle.pin_core.specs.declared.world.PinRecord.{PinRecord}
 use Rattle.pin_core.specs.World.{row}
 use Rattle.pin_core.specs.Events.{lent_hold}
-use Rattle.pin_table.specs.declared.view.Kept.{Kept}
+use Rattle.pin_table.specs.declared.view.KeeperView.{KeeperView}
 use Rattle.pin_table.specs.declared.view.View.TheVariants.{Keeper, Left, Pin}
 use Rattle.pin_table.specs.Rule.{gone}
 use Rattle.pin_table.specs.Plays.{Move, Seated, Finds, HandKept, with_hand, with_lent, with_look, left, looked, lent}
 
 -- the keeper found this sum, and the pin in its hand is kept
-pub looked_at : (s : Move) (v : Kept) (me : Seated) (n : ℕ) (after : Seated) → me ≡ (Keeper v, []) → looked s me n after
+pub looked_at : (s : Move) (v : KeeperView) (me : Seated) (n : ℕ) (after : Seated) → me ≡ (Keeper v, []) → looked s me n after
     → (weight : ℕ) × Finds s.word n v weight × HandKept v.rows v.hand × (after ≡ (Keeper (with_look s.word weight v), []))
 looked_at s v me n after is t = subst (λ m. looked s m n after) is t
 
 -- the keeper has the new pin in its hand
-pub lent_at : (s : Move) (v : Kept) (me : Seated) (n : ℕ) (after : Seated) → me ≡ (Keeper v, []) → lent s me n after
+pub lent_at : (s : Move) (v : KeeperView) (me : Seated) (n : ℕ) (after : Seated) → me ≡ (Keeper v, []) → lent s me n after
     → after ≡ (Keeper (with_hand (Some (lent_hold s.word (row v.rows s.word))) (with_lent s.word v)), [])
 lent_at s v me n after is t = subst (λ m. lent s m n after) is t
 
 -- the pin was left
-pub left_at : (s : Move) (h : Hold) (me : Seated) (n : ℕ) (after : Seated) → me ≡ (Pin h, []) → left s me n after → (look : ℕ) × (after ≡ (Left (gone h look), []))
+pub left_at : (s : Move) (h : PinRecord) (me : Seated) (n : ℕ) (after : Seated) → me ≡ (Pin h, []) → left s me n after → (look : ℕ) × (after ≡ (Left (gone h look), []))
 left_at s h me n after is t = subst (λ m. left s m n after) is t
