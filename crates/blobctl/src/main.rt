@@ -51,6 +51,8 @@ mod script;
 mod script_tests;
 mod tenants;
 #[cfg(test)]
+mod test_scripts;
+#[cfg(test)]
 mod tests;
 mod together;
 mod watched;
