@@ -37,38 +37,6 @@ end
 }
 
 #[test]
-fn fields_that_spell_nothing_are_refused_in_order(rt: HostRuntime) {
-    let script = "\
-0,start,Acme,,,,
-0,close,Acme,1,d,x,
-0,close,acme/one,1,d,x,
-0,append,acme/one,1,,2-1,c
-0,start,nobody/x,,,,
-0,mount,Acme,Acme,d,,
-0,mount,acme/one,Acme,d,,
-0,mount,acme/one,acme/two,d,,
-0,delete,Acme,,d,,
-0,delete,acme/one,,d,,
-";
-    let text = "\
-1 refused NameInvalid
-2 refused NameInvalid
-3 refused DigestInvalid
-4 refused SizeInvalid
-5 refused NameUnknown
-6 refused NameInvalid
-7 refused NameInvalid
-8 refused DigestInvalid
-9 refused NameInvalid
-10 refused DigestInvalid
-book
-tenant acme used 0 quota 1 next 1
-end
-";
-    plays(&rt, rt.alloc(), &["acme=1"], script, text);
-}
-
-#[test]
 fn an_upload_is_resumed_and_abandoned(rt: HostRuntime) {
     let script = "\
 0,start,acme/one,,,,

@@ -9,6 +9,7 @@ use crate::options::{Options, Stop};
 use crate::run::run;
 use crate::watched::Watched;
 use std::alloc::{AllocError, Global};
+use std::fmt::Debug;
 use std::io;
 use std::io::{ErrorKind, Read, Write};
 use std::process::Abort;
@@ -179,15 +180,19 @@ pub fn run_on<R: Read + Drop>(
     }
 }
 
+/// A line is the one wanted; where it isn't, both are told.
+fn is_line<T: PartialEq + Debug>(rt: &impl Abort, number: usize, found: &T, wanted: &T) {
+    assert!(rt;
+        found == wanted,
+        "line {number}: found {found:?}, and not {wanted:?}"
+    );
+}
+
 /// What was written is this text. Where it isn't, the first line that differs is told.
 pub fn is_text(rt: &impl Abort, found: &[u8], wanted: &str) {
     let found = str::from_utf8(found).expect(rt, "UTF-8");
     for (place, (line, other)) in found.split('\n').zip(wanted.split('\n')).enumerate() {
-        let number = place.saturating_add(1);
-        assert!(rt;
-            line == other,
-            "line {number}: found {line:?}, and not {other:?}"
-        );
+        is_line(rt, place.saturating_add(1), &line, &other);
     }
     assert_eq!(rt; found, wanted);
 }

@@ -132,7 +132,7 @@ fn wrong_arguments_come_before_wrong_tenants(rt: HostRuntime) {
         stops(&rt, alloc, words.as_slice(), 2, "error: ");
     }
     stops(&rt, alloc, &[], 2, "error: ");
-    stops(&rt, alloc, &["--help"], 0, "Usage: blobctl ");
+    stops(&rt, alloc, &["--help"], 0, "Plays a script ");
 }
 
 /// A reply prints this text, which is filled first.
