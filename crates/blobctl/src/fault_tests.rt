@@ -36,8 +36,8 @@ end
 #[derive(Drop)]
 struct Failing<'s> {
     left: &'s [u8],
-    call: u32,
-    fails_at: u32,
+    call: usize,
+    fails_at: usize,
     kind: ErrorKind,
 }
 
@@ -54,7 +54,7 @@ impl<'s> Read for Failing<'s> {
 }
 
 /// A reader of a script that fails at one of its calls.
-fn failing_at<'s>(script: &'s str, fails_at: u32, kind: ErrorKind) -> Failing<'s> {
+fn failing_at<'s>(script: &'s str, fails_at: usize, kind: ErrorKind) -> Failing<'s> {
     Failing {
         left: script.as_bytes(),
         call: 0,
@@ -68,14 +68,14 @@ fn a_failed_read_is_a_read_fault(rt: HostRuntime) {
     let alloc = rt.alloc();
     let upload = filled(alloc, UPLOAD).expect(&rt, "memory");
     let uploaded = filled(alloc, UPLOADED).expect(&rt, "memory");
-    let calls = upload.len().div_ceil(2) as u32;
+    let calls = upload.len().div_ceil(2);
     for kind in [ErrorKind::Interrupted, ErrorKind::Other] {
         for fails_at in 0..=calls {
             let reader = failing_at(upload.as_str(), fails_at, kind);
             fails(&rt, alloc, "a failing reader", reader, Fault::Read);
         }
     }
-    let sound = failing_at(upload.as_str(), u32::MAX, ErrorKind::Other);
+    let sound = failing_at(upload.as_str(), usize::MAX, ErrorKind::Other);
     match run_on(&rt, alloc, &["acme=1000"], 1, sound, Goes::Well).0 {
         Ok(held) => is_text(&rt, held.as_slice(), uploaded.as_str()),
         Err(fault) => panic!(rt; "it ended with {fault:?}"),
