@@ -20,8 +20,6 @@ mod lease;
 #[cfg(test)]
 mod lend_tests;
 #[cfg(test)]
-mod load_steps;
-#[cfg(test)]
 mod load_tests;
 #[cfg(test)]
 mod lock_tests;
@@ -34,6 +32,8 @@ mod playing;
 mod refusal_tests;
 mod seat;
 mod store;
+#[cfg(test)]
+mod test_load_steps;
 #[cfg(test)]
 mod test_steps;
 #[cfg(test)]

@@ -1,7 +1,7 @@
 //! Eight threads at full load while others sweep: every read gives the bytes that were uploaded, and at the
 //! end nothing is held, used or left over.
 
-use crate::load_steps::{
+use crate::test_load_steps::{
     Load, Names, Own, Part, Player, Upload, manifest_of, players, sum_of, upload_of,
 };
 use crate::test_steps::TestStore;
@@ -158,7 +158,8 @@ impl<
         let manifest = put.expect(rt, "a manifest");
         let kept = self.delete(desk, repo, of);
         assert!(rt; kept == Err(Refusal::Referenced { manifest }));
-        assert!(rt; self.gets_manifest(desk, repo, text.as_bytes()));
+        let found = self.get_manifest(desk, repo, text.as_bytes());
+        assert_eq!(rt; found.expect(rt, "a manifest").as_str(), text.as_str());
         assert!(rt; self.delete_manifest(desk, repo, text.as_bytes()).is_ok());
         own.add(3, 0, 0, 0);
     }
@@ -271,7 +272,7 @@ impl<
             desks: 0,
         };
         assert_eq!(rt; self.store.totals(rt), totals);
-        assert!(rt; self.printed().as_slice() == text.as_bytes());
+        assert_eq!(rt; self.printed().as_str(), text);
     }
 
     /// A blob that is uploaded at once.

@@ -310,7 +310,7 @@ impl<
             left: 0,
         };
         assert_eq!(rt; settled, sums);
-        assert!(rt; self.printed().as_slice() == BOOK.as_bytes());
+        assert_eq!(rt; self.printed().as_str(), BOOK);
     }
 
     /// The gate is asked once before and once after each row, with the row's lane, by one worker of several lanes.

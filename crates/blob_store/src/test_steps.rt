@@ -5,6 +5,7 @@ ghost use Rattle.std.specs.Prelude.{◌<◌, ◌≤◌};
 use crate::{Desk, Lease, Naming, Store};
 use blob_digest::{Algorithm, ByteRange, Digest, Refusal, RepoName};
 use std::alloc::AllocGlobal;
+use std::fmt::Debug;
 use std::process::Abort;
 use std::sync::Wait;
 use std::sync::ledger::Ledger;
@@ -84,6 +85,26 @@ pub enum Step<'a> {
     Word(u32, u64),
     /// The text of the book is this.
     Prints(&'a str),
+}
+
+/// Nothing where an answer is the one wanted, and else both.
+fn is<T: PartialEq + Debug>(
+    rt: &(impl Abort + AllocGlobal),
+    found: &T,
+    wanted: &T,
+) -> Result<(), String> {
+    if found == wanted {
+        return Ok(());
+    }
+    Err(format!(in rt.alloc(); "found {found:?}, and not {wanted:?}").expect(rt, "memory"))
+}
+
+/// Nothing where a text is the one wanted, and else the first line in which they differ.
+fn is_text(rt: &(impl Abort + AllocGlobal), found: &str, wanted: &str) -> Result<(), String> {
+    for (line, other) in found.split('\n').zip(wanted.split('\n')) {
+        is(rt, &line, &other)?;
+    }
+    is(rt, &found, &wanted)
 }
 
 /// A store of so many slots, with what runs the test.
@@ -189,16 +210,19 @@ impl<
             .put_manifest(self.rt, desk, &name(self.rt, repo), bytes)
     }
 
-    /// Whether a manifest is answered with its bytes.
-    pub fn gets_manifest(&self, desk: &mut Desk<C, R, D, A>, repo: &str, bytes: &[u8]) -> bool {
+    /// What a get of the manifest of these bytes answers, as a text.
+    pub fn get_manifest(
+        &self,
+        desk: &mut Desk<C, R, D, A>,
+        repo: &str,
+        bytes: &[u8],
+    ) -> Result<String, Refusal> {
         let of = Digest::of(Algorithm::Sha256, bytes);
-        match self
+        let manifest = self
             .store
-            .get_manifest(self.rt, desk, &name(self.rt, repo), &of)
-        {
-            Ok(manifest) => manifest.bytes() == bytes,
-            Err(_) => false,
-        }
+            .get_manifest(self.rt, desk, &name(self.rt, repo), &of)?;
+        let text = str::from_utf8(manifest.bytes()).expect(self.rt, "UTF-8");
+        Ok(String::from_str(self.rt.alloc(), text).expect(self.rt, "memory"))
     }
 
     pub fn delete_manifest(
@@ -224,38 +248,60 @@ impl<
         None
     }
 
-    pub fn printed(&self) -> Vec<u8> {
+    pub fn printed(&self) -> String {
         let mut written: Vec<u8> = Vec::new(self.rt.alloc());
         self.store
             .print(self.rt, &mut written)
             .expect(self.rt, "memory");
-        written
+        String::from_utf8(written).expect(self.rt, "UTF-8")
     }
 
-    /// Whether a step answers what it has to.
-    fn goes(&self, desk: &mut Desk<C, R, D, A>, step: &Step) -> bool {
+    /// Plays a step. What is told is its answer, where that isn't the one wanted.
+    fn goes(&self, desk: &mut Desk<C, R, D, A>, step: &Step) -> Result<(), String> {
+        let rt = self.rt;
         match step {
-            Step::Start(repo, wanted) => self.start(desk, repo) == *wanted,
-            Step::Status(repo, number, wanted) => self.status(desk, repo, *number) == *wanted,
+            Step::Start(repo, wanted) => is(rt, &self.start(desk, repo), wanted),
+            Step::Status(repo, number, wanted) => {
+                is(rt, &self.status(desk, repo, *number), wanted)
+            }
             Step::Append(repo, number, places, bytes, wanted) => {
-                self.append(desk, repo, *number, places, bytes.as_bytes()) == *wanted
+                let found = self.append(desk, repo, *number, places, bytes.as_bytes());
+                is(rt, &found, wanted)
             }
             Step::Close(repo, number, of, places, bytes, wanted) => {
-                self.close(desk, repo, *number, of, places, bytes.as_bytes()) == *wanted
+                let found = self.close(desk, repo, *number, of, places, bytes.as_bytes());
+                is(rt, &found, wanted)
             }
-            Step::Abandon(repo, number, wanted) => self.abandon(desk, repo, *number) == *wanted,
-            Step::Mount(repo, of, from, wanted) => self.mount(desk, repo, of, from) == *wanted,
-            Step::Delete(repo, of, wanted) => self.delete(desk, repo, of) == *wanted,
+            Step::Abandon(repo, number, wanted) => {
+                is(rt, &self.abandon(desk, repo, *number), wanted)
+            }
+            Step::Mount(repo, of, from, wanted) => {
+                is(rt, &self.mount(desk, repo, of, from), wanted)
+            }
+            Step::Delete(repo, of, wanted) => is(rt, &self.delete(desk, repo, of), wanted),
             Step::PutManifest(repo, bytes, wanted) => {
                 let wanted = match wanted {
                     Ok(()) => Ok(Digest::of(Algorithm::Sha256, bytes.as_bytes())),
                     Err(refusal) => Err(*refusal),
                 };
-                self.put_manifest(desk, repo, bytes.as_bytes()) == wanted
+                is(
+                    rt,
+                    &self.put_manifest(desk, repo, bytes.as_bytes()),
+                    &wanted,
+                )
             }
-            Step::GetManifest(repo, bytes) => self.gets_manifest(desk, repo, bytes.as_bytes()),
+            Step::GetManifest(repo, bytes) => {
+                match self.get_manifest(desk, repo, bytes.as_bytes()) {
+                    Ok(text) => is_text(rt, text.as_str(), bytes),
+                    Err(refusal) => is(rt, &Err(refusal), &Ok(*bytes)),
+                }
+            }
             Step::DeleteManifest(repo, bytes, wanted) => {
-                self.delete_manifest(desk, repo, bytes.as_bytes()) == *wanted
+                is(
+                    rt,
+                    &self.delete_manifest(desk, repo, bytes.as_bytes()),
+                    wanted,
+                )
             }
             Step::Sweep(condemned, freed, held) => {
                 let wanted = Swept {
@@ -264,7 +310,7 @@ impl<
                     held: *held,
                     retired: 0,
                 };
-                self.sweep() == wanted
+                is(rt, &self.sweep(), &wanted)
             }
             Step::Retire(count) => {
                 let wanted = Swept {
@@ -273,18 +319,22 @@ impl<
                     held: 0,
                     retired: *count,
                 };
-                self.sweep() == wanted
+                is(rt, &self.sweep(), &wanted)
             }
-            Step::Word(slot, wanted) => self.word(*slot) == Some(*wanted),
-            Step::Prints(wanted) => self.printed().as_slice() == wanted.as_bytes(),
+            Step::Word(slot, wanted) => is(rt, &self.word(*slot), &Some(*wanted)),
+            Step::Prints(wanted) => is_text(rt, self.printed().as_str(), wanted),
         }
     }
 
-    /// Plays a table of commands on one desk.
+    /// Plays a table of commands on one desk. Where an answer isn't the one wanted, both are told, and the step's
+    /// number from 1.
     pub fn plays(&self, desk: &mut Desk<C, R, D, A>, steps: &[Step]) {
         let rt = self.rt;
-        for step in steps {
-            assert!(rt; self.goes(desk, step));
+        for (place, step) in steps.iter().enumerate() {
+            if let Err(told) = self.goes(desk, step) {
+                let number = place.saturating_add(1);
+                panic!(rt; "step {number}: {told}");
+            }
         }
     }
 

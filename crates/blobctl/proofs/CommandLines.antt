@@ -26,7 +26,7 @@ use Rattle.blobctl.specs.Arguments.{HasNumber, RefusesFound, RefusesWords, progr
 use Rattle.blobctl.specs.Stops.{IsStopFor}
 use Rattle.blobctl.specs.Tenants.{HasBadTenant}
 use Rattle.blobctl.specs.declared.options.Stop.{Stop}
-use Rattle.blobctl.specs.declared.options.Stop.TheVariants.{Help, Usage, BadTenant, Memory}
+use Rattle.blobctl.specs.declared.options.Stop.TheVariants.{Help, Usage, BadTenant, NotUtf8, Memory}
 
 pub program_is_simple : is_simple program ≡ true
 program_is_simple = refl
@@ -95,6 +95,7 @@ pub refused_found : (words : List Text) (rows : List Row) (stop : Stop) → faul
 refused_found words rows (Help text) taken is why = absurd why
 refused_found words rows (Usage text) taken is why = inr (taken, subst (λ (r : List Row). RefusesFound r (Usage text)) is why)
 refused_found words rows BadTenant taken is why = (taken, subst (λ (r : List Row). HasBadTenant (tenant_words r)) is why)
+refused_found words rows NotUtf8 taken is why = absurd why
 refused_found words rows Memory taken is why = tt
 
 pub refused_words : (words : List Text) (error : Error) (stop : Stop) → IsStopFor (kind_of error) stop → HasKind (fault_of program words) error → RefusesWords words stop
@@ -103,6 +104,7 @@ refused_words words error (Help text) is (inr among) = subst (λ (k : ErrorKind)
 refused_words words error (Usage text) is (inl memory) = absurd (is.1 memory)
 refused_words words error (Usage text) is (inr among) = inl (kind_of error, is.0, among)
 refused_words words error BadTenant is why = absurd is
+refused_words words error NotUtf8 is why = absurd is
 refused_words words error Memory is why = tt
 
 -- ---- on words that are written out

@@ -16,7 +16,7 @@ use Rattle.blobctl.specs.Options.{CanWork}
 use Rattle.blobctl.specs.Tenants.{HasBadTenant, SpellTenants}
 use Rattle.blobctl.specs.declared.options.Options.{Options}
 use Rattle.blobctl.specs.declared.options.Stop.{Stop}
-use Rattle.blobctl.specs.declared.options.Stop.TheVariants.{Help, Usage, BadTenant, Memory}
+use Rattle.blobctl.specs.declared.options.Stop.TheVariants.{Help, Usage, BadTenant, NotUtf8, Memory}
 
 -- ---- what the program takes
 
@@ -95,6 +95,7 @@ abbrev pub RefusesFound : List Row → Stop → Type 0
 RefusesFound rows (Help text) = ⊥
 RefusesFound rows (Usage text) = ((slots max_blob : ℕ) → HaveNumbers rows slots max_blob → ⊥) ⊎ ((workers : ℕ) → HaveWorkers rows workers → ⊥)
 RefusesFound rows BadTenant = HasBadTenant (tenant_words rows)
+RefusesFound rows NotUtf8 = ⊥
 RefusesFound rows Memory = ⊤
 
 -- ---- the words
@@ -110,4 +111,5 @@ abbrev pub RefusesWords : List Text → Stop → Type 0
 RefusesWords words (Help text) = IsAmong DisplayHelp (fault_of program words)
 RefusesWords words (Usage text) = ((kind : ErrorKind) × (kind ≢ DisplayHelp) × IsAmong kind (fault_of program words)) ⊎ ((fault_of program words ≡ []) × RefusesFound (matches_of program words) (Usage text))
 RefusesWords words BadTenant = (fault_of program words ≡ []) × HasBadTenant (tenant_words (matches_of program words))
+RefusesWords words NotUtf8 = ⊥
 RefusesWords words Memory = ⊤

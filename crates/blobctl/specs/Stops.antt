@@ -4,13 +4,14 @@ use Rattle.clap.specs.declared.error.kind.ErrorKind.{ErrorKind}
 use Rattle.clap.specs.declared.error.kind.ErrorKind.TheVariants.{DisplayHelp, OutOfMemory}
 use Rattle.finite_maps.specs.Texts.{Text}
 use Rattle.blobctl.specs.declared.options.Stop.{Stop}
-use Rattle.blobctl.specs.declared.options.Stop.TheVariants.{Help, Usage, BadTenant, Memory}
+use Rattle.blobctl.specs.declared.options.Stop.TheVariants.{Help, Usage, BadTenant, NotUtf8, Memory}
 
 -- what is printed
 abbrev pub stop_text : Stop → Text
 stop_text (Help text) = string_bytes text
 stop_text (Usage text) = string_bytes text
 stop_text BadTenant = codes "blobctl: bad tenant\n"
+stop_text NotUtf8 = codes "blobctl: argument is not UTF-8\n"
 stop_text Memory = codes "blobctl: out of memory\n"
 
 -- the exit status
@@ -18,6 +19,7 @@ abbrev pub stop_status : Stop → ℕ
 stop_status (Help text) = 0
 stop_status (Usage text) = 2
 stop_status BadTenant = 2
+stop_status NotUtf8 = 2
 stop_status Memory = 5
 
 -- how the program stops where `clap` answers an error of this kind; want of memory may come in place of either text
@@ -25,4 +27,5 @@ abbrev pub IsStopFor : ErrorKind → Stop → Type 0
 IsStopFor kind (Help text) = kind ≡ DisplayHelp
 IsStopFor kind (Usage text) = (kind ≢ DisplayHelp) × (kind ≢ OutOfMemory)
 IsStopFor kind BadTenant = ⊥
+IsStopFor kind NotUtf8 = ⊥
 IsStopFor kind Memory = ⊤

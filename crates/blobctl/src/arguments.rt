@@ -13,31 +13,55 @@ use clap::{Arg, ArgAction, ArgMatches, Command};
 use std::alloc::{AllocError, Global};
 use store_book::{Config, MAX_BLOB, MAX_SLOTS};
 
+/// What `--help` says at its end.
+const AFTER_HELP: &str = "\
+The script is CSV on standard input. Each record is one command, of seven fields:
+lane,command,repo,key,digest,range,body
+
+Example: open an upload session, and add a chunk to it.
+
+  $ printf '%s\\n' 0,start,acme/one,,,, 0,append,acme/one,1,,,abc | blobctl acme=1000
+  1 session 1
+  2 received 3
+  book
+  tenant acme used 3 quota 1000 next 2
+  repository acme/one
+  session 1 received 3
+  end";
+
 /// What the program takes.
 fn command<'a>(alloc: Global) -> Result<Command<'a>, AllocError>
     ensures { IfOk result (λ c. app_of c ≡ program) }
 {
     let slots = Arg::new(alloc, "slots")
+        .help("How many blobs the store can keep, 1 to 65536")
         .long("slots")
         .value_name("N")
         .value_parser(clap::value_parser!(u32).range(1..=65536))
         .default_value("64");
     let max_blob = Arg::new(alloc, "max-blob")
+        .help("The most bytes of a blob, 0 to 1099511627776")
         .long("max-blob")
         .value_name("N")
         .value_parser(clap::value_parser!(u64).range(0..=1_099_511_627_776))
         .default_value("1048576");
     let workers = Arg::new(alloc, "workers")
+        .help("How many threads play the script, 1 to 64")
         .long("workers")
         .value_name("N")
         .value_parser(clap::value_parser!(u32).range(1..=64))
         .default_value("1");
     let tenants = Arg::new(alloc, "tenants")
+        .help("A tenant, and the bytes that it may use; 1 to 256 of them")
         .value_name("TENANT=QUOTA")
         .required(true)
         .num_args(1..)
         .action(ArgAction::Append);
     Command::new(alloc, "blobctl")
+        .about(
+            "Plays a script of commands on a blob store in memory, and prints the replies and the book",
+        )
+        .after_help(AFTER_HELP)
         .arg(slots)?
         .arg(max_blob)?
         .arg(workers)?

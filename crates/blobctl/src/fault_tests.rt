@@ -3,7 +3,7 @@
 ghost use Rattle.blobctl.specs.Options.{CanWork};
 
 use crate::fault::Fault;
-use crate::script_tests::{Goes, UPLOAD, UPLOADED, fails, plays, run_on};
+use crate::test_scripts::{Goes, fails, filled, has_bad_row, is_text, plays, run_on};
 use std::alloc::Global;
 use std::io;
 use std::io::{ErrorKind, Read};
@@ -11,12 +11,33 @@ use std::process::Abort;
 use std::sync::Wait;
 use std::thread::Threads;
 
+/// The upload of three bytes in two chunks, of 169 bytes once it is filled.
+const UPLOAD: &str = "\
+0,start,acme/one,,,,
+0,append,acme/one,1,,0-0,a
+0,append,acme/one,1,,1-2,bc
+0,close,acme/one,1,$abc,,
+";
+
+/// What is written for it.
+const UPLOADED: &str = "\
+1 session 1
+2 received 1
+3 received 3
+4 stored 3
+book
+tenant acme used 3 quota 1000 next 2
+repository acme/one
+blob $abc size 3 links 1
+end
+";
+
 /// A reader of two bytes at a time that fails at one of its calls, and goes on after it.
 #[derive(Drop)]
 struct Failing<'s> {
     left: &'s [u8],
-    call: u32,
-    fails_at: u32,
+    call: usize,
+    fails_at: usize,
     kind: ErrorKind,
 }
 
@@ -32,10 +53,10 @@ impl<'s> Read for Failing<'s> {
     }
 }
 
-/// A reader of the first upload that fails at one of its calls.
-fn upload_failing_at(fails_at: u32, kind: ErrorKind) -> Failing<'static> {
+/// A reader of a script that fails at one of its calls.
+fn failing_at<'s>(script: &'s str, fails_at: usize, kind: ErrorKind) -> Failing<'s> {
     Failing {
-        left: UPLOAD,
+        left: script.as_bytes(),
         call: 0,
         fails_at,
         kind,
@@ -45,16 +66,19 @@ fn upload_failing_at(fails_at: u32, kind: ErrorKind) -> Failing<'static> {
 #[test]
 fn a_failed_read_is_a_read_fault(rt: HostRuntime) {
     let alloc = rt.alloc();
-    let calls = UPLOAD.len().div_ceil(2) as u32;
+    let upload = filled(alloc, UPLOAD).expect(&rt, "memory");
+    let uploaded = filled(alloc, UPLOADED).expect(&rt, "memory");
+    let calls = upload.len().div_ceil(2);
     for kind in [ErrorKind::Interrupted, ErrorKind::Other] {
         for fails_at in 0..=calls {
-            fails(&rt, alloc, upload_failing_at(fails_at, kind), Fault::Read);
+            let reader = failing_at(upload.as_str(), fails_at, kind);
+            fails(&rt, alloc, "a failing reader", reader, Fault::Read);
         }
     }
-    let sound = upload_failing_at(u32::MAX, ErrorKind::Other);
+    let sound = failing_at(upload.as_str(), usize::MAX, ErrorKind::Other);
     match run_on(&rt, alloc, &["acme=1000"], 1, sound, Goes::Well).0 {
-        Ok(held) => assert!(rt; held.as_slice() == UPLOADED.as_bytes()),
-        Err(fault) => assert!(rt; false, "{fault}"),
+        Ok(held) => is_text(&rt, held.as_slice(), uploaded.as_str()),
+        Err(fault) => panic!(rt; "it ended with {fault:?}"),
     }
 }
 
@@ -62,14 +86,14 @@ fn a_failed_read_is_a_read_fault(rt: HostRuntime) {
 fn faults_at_each_write(rt: &(impl Abort + Threads + Wait + Sync), alloc: Global, workers: usize)
     requires { CanWork workers }
 {
-    let calls = run_on(rt, alloc, &["acme=1000"], workers, UPLOAD, Goes::Well).1;
+    let upload = filled(alloc, UPLOAD).expect(rt, "memory");
+    let script = upload.as_bytes();
+    let calls = run_on(rt, alloc, &["acme=1000"], workers, script, Goes::Well).1;
     assert!(rt; calls > 0);
     for at in 0..calls {
         for goes in [Goes::Fails(at), Goes::TakesNothing(at)] {
-            match run_on(rt, alloc, &["acme=1000"], workers, UPLOAD, goes).0 {
-                Ok(_) => assert!(rt; false, "call {at} went wrong"),
-                Err(fault) => assert_eq!(rt; fault, Fault::Write),
-            }
+            let ended = run_on(rt, alloc, &["acme=1000"], workers, script, goes).0;
+            assert_eq!(rt; ended.err(), Some(Fault::Write), "{goes:?}");
         }
     }
 }
@@ -97,7 +121,7 @@ impl Read for Counted {
 #[test]
 fn a_script_too_long_is_a_read_fault(rt: HostRuntime) {
     let mut reader = Counted { left: 268_435_459 };
-    fails(&rt, rt.alloc(), &mut reader, Fault::Read);
+    fails(&rt, rt.alloc(), "a long script", &mut reader, Fault::Read);
     assert_eq!(rt; reader.left, 2);
 }
 
@@ -105,21 +129,68 @@ fn a_script_too_long_is_a_read_fault(rt: HostRuntime) {
 /// behind a whole line: none where they don't.
 fn written_for(len: usize) -> Option<&'static str> {
     match len {
-        0 => Some("book\ntenant acme used 0 quota 1000 next 1\nend\n"),
+        0 => Some(
+            "\
+book
+tenant acme used 0 quota 1000 next 1
+end
+",
+        ),
         20 | 21 => Some(
-            "1 session 1\nbook\ntenant acme used 0 quota 1000 next 2\nrepository acme/one\nsession 1 received 0\nend\n",
+            "\
+1 session 1
+book
+tenant acme used 0 quota 1000 next 2
+repository acme/one
+session 1 received 0
+end
+",
         ),
         46 => Some(
-            "1 session 1\n2 refused SizeInvalid\nbook\ntenant acme used 0 quota 1000 next 2\nrepository acme/one\nsession 1 received 0\nend\n",
+            "\
+1 session 1
+2 refused SizeInvalid
+book
+tenant acme used 0 quota 1000 next 2
+repository acme/one
+session 1 received 0
+end
+",
         ),
         47 | 48 => Some(
-            "1 session 1\n2 received 1\nbook\ntenant acme used 1 quota 1000 next 2\nrepository acme/one\nsession 1 received 1\nend\n",
+            "\
+1 session 1
+2 received 1
+book
+tenant acme used 1 quota 1000 next 2
+repository acme/one
+session 1 received 1
+end
+",
         ),
         73 | 74 => Some(
-            "1 session 1\n2 received 1\n3 refused SizeInvalid\nbook\ntenant acme used 1 quota 1000 next 2\nrepository acme/one\nsession 1 received 1\nend\n",
+            "\
+1 session 1
+2 received 1
+3 refused SizeInvalid
+book
+tenant acme used 1 quota 1000 next 2
+repository acme/one
+session 1 received 1
+end
+",
         ),
         75 | 76 => Some(
-            "1 session 1\n2 received 1\n3 received 3\nbook\ntenant acme used 3 quota 1000 next 2\nrepository acme/one\nsession 1 received 3\nend\n",
+            "\
+1 session 1
+2 received 1
+3 received 3
+book
+tenant acme used 3 quota 1000 next 2
+repository acme/one
+session 1 received 3
+end
+",
         ),
         168 | 169 => Some(UPLOADED),
         _ => None,
@@ -140,12 +211,14 @@ fn last_row(script: &[u8]) -> u32 {
 #[test]
 fn a_script_that_is_cut_off_is_played_or_has_a_bad_row(rt: HostRuntime) {
     let alloc = rt.alloc();
-    assert_eq!(rt; UPLOAD.len(), 169);
-    for len in 0..=UPLOAD.len() {
-        let script = &UPLOAD[..len];
+    let upload = filled(alloc, UPLOAD).expect(&rt, "memory");
+    assert_eq!(rt; upload.len(), 169);
+    for len in 0..=upload.len() {
+        let bytes = &upload.as_bytes()[..len];
+        let script = str::from_utf8(bytes).expect(&rt, "UTF-8");
         match written_for(len) {
             Some(text) => plays(&rt, alloc, &["acme=1000"], script, text),
-            None => fails(&rt, alloc, script, Fault::BadRow(last_row(script))),
+            None => has_bad_row(&rt, alloc, script, last_row(bytes)),
         }
     }
 }

@@ -51,6 +51,8 @@ mod script;
 mod script_tests;
 mod tenants;
 #[cfg(test)]
+mod test_scripts;
+#[cfg(test)]
 mod tests;
 mod together;
 mod watched;
@@ -111,12 +113,12 @@ fn stopped(rt: &HostRuntime, stop: &Stop) -> u8
     stop.status()
 }
 
-/// Why the words of the command line can't be read: for want of memory, or since one of them is no
-/// text, of which nothing is printed.
-fn unread(rt: &HostRuntime, error: io::Error) -> Stop {
+/// Why the words of the command line can't be read: for want of memory, or since one of them is not
+/// UTF-8.
+fn unread(error: io::Error) -> Stop {
     match error.kind() {
         ErrorKind::OutOfMemory => Stop::Memory,
-        _ => Stop::Usage(String::new(rt.alloc())),
+        _ => Stop::NotUtf8,
     }
 }
 
@@ -132,7 +134,7 @@ fn options_here(rt: &HostRuntime) -> Result<Options, Stop>
 {
     match words_of(rt) {
         Ok(words) => read_options(rt.alloc(), words.as_slice()),
-        Err(error) => Err(unread(rt, error)),
+        Err(error) => Err(unread(error)),
     }
 }
 

@@ -25,6 +25,8 @@ pub enum Stop {
     Usage(String),
     /// A tenant's word is no name, `=` and quota, or its name came before, or it is the 257th.
     BadTenant,
+    /// An argument is not UTF-8.
+    NotUtf8,
     /// A growth was refused for want of memory.
     Memory,
 }
@@ -54,6 +56,7 @@ impl Stop {
             Stop::Help(_) => 0,
             Stop::Usage(_) => 2,
             Stop::BadTenant => 2,
+            Stop::NotUtf8 => 2,
             Stop::Memory => 5,
         }
     }
@@ -66,6 +69,7 @@ impl Stop {
             Stop::Help(text) => text.as_str(),
             Stop::Usage(text) => text.as_str(),
             Stop::BadTenant => "blobctl: bad tenant\n",
+            Stop::NotUtf8 => "blobctl: argument is not UTF-8\n",
             Stop::Memory => "blobctl: out of memory\n",
         }
     }

@@ -1,24 +1,22 @@
 //! Worked examples, by values that stand outside the program.
-ghost use Rattle.std.specs.Prelude.{IfOk};
-ghost use Rattle.blobctl.specs.Options.{IsWithin};
 
-use crate::arguments::read_options;
 use crate::fault::Fault;
-use crate::options::{Options, Stop};
 use crate::script::read_rows;
+use crate::test_scripts::{filled, options_of};
 use blob_digest::{Digest, Refusal};
 use row_player::{Reply, Verb};
 use std::alloc::Global;
 use std::process::Abort;
 
-const ABC: &str = "sha256:ba7816bf8f01cfea414140de5dae2223b00361a396177a9cb410ff61f20015ad";
-
 #[test]
 fn rows_are_read(rt: HostRuntime) {
     let alloc = rt.alloc();
-    let script =
-        b"0,start,acme/one,,,,\n007,append,acme/one,1,,0-0,a\n\n255,close,acme/one,4294967295,d,,\"x,\"\"y\"\n";
-    match read_rows(alloc, script) {
+    let script = r#"0,start,acme/one,,,,
+007,append,acme/one,1,,0-0,a
+
+255,close,acme/one,4294967295,d,,"x,""y"
+"#;
+    match read_rows(alloc, script.as_bytes()) {
         Ok(rows) => {
             assert_eq!(rt; rows.len(), 3);
             assert_eq!(rt; rows[0].verb, Verb::Start);
@@ -30,27 +28,7 @@ fn rows_are_read(rt: HostRuntime) {
             assert_eq!(rt; rows[2].digest.as_slice(), b"d".as_slice());
             assert_eq!(rt; rows[2].body.as_slice(), b"x,\"y".as_slice());
         }
-        Err(_) => assert!(rt; false),
-    }
-}
-
-/// The words of a command line, after the program's name.
-fn words_of(alloc: Global, words: &[&str]) -> Option<Vec<String>> {
-    let mut all = Vec::new(alloc);
-    all.push(String::from_str(alloc, "blobctl").ok()?).ok()?;
-    for word in words {
-        all.push(String::from_str(alloc, word).ok()?).ok()?;
-    }
-    Some(all)
-}
-
-/// What a command line gives.
-pub fn options_of(alloc: Global, words: &[&str]) -> Result<Options, Stop>
-    ensures { IfOk result IsWithin }
-{
-    match words_of(alloc, words) {
-        Some(words) => read_options(alloc, words.as_slice()),
-        None => Err(Stop::Memory),
+        Err(fault) => panic!(rt; "found {fault:?}, and no rows"),
     }
 }
 
@@ -73,7 +51,7 @@ fn gives(
                 assert_eq!(rt; found.1, wanted.1);
             }
         }
-        Err(_) => assert!(rt; false, "no options"),
+        Err(stop) => panic!(rt; "found {stop:?}, and no options"),
     }
 }
 
@@ -115,7 +93,7 @@ fn stops(rt: &impl Abort, alloc: Global, words: &[&str], status: u8, begins: &st
             assert!(rt; text.as_str().starts_with(begins), "it begins {text}");
             assert_eq!(rt; stop.status(), status);
         }
-        Ok(_) => assert!(rt; false, "options"),
+        Ok(options) => panic!(rt; "found {options:?}, and no reason to stop"),
     }
 }
 
@@ -154,21 +132,22 @@ fn wrong_arguments_come_before_wrong_tenants(rt: HostRuntime) {
         stops(&rt, alloc, words.as_slice(), 2, "error: ");
     }
     stops(&rt, alloc, &[], 2, "error: ");
-    stops(&rt, alloc, &["--help"], 0, "Usage: blobctl ");
+    stops(&rt, alloc, &["--help"], 0, "Plays a script ");
 }
 
-/// A reply prints this text.
+/// A reply prints this text, which is filled first.
 fn prints(rt: &impl Abort, alloc: Global, reply: Reply, wanted: &str) {
+    let wanted = filled(alloc, wanted).expect(rt, "memory");
     let mut text = String::new(alloc);
     reply.write(&mut text).expect(rt, "memory");
-    assert_eq!(rt; text.as_str(), wanted);
+    assert_eq!(rt; text.as_str(), wanted.as_str());
 }
 
 #[test]
 fn replies_are_printed(rt: HostRuntime) {
-    let digest = Digest::parse(ABC.as_bytes()).expect(&rt, "a digest");
-    let missing =
-        "refused ManifestBlobUnknown sha256:ba7816bf8f01cfea414140de5dae2223b00361a396177a9cb410ff61f20015ad";
+    let alloc = rt.alloc();
+    let abc = filled(alloc, "$abc").expect(&rt, "memory");
+    let digest = Digest::parse(abc.as_bytes()).expect(&rt, "a digest");
     for (reply, text) in [
         (Reply::Session(4_294_967_295), "session 4294967295"),
         (Reply::Received(0), "received 0"),
@@ -187,10 +166,10 @@ fn replies_are_printed(rt: HostRuntime) {
         ),
         (
             Reply::Refused(Refusal::ManifestBlobUnknown { digest }),
-            missing,
+            "refused ManifestBlobUnknown $abc",
         ),
     ] {
-        prints(&rt, rt.alloc(), reply, text);
+        prints(&rt, alloc, reply, text);
     }
 }
 

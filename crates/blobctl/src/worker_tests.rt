@@ -1,10 +1,11 @@
 //! Scripts of several lanes: what several workers write for them, by values that stand outside the program.
 
-use crate::manifest_tests::writes_filled;
 use crate::mount_tests::{LANES, LANES_PLAYED};
+use crate::test_scripts::writes;
 
 /// Two lanes that upload `abc` in two chunks for a tenant each, and a third one that sweeps.
-const UPLOADS: &str = "0,start,acme/one,,,,
+const UPLOADS: &str = "\
+0,start,acme/one,,,,
 1,start,other/one,,,,
 2,sweep,,,,,
 0,append,acme/one,1,,0-0,a
@@ -18,7 +19,8 @@ const UPLOADS: &str = "0,start,acme/one,,,,
 ";
 
 /// What is written for it, in whichever order the lanes are played.
-const UPLOADED: &str = "1 session 1
+const UPLOADED: &str = "\
+1 session 1
 2 session 1
 3 swept condemned 0 freed 0 held 0 retired 0
 4 received 1
@@ -43,8 +45,8 @@ end
 fn any_number_of_workers_writes_the_same_text(rt: HostRuntime) {
     let words = ["acme=1000", "other=1000"];
     for (script, text) in [(UPLOADS, UPLOADED), (LANES, LANES_PLAYED)] {
-        writes_filled(&rt, rt.alloc(), words.as_slice(), 1, script, text);
-        writes_filled(&rt, rt.alloc(), words.as_slice(), 2, script, text);
-        writes_filled(&rt, rt.alloc(), words.as_slice(), 8, script, text);
+        writes(&rt, rt.alloc(), words.as_slice(), 1, script, text);
+        writes(&rt, rt.alloc(), words.as_slice(), 2, script, text);
+        writes(&rt, rt.alloc(), words.as_slice(), 8, script, text);
     }
 }

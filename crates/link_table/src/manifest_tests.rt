@@ -63,7 +63,7 @@ fn is_free(rt: &impl Abort, alloc: Global, links: &Links, repo: &str, blob: &str
 fn has(rt: &impl Abort, alloc: Global, links: &Links, repo: &str, manifest: &str, text: &str) {
     match links.manifest(&name(rt, alloc, repo), &digest(rt, manifest)) {
         Some(found) => assert_eq!(rt; found.bytes(), text.as_bytes()),
-        None => assert!(rt; false),
+        None => panic!(rt; "{repo} has no manifest {manifest}"),
     }
 }
 
@@ -80,7 +80,7 @@ fn is_placed(rt: &impl Abort, links: &Links, repo: &RepoName, i: usize, wanted: 
             assert_eq!(rt; found, wanted);
             assert_eq!(rt; manifest.digest(), wanted);
         }
-        None => assert!(rt; false),
+        None => panic!(rt; "found no manifest at place {i}"),
     }
 }
 

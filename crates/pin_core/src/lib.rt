@@ -25,6 +25,6 @@ pub use word::{CONDEMNED, LAST_GENERATION, MAX_WEIGHT, NEW_WEIGHT, USED, WordRow
 pub use world::{PinRecord, Phase, PinEntry, PinRow};
 
 #[cfg(test)]
-mod recount;
+mod recount_tests;
 #[cfg(test)]
 mod tests;

@@ -25,7 +25,7 @@ pub use pins::Pins;
 pub use reclaim::Reclaim;
 
 #[cfg(test)]
-mod desk;
+mod test_keeper;
 #[cfg(test)]
 mod tests;
 #[cfg(test)]

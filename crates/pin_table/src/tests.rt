@@ -1,6 +1,6 @@
 ghost use Rattle.std.specs.Prelude.{◌<◌, length};
 
-use crate::desk::{Desk, Lease, digest_of, end, make, open};
+use crate::test_keeper::{Lease, TestKeeper, digest_of, end, make, open};
 use crate::{Keeper, Pin, Pins, Reclaim, laws};
 use blob_digest::{Digest, Refusal};
 use pin_core::{Event, Phase};
@@ -41,11 +41,16 @@ fn the_number_of_slots_has_limits(rt: HostRuntime) {
 }
 
 /// These events happen in turn, and after each the slot's word is the one beside it.
-fn words_follow(rt: &impl Abort, alloc: Global, desk: &mut Desk<'_>, rows: &[(Event, u64)]) {
+fn words_follow(
+    rt: &impl Abort,
+    alloc: Global,
+    keeper: &mut TestKeeper<'_>,
+    rows: &[(Event, u64)],
+) {
     let mut leases = Vec::new(alloc);
     for (event, word) in rows {
-        assert!(rt; make(desk, &mut leases, *event));
-        assert_eq!(rt; desk.word(), *word);
+        assert!(rt; make(keeper, &mut leases, *event));
+        assert_eq!(rt; keeper.word(), *word);
     }
     end(leases);
 }
@@ -59,25 +64,25 @@ fn give(bytes: &[u8]) -> Event {
 
 fn slot_is(
     rt: &impl Abort,
-    desk: &Desk<'_>,
+    keeper: &TestKeeper<'_>,
     phase: Phase,
     generation: u32,
     digest: Option<Digest>,
 ) {
-    assert_eq!(rt; desk.phase(), phase);
-    assert_eq!(rt; desk.generation(), generation);
-    assert_eq!(rt; desk.digest(), digest);
+    assert_eq!(rt; keeper.phase(), phase);
+    assert_eq!(rt; keeper.generation(), generation);
+    assert_eq!(rt; keeper.digest(), digest);
 }
 
-fn word_is(rt: &impl Abort, desk: &mut Desk<'_>, wanted: u64) {
-    assert_eq!(rt; desk.word(), wanted);
+fn word_is(rt: &impl Abort, keeper: &mut TestKeeper<'_>, wanted: u64) {
+    assert_eq!(rt; keeper.word(), wanted);
 }
 
 #[test]
 fn the_words_of_one_slot(rt: HostRuntime) {
     let alloc = rt.alloc();
     let (pins, keeper) = Pins::new(alloc, 1, 0).expect(&rt, "memory");
-    let mut desk = Desk::new(&pins, keeper);
+    let mut keeper = TestKeeper::new(&pins, keeper);
     let rows = [
         (Event::Look { slot: 0 }, 0x0000_0000_0000_0000),
         (give(ABC), 0x0000_0000_8000_0000),
@@ -91,40 +96,40 @@ fn the_words_of_one_slot(rt: HostRuntime) {
         (Event::Reclaim { slot: 0 }, 0x0000_0001_0000_0000),
         (give(OBJ), 0x0000_0001_8000_0000),
     ];
-    words_follow(&rt, alloc, &mut desk, &rows);
-    slot_is(&rt, &desk, Phase::Live, 1, Some(digest_of(OBJ)));
+    words_follow(&rt, alloc, &mut keeper, &rows);
+    slot_is(&rt, &keeper, Phase::Live, 1, Some(digest_of(OBJ)));
 }
 
-fn reclaim_is(rt: &impl Abort, desk: &mut Desk<'_>, wanted: Reclaim) {
-    assert_eq!(rt; desk.reclaim(), Some(wanted));
+fn reclaim_is(rt: &impl Abort, keeper: &mut TestKeeper<'_>, wanted: Reclaim) {
+    assert_eq!(rt; keeper.reclaim(), Some(wanted));
 }
 
 #[test]
 fn a_held_slot_is_reclaimed_once_its_pin_has_left(rt: HostRuntime) {
     let (pins, keeper) = Pins::new(rt.alloc(), 1, 0).expect(&rt, "memory");
-    let mut desk = open(&pins, keeper);
-    word_is(&rt, &mut desk, 0x0000_0000_8000_0000);
-    let lease = desk.lend().expect(&rt, "a live slot").expect(&rt, "room");
-    word_is(&rt, &mut desk, 0x0000_0000_8000_0400);
-    assert!(rt; desk.condemn());
-    word_is(&rt, &mut desk, 0x0000_0000_c000_0400);
-    reclaim_is(&rt, &mut desk, Reclaim::Held { weight: 1024 });
-    word_is(&rt, &mut desk, 0x0000_0000_c000_0400);
+    let mut keeper = open(&pins, keeper);
+    word_is(&rt, &mut keeper, 0x0000_0000_8000_0000);
+    let lease = keeper.lend().expect(&rt, "a live slot").expect(&rt, "room");
+    word_is(&rt, &mut keeper, 0x0000_0000_8000_0400);
+    assert!(rt; keeper.condemn());
+    word_is(&rt, &mut keeper, 0x0000_0000_c000_0400);
+    reclaim_is(&rt, &mut keeper, Reclaim::Held { weight: 1024 });
+    word_is(&rt, &mut keeper, 0x0000_0000_c000_0400);
     lease.give_back();
-    word_is(&rt, &mut desk, 0x0000_0000_c000_0000);
-    reclaim_is(&rt, &mut desk, Reclaim::Freed);
-    word_is(&rt, &mut desk, 0x0000_0001_0000_0000);
-    assert!(rt; desk.give(digest_of(OBJ)));
-    word_is(&rt, &mut desk, 0x0000_0001_8000_0000);
+    word_is(&rt, &mut keeper, 0x0000_0000_c000_0000);
+    reclaim_is(&rt, &mut keeper, Reclaim::Freed);
+    word_is(&rt, &mut keeper, 0x0000_0001_0000_0000);
+    assert!(rt; keeper.give(digest_of(OBJ)));
+    word_is(&rt, &mut keeper, 0x0000_0001_8000_0000);
 }
 
 #[test]
 fn a_verify_sets_the_bound_to_the_sum_that_is_there(rt: HostRuntime) {
     let alloc = rt.alloc();
     let (pins, keeper) = Pins::new(alloc, 1, 0).expect(&rt, "memory");
-    let mut desk = open(&pins, keeper);
-    let mut others = desk.lend_many(alloc, 2);
-    let bounds = desk.bounds_around_verify(&mut others);
+    let mut keeper = open(&pins, keeper);
+    let mut others = keeper.lend_many(alloc, 2);
+    let bounds = keeper.bounds_around_verify(&mut others);
     assert_eq!(rt; bounds, Some((3072, 1024)));
     end(others);
 }
@@ -156,11 +161,11 @@ fn a_condemned_slot_is_revived_under_its_pin(rt: HostRuntime) {
 #[test]
 fn a_slot_that_was_never_lent_is_never_held(rt: HostRuntime) {
     let (pins, keeper) = Pins::new(rt.alloc(), 1, u32::MAX).expect(&rt, "memory");
-    let mut desk = open(&pins, keeper);
-    assert!(rt; desk.condemn());
-    assert_eq!(rt; desk.reclaim(), Some(Reclaim::Retired));
-    slot_is(&rt, &desk, Phase::Retired, u32::MAX, None);
-    word_is(&rt, &mut desk, 0xffff_ffff_4000_0000);
+    let mut keeper = open(&pins, keeper);
+    assert!(rt; keeper.condemn());
+    assert_eq!(rt; keeper.reclaim(), Some(Reclaim::Retired));
+    slot_is(&rt, &keeper, Phase::Retired, u32::MAX, None);
+    word_is(&rt, &mut keeper, 0xffff_ffff_4000_0000);
     laws::steps();
     laws::histories();
     laws::running_words();
@@ -170,24 +175,24 @@ fn a_slot_that_was_never_lent_is_never_held(rt: HostRuntime) {
 fn the_most_pins_of_a_slot(rt: HostRuntime) {
     let alloc = rt.alloc();
     let (pins, keeper) = Pins::new(alloc, 1, 0).expect(&rt, "memory");
-    let mut desk = open(&pins, keeper);
-    let mut leases = desk.lend_many(alloc, 1_048_575);
+    let mut keeper = open(&pins, keeper);
+    let mut leases = keeper.lend_many(alloc, 1_048_575);
     assert_eq!(rt; leases.len(), 1_048_575);
-    word_is(&rt, &mut desk, 0x0000_0000_bfff_fc00);
-    refusal_is(&rt, &mut desk, Some(Refusal::TooManyReaders));
-    assert_eq!(rt; desk.bound(), 0x3fff_fc00);
+    word_is(&rt, &mut keeper, 0x0000_0000_bfff_fc00);
+    refusal_is(&rt, &mut keeper, Some(Refusal::TooManyReaders));
+    assert_eq!(rt; keeper.bound(), 0x3fff_fc00);
     if let Some(lease) = leases.pop() {
         lease.give_back();
     }
-    refusal_is(&rt, &mut desk, None);
-    word_is(&rt, &mut desk, 0x0000_0000_bfff_f800);
+    refusal_is(&rt, &mut keeper, None);
+    word_is(&rt, &mut keeper, 0x0000_0000_bfff_f800);
     end(leases);
-    word_is(&rt, &mut desk, 0x0000_0000_8000_0000);
+    word_is(&rt, &mut keeper, 0x0000_0000_8000_0000);
 }
 
 /// What a lend of a live slot was refused with; a lease is given back.
-fn refusal_of(desk: &mut Desk<'_>) -> Option<Refusal> {
-    match desk.lend()? {
+fn refusal_of(keeper: &mut TestKeeper<'_>) -> Option<Refusal> {
+    match keeper.lend()? {
         Ok(lease) => {
             lease.give_back();
             None
@@ -196,8 +201,8 @@ fn refusal_of(desk: &mut Desk<'_>) -> Option<Refusal> {
     }
 }
 
-fn refusal_is(rt: &impl Abort, desk: &mut Desk<'_>, wanted: Option<Refusal>) {
-    assert_eq!(rt; refusal_of(desk), wanted);
+fn refusal_is(rt: &impl Abort, keeper: &mut TestKeeper<'_>, wanted: Option<Refusal>) {
+    assert_eq!(rt; refusal_of(keeper), wanted);
 }
 
 /// The first of the pair is shared on, as often as may be; the others go to the list. How often,
@@ -225,16 +230,16 @@ pub fn share_all<'s>(lease: Lease<'s>, others: &mut Vec<Lease<'s>>) -> (u32, Lea
 fn one_lease_is_shared_ten_times(rt: HostRuntime) {
     let alloc = rt.alloc();
     let (pins, keeper) = Pins::new(alloc, 1, 0).expect(&rt, "memory");
-    let mut desk = open(&pins, keeper);
+    let mut keeper = open(&pins, keeper);
     let mut others = Vec::new(alloc);
-    let lease = desk.lend().expect(&rt, "a live slot").expect(&rt, "room");
+    let lease = keeper.lend().expect(&rt, "a live slot").expect(&rt, "room");
     let (times, last) = share_all(lease, &mut others);
     assert_eq!(rt; times, 10);
     assert_eq!(rt; last.weight(), 1);
     assert_eq!(rt; others.len(), 10);
-    word_is(&rt, &mut desk, 0x0000_0000_8000_0400);
+    word_is(&rt, &mut keeper, 0x0000_0000_8000_0400);
     last.give_back();
-    word_is(&rt, &mut desk, 0x0000_0000_8000_03ff);
+    word_is(&rt, &mut keeper, 0x0000_0000_8000_03ff);
     end(others);
-    word_is(&rt, &mut desk, 0x0000_0000_8000_0000);
+    word_is(&rt, &mut keeper, 0x0000_0000_8000_0000);
 }

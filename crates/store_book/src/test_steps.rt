@@ -6,6 +6,7 @@ use crate::{Book, Config, Mount, Swept};
 use blob_digest::{Algorithm, ByteRange, Digest, Refusal, RepoName};
 use pin_table::Pins;
 use std::alloc::AllocGlobal;
+use std::fmt::Debug;
 use std::process::Abort;
 
 pub const ABC: &str = "sha256:ba7816bf8f01cfea414140de5dae2223b00361a396177a9cb410ff61f20015ad";
@@ -88,10 +89,10 @@ pub fn small(rt: &(impl Abort + AllocGlobal), slots: u32, max_blob: u64, quota: 
 }
 
 /// The text of a book.
-fn printed(rt: &(impl Abort + AllocGlobal), store: &Store) -> Vec<u8> {
+fn printed(rt: &(impl Abort + AllocGlobal), store: &Store) -> String {
     let mut written: Vec<u8> = Vec::new(rt.alloc());
     store.book.print(&mut written).expect(rt, "memory");
-    written
+    String::from_utf8(written).expect(rt, "UTF-8")
 }
 
 /// A command, or a look at the text of the book, with what it has to answer. Repositories, digests and
@@ -273,22 +274,16 @@ pub fn put_manifest(
     store.book.put_manifest(&name(rt, repo), bytes.as_bytes())
 }
 
-/// Whether a manifest is answered with these bytes, or refused so.
-fn gets_manifest(
+/// What a get of a manifest answers, its bytes as a text.
+fn get_manifest(
     rt: &(impl Abort + AllocGlobal),
     store: &Store,
     repo: &str,
     of: &str,
-    wanted: &Result<&str, Refusal>,
-) -> bool {
-    match (
-        store.book.get_manifest(&name(rt, repo), &digest(rt, of)),
-        wanted,
-    ) {
-        (Ok(manifest), Ok(text)) => manifest.bytes() == text.as_bytes(),
-        (Err(refusal), Err(other)) => refusal == *other,
-        _ => false,
-    }
+) -> Result<String, Refusal> {
+    let manifest = store.book.get_manifest(&name(rt, repo), &digest(rt, of))?;
+    let text = str::from_utf8(manifest.bytes()).expect(rt, "UTF-8");
+    Ok(String::from_str(rt.alloc(), text).expect(rt, "memory"))
 }
 
 fn delete_manifest(
@@ -304,51 +299,76 @@ fn delete_manifest(
 
 /// Whether the text of a book has some text in it.
 pub fn says(rt: &(impl Abort + AllocGlobal), store: &Store, text: &str) -> bool {
-    let text = text.as_bytes();
-    if text.is_empty() {
-        return true;
-    }
-    let written = printed(rt, store);
-    written
-        .as_slice()
-        .windows(text.len())
-        .any(|found| found == text)
+    printed(rt, store).as_str().contains(text)
 }
 
-/// Whether a step answers what it has to.
-fn goes(rt: &(impl Abort + AllocGlobal), store: &mut Store, step: &Step) -> bool
+/// Nothing where an answer is the one wanted, and else both.
+fn is<T: PartialEq + Debug>(
+    rt: &(impl Abort + AllocGlobal),
+    found: &T,
+    wanted: &T,
+) -> Result<(), String> {
+    if found == wanted {
+        return Ok(());
+    }
+    Err(format!(in rt.alloc(); "found {found:?}, and not {wanted:?}").expect(rt, "memory"))
+}
+
+/// Nothing where a text is the one wanted, and else the first line in which they differ.
+fn is_text(rt: &(impl Abort + AllocGlobal), found: &str, wanted: &str) -> Result<(), String> {
+    for (line, other) in found.split('\n').zip(wanted.split('\n')) {
+        is(rt, &line, &other)?;
+    }
+    is(rt, &found, &wanted)
+}
+
+/// Plays a step. What is told is its answer, where that isn't the one wanted.
+fn goes(rt: &(impl Abort + AllocGlobal), store: &mut Store, step: &Step) -> Result<(), String>
     ensures { store.new.book.table ≡ store.old.book.table }
 {
     match step {
-        Step::Start(repo, wanted) => start(rt, store, repo) == *wanted,
-        Step::Status(repo, number, wanted) => status(rt, store, repo, *number) == *wanted,
+        Step::Start(repo, wanted) => is(rt, &start(rt, store, repo), wanted),
+        Step::Status(repo, number, wanted) => is(rt, &status(rt, store, repo, *number), wanted),
         Step::Append(repo, number, places, bytes, wanted) => {
-            append(rt, store, repo, *number, places, bytes) == *wanted
+            is(rt, &append(rt, store, repo, *number, places, bytes), wanted)
         }
         Step::Close(repo, number, of, places, bytes, wanted) => {
-            close(rt, store, repo, *number, of, places, bytes.as_bytes()) == *wanted
+            let found = close(rt, store, repo, *number, of, places, bytes.as_bytes());
+            is(rt, &found, wanted)
         }
-        Step::Abandon(repo, number, wanted) => abandon(rt, store, repo, *number) == *wanted,
+        Step::Abandon(repo, number, wanted) => is(rt, &abandon(rt, store, repo, *number), wanted),
         Step::Upload(repo, of, bytes, wanted) => {
-            upload(rt, store, repo, of, bytes.as_bytes()) == *wanted
+            is(rt, &upload(rt, store, repo, of, bytes.as_bytes()), wanted)
         }
-        Step::Mount(repo, of, from, wanted) => mount(rt, store, repo, of, from) == *wanted,
-        Step::Delete(repo, of, wanted) => delete(rt, store, repo, of) == *wanted,
-        Step::PutManifest(repo, bytes, wanted) => put_manifest(rt, store, repo, bytes) == *wanted,
-        Step::GetManifest(repo, of, wanted) => gets_manifest(rt, store, repo, of, wanted),
-        Step::DeleteManifest(repo, of, wanted) => delete_manifest(rt, store, repo, of) == *wanted,
+        Step::Mount(repo, of, from, wanted) => is(rt, &mount(rt, store, repo, of, from), wanted),
+        Step::Delete(repo, of, wanted) => is(rt, &delete(rt, store, repo, of), wanted),
+        Step::PutManifest(repo, bytes, wanted) => {
+            is(rt, &put_manifest(rt, store, repo, bytes), wanted)
+        }
+        Step::GetManifest(repo, of, wanted) => match get_manifest(rt, store, repo, of) {
+            Ok(text) => is(rt, &Ok(text.as_str()), wanted),
+            Err(refusal) => is(rt, &Err(refusal), wanted),
+        },
+        Step::DeleteManifest(repo, of, wanted) => {
+            is(rt, &delete_manifest(rt, store, repo, of), wanted)
+        }
         Step::Sweep(condemned, freed, held, retired) => {
-            sweep(store)
-                == Swept {
-                    condemned: *condemned,
-                    freed: *freed,
-                    held: *held,
-                    retired: *retired,
-                }
+            let wanted = Swept {
+                condemned: *condemned,
+                freed: *freed,
+                held: *held,
+                retired: *retired,
+            };
+            is(rt, &sweep(store), &wanted)
         }
-        Step::Word(wanted) => word(store) == *wanted,
-        Step::Prints(text) => printed(rt, store).as_slice() == text.as_bytes(),
-        Step::Says(text) => says(rt, store, text),
+        Step::Word(wanted) => is(rt, &word(store), wanted),
+        Step::Prints(text) => is_text(rt, printed(rt, store).as_str(), text),
+        Step::Says(text) => {
+            if says(rt, store, text) {
+                return Ok(());
+            }
+            is(rt, &printed(rt, store).as_str(), text)
+        }
     }
 }
 
@@ -356,14 +376,20 @@ fn goes(rt: &(impl Abort + AllocGlobal), store: &mut Store, step: &Step) -> bool
 pub fn play(rt: &(impl Abort + AllocGlobal), store: &mut Store, step: &Step)
     ensures { store.new.book.table ≡ store.old.book.table }
 {
-    assert!(rt; goes(rt, store, step));
+    if let Err(told) = goes(rt, store, step) {
+        panic!(rt; "{told}");
+    }
 }
 
-/// Plays the steps of a table in turn, and finds each answer.
+/// Plays the steps of a table in turn, and finds each answer. Where one differs, both are told, and the step's number
+/// from 1.
 pub fn plays(rt: &(impl Abort + AllocGlobal), store: &mut Store, steps: &[Step])
     ensures { store.new.book.table ≡ store.old.book.table }
 {
     for (place, step) in steps.iter().enumerate() {
-        assert!(rt; goes(rt, store, step), "step {place} of its table");
+        if let Err(told) = goes(rt, store, step) {
+            let number = place.saturating_add(1);
+            panic!(rt; "step {number}: {told}");
+        }
     }
 }

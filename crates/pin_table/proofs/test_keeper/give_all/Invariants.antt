@@ -1,5 +1,5 @@
 use Rattle.std.proofs.Common.{vec_len}
-use Rattle.pin_table.proofs.desk.give_all.Given as goal
+use Rattle.pin_table.proofs.test_keeper.give_all.Given as goal
 
 abbrev pub decreases-loop-lease : goal.decreases-loop-lease
 decreases-loop-lease l = vec_len l.leases

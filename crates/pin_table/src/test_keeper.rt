@@ -50,19 +50,19 @@ pub fn end(mut leases: Vec<Lease<'_>>) {
 
 /// The keeper of a table of one slot.
 #[derive(Drop)]
-pub struct Desk<'s> {
+pub struct TestKeeper<'s> {
     pins: &'s Pins,
     keeper: Keeper,
     ghost one_table: { keeper.table ≡ pins.now },
     ghost one: { length keeper.rows ≡ 1 },
 }
 
-impl<'s> Desk<'s> {
-    pub fn new(pins: &'s Pins, keeper: Keeper) -> Desk<'s>
+impl<'s> TestKeeper<'s> {
+    pub fn new(pins: &'s Pins, keeper: Keeper) -> TestKeeper<'s>
         requires table { keeper.table ≡ pins.now }
         requires one { length keeper.rows ≡ 1 }
     {
-        Desk { pins, keeper }
+        TestKeeper { pins, keeper }
     }
 
     pub fn word(&mut self) -> u64 {
@@ -165,8 +165,8 @@ impl<'s> Desk<'s> {
 }
 
 /// Whether the slot was lent; the lease goes to the list.
-fn lend_to<'s>(desk: &mut Desk<'s>, leases: &mut Vec<Lease<'s>>) -> bool {
-    let Some(Ok(lease)) = desk.lend() else {
+fn lend_to<'s>(keeper: &mut TestKeeper<'s>, leases: &mut Vec<Lease<'s>>) -> bool {
+    let Some(Ok(lease)) = keeper.lend() else {
         return false;
     };
     if let Err(failed) = leases.push(lease) {
@@ -187,14 +187,14 @@ fn leave_last(leases: &mut Vec<Lease<'_>>) -> bool {
 }
 
 /// Whether the event of the slot was made; a lend and a leave are of the list's last lease.
-pub fn make<'s>(desk: &mut Desk<'s>, leases: &mut Vec<Lease<'s>>, event: Event) -> bool {
+pub fn make<'s>(keeper: &mut TestKeeper<'s>, leases: &mut Vec<Lease<'s>>, event: Event) -> bool {
     match event {
-        Event::Give { slot: _, digest } => desk.give(digest),
-        Event::Lend { slot: _, pin: _ } => lend_to(desk, leases),
+        Event::Give { slot: _, digest } => keeper.give(digest),
+        Event::Lend { slot: _, pin: _ } => lend_to(keeper, leases),
         Event::Leave { pin: _ } => leave_last(leases),
-        Event::Condemn { slot: _ } => desk.condemn(),
-        Event::Revive { slot: _ } => desk.revive(),
-        Event::Reclaim { slot: _ } => desk.reclaim() == Some(Reclaim::Freed),
+        Event::Condemn { slot: _ } => keeper.condemn(),
+        Event::Revive { slot: _ } => keeper.revive(),
+        Event::Reclaim { slot: _ } => keeper.reclaim() == Some(Reclaim::Freed),
         Event::Look { slot: _ } => true,
         Event::Share { pin: _, second: _ } | Event::Verify { pin: _ } => false,
     }
@@ -205,12 +205,12 @@ pub fn digest_of(bytes: &[u8]) -> Digest {
     Digest::of(Algorithm::Sha256, bytes)
 }
 
-/// A desk whose slot has the digest of `abc`.
-pub fn open<'s>(pins: &'s Pins, keeper: Keeper) -> Desk<'s>
+/// A keeper whose slot has the digest of `abc`.
+pub fn open<'s>(pins: &'s Pins, keeper: Keeper) -> TestKeeper<'s>
     requires table { keeper.table ≡ pins.now }
     requires one { length keeper.rows ≡ 1 }
 {
-    let mut desk = Desk::new(pins, keeper);
-    desk.give(digest_of(b"abc"));
-    desk
+    let mut keeper = TestKeeper::new(pins, keeper);
+    keeper.give(digest_of(b"abc"));
+    keeper
 }
