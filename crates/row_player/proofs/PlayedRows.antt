@@ -1,24 +1,31 @@
 -- Rows that are played.
-use Rattle.std.proofs.Common.{◌≡◌, ◌≢◌, ◌⊎◌, ◌<◌, ◌+◌, ◌∙◌, ◌++◌, ◌∷◌, [], ℕ, List, ap, arith, get_or, inl, inr, length, map, IfOk, Option, Some, None, Result, Ok, Err, refl, sym, take, true}
+use Rattle.std.proofs.Common.{◌≡◌, ◌≢◌, ◌⊎◌, ◌<◌, ◌+◌, ◌∙◌, ◌++◌, ◌∷◌, [], ℕ, Bool, false, true, List, ap, arith, get_or, inl, inr, length, map, IfOk, Option, Some, None, Result, Ok, Err, refl, sym, take}
 use Rattle.std.proofs.lemmas.List.{map-append, take_more}
-use Rattle.blob_digest.specs.Names.{IsRepoName}
+use Rattle.blob_digest.specs.Digests.{is_digest_text}
+use Rattle.blob_digest.specs.Keys.{Text}
+use Rattle.blob_digest.specs.NameMachine.{is_repo_name}
 use Rattle.blob_digest.specs.declared.refusal.Refusal.{Refusal}
-use Rattle.blob_digest.specs.declared.refusal.Refusal.TheVariants.{SizeInvalid, Memory}
+use Rattle.blob_digest.specs.declared.refusal.Refusal.TheVariants.{Memory}
 use Rattle.row_player.specs.Answers.{Answer, Refused}
-use Rattle.row_player.specs.Commands.{Calls, Request, Lease, Spells, HasDigest, HasSource, IsNoRange, uses_range, uses_repo}
+use Rattle.row_player.specs.Commands.{Calls, Command, Request, Lease, command_of, digest_in, repo_in}
 use Rattle.row_player.specs.Leases.{Leases, Lent}
 use Rattle.row_player.specs.Lines.{line_of}
-use Rattle.row_player.specs.Plays.{LendsWhereFree, Plays, RowStep, State, StoreStep, VerifiesLease, named}
+use Rattle.row_player.specs.Plays.{LendsWhereFree, Plays, RowStep, State, StepOf, VerifiesLease, named}
 use Rattle.row_player.specs.Rows.{Line}
 use Rattle.row_player.specs.declared.row.Row.{Row}
+use Rattle.row_player.specs.declared.row.Verb.TheVariants as verb
 
--- a row whose range is none is refused for it
-pub range_refused : {S : Type 0} (acts : S → Request → Answer → S → Type 0) (s t : S) (line : Line) (refusal : Refusal) → uses_repo line.verb ≡ true → IsRepoName line.repo → HasSource line → HasDigest line → uses_range line.verb ≡ true
-    → (refusal ≡ SizeInvalid) × IsNoRange line.range → t ≡ s → StoreStep acts s line (Refused refusal) t
-range_refused acts s t line refusal repo_named repo source digest uses why same = rw why.0 (inl ((repo_named, (SizeInvalid, (repo, source, digest, uses, why.1), refl)), same))
+-- a row that leases spells it where its repository and its digest are spelled
+pub lease_spelled : (line : Line) (repo digest : Text) → line.verb ≡ verb.Lease → repo_in line.repo ≡ Ok repo → digest_in line.digest ≡ Ok digest → command_of line ≡ Ok (Some (Lease line.repo line.digest))
+lease_spelled line repo digest is found known = by (is_repo_name line.repo) (is_digest_text line.digest) refl refl
+  where
+    by : (a b : Bool) → is_repo_name line.repo ≡ a → is_digest_text line.digest ≡ b → command_of line ≡ Ok (Some (Lease line.repo line.digest))
+    by true true name text = rw (is, name, text) refl
+    by true false name text = absurd (let h = rw text at known in cc)
+    by false b name text = absurd (let h = rw name at found in cc)
 
 -- a store refuses a lease, or memory is wanting
-pub lease_refused : {S : Type 0} (acts : S → Request → Answer → S → Type 0) (s t : S) (L M : Leases) (line : Line) (refusal : Refusal) → Spells line (Lease line.repo line.digest) → named L line ≡ None
+pub lease_refused : {S : Type 0} (acts : S → Request → Answer → S → Type 0) (s t : S) (L M : Leases) (line : Line) (refusal : Refusal) → command_of line ≡ Ok (Some (Lease line.repo line.digest)) → named L line ≡ None
     → M ≡ L → ((refusal ≡ Memory) × (t ≡ s)) ⊎ acts s (Calls (Lease line.repo line.digest)) (Refused refusal) t → ((refusal ≡ Memory) × ◌≡◌ {A = S × Leases} (t, M) (s, L)) ⊎ RowStep acts (s, L) line (Refused refusal) (t, M)
 lease_refused acts s t L M line refusal spells free same why = elim why [
   | inl memory ↦ inl (memory.0, λ i. (memory.1 i, same i))
@@ -71,12 +78,14 @@ module _ {S T : Type 0} (shown : S → T) (acts : T → Request → Answer → T
   verifies_through None old new answer h = (h.0, ap shown h.1)
   verifies_through (Some lease) old new answer h = h
 
-  store_through : (old new : S) (line : Line) (answer : Answer) → StoreStep through old line answer new → StoreStep acts (shown old) line answer (shown new)
-  store_through old new line answer step = elim step [ inl r ↦ inl (r.0, ap shown r.1) | inr d ↦ inr d ]
+  store_through : (o : Result (Option Command) Refusal) (old new : S) (answer : Answer) → StepOf through o old answer new → StepOf acts o (shown old) answer (shown new)
+  store_through (Ok (Some command)) old new answer h = h
+  store_through (Ok None) old new answer h = absurd h
+  store_through (Err refusal) old new answer h = (h.0, ap shown h.1)
 
   row_through : (old new : State S) (line : Line) (answer : Answer) → RowStep through old line answer new → RowStep acts (shows old) line answer (shows new)
   row_through old new line answer step = elim step [
-    | inl store ↦ inl (store_through old.0 new.0 line answer store.0, store.1)
+    | inl store ↦ inl (store_through (command_of line) old.0 new.0 answer store.0, store.1)
     | inr (inl lends) ↦ inr (inl (lends.0, lends_through (named old.1 line) old new line answer lends.1))
     | inr (inr (inl reads)) ↦ inr (inr (inl (reads.0, reads.1, ap shows reads.2)))
     | inr (inr (inr (inl shares))) ↦ inr (inr (inr (inl (shares.0, shares.1, ap shown shares.2))))

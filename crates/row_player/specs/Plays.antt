@@ -6,7 +6,7 @@ use Rattle.blob_digest.specs.Ranges.{range_of}
 use Rattle.blob_digest.specs.declared.refusal.Refusal.{Refusal}
 use Rattle.blob_digest.specs.declared.refusal.Refusal.TheVariants.{Memory, SizeInvalid, WeightSpent}
 use Rattle.row_player.specs.Answers.{Answer, answer_of, Leased, Bytes, Shared, GivenBack, NoLease, NameTaken, Refused}
-use Rattle.row_player.specs.Commands.{Command, Request, Calls, Verifies, Sweeps, IsMisspelt, Spells, is_lease, uses_repo, Lease}
+use Rattle.row_player.specs.Commands.{Command, Request, Calls, Verifies, Sweeps, command_of, is_lease, Lease}
 use Rattle.row_player.specs.Leases.{Lent, Leases, Name, between, halved, new_lease}
 use Rattle.row_player.specs.Rows.{Line}
 use Rattle.row_player.specs.declared.reply.Reply.{Reply}
@@ -29,14 +29,18 @@ named leases line = fmap.get leases (name_of line)
 
 -- ---- rows of the store
 
--- a row that names a repository is refused for a field that spells nothing
+-- a row is refused for a field that spells nothing
 abbrev pub IsRefused : Line → Answer → Type 0
-IsRefused line answer = (uses_repo line.verb ≡ true) × ((refusal : Refusal) × IsMisspelt line refusal × (answer ≡ Refused refusal))
+IsRefused line answer = (refusal : Refusal) × (command_of line ≡ Err refusal) × (answer ≡ Refused refusal)
 
--- a row is refused for a field that spells nothing, and changes nothing; or it does what the command does that it spells
+-- what a row does by the command that it spells: a refusal changes nothing, and a command that lends is a row's that lends
+abbrev pub StepOf : {S : Type 0} → (S → Request → Answer → S → Type 0) → Result (Option Command) Refusal → S → Answer → S → Type 0
+StepOf acts (Ok (Some command)) old answer new = (is_lease command ≡ false) × acts old (Calls command) answer new
+StepOf acts (Ok None) old answer new = ⊥
+StepOf acts (Err refusal) old answer new = (answer ≡ Refused refusal) × (new ≡ old)
+
 abbrev pub StoreStep : {S : Type 0} → (S → Request → Answer → S → Type 0) → S → Line → Answer → S → Type 0
-StoreStep acts old line answer new =
-    (IsRefused line answer × (new ≡ old)) ⊎ ((command : Command) × Spells line command × (is_lease command ≡ false) × acts old (Calls command) answer new)
+StoreStep acts old line answer new = StepOf acts (command_of line) old answer new
 
 -- leases stay as they are
 abbrev pub StoreRow : {S : Type 0} → (S → Request → Answer → S → Type 0) → State S → Line → Answer → State S → Type 0
@@ -60,7 +64,7 @@ LendsWhereFree acts (Some lease) old line answer new = (answer ≡ NameTaken) ×
 LendsWhereFree acts None old line answer new = Lends acts old line answer new
 
 abbrev pub LeaseRow : {S : Type 0} → (S → Request → Answer → S → Type 0) → State S → Line → Answer → State S → Type 0
-LeaseRow acts old line answer new = Spells line (Lease line.repo line.digest) × LendsWhereFree acts (named old.1 line) old line answer new
+LeaseRow acts old line answer new = (command_of line ≡ Ok (Some (Lease line.repo line.digest))) × LendsWhereFree acts (named old.1 line) old line answer new
 
 -- ---- rows of a lease
 

@@ -1,7 +1,8 @@
 //! Plays the rows of a script.
 ghost use Rattle.std.specs.Prelude.{◌≡◌, ◌≢◌, ◌⊎◌, ◌++◌, ◌∷◌, [], ◌≤◌, ◌<◌, ◌^◌, true, Some, None, IfOk, IfErr, OnOk, MatchResult, IsTrue, ◌↔◌, length, map, vec_capacity, vec_len};
+ghost use Rattle.blob_digest.specs.Outcomes.{Answers};
 ghost use Rattle.row_player.specs.Answers.{answer_of, answers_of, Refused};
-ghost use Rattle.row_player.specs.Commands.{IsDigest, IsNoRange, IsNoSource, SpellsRange, SpellsSource, uses_session};
+ghost use Rattle.row_player.specs.Commands.{digest_in, range_in, repo_in, source_in, uses_session};
 ghost use Rattle.row_player.specs.Leases.{Leases as Held, none};
 ghost use Rattle.row_player.specs.Lines.{line_of};
 ghost use Rattle.row_player.specs.Plays.{AnswersCall, AnswersRead, AnswersRow, Plays, RowStep, piece_of};
@@ -19,17 +20,24 @@ use crate::worker::Worker;
 use blob_digest::{ByteRange, Digest, Refusal, RepoName};
 use std::alloc::Global;
 
+/// The repository that a field spells.
+fn repo_in(alloc: Global, text: &[u8]) -> Result<RepoName, Refusal>
+    ensures { Answers (λ r. r) result (repo_in text.now) }
+{
+    RepoName::parse(alloc, text)
+}
+
 /// The digest that a field spells.
-#[tactic(auto, unfolding(crate::specs::Commands::IsDigest))]
 fn digest_in(text: &[u8]) -> Result<Digest, Refusal>
-    ensures { MatchResult result (λ d. (d ≡ text.now) × IsDigest text.now) (λ e. (e ≡ Refusal.DigestInvalid) × ¬ IsDigest text.now) }
+    ensures { result ≡ digest_in text.now }
 {
     Digest::parse(text)
 }
 
 /// The range that a field spells, which is none where the field is empty.
+#[tactic(auto, using(crate::proofs::FieldTexts::range_ok, crate::proofs::FieldTexts::range_bad))]
 fn range_in(text: &[u8]) -> Result<Option<ByteRange>, Refusal>
-    ensures { MatchResult result (λ r. SpellsRange text.now r) (λ e. (e ≡ Refusal.SizeInvalid) × IsNoRange text.now) }
+    ensures { result ≡ range_in text.now }
 {
     if text.is_empty() {
         return Ok(None);
@@ -39,8 +47,9 @@ fn range_in(text: &[u8]) -> Result<Option<ByteRange>, Refusal>
 }
 
 /// The source that a field spells, which is none where the field is empty.
+#[tactic(auto, using(crate::proofs::FieldTexts::source_ok, crate::proofs::FieldTexts::source_bad))]
 fn source_in(alloc: Global, text: &[u8]) -> Result<Option<RepoName>, Refusal>
-    ensures { MatchResult result (λ from. SpellsSource text.now from) (λ e. (e ≡ Refusal.Memory) ⊎ ((e ≡ Refusal.NameInvalid) × IsNoSource text.now)) }
+    ensures { Answers (λ r. r) result (source_in text.now) }
 {
     if text.is_empty() {
         return Ok(None);
@@ -65,7 +74,7 @@ fn play_start<B: Backend>(alloc: Global, backend: &mut B, row: &Row) -> Result<R
     requires { row.now.verb ≡ Verb.Start }
     ensures { AnswersCall B.acts backend.old (line_of row.now) result backend.new }
 {
-    let repo = RepoName::parse(alloc, row.repo.as_slice())?;
+    let repo = repo_in(alloc, row.repo.as_slice())?;
     let number = backend.start(&repo)?;
     Ok(Reply::Session(number))
 }
@@ -75,7 +84,7 @@ fn play_status<B: Backend>(alloc: Global, backend: &mut B, row: &Row) -> Result<
     requires { row.now.verb ≡ Verb.Status }
     ensures { AnswersCall B.acts backend.old (line_of row.now) result backend.new }
 {
-    let repo = RepoName::parse(alloc, row.repo.as_slice())?;
+    let repo = repo_in(alloc, row.repo.as_slice())?;
     let number = number_in(row);
     let length = backend.status(&repo, number)?;
     Ok(Reply::Received(length))
@@ -86,7 +95,7 @@ fn play_append<B: Backend>(alloc: Global, backend: &mut B, row: &Row) -> Result<
     requires { row.now.verb ≡ Verb.Append }
     ensures { AnswersCall B.acts backend.old (line_of row.now) result backend.new }
 {
-    let repo = RepoName::parse(alloc, row.repo.as_slice())?;
+    let repo = repo_in(alloc, row.repo.as_slice())?;
     let range = range_in(row.range.as_slice())?;
     let number = number_in(row);
     let length = backend.append(&repo, number, range, row.body.as_slice())?;
@@ -98,7 +107,7 @@ fn play_close<B: Backend>(alloc: Global, backend: &mut B, row: &Row) -> Result<R
     requires { row.now.verb ≡ Verb.Close }
     ensures { AnswersCall B.acts backend.old (line_of row.now) result backend.new }
 {
-    let repo = RepoName::parse(alloc, row.repo.as_slice())?;
+    let repo = repo_in(alloc, row.repo.as_slice())?;
     let digest = digest_in(row.digest.as_slice())?;
     let range = range_in(row.range.as_slice())?;
     let number = number_in(row);
@@ -111,7 +120,7 @@ fn play_abandon<B: Backend>(alloc: Global, backend: &mut B, row: &Row) -> Result
     requires { row.now.verb ≡ Verb.Abandon }
     ensures { AnswersCall B.acts backend.old (line_of row.now) result backend.new }
 {
-    let repo = RepoName::parse(alloc, row.repo.as_slice())?;
+    let repo = repo_in(alloc, row.repo.as_slice())?;
     let number = number_in(row);
     backend.abandon(&repo, number)?;
     Ok(Reply::Abandoned)
@@ -122,7 +131,7 @@ fn play_mount<B: Backend>(alloc: Global, backend: &mut B, row: &Row) -> Result<R
     requires { row.now.verb ≡ Verb.Mount }
     ensures { AnswersCall B.acts backend.old (line_of row.now) result backend.new }
 {
-    let repo = RepoName::parse(alloc, row.repo.as_slice())?;
+    let repo = repo_in(alloc, row.repo.as_slice())?;
     let from = source_in(alloc, row.key.as_slice())?;
     let digest = digest_in(row.digest.as_slice())?;
     let mount = backend.mount(&repo, &digest, from.as_ref())?;
@@ -134,7 +143,7 @@ fn play_delete<B: Backend>(alloc: Global, backend: &mut B, row: &Row) -> Result<
     requires { row.now.verb ≡ Verb.Delete }
     ensures { AnswersCall B.acts backend.old (line_of row.now) result backend.new }
 {
-    let repo = RepoName::parse(alloc, row.repo.as_slice())?;
+    let repo = repo_in(alloc, row.repo.as_slice())?;
     let digest = digest_in(row.digest.as_slice())?;
     backend.delete(&repo, &digest)?;
     Ok(Reply::Deleted)
@@ -149,7 +158,7 @@ fn play_put_manifest<B: Backend>(
     requires { row.now.verb ≡ Verb.PutManifest }
     ensures { AnswersCall B.acts backend.old (line_of row.now) result backend.new }
 {
-    let repo = RepoName::parse(alloc, row.repo.as_slice())?;
+    let repo = repo_in(alloc, row.repo.as_slice())?;
     let digest = backend.put_manifest(&repo, row.body.as_slice())?;
     Ok(Reply::Manifest(digest))
 }
@@ -163,7 +172,7 @@ fn play_get_manifest<B: Backend>(
     requires { row.now.verb ≡ Verb.GetManifest }
     ensures { AnswersCall B.acts backend.old (line_of row.now) result backend.new }
 {
-    let repo = RepoName::parse(alloc, row.repo.as_slice())?;
+    let repo = repo_in(alloc, row.repo.as_slice())?;
     let digest = digest_in(row.digest.as_slice())?;
     let manifest = backend.get_manifest(&repo, &digest)?;
     Ok(Reply::Body(manifest))
@@ -178,7 +187,7 @@ fn play_delete_manifest<B: Backend>(
     requires { row.now.verb ≡ Verb.DeleteManifest }
     ensures { AnswersCall B.acts backend.old (line_of row.now) result backend.new }
 {
-    let repo = RepoName::parse(alloc, row.repo.as_slice())?;
+    let repo = repo_in(alloc, row.repo.as_slice())?;
     let digest = digest_in(row.digest.as_slice())?;
     backend.delete_manifest(&repo, &digest)?;
     Ok(Reply::Deleted)
@@ -195,7 +204,7 @@ fn play_lease<'r, B: Backend>(
     requires { row.now.verb ≡ Verb.Lease }
     ensures { AnswersRow B.acts (backend.old, leases.old) (line_of row.now) result (backend.new, leases.new) }
 {
-    let repo = RepoName::parse(alloc, row.repo.as_slice())?;
+    let repo = repo_in(alloc, row.repo.as_slice())?;
     let digest = digest_in(row.digest.as_slice())?;
     let name = (row.lane, row.key.as_slice());
     if leases.get(name).is_some() {
