@@ -1,50 +1,31 @@
 -- What is played on counts what the rows come to.
-use Rattle.std.proofs.Common.{◌≡◌, ◌+◌, ◌∙◌, ◌∷◌, [], ℕ, List, true, false, ap, arith, inl, inr, length, Option, Some, None, Result, Ok, Err, refl, subst, sym}
+use Rattle.std.proofs.Common.{◌≡◌, ◌+◌, ◌∙◌, ◌∷◌, [], ℕ, List, false, ap, arith, inl, inr, length, Option, Some, None, Result, Ok, Err, refl, subst, sym}
 use Rattle.std.specs.List.{zip}
-use Rattle.std.proofs.lemmas.Bool.{cases_Bool, false≢true}
 use Rattle.std.proofs.lemmas.List.Sums.{sum_by-cons}
 use Rattle.blob_digest.specs.Keys.{Text}
 use Rattle.blob_digest.specs.declared.refusal.Refusal.{Refusal}
 use Rattle.row_player.specs.Answers.{Answer, Bytes, Leased, Refused}
-use Rattle.row_player.specs.Commands.{Command, Lease, Request, Calls, Verifies, Sweeps, command_of, uses_repo}
+use Rattle.row_player.specs.Commands.{Command, Lease, Request, Calls, Verifies, Sweeps, command_of}
 use Rattle.row_player.specs.Counts.{abandoned_of, chunk_of, closed_of, counted, counted_abandons, counted_bytes, counted_closed, counted_commands, is_accepted, request_amount, row_amount, spelled_amount}
 use Rattle.row_player.specs.Leases.{Lent}
 use Rattle.row_player.specs.Plays.{LendsWhereFree, Plays, RowStep, State, StepOf, VerifiesLease, named}
-use Rattle.row_player.specs.Rows.{Line}
-use Rattle.row_player.specs.declared.row.Verb.{Verb}
-use Rattle.row_player.specs.declared.row.Verb.TheVariants as verb
-
--- a row of a lease that its lane has, and a sweep, spell no command
-pub spells_none : (line : Line) (v : Verb) → line.verb ≡ v → uses_repo v ≡ false → command_of line ≡ Ok None
-spells_none line verb.Read is none = rw is refl
-spells_none line verb.Share is none = rw is refl
-spells_none line verb.Verify is none = rw is refl
-spells_none line verb.GiveBack is none = rw is refl
-spells_none line verb.Sweep is none = rw is refl
-spells_none line _ is none = absurd (false≢true (sym none))
-
--- a row that spells a command names a repository
-pub names_repo : (line : Line) (command : Command) → command_of line ≡ Ok (Some command) → uses_repo line.verb ≡ true
-names_repo line command spells = elim (cases_Bool (uses_repo line.verb)) [
-  | inl uses ↦ uses
-  | inr none ↦ absurd (let h = sym spells ∙ spells_none line line.verb refl none in cc)
-]
+use Rattle.row_player.specs.Rows.{RowView}
 
 -- What a store counts goes from one number to another by an amount: `Goes` has it so for no amount, and for the sum of two.
 module _ (Goes : ℕ → ℕ → ℕ → Type 0) (stays : (a b : ℕ) → b ≡ a → Goes a 0 b) (both : (a x b y c : ℕ) → Goes a x b → Goes b y c → Goes a (x + y) c) where
   module _ (value : Command → Answer → ℕ) (lent : (repo digest bytes : Text) → value (Lease repo digest) (Bytes bytes) ≡ value (Lease repo digest) (Leased (length bytes))) where
     -- a row comes to what its command comes to, and so does a lease, whose bytes the row tells the length of
-    command_amount : (line : Line) (command : Command) (answer : Answer) → command_of line ≡ Ok (Some command) → request_amount value (Calls command) answer ≡ row_amount value (line, answer)
+    command_amount : (line : RowView) (command : Command) (answer : Answer) → command_of line ≡ Ok (Some command) → request_amount value (Calls command) answer ≡ row_amount value (line, answer)
     command_amount line command answer spells = rw spells refl
 
-    lease_amount : (line : Line) (bytes : Text) → command_of line ≡ Ok (Some (Lease line.repo line.digest)) → request_amount value (Calls (Lease line.repo line.digest)) (Bytes bytes) ≡ row_amount value (line, Leased (length bytes))
+    lease_amount : (line : RowView) (bytes : Text) → command_of line ≡ Ok (Some (Lease line.repo line.digest)) → request_amount value (Calls (Lease line.repo line.digest)) (Bytes bytes) ≡ row_amount value (line, Leased (length bytes))
     lease_amount line bytes spells = rw spells (lent line.repo line.digest bytes)
 
     -- a row that spells no command, or that is not accepted, comes to nothing
-    no_command : (line : Line) (answer : Answer) → command_of line ≡ Ok None → row_amount value (line, answer) ≡ 0
+    no_command : (line : RowView) (answer : Answer) → command_of line ≡ Ok None → row_amount value (line, answer) ≡ 0
     no_command line answer none = rw none refl
 
-    not_accepted : (line : Line) (answer : Answer) → is_accepted answer ≡ false → row_amount value (line, answer) ≡ 0
+    not_accepted : (line : RowView) (answer : Answer) → is_accepted answer ≡ false → row_amount value (line, answer) ≡ 0
     not_accepted line answer none = by (command_of line)
       where
         by : (o : Result (Option Command) Refusal) → spelled_amount value o answer ≡ 0
@@ -53,35 +34,35 @@ module _ (Goes : ℕ → ℕ → ℕ → Type 0) (stays : (a b : ℕ) → b ≡ 
         by (Err refusal) = refl
 
     module _ {S : Type 0} (acts : S → Request → Answer → S → Type 0) (count : S → ℕ) (counts : (s : S) (request : Request) (answer : Answer) (t : S) → acts s request answer t → Goes (count s) (request_amount value request answer) (count t)) where
-      abbrev Counts : S → Line × Answer → S → Type 0
+      abbrev Counts : S → RowView × Answer → S → Type 0
       Counts s p t = Goes (count s) (row_amount value p) (count t)
 
-      unchanged : (s t : S) (p : Line × Answer) → t ≡ s → row_amount value p ≡ 0 → Counts s p t
+      unchanged : (s t : S) (p : RowView × Answer) → t ≡ s → row_amount value p ≡ 0 → Counts s p t
       unchanged s t p same none = subst (λ n. Goes (count s) n (count t)) (sym none) (stays (count s) (count t) (ap count same))
 
-      asked : (s t : S) (request : Request) (given answer : Answer) (line : Line) → acts s request given t → request_amount value request given ≡ row_amount value (line, answer) → Counts s (line, answer) t
+      asked : (s t : S) (request : Request) (given answer : Answer) (line : RowView) → acts s request given t → request_amount value request given ≡ row_amount value (line, answer) → Counts s (line, answer) t
       asked s t request given answer line does same = subst (λ n. Goes (count s) n (count t)) same (counts s request given t does)
 
-      lends_counted : (o : Option Lent) (old new : State S) (line : Line) (answer : Answer) → command_of line ≡ Ok (Some (Lease line.repo line.digest)) → LendsWhereFree acts o old line answer new → Counts old.0 (line, answer) new.0
+      lends_counted : (o : Option Lent) (old new : State S) (line : RowView) (answer : Answer) → command_of line ≡ Ok (Some (Lease line.repo line.digest)) → LendsWhereFree acts o old line answer new → Counts old.0 (line, answer) new.0
       lends_counted (Some lease) old new line answer spells h = unchanged old.0 new.0 (line, answer) (ap (λ s. s.0) h.1) (not_accepted line answer (ap is_accepted h.0))
       lends_counted None old new line answer spells h = elim h [
         | inl lends ↦ rw lends.2 (asked old.0 new.0 (Calls (Lease line.repo line.digest)) (Bytes lends.0) (Leased (length lends.0)) line lends.1 (lease_amount line lends.0 spells))
         | inr refused ↦ rw refused.2 (asked old.0 new.0 (Calls (Lease line.repo line.digest)) (Refused refused.0) (Refused refused.0) line refused.1 (command_amount line (Lease line.repo line.digest) (Refused refused.0) spells))
       ]
 
-      verifies_counted : (o : Option Lent) (old new : S) (line : Line) (answer : Answer) → command_of line ≡ Ok None → VerifiesLease acts o old answer new → Counts old (line, answer) new
+      verifies_counted : (o : Option Lent) (old new : S) (line : RowView) (answer : Answer) → command_of line ≡ Ok None → VerifiesLease acts o old answer new → Counts old (line, answer) new
       verifies_counted None old new line answer none h = unchanged old new (line, answer) h.1 (no_command line answer none)
       verifies_counted (Some lease) old new line answer none h = asked old new (Verifies (length lease.bytes)) answer answer line h (sym (no_command line answer none))
 
-      store_counted : (o : Result (Option Command) Refusal) (old new : S) (line : Line) (answer : Answer) → command_of line ≡ o → StepOf acts o old answer new → Counts old (line, answer) new
+      store_counted : (o : Result (Option Command) Refusal) (old new : S) (line : RowView) (answer : Answer) → command_of line ≡ o → StepOf acts o old answer new → Counts old (line, answer) new
       store_counted (Ok (Some command)) old new line answer is h = asked old new (Calls command) answer answer line h.1 (command_amount line command answer is)
       store_counted (Ok None) old new line answer is h = absurd h
       store_counted (Err refusal) old new line answer is h = unchanged old new (line, answer) h.1 (not_accepted line answer (ap is_accepted h.0))
 
-      row_counted : (old new : State S) (line : Line) (answer : Answer) → RowStep acts old line answer new → Counts old.0 (line, answer) new.0
+      row_counted : (old new : State S) (line : RowView) (answer : Answer) → RowStep acts old line answer new → Counts old.0 (line, answer) new.0
       row_counted old new line answer step = elim step [
         | inl store ↦ store_counted (command_of line) old.0 new.0 line answer refl store.0
-        | inr (inl lends) ↦ lends_counted (named old.1 line) old new line answer lends.0 lends.1
+        | inr (inl lends) ↦ lends_counted (named old.1 line) old new line answer lends.1 lends.2
         | inr (inr (inl reads)) ↦ unchanged old.0 new.0 (line, answer) (ap (λ s. s.0) reads.2) (no_command line answer (rw reads.0 refl))
         | inr (inr (inr (inl shares))) ↦ unchanged old.0 new.0 (line, answer) shares.2 (no_command line answer (rw shares.0 refl))
         | inr (inr (inr (inr (inl looks)))) ↦ verifies_counted (named old.1 line) old.0 new.0 line answer (rw looks.0 refl) looks.1
@@ -89,7 +70,7 @@ module _ (Goes : ℕ → ℕ → ℕ → Type 0) (stays : (a b : ℕ) → b ≡ 
         | inr (inr (inr (inr (inr (inr sweeps))))) ↦ asked old.0 new.0 Sweeps answer answer line sweeps.1 (sym (no_command line answer (rw sweeps.0 refl)))
       ]
 
-      plays_counted : (old new : State S) (lines : List Line) (answers : List Answer) → Plays acts old lines answers new → Goes (count old.0) (counted value lines answers) (count new.0)
+      plays_counted : (old new : State S) (lines : List RowView) (answers : List Answer) → Plays acts old lines answers new → Goes (count old.0) (counted value lines answers) (count new.0)
       plays_counted old new [] [] h = stays (count old.0) (count new.0) (ap (λ (s : State S). count s.0) h)
       plays_counted old new [] (r ∷ rs) h = absurd h
       plays_counted old new (l ∷ ls) [] h = absurd h
@@ -121,20 +102,20 @@ changes_both a x b y c first second = λ none. second (omega (arith, none)) ∙ 
 module _ {S : Type 0} (acts : S → Request → Answer → S → Type 0) (count : S → ℕ) where
   -- What counts each accepted command once, and nothing else, has counted the accepted commands among the rows that were played.
   pub commands_counted : ((s : S) (request : Request) (answer : Answer) (t : S) → acts s request answer t → count t ≡ count s + request_amount (λ _ _. 1) request answer)
-      → (old new : State S) (lines : List Line) (answers : List Answer) → Plays acts old lines answers new → count new.0 ≡ count old.0 + counted_commands lines answers
+      → (old new : State S) (lines : List RowView) (answers : List Answer) → Plays acts old lines answers new → count new.0 ≡ count old.0 + counted_commands lines answers
   commands_counted counts = plays_counted Adds adds_none adds_both (λ _ _. 1) (λ _ _ _. refl) acts count counts
 
   -- What counts the bytes of each accepted chunk, and nothing else, has counted those of the rows that were played.
   pub bytes_counted : ((s : S) (request : Request) (answer : Answer) (t : S) → acts s request answer t → count t ≡ count s + request_amount (λ command _. chunk_of command) request answer)
-      → (old new : State S) (lines : List Line) (answers : List Answer) → Plays acts old lines answers new → count new.0 ≡ count old.0 + counted_bytes lines answers
+      → (old new : State S) (lines : List RowView) (answers : List Answer) → Plays acts old lines answers new → count new.0 ≡ count old.0 + counted_bytes lines answers
   bytes_counted counts = plays_counted Adds adds_none adds_both (λ command _. chunk_of command) (λ _ _ _. refl) acts count counts
 
   -- What counts the size of each accepted close, and nothing else, has counted those of the rows that were played.
   pub closed_counted : ((s : S) (request : Request) (answer : Answer) (t : S) → acts s request answer t → count t ≡ count s + request_amount closed_of request answer)
-      → (old new : State S) (lines : List Line) (answers : List Answer) → Plays acts old lines answers new → count new.0 ≡ count old.0 + counted_closed lines answers
+      → (old new : State S) (lines : List RowView) (answers : List Answer) → Plays acts old lines answers new → count new.0 ≡ count old.0 + counted_closed lines answers
   closed_counted counts = plays_counted Adds adds_none adds_both closed_of (λ _ _ _. refl) acts count counts
 
   -- What changes by accepted abandons alone is the same where no row gave a session up.
   pub abandoned_counted : ((s : S) (request : Request) (answer : Answer) (t : S) → acts s request answer t → request_amount (λ command _. abandoned_of command) request answer ≡ 0 → count t ≡ count s)
-      → (old new : State S) (lines : List Line) (answers : List Answer) → Plays acts old lines answers new → counted_abandons lines answers ≡ 0 → count new.0 ≡ count old.0
+      → (old new : State S) (lines : List RowView) (answers : List Answer) → Plays acts old lines answers new → counted_abandons lines answers ≡ 0 → count new.0 ≡ count old.0
   abandoned_counted counts = plays_counted ChangesBy changes_none changes_both (λ command _. abandoned_of command) (λ _ _ _. refl) acts count counts

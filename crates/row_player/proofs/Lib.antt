@@ -5,4 +5,5 @@ pub mod LeaseTables
 pub mod Orders
 pub mod Partitions
 pub mod PlayedRows
+pub mod Spellings
 pub mod WorkerRows

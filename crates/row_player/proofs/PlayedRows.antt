@@ -1,35 +1,23 @@
 -- Rows that are played.
-use Rattle.std.proofs.Common.{◌≡◌, ◌≢◌, ◌⊎◌, ◌<◌, ◌+◌, ◌∙◌, ◌++◌, ◌∷◌, [], ℕ, Bool, false, true, List, ap, arith, get_or, inl, inr, length, map, IfOk, Option, Some, None, Result, Ok, Err, refl, sym, take}
+use Rattle.std.proofs.Common.{◌≡◌, ◌≢◌, ◌⊎◌, ◌<◌, ◌+◌, ◌∙◌, ◌++◌, ◌∷◌, [], ℕ, List, ap, arith, get_or, inl, inr, length, map, IfOk, Option, Some, None, Result, Ok, Err, refl, sym, take}
 use Rattle.std.proofs.lemmas.List.{map-append, take_more}
-use Rattle.blob_digest.specs.Digests.{is_digest_text}
-use Rattle.blob_digest.specs.Keys.{Text}
-use Rattle.blob_digest.specs.NameMachine.{is_repo_name}
 use Rattle.blob_digest.specs.declared.refusal.Refusal.{Refusal}
 use Rattle.blob_digest.specs.declared.refusal.Refusal.TheVariants.{Memory}
 use Rattle.row_player.specs.Answers.{Answer, Refused}
-use Rattle.row_player.specs.Commands.{Calls, Command, Request, Lease, command_of, digest_in, repo_in}
+use Rattle.row_player.specs.Commands.{Calls, Command, Request, Lease, command_of}
 use Rattle.row_player.specs.Leases.{Leases, Lent}
-use Rattle.row_player.specs.Lines.{line_of}
+use Rattle.row_player.specs.RowViews.{row_view}
 use Rattle.row_player.specs.Plays.{LendsWhereFree, Plays, RowStep, State, StepOf, VerifiesLease, named}
-use Rattle.row_player.specs.Rows.{Line}
+use Rattle.row_player.specs.Rows.{RowView}
 use Rattle.row_player.specs.declared.row.Row.{Row}
 use Rattle.row_player.specs.declared.row.Verb.TheVariants as verb
 
--- a row that leases spells it where its repository and its digest are spelled
-pub lease_spelled : (line : Line) (repo digest : Text) → line.verb ≡ verb.Lease → repo_in line.repo ≡ Ok repo → digest_in line.digest ≡ Ok digest → command_of line ≡ Ok (Some (Lease line.repo line.digest))
-lease_spelled line repo digest is found known = by (is_repo_name line.repo) (is_digest_text line.digest) refl refl
-  where
-    by : (a b : Bool) → is_repo_name line.repo ≡ a → is_digest_text line.digest ≡ b → command_of line ≡ Ok (Some (Lease line.repo line.digest))
-    by true true name text = rw (is, name, text) refl
-    by true false name text = absurd (let h = rw text at known in cc)
-    by false b name text = absurd (let h = rw name at found in cc)
-
 -- a store refuses a lease, or memory is wanting
-pub lease_refused : {S : Type 0} (acts : S → Request → Answer → S → Type 0) (s t : S) (L M : Leases) (line : Line) (refusal : Refusal) → command_of line ≡ Ok (Some (Lease line.repo line.digest)) → named L line ≡ None
+pub lease_refused : {S : Type 0} (acts : S → Request → Answer → S → Type 0) (s t : S) (L M : Leases) (line : RowView) (refusal : Refusal) → line.verb ≡ verb.Lease → command_of line ≡ Ok (Some (Lease line.repo line.digest)) → named L line ≡ None
     → M ≡ L → ((refusal ≡ Memory) × (t ≡ s)) ⊎ acts s (Calls (Lease line.repo line.digest)) (Refused refusal) t → ((refusal ≡ Memory) × ◌≡◌ {A = S × Leases} (t, M) (s, L)) ⊎ RowStep acts (s, L) line (Refused refusal) (t, M)
-lease_refused acts s t L M line refusal spells free same why = elim why [
+lease_refused acts s t L M line refusal is spells free same why = elim why [
   | inl memory ↦ inl (memory.0, λ i. (memory.1 i, same i))
-  | inr does ↦ inr (inr (inl (spells, rw free (inr (refusal, does, refl, same)))))
+  | inr does ↦ inr (inr (inl (is, spells, rw free (inr (refusal, does, refl, same)))))
 ]
 
 -- what is left of a run that went well
@@ -38,7 +26,7 @@ some_left P (Ok x) b h = (b, h)
 some_left P (Err e) b h = tt
 
 -- one row more is played
-pub one_played : {S : Type 0} (acts : S → Request → Answer → S → Type 0) (old mid new : State S) (lines : List Line) (answers : List Answer) (line : Line) (answer : Answer)
+pub one_played : {S : Type 0} (acts : S → Request → Answer → S → Type 0) (old mid new : State S) (lines : List RowView) (answers : List Answer) (line : RowView) (answer : Answer)
     → Plays acts old lines answers mid → RowStep acts mid line answer new → answer ≢ Refused Memory → Plays acts old (lines ++ line ∷ []) (answers ++ answer ∷ []) new
 one_played acts old mid new [] [] line answer before here not_memory = (new, rw (← before) here, not_memory, refl)
 one_played acts old mid new [] (r ∷ rs) line answer before here not_memory = absurd before
@@ -47,7 +35,7 @@ one_played acts old mid new (l ∷ ls) (r ∷ rs) line answer before here not_me
     (before.0, before.1, before.2, one_played acts before.0 mid new ls rs line answer before.3 here not_memory)
 
 -- each row has one answer
-pub one_each : {S : Type 0} (acts : S → Request → Answer → S → Type 0) (old new : State S) (lines : List Line) (answers : List Answer) → Plays acts old lines answers new → length answers ≡ length lines
+pub one_each : {S : Type 0} (acts : S → Request → Answer → S → Type 0) (old new : State S) (lines : List RowView) (answers : List Answer) → Plays acts old lines answers new → length answers ≡ length lines
 one_each acts old new [] [] h = refl
 one_each acts old new [] (r ∷ rs) h = absurd h
 one_each acts old new (l ∷ ls) [] h = absurd h
@@ -55,11 +43,11 @@ one_each acts old new (l ∷ ls) (r ∷ rs) h = let rest = one_each acts h.0 new
 
 -- the rows so far, and one more
 pub lines_more : (rows : List Row) (i : ℕ) (row : Row) → i < length rows → row ≡ get_or rows i row
-    → map line_of (take (i + 1) rows) ≡ map line_of (take i rows) ++ line_of row ∷ []
+    → map row_view (take (i + 1) rows) ≡ map row_view (take i rows) ++ row_view row ∷ []
 lines_more rows i row within is =
-    ap (map line_of) (take_more rows i row within)
-    ∙ map-append line_of (take i rows) (get_or rows i row ∷ [])
-    ∙ ap (λ r. map line_of (take i rows) ++ line_of r ∷ []) (sym is)
+    ap (map row_view) (take_more rows i row within)
+    ∙ map-append row_view (take i rows) (get_or rows i row ∷ [])
+    ∙ ap (λ r. map row_view (take i rows) ++ row_view r ∷ []) (sym is)
 
 -- ---- what is played on may show less of itself
 
@@ -70,7 +58,7 @@ module _ {S T : Type 0} (shown : S → T) (acts : T → Request → Answer → T
   abbrev shows : State S → State T
   shows s = (shown s.0, s.1)
 
-  lends_through : (o : Option Lent) (old new : State S) (line : Line) (answer : Answer) → LendsWhereFree through o old line answer new → LendsWhereFree acts o (shows old) line answer (shows new)
+  lends_through : (o : Option Lent) (old new : State S) (line : RowView) (answer : Answer) → LendsWhereFree through o old line answer new → LendsWhereFree acts o (shows old) line answer (shows new)
   lends_through (Some lease) old new line answer h = (h.0, ap shows h.1)
   lends_through None old new line answer h = h
 
@@ -83,10 +71,10 @@ module _ {S T : Type 0} (shown : S → T) (acts : T → Request → Answer → T
   store_through (Ok None) old new answer h = absurd h
   store_through (Err refusal) old new answer h = (h.0, ap shown h.1)
 
-  row_through : (old new : State S) (line : Line) (answer : Answer) → RowStep through old line answer new → RowStep acts (shows old) line answer (shows new)
+  row_through : (old new : State S) (line : RowView) (answer : Answer) → RowStep through old line answer new → RowStep acts (shows old) line answer (shows new)
   row_through old new line answer step = elim step [
     | inl store ↦ inl (store_through (command_of line) old.0 new.0 answer store.0, store.1)
-    | inr (inl lends) ↦ inr (inl (lends.0, lends_through (named old.1 line) old new line answer lends.1))
+    | inr (inl lends) ↦ inr (inl (lends.0, lends.1, lends_through (named old.1 line) old new line answer lends.2))
     | inr (inr (inl reads)) ↦ inr (inr (inl (reads.0, reads.1, ap shows reads.2)))
     | inr (inr (inr (inl shares))) ↦ inr (inr (inr (inl (shares.0, shares.1, ap shown shares.2))))
     | inr (inr (inr (inr (inl looks)))) ↦ inr (inr (inr (inr (inl (looks.0, verifies_through (named old.1 line) old.0 new.0 answer looks.1, looks.2)))))
@@ -94,7 +82,7 @@ module _ {S T : Type 0} (shown : S → T) (acts : T → Request → Answer → T
     | inr (inr (inr (inr (inr (inr sweeps))))) ↦ inr (inr (inr (inr (inr (inr sweeps)))))
   ]
 
-  pub plays_through : (old new : State S) (lines : List Line) (answers : List Answer) → Plays through old lines answers new → Plays acts (shows old) lines answers (shows new)
+  pub plays_through : (old new : State S) (lines : List RowView) (answers : List Answer) → Plays through old lines answers new → Plays acts (shows old) lines answers (shows new)
   plays_through old new [] [] h = ap shows h
   plays_through old new [] (r ∷ rs) h = absurd h
   plays_through old new (l ∷ ls) [] h = absurd h

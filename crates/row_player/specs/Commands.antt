@@ -12,7 +12,7 @@ use Rattle.blob_digest.specs.declared.range.ByteRange.{ByteRange}
 use Rattle.blob_digest.specs.declared.refusal.Refusal.{Refusal}
 use Rattle.blob_digest.specs.declared.refusal.Refusal.TheVariants.{NameInvalid, DigestInvalid, SizeInvalid}
 pub use Rattle.store_book.specs.Runs.{Command, Start, Status, Append, Close, Abandon, Mount, Delete, PutManifest, GetManifest, DeleteManifest, Lease}
-use Rattle.row_player.specs.Rows.{Line, session_number}
+use Rattle.row_player.specs.Rows.{RowView, session_number}
 use Rattle.row_player.specs.declared.row.Verb.{Verb}
 use Rattle.row_player.specs.declared.row.Verb.TheVariants as verb
 
@@ -121,10 +121,10 @@ command _ repo from digest range number body = None
 
 -- The command that a row spells, or the refusal of the first of its fields, in this order, that spells nothing. A row of a lease that its
 -- lane has, and a sweep, spell none, and are not refused here.
-abbrev pub command_of : Line → Result (Option Command) Refusal
-command_of line = do
-  repo ← where_used (uses_repo line.verb) [] (repo_in line.repo)
-  from ← where_used (uses_source line.verb) None (source_in line.key)
-  digest ← where_used (uses_digest line.verb) [] (digest_in line.digest)
-  range ← where_used (uses_range line.verb) None (range_in line.range)
-  Ok (command line.verb repo from digest range (session_number line.key) line.body)
+abbrev pub command_of : RowView → Result (Option Command) Refusal
+command_of row = do
+  repo ← where_used (uses_repo row.verb) [] (repo_in row.repo)
+  from ← where_used (uses_source row.verb) None (source_in row.key)
+  digest ← where_used (uses_digest row.verb) [] (digest_in row.digest)
+  range ← where_used (uses_range row.verb) None (range_in row.range)
+  Ok (command row.verb repo from digest range (session_number row.key) row.body)

@@ -4,7 +4,7 @@ use Rattle.std.specs.List.{sum_by, zip}
 use Rattle.blob_digest.specs.declared.refusal.Refusal.{Refusal}
 use Rattle.row_player.specs.Answers.{Answer, NoLease, NameTaken, Refused, Stored}
 use Rattle.row_player.specs.Commands.{Command, Abandon, Append, Close, Request, Calls, command_of}
-use Rattle.row_player.specs.Rows.{Line}
+use Rattle.row_player.specs.Rows.{RowView}
 
 -- whether this answer accepts what was asked
 abbrev pub is_accepted : Answer → Bool
@@ -49,25 +49,25 @@ spelled_amount value (Ok (Some command)) answer = request_amount value (Calls co
 spelled_amount value (Ok None) answer = 0
 spelled_amount value (Err refusal) answer = 0
 
-abbrev pub row_amount : (Command → Answer → ℕ) → Line × Answer → ℕ
+abbrev pub row_amount : (Command → Answer → ℕ) → RowView × Answer → ℕ
 row_amount value p = spelled_amount value (command_of p.0) p.1
 
 -- what the rows with their answers come to
-abbrev pub counted : (Command → Answer → ℕ) → List Line → List Answer → ℕ
-counted value lines answers = sum_by (row_amount value) (zip lines answers)
+abbrev pub counted : (Command → Answer → ℕ) → List RowView → List Answer → ℕ
+counted value rows answers = sum_by (row_amount value) (zip rows answers)
 
 -- how many commands of the store were accepted
-abbrev pub counted_commands : List Line → List Answer → ℕ
-counted_commands lines answers = counted (λ _ _. 1) lines answers
+abbrev pub counted_commands : List RowView → List Answer → ℕ
+counted_commands rows answers = counted (λ _ _. 1) rows answers
 
 -- how many bytes the chunks of the accepted rows have
-abbrev pub counted_bytes : List Line → List Answer → ℕ
-counted_bytes lines answers = counted (λ command _. chunk_of command) lines answers
+abbrev pub counted_bytes : List RowView → List Answer → ℕ
+counted_bytes rows answers = counted (λ command _. chunk_of command) rows answers
 
 -- how many bytes the accepted closes were answered to have stored
-abbrev pub counted_closed : List Line → List Answer → ℕ
-counted_closed lines answers = counted closed_of lines answers
+abbrev pub counted_closed : List RowView → List Answer → ℕ
+counted_closed rows answers = counted closed_of rows answers
 
 -- how many sessions the accepted rows gave up
-abbrev pub counted_abandons : List Line → List Answer → ℕ
-counted_abandons lines answers = counted (λ command _. abandoned_of command) lines answers
+abbrev pub counted_abandons : List RowView → List Answer → ℕ
+counted_abandons rows answers = counted (λ command _. abandoned_of command) rows answers

@@ -6,7 +6,7 @@ use Rattle.blob_digest.specs.declared.refusal.Refusal.TheVariants.{Memory}
 use Rattle.blob_digest.specs.Outcomes.{Does, DoesExactly, Answers}
 use Rattle.store_book.specs.Catalog.{Catalog}
 use Rattle.store_book.specs.Steps.{Outcome}
-use Rattle.store_book.specs.Runs.{Command, Answer, answered, told, outcome, takes_memory, IsCase, Event, Called, Cleaned, IsRun}
+use Rattle.store_book.specs.Runs.{Command, Answer, answered, told, outcome, takes_memory, IsCase, Event, Called, Swept, IsRun}
 use Rattle.blob_digest.specs.declared.refusal.Refusal.TheVariants.{TooManyReaders}
 use Rattle.store_book.specs.Catalog.{Text}
 use Rattle.store_book.specs.Steps.{tenant, refuse, linked_blob, lease}
@@ -78,7 +78,7 @@ module _ (C : Catalog) (repo digest : Text) where
 abbrev asked : List Event → List (Option Command)
 asked [] = []
 asked (Called command reply ∷ es) = Some command ∷ asked es
-asked (Cleaned s ∷ es) = None ∷ asked es
+asked (Swept s ∷ es) = None ∷ asked es
 
 pub record HasRun (C : Catalog) (wanted : List (Option Command)) : Type 0 where
   pub events : List Event
@@ -88,7 +88,7 @@ pub record HasRun (C : Catalog) (wanted : List (Option Command)) : Type 0 where
 
 pub has_run : (wanted : List (Option Command)) (C : Catalog) → HasRun C wanted
 has_run [] C = record { events = []; last = C; run = refl; as_asked = refl }
-has_run (None ∷ wanted) C = let p = has_run wanted (after C) in record { events = Cleaned (swept C) ∷ p.events; last = p.last; run = (after C, some_sweep C, p.run); as_asked = ap (λ w. None ∷ w) p.as_asked }
+has_run (None ∷ wanted) C = let p = has_run wanted (after C) in record { events = Swept (swept C) ∷ p.events; last = p.last; run = (after C, some_sweep C, p.run); as_asked = ap (λ w. None ∷ w) p.as_asked }
 has_run (Some command ∷ wanted) C = by (outcome false C command) refl (has_run wanted)
   where
     by : (o : Outcome Answer) → outcome false C command ≡ o → ((D : Catalog) → HasRun D wanted) → HasRun C (Some command ∷ wanted)

@@ -13,7 +13,7 @@ use Rattle.std.proofs.lemmas.Bool.{false≢true, eq-eqb}
 use Rattle.std.proofs.lemmas.Map.Lookups.{exact_bytes}
 use Rattle.blob_digest.specs.Sets as kept_set
 use Rattle.store_book.specs.Catalog.{Text, Tenant, Link, Resident, Catalog, text_cmp, link_cmp, same_text, tenant_of, is_of, tenant_holds, size, count, used, opening}
-use Rattle.store_book.specs.Runs.{Event, Called, Cleaned, repo_of}
+use Rattle.store_book.specs.Runs.{Event, Called, Swept, repo_of}
 use Rattle.store_book.specs.Isolation.{events_of, commands, blobs_of, left_alone, IsUncrowded, TextsAreTheSame}
 use Rattle.store_book.specs.Catalog.{is_tenants}
 use Rattle.store_book.specs.Printed.{blob_line, book_line, end_line, repository_line, tenant_line, blob_text, manifest_text, session_text, repo_text, tenant_text, book_text}
@@ -156,7 +156,7 @@ module _ (b c : Text → Text) (C D : Catalog) (consistent_C : Consistent b C) (
 
 uncrowded_of : (tenants : List Tenant) (t : ℕ) (es : List Event) → AllByRecursion IsUncrowded es → AllByRecursion IsUncrowded (events_of tenants t es)
 uncrowded_of tenants t [] h = tt
-uncrowded_of tenants t (Cleaned swept ∷ es) h = uncrowded_of tenants t es h.1
+uncrowded_of tenants t (Swept swept ∷ es) h = uncrowded_of tenants t es h.1
 uncrowded_of tenants t (Called command r ∷ es) h =
     elim (is_tenants tenants t (repo_of command)) as (λ b. AllByRecursion IsUncrowded (if b then Called command r ∷ events_of tenants t es else events_of tenants t es)) [
       | true ↦ (h.0, uncrowded_of tenants t es h.1)
