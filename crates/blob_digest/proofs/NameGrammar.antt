@@ -1,12 +1,12 @@
 -- A machine for names, and that it takes what the grammar has.
 use Rattle.std.proofs.Common.{◌≡◌, ◌<◌, ◌++◌, ◌∷◌, ◌==◌, [], ◌∙◌, inl, inr, ℕ, List, true, false, ap, sym, refl, arith, length, codes, subst}
-use Rattle.std.proofs.lemmas.Bool.{eqb-true, and_parts, cases_Bool}
+use Rattle.std.proofs.lemmas.Bool.{and_from, eqb-true, false_from_ne_true, leb-true, le-leb, and_parts, cases_Bool}
 use Rattle.std.proofs.lemmas.Bool.Decides.{nat_tests}
 use Rattle.std.proofs.lemmas.List.{length-append, append_assoc, append-nil}
 use Rattle.std.specs.Prelude.{if◌then◌else◌}
 use Rattle.std.specs.List.{list_all}
-use Rattle.blob_digest.specs.Names.{IsComponent, IsPath, IsRun, IsSeparator, component, is_alnum, is_dash, joined, run, slashed}
-use Rattle.blob_digest.specs.NameMachine.{after, accepts, alnum_or_dead}
+use Rattle.blob_digest.specs.Names.{IsComponent, IsPath, IsRepoName, IsRun, IsSeparator, component, is_alnum, is_dash, joined, run, slashed}
+use Rattle.blob_digest.specs.NameMachine.{after, accepts, alnum_or_dead, is_repo_name}
 use Rattle.blob_digest.specs.declared.name.State.{State}
 use Rattle.blob_digest.specs.declared.name.State.TheVariants.{Start as at_start, InRun as in_run, Dot as at_dot, Low as at_low, Lows as at_lows, Dash as at_dash, Dead as dead}
 
@@ -225,3 +225,11 @@ completes (c ∷ x) dead h = dead_stays x h
 -- what is taken is in the grammar
 pub accepted_path : (p : List ℕ) → accepts at_start p ≡ true → IsPath p
 accepted_path p h = completes p at_start h
+
+-- ---- the grammar of repositories' names, and its test
+
+pub name_passes : (text : List ℕ) → IsRepoName text → is_repo_name text ≡ true
+name_passes text h = and_from _ _ (path_accepted text h.0) (le-leb (length text) 255 h.1)
+
+pub no_name_fails : (text : List ℕ) → ¬ IsRepoName text → is_repo_name text ≡ false
+no_name_fails text none = false_from_ne_true (is_repo_name text) (λ h. let p = and_parts _ _ h in none (accepted_path text p.0, leb-true (length text) 255 p.1))

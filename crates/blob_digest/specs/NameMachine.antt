@@ -1,5 +1,5 @@
--- The machine that reads a name a byte at a time. No public contract cites it.
-use Rattle.std.specs.Prelude.{ℕ, ◌==◌, List, [], ◌∷◌, Bool, true, false, if◌then◌else◌}
+-- The grammar of repository names as a test: a machine that reads a name a byte at a time.
+use Rattle.std.specs.Prelude.{ℕ, ◌==◌, ◌&&◌, List, [], ◌∷◌, length, Bool, true, false, if◌then◌else◌, nat_le}
 use Rattle.blob_digest.specs.Names.{is_alnum}
 use Rattle.blob_digest.specs.declared.name.State.{State}
 use Rattle.blob_digest.specs.declared.name.State.TheVariants.{Start as at_start, InRun as in_run, Dot as at_dot, Low as at_low, Lows as at_lows, Dash as at_dash, Dead as dead}
@@ -32,3 +32,7 @@ is_end dead = false
 abbrev pub accepts : State → List ℕ → Bool
 accepts s [] = is_end s
 accepts s (c ∷ rest) = accepts (after s c) rest
+
+-- whether a text is a repository's name
+abbrev pub is_repo_name : List ℕ → Bool
+is_repo_name text = accepts at_start text && nat_le (length text) 255

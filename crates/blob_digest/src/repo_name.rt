@@ -1,8 +1,9 @@
 //! Repository names.
-ghost use Rattle.std.specs.Prelude.{◌≡◌, ◌⊎◌, ◌==◌, length, position, IfOk, IfErr, Some, refl, bytes_eq};
+ghost use Rattle.std.specs.Prelude.{◌≡◌, ◌⊎◌, ◌==◌, length, position, true, false, IfOk, IfErr, MatchResult, Some, refl, bytes_eq};
 ghost use Rattle.std.specs.Ordering.{nat_cmp};
 ghost use Rattle.std.specs.Cmp.{partial_equiv_from_equiv};
 ghost use Rattle.std.specs.Cmp.Lexicographic.{slice_cmp, nat_list_eq_equiv, nat_list_cmp_total, texts_po, texts_ties};
+ghost use Rattle.blob_digest.specs.NameMachine.{is_repo_name};
 ghost use Rattle.blob_digest.specs.Names.{IsRepoName, IsComponent, tenant_name};
 
 use crate::name::is_path;
@@ -66,9 +67,11 @@ fn ascii(text: &[u8]) -> &str
 impl RepoName {
     /// The name that a text spells. Refused are a text that is no name of at most 255 bytes
     /// (`NameInvalid`), and then want of memory for a copy of it (`Memory`).
+    #[tactic(auto, using(crate::proofs::NameGrammar::name_passes, crate::proofs::NameGrammar::no_name_fails))]
     pub fn parse(alloc: Global, text: &[u8]) -> Result<RepoName, Refusal>
         ensures value { IfOk result (λ name. (name ≡ text.now) × IsRepoName text.now) }
         ensures refused { IfErr result (λ e. ((e ≡ Refusal.NameInvalid) × ¬ IsRepoName text.now) ⊎ ((e ≡ Refusal.Memory) × IsRepoName text.now)) }
+        ensures tested { MatchResult result (λ _. is_repo_name text.now ≡ true) (λ e. ((e ≡ Refusal.NameInvalid) × (is_repo_name text.now ≡ false)) ⊎ ((e ≡ Refusal.Memory) × (is_repo_name text.now ≡ true))) }
     {
         if text.len() > MAX_NAME {
             return Err(Refusal::NameInvalid);

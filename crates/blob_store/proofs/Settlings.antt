@@ -10,17 +10,18 @@ use Rattle.blob_store.specs.Workers.{ArePlayed, AreSettled, IsPlayed}
 use Rattle.blob_store.specs.declared.desk.Settled.{Settled}
 use Rattle.blob_store.proofs.Places.{at_pushed}
 use Rattle.row_player.specs.Answers.{Answer}
-use Rattle.row_player.specs.Counts.{abandoned_with, chunk_with, closed_with, counted, row_amount}
+use Rattle.row_player.specs.Commands.{Command}
+use Rattle.row_player.specs.Counts.{abandoned_of, chunk_of, closed_of, counted, row_amount}
 use Rattle.row_player.specs.Leases as leases
 use Rattle.row_player.specs.Plays.{Plays, State}
-use Rattle.row_player.specs.Rows.{Line}
+use Rattle.row_player.specs.Rows.{RowView}
 use Rattle.row_player.specs.Shares.{AreTogether, own_answers, own_rows}
 use Rattle.row_player.proofs.Counting.{abandoned_counted, bytes_counted, closed_counted, commands_counted}
 use Rattle.row_player.proofs.PlayedRows.{one_each}
 use Rattle.row_player.proofs.Partitions.{sum_of_workers, worker_within}
 
 -- one worker more
-pub played_more : (n : ℕ) (lines : List Line) (ds : List Amounts) (ls : List (List Answer)) (d : Amounts) (l : List Answer) → ArePlayed n lines ds ls → IsPlayed n (length ls) lines d l → ArePlayed n lines (ds ++ d ∷ []) (ls ++ l ∷ [])
+pub played_more : (n : ℕ) (lines : List RowView) (ds : List Amounts) (ls : List (List Answer)) (d : Amounts) (l : List Answer) → ArePlayed n lines ds ls → IsPlayed n (length ls) lines d l → ArePlayed n lines (ds ++ d ∷ []) (ls ++ l ∷ [])
 played_more n lines ds ls d l are here =
     let seam : get_or (ds ++ d ∷ []) (length ls) nothing ≡ d = ap (λ k. get_or (ds ++ d ∷ []) k nothing) (sym are.as_many) ∙ get_or-append_seam ds d [] nothing in
     record {
@@ -41,10 +42,10 @@ module _ (f : Amounts → ℕ) (none : f nothing ≡ 0) (adds : (a b : Amounts) 
   of_all [] = none
   of_all (d ∷ ds) = let here = adds d (sum_of ds) in let rest = of_all ds in let all = sum_by-cons f d ds in omega (arith, here, rest, all)
 
-  module _ (lines : List Line) (ds : List Amounts) (lists : List (List Answer)) (answers : List Answer) (some : 0 < length ds) (are : ArePlayed (length ds) lines ds lists) (together : AreTogether (length ds) lines (λ w. get_or lists w []) answers) where
+  module _ (lines : List RowView) (ds : List Amounts) (lists : List (List Answer)) (answers : List Answer) (some : 0 < length ds) (are : ArePlayed (length ds) lines ds lists) (together : AreTogether (length ds) lines (λ w. get_or lists w []) answers) where
     -- what each desk has of it is what its worker's rows come to
-    all_counted : (value : Line → Answer → ℕ)
-        → ((old new : State Amounts) (own : List Line) (given : List Answer) → Plays SeatActs old own given new → f new.0 ≡ f old.0 + counted value own given)
+    all_counted : (value : Command → Answer → ℕ)
+        → ((old new : State Amounts) (own : List RowView) (given : List Answer) → Plays SeatActs old own given new → f new.0 ≡ f old.0 + counted value own given)
         → f (sum_of ds) ≡ counted value lines answers
     all_counted value counts =
         of_all ds ∙ sum_of_workers (row_amount value) f ds nothing lines (λ w. get_or lists w []) answers some together (λ w lt.
@@ -53,8 +54,8 @@ module _ (f : Amounts → ℕ) (none : f nothing ≡ 0) (adds : (a b : Amounts) 
         omega (arith, here, none))
 
     -- or nothing, where the rows come to nothing
-    all_unchanged : (value : Line → Answer → ℕ)
-        → ((old new : State Amounts) (own : List Line) (given : List Answer) → Plays SeatActs old own given new → counted value own given ≡ 0 → f new.0 ≡ f old.0)
+    all_unchanged : (value : Command → Answer → ℕ)
+        → ((old new : State Amounts) (own : List RowView) (given : List Answer) → Plays SeatActs old own given new → counted value own given ≡ 0 → f new.0 ≡ f old.0)
         → counted value lines answers ≡ 0 → f (sum_of ds) ≡ 0
     all_unchanged value counts nought =
         of_all ds ∙ sum_of_workers (λ _. 0) f ds nothing lines (λ w. get_or lists w []) answers some together (λ w lt.
@@ -65,26 +66,26 @@ module _ (f : Amounts → ℕ) (none : f nothing ≡ 0) (adds : (a b : Amounts) 
         here ∙ none ∙ sym (sum_zero (zip (own_rows (length ds) w lines) (get_or lists w [])))) ∙ sum_zero (zip lines answers)
 
 -- the desks of all workers have what the rows come to
-pub are_settled : (n : ℕ) (lines : List Line) (ds : List Amounts) (lists : List (List Answer)) (answers : List Answer) (settled : Settled) → length ds ≡ n → 0 < n → ArePlayed n lines ds lists → AreTogether n lines (λ w. get_or lists w []) answers
+pub are_settled : (n : ℕ) (lines : List RowView) (ds : List Amounts) (lists : List (List Answer)) (answers : List Answer) (settled : Settled) → length ds ≡ n → 0 < n → ArePlayed n lines ds lists → AreTogether n lines (λ w. get_or lists w []) answers
     → (settled.commands ≡ (sum_of ds).commands) × (settled.received ≡ (sum_of ds).received) × (settled.closed ≡ (sum_of ds).closed) × (settled.abandoned ≡ (sum_of ds).abandoned) → AreSettled lines answers settled
 are_settled n lines ds lists answers settled size some are together sums =
     subst (λ k. 0 < k → ArePlayed k lines ds lists → AreTogether k lines (λ w. get_or lists w []) answers → AreSettled lines answers settled) size
     (λ some are together. record {
       commands = sums.0 ∙ all_counted (λ a. a.commands) refl (λ a b. refl) lines ds lists answers some are together (λ _ _. 1) (commands_counted SeatActs (λ a. a.commands) (λ s request answer t h. h.commands));
-      received = sums.1 ∙ all_counted (λ a. a.received) refl (λ a b. refl) lines ds lists answers some are together (λ line _. chunk_with line.verb line.body) (bytes_counted SeatActs (λ a. a.received) (λ s request answer t h. h.received));
-      closed = sums.2 ∙ all_counted (λ a. a.closed) refl (λ a b. refl) lines ds lists answers some are together (λ line answer. closed_with line.verb answer) (closed_counted SeatActs (λ a. a.closed) (λ s request answer t h. h.closed));
-      abandoned = λ none. sums.3 ∙ all_unchanged (λ a. a.abandoned) refl (λ a b. refl) lines ds lists answers some are together (λ line _. abandoned_with line.verb) (abandoned_counted SeatActs (λ a. a.abandoned) (λ s request answer t h. h.abandoned)) none;
+      received = sums.1 ∙ all_counted (λ a. a.received) refl (λ a b. refl) lines ds lists answers some are together (λ command _. chunk_of command) (bytes_counted SeatActs (λ a. a.received) (λ s request answer t h. h.received));
+      closed = sums.2 ∙ all_counted (λ a. a.closed) refl (λ a b. refl) lines ds lists answers some are together closed_of (closed_counted SeatActs (λ a. a.closed) (λ s request answer t h. h.closed));
+      abandoned = λ none. sums.3 ∙ all_unchanged (λ a. a.abandoned) refl (λ a b. refl) lines ds lists answers some are together (λ command _. abandoned_of command) (abandoned_counted SeatActs (λ a. a.abandoned) (λ s request answer t h. h.abandoned)) none;
     })
     some are together
 
 -- each worker has an answer for each of its rows
-pub whole_lists : (n : ℕ) (lines : List Line) (ds : List Amounts) (ls : List (List Answer)) → ArePlayed n lines ds ls → (w : ℕ) → w < length ls → length (get_or ls w []) ≡ length (own_rows n w lines)
+pub whole_lists : (n : ℕ) (lines : List RowView) (ds : List Amounts) (ls : List (List Answer)) → ArePlayed n lines ds ls → (w : ℕ) → w < length ls → length (get_or ls w []) ≡ length (own_rows n w lines)
 whole_lists n lines ds ls are w lt =
     let played = are.each w [] lt in
     one_each SeatActs (nothing, leases.none) (get_or ds w nothing, played.0) (own_rows n w lines) (get_or ls w []) played.1
 
 -- and these are the answers at its rows
-pub each_played : (n : ℕ) (lines : List Line) (ds : List Amounts) (ls : List (List Answer)) (answers : List Answer) → length ls ≡ n → ArePlayed n lines ds ls → AreTogether n lines (λ w. get_or ls w []) answers
+pub each_played : (n : ℕ) (lines : List RowView) (ds : List Amounts) (ls : List (List Answer)) (answers : List Answer) → length ls ≡ n → ArePlayed n lines ds ls → AreTogether n lines (λ w. get_or ls w []) answers
     → (w : ℕ) → w < n → (desk : Amounts) × IsPlayed n w lines desk (own_answers n w lines answers)
 each_played n lines ds ls answers size are together w lt =
     (get_or ds w nothing, subst (λ xs. IsPlayed n w lines (get_or ds w nothing) xs) (together.shares w lt) (are.each w [] (omega (arith, lt, size))))

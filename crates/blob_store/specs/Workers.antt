@@ -7,7 +7,7 @@ use Rattle.row_player.specs.Answers.{Answer}
 use Rattle.row_player.specs.Counts.{counted_abandons, counted_bytes, counted_closed, counted_commands}
 use Rattle.row_player.specs.Leases.{Leases, none}
 use Rattle.row_player.specs.Plays.{Plays}
-use Rattle.row_player.specs.Rows.{Line}
+use Rattle.row_player.specs.Rows.{RowView}
 use Rattle.row_player.specs.Shares.{own_rows}
 use Rattle.row_player.specs.declared.reply.Reply.{Reply}
 
@@ -17,27 +17,27 @@ AllAt {X} P xs = (k : ℕ) (d : X) → k < length xs → P k (get_or xs k d)
 
 -- The rows of a worker, of so many workers, were played in their order with these answers, from no lease on, and its desk, with
 -- nothing at first, got this.
-abbrev pub IsPlayed : ℕ → ℕ → List Line → Amounts → List Answer → Type 0
-IsPlayed workers worker lines desk answers = (left : Leases) × Plays SeatActs (nothing, none) (own_rows workers worker lines) answers (desk, left)
+abbrev pub IsPlayed : ℕ → ℕ → List RowView → Amounts → List Answer → Type 0
+IsPlayed workers worker rows desk answers = (left : Leases) × Plays SeatActs (nothing, none) (own_rows workers worker rows) answers (desk, left)
 
 -- the workers, from the first on, have these desks and answers
-pub record ArePlayed (workers : ℕ) (lines : List Line) (desks : List Amounts) (lists : List (List Answer)) : Type 0 where
+pub record ArePlayed (workers : ℕ) (rows : List RowView) (desks : List Amounts) (lists : List (List Answer)) : Type 0 where
   pub as_many : length desks ≡ length lists
-  pub each : AllAt (λ w answers. IsPlayed workers w lines (get_or desks w nothing) answers) lists
+  pub each : AllAt (λ w answers. IsPlayed workers w rows (get_or desks w nothing) answers) lists
 
 -- What workers settle is what the answers to the rows say: the accepted commands, the bytes of their chunks, and the sizes of what was
 -- closed. What was abandoned has no number in an answer; it is nothing where no row gave a session up.
-pub record AreSettled (lines : List Line) (answers : List Answer) (settled : Settled) : Type 0 where
-  pub commands : settled.commands ≡ counted_commands lines answers
-  pub received : settled.received ≡ counted_bytes lines answers
-  pub closed : settled.closed ≡ counted_closed lines answers
-  pub abandoned : counted_abandons lines answers ≡ 0 → settled.abandoned ≡ 0
+pub record AreSettled (rows : List RowView) (answers : List Answer) (settled : Settled) : Type 0 where
+  pub commands : settled.commands ≡ counted_commands rows answers
+  pub received : settled.received ≡ counted_bytes rows answers
+  pub closed : settled.closed ≡ counted_closed rows answers
+  pub abandoned : counted_abandons rows answers ≡ 0 → settled.abandoned ≡ 0
 
 -- a worker has nothing on its desk yet, and room for its replies
-pub record IsReady (workers worker : ℕ) (lines : List Line) (desk : Amounts) (replies : List Reply) (room : ℕ) : Type 0 where
+pub record IsReady (workers worker : ℕ) (rows : List RowView) (desk : Amounts) (replies : List Reply) (room : ℕ) : Type 0 where
   pub fresh : desk ≡ nothing
   pub empty : replies ≡ []
-  pub fits : length (own_rows workers worker lines) ≤ room
+  pub fits : length (own_rows workers worker rows) ≤ room
 
 -- the worker of a job, which stands at this place from the end of all
 pub record IsTurn (workers place of number : ℕ) : Type 0 where

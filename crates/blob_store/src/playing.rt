@@ -4,7 +4,7 @@ ghost use Rattle.blob_digest.specs.declared.refusal.Refusal.TheVariants.{LimitRe
 ghost use Rattle.blob_store.specs.Totals.{Amounts, nothing, sum_of};
 ghost use Rattle.blob_store.specs.Workers.{AllAt, ArePlayed, AreSettled, IsPlayed, IsReady, IsTurn};
 ghost use Rattle.row_player.specs.Answers.{answers_of};
-ghost use Rattle.row_player.specs.Lines.{line_of};
+ghost use Rattle.row_player.specs.RowViews.{row_view};
 ghost use Rattle.row_player.specs.Shares.{own_answers, own_rows};
 
 use crate::carried::{Carried, carry, set_down};
@@ -36,7 +36,7 @@ pub struct Played {
 fn lists_for(alloc: Global, rows: &[Row], workers: usize) -> Result<Vec<Vec<Reply>>, Refusal>
     requires { 0 < workers }
     ensures len { IfOk result (λ v. (vec_len v ≡ workers) × (workers ≤ vec_capacity v)) }
-    ensures room { IfOk result (λ v. AllAt (λ w l. (l.items ≡ []) × (length (own_rows workers w (map line_of rows.now)) ≤ vec_capacity l)) v.items) }
+    ensures room { IfOk result (λ v. AllAt (λ w l. (l.items ≡ []) × (length (own_rows workers w (map row_view rows.now)) ≤ vec_capacity l)) v.items) }
     ensures refused { IfErr result (λ e. e ≡ Memory) }
 {
     let mut lists = Vec::with_capacity(alloc, workers)?;
@@ -56,12 +56,12 @@ fn jobs_of<C: Ledger, R: Ledger, D: Ledger, A: Ledger>(
     mut jobs: Vec<Job<C, R, D, A>>,
 ) -> Vec<Job<C, R, D, A>>
     requires fresh { sum_of desks.old.items ≡ nothing }
-    requires lists { (vec_len lists.old ≡ vec_len desks.old) × AllAt (λ w l. (l.items ≡ []) × (length (own_rows (vec_len desks.old) w (map line_of rows.now)) ≤ vec_capacity l)) lists.old.items }
+    requires lists { (vec_len lists.old ≡ vec_len desks.old) × AllAt (λ w l. (l.items ≡ []) × (length (own_rows (vec_len desks.old) w (map row_view rows.now)) ≤ vec_capacity l)) lists.old.items }
     requires room { (vec_len jobs ≡ 0) × (vec_len desks.old ≤ vec_capacity jobs) }
     ensures len { vec_len result ≡ vec_len desks.old }
     ensures desks { (vec_len desks.new ≡ 0) × (vec_capacity desks.new ≡ vec_capacity desks.old) }
     ensures emptied { (vec_len lists.new ≡ 0) × (vec_capacity lists.new ≡ vec_capacity lists.old) }
-    ensures ready { AllAt (λ k j. IsTurn (vec_len desks.old) k j.worker.workers j.worker.number × IsReady (vec_len desks.old) j.worker.number (map line_of rows.now) j.desk j.replies.items (vec_capacity j.replies)) result.items }
+    ensures ready { AllAt (λ k j. IsTurn (vec_len desks.old) k j.worker.workers j.worker.number × IsReady (vec_len desks.old) j.worker.number (map row_view rows.now) j.desk j.replies.items (vec_capacity j.replies)) result.items }
 {
     let workers = desks.len();
     while let Some(desk) = desks.pop() {
@@ -87,11 +87,11 @@ fn collect<C: Ledger, R: Ledger, D: Ledger, A: Ledger>(
     desks: &mut Vec<Desk<C, R, D, A>>,
     lists: &mut Vec<Vec<Reply>>,
 ) -> bool
-    requires each { AllAt (λ k o. (w : ℕ) → w + k + 1 ≡ vec_len outcomes → o.whole ≡ true → IsPlayed workers w (map line_of rows.now) o.desk (answers_of o.replies.items)) outcomes.items }
+    requires each { AllAt (λ k o. (w : ℕ) → w + k + 1 ≡ vec_len outcomes → o.whole ≡ true → IsPlayed workers w (map row_view rows.now) o.desk (answers_of o.replies.items)) outcomes.items }
     requires room { (vec_len desks.old ≡ 0) × (vec_len outcomes ≤ vec_capacity desks.old) × (vec_len lists.old ≡ 0) × (vec_len outcomes ≤ vec_capacity lists.old) }
     ensures len { (vec_len desks.new ≡ vec_len outcomes) × (vec_len lists.new ≡ vec_len outcomes) }
     ensures capacity { vec_capacity desks.new ≡ vec_capacity desks.old }
-    ensures played { result ≡ true → ArePlayed workers (map line_of rows.now) desks.new.items (map (λ v. answers_of v.items) lists.new.items) }
+    ensures played { result ≡ true → ArePlayed workers (map row_view rows.now) desks.new.items (map (λ v. answers_of v.items) lists.new.items) }
 {
     let mut whole = true;
     while let Some(outcome) = outcomes.pop() {
@@ -147,8 +147,8 @@ pub fn play<
 ) -> Result<Played, Refusal>
     requires { (0 < workers) × (workers ≤ MAX_WORKERS) }
     ensures replies { IfOk result (λ p. length p.replies.items ≡ length rows.now) }
-    ensures each { IfOk result (λ p. (w : ℕ) → w < workers → (desk : Amounts) × IsPlayed workers w (map line_of rows.now) desk (own_answers workers w (map line_of rows.now) (answers_of p.replies.items))) }
-    ensures settled { IfOk result (λ p. AreSettled (map line_of rows.now) (answers_of p.replies.items) p.settled) }
+    ensures each { IfOk result (λ p. (w : ℕ) → w < workers → (desk : Amounts) × IsPlayed workers w (map row_view rows.now) desk (own_answers workers w (map row_view rows.now) (answers_of p.replies.items))) }
+    ensures settled { IfOk result (λ p. AreSettled (map row_view rows.now) (answers_of p.replies.items) p.settled) }
     ensures refused { IfErr result (λ e. (e ≡ LimitReached) ⊎ (e ≡ Memory)) }
 {
     let mut lists = lists_for(alloc, rows, workers)?;

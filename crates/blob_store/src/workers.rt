@@ -3,7 +3,7 @@ ghost use Rattle.std.specs.Prelude.{ℕ, ◌≡◌, ◌+◌, ◌<◌, ◌≤◌,
 ghost use Rattle.blob_store.specs.Totals.{nothing};
 ghost use Rattle.blob_store.specs.Workers.{AllAt, IsPlayed, IsReady, IsTurn};
 ghost use Rattle.row_player.specs.Answers.{answers_of};
-ghost use Rattle.row_player.specs.Lines.{line_of};
+ghost use Rattle.row_player.specs.RowViews.{row_view};
 
 use crate::carried::{Carried, carry, set_down};
 use crate::names::Naming;
@@ -50,7 +50,7 @@ pub struct Plays<'r> {
 }
 
 impl<'r, C: Ledger, R: Ledger, D: Ledger, A: Ledger> Promise<Outcome<C, R, D, A>> for Plays<'r> {
-    ghost kept_by = { λ p o. o.whole ≡ true → IsPlayed p.worker.workers p.worker.number (map line_of p.rows.now) o.desk (answers_of o.replies.items) };
+    ghost kept_by = { λ p o. o.whole ≡ true → IsPlayed p.worker.workers p.worker.number (map row_view p.rows.now) o.desk (answers_of o.replies.items) };
 }
 
 /// Plays a worker's rows on the store, and gives back the leases that its lanes still hold. It plays
@@ -64,8 +64,8 @@ fn work<W: Wait, G: Gate, N: Naming, C: Ledger, R: Ledger, D: Ledger, A: Ledger>
     halt: &AtomicBool,
     job: Job<C, R, D, A>,
 ) -> Outcome<C, R, D, A>
-    requires ready { IsReady job.worker.workers job.worker.number (map line_of rows.now) job.desk job.replies.items (vec_capacity job.replies) }
-    ensures { result.whole ≡ true → IsPlayed job.worker.workers job.worker.number (map line_of rows.now) result.desk (answers_of result.replies.items) }
+    requires ready { IsReady job.worker.workers job.worker.number (map row_view rows.now) job.desk job.replies.items (vec_capacity job.replies) }
+    ensures { result.whole ≡ true → IsPlayed job.worker.workers job.worker.number (map row_view rows.now) result.desk (answers_of result.replies.items) }
 {
     let Job {
         desk,
@@ -142,19 +142,19 @@ pub fn play_all<
     jobs: Vec<Job<C, R, D, A>>,
     room: Ended<C, R, D, A>,
 ) -> Ended<C, R, D, A>
-    requires ready { AllAt (λ k j. IsTurn (vec_len jobs) k j.worker.workers j.worker.number × IsReady (vec_len jobs) j.worker.number (map line_of rows.now) j.desk j.replies.items (vec_capacity j.replies)) jobs.items }
+    requires ready { AllAt (λ k j. IsTurn (vec_len jobs) k j.worker.workers j.worker.number × IsReady (vec_len jobs) j.worker.number (map row_view rows.now) j.desk j.replies.items (vec_capacity j.replies)) jobs.items }
     requires room { (vec_len room.outcomes ≡ 0) × (vec_len jobs ≤ vec_capacity room.outcomes) × (vec_len room.spent ≡ 0) × (vec_len jobs ≤ vec_capacity room.spent) }
     ensures len { vec_len result.outcomes + vec_len result.spent ≡ vec_len jobs }
-    ensures each { AllAt (λ k o. (w : ℕ) → w + k + 1 ≡ vec_len result.outcomes → o.whole ≡ true → IsPlayed (vec_len jobs) w (map line_of rows.now) o.desk (answers_of o.replies.items)) result.outcomes.items }
+    ensures each { AllAt (λ k o. (w : ℕ) → w + k + 1 ≡ vec_len result.outcomes → o.whole ≡ true → IsPlayed (vec_len jobs) w (map row_view rows.now) o.desk (answers_of o.replies.items)) result.outcomes.items }
 {
     thread::scope(
         thread::scope_env(),
         rt,
         move |scope| -> Ended<C, R, D, A>
-            requires ready { AllAt (λ k j. IsTurn (vec_len jobs) k j.worker.workers j.worker.number × IsReady (vec_len jobs) j.worker.number (map line_of rows.now) j.desk j.replies.items (vec_capacity j.replies)) jobs.items }
+            requires ready { AllAt (λ k j. IsTurn (vec_len jobs) k j.worker.workers j.worker.number × IsReady (vec_len jobs) j.worker.number (map row_view rows.now) j.desk j.replies.items (vec_capacity j.replies)) jobs.items }
             requires room { (vec_len room.outcomes ≡ 0) × (vec_len jobs ≤ vec_capacity room.outcomes) × (vec_len room.spent ≡ 0) × (vec_len jobs ≤ vec_capacity room.spent) }
             ensures len { vec_len result.outcomes + vec_len result.spent ≡ vec_len jobs }
-            ensures each { AllAt (λ k o. (w : ℕ) → w + k + 1 ≡ vec_len result.outcomes → o.whole ≡ true → IsPlayed (vec_len jobs) w (map line_of rows.entry.now) o.desk (answers_of o.replies.items)) result.outcomes.items }
+            ensures each { AllAt (λ k o. (w : ℕ) → w + k + 1 ≡ vec_len result.outcomes → o.whole ≡ true → IsPlayed (vec_len jobs) w (map row_view rows.entry.now) o.desk (answers_of o.replies.items)) result.outcomes.items }
         {
             let Ended {
                 mut outcomes,
@@ -175,8 +175,8 @@ pub fn play_all<
                 let worker = job.worker;
                 let promise = Plays { rows, worker };
                 let there = move || -> Outcome<C, R, D, A>
-                    requires ready { IsReady job.worker.workers job.worker.number (map line_of rows.now) job.desk job.replies.items (vec_capacity job.replies) }
-                    ensures { result.whole ≡ true → IsPlayed job.worker.workers job.worker.number (map line_of rows.entry.now) result.desk (answers_of result.replies.items) }
+                    requires ready { IsReady job.worker.workers job.worker.number (map row_view rows.now) job.desk job.replies.items (vec_capacity job.replies) }
+                    ensures { result.whole ≡ true → IsPlayed job.worker.workers job.worker.number (map row_view rows.entry.now) result.desk (answers_of result.replies.items) }
                 { work(rt, alloc, store, gate, rows, halt, job) };
                 match scope.spawn_with(promise, there) {
                     Ok(child) => children.push_reserved(child),

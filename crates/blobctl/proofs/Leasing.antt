@@ -18,7 +18,7 @@ use Rattle.store_book.specs.BookState.{SlotSeen}
 use Rattle.store_book.specs.SlotSteps as slots
 use Rattle.row_player.specs.Answers.{Answer, Bytes, Refused}
 use Rattle.row_player.specs.Commands.{Lease}
-use Rattle.blobctl.specs.Played.{ActsCall, RisesByOne, row_answer, told}
+use Rattle.blobctl.specs.Played.{ActsCall, RisesByOne, row_answer}
 
 -- ---- slots
 
@@ -88,9 +88,9 @@ module _ (C : Catalog) (digest : Text) where
 
 -- a command's outcome, as a row's answer tells it
 pub does_told : {A B : Type 0} (view : A → B) (inner : B → runs.Answer) (answer : runs.Answer → Answer) (r : Result A Refusal) (C C' : Catalog) (o : OutcomeIn Catalog B) (Rise : Type 0) → Does view r C C' o → Rise
-    → MatchResult r (λ x. (told answer (runs.answered inner o) ≡ Ok (answer (inner (view x)), C')) × Rise) (λ e. ((e ≢ Memory → (told answer (runs.answered inner o) ≡ Err e) ⊎ ⊥) × (C' ≡ C)) × Rise)
-does_told view inner answer (Ok x) C C' o Rise h rise = (ap (λ o. told answer (runs.answered inner o)) h, rise)
-does_told view inner answer (Err e) C C' o Rise h rise = (((λ other. inl (ap (λ o. told answer (runs.answered inner o)) (h.0 other))), h.1), rise)
+    → MatchResult r (λ x. (runs.answered answer (runs.answered inner o) ≡ Ok (answer (inner (view x)), C')) × Rise) (λ e. ((e ≢ Memory → (runs.answered answer (runs.answered inner o) ≡ Err e) ⊎ ⊥) × (C' ≡ C)) × Rise)
+does_told view inner answer (Ok x) C C' o Rise h rise = (ap (λ o. runs.answered answer (runs.answered inner o)) h, rise)
+does_told view inner answer (Err e) C C' o Rise h rise = (((λ other. inl (ap (λ o. runs.answered answer (runs.answered inner o)) (h.0 other))), h.1), rise)
 
 module _ (C : Catalog) (repo digest : Text) where
   abbrev look_at : Bool → Outcome Text
@@ -98,7 +98,7 @@ module _ (C : Catalog) (repo digest : Text) where
 
   -- what a lease's row is answered
   abbrev row_of : Outcome Text → Outcome Answer
-  row_of o = told (row_answer (Lease repo digest)) (runs.answered runs.Bytes o)
+  row_of o = runs.answered (row_answer (Lease repo digest)) (runs.answered runs.Bytes o)
 
   leased_alike : (crowded : Bool) (x : Text × Catalog) → look_at crowded ≡ Ok x → row_of (lease false C repo digest) ≡ Ok (Bytes x.0, x.1)
   leased_alike true x e = absurd (none_where_crowded C digest (tenant_of C.tenants repo) (not (holds C repo digest)) (fmap.get C.residents digest) x e)

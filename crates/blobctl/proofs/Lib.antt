@@ -6,7 +6,6 @@ pub mod OneOpening
 pub mod OneRun
 pub mod Records
 pub mod Replies
-pub mod SameCommands
 pub mod ScriptRuns
 pub mod SomeCommand
 pub mod SomeRun

@@ -19,11 +19,11 @@ use Rattle.store_model.specs.Catalog.{Catalog, Resident, opening}
 use Rattle.store_model.specs.Runs as runs
 use Rattle.store_model.specs.Commands.{Outcome, tenant, start, append, close, abandon, mount, delete, put_manifest, delete_manifest, stored, was_lent, has_source, link_held, start_instead, has_manifest, add_manifest, check, session, not_busy, unreferenced, referrer, all_linked, manifest, linked, names, has_slot, within_quota, whole_in, lacks_room_for, cannot_open, is_full_of_manifests}
 use Rattle.store_model.specs.Sweep.{IsLeft, IsSweep, is_orphan}
-use Rattle.store_model.specs.declared.swept.Swept.{Swept}
-use Rattle.row_player.specs.Answers.{Answer, Cleaned, Refused}
-use Rattle.row_player.specs.Commands.{Command, Start, Status, Append, Close, Abandon, Mount, Delete, PutManifest, GetManifest, DeleteManifest, Lease, Sweeps, is_lease, uses_repo}
-use Rattle.blobctl.specs.Played.{Happens, answered, outcome, row_answer, told}
-use Rattle.row_player.specs.Plays.{Plays, RowStep, State, StoreRow, StoreStep, VerifiesLease, give_back_of, name_of, named, piece_of, read_of, second_of, shared_in}
+use Rattle.store_model.specs.declared.swept.Swept.{Swept as SweptCounts}
+use Rattle.row_player.specs.Answers.{Answer, Swept}
+use Rattle.row_player.specs.Commands.{Command, Start, Status, Append, Close, Abandon, Mount, Delete, PutManifest, GetManifest, DeleteManifest, Lease, Sweeps, command_of, is_lease, uses_repo}
+use Rattle.blobctl.specs.Played.{Happens, outcome, result_of, row_answer}
+use Rattle.row_player.specs.Plays.{Plays, RowStep, State, StepOf, StoreRow, VerifiesLease, give_back_of, name_of, named, piece_of, read_of, second_of, shared_in}
 use Rattle.csv.specs.Machine.{next_record}
 use Rattle.csv.specs.Reading.{AreRecords, Reached}
 use Rattle.csv.specs.declared.parser.Config.{Config}
@@ -33,11 +33,10 @@ use Rattle.row_player.specs.Leases.{Lent}
 use Rattle.blobctl.specs.OneText.{LeaseNothing}
 use Rattle.blobctl.specs.Script.{AreRowsOf}
 use Rattle.blobctl.specs.Records.{Record, row_of as row_of_record}
-use Rattle.row_player.specs.Rows.{Line}
+use Rattle.row_player.specs.Rows.{RowView}
 use Rattle.row_player.specs.declared.row.Verb.{Verb}
 use Rattle.row_player.specs.declared.row.Verb.TheVariants as verb
-use Rattle.row_player.proofs.Counting.{names_repo}
-use Rattle.blobctl.proofs.SameCommands.{same_command, same_refusal, well_spelt}
+use Rattle.row_player.proofs.Spellings.{spells_none}
 
 -- no blob was lent
 abbrev pub LentNone : Catalog → Type 0
@@ -45,17 +44,10 @@ LentNone C = (d : Text) (b : Resident) → get C.residents d ≡ Some b → b.le
 
 -- ---- one step
 
-pub store_same : (C D E : Catalog) (line : Line) (a b : Answer) → StoreStep Happens C line a D → StoreStep Happens C line b E → ◌≡◌ {A = Answer × Catalog} (a, D) (b, E)
-store_same C D E line a b one two = elim one [
-  | inl h ↦ elim two [
-    | inl k ↦ (let same = same_refusal line h.0.1.0 k.0.1.0 h.0.1.1 k.0.1.1 in λ i. ((h.0.1.2 ∙ ap Refused same ∙ sym k.0.1.2) i, (h.1 ∙ sym k.1) i))
-    | inr k ↦ absurd (well_spelt line k.0 h.0.1.0 k.1 h.0.1.1)
-  ]
-  | inr h ↦ elim two [
-    | inl k ↦ absurd (well_spelt line h.0 k.0.1.0 h.1 k.0.1.1)
-    | inr k ↦ h.3 ∙ ap (λ (c : Command). answered C (outcome C c)) (same_command line h.0 k.0 h.1 k.1) ∙ sym k.3
-  ]
-]
+pub store_same : (o : Result (Option Command) Refusal) (C D E : Catalog) (a b : Answer) → StepOf Happens o C a D → StepOf Happens o C b E → ◌≡◌ {A = Answer × Catalog} (a, D) (b, E)
+store_same (Ok (Some command)) C D E a b one two = one.1 ∙ sym two.1
+store_same (Ok None) C D E a b one two = absurd one
+store_same (Err refusal) C D E a b one two = λ i. ((one.0 ∙ sym two.0) i, (one.1 ∙ sym two.1) i)
 
 left_of : (o : Bool) (b : Resident) (now : Option Resident) → b.lent ≡ false → IsLeft o b now → now ≡ cond o None (Some b)
 left_of false b now none left = left
@@ -63,7 +55,7 @@ left_of true b None none left = refl
 left_of true b (Some now) none left = absurd (false≢true (sym none ∙ left.0))
 
 module _ (C : Catalog) (none : LentNone C) where
-  after : (s : Swept) (D : Catalog) (d : Text) (x : Option Resident) → IsSweep C s D → get C.residents d ≡ x → get D.residents d ≡ cond (is_orphan C d) None x
+  after : (s : SweptCounts) (D : Catalog) (d : Text) (x : Option Resident) → IsSweep C s D → get C.residents d ≡ x → get D.residents d ≡ cond (is_orphan C d) None x
   after s D d None sweep is = sweep.no_others d is ∙ none_either (is_orphan C d)
     where
       none_either : (o : Bool) → None ≡ cond {A = Option Resident} o None None
@@ -71,7 +63,7 @@ module _ (C : Catalog) (none : LentNone C) where
       none_either false = refl
   after s D d (Some b) sweep is = left_of (is_orphan C d) b (get D.residents d) (none d b is) (sweep.orphans d b is)
 
-  pub sweep_same : (s t : Swept) (D E : Catalog) → IsSweep C s D → IsSweep C t E → s.retired ≡ 0 → t.retired ≡ 0 → ◌≡◌ {A = Answer × Catalog} (Cleaned s, D) (Cleaned t, E)
+  pub sweep_same : (s t : SweptCounts) (D E : Catalog) → IsSweep C s D → IsSweep C t E → s.retired ≡ 0 → t.retired ≡ 0 → ◌≡◌ {A = Answer × Catalog} (Swept s, D) (Swept t, E)
   sweep_same s t D E one two kept kept' =
       let residents : D.residents ≡ E.residents = same_map nat_list_cmp_total exact_bytes D.residents E.residents (λ d. after s D d (get C.residents d) one refl ∙ sym (after t E d (get C.residents d) two refl)) in
       let retired : s.retired ≡ t.retired = kept ∙ sym kept' in
@@ -80,9 +72,9 @@ module _ (C : Catalog) (none : LentNone C) where
       let freed : s.freed ≡ t.freed = omega (arith, gone, kept, kept') in
       let held : s.held ≡ t.held = one.held ∙ ap (λ (m : fmap.FinMap _ Resident). count_by (λ e. e.1.condemned) (fmap.entries m)) residents ∙ sym two.held in
       let condemned : s.condemned ≡ t.condemned = one.condemned ∙ sym two.condemned in
-      λ i. (Cleaned (record { condemned = condemned i; freed = freed i; held = held i; retired = retired i }), catalog i)
+      λ i. (Swept (record { condemned = condemned i; freed = freed i; held = held i; retired = retired i }), catalog i)
 
-  pub sweep_none : (s : Swept) (D : Catalog) → IsSweep C s D → LentNone D
+  pub sweep_none : (s : SweptCounts) (D : Catalog) → IsSweep C s D → LentNone D
   sweep_none s D sweep d now at = by (is_orphan C d) (get C.residents d) refl (sym (after s D d (get C.residents d) sweep refl) ∙ at)
     where
       by : (o : Bool) (x : Option Resident) → get C.residents d ≡ x → cond o None x ≡ Some now → now.lent ≡ false
@@ -112,12 +104,7 @@ if_keeps : {A : Type 0} (b : Bool) (x y : Outcome A) → Keeps x → Keeps y →
 if_keeps true x y h k = h
 if_keeps false x y h k = k
 
-told_keeps : {A : Type 0} (answer : A → Answer) (o : Outcome A) → Keeps o → Keeps (told answer o)
-unfolding Keeps
-told_keeps answer (Ok x) keeps y e = ok_keeps (answer x.0) x.1 (keeps x refl) y e
-told_keeps answer (Err r) keeps y e = absurd (let h = e in cc)
-
-answered_keeps : {A : Type 0} (answer : A → runs.Answer) (o : Outcome A) → Keeps o → Keeps (runs.answered answer o)
+answered_keeps : {A B : Type 0} (answer : A → B) (o : Outcome A) → Keeps o → Keeps (runs.answered answer o)
 unfolding Keeps
 answered_keeps answer (Ok x) keeps y e = ok_keeps (answer x.0) x.1 (keeps x refl) y e
 answered_keeps answer (Err r) keeps y e = absurd (let h = e in cc)
@@ -169,23 +156,22 @@ module _ (C : Catalog) (none : LentNone C) where
   run_keeps (Lease repo digest) no_lease = absurd (false≢true (sym no_lease))
 
   outcome_keeps : (c : Command) → is_lease c ≡ false → Keeps (outcome C c)
-  outcome_keeps c no_lease = told_keeps (row_answer c) (runs.outcome false C c) (run_keeps c no_lease)
+  outcome_keeps c no_lease = answered_keeps (row_answer c) (runs.outcome false C c) (run_keeps c no_lease)
 
-  answered_none : (o : Outcome Answer) → Keeps o → LentNone (answered C o).1
+  result_none : (o : Outcome Answer) → Keeps o → LentNone (result_of C o).1
   unfolding Keeps
-  answered_none (Ok x) keeps = keeps x refl
-  answered_none (Err r) keeps = none
+  result_none (Ok x) keeps = keeps x refl
+  result_none (Err r) keeps = none
 
-  pub store_none : (D : Catalog) (line : Line) (a : Answer) → StoreStep Happens C line a D → LentNone D
-  store_none D line a step = elim step [
-    | inl h ↦ subst LentNone (sym h.1) none
-    | inr h ↦ subst LentNone (sym (ap (λ (p : Answer × Catalog). p.1) h.3)) (answered_none (outcome C h.0) (outcome_keeps h.0 h.2))
-  ]
+  pub store_none : (o : Result (Option Command) Refusal) (D : Catalog) (a : Answer) → StepOf Happens o C a D → LentNone D
+  store_none (Ok (Some command)) D a step = subst LentNone (sym (ap (λ (p : Answer × Catalog). p.1) step.1)) (result_none (outcome C command) (outcome_keeps command step.0))
+  store_none (Ok None) D a step = absurd step
+  store_none (Err refusal) D a step = subst LentNone (sym step.1) none
 
 -- ---- rows
 
 -- a row that leases nothing, by its verb
-RowOf : Verb → State Catalog → Line → Answer → State Catalog → Type 0
+RowOf : Verb → State Catalog → RowView → Answer → State Catalog → Type 0
 RowOf verb.Read s line a t = (a ≡ read_of (named s.1 line) (piece_of line.range)) × (t ≡ s)
 RowOf verb.Share s line a t = ((a, t.1) ≡ shared_in s.1 (name_of line) (second_of line)) × (t.0 ≡ s.0)
 RowOf verb.Verify s line a t = VerifiesLease Happens (named s.1 line) s.0 a t.0 × (t.1 ≡ s.1)
@@ -194,7 +180,7 @@ RowOf verb.Sweep s line a t = Happens s.0 Sweeps a t.0 × (t.1 ≡ s.1)
 RowOf verb.Lease s line a t = ⊥
 RowOf _ s line a t = StoreRow Happens s line a t
 
-module _ (s t : State Catalog) (line : Line) (a : Answer) where
+module _ (s t : State Catalog) (line : RowView) (a : Answer) where
   of_store : (v : Verb) → uses_repo v ≡ true → v ≢ verb.Lease → StoreRow Happens s line a t → RowOf v s line a t
   unfolding RowOf
   of_store verb.Start uses other h = h
@@ -214,14 +200,15 @@ module _ (s t : State Catalog) (line : Line) (a : Answer) where
   of_store verb.GiveBack uses other h = absurd (false≢true uses)
   of_store verb.Sweep uses other h = absurd (false≢true uses)
 
-  repo_named : StoreRow Happens s line a t → uses_repo line.verb ≡ true
-  repo_named h = elim h.0 [ inl r ↦ r.0.0 | inr d ↦ names_repo line d.0 d.1 ]
+  repo_named : (u : Bool) → uses_repo line.verb ≡ u → StoreRow Happens s line a t → u ≡ true
+  repo_named true is h = refl
+  repo_named false is h = absurd (let k = rw (spells_none line line.verb refl is) at h.0 in k)
 
   row_of : line.verb ≢ verb.Lease → RowStep Happens s line a t → RowOf line.verb s line a t
   unfolding RowOf
   row_of other step = elim step [
-    | inl store ↦ of_store line.verb (repo_named store) other store
-    | inr (inl lends) ↦ absurd (other lends.0.0)
+    | inl store ↦ of_store line.verb (repo_named (uses_repo line.verb) refl store) other store
+    | inr (inl lends) ↦ absurd (other lends.0)
     | inr (inr (inl reads)) ↦ subst (λ v. RowOf v s line a t) (sym reads.0) (reads.1, reads.2)
     | inr (inr (inr (inl shares))) ↦ subst (λ v. RowOf v s line a t) (sym shares.0) (shares.1, shares.2)
     | inr (inr (inr (inr (inl looks)))) ↦ subst (λ v. RowOf v s line a t) (sym looks.0) (looks.1, looks.2)
@@ -229,9 +216,9 @@ module _ (s t : State Catalog) (line : Line) (a : Answer) where
     | inr (inr (inr (inr (inr (inr sweeps))))) ↦ subst (λ v. RowOf v s line a t) (sym sweeps.0) (sweeps.1, sweeps.2)
   ]
 
-module _ (s t u : State Catalog) (line : Line) (a b : Answer) where
+module _ (s t u : State Catalog) (line : RowView) (a b : Answer) where
   store_rows : StoreRow Happens s line a t → StoreRow Happens s line b u → ◌≡◌ {A = Answer × State Catalog} (a, t) (b, u)
-  store_rows h k = let p = store_same s.0 t.0 u.0 line a b h.0 k.0 in λ i. ((p i).0, ((p i).1, (h.1 ∙ sym k.1) i))
+  store_rows h k = let p = store_same (command_of line) s.0 t.0 u.0 a b h.0 k.0 in λ i. ((p i).0, ((p i).1, (h.1 ∙ sym k.1) i))
 
   verify_same : (o : Option Lent) → VerifiesLease Happens o s.0 a t.0 → VerifiesLease Happens o s.0 b u.0 → ◌≡◌ {A = Answer × Catalog} (a, t.0) (b, u.0)
   verify_same None h k = λ i. ((h.0 ∙ sym k.0) i, (h.1 ∙ sym k.1) i)
@@ -258,23 +245,23 @@ module _ (s t u : State Catalog) (line : Line) (a b : Answer) where
       let p = sweep_same s.0 none h.0.0 k.0.0 t.0 u.0 h.0.2 k.0.2 h.0.3 k.0.3 in
       λ i. ((h.0.1 ∙ ap (λ (x : Answer × Catalog). x.0) p ∙ sym k.0.1) i, ((p i).1, (h.1 ∙ sym k.1) i))
 
-module _ (s t : State Catalog) (line : Line) (a : Answer) (none : LentNone s.0) where
+module _ (s t : State Catalog) (line : RowView) (a : Answer) (none : LentNone s.0) where
   verify_none : (o : Option Lent) → VerifiesLease Happens o s.0 a t.0 → LentNone t.0
   verify_none None h = subst LentNone (sym h.1) none
   verify_none (Some lease) h = subst LentNone (sym h.1) none
 
   row_none : (v : Verb) → RowOf v s line a t → LentNone t.0
   unfolding RowOf
-  row_none verb.Start h = store_none s.0 none t.0 line a h.0
-  row_none verb.Status h = store_none s.0 none t.0 line a h.0
-  row_none verb.Append h = store_none s.0 none t.0 line a h.0
-  row_none verb.Close h = store_none s.0 none t.0 line a h.0
-  row_none verb.Abandon h = store_none s.0 none t.0 line a h.0
-  row_none verb.Mount h = store_none s.0 none t.0 line a h.0
-  row_none verb.Delete h = store_none s.0 none t.0 line a h.0
-  row_none verb.PutManifest h = store_none s.0 none t.0 line a h.0
-  row_none verb.GetManifest h = store_none s.0 none t.0 line a h.0
-  row_none verb.DeleteManifest h = store_none s.0 none t.0 line a h.0
+  row_none verb.Start h = store_none s.0 none (command_of line) t.0 a h.0
+  row_none verb.Status h = store_none s.0 none (command_of line) t.0 a h.0
+  row_none verb.Append h = store_none s.0 none (command_of line) t.0 a h.0
+  row_none verb.Close h = store_none s.0 none (command_of line) t.0 a h.0
+  row_none verb.Abandon h = store_none s.0 none (command_of line) t.0 a h.0
+  row_none verb.Mount h = store_none s.0 none (command_of line) t.0 a h.0
+  row_none verb.Delete h = store_none s.0 none (command_of line) t.0 a h.0
+  row_none verb.PutManifest h = store_none s.0 none (command_of line) t.0 a h.0
+  row_none verb.GetManifest h = store_none s.0 none (command_of line) t.0 a h.0
+  row_none verb.DeleteManifest h = store_none s.0 none (command_of line) t.0 a h.0
   row_none verb.Lease h = absurd h
   row_none verb.Read h = subst LentNone (sym (ap (λ (x : State Catalog). x.0) h.1)) none
   row_none verb.Share h = subst LentNone (sym h.1) none
@@ -283,7 +270,7 @@ module _ (s t : State Catalog) (line : Line) (a : Answer) (none : LentNone s.0) 
   row_none verb.Sweep h = sweep_none s.0 none h.0.0 t.0 h.0.2
 
 -- the rows of a script, none of which leases a blob, are answered and leave what they do
-pub plays_same : (s t u : State Catalog) (lines : List Line) (one two : List Answer) → LentNone s.0 → LeaseNothing lines → Plays Happens s lines one t → Plays Happens s lines two u → ◌≡◌ {A = List Answer × State Catalog} (one, t) (two, u)
+pub plays_same : (s t u : State Catalog) (lines : List RowView) (one two : List Answer) → LentNone s.0 → LeaseNothing lines → Plays Happens s lines one t → Plays Happens s lines two u → ◌≡◌ {A = List Answer × State Catalog} (one, t) (two, u)
 plays_same s t u [] [] [] none nothing h k = λ i. ([], (h ∙ sym k) i)
 plays_same s t u [] [] (b ∷ bs) none nothing h k = absurd k
 plays_same s t u [] (a ∷ as') bs none nothing h k = absurd h
@@ -310,7 +297,7 @@ records_same cfg s xs (r ∷ rs) (q ∷ qs) h k =
     let heads = h.2.2 ∙ ap (λ x. x.0) same ∙ sym k.2.2 in
     λ i. heads i ∷ tails i
 
-some_same : (xs ys : List Line) → map Some xs ≡ map Some ys → xs ≡ ys
+some_same : (xs ys : List RowView) → map Some xs ≡ map Some ys → xs ≡ ys
 some_same [] [] e = refl
 some_same [] (y ∷ ys) e = absurd (let h = e in cc)
 some_same (x ∷ xs) [] e = absurd (let h = e in cc)
@@ -320,7 +307,7 @@ some_same (x ∷ xs) (y ∷ ys) e =
     λ i. heads i ∷ some_same xs ys tails i
 
 -- a script has one list of rows
-pub rows_are_one : (script : Text) (one two : List Line) → AreRowsOf script one → AreRowsOf script two → one ≡ two
+pub rows_are_one : (script : Text) (one two : List RowView) → AreRowsOf script one → AreRowsOf script two → one ≡ two
 rows_are_one script one two h k = some_same one two (sym h.good ∙ ap (map row_of_record) (records_same _ _ _ h.records k.records h.all k.all) ∙ k.good)
 
 -- nothing is lent where nothing is kept

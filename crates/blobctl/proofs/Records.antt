@@ -9,7 +9,7 @@ use Rattle.csv.proofs.ReadFacts.{rows-more}
 use Rattle.finite_maps.specs.Texts.{Text}
 use Rattle.blobctl.specs.Reading.{IsAfter}
 use Rattle.blobctl.specs.Records.{Record, row_of}
-use Rattle.row_player.specs.Rows.{Line}
+use Rattle.row_player.specs.Rows.{RowView}
 use Rattle.blobctl.specs.Script.{AreGood, BeginsWith, ExplainsRows, max_rows}
 use Rattle.blobctl.specs.declared.fault.Fault.{Fault}
 use Rattle.blobctl.specs.declared.fault.Fault.TheVariants.{BadRow, Memory}
@@ -33,7 +33,7 @@ pub begins : (reader : Reader (Bor Text)) (script : Text) (before : List Record)
 begins reader script before h = (reader.state, h.rest, h.reached)
 
 -- a good record after good ones
-pub one_good : (before : List Record) (rows : List Line) (fields : Record) (line : Line) → AreGood before rows → row_of fields ≡ Some line
+pub one_good : (before : List Record) (rows : List RowView) (fields : Record) (line : RowView) → AreGood before rows → row_of fields ≡ Some line
     → AreGood (before ++ fields ∷ []) (rows ++ line ∷ [])
 one_good before rows fields line good here =
     map-append row_of before (fields ∷ [])
@@ -42,7 +42,7 @@ one_good before rows fields line good here =
     ∙ sym (map-append Some rows (line ∷ []))
 
 -- a record after good ones that has no row is the first bad one
-pub explained : (script : Text) (before : List Record) (rows : List Line) (fields : Record) (number : ℕ) (fault : Fault) → BeginsWith script (before ++ fields ∷ [])
+pub explained : (script : Text) (before : List Record) (rows : List RowView) (fields : Record) (number : ℕ) (fault : Fault) → BeginsWith script (before ++ fields ∷ [])
     → AreGood before rows → number ≡ length before + 1 → length before ≤ max_rows
     → (fault ≡ Memory) ⊎ ((fault ≡ BadRow number) × (row_of fields ≡ None)) → ExplainsRows script fault
 explained script before rows fields number fault first good place few why =

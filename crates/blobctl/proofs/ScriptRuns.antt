@@ -12,16 +12,15 @@ use Rattle.store_model.specs.Runs as runs
 use Rattle.store_model.specs.Commands.{Outcome}
 use Rattle.store_model.specs.declared.mount.Mount.TheVariants as mounting
 use Rattle.row_player.specs.Answers.{Answer, Bytes, Leased, NameTaken, Refused}
-use Rattle.row_player.specs.Commands.{Command, Start, Status, Append, Close, Abandon, Mount, Delete, PutManifest, GetManifest, DeleteManifest, Lease, IsMisspelt, Spells, is_lease, uses_repo}
+use Rattle.row_player.specs.Commands.{Command, Start, Status, Append, Close, Abandon, Mount, Delete, PutManifest, GetManifest, DeleteManifest, Lease, command_of, is_lease, uses_repo}
 use Rattle.row_player.specs.Leases.{Lent}
-use Rattle.row_player.specs.Plays.{LendsWhereFree, Plays, RowStep, State, StoreStep, VerifiesLease, named as lease_named}
-use Rattle.row_player.specs.Rows.{Line}
+use Rattle.row_player.specs.Plays.{LendsWhereFree, Plays, RowStep, State, StepOf, VerifiesLease, named as lease_named}
+use Rattle.row_player.specs.Rows.{RowView}
 use Rattle.row_player.specs.declared.row.Verb.{Verb}
 use Rattle.row_player.specs.declared.row.Verb.TheVariants as verb
-use Rattle.row_player.proofs.Counting.{names_repo}
-use Rattle.blobctl.specs.Played.{Happens, HappensCall, answered, row_answer, told}
+use Rattle.row_player.proofs.Spellings.{names_repo, repo_spelled}
+use Rattle.blobctl.specs.Played.{Happens, result_of, row_answer}
 use Rattle.blobctl.specs.ScriptRuns.{AreEventsOf, IsEvent, IsNoEvent, rows_of, shown_reply}
-use Rattle.blobctl.proofs.SameCommands.{same_command, well_spelt}
 
 -- ---- one row
 
@@ -30,7 +29,7 @@ abbrev plain : Command → Result runs.Answer Refusal → Answer
 plain c (Ok a) = row_answer c a
 plain c (Err e) = Refused e
 
-asked : (C C' : Catalog) (c : Command) (answer : Answer) (o : Outcome runs.Answer) → runs.outcome false C c ≡ o → ◌≡◌ {A = Answer × Catalog} (answer, C') (answered C (told (row_answer c) o))
+asked : (C C' : Catalog) (c : Command) (answer : Answer) (o : Outcome runs.Answer) → runs.outcome false C c ≡ o → ◌≡◌ {A = Answer × Catalog} (answer, C') (result_of C (runs.answered (row_answer c) o))
     → (r : Result runs.Answer Refusal) × runs.IsCase C c r C' × (answer ≡ plain c r)
 asked C C' c answer (Ok x) is h = (Ok x.0, is ∙ (λ i. Ok (x.0, sym (ap (λ (p : Answer × Catalog). p.1) h) i)), ap (λ (p : Answer × Catalog). p.0) h)
 asked C C' c answer (Err e) is h = (Err e, (inl (false, is), ap (λ (p : Answer × Catalog). p.1) h), ap (λ (p : Answer × Catalog). p.0) h)
@@ -66,18 +65,14 @@ module _ (repo digest : Text) where
   refused_shown refusal (Err r) e = e
 
 -- what a row is in a run: no event, or one
-abbrev Told : Catalog → Line → Answer → Catalog → Type 0
+abbrev Told : Catalog → RowView → Answer → Catalog → Type 0
 Told C line a C' = (IsNoEvent line a × (C' ≡ C)) ⊎ ((e : runs.Event) × IsEvent line a e × runs.Happens C e C')
 
-module _ (C C' : Catalog) (line : Line) (a : Answer) where
-  command_told : (c : Command) → Spells line c → is_lease c ≡ false → HappensCall C c a C' → Told C line a C'
-  command_told c spells none h = let x = asked C C' c a (runs.outcome false C c) refl h in inr (runs.Called c x.0, (spells, x.2 ∙ plain_shown c x.0 none), x.1)
-
-  store_told : StoreStep Happens C line a C' → Told C line a C'
-  store_told step = elim step [
-    | inl r ↦ inl (inl r.0, r.1)
-    | inr d ↦ command_told d.0 d.1 d.2 d.3
-  ]
+module _ (C C' : Catalog) (line : RowView) (a : Answer) where
+  store_told : (o : Result (Option Command) Refusal) → command_of line ≡ o → StepOf Happens o C a C' → Told C line a C'
+  store_told (Ok (Some c)) is h = let x = asked C C' c a (runs.outcome false C c) refl h.1 in inr (runs.Called c x.0, (is, x.2 ∙ plain_shown c x.0 h.0), x.1)
+  store_told (Ok None) is h = absurd h
+  store_told (Err refusal) is h = inl (inl (refusal, is, h.0), h.1)
 
   -- a row of a lease that a lane has is no event
   no_event : (v : Verb) → uses_repo v ≡ false → v ≢ verb.Sweep → line.verb ≡ v → IsNoEvent line a
@@ -87,10 +82,10 @@ module _ (C C' : Catalog) (line : Line) (a : Answer) where
   verify_told None h = h.1
   verify_told (Some lease) h = h.1
 
-module _ (s t : State Catalog) (line : Line) (a : Answer) where
-  lease_told : (o : Option Lent) → Spells line (Lease line.repo line.digest) → LendsWhereFree Happens o s line a t → Told s.0 line a t.0
-  lease_told (Some lease) spells h = inl (inr (inl (spells.0, h.0)), ap (λ (x : State Catalog). x.0) h.1)
-  lease_told None spells h = elim h [
+module _ (s t : State Catalog) (line : RowView) (a : Answer) where
+  lease_told : (o : Option Lent) → line.verb ≡ verb.Lease → command_of line ≡ Ok (Some (Lease line.repo line.digest)) → LendsWhereFree Happens o s line a t → Told s.0 line a t.0
+  lease_told (Some lease) is spells h = inl (inr (inl (is, h.0)), ap (λ (x : State Catalog). x.0) h.1)
+  lease_told None is spells h = elim h [
     | inl l ↦
         let c = Lease line.repo line.digest in
         let x = asked s.0 t.0 c (Bytes l.0) (runs.outcome false s.0 c) refl l.1 in
@@ -103,28 +98,28 @@ module _ (s t : State Catalog) (line : Line) (a : Answer) where
 
   row_told : RowStep Happens s line a t → Told s.0 line a t.0
   row_told step = elim step [
-    | inl store ↦ store_told s.0 t.0 line a store.0
-    | inr (inl lends) ↦ lease_told (lease_named s.1 line) lends.0 lends.1
+    | inl store ↦ store_told s.0 t.0 line a (command_of line) refl store.0
+    | inr (inl lends) ↦ lease_told (lease_named s.1 line) lends.0 lends.1 lends.2
     | inr (inr (inl reads)) ↦ inl (no_event s.0 t.0 line a verb.Read refl (λ e. absurd (let h = e in cc)) reads.0, ap (λ (x : State Catalog). x.0) reads.2)
     | inr (inr (inr (inl shares))) ↦ inl (no_event s.0 t.0 line a verb.Share refl (λ e. absurd (let h = e in cc)) shares.0, shares.2)
     | inr (inr (inr (inr (inl looks)))) ↦ inl (no_event s.0 t.0 line a verb.Verify refl (λ e. absurd (let h = e in cc)) looks.0, verify_told s.0 t.0 line a (lease_named s.1 line) looks.1)
     | inr (inr (inr (inr (inr (inl returns))))) ↦ inl (no_event s.0 t.0 line a verb.GiveBack refl (λ e. absurd (let h = e in cc)) returns.0, returns.2)
-    | inr (inr (inr (inr (inr (inr sweeps))))) ↦ inr (runs.Cleaned sweeps.1.0, (sweeps.0, sweeps.1.1), sweeps.1.2)
+    | inr (inr (inr (inr (inr (inr sweeps))))) ↦ inr (runs.Swept sweeps.1.0, (sweeps.0, sweeps.1.1), sweeps.1.2)
   ]
 
 -- ---- all rows
 
 -- the rows and answers are these events, which lead from one catalog to another
-abbrev Run : Catalog → List Line → List Answer → Catalog → Type 0
+abbrev Run : Catalog → List RowView → List Answer → Catalog → Type 0
 Run C lines answers C' = (es : List runs.Event) × AreEventsOf lines answers es × runs.IsRun C es C'
 
-row_first : (C D C' : Catalog) (line : Line) (a : Answer) (lines : List Line) (answers : List Answer) → Told C line a D → Run D lines answers C' → Run C (line ∷ lines) (a ∷ answers) C'
+row_first : (C D C' : Catalog) (line : RowView) (a : Answer) (lines : List RowView) (answers : List Answer) → Told C line a D → Run D lines answers C' → Run C (line ∷ lines) (a ∷ answers) C'
 row_first C D C' line a lines answers here rest = elim here [
   | inl h ↦ (rest.0, inl (h.0, rest.1), subst (λ (X : Catalog). runs.IsRun X rest.0 C') h.1 rest.2)
   | inr h ↦ (h.0 ∷ rest.0, inr (h.0, rest.0, refl, h.1, rest.1), (D, h.2, rest.2))
 ]
 
-pub plays_run : (s t : State Catalog) (lines : List Line) (answers : List Answer) → Plays Happens s lines answers t → Run s.0 lines answers t.0
+pub plays_run : (s t : State Catalog) (lines : List RowView) (answers : List Answer) → Plays Happens s lines answers t → Run s.0 lines answers t.0
 plays_run s t [] [] h = ([], refl, ap (λ (x : State Catalog). x.0) h)
 plays_run s t [] (a ∷ as') h = absurd h
 plays_run s t (l ∷ ls) [] h = absurd h
@@ -132,69 +127,48 @@ plays_run s t (l ∷ ls) (a ∷ as') h = row_first s.0 h.0.0 t.0 l a ls as' (row
 
 -- ---- the commands that rows spell
 
--- the commands of rows, each of which spells one or is refused for a field
-abbrev pub Spell : List Line → List Command → Type 0
-Spell [] cs = cs ≡ []
-Spell (l ∷ ls) cs = (((r : Refusal) × IsMisspelt l r) × Spell ls cs) ⊎ ((c : Command) × (rest : List Command) × (cs ≡ c ∷ rest) × Spells l c × Spell ls rest)
+abbrev with_spelled : Result (Option Command) Refusal → List Command → List Command
+with_spelled (Ok (Some c)) cs = c ∷ cs
+with_spelled (Ok None) cs = cs
+with_spelled (Err refusal) cs = cs
 
-pub one_spelling : (ls : List Line) (cs ds : List Command) → Spell ls cs → Spell ls ds → cs ≡ ds
-one_spelling [] cs ds h k = h ∙ sym k
-one_spelling (l ∷ ls) cs ds h k = elim h [
-  | inl a ↦ elim k [
-    | inl b ↦ one_spelling ls cs ds a.1 b.1
-    | inr b ↦ absurd (well_spelt l b.0 a.0.0 b.3 a.0.1)
-  ]
-  | inr a ↦ elim k [
-    | inl b ↦ absurd (well_spelt l a.0 b.0.0 a.3 b.0.1)
-    | inr b ↦ a.2 ∙ (λ i. same_command l a.0 b.0 a.3 b.3 i ∷ one_spelling ls a.1 b.1 a.4 b.4 i) ∙ sym b.2
-  ]
-]
+abbrev pub spelled : List RowView → List Command
+spelled [] = []
+spelled (l ∷ ls) = with_spelled (command_of l) (spelled ls)
 
-repo_named : (l : Line) (c : Command) → Spells l c → runs.repo_of c ≡ l.repo
-repo_named l (Start repo) h = h.1.0
-repo_named l (Status repo n) h = h.1.0
-repo_named l (Append repo n range bytes) h = h.1.0
-repo_named l (Close repo n digest range bytes) h = h.1.0
-repo_named l (Abandon repo n) h = h.1.0
-repo_named l (Mount repo digest from) h = h.1.0
-repo_named l (Delete repo digest) h = h.1.0
-repo_named l (PutManifest repo bytes) h = h.1.0
-repo_named l (GetManifest repo digest) h = h.1.0
-repo_named l (DeleteManifest repo digest) h = h.1.0
-repo_named l (Lease repo digest) h = h.1.0
+module _ (l : RowView) (R : List RowView) (cs : List Command) (same : cs ≡ spelled R) where
+  refused : (b : Bool) (r : Refusal) → command_of l ≡ Err r → cs ≡ spelled (if b then l ∷ R else R)
+  refused true r is = rw is same
+  refused false r is = same
 
-module _ (l : Line) (R : List Line) where
-  called : (b : Bool) (c : Command) (reply : Result runs.Answer Refusal) (E : List runs.Event) → Spells l c → Spell R (commands E) → Spell (if b then l ∷ R else R) (commands (if b then runs.Called c reply ∷ E else E))
-  called true c reply E spells rest = inr (c, commands E, refl, spells, rest)
-  called false c reply E spells rest = rest
+  skipped : (b : Bool) → uses_repo l.verb ≡ false → cs ≡ spelled (if uses_repo l.verb && b then l ∷ R else R)
+  skipped b none = rw none same
 
-  refused : (b : Bool) (cs : List Command) → (r : Refusal) × IsMisspelt l r → Spell R cs → Spell (if b then l ∷ R else R) cs
-  refused true cs bad rest = inl (bad, rest)
-  refused false cs bad rest = rest
-
-  skipped : (b : Bool) (cs : List Command) → uses_repo l.verb ≡ false → Spell R cs → Spell (if uses_repo l.verb && b then l ∷ R else R) cs
-  skipped b cs none rest = rw none rest
+called : (l : RowView) (R : List RowView) (b : Bool) (c : Command) (reply : Result runs.Answer Refusal) (E : List runs.Event) → command_of l ≡ Ok (Some c) → commands E ≡ spelled R
+    → commands (if b then runs.Called c reply ∷ E else E) ≡ spelled (if b then l ∷ R else R)
+called l R true c reply E spells same = rw spells (ap (λ (cs : List Command). c ∷ cs) same)
+called l R false c reply E spells same = same
 
 module _ (tenants : List Tenant) (t : ℕ) where
-  event_spelled : (l : Line) (ls : List Line) (a : Answer) (e : runs.Event) (rest : List runs.Event) → IsEvent l a e → Spell (rows_of tenants t ls) (commands (events_of tenants t rest)) → Spell (rows_of tenants t (l ∷ ls)) (commands (events_of tenants t (e ∷ rest)))
+  event_spelled : (l : RowView) (ls : List RowView) (a : Answer) (e : runs.Event) (rest : List runs.Event) → IsEvent l a e → commands (events_of tenants t rest) ≡ spelled (rows_of tenants t ls) → commands (events_of tenants t (e ∷ rest)) ≡ spelled (rows_of tenants t (l ∷ ls))
   event_spelled l ls a (runs.Called c reply) rest h more =
       let R = rows_of tenants t ls in
       let all = commands (events_of tenants t (runs.Called c reply ∷ rest)) in
       let here = called l R (is_tenants tenants t (runs.repo_of c)) c reply (events_of tenants t rest) h.0 more in
-      let named = subst (λ (r : Text). Spell (if is_tenants tenants t r then l ∷ R else R) all) (repo_named l c h.0) here in
-      subst (λ (u : Bool). Spell (if u && is_tenants tenants t l.repo then l ∷ R else R) all) (sym (names_repo l c h.0)) named
-  event_spelled l ls a (runs.Cleaned swept) rest h more = skipped l (rows_of tenants t ls) (is_tenants tenants t l.repo) (commands (events_of tenants t rest)) (ap uses_repo h.0) more
+      let named = subst (λ (r : Text). all ≡ spelled (if is_tenants tenants t r then l ∷ R else R)) (repo_spelled l c h.0) here in
+      subst (λ (u : Bool). all ≡ spelled (if u && is_tenants tenants t l.repo then l ∷ R else R)) (sym (names_repo l c h.0)) named
+  event_spelled l ls a (runs.Swept swept) rest h more = skipped l (rows_of tenants t ls) (commands (events_of tenants t rest)) more (is_tenants tenants t l.repo) (ap uses_repo h.0)
 
   -- the commands among a tenant's events are those that its rows spell
-  pub spelled_of : (lines : List Line) (answers : List Answer) (es : List runs.Event) → AreEventsOf lines answers es → AllByRecursion (λ answer. answer ≢ NameTaken) answers → Spell (rows_of tenants t lines) (commands (events_of tenants t es))
-  spelled_of [] [] es h free = subst (λ (xs : List runs.Event). commands (events_of tenants t xs) ≡ []) (sym h) refl
+  pub spelled_of : (lines : List RowView) (answers : List Answer) (es : List runs.Event) → AreEventsOf lines answers es → AllByRecursion (λ answer. answer ≢ NameTaken) answers → commands (events_of tenants t es) ≡ spelled (rows_of tenants t lines)
+  spelled_of [] [] es h free = ap (λ (xs : List runs.Event). commands (events_of tenants t xs)) h
   spelled_of [] (a ∷ as') es h free = absurd h
   spelled_of (l ∷ ls) [] es h free = absurd h
   spelled_of (l ∷ ls) (a ∷ as') es h free = elim h [
-    | inl (inl bad, more) ↦ refused l (rows_of tenants t ls) (uses_repo l.verb && is_tenants tenants t l.repo) (commands (events_of tenants t es)) (bad.1.0, bad.1.1) (spelled_of ls as' es more free.1)
+    | inl (inl bad, more) ↦ refused l (rows_of tenants t ls) (commands (events_of tenants t es)) (spelled_of ls as' es more free.1) (uses_repo l.verb && is_tenants tenants t l.repo) bad.0 bad.1
     | inl (inr (inl taken), more) ↦ absurd (free.0 taken.1)
-    | inl (inr (inr own), more) ↦ skipped l (rows_of tenants t ls) (is_tenants tenants t l.repo) (commands (events_of tenants t es)) own.0 (spelled_of ls as' es more free.1)
-    | inr e ↦ subst (λ (xs : List runs.Event). Spell (rows_of tenants t (l ∷ ls)) (commands (events_of tenants t xs))) (sym e.2) (event_spelled l ls a e.0 e.1 e.3 (spelled_of ls as' e.1 e.4 free.1))
+    | inl (inr (inr own), more) ↦ skipped l (rows_of tenants t ls) (commands (events_of tenants t es)) (spelled_of ls as' es more free.1) (is_tenants tenants t l.repo) own.0
+    | inr e ↦ ap (λ (xs : List runs.Event). commands (events_of tenants t xs)) e.2 ∙ event_spelled l ls a e.0 e.1 e.3 (spelled_of ls as' e.1 e.4 free.1)
   ]
 
 -- ---- the premises of the law on tenants

@@ -1,15 +1,17 @@
 -- The rows of a script have a run.
 use Rattle.std.proofs.Common.{◌≡◌, ◌≢◌, ◌∙◌, ◌∷◌, [], ℕ, List, Bool, false, true, inl, inr, length, Option, Some, None, Result, Ok, Err, ap, refl, subst, sym}
-use Rattle.std.specs.Prelude.{if◌then◌else◌, nat_lt, not, ◌==◌, ◌||◌, ◌+◌, ◌-◌}
+use Rattle.std.specs.Prelude.{◌^◌, if◌then◌else◌, nat_le, nat_lt, not, ◌==◌, ◌||◌, ◌+◌, ◌-◌}
 use Rattle.std.specs.FinMap as fmap
 use Rattle.std.specs.Option.{ok_or}
 use Rattle.std.proofs.lemmas.Bool.{false≢true}
-use Rattle.blob_digest.specs.Digests.{sha256_text}
+use Rattle.blob_digest.specs.Digests.{is_digest_text, sha256_text}
 use Rattle.finite_maps.specs.Texts.{Text, same_text}
+use Rattle.blob_digest.specs.NameMachine.{is_repo_name}
 use Rattle.finite_maps.specs.Outcomes.{◌>>=◌, refuse}
 use Rattle.blob_digest.specs.declared.range.ByteRange.{ByteRange}
 use Rattle.blob_digest.specs.declared.refusal.Refusal.{Refusal}
 use Rattle.blob_digest.specs.declared.refusal.Refusal.TheVariants as no
+use Rattle.blob_digest.specs.Ranges.{range_of}
 use Rattle.oci_manifest.specs.Manifests.{refs_of, max_manifest}
 use Rattle.store_model.specs.Catalog.{Catalog, Chunks, Home, InHand, Session as Upload, holds, received, tenant_of}
 use Rattle.store_model.specs.Runs as runs
@@ -18,17 +20,22 @@ use Rattle.store_model.specs.Commands.{length_after, not_busy, session_in, whole
 use Rattle.store_model.specs.declared.mount.Mount.{Mount as Mounting}
 use Rattle.store_model.specs.declared.mount.Mount.TheVariants as mounting
 use Rattle.store_model.proofs.Commands.SomeSweep.{after, some_sweep, swept}
-use Rattle.row_player.specs.Answers.{Answer, Leased, Shared, Verified, NoLease, NameTaken, Cleaned, Refused, mount_answer}
-use Rattle.row_player.specs.Commands.{Command, Start, Status, Append, Close, Abandon, Mount, Delete, PutManifest, GetManifest, DeleteManifest, Lease, uses_repo}
+use Rattle.row_player.specs.Answers.{Answer, Leased, Shared, Verified, NoLease, NameTaken, Swept, Refused, mount_answer}
+use Rattle.row_player.specs.Commands.{Command, Start, Status, Append, Close, Abandon, Mount, Delete, PutManifest, GetManifest, DeleteManifest, Lease, command_of, digest_in, range_by, range_in, range_with, repo_in, source_in, uses_digest, uses_range, uses_repo, uses_source, where_used}
 use Rattle.row_player.specs.Leases.{Leases, Lent, Name, halved, new_lease}
-use Rattle.blobctl.specs.Played.{Happens, answered, outcome, row_answer, told}
-use Rattle.row_player.specs.Plays.{Plays, RowStep, State, VerifiesLease, LendsWhereFree, give_back_of, name_of, named, piece_of, read_of, second_of, share_of, shared_in}
-use Rattle.row_player.specs.Rows.{Line}
+use Rattle.blobctl.specs.Played.{Happens, outcome, result_of, row_answer}
+use Rattle.row_player.specs.Plays.{Plays, RowStep, State, StepOf, VerifiesLease, LendsWhereFree, give_back_of, name_of, named, piece_of, read_of, second_of, share_of, shared_in}
+use Rattle.row_player.specs.Rows.{RowView}
 use Rattle.row_player.specs.declared.row.Verb.{Verb}
 use Rattle.row_player.specs.declared.row.Verb.TheVariants as verb
-use Rattle.blobctl.proofs.SomeCommand.{AllFit, Fits, Misspelt, command_or_not, lease_or_not, wants_memory}
+use Rattle.blobctl.proofs.SomeCommand.{AllFit, Fits, has_command, has_lease}
 
 -- ---- no outcome is want of memory
+
+-- whether a refusal is want of memory
+abbrev pub wants_memory : Refusal → Bool
+wants_memory no.Memory = true
+wants_memory _ = false
 
 -- what is refused isn't want of memory
 abbrev Fine : {A : Type 0} → Result A Refusal → Type 0
@@ -68,6 +75,38 @@ length_fine max_blob before (Some range) n =
 unreferenced_fine : (o : Option Text) → Fine (steps.unreferenced o)
 unreferenced_fine None = tt
 unreferenced_fine (Some manifest) = refl
+
+-- ---- nor is a field's refusal
+
+used_fine : {A : Type 0} (uses : Bool) (other : A) (r : Result A Refusal) → Fine r → Fine (where_used uses other r)
+used_fine true other r fine = fine
+used_fine false other r fine = tt
+
+source_fine : (text : Text) → Fine (source_in text)
+source_fine [] = tt
+source_fine (x ∷ xs) = if_fine (is_repo_name (x ∷ xs)) (Ok (Some (x ∷ xs))) (Err no.NameInvalid) tt refl
+
+ends_fine : (start end : ℕ) (o s : Bool) (p : nat_le start end ≡ o) (q : nat_lt end (2 ^ 63) ≡ s) → Fine (range_by start end o s p q)
+ends_fine start end true true p q = tt
+ends_fine start end true false p q = refl
+ends_fine start end false s p q = refl
+
+range_with_fine : (o : Option (ℕ × ℕ)) → Fine (range_with o)
+range_with_fine None = refl
+range_with_fine (Some r) = ends_fine r.0 r.1 (nat_le r.0 r.1) (nat_lt r.1 (2 ^ 63)) refl refl
+
+range_fine : (text : Text) → Fine (range_in text)
+range_fine [] = tt
+range_fine (x ∷ xs) = range_with_fine (range_of (x ∷ xs))
+
+command_fine : (row : RowView) → Fine (command_of row)
+command_fine row =
+    bind_fine (where_used (uses_repo row.verb) [] (repo_in row.repo)) _ (used_fine (uses_repo row.verb) [] (repo_in row.repo) (if_fine (is_repo_name row.repo) (Ok row.repo) (Err no.NameInvalid) tt refl))
+    (λ _. bind_fine (where_used (uses_source row.verb) None (source_in row.key)) _ (used_fine (uses_source row.verb) None (source_in row.key) (source_fine row.key))
+    (λ _. bind_fine (where_used (uses_digest row.verb) [] (digest_in row.digest)) _ (used_fine (uses_digest row.verb) [] (digest_in row.digest) (if_fine (is_digest_text row.digest) (Ok row.digest) (Err no.DigestInvalid) tt refl))
+    (λ _. bind_fine (where_used (uses_range row.verb) None (range_in row.range)) _ (used_fine (uses_range row.verb) None (range_in row.range) (range_fine row.range)) (λ _. tt))))
+
+-- ---- nor a command's
 
 module _ (C : Catalog) where
   tenant_fine : (repo : Text) → Fine (steps.tenant C repo)
@@ -140,7 +179,7 @@ abbrev Told : steps.Outcome Answer → Type 0
 Told (Ok x) = Good x.0
 Told (Err e) = wants_memory e ≡ false
 
-told_good : {A : Type 0} (inner : A → runs.Answer) (answer : runs.Answer → Answer) → ((a : A) → Good (answer (inner a))) → (o : steps.Outcome A) → Fine o → Told (told answer (runs.answered inner o))
+told_good : {A : Type 0} (inner : A → runs.Answer) (answer : runs.Answer → Answer) → ((a : A) → Good (answer (inner a))) → (o : steps.Outcome A) → Fine o → Told (runs.answered answer (runs.answered inner o))
 told_good inner answer good (Ok x) fine = good x.0
 told_good inner answer good (Err e) fine = fine
 
@@ -149,7 +188,7 @@ mount_good mounting.Mounted = tt
 mount_good (mounting.Session number) = tt
 
 module _ (C : Catalog) where
-  read_good : {A : Type 0} (inner : A → runs.Answer) (answer : runs.Answer → Answer) → ((a : A) → Good (answer (inner a))) → (r : Result A Refusal) → Fine r → Told (told answer (runs.told inner C r))
+  read_good : {A : Type 0} (inner : A → runs.Answer) (answer : runs.Answer → Answer) → ((a : A) → Good (answer (inner a))) → (r : Result A Refusal) → Fine r → Told (runs.answered answer (runs.told inner C r))
   read_good inner answer good (Ok x) fine = good x
   read_good inner answer good (Err e) fine = fine
 
@@ -166,9 +205,9 @@ module _ (C : Catalog) where
   outcome_good (DeleteManifest repo digest) = told_good (λ _. runs.Done) (row_answer (DeleteManifest repo digest)) (λ _. tt) (steps.delete_manifest C repo digest) (drop_fine C repo digest)
   outcome_good (Lease repo digest) = told_good runs.Bytes (row_answer (Lease repo digest)) (λ _. tt) (steps.lease false C repo digest) (lease_fine C repo digest)
 
-  answered_good : (o : steps.Outcome Answer) → Told o → Good (answered C o).0
-  answered_good (Ok x) good = good
-  answered_good (Err e) good = good
+  result_good : (o : steps.Outcome Answer) → Told o → Good (result_of C o).0
+  result_good (Ok x) good = good
+  result_good (Err e) good = good
 
 -- ---- rows
 
@@ -190,49 +229,46 @@ give_back_good : (L : Leases) (name : Name) (o : Option Lent) → Good (give_bac
 give_back_good L name None = tt
 give_back_good L name (Some lease) = tt
 
-module _ (s : State Catalog) (line : Line) where
+module _ (s : State Catalog) (line : RowView) where
   -- a row has an answer, and leaves something
   abbrev Step : Type 0
   Step = (a : Answer) × (t : State Catalog) × RowStep Happens s line a t × Good a
 
-  refused : uses_repo line.verb ≡ true → Misspelt line → Step
-  refused uses bad = (Refused bad.0, s, inl (inl ((uses, (bad.0, bad.1, refl)), refl), refl), bad.2)
+  refused : (refusal : Refusal) → command_of line ≡ Err refusal → Step
+  refused refusal is = (Refused refusal, s, inl (subst (λ (o : Result (Option Command) Refusal). StepOf Happens o s.0 (Refused refusal) s.0) (sym is) (refl, refl), refl), subst (λ (o : Result (Option Command) Refusal). Fine o) is (command_fine line))
 
-  store_step : Fits line → uses_repo line.verb ≡ true → line.verb ≢ verb.Lease → Step
-  store_step fit uses other = elim (command_or_not line fit uses other) [
-    | inr bad ↦ refused uses bad
-    | inl c ↦ (
-        let x : Answer × Catalog = answered s.0 (outcome s.0 c.0) in
-        (x.0, (x.1, s.1), inl (inr (c.0, c.1, c.2, refl), refl), answered_good s.0 (outcome s.0 c.0) (outcome_good s.0 c.0))
-        )
-  ]
+  store_step : Fits line → uses_repo line.verb ≡ true → line.verb ≢ verb.Lease → (o : Result (Option Command) Refusal) → command_of line ≡ o → Step
+  store_step fit uses other (Err refusal) is = refused refusal is
+  store_step fit uses other (Ok o) is =
+      let c = has_command line fit uses other o is in
+      let x : Answer × Catalog = result_of s.0 (outcome s.0 c.0) in
+      let spells : command_of line ≡ Ok (Some c.0) = is ∙ ap (λ (p : Option Command). Ok p) c.1 in
+      (x.0, (x.1, s.1), inl (subst (λ (o : Result (Option Command) Refusal). StepOf Happens o s.0 x.0 x.1) (sym spells) (c.2, refl), refl), result_good s.0 (outcome s.0 c.0) (outcome_good s.0 c.0))
 
   abbrev Lending : Option Lent → Type 0
   Lending o = (a : Answer) × (t : State Catalog) × LendsWhereFree Happens o s line a t × Good a
 
   lends : (o : steps.Outcome Text) → steps.lease false s.0 line.repo line.digest ≡ o → Fine o → Lending None
-  lends (Ok x) is fine = (Leased (length x.0), (x.1, fmap.insert s.1 (name_of line) (new_lease x.0)), inl (x.0, ap (λ (o : steps.Outcome Text). answered s.0 (told (row_answer (Lease line.repo line.digest)) (runs.answered runs.Bytes o))) (sym is), refl, refl), tt)
-  lends (Err e) is fine = (Refused e, s, inr (e, ap (λ (o : steps.Outcome Text). answered s.0 (told (row_answer (Lease line.repo line.digest)) (runs.answered runs.Bytes o))) (sym is), refl, refl), fine)
+  lends (Ok x) is fine = (Leased (length x.0), (x.1, fmap.insert s.1 (name_of line) (new_lease x.0)), inl (x.0, ap (λ (o : steps.Outcome Text). result_of s.0 (runs.answered (row_answer (Lease line.repo line.digest)) (runs.answered runs.Bytes o))) (sym is), refl, refl), tt)
+  lends (Err e) is fine = (Refused e, s, inr (e, ap (λ (o : steps.Outcome Text). result_of s.0 (runs.answered (row_answer (Lease line.repo line.digest)) (runs.answered runs.Bytes o))) (sym is), refl, refl), fine)
 
   lending : (o : Option Lent) → Lending o
   lending (Some lease) = (NameTaken, s, (refl, refl), tt)
   lending None = lends (steps.lease false s.0 line.repo line.digest) refl (lease_fine s.0 line.repo line.digest)
 
-  lease_step : line.verb ≡ verb.Lease → Step
-  lease_step is = elim (lease_or_not line is) [
-    | inr bad ↦ refused (ap uses_repo is) bad
-    | inl spells ↦ (let x = lending (named s.1 line) in (x.0, x.1, inr (inl (spells, x.2)), x.3))
-  ]
+  lease_step : line.verb ≡ verb.Lease → (o : Result (Option Command) Refusal) → command_of line ≡ o → Step
+  lease_step leases (Err refusal) is = refused refusal is
+  lease_step leases (Ok o) is = let x = lending (named s.1 line) in (x.0, x.1, inr (inl (leases, has_lease line leases o is, x.2)), x.3)
 
   verifying : (o : Option Lent) → (a : Answer) × (C : Catalog) × VerifiesLease Happens o s.0 a C × Good a
   verifying None = (NoLease, s.0, (refl, refl), tt)
   verifying (Some lease) = (Verified (length lease.bytes), s.0, (refl, refl), tt)
 
   of_store : Fits line → (v : Verb) → line.verb ≡ v → uses_repo v ≡ true → v ≢ verb.Lease → Step
-  of_store fit v is uses other = store_step fit (ap uses_repo is ∙ uses) (λ e. other (sym is ∙ e))
+  of_store fit v is uses other = store_step fit (ap uses_repo is ∙ uses) (λ e. other (sym is ∙ e)) (command_of line) refl
 
   step : Fits line → (v : Verb) → line.verb ≡ v → Step
-  step fit verb.Lease is = lease_step is
+  step fit verb.Lease is = lease_step is (command_of line) refl
   step fit verb.Read is = (read_of (named s.1 line) (piece_of line.range), s, inr (inr (inl (is, refl, refl))), read_of_good (named s.1 line) (piece_of line.range))
   step fit verb.Share is =
       let x : Answer × Leases = shared_in s.1 (name_of line) (second_of line) in
@@ -241,7 +277,7 @@ module _ (s : State Catalog) (line : Line) where
   step fit verb.GiveBack is =
       let x : Answer × Leases = give_back_of s.1 (name_of line) (named s.1 line) in
       (x.0, (s.0, x.1), inr (inr (inr (inr (inr (inl (is, refl, refl)))))), give_back_good s.1 (name_of line) (named s.1 line))
-  step fit verb.Sweep is = (Cleaned (swept s.0), (after s.0, s.1), inr (inr (inr (inr (inr (inr (is, (swept s.0, refl, some_sweep s.0, refl), refl)))))), tt)
+  step fit verb.Sweep is = (Swept (swept s.0), (after s.0, s.1), inr (inr (inr (inr (inr (inr (is, (swept s.0, refl, some_sweep s.0, refl), refl)))))), tt)
   step fit verb.Start is = of_store fit verb.Start is refl (λ e. absurd (let h = e in cc))
   step fit verb.Status is = of_store fit verb.Status is refl (λ e. absurd (let h = e in cc))
   step fit verb.Append is = of_store fit verb.Append is refl (λ e. absurd (let h = e in cc))
@@ -254,7 +290,7 @@ module _ (s : State Catalog) (line : Line) where
   step fit verb.DeleteManifest is = of_store fit verb.DeleteManifest is refl (λ e. absurd (let h = e in cc))
 
 -- rows that fit their commands are answered, and leave something
-pub some_run : (s : State Catalog) (lines : List Line) → AllFit lines → (answers : List Answer) × (t : State Catalog) × Plays Happens s lines answers t
+pub some_run : (s : State Catalog) (lines : List RowView) → AllFit lines → (answers : List Answer) × (t : State Catalog) × Plays Happens s lines answers t
 some_run s [] fit = ([], s, refl)
 some_run s (line ∷ lines) fit =
     let here = step s line fit.0 line.verb refl in

@@ -10,7 +10,7 @@ use Rattle.blobctl.specs.Inputs.{IsTooLong, max_script}
 use Rattle.blobctl.specs.Played.{Played}
 use Rattle.row_player.specs.Answers.{Answer}
 use Rattle.row_player.specs.Replies.{replies_text}
-use Rattle.row_player.specs.Rows.{Line}
+use Rattle.row_player.specs.Rows.{RowView}
 use Rattle.row_player.specs.Shares.{own_answers}
 use Rattle.store_model.specs.Catalog.{Catalog}
 use Rattle.store_model.specs.Invariant.{Sound}
@@ -44,7 +44,7 @@ pub record EndsWell {R : Type 0} (remaining : R → Option (List ℕ)) (old new 
 -- What workers that play rows together on a store of these tenants and limits write: one reply to each row, in the order of the rows, of
 -- which each worker's are those of playing its rows in their order; and then a book that is sound, of the tenants, quotas, slots and limit
 -- on blobs that the store was opened with.
-pub record PlayedTogether (workers : ℕ) (tenants : List Tenant) (slots max_blob : ℕ) (rows : List Line) (text : Text) : Type 0 where
+pub record PlayedTogether (workers : ℕ) (tenants : List Tenant) (slots max_blob : ℕ) (rows : List RowView) (text : Text) : Type 0 where
   pub answers : List Answer
   pub one_each : length answers ≡ length rows
   pub own : (w : ℕ) → w < workers → (desk : Amounts) × IsPlayed workers w rows desk (own_answers workers w rows answers)
@@ -59,7 +59,7 @@ pub record PlayedTogether (workers : ℕ) (tenants : List Tenant) (slots max_blo
 pub record EndsTogether {R : Type 0} (remaining : R → Option (List ℕ)) (old new : Watched R) (held holds : Option (List ℕ)) (workers : ℕ) (tenants : List Tenant) (slots max_blob : ℕ) : Type 0 where
   pub script : Text
   pub read : IsReadWhole remaining old new script
-  pub rows : List Line
+  pub rows : List RowView
   pub all : AreRowsOf script rows
   pub text : Text
   pub written : Appends held holds text
@@ -70,5 +70,5 @@ pub record EndsTogether {R : Type 0} (remaining : R → Option (List ℕ)) (old 
 abbrev pub Explains : {R : Type 0} → (R → Option (List ℕ)) → Watched R → Watched R → Fault → Type 0
 Explains remaining old new (BadRow n) = (script : Text) × IsReadWhole remaining old new script × IsFirstBad script n
 Explains remaining old new Read = (has_failed new ≡ true) ⊎ IsTooLong (remaining (inner_of old)) (remaining (inner_of new))
-Explains remaining old new Write = (script : Text) × IsReadWhole remaining old new script × (rows : List Line) × AreRowsOf script rows
+Explains remaining old new Write = (script : Text) × IsReadWhole remaining old new script × (rows : List RowView) × AreRowsOf script rows
 Explains remaining old new Memory = HasNotFailed old new

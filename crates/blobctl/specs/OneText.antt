@@ -5,14 +5,14 @@ use Rattle.blob_digest.specs.Tenants.{Tenant}
 use Rattle.store_model.specs.Catalog.{Catalog}
 use Rattle.store_book.specs.Openings.{OpensCatalog}
 use Rattle.blobctl.specs.Played.{Played}
-use Rattle.row_player.specs.Rows.{Line}
+use Rattle.row_player.specs.Rows.{RowView}
 use Rattle.blobctl.specs.Script.{AreRowsOf}
 use Rattle.row_player.specs.declared.row.Verb.TheVariants as verb
 
 -- no row leases a blob
-abbrev pub LeaseNothing : List Line → Type 0
+abbrev pub LeaseNothing : List RowView → Type 0
 LeaseNothing [] = Unit {0}
-LeaseNothing (line ∷ lines) = (line.verb ≢ verb.Lease) × LeaseNothing lines
+LeaseNothing (row ∷ rows) = (row.verb ≢ verb.Lease) × LeaseNothing rows
 
 -- Two texts that playing one script writes, none of whose rows leases a blob, are the same.
 abbrev pub HasOneText : Type 0
@@ -20,4 +20,4 @@ HasOneText = (tenants : List Tenant) (slots max_blob : ℕ) (script text other :
 
 -- A script without bad rows has a text on each opening catalog, whatever its rows do: each of them has an answer.
 abbrev pub HasText : Type 0
-HasText = (tenants : List Tenant) (slots max_blob : ℕ) (first : Catalog) (script : Text) (rows : List Line) → OpensCatalog tenants slots max_blob first → AreRowsOf script rows → (text : Text) × Played tenants slots max_blob script text
+HasText = (tenants : List Tenant) (slots max_blob : ℕ) (first : Catalog) (script : Text) (rows : List RowView) → OpensCatalog tenants slots max_blob first → AreRowsOf script rows → (text : Text) × Played tenants slots max_blob script text

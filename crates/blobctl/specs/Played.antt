@@ -12,13 +12,13 @@ use Rattle.store_model.specs.Commands as steps
 use Rattle.store_book.specs.BookState.{BookState, SlotSeen}
 use Rattle.store_book.specs.SlotSteps.{EachSlot, HasLast, IsCrowded}
 use Rattle.store_model.specs.Sweep.{IsSweep}
-use Rattle.store_model.specs.declared.swept.Swept.{Swept}
-use Rattle.row_player.specs.Answers.{Answer, Session, Received, Stored, Abandoned, Deleted, Manifest, Body, Bytes, Verified, Cleaned, Refused, mount_answer}
+use Rattle.store_model.specs.declared.swept.Swept.{Swept as SweptCounts}
+use Rattle.row_player.specs.Answers.{Answer, Session, Received, Stored, Abandoned, Deleted, Manifest, Body, Bytes, Verified, Swept, Refused, mount_answer}
 use Rattle.row_player.specs.Commands.{Command, Start, Close, Abandon, PutManifest, GetManifest, Lease, Request, Calls, Verifies, Sweeps}
 use Rattle.row_player.specs.Leases as leases
 use Rattle.row_player.specs.Plays.{Plays}
 use Rattle.row_player.specs.Replies.{replies_text}
-use Rattle.row_player.specs.Rows.{Line}
+use Rattle.row_player.specs.Rows.{RowView}
 use Rattle.blobctl.specs.Script.{AreRowsOf}
 
 -- what a row is answered where its command gives this number
@@ -41,27 +41,22 @@ row_answer command (runs.Mounting mounted) = mount_answer mounted
 row_answer command (runs.Bytes bytes) = bytes_answer command bytes
 row_answer command runs.Done = Deleted
 
--- an outcome with its answer told as that of a row
-abbrev pub told : {A : Type 0} → (A → Answer) → steps.Outcome A → steps.Outcome Answer
-told answer (Ok x) = Ok (answer x.0, x.1)
-told answer (Err refusal) = Err refusal
-
 -- what a command answers and leaves, where no slot has too many readers
 abbrev pub outcome : Catalog → Command → steps.Outcome Answer
-outcome C command = told (row_answer command) (runs.outcome false C command)
+outcome C command = runs.answered (row_answer command) (runs.outcome false C command)
 
 -- what an outcome answers and leaves: a refusal changes nothing
-abbrev pub answered : Catalog → steps.Outcome Answer → Answer × Catalog
-answered C (Ok x) = x
-answered C (Err refusal) = (Refused refusal, C)
+abbrev pub result_of : Catalog → steps.Outcome Answer → Answer × Catalog
+result_of C (Ok x) = x
+result_of C (Err refusal) = (Refused refusal, C)
 
 -- a command leads from one catalog to another with its answer
 abbrev pub HappensCall : Catalog → Command → Answer → Catalog → Type 0
-HappensCall C command answer C' = (answer, C') ≡ answered C (outcome C command)
+HappensCall C command answer C' = (answer, C') ≡ result_of C (outcome C command)
 
 -- a sweep leads from one catalog to another, and retires no slot
 abbrev pub HappensSweep : Catalog → Answer → Catalog → Type 0
-HappensSweep C answer C' = (swept : Swept) × (answer ≡ Cleaned swept) × IsSweep C swept C' × (swept.retired ≡ 0)
+HappensSweep C answer C' = (swept : SweptCounts) × (answer ≡ Swept swept) × IsSweep C swept C' × (swept.retired ≡ 0)
 
 -- what a store is asked for leads from one catalog to another; neither want of memory nor too many readers is answered
 abbrev pub Happens : Catalog → Request → Answer → Catalog → Type 0
@@ -83,7 +78,7 @@ ActsCall C slots command answer C' = outcome C command ≡ Ok (answer, C')
 
 -- a sweep of a book, which retires a slot only in its last generation
 abbrev pub ActsSweep : BookState → Answer → Catalog → Type 0
-ActsSweep s answer C' = (swept : Swept) × (answer ≡ Cleaned swept) × IsSweep s.catalog swept C' × (0 < swept.retired → HasLast s.slots)
+ActsSweep s answer C' = (swept : SweptCounts) × (answer ≡ Swept swept) × IsSweep s.catalog swept C' × (0 < swept.retired → HasLast s.slots)
 
 -- a slot's generation rises by one at most, and the bound on its readers' weights by one reader's at most
 abbrev pub RisesByOne : SlotSeen → SlotSeen → Type 0
@@ -102,7 +97,7 @@ Acts s Sweeps answer t = ActsSweep s answer t.catalog × EachSlot RisesByOne s.s
 pub record Played (tenants : List Tenant) (slots max_blob : ℕ) (script text : Text) : Type 0 where
   pub first : Catalog
   pub opened : OpensCatalog tenants slots max_blob first
-  pub rows : List Line
+  pub rows : List RowView
   pub all : AreRowsOf script rows
   pub answers : List Answer
   pub last : Catalog

@@ -4,7 +4,7 @@ use Rattle.std.specs.Str.{bytes_eq}
 use Rattle.csv.specs.Records.{field_at}
 use Rattle.finite_maps.specs.Texts.{Text}
 use Rattle.blob_digest.specs.Ranges.{number_of}
-use Rattle.row_player.specs.Rows.{Line, fits}
+use Rattle.row_player.specs.Rows.{RowView, fits}
 use Rattle.row_player.specs.declared.row.Verb.{Verb}
 use Rattle.row_player.specs.declared.row.Verb.TheVariants.{Start, Status, Append, Close, Abandon, Mount, Delete, PutManifest, GetManifest, DeleteManifest, Lease, Read, Share, Verify, GiveBack, Sweep}
 
@@ -45,12 +45,12 @@ lane_of text = option_and_then (λ n. if nat_le (length text) 3 && nat_le n 255 
 abbrev pub head_of : Record → Option (ℕ × Verb)
 head_of fields = if length fields == 7 then option_and_then (λ lane. option_map (λ verb. (lane, verb)) (verb_of (field fields 1))) (lane_of (field fields 0)) else None
 
-abbrev pub line_with : Record → ℕ × Verb → Option Line
-line_with fields head =
+abbrev pub row_with : Record → ℕ × Verb → Option RowView
+row_with fields head =
     if fits head.1 (field fields 2) (field fields 3) (field fields 4) (field fields 5) (field fields 6)
     then Some (record { lane = head.0; verb = head.1; repo = field fields 2; key = field fields 3; digest = field fields 4; range = field fields 5; body = field fields 6 })
     else None
 
 -- the row of a record, or none where the record is bad
-abbrev pub row_of : Record → Option Line
-row_of fields = option_and_then (line_with fields) (head_of fields)
+abbrev pub row_of : Record → Option RowView
+row_of fields = option_and_then (row_with fields) (head_of fields)

@@ -7,7 +7,7 @@ use Rattle.finite_maps.specs.Texts.{Text}
 use Rattle.blobctl.specs.declared.fault.Fault.{Fault}
 use Rattle.blobctl.specs.declared.fault.Fault.TheVariants.{BadRow, Read, Write, Memory}
 use Rattle.blobctl.specs.Records.{Record, row_of}
-use Rattle.row_player.specs.Rows.{Line}
+use Rattle.row_player.specs.Rows.{RowView}
 
 -- these are all the records of the script (RFC 4180): no header row, no trimming, a byte order mark left out
 abbrev pub AreRecordsOf : Text → List Record → Type 0
@@ -18,7 +18,7 @@ abbrev pub BeginsWith : Text → List Record → Type 0
 BeginsWith script records = (s : State) × (rest : Text) × Reached default_config st.StartRecord (strip_bom script) records s rest
 
 -- each of these records is good, and these are their rows
-abbrev pub AreGood : List Record → List Line → Type 0
+abbrev pub AreGood : List Record → List RowView → Type 0
 AreGood records rows = map row_of records ≡ map Some rows
 
 -- how many rows a script may have
@@ -26,7 +26,7 @@ abbrev pub max_rows : ℕ
 max_rows = 65536
 
 -- these rows are the script's, one for each of its records
-pub record AreRowsOf (script : Text) (rows : List Line) : Type 0 where
+pub record AreRowsOf (script : Text) (rows : List RowView) : Type 0 where
   pub records : List Record
   pub all : AreRecordsOf script records
   pub good : AreGood records rows
@@ -35,7 +35,7 @@ pub record AreRowsOf (script : Text) (rows : List Line) : Type 0 where
 -- the record of this number, counted from 1, is the script's first bad one: it is no row, or one too many
 pub record IsFirstBad (script : Text) (number : ℕ) : Type 0 where
   pub before : List Record
-  pub rows : List Line
+  pub rows : List RowView
   pub bad : Record
   pub begins : BeginsWith script (before ++ bad ∷ [])
   pub good : AreGood before rows

@@ -1,5 +1,5 @@
 -- The replies and the book of a script are those of a run of commands and sweeps, and so the book depends on each tenant's rows alone.
-use Rattle.std.specs.Prelude.{◌≡◌, ◌≢◌, ◌⊎◌, ℕ, ◌&&◌, false, if◌then◌else◌, List, [], ◌∷◌, Result, Ok, Err, length}
+use Rattle.std.specs.Prelude.{◌≡◌, ◌≢◌, ◌⊎◌, ℕ, ◌&&◌, false, if◌then◌else◌, List, [], ◌∷◌, Some, Result, Ok, Err, length}
 use Rattle.std.specs.List.{AllByRecursion}
 use Rattle.finite_maps.specs.Texts.{Text}
 use Rattle.blob_digest.specs.Tenants.{Tenant, is_tenants}
@@ -7,10 +7,9 @@ use Rattle.blob_digest.specs.declared.refusal.Refusal.{Refusal}
 use Rattle.store_model.specs.Noninterference.{IsUncrowded, NoCollision, brought_in}
 use Rattle.store_model.specs.BookText.{book_text}
 use Rattle.store_model.specs.Runs as runs
-use Rattle.row_player.specs.Answers.{Answer, Leased, NameTaken, Cleaned, Refused}
-use Rattle.row_player.specs.Commands.{Command, Lease, Spells, uses_repo}
-use Rattle.row_player.specs.Plays.{IsRefused}
-use Rattle.row_player.specs.Rows.{Line}
+use Rattle.row_player.specs.Answers.{Answer, Leased, NameTaken, Swept, Refused}
+use Rattle.row_player.specs.Commands.{Command, Lease, command_of, uses_repo}
+use Rattle.row_player.specs.Rows.{RowView}
 use Rattle.row_player.specs.declared.row.Verb.TheVariants as verb
 use Rattle.blobctl.specs.Played.{Played, row_answer}
 
@@ -25,22 +24,26 @@ abbrev pub shown_reply : Command → Result runs.Answer Refusal → Answer
 shown_reply command (Ok answer) = shown_answer command answer
 shown_reply command (Err refusal) = Refused refusal
 
+-- a row is refused for a field that spells nothing
+abbrev pub IsRefused : RowView → Answer → Type 0
+IsRefused row answer = (refusal : Refusal) × (command_of row ≡ Err refusal) × (answer ≡ Refused refusal)
+
 -- a row is no event: a field of it spells nothing, the name of its lease is taken, or it is the row of a lease that the lane has
-abbrev pub IsNoEvent : Line → Answer → Type 0
-IsNoEvent line answer = IsRefused line answer ⊎ ((line.verb ≡ verb.Lease) × (answer ≡ NameTaken)) ⊎ ((uses_repo line.verb ≡ false) × (line.verb ≢ verb.Sweep))
+abbrev pub IsNoEvent : RowView → Answer → Type 0
+IsNoEvent row answer = IsRefused row answer ⊎ ((row.verb ≡ verb.Lease) × (answer ≡ NameTaken)) ⊎ ((uses_repo row.verb ≡ false) × (row.verb ≢ verb.Sweep))
 
 -- a row with its answer is this event: the command that it spells with its reply, or a sweep with its counts
-abbrev pub IsEvent : Line → Answer → runs.Event → Type 0
-IsEvent line answer (runs.Called command reply) = Spells line command × (answer ≡ shown_reply command reply)
-IsEvent line answer (runs.Cleaned swept) = (line.verb ≡ verb.Sweep) × (answer ≡ Cleaned swept)
+abbrev pub IsEvent : RowView → Answer → runs.Event → Type 0
+IsEvent row answer (runs.Called command reply) = (command_of row ≡ Ok (Some command)) × (answer ≡ shown_reply command reply)
+IsEvent row answer (runs.Swept swept) = (row.verb ≡ verb.Sweep) × (answer ≡ Swept swept)
 
 -- the events of rows with these answers, in their order
-abbrev pub AreEventsOf : List Line → List Answer → List runs.Event → Type 0
+abbrev pub AreEventsOf : List RowView → List Answer → List runs.Event → Type 0
 AreEventsOf [] [] events = events ≡ []
-AreEventsOf (line ∷ lines) (answer ∷ answers) events =
-    (IsNoEvent line answer × AreEventsOf lines answers events)
-    ⊎ ((event : runs.Event) × (rest : List runs.Event) × (events ≡ event ∷ rest) × IsEvent line answer event × AreEventsOf lines answers rest)
-AreEventsOf lines answers events = ⊥
+AreEventsOf (row ∷ rows) (answer ∷ answers) events =
+    (IsNoEvent row answer × AreEventsOf rows answers events)
+    ⊎ ((event : runs.Event) × (rest : List runs.Event) × (events ≡ event ∷ rest) × IsEvent row answer event × AreEventsOf rows answers rest)
+AreEventsOf rows answers events = ⊥
 
 -- the rows and answers of a script are these events, which lead from its first catalog to its last
 pub record IsRunOf {tenants : List Tenant} {slots max_blob : ℕ} {script text : Text} (one : Played tenants slots max_blob script text) (events : List runs.Event) : Type 0 where
@@ -54,9 +57,9 @@ ScriptsAreRuns = (tenants : List Tenant) (slots max_blob : ℕ) (script text : T
 -- ---- tenants
 
 -- the rows that name a tenant's repository first
-abbrev pub rows_of : List Tenant → ℕ → List Line → List Line
+abbrev pub rows_of : List Tenant → ℕ → List RowView → List RowView
 rows_of tenants t [] = []
-rows_of tenants t (line ∷ lines) = if uses_repo line.verb && is_tenants tenants t line.repo then line ∷ rows_of tenants t lines else rows_of tenants t lines
+rows_of tenants t (row ∷ rows) = if uses_repo row.verb && is_tenants tenants t row.repo then row ∷ rows_of tenants t rows else rows_of tenants t rows
 
 -- No two closes bring different wholes that have the same digest, and no reply is one that the rows of others can cause: no slot is free, or
 -- the lane has a lease of the name. Too many readers and want of memory are no replies of a script.

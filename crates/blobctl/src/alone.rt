@@ -2,7 +2,7 @@
 ghost use Rattle.std.specs.Prelude.{◌≡◌, IfOk, IfErr, map};
 ghost use Rattle.row_player.specs.Answers.{answers_of};
 ghost use Rattle.row_player.specs.Leases.{Leases as Held, none};
-ghost use Rattle.row_player.specs.Lines.{line_of};
+ghost use Rattle.row_player.specs.RowViews.{row_view};
 ghost use Rattle.blobctl.specs.Options.{IsWithin};
 ghost use Rattle.blobctl.specs.Played.{Acts, Happens};
 ghost use Rattle.row_player.specs.Plays.{Plays};
@@ -30,7 +30,7 @@ fn play_in<N: Naming>(
 ) -> Result<(Book, Vec<Reply>), Refusal>
     requires here { book.table ≡ N.table }
     requires there { pins.now ≡ N.table }
-    ensures played { IfOk result (λ p. (left : Held) × Plays Acts (book, none) (map line_of rows.now) (answers_of p.1.items) (p.0, left)) }
+    ensures played { IfOk result (λ p. (left : Held) × Plays Acts (book, none) (map row_view rows.now) (answers_of p.1.items) (p.0, left)) }
     ensures refused { IfErr result (λ e. e ≡ Refusal.Memory) }
 {
     let mut pinned: PinnedBook<'_, N> = PinnedBook {
@@ -56,7 +56,7 @@ pub fn play_alone(
 ) -> Result<(Book, Vec<Reply>), Refusal>
     requires within { IsWithin options.now }
     requires few { length rows.now ≤ max_rows }
-    ensures played { IfOk result (λ p. (first : Catalog) × (left : Held) × OpensCatalog (tenants_shown options.now.store.tenants.items) options.now.store.slots options.now.store.max_blob first × Plays Happens (first, none) (map line_of rows.now) (answers_of p.1.items) (p.0.catalog, left)) }
+    ensures played { IfOk result (λ p. (first : Catalog) × (left : Held) × OpensCatalog (tenants_shown options.now.store.tenants.items) options.now.store.slots options.now.store.max_blob first × Plays Happens (first, none) (map row_view rows.now) (answers_of p.1.items) (p.0.catalog, left)) }
     ensures refused { IfErr result (λ e. e ≡ Refusal.Memory) }
 {
     let (book, pins) = Book::new(alloc, &options.store)?;

@@ -1,7 +1,7 @@
 //! The row that a record's fields spell.
 ghost use Rattle.std.specs.Prelude.{◌≡◌, IfOk, option_map};
 ghost use Rattle.csv.specs.Records.{fields_of};
-ghost use Rattle.row_player.specs.Lines.{line_of};
+ghost use Rattle.row_player.specs.RowViews.{row_view};
 ghost use Rattle.blobctl.specs.Records.{field, head_of, lane_of, row_of, verb_of};
 
 use blob_digest::decimal;
@@ -83,7 +83,7 @@ fn head(fields: &ByteRecord) -> Option<(u8, Verb)>
 
 /// The row of a record, or none where the record is bad.
 pub fn read_row(alloc: Global, fields: &ByteRecord) -> Result<Option<Row>, AllocError>
-    ensures { IfOk result (λ r. option_map line_of r ≡ row_of (fields_of fields.now)) }
+    ensures { IfOk result (λ r. option_map row_view r ≡ row_of (fields_of fields.now)) }
 {
     let Some((lane, verb)) = head(fields) else {
         return Ok(None);

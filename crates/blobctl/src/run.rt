@@ -3,7 +3,7 @@ ghost use Rattle.std.specs.Prelude.{◌≡◌, ◌≢◌, ◌+◌, false, IfOk, 
 ghost use Rattle.finite_maps.specs.Texts.{Text};
 ghost use Rattle.blobctl.specs.Ending.{EndsTogether, EndsWell, Explains, IsReadWhole};
 ghost use Rattle.blobctl.specs.Inputs.{TakesAtMost, max_script};
-ghost use Rattle.row_player.specs.Lines.{line_of};
+ghost use Rattle.row_player.specs.RowViews.{row_view};
 ghost use Rattle.blobctl.specs.Options.{IsWithin};
 ghost use Rattle.blobctl.specs.Script.{AreRowsOf};
 ghost use Rattle.blobctl.specs.Watching.{has_failed, inner_of};
@@ -26,7 +26,7 @@ use std::thread::Threads;
 /// The rows of the script that a reader gives. The script is let go with the last of them.
 fn read_all<R: Read>(alloc: Global, reader: &mut Watched<R>) -> Result<Vec<Row>, Fault>
     requires { has_failed reader.old ≡ false }
-    ensures rows { IfOk result (λ v. (script : Text) × IsReadWhole R.remaining reader.old reader.new script × AreRowsOf script (map line_of v.items)) }
+    ensures rows { IfOk result (λ v. (script : Text) × IsReadWhole R.remaining reader.old reader.new script × AreRowsOf script (map row_view v.items)) }
     ensures most { TakesAtMost (R.remaining (inner_of reader.old)) (R.remaining (inner_of reader.new)) (max_script + 1) }
     ensures fault { IfErr result (λ e. (e ≢ Fault.Write) × Explains R.remaining reader.old reader.new e) }
 {

@@ -2,10 +2,10 @@
 ghost use Rattle.std.specs.Prelude.{◌≡◌, ◌⊎◌, ◌++◌, ◌∷◌, [], List, true, false, IfOk, IfErr, OnOk, Some, None, map};
 ghost use Rattle.csv.specs.Records.{fields_of};
 ghost use Rattle.finite_maps.specs.Texts.{Text};
-ghost use Rattle.row_player.specs.Lines.{line_of};
+ghost use Rattle.row_player.specs.RowViews.{row_view};
 ghost use Rattle.blobctl.specs.Reading.{IsAfter};
 ghost use Rattle.blobctl.specs.Records.{Record, row_of};
-ghost use Rattle.row_player.specs.Rows.{Line};
+ghost use Rattle.row_player.specs.Rows.{RowView};
 ghost use Rattle.blobctl.specs.Script.{AreRecordsOf, AreRowsOf, ExplainsRows};
 
 use crate::fault::Fault;
@@ -47,7 +47,7 @@ fn add_row(
     number: u32,
     rows: &mut Vec<Row>,
 ) -> Result<(), Fault>
-    ensures added { OnOk result ((line : Line) × (row_of (fields_of fields.now) ≡ Some line) × (map line_of rows.new.items ≡ map line_of rows.old.items ++ line ∷ [])) }
+    ensures added { OnOk result ((line : RowView) × (row_of (fields_of fields.now) ≡ Some line) × (map row_view rows.new.items ≡ map row_view rows.old.items ++ line ∷ [])) }
     ensures refused { IfErr result (λ e. (e ≡ Fault.Memory) ⊎ ((e ≡ Fault.BadRow number) × (row_of (fields_of fields.now) ≡ None))) }
 {
     match read_row(alloc, fields)? {
@@ -62,7 +62,7 @@ fn add_row(
 /// The rows of a script, or its first bad row. Want of memory is told apart from a bad row. The
 /// records are let go one by one as their rows are made.
 pub fn read_rows(alloc: Global, script: &[u8]) -> Result<Vec<Row>, Fault>
-    ensures rows { IfOk result (λ v. AreRowsOf script.now (map line_of v.items)) }
+    ensures rows { IfOk result (λ v. AreRowsOf script.now (map row_view v.items)) }
     ensures fault { IfErr result (λ e. ExplainsRows script.now e) }
 {
     let mut reader = reader_of(alloc, script);

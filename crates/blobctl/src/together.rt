@@ -5,7 +5,7 @@ ghost use Rattle.finite_maps.specs.Texts.{Text};
 ghost use Rattle.blobctl.specs.Ending.{PlayedTogether};
 ghost use Rattle.blobctl.specs.Options.{CanWork, IsWithin};
 ghost use Rattle.blob_store.specs.Naming.{setting_of};
-ghost use Rattle.row_player.specs.Lines.{line_of};
+ghost use Rattle.row_player.specs.RowViews.{row_view};
 ghost use Rattle.store_book.specs.Openings.{OpensBook, tenants_shown};
 
 use crate::fault::Fault;
@@ -46,7 +46,7 @@ fn play_on<
     requires received { (parts.received.name ≡ R.name) × (parts.received.parts ≡ R.parts) }
     requires closed { (parts.closed.name ≡ D.name) × (parts.closed.parts ≡ D.parts) }
     requires abandoned { (parts.abandoned.name ≡ A.name) × (parts.abandoned.parts ≡ A.parts) }
-    ensures played { OnOk result ((text : Text) × Appends (W.contents writer.old) (W.contents writer.new) text × PlayedTogether options.now.workers (tenants_shown options.now.store.tenants.items) options.now.store.slots options.now.store.max_blob (map line_of rows.now) text) }
+    ensures played { OnOk result ((text : Text) × Appends (W.contents writer.old) (W.contents writer.new) text × PlayedTogether options.now.workers (tenants_shown options.now.store.tenants.items) options.now.store.slots options.now.store.max_blob (map row_view rows.now) text) }
     ensures silent { IfErr result (λ e. e ≢ Fault.Write → writer.new ≡ writer.old) }
     ensures refused { IfErr result (λ e. (e ≡ Fault.Memory) ⊎ (e ≡ Fault.Write)) }
 {
@@ -74,7 +74,7 @@ pub fn play_together<T: Threads + Wait + Sync, W: Write>(
     rows: &[Row],
 ) -> Result<(), Fault>
     requires { IsWithin options.now }
-    ensures played { OnOk result ((text : Text) × Appends (W.contents writer.old) (W.contents writer.new) text × PlayedTogether options.now.workers (tenants_shown options.now.store.tenants.items) options.now.store.slots options.now.store.max_blob (map line_of rows.now) text) }
+    ensures played { OnOk result ((text : Text) × Appends (W.contents writer.old) (W.contents writer.new) text × PlayedTogether options.now.workers (tenants_shown options.now.store.tenants.items) options.now.store.slots options.now.store.max_blob (map row_view rows.now) text) }
     ensures silent { IfErr result (λ e. e ≢ Fault.Write → writer.new ≡ writer.old) }
     ensures refused { IfErr result (λ e. (e ≡ Fault.Memory) ⊎ (e ≡ Fault.Write)) }
 {

@@ -18,8 +18,7 @@ use Rattle.std.proofs.lemmas.List.Sorted.{All-permutation, length_permutation, s
 use Rattle.std.proofs.lemmas.List.Sums.{sum_by-cons}
 use Rattle.finite_maps.proofs.Texts.{same_itself, text_is_same}
 use Rattle.finite_maps.specs.Texts.{Text, text_cmp, same_text}
-use Rattle.blob_digest.specs.Names.{tenant_name}
-use Rattle.blob_digest.specs.Names.{IsComponent}
+use Rattle.blob_digest.specs.Names.{tenant_name, IsComponent}
 use Rattle.blob_digest.specs.Tenants.{Tenant, tenant_of, is_tenants}
 use Rattle.finite_maps.proofs.Rows.{position-map, sum_by-map}
 use Rattle.link_table.specs.Tenancy.{HasNames, IsWithinLimits, AreTenants, tenant_shown, tenants_shown}

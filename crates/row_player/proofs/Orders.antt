@@ -6,15 +6,15 @@ use Rattle.std.specs.Prelude.{MatchOption, reverse, slice_set}
 use Rattle.std.specs.Option.{option_map, option_to_list}
 use Rattle.std.specs.List.{filter, zip}
 use Rattle.row_player.specs.Answers.{Answer, answer_of, answers_of}
-use Rattle.row_player.specs.Rows.{Line}
+use Rattle.row_player.specs.Rows.{RowView}
 use Rattle.row_player.specs.Shares.{AreTogether, TakesLast, is_own, own_rows, own_answers}
-use Rattle.row_player.specs.Lines.{line_of}
+use Rattle.row_player.specs.RowViews.{row_view}
 use Rattle.row_player.specs.declared.reply.Reply.{Reply}
 use Rattle.row_player.specs.declared.row.Row.{Row}
 use Rattle.row_player.proofs.PlayedRows.{lines_more}
 
-own_rows-append : (n w : ℕ) (front : List Line) (line : Line) → length (own_rows n w (front ++ line ∷ [])) ≡ length (own_rows n w front) + cond (is_own n w line) 1 0
-own_rows-append n w [] line = elim (is_own n w line) as (λ b. length (cond {A = List Line} b (line ∷ []) []) ≡ 0 + cond {A = ℕ} b 1 0) [ true ↦ refl | false ↦ refl ]
+own_rows-append : (n w : ℕ) (front : List RowView) (line : RowView) → length (own_rows n w (front ++ line ∷ [])) ≡ length (own_rows n w front) + cond (is_own n w line) 1 0
+own_rows-append n w [] line = elim (is_own n w line) as (λ b. length (cond {A = List RowView} b (line ∷ []) []) ≡ 0 + cond {A = ℕ} b 1 0) [ true ↦ refl | false ↦ refl ]
 own_rows-append n w (x ∷ front) line =
     let rest = own_rows-append n w front line in
     elim (is_own n w x) as (λ b. length (cond b (x ∷ own_rows n w (front ++ line ∷ [])) (own_rows n w (front ++ line ∷ []))) ≡ length (cond b (x ∷ own_rows n w front) (own_rows n w front)) + cond (is_own n w line) 1 0) [
@@ -23,22 +23,22 @@ own_rows-append n w (x ∷ front) line =
     ]
 
 -- the answers at a worker's rows, the first one apart
-own_answers-cons : (n w : ℕ) (line : Line) (lines : List Line) (answer : Answer) (answers : List Answer)
+own_answers-cons : (n w : ℕ) (line : RowView) (lines : List RowView) (answer : Answer) (answers : List Answer)
     → own_answers n w (line ∷ lines) (answer ∷ answers) ≡ cond (is_own n w line) (answer ∷ own_answers n w lines answers) (own_answers n w lines answers)
 own_answers-cons n w line lines answer answers =
-    let rest : List (Line × Answer) = filter (λ p. is_own n w p.0) (zip lines answers) in
-    elim (is_own n w line) as (λ b. map (λ (p : Line × Answer). p.1) (cond b ((line, answer) ∷ rest) rest) ≡ cond b (answer ∷ map (λ (p : Line × Answer). p.1) rest) (map (λ (p : Line × Answer). p.1) rest)) [
+    let rest : List (RowView × Answer) = filter (λ p. is_own n w p.0) (zip lines answers) in
+    elim (is_own n w line) as (λ b. map (λ (p : RowView × Answer). p.1) (cond b ((line, answer) ∷ rest) rest) ≡ cond b (answer ∷ map (λ (p : RowView × Answer). p.1) rest) (map (λ (p : RowView × Answer). p.1) rest)) [
       | true ↦ refl
       | false ↦ refl
     ]
 
 -- What is left in the lists, and what stands behind it in the order of the rows, are the lists as they were.
-pub record AreSplit (n : ℕ) (first lists : List (List Answer)) (front back : List Line) (answers : List Answer) : Type 0 where
+pub record AreSplit (n : ℕ) (first lists : List (List Answer)) (front back : List RowView) (answers : List Answer) : Type 0 where
   pub whole : (w : ℕ) → w < n → get_or first w [] ≡ get_or lists w [] ++ own_answers n w back answers
   pub left : (w : ℕ) → w < n → length (get_or lists w []) ≡ length (own_rows n w front)
 
 -- a row's worker has a reply left
-pub some_left_of : (n : ℕ) (first lists : List (List Answer)) (front back : List Line) (line : Line) (answers : List Answer) → AreSplit n first lists (front ++ line ∷ []) back answers → line.lane % n < n → get_or lists (line.lane % n) [] ≢ []
+pub some_left_of : (n : ℕ) (first lists : List (List Answer)) (front back : List RowView) (line : RowView) (answers : List Answer) → AreSplit n first lists (front ++ line ∷ []) back answers → line.lane % n < n → get_or lists (line.lane % n) [] ≢ []
 some_left_of n first lists front back line answers split within none =
     let own : is_own n (line.lane % n) line ≡ true = eq-eqb (line.lane % n) (line.lane % n) refl in
     let size = own_rows-append n (line.lane % n) front line in
@@ -48,7 +48,7 @@ some_left_of n first lists front back line answers split within none =
     absurd (omega (arith, left, more, zero))
 
 -- a reply is taken
-pub split_more : (n : ℕ) (first lists : List (List Answer)) (front back : List Line) (line : Line) (answers : List Answer) (answer : Answer) (rest : List Answer) → AreSplit n first lists (front ++ line ∷ []) back answers
+pub split_more : (n : ℕ) (first lists : List (List Answer)) (front back : List RowView) (line : RowView) (answers : List Answer) (answer : Answer) (rest : List Answer) → AreSplit n first lists (front ++ line ∷ []) back answers
     → line.lane % n < length lists → get_or lists (line.lane % n) [] ≡ rest ++ answer ∷ [] → AreSplit n first (set lists (line.lane % n) rest) front (line ∷ back) (answer ∷ answers)
 split_more n first lists front back line answers answer rest split within last = record {
   whole = λ w lt. by_worker w lt (line.lane % n == w) refl ∙ ap (λ xs. get_or (set lists (line.lane % n) rest) w [] ++ xs) (sym (own_answers-cons n w line back answer answers));
@@ -81,7 +81,7 @@ split_more n first lists front back line answers answer rest split within last =
         ap length here ∙ split.left w lt ∙ omega (arith, same)
 
 -- nothing is left where no row is
-pub split_end : (n : ℕ) (first lists : List (List Answer)) (back : List Line) (answers : List Answer) → AreSplit n first lists [] back answers → (w : ℕ) → w < n → get_or first w [] ≡ own_answers n w back answers
+pub split_end : (n : ℕ) (first lists : List (List Answer)) (back : List RowView) (answers : List Answer) → AreSplit n first lists [] back answers → (w : ℕ) → w < n → get_or first w [] ≡ own_answers n w back answers
 split_end n first lists back answers split w lt = split.whole w lt ∙ ap (λ xs. xs ++ own_answers n w back answers) (nil_from_length (get_or lists w []) (split.left w lt))
 
 -- a worker's last reply is taken out of its list
@@ -98,28 +98,28 @@ taken lists w old v (Some x) within at parts cases size = (
 
 -- the row before a place
 module _ (n : ℕ) (first lists new : List (List Answer)) (rows : List Row) (place : ℕ) (row : Row) (answers : List Answer) (some : 0 < place) (within : place ≤ length rows) (at : row ≡ get_or rows (place - 1) row) where
-  before : map line_of (take place rows) ≡ map line_of (take (place - 1) rows) ++ line_of row ∷ []
+  before : map row_view (take place rows) ≡ map row_view (take (place - 1) rows) ++ row_view row ∷ []
   before =
       let e : (place - 1) + 1 ≡ place = omega (arith, some) in
       let lt : place - 1 < length rows = omega (arith, some, within) in
-      ap (λ k. map line_of (take k rows)) (sym e) ∙ lines_more rows (place - 1) row lt at
+      ap (λ k. map row_view (take k rows)) (sym e) ∙ lines_more rows (place - 1) row lt at
 
-  behind : map line_of (drop (place - 1) rows) ≡ line_of row ∷ map line_of (drop place rows)
+  behind : map row_view (drop (place - 1) rows) ≡ row_view row ∷ map row_view (drop place rows)
   behind =
       let e : (place - 1) + 1 ≡ place = omega (arith, some) in
       let lt : place - 1 < length rows = omega (arith, some, within) in
-      ap (map line_of) (drop_more rows (place - 1) row lt) ∙ ap (λ k. line_of (get_or rows (place - 1) row) ∷ map line_of (drop k rows)) e ∙ ap (λ (r : Row). line_of r ∷ map line_of (drop place rows)) (sym at)
+      ap (map row_view) (drop_more rows (place - 1) row lt) ∙ ap (λ k. row_view (get_or rows (place - 1) row) ∷ map row_view (drop k rows)) e ∙ ap (λ (r : Row). row_view r ∷ map row_view (drop place rows)) (sym at)
 
   -- its reply is taken
-  pub row_taken : (answer : Answer) → AreSplit n first lists (map line_of (take place rows)) (map line_of (drop place rows)) (reverse answers) → row.lane % n < length lists → TakesLast lists new (row.lane % n) (Some answer)
-      → AreSplit n first new (map line_of (take (place - 1) rows)) (map line_of (drop (place - 1) rows)) (reverse (answers ++ answer ∷ []))
+  pub row_taken : (answer : Answer) → AreSplit n first lists (map row_view (take place rows)) (map row_view (drop place rows)) (reverse answers) → row.lane % n < length lists → TakesLast lists new (row.lane % n) (Some answer)
+      → AreSplit n first new (map row_view (take (place - 1) rows)) (map row_view (drop (place - 1) rows)) (reverse (answers ++ answer ∷ []))
   row_taken answer split fits takes =
-      let split' = split_more n first lists (map line_of (take (place - 1) rows)) (map line_of (drop place rows)) (line_of row) (reverse answers) answer takes.0 (rw before at split) fits takes.1 in
+      let split' = split_more n first lists (map row_view (take (place - 1) rows)) (map row_view (drop place rows)) (row_view row) (reverse answers) answer takes.0 (rw before at split) fits takes.1 in
       rw (behind, reverse-append answers (answer ∷ []), takes.2) split'
 
   -- there is one
-  pub row_has_reply : AreSplit n first lists (map line_of (take place rows)) (map line_of (drop place rows)) (reverse answers) → row.lane % n < n → ¬ TakesLast lists new (row.lane % n) None
-  row_has_reply split fits none = some_left_of n first lists (map line_of (take (place - 1) rows)) (map line_of (drop place rows)) (line_of row) (reverse answers) (rw before at split) fits none
+  pub row_has_reply : AreSplit n first lists (map row_view (take place rows)) (map row_view (drop place rows)) (reverse answers) → row.lane % n < n → ¬ TakesLast lists new (row.lane % n) None
+  row_has_reply split fits none = some_left_of n first lists (map row_view (take (place - 1) rows)) (map row_view (drop place rows)) (row_view row) (reverse answers) (rw before at split) fits none
 
 map-reverse : {A B : Type 0} (f : A → B) (xs : List A) → map f (reverse xs) ≡ reverse (map f xs)
 map-reverse f [] = refl
@@ -127,9 +127,9 @@ map-reverse f (x ∷ xs) =
     ap (map f) (reverse-append (x ∷ []) xs) ∙ map-append f (reverse xs) (x ∷ []) ∙ ap (λ ys. ys ++ f x ∷ []) (map-reverse f xs) ∙ sym (reverse-append (f x ∷ []) (map f xs))
 
 -- all rows have their replies
-pub all_together : (n : ℕ) (first lists : List (List Answer)) (rows : List Row) (replies : List Reply) → AreSplit n first lists (map line_of (take 0 rows)) (map line_of (drop 0 rows)) (reverse (answers_of replies)) → length replies ≡ length rows
-    → AreTogether n (map line_of rows) (λ w. get_or first w []) (answers_of (reverse replies))
+pub all_together : (n : ℕ) (first lists : List (List Answer)) (rows : List Row) (replies : List Reply) → AreSplit n first lists (map row_view (take 0 rows)) (map row_view (drop 0 rows)) (reverse (answers_of replies)) → length replies ≡ length rows
+    → AreTogether n (map row_view rows) (λ w. get_or first w []) (answers_of (reverse replies))
 all_together n first lists rows replies split size = record {
-  one_each = length-map (reverse replies) answer_of ∙ length-reverse replies ∙ size ∙ sym (length-map rows line_of);
-  shares = λ w lt. split_end n first lists (map line_of rows) (reverse (answers_of replies)) split w lt ∙ ap (own_answers n w (map line_of rows)) (sym (map-reverse answer_of replies));
+  one_each = length-map (reverse replies) answer_of ∙ length-reverse replies ∙ size ∙ sym (length-map rows row_view);
+  shares = λ w lt. split_end n first lists (map row_view rows) (reverse (answers_of replies)) split w lt ∙ ap (own_answers n w (map row_view rows)) (sym (map-reverse answer_of replies));
 }

@@ -7,7 +7,7 @@ use Rattle.std.proofs.lemmas.List.{take_all, take_more}
 use Rattle.std.proofs.lemmas.List.Sums.{sum_by_push, sum_by-cons}
 use Rattle.std.proofs.lemmas.Nat.{mod_below}
 use Rattle.row_player.specs.Answers.{Answer}
-use Rattle.row_player.specs.Rows.{Line}
+use Rattle.row_player.specs.Rows.{RowView}
 use Rattle.row_player.specs.Shares.{AreTogether, is_own, own_rows, own_answers}
 
 -- an amount, counted once for each number below this one that is its key
@@ -87,13 +87,13 @@ module _ {X : Type 0} (key g : X → ℕ) where
     sum_of_parts below = ap (sum_by h) (sym (take_all (length ds) ds (omega arith))) ∙ sum_so_far (length ds) (omega arith) ∙ sum_all (length ds) xs below
 
 -- a worker's rows with its answers are those of all rows with their answers that are its own
-own_pairs : (n w : ℕ) (lines : List Line) (answers : List Answer) → length answers ≡ length lines → zip (own_rows n w lines) (own_answers n w lines answers) ≡ filter (λ p. is_own n w p.0) (zip lines answers)
+own_pairs : (n w : ℕ) (lines : List RowView) (answers : List Answer) → length answers ≡ length lines → zip (own_rows n w lines) (own_answers n w lines answers) ≡ filter (λ p. is_own n w p.0) (zip lines answers)
 own_pairs n w [] answers size = refl
 own_pairs n w (line ∷ lines) [] size = absurd (omega (arith, size))
 own_pairs n w (line ∷ lines) (answer ∷ answers) size =
     let rest = own_pairs n w lines answers (omega (arith, size)) in
-    let pairs : List (Line × Answer) = filter (λ p. is_own n w p.0) (zip lines answers) in
-    elim (is_own n w line) as (λ b. zip (cond b (line ∷ own_rows n w lines) (own_rows n w lines)) (map (λ (p : Line × Answer). p.1) (cond b ((line, answer) ∷ pairs) pairs)) ≡ cond b ((line, answer) ∷ pairs) pairs) [
+    let pairs : List (RowView × Answer) = filter (λ p. is_own n w p.0) (zip lines answers) in
+    elim (is_own n w line) as (λ b. zip (cond b (line ∷ own_rows n w lines) (own_rows n w lines)) (map (λ (p : RowView × Answer). p.1) (cond b ((line, answer) ∷ pairs) pairs)) ≡ cond b ((line, answer) ∷ pairs) pairs) [
       | true ↦ ap (λ ps. (line, answer) ∷ ps) rest
       | false ↦ rest
     ]
@@ -110,15 +110,15 @@ sum_within p g (x ∷ xs) =
     ]
 
 -- What a worker's rows come to is no more than what all come to.
-pub worker_within : (g : Line × Answer → ℕ) (n w : ℕ) (lines : List Line) (answers : List Answer) → length answers ≡ length lines → sum_by g (zip (own_rows n w lines) (own_answers n w lines answers)) ≤ sum_by g (zip lines answers)
+pub worker_within : (g : RowView × Answer → ℕ) (n w : ℕ) (lines : List RowView) (answers : List Answer) → length answers ≡ length lines → sum_by g (zip (own_rows n w lines) (own_answers n w lines answers)) ≤ sum_by g (zip lines answers)
 worker_within g n w lines answers size =
-    let within = sum_within (λ (p : Line × Answer). is_own n w p.0) g (zip lines answers) in
+    let within = sum_within (λ (p : RowView × Answer). is_own n w p.0) g (zip lines answers) in
     let same = ap (sum_by g) (own_pairs n w lines answers size) in
     omega (arith, within, same)
 
 -- What stands at each worker is the sum over its rows with its answers; then the sum of what stands there is that over all rows
 -- with the answers in their order.
-pub sum_of_workers : {D : Type 0} (g : Line × Answer → ℕ) (h : D → ℕ) (ds : List D) (d : D) (lines : List Line) (of_worker : ℕ → List Answer) (answers : List Answer)
+pub sum_of_workers : {D : Type 0} (g : RowView × Answer → ℕ) (h : D → ℕ) (ds : List D) (d : D) (lines : List RowView) (of_worker : ℕ → List Answer) (answers : List Answer)
     → 0 < length ds → AreTogether (length ds) lines of_worker answers → ((w : ℕ) → w < length ds → h (get_or ds w d) ≡ sum_by g (zip (own_rows (length ds) w lines) (of_worker w)))
     → sum_by h ds ≡ sum_by g (zip lines answers)
 sum_of_workers g h ds d lines of_worker answers some together each =

@@ -1,28 +1,23 @@
 -- Rows that are played.
-use Rattle.std.proofs.Common.{◌≡◌, ◌≢◌, ◌⊎◌, ◌<◌, ◌+◌, ◌∙◌, ◌++◌, ◌∷◌, [], ℕ, List, ap, arith, get_or, inl, inr, length, map, IfOk, Option, Some, None, Result, Ok, Err, refl, sym, take, true}
+use Rattle.std.proofs.Common.{◌≡◌, ◌≢◌, ◌⊎◌, ◌<◌, ◌+◌, ◌∙◌, ◌++◌, ◌∷◌, [], ℕ, List, ap, arith, get_or, inl, inr, length, map, IfOk, Option, Some, None, Result, Ok, Err, refl, sym, take}
 use Rattle.std.proofs.lemmas.List.{map-append, take_more}
-use Rattle.blob_digest.specs.Names.{IsRepoName}
 use Rattle.blob_digest.specs.declared.refusal.Refusal.{Refusal}
-use Rattle.blob_digest.specs.declared.refusal.Refusal.TheVariants.{SizeInvalid, Memory}
+use Rattle.blob_digest.specs.declared.refusal.Refusal.TheVariants.{Memory}
 use Rattle.row_player.specs.Answers.{Answer, Refused}
-use Rattle.row_player.specs.Commands.{Calls, Request, Lease, Spells, HasDigest, HasSource, IsNoRange, uses_range, uses_repo}
+use Rattle.row_player.specs.Commands.{Calls, Command, Request, Lease, command_of}
 use Rattle.row_player.specs.Leases.{Leases, Lent}
-use Rattle.row_player.specs.Lines.{line_of}
-use Rattle.row_player.specs.Plays.{LendsWhereFree, Plays, RowStep, State, StoreStep, VerifiesLease, named}
-use Rattle.row_player.specs.Rows.{Line}
+use Rattle.row_player.specs.RowViews.{row_view}
+use Rattle.row_player.specs.Plays.{LendsWhereFree, Plays, RowStep, State, StepOf, VerifiesLease, named}
+use Rattle.row_player.specs.Rows.{RowView}
 use Rattle.row_player.specs.declared.row.Row.{Row}
-
--- a row whose range is none is refused for it
-pub range_refused : {S : Type 0} (acts : S → Request → Answer → S → Type 0) (s t : S) (line : Line) (refusal : Refusal) → uses_repo line.verb ≡ true → IsRepoName line.repo → HasSource line → HasDigest line → uses_range line.verb ≡ true
-    → (refusal ≡ SizeInvalid) × IsNoRange line.range → t ≡ s → StoreStep acts s line (Refused refusal) t
-range_refused acts s t line refusal repo_named repo source digest uses why same = rw why.0 (inl ((repo_named, (SizeInvalid, (repo, source, digest, uses, why.1), refl)), same))
+use Rattle.row_player.specs.declared.row.Verb.TheVariants as verb
 
 -- a store refuses a lease, or memory is wanting
-pub lease_refused : {S : Type 0} (acts : S → Request → Answer → S → Type 0) (s t : S) (L M : Leases) (line : Line) (refusal : Refusal) → Spells line (Lease line.repo line.digest) → named L line ≡ None
+pub lease_refused : {S : Type 0} (acts : S → Request → Answer → S → Type 0) (s t : S) (L M : Leases) (line : RowView) (refusal : Refusal) → line.verb ≡ verb.Lease → command_of line ≡ Ok (Some (Lease line.repo line.digest)) → named L line ≡ None
     → M ≡ L → ((refusal ≡ Memory) × (t ≡ s)) ⊎ acts s (Calls (Lease line.repo line.digest)) (Refused refusal) t → ((refusal ≡ Memory) × ◌≡◌ {A = S × Leases} (t, M) (s, L)) ⊎ RowStep acts (s, L) line (Refused refusal) (t, M)
-lease_refused acts s t L M line refusal spells free same why = elim why [
+lease_refused acts s t L M line refusal is spells free same why = elim why [
   | inl memory ↦ inl (memory.0, λ i. (memory.1 i, same i))
-  | inr does ↦ inr (inr (inl (spells, rw free (inr (refusal, does, refl, same)))))
+  | inr does ↦ inr (inr (inl (is, spells, rw free (inr (refusal, does, refl, same)))))
 ]
 
 -- what is left of a run that went well
@@ -31,7 +26,7 @@ some_left P (Ok x) b h = (b, h)
 some_left P (Err e) b h = tt
 
 -- one row more is played
-pub one_played : {S : Type 0} (acts : S → Request → Answer → S → Type 0) (old mid new : State S) (lines : List Line) (answers : List Answer) (line : Line) (answer : Answer)
+pub one_played : {S : Type 0} (acts : S → Request → Answer → S → Type 0) (old mid new : State S) (lines : List RowView) (answers : List Answer) (line : RowView) (answer : Answer)
     → Plays acts old lines answers mid → RowStep acts mid line answer new → answer ≢ Refused Memory → Plays acts old (lines ++ line ∷ []) (answers ++ answer ∷ []) new
 one_played acts old mid new [] [] line answer before here not_memory = (new, rw (← before) here, not_memory, refl)
 one_played acts old mid new [] (r ∷ rs) line answer before here not_memory = absurd before
@@ -40,7 +35,7 @@ one_played acts old mid new (l ∷ ls) (r ∷ rs) line answer before here not_me
     (before.0, before.1, before.2, one_played acts before.0 mid new ls rs line answer before.3 here not_memory)
 
 -- each row has one answer
-pub one_each : {S : Type 0} (acts : S → Request → Answer → S → Type 0) (old new : State S) (lines : List Line) (answers : List Answer) → Plays acts old lines answers new → length answers ≡ length lines
+pub one_each : {S : Type 0} (acts : S → Request → Answer → S → Type 0) (old new : State S) (lines : List RowView) (answers : List Answer) → Plays acts old lines answers new → length answers ≡ length lines
 one_each acts old new [] [] h = refl
 one_each acts old new [] (r ∷ rs) h = absurd h
 one_each acts old new (l ∷ ls) [] h = absurd h
@@ -48,11 +43,11 @@ one_each acts old new (l ∷ ls) (r ∷ rs) h = let rest = one_each acts h.0 new
 
 -- the rows so far, and one more
 pub lines_more : (rows : List Row) (i : ℕ) (row : Row) → i < length rows → row ≡ get_or rows i row
-    → map line_of (take (i + 1) rows) ≡ map line_of (take i rows) ++ line_of row ∷ []
+    → map row_view (take (i + 1) rows) ≡ map row_view (take i rows) ++ row_view row ∷ []
 lines_more rows i row within is =
-    ap (map line_of) (take_more rows i row within)
-    ∙ map-append line_of (take i rows) (get_or rows i row ∷ [])
-    ∙ ap (λ r. map line_of (take i rows) ++ line_of r ∷ []) (sym is)
+    ap (map row_view) (take_more rows i row within)
+    ∙ map-append row_view (take i rows) (get_or rows i row ∷ [])
+    ∙ ap (λ r. map row_view (take i rows) ++ row_view r ∷ []) (sym is)
 
 -- ---- what is played on may show less of itself
 
@@ -63,7 +58,7 @@ module _ {S T : Type 0} (shown : S → T) (acts : T → Request → Answer → T
   abbrev shows : State S → State T
   shows s = (shown s.0, s.1)
 
-  lends_through : (o : Option Lent) (old new : State S) (line : Line) (answer : Answer) → LendsWhereFree through o old line answer new → LendsWhereFree acts o (shows old) line answer (shows new)
+  lends_through : (o : Option Lent) (old new : State S) (line : RowView) (answer : Answer) → LendsWhereFree through o old line answer new → LendsWhereFree acts o (shows old) line answer (shows new)
   lends_through (Some lease) old new line answer h = (h.0, ap shows h.1)
   lends_through None old new line answer h = h
 
@@ -71,13 +66,15 @@ module _ {S T : Type 0} (shown : S → T) (acts : T → Request → Answer → T
   verifies_through None old new answer h = (h.0, ap shown h.1)
   verifies_through (Some lease) old new answer h = h
 
-  store_through : (old new : S) (line : Line) (answer : Answer) → StoreStep through old line answer new → StoreStep acts (shown old) line answer (shown new)
-  store_through old new line answer step = elim step [ inl r ↦ inl (r.0, ap shown r.1) | inr d ↦ inr d ]
+  store_through : (o : Result (Option Command) Refusal) (old new : S) (answer : Answer) → StepOf through o old answer new → StepOf acts o (shown old) answer (shown new)
+  store_through (Ok (Some command)) old new answer h = h
+  store_through (Ok None) old new answer h = absurd h
+  store_through (Err refusal) old new answer h = (h.0, ap shown h.1)
 
-  row_through : (old new : State S) (line : Line) (answer : Answer) → RowStep through old line answer new → RowStep acts (shows old) line answer (shows new)
+  row_through : (old new : State S) (line : RowView) (answer : Answer) → RowStep through old line answer new → RowStep acts (shows old) line answer (shows new)
   row_through old new line answer step = elim step [
-    | inl store ↦ inl (store_through old.0 new.0 line answer store.0, store.1)
-    | inr (inl lends) ↦ inr (inl (lends.0, lends_through (named old.1 line) old new line answer lends.1))
+    | inl store ↦ inl (store_through (command_of line) old.0 new.0 answer store.0, store.1)
+    | inr (inl lends) ↦ inr (inl (lends.0, lends.1, lends_through (named old.1 line) old new line answer lends.2))
     | inr (inr (inl reads)) ↦ inr (inr (inl (reads.0, reads.1, ap shows reads.2)))
     | inr (inr (inr (inl shares))) ↦ inr (inr (inr (inl (shares.0, shares.1, ap shown shares.2))))
     | inr (inr (inr (inr (inl looks)))) ↦ inr (inr (inr (inr (inl (looks.0, verifies_through (named old.1 line) old.0 new.0 answer looks.1, looks.2)))))
@@ -85,7 +82,7 @@ module _ {S T : Type 0} (shown : S → T) (acts : T → Request → Answer → T
     | inr (inr (inr (inr (inr (inr sweeps))))) ↦ inr (inr (inr (inr (inr (inr sweeps)))))
   ]
 
-  pub plays_through : (old new : State S) (lines : List Line) (answers : List Answer) → Plays through old lines answers new → Plays acts (shows old) lines answers (shows new)
+  pub plays_through : (old new : State S) (lines : List RowView) (answers : List Answer) → Plays through old lines answers new → Plays acts (shows old) lines answers (shows new)
   plays_through old new [] [] h = ap shows h
   plays_through old new [] (r ∷ rs) h = absurd h
   plays_through old new (l ∷ ls) [] h = absurd h

@@ -3,7 +3,7 @@ use Rattle.std.specs.Prelude.{ℕ, List, map}
 use Rattle.std.specs.Arc.{arc_value}
 use Rattle.finite_maps.specs.Texts.{Text}
 use Rattle.blob_digest.specs.declared.refusal.Refusal.{Refusal}
-use Rattle.store_model.specs.declared.swept.Swept.{Swept}
+use Rattle.store_model.specs.declared.swept.Swept.{Swept as SweptCounts}
 use Rattle.store_model.specs.declared.mount.Mount.{Mount}
 use Rattle.store_model.specs.declared.mount.Mount.TheVariants as mounting
 use Rattle.row_player.specs.declared.reply.Reply.{Reply}
@@ -23,7 +23,7 @@ pub data Answer : Type 0 where
   Shared : Answer
   Verified : ℕ → Answer
   GivenBack : Answer
-  Cleaned : Swept → Answer
+  Swept : SweptCounts → Answer
   NoLease : Answer
   NameTaken : Answer
   Refused : Refusal → Answer
@@ -43,7 +43,7 @@ answer_of (reply.Bytes piece) = Bytes piece
 answer_of reply.Shared = Shared
 answer_of (reply.Verified size) = Verified size
 answer_of reply.GivenBack = GivenBack
-answer_of (reply.Swept swept) = Cleaned swept
+answer_of (reply.Swept swept) = Swept swept
 answer_of reply.NoLease = NoLease
 answer_of reply.NameTaken = NameTaken
 answer_of (reply.Refused refusal) = Refused refusal

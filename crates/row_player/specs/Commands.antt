@@ -1,14 +1,18 @@
--- The command that a row spells, and the refusal of a row that spells none.
-use Rattle.std.specs.Prelude.{◌≡◌, ◌≢◌, ◌⊎◌, ℕ, Bool, true, false, Option, Some, None, []}
-use Rattle.blob_digest.specs.Digests.{IsDigestText}
+-- The command that a row spells.
+use Rattle.std.specs.Prelude.{◌≡◌, ◌^◌, ℕ, Bool, true, false, Option, Some, None, [], ◌∷◌, Result, Ok, Err, if◌then◌else◌, nat_le, nat_lt}
+use Rattle.std.specs.Option.{option_map}
+use Rattle.std.proofs.Common.{refl}
+use Rattle.std.proofs.lemmas.Bool.{leb-true, ltb-true}
+use Rattle.blob_digest.specs.Digests.{is_digest_text}
 use Rattle.finite_maps.specs.Texts.{Text}
-use Rattle.blob_digest.specs.Names.{IsRepoName}
-use Rattle.blob_digest.specs.Ranges.{IsRangeText}
+use Rattle.blob_digest.specs.NameMachine.{is_repo_name}
+use Rattle.finite_maps.specs.Outcomes.{◌>>=◌}
+use Rattle.blob_digest.specs.Ranges.{range_of}
 use Rattle.blob_digest.specs.declared.range.ByteRange.{ByteRange}
 use Rattle.blob_digest.specs.declared.refusal.Refusal.{Refusal}
 use Rattle.blob_digest.specs.declared.refusal.Refusal.TheVariants.{NameInvalid, DigestInvalid, SizeInvalid}
 pub use Rattle.store_model.specs.Runs.{Command, Start, Status, Append, Close, Abandon, Mount, Delete, PutManifest, GetManifest, DeleteManifest, Lease}
-use Rattle.row_player.specs.Rows.{Line, session_number}
+use Rattle.row_player.specs.Rows.{RowView, session_number}
 use Rattle.row_player.specs.declared.row.Verb.{Verb}
 use Rattle.row_player.specs.declared.row.Verb.TheVariants as verb
 
@@ -18,58 +22,14 @@ pub data Request : Type 0 where
   Verifies : ℕ → Request
   Sweeps : Request
 
--- what a range's field spells: no range where it is empty
-abbrev pub SpellsRange : Text → Option ByteRange → Type 0
-SpellsRange text None = text ≡ []
-SpellsRange text (Some range) = IsRangeText text range.start range.end
-
--- the text is neither empty nor a range
-abbrev pub IsNoRange : Text → Type 0
-IsNoRange text = (text ≢ []) × ((start : ℕ) → (end : ℕ) → IsRangeText text start end → ⊥)
-
--- the field of a repository spells one
-abbrev pub SpellsRepo : Line → Text → Type 0
-SpellsRepo line repo = (repo ≡ line.repo) × IsRepoName line.repo
-
--- what the field of a mount's source spells: no source where it is empty
-abbrev pub SpellsSource : Text → Option Text → Type 0
-SpellsSource text None = text ≡ []
-SpellsSource text (Some from) = (from ≡ text) × IsRepoName text
-
--- the text is neither empty nor a repository's name
-abbrev pub IsNoSource : Text → Type 0
-IsNoSource text = (text ≢ []) × ¬ IsRepoName text
-
--- the text is a digest, by whichever algorithm
-unfoldable pub IsDigest : Text → Type 0
-IsDigest text = IsDigestText text
-
--- the field of a digest spells one
-abbrev pub SpellsDigest : Line → Text → Type 0
-SpellsDigest line digest = (digest ≡ line.digest) × IsDigest line.digest
-
--- the row's fields spell this command
-abbrev pub Spells : Line → Command → Type 0
-Spells line (Start repo) = (line.verb ≡ verb.Start) × SpellsRepo line repo
-Spells line (Status repo number) = (line.verb ≡ verb.Status) × SpellsRepo line repo × (session_number line.key ≡ Some number)
-Spells line (Append repo number range bytes) =
-    (line.verb ≡ verb.Append) × SpellsRepo line repo × (session_number line.key ≡ Some number) × SpellsRange line.range range × (bytes ≡ line.body)
-Spells line (Close repo number digest range bytes) =
-    (line.verb ≡ verb.Close) × SpellsRepo line repo × (session_number line.key ≡ Some number) × SpellsDigest line digest × SpellsRange line.range range × (bytes ≡ line.body)
-Spells line (Abandon repo number) = (line.verb ≡ verb.Abandon) × SpellsRepo line repo × (session_number line.key ≡ Some number)
-Spells line (Mount repo digest from) = (line.verb ≡ verb.Mount) × SpellsRepo line repo × SpellsSource line.key from × SpellsDigest line digest
-Spells line (Delete repo digest) = (line.verb ≡ verb.Delete) × SpellsRepo line repo × SpellsDigest line digest
-Spells line (PutManifest repo bytes) = (line.verb ≡ verb.PutManifest) × SpellsRepo line repo × (bytes ≡ line.body)
-Spells line (GetManifest repo digest) = (line.verb ≡ verb.GetManifest) × SpellsRepo line repo × SpellsDigest line digest
-Spells line (DeleteManifest repo digest) = (line.verb ≡ verb.DeleteManifest) × SpellsRepo line repo × SpellsDigest line digest
-Spells line (Lease repo digest) = (line.verb ≡ verb.Lease) × SpellsRepo line repo × SpellsDigest line digest
-
 -- whether a command lends a blob
 abbrev pub is_lease : Command → Bool
 is_lease (Lease repo digest) = true
 is_lease _ = false
 
--- whether a command names a repository
+-- ---- the fields that a verb uses
+
+-- whether a verb's command names a repository
 abbrev pub uses_repo : Verb → Bool
 uses_repo verb.Read = false
 uses_repo verb.Share = false
@@ -78,16 +38,12 @@ uses_repo verb.GiveBack = false
 uses_repo verb.Sweep = false
 uses_repo _ = true
 
--- whether a command may name a repository that a blob is mounted from
+-- whether it may name a repository that a blob is mounted from
 abbrev pub uses_source : Verb → Bool
 uses_source verb.Mount = true
 uses_source _ = false
 
--- the source of a command that may have one is spelled
-abbrev pub HasSource : Line → Type 0
-HasSource line = uses_source line.verb ≡ true → (from : Option Text) × SpellsSource line.key from
-
--- whether a command names a digest
+-- whether it names a digest
 abbrev pub uses_digest : Verb → Bool
 uses_digest verb.Close = true
 uses_digest verb.Mount = true
@@ -97,13 +53,13 @@ uses_digest verb.DeleteManifest = true
 uses_digest verb.Lease = true
 uses_digest _ = false
 
--- whether a command may name the range of a chunk
+-- whether it may name the range of a chunk
 abbrev pub uses_range : Verb → Bool
 uses_range verb.Append = true
 uses_range verb.Close = true
 uses_range _ = false
 
--- whether a command names a session
+-- whether it names a session
 abbrev pub uses_session : Verb → Bool
 uses_session verb.Status = true
 uses_session verb.Append = true
@@ -111,13 +67,64 @@ uses_session verb.Close = true
 uses_session verb.Abandon = true
 uses_session _ = false
 
--- the digest of a command that has one is spelled
-abbrev pub HasDigest : Line → Type 0
-HasDigest line = uses_digest line.verb ≡ true → IsDigest line.digest
+-- ---- what a field spells
 
--- the refusal of the first field, in the order repository, source, digest and range, that spells nothing
-abbrev pub IsMisspelt : Line → Refusal → Type 0
-IsMisspelt line NameInvalid = (¬ IsRepoName line.repo) ⊎ (IsRepoName line.repo × (uses_source line.verb ≡ true) × IsNoSource line.key)
-IsMisspelt line DigestInvalid = IsRepoName line.repo × HasSource line × (uses_digest line.verb ≡ true) × ¬ IsDigest line.digest
-IsMisspelt line SizeInvalid = IsRepoName line.repo × HasSource line × HasDigest line × (uses_range line.verb ≡ true) × IsNoRange line.range
-IsMisspelt line refusal = ⊥
+-- a repository
+abbrev pub repo_in : Text → Result Text Refusal
+repo_in text = if is_repo_name text then Ok text else Err NameInvalid
+
+-- the source of a mount: none where the field is empty
+abbrev pub source_in : Text → Result (Option Text) Refusal
+source_in [] = Ok None
+source_in (c ∷ cs) = if is_repo_name (c ∷ cs) then Ok (Some (c ∷ cs)) else Err NameInvalid
+
+-- a digest, by whichever algorithm
+abbrev pub digest_in : Text → Result Text Refusal
+digest_in text = if is_digest_text text then Ok text else Err DigestInvalid
+
+-- the range of two ends, which it keeps with the proofs of their tests
+abbrev pub range_by : (start end : ℕ) (o s : Bool) → nat_le start end ≡ o → nat_lt end (2 ^ 63) ≡ s → Result (Option ByteRange) Refusal
+range_by start end true true o s = Ok (Some (record { start = start; end = end; ordered = leb-true start end o; small = ltb-true end (2 ^ 63) s }))
+range_by start end true false o s = Err SizeInvalid
+range_by start end false s o _ = Err SizeInvalid
+
+abbrev pub range_with : Option (ℕ × ℕ) → Result (Option ByteRange) Refusal
+range_with None = Err SizeInvalid
+range_with (Some r) = range_by r.0 r.1 (nat_le r.0 r.1) (nat_lt r.1 (2 ^ 63)) refl refl
+
+-- the range of a chunk: none where the field is empty
+abbrev pub range_in : Text → Result (Option ByteRange) Refusal
+range_in [] = Ok None
+range_in (c ∷ cs) = range_with (range_of (c ∷ cs))
+
+-- a field is read where it is used
+abbrev pub where_used : {A : Type 0} → Bool → A → Result A Refusal → Result A Refusal
+where_used true other field = field
+where_used false other field = Ok other
+
+-- ---- the command
+
+-- the command of a verb with what its fields spell
+abbrev pub command : Verb → Text → Option Text → Text → Option ByteRange → Option ℕ → Text → Option Command
+command verb.Start repo from digest range number body = Some (Start repo)
+command verb.Status repo from digest range number body = option_map (λ n. Status repo n) number
+command verb.Append repo from digest range number body = option_map (λ n. Append repo n range body) number
+command verb.Close repo from digest range number body = option_map (λ n. Close repo n digest range body) number
+command verb.Abandon repo from digest range number body = option_map (λ n. Abandon repo n) number
+command verb.Mount repo from digest range number body = Some (Mount repo digest from)
+command verb.Delete repo from digest range number body = Some (Delete repo digest)
+command verb.PutManifest repo from digest range number body = Some (PutManifest repo body)
+command verb.GetManifest repo from digest range number body = Some (GetManifest repo digest)
+command verb.DeleteManifest repo from digest range number body = Some (DeleteManifest repo digest)
+command verb.Lease repo from digest range number body = Some (Lease repo digest)
+command _ repo from digest range number body = None
+
+-- The command that a row spells, or the refusal of the first of its fields, in this order, that spells nothing. A row of a lease that its
+-- lane has, and a sweep, spell none, and are not refused here.
+abbrev pub command_of : RowView → Result (Option Command) Refusal
+command_of row = do
+  repo ← where_used (uses_repo row.verb) [] (repo_in row.repo)
+  from ← where_used (uses_source row.verb) None (source_in row.key)
+  digest ← where_used (uses_digest row.verb) [] (digest_in row.digest)
+  range ← where_used (uses_range row.verb) None (range_in row.range)
+  Ok (command row.verb repo from digest range (session_number row.key) row.body)

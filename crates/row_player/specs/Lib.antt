@@ -3,7 +3,7 @@ pub mod Commands
 pub mod Counts
 pub mod LeaseTables
 pub mod Leases
-pub mod Lines
+pub mod RowViews
 pub mod Plays
 pub mod Replies
 pub mod Rows

@@ -1,14 +1,14 @@
 -- What the rows of a script do to what they are played on, by what a store may do.
-use Rattle.std.specs.Prelude.{◌≡◌, ◌≢◌, ◌⊎◌, ℕ, ◌+◌, ◌-◌, ◌==◌, if◌then◌else◌, nat_le, true, false, List, [], ◌∷◌, length, Option, Some, None, option_and_then, Result, Ok, Err}
+use Rattle.std.specs.Prelude.{◌≡◌, ◌≢◌, ◌⊎◌, ℕ, ◌+◌, ◌-◌, ◌==◌, if◌then◌else◌, nat_le, false, List, [], ◌∷◌, length, Option, Some, None, option_and_then, Result, Ok, Err}
 use Rattle.std.specs.FinMap as fmap
 use Rattle.finite_maps.specs.Texts.{Text}
 use Rattle.blob_digest.specs.Ranges.{range_of}
 use Rattle.blob_digest.specs.declared.refusal.Refusal.{Refusal}
 use Rattle.blob_digest.specs.declared.refusal.Refusal.TheVariants.{Memory, SizeInvalid, WeightSpent}
 use Rattle.row_player.specs.Answers.{Answer, answer_of, Leased, Bytes, Shared, GivenBack, NoLease, NameTaken, Refused}
-use Rattle.row_player.specs.Commands.{Command, Request, Calls, Verifies, Sweeps, IsMisspelt, Spells, is_lease, uses_repo, Lease}
+use Rattle.row_player.specs.Commands.{Command, Request, Calls, Verifies, Sweeps, command_of, is_lease, Lease}
 use Rattle.row_player.specs.Leases.{Lent, Leases, Name, between, halved, new_lease}
-use Rattle.row_player.specs.Rows.{Line}
+use Rattle.row_player.specs.Rows.{RowView}
 use Rattle.row_player.specs.declared.reply.Reply.{Reply}
 use Rattle.row_player.specs.declared.row.Verb.TheVariants as verb
 
@@ -17,50 +17,50 @@ abbrev pub State : Type 0 → Type 0
 State S = S × Leases
 
 -- the name that a row has for its key, and the second one of a share, both in the row's lane
-abbrev pub name_of : Line → Name
-name_of line = (line.lane, line.key)
+abbrev pub name_of : RowView → Name
+name_of row = (row.lane, row.key)
 
-abbrev pub second_of : Line → Name
-second_of line = (line.lane, line.body)
+abbrev pub second_of : RowView → Name
+second_of row = (row.lane, row.body)
 
 -- the lease that a row names
-abbrev pub named : Leases → Line → Option Lent
-named leases line = fmap.get leases (name_of line)
+abbrev pub named : Leases → RowView → Option Lent
+named leases row = fmap.get leases (name_of row)
 
 -- ---- rows of the store
 
--- a row that names a repository is refused for a field that spells nothing
-abbrev pub IsRefused : Line → Answer → Type 0
-IsRefused line answer = (uses_repo line.verb ≡ true) × ((refusal : Refusal) × IsMisspelt line refusal × (answer ≡ Refused refusal))
+-- what a row does by the command that it spells: a refusal changes nothing, and a command that lends is a row's that lends
+abbrev pub StepOf : {S : Type 0} → (S → Request → Answer → S → Type 0) → Result (Option Command) Refusal → S → Answer → S → Type 0
+StepOf acts (Ok (Some command)) old answer new = (is_lease command ≡ false) × acts old (Calls command) answer new
+StepOf acts (Ok None) old answer new = ⊥
+StepOf acts (Err refusal) old answer new = (answer ≡ Refused refusal) × (new ≡ old)
 
--- a row is refused for a field that spells nothing, and changes nothing; or it does what the command does that it spells
-abbrev pub StoreStep : {S : Type 0} → (S → Request → Answer → S → Type 0) → S → Line → Answer → S → Type 0
-StoreStep acts old line answer new =
-    (IsRefused line answer × (new ≡ old)) ⊎ ((command : Command) × Spells line command × (is_lease command ≡ false) × acts old (Calls command) answer new)
+abbrev pub StoreStep : {S : Type 0} → (S → Request → Answer → S → Type 0) → S → RowView → Answer → S → Type 0
+StoreStep acts old row answer new = StepOf acts (command_of row) old answer new
 
 -- leases stay as they are
-abbrev pub StoreRow : {S : Type 0} → (S → Request → Answer → S → Type 0) → State S → Line → Answer → State S → Type 0
-StoreRow acts old line answer new = StoreStep acts old.0 line answer new.0 × (new.1 ≡ old.1)
+abbrev pub StoreRow : {S : Type 0} → (S → Request → Answer → S → Type 0) → State S → RowView → Answer → State S → Type 0
+StoreRow acts old row answer new = StoreStep acts old.0 row answer new.0 × (new.1 ≡ old.1)
 
 -- a row sweeps
-abbrev pub SweepRow : {S : Type 0} → (S → Request → Answer → S → Type 0) → State S → Line → Answer → State S → Type 0
-SweepRow acts old line answer new = (line.verb ≡ verb.Sweep) × acts old.0 Sweeps answer new.0 × (new.1 ≡ old.1)
+abbrev pub SweepRow : {S : Type 0} → (S → Request → Answer → S → Type 0) → State S → RowView → Answer → State S → Type 0
+SweepRow acts old row answer new = (row.verb ≡ verb.Sweep) × acts old.0 Sweeps answer new.0 × (new.1 ≡ old.1)
 
 -- ---- rows that lend
 
 -- A store lends a blob, whose bytes it answers, and the lane keeps a new lease of it under the row's name; or it refuses.
-abbrev pub Lends : {S : Type 0} → (S → Request → Answer → S → Type 0) → State S → Line → Answer → State S → Type 0
-Lends acts old line answer new =
-    ((bytes : Text) × acts old.0 (Calls (Lease line.repo line.digest)) (Bytes bytes) new.0 × (answer ≡ Leased (length bytes)) × (new.1 ≡ fmap.insert old.1 (name_of line) (new_lease bytes)))
-    ⊎ ((refusal : Refusal) × acts old.0 (Calls (Lease line.repo line.digest)) (Refused refusal) new.0 × (answer ≡ Refused refusal) × (new.1 ≡ old.1))
+abbrev pub Lends : {S : Type 0} → (S → Request → Answer → S → Type 0) → State S → RowView → Answer → State S → Type 0
+Lends acts old row answer new =
+    ((bytes : Text) × acts old.0 (Calls (Lease row.repo row.digest)) (Bytes bytes) new.0 × (answer ≡ Leased (length bytes)) × (new.1 ≡ fmap.insert old.1 (name_of row) (new_lease bytes)))
+    ⊎ ((refusal : Refusal) × acts old.0 (Calls (Lease row.repo row.digest)) (Refused refusal) new.0 × (answer ≡ Refused refusal) × (new.1 ≡ old.1))
 
 -- where the row's name is taken, nothing is asked of the store
-abbrev pub LendsWhereFree : {S : Type 0} → (S → Request → Answer → S → Type 0) → Option Lent → State S → Line → Answer → State S → Type 0
-LendsWhereFree acts (Some lease) old line answer new = (answer ≡ NameTaken) × (new ≡ old)
-LendsWhereFree acts None old line answer new = Lends acts old line answer new
+abbrev pub LendsWhereFree : {S : Type 0} → (S → Request → Answer → S → Type 0) → Option Lent → State S → RowView → Answer → State S → Type 0
+LendsWhereFree acts (Some lease) old row answer new = (answer ≡ NameTaken) × (new ≡ old)
+LendsWhereFree acts None old row answer new = Lends acts old row answer new
 
-abbrev pub LeaseRow : {S : Type 0} → (S → Request → Answer → S → Type 0) → State S → Line → Answer → State S → Type 0
-LeaseRow acts old line answer new = Spells line (Lease line.repo line.digest) × LendsWhereFree acts (named old.1 line) old line answer new
+abbrev pub LeaseRow : {S : Type 0} → (S → Request → Answer → S → Type 0) → State S → RowView → Answer → State S → Type 0
+LeaseRow acts old row answer new = (row.verb ≡ verb.Lease) × (command_of row ≡ Ok (Some (Lease row.repo row.digest))) × LendsWhereFree acts (named old.1 row) old row answer new
 
 -- ---- rows of a lease
 
@@ -74,8 +74,8 @@ read_of None ends = NoLease
 read_of (Some lease) None = Refused SizeInvalid
 read_of (Some lease) (Some ends) = Bytes (between lease.bytes ends.0 ends.1)
 
-abbrev pub ReadRow : {S : Type 0} → State S → Line → Answer → State S → Type 0
-ReadRow old line answer new = (line.verb ≡ verb.Read) × (answer ≡ read_of (named old.1 line) (piece_of line.range)) × (new ≡ old)
+abbrev pub ReadRow : {S : Type 0} → State S → RowView → Answer → State S → Type 0
+ReadRow old row answer new = (row.verb ≡ verb.Read) × (answer ≡ read_of (named old.1 row) (piece_of row.range)) × (new ≡ old)
 
 -- What sharing a lease answers and leaves, by what is held under the two names: the lease keeps half of its weight, and the second
 -- name gets the other half.
@@ -88,51 +88,51 @@ share_of leases name second (Some lease) None =
 abbrev pub shared_in : Leases → Name → Name → Answer × Leases
 shared_in leases name second = share_of leases name second (fmap.get leases name) (fmap.get leases second)
 
-abbrev pub ShareRow : {S : Type 0} → State S → Line → Answer → State S → Type 0
-ShareRow old line answer new =
-    (line.verb ≡ verb.Share) × ((answer, new.1) ≡ shared_in old.1 (name_of line) (second_of line)) × (new.0 ≡ old.0)
+abbrev pub ShareRow : {S : Type 0} → State S → RowView → Answer → State S → Type 0
+ShareRow old row answer new =
+    (row.verb ≡ verb.Share) × ((answer, new.1) ≡ shared_in old.1 (name_of row) (second_of row)) × (new.0 ≡ old.0)
 
 -- the store looks at the slot of a lease
 abbrev pub VerifiesLease : {S : Type 0} → (S → Request → Answer → S → Type 0) → Option Lent → S → Answer → S → Type 0
 VerifiesLease acts None old answer new = (answer ≡ NoLease) × (new ≡ old)
 VerifiesLease acts (Some lease) old answer new = acts old (Verifies (length lease.bytes)) answer new
 
-abbrev pub VerifyRow : {S : Type 0} → (S → Request → Answer → S → Type 0) → State S → Line → Answer → State S → Type 0
-VerifyRow acts old line answer new = (line.verb ≡ verb.Verify) × VerifiesLease acts (named old.1 line) old.0 answer new.0 × (new.1 ≡ old.1)
+abbrev pub VerifyRow : {S : Type 0} → (S → Request → Answer → S → Type 0) → State S → RowView → Answer → State S → Type 0
+VerifyRow acts old row answer new = (row.verb ≡ verb.Verify) × VerifiesLease acts (named old.1 row) old.0 answer new.0 × (new.1 ≡ old.1)
 
 -- what giving a lease back answers and leaves
 abbrev pub give_back_of : Leases → Name → Option Lent → Answer × Leases
 give_back_of leases name None = (NoLease, leases)
 give_back_of leases name (Some lease) = (GivenBack, fmap.remove leases name)
 
-abbrev pub GiveBackRow : {S : Type 0} → State S → Line → Answer → State S → Type 0
-GiveBackRow old line answer new = (line.verb ≡ verb.GiveBack) × ((answer, new.1) ≡ give_back_of old.1 (name_of line) (named old.1 line)) × (new.0 ≡ old.0)
+abbrev pub GiveBackRow : {S : Type 0} → State S → RowView → Answer → State S → Type 0
+GiveBackRow old row answer new = (row.verb ≡ verb.GiveBack) × ((answer, new.1) ≡ give_back_of old.1 (name_of row) (named old.1 row)) × (new.0 ≡ old.0)
 
 -- ---- rows
 
 -- a row with its answer
-abbrev pub RowStep : {S : Type 0} → (S → Request → Answer → S → Type 0) → State S → Line → Answer → State S → Type 0
-RowStep acts old line answer new =
-    StoreRow acts old line answer new ⊎ LeaseRow acts old line answer new ⊎ ReadRow old line answer new
-    ⊎ ShareRow old line answer new ⊎ VerifyRow acts old line answer new ⊎ GiveBackRow old line answer new ⊎ SweepRow acts old line answer new
+abbrev pub RowStep : {S : Type 0} → (S → Request → Answer → S → Type 0) → State S → RowView → Answer → State S → Type 0
+RowStep acts old row answer new =
+    StoreRow acts old row answer new ⊎ LeaseRow acts old row answer new ⊎ ReadRow old row answer new
+    ⊎ ShareRow old row answer new ⊎ VerifyRow acts old row answer new ⊎ GiveBackRow old row answer new ⊎ SweepRow acts old row answer new
 
 -- what playing a row answers: its reply, or its refusal, or want of memory with nothing changed
-abbrev pub AnswersRow : {S : Type 0} → (S → Request → Answer → S → Type 0) → State S → Line → Result Reply Refusal → State S → Type 0
-AnswersRow acts old line (Ok reply) new = RowStep acts old line (answer_of reply) new
-AnswersRow acts old line (Err refusal) new = ((refusal ≡ Memory) × (new ≡ old)) ⊎ RowStep acts old line (Refused refusal) new
+abbrev pub AnswersRow : {S : Type 0} → (S → Request → Answer → S → Type 0) → State S → RowView → Result Reply Refusal → State S → Type 0
+AnswersRow acts old row (Ok reply) new = RowStep acts old row (answer_of reply) new
+AnswersRow acts old row (Err refusal) new = ((refusal ≡ Memory) × (new ≡ old)) ⊎ RowStep acts old row (Refused refusal) new
 
 -- the same of a row that a command of the store plays
-abbrev pub AnswersCall : {S : Type 0} → (S → Request → Answer → S → Type 0) → S → Line → Result Reply Refusal → S → Type 0
-AnswersCall acts old line (Ok reply) new = StoreStep acts old line (answer_of reply) new
-AnswersCall acts old line (Err refusal) new = ((refusal ≡ Memory) × (new ≡ old)) ⊎ StoreStep acts old line (Refused refusal) new
+abbrev pub AnswersCall : {S : Type 0} → (S → Request → Answer → S → Type 0) → S → RowView → Result Reply Refusal → S → Type 0
+AnswersCall acts old row (Ok reply) new = StoreStep acts old row (answer_of reply) new
+AnswersCall acts old row (Err refusal) new = ((refusal ≡ Memory) × (new ≡ old)) ⊎ StoreStep acts old row (Refused refusal) new
 
 -- the same of a row that reads a lease
-abbrev pub AnswersRead : Leases → Line → Result Reply Refusal → Type 0
-AnswersRead leases line (Ok reply) = answer_of reply ≡ read_of (named leases line) (piece_of line.range)
-AnswersRead leases line (Err refusal) = (refusal ≡ Memory) ⊎ (Refused refusal ≡ read_of (named leases line) (piece_of line.range))
+abbrev pub AnswersRead : Leases → RowView → Result Reply Refusal → Type 0
+AnswersRead leases row (Ok reply) = answer_of reply ≡ read_of (named leases row) (piece_of row.range)
+AnswersRead leases row (Err refusal) = (refusal ≡ Memory) ⊎ (Refused refusal ≡ read_of (named leases row) (piece_of row.range))
 
 -- the rows were played in their order, each with one answer, and no answer was want of memory
-abbrev pub Plays : {S : Type 0} → (S → Request → Answer → S → Type 0) → State S → List Line → List Answer → State S → Type 0
+abbrev pub Plays : {S : Type 0} → (S → Request → Answer → S → Type 0) → State S → List RowView → List Answer → State S → Type 0
 Plays acts old [] [] new = new ≡ old
-Plays {S} acts old (line ∷ lines) (answer ∷ answers) new = (mid : State S) × RowStep acts old line answer mid × (answer ≢ Refused Memory) × Plays acts mid lines answers new
-Plays acts old lines answers new = ⊥
+Plays {S} acts old (row ∷ rows) (answer ∷ answers) new = (mid : State S) × RowStep acts old row answer mid × (answer ≢ Refused Memory) × Plays acts mid rows answers new
+Plays acts old rows answers new = ⊥

@@ -5,11 +5,11 @@ use Rattle.std.specs.List.{enumerate_from, flat_map}
 use Rattle.hex.specs.Hex.{encode_lower}
 use Rattle.finite_maps.specs.Texts.{Text}
 use Rattle.blob_digest.specs.Refusals.{refusal_text}
-use Rattle.store_model.specs.declared.swept.Swept.{Swept}
-use Rattle.row_player.specs.Answers.{Answer, Session, Received, Stored, Abandoned, Mounted, Deleted, Manifest, Body, Leased, Bytes, Shared, Verified, GivenBack, Cleaned, NoLease, NameTaken, Refused}
+use Rattle.store_model.specs.declared.swept.Swept.{Swept as SweptCounts}
+use Rattle.row_player.specs.Answers.{Answer, Session, Received, Stored, Abandoned, Mounted, Deleted, Manifest, Body, Leased, Bytes, Shared, Verified, GivenBack, Swept, NoLease, NameTaken, Refused}
 
 -- what a sweep did
-abbrev pub swept_text : Swept → Text
+abbrev pub swept_text : SweptCounts → Text
 swept_text swept = codes "swept condemned " ++ decimal swept.condemned ++ codes " freed " ++ decimal swept.freed ++ codes " held " ++ decimal swept.held ++ codes " retired " ++ decimal swept.retired
 
 -- what a reply says
@@ -27,7 +27,7 @@ reply_text (Bytes bytes) = codes "bytes " ++ encode_lower bytes
 reply_text Shared = codes "shared"
 reply_text (Verified size) = codes "verified " ++ decimal size
 reply_text GivenBack = codes "given back"
-reply_text (Cleaned swept) = swept_text swept
+reply_text (Swept swept) = swept_text swept
 reply_text NoLease = codes "no lease"
 reply_text NameTaken = codes "name taken"
 reply_text (Refused refusal) = codes "refused " ++ refusal_text refusal

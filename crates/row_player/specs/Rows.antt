@@ -8,7 +8,7 @@ use Rattle.row_player.specs.declared.row.Verb.{Verb}
 use Rattle.row_player.specs.declared.row.Verb.TheVariants.{Start, Status, Append, Close, Abandon, Mount, Delete, PutManifest, GetManifest, DeleteManifest, Lease, Read, Share, Verify, GiveBack, Sweep}
 
 -- a row: lane, command, repository, the key (a session's number, a source or the name of a lease), digest, range and body
-pub record Line : Type 0 where
+pub record RowView : Type 0 where
   pub lane : ℕ
   pub verb : Verb
   pub repo : Text

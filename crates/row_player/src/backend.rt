@@ -1,7 +1,7 @@
 //! What the rows of a script are played on.
 ghost use Rattle.std.specs.Prelude.{◌≡◌, ◌≢◌, ◌⊎◌, ◌^◌, ◌<◌, ◌≤◌, length, MatchResult};
 ghost use Rattle.std.specs.Option.{option_copied};
-ghost use Rattle.row_player.specs.Answers.{Answer, Session, Received, Stored, Abandoned, Deleted, Manifest as ManifestAnswer, Body, Bytes, Verified, Cleaned, Refused, mount_answer};
+ghost use Rattle.row_player.specs.Answers.{Answer, Session, Received, Stored, Abandoned, Deleted, Manifest as ManifestAnswer, Body, Bytes, Verified, Swept as SweptAnswer, Refused, mount_answer};
 ghost use Rattle.row_player.specs.Commands.{Request, Calls, Verifies, Sweeps, Start, Status, Append, Close, Abandon, Mount as MountCommand, Delete, PutManifest, GetManifest, DeleteManifest, Lease as LeaseCommand};
 ghost use Rattle.row_player.specs.Leases.{Lent, between, halved};
 ghost use Rattle.std.specs.Arc.{arc_value};
@@ -120,5 +120,5 @@ pub trait Backend {
 
     /// Frees the slots of blobs without links that no lease holds.
     fn sweep(&mut self) -> Swept
-        ensures { acts self.old Sweeps (Cleaned result) self.new };
+        ensures { acts self.old Sweeps (SweptAnswer result) self.new };
 }

@@ -2,7 +2,7 @@
 ghost use Rattle.std.specs.Prelude.{ℕ, ◌<◌, ◌≤◌, ◌≡◌, [], get_or, length, map, vec_capacity};
 ghost use Rattle.std.specs.Option.{option_map};
 ghost use Rattle.row_player.specs.Answers.{answer_of, answers_of};
-ghost use Rattle.row_player.specs.Lines.{line_of};
+ghost use Rattle.row_player.specs.RowViews.{row_view};
 ghost use Rattle.row_player.specs.Shares.{AreTogether, TakesLast, own_rows};
 
 use crate::reply::Reply;
@@ -21,10 +21,10 @@ fn take_last(lists: &mut Vec<Vec<Reply>>, worker: usize) -> Option<Reply>
 /// rows. Each worker has one reply for each row of its lanes. It takes no memory: the list to fill has room.
 pub fn in_row_order(rows: &[Row], mut lists: Vec<Vec<Reply>>, mut merged: Vec<Reply>) -> Vec<Reply>
     requires some { 0 < length lists.items }
-    requires whole { (w : ℕ) → w < length lists.items → length (get_or (map (λ v. answers_of v.items) lists.items) w []) ≡ length (own_rows (length lists.items) w (map line_of rows.now)) }
+    requires whole { (w : ℕ) → w < length lists.items → length (get_or (map (λ v. answers_of v.items) lists.items) w []) ≡ length (own_rows (length lists.items) w (map row_view rows.now)) }
     requires empty { merged.items ≡ [] }
     requires room { length rows.now ≤ vec_capacity merged }
-    ensures { AreTogether (length lists.items) (map line_of rows.now) (λ w. get_or (map (λ v. answers_of v.items) lists.items) w []) (answers_of result.items) }
+    ensures { AreTogether (length lists.items) (map row_view rows.now) (λ w. get_or (map (λ v. answers_of v.items) lists.items) w []) (answers_of result.items) }
 {
     let workers = lists.len();
     let mut place = rows.len();

@@ -1,9 +1,10 @@
 //! Plays the rows of a script.
 ghost use Rattle.std.specs.Prelude.{◌≡◌, ◌≢◌, ◌⊎◌, ◌++◌, ◌∷◌, [], ◌≤◌, ◌<◌, ◌^◌, true, Some, None, IfOk, IfErr, OnOk, MatchResult, IsTrue, ◌↔◌, length, map, vec_capacity, vec_len};
+ghost use Rattle.blob_digest.specs.Outcomes.{Answers};
 ghost use Rattle.row_player.specs.Answers.{answer_of, answers_of, Refused};
-ghost use Rattle.row_player.specs.Commands.{IsDigest, IsNoRange, IsNoSource, SpellsRange, SpellsSource, uses_session};
+ghost use Rattle.row_player.specs.Commands.{digest_in, range_in, repo_in, source_in, uses_session};
 ghost use Rattle.row_player.specs.Leases.{Leases as Held, none};
-ghost use Rattle.row_player.specs.Lines.{line_of};
+ghost use Rattle.row_player.specs.RowViews.{row_view};
 ghost use Rattle.row_player.specs.Plays.{AnswersCall, AnswersRead, AnswersRow, Plays, RowStep, piece_of};
 ghost use Rattle.row_player.specs.Rows.{session_number};
 ghost use Rattle.row_player.specs.Shares.{own_rows};
@@ -19,17 +20,24 @@ use crate::worker::Worker;
 use blob_digest::{ByteRange, Digest, Refusal, RepoName};
 use std::alloc::Global;
 
+/// The repository that a field spells.
+fn repo_in(alloc: Global, text: &[u8]) -> Result<RepoName, Refusal>
+    ensures { Answers (λ r. r) result (repo_in text.now) }
+{
+    RepoName::parse(alloc, text)
+}
+
 /// The digest that a field spells.
-#[tactic(auto, unfolding(crate::specs::Commands::IsDigest))]
 fn digest_in(text: &[u8]) -> Result<Digest, Refusal>
-    ensures { MatchResult result (λ d. (d ≡ text.now) × IsDigest text.now) (λ e. (e ≡ Refusal.DigestInvalid) × ¬ IsDigest text.now) }
+    ensures { result ≡ digest_in text.now }
 {
     Digest::parse(text)
 }
 
 /// The range that a field spells, which is none where the field is empty.
+#[tactic(auto, using(crate::proofs::FieldTexts::range_ok, crate::proofs::FieldTexts::range_bad))]
 fn range_in(text: &[u8]) -> Result<Option<ByteRange>, Refusal>
-    ensures { MatchResult result (λ r. SpellsRange text.now r) (λ e. (e ≡ Refusal.SizeInvalid) × IsNoRange text.now) }
+    ensures { result ≡ range_in text.now }
 {
     if text.is_empty() {
         return Ok(None);
@@ -39,8 +47,9 @@ fn range_in(text: &[u8]) -> Result<Option<ByteRange>, Refusal>
 }
 
 /// The source that a field spells, which is none where the field is empty.
+#[tactic(auto, using(crate::proofs::FieldTexts::source_ok, crate::proofs::FieldTexts::source_bad))]
 fn source_in(alloc: Global, text: &[u8]) -> Result<Option<RepoName>, Refusal>
-    ensures { MatchResult result (λ from. SpellsSource text.now from) (λ e. (e ≡ Refusal.Memory) ⊎ ((e ≡ Refusal.NameInvalid) × IsNoSource text.now)) }
+    ensures { Answers (λ r. r) result (source_in text.now) }
 {
     if text.is_empty() {
         return Ok(None);
@@ -63,9 +72,9 @@ fn number_in(row: &Row) -> u32
 /// Plays a row that opens a session.
 fn play_start<B: Backend>(alloc: Global, backend: &mut B, row: &Row) -> Result<Reply, Refusal>
     requires { row.now.verb ≡ Verb.Start }
-    ensures { AnswersCall B.acts backend.old (line_of row.now) result backend.new }
+    ensures { AnswersCall B.acts backend.old (row_view row.now) result backend.new }
 {
-    let repo = RepoName::parse(alloc, row.repo.as_slice())?;
+    let repo = repo_in(alloc, row.repo.as_slice())?;
     let number = backend.start(&repo)?;
     Ok(Reply::Session(number))
 }
@@ -73,9 +82,9 @@ fn play_start<B: Backend>(alloc: Global, backend: &mut B, row: &Row) -> Result<R
 /// Plays a row that asks for a session's length.
 fn play_status<B: Backend>(alloc: Global, backend: &mut B, row: &Row) -> Result<Reply, Refusal>
     requires { row.now.verb ≡ Verb.Status }
-    ensures { AnswersCall B.acts backend.old (line_of row.now) result backend.new }
+    ensures { AnswersCall B.acts backend.old (row_view row.now) result backend.new }
 {
-    let repo = RepoName::parse(alloc, row.repo.as_slice())?;
+    let repo = repo_in(alloc, row.repo.as_slice())?;
     let number = number_in(row);
     let length = backend.status(&repo, number)?;
     Ok(Reply::Received(length))
@@ -84,9 +93,9 @@ fn play_status<B: Backend>(alloc: Global, backend: &mut B, row: &Row) -> Result<
 /// Plays a row that adds a chunk.
 fn play_append<B: Backend>(alloc: Global, backend: &mut B, row: &Row) -> Result<Reply, Refusal>
     requires { row.now.verb ≡ Verb.Append }
-    ensures { AnswersCall B.acts backend.old (line_of row.now) result backend.new }
+    ensures { AnswersCall B.acts backend.old (row_view row.now) result backend.new }
 {
-    let repo = RepoName::parse(alloc, row.repo.as_slice())?;
+    let repo = repo_in(alloc, row.repo.as_slice())?;
     let range = range_in(row.range.as_slice())?;
     let number = number_in(row);
     let length = backend.append(&repo, number, range, row.body.as_slice())?;
@@ -96,9 +105,9 @@ fn play_append<B: Backend>(alloc: Global, backend: &mut B, row: &Row) -> Result<
 /// Plays a row that closes a session.
 fn play_close<B: Backend>(alloc: Global, backend: &mut B, row: &Row) -> Result<Reply, Refusal>
     requires { row.now.verb ≡ Verb.Close }
-    ensures { AnswersCall B.acts backend.old (line_of row.now) result backend.new }
+    ensures { AnswersCall B.acts backend.old (row_view row.now) result backend.new }
 {
-    let repo = RepoName::parse(alloc, row.repo.as_slice())?;
+    let repo = repo_in(alloc, row.repo.as_slice())?;
     let digest = digest_in(row.digest.as_slice())?;
     let range = range_in(row.range.as_slice())?;
     let number = number_in(row);
@@ -109,9 +118,9 @@ fn play_close<B: Backend>(alloc: Global, backend: &mut B, row: &Row) -> Result<R
 /// Plays a row that gives a session up.
 fn play_abandon<B: Backend>(alloc: Global, backend: &mut B, row: &Row) -> Result<Reply, Refusal>
     requires { row.now.verb ≡ Verb.Abandon }
-    ensures { AnswersCall B.acts backend.old (line_of row.now) result backend.new }
+    ensures { AnswersCall B.acts backend.old (row_view row.now) result backend.new }
 {
-    let repo = RepoName::parse(alloc, row.repo.as_slice())?;
+    let repo = repo_in(alloc, row.repo.as_slice())?;
     let number = number_in(row);
     backend.abandon(&repo, number)?;
     Ok(Reply::Abandoned)
@@ -120,9 +129,9 @@ fn play_abandon<B: Backend>(alloc: Global, backend: &mut B, row: &Row) -> Result
 /// Plays a row that mounts a blob.
 fn play_mount<B: Backend>(alloc: Global, backend: &mut B, row: &Row) -> Result<Reply, Refusal>
     requires { row.now.verb ≡ Verb.Mount }
-    ensures { AnswersCall B.acts backend.old (line_of row.now) result backend.new }
+    ensures { AnswersCall B.acts backend.old (row_view row.now) result backend.new }
 {
-    let repo = RepoName::parse(alloc, row.repo.as_slice())?;
+    let repo = repo_in(alloc, row.repo.as_slice())?;
     let from = source_in(alloc, row.key.as_slice())?;
     let digest = digest_in(row.digest.as_slice())?;
     let mount = backend.mount(&repo, &digest, from.as_ref())?;
@@ -132,9 +141,9 @@ fn play_mount<B: Backend>(alloc: Global, backend: &mut B, row: &Row) -> Result<R
 /// Plays a row that takes a link out.
 fn play_delete<B: Backend>(alloc: Global, backend: &mut B, row: &Row) -> Result<Reply, Refusal>
     requires { row.now.verb ≡ Verb.Delete }
-    ensures { AnswersCall B.acts backend.old (line_of row.now) result backend.new }
+    ensures { AnswersCall B.acts backend.old (row_view row.now) result backend.new }
 {
-    let repo = RepoName::parse(alloc, row.repo.as_slice())?;
+    let repo = repo_in(alloc, row.repo.as_slice())?;
     let digest = digest_in(row.digest.as_slice())?;
     backend.delete(&repo, &digest)?;
     Ok(Reply::Deleted)
@@ -147,9 +156,9 @@ fn play_put_manifest<B: Backend>(
     row: &Row,
 ) -> Result<Reply, Refusal>
     requires { row.now.verb ≡ Verb.PutManifest }
-    ensures { AnswersCall B.acts backend.old (line_of row.now) result backend.new }
+    ensures { AnswersCall B.acts backend.old (row_view row.now) result backend.new }
 {
-    let repo = RepoName::parse(alloc, row.repo.as_slice())?;
+    let repo = repo_in(alloc, row.repo.as_slice())?;
     let digest = backend.put_manifest(&repo, row.body.as_slice())?;
     Ok(Reply::Manifest(digest))
 }
@@ -161,9 +170,9 @@ fn play_get_manifest<B: Backend>(
     row: &Row,
 ) -> Result<Reply, Refusal>
     requires { row.now.verb ≡ Verb.GetManifest }
-    ensures { AnswersCall B.acts backend.old (line_of row.now) result backend.new }
+    ensures { AnswersCall B.acts backend.old (row_view row.now) result backend.new }
 {
-    let repo = RepoName::parse(alloc, row.repo.as_slice())?;
+    let repo = repo_in(alloc, row.repo.as_slice())?;
     let digest = digest_in(row.digest.as_slice())?;
     let manifest = backend.get_manifest(&repo, &digest)?;
     Ok(Reply::Body(manifest))
@@ -176,9 +185,9 @@ fn play_delete_manifest<B: Backend>(
     row: &Row,
 ) -> Result<Reply, Refusal>
     requires { row.now.verb ≡ Verb.DeleteManifest }
-    ensures { AnswersCall B.acts backend.old (line_of row.now) result backend.new }
+    ensures { AnswersCall B.acts backend.old (row_view row.now) result backend.new }
 {
-    let repo = RepoName::parse(alloc, row.repo.as_slice())?;
+    let repo = repo_in(alloc, row.repo.as_slice())?;
     let digest = digest_in(row.digest.as_slice())?;
     backend.delete_manifest(&repo, &digest)?;
     Ok(Reply::Deleted)
@@ -193,9 +202,9 @@ fn play_lease<'r, B: Backend>(
     row: &'r Row,
 ) -> Result<Reply, Refusal>
     requires { row.now.verb ≡ Verb.Lease }
-    ensures { AnswersRow B.acts (backend.old, leases.old) (line_of row.now) result (backend.new, leases.new) }
+    ensures { AnswersRow B.acts (backend.old, leases.old) (row_view row.now) result (backend.new, leases.new) }
 {
-    let repo = RepoName::parse(alloc, row.repo.as_slice())?;
+    let repo = repo_in(alloc, row.repo.as_slice())?;
     let digest = digest_in(row.digest.as_slice())?;
     let name = (row.lane, row.key.as_slice());
     if leases.get(name).is_some() {
@@ -221,7 +230,7 @@ fn piece_in(text: &[u8]) -> Result<(u64, u64), Refusal>
 
 /// Plays a row that reads a piece of a leased blob.
 fn play_read<'r, L: BlobLease>(leases: &Leases<'r, L>, row: &'r Row) -> Result<Reply, Refusal>
-    ensures { AnswersRead leases.now (line_of row.now) result }
+    ensures { AnswersRead leases.now (row_view row.now) result }
 {
     let Some(held) = leases.get((row.lane, row.key.as_slice())) else {
         return Ok(Reply::NoLease);
@@ -238,7 +247,7 @@ fn play_row<'r, B: Backend>(
     leases: &mut Leases<'r, B::Lease>,
     row: &'r Row,
 ) -> Result<Reply, Refusal>
-    ensures { AnswersRow B.acts (backend.old, leases.old) (line_of row.now) result (backend.new, leases.new) }
+    ensures { AnswersRow B.acts (backend.old, leases.old) (row_view row.now) result (backend.new, leases.new) }
 {
     let name = (row.lane, row.key.as_slice());
     match row.verb {
@@ -269,7 +278,7 @@ pub fn act<'r, B: Backend>(
     leases: &mut Leases<'r, B::Lease>,
     row: &'r Row,
 ) -> Reply
-    ensures { ((answer_of result ≡ Refused Refusal.Memory) × (backend.new ≡ backend.old) × (leases.new ≡ leases.old)) ⊎ RowStep B.acts (backend.old, leases.old) (line_of row.now) (answer_of result) (backend.new, leases.new) }
+    ensures { ((answer_of result ≡ Refused Refusal.Memory) × (backend.new ≡ backend.old) × (leases.new ≡ leases.old)) ⊎ RowStep B.acts (backend.old, leases.old) (row_view row.now) (answer_of result) (backend.new, leases.new) }
 {
     match play_row(alloc, backend, leases, row) {
         Ok(reply) => reply,
@@ -295,7 +304,7 @@ fn play_next<'r, B: Backend, G: Gate>(
     replies: &mut Vec<Reply>,
 ) -> Result<(), Refusal>
     requires room { vec_len replies.old < vec_capacity replies.old }
-    ensures played { OnOk result ((reply : Reply) × (replies.new.items ≡ replies.old.items ++ reply ∷ []) × (answer_of reply ≢ Refused Refusal.Memory) × RowStep B.acts (backend.old, leases.old) (line_of row.now) (answer_of reply) (backend.new, leases.new)) }
+    ensures played { OnOk result ((reply : Reply) × (replies.new.items ≡ replies.old.items ++ reply ∷ []) × (answer_of reply ≢ Refused Refusal.Memory) × RowStep B.acts (backend.old, leases.old) (row_view row.now) (answer_of reply) (backend.new, leases.new)) }
     ensures room { vec_capacity replies.new ≡ vec_capacity replies.old }
     ensures refused { IfErr result (λ e. e ≡ Refusal.Memory) }
 {
@@ -321,8 +330,8 @@ fn play_own<'r, B: Backend, G: Gate>(
     mut replies: Vec<Reply>,
 ) -> Result<Vec<Reply>, Refusal>
     requires empty { replies.items ≡ [] }
-    requires room { length (own_rows worker.workers worker.number (map line_of rows.now)) ≤ vec_capacity replies }
-    ensures played { IfOk result (λ v. Plays B.acts (backend.old, leases.old) (own_rows worker.workers worker.number (map line_of rows.now)) (answers_of v.items) (backend.new, leases.new)) }
+    requires room { length (own_rows worker.workers worker.number (map row_view rows.now)) ≤ vec_capacity replies }
+    ensures played { IfOk result (λ v. Plays B.acts (backend.old, leases.old) (own_rows worker.workers worker.number (map row_view rows.now)) (answers_of v.items) (backend.new, leases.new)) }
     ensures refused { IfErr result (λ e. e ≡ Refusal.Memory) }
 {
     for place in 0..rows.len() {
@@ -346,8 +355,8 @@ pub fn play_rows<B: Backend, G: Gate>(
     replies: Vec<Reply>,
 ) -> Result<Vec<Reply>, Refusal>
     requires empty { replies.items ≡ [] }
-    requires room { length (own_rows worker.workers worker.number (map line_of rows.now)) ≤ vec_capacity replies }
-    ensures played { IfOk result (λ v. (left : Held) × Plays B.acts (backend.old, none) (own_rows worker.workers worker.number (map line_of rows.now)) (answers_of v.items) (backend.new, left)) }
+    requires room { length (own_rows worker.workers worker.number (map row_view rows.now)) ≤ vec_capacity replies }
+    ensures played { IfOk result (λ v. (left : Held) × Plays B.acts (backend.old, none) (own_rows worker.workers worker.number (map row_view rows.now)) (answers_of v.items) (backend.new, left)) }
     ensures refused { IfErr result (λ e. e ≡ Refusal.Memory) }
 {
     let mut leases = Leases::new(alloc);
@@ -360,7 +369,7 @@ pub fn play_rows<B: Backend, G: Gate>(
 /// memory; the rows that were accepted before it stand. The leases that the lanes still hold at the
 /// end are given back.
 pub fn play<B: Backend>(alloc: Global, backend: &mut B, rows: &[Row]) -> Result<Vec<Reply>, Refusal>
-    ensures played { IfOk result (λ replies. (left : Held) × Plays B.acts (backend.old, none) (map line_of rows.now) (answers_of replies.items) (backend.new, left)) }
+    ensures played { IfOk result (λ replies. (left : Held) × Plays B.acts (backend.old, none) (map row_view rows.now) (answers_of replies.items) (backend.new, left)) }
     ensures refused { IfErr result (λ e. e ≡ Refusal.Memory) }
 {
     let worker = Worker {

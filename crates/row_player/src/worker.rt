@@ -1,6 +1,6 @@
 //! Which rows a worker plays.
 ghost use Rattle.std.specs.Prelude.{◌≡◌, ◌≤◌, ◌<◌, [], IfErr, IfOk, length, map, vec_capacity};
-ghost use Rattle.row_player.specs.Lines.{line_of};
+ghost use Rattle.row_player.specs.RowViews.{row_view};
 ghost use Rattle.row_player.specs.Shares.{is_own, own_rows};
 
 use crate::reply::Reply;
@@ -22,14 +22,14 @@ pub struct Worker {
 impl Worker {
     /// Whether a row is this worker's.
     pub fn plays(&self, row: &Row) -> bool
-        ensures { result ≡ is_own self.now.workers self.now.number (line_of row.now) }
+        ensures { result ≡ is_own self.now.workers self.now.number (row_view row.now) }
     {
         row.lane as usize % self.workers == self.number
     }
 
     /// How many of the rows are this worker's.
     pub fn count(&self, rows: &[Row]) -> usize
-        ensures { result ≡ length (own_rows self.now.workers self.now.number (map line_of rows.now)) }
+        ensures { result ≡ length (own_rows self.now.workers self.now.number (map row_view rows.now)) }
     {
         rows.iter().filter(|row| self.plays(row)).count()
     }
@@ -37,7 +37,7 @@ impl Worker {
     /// A list without replies that has room for those of this worker's rows. Refused is want of memory alone.
     pub fn room(&self, alloc: Global, rows: &[Row]) -> Result<Vec<Reply>, Refusal>
         ensures empty { IfOk result (λ v. v.items ≡ []) }
-        ensures room { IfOk result (λ v. length (own_rows self.now.workers self.now.number (map line_of rows.now)) ≤ vec_capacity v) }
+        ensures room { IfOk result (λ v. length (own_rows self.now.workers self.now.number (map row_view rows.now)) ≤ vec_capacity v) }
         ensures refused { IfErr result (λ e. e ≡ Refusal.Memory) }
     {
         let replies = Vec::with_capacity(alloc, self.count(rows))?;

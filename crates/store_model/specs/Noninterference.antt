@@ -10,7 +10,7 @@ use Rattle.finite_maps.specs.Texts.{Text, text_cmp}
 use Rattle.store_model.specs.Catalog.{Tenant, Session, Catalog, link_cmp, number_cmp, is_tenants, is_of, tenant_holds, next_of, opening}
 use Rattle.finite_maps.specs.Outcomes.{◌>>=◌}
 use Rattle.store_model.specs.Commands.{Outcome, tenant, session, whole_in, close_by}
-use Rattle.store_model.specs.Runs.{Command, Close, Answer, Number, repo_of, outcome, answered, Event, Called, Cleaned, IsRun}
+use Rattle.store_model.specs.Runs.{Command, Close, Answer, Number, repo_of, outcome, answered, Event, Called, Swept, IsRun}
 use Rattle.store_model.specs.BookText.{book_text}
 
 -- ---- what a tenant calls, is told and has
@@ -19,18 +19,18 @@ use Rattle.store_model.specs.BookText.{book_text}
 abbrev pub events_of : List Tenant → ℕ → List Event → List Event
 events_of tenants t [] = []
 events_of tenants t (Called command reply ∷ es) = if is_tenants tenants t (repo_of command) then Called command reply ∷ events_of tenants t es else events_of tenants t es
-events_of tenants t (Cleaned swept ∷ es) = events_of tenants t es
+events_of tenants t (Swept swept ∷ es) = events_of tenants t es
 
 -- the commands of events, and the replies to them
 abbrev pub commands : List Event → List Command
 commands [] = []
 commands (Called command reply ∷ es) = command ∷ commands es
-commands (Cleaned swept ∷ es) = commands es
+commands (Swept swept ∷ es) = commands es
 
 abbrev pub replies : List Event → List (Result Answer Refusal)
 replies [] = []
 replies (Called command reply ∷ es) = reply ∷ replies es
-replies (Cleaned swept ∷ es) = replies es
+replies (Swept swept ∷ es) = replies es
 
 -- the digests that a tenant's repositories hold, in order, each with its bytes
 abbrev pub blobs_of : Catalog → ℕ → List (Text × Text)
@@ -89,7 +89,7 @@ left_alone C (command ∷ cs) = left_alone (left C (outcome_alone C command)) cs
 abbrev pub IsUncrowded : Event → Type 0
 IsUncrowded (Called command (Err e)) = (e ≢ Memory) × (e ≢ StoreFull) × (e ≢ TooManyReaders)
 IsUncrowded (Called command (Ok a)) = Unit {0}
-IsUncrowded (Cleaned swept) = Unit {0}
+IsUncrowded (Swept swept) = Unit {0}
 
 -- The whole that a close brings: what its session has received, and then its last chunk. It brings none where the session isn't its repository's.
 abbrev pub whole_of : Catalog → Text → ℕ → Text → Result Text Refusal
@@ -109,7 +109,7 @@ brought_by C command = []
 
 abbrev pub brought : Catalog → Event → List (Text × Text)
 brought C (Called command r) = brought_by C command
-brought C (Cleaned swept) = []
+brought C (Swept swept) = []
 
 -- all that the closes of a run brought
 abbrev pub brought_in : (es : List Event) (C C' : Catalog) → IsRun C es C' → List (Text × Text)

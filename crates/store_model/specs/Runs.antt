@@ -10,7 +10,7 @@ use Rattle.store_model.specs.Catalog.{Catalog}
 use Rattle.store_model.specs.Invariant.{Sound}
 use Rattle.store_model.specs.Commands
 use Rattle.store_model.specs.Commands.{Outcome}
-use Rattle.store_model.specs.declared.swept.Swept.{Swept}
+use Rattle.store_model.specs.declared.swept.Swept.{Swept as SweptCounts}
 use Rattle.store_model.specs.Sweep.{IsSweep}
 
 -- the commands that name a repository first, with what else they are given
@@ -48,8 +48,8 @@ pub data Answer : Type 0 where
   Bytes : Text → Answer
   Done : Answer
 
--- an outcome with its answer told as one
-abbrev pub answered : {A : Type 0} → (A → Answer) → Outcome A → Outcome Answer
+-- an outcome with its answer told as another
+abbrev pub answered : {A B : Type 0} → (A → B) → Outcome A → Outcome B
 answered f (Ok x) = Ok (f x.0, x.1)
 answered f (Err e) = Err e
 
@@ -92,11 +92,11 @@ IsCase C command (Err e) C' = (((crowded : Bool) × (outcome crowded C command �
 -- a command with its reply, or a sweep with its counts
 pub data Event : Type 0 where
   Called : Command → Result Answer Refusal → Event
-  Cleaned : Swept → Event
+  Swept : SweptCounts → Event
 
 abbrev pub Happens : Catalog → Event → Catalog → Type 0
 Happens C (Called command reply) C' = IsCase C command reply C'
-Happens C (Cleaned swept) C' = IsSweep C swept C'
+Happens C (Swept swept) C' = IsSweep C swept C'
 
 -- events in turn lead from one catalog to another
 abbrev pub IsRun : Catalog → List Event → Catalog → Type 0
@@ -106,7 +106,7 @@ IsRun C (e ∷ es) C' = (mid : Catalog) × Happens C e mid × IsRun mid es C'
 -- the name that a command is given first is as short as a repository's
 abbrev pub IsNamed : Event → Type 0
 IsNamed (Called command reply) = length (repo_of command) ≤ 255
-IsNamed (Cleaned swept) = Unit {0}
+IsNamed (Swept swept) = Unit {0}
 
 -- Commands and sweeps lead from a sound catalog to a sound one.
 abbrev pub RunsStaySound : Type 0
@@ -118,7 +118,7 @@ RunsStaySound = (C C' : Catalog) (es : List Event) → AllByRecursion IsNamed es
 abbrev pub asked : List Event → List (Option Command)
 asked [] = []
 asked (Called command reply ∷ es) = Some command ∷ asked es
-asked (Cleaned s ∷ es) = None ∷ asked es
+asked (Swept s ∷ es) = None ∷ asked es
 
 -- from this catalog there is a run of what is wanted
 pub record HasRun (C : Catalog) (wanted : List (Option Command)) : Type 0 where

@@ -6,7 +6,7 @@ use Rattle.blob_digest.specs.declared.refusal.Refusal.TheVariants.{Memory, TooMa
 use Rattle.blob_digest.specs.Outcomes.{Does, DoesExactly, Answers}
 use Rattle.store_model.specs.Catalog.{Catalog}
 use Rattle.store_model.specs.Commands.{Outcome, tenant, linked_blob, lease}
-use Rattle.store_model.specs.Runs.{Command, Answer, answered, told, outcome, takes_memory, IsCase, Event, Called, Cleaned, IsRun, Lease, Bytes}
+use Rattle.store_model.specs.Runs.{Command, Answer, answered, told, outcome, takes_memory, IsCase, Event, Called, Swept, IsRun, Lease, Bytes}
 use Rattle.finite_maps.specs.Texts.{Text}
 use Rattle.finite_maps.specs.Outcomes.{refuse}
 use Rattle.store_book.specs.BookState.{SlotSeen}

@@ -9,7 +9,7 @@ use Rattle.std.proofs.lemmas.Bool.{true≢false, false_from_ne_true, eq-eqb}
 use Rattle.std.proofs.lemmas.List.Sums.{sum_by-cons}
 use Rattle.std.proofs.lemmas.Option.{slice_get_within}
 use Rattle.finite_maps.specs.Sets as set
-use Rattle.finite_maps.proofs.Lists.{count_by-none}
+use Rattle.finite_maps.proofs.Lists.{count_by-none, there_at}
 use Rattle.finite_maps.proofs.Rows.{sum_by-from_entries}
 use Rattle.slot_table.specs.Slots.{Slot, Held, Content, Free, Used, Retired, held_at, held_in, slot_of, is_orphan, on_held, content_with, mark, IsDistinct}
 use Rattle.slot_table.proofs.Indexing.{slot_of_none}
@@ -30,7 +30,6 @@ use Rattle.store_model.proofs.Commands.Sweep.{linked_stays, Sound-sweep}
 use Rattle.store_book.proofs.Slots.Lent.{length-marks}
 use Rattle.store_book.proofs.Layers.LinkedSlots.{linked_live}
 use Rattle.finite_maps.proofs.Options.{some_same}
-use Rattle.finite_maps.proofs.Lists.{there_at}
 use Rattle.store_book.proofs.Slots.Reclaimed.{orphan_held}
 use Rattle.store_book.proofs.Slots.Writes.{slot_of_held}
 use Rattle.store_book.proofs.Layers.Ties.{held_of, not_resident}

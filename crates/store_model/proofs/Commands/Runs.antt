@@ -8,7 +8,7 @@ use Rattle.finite_maps.specs.Texts.{text_cmp}
 use Rattle.store_model.proofs.Commands.Opening.{Sound-opening}
 use Rattle.store_model.specs.Commands.{Outcome}
 use Rattle.store_model.specs.Invariant.{Sound}
-use Rattle.store_model.specs.Runs.{Command, Answer, Event, answered, told, outcome, IsCase, Happens, IsRun, IsNamed, RunsStaySound, repo_of, Start, Status, Append, Close, Abandon, Mount, Delete, PutManifest, GetManifest, DeleteManifest, Lease, Called, Cleaned}
+use Rattle.store_model.specs.Runs.{Command, Answer, Event, answered, told, outcome, IsCase, Happens, IsRun, IsNamed, RunsStaySound, repo_of, Start, Status, Append, Close, Abandon, Mount, Delete, PutManifest, GetManifest, DeleteManifest, Lease, Called, Swept}
 use Rattle.store_model.proofs.Commands.Accepted.{left_by}
 use Rattle.store_model.proofs.Commands.Start.{Sound-after_start}
 use Rattle.store_model.proofs.Commands.AppendClose.{Sound-after_append, Sound-after_close}
@@ -48,7 +48,7 @@ Sound-case C C' command (Err e) short case sound = subst (λ (D : Catalog). Soun
 
 pub Sound-event : (C C' : Catalog) (e : Event) → IsNamed e → Happens C e C' → Sound C → Sound C'
 Sound-event C C' (Called command reply) short happens sound = Sound-case C C' command reply short happens sound
-Sound-event C C' (Cleaned swept) short happens sound = Sound-sweep C C' swept happens sound.lawful sound.quotas sound.slots
+Sound-event C C' (Swept swept) short happens sound = Sound-sweep C C' swept happens sound.lawful sound.quotas sound.slots
 
 pub Sound-run : RunsStaySound
 Sound-run C C' [] short run sound = subst (λ (D : Catalog). Sound D) (sym run) sound

@@ -6,7 +6,7 @@ use Rattle.blob_digest.specs.declared.refusal.Refusal.TheVariants.{Memory, TooMa
 use Rattle.blob_digest.specs.Outcomes.{Does, DoesExactly, Answers}
 use Rattle.store_model.specs.Catalog.{Catalog}
 use Rattle.store_model.specs.Commands.{Outcome, tenant, linked_blob, lease}
-use Rattle.store_model.specs.Runs.{Command, Answer, answered, told, outcome, takes_memory, IsCase, Event, Called, Cleaned, IsRun, HasRun, Lease, Bytes}
+use Rattle.store_model.specs.Runs.{Command, Answer, answered, told, outcome, takes_memory, IsCase, Event, Called, Swept, IsRun, HasRun, Lease, Bytes}
 use Rattle.finite_maps.specs.Texts.{Text}
 use Rattle.finite_maps.specs.Outcomes.{refuse}
 use Rattle.finite_maps.proofs.Outcomes.{bound_ok, not_refused}
@@ -14,7 +14,7 @@ use Rattle.store_model.proofs.Commands.SomeSweep.{swept, after, some_sweep}
 
 pub has_run : (wanted : List (Option Command)) (C : Catalog) → HasRun C wanted
 has_run [] C = record { events = []; last = C; run = refl; as_asked = refl }
-has_run (None ∷ wanted) C = let p = has_run wanted (after C) in record { events = Cleaned (swept C) ∷ p.events; last = p.last; run = (after C, some_sweep C, p.run); as_asked = ap (λ w. None ∷ w) p.as_asked }
+has_run (None ∷ wanted) C = let p = has_run wanted (after C) in record { events = Swept (swept C) ∷ p.events; last = p.last; run = (after C, some_sweep C, p.run); as_asked = ap (λ w. None ∷ w) p.as_asked }
 has_run (Some command ∷ wanted) C = by (outcome false C command) refl (has_run wanted)
   where
     by : (o : Outcome Answer) → outcome false C command ≡ o → ((D : Catalog) → HasRun D wanted) → HasRun C (Some command ∷ wanted)

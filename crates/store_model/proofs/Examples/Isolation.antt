@@ -14,8 +14,8 @@ use Rattle.finite_maps.proofs.Rows.{entries-empty}
 use Rattle.store_model.specs.declared.mount.Mount.TheVariants as mounting
 use Rattle.store_model.specs.Catalog.{Tenant, Session, Resident, Catalog, opening}
 use Rattle.store_model.specs.Commands.{new_session, stored, with_link}
-use Rattle.store_model.specs.Runs.{Command, Event, Called, Cleaned, Start, Close, Mount, Delete, Number, Mounting, Done, outcome, IsRun}
-use Rattle.store_model.specs.declared.swept.Swept.{Swept}
+use Rattle.store_model.specs.Runs.{Command, Event, Called, Swept, Start, Close, Mount, Delete, Number, Mounting, Done, outcome, IsRun}
+use Rattle.store_model.specs.declared.swept.Swept.{Swept as SweptCounts}
 use Rattle.store_model.specs.Sweep.{is_orphan, IsLeft, IsSweep}
 use Rattle.store_model.specs.Noninterference.{events_of, commands, replies_alone, left_alone, outcome_alone, part, named, whole_of, brought_in, NoCollision, IsFair, IsUncrowded, IsAlone}
 use Rattle.store_model.proofs.Noninterference.Runs.{isolated}
@@ -70,13 +70,13 @@ own_left_alone = rw (opens_alone, stores_alone, mounts_alone) refl
 
 -- ---- with a second one, which stores the same blob first, and another one, and deletes both again; a sweep then takes the other one away
 
-abbrev swept : Swept
+abbrev swept : SweptCounts
 swept = record { condemned = 1; freed = 1; held = 0; retired = 0 }
 
 abbrev called : List Event
 called = Called (Start x) (Ok (Number 1)) ∷ Called (Close x 1 abc None abc_bytes) (Ok (Number 3)) ∷ Called (Start x) (Ok (Number 2)) ∷ Called (Close x 2 obj None obj_bytes) (Ok (Number 2))
     ∷ Called (Mount one abc None) (Ok (Mounting (mounting.Session 1))) ∷ Called (Close one 1 abc None abc_bytes) (Ok (Number 3))
-    ∷ Called (Delete x abc) (Ok Done) ∷ Called (Delete x obj) (Ok Done) ∷ Cleaned swept ∷ Called (Mount two abc None) (Ok (Mounting mounting.Mounted)) ∷ []
+    ∷ Called (Delete x abc) (Ok Done) ∷ Called (Delete x obj) (Ok Done) ∷ Swept swept ∷ Called (Mount two abc None) (Ok (Mounting mounting.Mounted)) ∷ []
 
 own_commands : commands (events_of tenants 0 called) ≡ own
 own_commands = refl

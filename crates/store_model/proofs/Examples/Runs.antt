@@ -5,7 +5,7 @@ use Rattle.std.specs.FinMap.{get-empty, get-insert, entries-insert}
 use Rattle.blob_digest.specs.declared.refusal.Refusal.TheVariants.{Quota}
 use Rattle.finite_maps.specs.Texts.{Text}
 use Rattle.store_model.specs.Catalog.{Tenant, Session, Catalog, opening}
-use Rattle.store_model.specs.Runs.{Event, Called, Cleaned, Start, Append, Mount, Number, Mounting}
+use Rattle.store_model.specs.Runs.{Event, Called, Swept, Start, Append, Mount, Number, Mounting}
 use Rattle.store_model.specs.declared.mount.Mount.TheVariants as mounting
 use Rattle.store_model.specs.Noninterference.{events_of, commands, replies, replies_alone}
 use Rattle.blob_digest.proofs.KeyOrders.{number_cmp_total}
@@ -25,7 +25,7 @@ x = codes "other/x"
 
 abbrev called : List Event
 called = Called (Start one) (Ok (Number 1)) ∷ Called (Start x) (Ok (Number 1)) ∷ Called (Append x 1 None (codes "abcd")) (Ok (Number 4)) ∷ Called (Append one 1 None (codes "ab")) (Ok (Number 2))
-    ∷ Cleaned (record { condemned = 0; freed = 0; held = 0; retired = 0 }) ∷ Called (Append one 1 None (codes "cd")) (Err (Quota 2 3)) ∷ Called (Mount x (codes "d") None) (Ok (Mounting (mounting.Session 2))) ∷ []
+    ∷ Swept (record { condemned = 0; freed = 0; held = 0; retired = 0 }) ∷ Called (Append one 1 None (codes "cd")) (Err (Quota 2 3)) ∷ Called (Mount x (codes "d") None) (Ok (Mounting (mounting.Session 2))) ∷ []
 
 own_commands : commands (events_of two 0 called) ≡ Start one ∷ Append one 1 None (codes "ab") ∷ Append one 1 None (codes "cd") ∷ []
 own_commands = refl

@@ -20,7 +20,7 @@ use Rattle.store_model.specs.Commands
 use Rattle.store_model.specs.Commands.{Outcome, tenant, whole_in, linked_blob, with_lent}
 use Rattle.finite_maps.specs.Outcomes.{◌>>=◌, refuse}
 use Rattle.store_model.specs.Runs as runs
-use Rattle.store_model.specs.Runs.{Command, Answer, answered, takes_memory, outcome, IsCase, Event, Called, Cleaned, Happens, IsRun, repo_of}
+use Rattle.store_model.specs.Runs.{Command, Answer, answered, takes_memory, outcome, IsCase, Event, Called, Swept, Happens, IsRun, repo_of}
 use Rattle.store_model.specs.Noninterference.{events_of, commands, replies, part, outcome_alone, named, reply, left, replies_alone, left_alone, IsUncrowded, brought, brought_by, brought_in, NoCollision, IsFair, TenantsAreAlone}
 use Rattle.blob_digest.proofs.KeyOrders.{number_cmp_total, exact_number, link_cmp_total, exact_link}
 use Rattle.finite_maps.proofs.Lists.{all_by_index}
@@ -62,7 +62,7 @@ module _ (content : Text → Text) where
   pub consistent_event : (C mid : Catalog) (e : Event) → Consistent content C → Happens C e mid → Fits content (brought C e) → Consistent content mid
   consistent_event C mid (Called command (Ok a)) consistent h fits = subst (λ x. Leaves (Consistent content) x) h (consistent_command content C consistent command fits).0
   consistent_event C mid (Called command (Err e)) consistent h fits = subst (λ X. Consistent content X) (sym h.1) consistent
-  consistent_event C mid (Cleaned swept) consistent h fits = consistent_sweep content C mid swept consistent h
+  consistent_event C mid (Swept swept) consistent h fits = consistent_sweep content C mid swept consistent h
 
   unseen_called : (t : ℕ) (C mid : Catalog) (command : Command) (r : Result Answer Refusal) → IsCase C command r mid → is_of C t (repo_of command) ≡ false → Alike t mid C
   unseen_called t C mid command (Ok a) h other = subst (λ x. Leaves (λ X. Alike t X C) x) h (unseen_command C t command other)
@@ -132,7 +132,7 @@ module _ (content : Text → Text) (tenants : List Tenant) (t : ℕ) where
   pub follows : (es : List Event) (C C' D : Catalog) → C.tenants ≡ tenants → (run : IsRun C es C') → Fits content (brought_in es C C' run) → Alike t C D → Consistent content C → Consistent content D →
       AllByRecursion IsUncrowded (events_of tenants t es) → Follows content t C' D (events_of tenants t es)
   follows [] C C' D are run fits alike c d free = record { told = refl; alike = subst (λ X. Alike t X D) (sym run) alike; consistent = subst (λ X. Consistent content X) (sym run) c; consistent_alone = d }
-  follows (Cleaned swept ∷ es) C C' D are run fits alike c d free =
+  follows (Swept swept ∷ es) C C' D are run fits alike c d free =
       let unseen = unseen_sweep t C run.0 swept run.1 in
       follows es run.0 C' D (unseen.tenants ∙ are) run.2 fits (alike_through t run.0 C D unseen alike) (consistent_sweep content C run.0 swept c run.1) d free
   follows (Called command r ∷ es) C C' D are run fits alike c d free =

@@ -14,7 +14,7 @@ use Rattle.std.proofs.lemmas.Map.Lookups.{exact_bytes}
 use Rattle.finite_maps.specs.Sets as kept_set
 use Rattle.finite_maps.specs.Texts.{Text, text_cmp, same_text}
 use Rattle.store_model.specs.Catalog.{Tenant, Link, Resident, Catalog, link_cmp, tenant_of, is_of, tenant_holds, size, count, used, opening, is_tenants}
-use Rattle.store_model.specs.Runs.{Event, Called, Cleaned, repo_of}
+use Rattle.store_model.specs.Runs.{Event, Called, Swept, repo_of}
 use Rattle.store_model.specs.Noninterference.{events_of, commands, blobs_of, left_alone, IsUncrowded, TextsAreTheSame}
 use Rattle.store_model.specs.BookText.{blob_line, book_line, end_line, repository_line, tenant_line, blob_text, manifest_text, session_text, repo_text, tenant_text, book_text}
 use Rattle.blob_digest.proofs.KeyOrders.{number_cmp_total, exact_number, link_cmp_total, exact_link}
@@ -152,7 +152,7 @@ module _ (b c : Text → Text) (C D : Catalog) (consistent_C : Consistent b C) (
 
 uncrowded_of : (tenants : List Tenant) (t : ℕ) (es : List Event) → AllByRecursion IsUncrowded es → AllByRecursion IsUncrowded (events_of tenants t es)
 uncrowded_of tenants t [] h = tt
-uncrowded_of tenants t (Cleaned swept ∷ es) h = uncrowded_of tenants t es h.1
+uncrowded_of tenants t (Swept swept ∷ es) h = uncrowded_of tenants t es h.1
 uncrowded_of tenants t (Called command r ∷ es) h =
     elim (is_tenants tenants t (repo_of command)) as (λ b. AllByRecursion IsUncrowded (if b then Called command r ∷ events_of tenants t es else events_of tenants t es)) [
       | true ↦ (h.0, uncrowded_of tenants t es h.1)

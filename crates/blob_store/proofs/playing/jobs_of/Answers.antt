@@ -3,7 +3,7 @@ use Rattle.blob_store.specs.Totals.{sum_of}
 use Rattle.blob_store.specs.Workers.{AllAt, IsReady, IsTurn}
 use Rattle.blob_store.proofs.Places.{at_first, at_last, at_pushed}
 use Rattle.blob_store.proofs.Sums.{nothing_left}
-use Rattle.row_player.specs.Lines.{line_of}
+use Rattle.row_player.specs.RowViews.{row_view}
 use Rattle.row_player.specs.Shares.{own_rows}
 use Rattle.blob_store.proofs.playing.jobs_of.Goals as goal
 
@@ -11,7 +11,7 @@ pub loop-desk-preserved : goal.loop-desk-preserved
 loop-desk-preserved g c =
     let was = c.loop-desk.invariant in
     let n = c.len-workers.result in
-    let lines = map line_of c.args.rows.now in
+    let lines = map row_view c.args.rows.now in
     let left = nothing_left c.pop.new.self.items c.in-Some.desk (ap sum_of (sym c.in-Some.ensures.items) ∙ was.fresh) in
     let lists = subst (AllAt (λ w v. (v.items ≡ []) × (length (own_rows n w lines) ≤ vec_capacity v))) c.in-Some-pop.ensures.items was.lists in
     let mine = at_last (λ w v. (v.items ≡ []) × (length (own_rows n w lines) ≤ vec_capacity v)) c.pop-in-Some.new.self.items c.in-Some-pop.replies lists in

@@ -5,20 +5,20 @@ use Rattle.blob_store.specs.Totals.{sum_of}
 use Rattle.blob_store.specs.Workers.{AllAt, IsPlayed}
 use Rattle.blob_store.proofs.Settlings.{are_settled, each_played, whole_lists}
 use Rattle.row_player.specs.Answers.{answers_of}
-use Rattle.row_player.specs.Lines.{line_of}
+use Rattle.row_player.specs.RowViews.{row_view}
 use Rattle.row_player.specs.Shares.{AreTogether, own_rows}
 use Rattle.blob_store.proofs.playing.play.Goals as goal
 
 pub collect-ended-requires-clause-each : goal.collect-ended-requires-clause-each
 collect-ended-requires-clause-each g c =
     let jobs : vec_len c.jobs_of-jobs.result ≡ c.args.workers = c.jobs_of-jobs.ensures.len ∙ c.in_ok-desks.ensures.made.0 in
-    subst (λ m. AllAt (λ k o. (w : ℕ) → w + k + 1 ≡ vec_len c.play_all-outcomes.result.outcomes → o.whole ≡ true → IsPlayed m w (map line_of c.args.rows.now) o.desk (answers_of o.replies.items)) c.play_all-outcomes.result.outcomes.items) jobs c.play_all-outcomes.ensures.each
+    subst (λ m. AllAt (λ k o. (w : ℕ) → w + k + 1 ≡ vec_len c.play_all-outcomes.result.outcomes → o.whole ≡ true → IsPlayed m w (map row_view c.args.rows.now) o.desk (answers_of o.replies.items)) c.play_all-outcomes.result.outcomes.items) jobs c.play_all-outcomes.ensures.each
 
 pub in_row_order-requires-clause-whole : goal.in_row_order-requires-clause-whole
 in_row_order-requires-clause-whole g c =
     let n = c.args.workers in
     let lists = c.collect-ended.new.lists in
-    let lines = map line_of c.args.rows.now in
+    let lines = map row_view c.args.rows.now in
     let none = eqb-true (vec_len c.play_all-outcomes.result.spent) 0 (sym c.is_empty-started.ensures ∙ c.if-started.true) in
     let size : length lists.items ≡ n = omega (arith, none, lists.ok.0, c.collect-ended.ensures.len.1, c.play_all-outcomes.ensures.len, c.jobs_of-jobs.ensures.len, c.in_ok-desks.ensures.made.0) in
     let shown = map (λ v. answers_of v.items) lists.items in
@@ -29,7 +29,7 @@ pub returns-then-ended-clause-each : goal.returns-then-ended-clause-each
 returns-then-ended-clause-each g c =
     let n = c.args.workers in
     let lists = c.collect-ended.new.lists in
-    let lines = map line_of c.args.rows.now in
+    let lines = map row_view c.args.rows.now in
     let answers = answers_of c.in_row_order.result.items in
     let none = eqb-true (vec_len c.play_all-outcomes.result.spent) 0 (sym c.is_empty-started.ensures ∙ c.if-started.true) in
     let size : length lists.items ≡ n = omega (arith, none, lists.ok.0, c.collect-ended.ensures.len.1, c.play_all-outcomes.ensures.len, c.jobs_of-jobs.ensures.len, c.in_ok-desks.ensures.made.0) in
@@ -43,7 +43,7 @@ returns-then-ended-clause-settled g c =
     let n = c.args.workers in
     let lists = c.collect-ended.new.lists in
     let desks = c.collect-ended.new.desks in
-    let lines = map line_of c.args.rows.now in
+    let lines = map row_view c.args.rows.now in
     let answers = answers_of c.in_row_order.result.items in
     let none = eqb-true (vec_len c.play_all-outcomes.result.spent) 0 (sym c.is_empty-started.ensures ∙ c.if-started.true) in
     let size : length lists.items ≡ n = omega (arith, none, lists.ok.0, c.collect-ended.ensures.len.1, c.play_all-outcomes.ensures.len, c.jobs_of-jobs.ensures.len, c.in_ok-desks.ensures.made.0) in

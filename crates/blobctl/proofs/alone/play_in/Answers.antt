@@ -1,7 +1,7 @@
 use Rattle.std.proofs.Common.{map}
 use Rattle.row_player.specs.Answers.{answers_of}
 use Rattle.row_player.specs.Leases.{none}
-use Rattle.row_player.specs.Lines.{line_of}
+use Rattle.row_player.specs.RowViews.{row_view}
 use Rattle.blobctl.specs.Played.{Acts}
 use Rattle.row_player.proofs.PlayedRows.{plays_through}
 use Rattle.blobctl.proofs.alone.play_in.Goals as goal
@@ -9,4 +9,4 @@ use Rattle.blobctl.proofs.alone.play_in.Goals as goal
 pub returns-clause-played : goal.returns-clause-played
 returns-clause-played g c =
     let played = c.in_ok-replies.ensures.played in
-    (played.0, plays_through (λ pinned. pinned.book) Acts (_, none) (c.play.new.backend, played.0) (map line_of c.args.rows.now) (answers_of c.in_ok-replies.replies.items) played.1)
+    (played.0, plays_through (λ pinned. pinned.book) Acts (_, none) (c.play.new.backend, played.0) (map row_view c.args.rows.now) (answers_of c.in_ok-replies.replies.items) played.1)

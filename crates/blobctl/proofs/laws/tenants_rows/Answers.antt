@@ -1,10 +1,7 @@
-use Rattle.std.proofs.Common.{◌∙◌, List, subst}
-use Rattle.store_model.specs.Noninterference.{commands, events_of}
+use Rattle.std.proofs.Common.{◌∙◌, ap, sym}
 use Rattle.row_player.specs.Leases.{none}
-use Rattle.row_player.specs.Rows.{Line}
-use Rattle.blobctl.specs.ScriptRuns.{rows_of}
 use Rattle.blobctl.proofs.OneOpening.{one_opening}
-use Rattle.blobctl.proofs.ScriptRuns.{Spell, fair_from, one_spelling, plays_run, spelled_of}
+use Rattle.blobctl.proofs.ScriptRuns.{fair_from, plays_run, spelled, spelled_of}
 use Rattle.blobctl.proofs.laws.tenants_rows.Goals as goal
 
 pub returns-clause-runs : goal.returns-clause-runs
@@ -19,6 +16,4 @@ returns-clause-books c tenants slots max_blob script text other written one two 
     let fair = fair_from ts slots max_blob one.first one.last a.events one.opened.empty (a.is_run.run, a.no_collision) in
     let fair' = fair_from ts slots max_blob two.first two.last b.events (first ∙ one.opened.empty) (b.is_run.run, b.no_collision) in
     c.isolation.ensures.same_text ts slots max_blob a.events b.events one.last two.last fair a.uncrowded fair' b.uncrowded (λ t.
-    one_spelling (rows_of ts t two.rows) (commands (events_of ts t a.events)) (commands (events_of ts t b.events))
-    (subst (λ (ls : List Line). Spell ls (commands (events_of ts t a.events))) (rows t) (spelled_of ts t one.rows one.answers a.events a.is_run.told a.unnamed))
-    (spelled_of ts t two.rows two.answers b.events b.is_run.told b.unnamed))
+    spelled_of ts t one.rows one.answers a.events a.is_run.told a.unnamed ∙ ap spelled (rows t) ∙ sym (spelled_of ts t two.rows two.answers b.events b.is_run.told b.unnamed))

@@ -1,7 +1,7 @@
 use Rattle.std.proofs.Common.{◌++◌, map, refl}
 use Rattle.store_model.specs.BookText.{book_text}
 use Rattle.row_player.specs.Answers.{answers_of}
-use Rattle.row_player.specs.Lines.{line_of}
+use Rattle.row_player.specs.RowViews.{row_view}
 use Rattle.row_player.specs.Replies.{replies_text}
 use Rattle.blobctl.proofs.run.run_one.Goals as goal
 
@@ -17,7 +17,7 @@ returns-clause-played g c =
       played = record {
         first = played.0;
         opened = played.2;
-        rows = map line_of c.in_ok-rows.rows.items;
+        rows = map row_view c.in_ok-rows.rows.items;
         all = rows.2;
         answers = answers_of c.in-Ok.replies.items;
         last = c.in-Ok.book.catalog;

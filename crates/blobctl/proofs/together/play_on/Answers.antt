@@ -3,7 +3,7 @@ use Rattle.std.proofs.lemmas.List.{length-map}
 use Rattle.csv.proofs.WriteFacts.{appends-more}
 use Rattle.store_model.specs.BookText.{book_text}
 use Rattle.row_player.specs.Answers.{answer_of, answers_of}
-use Rattle.row_player.specs.Lines.{line_of}
+use Rattle.row_player.specs.RowViews.{row_view}
 use Rattle.row_player.specs.Replies.{replies_text}
 use Rattle.blobctl.proofs.together.play_on.Goals as goal
 
@@ -16,7 +16,7 @@ returns-clause-played g c =
       appends-more _ _ _ _ _ wrote book.2,
       record {
         answers = answers_of replies;
-        one_each = length-map replies answer_of ∙ c.in-Ok.ensures.replies ∙ sym (length-map c.args.rows.now line_of);
+        one_each = length-map replies answer_of ∙ c.in-Ok.ensures.replies ∙ sym (length-map c.args.rows.now row_view);
         own = c.in-Ok.ensures.each;
         first = c.args.parts.book.catalog;
         opened = c.requires.opened.catalog;

@@ -1,14 +1,14 @@
 use Rattle.std.proofs.Common.{◌≡◌, ◌+◌, ◌≤◌, drop, length, map, take, vec_capacity}
 use Rattle.std.specs.Prelude.{reverse}
 use Rattle.row_player.specs.Answers.{answers_of}
-use Rattle.row_player.specs.Lines.{line_of}
+use Rattle.row_player.specs.RowViews.{row_view}
 use Rattle.row_player.proofs.Orders.{AreSplit}
 use Rattle.row_player.proofs.order.in_row_order.Given as goal
 
 -- the rows from this place on have their replies, the last one first
 abbrev pub invariant-loop-place : goal.invariant-loop-place
 invariant-loop-place l = record {
-  split : AreSplit (length l.fn.lists.items) (map (λ v. answers_of v.items) l.fn.lists.items) (map (λ v. answers_of v.items) l.lists.items) (map line_of (take l.place l.rows)) (map line_of (drop l.place l.rows)) (reverse (answers_of l.merged.items));
+  split : AreSplit (length l.fn.lists.items) (map (λ v. answers_of v.items) l.fn.lists.items) (map (λ v. answers_of v.items) l.lists.items) (map row_view (take l.place l.rows)) (map row_view (drop l.place l.rows)) (reverse (answers_of l.merged.items));
   count : length l.merged.items + l.place ≡ length l.rows;
   room : length l.rows ≤ vec_capacity l.merged;
   lists : length l.lists.items ≡ length l.fn.lists.items;

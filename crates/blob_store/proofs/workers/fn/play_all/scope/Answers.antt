@@ -2,13 +2,13 @@ use Rattle.std.proofs.Common.{◌≡◌, ◌+◌, ◌∙◌, ℕ, ap, arith, len
 use Rattle.blob_store.specs.Workers.{AllAt, IsPlayed, IsReady, IsTurn}
 use Rattle.blob_store.proofs.Places.{at_first, at_last, at_pushed}
 use Rattle.row_player.specs.Answers.{answers_of}
-use Rattle.row_player.specs.Lines.{line_of}
+use Rattle.row_player.specs.RowViews.{row_view}
 use Rattle.blob_store.proofs.workers.fn.play_all.scope.Goals as goal
 
 pub loop-job-init : goal.loop-job-init
 loop-job-init g c =
     let n = c.len-count.result in
-    let lines = map line_of c.captures.rows.now in
+    let lines = map row_view c.captures.rows.now in
     let given = subst (λ m. AllAt (λ k j. IsTurn m k j.worker.workers j.worker.number × IsReady m j.worker.number lines j.desk j.replies.items (vec_capacity j.replies)) c.captures.jobs.items) (sym c.len-count.ensures) c.requires.ready in
     let jobs = subst (AllAt (λ k j. IsTurn n k j.worker.workers j.worker.number × IsReady n j.worker.number lines j.desk j.replies.items (vec_capacity j.replies))) c.in-Some.ensures.items given in
     let none : vec_len c.in-Ok.children ≡ 0 = search rules in
@@ -26,7 +26,7 @@ pub loop-job-preserved : goal.loop-job-preserved
 loop-job-preserved g c =
     let was = c.loop-job.invariant in
     let n = c.len-count.result in
-    let lines = map line_of c.captures.rows.now in
+    let lines = map row_view c.captures.rows.now in
     let jobs = subst (AllAt (λ k j. IsTurn n k j.worker.workers j.worker.number × IsReady n j.worker.number lines j.desk j.replies.items (vec_capacity j.replies))) c.in-Some-pop.ensures.items was.jobs in
     let mine = at_last (λ k j. IsTurn n k j.worker.workers j.worker.number × IsReady n j.worker.number lines j.desk j.replies.items (vec_capacity j.replies)) c.pop-in-loop-job.new.self.items c.in-Some-pop.job jobs in
     let promised = c.in-Ok-spawn_with.ensures.ok in
@@ -48,7 +48,7 @@ loop-job-preserved g c =
 pub spawn_with-requires-clause-runs : goal.spawn_with-requires-clause-runs
 spawn_with-requires-clause-runs g c κs within =
     let n = c.len-count.result in
-    let lines = map line_of c.captures.rows.now in
+    let lines = map row_view c.captures.rows.now in
     let job = c.in-Some-pop.job in
     let jobs = subst (AllAt (λ k j. IsTurn n k j.worker.workers j.worker.number × IsReady n j.worker.number lines j.desk j.replies.items (vec_capacity j.replies))) c.in-Some-pop.ensures.items c.loop-job.invariant.jobs in
     let mine = at_last (λ k j. IsTurn n k j.worker.workers j.worker.number × IsReady n j.worker.number lines j.desk j.replies.items (vec_capacity j.replies)) c.pop-in-loop-job.new.self.items job jobs in
@@ -57,7 +57,7 @@ spawn_with-requires-clause-runs g c κs within =
 pub there-unplayed-requires : goal.there-unplayed-requires
 there-unplayed-requires g c κs within =
     let n = c.len-count.result in
-    let lines = map line_of c.captures.rows.now in
+    let lines = map row_view c.captures.rows.now in
     let jobs = subst (AllAt (λ k j. IsTurn n k j.worker.workers j.worker.number × IsReady n j.worker.number lines j.desk j.replies.items (vec_capacity j.replies))) c.in-Some-pop.ensures.items c.loop-job.invariant.jobs in
     let mine = at_last (λ k j. IsTurn n k j.worker.workers j.worker.number × IsReady n j.worker.number lines j.desk j.replies.items (vec_capacity j.replies)) c.pop-in-loop-job.new.self.items c.in-Some-pop.job jobs in
     let ready : IsReady c.in-Some-pop.job.worker.workers c.in-Some-pop.job.worker.number lines c.in-Some-pop.job.desk c.in-Some-pop.job.replies.items (vec_capacity c.in-Some-pop.job.replies) =
@@ -68,7 +68,7 @@ there-unplayed-requires g c κs within =
 pub work-outcome-requires : goal.work-outcome-requires
 work-outcome-requires g c =
     let n = c.len-count.result in
-    let lines = map line_of c.captures.rows.now in
+    let lines = map row_view c.captures.rows.now in
     let given = subst (λ m. AllAt (λ k j. IsTurn m k j.worker.workers j.worker.number × IsReady m j.worker.number lines j.desk j.replies.items (vec_capacity j.replies)) c.captures.jobs.items) (sym c.len-count.ensures) c.requires.ready in
     let jobs = subst (AllAt (λ k j. IsTurn n k j.worker.workers j.worker.number × IsReady n j.worker.number lines j.desk j.replies.items (vec_capacity j.replies))) c.in-Some.ensures.items given in
     let own = c.in-Some.own in
@@ -80,13 +80,13 @@ loop-child-preserved g c =
     let was = c.loop-child.invariant in
     let n = c.len-count.result in
     let rows = c.captures.rows.now in
-    let lines = map line_of rows in
+    let lines = map row_view rows in
     let left = c.pop-in-loop-child.new.self in
     let done = c.join.result in
     let children = subst (AllAt (λ w h. (h.promise.rows.now ≡ rows) × (h.promise.worker.workers ≡ n) × (h.promise.worker.number ≡ w + 1))) c.in-Some-pop-2.ensures.items was.children in
     let here = at_last (λ w h. (h.promise.rows.now ≡ rows) × (h.promise.worker.workers ≡ n) × (h.promise.worker.number ≡ w + 1)) left.items c.in-Some-pop-2.child children in
     let kept = c.join.ensures in
-    let of_rows = subst (λ r. done.whole ≡ true → IsPlayed c.in-Some-pop-2.child.promise.worker.workers c.in-Some-pop-2.child.promise.worker.number (map line_of r) done.desk (answers_of done.replies.items)) here.0 kept in
+    let of_rows = subst (λ r. done.whole ≡ true → IsPlayed c.in-Some-pop-2.child.promise.worker.workers c.in-Some-pop-2.child.promise.worker.number (map row_view r) done.desk (answers_of done.replies.items)) here.0 kept in
     let of_all = subst (λ k. done.whole ≡ true → IsPlayed k c.in-Some-pop-2.child.promise.worker.number lines done.desk (answers_of done.replies.items)) here.1 of_rows in
     let of_one = subst (λ k. done.whole ≡ true → IsPlayed n k lines done.desk (answers_of done.replies.items)) here.2 of_all in
     let count = c.in-Some-pop-2.ensures.len in
@@ -106,7 +106,7 @@ loop-child-preserved g c =
 pub returns : goal.returns
 returns g c =
     let n = c.len-count.result in
-    let lines = map line_of c.captures.rows.now in
+    let lines = map row_view c.captures.rows.now in
     let given = subst (λ m. AllAt (λ k j. IsTurn m k j.worker.workers j.worker.number × IsReady m j.worker.number lines j.desk j.replies.items (vec_capacity j.replies)) c.captures.jobs.items) (sym c.len-count.ensures) c.requires.ready in
     let jobs = subst (AllAt (λ k j. IsTurn n k j.worker.workers j.worker.number × IsReady n j.worker.number lines j.desk j.replies.items (vec_capacity j.replies))) c.in-Some.ensures.items given in
     let own = c.in-Some.own in
