@@ -12,7 +12,7 @@ use Rattle.store_book.specs.Printed.{book_text}
 use Rattle.store_book.specs.Steps.{tenant, get_manifest, linked, linked_blob, lease, with_lent, refuse}
 use Rattle.store_book.proofs.Outcomes.{answer_by, bound_ok, left_by, some_of_ok}
 use Rattle.blob_store.specs.Found.{InSomeBook, IsSoundOf}
-use Rattle.blob_store.specs.Naming.{Setting}
+use Rattle.blob_store.specs.Names.{Setting}
 
 -- ---- blobs and manifests
 

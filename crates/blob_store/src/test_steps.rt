@@ -5,9 +5,9 @@ ghost use Rattle.std.specs.Prelude.{◌<◌, ◌≤◌};
 use crate::{Desk, Lease, Naming, Store};
 use blob_digest::{Algorithm, ByteRange, Digest, Refusal, RepoName};
 use std::alloc::AllocGlobal;
+use std::marker::Model;
 use std::process::Abort;
 use std::sync::Wait;
-use std::sync::ledger::Ledger;
 use std::thread::Threads;
 use store_book::{Config, Mount, Swept};
 
@@ -88,42 +88,40 @@ pub enum Step<'a> {
 
 /// A store of so many slots, with what runs the test.
 #[derive(Drop)]
-pub struct TestStore<
-    's,
-    N: Naming + Send + Sync,
-    C: Ledger + Send + Sync,
-    R: Ledger + Send + Sync,
-    D: Ledger + Send + Sync,
-    A: Ledger + Send + Sync,
-    W: Abort + AllocGlobal + Threads + Wait + Sync,
-> {
+pub struct TestStore<'s, S: Naming + Send + Sync, W: Abort + AllocGlobal + Threads + Wait + Sync> {
     pub rt: &'s W,
-    pub store: &'s Store<N, C, R, D, A>,
+    pub store: &'s Store<S>,
     pub slots: u32,
-    pub ghost there: { slots ≤ N.slots },
 }
 
-impl<
+impl<'s, S: Naming + Send + Sync, W: Abort + AllocGlobal + Threads + Wait + Sync> Model
+    for TestStore<'s, S, W> {
+    ghost use Rattle.std.specs.Prelude.{ℕ, ◌≤◌};
+
+    ghost Value = { ℕ };
+
+    ghost view = { λ t. t.slots };
+
+    ghost invariant = { λ t. t.slots ≤ S.names.slots };
+}
+
+impl<'s, S: Naming + Send + Sync, W: Abort + AllocGlobal + Threads + Wait + Sync> TestStore<
     's,
-    N: Naming + Send + Sync,
-    C: Ledger + Send + Sync,
-    R: Ledger + Send + Sync,
-    D: Ledger + Send + Sync,
-    A: Ledger + Send + Sync,
-    W: Abort + AllocGlobal + Threads + Wait + Sync,
-> TestStore<'s, N, C, R, D, A, W> {
-    pub fn start(&self, desk: &mut Desk<C, R, D, A>, repo: &str) -> Result<u32, Refusal> {
+    S,
+    W,
+> {
+    pub fn start(&self, desk: &mut Desk<S>, repo: &str) -> Result<u32, Refusal> {
         self.store.start(self.rt, desk, &name(self.rt, repo))
     }
 
-    fn status(&self, desk: &mut Desk<C, R, D, A>, repo: &str, number: u32) -> Result<u64, Refusal> {
+    fn status(&self, desk: &mut Desk<S>, repo: &str, number: u32) -> Result<u64, Refusal> {
         self.store
             .status(self.rt, desk, &name(self.rt, repo), number)
     }
 
     pub fn append(
         &self,
-        desk: &mut Desk<C, R, D, A>,
+        desk: &mut Desk<S>,
         repo: &str,
         number: u32,
         places: &str,
@@ -137,7 +135,7 @@ impl<
 
     pub fn close(
         &self,
-        desk: &mut Desk<C, R, D, A>,
+        desk: &mut Desk<S>,
         repo: &str,
         number: u32,
         of: &str,
@@ -151,19 +149,14 @@ impl<
             .close(self.rt, desk, &repo, number, &of, places, bytes)
     }
 
-    pub fn abandon(
-        &self,
-        desk: &mut Desk<C, R, D, A>,
-        repo: &str,
-        number: u32,
-    ) -> Result<u64, Refusal> {
+    pub fn abandon(&self, desk: &mut Desk<S>, repo: &str, number: u32) -> Result<u64, Refusal> {
         self.store
             .abandon(self.rt, desk, &name(self.rt, repo), number)
     }
 
     pub fn mount(
         &self,
-        desk: &mut Desk<C, R, D, A>,
+        desk: &mut Desk<S>,
         repo: &str,
         of: &str,
         from: &str,
@@ -174,14 +167,14 @@ impl<
             .mount(self.rt, desk, &name(self.rt, repo), &of, from.as_ref())
     }
 
-    pub fn delete(&self, desk: &mut Desk<C, R, D, A>, repo: &str, of: &str) -> Result<(), Refusal> {
+    pub fn delete(&self, desk: &mut Desk<S>, repo: &str, of: &str) -> Result<(), Refusal> {
         let of = digest(self.rt, of);
         self.store.delete(self.rt, desk, &name(self.rt, repo), &of)
     }
 
     pub fn put_manifest(
         &self,
-        desk: &mut Desk<C, R, D, A>,
+        desk: &mut Desk<S>,
         repo: &str,
         bytes: &[u8],
     ) -> Result<Digest, Refusal> {
@@ -190,7 +183,7 @@ impl<
     }
 
     /// Whether a manifest is answered with its bytes.
-    pub fn gets_manifest(&self, desk: &mut Desk<C, R, D, A>, repo: &str, bytes: &[u8]) -> bool {
+    pub fn gets_manifest(&self, desk: &mut Desk<S>, repo: &str, bytes: &[u8]) -> bool {
         let of = Digest::of(Algorithm::Sha256, bytes);
         match self
             .store
@@ -203,7 +196,7 @@ impl<
 
     pub fn delete_manifest(
         &self,
-        desk: &mut Desk<C, R, D, A>,
+        desk: &mut Desk<S>,
         repo: &str,
         bytes: &[u8],
     ) -> Result<(), Refusal> {
@@ -233,7 +226,7 @@ impl<
     }
 
     /// Whether a step answers what it has to.
-    fn goes(&self, desk: &mut Desk<C, R, D, A>, step: &Step) -> bool {
+    fn goes(&self, desk: &mut Desk<S>, step: &Step) -> bool {
         match step {
             Step::Start(repo, wanted) => self.start(desk, repo) == *wanted,
             Step::Status(repo, number, wanted) => self.status(desk, repo, *number) == *wanted,
@@ -281,7 +274,7 @@ impl<
     }
 
     /// Plays a table of commands on one desk.
-    pub fn plays(&self, desk: &mut Desk<C, R, D, A>, steps: &[Step]) {
+    pub fn plays(&self, desk: &mut Desk<S>, steps: &[Step]) {
         let rt = self.rt;
         for step in steps {
             assert!(rt; self.goes(desk, step));
@@ -289,7 +282,7 @@ impl<
     }
 
     /// A lease of a blob that a repository holds.
-    pub fn leases_from(&self, desk: &mut Desk<C, R, D, A>, repo: &str, of: &str) -> Lease<'s, N> {
+    pub fn leases_from(&self, desk: &mut Desk<S>, repo: &str, of: &str) -> Lease<'s, S> {
         let of = digest(self.rt, of);
         self.store
             .lease(self.rt, desk, &name(self.rt, repo), &of)
@@ -297,7 +290,7 @@ impl<
     }
 
     /// A lease of a blob that `acme/one` holds.
-    pub fn leases(&self, desk: &mut Desk<C, R, D, A>, of: &str) -> Lease<'s, N> {
+    pub fn leases(&self, desk: &mut Desk<S>, of: &str) -> Lease<'s, S> {
         self.leases_from(desk, ONE, of)
     }
 }
