@@ -272,17 +272,20 @@ impl<'h, 's, S: Naming, W: Wait> Calls for Desks<'h, 's, S, W> {
     }
 
     fn remember(&mut self) {
-        self.totals = self.shared.store.totals(self.shared.rt);
+        let shared = self.shared;
+        self.totals = shared.store.totals(shared.rt);
     }
 
     fn is_same(&mut self) -> bool {
-        self.totals == self.shared.store.totals(self.shared.rt)
+        let shared = self.shared;
+        self.totals == shared.store.totals(shared.rt)
     }
 
     fn call(&mut self, _place: usize) -> Answer {
-        match self.shared.store.desks(self.shared.rt, 2) {
+        let shared = self.shared;
+        match shared.store.desks(shared.rt, 2) {
             Ok(desks) => {
-                let settled = self.shared.store.settle(self.shared.rt, desks);
+                let settled = shared.store.settle(shared.rt, desks);
                 whether(settled.left == 0)
             }
             Err(refusal) => refused(refusal),
