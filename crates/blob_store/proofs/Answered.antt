@@ -15,7 +15,7 @@ use Rattle.finite_maps.specs.Outcomes.{refuse}
 use Rattle.store_model.proofs.Commands.Accepted.{answer_by, left_by}
 use Rattle.finite_maps.proofs.Outcomes.{bound_ok, some_of_ok}
 use Rattle.blob_store.specs.Found.{InSomeBook, IsSoundOf}
-use Rattle.blob_store.specs.Naming.{Setting}
+use Rattle.blob_store.specs.Names.{Setting}
 
 -- ---- blobs and manifests
 

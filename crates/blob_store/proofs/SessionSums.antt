@@ -24,14 +24,14 @@ use Rattle.store_model.proofs.Commands.Hands.{home_chunks, received-with_chunk, 
 use Rattle.store_model.proofs.Commands.Accepted.{answer_by, left_by, session_found}
 use Rattle.finite_maps.proofs.Outcomes.{bound_ok}
 use Rattle.blob_store.proofs.Answered.{lent}
-use Rattle.blob_store.specs.Counting.{hand_of, in_hand, reserved, in_sessions, filled_length}
-use Rattle.blob_store.specs.Naming.{setting_of}
+use Rattle.blob_store.specs.Counting.{hand_of, in_hand, reserved, received_in_sessions, filled_length}
+use Rattle.blob_store.specs.Names.{setting_of}
 
 -- how many are in hand, the reserve and the bytes from one catalog to another of the same setting
 pub record Sums (C C' : Catalog) (out : ℕ) (held : ℕ) (brought : ℕ) (back : ℕ) (freed : ℕ) (left : ℕ) : Type 0 where
   pub hands : in_hand C' + back ≡ in_hand C + out
   pub reserve : reserved C' + freed ≡ reserved C + held
-  pub bytes : in_sessions C' + left ≡ in_sessions C + brought
+  pub bytes : received_in_sessions C' + left ≡ received_in_sessions C + brought
   pub setting : setting_of C' ≡ setting_of C
 
 abbrev bytes_of : Number × Session → ℕ

@@ -45,12 +45,12 @@ abbrev pub reserved : Catalog → ℕ
 reserved C = sum_by (λ e. reserved_of e.1.chunks) (fmap.entries C.sessions)
 
 -- the number of bytes that the sessions have received
-abbrev pub in_sessions : Catalog → ℕ
-in_sessions C = sum_by (λ e. received e.1) (fmap.entries C.sessions)
+abbrev pub received_in_sessions : Catalog → ℕ
+received_in_sessions C = sum_by (λ e. received e.1) (fmap.entries C.sessions)
 
 -- what was received is in sessions, was closed or was abandoned
 abbrev pub IsBalanced : Content → Type 0
-IsBalanced k = k.counts.totals.received ≡ in_sessions k.book.catalog + k.counts.totals.closed + k.counts.totals.abandoned
+IsBalanced k = k.counts.totals.received ≡ received_in_sessions k.book.catalog + k.counts.totals.closed + k.counts.totals.abandoned
 
 -- ---- counting
 

@@ -1,6 +1,6 @@
 -- What a call through the lock tells of the book that it found. The book has no name outside the lock, so it is some book.
 use Rattle.std.specs.Prelude.{◌≡◌, ℕ, length}
-use Rattle.blob_store.specs.Naming.{Setting, setting_of}
+use Rattle.blob_store.specs.Names.{Setting, setting_of}
 use Rattle.store_book.specs.BookState.{BookState}
 use Rattle.store_model.specs.Invariant.{Sound}
 

@@ -1,7 +1,8 @@
 pub mod Totals
 pub mod Counting
 pub mod Leased
-pub mod Naming
+pub mod Names
+pub mod Parts
 pub mod Found
 pub mod Seats
 pub mod Workers

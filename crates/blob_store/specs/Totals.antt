@@ -29,8 +29,12 @@ pub record Counts : Type 0 where
   pub settled : Amounts
   pub desks : ℕ
 
+-- all parts of a ledger: one for each desk that may be out, and one that stays
+abbrev pub ledger_parts : ℕ
+ledger_parts = 1025
+
 -- one quantity: its total, what was settled of it, and the parts of its ledger that are not out
-pub record Tally : Type 0 where
+pub record CounterView : Type 0 where
   pub total : ℕ
   pub settled : ℕ
   pub parts : ℕ

@@ -40,6 +40,6 @@ pub record IsReady (workers worker : ℕ) (rows : List RowView) (desk : Amounts)
   pub fits : length (own_rows workers worker rows) ≤ room
 
 -- the worker of a job, which stands at this place from the end of all
-pub record IsTurn (workers place of number : ℕ) : Type 0 where
+pub record IsWorkerAt (workers place of number : ℕ) : Type 0 where
   pub among : of ≡ workers
   pub turn : number + place + 1 ≡ workers

@@ -1,24 +1,26 @@
 //! The totals, with a ledger for each.
 ghost use Rattle.std.specs.Prelude.{◌≡◌, ◌+◌, ◌<◌, ◌≤◌, ◌^◌, ℕ, ◌&&◌, nat_lt, vec_len, vec_capacity};
-ghost use Rattle.blob_store.specs.Totals.{Amounts, Counts, nothing, plus, one, sum_of};
+ghost use Rattle.blob_store.specs.Totals.{Amounts, Counts, ledger_parts, nothing, plus, one, sum_of};
 
-use crate::column::{Column, PARTS};
+use crate::counter::Counter;
 use crate::desk::{Desk, Settled};
+use crate::kept::LEDGER_PARTS;
+use crate::names::{Abandoned, Closed, Commands, Naming, Received};
 use crate::totals::Totals;
 use std::marker::Model;
-use std::sync::ledger::{Blank, Ledger};
+use std::sync::ledger::Blank;
 
 /// The totals, what was settled of them, and the number of desks out.
 #[derive(Drop)]
-pub struct Counters<C: Ledger, R: Ledger, D: Ledger, A: Ledger> {
-    commands: Column<C>,
-    received: Column<R>,
-    closed: Column<D>,
-    abandoned: Column<A>,
+pub struct Counters<S: Naming> {
+    commands: Counter<Commands<S>>,
+    received: Counter<Received<S>>,
+    closed: Counter<Closed<S>>,
+    abandoned: Counter<Abandoned<S>>,
     desks: u64,
 }
 
-impl<C: Ledger, R: Ledger, D: Ledger, A: Ledger> Model for Counters<C, R, D, A> {
+impl<S: Naming> Model for Counters<S> {
     ghost Value = { Counts };
 
     ghost view = { λ c. record {
@@ -27,28 +29,23 @@ impl<C: Ledger, R: Ledger, D: Ledger, A: Ledger> Model for Counters<C, R, D, A> 
       desks = c.desks;
     } };
 
-    ghost invariant = { λ c. (c.commands.parts + c.desks ≡ 1025) × (c.received.parts + c.desks ≡ 1025) × (c.closed.parts + c.desks ≡ 1025) × (c.abandoned.parts + c.desks ≡ 1025) };
+    ghost invariant = { λ c. (c.commands.parts + c.desks ≡ ledger_parts) × (c.received.parts + c.desks ≡ ledger_parts) × (c.closed.parts + c.desks ≡ ledger_parts) × (c.abandoned.parts + c.desks ≡ ledger_parts) };
 }
 
-impl<C: Ledger, R: Ledger, D: Ledger, A: Ledger> Counters<C, R, D, A> {
+impl<S: Naming> Counters<S> {
     /// New counters over four new ledgers.
-    pub fn new(
-        commands: Blank,
-        received: Blank,
-        closed: Blank,
-        abandoned: Blank,
-    ) -> Counters<C, R, D, A>
-        requires commands { (commands.name ≡ C.name) × (commands.parts ≡ C.parts) × (commands.parts ≡ PARTS) }
-        requires received { (received.name ≡ R.name) × (received.parts ≡ R.parts) × (received.parts ≡ PARTS) }
-        requires closed { (closed.name ≡ D.name) × (closed.parts ≡ D.parts) × (closed.parts ≡ PARTS) }
-        requires abandoned { (abandoned.name ≡ A.name) × (abandoned.parts ≡ A.parts) × (abandoned.parts ≡ PARTS) }
+    pub fn new(commands: Blank, received: Blank, closed: Blank, abandoned: Blank) -> Counters<S>
+        requires commands { (commands.name ≡ S.names.commands.name) × (commands.parts ≡ S.names.commands.parts) × (commands.parts ≡ LEDGER_PARTS) }
+        requires received { (received.name ≡ S.names.received.name) × (received.parts ≡ S.names.received.parts) × (received.parts ≡ LEDGER_PARTS) }
+        requires closed { (closed.name ≡ S.names.closed.name) × (closed.parts ≡ S.names.closed.parts) × (closed.parts ≡ LEDGER_PARTS) }
+        requires abandoned { (abandoned.name ≡ S.names.abandoned.name) × (abandoned.parts ≡ S.names.abandoned.parts) × (abandoned.parts ≡ LEDGER_PARTS) }
         ensures { result ≡ record { totals = nothing; settled = nothing; desks = 0 } }
     {
         Counters {
-            commands: Column::new(commands),
-            received: Column::new(received),
-            closed: Column::new(closed),
-            abandoned: Column::new(abandoned),
+            commands: Counter::new(commands),
+            received: Counter::new(received),
+            closed: Counter::new(closed),
+            abandoned: Counter::new(abandoned),
             desks: 0,
         }
     }
@@ -64,7 +61,7 @@ impl<C: Ledger, R: Ledger, D: Ledger, A: Ledger> Counters<C, R, D, A> {
     }
 
     /// Counts an accepted command.
-    pub fn add(&mut self, desk: &mut Desk<C, R, D, A>, received: u64, closed: u64, abandoned: u64)
+    pub fn add(&mut self, desk: &mut Desk<S>, received: u64, closed: u64, abandoned: u64)
         requires commands { self.old.totals.commands + 1 < 2 ^ 64 }
         requires received { self.old.totals.received + received < 2 ^ 64 }
         requires closed { self.old.totals.closed + closed < 2 ^ 64 }
@@ -100,28 +97,28 @@ impl<C: Ledger, R: Ledger, D: Ledger, A: Ledger> Counters<C, R, D, A> {
 
     /// The number of desks out.
     pub fn desks(&self) -> u64
-        ensures { (result ≡ self.now.desks) × (result ≤ PARTS) }
+        ensures { (result ≡ self.now.desks) × (result ≤ LEDGER_PARTS) }
     {
         self.desks
     }
 
     /// A desk with empty shares.
-    pub fn take_out(&mut self) -> Desk<C, R, D, A>
-        requires { self.old.desks + 1 < PARTS }
+    pub fn issue(&mut self) -> Desk<S>
+        requires { self.old.desks + 1 < LEDGER_PARTS }
         ensures counts { self.new ≡ record self.old { desks = self.old.desks + 1 } }
         ensures desk { result ≡ nothing }
     {
         self.desks += 1;
         Desk {
-            commands: self.commands.take_out(),
-            received: self.received.take_out(),
-            closed: self.closed.take_out(),
-            abandoned: self.abandoned.take_out(),
+            commands: self.commands.issue(),
+            received: self.received.issue(),
+            closed: self.closed.issue(),
+            abandoned: self.abandoned.issue(),
         }
     }
 
     /// Settles a desk. Once none is out, all of the totals is settled.
-    pub fn take_in(&mut self, desk: Desk<C, R, D, A>)
+    pub fn settle(&mut self, desk: Desk<S>)
         ensures totals { (self.new.totals ≡ self.old.totals) × (self.new.desks + 1 ≡ self.old.desks) }
         ensures settled { self.new.settled ≡ plus self.old.settled desk }
         ensures bound { (self.new.settled.commands ≤ self.old.totals.commands) × (self.new.settled.received ≤ self.old.totals.received) × (self.new.settled.closed ≤ self.old.totals.closed) × (self.new.settled.abandoned ≤ self.old.totals.abandoned) }
@@ -133,10 +130,10 @@ impl<C: Ledger, R: Ledger, D: Ledger, A: Ledger> Counters<C, R, D, A> {
             closed,
             abandoned,
         } = desk;
-        self.commands.take_in(commands);
-        self.received.take_in(received);
-        self.closed.take_in(closed);
-        self.abandoned.take_in(abandoned);
+        self.commands.settle(commands);
+        self.received.settle(received);
+        self.closed.settle(closed);
+        self.abandoned.settle(abandoned);
         self.desks -= 1;
     }
 
@@ -166,27 +163,27 @@ impl<C: Ledger, R: Ledger, D: Ledger, A: Ledger> Counters<C, R, D, A> {
     }
 
     /// Settles desks.
-    pub fn take_in_all(&mut self, desks: Vec<Desk<C, R, D, A>>)
+    pub fn settle_all(&mut self, desks: Vec<Desk<S>>)
         ensures totals { (self.new.totals ≡ self.old.totals) × (self.new.desks + vec_len desks ≡ self.old.desks) }
         ensures settled { self.new.settled ≡ plus self.old.settled (sum_of desks.items) }
     {
         let mut desks = desks;
         while let Some(desk) = desks.pop() {
-            self.take_in(desk);
+            self.settle(desk);
         }
         desks.destroy_empty();
     }
 
-    /// Makes desks with empty shares, for which there is room.
+    /// Issues desks with empty shares, for which there is room.
     #[tactic(auto, using(crate::proofs::Sums::nothing_pushed))]
-    pub fn take_out_all(&mut self, desks: &mut Vec<Desk<C, R, D, A>>, count: u64)
-        requires count { self.old.desks + count < PARTS }
+    pub fn issue_all(&mut self, desks: &mut Vec<Desk<S>>, count: u64)
+        requires count { self.old.desks + count < LEDGER_PARTS }
         requires room { (vec_len desks.old ≡ 0) × (count ≤ vec_capacity desks.old) }
         ensures counts { (self.new.totals ≡ self.old.totals) × (self.new.settled ≡ self.old.settled) × (self.new.desks ≡ self.old.desks + count) }
         ensures desks { (vec_len desks.new ≡ count) × (sum_of desks.new.items ≡ nothing) }
     {
         for _i in 0..count {
-            desks.push_reserved(self.take_out());
+            desks.push_reserved(self.issue());
         }
     }
 }

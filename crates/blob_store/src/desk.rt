@@ -2,25 +2,27 @@
 ghost use Rattle.std.specs.Prelude.{◌≡◌, ◌+◌, ◌<◌, ◌^◌, ℕ};
 ghost use Rattle.blob_store.specs.Totals.{Amounts, nothing, plus, one};
 
-use crate::column::Portion;
+use crate::counter::CounterShare;
+use crate::droppable_desk::DroppableDesk;
+use crate::names::{Abandoned, Closed, Commands, Naming, Received};
 use std::marker::Model;
-use std::sync::ledger::Ledger;
 
-/// A worker's share of the four totals. It must be spent.
-pub struct Desk<C: Ledger, R: Ledger, D: Ledger, A: Ledger> {
-    pub(crate) commands: Portion<C>,
-    pub(crate) received: Portion<R>,
-    pub(crate) closed: Portion<D>,
-    pub(crate) abandoned: Portion<A>,
+/// A worker's share of the four totals. It can't be dropped: `Store::settle` takes it. `into_droppable` makes it one
+/// that a closure and a thread's result can hold.
+pub struct Desk<S: Naming> {
+    pub(crate) commands: CounterShare<Commands<S>>,
+    pub(crate) received: CounterShare<Received<S>>,
+    pub(crate) closed: CounterShare<Closed<S>>,
+    pub(crate) abandoned: CounterShare<Abandoned<S>>,
 }
 
-impl<C: Ledger, R: Ledger, D: Ledger, A: Ledger> Model for Desk<C, R, D, A> {
+impl<S: Naming> Model for Desk<S> {
     ghost Value = { Amounts };
 
     ghost view = { λ d. record { commands = d.commands; received = d.received; closed = d.closed; abandoned = d.abandoned } };
 }
 
-impl<C: Ledger, R: Ledger, D: Ledger, A: Ledger> Desk<C, R, D, A> {
+impl<S: Naming> Desk<S> {
     /// Accepted commands.
     pub fn commands(&self) -> u64
         ensures { result ≡ self.now.commands }
@@ -47,6 +49,24 @@ impl<C: Ledger, R: Ledger, D: Ledger, A: Ledger> Desk<C, R, D, A> {
         ensures { result ≡ self.now.abandoned }
     {
         self.abandoned.amount()
+    }
+
+    /// The same desk, for a closure or a thread's result. It takes no memory.
+    pub fn into_droppable(self) -> DroppableDesk<S>
+        ensures { result ≡ self }
+    {
+        let Desk {
+            commands,
+            received,
+            closed,
+            abandoned,
+        } = self;
+        DroppableDesk {
+            commands,
+            received,
+            closed,
+            abandoned,
+        }
     }
 }
 

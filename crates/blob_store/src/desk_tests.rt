@@ -1,31 +1,27 @@
-//! As many desks as may be out, and a script that finds none.
+//! As many desks as may be out, a script that finds none, and a desk that is sent to a thread.
 
 use crate::play_tests::{LINES, rows_of};
-use crate::test_steps::TestStore;
-use crate::{Desk, Naming, play};
+use crate::test_steps::{ABC, ONE, Step, TestStore};
+use crate::{Desk, DroppableDesk, Naming, Settled, play};
 use blob_digest::Refusal;
 use row_player::OpenGate;
 use std::alloc::AllocGlobal;
 use std::process::Abort;
 use std::sync::Wait;
-use std::sync::ledger::Ledger;
+use std::thread;
 use std::thread::Threads;
 
-impl<
+impl<'s, S: Naming + Send + Sync, W: Abort + AllocGlobal + Threads + Wait + Sync> TestStore<
     's,
-    N: Naming + Send + Sync,
-    C: Ledger + Send + Sync,
-    R: Ledger + Send + Sync,
-    D: Ledger + Send + Sync,
-    A: Ledger + Send + Sync,
-    W: Abort + AllocGlobal + Threads + Wait + Sync,
-> TestStore<'s, N, C, R, D, A, W> {
-    fn makes_desks(&self, count: u64) -> Vec<Desk<C, R, D, A>> {
+    S,
+    W,
+> {
+    fn makes_desks(&self, count: u64) -> Vec<Desk<S>> {
         self.store.desks(self.rt, count).expect(self.rt, "desks")
     }
 
     /// Settles desks, beside which so many stay out.
-    fn settles(&self, desks: Vec<Desk<C, R, D, A>>, left: u64) {
+    fn settles(&self, desks: Vec<Desk<S>>, left: u64) {
         assert_eq!(self.rt; self.store.settle(self.rt, desks).left, left);
     }
 
@@ -53,5 +49,42 @@ impl<
         let all = self.makes_desks(1024);
         self.refuses_desks(1);
         self.settles(all, 0);
+    }
+
+    /// Uploads `abc` with a desk that was sent here, and sends the desk back.
+    fn uploads_there(&self, sent: DroppableDesk<S>) -> DroppableDesk<S> {
+        let mut desk = sent.into_desk();
+        let upload = [
+            Step::Start(ONE, Ok(1)),
+            Step::Close(ONE, 1, ABC, "", "abc", Ok(3)),
+        ];
+        self.plays(&mut desk, &upload);
+        desk.into_droppable()
+    }
+
+    /// Uploads in a thread of its own.
+    fn uploads_in_a_thread(&self, sent: DroppableDesk<S>) -> DroppableDesk<S> {
+        thread::scope(thread::scope_env(), self.rt, move |scope| {
+            scope
+                .spawn(move || self.uploads_there(sent))
+                .expect(self.rt, "a thread")
+                .join(self.rt)
+        })
+    }
+
+    /// A desk is sent to a thread and back, and settles what it got there.
+    pub fn sends_a_desk(&self) {
+        let mut desks = self.makes_desks(1);
+        let desk = desks.pop().expect(self.rt, "a desk");
+        let returned = self.uploads_in_a_thread(desk.into_droppable());
+        desks.push_reserved(returned.into_desk());
+        let wanted = Settled {
+            commands: 2,
+            received: 3,
+            closed: 3,
+            abandoned: 0,
+            left: 0,
+        };
+        assert_eq!(self.rt; self.store.settle(self.rt, desks), wanted);
     }
 }

@@ -17,9 +17,9 @@ ghost use Rattle.store_book.specs.SlotSteps.{EachSlot, HasLast, HasPin, IsHousin
 ghost use Rattle.store_model.specs.Commands.{check_tenant, start, status, abandon, mount, delete, put_manifest, get_manifest, delete_manifest, take, put_back, finish, given_back};
 ghost use Rattle.store_model.specs.Sweep.{IsSweep};
 ghost use Rattle.blob_store.specs.Found.{IsSoundOf};
-ghost use Rattle.blob_store.specs.Naming.{setting_of};
+ghost use Rattle.blob_store.specs.Names.{setting_of};
 ghost use Rattle.blob_store.specs.Totals.{nothing, plus, one, sum_of};
-ghost use Rattle.blob_store.specs.Counting.{IsBalanced, Lends, cannot_hand_out, has_room, in_sessions, with_catalog, with_slots, uncounted, accepted, counted, reserving, filled_length, handing_out, unchanged};
+ghost use Rattle.blob_store.specs.Counting.{IsBalanced, Lends, cannot_hand_out, has_room, received_in_sessions, with_catalog, with_slots, uncounted, accepted, counted, reserving, filled_length, handing_out, unchanged};
 
 use crate::counters::Counters;
 use crate::desk::{Desk, Settled};
@@ -30,14 +30,16 @@ use oci_manifest::Manifest;
 use pin_table::{Pin, Pins};
 use std::alloc::Global;
 use std::io::{self, Write};
-use std::marker::{Model, PhantomData};
+use std::marker::Model;
 use std::sync::Arc;
-use std::sync::ledger::Ledger;
 use store_book::{Book, Mount, Swept};
 use upload_table::Hand;
 
 /// The most desks that are out at a time.
 pub const MAX_DESKS: u64 = 1024;
+
+/// All parts of a ledger: one for each desk that may be out, and one that stays.
+pub const LEDGER_PARTS: u64 = MAX_DESKS + 1;
 
 /// The book, the totals, and what was settled of them.
 ///
@@ -45,18 +47,17 @@ pub const MAX_DESKS: u64 = 1024;
 /// sessions are in hand and how many bytes are reserved for them, so that each can be counted when it
 /// comes back.
 #[derive(Drop)]
-pub struct Kept<N: Naming, C: Ledger, R: Ledger, D: Ledger, A: Ledger> {
+pub struct Kept<S: Naming> {
     book: Book,
-    counters: Counters<C, R, D, A>,
+    counters: Counters<S>,
     hands: u64,
     reserve: u64,
-    names: PhantomData<N>,
 }
 
-impl<N: Naming, C: Ledger, R: Ledger, D: Ledger, A: Ledger> Model for Kept<N, C, R, D, A> {
+impl<S: Naming> Model for Kept<S> {
     ghost use Rattle.std.specs.Prelude.{◌≡◌, ◌+◌, ◌<◌, ◌^◌, length};
     ghost use Rattle.blob_store.specs.Counting.{Content, coded_content, IsBalanced, in_hand, reserved};
-    ghost use Rattle.blob_store.specs.Naming.{setting_of};
+    ghost use Rattle.blob_store.specs.Names.{setting_of};
 
     ghost Value = { Content };
 
@@ -64,14 +65,14 @@ impl<N: Naming, C: Ledger, R: Ledger, D: Ledger, A: Ledger> Model for Kept<N, C,
 
     ghost view = { λ k. record { book = k.book; counts = k.counters } };
 
-    ghost invariant = { λ k. (k.hands ≡ in_hand k.book.catalog) × (k.reserve ≡ reserved k.book.catalog) × (k.counters.totals.commands + k.hands < 2 ^ 64) × (k.counters.totals.received + k.reserve < 2 ^ 64) × IsBalanced (record { book = k.book; counts = k.counters }) × (k.book.table ≡ N.table) × (length k.book.slots ≡ N.slots) × (setting_of k.book.catalog ≡ N.setting) };
+    ghost invariant = { λ k. (k.hands ≡ in_hand k.book.catalog) × (k.reserve ≡ reserved k.book.catalog) × (k.counters.totals.commands + k.hands < 2 ^ 64) × (k.counters.totals.received + k.reserve < 2 ^ 64) × IsBalanced (record { book = k.book; counts = k.counters }) × (k.book.table ≡ S.names.table) × (length k.book.slots ≡ S.names.slots) × (setting_of k.book.catalog ≡ S.names.setting) };
 }
 
-impl<N: Naming, C: Ledger, R: Ledger, D: Ledger, A: Ledger> Kept<N, C, R, D, A> {
+impl<S: Naming> Kept<S> {
     /// The value of a book without sessions, with the slots and the setting that the name says, and nothing counted.
-    pub fn new(book: Book, counters: Counters<C, R, D, A>) -> Kept<N, C, R, D, A>
+    pub fn new(book: Book, counters: Counters<S>) -> Kept<S>
         requires book { book.catalog.sessions ≡ empty }
-        requires named { (book.table ≡ N.table) × (length book.slots ≡ N.slots) × (setting_of book.catalog ≡ N.setting) }
+        requires named { (book.table ≡ S.names.table) × (length book.slots ≡ S.names.slots) × (setting_of book.catalog ≡ S.names.setting) }
         requires counters { counters ≡ record { totals = nothing; settled = nothing; desks = 0 } }
         ensures { result ≡ record { book = book; counts = counters } }
     {
@@ -80,7 +81,6 @@ impl<N: Naming, C: Ledger, R: Ledger, D: Ledger, A: Ledger> Kept<N, C, R, D, A> 
             counters,
             hands: 0,
             reserve: 0,
-            names: PhantomData,
         }
     }
 
@@ -89,7 +89,7 @@ impl<N: Naming, C: Ledger, R: Ledger, D: Ledger, A: Ledger> Kept<N, C, R, D, A> 
     pub fn audit(&self)
         ensures sound { Sound self.now.book.catalog }
         ensures balanced { IsBalanced self.now }
-        ensures named { (self.now.book.table ≡ N.table) × (length self.now.book.slots ≡ N.slots) × (setting_of self.now.book.catalog ≡ N.setting) }
+        ensures named { (self.now.book.table ≡ S.names.table) × (length self.now.book.slots ≡ S.names.slots) × (setting_of self.now.book.catalog ≡ S.names.setting) }
     {
         self.book.audit();
     }
@@ -107,8 +107,8 @@ impl<N: Naming, C: Ledger, R: Ledger, D: Ledger, A: Ledger> Kept<N, C, R, D, A> 
 
     /// Opens a session, as `Book::start` does, and counts it. Before all else it is refused, as
     /// `LimitReached`, where one more command can't be counted.
-    pub fn start(&mut self, desk: &mut Desk<C, R, D, A>, repo: &RepoName) -> Result<u32, Refusal>
-        ensures does { Does (λ n. n) result (self.old, desk.old) (self.new, desk.new) (counted (λ _. one 0 0 0) (λ C. start C repo.now) (self.old, desk.old)) }
+    pub fn start(&mut self, desk: &mut Desk<S>, repo: &RepoName) -> Result<u32, Refusal>
+        ensures does { Does (λ n. n) result (self.old, desk.old) (self.new, desk.new) (counted (λ _. one 0 0 0) (λ catalog. start catalog repo.now) (self.old, desk.old)) }
     {
         self.room(0)?;
         self.book.audit();
@@ -120,11 +120,11 @@ impl<N: Naming, C: Ledger, R: Ledger, D: Ledger, A: Ledger> Kept<N, C, R, D, A> 
     /// The received length of a session, as `Book::status` answers it, counted.
     pub fn status(
         &mut self,
-        desk: &mut Desk<C, R, D, A>,
+        desk: &mut Desk<S>,
         repo: &RepoName,
         number: u32,
     ) -> Result<u64, Refusal>
-        ensures does { DoesExactly (λ n. n) result (self.old, desk.old) (self.new, desk.new) (counted (λ _. one 0 0 0) (λ C. unchanged (status C repo.now number) C) (self.old, desk.old)) }
+        ensures does { DoesExactly (λ n. n) result (self.old, desk.old) (self.new, desk.new) (counted (λ _. one 0 0 0) (λ catalog. unchanged (status catalog repo.now number) catalog) (self.old, desk.old)) }
     {
         self.room(0)?;
         let received = self.book.status(repo, number)?;
@@ -135,11 +135,11 @@ impl<N: Naming, C: Ledger, R: Ledger, D: Ledger, A: Ledger> Kept<N, C, R, D, A> 
     /// Gives a session up, as `Book::abandon` does, and counts its bytes as abandoned.
     pub fn abandon(
         &mut self,
-        desk: &mut Desk<C, R, D, A>,
+        desk: &mut Desk<S>,
         repo: &RepoName,
         number: u32,
     ) -> Result<u64, Refusal>
-        ensures does { DoesExactly (λ n. n) result (self.old, desk.old) (self.new, desk.new) (counted (λ n. one 0 0 n) (λ C. abandon C repo.now number) (self.old, desk.old)) }
+        ensures does { DoesExactly (λ n. n) result (self.old, desk.old) (self.new, desk.new) (counted (λ n. one 0 0 n) (λ catalog. abandon catalog repo.now number) (self.old, desk.old)) }
     {
         self.room(0)?;
         let length = self.book.abandon(repo, number)?;
@@ -151,12 +151,12 @@ impl<N: Naming, C: Ledger, R: Ledger, D: Ledger, A: Ledger> Kept<N, C, R, D, A> 
     /// `Book::mount` does, counted.
     pub fn mount(
         &mut self,
-        desk: &mut Desk<C, R, D, A>,
+        desk: &mut Desk<S>,
         repo: &RepoName,
         digest: &Digest,
         from: Option<&RepoName>,
     ) -> Result<Mount, Refusal>
-        ensures does { Does (λ m. m) result (self.old, desk.old) (self.new, desk.new) (counted (λ _. one 0 0 0) (λ C. mount C repo.now digest.now (option_copied from.entry)) (self.old, desk.old)) }
+        ensures does { Does (λ m. m) result (self.old, desk.old) (self.new, desk.new) (counted (λ _. one 0 0 0) (λ catalog. mount catalog repo.now digest.now (option_copied from.entry)) (self.old, desk.old)) }
     {
         self.room(0)?;
         self.book.audit();
@@ -168,11 +168,11 @@ impl<N: Naming, C: Ledger, R: Ledger, D: Ledger, A: Ledger> Kept<N, C, R, D, A> 
     /// Takes a link out of a repository, as `Book::delete` does, counted.
     pub fn delete(
         &mut self,
-        desk: &mut Desk<C, R, D, A>,
+        desk: &mut Desk<S>,
         repo: &RepoName,
         digest: &Digest,
     ) -> Result<(), Refusal>
-        ensures does { DoesExactly (λ u. u) result (self.old, desk.old) (self.new, desk.new) (counted (λ _. one 0 0 0) (λ C. delete C repo.now digest.now) (self.old, desk.old)) }
+        ensures does { DoesExactly (λ u. u) result (self.old, desk.old) (self.new, desk.new) (counted (λ _. one 0 0 0) (λ catalog. delete catalog repo.now digest.now) (self.old, desk.old)) }
     {
         self.room(0)?;
         self.book.delete(repo, digest)?;
@@ -192,11 +192,11 @@ impl<N: Naming, C: Ledger, R: Ledger, D: Ledger, A: Ledger> Kept<N, C, R, D, A> 
     /// Keeps a manifest that was read, as `Book::keep_manifest` does, counted.
     pub fn keep_manifest(
         &mut self,
-        desk: &mut Desk<C, R, D, A>,
+        desk: &mut Desk<S>,
         repo: &RepoName,
         manifest: Manifest,
     ) -> Result<Digest, Refusal>
-        ensures does { Does (λ d. d) result (self.old, desk.old) (self.new, desk.new) (counted (λ _. one 0 0 0) (λ C. put_manifest C repo.now manifest) (self.old, desk.old)) }
+        ensures does { Does (λ d. d) result (self.old, desk.old) (self.new, desk.new) (counted (λ _. one 0 0 0) (λ catalog. put_manifest catalog repo.now manifest) (self.old, desk.old)) }
         ensures digest { IfOk result (λ d. d ≡ sha256_text manifest) }
     {
         self.room(0)?;
@@ -208,11 +208,11 @@ impl<N: Naming, C: Ledger, R: Ledger, D: Ledger, A: Ledger> Kept<N, C, R, D, A> 
     /// A manifest of a repository, as `Book::get_manifest` answers it, counted.
     pub fn get_manifest(
         &mut self,
-        desk: &mut Desk<C, R, D, A>,
+        desk: &mut Desk<S>,
         repo: &RepoName,
         digest: &Digest,
     ) -> Result<Arc<Manifest, Global>, Refusal>
-        ensures does { Does (λ m. arc_value m) result (self.old, desk.old) (self.new, desk.new) (counted (λ _. one 0 0 0) (λ C. unchanged (get_manifest C repo.now digest.now) C) (self.old, desk.old)) }
+        ensures does { Does (λ m. arc_value m) result (self.old, desk.old) (self.new, desk.new) (counted (λ _. one 0 0 0) (λ catalog. unchanged (get_manifest catalog repo.now digest.now) catalog) (self.old, desk.old)) }
         ensures digest { IfOk result (λ m. sha256_text (arc_value m) ≡ digest.now) }
     {
         self.room(0)?;
@@ -225,11 +225,11 @@ impl<N: Naming, C: Ledger, R: Ledger, D: Ledger, A: Ledger> Kept<N, C, R, D, A> 
     /// Takes a manifest out of a repository, as `Book::delete_manifest` does, counted.
     pub fn delete_manifest(
         &mut self,
-        desk: &mut Desk<C, R, D, A>,
+        desk: &mut Desk<S>,
         repo: &RepoName,
         digest: &Digest,
     ) -> Result<(), Refusal>
-        ensures does { DoesExactly (λ u. u) result (self.old, desk.old) (self.new, desk.new) (counted (λ _. one 0 0 0) (λ C. delete_manifest C repo.now digest.now) (self.old, desk.old)) }
+        ensures does { DoesExactly (λ u. u) result (self.old, desk.old) (self.new, desk.new) (counted (λ _. one 0 0 0) (λ catalog. delete_manifest catalog repo.now digest.now) (self.old, desk.old)) }
     {
         self.room(0)?;
         self.book.delete_manifest(repo, digest)?;
@@ -242,13 +242,13 @@ impl<N: Naming, C: Ledger, R: Ledger, D: Ledger, A: Ledger> Kept<N, C, R, D, A> 
     pub fn lease(
         &mut self,
         pins: &Pins,
-        desk: &mut Desk<C, R, D, A>,
+        desk: &mut Desk<S>,
         repo: &RepoName,
         digest: &Digest,
     ) -> Result<(Pin, Arc<Blob, Global>), Refusal>
-        requires table { pins.now ≡ N.table }
+        requires table { pins.now ≡ S.names.table }
         ensures does { Lends (λ r. blob_bytes (arc_value r.1)) result (self.old, desk.old) (self.new, desk.new) repo.now digest.now }
-        ensures pin { IfOk result (λ r. (r.0.table ≡ N.table) × (r.0.hold.digest ≡ digest.now) × (r.0.hold.weight ≡ 1024)) }
+        ensures pin { IfOk result (λ r. (r.0.table ≡ S.names.table) × (r.0.hold.digest ≡ digest.now) × (r.0.hold.weight ≡ 1024)) }
         ensures content { IfOk result (λ r. is_digest_of digest.now (blob_bytes (arc_value r.1)) ≡ true) }
         ensures slots { EachSlot (IsLending digest.now) self.old.book.slots self.new.book.slots }
         ensures refused { OnErr result (EachSlot IsStill self.old.book.slots self.new.book.slots) }
@@ -262,8 +262,8 @@ impl<N: Naming, C: Ledger, R: Ledger, D: Ledger, A: Ledger> Kept<N, C, R, D, A> 
 
     /// Goes over the slots, as `Book::sweep` does. Nothing is counted. What is swept is a sound book.
     pub fn sweep(&mut self, pins: &Pins) -> Swept
-        requires table { pins.now ≡ N.table }
-        ensures sound { IsSoundOf N.slots N.setting self.old.book }
+        requires table { pins.now ≡ S.names.table }
+        ensures sound { IsSoundOf S.names.slots S.names.setting self.old.book }
         ensures sweeps { IsSweep self.old.book.catalog result self.new.book.catalog }
         ensures slots { EachSlot IsSweptSlot self.old.book.slots self.new.book.slots }
         ensures retired { 0 < result.retired → HasLast self.old.book.slots }
@@ -276,8 +276,8 @@ impl<N: Naming, C: Ledger, R: Ledger, D: Ledger, A: Ledger> Kept<N, C, R, D, A> 
     /// The pin with all that it had, as `Book::verify` tells of it. Nothing is counted. It is found in a sound
     /// book.
     pub fn verify(&mut self, pins: &Pins, pin: Pin) -> Pin
-        requires table { (pins.now ≡ N.table) × (pin.table ≡ N.table) }
-        ensures sound { IsSoundOf N.slots N.setting self.old.book }
+        requires table { (pins.now ≡ S.names.table) × (pin.table ≡ S.names.table) }
+        ensures sound { IsSoundOf S.names.slots S.names.setting self.old.book }
         ensures same { result ≡ pin }
         ensures kept { HasPin pin.hold self.old.book }
         ensures content { (self.new.book.catalog ≡ self.old.book.catalog) × (self.new.counts ≡ self.old.counts) }
@@ -289,8 +289,8 @@ impl<N: Naming, C: Ledger, R: Ledger, D: Ledger, A: Ledger> Kept<N, C, R, D, A> 
 
     /// The word of a slot, as `Book::word` reads it. Nothing is counted.
     pub fn word(&mut self, pins: &Pins, slot: u32) -> u64
-        requires table { pins.now ≡ N.table }
-        requires within { slot < N.slots }
+        requires table { pins.now ≡ S.names.table }
+        requires within { slot < S.names.slots }
         ensures word { ReadsWord slot result self.old.book.slots self.new.book.slots }
         ensures content { (self.new.book.catalog ≡ self.old.book.catalog) × (self.new.counts ≡ self.old.counts) }
         ensures slots { EachSlot IsStill self.old.book.slots self.new.book.slots }
@@ -300,7 +300,7 @@ impl<N: Naming, C: Ledger, R: Ledger, D: Ledger, A: Ledger> Kept<N, C, R, D, A> 
 
     /// Writes the text of the book, as `Book::print` does. What is printed is a sound catalog of the store's setting.
     pub fn print<W: Write>(&self, writer: &mut W) -> io::Result<()>
-        ensures sound { IsSoundOf N.slots N.setting self.now.book }
+        ensures sound { IsSoundOf S.names.slots S.names.setting self.now.book }
         ensures text { OnOk result (Appends (W.contents writer.old) (W.contents writer.new) (book_text self.now.book.catalog)) }
     {
         self.audit();
@@ -317,7 +317,7 @@ impl<N: Naming, C: Ledger, R: Ledger, D: Ledger, A: Ledger> Kept<N, C, R, D, A> 
         range: Option<ByteRange>,
         len: u64,
     ) -> Result<Hand, Refusal>
-        ensures does { DoesExactly (λ h. h) result self.old self.new (reserving len (λ C. take C repo.now number range len) self.old) }
+        ensures does { DoesExactly (λ h. h) result self.old self.new (reserving len (λ catalog. take catalog repo.now number range len) self.old) }
         ensures ends { IfOk result (λ h. IfSome range (λ r. sum_by length h.chunks + len ≡ r.end + 1)) }
     {
         self.room(len)?;
@@ -329,9 +329,9 @@ impl<N: Naming, C: Ledger, R: Ledger, D: Ledger, A: Ledger> Kept<N, C, R, D, A> 
 
     /// Puts a session's chunks back with the one that was filled in, as `Book::put_back` does, and counts
     /// the command with that chunk's bytes.
-    pub fn put_back(&mut self, desk: &mut Desk<C, R, D, A>, hand: Hand) -> Result<u64, Refusal>
+    pub fn put_back(&mut self, desk: &mut Desk<S>, hand: Hand) -> Result<u64, Refusal>
         requires filled { hand.last ≢ None }
-        ensures does { DoesExactly (λ n. n) result (self.old, desk.old) (self.new, desk.new) (accepted (λ _. one (filled_length hand) 0 0) (λ C. put_back C hand) (self.old, desk.old)) }
+        ensures does { DoesExactly (λ n. n) result (self.old, desk.old) (self.new, desk.new) (accepted (λ _. one (filled_length hand) 0 0) (λ catalog. put_back catalog hand) (self.old, desk.old)) }
         ensures length { IfOk result (λ n. n ≡ sum_by length hand.chunks + filled_length hand) }
     {
         let reserved = hand.reserved();
@@ -345,7 +345,7 @@ impl<N: Naming, C: Ledger, R: Ledger, D: Ledger, A: Ledger> Kept<N, C, R, D, A> 
     /// Puts a session's chunks back as they were before it was taken, and counts nothing.
     pub fn give_up(&mut self, hand: Hand) -> Result<u64, Refusal>
         requires unfilled { hand.last ≡ None }
-        ensures does { DoesExactly (λ n. n) result self.old self.new (uncounted (λ C. put_back C hand) self.old) }
+        ensures does { DoesExactly (λ n. n) result self.old self.new (uncounted (λ catalog. put_back catalog hand) self.old) }
     {
         let reserved = hand.reserved();
         let received = self.book.put_back(hand)?;
@@ -359,13 +359,13 @@ impl<N: Naming, C: Ledger, R: Ledger, D: Ledger, A: Ledger> Kept<N, C, R, D, A> 
     pub fn finish(
         &mut self,
         pins: &Pins,
-        desk: &mut Desk<C, R, D, A>,
+        desk: &mut Desk<S>,
         hand: Hand,
         digest: &Digest,
     ) -> Result<u64, Refusal>
-        requires table { pins.now ≡ N.table }
+        requires table { pins.now ≡ S.names.table }
         requires full { IsFull hand }
-        ensures does { Does (λ n. n) result (with_catalog self.old (given_back self.old.book.catalog hand), desk.old) (with_slots self.new self.old.book.slots, desk.new) (accepted (λ n. one (filled_length hand) n 0) (λ C. finish C hand digest.now) (self.old, desk.old)) }
+        ensures does { Does (λ n. n) result (with_catalog self.old (given_back self.old.book.catalog hand), desk.old) (with_slots self.new self.old.book.slots, desk.new) (accepted (λ n. one (filled_length hand) n 0) (λ catalog. finish catalog hand digest.now) (self.old, desk.old)) }
         ensures length { IfOk result (λ n. n ≡ sum_by length hand.chunks + filled_length hand) }
         ensures slots { EachSlot IsQuiet self.old.book.slots self.new.book.slots }
         ensures housed { OnOk result (EachSlot (IsHousing digest.now) self.old.book.slots self.new.book.slots) }
@@ -392,9 +392,9 @@ impl<N: Naming, C: Ledger, R: Ledger, D: Ledger, A: Ledger> Kept<N, C, R, D, A> 
 
     /// Makes desks with empty shares.
     ///
-    /// Refused, in this order: no desks, or more than 1,024 that would be out (`LimitReached`); want of
+    /// Refused, in this order: no desks, or more than 1,024 that would be out (`LimitReached`); out of
     /// memory.
-    pub fn desks(&mut self, alloc: Global, count: u64) -> Result<Vec<Desk<C, R, D, A>>, Refusal>
+    pub fn desks(&mut self, alloc: Global, count: u64) -> Result<Vec<Desk<S>>, Refusal>
         ensures made { IfOk result (λ v. (vec_len v ≡ count) × (sum_of v.items ≡ nothing)) }
         ensures does { Does (λ _. tt) result self.old self.new (handing_out count self.old) }
         ensures limit { cannot_hand_out self.old count ≡ true → MatchResult result (λ _. ⊥) (λ e. e ≡ LimitReached) }
@@ -404,13 +404,13 @@ impl<N: Naming, C: Ledger, R: Ledger, D: Ledger, A: Ledger> Kept<N, C, R, D, A> 
             return Err(Refusal::LimitReached);
         }
         let mut desks = Vec::with_capacity(alloc, count as usize)?;
-        self.counters.take_out_all(&mut desks, count);
+        self.counters.issue_all(&mut desks, count);
         Ok(desks)
     }
 
     /// Settles desks: the sums of their shares, and the number still out. Once none is out, all of the
     /// totals is settled.
-    pub fn settle(&mut self, desks: Vec<Desk<C, R, D, A>>) -> Settled
+    pub fn settle(&mut self, desks: Vec<Desk<S>>) -> Settled
         ensures sums { (result.commands ≡ (sum_of desks.items).commands) × (result.received ≡ (sum_of desks.items).received) × (result.closed ≡ (sum_of desks.items).closed) × (result.abandoned ≡ (sum_of desks.items).abandoned) }
         ensures left { (result.left ≡ self.new.counts.desks) × (self.new.counts.desks + vec_len desks ≡ self.old.counts.desks) }
         ensures same { (self.new.book ≡ self.old.book) × (self.new.counts.totals ≡ self.old.counts.totals) }
@@ -418,7 +418,7 @@ impl<N: Naming, C: Ledger, R: Ledger, D: Ledger, A: Ledger> Kept<N, C, R, D, A> 
         ensures all { result.left ≡ 0 → self.new.counts.settled ≡ self.new.counts.totals }
     {
         let before = self.counters.settled();
-        self.counters.take_in_all(desks);
+        self.counters.settle_all(desks);
         self.counters.audit();
         let after = self.counters.settled();
         Settled {
@@ -433,7 +433,7 @@ impl<N: Naming, C: Ledger, R: Ledger, D: Ledger, A: Ledger> Kept<N, C, R, D, A> 
     /// The totals.
     pub fn totals(&self) -> Totals
         ensures amounts { (result.commands ≡ self.now.counts.totals.commands) × (result.received ≡ self.now.counts.totals.received) × (result.closed ≡ self.now.counts.totals.closed) × (result.abandoned ≡ self.now.counts.totals.abandoned) }
-        ensures in_sessions { result.in_sessions ≡ in_sessions self.now.book.catalog }
+        ensures in_sessions { result.in_sessions ≡ received_in_sessions self.now.book.catalog }
         ensures balanced { result.received ≡ result.in_sessions + result.closed + result.abandoned }
         ensures desks { result.desks ≡ self.now.counts.desks }
     {

@@ -17,14 +17,14 @@ use std::sync::Arc;
 /// A reader's hold on a blob of a store: its bytes, and a pin on its slot, which no sweep frees while the
 /// lease is out. It is given by `Store::lease`, and must be spent by `share`, `give_back` or
 /// `Store::verify`. None of its functions takes the store's lock or waits.
-pub struct Lease<'s, N: Naming> {
+pub struct Lease<'s, S: Naming> {
     pub(crate) pins: &'s Pins,
     pub(crate) blob: Arc<Blob, Global>,
     pub(crate) pin: Pin,
-    pub(crate) names: PhantomData<N>,
+    pub(crate) names: PhantomData<S>,
 }
 
-impl<'s, N: Naming> Model for Lease<'s, N> {
+impl<'s, S: Naming> Model for Lease<'s, S> {
     ghost use Rattle.std.specs.Prelude.{◌≡◌, true};
     ghost use Rattle.std.specs.Arc.{arc_value};
     ghost use Rattle.blob_digest.specs.Digests.{is_digest_of};
@@ -35,13 +35,13 @@ impl<'s, N: Naming> Model for Lease<'s, N> {
 
     ghost view = { λ l. record { bytes = blob_bytes (arc_value l.blob); hold = l.pin.hold } };
 
-    ghost invariant = { λ l. (l.pin.table ≡ N.table) × (l.pins.now ≡ N.table) × (is_digest_of l.pin.hold.digest (blob_bytes (arc_value l.blob)) ≡ true) };
+    ghost invariant = { λ l. (l.pin.table ≡ S.names.table) × (l.pins.now ≡ S.names.table) × (is_digest_of l.pin.hold.digest (blob_bytes (arc_value l.blob)) ≡ true) };
 }
 
-impl<'s, N: Naming> Lease<'s, N> {
+impl<'s, S: Naming> Lease<'s, S> {
     /// The lease of a blob's bytes by a pin on its slot.
-    pub(crate) fn new(pins: &'s Pins, blob: Arc<Blob, Global>, pin: Pin) -> Lease<'s, N>
-        requires table { (pin.table ≡ N.table) × (pins.now ≡ N.table) }
+    pub(crate) fn new(pins: &'s Pins, blob: Arc<Blob, Global>, pin: Pin) -> Lease<'s, S>
+        requires table { (pin.table ≡ S.names.table) × (pins.now ≡ S.names.table) }
         requires content { is_digest_of pin.hold.digest (blob_bytes (arc_value blob)) ≡ true }
         ensures { result ≡ record { bytes = blob_bytes (arc_value blob); hold = pin.hold } }
     {
@@ -110,7 +110,7 @@ impl<'s, N: Naming> Lease<'s, N> {
     ///
     /// Refused is want of memory, where the bytes have no room for a reader more, and a lease of weight 1
     /// (`WeightSpent`). The lease comes back as it was.
-    pub fn share(self) -> Result<(Lease<'s, N>, Lease<'s, N>), (Refusal, Lease<'s, N>)>
+    pub fn share(self) -> Result<(Lease<'s, S>, Lease<'s, S>), (Refusal, Lease<'s, S>)>
         ensures shared { IfOk result (λ r. (r.0 ≡ halved self.entry) × (r.1 ≡ halved self.entry)) }
         ensures more { OnOk result (self.entry.hold.weight ≢ 1) }
         ensures back { IfErr result (λ r. r.1 ≡ self.entry) }

@@ -8,14 +8,13 @@ use blob_digest::Refusal;
 use std::alloc::{AllocFailed, AllocGlobal};
 use std::process::Abort;
 use std::sync::Wait;
-use std::sync::ledger::Ledger;
 use std::thread::Threads;
 
 /// The most leases of a blob: as many times 1024 as are less than 2^30.
 const MOST: usize = 1_048_575;
 
 /// Gives all leases back.
-fn give_all<N: Naming>(leases: &mut Vec<Lease<'_, N>>)
+fn give_all<S: Naming>(leases: &mut Vec<Lease<'_, S>>)
     ensures { vec_len leases.new ≡ 0 }
 {
     while let Some(lease) = leases.pop() {
@@ -24,27 +23,19 @@ fn give_all<N: Naming>(leases: &mut Vec<Lease<'_, N>>)
 }
 
 /// Gives all leases back, and ends the list.
-fn give_all_back<N: Naming>(mut leases: Vec<Lease<'_, N>>) {
+fn give_all_back<S: Naming>(mut leases: Vec<Lease<'_, S>>) {
     give_all(&mut leases);
     leases.destroy_empty();
 }
 
-impl<
+impl<'s, S: Naming + Send + Sync, W: Abort + AllocGlobal + Threads + Wait + Sync> TestStore<
     's,
-    N: Naming + Send + Sync,
-    C: Ledger + Send + Sync,
-    R: Ledger + Send + Sync,
-    D: Ledger + Send + Sync,
-    A: Ledger + Send + Sync,
-    W: Abort + AllocGlobal + Threads + Wait + Sync,
-> TestStore<'s, N, C, R, D, A, W> {
+    S,
+    W,
+> {
     /// Lends `abc` again and again, and puts the leases into the list. What the first refused one was refused for, of
     /// one more than there can be.
-    fn lends_on(
-        &self,
-        desk: &mut Desk<C, R, D, A>,
-        leases: &mut Vec<Lease<'s, N>>,
-    ) -> Option<Refusal> {
+    fn lends_on(&self, desk: &mut Desk<S>, leases: &mut Vec<Lease<'s, S>>) -> Option<Refusal> {
         let repo = name(self.rt, ONE);
         let of = digest(self.rt, ABC);
         for _ in 0..MOST + 1 {

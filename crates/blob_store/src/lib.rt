@@ -9,12 +9,12 @@
 //! of a script once, in the order of the rows.
 #![tactic(auto)]
 
-mod carried;
-mod column;
+mod counter;
 mod counters;
 mod desk;
 #[cfg(test)]
 mod desk_tests;
+mod droppable_desk;
 mod kept;
 mod lease;
 #[cfg(test)]
@@ -43,10 +43,10 @@ mod thread_tests;
 mod totals;
 mod workers;
 
-pub use column::PARTS;
 pub use counters::Counters;
 pub use desk::{Desk, Settled};
-pub use kept::{Kept, MAX_DESKS};
+pub use droppable_desk::DroppableDesk;
+pub use kept::{Kept, LEDGER_PARTS, MAX_DESKS};
 pub use lease::Lease;
 pub use names::Naming;
 pub use parts::Parts;

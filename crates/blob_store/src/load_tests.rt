@@ -12,7 +12,6 @@ use std::alloc::AllocGlobal;
 use std::process::Abort;
 use std::sync::Wait;
 use std::sync::atomic::Ordering;
-use std::sync::ledger::Ledger;
 use std::thread;
 use std::thread::Threads;
 use store_book::Mount;
@@ -20,19 +19,15 @@ use store_book::Mount;
 /// How many rounds a thread plays.
 const ROUNDS: u32 = 1000;
 
-impl<
+impl<'s, S: Naming + Send + Sync, W: Abort + AllocGlobal + Threads + Wait + Sync> TestStore<
     's,
-    N: Naming + Send + Sync,
-    C: Ledger + Send + Sync,
-    R: Ledger + Send + Sync,
-    D: Ledger + Send + Sync,
-    A: Ledger + Send + Sync,
-    W: Abort + AllocGlobal + Threads + Wait + Sync,
-> TestStore<'s, N, C, R, D, A, W> {
+    S,
+    W,
+> {
     /// Makes a call on a session.
     fn makes(
         &self,
-        desk: &mut Desk<C, R, D, A>,
+        desk: &mut Desk<S>,
         repo: &str,
         number: u32,
         part: Part<'_>,
@@ -47,7 +42,7 @@ impl<
     /// Makes a call on a session of its own, again after each `Busy`.
     fn makes_at_last(
         &self,
-        desk: &mut Desk<C, R, D, A>,
+        desk: &mut Desk<S>,
         repo: &str,
         number: u32,
         part: Part<'_>,
@@ -63,7 +58,7 @@ impl<
     }
 
     /// Adds no bytes to the session of a neighbour, which may be at home, in hand or gone.
-    fn meddles(&self, desk: &mut Desk<C, R, D, A>, own: &mut Own, repo: &str, number: u32) {
+    fn meddles(&self, desk: &mut Desk<S>, own: &mut Own, repo: &str, number: u32) {
         match self.makes(desk, repo, number, Part::Append("")) {
             Ok(_) => own.add(1, 0, 0, 0),
             Err(Refusal::Busy) | Err(Refusal::UploadUnknown) => {}
@@ -72,7 +67,7 @@ impl<
     }
 
     /// Opens a session, and adds the first part.
-    fn begins(&self, desk: &mut Desk<C, R, D, A>, own: &mut Own, repo: &str) -> u32 {
+    fn begins(&self, desk: &mut Desk<S>, own: &mut Own, repo: &str) -> u32 {
         let number = self.start(desk, repo).expect(self.rt, "a session");
         let added = self.makes_at_last(desk, repo, number, Part::Append(repo));
         own.add(2, added.expect(self.rt, "a chunk"), 0, 0);
@@ -80,13 +75,7 @@ impl<
     }
 
     /// Closes the session with the rest, or gives it up where the store is full. Whether it was closed.
-    fn ends(
-        &self,
-        desk: &mut Desk<C, R, D, A>,
-        own: &mut Own,
-        upload: &Upload<'_>,
-        number: u32,
-    ) -> bool {
+    fn ends(&self, desk: &mut Desk<S>, own: &mut Own, upload: &Upload<'_>, number: u32) -> bool {
         let rest = upload.rest.as_str();
         let close = Part::Close(upload.of.as_str(), rest);
         match self.makes_at_last(desk, upload.repo, number, close) {
@@ -104,7 +93,7 @@ impl<
     }
 
     /// Finds the bytes that were uploaded, and gives the lease back.
-    fn reads_it(&self, upload: &Upload<'_>, lease: Lease<'s, N>) {
+    fn reads_it(&self, upload: &Upload<'_>, lease: Lease<'s, S>) {
         let mut out = [0; 64];
         let count = lease.read_at(0, &mut out);
         lease.give_back();
@@ -113,7 +102,7 @@ impl<
     }
 
     /// The same by two halves of the lease, one of which the book verifies.
-    fn reads_halves(&self, upload: &Upload<'_>, lease: Lease<'s, N>) {
+    fn reads_halves(&self, upload: &Upload<'_>, lease: Lease<'s, S>) {
         match lease.share() {
             Ok((left, right)) => {
                 self.reads_it(upload, self.store.verify(self.rt, left));
@@ -126,7 +115,7 @@ impl<
         }
     }
 
-    fn deletes(&self, desk: &mut Desk<C, R, D, A>, own: &mut Own, repo: &str, of: &str) {
+    fn deletes(&self, desk: &mut Desk<S>, own: &mut Own, repo: &str, of: &str) {
         assert!(self.rt; self.delete(desk, repo, of).is_ok());
         own.add(1, 0, 0, 0);
     }
@@ -134,7 +123,7 @@ impl<
     /// Leases the blob, takes its link away and reads it, by halves or as a whole.
     fn reads_after_the_delete(
         &self,
-        desk: &mut Desk<C, R, D, A>,
+        desk: &mut Desk<S>,
         own: &mut Own,
         upload: &Upload<'_>,
         halves: bool,
@@ -150,7 +139,7 @@ impl<
     }
 
     /// Puts a manifest that keeps the blob, gets it and deletes it.
-    fn keeps_by_a_manifest(&self, desk: &mut Desk<C, R, D, A>, own: &mut Own, upload: &Upload<'_>) {
+    fn keeps_by_a_manifest(&self, desk: &mut Desk<S>, own: &mut Own, upload: &Upload<'_>) {
         let rt = self.rt;
         let (repo, of) = (upload.repo, upload.of.as_str());
         let text = manifest_of(rt, of);
@@ -165,7 +154,7 @@ impl<
     }
 
     /// Mounts the blob, and takes the link to it away again.
-    fn mounts(&self, desk: &mut Desk<C, R, D, A>, own: &mut Own, upload: &Upload<'_>) {
+    fn mounts(&self, desk: &mut Desk<S>, own: &mut Own, upload: &Upload<'_>) {
         let (repo, of) = (upload.other, upload.of.as_str());
         let mounted = self.mount(desk, repo, of, upload.repo);
         assert!(self.rt; mounted == Ok(Mount::Mounted));
@@ -176,7 +165,7 @@ impl<
     /// A round of a thread.
     fn plays_round(
         &self,
-        desk: &mut Desk<C, R, D, A>,
+        desk: &mut Desk<S>,
         names: &Names,
         own: &mut Own,
         load: &Load,
@@ -276,7 +265,7 @@ impl<
     }
 
     /// A blob that is uploaded at once.
-    fn fills_a_slot(&self, desk: &mut Desk<C, R, D, A>, number: u32) -> Result<u64, Refusal> {
+    fn fills_a_slot(&self, desk: &mut Desk<S>, number: u32) -> Result<u64, Refusal> {
         let bytes = number.to_be_bytes();
         let digest = Digest::of(Algorithm::Sha256, bytes.as_slice());
         let of = format!(in self.rt.alloc(); "{digest}").expect(self.rt, "memory");

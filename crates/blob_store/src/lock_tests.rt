@@ -9,7 +9,6 @@ use std::alloc::AllocGlobal;
 use std::process::Abort;
 use std::sync::Wait;
 use std::sync::atomic::{AtomicBool, Ordering};
-use std::sync::ledger::Ledger;
 use std::thread;
 use std::thread::Threads;
 
@@ -57,17 +56,13 @@ fn great_manifest(rt: &(impl Abort + AllocGlobal)) -> Vec<u8> {
     text
 }
 
-impl<
+impl<'s, S: Naming + Send + Sync, W: Abort + AllocGlobal + Threads + Wait + Sync> TestStore<
     's,
-    N: Naming + Send + Sync,
-    C: Ledger + Send + Sync,
-    R: Ledger + Send + Sync,
-    D: Ledger + Send + Sync,
-    A: Ledger + Send + Sync,
-    W: Abort + AllocGlobal + Threads + Wait + Sync,
-> TestStore<'s, N, C, R, D, A, W> {
+    S,
+    W,
+> {
     /// Puts a manifest so often. Whether it was accepted each time.
-    fn puts(&self, desk: &mut Desk<C, R, D, A>, bytes: &[u8]) -> bool {
+    fn puts(&self, desk: &mut Desk<S>, bytes: &[u8]) -> bool {
         for _ in 0..PUTS {
             if self.put_manifest(desk, ONE, bytes).is_err() {
                 return false;
@@ -77,12 +72,7 @@ impl<
     }
 
     /// Makes a great call, and tells when it begins and ends. Whether it answered as it has to.
-    fn makes_great(
-        &self,
-        desks: &mut Vec<Desk<C, R, D, A>>,
-        call: Great<'_>,
-        progress: &Progress,
-    ) -> bool {
+    fn makes_great(&self, desks: &mut Vec<Desk<S>>, call: Great<'_>, progress: &Progress) -> bool {
         let Some(desk) = desks.first_mut() else {
             return false;
         };
@@ -115,7 +105,7 @@ impl<
     }
 
     /// Makes a great call, at times again, until another thread got through meanwhile.
-    fn lets_others_through(&self, desks: &mut Vec<Desk<C, R, D, A>>, call: Great<'_>) -> bool {
+    fn lets_others_through(&self, desks: &mut Vec<Desk<S>>, call: Great<'_>) -> bool {
         for _ in 0..ATTEMPTS {
             let progress = Progress {
                 begun: AtomicBool::new(false),

@@ -1,25 +1,60 @@
-//! The name of a store.
+//! The names of a store and of its ledgers.
 
-ghost use Rattle.std.specs.Prelude.{ℕ, []};
-ghost use Rattle.atomic_table.specs.Seated.{TableId};
-ghost use Rattle.blob_store.specs.Naming.{Setting};
+ghost use Rattle.blob_store.specs.Names.{StoreNames, unnamed};
 
-use std::marker::Brand;
+use std::marker::{Brand, PhantomData};
+use std::sync::ledger::Ledger;
 
-/// Which table of pins a store has, how many slots, and what it was made with. It has no values, and no code: a
-/// type that carries such a parameter belongs to the store of that name.
+/// Which store: the table of its pins, what it was made with, and its four ledgers. It has no values, and no code: a
+/// type that carries such a parameter belongs to the store of these names.
 pub trait Naming {
-    ghost table: { TableId };
-
-    ghost slots: { ℕ };
-
-    ghost setting: { Setting };
+    ghost names: { StoreNames };
 }
 
 impl Naming for Brand {
-    ghost table = { record { words = 0; slots = 0; views_name = 0; atom = 0; block = 0; offset = 0; slot_names = [] } };
+    ghost names = { unnamed };
+}
 
-    ghost slots = { 0 };
+/// The ledger of a store's accepted commands.
+pub struct Commands<S: Naming> {
+    of: PhantomData<S>,
+}
 
-    ghost setting = { record { tenants = []; slots = 0; max_blob = 0 } };
+impl<S: Naming> Ledger for Commands<S> {
+    ghost name = { S.names.commands.name };
+
+    ghost parts = { S.names.commands.parts };
+}
+
+/// The ledger of the bytes that a store received.
+pub struct Received<S: Naming> {
+    of: PhantomData<S>,
+}
+
+impl<S: Naming> Ledger for Received<S> {
+    ghost name = { S.names.received.name };
+
+    ghost parts = { S.names.received.parts };
+}
+
+/// The ledger of the bytes of a store's closed sessions.
+pub struct Closed<S: Naming> {
+    of: PhantomData<S>,
+}
+
+impl<S: Naming> Ledger for Closed<S> {
+    ghost name = { S.names.closed.name };
+
+    ghost parts = { S.names.closed.parts };
+}
+
+/// The ledger of the bytes of a store's abandoned sessions.
+pub struct Abandoned<S: Naming> {
+    of: PhantomData<S>,
+}
+
+impl<S: Naming> Ledger for Abandoned<S> {
+    ghost name = { S.names.abandoned.name };
+
+    ghost parts = { S.names.abandoned.parts };
 }

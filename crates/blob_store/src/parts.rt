@@ -3,7 +3,7 @@
 ghost use Rattle.std.specs.Prelude.{◌≡◌, IfOk, IfErr};
 ghost use Rattle.store_book.specs.Openings.{OpensBook, RefusesBook, tenants_shown};
 
-use crate::column::PARTS;
+use crate::kept::LEDGER_PARTS;
 use blob_digest::Refusal;
 use pin_table::Pins;
 use std::alloc::Global;
@@ -11,8 +11,8 @@ use std::marker::Model;
 use std::sync::ledger::Blank;
 use store_book::{Book, Config};
 
-/// The parts of a store: a new book with its pins, and four new ledgers. No type names them yet, which is
-/// done by `Store::new`.
+/// The parts of a store: a new book with its pins, and four new ledgers. No type names them yet: `Store::new`
+/// does.
 #[derive(Drop)]
 pub struct Parts {
     pub(crate) alloc: Global,
@@ -27,11 +27,12 @@ pub struct Parts {
 impl Model for Parts {
     ghost use Rattle.std.specs.Prelude.{◌≡◌};
     ghost use Rattle.std.specs.FinMap.{empty};
-    ghost use Rattle.blob_store.specs.Naming.{Parted, coded_parted};
+    ghost use Rattle.blob_store.specs.Totals.{ledger_parts};
+    ghost use Rattle.blob_store.specs.Parts.{PartsView, coded_parts};
 
-    ghost Value = { Parted };
+    ghost Value = { PartsView };
 
-    ghost coded = { coded_parted };
+    ghost coded = { coded_parts };
 
     ghost view = { λ p. record {
       book = p.book;
@@ -41,7 +42,7 @@ impl Model for Parts {
       abandoned = record { name = p.abandoned.name; parts = p.abandoned.parts };
     } };
 
-    ghost invariant = { λ p. (p.book.table ≡ p.pins) × (p.book.catalog.sessions ≡ empty) × (p.commands.parts ≡ 1025) × (p.received.parts ≡ 1025) × (p.closed.parts ≡ 1025) × (p.abandoned.parts ≡ 1025) };
+    ghost invariant = { λ p. (p.book.table ≡ p.pins) × (p.book.catalog.sessions ≡ empty) × (p.commands.parts ≡ ledger_parts) × (p.received.parts ≡ ledger_parts) × (p.closed.parts ≡ ledger_parts) × (p.abandoned.parts ≡ ledger_parts) };
 }
 
 impl Parts {
@@ -49,7 +50,7 @@ impl Parts {
     /// free.
     ///
     /// Refused, in this order: a tenant's name that is no component of a repository's name or comes
-    /// twice (`NameInvalid`); a count, a quota or a size beyond its limit (`LimitReached`); want of
+    /// twice (`NameInvalid`); a count, a quota or a size beyond its limit (`LimitReached`); out of
     /// memory.
     pub fn new(alloc: Global, config: &Config) -> Result<Parts, Refusal>
         ensures opened { IfOk result (λ p. OpensBook (tenants_shown config.now.tenants.items) config.now.slots config.now.max_blob config.now.first_generation p.book) }
@@ -60,10 +61,10 @@ impl Parts {
             alloc,
             book,
             pins,
-            commands: Blank::new(PARTS),
-            received: Blank::new(PARTS),
-            closed: Blank::new(PARTS),
-            abandoned: Blank::new(PARTS),
+            commands: Blank::new(LEDGER_PARTS),
+            received: Blank::new(LEDGER_PARTS),
+            closed: Blank::new(LEDGER_PARTS),
+            abandoned: Blank::new(LEDGER_PARTS),
         })
     }
 }

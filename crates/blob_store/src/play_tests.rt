@@ -10,7 +10,6 @@ use std::alloc::AllocGlobal;
 use std::process::Abort;
 use std::sync::Wait;
 use std::sync::atomic::{AtomicBool, AtomicU32, Ordering};
-use std::sync::ledger::Ledger;
 use std::thread::Threads;
 
 /// How often a gate was asked about a row.
@@ -23,14 +22,14 @@ struct Asked {
 /// How often a gate was asked about each row, and whether ever about another lane than the row's, or after a row
 /// before it was asked before it.
 #[derive(Drop)]
-struct Tally<'r> {
+struct CounterView<'r> {
     rows: &'r [Row],
     asked: Vec<Asked>,
     wrong: AtomicBool,
 }
 
-impl<'r> Tally<'r> {
-    fn new(rt: &(impl Abort + AllocGlobal), rows: &'r [Row]) -> Tally<'r> {
+impl<'r> CounterView<'r> {
+    fn new(rt: &(impl Abort + AllocGlobal), rows: &'r [Row]) -> CounterView<'r> {
         let mut asked = Vec::new(rt.alloc());
         for _ in rows {
             let none = Asked {
@@ -39,7 +38,7 @@ impl<'r> Tally<'r> {
             };
             asked.push(none).expect(rt, "memory");
         }
-        Tally {
+        CounterView {
             rows,
             asked,
             wrong: AtomicBool::new(false),
@@ -71,7 +70,7 @@ impl<'r> Tally<'r> {
     }
 }
 
-impl<'r> Gate for Tally<'r> {
+impl<'r> Gate for CounterView<'r> {
     fn before(&self, lane: u8, row: usize) {
         match self.of(lane, row) {
             Some(asked) => {
@@ -96,7 +95,7 @@ impl<'r> Gate for Tally<'r> {
 /// A gate at which the first rows of two lanes, which are the first two of the script, wait for each other.
 #[derive(Drop)]
 struct Meeting<'r> {
-    tally: Tally<'r>,
+    tally: CounterView<'r>,
     zero: AtomicBool,
     one: AtomicBool,
     missed: AtomicBool,
@@ -262,15 +261,11 @@ fn texts(rt: &(impl Abort + AllocGlobal), lines: &[Line]) -> Vec<&'static str> {
     texts
 }
 
-impl<
+impl<'s, S: Naming + Send + Sync, W: Abort + AllocGlobal + Threads + Wait + Sync> TestStore<
     's,
-    N: Naming + Send + Sync,
-    C: Ledger + Send + Sync,
-    R: Ledger + Send + Sync,
-    D: Ledger + Send + Sync,
-    A: Ledger + Send + Sync,
-    W: Abort + AllocGlobal + Threads + Wait + Sync,
-> TestStore<'s, N, C, R, D, A, W> {
+    S,
+    W,
+> {
     /// Plays lines by so many workers, and finds the replies that they have to give. What was settled.
     fn plays_lines<G: Gate + Send + Sync>(
         &self,
@@ -294,7 +289,7 @@ impl<
         let rt = self.rt;
         let rows = rows_of(rt, LINES.as_slice());
         let gate = Meeting {
-            tally: Tally::new(rt, rows.as_slice()),
+            tally: CounterView::new(rt, rows.as_slice()),
             zero: AtomicBool::new(false),
             one: AtomicBool::new(false),
             missed: AtomicBool::new(false),
@@ -317,7 +312,7 @@ impl<
     pub fn one_worker(&self) {
         let rt = self.rt;
         let rows = rows_of(rt, COUNTED.as_slice());
-        let gate = Tally::new(rt, rows.as_slice());
+        let gate = CounterView::new(rt, rows.as_slice());
         let settled = self.plays_lines(COUNTED.as_slice(), rows.as_slice(), 1, &gate);
         assert!(rt; gate.is_whole());
         let sums = Settled {

@@ -2,22 +2,21 @@
 ghost use Rattle.std.specs.Prelude.{ℕ, ◌≡◌, ◌⊎◌, ◌+◌, ◌<◌, ◌≤◌, [], IfOk, IfErr, true, length, map, vec_len, vec_capacity};
 ghost use Rattle.blob_digest.specs.declared.refusal.Refusal.TheVariants.{LimitReached, Memory};
 ghost use Rattle.blob_store.specs.Totals.{Amounts, nothing, sum_of};
-ghost use Rattle.blob_store.specs.Workers.{AllAt, ArePlayed, AreSettled, IsPlayed, IsReady, IsTurn};
+ghost use Rattle.blob_store.specs.Workers.{AllAt, ArePlayed, AreSettled, IsPlayed, IsReady, IsWorkerAt};
 ghost use Rattle.row_player.specs.Answers.{answers_of};
 ghost use Rattle.row_player.specs.RowViews.{row_view};
 ghost use Rattle.row_player.specs.Shares.{own_answers, own_rows};
 
-use crate::carried::{Carried, carry, set_down};
 use crate::desk::{Desk, Settled};
+use crate::droppable_desk::DroppableDesk;
 use crate::names::Naming;
 use crate::store::Store;
-use crate::workers::{Ended, Job, Outcome, play_all};
+use crate::workers::{Job, Outcome, WorkersDone, play_all};
 use blob_digest::Refusal;
 use row_player::{Gate, Reply, Row, Worker, in_row_order};
 use std::alloc::Global;
 use std::sync::Wait;
 use std::sync::atomic::AtomicBool;
-use std::sync::ledger::Ledger;
 use std::thread::Threads;
 
 /// The most workers that play a script.
@@ -49,19 +48,19 @@ fn lists_for(alloc: Global, rows: &[Row], workers: usize) -> Result<Vec<Vec<Repl
 
 /// The jobs of all workers, the last one first: each has a desk and room for its replies. The two vectors that
 /// these come from are left empty, with the room that they had.
-fn jobs_of<C: Ledger, R: Ledger, D: Ledger, A: Ledger>(
+fn jobs_of<S: Naming>(
     rows: &[Row],
-    desks: &mut Vec<Desk<C, R, D, A>>,
+    desks: &mut Vec<Desk<S>>,
     lists: &mut Vec<Vec<Reply>>,
-    mut jobs: Vec<Job<C, R, D, A>>,
-) -> Vec<Job<C, R, D, A>>
+    mut jobs: Vec<Job<S>>,
+) -> Vec<Job<S>>
     requires fresh { sum_of desks.old.items ≡ nothing }
     requires lists { (vec_len lists.old ≡ vec_len desks.old) × AllAt (λ w l. (l.items ≡ []) × (length (own_rows (vec_len desks.old) w (map row_view rows.now)) ≤ vec_capacity l)) lists.old.items }
     requires room { (vec_len jobs ≡ 0) × (vec_len desks.old ≤ vec_capacity jobs) }
     ensures len { vec_len result ≡ vec_len desks.old }
     ensures desks { (vec_len desks.new ≡ 0) × (vec_capacity desks.new ≡ vec_capacity desks.old) }
     ensures emptied { (vec_len lists.new ≡ 0) × (vec_capacity lists.new ≡ vec_capacity lists.old) }
-    ensures ready { AllAt (λ k j. IsTurn (vec_len desks.old) k j.worker.workers j.worker.number × IsReady (vec_len desks.old) j.worker.number (map row_view rows.now) j.desk j.replies.items (vec_capacity j.replies)) result.items }
+    ensures ready { AllAt (λ k j. IsWorkerAt (vec_len desks.old) k j.worker.workers j.worker.number × IsReady (vec_len desks.old) j.worker.number (map row_view rows.now) j.desk j.replies.items (vec_capacity j.replies)) result.items }
 {
     let workers = desks.len();
     while let Some(desk) = desks.pop() {
@@ -70,7 +69,7 @@ fn jobs_of<C: Ledger, R: Ledger, D: Ledger, A: Ledger>(
             unreachable!()
         };
         jobs.push_reserved(Job {
-            desk: carry(desk),
+            desk: desk.into_droppable(),
             replies,
             worker: Worker { workers, number },
         });
@@ -78,45 +77,42 @@ fn jobs_of<C: Ledger, R: Ledger, D: Ledger, A: Ledger>(
     jobs
 }
 
-/// Takes the workers' desks and replies out of what they ended with, the first one first, and tells whether all
-/// came to the end of their rows.
-fn collect<C: Ledger, R: Ledger, D: Ledger, A: Ledger>(
+/// Takes the workers' desks and replies out of what they ended with, the first one first, and returns whether all
+/// played all of their rows.
+fn collect<S: Naming>(
     rows: &[Row],
     workers: usize,
-    mut outcomes: Vec<Outcome<C, R, D, A>>,
-    desks: &mut Vec<Desk<C, R, D, A>>,
+    mut outcomes: Vec<Outcome<S>>,
+    desks: &mut Vec<Desk<S>>,
     lists: &mut Vec<Vec<Reply>>,
 ) -> bool
-    requires each { AllAt (λ k o. (w : ℕ) → w + k + 1 ≡ vec_len outcomes → o.whole ≡ true → IsPlayed workers w (map row_view rows.now) o.desk (answers_of o.replies.items)) outcomes.items }
+    requires each { AllAt (λ k o. (w : ℕ) → w + k + 1 ≡ vec_len outcomes → o.completed ≡ true → IsPlayed workers w (map row_view rows.now) o.desk (answers_of o.replies.items)) outcomes.items }
     requires room { (vec_len desks.old ≡ 0) × (vec_len outcomes ≤ vec_capacity desks.old) × (vec_len lists.old ≡ 0) × (vec_len outcomes ≤ vec_capacity lists.old) }
     ensures len { (vec_len desks.new ≡ vec_len outcomes) × (vec_len lists.new ≡ vec_len outcomes) }
     ensures capacity { vec_capacity desks.new ≡ vec_capacity desks.old }
     ensures played { result ≡ true → ArePlayed workers (map row_view rows.now) desks.new.items (map (λ v. answers_of v.items) lists.new.items) }
 {
-    let mut whole = true;
+    let mut completed = true;
     while let Some(outcome) = outcomes.pop() {
         let Outcome {
             desk,
             replies,
-            whole: ended,
+            completed: ended,
         } = outcome;
-        desks.push_reserved(set_down(desk));
+        desks.push_reserved(desk.into_desk());
         lists.push_reserved(replies);
-        whole &= ended;
+        completed &= ended;
     }
-    whole
+    completed
 }
 
-/// Sets down the desks of workers that were not started.
-fn set_down_all<C: Ledger, R: Ledger, D: Ledger, A: Ledger>(
-    mut spent: Vec<Carried<C, R, D, A>>,
-    desks: &mut Vec<Desk<C, R, D, A>>,
-)
-    requires room { vec_len desks.old + vec_len spent ≤ vec_capacity desks.old }
-    ensures none { vec_len spent ≡ 0 → desks.new.items ≡ desks.old.items }
+/// Adds the desks of workers that were not started.
+fn add_desks<S: Naming>(mut unstarted: Vec<DroppableDesk<S>>, desks: &mut Vec<Desk<S>>)
+    requires room { vec_len desks.old + vec_len unstarted ≤ vec_capacity desks.old }
+    ensures none { vec_len unstarted ≡ 0 → desks.new.items ≡ desks.old.items }
 {
-    while let Some(desk) = spent.pop() {
-        desks.push_reserved(set_down(desk));
+    while let Some(desk) = unstarted.pop() {
+        desks.push_reserved(desk.into_desk());
     }
 }
 
@@ -129,18 +125,10 @@ fn set_down_all<C: Ledger, R: Ledger, D: Ledger, A: Ledger>(
 /// All room for desks and replies is made before a worker is started. Refused, in this order: more than
 /// 1,024 desks that would be out (`LimitReached`); want of memory. Where memory is wanting, for a row or for a
 /// thread, the rows that were accepted before it stand, all leases are given back, and all desks are settled.
-pub fn play<
-    W: Threads + Wait + Sync,
-    G: Gate + Send + Sync,
-    N: Naming + Send + Sync,
-    C: Ledger + Send + Sync,
-    R: Ledger + Send + Sync,
-    D: Ledger + Send + Sync,
-    A: Ledger + Send + Sync,
->(
+pub fn play<W: Threads + Wait + Sync, G: Gate + Send + Sync, S: Naming + Send + Sync>(
     rt: &W,
     alloc: Global,
-    store: &Store<N, C, R, D, A>,
+    store: &Store<S>,
     rows: &[Row],
     workers: usize,
     gate: &G,
@@ -154,17 +142,20 @@ pub fn play<
     let mut lists = lists_for(alloc, rows, workers)?;
     let merged = Vec::with_capacity(alloc, rows.len())?;
     let jobs = Vec::with_capacity(alloc, workers)?;
-    let room = Ended {
+    let room = WorkersDone {
         outcomes: Vec::with_capacity(alloc, workers)?,
-        spent: Vec::with_capacity(alloc, workers)?,
+        unstarted: Vec::with_capacity(alloc, workers)?,
     };
     let mut desks = store.desks(rt, workers as u64)?;
     let jobs = jobs_of(rows, &mut desks, &mut lists, jobs);
     let halt = AtomicBool::new(false);
-    let Ended { outcomes, spent } = play_all(rt, alloc, store, gate, rows, &halt, jobs, room);
-    let started = spent.is_empty();
+    let WorkersDone {
+        outcomes,
+        unstarted,
+    } = play_all(rt, alloc, store, gate, rows, &halt, jobs, room);
+    let started = unstarted.is_empty();
     let ended = collect(rows, workers, outcomes, &mut desks, &mut lists);
-    set_down_all(spent, &mut desks);
+    add_desks(unstarted, &mut desks);
     let settled = store.settle(rt, desks);
     if started && ended {
         Ok(Played {

@@ -9,22 +9,21 @@ use blob_digest::{ByteRange, Digest, Refusal, RepoName};
 use oci_manifest::Manifest;
 use row_player::{Backend, BlobLease, Piece};
 use std::alloc::Global;
-use std::sync::ledger::Ledger;
 use std::sync::{Arc, Wait};
 use store_book::{Mount, Swept};
 
 /// A store with a worker's desk, on which rows are played. Each request is the store's call of its name;
 /// contracts see what the desk gets by it.
-pub struct Seat<'s, W: Wait, N: Naming, C: Ledger, R: Ledger, D: Ledger, A: Ledger> {
+pub struct Seat<'s, W: Wait, S: Naming> {
     /// What the calls wait by.
     pub rt: &'s W,
     /// The store.
-    pub store: &'s Store<N, C, R, D, A>,
+    pub store: &'s Store<S>,
     /// The worker's desk.
-    pub desk: Desk<C, R, D, A>,
+    pub desk: Desk<S>,
 }
 
-impl<'s, N: Naming> BlobLease for Lease<'s, N> {
+impl<'s, S: Naming> BlobLease for Lease<'s, S> {
     ghost use Rattle.row_player.specs.Leases.{Lent};
 
     ghost lent = { λ l. record { bytes = l.bytes; weight = l.hold.weight } };
@@ -38,7 +37,7 @@ impl<'s, N: Naming> BlobLease for Lease<'s, N> {
         Ok(Piece::new(blob, start, end))
     }
 
-    fn share(self) -> Result<(Lease<'s, N>, Lease<'s, N>), (Refusal, Lease<'s, N>)> {
+    fn share(self) -> Result<(Lease<'s, S>, Lease<'s, S>), (Refusal, Lease<'s, S>)> {
         Lease::share(self)
     }
 
@@ -47,9 +46,8 @@ impl<'s, N: Naming> BlobLease for Lease<'s, N> {
     }
 }
 
-impl<'s, W: Wait, N: Naming, C: Ledger, R: Ledger, D: Ledger, A: Ledger> Backend
-    for Seat<'s, W, N, C, R, D, A> {
-    type Lease = Lease<'s, N>;
+impl<'s, W: Wait, S: Naming> Backend for Seat<'s, W, S> {
+    type Lease = Lease<'s, S>;
 
     ghost use Rattle.blob_store.specs.Seats.{SeatActs};
 
@@ -122,12 +120,12 @@ impl<'s, W: Wait, N: Naming, C: Ledger, R: Ledger, D: Ledger, A: Ledger> Backend
             .delete_manifest(self.rt, &mut self.desk, repo, digest)
     }
 
-    fn lease(&mut self, repo: &RepoName, digest: &Digest) -> Result<Lease<'s, N>, Refusal> {
+    fn lease(&mut self, repo: &RepoName, digest: &Digest) -> Result<Lease<'s, S>, Refusal> {
         let store = self.store;
         store.lease(self.rt, &mut self.desk, repo, digest)
     }
 
-    fn verify(&mut self, lease: Lease<'s, N>) -> Lease<'s, N> {
+    fn verify(&mut self, lease: Lease<'s, S>) -> Lease<'s, S> {
         let store = self.store;
         store.verify(self.rt, lease)
     }

@@ -10,7 +10,7 @@ ghost use Rattle.store_model.specs.BookText.{book_text};
 ghost use Rattle.store_book.specs.SlotSteps.{HasPin};
 ghost use Rattle.store_model.specs.Sweep.{IsSweep};
 ghost use Rattle.blob_store.specs.Found.{InSomeBook};
-ghost use Rattle.blob_store.specs.Naming.{setting_of};
+ghost use Rattle.blob_store.specs.Parts.{names_of};
 ghost use Rattle.blob_store.specs.Totals.{nothing, plus, one, sum_of};
 ghost use Rattle.blob_digest.specs.declared.refusal.Refusal.TheVariants.{LimitReached, ManifestInvalid, Memory, NameUnknown, SizeInvalid};
 
@@ -27,7 +27,7 @@ use pin_table::Pins;
 use std::alloc::Global;
 use std::hint::spin_loop;
 use std::io::{self, Write};
-use std::sync::ledger::Ledger;
+use std::marker::Model;
 use std::sync::{Arc, Mutex, MutexGuard, Wait};
 use store_book::{Mount, Swept};
 use upload_table::Hand;
@@ -41,23 +41,33 @@ use upload_table::Hand;
 ///
 /// A command can't be counted where, with those in hand, 2^64 would be accepted or 2^64 bytes received.
 #[derive(Drop)]
-pub struct Store<N: Naming, C: Ledger, R: Ledger, D: Ledger, A: Ledger> {
+pub struct Store<S: Naming> {
     pins: Pins,
-    kept: Mutex<Kept<N, C, R, D, A>>,
+    kept: Mutex<Kept<S>>,
     alloc: Global,
-    ghost named: { pins ≡ N.table },
+}
+
+impl<S: Naming> Model for Store<S> {
+    ghost use Rattle.std.specs.Prelude.{◌≡◌};
+    ghost use Rattle.atomic_table.specs.Seated.{TableId};
+
+    ghost Value = { TableId };
+
+    ghost view = { λ s. s.pins };
+
+    ghost invariant = { λ s. s.pins ≡ S.names.table };
 }
 
 /// How often the lock is tried before a thread sleeps until it is free.
-const TRIES: u32 = 20;
+const LOCK_TRIES: u32 = 20;
 
-/// How many turns a thread waits from one try to the next: the time of some commands, so that whoever has the lock
+/// How often a thread spins from one try to the next: the time of some commands, so that whoever has the lock
 /// may come back to it while the book's memory is still near.
-const TURNS: u32 = 1000;
+const SPINS_PER_TRY: u32 = 1000;
 
 /// Waits for a moment, without letting the processor go.
-fn pause() {
-    for _ in 0..TURNS {
+fn spin_wait() {
+    for _ in 0..SPINS_PER_TRY {
         spin_loop();
     }
 }
@@ -75,16 +85,10 @@ fn fill_in(hand: Hand, bytes: &[u8], last: Option<Algorithm>) -> Result<Hand, Ha
     }
 }
 
-impl<N: Naming, C: Ledger, R: Ledger, D: Ledger, A: Ledger> Store<N, C, R, D, A> {
-    /// The store of these parts, which the type parameters name: the table of the pins with its slots, what the book
-    /// was made with, and the ledgers of accepted commands, of bytes received, closed and abandoned.
-    pub fn new(parts: Parts) -> Store<N, C, R, D, A>
-        requires pins { (parts.book.table ≡ N.table) × (length parts.book.slots ≡ N.slots) }
-        requires setting { setting_of parts.book.catalog ≡ N.setting }
-        requires commands { (parts.commands.name ≡ C.name) × (parts.commands.parts ≡ C.parts) }
-        requires received { (parts.received.name ≡ R.name) × (parts.received.parts ≡ R.parts) }
-        requires closed { (parts.closed.name ≡ D.name) × (parts.closed.parts ≡ D.parts) }
-        requires abandoned { (parts.abandoned.name ≡ A.name) × (parts.abandoned.parts ≡ A.parts) }
+impl<S: Naming> Store<S> {
+    /// The store of these parts, whose names are those that the type parameter says.
+    pub fn new(parts: Parts) -> Store<S>
+        requires named { names_of parts ≡ S.names }
     {
         let Parts {
             alloc,
@@ -105,12 +109,12 @@ impl<N: Naming, C: Ledger, R: Ledger, D: Ledger, A: Ledger> Store<N, C, R, D, A>
 
     /// The lock, once it is free. Most commands hold it for a microsecond, so it is tried some times before the
     /// thread sleeps, which with its wake costs several times that.
-    fn locked(&self, rt: &impl Wait) -> MutexGuard<'_, Kept<N, C, R, D, A>> {
-        for _ in 0..TRIES {
+    fn locked(&self, rt: &impl Wait) -> MutexGuard<'_, Kept<S>> {
+        for _ in 0..LOCK_TRIES {
             if let Some(kept) = self.kept.try_lock() {
                 return kept;
             }
-            pause();
+            spin_wait();
         }
         self.kept.lock(rt)
     }
@@ -119,7 +123,7 @@ impl<N: Naming, C: Ledger, R: Ledger, D: Ledger, A: Ledger> Store<N, C, R, D, A>
     ///
     /// Refused, in this order: no desks, or more than 1,024 that would be out (`LimitReached`); want of
     /// memory.
-    pub fn desks(&self, rt: &impl Wait, count: u64) -> Result<Vec<Desk<C, R, D, A>>, Refusal>
+    pub fn desks(&self, rt: &impl Wait, count: u64) -> Result<Vec<Desk<S>>, Refusal>
         ensures made { IfOk result (λ v. (vec_len v ≡ count) × (sum_of v.items ≡ nothing)) }
         ensures limit { (count ≡ 0) ⊎ (1024 < count) → MatchResult result (λ _. ⊥) (λ e. e ≡ LimitReached) }
         ensures refused { IfErr result (λ e. (e ≡ LimitReached) ⊎ (e ≡ Memory)) }
@@ -129,7 +133,7 @@ impl<N: Naming, C: Ledger, R: Ledger, D: Ledger, A: Ledger> Store<N, C, R, D, A>
 
     /// Settles desks: the sums of their shares, and the number of desks still out. Where that is 0, the totals
     /// are the sums of all shares settled so far.
-    pub fn settle(&self, rt: &impl Wait, desks: Vec<Desk<C, R, D, A>>) -> Settled
+    pub fn settle(&self, rt: &impl Wait, desks: Vec<Desk<S>>) -> Settled
         ensures { (result.commands ≡ (sum_of desks.items).commands) × (result.received ≡ (sum_of desks.items).received) × (result.closed ≡ (sum_of desks.items).closed) × (result.abandoned ≡ (sum_of desks.items).abandoned) }
     {
         self.locked(rt).settle(desks)
@@ -148,12 +152,7 @@ impl<N: Naming, C: Ledger, R: Ledger, D: Ledger, A: Ledger> Store<N, C, R, D, A>
     /// Refused, in this order: a command that can't be counted (`LimitReached`); a tenant that is not there
     /// (`NameUnknown`); a tenant that has 1,024 repositories where this one is new, or 64 sessions, or no session
     /// number left (`LimitReached`); want of memory.
-    pub fn start(
-        &self,
-        rt: &impl Wait,
-        desk: &mut Desk<C, R, D, A>,
-        repo: &RepoName,
-    ) -> Result<u32, Refusal>
+    pub fn start(&self, rt: &impl Wait, desk: &mut Desk<S>, repo: &RepoName) -> Result<u32, Refusal>
         ensures ok { OnOk result (desk.new ≡ plus desk.old (one 0 0 0)) }
         ensures err { OnErr result (desk.new ≡ desk.old) }
     {
@@ -168,7 +167,7 @@ impl<N: Naming, C: Ledger, R: Ledger, D: Ledger, A: Ledger> Store<N, C, R, D, A>
     pub fn status(
         &self,
         rt: &impl Wait,
-        desk: &mut Desk<C, R, D, A>,
+        desk: &mut Desk<S>,
         repo: &RepoName,
         number: u32,
     ) -> Result<u64, Refusal>
@@ -216,7 +215,7 @@ impl<N: Naming, C: Ledger, R: Ledger, D: Ledger, A: Ledger> Store<N, C, R, D, A>
     pub fn append(
         &self,
         rt: &impl Wait,
-        desk: &mut Desk<C, R, D, A>,
+        desk: &mut Desk<S>,
         repo: &RepoName,
         number: u32,
         range: Option<ByteRange>,
@@ -242,7 +241,7 @@ impl<N: Naming, C: Ledger, R: Ledger, D: Ledger, A: Ledger> Store<N, C, R, D, A>
     pub fn close(
         &self,
         rt: &impl Wait,
-        desk: &mut Desk<C, R, D, A>,
+        desk: &mut Desk<S>,
         repo: &RepoName,
         number: u32,
         digest: &Digest,
@@ -267,7 +266,7 @@ impl<N: Naming, C: Ledger, R: Ledger, D: Ledger, A: Ledger> Store<N, C, R, D, A>
     pub fn abandon(
         &self,
         rt: &impl Wait,
-        desk: &mut Desk<C, R, D, A>,
+        desk: &mut Desk<S>,
         repo: &RepoName,
         number: u32,
     ) -> Result<u64, Refusal>
@@ -288,7 +287,7 @@ impl<N: Naming, C: Ledger, R: Ledger, D: Ledger, A: Ledger> Store<N, C, R, D, A>
     pub fn mount(
         &self,
         rt: &impl Wait,
-        desk: &mut Desk<C, R, D, A>,
+        desk: &mut Desk<S>,
         repo: &RepoName,
         digest: &Digest,
         from: Option<&RepoName>,
@@ -308,7 +307,7 @@ impl<N: Naming, C: Ledger, R: Ledger, D: Ledger, A: Ledger> Store<N, C, R, D, A>
     pub fn delete(
         &self,
         rt: &impl Wait,
-        desk: &mut Desk<C, R, D, A>,
+        desk: &mut Desk<S>,
         repo: &RepoName,
         digest: &Digest,
     ) -> Result<(), Refusal>
@@ -330,7 +329,7 @@ impl<N: Naming, C: Ledger, R: Ledger, D: Ledger, A: Ledger> Store<N, C, R, D, A>
     pub fn put_manifest(
         &self,
         rt: &impl Wait,
-        desk: &mut Desk<C, R, D, A>,
+        desk: &mut Desk<S>,
         repo: &RepoName,
         bytes: &[u8],
     ) -> Result<Digest, Refusal>
@@ -355,7 +354,7 @@ impl<N: Naming, C: Ledger, R: Ledger, D: Ledger, A: Ledger> Store<N, C, R, D, A>
     pub fn get_manifest(
         &self,
         rt: &impl Wait,
-        desk: &mut Desk<C, R, D, A>,
+        desk: &mut Desk<S>,
         repo: &RepoName,
         digest: &Digest,
     ) -> Result<Arc<Manifest, Global>, Refusal>
@@ -374,7 +373,7 @@ impl<N: Naming, C: Ledger, R: Ledger, D: Ledger, A: Ledger> Store<N, C, R, D, A>
     pub fn delete_manifest(
         &self,
         rt: &impl Wait,
-        desk: &mut Desk<C, R, D, A>,
+        desk: &mut Desk<S>,
         repo: &RepoName,
         digest: &Digest,
     ) -> Result<(), Refusal>
@@ -392,10 +391,10 @@ impl<N: Naming, C: Ledger, R: Ledger, D: Ledger, A: Ledger> Store<N, C, R, D, A>
     pub fn lease(
         &self,
         rt: &impl Wait,
-        desk: &mut Desk<C, R, D, A>,
+        desk: &mut Desk<S>,
         repo: &RepoName,
         digest: &Digest,
-    ) -> Result<Lease<'_, N>, Refusal>
+    ) -> Result<Lease<'_, S>, Refusal>
         ensures ok { OnOk result (desk.new ≡ plus desk.old (one 0 0 0)) }
         ensures err { OnErr result (desk.new ≡ desk.old) }
         ensures leased { IfOk result (λ l. (l.hold.digest ≡ digest.now) × (l.hold.weight ≡ 1024)) }
@@ -408,16 +407,16 @@ impl<N: Naming, C: Ledger, R: Ledger, D: Ledger, A: Ledger> Store<N, C, R, D, A>
     /// that no lease holds. It goes over the slots once, and takes no memory. What it answers is the count of a
     /// sweep of a sound book.
     pub fn sweep(&self, rt: &impl Wait) -> Swept
-        ensures { InSomeBook N.slots N.setting (λ b. (C : Catalog) × IsSweep b.catalog result C) }
+        ensures { InSomeBook S.names.slots S.names.setting (λ b. (C : Catalog) × IsSweep b.catalog result C) }
     {
         self.locked(rt).sweep(&self.pins)
     }
 
     /// The lease with all that it had. Under the lock its slot is found used, in its generation, with its
     /// digest. It takes no memory.
-    pub fn verify<'s>(&'s self, rt: &impl Wait, lease: Lease<'s, N>) -> Lease<'s, N>
+    pub fn verify<'s>(&'s self, rt: &impl Wait, lease: Lease<'s, S>) -> Lease<'s, S>
         ensures same { result ≡ lease.entry }
-        ensures kept { InSomeBook N.slots N.setting (HasPin lease.entry.hold) }
+        ensures kept { InSomeBook S.names.slots S.names.setting (HasPin lease.entry.hold) }
     {
         let Lease {
             pins,
@@ -432,7 +431,7 @@ impl<N: Naming, C: Ledger, R: Ledger, D: Ledger, A: Ledger> Store<N, C, R, D, A>
     /// The word of a slot: its generation, what it is, and the sum of the weights of the leases on it. It
     /// takes no memory.
     pub fn word(&self, rt: &impl Wait, slot: u32) -> u64
-        requires { slot < N.slots }
+        requires { slot < S.names.slots }
     {
         self.locked(rt).word(&self.pins, slot)
     }
@@ -442,7 +441,7 @@ impl<N: Naming, C: Ledger, R: Ledger, D: Ledger, A: Ledger> Store<N, C, R, D, A>
     ///
     /// Refused is what the writer refuses.
     pub fn print<W: Write>(&self, rt: &impl Wait, writer: &mut W) -> io::Result<()>
-        ensures { OnOk result (InSomeBook N.slots N.setting (λ b. Appends (W.contents writer.old) (W.contents writer.new) (book_text b.catalog))) }
+        ensures { OnOk result (InSomeBook S.names.slots S.names.setting (λ b. Appends (W.contents writer.old) (W.contents writer.new) (book_text b.catalog))) }
     {
         self.locked(rt).print(writer)
     }

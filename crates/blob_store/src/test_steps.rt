@@ -6,9 +6,9 @@ use crate::{Desk, Lease, Naming, Store};
 use blob_digest::{Algorithm, ByteRange, Digest, Refusal, RepoName};
 use std::alloc::AllocGlobal;
 use std::fmt::Debug;
+use std::marker::Model;
 use std::process::Abort;
 use std::sync::Wait;
-use std::sync::ledger::Ledger;
 use std::thread::Threads;
 use store_book::{Config, Mount, Swept};
 
@@ -109,42 +109,40 @@ fn is_text(rt: &(impl Abort + AllocGlobal), found: &str, wanted: &str) -> Result
 
 /// A store of so many slots, with what runs the test.
 #[derive(Drop)]
-pub struct TestStore<
-    's,
-    N: Naming + Send + Sync,
-    C: Ledger + Send + Sync,
-    R: Ledger + Send + Sync,
-    D: Ledger + Send + Sync,
-    A: Ledger + Send + Sync,
-    W: Abort + AllocGlobal + Threads + Wait + Sync,
-> {
+pub struct TestStore<'s, S: Naming + Send + Sync, W: Abort + AllocGlobal + Threads + Wait + Sync> {
     pub rt: &'s W,
-    pub store: &'s Store<N, C, R, D, A>,
+    pub store: &'s Store<S>,
     pub slots: u32,
-    pub ghost there: { slots ≤ N.slots },
 }
 
-impl<
+impl<'s, S: Naming + Send + Sync, W: Abort + AllocGlobal + Threads + Wait + Sync> Model
+    for TestStore<'s, S, W> {
+    ghost use Rattle.std.specs.Prelude.{ℕ, ◌≤◌};
+
+    ghost Value = { ℕ };
+
+    ghost view = { λ t. t.slots };
+
+    ghost invariant = { λ t. t.slots ≤ S.names.slots };
+}
+
+impl<'s, S: Naming + Send + Sync, W: Abort + AllocGlobal + Threads + Wait + Sync> TestStore<
     's,
-    N: Naming + Send + Sync,
-    C: Ledger + Send + Sync,
-    R: Ledger + Send + Sync,
-    D: Ledger + Send + Sync,
-    A: Ledger + Send + Sync,
-    W: Abort + AllocGlobal + Threads + Wait + Sync,
-> TestStore<'s, N, C, R, D, A, W> {
-    pub fn start(&self, desk: &mut Desk<C, R, D, A>, repo: &str) -> Result<u32, Refusal> {
+    S,
+    W,
+> {
+    pub fn start(&self, desk: &mut Desk<S>, repo: &str) -> Result<u32, Refusal> {
         self.store.start(self.rt, desk, &name(self.rt, repo))
     }
 
-    fn status(&self, desk: &mut Desk<C, R, D, A>, repo: &str, number: u32) -> Result<u64, Refusal> {
+    fn status(&self, desk: &mut Desk<S>, repo: &str, number: u32) -> Result<u64, Refusal> {
         self.store
             .status(self.rt, desk, &name(self.rt, repo), number)
     }
 
     pub fn append(
         &self,
-        desk: &mut Desk<C, R, D, A>,
+        desk: &mut Desk<S>,
         repo: &str,
         number: u32,
         places: &str,
@@ -158,7 +156,7 @@ impl<
 
     pub fn close(
         &self,
-        desk: &mut Desk<C, R, D, A>,
+        desk: &mut Desk<S>,
         repo: &str,
         number: u32,
         of: &str,
@@ -172,19 +170,14 @@ impl<
             .close(self.rt, desk, &repo, number, &of, places, bytes)
     }
 
-    pub fn abandon(
-        &self,
-        desk: &mut Desk<C, R, D, A>,
-        repo: &str,
-        number: u32,
-    ) -> Result<u64, Refusal> {
+    pub fn abandon(&self, desk: &mut Desk<S>, repo: &str, number: u32) -> Result<u64, Refusal> {
         self.store
             .abandon(self.rt, desk, &name(self.rt, repo), number)
     }
 
     pub fn mount(
         &self,
-        desk: &mut Desk<C, R, D, A>,
+        desk: &mut Desk<S>,
         repo: &str,
         of: &str,
         from: &str,
@@ -195,14 +188,14 @@ impl<
             .mount(self.rt, desk, &name(self.rt, repo), &of, from.as_ref())
     }
 
-    pub fn delete(&self, desk: &mut Desk<C, R, D, A>, repo: &str, of: &str) -> Result<(), Refusal> {
+    pub fn delete(&self, desk: &mut Desk<S>, repo: &str, of: &str) -> Result<(), Refusal> {
         let of = digest(self.rt, of);
         self.store.delete(self.rt, desk, &name(self.rt, repo), &of)
     }
 
     pub fn put_manifest(
         &self,
-        desk: &mut Desk<C, R, D, A>,
+        desk: &mut Desk<S>,
         repo: &str,
         bytes: &[u8],
     ) -> Result<Digest, Refusal> {
@@ -213,7 +206,7 @@ impl<
     /// What a get of the manifest of these bytes answers, as a text.
     pub fn get_manifest(
         &self,
-        desk: &mut Desk<C, R, D, A>,
+        desk: &mut Desk<S>,
         repo: &str,
         bytes: &[u8],
     ) -> Result<String, Refusal> {
@@ -227,7 +220,7 @@ impl<
 
     pub fn delete_manifest(
         &self,
-        desk: &mut Desk<C, R, D, A>,
+        desk: &mut Desk<S>,
         repo: &str,
         bytes: &[u8],
     ) -> Result<(), Refusal> {
@@ -257,7 +250,7 @@ impl<
     }
 
     /// Plays a step. What is told is its answer, where that isn't the one wanted.
-    fn goes(&self, desk: &mut Desk<C, R, D, A>, step: &Step) -> Result<(), String> {
+    fn goes(&self, desk: &mut Desk<S>, step: &Step) -> Result<(), String> {
         let rt = self.rt;
         match step {
             Step::Start(repo, wanted) => is(rt, &self.start(desk, repo), wanted),
@@ -328,7 +321,7 @@ impl<
 
     /// Plays a table of commands on one desk. Where an answer isn't the one wanted, both are told, and the step's
     /// number from 1.
-    pub fn plays(&self, desk: &mut Desk<C, R, D, A>, steps: &[Step]) {
+    pub fn plays(&self, desk: &mut Desk<S>, steps: &[Step]) {
         let rt = self.rt;
         for (place, step) in steps.iter().enumerate() {
             if let Err(told) = self.goes(desk, step) {
@@ -339,7 +332,7 @@ impl<
     }
 
     /// A lease of a blob that a repository holds.
-    pub fn leases_from(&self, desk: &mut Desk<C, R, D, A>, repo: &str, of: &str) -> Lease<'s, N> {
+    pub fn leases_from(&self, desk: &mut Desk<S>, repo: &str, of: &str) -> Lease<'s, S> {
         let of = digest(self.rt, of);
         self.store
             .lease(self.rt, desk, &name(self.rt, repo), &of)
@@ -347,7 +340,7 @@ impl<
     }
 
     /// A lease of a blob that `acme/one` holds.
-    pub fn leases(&self, desk: &mut Desk<C, R, D, A>, of: &str) -> Lease<'s, N> {
+    pub fn leases(&self, desk: &mut Desk<S>, of: &str) -> Lease<'s, S> {
         self.leases_from(desk, ONE, of)
     }
 }

@@ -1,7 +1,7 @@
 //! Worked examples on a store that has names.
 
 ghost use Rattle.std.specs.Prelude.{◌≡◌, ◌≤◌, length};
-ghost use Rattle.blob_store.specs.Naming.{setting_of};
+ghost use Rattle.blob_store.specs.Parts.{names_of};
 
 use crate::test_steps::{ABC, OBJ, ONE, Step, TWO, TestStore, config};
 use crate::{Lease, Naming, Parts, Settled, Store, Totals};
@@ -10,7 +10,6 @@ use std::alloc::AllocGlobal;
 use std::marker::Brand;
 use std::process::Abort;
 use std::sync::Wait;
-use std::sync::ledger::Ledger;
 use std::thread::Threads;
 use store_book::{Config, Mount};
 
@@ -39,6 +38,7 @@ enum Scene {
     TwoWorkers,
     OneWorker,
     AllDesks,
+    SentDesk,
     MostLeases,
     GreatChunks,
     Refusals,
@@ -56,15 +56,11 @@ impl Scene {
     }
 }
 
-impl<
+impl<'s, S: Naming + Send + Sync, W: Abort + AllocGlobal + Threads + Wait + Sync> TestStore<
     's,
-    N: Naming + Send + Sync,
-    C: Ledger + Send + Sync,
-    R: Ledger + Send + Sync,
-    D: Ledger + Send + Sync,
-    A: Ledger + Send + Sync,
-    W: Abort + AllocGlobal + Threads + Wait + Sync,
-> TestStore<'s, N, C, R, D, A, W> {
+    S,
+    W,
+> {
     /// So many desks are refused.
     pub fn refuses_desks(&self, count: u64) {
         let rt = self.rt;
@@ -191,7 +187,7 @@ impl<
     }
 
     /// Finds what a lease of `abc` in slot 0 tells, and reads it.
-    fn reads(&self, lease: &Lease<'s, N>) {
+    fn reads(&self, lease: &Lease<'s, S>) {
         let rt = self.rt;
         assert_eq!(rt; lease.len(), 3);
         assert!(rt; lease.digest() == crate::test_steps::digest(rt, ABC));
@@ -242,7 +238,7 @@ impl<
     }
 
     /// A lease of half the weight; the other half is given back.
-    fn half(&self, lease: Lease<'s, N>) -> Lease<'s, N> {
+    fn half(&self, lease: Lease<'s, S>) -> Lease<'s, S> {
         match lease.share() {
             Ok((left, right)) => {
                 right.give_back();
@@ -288,23 +284,16 @@ impl<
 }
 
 /// A scene on the store of these parts.
-fn play<
-    N: Naming + Send + Sync,
-    C: Ledger + Send + Sync,
-    R: Ledger + Send + Sync,
-    D: Ledger + Send + Sync,
-    A: Ledger + Send + Sync,
-    W: Abort + AllocGlobal + Threads + Wait + Sync,
->(rt: &W, parts: Parts, slots: u32, scene: Scene)
-    requires pins { (parts.book.table ≡ N.table) × (length parts.book.slots ≡ N.slots) }
-    requires setting { setting_of parts.book.catalog ≡ N.setting }
+fn play<S: Naming + Send + Sync, W: Abort + AllocGlobal + Threads + Wait + Sync>(
+    rt: &W,
+    parts: Parts,
+    slots: u32,
+    scene: Scene,
+)
+    requires named { names_of parts ≡ S.names }
     requires there { slots ≤ length parts.book.slots }
-    requires commands { (parts.commands.name ≡ C.name) × (parts.commands.parts ≡ C.parts) }
-    requires received { (parts.received.name ≡ R.name) × (parts.received.parts ≡ R.parts) }
-    requires closed { (parts.closed.name ≡ D.name) × (parts.closed.parts ≡ D.parts) }
-    requires abandoned { (parts.abandoned.name ≡ A.name) × (parts.abandoned.parts ≡ A.parts) }
 {
-    let store = Store::<N, C, R, D, A>::new(parts);
+    let store = Store::<S>::new(parts);
     let test = TestStore {
         rt,
         store: &store,
@@ -323,6 +312,7 @@ fn play<
         Scene::TwoWorkers => test.two_workers(),
         Scene::OneWorker => test.one_worker(),
         Scene::AllDesks => test.all_desks(),
+        Scene::SentDesk => test.sends_a_desk(),
         Scene::MostLeases => test.lends_the_most(),
         Scene::GreatChunks => test.fills_without_the_lock(),
         Scene::Refusals => test.refusals(),
@@ -342,7 +332,7 @@ fn play_on_a_store<W: Abort + AllocGlobal + Threads + Wait + Sync>(
         limit(&mut config, 8, 10);
     }
     let parts = Parts::new(rt.alloc(), &config).expect(rt, "parts");
-    play::<Brand, Brand, Brand, Brand, Brand, W>(rt, parts, config.slots, scene);
+    play::<Brand, W>(rt, parts, config.slots, scene);
 }
 
 #[test]
@@ -383,6 +373,11 @@ fn a_gate_is_asked_before_and_after_each_row(rt: HostRuntime) {
 #[test]
 fn all_desks_are_out_at_once(rt: HostRuntime) {
     play_on_a_store(&rt, &["acme", "other"], Scene::AllDesks);
+}
+
+#[test]
+fn a_desk_is_sent_to_a_thread_and_back(rt: HostRuntime) {
+    play_on_a_store(&rt, &["acme"], Scene::SentDesk);
 }
 
 #[test]

@@ -8,7 +8,6 @@ use std::io::Write;
 use std::process::Abort;
 use std::sync::Wait;
 use std::sync::atomic::{AtomicBool, Ordering};
-use std::sync::ledger::Ledger;
 use std::thread::Threads;
 use std::{io, thread};
 
@@ -61,17 +60,13 @@ impl<'f> Write for Slow<'f> {
     }
 }
 
-impl<
+impl<'s, S: Naming + Send + Sync, W: Abort + AllocGlobal + Threads + Wait + Sync> TestStore<
     's,
-    N: Naming + Send + Sync,
-    C: Ledger + Send + Sync,
-    R: Ledger + Send + Sync,
-    D: Ledger + Send + Sync,
-    A: Ledger + Send + Sync,
-    W: Abort + AllocGlobal + Threads + Wait + Sync,
-> TestStore<'s, N, C, R, D, A, W> {
+    S,
+    W,
+> {
     /// Appends a chunk, again after each `Busy`. Whether it was accepted.
-    fn appends(&self, desk: &mut Desk<C, R, D, A>, number: u32, chunk: &[u8]) -> bool {
+    fn appends(&self, desk: &mut Desk<S>, number: u32, chunk: &[u8]) -> bool {
         for _ in 0..MAX_TURNS {
             match self.append(desk, ONE, number, "", chunk) {
                 Ok(_) => return true,
@@ -85,7 +80,7 @@ impl<
     /// Appends chunks until the other thread met one on its way. How many were accepted.
     fn appends_chunks(
         &self,
-        desks: &mut Vec<Desk<C, R, D, A>>,
+        desks: &mut Vec<Desk<S>>,
         number: u32,
         met: &AtomicBool,
         ended: &AtomicBool,
@@ -109,7 +104,7 @@ impl<
     /// Appends no bytes until that is answered Busy. How often it was accepted before, where it was met.
     fn meets_a_chunk(
         &self,
-        desks: &mut Vec<Desk<C, R, D, A>>,
+        desks: &mut Vec<Desk<S>>,
         number: u32,
         met: &AtomicBool,
         ended: &AtomicBool,
@@ -135,12 +130,7 @@ impl<
 
     /// One thread appends chunks to a session, until another that appends no bytes is answered that the session
     /// is busy. How many chunks were accepted, and how often no bytes were.
-    fn meets(
-        &self,
-        one: &mut Vec<Desk<C, R, D, A>>,
-        two: &mut Vec<Desk<C, R, D, A>>,
-        number: u32,
-    ) -> (u64, u64) {
+    fn meets(&self, one: &mut Vec<Desk<S>>, two: &mut Vec<Desk<S>>, number: u32) -> (u64, u64) {
         let met = AtomicBool::new(false);
         let ended = AtomicBool::new(false);
         let (chunks, empty) = thread::join(
@@ -180,7 +170,7 @@ impl<
     }
 
     /// Leases the blob, reads it and gives it back while the text is being written. Whether it could.
-    fn reads_meanwhile(&self, desks: &mut Vec<Desk<C, R, D, A>>, flags: &Flags) -> bool {
+    fn reads_meanwhile(&self, desks: &mut Vec<Desk<S>>, flags: &Flags) -> bool {
         let Some(desk) = desks.first_mut() else {
             return false;
         };

@@ -3,7 +3,7 @@ use Rattle.std.specs.Prelude.{◌≡◌, ◌⊎◌, ◌<◌, ◌≤◌, ℕ, Lis
 use Rattle.std.specs.Io.KnownBytes.{Appends, Consumes}
 use Rattle.finite_maps.specs.Texts.{Text}
 use Rattle.blob_digest.specs.Tenants.{Tenant}
-use Rattle.blob_store.specs.Naming.{setting_of}
+use Rattle.blob_store.specs.Names.{setting_of}
 use Rattle.blob_store.specs.Totals.{Amounts}
 use Rattle.blob_store.specs.Workers.{IsPlayed}
 use Rattle.blobctl.specs.Inputs.{IsTooLong, max_script}

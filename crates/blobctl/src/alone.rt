@@ -12,9 +12,8 @@ ghost use Rattle.store_model.specs.Catalog.{Catalog};
 ghost use Rattle.store_book.specs.Openings.{OpensCatalog, tenants_shown};
 
 use crate::options::Options;
-use crate::pinned_book::PinnedBook;
+use crate::pinned_book::{PinnedBook, PinsName};
 use blob_digest::Refusal;
-use blob_store::Naming;
 use pin_table::Pins;
 use row_player::{Reply, Row, play};
 use std::alloc::Global;
@@ -22,7 +21,7 @@ use std::marker::{Brand, PhantomData};
 use store_book::Book;
 
 /// Plays all rows on a book with the words of its slots, which one pin table names.
-fn play_in<N: Naming>(
+fn play_in<N: PinsName>(
     alloc: Global,
     book: Book,
     pins: &Pins,

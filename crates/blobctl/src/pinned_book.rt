@@ -1,19 +1,29 @@
 //! A book with its pins as what rows are played on, and the leases of its blobs.
-ghost use Rattle.std.specs.Prelude.{◌≡◌};
+ghost use Rattle.std.specs.Prelude.{◌≡◌, []};
+ghost use Rattle.atomic_table.specs.Seated.{TableId};
 
 use blob_digest::{Blob, ByteRange, Digest, Refusal, RepoName};
-use blob_store::Naming;
 use oci_manifest::Manifest;
 use pin_table::{Pin, Pins};
 use row_player::{Backend, BlobLease, Piece};
 use std::alloc::Global;
-use std::marker::PhantomData;
+use std::marker::{Brand, PhantomData};
 use std::sync::Arc;
 use store_book::{Book, Mount, Swept};
 
+/// Which table of pins. It has no values, and no code: a book and a lease that carry such a parameter have their pins
+/// in the table of that name.
+pub trait PinsName {
+    ghost table: { TableId };
+}
+
+impl PinsName for Brand {
+    ghost table = { record { words = 0; slots = 0; views_name = 0; atom = 0; block = 0; offset = 0; slot_names = [] } };
+}
+
 /// A book with the words of its slots.
 #[derive(Drop)]
-pub struct PinnedBook<'p, N: Naming> {
+pub struct PinnedBook<'p, N: PinsName> {
     pub book: Book,
     pub pins: &'p Pins,
     pub table: PhantomData<N>,
@@ -22,7 +32,7 @@ pub struct PinnedBook<'p, N: Naming> {
 }
 
 /// A lease of a blob: a share of its bytes, and a pin on its slot. It must be given back or shared.
-pub struct BookLease<'p, N: Naming> {
+pub struct BookLease<'p, N: PinsName> {
     pins: &'p Pins,
     blob: Arc<Blob, Global>,
     pin: Pin,
@@ -31,7 +41,7 @@ pub struct BookLease<'p, N: Naming> {
     ghost there: { pins.now ≡ N.table },
 }
 
-impl<'p, N: Naming> BlobLease for BookLease<'p, N> {
+impl<'p, N: PinsName> BlobLease for BookLease<'p, N> {
     ghost use Rattle.std.specs.Arc.{arc_value};
     ghost use Rattle.row_player.specs.Leases.{Lent};
 
@@ -94,7 +104,7 @@ impl<'p, N: Naming> BlobLease for BookLease<'p, N> {
     }
 }
 
-impl<'p, N: Naming> Backend for PinnedBook<'p, N> {
+impl<'p, N: PinsName> Backend for PinnedBook<'p, N> {
     type Lease = BookLease<'p, N>;
 
     ghost use Rattle.blobctl.specs.Played.{Acts};

@@ -1,10 +1,10 @@
 //! Rows played by several workers on a store that they share.
-ghost use Rattle.std.specs.Prelude.{◌≡◌, ◌≢◌, ◌⊎◌, IfErr, OnOk, length, map};
+ghost use Rattle.std.specs.Prelude.{◌≡◌, ◌≢◌, ◌⊎◌, IfErr, OnOk, map};
 ghost use Rattle.std.specs.Io.KnownBytes.{Appends};
 ghost use Rattle.finite_maps.specs.Texts.{Text};
 ghost use Rattle.blobctl.specs.Ending.{PlayedTogether};
 ghost use Rattle.blobctl.specs.Options.{CanWork, IsWithin};
-ghost use Rattle.blob_store.specs.Naming.{setting_of};
+ghost use Rattle.blob_store.specs.Parts.{names_of};
 ghost use Rattle.row_player.specs.RowViews.{row_view};
 ghost use Rattle.store_book.specs.Openings.{OpensBook, tenants_shown};
 
@@ -17,20 +17,11 @@ use std::alloc::Global;
 use std::io::Write;
 use std::marker::Brand;
 use std::sync::Wait;
-use std::sync::ledger::Ledger;
 use std::thread::Threads;
 
-/// Plays all rows by workers on the store of these parts, which were made by the options and which the type
-/// parameters name, and writes the replies and then the book.
-fn play_on<
-    T: Threads + Wait + Sync,
-    W: Write,
-    N: Naming + Send + Sync,
-    C: Ledger + Send + Sync,
-    R: Ledger + Send + Sync,
-    D: Ledger + Send + Sync,
-    A: Ledger + Send + Sync,
->(
+/// Plays all rows by workers on the store of these parts, which were made by the options and whose names are those that
+/// the type parameter says, and writes the replies and then the book.
+fn play_on<T: Threads + Wait + Sync, W: Write, S: Naming + Send + Sync>(
     rt: &T,
     alloc: Global,
     writer: &mut W,
@@ -40,17 +31,12 @@ fn play_on<
 ) -> Result<(), Fault>
     requires workers { CanWork options.now.workers }
     requires opened { OpensBook (tenants_shown options.now.store.tenants.items) options.now.store.slots options.now.store.max_blob options.now.store.first_generation parts.book }
-    requires pins { (parts.book.table ≡ N.table) × (length parts.book.slots ≡ N.slots) }
-    requires setting { setting_of parts.book.catalog ≡ N.setting }
-    requires commands { (parts.commands.name ≡ C.name) × (parts.commands.parts ≡ C.parts) }
-    requires received { (parts.received.name ≡ R.name) × (parts.received.parts ≡ R.parts) }
-    requires closed { (parts.closed.name ≡ D.name) × (parts.closed.parts ≡ D.parts) }
-    requires abandoned { (parts.abandoned.name ≡ A.name) × (parts.abandoned.parts ≡ A.parts) }
+    requires named { names_of parts ≡ S.names }
     ensures played { OnOk result ((text : Text) × Appends (W.contents writer.old) (W.contents writer.new) text × PlayedTogether options.now.workers (tenants_shown options.now.store.tenants.items) options.now.store.slots options.now.store.max_blob (map row_view rows.now) text) }
     ensures silent { IfErr result (λ e. e ≢ Fault.Write → writer.new ≡ writer.old) }
     ensures refused { IfErr result (λ e. (e ≡ Fault.Memory) ⊎ (e ≡ Fault.Write)) }
 {
-    let store = Store::<N, C, R, D, A>::new(parts);
+    let store = Store::<S>::new(parts);
     let Ok(played) = play(rt, alloc, &store, rows, options.workers, &OpenGate) else {
         return Err(Fault::Memory);
     };
@@ -81,5 +67,5 @@ pub fn play_together<T: Threads + Wait + Sync, W: Write>(
     let Ok(parts) = Parts::new(alloc, &options.store) else {
         return Err(Fault::Memory);
     };
-    play_on::<T, W, Brand, Brand, Brand, Brand, Brand>(rt, alloc, writer, parts, options, rows)
+    play_on::<T, W, Brand>(rt, alloc, writer, parts, options, rows)
 }

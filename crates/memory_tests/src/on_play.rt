@@ -1,7 +1,7 @@
 //! A script that two workers play.
 
-ghost use Rattle.std.specs.Prelude.{◌≡◌, length};
-ghost use Rattle.blob_store.specs.Naming.{setting_of};
+ghost use Rattle.std.specs.Prelude.{◌≡◌};
+ghost use Rattle.blob_store.specs.Parts.{names_of};
 
 use crate::attempt::{Answer, Found, print_found, refused, whether};
 use crate::commands::config;
@@ -13,7 +13,6 @@ use std::alloc::{AllocGlobal, Global};
 use std::io::Print;
 use std::marker::Brand;
 use std::sync::Wait;
-use std::sync::ledger::Ledger;
 use std::thread::Threads;
 use store_book::Swept;
 
@@ -50,11 +49,11 @@ struct Target {
 
 /// A store that workers play on, and a desk beside theirs.
 #[derive(Drop)]
-struct Shared<'s, 'd, N: Naming, C: Ledger, R: Ledger, D: Ledger, A: Ledger, W: Wait> {
+struct Shared<'s, 'd, S: Naming, W: Wait> {
     rt: &'s W,
     alloc: Global,
-    store: &'s Store<N, C, R, D, A>,
-    desk: &'d mut Desk<C, R, D, A>,
+    store: &'s Store<S>,
+    desk: &'d mut Desk<S>,
     targets: &'s [Target],
 }
 
@@ -122,16 +121,7 @@ fn are_wanted(rows: &[Row], replies: &[Reply]) -> bool {
             .all(|(row, reply)| is_wanted(row, reply))
 }
 
-impl<
-    's,
-    'd,
-    N: Naming + Send + Sync,
-    C: Ledger + Send + Sync,
-    R: Ledger + Send + Sync,
-    D: Ledger + Send + Sync,
-    A: Ledger + Send + Sync,
-    W: Threads + Wait + Sync,
-> Shared<'s, 'd, N, C, R, D, A, W> {
+impl<'s, 'd, S: Naming + Send + Sync, W: Threads + Wait + Sync> Shared<'s, 'd, S, W> {
     /// Opens a session.
     fn start(&mut self, target: &Target) -> Result<u32, Refusal> {
         self.store.start(self.rt, self.desk, &target.repo)
@@ -209,18 +199,11 @@ fn targets(alloc: Global) -> Result<Vec<Target>, Stopped> {
 }
 
 /// The script at the first of some desks.
-fn play_at<
-    N: Naming + Send + Sync,
-    C: Ledger + Send + Sync,
-    R: Ledger + Send + Sync,
-    D: Ledger + Send + Sync,
-    A: Ledger + Send + Sync,
-    W: Print + Threads + Wait + Sync,
->(
+fn play_at<S: Naming + Send + Sync, W: Print + Threads + Wait + Sync>(
     rt: &W,
     alloc: Global,
-    store: &Store<N, C, R, D, A>,
-    desks: &mut [Desk<C, R, D, A>],
+    store: &Store<S>,
+    desks: &mut [Desk<S>],
     targets: &[Target],
 ) -> Result<(), Stopped> {
     let Some(desk) = desks.first_mut() else {
@@ -238,22 +221,15 @@ fn play_at<
 }
 
 /// The script on the store of these parts.
-fn play_in<
-    W: Print + Threads + Wait + Sync,
-    N: Naming + Send + Sync,
-    C: Ledger + Send + Sync,
-    R: Ledger + Send + Sync,
-    D: Ledger + Send + Sync,
-    A: Ledger + Send + Sync,
->(rt: &W, alloc: Global, parts: Parts, targets: &[Target]) -> Result<(), Stopped>
-    requires pins { (parts.book.table ≡ N.table) × (length parts.book.slots ≡ N.slots) }
-    requires setting { setting_of parts.book.catalog ≡ N.setting }
-    requires commands { (parts.commands.name ≡ C.name) × (parts.commands.parts ≡ C.parts) }
-    requires received { (parts.received.name ≡ R.name) × (parts.received.parts ≡ R.parts) }
-    requires closed { (parts.closed.name ≡ D.name) × (parts.closed.parts ≡ D.parts) }
-    requires abandoned { (parts.abandoned.name ≡ A.name) × (parts.abandoned.parts ≡ A.parts) }
+fn play_in<W: Print + Threads + Wait + Sync, S: Naming + Send + Sync>(
+    rt: &W,
+    alloc: Global,
+    parts: Parts,
+    targets: &[Target],
+) -> Result<(), Stopped>
+    requires named { names_of parts ≡ S.names }
 {
-    let store = Store::<N, C, R, D, A>::new(parts);
+    let store = Store::<S>::new(parts);
     let mut desks = store.desks(rt, 1)?;
     let played = play_at(rt, alloc, &store, desks.as_mut_slice(), targets);
     let _ = store.settle(rt, desks);
@@ -268,5 +244,5 @@ pub fn play_on_play<W: AllocGlobal + Print + Threads + Wait + Sync>(rt: &W) -> R
     config.tenants.push((other, 1000))?;
     let targets = targets(alloc)?;
     let parts = Parts::new(alloc, &config)?;
-    play_in::<W, Brand, Brand, Brand, Brand, Brand>(rt, alloc, parts, targets.as_slice())
+    play_in::<W, Brand>(rt, alloc, parts, targets.as_slice())
 }

@@ -1,7 +1,7 @@
 //! The commands on a store that threads share, from one desk.
 
 ghost use Rattle.std.specs.Prelude.{◌≡◌, length};
-ghost use Rattle.blob_store.specs.Naming.{setting_of};
+ghost use Rattle.blob_store.specs.Parts.{names_of};
 
 use crate::attempt::{Answer, Calls, judged, play, refused, whether};
 use crate::commands::{Command, Names, commands, config};
@@ -10,9 +10,8 @@ use blob_digest::{Algorithm, ByteRange, Digest, Refusal, RepoName};
 use blob_store::{Desk, Lease, Naming, Parts, Store, Totals};
 use std::alloc::{AllocGlobal, Global};
 use std::io::Print;
-use std::marker::Brand;
+use std::marker::{Brand, Model};
 use std::sync::Wait;
-use std::sync::ledger::Ledger;
 use store_book::Mount;
 
 /// Room for the text of a book, in bytes.
@@ -30,10 +29,20 @@ const NOTHING: Totals = Totals {
 
 /// A store of four slots.
 #[derive(Drop)]
-struct Shared<'s, N: Naming, C: Ledger, R: Ledger, D: Ledger, A: Ledger, W: Wait> {
+struct Shared<'s, S: Naming, W: Wait> {
     rt: &'s W,
-    store: &'s Store<N, C, R, D, A>,
-    ghost four: { N.slots ≡ 4 },
+    store: &'s Store<S>,
+}
+
+impl<'s, S: Naming, W: Wait> Model for Shared<'s, S, W> {
+    ghost use Rattle.std.specs.Prelude.{◌≡◌};
+    ghost use Rattle.atomic_table.specs.Seated.{TableId};
+
+    ghost Value = { TableId };
+
+    ghost view = { λ s. s.store.now };
+
+    ghost invariant = { λ _. S.names.slots ≡ 4 };
 }
 
 /// What can be seen of a store: the text of its book, the words of its slots, its totals, and a desk's shares.
@@ -47,16 +56,16 @@ struct Seen {
 
 /// The commands that a store is given, and what was seen of it.
 #[derive(Drop)]
-struct OnStore<'h, 's, 'd, 'c, 'n, N: Naming, C: Ledger, R: Ledger, D: Ledger, A: Ledger, W: Wait> {
-    shared: &'h Shared<'s, N, C, R, D, A, W>,
-    desk: &'d mut Desk<C, R, D, A>,
+struct OnStore<'h, 's, 'd, 'c, 'n, S: Naming, W: Wait> {
+    shared: &'h Shared<'s, S, W>,
+    desk: &'d mut Desk<S>,
     commands: &'c [Command<'n>],
     before: Seen,
     after: Seen,
 }
 
 /// The shares of a desk.
-fn shares<C: Ledger, R: Ledger, D: Ledger, A: Ledger>(desk: &Desk<C, R, D, A>) -> [u64; 4] {
+fn shares<S: Naming>(desk: &Desk<S>) -> [u64; 4] {
     [
         desk.commands(),
         desk.received(),
@@ -66,22 +75,14 @@ fn shares<C: Ledger, R: Ledger, D: Ledger, A: Ledger>(desk: &Desk<C, R, D, A>) -
 }
 
 /// Gives both halves of a lease back, and answers whether they are halves.
-fn give_back_both<'s, N: Naming>(left: Lease<'s, N>, right: Lease<'s, N>) -> bool {
+fn give_back_both<'s, S: Naming>(left: Lease<'s, S>, right: Lease<'s, S>) -> bool {
     let halves = left.weight() == 512 && right.weight() == 512;
     left.give_back();
     right.give_back();
     halves
 }
 
-impl<'s, N: Naming, C: Ledger, R: Ledger, D: Ledger, A: Ledger, W: Wait> Shared<
-    's,
-    N,
-    C,
-    R,
-    D,
-    A,
-    W,
-> {
+impl<'s, S: Naming, W: Wait> Shared<'s, S, W> {
     fn word(&self, slot: u32) -> u64 {
         if slot < 4 {
             self.store.word(self.rt, slot)
@@ -90,13 +91,13 @@ impl<'s, N: Naming, C: Ledger, R: Ledger, D: Ledger, A: Ledger, W: Wait> Shared<
         }
     }
 
-    fn start(&self, desk: &mut Desk<C, R, D, A>, repo: &RepoName) -> Result<u32, Refusal> {
+    fn start(&self, desk: &mut Desk<S>, repo: &RepoName) -> Result<u32, Refusal> {
         self.store.start(self.rt, desk, repo)
     }
 
     fn append(
         &self,
-        desk: &mut Desk<C, R, D, A>,
+        desk: &mut Desk<S>,
         repo: &RepoName,
         number: u32,
         range: Option<ByteRange>,
@@ -107,7 +108,7 @@ impl<'s, N: Naming, C: Ledger, R: Ledger, D: Ledger, A: Ledger, W: Wait> Shared<
 
     fn close(
         &self,
-        desk: &mut Desk<C, R, D, A>,
+        desk: &mut Desk<S>,
         repo: &RepoName,
         number: u32,
         digest: &Digest,
@@ -120,7 +121,7 @@ impl<'s, N: Naming, C: Ledger, R: Ledger, D: Ledger, A: Ledger, W: Wait> Shared<
 
     fn mount(
         &self,
-        desk: &mut Desk<C, R, D, A>,
+        desk: &mut Desk<S>,
         repo: &RepoName,
         digest: &Digest,
         from: Option<&RepoName>,
@@ -130,14 +131,14 @@ impl<'s, N: Naming, C: Ledger, R: Ledger, D: Ledger, A: Ledger, W: Wait> Shared<
 
     fn put_manifest(
         &self,
-        desk: &mut Desk<C, R, D, A>,
+        desk: &mut Desk<S>,
         repo: &RepoName,
         bytes: &[u8],
     ) -> Result<Digest, Refusal> {
         self.store.put_manifest(self.rt, desk, repo, bytes)
     }
 
-    fn get_manifest(&self, desk: &mut Desk<C, R, D, A>, repo: &RepoName, bytes: &[u8]) -> Answer {
+    fn get_manifest(&self, desk: &mut Desk<S>, repo: &RepoName, bytes: &[u8]) -> Answer {
         let digest = Digest::of(Algorithm::Sha256, bytes);
         match self.store.get_manifest(self.rt, desk, repo, &digest) {
             Ok(manifest) => whether(manifest.bytes() == bytes),
@@ -146,13 +147,7 @@ impl<'s, N: Naming, C: Ledger, R: Ledger, D: Ledger, A: Ledger, W: Wait> Shared<
     }
 
     /// Leases a blob, and gives the lease back.
-    fn lease(
-        &self,
-        desk: &mut Desk<C, R, D, A>,
-        repo: &RepoName,
-        digest: &Digest,
-        bytes: &[u8],
-    ) -> Answer {
+    fn lease(&self, desk: &mut Desk<S>, repo: &RepoName, digest: &Digest, bytes: &[u8]) -> Answer {
         match self.store.lease(self.rt, desk, repo, digest) {
             Ok(lease) => {
                 let len = lease.len();
@@ -164,7 +159,7 @@ impl<'s, N: Naming, C: Ledger, R: Ledger, D: Ledger, A: Ledger, W: Wait> Shared<
     }
 
     /// Leases a blob, shares the lease, and gives all back.
-    fn share(&self, desk: &mut Desk<C, R, D, A>, repo: &RepoName, digest: &Digest) -> Answer {
+    fn share(&self, desk: &mut Desk<S>, repo: &RepoName, digest: &Digest) -> Answer {
         match self.store.lease(self.rt, desk, repo, digest) {
             Ok(lease) => match lease.share() {
                 Ok((left, right)) => whether(give_back_both(left, right)),
@@ -183,7 +178,7 @@ impl<'s, N: Naming, C: Ledger, R: Ledger, D: Ledger, A: Ledger, W: Wait> Shared<
     }
 
     /// What can be seen. The text has room already.
-    fn look(&self, desk: &Desk<C, R, D, A>, seen: &mut Seen) -> bool {
+    fn look(&self, desk: &Desk<S>, seen: &mut Seen) -> bool {
         for (slot, place) in seen.words.iter_mut().enumerate() {
             *place = self.word(slot as u32);
         }
@@ -193,7 +188,7 @@ impl<'s, N: Naming, C: Ledger, R: Ledger, D: Ledger, A: Ledger, W: Wait> Shared<
         self.store.print(self.rt, &mut seen.text).is_ok()
     }
 
-    fn goes(&self, desk: &mut Desk<C, R, D, A>, seen: &mut Seen, command: &Command) -> Answer {
+    fn goes(&self, desk: &mut Desk<S>, seen: &mut Seen, command: &Command) -> Answer {
         match command {
             Command::Start(repo, number) => judged(self.start(desk, repo), *number),
             Command::Append(repo, number, range, bytes, length) => {
@@ -228,8 +223,7 @@ impl<'s, N: Naming, C: Ledger, R: Ledger, D: Ledger, A: Ledger, W: Wait> Shared<
     }
 }
 
-impl<'h, 's, 'd, 'c, 'n, N: Naming, C: Ledger, R: Ledger, D: Ledger, A: Ledger, W: Wait> Calls
-    for OnStore<'h, 's, 'd, 'c, 'n, N, C, R, D, A, W> {
+impl<'h, 's, 'd, 'c, 'n, S: Naming, W: Wait> Calls for OnStore<'h, 's, 'd, 'c, 'n, S, W> {
     fn count(&self) -> usize {
         self.commands.len()
     }
@@ -263,13 +257,12 @@ impl<'h, 's, 'd, 'c, 'n, N: Naming, C: Ledger, R: Ledger, D: Ledger, A: Ledger, 
 
 /// Desks that are handed out and settled at once.
 #[derive(Drop)]
-struct Desks<'h, 's, N: Naming, C: Ledger, R: Ledger, D: Ledger, A: Ledger, W: Wait> {
-    shared: &'h Shared<'s, N, C, R, D, A, W>,
+struct Desks<'h, 's, S: Naming, W: Wait> {
+    shared: &'h Shared<'s, S, W>,
     totals: Totals,
 }
 
-impl<'h, 's, N: Naming, C: Ledger, R: Ledger, D: Ledger, A: Ledger, W: Wait> Calls
-    for Desks<'h, 's, N, C, R, D, A, W> {
+impl<'h, 's, S: Naming, W: Wait> Calls for Desks<'h, 's, S, W> {
     fn count(&self) -> usize {
         1
     }
@@ -279,17 +272,20 @@ impl<'h, 's, N: Naming, C: Ledger, R: Ledger, D: Ledger, A: Ledger, W: Wait> Cal
     }
 
     fn remember(&mut self) {
-        self.totals = self.shared.store.totals(self.shared.rt);
+        let shared = self.shared;
+        self.totals = shared.store.totals(shared.rt);
     }
 
     fn is_same(&mut self) -> bool {
-        self.totals == self.shared.store.totals(self.shared.rt)
+        let shared = self.shared;
+        self.totals == shared.store.totals(shared.rt)
     }
 
     fn call(&mut self, _place: usize) -> Answer {
-        match self.shared.store.desks(self.shared.rt, 2) {
+        let shared = self.shared;
+        match shared.store.desks(shared.rt, 2) {
             Ok(desks) => {
-                let settled = self.shared.store.settle(self.shared.rt, desks);
+                let settled = shared.store.settle(shared.rt, desks);
                 whether(settled.left == 0)
             }
             Err(refusal) => refused(refusal),
@@ -308,8 +304,8 @@ fn unseen(alloc: Global) -> Result<Seen, Stopped> {
 }
 
 /// The handing out of desks.
-fn play_desks<'h, 's, N: Naming, C: Ledger, R: Ledger, D: Ledger, A: Ledger, W: Wait + Print>(
-    shared: &'h Shared<'s, N, C, R, D, A, W>,
+fn play_desks<'h, 's, S: Naming, W: Wait + Print>(
+    shared: &'h Shared<'s, S, W>,
 ) -> Result<(), Stopped> {
     let rt = shared.rt;
     let mut calls = Desks {
@@ -320,21 +316,9 @@ fn play_desks<'h, 's, N: Naming, C: Ledger, R: Ledger, D: Ledger, A: Ledger, W: 
 }
 
 /// The commands from the first of some desks.
-fn play_at<
-    'h,
-    's,
-    'd,
-    'c,
-    'n,
-    N: Naming,
-    C: Ledger,
-    R: Ledger,
-    D: Ledger,
-    A: Ledger,
-    W: Wait + Print,
->(
-    shared: &'h Shared<'s, N, C, R, D, A, W>,
-    desks: &'d mut [Desk<C, R, D, A>],
+fn play_at<'h, 's, 'd, 'c, 'n, S: Naming, W: Wait + Print>(
+    shared: &'h Shared<'s, S, W>,
+    desks: &'d mut [Desk<S>],
     commands: &'c [Command<'n>],
     before: Seen,
     after: Seen,
@@ -354,20 +338,15 @@ fn play_at<
 }
 
 /// The commands on the store of these parts, and what its desk settles.
-fn play_in<N: Naming, C: Ledger, R: Ledger, D: Ledger, A: Ledger, W: AllocGlobal + Print + Wait>(
+fn play_in<S: Naming, W: AllocGlobal + Print + Wait>(
     rt: &W,
     parts: Parts,
     names: &Names,
 ) -> Result<(), Stopped>
-    requires pins { (parts.book.table ≡ N.table) × (length parts.book.slots ≡ N.slots) }
-    requires setting { setting_of parts.book.catalog ≡ N.setting }
+    requires named { names_of parts ≡ S.names }
     requires four { length parts.book.slots ≡ 4 }
-    requires commands { (parts.commands.name ≡ C.name) × (parts.commands.parts ≡ C.parts) }
-    requires received { (parts.received.name ≡ R.name) × (parts.received.parts ≡ R.parts) }
-    requires closed { (parts.closed.name ≡ D.name) × (parts.closed.parts ≡ D.parts) }
-    requires abandoned { (parts.abandoned.name ≡ A.name) × (parts.abandoned.parts ≡ A.parts) }
 {
-    let store = Store::<N, C, R, D, A>::new(parts);
+    let store = Store::<S>::new(parts);
     let commands = commands(names);
     let before = unseen(rt.alloc())?;
     let after = unseen(rt.alloc())?;
@@ -396,5 +375,5 @@ pub fn play_on_store<W: AllocGlobal + Print + Wait>(rt: &W) -> Result<(), Stoppe
     let mut config = config(rt.alloc())?;
     config.slots = 4;
     let parts = Parts::new(rt.alloc(), &config)?;
-    play_in::<Brand, Brand, Brand, Brand, Brand, W>(rt, parts, &names)
+    play_in::<Brand, W>(rt, parts, &names)
 }

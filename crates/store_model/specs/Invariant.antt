@@ -11,7 +11,7 @@ use Rattle.std.specs.declared.cmp.Ordering.TheVariants.{Less}
 use Rattle.blob_digest.specs.declared.refusal.Refusal.TheVariants.{Referenced}
 use Rattle.store_model.specs.Commands.{refers, delete}
 use Rattle.finite_maps.specs.Texts.{Text, text_cmp}
-use Rattle.store_model.specs.Catalog.{Link, Number, Session, Resident, Catalog, is_of, tenant_of, quota_of, holds, count, size, used, held_digests, session_charges_of, open_sessions, manifests_of, charged, Tenant, is_tenants, repos_in, link_cmp}
+use Rattle.store_model.specs.Catalog.{Link, Number, Session, Resident, Catalog, tenant_of, quota_of, count, size, used, held_digests, session_charges_of, open_sessions, manifests_of, charged, Tenant, is_tenants, repos_in, link_cmp}
 use Rattle.store_model.specs.Sessions.{at_home}
 
 -- a session is of its own tenant, in a repository that is there, with no empty chunk, with its reserve within the limit, under a number that was given

@@ -1,7 +1,6 @@
 -- What is known where a command was accepted.
 use Rattle.std.proofs.Common.{◌≡◌, ℕ, ◌+◌, ◌<◌, ◌≤◌, Bool, true, false, cond, List, [], ◌∷◌, length, Option, Some, None, Result, Ok, Err, refl, sym, ap, ◌∙◌, arith, length-append}
 use Rattle.std.specs.Prelude.{if◌then◌else◌, nat_lt}
-use Rattle.std.specs.Option.{ok_or}
 use Rattle.std.specs.List.{sum_by, concat}
 use Rattle.std.proofs.lemmas.Bool.{or_parts, ltb-false}
 use Rattle.std.proofs.lemmas.List.Sums.{sum_by-cons}
@@ -12,7 +11,6 @@ use Rattle.blob_digest.specs.declared.refusal.Refusal.TheVariants.{UploadUnknown
 use Rattle.finite_maps.specs.Texts.{Text, same_text}
 use Rattle.store_model.specs.Catalog.{Tenant, Session, Catalog, tenant_name, tenant_of}
 use Rattle.store_model.specs.Sessions.{session_in, length_after, has_other_length}
-use Rattle.finite_maps.specs.Outcomes.{◌>>=◌, refuse}
 use Rattle.finite_maps.proofs.Texts.{text_is_same}
 use Rattle.finite_maps.proofs.Outcomes.{bound_ok, not_refused}
 

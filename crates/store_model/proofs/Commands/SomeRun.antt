@@ -1,15 +1,8 @@
 -- Each list of commands and sweeps has a run.
-use Rattle.std.proofs.Common.{◌≡◌, ◌≢◌, Bool, true, false, List, [], ◌∷◌, Option, Some, None, Result, Ok, Err, refl, sym, ap, ◌∙◌, inl, inr}
-use Rattle.std.specs.Prelude.{◌⊎◌}
-use Rattle.blob_digest.specs.declared.refusal.Refusal.{Refusal}
-use Rattle.blob_digest.specs.declared.refusal.Refusal.TheVariants.{Memory, TooManyReaders}
-use Rattle.blob_digest.specs.Outcomes.{Does, DoesExactly, Answers}
+use Rattle.std.proofs.Common.{◌≡◌, false, List, [], ◌∷◌, Option, Some, None, Ok, Err, refl, ap, inl}
 use Rattle.store_model.specs.Catalog.{Catalog}
-use Rattle.store_model.specs.Commands.{Outcome, tenant, linked_blob, lease}
-use Rattle.store_model.specs.Runs.{Command, Answer, answered, told, outcome, takes_memory, IsCase, Event, Called, Swept, IsRun, HasRun, Lease, Bytes}
-use Rattle.finite_maps.specs.Texts.{Text}
-use Rattle.finite_maps.specs.Outcomes.{refuse}
-use Rattle.finite_maps.proofs.Outcomes.{bound_ok, not_refused}
+use Rattle.store_model.specs.Commands.{Outcome}
+use Rattle.store_model.specs.Runs.{Command, Answer, outcome, Called, Swept, HasRun}
 use Rattle.store_model.proofs.Commands.SomeSweep.{swept, after, some_sweep}
 
 pub has_run : (wanted : List (Option Command)) (C : Catalog) → HasRun C wanted

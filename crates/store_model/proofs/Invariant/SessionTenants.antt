@@ -1,9 +1,6 @@
 -- The tenant of a session is one of the store's, and its repository's.
-use Rattle.std.proofs.Common.{◌≡◌, ℕ, ◌<◌, true, length, Option, Some, None, ap}
-use Rattle.std.specs.Prelude.{nat_eq}
-use Rattle.std.specs.Option.{option_eq}
+use Rattle.std.proofs.Common.{◌≡◌, ◌<◌, length, Some}
 use Rattle.std.specs.FinMap.{get}
-use Rattle.std.proofs.lemmas.Bool.{eqb-true, false≢true}
 use Rattle.store_model.specs.Catalog.{Number, Session, Catalog, tenant_of}
 use Rattle.store_model.specs.Invariant.{Lawful}
 use Rattle.store_model.proofs.Commands.Accepted.{tenant_there}

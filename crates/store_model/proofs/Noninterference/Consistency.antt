@@ -20,7 +20,7 @@ use Rattle.blob_digest.specs.Digests.{sha256_text, is_digest_of}
 use Rattle.finite_maps.specs.Sets as kept_set
 use Rattle.finite_maps.specs.Texts.{Text, text_cmp}
 use Rattle.store_model.specs.Commands
-use Rattle.finite_maps.specs.Outcomes.{◌>>=◌, refuse}
+use Rattle.finite_maps.specs.Outcomes.{◌>>=◌}
 use Rattle.store_model.specs.Commands.{Outcome, session_in, length_after, new_session, append_in, whole_in, is_digest_accepted, same_bytes, stored, has_source, with_link, with_manifest, with_lent, within_quota, has_slot}
 use Rattle.store_model.specs.Runs as runs
 use Rattle.store_model.specs.Runs.{Command, outcome}

@@ -2,26 +2,24 @@
 use Rattle.std.proofs.Common.{T, ◌≡◌, ℕ, ◌+◌, Bool, true, false, cond, not, List, [], ◌∷◌, ◌++◌, length, map, Option, Some, None, is_some, refl, sym, ap, ◌∙◌, subst, arith}
 use Rattle.std.specs.Prelude.{◌==◌, ◌&&◌, nat_le, slice_get, slice_index}
 use Rattle.std.specs.Option.{option_map, option_map_or}
-use Rattle.std.specs.declared.cmp.Ordering.{Ordering}
-use Rattle.std.specs.Ordering.{eq_by_cmp, is_lt}
 use Rattle.std.specs.Cmp.Lexicographic.{nat_list_cmp_total, same_text as text_is}
 use Rattle.std.specs.List.{sum_by, filter, concat}
 use Rattle.std.specs.FinMap.{FinMap, entries, get, get-entries, entries_sorted}
-use Rattle.std.specs.FinMap.Entries.{where_key, is_sorted, below_all, is_sorted-where_key, find-where_key, same_entries, find as find_key}
+use Rattle.std.specs.FinMap.Entries.{where_key, is_sorted, is_sorted-where_key, find-where_key, same_entries, find as find_key}
 use Rattle.std.proofs.lemmas.Bool.{true≢false, false≢true, eq-eqb, and_left, and_parts}
 use Rattle.std.proofs.lemmas.List.Sums.{sum_by-cons}
 use Rattle.std.proofs.lemmas.Map.Lookups.{exact_bytes}
 use Rattle.blob_digest.specs.declared.range.ByteRange.{ByteRange}
 use Rattle.finite_maps.specs.Sets as set
 use Rattle.finite_maps.specs.Texts.{Text, text_cmp, same_text}
-use Rattle.store_model.specs.Catalog.{Link, Number, Session, Resident, Catalog, tenant_of, is_tenants, is_of, quota_of, holds, tenant_holds, session_charge, session_charges_of, blob_share, used, next_of, open_sessions, repos_of, manifests_of, received, Tenant, link_cmp, number_cmp}
+use Rattle.store_model.specs.Catalog.{Link, Number, Session, Resident, Catalog, tenant_of, is_tenants, is_of, quota_of, holds, tenant_holds, session_charge, session_charges_of, blob_share, used, open_sessions, repos_of, manifests_of, received, Tenant, link_cmp, number_cmp}
 use Rattle.store_model.specs.Sessions.{at_home}
 use Rattle.finite_maps.specs.Outcomes.{◌>>=◌}
 use Rattle.store_model.specs.Commands.{whole_in, session, session_in, not_busy, check, length_after, lacks_room_for, referrer, refers}
 use Rattle.store_model.specs.Noninterference.{blobs_of}
 use Rattle.blob_digest.proofs.KeyOrders.{number_cmp_total, exact_number, link_cmp_total, exact_link}
 use Rattle.finite_maps.proofs.Lists.{list_any_same, witness}
-use Rattle.finite_maps.proofs.Mapped.{find-over, sorted-over, below-over, map_none}
+use Rattle.finite_maps.proofs.Mapped.{find-over, sorted-over, map_none}
 use Rattle.finite_maps.proofs.Agreement.{AgreeOn, sum_agree, find_agree, any_agree, count_agree}
 
 -- what a tenant can see something of: all but the blobs and the slots

@@ -15,5 +15,5 @@ returns-in-Ok g c = λ _.
     let answers = answers_of c.in-Ok.replies.items in
     let played = c.in-Ok.ensures.played in
     let shown = plays_through (λ seat. seat.desk) SeatActs (_, none) (c.play_rows-played.new.backend, played.0) lines answers played.1 in
-    let begun = subst (λ d. Plays SeatActs (d, none) lines answers (c.play_rows-played.new.backend.desk, played.0)) (c.set_down.ensures ∙ c.requires.ready.fresh) shown in
-    (played.0, subst (λ d. Plays SeatActs (nothing, none) lines answers (d, played.0)) (sym c.carry.ensures) begun)
+    let begun = subst (λ d. Plays SeatActs (d, none) lines answers (c.play_rows-played.new.backend.desk, played.0)) (c.into_desk.ensures ∙ c.requires.ready.fresh) shown in
+    (played.0, subst (λ d. Plays SeatActs (nothing, none) lines answers (d, played.0)) (sym c.into_droppable.ensures) begun)

@@ -1,7 +1,8 @@
-use Rattle.std.proofs.Common.{◌++◌, ◌∙◌, refl, sym}
+use Rattle.std.proofs.Common.{◌++◌, ◌∙◌, ap, refl, sym}
 use Rattle.std.proofs.lemmas.List.{length-map}
 use Rattle.csv.proofs.WriteFacts.{appends-more}
 use Rattle.store_model.specs.BookText.{book_text}
+use Rattle.blob_store.specs.Names.{StoreNames}
 use Rattle.row_player.specs.Answers.{answer_of, answers_of}
 use Rattle.row_player.specs.RowViews.{row_view}
 use Rattle.row_player.specs.Replies.{replies_text}
@@ -22,7 +23,7 @@ returns-clause-played g c =
         opened = c.requires.opened.catalog;
         last = book.0.catalog;
         sound = book.1.sound;
-        same = book.1.made ∙ sym c.requires.setting;
+        same = book.1.made ∙ sym (ap (λ (n : StoreNames). n.setting) c.requires.named);
         written = refl;
       },
     )

@@ -1,6 +1,6 @@
 use Rattle.std.proofs.Common.{ap, arith, ◌∙◌}
 use Rattle.store_model.specs.Catalog.{Catalog}
-use Rattle.blob_store.specs.Naming.{setting_of}
+use Rattle.blob_store.specs.Names.{setting_of}
 use Rattle.blob_store.specs.Totals.{one}
 use Rattle.blob_store.proofs.SessionSums.{finish_sums, full_is, refused_sums, still_sums, unknown_stays}
 use Rattle.blob_store.proofs.Rooms.{added}

@@ -1,6 +1,6 @@
 use Rattle.std.proofs.Common.{◌≡◌, ◌+◌, vec_len}
 use Rattle.blob_store.specs.Totals.{plus, sum_of}
-use Rattle.blob_store.proofs.counters.Counters.take_in_all.Given as goal
+use Rattle.blob_store.proofs.counters.Counters.settle_all.Given as goal
 
 abbrev pub invariant-loop-desk : goal.invariant-loop-desk
 invariant-loop-desk g l =

@@ -1,6 +1,6 @@
 use Rattle.std.proofs.Common.{◌≡◌, ◌+◌, ◌≤◌, vec_len, vec_capacity}
 use Rattle.blob_store.specs.Totals.{nothing, sum_of}
-use Rattle.blob_store.proofs.counters.Counters.take_out_all.Given as goal
+use Rattle.blob_store.proofs.counters.Counters.issue_all.Given as goal
 
 abbrev pub invariant-loop-i : goal.invariant-loop-i
 invariant-loop-i g l =
