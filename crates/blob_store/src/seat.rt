@@ -69,7 +69,9 @@ impl<'s, W: Wait, N: Naming, C: Ledger, R: Ledger, D: Ledger, A: Ledger> Backend
                 range,
                 bytes,
             } => {
-                let length = self.store.append(self.rt, &mut self.desk, repo, *number, *range, bytes)?;
+                let length = self
+                    .store
+                    .append(self.rt, &mut self.desk, repo, *number, *range, bytes)?;
                 Ok(Reply::Received(length))
             }
             Command::Close {
@@ -79,7 +81,15 @@ impl<'s, W: Wait, N: Naming, C: Ledger, R: Ledger, D: Ledger, A: Ledger> Backend
                 range,
                 bytes,
             } => {
-                let size = self.store.close(self.rt, &mut self.desk, repo, *number, digest, *range, bytes)?;
+                let size = self.store.close(
+                    self.rt,
+                    &mut self.desk,
+                    repo,
+                    *number,
+                    digest,
+                    *range,
+                    bytes,
+                )?;
                 Ok(Reply::Stored(size))
             }
             Command::Abandon { repo, number } => {
@@ -87,7 +97,9 @@ impl<'s, W: Wait, N: Naming, C: Ledger, R: Ledger, D: Ledger, A: Ledger> Backend
                 Ok(Reply::Abandoned)
             }
             Command::Mount { repo, digest, from } => {
-                let mount = self.store.mount(self.rt, &mut self.desk, repo, digest, from.as_ref())?;
+                let mount = self
+                    .store
+                    .mount(self.rt, &mut self.desk, repo, digest, from.as_ref())?;
                 Ok(mount_reply(mount))
             }
             Command::Delete { repo, digest } => {
@@ -95,15 +107,20 @@ impl<'s, W: Wait, N: Naming, C: Ledger, R: Ledger, D: Ledger, A: Ledger> Backend
                 Ok(Reply::Deleted)
             }
             Command::PutManifest { repo, bytes } => {
-                let digest = self.store.put_manifest(self.rt, &mut self.desk, repo, bytes)?;
+                let digest = self
+                    .store
+                    .put_manifest(self.rt, &mut self.desk, repo, bytes)?;
                 Ok(Reply::Manifest(digest))
             }
             Command::GetManifest { repo, digest } => {
-                let manifest = self.store.get_manifest(self.rt, &mut self.desk, repo, digest)?;
+                let manifest = self
+                    .store
+                    .get_manifest(self.rt, &mut self.desk, repo, digest)?;
                 Ok(Reply::Body(manifest))
             }
             Command::DeleteManifest { repo, digest } => {
-                self.store.delete_manifest(self.rt, &mut self.desk, repo, digest)?;
+                self.store
+                    .delete_manifest(self.rt, &mut self.desk, repo, digest)?;
                 Ok(Reply::Deleted)
             }
         }

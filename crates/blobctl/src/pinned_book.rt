@@ -126,7 +126,9 @@ impl<'p, N: Naming> Backend for PinnedBook<'p, N> {
                 range,
                 bytes,
             } => {
-                let size = self.book.close(self.pins, repo, *number, digest, *range, bytes)?;
+                let size = self
+                    .book
+                    .close(self.pins, repo, *number, digest, *range, bytes)?;
                 Ok(Reply::Stored(size))
             }
             Command::Abandon { repo, number } => {
