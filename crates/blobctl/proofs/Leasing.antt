@@ -86,12 +86,6 @@ module _ (C : Catalog) (digest : Text) where
   refused_alike (Some t) false None r e = inl e
   refused_alike (Some t) false (Some b) r e = inr (let h = e in cc)
 
--- a command's outcome, as a row's answer tells it
-pub does_told : {A B : Type 0} (view : A → B) (inner : B → runs.Answer) (answer : runs.Answer → Answer) (r : Result A Refusal) (C C' : Catalog) (o : OutcomeIn Catalog B) (Rise : Type 0) → Does view r C C' o → Rise
-    → MatchResult r (λ x. (runs.answered answer (runs.answered inner o) ≡ Ok (answer (inner (view x)), C')) × Rise) (λ e. ((e ≢ Memory → (runs.answered answer (runs.answered inner o) ≡ Err e) ⊎ ⊥) × (C' ≡ C)) × Rise)
-does_told view inner answer (Ok x) C C' o Rise h rise = (ap (λ o. runs.answered answer (runs.answered inner o)) h, rise)
-does_told view inner answer (Err e) C C' o Rise h rise = (((λ other. inl (ap (λ o. runs.answered answer (runs.answered inner o)) (h.0 other))), h.1), rise)
-
 module _ (C : Catalog) (repo digest : Text) where
   abbrev look_at : Bool → Outcome Text
   look_at crowded = leasing crowded C digest (tenant_of C.tenants repo) (not (holds C repo digest)) (fmap.get C.residents digest)

@@ -38,6 +38,11 @@ uses_repo verb.GiveBack = false
 uses_repo verb.Sweep = false
 uses_repo _ = true
 
+-- whether it is answered with a reply alone, and so without a lease
+abbrev pub is_command : Verb → Bool
+is_command verb.Lease = false
+is_command verb = uses_repo verb
+
 -- whether it may name a repository that a blob is mounted from
 abbrev pub uses_source : Verb → Bool
 uses_source verb.Mount = true

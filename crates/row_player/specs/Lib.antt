@@ -1,4 +1,5 @@
 pub mod Answers
+pub mod CommandViews
 pub mod Commands
 pub mod Counts
 pub mod LeaseTables

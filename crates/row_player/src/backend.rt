@@ -1,17 +1,15 @@
 //! What the rows of a script are played on.
 ghost use Rattle.std.specs.Prelude.{◌≡◌, ◌≢◌, ◌⊎◌, ◌^◌, ◌<◌, ◌≤◌, length, MatchResult};
-ghost use Rattle.std.specs.Option.{option_copied};
-ghost use Rattle.row_player.specs.Answers.{Answer, Session, Received, Stored, Abandoned, Deleted, Manifest as ManifestAnswer, Body, Bytes, Verified, Swept as SweptAnswer, Refused, mount_answer};
-ghost use Rattle.row_player.specs.Commands.{Request, Calls, Verifies, Sweeps, Start, Status, Append, Close, Abandon, Mount as MountCommand, Delete, PutManifest, GetManifest, DeleteManifest, Lease as LeaseCommand};
+ghost use Rattle.row_player.specs.Answers.{Answer, Bytes, Verified, Swept as SweptAnswer, Refused, answer_of};
+ghost use Rattle.row_player.specs.CommandViews.{command_view};
+ghost use Rattle.row_player.specs.Commands.{Request, Calls, Verifies, Sweeps, Lease as LeaseCommand};
 ghost use Rattle.row_player.specs.Leases.{Lent, between, halved};
-ghost use Rattle.std.specs.Arc.{arc_value};
 
+use crate::command::Command;
 use crate::piece::Piece;
-use blob_digest::{ByteRange, Digest, Refusal, RepoName};
-use oci_manifest::Manifest;
-use std::alloc::Global;
-use std::sync::Arc;
-use store_model::{Mount, Swept};
+use crate::reply::Reply;
+use blob_digest::{Digest, Refusal, RepoName};
+use store_model::Swept;
 
 /// A lease of a blob. It must be spent, by `share` or `give_back`.
 pub trait BlobLease {
@@ -46,68 +44,9 @@ pub trait Backend {
     // What may come of a request with this answer. A lease is answered by the bytes of its blob.
     ghost acts: { Self → Request → Answer → Self → Type 0 };
 
-    /// Opens an upload session, and answers its number.
-    fn start(&mut self, repo: &RepoName) -> Result<u32, Refusal>
-        ensures { MatchResult result (λ n. acts self.old (Calls (Start repo.now)) (Session n) self.new) (λ e. acts self.old (Calls (Start repo.now)) (Refused e) self.new) };
-
-    /// How many bytes a session has received.
-    fn status(&mut self, repo: &RepoName, number: u32) -> Result<u64, Refusal>
-        ensures { MatchResult result (λ n. acts self.old (Calls (Status repo.now number)) (Received n) self.new) (λ e. acts self.old (Calls (Status repo.now number)) (Refused e) self.new) };
-
-    /// Adds a chunk to a session, and answers the session's length in bytes.
-    fn append(
-        &mut self,
-        repo: &RepoName,
-        number: u32,
-        range: Option<ByteRange>,
-        bytes: &[u8],
-    ) -> Result<u64, Refusal>
-        ensures { MatchResult result (λ n. acts self.old (Calls (Append repo.now number range bytes.now)) (Received n) self.new) (λ e. acts self.old (Calls (Append repo.now number range bytes.now)) (Refused e) self.new) };
-
-    /// Closes a session with its last chunk, and answers the blob's size in bytes.
-    fn close(
-        &mut self,
-        repo: &RepoName,
-        number: u32,
-        digest: &Digest,
-        range: Option<ByteRange>,
-        bytes: &[u8],
-    ) -> Result<u64, Refusal>
-        ensures { MatchResult result (λ n. acts self.old (Calls (Close repo.now number digest.now range bytes.now)) (Stored n) self.new) (λ e. acts self.old (Calls (Close repo.now number digest.now range bytes.now)) (Refused e) self.new) };
-
-    /// Gives a session up, and answers how many bytes it had received.
-    fn abandon(&mut self, repo: &RepoName, number: u32) -> Result<u64, Refusal>
-        ensures { MatchResult result (λ _. acts self.old (Calls (Abandon repo.now number)) Abandoned self.new) (λ e. acts self.old (Calls (Abandon repo.now number)) (Refused e) self.new) };
-
-    /// Links a blob that the tenant holds in the source or, without one, in any of its repositories, or opens
-    /// an upload session for it.
-    fn mount(
-        &mut self,
-        repo: &RepoName,
-        digest: &Digest,
-        from: Option<&RepoName>,
-    ) -> Result<Mount, Refusal>
-        ensures { MatchResult result (λ m. acts self.old (Calls (MountCommand repo.now digest.now (option_copied from.entry))) (mount_answer m) self.new) (λ e. acts self.old (Calls (MountCommand repo.now digest.now (option_copied from.entry))) (Refused e) self.new) };
-
-    /// Takes a blob's link out of a repository.
-    fn delete(&mut self, repo: &RepoName, digest: &Digest) -> Result<(), Refusal>
-        ensures { MatchResult result (λ _. acts self.old (Calls (Delete repo.now digest.now)) Deleted self.new) (λ e. acts self.old (Calls (Delete repo.now digest.now)) (Refused e) self.new) };
-
-    /// Keeps a manifest, and answers its digest.
-    fn put_manifest(&mut self, repo: &RepoName, bytes: &[u8]) -> Result<Digest, Refusal>
-        ensures { MatchResult result (λ d. acts self.old (Calls (PutManifest repo.now bytes.now)) (ManifestAnswer d) self.new) (λ e. acts self.old (Calls (PutManifest repo.now bytes.now)) (Refused e) self.new) };
-
-    /// A manifest that a repository keeps, without a copy of its bytes.
-    fn get_manifest(
-        &mut self,
-        repo: &RepoName,
-        digest: &Digest,
-    ) -> Result<Arc<Manifest, Global>, Refusal>
-        ensures { MatchResult result (λ m. acts self.old (Calls (GetManifest repo.now digest.now)) (Body (arc_value m)) self.new) (λ e. acts self.old (Calls (GetManifest repo.now digest.now)) (Refused e) self.new) };
-
-    /// Takes a manifest out of a repository.
-    fn delete_manifest(&mut self, repo: &RepoName, digest: &Digest) -> Result<(), Refusal>
-        ensures { MatchResult result (λ _. acts self.old (Calls (DeleteManifest repo.now digest.now)) Deleted self.new) (λ e. acts self.old (Calls (DeleteManifest repo.now digest.now)) (Refused e) self.new) };
+    /// Does what a command says, and answers it with its reply.
+    fn call(&mut self, command: &Command) -> Result<Reply, Refusal>
+        ensures { MatchResult result (λ r. acts self.old (Calls (command_view command.now)) (answer_of r) self.new) (λ e. acts self.old (Calls (command_view command.now)) (Refused e) self.new) };
 
     /// A new lease of a blob that is linked in a repository.
     fn lease(&mut self, repo: &RepoName, digest: &Digest) -> Result<Self::Lease, Refusal>

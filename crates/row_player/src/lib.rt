@@ -13,6 +13,7 @@
 #![tactic(auto)]
 
 mod backend;
+mod command;
 mod fields;
 mod gate;
 mod hex_digits;
@@ -25,11 +26,12 @@ mod row;
 mod worker;
 
 pub use backend::{Backend, BlobLease};
+pub use command::Command;
 pub use fields::has_fields;
 pub use gate::{Gate, OpenGate};
 pub use order::in_row_order;
 pub use piece::Piece;
 pub use player::{play, play_rows};
-pub use reply::Reply;
+pub use reply::{Reply, mount_reply};
 pub use row::{Row, Verb};
 pub use worker::Worker;

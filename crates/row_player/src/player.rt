@@ -1,196 +1,31 @@
 //! Plays the rows of a script.
 ghost use Rattle.std.specs.Prelude.{◌≡◌, ◌≢◌, ◌⊎◌, ◌++◌, ◌∷◌, [], ◌≤◌, ◌<◌, ◌^◌, true, Some, None, IfOk, IfErr, OnOk, MatchResult, IsTrue, ◌↔◌, length, map, vec_capacity, vec_len};
-ghost use Rattle.blob_digest.specs.Outcomes.{Answers};
 ghost use Rattle.row_player.specs.Answers.{answer_of, answers_of, Refused};
-ghost use Rattle.row_player.specs.Commands.{digest_in, range_in, repo_in, source_in, uses_session};
+ghost use Rattle.row_player.specs.Commands.{is_command};
 ghost use Rattle.row_player.specs.Leases.{Leases as Held, none};
 ghost use Rattle.row_player.specs.RowViews.{row_view};
 ghost use Rattle.row_player.specs.Plays.{AnswersCall, AnswersRead, AnswersRow, Plays, RowStep, piece_of};
-ghost use Rattle.row_player.specs.Rows.{session_number};
 ghost use Rattle.row_player.specs.Shares.{own_rows};
 ghost use Rattle.row_player.specs.declared.reply.Reply.{Reply};
 
 use crate::backend::{Backend, BlobLease};
-use crate::fields::session;
+use crate::command::{command_in, digest_in, repo_in};
 use crate::gate::{Gate, OpenGate};
 use crate::leases::{Leases, lend, verify};
-use crate::reply::{Reply, mount_reply};
+use crate::reply::Reply;
 use crate::row::{Row, Verb};
 use crate::worker::Worker;
-use blob_digest::{ByteRange, Digest, Refusal, RepoName};
+use blob_digest::{ByteRange, Refusal};
 use std::alloc::Global;
 
-/// The repository that a field spells.
-fn repo_in(alloc: Global, text: &[u8]) -> Result<RepoName, Refusal>
-    ensures { Answers (λ r. r) result (repo_in text.now) }
-{
-    RepoName::parse(alloc, text)
-}
-
-/// The digest that a field spells.
-fn digest_in(text: &[u8]) -> Result<Digest, Refusal>
-    ensures { result ≡ digest_in text.now }
-{
-    Digest::parse(text)
-}
-
-/// The range that a field spells, which is none where the field is empty.
-#[tactic(auto, using(crate::proofs::FieldTexts::range_ok, crate::proofs::FieldTexts::range_bad))]
-fn range_in(text: &[u8]) -> Result<Option<ByteRange>, Refusal>
-    ensures { result ≡ range_in text.now }
-{
-    if text.is_empty() {
-        return Ok(None);
-    }
-    let range = ByteRange::parse(text)?;
-    Ok(Some(range))
-}
-
-/// The source that a field spells, which is none where the field is empty.
-#[tactic(auto, using(crate::proofs::FieldTexts::source_ok, crate::proofs::FieldTexts::source_bad))]
-fn source_in(alloc: Global, text: &[u8]) -> Result<Option<RepoName>, Refusal>
-    ensures { Answers (λ r. r) result (source_in text.now) }
-{
-    if text.is_empty() {
-        return Ok(None);
-    }
-    let from = RepoName::parse(alloc, text)?;
-    Ok(Some(from))
-}
-
-/// The number of the session that a row names.
-fn number_in(row: &Row) -> u32
-    requires { uses_session row.now.verb ≡ true }
-    ensures { session_number row.now.key.items ≡ Some result }
-{
-    match session(row.key.as_slice()) {
-        Some(number) => number,
-        None => unreachable!(),
-    }
-}
-
-/// Plays a row that opens a session.
-fn play_start<B: Backend>(alloc: Global, backend: &mut B, row: &Row) -> Result<Reply, Refusal>
-    requires { row.now.verb ≡ Verb.Start }
+/// Plays a row that spells a command.
+#[tactic(auto, using(crate::proofs::Spellings::no_lease))]
+fn play_command<B: Backend>(alloc: Global, backend: &mut B, row: &Row) -> Result<Reply, Refusal>
+    requires { is_command row.now.verb ≡ true }
     ensures { AnswersCall B.acts backend.old (row_view row.now) result backend.new }
 {
-    let repo = repo_in(alloc, row.repo.as_slice())?;
-    let number = backend.start(&repo)?;
-    Ok(Reply::Session(number))
-}
-
-/// Plays a row that asks for a session's length.
-fn play_status<B: Backend>(alloc: Global, backend: &mut B, row: &Row) -> Result<Reply, Refusal>
-    requires { row.now.verb ≡ Verb.Status }
-    ensures { AnswersCall B.acts backend.old (row_view row.now) result backend.new }
-{
-    let repo = repo_in(alloc, row.repo.as_slice())?;
-    let number = number_in(row);
-    let length = backend.status(&repo, number)?;
-    Ok(Reply::Received(length))
-}
-
-/// Plays a row that adds a chunk.
-fn play_append<B: Backend>(alloc: Global, backend: &mut B, row: &Row) -> Result<Reply, Refusal>
-    requires { row.now.verb ≡ Verb.Append }
-    ensures { AnswersCall B.acts backend.old (row_view row.now) result backend.new }
-{
-    let repo = repo_in(alloc, row.repo.as_slice())?;
-    let range = range_in(row.range.as_slice())?;
-    let number = number_in(row);
-    let length = backend.append(&repo, number, range, row.body.as_slice())?;
-    Ok(Reply::Received(length))
-}
-
-/// Plays a row that closes a session.
-fn play_close<B: Backend>(alloc: Global, backend: &mut B, row: &Row) -> Result<Reply, Refusal>
-    requires { row.now.verb ≡ Verb.Close }
-    ensures { AnswersCall B.acts backend.old (row_view row.now) result backend.new }
-{
-    let repo = repo_in(alloc, row.repo.as_slice())?;
-    let digest = digest_in(row.digest.as_slice())?;
-    let range = range_in(row.range.as_slice())?;
-    let number = number_in(row);
-    let size = backend.close(&repo, number, &digest, range, row.body.as_slice())?;
-    Ok(Reply::Stored(size))
-}
-
-/// Plays a row that gives a session up.
-fn play_abandon<B: Backend>(alloc: Global, backend: &mut B, row: &Row) -> Result<Reply, Refusal>
-    requires { row.now.verb ≡ Verb.Abandon }
-    ensures { AnswersCall B.acts backend.old (row_view row.now) result backend.new }
-{
-    let repo = repo_in(alloc, row.repo.as_slice())?;
-    let number = number_in(row);
-    backend.abandon(&repo, number)?;
-    Ok(Reply::Abandoned)
-}
-
-/// Plays a row that mounts a blob.
-fn play_mount<B: Backend>(alloc: Global, backend: &mut B, row: &Row) -> Result<Reply, Refusal>
-    requires { row.now.verb ≡ Verb.Mount }
-    ensures { AnswersCall B.acts backend.old (row_view row.now) result backend.new }
-{
-    let repo = repo_in(alloc, row.repo.as_slice())?;
-    let from = source_in(alloc, row.key.as_slice())?;
-    let digest = digest_in(row.digest.as_slice())?;
-    let mount = backend.mount(&repo, &digest, from.as_ref())?;
-    Ok(mount_reply(mount))
-}
-
-/// Plays a row that takes a link out.
-fn play_delete<B: Backend>(alloc: Global, backend: &mut B, row: &Row) -> Result<Reply, Refusal>
-    requires { row.now.verb ≡ Verb.Delete }
-    ensures { AnswersCall B.acts backend.old (row_view row.now) result backend.new }
-{
-    let repo = repo_in(alloc, row.repo.as_slice())?;
-    let digest = digest_in(row.digest.as_slice())?;
-    backend.delete(&repo, &digest)?;
-    Ok(Reply::Deleted)
-}
-
-/// Plays a row that keeps a manifest.
-fn play_put_manifest<B: Backend>(
-    alloc: Global,
-    backend: &mut B,
-    row: &Row,
-) -> Result<Reply, Refusal>
-    requires { row.now.verb ≡ Verb.PutManifest }
-    ensures { AnswersCall B.acts backend.old (row_view row.now) result backend.new }
-{
-    let repo = repo_in(alloc, row.repo.as_slice())?;
-    let digest = backend.put_manifest(&repo, row.body.as_slice())?;
-    Ok(Reply::Manifest(digest))
-}
-
-/// Plays a row that asks for a manifest.
-fn play_get_manifest<B: Backend>(
-    alloc: Global,
-    backend: &mut B,
-    row: &Row,
-) -> Result<Reply, Refusal>
-    requires { row.now.verb ≡ Verb.GetManifest }
-    ensures { AnswersCall B.acts backend.old (row_view row.now) result backend.new }
-{
-    let repo = repo_in(alloc, row.repo.as_slice())?;
-    let digest = digest_in(row.digest.as_slice())?;
-    let manifest = backend.get_manifest(&repo, &digest)?;
-    Ok(Reply::Body(manifest))
-}
-
-/// Plays a row that takes a manifest out.
-fn play_delete_manifest<B: Backend>(
-    alloc: Global,
-    backend: &mut B,
-    row: &Row,
-) -> Result<Reply, Refusal>
-    requires { row.now.verb ≡ Verb.DeleteManifest }
-    ensures { AnswersCall B.acts backend.old (row_view row.now) result backend.new }
-{
-    let repo = repo_in(alloc, row.repo.as_slice())?;
-    let digest = digest_in(row.digest.as_slice())?;
-    backend.delete_manifest(&repo, &digest)?;
-    Ok(Reply::Deleted)
+    let command = command_in(alloc, row)?;
+    backend.call(&command)
 }
 
 /// Plays a row that leases a blob. Whether its name is taken is looked at after its repository and its
@@ -251,22 +86,13 @@ fn play_row<'r, B: Backend>(
 {
     let name = (row.lane, row.key.as_slice());
     match row.verb {
-        Verb::Start => play_start(alloc, backend, row),
-        Verb::Status => play_status(alloc, backend, row),
-        Verb::Append => play_append(alloc, backend, row),
-        Verb::Close => play_close(alloc, backend, row),
-        Verb::Abandon => play_abandon(alloc, backend, row),
-        Verb::Mount => play_mount(alloc, backend, row),
-        Verb::Delete => play_delete(alloc, backend, row),
-        Verb::PutManifest => play_put_manifest(alloc, backend, row),
-        Verb::GetManifest => play_get_manifest(alloc, backend, row),
-        Verb::DeleteManifest => play_delete_manifest(alloc, backend, row),
         Verb::Lease => play_lease(alloc, backend, leases, row),
         Verb::Read => play_read(leases, row),
         Verb::Share => leases.share(name, (row.lane, row.body.as_slice())),
         Verb::Verify => Ok(verify(backend, leases, name)),
         Verb::GiveBack => Ok(leases.give_back(name)),
         Verb::Sweep => Ok(Reply::Swept(backend.sweep())),
+        _ => play_command(alloc, backend, row),
     }
 }
 

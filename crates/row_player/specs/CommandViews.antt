@@ -1,0 +1,16 @@
+-- A command as contracts see it, without where its bytes lie.
+use Rattle.row_player.specs.Commands as commands
+use Rattle.row_player.specs.declared.command.Command.{Command}
+use Rattle.row_player.specs.declared.command.Command.TheVariants.{Start, Status, Append, Close, Abandon, Mount, Delete, PutManifest, GetManifest, DeleteManifest}
+
+abbrev pub command_view : Command → commands.Command
+command_view (Start repo) = commands.Start repo
+command_view (Status repo number) = commands.Status repo number
+command_view (Append repo number range bytes) = commands.Append repo number range bytes.now
+command_view (Close repo number digest range bytes) = commands.Close repo number digest range bytes.now
+command_view (Abandon repo number) = commands.Abandon repo number
+command_view (Mount repo digest from) = commands.Mount repo digest from
+command_view (Delete repo digest) = commands.Delete repo digest
+command_view (PutManifest repo bytes) = commands.PutManifest repo bytes.now
+command_view (GetManifest repo digest) = commands.GetManifest repo digest
+command_view (DeleteManifest repo digest) = commands.DeleteManifest repo digest

@@ -1,0 +1,176 @@
+//! The commands that rows spell.
+ghost use Rattle.std.specs.Prelude.{◌≡◌, true, Some};
+ghost use Rattle.blob_digest.specs.Outcomes.{Answers};
+ghost use Rattle.row_player.specs.CommandViews.{command_view};
+ghost use Rattle.row_player.specs.Commands.{command_of, digest_in, is_command, range_in, repo_in, source_in, uses_session};
+ghost use Rattle.row_player.specs.RowViews.{row_view};
+ghost use Rattle.row_player.specs.Rows.{session_number};
+
+use crate::fields::session;
+use crate::row::{Row, Verb};
+use blob_digest::{ByteRange, Digest, Refusal, RepoName};
+use std::alloc::Global;
+
+/// A command that a row spells, which a store answers with a reply: its repository, and what else it takes.
+/// A lease is asked for by itself. The bytes of a chunk, or of a manifest, are those of the row.
+#[derive(Drop)]
+pub enum Command<'r> {
+    /// Opens an upload session.
+    Start {
+        repo: RepoName,
+    },
+    /// Asks how many bytes a session has received.
+    Status {
+        repo: RepoName,
+        number: u32,
+    },
+    /// Adds a chunk to a session.
+    Append {
+        repo: RepoName,
+        number: u32,
+        range: Option<ByteRange>,
+        bytes: &'r [u8],
+    },
+    /// Closes a session with its last chunk.
+    Close {
+        repo: RepoName,
+        number: u32,
+        digest: Digest,
+        range: Option<ByteRange>,
+        bytes: &'r [u8],
+    },
+    /// Gives a session up.
+    Abandon {
+        repo: RepoName,
+        number: u32,
+    },
+    /// Links a blob that the tenant holds in the source or, without one, in any of its repositories, or opens
+    /// an upload session for it.
+    Mount {
+        repo: RepoName,
+        digest: Digest,
+        from: Option<RepoName>,
+    },
+    /// Takes a blob's link out of a repository.
+    Delete {
+        repo: RepoName,
+        digest: Digest,
+    },
+    /// Keeps a manifest.
+    PutManifest {
+        repo: RepoName,
+        bytes: &'r [u8],
+    },
+    /// Asks for a manifest that a repository keeps.
+    GetManifest {
+        repo: RepoName,
+        digest: Digest,
+    },
+    /// Takes a manifest out of a repository.
+    DeleteManifest {
+        repo: RepoName,
+        digest: Digest,
+    },
+}
+
+/// The repository that a field spells.
+pub fn repo_in(alloc: Global, text: &[u8]) -> Result<RepoName, Refusal>
+    ensures { Answers (λ r. r) result (repo_in text.now) }
+{
+    RepoName::parse(alloc, text)
+}
+
+/// The digest that a field spells.
+pub fn digest_in(text: &[u8]) -> Result<Digest, Refusal>
+    ensures { result ≡ digest_in text.now }
+{
+    Digest::parse(text)
+}
+
+/// The range that a field spells, which is none where the field is empty.
+#[tactic(auto, using(crate::proofs::FieldTexts::range_ok, crate::proofs::FieldTexts::range_bad))]
+fn range_in(text: &[u8]) -> Result<Option<ByteRange>, Refusal>
+    ensures { result ≡ range_in text.now }
+{
+    if text.is_empty() {
+        return Ok(None);
+    }
+    let range = ByteRange::parse(text)?;
+    Ok(Some(range))
+}
+
+/// The source that a field spells, which is none where the field is empty.
+#[tactic(auto, using(crate::proofs::FieldTexts::source_ok, crate::proofs::FieldTexts::source_bad))]
+fn source_in(alloc: Global, text: &[u8]) -> Result<Option<RepoName>, Refusal>
+    ensures { Answers (λ r. r) result (source_in text.now) }
+{
+    if text.is_empty() {
+        return Ok(None);
+    }
+    let from = RepoName::parse(alloc, text)?;
+    Ok(Some(from))
+}
+
+/// The number of the session that a row names.
+fn number_in(row: &Row) -> u32
+    requires { uses_session row.now.verb ≡ true }
+    ensures { session_number row.now.key.items ≡ Some result }
+{
+    match session(row.key.as_slice()) {
+        Some(number) => number,
+        None => unreachable!(),
+    }
+}
+
+/// The command that a row spells. Refused is the first of its fields, in the order repository, source,
+/// digest and range, that spells nothing.
+pub fn command_in<'r>(alloc: Global, row: &'r Row) -> Result<Command<'r>, Refusal>
+    requires { is_command row.now.verb ≡ true }
+    ensures { Answers (λ c. Some (command_view c)) result (command_of (row_view row.now)) }
+{
+    let repo = repo_in(alloc, row.repo.as_slice())?;
+    let bytes = row.body.as_slice();
+    match row.verb {
+        Verb::Start => Ok(Command::Start { repo }),
+        Verb::Status => Ok(Command::Status {
+            repo,
+            number: number_in(row),
+        }),
+        Verb::Append => Ok(Command::Append {
+            repo,
+            number: number_in(row),
+            range: range_in(row.range.as_slice())?,
+            bytes,
+        }),
+        Verb::Close => Ok(Command::Close {
+            repo,
+            number: number_in(row),
+            digest: digest_in(row.digest.as_slice())?,
+            range: range_in(row.range.as_slice())?,
+            bytes,
+        }),
+        Verb::Abandon => Ok(Command::Abandon {
+            repo,
+            number: number_in(row),
+        }),
+        Verb::Mount => Ok(Command::Mount {
+            repo,
+            from: source_in(alloc, row.key.as_slice())?,
+            digest: digest_in(row.digest.as_slice())?,
+        }),
+        Verb::Delete => Ok(Command::Delete {
+            repo,
+            digest: digest_in(row.digest.as_slice())?,
+        }),
+        Verb::PutManifest => Ok(Command::PutManifest { repo, bytes }),
+        Verb::GetManifest => Ok(Command::GetManifest {
+            repo,
+            digest: digest_in(row.digest.as_slice())?,
+        }),
+        Verb::DeleteManifest => Ok(Command::DeleteManifest {
+            repo,
+            digest: digest_in(row.digest.as_slice())?,
+        }),
+        _ => unreachable!(),
+    }
+}
