@@ -1,7 +1,7 @@
 -- What is found in the slots of a table.
 use Rattle.std.proofs.Common.{◌≡◌, ℕ, ◌+◌, ◌<◌, ◌≤◌, Bool, true, false, cond, List, [], ◌∷◌, Ok, drop, take, length-drop, ◌-◌, length, get_or, Option, Some, None, is_some, refl, sym, ap, ◌∙◌, arith}
 use Prim.Native.Nat.{zero, suc}
-use Rattle.std.specs.Prelude.{slice_get, position, nat_le, ◌&&◌, ◌||◌, replicate}
+use Rattle.std.specs.Prelude.{slice_get, position, nat_le, ◌&&◌, replicate}
 use Rattle.std.specs.Option.{option_map, option_map_or}
 use Rattle.std.specs.List.{list_any}
 use Rattle.std.proofs.lemmas.Bool.{and_from, le-leb, or_right}

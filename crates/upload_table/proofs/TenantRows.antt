@@ -12,7 +12,7 @@ use Rattle.std.specs.FinMap.Entries.{below_all}
 use Rattle.std.proofs.lemmas.Bool.{and_from, and_parts, false≢true, le-leb, lt-leb}
 use Rattle.std.proofs.lemmas.Bool.Decides.{nat_tests}
 use Rattle.std.proofs.lemmas.List.{length-map, map-set}
-use Rattle.std.proofs.lemmas.List.Sums.{sum_by-cons, sum_by-set, sum_by-remove, sum_by_push, get_or-le-sum_by}
+use Rattle.std.proofs.lemmas.List.Sums.{sum_by-set, sum_by-remove, sum_by_push, get_or-le-sum_by}
 use Rattle.finite_maps.proofs.Lists.{map-remove, all-push, all-remove, all-set, all_at, all_weaker, map-push, sum_by-alike}
 use Rattle.finite_maps.proofs.Rows.{from_entries-remove, from_entries-set, sum_by-map}
 use Rattle.finite_maps.proofs.Sorted.{IsApart-sorted, entries-sorted, found_at, is_sorted-remove, map_at, missing}

@@ -1,5 +1,5 @@
 -- What a table of upload sessions shows, and what its calls do.
-use Rattle.std.specs.Prelude.{◌≡◌, ℕ, ◌+◌, ◌^◌, ◌≤◌, nat_le, ◌||◌, not, Bool, Some, None, Ok, Err, List, [], ◌∷◌, length, sum, take, drop, replicate, slice_index, slice_set, if◌then◌else◌}
+use Rattle.std.specs.Prelude.{◌≡◌, ℕ, ◌+◌, ◌^◌, ◌≤◌, nat_le, ◌||◌, not, Bool, Some, Ok, Err, List, [], ◌∷◌, length, sum, take, drop, replicate, slice_index, slice_set, if◌then◌else◌}
 use Rattle.std.specs.Option.{option_map_or}
 use Rattle.std.proofs.Common.{refl}
 use Rattle.std.specs.FinMap as fmap

@@ -12,7 +12,7 @@ ghost use Rattle.upload_table.specs.Uploaded.{cut};
 ghost use Rattle.upload_table.specs.Rows.{entry_of, session_of, AreWhole, IsWhole};
 ghost use Rattle.upload_table.specs.Tenants.{charged_in, is_exhausted, no_sessions, start_here, with_chunks_here, without};
 
-use crate::upload::{Content, ChunkBuffer, Upload, charge_of, take_chunks};
+use crate::upload::{ChunkBuffer, Content, Upload, charge_of, take_chunks};
 use blob_digest::{Refusal, RepoName};
 use std::alloc::Global;
 use std::marker::Model;
