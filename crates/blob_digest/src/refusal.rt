@@ -66,7 +66,7 @@ pub enum Refusal {
     LimitReached,
     /// A lease of weight 1 cannot be shared.
     WeightSpent,
-    /// A growth was refused for want of memory.
+    /// A growth was refused as out of memory.
     Memory,
     /// The session is in hand: a chunk is on its way to it.
     Busy,

@@ -66,7 +66,7 @@ fn ascii(text: &[u8]) -> &str
 
 impl RepoName {
     /// The name that a text spells. Refused are a text that is no name of at most 255 bytes
-    /// (`NameInvalid`), and then want of memory for a copy of it (`Memory`).
+    /// (`NameInvalid`), and then `Memory`, where there is no room for a copy of it.
     #[tactic(auto, using(crate::proofs::NameGrammar::name_passes, crate::proofs::NameGrammar::no_name_fails))]
     pub fn parse(alloc: Global, text: &[u8]) -> Result<RepoName, Refusal>
         ensures value { IfOk result (λ name. (name ≡ text.now) × IsRepoName text.now) }

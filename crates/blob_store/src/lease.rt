@@ -108,7 +108,7 @@ impl<'s, S: Naming> Lease<'s, S> {
 
     /// Two leases of half the weight each. No byte is copied.
     ///
-    /// Refused is want of memory, where the bytes have no room for a reader more, and a lease of weight 1
+    /// Refused with `Memory`, where the bytes have no room for a reader more, and a lease of weight 1
     /// (`WeightSpent`). The lease comes back as it was.
     pub fn share(self) -> Result<(Lease<'s, S>, Lease<'s, S>), (Refusal, Lease<'s, S>)>
         ensures shared { IfOk result (λ r. (r.0 ≡ halved self.entry) × (r.1 ≡ halved self.entry)) }

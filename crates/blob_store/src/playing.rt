@@ -123,7 +123,7 @@ fn add_desks<S: Naming>(mut unstarted: Vec<DroppableDesk<S>>, desks: &mut Vec<De
 /// same time.
 ///
 /// All room for desks and replies is made before a worker is started. Refused, in this order: more than
-/// 1,024 desks that would be out (`LimitReached`); want of memory. Where memory is wanting, for a row or for a
+/// 1,024 desks that would be out (`LimitReached`); out of memory. Where memory runs out, for a row or for a
 /// thread, the rows that were accepted before it stand, all leases are given back, and all desks are settled.
 pub fn play<W: Threads + Wait + Sync, G: Gate + Send + Sync, S: Naming + Send + Sync>(
     rt: &W,

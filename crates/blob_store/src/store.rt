@@ -121,7 +121,7 @@ impl<S: Naming> Store<S> {
 
     /// Makes desks with empty shares.
     ///
-    /// Refused, in this order: no desks, or more than 1,024 that would be out (`LimitReached`); want of
+    /// Refused, in this order: no desks, or more than 1,024 that would be out (`LimitReached`); out of
     /// memory.
     pub fn desks(&self, rt: &impl Wait, count: u64) -> Result<Vec<Desk<S>>, Refusal>
         ensures made { IfOk result (λ v. (vec_len v ≡ count) × (sum_of v.items ≡ nothing)) }
@@ -151,7 +151,7 @@ impl<S: Naming> Store<S> {
     ///
     /// Refused, in this order: a command that can't be counted (`LimitReached`); a tenant that is not there
     /// (`NameUnknown`); a tenant that has 1,024 repositories where this one is new, or 64 sessions, or no session
-    /// number left (`LimitReached`); want of memory.
+    /// number left (`LimitReached`); out of memory.
     pub fn start(&self, rt: &impl Wait, desk: &mut Desk<S>, repo: &RepoName) -> Result<u32, Refusal>
         ensures ok { OnOk result (desk.new ≡ plus desk.old (one 0 0 0)) }
         ensures err { OnErr result (desk.new ≡ desk.old) }
@@ -211,7 +211,7 @@ impl<S: Naming> Store<S> {
     /// (`NameUnknown`); a session that is not there or another repository's (`UploadUnknown`); a session that
     /// another call has in hand (`Busy`); a range of another length than the bytes, or a session past the size
     /// limit (`SizeInvalid`); a range that does not start at the received length (`RangeInvalid`); a use past the
-    /// quota (`Quota`); want of memory. A refusal leaves the session as it was.
+    /// quota (`Quota`); out of memory. A refusal leaves the session as it was.
     pub fn append(
         &self,
         rt: &impl Wait,
@@ -236,7 +236,7 @@ impl<S: Naming> Store<S> {
     ///
     /// Refused, in this order: what `append` refuses of the last chunk; a digest that is not that of
     /// the whole, or that is kept with other bytes (`DigestInvalid`); a store that has no slot free
-    /// for a digest that is not kept (`StoreFull`); want of memory. A refusal leaves the session
+    /// for a digest that is not kept (`StoreFull`); out of memory. A refusal leaves the session
     /// without the last chunk.
     pub fn close(
         &self,
@@ -283,7 +283,7 @@ impl<S: Naming> Store<S> {
     ///
     /// Refused, in this order: a command that can't be counted (`LimitReached`); a tenant that is not there
     /// (`NameUnknown`); a tenant that has 1,024 repositories where this one is new, and, where a session is
-    /// opened, 64 sessions or no session number left (`LimitReached`); want of memory.
+    /// opened, 64 sessions or no session number left (`LimitReached`); out of memory.
     pub fn mount(
         &self,
         rt: &impl Wait,
@@ -325,7 +325,7 @@ impl<S: Naming> Store<S> {
     /// (`NameUnknown`); more than 4,194,304 bytes (`SizeInvalid`); bytes that are no manifest
     /// (`ManifestInvalid`); a reference that the repository doesn't hold (`ManifestBlobUnknown`, with the first);
     /// where the manifest is new, a tenant that has 1,024 repositories and not this one, or a repository that has
-    /// 1,024 manifests (`LimitReached`); want of memory.
+    /// 1,024 manifests (`LimitReached`); out of memory.
     pub fn put_manifest(
         &self,
         rt: &impl Wait,
@@ -350,7 +350,7 @@ impl<S: Naming> Store<S> {
     /// manifests"). Its bytes are shared, not copied.
     ///
     /// Refused, in this order: a command that can't be counted (`LimitReached`); a tenant that is not there
-    /// (`NameUnknown`); a digest under which the repository has no manifest (`ManifestUnknown`); want of memory.
+    /// (`NameUnknown`); a digest under which the repository has no manifest (`ManifestUnknown`); out of memory.
     pub fn get_manifest(
         &self,
         rt: &impl Wait,
@@ -387,7 +387,7 @@ impl<S: Naming> Store<S> {
     ///
     /// Refused, in this order: a command that can't be counted (`LimitReached`); a tenant that is not there
     /// (`NameUnknown`); a digest that is not linked in the repository (`BlobUnknown`); a slot that has no room
-    /// for one reader more (`TooManyReaders`); want of memory.
+    /// for one reader more (`TooManyReaders`); out of memory.
     pub fn lease(
         &self,
         rt: &impl Wait,

@@ -79,7 +79,7 @@ call_happens n C slots command (Refused refusal) C' low few not_memory h =
     ] in
     (λ i. (Refused refusal, h.1 i)) ∙ sym (ap (result_of C) refused)
 
--- what a book does happens to its catalog, want of memory apart
+-- what a book does happens to its catalog, unless memory ran out
 request_happens : (n : ℕ) (old new : BookState) (request : Request) (answer : Answer) → AreLow n old.slots → n ≤ 65536 → answer ≢ Refused Memory → Acts old request answer new → Happens old.catalog request answer new.catalog × AreLow (n + 1) new.slots
 request_happens n old new (Calls command) answer low few not_memory h =
     let after = low_by_one n old.slots new.slots low h.1 in

@@ -30,14 +30,14 @@ use Rattle.row_player.specs.declared.row.Verb.{Verb}
 use Rattle.row_player.specs.declared.row.Verb.TheVariants as verb
 use Rattle.blobctl.proofs.SomeCommand.{AllFit, Fits, has_command, has_lease}
 
--- ---- no outcome is want of memory
+-- ---- no outcome is `Memory`
 
--- whether a refusal is want of memory
+-- whether a refusal is `Memory`
 abbrev pub wants_memory : Refusal → Bool
 wants_memory no.Memory = true
 wants_memory _ = false
 
--- what is refused isn't want of memory
+-- what is refused isn't `Memory`
 abbrev Fine : {A : Type 0} → Result A Refusal → Type 0
 Fine (Ok a) = Unit {0}
 Fine (Err e) = wants_memory e ≡ false
@@ -166,7 +166,7 @@ module _ (C : Catalog) where
 
 -- ---- answers
 
--- an answer isn't want of memory
+-- an answer isn't `Memory`
 abbrev Good : Answer → Type 0
 Good (Refused e) = wants_memory e ≡ false
 Good _ = Unit {0}

@@ -90,7 +90,7 @@ pub record AreFound (rows : List Row) (options : Options) : Type 0 where
   pub first : options.store.first_generation ≡ 0
   pub workers : HaveWorkers rows options.workers
 
--- why what was found makes no options: a number past its limit, or a bad tenant; want of memory may come in place of either
+-- why what was found makes no options: a number past its limit, or a bad tenant; out of memory may come in place of either
 abbrev pub RefusesFound : List Row → Stop → Type 0
 RefusesFound rows (Help text) = ⊥
 RefusesFound rows (Usage text) = ((slots max_blob : ℕ) → HaveNumbers rows slots max_blob → ⊥) ⊎ ((workers : ℕ) → HaveWorkers rows workers → ⊥)
@@ -106,7 +106,7 @@ pub record SpellOptions (words : List Text) (options : Options) : Type 0 where
   pub found : AreFound (matches_of program words) options
 
 -- Why the words give no options: the first of their faults, of which a call for help is one; and where they have none, what was
--- found in them. Want of memory may come in place of any.
+-- found in them. Running out of memory may come in place of any.
 abbrev pub RefusesWords : List Text → Stop → Type 0
 RefusesWords words (Help text) = IsAmong DisplayHelp (fault_of program words)
 RefusesWords words (Usage text) = ((kind : ErrorKind) × (kind ≢ DisplayHelp) × IsAmong kind (fault_of program words)) ⊎ ((fault_of program words ≡ []) × RefusesFound (matches_of program words) (Usage text))

@@ -66,7 +66,7 @@ pub record EndsTogether {R : Type 0} (remaining : R → Option (List ℕ)) (old 
   pub played : PlayedTogether workers tenants slots max_blob rows text
 
 -- Why a run ends early: the first bad row of what was read whole; a failed read, or too long a script; a write, after the script was
--- read whole and has good rows alone; or want of memory, with no read that failed.
+-- read whole and has good rows alone; or out of memory, with no read that failed.
 abbrev pub Explains : {R : Type 0} → (R → Option (List ℕ)) → Watched R → Watched R → Fault → Type 0
 Explains remaining old new (BadRow n) = (script : Text) × IsReadWhole remaining old new script × IsFirstBad script n
 Explains remaining old new Read = (has_failed new ≡ true) ⊎ IsTooLong (remaining (inner_of old)) (remaining (inner_of new))

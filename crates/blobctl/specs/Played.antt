@@ -58,13 +58,13 @@ HappensCall C command answer C' = (answer, C') ≡ result_of C (outcome C comman
 abbrev pub HappensSweep : Catalog → Answer → Catalog → Type 0
 HappensSweep C answer C' = (swept : SweptCounts) × (answer ≡ Swept swept) × IsSweep C swept C' × (swept.retired ≡ 0)
 
--- what a store is asked for leads from one catalog to another; neither want of memory nor too many readers is answered
+-- what a store is asked for leads from one catalog to another; neither `Memory` nor `TooManyReaders` is answered
 abbrev pub Happens : Catalog → Request → Answer → Catalog → Type 0
 Happens C (Calls command) answer C' = HappensCall C command answer C'
 Happens C (Verifies size) answer C' = (answer ≡ Verified size) × (C' ≡ C)
 Happens C Sweeps answer C' = HappensSweep C answer C'
 
--- ---- the same of a book, which may refuse for want of memory in place of any answer, and a lease where a slot has too many readers
+-- ---- the same of a book, which may refuse as out of memory in place of any answer, and a lease where a slot has too many readers
 
 -- a lease is refused since a look found no room for one reader more
 abbrev pub IsCrowdedOut : List SlotSeen → Command → Refusal → Type 0
@@ -93,7 +93,7 @@ Acts s Sweeps answer t = ActsSweep s answer t.catalog × EachSlot RisesByOne s.s
 -- ---- a run
 
 -- Playing a script on a store that is made with these tenants writes this text: the replies to all its rows, in their order,
--- and then the book as it is after the last of them. The lanes hold no lease at first. Want of memory is never an answer.
+-- and then the book as it is after the last of them. The lanes hold no lease at first. Running out of memory is never an answer.
 pub record Played (tenants : List Tenant) (slots max_blob : ℕ) (script text : Text) : Type 0 where
   pub first : Catalog
   pub opened : OpensCatalog tenants slots max_blob first

@@ -62,7 +62,7 @@ rows_of tenants t [] = []
 rows_of tenants t (row ∷ rows) = if uses_repo row.verb && is_tenants tenants t row.repo then row ∷ rows_of tenants t rows else rows_of tenants t rows
 
 -- No two closes bring different wholes that have the same digest, and no reply is one that the rows of others can cause: no slot is free, or
--- the lane has a lease of the name. Too many readers and want of memory are no replies of a script.
+-- the lane has a lease of the name. `TooManyReaders` and `Memory` are no replies of a script.
 pub record IsUndisturbed {tenants : List Tenant} {slots max_blob : ℕ} {script text : Text} (one : Played tenants slots max_blob script text) : Type 0 where
   pub events : List runs.Event
   pub is_run : IsRunOf one events

@@ -22,7 +22,7 @@ stop_status BadTenant = 2
 stop_status NotUtf8 = 2
 stop_status Memory = 5
 
--- how the program stops where `clap` answers an error of this kind; want of memory may come in place of either text
+-- how the program stops where `clap` answers an error of this kind; out of memory may come in place of either text
 abbrev pub IsStopFor : ErrorKind → Stop → Type 0
 IsStopFor kind (Help text) = kind ≡ DisplayHelp
 IsStopFor kind (Usage text) = (kind ≢ DisplayHelp) × (kind ≢ OutOfMemory)

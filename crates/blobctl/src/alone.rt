@@ -46,8 +46,8 @@ fn play_in<N: PinsName>(
     Ok((book, replies))
 }
 
-/// Plays all rows on a new book, and answers the book and one reply for each row. Refused is want of
-/// memory alone.
+/// Plays all rows on a new book, and answers the book and one reply for each row. Refused with
+/// `Memory` alone.
 pub fn play_alone(
     alloc: Global,
     options: &Options,

@@ -16,7 +16,7 @@ pub enum Fault {
     Read,
     /// A write failed, or took no bytes.
     Write,
-    /// A growth was refused for want of memory, in the program or in a command's answer.
+    /// A growth was refused as out of memory, in the program or in a command's answer.
     Memory,
 }
 
@@ -51,7 +51,7 @@ impl fmt::Display for Fault {
 
 impl Fault {
     /// The program's exit status: 1 for a bad row, 3 for a read fault, 4 for a write fault, 5 for
-    /// want of memory.
+    /// out of memory.
     pub fn status(&self) -> u8
         ensures { result ≡ fault_status self.now }
     {
@@ -63,7 +63,7 @@ impl Fault {
         }
     }
 
-    /// Appends the line that the program prints, its line feed included. Refused is want of memory
+    /// Appends the line that the program prints, its line feed included. Refused with `Memory`
     /// alone, and then the text is as it was.
     pub fn write(&self, out: &mut String) -> Result<(), Refusal>
         ensures ok { OnOk result (string_bytes out.new ≡ string_bytes out.old ++ fault_text self.now) }

@@ -39,7 +39,7 @@ fn add_piece<R: Read>(
 /// The bytes of a reader up to its end, of which no read has failed before. Any failure of a read ends the reading, an interrupted read
 /// too, so that where bytes are answered no read failed. No more than one byte past the longest
 /// script is taken. `Read` comes only where a read failed or the script is too long, and a failed read
-/// is never told as want of memory, nor that as `Read`.
+/// is never told as `Memory`, nor that as `Read`.
 pub fn read_script<R: Read>(alloc: Global, reader: &mut Watched<R>) -> Result<Vec<u8>, Fault>
     requires { has_failed reader.old ≡ false }
     ensures whole { IfOk result (λ v. IsReadWhole R.remaining reader.old reader.new v.items) }

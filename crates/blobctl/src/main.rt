@@ -12,7 +12,7 @@
 //! replies and the book that the definitions of the store give for the script's rows; what one of
 //! several workers has written is one reply for each row, in the order of the rows, those of each worker
 //! as its rows in their order are answered, and a sound book; a bad row is the first one; a bad row, a
-//! read fault and want of memory write nothing; a read fault comes only where a read failed or the
+//! read fault and running out of memory write nothing; a read fault comes only where a read failed or the
 //! script is too long, and where the run ends otherwise no read failed. A write fault where no write
 //! failed is ruled out by tests alone.
 //!
@@ -113,7 +113,7 @@ fn stopped(rt: &HostRuntime, stop: &Stop) -> u8
     stop.status()
 }
 
-/// Why the words of the command line can't be read: for want of memory, or since one of them is not
+/// Why the words of the command line can't be read: since memory ran out, or since one of them is not
 /// UTF-8.
 fn unread(error: io::Error) -> Stop {
     match error.kind() {

@@ -27,7 +27,7 @@ pub enum Stop {
     BadTenant,
     /// An argument is not UTF-8.
     NotUtf8,
-    /// A growth was refused for want of memory.
+    /// A growth was refused as out of memory.
     Memory,
 }
 
@@ -48,7 +48,7 @@ impl<T: Drop> From<AllocFailed<T>> for Stop {
 }
 
 impl Stop {
-    /// The program's exit status: 0 for help, 2 for wrong arguments, 5 for want of memory.
+    /// The program's exit status: 0 for help, 2 for wrong arguments, 5 where memory ran out.
     pub fn status(&self) -> u8
         ensures { result ≡ stop_status self.now }
     {
@@ -74,7 +74,7 @@ impl Stop {
         }
     }
 
-    /// Appends what the program prints. Refused is want of memory alone, and then the text is as it
+    /// Appends what the program prints. Refused with `Memory` alone, and then the text is as it
     /// was.
     pub fn write(&self, out: &mut String) -> Result<(), Refusal>
         ensures ok { OnOk result (string_bytes out.new ≡ string_bytes out.old ++ stop_text self.now) }

@@ -23,7 +23,7 @@ use std::io::{Read, Write};
 use std::sync::Wait;
 use std::thread::Threads;
 
-/// The rows of the script that a reader gives. The script is let go with the last of them.
+/// The rows of the script that a reader gives. The script is dropped with the last of them.
 fn read_all<R: Read>(alloc: Global, reader: &mut Watched<R>) -> Result<Vec<Row>, Fault>
     requires { has_failed reader.old ≡ false }
     ensures rows { IfOk result (λ v. (script : Text) × IsReadWhole R.remaining reader.old reader.new script × AreRowsOf script (map row_view v.items)) }
@@ -38,7 +38,7 @@ fn read_all<R: Read>(alloc: Global, reader: &mut Watched<R>) -> Result<Vec<Row>,
 /// says, and writes the replies in the order of the rows, and then the book. It starts no thread, and waits
 /// for none.
 ///
-/// No read of the reader has failed before. A bad row, a read fault and want of memory write nothing. A bad row is the script's first one, and
+/// No read of the reader has failed before. A bad row, a read fault and running out of memory write nothing. A bad row is the script's first one, and
 /// a read fault comes only where a read failed or the script is longer than 268,435,456 bytes; where
 /// the run ends in another way, no read failed and the script was no longer. One byte more than that
 /// is read at most. After a write fault nothing is known of what was written. Writing takes no memory. While it plays, the
@@ -70,7 +70,7 @@ pub fn run_one<R: Read, W: Write>(
 /// written in the order of the rows all the same, and then the book. How the rows of two workers follow one another
 /// is not said, so of some scripts the text may be another the next time; a row may be answered `Busy` then.
 ///
-/// It ends early as `run_one` does. Want of memory is told also where a thread can't be started.
+/// It ends early as `run_one` does. Running out of memory is told also where a thread can't be started.
 pub fn run<T: Threads + Wait + Sync, R: Read, W: Write>(
     rt: &T,
     alloc: Global,

@@ -59,8 +59,8 @@ fn add_row(
     }
 }
 
-/// The rows of a script, or its first bad row. Want of memory is told apart from a bad row. The
-/// records are let go one by one as their rows are made.
+/// The rows of a script, or its first bad row. Running out of memory is told apart from a bad row. The
+/// records are dropped one by one as their rows are made.
 pub fn read_rows(alloc: Global, script: &[u8]) -> Result<Vec<Row>, Fault>
     ensures rows { IfOk result (λ v. AreRowsOf script.now (map row_view v.items)) }
     ensures fault { IfErr result (λ e. ExplainsRows script.now e) }

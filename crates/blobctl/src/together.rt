@@ -51,7 +51,7 @@ fn play_on<T: Threads + Wait + Sync, W: Write, S: Naming + Send + Sync>(
 
 /// Plays all rows by workers on a new store, and writes the replies in the order of the rows, and then the book, which
 /// has the tenants, the quotas, the slots and the limit on blobs of the options.
-/// Refused is want of memory, and then nothing is written; and what the writer refuses.
+/// Refused with `Memory`, and then nothing is written; and what the writer refuses.
 pub fn play_together<T: Threads + Wait + Sync, W: Write>(
     rt: &T,
     alloc: Global,

@@ -28,7 +28,7 @@ pub record IsWithinLimits (ts : List Tenant) : Type 0 where
   pub few : length ts ≤ max_tenants
   pub quotas : All (λ t. t.quota ≤ max_quota) ts
 
--- Why a list of tenants is refused: for a name, and else for a limit, and else for want of memory alone.
+-- Why a list of tenants is refused: for a name, and else for a limit, and else as out of memory alone.
 abbrev pub RefusesTenants : Refusal → List Tenant → Type 0
 RefusesTenants NameInvalid given = ¬ (HasNames given)
 RefusesTenants LimitReached given = HasNames given × (¬ (IsWithinLimits given))

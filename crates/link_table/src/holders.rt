@@ -66,7 +66,7 @@ pub fn holders_of(holders: &Holders, digest: &Digest) -> u64
     holders.counts.get(digest).copied().unwrap_or(0)
 }
 
-/// One more repository of a tenant holds a digest. Refused is want of memory alone, and then nothing
+/// One more repository of a tenant holds a digest. Refused with `Memory` alone, and then nothing
 /// has changed.
 pub fn increment(holders: &mut Holders, digest: &Digest) -> Result<(), Refusal>
     requires { count_in holders.old digest.now + 1 < 2 ^ 64 }

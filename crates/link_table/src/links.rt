@@ -79,7 +79,7 @@ impl Links {
     ///
     /// Refused are, in this order, a name that is no component of a repository's name (OCI
     /// Distribution Specification 1.1, "Pulling manifests") or comes twice (`NameInvalid`); no
-    /// tenant, more than 256, or a quota above 2^50 bytes (`LimitReached`); and want of memory.
+    /// tenant, more than 256, or a quota above 2^50 bytes (`LimitReached`); and out of memory.
     pub fn new(alloc: Global, tenants: Vec<(String, u64)>) -> Result<Links, Refusal>
         ensures opened { IfOk result (λ l. Opens (tenants_shown tenants.items) l) }
         ensures refused { IfErr result (λ e. RefusesTenants e (tenants_shown tenants.items)) }
@@ -176,7 +176,7 @@ impl Links {
     }
 
     /// Makes a repository of a tenant known, and answers whether it is new. A tenant has at most
-    /// 1,024 repositories: one more is refused (`LimitReached`), and so is want of memory. It takes the
+    /// 1,024 repositories: one more is refused (`LimitReached`), and so is running out of memory. It takes the
     /// logarithm of the number of the tenant's repositories, and a new one moves those behind it.
     pub fn appear(&mut self, tenant: u16, repo: &RepoName) -> Result<bool, Refusal>
         requires there { tenant < length self.old.tenants }
@@ -198,7 +198,7 @@ impl Links {
     }
 
     /// Links a blob of this digest and size in a repository of a tenant, and answers whether the
-    /// link is new. Want of memory is refused. Beside finding the repository, it takes the logarithm of
+    /// link is new. Running out of memory is refused. Beside finding the repository, it takes the logarithm of
     /// the number of digests that the tenant holds.
     pub fn link(
         &mut self,
@@ -301,7 +301,7 @@ impl Links {
 
     /// Keeps a manifest of a repository under its digest, and shares its bytes. One that is there already
     /// stays, and is accepted also where the repository has 1,024. Refused are one beyond 1,024
-    /// (`LimitReached`), and want of memory; nothing has changed then. It takes the logarithm of the
+    /// (`LimitReached`), and out of memory; nothing has changed then. It takes the logarithm of the
     /// numbers of repositories that have had manifests and of the repository's manifests, and for each
     /// reference that of the number of the repository's references.
     pub fn put_manifest(

@@ -48,7 +48,7 @@ impl ManifestTable {
         }
     }
 
-    /// Keeps a manifest of a repository that had none so far. Refused is want of memory alone, and then
+    /// Keeps a manifest of a repository that had none so far. Refused with `Memory` alone, and then
     /// nothing has changed.
     fn put_first(
         &mut self,
@@ -70,7 +70,7 @@ impl ManifestTable {
     }
 
     /// Keeps a manifest of a repository under its digest. One that is there already stays. Refused are
-    /// one beyond 1,024 (`LimitReached`), and want of memory; nothing has changed then.
+    /// one beyond 1,024 (`LimitReached`), and out of memory; nothing has changed then.
     pub fn put(
         &mut self,
         alloc: Global,

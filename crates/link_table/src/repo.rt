@@ -24,7 +24,7 @@ pub fn place_of(rows: &[Repo], repo: &RepoName) -> Result<usize, usize>
     rows.binary_search_by(|r| r.name.cmp(repo))
 }
 
-/// A repository holds a blob of this digest and size. Refused is want of memory alone, and then
+/// A repository holds a blob of this digest and size. Refused with `Memory` alone, and then
 /// nothing has changed.
 pub fn insert_blob(repo: &mut Repo, digest: &Digest, size: u64) -> Result<(), Refusal>
     ensures name { repo.new.name ≡ repo.old.name }

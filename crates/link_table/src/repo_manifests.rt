@@ -33,7 +33,7 @@ fn forget(referrers: &mut Referrers, refs: &[Digest], manifest: &Digest)
     }
 }
 
-/// A manifest that refers to nothing so far refers to these digests. Refused is want of memory alone,
+/// A manifest that refers to nothing so far refers to these digests. Refused with `Memory` alone,
 /// and then nothing has changed.
 fn refer(referrers: &mut Referrers, refs: &[Digest], manifest: &Digest) -> Result<(), Refusal>
     requires { (d : Text) → contains refer_cmp referrers.old (d, Some manifest.now) ≡ false }
@@ -86,7 +86,7 @@ impl RepoManifests {
     }
 
     /// Keeps a manifest under its digest. One that is there already stays. Refused are one beyond
-    /// 1,024 (`LimitReached`), and want of memory; nothing has changed then.
+    /// 1,024 (`LimitReached`), and out of memory; nothing has changed then.
     pub fn put(&mut self, manifest: Arc<Manifest, Global>) -> Result<(), Refusal>
         ensures { Does (λ u. u) result self.old self.new (put_in self.old manifest.value) }
     {

@@ -52,7 +52,7 @@ impl TenantRepos {
     }
 
     /// Makes a repository known, and answers whether it is new. Refused are one beyond 1,024
-    /// (`LimitReached`), and want of memory.
+    /// (`LimitReached`), and out of memory.
     pub fn appear(&mut self, alloc: Global, repo: &RepoName) -> Result<bool, Refusal>
         ensures { Does (λ b. b) result self.old self.new (appear_on self.old repo.now) }
     {
@@ -84,7 +84,7 @@ impl TenantRepos {
         }
     }
 
-    /// Links a blob of this digest and size in a repository that is there. Refused is want of memory
+    /// Links a blob of this digest and size in a repository that is there. Refused with `Memory`
     /// alone, and then nothing has changed.
     pub fn link(&mut self, repo: &RepoName, digest: &Digest, size: u64) -> Result<(), Refusal>
         requires { set.contains self.old.repos repo.now ≡ true }

@@ -10,7 +10,7 @@ use std::io::Print;
 pub enum Answer {
     /// What it has to.
     Wanted,
-    /// Want of memory.
+    /// Running out of memory.
     Memory,
     /// Something else.
     Other,

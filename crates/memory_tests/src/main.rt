@@ -3,7 +3,7 @@
 //! It stands on all libraries of the repository, and is no part of the product. Standard input has a number, of
 //! growths that are made before all else; the script `refuse_each` has one growth of the process refused, and so
 //! lets each growth of the calls be refused in turn. Each call has a line: it was accepted; or it was refused for
-//! want of memory, had changed nothing, and was accepted when it was made again; or what else came. A growth that is
+//! out of memory, had changed nothing, and was accepted when it was made again; or what else came. A growth that is
 //! made for the calls, and by none of them, ends the program early.
 #![tactic(auto)]
 

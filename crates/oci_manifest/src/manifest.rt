@@ -39,7 +39,7 @@ fn digest_of(bytes: &[u8]) -> Digest
 
 /// Reads a manifest (OCI Image Specification 1.1, "Image Manifest" and "Image Index") and keeps its
 /// bytes as they are. Refused are more than 4,194,304 bytes (`SizeInvalid`), then bytes that are no
-/// manifest (`ManifestInvalid`); want of memory (`Memory`) may stand in place of the second. It takes
+/// manifest (`ManifestInvalid`); out of memory (`Memory`) may stand in place of the second. It takes
 /// a copy of the bytes, and for the time of the call some multiple of them.
 pub fn read(alloc: Global, bytes: &[u8]) -> Result<Manifest, Refusal>
     ensures value { IfOk result (λ manifest. manifest ≡ bytes.now) }

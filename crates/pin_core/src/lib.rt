@@ -22,7 +22,7 @@ pub use rows::{given, in_phase, reclaimed};
 pub use state::PinState;
 pub use steps::{run, step};
 pub use word::{CONDEMNED, LAST_GENERATION, MAX_WEIGHT, NEW_WEIGHT, USED, WordRow, pack, unpack};
-pub use world::{PinRecord, Phase, PinEntry, PinRow};
+pub use world::{Phase, PinEntry, PinRecord, PinRow};
 
 #[cfg(test)]
 mod recount_tests;

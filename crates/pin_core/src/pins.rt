@@ -5,7 +5,7 @@ ghost use Rattle.std.specs.List.{filter};
 ghost use Rattle.pin_core.specs.World.{IsNamed, hold_named, weight_on};
 ghost use Rattle.pin_core.specs.Events.{IsClear, half, halve};
 
-use crate::world::{PinRecord, PinEntry};
+use crate::world::{PinEntry, PinRecord};
 
 /// The pin of a name.
 pub fn find(pins: &[PinEntry], name: u64) -> Option<PinRecord>

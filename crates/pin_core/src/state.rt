@@ -11,7 +11,7 @@ use crate::event::Event;
 use crate::pins::{drop_named, find, halve_named, halved, is_clear, sum_on};
 use crate::rows::{given, in_phase, is_new, reclaimed};
 use crate::word::{MAX_WEIGHT, NEW_WEIGHT, WordRow};
-use crate::world::{PinRecord, Phase, PinEntry, PinRow};
+use crate::world::{Phase, PinEntry, PinRecord, PinRow};
 use blob_digest::{Digest, MAX_SLOTS, Refusal};
 use std::alloc::Global;
 use std::marker::Model;

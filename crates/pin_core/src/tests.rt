@@ -1,4 +1,4 @@
-use crate::{Event, PinRecord, Phase, PinState, WordRow, laws, pack, run, step, unpack};
+use crate::{Event, Phase, PinRecord, PinState, WordRow, laws, pack, run, step, unpack};
 use blob_digest::{Algorithm, Digest, Refusal};
 use std::alloc::Global;
 use std::process::Abort;

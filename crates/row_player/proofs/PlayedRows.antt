@@ -12,7 +12,7 @@ use Rattle.row_player.specs.Rows.{RowView}
 use Rattle.row_player.specs.declared.row.Row.{Row}
 use Rattle.row_player.specs.declared.row.Verb.TheVariants as verb
 
--- a store refuses a lease, or memory is wanting
+-- a store refuses a lease, or memory runs out
 pub lease_refused : {S : Type 0} (acts : S → Request → Answer → S → Type 0) (s t : S) (L M : Leases) (line : RowView) (refusal : Refusal) → line.verb ≡ verb.Lease → command_of line ≡ Ok (Some (Lease line.repo line.digest)) → named L line ≡ None
     → M ≡ L → ((refusal ≡ Memory) × (t ≡ s)) ⊎ acts s (Calls (Lease line.repo line.digest)) (Refused refusal) t → ((refusal ≡ Memory) × ◌≡◌ {A = S × Leases} (t, M) (s, L)) ⊎ RowStep acts (s, L) line (Refused refusal) (t, M)
 lease_refused acts s t L M line refusal is spells free same why = elim why [

@@ -116,7 +116,7 @@ RowStep acts old row answer new =
     StoreRow acts old row answer new ⊎ LeaseRow acts old row answer new ⊎ ReadRow old row answer new
     ⊎ ShareRow old row answer new ⊎ VerifyRow acts old row answer new ⊎ GiveBackRow old row answer new ⊎ SweepRow acts old row answer new
 
--- what playing a row answers: its reply, or its refusal, or want of memory with nothing changed
+-- what playing a row answers: its reply, or its refusal, or out of memory with nothing changed
 abbrev pub AnswersRow : {S : Type 0} → (S → Request → Answer → S → Type 0) → State S → RowView → Result Reply Refusal → State S → Type 0
 AnswersRow acts old row (Ok reply) new = RowStep acts old row (answer_of reply) new
 AnswersRow acts old row (Err refusal) new = ((refusal ≡ Memory) × (new ≡ old)) ⊎ RowStep acts old row (Refused refusal) new
@@ -131,7 +131,7 @@ abbrev pub AnswersRead : Leases → RowView → Result Reply Refusal → Type 0
 AnswersRead leases row (Ok reply) = answer_of reply ≡ read_of (named leases row) (piece_of row.range)
 AnswersRead leases row (Err refusal) = (refusal ≡ Memory) ⊎ (Refused refusal ≡ read_of (named leases row) (piece_of row.range))
 
--- the rows were played in their order, each with one answer, and no answer was want of memory
+-- the rows were played in their order, each with one answer, and no answer was `Memory`
 abbrev pub Plays : {S : Type 0} → (S → Request → Answer → S → Type 0) → State S → List RowView → List Answer → State S → Type 0
 Plays acts old [] [] new = new ≡ old
 Plays {S} acts old (row ∷ rows) (answer ∷ answers) new = (mid : State S) × RowStep acts old row answer mid × (answer ≢ Refused Memory) × Plays acts mid rows answers new

@@ -21,14 +21,14 @@ pub trait BlobLease {
         ensures { result ≡ length (lent self.now).bytes };
 
     /// The bytes from a start to an end, both included, or to the end of the blob, without a copy.
-    /// Refused is want of memory alone.
+    /// Refused with `Memory` alone.
     fn piece(&self, start: u64, end: u64) -> Result<Piece, Refusal>
         requires ordered { start ≤ end }
         requires small { end < 2 ^ 63 }
         ensures { MatchResult result (λ p. p ≡ between (lent self.now).bytes start end) (λ e. e ≡ Refusal.Memory) };
 
     /// Two leases of half the weight each. A lease of weight 1 comes back, refused with `WeightSpent`,
-    /// and any lease where memory is wanting.
+    /// and any lease where memory runs out.
     fn share(self) -> Result<(Self, Self), (Refusal, Self)>
         ensures { MatchResult result (λ p. ((lent self).weight ≢ 1) × (lent p.0 ≡ halved (lent self)) × (lent p.1 ≡ halved (lent self))) (λ e. (lent e.1 ≡ lent self) × ((e.0 ≡ Refusal.Memory) ⊎ ((e.0 ≡ Refusal.WeightSpent) × ((lent self).weight ≡ 1)))) };
 

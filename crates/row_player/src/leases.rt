@@ -52,7 +52,7 @@ fn release<L: BlobLease>(room: Option<L>) {
 }
 
 /// Puts a lease, or room for one, under a name, and answers what was there. What is put comes back
-/// where memory is wanting, which it is not at a name that has a row.
+/// where memory runs out, which it is not at a name that has a row.
 fn put<'r, L: BlobLease>(
     table: &mut Table<'r, L>,
     name: LeaseName<'r>,
@@ -77,7 +77,7 @@ fn put<'r, L: BlobLease>(
     }
 }
 
-/// Makes room under a name that has no lease. Refused is want of memory alone.
+/// Makes room under a name that has no lease. Refused with `Memory` alone.
 fn reserve<'r, L: BlobLease>(table: &mut Table<'r, L>, name: LeaseName<'r>) -> Result<(), Refusal>
     requires free { fmap.get (leases_in L.lent table.old) (name_at name) ≡ None }
     ensures same { leases_in L.lent table.new ≡ leases_in L.lent table.old }
@@ -133,7 +133,7 @@ fn held_in<'t, 'r, L: BlobLease>(table: &'t Table<'r, L>, name: LeaseName<'r>) -
 }
 
 /// Asks a backend for a lease, which the table keeps under a name that has none. Room is made first, so
-/// that want of memory changes nothing.
+/// that out of memory changes nothing.
 fn lend_in<'r, B: Backend>(
     backend: &mut B,
     table: &mut Table<'r, B::Lease>,
@@ -156,7 +156,7 @@ fn lend_in<'r, B: Backend>(
     }
 }
 
-/// Makes two leases of one. Room for the second is made first, so that want of memory changes nothing.
+/// Makes two leases of one. Room for the second is made first, so that out of memory changes nothing.
 fn share_in<'r, L: BlobLease>(
     table: &mut Table<'r, L>,
     name: LeaseName<'r>,
@@ -226,7 +226,7 @@ fn return_in<'r, L: BlobLease>(table: &mut Table<'r, L>, name: LeaseName<'r>) ->
 }
 
 /// Asks a backend for a lease, which is kept under a name that has none, and answers the blob's size in
-/// bytes. Want of memory changes nothing.
+/// bytes. Running out of memory changes nothing.
 pub fn lend<'r, B: Backend>(
     backend: &mut B,
     leases: &mut Leases<'r, B::Lease>,
@@ -270,7 +270,7 @@ impl<'r, L: BlobLease> Leases<'r, L> {
     }
 
     /// Makes two leases of one: the first name keeps half of the weight, the second gets the other half.
-    /// Want of memory changes nothing.
+    /// Running out of memory changes nothing.
     pub fn share(&mut self, name: LeaseName<'r>, second: LeaseName<'r>) -> Result<Reply, Refusal>
         ensures { MatchResult result (λ r. (answer_of r, self.new) ≡ shared_in self.old (name_at name.entry) (name_at second.entry)) (λ e. ((e ≡ Refusal.Memory) × (self.new ≡ self.old)) ⊎ ((Refused e, self.new) ≡ shared_in self.old (name_at name.entry) (name_at second.entry))) }
     {

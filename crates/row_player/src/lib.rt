@@ -7,7 +7,7 @@
 //! It promises, of whatever the backend may do: rows are played in their order, each with one answer; a row
 //! whose field spells nothing is refused for the first such field and changes nothing; else it asks the
 //! backend for the command that it spells and answers what that answers; each lane keeps its leases by their
-//! names, and reads, shares and returns them as the definitions say; want of memory ends the play and is no
+//! names, and reads, shares and returns them as the definitions say; out of memory ends the play and is no
 //! row's answer. Of several workers each plays the rows of its lanes, asking a gate before and after each, and the
 //! replies of all are put together in the order of the rows. The text of a reply is that of its answer.
 #![tactic(auto)]

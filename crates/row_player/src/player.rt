@@ -97,7 +97,7 @@ fn play_row<'r, B: Backend>(
 }
 
 /// Plays a row, and answers its reply. Fields are refused in the order repository, source, digest,
-/// range, and then the call itself may refuse. Want of memory changes nothing.
+/// range, and then the call itself may refuse. Running out of memory changes nothing.
 pub fn act<'r, B: Backend>(
     alloc: Global,
     backend: &mut B,
@@ -112,14 +112,14 @@ pub fn act<'r, B: Backend>(
     }
 }
 
-/// Whether a reply tells of want of memory.
+/// Whether a reply tells of out of memory.
 fn is_memory(reply: &Reply) -> bool
     ensures { IsTrue result ↔ (answer_of reply.now ≡ Refused Refusal.Memory) }
 {
     matches!(reply, Reply::Refused(Refusal::Memory))
 }
 
-/// Plays a row between the two calls of a gate, and adds its reply to those before. Refused is want of memory alone.
+/// Plays a row between the two calls of a gate, and adds its reply to those before. Refused with `Memory` alone.
 fn play_next<'r, B: Backend, G: Gate>(
     alloc: Global,
     backend: &mut B,
@@ -145,7 +145,7 @@ fn play_next<'r, B: Backend, G: Gate>(
 }
 
 /// Plays a worker's rows in their order with the leases that its lanes hold, and answers one reply for each. It ends
-/// at the first want of memory.
+/// at the first out of memory.
 fn play_own<'r, B: Backend, G: Gate>(
     alloc: Global,
     backend: &mut B,
@@ -170,7 +170,7 @@ fn play_own<'r, B: Backend, G: Gate>(
 }
 
 /// Plays a worker's rows in their order, and answers one reply for each, in the list that is given, which has room for
-/// them (`Worker::room`). The gate is asked before and after each row. It ends at the first want of memory; the rows
+/// them (`Worker::room`). The gate is asked before and after each row. It ends at the first out of memory; the rows
 /// that were accepted before it stand. The leases that the worker's lanes still hold at the end are given back.
 pub fn play_rows<B: Backend, G: Gate>(
     alloc: Global,
@@ -191,7 +191,7 @@ pub fn play_rows<B: Backend, G: Gate>(
     played
 }
 
-/// Plays all rows in their order, and answers one reply for each. It ends at the first want of
+/// Plays all rows in their order, and answers one reply for each. It ends at the first out of
 /// memory; the rows that were accepted before it stand. The leases that the lanes still hold at the
 /// end are given back.
 pub fn play<B: Backend>(alloc: Global, backend: &mut B, rows: &[Row]) -> Result<Vec<Reply>, Refusal>

@@ -111,7 +111,7 @@ impl fmt::Display for Reply {
 
 impl Reply {
     /// Appends the text of the reply, without the row's number and without a line feed. Refused is
-    /// want of memory alone, and then the text is as it was.
+    /// out of memory alone, and then the text is as it was.
     pub fn write(&self, out: &mut String) -> Result<(), Refusal>
         ensures ok { OnOk result (string_bytes out.new ≡ string_bytes out.old ++ reply_text (answer_of self.now)) }
         ensures err { OnErr result (string_bytes out.new ≡ string_bytes out.old) }

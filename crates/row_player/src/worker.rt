@@ -34,7 +34,7 @@ impl Worker {
         rows.iter().filter(|row| self.plays(row)).count()
     }
 
-    /// A list without replies that has room for those of this worker's rows. Refused is want of memory alone.
+    /// A list without replies that has room for those of this worker's rows. Refused with `Memory` alone.
     pub fn room(&self, alloc: Global, rows: &[Row]) -> Result<Vec<Reply>, Refusal>
         ensures empty { IfOk result (λ v. v.items ≡ []) }
         ensures room { IfOk result (λ v. length (own_rows self.now.workers self.now.number (map row_view rows.now)) ≤ vec_capacity v) }

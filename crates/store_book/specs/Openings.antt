@@ -29,7 +29,7 @@ pub record OpensBook (given : List Tenant) (count max_blob first : ℕ) (book : 
   pub catalog : OpensCatalog given count max_blob book.catalog
   pub slots : book.slots ≡ replicate count (record { generation = first; phase = phase.Free; digest = None; bound = 0; looks = 0 })
 
--- Why a book isn't opened: for a tenant's name, and else for a limit. Want of memory may come in place of either.
+-- Why a book isn't opened: for a tenant's name, and else for a limit. Running out of memory may come in place of either.
 abbrev pub RefusesBook : Refusal → List Tenant → ℕ → ℕ → Type 0
 RefusesBook NameInvalid given slots max_blob = ¬ (HasNames given)
 RefusesBook LimitReached given slots max_blob = HasNames given × (¬ (IsWithinLimits given × IsSized slots max_blob))

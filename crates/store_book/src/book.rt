@@ -64,7 +64,7 @@ impl Book {
     /// free; and the words of its slots.
     ///
     /// Refused, in this order: a tenant's name that is no component of a repository's name or comes
-    /// twice (`NameInvalid`); a count, a quota or a size beyond its limit (`LimitReached`); want of
+    /// twice (`NameInvalid`); a count, a quota or a size beyond its limit (`LimitReached`); out of
     /// memory.
     pub fn new(alloc: Global, config: &Config) -> Result<(Book, Pins), Refusal>
         ensures opened { IfOk result (λ r. OpensBook (tenants_shown config.now.tenants.items) config.now.slots config.now.max_blob config.now.first_generation r.0) }
@@ -93,7 +93,7 @@ impl Book {
     ///
     /// Refused, in this order: a tenant that is not there (`NameUnknown`); a tenant that has 1,024
     /// repositories where this one is new, or 64 sessions, or no session number left
-    /// (`LimitReached`); want of memory.
+    /// (`LimitReached`); out of memory.
     pub fn start(&mut self, repo: &RepoName) -> Result<u32, Refusal>
         ensures does { Does (λ n. n) result self.old.catalog self.new.catalog (start self.old.catalog repo.now) }
         ensures slots { (self.new.table ≡ self.old.table) × (self.new.slots ≡ self.old.slots) }
@@ -130,7 +130,7 @@ impl Book {
     /// Refused, in this order: a tenant that is not there (`NameUnknown`); a session that is not there
     /// or another repository's (`UploadUnknown`); a session that is in hand (`Busy`); a range of another
     /// length than the bytes, or a session past the size limit (`SizeInvalid`); a range that does not
-    /// start at the received length (`RangeInvalid`); a use past the quota (`Quota`); want of memory.
+    /// start at the received length (`RangeInvalid`); a use past the quota (`Quota`); out of memory.
     pub fn append(
         &mut self,
         repo: &RepoName,
@@ -158,7 +158,7 @@ impl Book {
     ///
     /// Refused, in this order: what `append` refuses of the last chunk; a digest that is not that of
     /// the whole, or that is kept with other bytes (`DigestInvalid`); a store that has no slot free
-    /// for a digest that is not kept (`StoreFull`); want of memory. A refusal leaves the session
+    /// for a digest that is not kept (`StoreFull`); out of memory. A refusal leaves the session
     /// without the last chunk.
     pub fn close(
         &mut self,
@@ -215,7 +215,7 @@ impl Book {
     /// Where none was filled in, the reserve is free again. It takes no memory.
     ///
     /// Refused, as `UploadUnknown`, is a hand that this book has no session in hand for: none with its
-    /// number and its lengths. The hand is then let go, and nothing changes.
+    /// number and its lengths. The hand is then dropped, and nothing changes.
     pub fn put_back(&mut self, hand: Hand) -> Result<u64, Refusal>
         ensures does { DoesExactly (λ n. n) result self.old.catalog self.new.catalog (put_back self.old.catalog hand) }
         ensures slots { (self.new.table ≡ self.old.table) × (self.new.slots ≡ self.old.slots) }
@@ -235,7 +235,7 @@ impl Book {
     /// Refused, in this order: a hand that this book has no session in hand for, as `put_back` does
     /// (`UploadUnknown`); a digest that is not that of the whole, or that is kept with other bytes
     /// (`DigestInvalid`); a store that has no slot free for a digest that is not kept (`StoreFull`);
-    /// want of memory. The first changes nothing; after the others the session is as before it was
+    /// out of memory. The first changes nothing; after the others the session is as before it was
     /// taken.
     pub fn finish(&mut self, pins: &Pins, hand: Hand, digest: &Digest) -> Result<u64, Refusal>
         requires table { self.old.table ≡ pins.now }
@@ -299,7 +299,7 @@ impl Book {
     ///
     /// Refused, in this order: a tenant that is not there (`NameUnknown`); a tenant that has 1,024
     /// repositories where this one is new, and, where a session is opened, 64 sessions or no session
-    /// number left (`LimitReached`); want of memory.
+    /// number left (`LimitReached`); out of memory.
     pub fn mount(
         &mut self,
         repo: &RepoName,
@@ -355,7 +355,7 @@ impl Book {
     ///
     /// Refused, in this order: a tenant that is not there (`NameUnknown`); a digest that is not linked
     /// in the repository (`BlobUnknown`); a slot on which this call's look finds no room for one reader
-    /// more (`TooManyReaders`); want of memory, which comes before any look.
+    /// more (`TooManyReaders`); out of memory, which comes before any look.
     pub fn lease(
         &mut self,
         pins: &Pins,

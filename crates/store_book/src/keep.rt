@@ -52,7 +52,7 @@ pub(crate) fn find_linked(
 }
 
 /// Links the live blob that a slot holds in a repository, and counts the link where it is new. Refused
-/// is want of memory, which changes nothing.
+/// is out of memory, which changes nothing.
 pub(crate) fn link_slot(
     links: &mut Links,
     slots: &mut PinnedSlots,
@@ -78,7 +78,7 @@ pub(crate) fn link_slot(
 }
 
 /// Links a blob whose digest has a slot, which is live from now on. Refused are other bytes there
-/// (`DigestInvalid`) and want of memory; a refusal hands the blob back.
+/// (`DigestInvalid`) and out of memory; a refusal hands the blob back.
 fn keep_again(
     links: &mut Links,
     slots: &mut PinnedSlots,
@@ -114,7 +114,7 @@ fn keep_again(
 }
 
 /// Links a blob whose digest has no slot, and puts it into one. Refused are a store without a free
-/// slot (`StoreFull`) and want of memory; a refusal hands the blob back.
+/// slot (`StoreFull`) and out of memory; a refusal hands the blob back.
 fn keep_anew(
     links: &mut Links,
     slots: &mut PinnedSlots,
@@ -153,7 +153,7 @@ fn keep_anew(
 }
 
 /// Links a sealed blob in a repository, and keeps it where it is new. Refused are a kept blob of the
-/// same digest with other bytes (`DigestInvalid`), a store without a free slot (`StoreFull`) and want
+/// same digest with other bytes (`DigestInvalid`), a store without a free slot (`StoreFull`) and out
 /// of memory; a refusal hands the blob back and changes nothing.
 pub(crate) fn keep(
     links: &mut Links,

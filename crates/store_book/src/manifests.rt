@@ -33,7 +33,7 @@ pub(crate) fn check_linked(
 
 /// Keeps a manifest of a repository under the digest of its bytes. The repository appears with it.
 /// Refused are a repository that would be one too many for its tenant, and a manifest that would be one
-/// too many for its repository (`LimitReached`), and want of memory; a refusal leaves no repository
+/// too many for its repository (`LimitReached`), and out of memory; a refusal leaves no repository
 /// behind. A repository that is not there has no links.
 pub(crate) fn add_manifest(
     links: &mut Links,
@@ -92,7 +92,7 @@ impl Book {
     /// Refused, in this order: a tenant that is not there (`NameUnknown`); a reference that the repository
     /// doesn't hold (`ManifestBlobUnknown`, with the first); where the manifest is new, a tenant that
     /// has 1,024 repositories and not this one, or a repository that has 1,024 manifests
-    /// (`LimitReached`); want of memory. A refusal leaves no repository behind.
+    /// (`LimitReached`); out of memory. A refusal leaves no repository behind.
     pub fn keep_manifest(&mut self, repo: &RepoName, manifest: Manifest) -> Result<Digest, Refusal>
         ensures does { Does (λ d. d) result self.old.catalog self.new.catalog (put_manifest self.old.catalog repo.now manifest) }
         ensures slots { (self.new.table ≡ self.old.table) × (self.new.slots ≡ self.old.slots) }
@@ -113,7 +113,7 @@ impl Book {
     /// takes the logarithm of the number of manifests.
     ///
     /// Refused, in this order: a tenant that is not there (`NameUnknown`); a digest under which the
-    /// repository has no manifest (`ManifestUnknown`); want of memory.
+    /// repository has no manifest (`ManifestUnknown`); out of memory.
     pub fn get_manifest(
         &self,
         repo: &RepoName,

@@ -144,7 +144,7 @@ impl PinnedSlots {
         reclaimed
     }
 
-    /// A share of a used slot's blob. Refused is want of memory.
+    /// A share of a used slot's blob. Refused with `Memory`.
     pub fn share(&self, slot: u32) -> Result<Arc<Blob, Global>, Refusal>
         requires live { phase_at self.now.slots slot ≡ phase.Live }
         ensures value { IfOk result (λ b. Some (arc_value b) ≡ option_map (λ h. (h.digest, h.bytes)) (held_at self.now.slots slot)) }

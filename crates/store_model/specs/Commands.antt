@@ -1,5 +1,5 @@
 -- What each command answers and leaves. A command's outcome is the first refusal that applies, in the order in which they stand,
--- or its answer with the catalog after it. Want of memory may come in place of any outcome, and changes nothing (`Does`).
+-- or its answer with the catalog after it. Running out of memory may come in place of any outcome, and changes nothing (`Does`).
 use Rattle.std.specs.Prelude.{ℕ, ◌+◌, ◌^◌, nat_le, nat_lt, ◌&&◌, ◌||◌, not, if◌then◌else◌, Bool, true, false, Option, Some, None, Result, Ok, Err, List, [], ◌∷◌, length, slice_set}
 use Rattle.std.specs.Option.{ok_or, option_map}
 use Rattle.std.specs.List.{find}

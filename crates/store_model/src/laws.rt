@@ -22,7 +22,7 @@ pub fn soundness()
 /// Tenants don't see each other. Whatever the others do, a tenant is told, and has at the end, what
 /// its own commands alone would give. So the text of the book depends only on the commands of each
 /// tenant, in their order. This is said of every list of commands and sweeps in which no reply to the
-/// tenant is that the store is full, that a blob has too many readers, or that memory is wanting, and
+/// tenant is that the store is full, that a blob has too many readers, or that memory runs out, and
 /// no two closes bring different bytes that have the same digest.
 pub fn isolation()
     ensures alone { TenantsAreAlone }

@@ -123,7 +123,7 @@ impl Hand {
     }
 
     /// Fills in the chunk, of the reserved length: copies and hashes its bytes, and makes the room that
-    /// putting it back takes. An `Err` is want of memory, with the hand as it was.
+    /// putting it back takes. An `Err` is out of memory, with the hand as it was.
     pub fn fill(self, bytes: &[u8]) -> Result<Hand, Hand>
         requires len { length bytes.now ≡ self.reserved }
         requires empty { self.last ≡ None }

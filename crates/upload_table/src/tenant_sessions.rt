@@ -75,7 +75,7 @@ impl TenantSessions {
     }
 
     /// Opens a session without chunks for a repository, and answers its number. Refused, as
-    /// `LimitReached`, are a 65th session and one whose number would not be below 2^32; and want of
+    /// `LimitReached`, are a 65th session and one whose number would not be below 2^32; and out of
     /// memory.
     pub(crate) fn start(&mut self, alloc: Global, repo: &RepoName) -> Result<u32, Refusal>
         ensures { Does (λ n. n) result self.old self.new (start_here self.old repo.now) }

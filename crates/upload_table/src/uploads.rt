@@ -65,7 +65,7 @@ fn tenants_from(
 
 impl Uploads {
     /// A table without sessions, in which each tenant's first session has the same number. Refused is
-    /// want of memory.
+    /// out of memory.
     pub fn new(alloc: Global, tenants: u16, first_number: u32) -> Result<Uploads, Refusal>
         ensures value { IfOk result (λ u. u ≡ opening tenants first_number) }
         ensures refused { IfErr result (λ e. e ≡ Refusal.Memory) }
@@ -76,7 +76,7 @@ impl Uploads {
 
     /// Opens a session without chunks for a repository of the tenant's, and answers its number (OCI
     /// Distribution Specification 1.1, "Pushing blobs"). Refused, as `LimitReached`, is a tenant that
-    /// has 64 sessions or has given all numbers below 2^32; and want of memory.
+    /// has 64 sessions or has given all numbers below 2^32; and out of memory.
     pub fn start(&mut self, tenant: u16, repo: &RepoName) -> Result<u32, Refusal>
         requires there { tenant < length self.old.next }
         ensures { Does (λ n. n) result self.old self.new (start_upload self.old tenant repo.now) }
@@ -176,7 +176,7 @@ impl Uploads {
     /// bytes the session has received. What was reserved and not filled in is free again. It takes no
     /// memory, and hashes nothing but a chunk that `fill_last` filled in. Refused, as `UploadUnknown`, is a
     /// hand that no session of this table was taken into: none is in hand with its number and its lengths.
-    /// The hand is then let go, and nothing changes.
+    /// The hand is then dropped, and nothing changes.
     pub fn put_back(&mut self, hand: Hand) -> Result<u64, Refusal>
         ensures { DoesExactly (λ n. n) result self.old self.new (put_back_upload self.old hand) }
     {
