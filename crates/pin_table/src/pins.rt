@@ -20,8 +20,8 @@ use crate::reclaim::Reclaim;
 use crate::rule::{Opening, PinSeat, PinShared, PinTable};
 use blob_digest::{Digest, MAX_SLOTS, Refusal};
 use pin_core::{
-    CONDEMNED, PinRecord, LAST_GENERATION, MAX_WEIGHT, NEW_WEIGHT, Phase, PinRow, USED, WordRow, given,
-    halved, in_phase, pack, reclaimed, unpack,
+    CONDEMNED, LAST_GENERATION, MAX_WEIGHT, NEW_WEIGHT, Phase, PinRecord, PinRow, USED, WordRow,
+    given, halved, in_phase, pack, reclaimed, unpack,
 };
 use std::alloc::Global;
 use std::marker::{Brand, Model};

@@ -11,7 +11,7 @@ use Rattle.blob_digest.specs.Digests.{is_digest_of}
 use Rattle.blob_digest.specs.declared.refusal.Refusal.TheVariants.{DigestInvalid}
 use Rattle.finite_maps.proofs.Options.{some_same}
 use Rattle.store_model.specs.Sessions.{Chunks, Home, InHand, Session, Taken, at_home, brought_home, charged, chunks_in, chunks_of, given_up, hand_in, received_of, reserved_of, take_in, taken_session, whole_of, with_chunks}
-use Rattle.upload_table.specs.Uploaded.{Rest, Uploaded, BeginsWith, CanReopen, cut, finish_upload, put_back_upload, reopened, with_sessions}
+use Rattle.upload_table.specs.Uploaded.{Rest, Uploaded, BeginsWith, CanReopen, brought_with, cut, finish_upload, put_back_upload, reopened, with_sessions}
 use Rattle.upload_table.specs.Rows.{IsWhole}
 use Rattle.upload_table.specs.declared.upload.ChunkBuffer.{ChunkBuffer}
 use Rattle.upload_table.proofs.Cuts.{sum_by-cut}
@@ -53,6 +53,13 @@ module _ (v : Uploaded) (h : Taken) (x : Session) (taken : IsTaken (get v.sessio
   put_fits p whole le y same =
       let charge : charged x ≡ sum_by length h.chunks + h.reserved = ap (λ (c : Chunks). received_of c + reserved_of c) taken.chunks in
       omega (arith, charge, ap charged same, whole_length p whole, le)
+
+  -- its session, under a key that is the hand's, and with other chunks at home
+  pub found_as : (key : Number) → key ≡ h.key → get v.sessions key ≡ Some x
+  found_as key same = ap (get v.sessions) same ∙ taken.found
+
+  pub brought : (key : Number) (chunks : List Text) → key ≡ h.key → brought_with v key chunks ≡ with_sessions v (with_chunks v.sessions h.key x (Home chunks))
+  brought key chunks same = (λ j. brought_with v (same j) chunks) ∙ ap (λ o. with_sessions v (option_map_or (λ (s : Session). with_chunks v.sessions h.key s (Home chunks)) o v.sessions)) taken.found
 
   pub given : given_up v.sessions h ≡ with_chunks v.sessions h.key x (Home h.chunks)
   given = ap (brought_home v.sessions h) taken.known

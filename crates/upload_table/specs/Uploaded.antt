@@ -91,9 +91,13 @@ pub record CanReopen (u : Uploaded) (r : Rest) (bytes : Text) : Type 0 where
   pub there : (repo : Text) × (reserved : ℕ) × (fmap.get u.sessions r.key ≡ Some (record { repo = repo; chunks = InHand (sum r.lens) reserved }))
   pub begins : BeginsWith r bytes
 
+-- the session under a key is at home with these chunks
+abbrev pub brought_with : Uploaded → Number → List Text → Uploaded
+brought_with u key chunks = with_sessions u (option_map_or (λ s. with_chunks u.sessions key s (Home chunks)) (fmap.get u.sessions key) u.sessions)
+
 -- its session is at home again, with the chunks that it had
 abbrev pub reopened : Uploaded → Rest → Text → Uploaded
-reopened u r bytes = with_sessions u (option_map_or (λ s. with_chunks u.sessions r.key s (Home (cut r.lens bytes))) (fmap.get u.sessions r.key) u.sessions)
+reopened u r bytes = brought_with u r.key (cut r.lens bytes)
 
 -- the repository of the session under a key
 abbrev pub repo_at : Uploaded → Number → Text

@@ -1,21 +1,21 @@
 //! The open sessions of all tenants.
 
-ghost use Rattle.std.specs.Prelude.{◌≡◌, ◌+◌, ◌<◌, ◌^◌, IsSome, IfOk, IfErr, IfSome, Ok, Err, is_ok, true, length, map, replicate, slice_get, slice_index};
+ghost use Rattle.std.specs.Prelude.{◌≡◌, ◌+◌, ◌<◌, ◌^◌, IsSome, Some, ◌≤◌, IfOk, IfErr, IfSome, Ok, Err, is_ok, true, length, map, replicate, slice_get, slice_index};
 ghost use Rattle.std.specs.Option.{option_copied, option_map};
 ghost use Rattle.std.specs.FinMap as fmap;
 ghost use Rattle.blob_digest.specs.Digests.{is_digest_of};
 ghost use Rattle.blob_digest.specs.Outcomes.{Does, DoesExactly};
 ghost use Rattle.blob_digest.specs.declared.refusal.Refusal.TheVariants.{Memory};
-ghost use Rattle.store_model.specs.Sessions.{check_in, given_up, hand_in, home_in, session_charges, is_home, received_in, session_in, sessions_of, listed, take_in, taken_session};
-ghost use Rattle.upload_table.specs.Uploaded.{finish_upload, opening, put_back_upload, repo_at, start_upload, with_sessions, CanReopen, reopened};
+ghost use Rattle.store_model.specs.Sessions.{Session, charged, check_in, given_up, hand_in, home_in, session_charges, is_home, received_in, session_in, sessions_of, listed, take_in, taken_session};
+ghost use Rattle.upload_table.specs.Uploaded.{finish_upload, brought_with, cut, opening, put_back_upload, repo_at, start_upload, with_sessions, CanReopen, reopened};
 ghost use Rattle.store_model.specs.Sessions.{IsFull};
-ghost use Rattle.upload_table.specs.Rows.{session_of, AreWhole};
+ghost use Rattle.upload_table.specs.Rows.{session_of, AreWhole, IsWhole};
 ghost use Rattle.upload_table.specs.Tenants.{no_sessions};
 
 use crate::hand::{Hand, PendingClose};
 use crate::repo_sessions::RepoSessions;
 use crate::tenant_sessions::TenantSessions;
-use crate::upload::{Content, Upload, is_in_hand, length_after, received_of};
+use crate::upload::{ChunkBuffer, Content, Upload, is_in_hand, length_after, received_of};
 use blob_digest::{Blob, ByteRange, Digest, Refusal, RepoName};
 use std::alloc::Global;
 use std::marker::Model;
@@ -186,7 +186,7 @@ impl Uploads {
         }
         let (tenant, number) = (hand.tenant(), hand.number());
         let pieces = hand.into_pieces();
-        Ok(self.tenants[tenant as usize].put_home(number, pieces))
+        Ok(self.bring_home(tenant, number, pieces))
     }
 
     /// Moves a hand's bytes into a blob of this digest, where its chunk was filled in or none is to come.
@@ -212,7 +212,7 @@ impl Uploads {
         match hand.seal(digest) {
             Ok(sealed) => Ok(sealed),
             Err(pieces) => {
-                let _ = self.tenants[tenant as usize].put_home(number, pieces);
+                let _ = self.bring_home(tenant, number, pieces);
                 Err(Refusal::DigestInvalid)
             }
         }
@@ -237,7 +237,19 @@ impl Uploads {
     {
         let (tenant, number) = (sealed.tenant, sealed.number);
         let pieces = sealed.into_pieces(blob);
-        let _ = self.tenants[tenant as usize].put_home(number, pieces);
+        let _ = self.bring_home(tenant, number, pieces);
+    }
+
+    /// Brings chunks home into a session, which counts no more with them than before, and answers their
+    /// length. It takes no memory.
+    fn bring_home(&mut self, tenant: u16, number: u32, pieces: ChunkBuffer) -> u64
+        requires there { IsSome (fmap.get self.old.sessions (tenant, number)) }
+        requires less { (s : Session) → fmap.get self.old.sessions (tenant, number) ≡ Some s → length pieces.bytes.items ≤ charged s }
+        requires whole { IsWhole pieces }
+        ensures len { result ≡ length pieces.bytes.items }
+        ensures home { self.new ≡ brought_with self.old (tenant, number) (cut pieces.lens.items pieces.bytes.items) }
+    {
+        self.tenants[tenant as usize].put_home(number, pieces)
     }
 
     /// Forgets a session that was sealed.

@@ -1,18 +1,17 @@
 -- What the contracts of the calls say is a case of a step.
-use Rattle.std.proofs.Common.{◌≡◌, ◌≢◌, Bool, true, false, List, [], ◌∷◌, Option, Some, None, Result, Ok, Err, refl, sym, ap, ◌∙◌, inl, inr}
+use Rattle.std.proofs.Common.{◌≡◌, ◌≢◌, Bool, true, false, List, Result, Ok, Err, refl, sym, ap, ◌∙◌, inl, inr}
 use Rattle.std.specs.Prelude.{◌⊎◌}
 use Rattle.blob_digest.specs.declared.refusal.Refusal.{Refusal}
 use Rattle.blob_digest.specs.declared.refusal.Refusal.TheVariants.{Memory, TooManyReaders}
 use Rattle.blob_digest.specs.Outcomes.{Does, DoesExactly, Answers}
 use Rattle.store_model.specs.Catalog.{Catalog}
 use Rattle.store_model.specs.Commands.{Outcome, tenant, linked_blob, lease}
-use Rattle.store_model.specs.Runs.{Command, Answer, answered, told, outcome, takes_memory, IsCase, Event, Called, Swept, IsRun, Lease, Bytes}
+use Rattle.store_model.specs.Runs.{Command, Answer, answered, told, outcome, takes_memory, IsCase, Lease, Bytes}
 use Rattle.finite_maps.specs.Texts.{Text}
 use Rattle.finite_maps.specs.Outcomes.{refuse}
 use Rattle.store_book.specs.BookState.{SlotSeen}
 use Rattle.store_book.specs.SlotSteps.{Leases}
 use Rattle.finite_maps.proofs.Outcomes.{bound_ok, not_refused}
-use Rattle.store_model.proofs.Commands.SomeSweep.{swept, after, some_sweep}
 
 is_memory : (e : Refusal) → (e ≡ Memory) ⊎ (e ≢ Memory)
 is_memory Memory = inl refl

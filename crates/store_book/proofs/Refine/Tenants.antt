@@ -1,7 +1,6 @@
 -- The tenants by their numbers.
-use Rattle.std.proofs.Common.{◌≡◌, ℕ, ◌+◌, ◌<◌, ◌≤◌, List, [], ◌∷◌, ◌++◌, length, take, Option, Some, None, refl, sym, ap, ◌∙◌, subst, arith, append-nil, append_assoc}
-use Prim.Native.Nat.{zero, suc}
-use Rattle.std.specs.Prelude.{slice_get, Result, Ok, Err, OnOk}
+use Rattle.std.proofs.Common.{◌≡◌, ℕ, ◌+◌, ◌<◌, ◌≤◌, List, [], length, take, Option, Some, None, refl, sym, ap, ◌∙◌, arith}
+use Rattle.std.specs.Prelude.{slice_get}
 use Rattle.std.specs.List.{flat_map, enumerate_from}
 use Rattle.std.specs.Option.{option_map, option_map_or}
 use Rattle.std.proofs.lemmas.List.FromFn.{length-enumerate_from}
@@ -9,10 +8,7 @@ use Rattle.link_table.specs.Linked.{Tenant, quota_in}
 use Rattle.finite_maps.proofs.Lists.{there_at}
 use Rattle.finite_maps.proofs.Writing.{at_number}
 use Rattle.store_book.specs.Internal.Lines.{tenant_in}
-use Rattle.std.specs.Io.KnownBytes.{Appends}
-use Rattle.std.proofs.KnownBytes.{Appends-trans}
 use Rattle.std.proofs.lemmas.List.{take_all}
-use Rattle.std.proofs.lemmas.List.Concat.{flat_map-cons}
 
 -- the tenant of a number, with the number
 pub numbered : (tenants : List Tenant) (t : ℕ) → t < length tenants → slice_get (enumerate_from 0 tenants) t ≡ Some (t, tenant_in tenants t)

@@ -4,39 +4,24 @@ use Rattle.std.specs.FinMap.{get}
 use Rattle.finite_maps.proofs.Options.{some_same}
 use Rattle.store_model.specs.Sessions.{Home, with_chunks}
 use Rattle.upload_table.specs.Uploaded.{with_sessions}
-use Rattle.upload_table.proofs.HandCalls.{can-reopen, finish_other, given, put_fits, reopens, taken_value}
-use Rattle.upload_table.proofs.TableCalls.{after-chunks, found_here, within}
+use Rattle.upload_table.proofs.HandCalls.{brought, can-reopen, finish_other, found_as, given, put_fits, reopens, taken_value}
 use Rattle.upload_table.proofs.uploads.Uploads.finish.Goals as goal
 
-pub index_mut-requires : goal.index_mut-requires
-index_mut-requires c =
-    let tenants = c.self.inside.tenants.items in
+pub bring_home-requires-clause-there : goal.bring_home-requires-clause-there
+bring_home-requires-clause-there c =
     let v = c.args.self.now in
     let h = c.args.hand in
     let x = taken_value (get v.sessions h.key) h (sym c.if-not-has_taken.ensures) in
     let key : (c.tenant-tenant.result, c.number-number.result) ≡ h.key = (λ j. (c.tenant-tenant.ensures j, c.number-number.ensures j)) in
-    let found = ap (get v.sessions) key ∙ x.1.found in
-    omega (arith, within tenants v c.self.view_is c.tenant-tenant.result c.number-number.result x.0 found, c.self.inside.tenants.ok.0)
+    ap is_some (found_as v h x.0 x.1 _ key)
 
-pub put_home-requires-clause-there : goal.put_home-requires-clause-there
-put_home-requires-clause-there c =
-    let tenants = c.self.inside.tenants.items in
+pub bring_home-requires-clause-less : goal.bring_home-requires-clause-less
+bring_home-requires-clause-less c = λ y is.
     let v = c.args.self.now in
     let h = c.args.hand in
     let x = taken_value (get v.sessions h.key) h (sym c.if-not-has_taken.ensures) in
     let key : (c.tenant-tenant.result, c.number-number.result) ≡ h.key = (λ j. (c.tenant-tenant.ensures j, c.number-number.ensures j)) in
-    let found = ap (get v.sessions) key ∙ x.1.found in
-    ap is_some (found_here tenants v c.self.view_is c.tenant-tenant.result c.number-number.result x.0 found c.index_mut.result.now c.index_mut.ensures.value)
-
-pub put_home-requires-clause-less : goal.put_home-requires-clause-less
-put_home-requires-clause-less c = λ y is.
-    let tenants = c.self.inside.tenants.items in
-    let v = c.args.self.now in
-    let h = c.args.hand in
-    let x = taken_value (get v.sessions h.key) h (sym c.if-not-has_taken.ensures) in
-    let key : (c.tenant-tenant.result, c.number-number.result) ≡ h.key = (λ j. (c.tenant-tenant.ensures j, c.number-number.ensures j)) in
-    let found = ap (get v.sessions) key ∙ x.1.found in
-    put_fits v h x.0 x.1 c.in-Err.pieces c.in-Err.ensures.whole (omega (arith, ap (sum_by length) c.in-Err.ensures.chunks)) y (some_same (sym is ∙ found_here tenants v c.self.view_is c.tenant-tenant.result c.number-number.result x.0 found c.index_mut.result.now c.index_mut.ensures.value))
+    put_fits v h x.0 x.1 c.in-Err.pieces c.in-Err.ensures.whole (omega (arith, ap (sum_by length) c.in-Err.ensures.chunks)) y (some_same (sym is ∙ found_as v h x.0 x.1 _ key))
 
 pub returns-in-Ok-clause-restores : goal.returns-in-Ok-clause-restores
 returns-in-Ok-clause-restores c =
@@ -48,12 +33,9 @@ returns-in-Ok-clause-restores c =
 
 pub returns-in-Err-clause-does : goal.returns-in-Err-clause-does
 returns-in-Err-clause-does c =
-    let tenants = c.self.inside.tenants.items in
     let v = c.args.self.now in
     let h = c.args.hand in
     let x = taken_value (get v.sessions h.key) h (sym c.if-not-has_taken.ensures) in
     let key : (c.tenant-tenant.result, c.number-number.result) ≡ h.key = (λ j. (c.tenant-tenant.ensures j, c.number-number.ensures j)) in
-    let found = ap (get v.sessions) key ∙ x.1.found in
-    let after = after-chunks tenants v c.self.view_is c.tenant-tenant.result c.number-number.result x.0 found c.index_mut.result.now c.index_mut.ensures.value c.put_home.new.self _ c.put_home.ensures.home
-    ∙ (λ j. with_sessions v (with_chunks v.sessions (key j) x.0 (Home (c.in-Err.ensures.chunks j)))) in
+    let after = c.bring_home.ensures.home ∙ brought v h x.0 x.1 _ _ key ∙ (λ j. with_sessions v (with_chunks v.sessions h.key x.0 (Home (c.in-Err.ensures.chunks j)))) in
     (finish_other v h x.0 x.1 c.args.digest.now c.in-Err.ensures.other, after ∙ ap (with_sessions v) (sym (given v h x.0 x.1)))
