@@ -18,7 +18,7 @@ use Rattle.finite_maps.specs.Texts.{Text}
 use Rattle.store_model.specs.Catalog.{Number, Chunks, Home, InHand, Session, Taken, Catalog, number_cmp, received, next_of}
 use Rattle.store_model.specs.Invariant.{Lawful}
 use Rattle.store_model.specs.declared.mount.Mount.{Mount}
-use Rattle.store_model.specs.Commands.{tenant, session, lacks_room_for, cannot_open, has_slot, is_full_for, names, start, mount, has_source, link_held, start_instead, abandon, put_manifest, all_linked, has_manifest, add_manifest, is_full_of_manifests, lease, take, put_back, given_back, finish}
+use Rattle.store_model.specs.Commands.{tenant, session, lacks_room_for, cannot_open, has_slot, is_full_for, is_digest_accepted, start, mount, has_source, link_held, start_instead, abandon, put_manifest, all_linked, has_manifest, add_manifest, is_full_of_manifests, lease, take, put_back, given_back, finish}
 use Rattle.store_model.proofs.Invariant.NewSession.{fresh}
 use Rattle.store_model.proofs.Commands.Hands.{home_chunks, received-with_chunk, taken_found, took, whole_long, IsProper}
 use Rattle.store_model.proofs.Commands.Accepted.{answer_by, left_by, session_found}
@@ -242,7 +242,7 @@ pub record Finished (C C' : Catalog) (h : Taken) (n : ℕ) : Type 0 where
 pub finish_sums : (C C' : Catalog) (h : Taken) (digest : Text) (n : ℕ) → IsProper h → IsFull h → finish C h digest ≡ Ok (n, C') → Finished C C' h n
 finish_sums C C' h digest n proper full stepped =
     let a = bound_ok (taken_session (get C.sessions h.key) h) _ (n, C') stepped in
-    let b = bound_ok (refuse (not (names C digest (whole_of h))) DigestInvalid) _ (n, C') a.2 in
+    let b = bound_ok (refuse (not (is_digest_accepted C digest (whole_of h))) DigestInvalid) _ (n, C') a.2 in
     let d = bound_ok (has_slot C digest) _ (n, C') b.2 in
     let change = gone_sums C h a.0 a.1 in
     record {
@@ -261,4 +261,4 @@ unknown_stays C D h digest left refused = by (taken_session (get C.sessions h.ke
 
     by : (o : Result Session Refusal) → taken_session (get C.sessions h.key) h ≡ o → D ≡ C
     by (Err e) here = left ∙ (λ i. record C { sessions = brought_home C.sessions h (here i) })
-    by (Ok s) here = absurd (not_unknown (not (names C digest (whole_of h))) (is_full_for C digest) _ (rw here at refused))
+    by (Ok s) here = absurd (not_unknown (not (is_digest_accepted C digest (whole_of h))) (is_full_for C digest) _ (rw here at refused))

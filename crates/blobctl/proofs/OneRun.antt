@@ -17,7 +17,7 @@ use Rattle.oci_manifest.specs.Manifests.{refs_of, max_manifest}
 use Rattle.std.specs.Option.{ok_or}
 use Rattle.store_model.specs.Catalog.{Catalog, Resident, opening}
 use Rattle.store_model.specs.Runs as runs
-use Rattle.store_model.specs.Commands.{Outcome, tenant, start, append, close, abandon, mount, delete, put_manifest, delete_manifest, stored, was_lent, has_source, link_held, start_instead, has_manifest, add_manifest, check, session, not_busy, unreferenced, referrer, all_linked, manifest, linked, names, has_slot, within_quota, whole_in, lacks_room_for, cannot_open, is_full_of_manifests}
+use Rattle.store_model.specs.Commands.{Outcome, tenant, start, append, close, abandon, mount, delete, put_manifest, delete_manifest, stored, was_lent, has_source, link_held, start_instead, has_manifest, add_manifest, check, session, not_busy, unreferenced, referrer, all_linked, manifest, linked, is_digest_accepted, has_slot, within_quota, whole_in, lacks_room_for, cannot_open, is_full_of_manifests}
 use Rattle.store_model.specs.Sweep.{IsLeft, IsSweep, is_orphan}
 use Rattle.store_model.specs.declared.swept.Swept.{Swept as SweptCounts}
 use Rattle.row_player.specs.Answers.{Answer, Swept}
@@ -142,7 +142,7 @@ module _ (C : Catalog) (none : LentNone C) where
   run_keeps (Append repo n range bytes) no_lease =
       answered_keeps _ (append C repo n range bytes) (bind_keeps (tenant C repo) _ (λ t _. bind_keeps (check C t repo n range (length bytes)) _ (λ m _. bind_keeps (within_quota C t (length bytes)) _ (λ _ _. ok_keeps _ _ none))))
   run_keeps (Close repo n digest range bytes) no_lease =
-      answered_keeps _ (close C repo n digest range bytes) (bind_keeps (tenant C repo) _ (λ t _. bind_keeps (check C t repo n range (length bytes)) _ (λ m _. bind_keeps (within_quota C t (length bytes)) _ (λ _ _. bind_keeps (refuse (not (names C digest (whole_in C.sessions (t, n) bytes))) no.DigestInvalid) _ (λ _ _. bind_keeps (has_slot C digest) _ (λ _ _. ok_keeps _ _ (stored_none t repo n digest (whole_in C.sessions (t, n) bytes))))))))
+      answered_keeps _ (close C repo n digest range bytes) (bind_keeps (tenant C repo) _ (λ t _. bind_keeps (check C t repo n range (length bytes)) _ (λ m _. bind_keeps (within_quota C t (length bytes)) _ (λ _ _. bind_keeps (refuse (not (is_digest_accepted C digest (whole_in C.sessions (t, n) bytes))) no.DigestInvalid) _ (λ _ _. bind_keeps (has_slot C digest) _ (λ _ _. ok_keeps _ _ (stored_none t repo n digest (whole_in C.sessions (t, n) bytes))))))))
   run_keeps (Abandon repo n) no_lease =
       answered_keeps _ (abandon C repo n) (bind_keeps (tenant C repo) _ (λ t _. bind_keeps (session C t repo n) _ (λ s _. bind_keeps (not_busy s.chunks) _ (λ _ _. ok_keeps _ _ none))))
   run_keeps (Mount repo digest from) no_lease =
