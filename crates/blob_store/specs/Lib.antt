@@ -1,6 +1,5 @@
 pub mod Totals
 pub mod Counting
-pub mod Leased
 pub mod Names
 pub mod Parts
 pub mod Found

@@ -11,7 +11,7 @@ ghost use Rattle.finite_maps.specs.Outcomes.{refuse};
 ghost use Rattle.blob_digest.specs.declared.refusal.Refusal.TheVariants.{LimitReached};
 ghost use Rattle.store_model.specs.Sessions.{IsFull};
 ghost use Rattle.store_model.specs.Invariant.{Sound};
-ghost use Rattle.store_book.specs.Pinned.{blob_bytes};
+ghost use Rattle.store_book.specs.Pinned.{blob_bytes, blob_digest};
 ghost use Rattle.store_model.specs.BookText.{book_text};
 ghost use Rattle.store_book.specs.SlotSteps.{EachSlot, HasLast, HasPin, IsHousing, IsLending, IsQuiet, IsStill, IsSweptSlot, ReadsWord};
 ghost use Rattle.store_model.specs.Commands.{check_tenant, start, status, abandon, mount, delete, put_manifest, get_manifest, delete_manifest, take, put_back, finish, given_back};
@@ -250,6 +250,7 @@ impl<S: Naming> Kept<S> {
         ensures does { Lends (λ r. blob_bytes (arc_value r.1)) result (self.old, desk.old) (self.new, desk.new) repo.now digest.now }
         ensures pin { IfOk result (λ r. (r.0.table ≡ S.names.table) × (r.0.hold.digest ≡ digest.now) × (r.0.hold.weight ≡ 1024)) }
         ensures content { IfOk result (λ r. is_digest_of digest.now (blob_bytes (arc_value r.1)) ≡ true) }
+        ensures blob { IfOk result (λ r. blob_digest (arc_value r.1) ≡ digest.now) }
         ensures slots { EachSlot (IsLending digest.now) self.old.book.slots self.new.book.slots }
         ensures refused { OnErr result (EachSlot IsStill self.old.book.slots self.new.book.slots) }
     {

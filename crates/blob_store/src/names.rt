@@ -1,9 +1,10 @@
-//! The names of a store and of its ledgers.
+//! The names of a store, of its pins and of its ledgers.
 
 ghost use Rattle.blob_store.specs.Names.{StoreNames, unnamed};
 
 use std::marker::{Brand, PhantomData};
 use std::sync::ledger::Ledger;
+use store_book::PinsName;
 
 /// Which store: the table of its pins, what it was made with, and its four ledgers. It has no values, and no code: a
 /// type that carries such a parameter belongs to the store of these names.
@@ -13,6 +14,15 @@ pub trait Naming {
 
 impl Naming for Brand {
     ghost names = { unnamed };
+}
+
+/// The pins of a store.
+pub struct StorePins<S: Naming> {
+    of: PhantomData<S>,
+}
+
+impl<S: Naming> PinsName for StorePins<S> {
+    ghost table = { S.names.table };
 }
 
 /// The ledger of a store's accepted commands.

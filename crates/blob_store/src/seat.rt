@@ -6,7 +6,7 @@ use crate::lease::Lease;
 use crate::names::Naming;
 use crate::store::Store;
 use blob_digest::{Digest, Refusal, RepoName};
-use row_player::{Backend, BlobLease, Command, Piece, Reply, mount_reply};
+use row_player::{Backend, Command, Piece, Reply, mount_reply};
 use std::sync::Wait;
 use store_book::Swept;
 
@@ -21,35 +21,15 @@ pub struct Seat<'s, W: Wait, S: Naming> {
     pub desk: Desk<S>,
 }
 
-impl<'s, S: Naming> BlobLease for Lease<'s, S> {
-    ghost use Rattle.row_player.specs.Leases.{Lent};
-
-    ghost lent = { λ l. record { bytes = l.bytes; weight = l.hold.weight } };
-
-    fn size(&self) -> u64 {
-        self.len()
-    }
-
-    fn piece(&self, start: u64, end: u64) -> Result<Piece, Refusal> {
-        let blob = self.blob.clone()?;
-        Ok(Piece::new(blob, start, end))
-    }
-
-    fn share(self) -> Result<(Lease<'s, S>, Lease<'s, S>), (Refusal, Lease<'s, S>)> {
-        Lease::share(self)
-    }
-
-    fn give_back(self) {
-        Lease::give_back(self)
-    }
-}
-
 impl<'s, W: Wait, S: Naming> Backend for Seat<'s, W, S> {
     type Lease = Lease<'s, S>;
 
     ghost use Rattle.blob_store.specs.Seats.{SeatActs};
+    ghost use Rattle.row_player.specs.Leases.{Lent};
 
     ghost acts = { λ old request answer new. SeatActs old.desk request answer new.desk };
+
+    ghost lent = { λ l. record { bytes = l.bytes; weight = l.hold.weight } };
 
     fn call(&mut self, command: &Command) -> Result<Reply, Refusal> {
         match command {
@@ -136,5 +116,21 @@ impl<'s, W: Wait, S: Naming> Backend for Seat<'s, W, S> {
 
     fn sweep(&mut self) -> Swept {
         self.store.sweep(self.rt)
+    }
+
+    fn size(lease: &Lease<'s, S>) -> u64 {
+        lease.len()
+    }
+
+    fn piece(lease: &Lease<'s, S>, start: u64, end: u64) -> Result<Piece, Refusal> {
+        Ok(Piece::new(lease.blob().clone()?, start, end))
+    }
+
+    fn share(lease: Lease<'s, S>) -> Result<(Lease<'s, S>, Lease<'s, S>), (Refusal, Lease<'s, S>)> {
+        lease.share()
+    }
+
+    fn give_back(lease: Lease<'s, S>) {
+        lease.give_back()
     }
 }

@@ -400,7 +400,7 @@ impl<S: Naming> Store<S> {
         ensures leased { IfOk result (λ l. (l.hold.digest ≡ digest.now) × (l.hold.weight ≡ 1024)) }
     {
         let (pin, blob) = self.locked(rt).lease(&self.pins, desk, repo, digest)?;
-        Ok(Lease::new(&self.pins, blob, pin))
+        Ok(Lease::new(&self.pins, pin, blob))
     }
 
     /// Condemns each live blob that no repository links, and frees or retires the slot of each condemned one
@@ -418,14 +418,9 @@ impl<S: Naming> Store<S> {
         ensures same { result ≡ lease.entry }
         ensures kept { InSomeBook S.names.slots S.names.setting (HasPin lease.entry.hold) }
     {
-        let Lease {
-            pins,
-            blob,
-            pin,
-            names: _,
-        } = lease;
+        let (pin, blob) = lease.into_parts();
         let pin = self.locked(rt).verify(&self.pins, pin);
-        Lease::new(pins, blob, pin)
+        Lease::new(&self.pins, pin, blob)
     }
 
     /// The word of a slot: its generation, what it is, and the sum of the weights of the leases on it. It

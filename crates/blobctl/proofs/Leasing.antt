@@ -6,10 +6,9 @@ use Rattle.std.specs.FinMap as fmap
 use Rattle.std.proofs.lemmas.Bool.{cases_lt}
 use Rattle.std.proofs.lemmas.Option.{same_Some}
 use Rattle.finite_maps.specs.Texts.{Text}
-use Rattle.blob_digest.specs.Outcomes.{Does, OutcomeIn}
 use Rattle.finite_maps.specs.Outcomes.{◌>>=◌, refuse}
 use Rattle.blob_digest.specs.declared.refusal.Refusal.{Refusal}
-use Rattle.blob_digest.specs.declared.refusal.Refusal.TheVariants.{NameUnknown, BlobUnknown, Memory, TooManyReaders}
+use Rattle.blob_digest.specs.declared.refusal.Refusal.TheVariants.{NameUnknown, BlobUnknown, TooManyReaders}
 use Rattle.slot_table.specs.declared.phase.Phase.TheVariants as phase
 use Rattle.store_model.specs.Catalog.{Catalog, Resident, holds, tenant_of}
 use Rattle.store_model.specs.Runs as runs

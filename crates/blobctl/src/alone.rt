@@ -12,13 +12,13 @@ ghost use Rattle.store_model.specs.Catalog.{Catalog};
 ghost use Rattle.store_book.specs.Openings.{OpensCatalog, tenants_shown};
 
 use crate::options::Options;
-use crate::pinned_book::{PinnedBook, PinsName};
+use crate::pinned_book::PinnedBook;
 use blob_digest::Refusal;
 use pin_table::Pins;
 use row_player::{Reply, Row, play};
 use std::alloc::Global;
 use std::marker::{Brand, PhantomData};
-use store_book::Book;
+use store_book::{Book, PinsName};
 
 /// Plays all rows on a book with the words of its slots, which one pin table names.
 fn play_in<N: PinsName>(

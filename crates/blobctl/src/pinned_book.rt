@@ -1,24 +1,11 @@
-//! A book with its pins as what rows are played on, and the leases of its blobs.
-ghost use Rattle.std.specs.Prelude.{◌≡◌, []};
-ghost use Rattle.atomic_table.specs.Seated.{TableId};
+//! A book with its pins as what rows are played on.
+ghost use Rattle.std.specs.Prelude.{◌≡◌};
 
-use blob_digest::{Blob, Digest, Refusal, RepoName};
-use pin_table::{Pin, Pins};
-use row_player::{Backend, BlobLease, Command, Piece, Reply, mount_reply};
-use std::alloc::Global;
-use std::marker::{Brand, PhantomData};
-use std::sync::Arc;
-use store_book::{Book, Swept};
-
-/// Which table of pins. It has no values, and no code: a book and a lease that carry such a parameter have their pins
-/// in the table of that name.
-pub trait PinsName {
-    ghost table: { TableId };
-}
-
-impl PinsName for Brand {
-    ghost table = { record { words = 0; slots = 0; views_name = 0; atom = 0; block = 0; offset = 0; slot_names = [] } };
-}
+use blob_digest::{Digest, Refusal, RepoName};
+use pin_table::Pins;
+use row_player::{Backend, Command, Piece, Reply, mount_reply};
+use std::marker::PhantomData;
+use store_book::{Book, Lease, PinsName, Swept};
 
 /// A book with the words of its slots.
 #[derive(Drop)]
@@ -30,85 +17,15 @@ pub struct PinnedBook<'p, N: PinsName> {
     pub ghost there: { pins.now ≡ N.table },
 }
 
-/// A lease of a blob: a share of its bytes, and a pin on its slot. It must be given back or shared.
-pub struct BookLease<'p, N: PinsName> {
-    pins: &'p Pins,
-    blob: Arc<Blob, Global>,
-    pin: Pin,
-    table: PhantomData<N>,
-    ghost here: { pin.table ≡ N.table },
-    ghost there: { pins.now ≡ N.table },
-}
-
-impl<'p, N: PinsName> BlobLease for BookLease<'p, N> {
-    ghost use Rattle.std.specs.Arc.{arc_value};
-    ghost use Rattle.row_player.specs.Leases.{Lent};
-
-    ghost lent = { λ h. record { bytes = (arc_value h.blob).1; weight = h.pin.hold.weight } };
-
-    fn size(&self) -> u64 {
-        self.blob.bytes().len() as u64
-    }
-
-    fn piece(&self, start: u64, end: u64) -> Result<Piece, Refusal> {
-        let blob = self.blob.clone()?;
-        Ok(Piece::new(blob, start, end))
-    }
-
-    fn share(self) -> Result<(BookLease<'p, N>, BookLease<'p, N>), (Refusal, BookLease<'p, N>)> {
-        let Ok(other) = self.blob.clone() else {
-            return Err((Refusal::Memory, self));
-        };
-        let BookLease {
-            pins,
-            blob,
-            pin,
-            table,
-        } = self;
-        match pins.share(pin) {
-            Ok((first, second)) => Ok((
-                BookLease {
-                    pins,
-                    blob,
-                    pin: first,
-                    table,
-                },
-                BookLease {
-                    pins,
-                    blob: other,
-                    pin: second,
-                    table,
-                },
-            )),
-            Err(pin) => Err((
-                Refusal::WeightSpent,
-                BookLease {
-                    pins,
-                    blob,
-                    pin,
-                    table,
-                },
-            )),
-        }
-    }
-
-    fn give_back(self) {
-        let BookLease {
-            pins,
-            blob: _,
-            pin,
-            table: _,
-        } = self;
-        pins.leave(pin);
-    }
-}
-
 impl<'p, N: PinsName> Backend for PinnedBook<'p, N> {
-    type Lease = BookLease<'p, N>;
+    type Lease = Lease<'p, N>;
 
     ghost use Rattle.blobctl.specs.Played.{Acts};
+    ghost use Rattle.row_player.specs.Leases.{Lent};
 
     ghost acts = { λ old request answer new. Acts old.book request answer new.book };
+
+    ghost lent = { λ l. record { bytes = l.bytes; weight = l.hold.weight } };
 
     fn call(&mut self, command: &Command) -> Result<Reply, Refusal> {
         match command {
@@ -168,34 +85,35 @@ impl<'p, N: PinsName> Backend for PinnedBook<'p, N> {
         }
     }
 
-    fn lease(&mut self, repo: &RepoName, digest: &Digest) -> Result<BookLease<'p, N>, Refusal> {
+    fn lease(&mut self, repo: &RepoName, digest: &Digest) -> Result<Lease<'p, N>, Refusal> {
         let pins = self.pins;
         let (pin, blob) = self.book.lease(pins, repo, digest)?;
-        Ok(BookLease {
-            pins,
-            blob,
-            pin,
-            table: PhantomData,
-        })
+        Ok(Lease::new(pins, pin, blob))
     }
 
-    fn verify(&mut self, lease: BookLease<'p, N>) -> BookLease<'p, N> {
-        let BookLease {
-            pins,
-            blob,
-            pin,
-            table,
-        } = lease;
+    fn verify(&mut self, lease: Lease<'p, N>) -> Lease<'p, N> {
+        let (pin, blob) = lease.into_parts();
         let pin = self.book.verify(self.pins, pin);
-        BookLease {
-            pins,
-            blob,
-            pin,
-            table,
-        }
+        Lease::new(self.pins, pin, blob)
     }
 
     fn sweep(&mut self) -> Swept {
         self.book.sweep(self.pins)
+    }
+
+    fn size(lease: &Lease<'p, N>) -> u64 {
+        lease.len()
+    }
+
+    fn piece(lease: &Lease<'p, N>, start: u64, end: u64) -> Result<Piece, Refusal> {
+        Ok(Piece::new(lease.blob().clone()?, start, end))
+    }
+
+    fn share(lease: Lease<'p, N>) -> Result<(Lease<'p, N>, Lease<'p, N>), (Refusal, Lease<'p, N>)> {
+        lease.share()
+    }
+
+    fn give_back(lease: Lease<'p, N>) {
+        lease.give_back()
     }
 }

@@ -10,7 +10,7 @@ ghost use Rattle.row_player.specs.Leases.{new_lease, none};
 ghost use Rattle.row_player.specs.LeaseTables.{HasRow, KeepsRows, key_cmp, name_at, leases_in, with_lease};
 ghost use Rattle.row_player.specs.Plays.{VerifiesLease, shared_in, give_back_of};
 
-use crate::backend::{Backend, BlobLease};
+use crate::backend::Backend;
 use crate::reply::Reply;
 use blob_digest::{Digest, Refusal, RepoName};
 use std::alloc::{AllocFailed, Global};
@@ -25,11 +25,11 @@ type Table<'r, L> = BTreeMap<LeaseName<'r>, Option<L>>;
 
 /// The leases that the lanes hold, by their names. They must be given back before the table goes.
 /// Contracts see a finite map from lane and name to the leases' bytes and weights.
-pub struct Leases<'r, L: BlobLease> {
-    table: Table<'r, L>,
+pub struct Leases<'r, B: Backend> {
+    table: Table<'r, B::Lease>,
 }
 
-impl<'r, L: BlobLease> Model for Leases<'r, L> {
+impl<'r, B: Backend> Model for Leases<'r, B> {
     ghost use Rattle.std.specs.BTreeMap as tree;
     ghost use Rattle.row_player.specs.Leases.{Leases as Held, coded_leases};
     ghost use Rattle.row_player.specs.LeaseTables.{leases_in, key_cmp};
@@ -38,22 +38,22 @@ impl<'r, L: BlobLease> Model for Leases<'r, L> {
 
     ghost coded = { coded_leases };
 
-    ghost view = { λ a. leases_in L.lent a.table };
+    ghost view = { λ a. leases_in B.lent a.table };
 
     ghost invariant = { λ a. tree.IsOrdered key_cmp a.table };
 }
 
 /// Gives back what stands in a row, if it is a lease.
-fn release<L: BlobLease>(room: Option<L>) {
+fn release<B: Backend>(room: Option<B::Lease>) {
     match room {
-        Some(held) => held.give_back(),
+        Some(held) => B::give_back(held),
         None => {}
     }
 }
 
 /// Puts a lease, or room for one, under a name, and answers what was there. What is put comes back
 /// where memory runs out, which it is not at a name that has a row.
-fn put<'r, L: BlobLease>(
+fn put<'r, L>(
     table: &mut Table<'r, L>,
     name: LeaseName<'r>,
     room: Option<L>,
@@ -78,9 +78,12 @@ fn put<'r, L: BlobLease>(
 }
 
 /// Makes room under a name that has no lease. Refused with `Memory` alone.
-fn reserve<'r, L: BlobLease>(table: &mut Table<'r, L>, name: LeaseName<'r>) -> Result<(), Refusal>
-    requires free { fmap.get (leases_in L.lent table.old) (name_at name) ≡ None }
-    ensures same { leases_in L.lent table.new ≡ leases_in L.lent table.old }
+fn reserve<'r, B: Backend>(
+    table: &mut Table<'r, B::Lease>,
+    name: LeaseName<'r>,
+) -> Result<(), Refusal>
+    requires free { fmap.get (leases_in B.lent table.old) (name_at name) ≡ None }
+    ensures same { leases_in B.lent table.new ≡ leases_in B.lent table.old }
     ensures there { OnOk result (HasRow table.new name.entry) }
     ensures rows { KeepsRows table.old table.new }
     ensures ordered { tree.IsOrdered key_cmp table.new }
@@ -88,41 +91,44 @@ fn reserve<'r, L: BlobLease>(table: &mut Table<'r, L>, name: LeaseName<'r>) -> R
 {
     match put(table, name, None) {
         Ok(old) => {
-            release(old);
+            release::<B>(old);
             Ok(())
         }
         Err(room) => {
-            release(room);
+            release::<B>(room);
             Err(Refusal::Memory)
         }
     }
 }
 
 /// Puts a lease, or room for one, under a name that has a row, and answers what was there.
-fn exchange<'r, L: BlobLease>(
-    table: &mut Table<'r, L>,
+fn exchange<'r, B: Backend>(
+    table: &mut Table<'r, B::Lease>,
     name: LeaseName<'r>,
-    room: Option<L>,
-) -> Option<L>
+    room: Option<B::Lease>,
+) -> Option<B::Lease>
     requires there { HasRow table.old name }
-    ensures was { option_map L.lent result ≡ fmap.get (leases_in L.lent table.old) (name_at name.entry) }
-    ensures puts { leases_in L.lent table.new ≡ with_lease (leases_in L.lent table.old) (name_at name.entry) (option_map L.lent room) }
+    ensures was { option_map B.lent result ≡ fmap.get (leases_in B.lent table.old) (name_at name.entry) }
+    ensures puts { leases_in B.lent table.new ≡ with_lease (leases_in B.lent table.old) (name_at name.entry) (option_map B.lent room) }
     ensures rows { KeepsRows table.old table.new }
     ensures ordered { tree.IsOrdered key_cmp table.new }
 {
     match put(table, name, room) {
         Ok(old) => old,
         Err(room) => {
-            release(room);
+            release::<B>(room);
             unreachable!()
         }
     }
 }
 
 /// The lease of a name.
-fn held_in<'t, 'r, L: BlobLease>(table: &'t Table<'r, L>, name: LeaseName<'r>) -> Option<&'t L>
+fn held_in<'t, 'r, B: Backend>(
+    table: &'t Table<'r, B::Lease>,
+    name: LeaseName<'r>,
+) -> Option<&'t B::Lease>
     requires ordered { tree.IsOrdered key_cmp table.now }
-    ensures lease { option_map (λ l. L.lent l.now) result ≡ fmap.get (leases_in L.lent table.now) (name_at name.entry) }
+    ensures lease { option_map (λ l. B.lent l.now) result ≡ fmap.get (leases_in B.lent table.now) (name_at name.entry) }
     ensures row { IsSome result → HasRow table.now name.entry }
 {
     match table.get(&name) {
@@ -141,15 +147,15 @@ fn lend_in<'r, B: Backend>(
     repo: &RepoName,
     digest: &Digest,
 ) -> Result<u64, Refusal>
-    requires free { fmap.get (leases_in B.Lease.lent table.old) (name_at name) ≡ None }
-    ensures lends { MatchResult result (λ n. (bytes : Text) × B.acts backend.old (Calls (LeaseCommand repo.now digest.now)) (Bytes bytes) backend.new × (n ≡ length bytes) × (leases_in B.Lease.lent table.new ≡ fmap.insert (leases_in B.Lease.lent table.old) (name_at name.entry) (new_lease bytes))) (λ e. (leases_in B.Lease.lent table.new ≡ leases_in B.Lease.lent table.old) × (((e ≡ Refusal.Memory) × (backend.new ≡ backend.old)) ⊎ B.acts backend.old (Calls (LeaseCommand repo.now digest.now)) (Refused e) backend.new)) }
+    requires free { fmap.get (leases_in B.lent table.old) (name_at name) ≡ None }
+    ensures lends { MatchResult result (λ n. (bytes : Text) × B.acts backend.old (Calls (LeaseCommand repo.now digest.now)) (Bytes bytes) backend.new × (n ≡ length bytes) × (leases_in B.lent table.new ≡ fmap.insert (leases_in B.lent table.old) (name_at name.entry) (new_lease bytes))) (λ e. (leases_in B.lent table.new ≡ leases_in B.lent table.old) × (((e ≡ Refusal.Memory) × (backend.new ≡ backend.old)) ⊎ B.acts backend.old (Calls (LeaseCommand repo.now digest.now)) (Refused e) backend.new)) }
     ensures ordered { tree.IsOrdered key_cmp table.new }
 {
-    reserve(table, name)?;
+    reserve::<B>(table, name)?;
     match backend.lease(repo, digest) {
         Ok(held) => {
-            let size = held.size();
-            release(exchange(table, name, Some(held)));
+            let size = B::size(&held);
+            release::<B>(exchange::<B>(table, name, Some(held)));
             Ok(size)
         }
         Err(refusal) => Err(refusal),
@@ -157,33 +163,33 @@ fn lend_in<'r, B: Backend>(
 }
 
 /// Makes two leases of one. Room for the second is made first, so that out of memory changes nothing.
-fn share_in<'r, L: BlobLease>(
-    table: &mut Table<'r, L>,
+fn share_in<'r, B: Backend>(
+    table: &mut Table<'r, B::Lease>,
     name: LeaseName<'r>,
     second: LeaseName<'r>,
 ) -> Result<Reply, Refusal>
     requires ordered { tree.IsOrdered key_cmp table.old }
-    ensures shares { MatchResult result (λ r. (answer_of r, leases_in L.lent table.new) ≡ shared_in (leases_in L.lent table.old) (name_at name.entry) (name_at second.entry)) (λ e. ((e ≡ Refusal.Memory) × (leases_in L.lent table.new ≡ leases_in L.lent table.old)) ⊎ ((Refused e, leases_in L.lent table.new) ≡ shared_in (leases_in L.lent table.old) (name_at name.entry) (name_at second.entry))) }
+    ensures shares { MatchResult result (λ r. (answer_of r, leases_in B.lent table.new) ≡ shared_in (leases_in B.lent table.old) (name_at name.entry) (name_at second.entry)) (λ e. ((e ≡ Refusal.Memory) × (leases_in B.lent table.new ≡ leases_in B.lent table.old)) ⊎ ((Refused e, leases_in B.lent table.new) ≡ shared_in (leases_in B.lent table.old) (name_at name.entry) (name_at second.entry))) }
     ensures ordered { tree.IsOrdered key_cmp table.new }
 {
-    if held_in(table, name).is_none() {
+    if held_in::<B>(table, name).is_none() {
         return Ok(Reply::NoLease);
     }
-    if held_in(table, second).is_some() {
+    if held_in::<B>(table, second).is_some() {
         return Ok(Reply::NameTaken);
     }
-    reserve(table, second)?;
-    let Some(held) = exchange(table, name, None) else {
+    reserve::<B>(table, second)?;
+    let Some(held) = exchange::<B>(table, name, None) else {
         unreachable!()
     };
-    match held.share() {
+    match B::share(held) {
         Ok((one, other)) => {
-            release(exchange(table, name, Some(one)));
-            release(exchange(table, second, Some(other)));
+            release::<B>(exchange::<B>(table, name, Some(one)));
+            release::<B>(exchange::<B>(table, second, Some(other)));
             Ok(Reply::Shared)
         }
         Err((refusal, held)) => {
-            release(exchange(table, name, Some(held)));
+            release::<B>(exchange::<B>(table, name, Some(held)));
             Err(refusal)
         }
     }
@@ -196,32 +202,32 @@ fn verify_in<'r, B: Backend>(
     name: LeaseName<'r>,
 ) -> Reply
     requires ordered { tree.IsOrdered key_cmp table.old }
-    ensures looks { VerifiesLease B.acts (fmap.get (leases_in B.Lease.lent table.old) (name_at name.entry)) backend.old (answer_of result) backend.new }
-    ensures same { leases_in B.Lease.lent table.new ≡ leases_in B.Lease.lent table.old }
+    ensures looks { VerifiesLease B.acts (fmap.get (leases_in B.lent table.old) (name_at name.entry)) backend.old (answer_of result) backend.new }
+    ensures same { leases_in B.lent table.new ≡ leases_in B.lent table.old }
     ensures ordered { tree.IsOrdered key_cmp table.new }
 {
-    if held_in(table, name).is_none() {
+    if held_in::<B>(table, name).is_none() {
         return Reply::NoLease;
     }
-    let Some(held) = exchange(table, name, None) else {
+    let Some(held) = exchange::<B>(table, name, None) else {
         unreachable!()
     };
     let held = backend.verify(held);
-    let size = held.size();
-    release(exchange(table, name, Some(held)));
+    let size = B::size(&held);
+    release::<B>(exchange::<B>(table, name, Some(held)));
     Reply::Verified(size)
 }
 
 /// Gives a lease back.
-fn return_in<'r, L: BlobLease>(table: &mut Table<'r, L>, name: LeaseName<'r>) -> Reply
+fn return_in<'r, B: Backend>(table: &mut Table<'r, B::Lease>, name: LeaseName<'r>) -> Reply
     requires ordered { tree.IsOrdered key_cmp table.old }
-    ensures returns { (answer_of result, leases_in L.lent table.new) ≡ give_back_of (leases_in L.lent table.old) (name_at name.entry) (fmap.get (leases_in L.lent table.old) (name_at name.entry)) }
+    ensures returns { (answer_of result, leases_in B.lent table.new) ≡ give_back_of (leases_in B.lent table.old) (name_at name.entry) (fmap.get (leases_in B.lent table.old) (name_at name.entry)) }
     ensures ordered { tree.IsOrdered key_cmp table.new }
 {
-    if held_in(table, name).is_none() {
+    if held_in::<B>(table, name).is_none() {
         return Reply::NoLease;
     }
-    release(exchange(table, name, None));
+    release::<B>(exchange::<B>(table, name, None));
     Reply::GivenBack
 }
 
@@ -229,7 +235,7 @@ fn return_in<'r, L: BlobLease>(table: &mut Table<'r, L>, name: LeaseName<'r>) ->
 /// bytes. Running out of memory changes nothing.
 pub fn lend<'r, B: Backend>(
     backend: &mut B,
-    leases: &mut Leases<'r, B::Lease>,
+    leases: &mut Leases<'r, B>,
     name: LeaseName<'r>,
     repo: &RepoName,
     digest: &Digest,
@@ -243,7 +249,7 @@ pub fn lend<'r, B: Backend>(
 /// Has a backend look at the slot of a lease.
 pub fn verify<'r, B: Backend>(
     backend: &mut B,
-    leases: &mut Leases<'r, B::Lease>,
+    leases: &mut Leases<'r, B>,
     name: LeaseName<'r>,
 ) -> Reply
     ensures looks { VerifiesLease B.acts (fmap.get leases.old (name_at name.entry)) backend.old (answer_of result) backend.new }
@@ -252,9 +258,9 @@ pub fn verify<'r, B: Backend>(
     verify_in(backend, &mut leases.table, name)
 }
 
-impl<'r, L: BlobLease> Leases<'r, L> {
+impl<'r, B: Backend> Leases<'r, B> {
     /// No leases.
-    pub fn new(alloc: Global) -> Leases<'r, L>
+    pub fn new(alloc: Global) -> Leases<'r, B>
         ensures { result ≡ none }
     {
         Leases {
@@ -263,10 +269,10 @@ impl<'r, L: BlobLease> Leases<'r, L> {
     }
 
     /// The lease of a name.
-    pub fn get(&self, name: LeaseName<'r>) -> Option<&L>
-        ensures { option_map (λ l. L.lent l.now) result ≡ fmap.get self.now (name_at name.entry) }
+    pub fn get(&self, name: LeaseName<'r>) -> Option<&B::Lease>
+        ensures { option_map (λ l. B.lent l.now) result ≡ fmap.get self.now (name_at name.entry) }
     {
-        held_in(&self.table, name)
+        held_in::<B>(&self.table, name)
     }
 
     /// Makes two leases of one: the first name keeps half of the weight, the second gets the other half.
@@ -274,21 +280,21 @@ impl<'r, L: BlobLease> Leases<'r, L> {
     pub fn share(&mut self, name: LeaseName<'r>, second: LeaseName<'r>) -> Result<Reply, Refusal>
         ensures { MatchResult result (λ r. (answer_of r, self.new) ≡ shared_in self.old (name_at name.entry) (name_at second.entry)) (λ e. ((e ≡ Refusal.Memory) × (self.new ≡ self.old)) ⊎ ((Refused e, self.new) ≡ shared_in self.old (name_at name.entry) (name_at second.entry))) }
     {
-        share_in(&mut self.table, name, second)
+        share_in::<B>(&mut self.table, name, second)
     }
 
     /// Gives a lease back.
     pub fn give_back(&mut self, name: LeaseName<'r>) -> Reply
         ensures { (answer_of result, self.new) ≡ give_back_of self.old (name_at name.entry) (fmap.get self.old (name_at name.entry)) }
     {
-        return_in(&mut self.table, name)
+        return_in::<B>(&mut self.table, name)
     }
 
     /// Gives all leases back, and ends the table.
     pub fn end(self) {
         let Leases { mut table } = self;
         while let Some((_, room)) = table.pop_first() {
-            release(room);
+            release::<B>(room);
         }
         table.destroy_empty();
     }

@@ -25,7 +25,7 @@ mod reply;
 mod row;
 mod worker;
 
-pub use backend::{Backend, BlobLease};
+pub use backend::Backend;
 pub use command::Command;
 pub use fields::has_fields;
 pub use gate::{Gate, OpenGate};

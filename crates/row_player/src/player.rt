@@ -8,7 +8,7 @@ ghost use Rattle.row_player.specs.Plays.{AnswersCall, AnswersRead, AnswersRow, P
 ghost use Rattle.row_player.specs.Shares.{own_rows};
 ghost use Rattle.row_player.specs.declared.reply.Reply.{Reply};
 
-use crate::backend::{Backend, BlobLease};
+use crate::backend::Backend;
 use crate::command::{command_in, digest_in, repo_in};
 use crate::gate::{Gate, OpenGate};
 use crate::leases::{Leases, lend, verify};
@@ -33,7 +33,7 @@ fn play_command<B: Backend>(alloc: Global, backend: &mut B, row: &Row) -> Result
 fn play_lease<'r, B: Backend>(
     alloc: Global,
     backend: &mut B,
-    leases: &mut Leases<'r, B::Lease>,
+    leases: &mut Leases<'r, B>,
     row: &'r Row,
 ) -> Result<Reply, Refusal>
     requires { row.now.verb ≡ Verb.Lease }
@@ -64,14 +64,14 @@ fn piece_in(text: &[u8]) -> Result<(u64, u64), Refusal>
 }
 
 /// Plays a row that reads a piece of a leased blob.
-fn play_read<'r, L: BlobLease>(leases: &Leases<'r, L>, row: &'r Row) -> Result<Reply, Refusal>
+fn play_read<'r, B: Backend>(leases: &Leases<'r, B>, row: &'r Row) -> Result<Reply, Refusal>
     ensures { AnswersRead leases.now (row_view row.now) result }
 {
     let Some(held) = leases.get((row.lane, row.key.as_slice())) else {
         return Ok(Reply::NoLease);
     };
     let (start, end) = piece_in(row.range.as_slice())?;
-    let piece = held.piece(start, end)?;
+    let piece = B::piece(held, start, end)?;
     Ok(Reply::Bytes(piece))
 }
 
@@ -79,7 +79,7 @@ fn play_read<'r, L: BlobLease>(leases: &Leases<'r, L>, row: &'r Row) -> Result<R
 fn play_row<'r, B: Backend>(
     alloc: Global,
     backend: &mut B,
-    leases: &mut Leases<'r, B::Lease>,
+    leases: &mut Leases<'r, B>,
     row: &'r Row,
 ) -> Result<Reply, Refusal>
     ensures { AnswersRow B.acts (backend.old, leases.old) (row_view row.now) result (backend.new, leases.new) }
@@ -101,7 +101,7 @@ fn play_row<'r, B: Backend>(
 pub fn act<'r, B: Backend>(
     alloc: Global,
     backend: &mut B,
-    leases: &mut Leases<'r, B::Lease>,
+    leases: &mut Leases<'r, B>,
     row: &'r Row,
 ) -> Reply
     ensures { ((answer_of result ≡ Refused Refusal.Memory) × (backend.new ≡ backend.old) × (leases.new ≡ leases.old)) ⊎ RowStep B.acts (backend.old, leases.old) (row_view row.now) (answer_of result) (backend.new, leases.new) }
@@ -123,7 +123,7 @@ fn is_memory(reply: &Reply) -> bool
 fn play_next<'r, B: Backend, G: Gate>(
     alloc: Global,
     backend: &mut B,
-    leases: &mut Leases<'r, B::Lease>,
+    leases: &mut Leases<'r, B>,
     gate: &G,
     place: usize,
     row: &'r Row,
@@ -149,7 +149,7 @@ fn play_next<'r, B: Backend, G: Gate>(
 fn play_own<'r, B: Backend, G: Gate>(
     alloc: Global,
     backend: &mut B,
-    leases: &mut Leases<'r, B::Lease>,
+    leases: &mut Leases<'r, B>,
     gate: &G,
     rows: &'r [Row],
     worker: Worker,

@@ -21,6 +21,7 @@ mod config;
 mod hand_tests;
 mod keep;
 pub mod laws;
+mod lease;
 #[cfg(test)]
 mod lease_tests;
 #[cfg(test)]
@@ -43,6 +44,7 @@ mod tests;
 
 pub use book::{Book, MAX_BLOB};
 pub use config::Config;
+pub use lease::{Lease, PinsName};
 pub use link_table::{MAX_QUOTA, MAX_TENANTS};
 pub use slot_table::MAX_SLOTS;
 pub use store_model::{Mount, Swept};

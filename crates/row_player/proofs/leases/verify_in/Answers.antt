@@ -7,7 +7,7 @@ use Rattle.row_player.proofs.leases.verify_in.Goals as goal
 
 pub returns-clause-same : goal.returns-clause-same
 returns-clause-same g c =
-    let lent = g.B.Lease.BlobLease.lent in
+    let lent = g.B.Backend.lent in
     let before : Leases = leases_in lent c.args.table.now in
     c.exchange-2.ensures.puts
     ∙ (λ i. fmap.insert (c.exchange.ensures.puts i) (name_at c.args.name) (c.verify-held.ensures.same i))

@@ -16,4 +16,4 @@ returns g c =
     let old = c.args.self.now.book in
     let new = c.lease.new.self in
     let rises = lending_rise c.args.digest.now old.slots new.slots c.in_ok-pin.ensures.slots.1 in
-    ((lease_acts _ (Ok (c.in_ok-pin.pin, c.in_ok-pin.blob)) old.catalog new.catalog new.slots c.args.repo.now c.args.digest.now c.in_ok-pin.ensures.does, rises), c.in_ok-pin.ensures.pin.2)
+    rw c.new.ensures ((lease_acts _ (Ok (c.in_ok-pin.pin, c.in_ok-pin.blob)) old.catalog new.catalog new.slots c.args.repo.now c.args.digest.now c.in_ok-pin.ensures.does, rises), c.in_ok-pin.ensures.pin.2)
