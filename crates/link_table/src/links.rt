@@ -10,7 +10,7 @@ ghost use Rattle.link_table.specs.Linked.{is_tenants, known_tenant, used_in, quo
 ghost use Rattle.link_table.specs.Tenancy.{Opens, AreTenants, RefusesTenants, tenants_shown};
 
 use crate::blobs::Blobs;
-use crate::holders::{Holders, holders_of, decrement, no_holders, increment};
+use crate::holders::{Holders, decrement, holders_of, increment, no_holders};
 use crate::manifest_table::ManifestTable;
 use crate::manifests::Manifests;
 use crate::tenant_repos::TenantRepos;
