@@ -6,3 +6,4 @@ pub mod KeyOrders
 pub mod NameGrammar
 pub mod NameTexts
 pub mod RangeTexts
+pub mod Slices

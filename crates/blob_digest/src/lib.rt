@@ -19,6 +19,7 @@ mod range;
 mod refusal;
 mod repo_name;
 mod running;
+mod upload_hashes;
 
 pub use algorithm::Algorithm;
 pub use blob::Blob;
@@ -30,6 +31,7 @@ pub use range::ByteRange;
 pub use refusal::Refusal;
 pub use repo_name::RepoName;
 pub use running::Running;
+pub use upload_hashes::UploadHashes;
 
 #[cfg(test)]
 mod tests;

@@ -1,6 +1,6 @@
 //! Hashes computed piece by piece.
 ghost use Rattle.std.specs.Prelude.{◌≡◌, ℕ, List, [], ◌++◌};
-ghost use Rattle.blob_digest.specs.Digests.{algorithm_of, hash_text};
+ghost use Rattle.blob_digest.specs.Digests.{hash_text};
 ghost use Rattle.blob_digest.specs.Hashing.{Hashes};
 
 use crate::algorithm::Algorithm;
@@ -8,7 +8,7 @@ use crate::digest::Digest;
 use sha2::{Digest as _, Sha256, Sha512};
 
 /// The hashes of the bytes so far, by SHA-256 and by SHA-512 (FIPS 180-4, sections 6.2 and 6.4), of
-/// which either can be asked for at the end. Contracts relate it to those bytes by `Hashes`; how they
+/// which either can be asked for at the end. An upload has `UploadHashes` in its place, which waits with SHA-512. Contracts relate it to those bytes by `Hashes`; how they
 /// were cut into pieces does not matter. It takes no memory of its own.
 #[derive(Drop)]
 pub struct Running {
@@ -35,46 +35,6 @@ impl Running {
     {
         self.sha256.update(bytes);
         self.sha512.update(bytes);
-    }
-
-    /// A second hash that has taken in the same bytes. It costs a copy of the state, of some hundred
-    /// bytes, however many bytes were taken in.
-    #[tactic(auto, unfolding(crate::specs::Hashing::Hashes))]
-    pub fn fork(&self) -> Running
-        ensures { (bytes : List ℕ) → Hashes self.now bytes → Hashes result bytes }
-    {
-        match self.sha256.clone() {
-            Ok(sha256) => match self.sha512.clone() {
-                Ok(sha512) => Running { sha256, sha512 },
-                Err(_) => unreachable!(),
-            },
-            Err(_) => unreachable!(),
-        }
-    }
-
-    /// The digest, by one of the algorithms, of all bytes that were taken in and then of these. The hash
-    /// itself stays as it was, and the bytes go through the hash of that algorithm alone.
-    #[tactic(auto, unfolding(crate::specs::Hashing::Hashes, crate::specs::Digests::sha256_text, crate::specs::Digests::sha512_text))]
-    pub fn digest_with(&self, bytes: &[u8], algorithm: Algorithm) -> Digest
-        ensures value { (before : List ℕ) → Hashes self.now before → result ≡ hash_text algorithm (before ++ bytes.now) }
-        ensures named { algorithm_of result ≡ algorithm }
-    {
-        match algorithm {
-            Algorithm::Sha256 => match self.sha256.clone() {
-                Ok(mut all) => {
-                    all.update(bytes);
-                    Digest::of_sha256(all.finalize())
-                }
-                Err(_) => unreachable!(),
-            },
-            Algorithm::Sha512 => match self.sha512.clone() {
-                Ok(mut all) => {
-                    all.update(bytes);
-                    Digest::of_sha512(all.finalize())
-                }
-                Err(_) => unreachable!(),
-            },
-        }
     }
 
     /// The digest, by one of the algorithms, of all bytes that were taken in, in their order.

@@ -5,14 +5,14 @@ use Rattle.std.specs.List.{AllByRecursion}
 use Rattle.std.specs.FinMap as fmap
 use Rattle.std.specs.Ordering.{nat_cmp}
 use Rattle.blob_digest.specs.Digests.{algorithm_of, hash_text}
-use Rattle.blob_digest.specs.Hashing.{Hashes}
+use Rattle.blob_digest.specs.Hashing.{HashesUpload}
 use Rattle.finite_maps.specs.Texts.{Text, same_text}
 use Rattle.store_model.specs.Sessions.{Chunks, Session, Taken}
 use Rattle.store_model.specs.Sessions as shown
 use Rattle.upload_table.specs.Tenants.{Numbered}
 use Rattle.upload_table.specs.Uploaded.{cut}
 use Rattle.upload_table.specs.declared.hashed.Hashed.{Hashed}
-use Rattle.upload_table.specs.declared.hashed.Hashed.TheVariants.{Both, One}
+use Rattle.upload_table.specs.declared.hashed.Hashed.TheVariants.{All, One}
 use Rattle.upload_table.specs.declared.upload.Content.{Content}
 use Rattle.upload_table.specs.declared.upload.Content.TheVariants.{Home, InHand}
 use Rattle.upload_table.specs.declared.upload.ChunkBuffer.{ChunkBuffer}
@@ -34,11 +34,11 @@ entry_of u = (u.number, session_of u)
 abbrev pub shown_by : ℕ → List Upload → Numbered
 shown_by next rows = record { next = next; sessions = fmap.from_entries (map entry_of rows) }
 
--- the lengths are those of chunks with bytes, and the hash is that of the bytes
+-- the lengths are those of chunks with bytes, and the hashes are those of the bytes
 pub record IsWhole (p : ChunkBuffer) : Type 0 where
   pub lengths : sum p.lens.items ≡ length p.bytes.items
   pub positive : AllByRecursion (λ n. 0 < n) p.lens.items
-  pub hash : Hashes p.running p.bytes.items
+  pub hash : HashesUpload p.hashes p.bytes.items
 
 -- a row at home has whole chunks
 abbrev pub AreWhole : Content → Type 0
@@ -85,9 +85,9 @@ rows_listed repo rows = map row_listed (filter (λ u. same_text u.repo repo) row
 abbrev pub taken : ℕ → ℕ → ℕ → ℕ → ChunkBuffer → Option Hashed → Taken
 taken tenant number received reserved p whole = record { key = (tenant, number); chunks = cut p.lens.items p.bytes.items; reserved = reserved; last = option_map (λ _. drop received p.bytes.items) whole }
 
--- both hashes have taken in these bytes, or it is their digest by the algorithm that it names
+-- the hashes have taken in these bytes, or it is their digest by the algorithm that it names
 abbrev pub IsHashOf : Hashed → List ℕ → Type 0
-IsHashOf (Both running) bytes = Hashes running bytes
+IsHashOf (All hashes) bytes = HashesUpload hashes bytes
 IsHashOf (One digest) bytes = digest ≡ hash_text (algorithm_of digest) bytes
 
 -- a chunk of the reserved length follows the others, there is room for its length, and all bytes are hashed; or no chunk does
@@ -98,15 +98,10 @@ IsFilled received reserved p room (Some whole) = (length p.bytes.items ≡ recei
 pub record IsHand (received reserved : ℕ) (p : ChunkBuffer) (room : ℕ) (whole : Option Hashed) : Type 0 where
   pub lengths : sum p.lens.items ≡ received
   pub positive : AllByRecursion (λ n. 0 < n) p.lens.items
-  pub hash : Hashes p.running (take received p.bytes.items)
+  pub hash : HashesUpload p.hashes (take received p.bytes.items)
   pub fits : received + reserved < 2 ^ 64
   pub filled : IsFilled received reserved p room whole
 
 -- the lengths with one more, where it isn't 0
 abbrev pub with_length : List ℕ → ℕ → List ℕ
 with_length lens n = if nat_lt 0 n then lens ++ n ∷ [] else lens
-
--- the same lengths and hash
-pub record IsSame (old new : ChunkBuffer) : Type 0 where
-  pub lens : new.lens.items ≡ old.lens.items
-  pub running : new.running ≡ old.running

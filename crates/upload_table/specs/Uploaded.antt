@@ -5,9 +5,9 @@ use Rattle.std.proofs.Common.{refl}
 use Rattle.std.specs.FinMap as fmap
 use Rattle.std.specs.Coded.{Coded, code_by, coded×, coded_ℕ, coded_list}
 use Rattle.blob_digest.specs.declared.refusal.Refusal.TheVariants.{LimitReached, DigestInvalid}
-use Rattle.blob_digest.specs.declared.running.Running.{Running}
-use Rattle.blob_digest.specs.contracts.running.Running as running
-use Rattle.blob_digest.specs.Hashing.{Hashes}
+use Rattle.blob_digest.specs.declared.upload_hashes.UploadHashes.{UploadHashes}
+use Rattle.blob_digest.specs.contracts.upload_hashes.UploadHashes as upload_hashes
+use Rattle.blob_digest.specs.Hashing.{HashesUpload}
 use Rattle.finite_maps.specs.Texts.{Text}
 use Rattle.blob_digest.specs.Keys.{Number}
 use Rattle.blob_digest.specs.Digests.{is_digest_of}
@@ -25,11 +25,11 @@ pub record Uploaded : Type 0 where
   pub next : List ℕ
   pub sessions : Sessions
 
--- A hand whose bytes have moved into a blob: its key, the lengths of its chunks, and the hash of their bytes.
+-- A hand whose bytes have moved into a blob: its key, the lengths of its chunks, and the hashes of their bytes.
 pub record Rest : Type 0 where
   pub key : Number
   pub lens : List ℕ
-  pub running : Running
+  pub hashes : UploadHashes
 
 -- ---- the code by which a proof tells such values apart
 
@@ -37,7 +37,7 @@ abbrev pub coded_number : Coded Number
 coded_number = coded× coded_ℕ coded_ℕ
 
 abbrev pub coded_rest : Coded Rest
-coded_rest = code_by (Number × (List ℕ × Running)) (coded× coded_number (coded× (coded_list coded_ℕ) running.the_row.coded)) (λ c. (c.key, (c.lens, c.running))) (λ p. record { key = p.0; lens = p.1.0; running = p.1.1 }) (λ _. refl)
+coded_rest = code_by (Number × (List ℕ × UploadHashes)) (coded× coded_number (coded× (coded_list coded_ℕ) upload_hashes.the_row.coded)) (λ c. (c.key, (c.lens, c.hashes))) (λ p. record { key = p.0; lens = p.1.0; hashes = p.1.1 }) (λ _. refl)
 
 abbrev pub coded_uploaded : Coded Uploaded
 coded_uploaded = code_by (List ℕ × Sessions) (coded× (coded_list coded_ℕ) (fmap.code coded_number coded_session)) (λ u. (u.next, u.sessions)) (λ p. record { next = p.0; sessions = p.1 }) (λ _. refl)
@@ -84,7 +84,7 @@ finish_upload u h digest = do
 -- bytes begin with those of the rest
 pub record BeginsWith (r : Rest) (bytes : Text) : Type 0 where
   pub within : sum r.lens ≤ length bytes
-  pub hash : Hashes r.running (take (sum r.lens) bytes)
+  pub hash : HashesUpload r.hashes (take (sum r.lens) bytes)
 
 -- The session of the rest is in hand, and bytes begin with those of the rest.
 pub record CanReopen (u : Uploaded) (r : Rest) (bytes : Text) : Type 0 where

@@ -3,7 +3,7 @@
 ghost use Rattle.std.specs.Prelude.{◌≡◌, ◌≢◌, ◌+◌, ◌<◌, ◌≤◌, ◌^◌, [], Some, None, IfSome, IfOk, IfErr, OnErr, true, false, is_some, length, sum_by, take};
 ghost use Rattle.std.specs.List.{AllByRecursion};
 ghost use Rattle.blob_digest.specs.Digests.{is_digest_of};
-ghost use Rattle.blob_digest.specs.Hashing.{Hashes};
+ghost use Rattle.blob_digest.specs.Hashing.{HashesUpload};
 ghost use Rattle.store_model.specs.Sessions.{chunks_of, whole_of};
 ghost use Rattle.upload_table.specs.Uploaded.{cut, BeginsWith};
 ghost use Rattle.store_model.specs.Sessions.{IsFull};
@@ -12,7 +12,7 @@ ghost use Rattle.std.specs.Vec.{vec_capacity};
 
 use crate::hashed::Hashed;
 use crate::upload::{ChunkBuffer, extend, sum_of};
-use blob_digest::{Algorithm, Blob, Digest, Running};
+use blob_digest::{Algorithm, Blob, Digest, UploadHashes};
 use std::marker::Model;
 
 /// The chunks of a session in hand, with room reserved for one more. Its bytes are copied and hashed by
@@ -49,7 +49,7 @@ pub struct PendingClose {
     pub(crate) tenant: u16,
     pub(crate) number: u32,
     pub(crate) lens: Vec<u64>,
-    pub(crate) running: Running,
+    pub(crate) hashes: UploadHashes,
 }
 
 impl Model for PendingClose {
@@ -61,7 +61,7 @@ impl Model for PendingClose {
 
     ghost coded = { coded_rest };
 
-    ghost view = { λ s. record { key = (s.tenant, s.number); lens = s.lens.items; running = s.running } };
+    ghost view = { λ s. record { key = (s.tenant, s.number); lens = s.lens.items; hashes = s.hashes } };
 
     ghost invariant = { λ s. AllByRecursion (λ n. 0 < n) s.lens.items };
 }
@@ -145,7 +145,7 @@ impl Hand {
         self.fill_by(bytes, Some(algorithm))
     }
 
-    /// Fills in the chunk, hashed by the one algorithm that is named, or else by both.
+    /// Fills in the chunk, hashed by the one algorithm that is named, or else so that more can follow.
     fn fill_by(self, bytes: &[u8], algorithm: Option<Algorithm>) -> Result<Hand, Hand>
         requires len { length bytes.now ≡ self.reserved }
         requires empty { self.last ≡ None }
@@ -222,12 +222,12 @@ impl Hand {
         let ChunkBuffer {
             bytes,
             lens,
-            running,
+            mut hashes,
         } = pieces;
-        let last = &bytes[received as usize..];
+        let all = bytes.as_slice();
         let found = match whole {
-            Some(hashed) => hashed.digest(&running, last, digest.algorithm()),
-            None => running.digest_with(last, digest.algorithm()),
+            Some(hashed) => hashed.digest(&mut hashes, all, received as usize, digest.algorithm()),
+            None => hashes.digest(all, received as usize, digest.algorithm()),
         };
         match Blob::seal_found(bytes, found, digest) {
             Ok(blob) => Ok((
@@ -236,7 +236,7 @@ impl Hand {
                     tenant,
                     number,
                     lens,
-                    running,
+                    hashes,
                 },
             )),
             Err(mut refused) => {
@@ -244,7 +244,7 @@ impl Hand {
                 Err(ChunkBuffer {
                     bytes: refused,
                     lens,
-                    running,
+                    hashes,
                 })
             }
         }
@@ -267,18 +267,18 @@ impl Hand {
 fn with_last(pieces: ChunkBuffer, received: usize, len: u64, hashed: Hashed) -> ChunkBuffer
     requires room { length pieces.lens.items < vec_capacity pieces.lens }
     requires within { received ≤ length pieces.bytes.items }
-    requires front { Hashes pieces.running (take received pieces.bytes.items) }
+    requires front { HashesUpload pieces.hashes (take received pieces.bytes.items) }
     requires all { IsHashOf hashed pieces.bytes.items }
     ensures bytes { result.bytes.items ≡ pieces.bytes.items }
     ensures lens { result.lens.items ≡ with_length pieces.lens.items len }
-    ensures hash { Hashes result.running pieces.bytes.items }
+    ensures hash { HashesUpload result.hashes pieces.bytes.items }
 {
     let ChunkBuffer {
         bytes,
         mut lens,
-        running,
+        hashes,
     } = pieces;
-    let running = hashed.into_running(running, &bytes[received..]);
+    let hashes = hashed.into_hashes(hashes, &bytes[received..]);
     if len > 0 {
         match lens.push(len) {
             Ok(()) => {}
@@ -288,7 +288,7 @@ fn with_last(pieces: ChunkBuffer, received: usize, len: u64, hashed: Hashed) -> 
     ChunkBuffer {
         bytes,
         lens,
-        running,
+        hashes,
     }
 }
 
@@ -303,7 +303,7 @@ impl PendingClose {
             tenant: _,
             number: _,
             lens,
-            running,
+            hashes,
         } = self;
         let received = sum_of(lens.as_slice());
         let mut bytes = blob.into_bytes();
@@ -311,7 +311,7 @@ impl PendingClose {
         ChunkBuffer {
             bytes,
             lens,
-            running,
+            hashes,
         }
     }
 }

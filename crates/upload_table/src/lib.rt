@@ -10,9 +10,9 @@
 //! in again. To close a session, `finish` moves the bytes of the hand into a blob, and then `forget`
 //! drops the session, or `reopen` takes the blob back and leaves the session as before it was taken.
 //! `fill` alone copies bytes: those of its chunk, and those before them where their list has to grow. Each
-//! byte goes through each of the two hashes once; those of a last chunk go through the one alone that the
-//! close asks for, where `Hand::fill_last` is told which, and through the other as well where the hand is
-//! put back after all.
+//! byte goes through SHA-256 once, as it comes, and through SHA-512 once where a close asks for it; those of a last
+//! chunk go through the one alone that the close asks for, where `Hand::fill_last` is told which, and through
+//! SHA-256 as well where the hand is put back after all.
 #![tactic(auto)]
 
 mod hand;

@@ -2,14 +2,14 @@
 
 ghost use Rattle.std.specs.Prelude.{◌≡◌, ◌+◌, ◌<◌, ◌^◌, ◌++◌, [], IfOk, OnOk, OnErr, length, sum, true};
 ghost use Rattle.std.specs.Vec.{vec_capacity};
-ghost use Rattle.blob_digest.specs.Hashing.{Hashes};
+ghost use Rattle.blob_digest.specs.Hashing.{HashesUpload};
 ghost use Rattle.store_model.specs.Sessions.{length_after as length_after_chunk};
-ghost use Rattle.upload_table.specs.Rows.{content_charge, content_received, is_at_home, is_out, IsHashOf, IsSame, IsWhole};
+ghost use Rattle.upload_table.specs.Rows.{content_charge, content_received, is_at_home, is_out, IsHashOf, IsWhole};
 ghost use Rattle.upload_table.specs.Uploaded.{cut};
 ghost use Rattle.upload_table.specs.declared.upload.Content.TheVariants.{Home, InHand};
 
 use crate::hashed::Hashed;
-use blob_digest::{Algorithm, ByteRange, Refusal, RepoName, Running};
+use blob_digest::{Algorithm, ByteRange, Refusal, RepoName, UploadHashes};
 use std::alloc::{AllocError, Global};
 use std::mem;
 
@@ -18,7 +18,7 @@ use std::mem;
 pub(crate) struct ChunkBuffer {
     pub(crate) bytes: Vec<u8>,
     pub(crate) lens: Vec<u64>,
-    pub(crate) running: Running,
+    pub(crate) hashes: UploadHashes,
 }
 
 /// What the table has of a session: its chunks, or only their length while they are in hand.
@@ -46,7 +46,7 @@ impl ChunkBuffer {
         ChunkBuffer {
             bytes: Vec::new(alloc),
             lens: Vec::new(alloc),
-            running: Running::new(),
+            hashes: UploadHashes::new(),
         }
     }
 }
@@ -130,24 +130,27 @@ pub(crate) fn length_after(
     }
 }
 
-/// Adds the bytes of a chunk at the end, makes room for its length, and answers what hashing it gave, by
-/// the one algorithm that is named, or else by both. The chunks' own hashes stay, so that they need not be
-/// hashed again where the last one goes.
+/// Adds the bytes of a chunk at the end, makes room for its length, and answers what hashing all bytes gave: their
+/// digest by the one algorithm that is named, or else their hashes, behind which more chunks may follow. The chunks' own
+/// hashes stay theirs, so that they need not be hashed again where the last one goes.
 pub(crate) fn extend(
     pieces: &mut ChunkBuffer,
     chunk: &[u8],
     algorithm: Option<Algorithm>,
 ) -> Result<Hashed, AllocError>
-    requires { Hashes pieces.old.running pieces.old.bytes.items }
+    requires { HashesUpload pieces.old.hashes pieces.old.bytes.items }
     ensures hash { IfOk result (λ w. IsHashOf w pieces.new.bytes.items) }
     ensures bytes { OnOk result (pieces.new.bytes.items ≡ pieces.old.bytes.items ++ chunk.now) }
     ensures room { OnOk result (length pieces.new.lens.items < vec_capacity pieces.new.lens) }
     ensures err { OnErr result (pieces.new.bytes.items ≡ pieces.old.bytes.items) }
-    ensures same { IsSame pieces.old pieces.new }
+    ensures lens { pieces.new.lens.items ≡ pieces.old.lens.items }
+    ensures front { HashesUpload pieces.new.hashes pieces.old.bytes.items }
 {
+    let received = pieces.bytes.len();
     pieces.lens.reserve(1)?;
     pieces.bytes.extend_from_slice(chunk)?;
-    Ok(Hashed::of(&pieces.running, chunk, algorithm))
+    let bytes = pieces.bytes.as_slice();
+    Ok(Hashed::of(&mut pieces.hashes, bytes, received, algorithm))
 }
 
 /// The sum of the lengths of some chunks.

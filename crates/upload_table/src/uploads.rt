@@ -261,7 +261,7 @@ impl Uploads {
             tenant,
             number,
             lens: _,
-            running: _,
+            hashes: _,
         } = sealed;
         self.tenants[tenant as usize].remove(number);
     }

@@ -8,5 +8,5 @@ pub returns-in-Ok-clause-ok : goal.returns-in-Ok-clause-ok
 returns-in-Ok-clause-ok c =
     let empty = ap (λ (h : Taken). h.last) c.self.view_is ∙ c.requires.empty in
     hand_fill c.self.inside.received c.self.inside.reserved c.self.inside.pieces (vec_capacity c.self.inside.pieces.lens) c.self.inside.whole c.self.invariant
-    c.self.inside.tenant c.self.inside.number c.extend.new.pieces c.in-Ok.all c.args.bytes.now empty c.in-Ok.ensures.same.lens c.in-Ok.ensures.bytes
+    c.self.inside.tenant c.self.inside.number c.extend.new.pieces c.in-Ok.all c.args.bytes.now empty c.in-Ok.ensures.lens c.in-Ok.ensures.bytes
     ∙ ap (λ (h : Taken). record h { last = Some c.args.bytes.now }) c.self.view_is
