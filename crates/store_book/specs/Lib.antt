@@ -1,3 +1,4 @@
+pub mod BookFields
 pub mod BookState
 pub mod Internal
 pub mod Layers
