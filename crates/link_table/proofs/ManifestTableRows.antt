@@ -2,7 +2,7 @@
 use Rattle.std.proofs.Common.{◌≡◌, Bool, true, false, cond, List, [], ◌∷◌, length, map, filter, Option, Some, None, is_some, Result, Ok, Err, refl, sym, ap, ◌∙◌, subst}
 use Rattle.std.specs.Prelude.{T, ◌&&◌, nat_le, IsSome}
 use Rattle.std.specs.declared.cmp.Ordering.{Ordering}
-use Rattle.std.specs.Ordering.{eq_by_cmp, is_eq, is_lt, ordering_then}
+use Rattle.std.specs.Ordering.{eq_by_cmp, is_lt, ordering_then}
 use Rattle.std.specs.Cmp.{tied_then, tied_itself, Equal-is}
 use Rattle.std.specs.Cmp.Lexicographic.{nat_list_cmp_total, texts_ties}
 use Rattle.std.specs.List.{flat_map, find as first}
@@ -72,9 +72,6 @@ none_anyway false = refl
 
 link_tie : (r d s e : Text) → eq_by_cmp link_cmp (r, d) (s, e) ≡ (eq_by_cmp text_cmp r s && eq_by_cmp text_cmp d e)
 link_tie r d s e = sym (tied_then (text_cmp r s) (text_cmp d e))
-
-itself : (r : Text) → eq_by_cmp text_cmp r r ≡ true
-itself r = ap is_eq (tied_itself nat_list_cmp_total r)
 
 -- the rows es of the repository n
 abbrev paired : Text → List (Text × Text) → List (Link × Text)

@@ -34,9 +34,6 @@ use Rattle.finite_maps.proofs.Parts.{find_nowhere, find_in_part, find-set_part, 
 
 -- ---- the repositories
 
-name_of : Repo → Text
-name_of r = r.name
-
 names_marked : (rows : List Repo) → map (λ (e : Text × Unit {0}). e.0) (map named rows) ≡ map (λ r. r.name) rows
 names_marked [] = refl
 names_marked (r ∷ rows) = ap (λ xs. r.name ∷ xs) (names_marked rows)

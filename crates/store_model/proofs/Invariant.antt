@@ -11,5 +11,4 @@ pub mod NewLink
 pub mod NewSession
 pub mod Repos
 pub mod SessionTenants
-pub mod TenantNames
 pub mod Use

@@ -38,10 +38,6 @@ module _ (L : Layers) (t : ℕ) (repo digest : Text) (book : IsBook L) (known : 
     abbrev found : (contains_key L.links.links (repo, digest) ≡ true) × (slot_of L.slots digest ≡ Some k)
     found = linked_some L book repo digest k at_slot
 
-    -- the link that goes is there
-    pub linked_there : contains_key L.links.links (repo, digest) ≡ true
-    linked_there = found.0
-
     has : holds C repo digest ≡ true
     has = holds_linked L book repo digest ∙ found.0
 

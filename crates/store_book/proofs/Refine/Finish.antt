@@ -38,9 +38,6 @@ module _ (L : Layers) (h : Taken) (digest : Text) where
   abbrev whole : Text
   whole = whole_of h
 
-  pub finish_unknown : (e : Refusal) → taken_session (get L.uploads.sessions h.key) h ≡ Err e → finish C h digest ≡ Err e
-  finish_unknown e unknown = rw unknown refl
-
   module _ (book : IsBook L) (proper : IsProper h) (full_h : IsFull h) (s : Session) (here : taken_session (get L.uploads.sessions h.key) h ≡ Ok s) where
     pub finish_other_digest : is_digest_of digest whole ≡ false → finish C h digest ≡ Err DigestInvalid
     finish_other_digest other = rw (here, other) refl

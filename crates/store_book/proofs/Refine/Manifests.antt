@@ -10,14 +10,14 @@ use Rattle.blob_digest.specs.Digests.{sha256_text}
 use Rattle.blob_digest.specs.Outcomes.{OutcomeIn}
 use Rattle.finite_maps.specs.Sets as set
 use Rattle.blob_digest.specs.declared.refusal.Refusal.{Refusal}
-use Rattle.blob_digest.specs.declared.refusal.Refusal.TheVariants.{LimitReached, ManifestUnknown, ManifestBlobUnknown}
+use Rattle.blob_digest.specs.declared.refusal.Refusal.TheVariants.{LimitReached, ManifestBlobUnknown}
 use Rattle.finite_maps.proofs.Options.{some_same, some_none, no_value}
 use Rattle.oci_manifest.specs.Manifests.{IsManifest, refs_of, max_manifest}
 use Rattle.link_table.specs.ManifestTable.{manifests_in}
 use Rattle.link_table.specs.Linked.{Linked, known_tenant, appear, cannot_appear, drop_manifest, put_manifest as put_manifest_on}
 use Rattle.finite_maps.specs.Texts.{Text}
 use Rattle.store_model.specs.Catalog.{Catalog}
-use Rattle.store_model.specs.Commands.{put_manifest, get_manifest, delete_manifest, all_linked}
+use Rattle.store_model.specs.Commands.{put_manifest, delete_manifest, all_linked}
 use Rattle.store_book.specs.Internal.Keeping.{all_held, with_manifest_on}
 use Rattle.store_model.specs.Invariant.{Sound}
 use Rattle.store_book.specs.Layers.{Layers, book_catalog, IsBook}
@@ -31,15 +31,6 @@ module _ (L : Layers) (t : ℕ) (repo digest : Text) (known : known_tenant L.lin
 
   abbrev after : Catalog
   after = book_catalog (record L { links = drop_manifest L.links repo digest })
-
-  pub get_unknown : get L.links.manifests (repo, digest) ≡ None → get_manifest C repo digest ≡ Err ManifestUnknown
-  get_unknown none = rw (known, none) refl
-
-  pub get_there : (bytes : Text) → get L.links.manifests (repo, digest) ≡ Some bytes → get_manifest C repo digest ≡ Ok bytes
-  get_there bytes is = rw (known, is) refl
-
-  pub delete_unknown : get L.links.manifests (repo, digest) ≡ None → delete_manifest C repo digest ≡ Err ManifestUnknown
-  delete_unknown none = rw (known, none) refl
 
   pub delete_there : (bytes : Text) → get L.links.manifests (repo, digest) ≡ Some bytes → delete_manifest C repo digest ≡ Ok (tt, after)
   delete_there bytes is = rw (known, is) refl

@@ -87,10 +87,6 @@ module _ (L : Layers) (t : ℕ) (repo : Text) (book : IsBook L) (known : known_t
       abbrev holder : (q : Text) × (is_of C t q ≡ true) × (holds C q digest ≡ true)
       holder = source_of C t digest from source.0
 
-      -- the source has a slot
-      pub source_slot_of : slot_of L.slots digest ≡ Some k
-      source_slot_of = source.1
-
       links_it : mount C repo digest from ≡ link_held C t repo digest
       links_it = by_source true source.0
 

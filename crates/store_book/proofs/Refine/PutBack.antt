@@ -1,16 +1,14 @@
 -- `Book::put_back`, and what a refused `Book::finish` leaves.
-use Rattle.std.proofs.Common.{◌≡◌, ◌≢◌, ℕ, ◌+◌, ◌-◌, ◌<◌, ◌≤◌, List, [], length, Some, Result, Ok, Err, refl, sym, ap, ◌∙◌, subst, arith}
+use Rattle.std.proofs.Common.{◌≡◌, ◌≢◌, ℕ, ◌+◌, ◌-◌, ◌<◌, ◌≤◌, List, [], length, Some, Result, Ok, refl, sym, ap, ◌∙◌, subst, arith}
 use Rattle.std.specs.Prelude.{slice_index}
 use Rattle.std.specs.List.{AllByRecursion, sum_by}
 use Rattle.std.specs.FinMap.{get}
 use Rattle.blob_digest.specs.declared.refusal.Refusal.{Refusal}
 use Rattle.link_table.specs.Linked.{Linked, discharge}
-use Rattle.store_model.specs.Sessions.{Home, InHand, Session, Sessions, Taken, charged, chunks_of, put_back_in, taken_session, with_chunks}
+use Rattle.store_model.specs.Sessions.{Home, InHand, Session, Taken, charged, chunks_of, put_back_in, taken_session, with_chunks}
 use Rattle.upload_table.specs.Uploaded.{Uploaded, put_back_upload, with_sessions}
 use Rattle.finite_maps.specs.Texts.{Text}
 use Rattle.store_model.specs.Catalog.{Catalog}
-use Rattle.finite_maps.specs.Outcomes.{◌>>=◌}
-use Rattle.store_model.specs.Commands.{put_back}
 use Rattle.store_book.specs.Layers.{Layers, book_catalog, IsBook}
 use Rattle.store_book.proofs.Layers.ChunkCharges.{IsBook-chunks}
 use Rattle.store_model.proofs.Commands.Hands.{all_chunks, spare, spare_is, taken_found, IsProper}
@@ -24,19 +22,6 @@ snd_of {A} {B} {x} {y} {u} {v} e = let p : ◌≡◌ {A = A × B} (x, u) (y, v) 
 module _ (L : Layers) (h : Taken) where
   abbrev C : Catalog
   C = book_catalog L
-
-  pub put_back_refused : (e : Refusal) → put_back_upload L.uploads h ≡ Err e → put_back C h ≡ Err e
-  put_back_refused e refused = by (put_back_in L.uploads.sessions h) refused
-    where
-      by : (x : Result (ℕ × Sessions) Refusal) → ◌>>=◌ {B = ℕ × Uploaded} x (λ back. Ok (back.0, with_sessions L.uploads back.1)) ≡ Err e → ◌>>=◌ {B = ℕ × Catalog} x (λ back. Ok (back.0, record C { sessions = back.1 })) ≡ Err e
-      by (Ok back) h = absurd cc
-      by (Err d) h = let same : d ≡ e = cc in ap (λ (r : Refusal). Err r) same
-
-  pub put_back_ok : (n : ℕ) (u' : Uploaded) (l' : Linked) (k : ℕ) → put_back_upload L.uploads h ≡ Ok (n, u') → l' ≡ discharge L.links h.key.0 k → put_back C h ≡ Ok (n, book_catalog (record L { links = l'; uploads = u' }))
-  put_back_ok n u' l' k back links =
-      let a = bound_ok (put_back_in L.uploads.sessions h) _ (n, u') back in
-      let p = snd_of a.2 in
-      rw a.1 (λ i. Ok (p.0 i, book_catalog (record L { links = sym links i; uploads = p.1 i })))
 
   module _ (book : IsBook L) (proper : IsProper h) (s : Session) (here : taken_session (get L.uploads.sessions h.key) h ≡ Ok s) where
     pub session_here : (get L.uploads.sessions h.key ≡ Some s) × (s.chunks ≡ InHand (sum_by length h.chunks) h.reserved)

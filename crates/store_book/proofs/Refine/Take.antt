@@ -1,14 +1,12 @@
 -- `Book::take`, from what its calls of the layers did.
-use Rattle.std.proofs.Common.{◌≡◌, ℕ, ◌+◌, ◌-◌, ◌^◌, ◌<◌, true, List, [], ◌∷◌, length, Option, Result, Ok, Err, refl, sym, ap, ◌∙◌, subst, arith}
-use Prim.Native.Nat.{zero, suc}
-use Rattle.std.specs.Prelude.{nat_lt, slice_index, slice_set}
+use Rattle.std.proofs.Common.{◌≡◌, ℕ, ◌+◌, ◌^◌, ◌<◌, true, length, Option, Result, Ok, Err, refl, sym, ap, ◌∙◌, subst, arith}
+use Rattle.std.specs.Prelude.{nat_lt, slice_index}
 use Rattle.std.specs.FinMap.{get}
 use Rattle.std.proofs.lemmas.Bool.{ltb-false}
-use Rattle.std.proofs.lemmas.List.{get_or-set_same, set-get_or}
 use Rattle.blob_digest.specs.declared.range.ByteRange.{ByteRange}
 use Rattle.blob_digest.specs.declared.refusal.Refusal.{Refusal}
 use Rattle.blob_digest.specs.declared.refusal.Refusal.TheVariants.{NameUnknown, Quota}
-use Rattle.link_table.specs.Linked.{Linked, known_tenant, charge, charged, discharge, used_in, quota_in}
+use Rattle.link_table.specs.Linked.{Linked, known_tenant, charge, charged, used_in, quota_in}
 use Rattle.store_model.specs.Sessions.{InHand, are_home, check_in, hand_in, session_charges, is_home, received, take_in, with_chunks}
 use Rattle.upload_table.specs.Uploaded.{Uploaded, with_sessions}
 use Rattle.finite_maps.specs.Texts.{Text}
@@ -25,20 +23,6 @@ use Rattle.store_model.proofs.Invariant.Bounds.{quota_small}
 
 pub snd_ok : {S : Type 0} (x y : S) → ◌≡◌ {A = Result (Unit {0} × S) Refusal} (Ok (tt, x)) (Ok (tt, y)) → x ≡ y
 snd_ok {S} x y h = let p : ◌≡◌ {A = Unit {0} × S} (tt, x) (tt, y) = cc in λ i. (p i).1
-
-pub set_twice : (xs : List ℕ) (i x y : ℕ) → slice_set (slice_set xs i x) i y ≡ slice_set xs i y
-set_twice [] i x y = refl
-set_twice (z ∷ xs) zero x y = refl
-set_twice (z ∷ xs) (suc i) x y = ap (λ ys. z ∷ ys) (set_twice xs i x y)
-
--- a charge that is taken back
-pub discharge-charged : (l : Linked) (t n : ℕ) → t < length l.charges → discharge (charged l t n) t n ≡ l
-discharge-charged l t n there =
-    let value : slice_index (slice_set l.charges t (slice_index l.charges t + n)) t - n ≡ slice_index l.charges t =
-    rw (get_or-set_same l.charges t (slice_index l.charges t + n) 0 there) (omega arith) in
-    let back : slice_set (slice_set l.charges t (slice_index l.charges t + n)) t (slice_index (slice_set l.charges t (slice_index l.charges t + n)) t - n) ≡ l.charges =
-    ap (slice_set (slice_set l.charges t (slice_index l.charges t + n)) t) value ∙ set_twice l.charges t (slice_index l.charges t + n) (slice_index l.charges t) ∙ set-get_or l.charges t 0 in
-    λ i. record l { charges = back i }
 
 module _ (L : Layers) (t : ℕ) (book : IsBook L) where
   abbrev C : Catalog

@@ -105,9 +105,6 @@ module _ (C C' : Catalog) (repo digest : Text) (from : Option Text) (answer : Mo
   pub Lawful-after_mount : Lawful C'
   Lawful-after_mount = mounted.lawful_after
 
-  pub used-after_mount : (u : ℕ) → used C' u ≡ used C u
-  used-after_mount = mounted.use_alike
-
   pub KeepsQuotas-after_mount : KeepsQuotas C → KeepsQuotas C'
   KeepsQuotas-after_mount = mounted.keeps_after
 

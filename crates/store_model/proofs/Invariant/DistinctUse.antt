@@ -35,11 +35,6 @@ module _ (C : Catalog) (lawful : Lawful C) (t : ℕ) (sizes : FinMap text_cmp �
   alike d (Some b) found =
       at_held (tenant_holds C t d) d b (size C d) (ap (λ x. option_map_or (λ (y : Resident). length y.bytes) x 0) found) ∙ sym (ap (term value d) (each d))
 
-  pub used_by_sizes : used C t ≡ sum_by value (entries sizes) + session_charges_of C t
-  used_by_sizes =
-      let blobs : sum_by (blob_share C t) (entries C.residents) ≡ sum_by value (entries sizes) = sum_alike nat_list_cmp_total exact_bytes (blob_share C t) value C.residents sizes (λ d. alike d (get C.residents d) refl) in
-      omega arith
-
 -- ---- the set of the digests that a tenant holds
 
 same_truth : (a b : Bool) → (a ≡ true → b ≡ true) → (b ≡ true → a ≡ true) → a ≡ b
