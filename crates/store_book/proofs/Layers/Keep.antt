@@ -30,10 +30,11 @@ use Rattle.store_book.proofs.Slots.Lent.{length-marks, marks-on, marks-fill, unm
 use Rattle.store_book.proofs.Slots.Changed.{resident_at, mark-KeepsTies, held_at-with, catalog-change, IsTied-change}
 use Rattle.store_model.proofs.Invariant.Blobs.{Lawful-put}
 use Rattle.store_book.proofs.Layers.Sums.{holds_is}
-use Rattle.store_book.proofs.Layers.Ties.{links_of-insert, catalog-relink, IsTied-link, raise-KeepsBlob, held_of, slot_is_resident, not_resident, rooms}
+use Rattle.slot_table.proofs.Finding.{held_of}
+use Rattle.store_book.proofs.Layers.Ties.{links_of-insert, catalog-relink, IsTied-link, raise-KeepsBlob, slot_is_resident, not_resident, rooms}
 use Rattle.store_book.proofs.Slots.Filled.{stored}
 use Rattle.store_book.proofs.Slots.Placed.{catalog-fill, IsTied-fill, held_at-fill, free_slot}
-use Rattle.store_model.proofs.Invariant.NewLink.{unlinked}
+use Rattle.store_model.proofs.Invariant.Links.{unlinked}
 
 -- where an element passes, some are counted
 counted_there : {A : Type 0} (p : A → Bool) (xs : List A) (k : ℕ) (x : A) → slice_get xs k ≡ Some x → p x ≡ true → 0 < count_by p xs

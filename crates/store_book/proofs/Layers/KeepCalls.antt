@@ -18,7 +18,7 @@ use Rattle.store_book.specs.Internal.Keeping.{revived, bytes_at, CanKeep, IsKept
 use Rattle.store_book.proofs.Slots.Changed.{held_at-with, mark-KeepsTies}
 use Rattle.finite_maps.proofs.Maps.{get-insert_at}
 use Rattle.store_book.proofs.Slots.Writes.{phase_live}
-use Rattle.store_book.proofs.Layers.Ties.{held_of}
+use Rattle.slot_table.proofs.Finding.{held_of}
 
 -- what a link answered, and left
 module _ (l l' : Linked) (repo digest : Text) (n : ℕ) (b : Bool) (made : link l repo digest n ≡ Ok (b, l')) where

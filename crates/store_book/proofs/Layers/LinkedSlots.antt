@@ -12,7 +12,7 @@ use Rattle.store_model.specs.Commands.{has_source}
 use Rattle.store_book.specs.Internal.Keeping.{linked_slot, source_slot}
 use Rattle.store_book.specs.Layers.{Layers, lent_marks, resident_of, book_catalog, IsBook}
 use Rattle.store_book.proofs.Layers.Sums.{holds_is}
-use Rattle.store_model.proofs.Invariant.NewLink.{is_held}
+use Rattle.store_model.proofs.Invariant.Links.{is_held}
 use Rattle.store_model.proofs.Commands.Mount.{source_of}
 use Rattle.finite_maps.proofs.Options.{some_value, nothing, some_same}
 use Rattle.store_book.proofs.Slots.Changed.{resident_at}

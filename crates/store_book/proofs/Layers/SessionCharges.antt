@@ -7,7 +7,7 @@ use Rattle.std.proofs.lemmas.List.{get_or-set_same, get_or-set_other}
 use Rattle.store_model.specs.Sessions.{Session, charged, session_charges}
 use Rattle.store_model.specs.Catalog.{Catalog}
 use Rattle.store_book.specs.Layers.{Layers, book_catalog, IsBook}
-use Rattle.store_model.proofs.Invariant.LostSession.{used-gone, used_other-gone}
+use Rattle.store_model.proofs.Invariant.Sessions.{used-gone, used_other-gone}
 
 module _ (L : Layers) (t number : ℕ) (book : IsBook L) (there : t < length L.links.tenants) (s : Session) (found : get L.uploads.sessions (t, number) ≡ Some s) where
   abbrev C : Catalog

@@ -15,7 +15,7 @@ use Rattle.finite_maps.proofs.Sets.{insert_there}
 use Rattle.finite_maps.proofs.Sums.{insert-remove, get-remove_same}
 use Rattle.finite_maps.specs.Rows.{IsApart}
 use Rattle.std.specs.Cmp.Lexicographic.{nat_list_cmp_total}
-pub use Rattle.slot_table.proofs.Finding.{held_of, not_held}
+use Rattle.slot_table.proofs.Finding.{not_held}
 use Rattle.slot_table.specs.Slots.{Slot, Held, Content, Free, Used, Retired, held_at, held_in, IsDistinct, is_retired, is_free, free_slots, slot_of, with_slot, on_held, content_with, raise, lower}
 use Rattle.link_table.specs.Linked.{Linked}
 use Rattle.finite_maps.specs.Texts.{Text, text_cmp}

@@ -20,7 +20,8 @@ use Rattle.store_book.proofs.Slots.Lent.{marks-on}
 use Rattle.store_model.proofs.Commands.Delete.{Sound-after_delete}
 use Rattle.store_book.proofs.Layers.LinkedSlots.{holds_linked, linked_live, linked_some, linked_none}
 use Rattle.store_book.proofs.Slots.Writes.{phase_live}
-use Rattle.store_book.proofs.Layers.Ties.{links_of-remove, catalog-relink, IsTied-unlink, lower-KeepsBlob, held_of}
+use Rattle.slot_table.proofs.Finding.{held_of}
+use Rattle.store_book.proofs.Layers.Ties.{links_of-remove, catalog-relink, IsTied-unlink, lower-KeepsBlob}
 
 -- a count that falls isn't seen
 pub slots_kept : (p q : Pinned) (k : ℕ) → q ≡ slotted k (on_held lower) p → (q.table ≡ p.table) × (shown q ≡ shown p)

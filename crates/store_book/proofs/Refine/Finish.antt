@@ -29,7 +29,8 @@ use Rattle.finite_maps.proofs.Outcomes.{bound_ok, not_refused}
 use Rattle.store_book.proofs.Refine.PutBack.{here_charged, here_small, here_tenant, session_here, IsBook-home}
 use Rattle.store_book.proofs.Layers.SessionCharges.{sums-gone}
 use Rattle.store_model.proofs.Invariant.SessionTenants.{session_owner}
-use Rattle.store_book.proofs.Layers.Ties.{held_of, slot_is_resident, not_resident, rooms}
+use Rattle.slot_table.proofs.Finding.{held_of}
+use Rattle.store_book.proofs.Layers.Ties.{slot_is_resident, not_resident, rooms}
 
 module _ (L : Layers) (h : Taken) (digest : Text) where
   abbrev C : Catalog

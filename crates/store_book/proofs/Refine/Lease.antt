@@ -30,7 +30,7 @@ use Rattle.finite_maps.proofs.Options.{some_same}
 use Rattle.store_book.proofs.Slots.Pinned.{index-set-le, index-set-most, length-all_seen, row-at, seen-at}
 use Rattle.store_book.proofs.Slots.Shown.{EachSlot-shown, get-with_looks}
 use Rattle.store_book.proofs.Slots.Writes.{length-with_slot, phase_live, slot_of_held, slot-same, slot-other}
-use Rattle.store_book.proofs.Layers.Ties.{held_of}
+use Rattle.slot_table.proofs.Finding.{held_of}
 
 module _ (L : Layers) (t : ℕ) (repo digest : Text) (book : IsBook L) (known : known_tenant L.links repo ≡ Ok t) where
   abbrev C : Catalog

@@ -23,7 +23,7 @@ use Rattle.store_book.proofs.Layers.CanKeep.{CanKeep-book}
 use Rattle.store_book.proofs.Layers.Keep.{Keeps, IsKept-Keeps, same_residents}
 use Rattle.store_book.proofs.Slots.Lent.{length-marks}
 use Rattle.store_model.proofs.Invariant.Repos.{Lawful-appear, used-appear}
-use Rattle.store_model.proofs.Invariant.NewLink.{is_held}
+use Rattle.store_model.proofs.Invariant.Links.{is_held}
 use Rattle.store_model.proofs.Commands.Mount.{source_of, Sound-after_mount}
 use Rattle.store_book.proofs.Layers.LinkedSlots.{linked_live, source_some, source_none}
 use Rattle.store_book.proofs.Slots.Writes.{phase_live}
@@ -31,7 +31,8 @@ use Rattle.finite_maps.proofs.Outcomes.{some_of_ok}
 use Rattle.store_model.proofs.Commands.Accepted.{tenant_there}
 use Rattle.finite_maps.proofs.Sets.{now}
 use Rattle.store_book.proofs.Refine.Start.{ok_of_if, err_of_if}
-use Rattle.store_book.proofs.Layers.Ties.{held_of, slot_is_resident}
+use Rattle.slot_table.proofs.Finding.{held_of}
+use Rattle.store_book.proofs.Layers.Ties.{slot_is_resident}
 
 module _ (L : Layers) (t : ℕ) (repo : Text) (book : IsBook L) (known : known_tenant L.links repo ≡ Ok t) where
   abbrev C : Catalog

@@ -25,7 +25,8 @@ use Rattle.store_book.specs.Layers.{Layers, links_of, lent_marks, book_catalog, 
 use Rattle.store_book.specs.Internal.Lines.{CanPrint, blob_row, links_to, session_row, repo_rows, tenant_rows, book_rows}
 use Rattle.store_model.specs.BookText.{blob_line, blob_text, book_line, book_text, end_line, manifest_row, manifest_text, repo_text, repository_line, tenant_line, tenant_text}
 use Rattle.store_book.proofs.Refine.Take.{use_is}
-use Rattle.store_book.proofs.Layers.Ties.{held_of, not_resident}
+use Rattle.slot_table.proofs.Finding.{held_of}
+use Rattle.store_book.proofs.Layers.Ties.{not_resident}
 
 -- ---- lists
 

@@ -9,7 +9,7 @@ use Rattle.std.proofs.lemmas.Map.Lookups.{exact_bytes}
 use Rattle.finite_maps.proofs.Options.{not_some}
 use Rattle.blob_digest.specs.declared.refusal.Refusal.{Refusal}
 use Rattle.finite_maps.specs.Sets as set
-use Rattle.finite_maps.proofs.Sets.{insert_there, remove-insert, now}
+use Rattle.finite_maps.proofs.Sets.{insert_there, remove-insert}
 use Rattle.slot_table.specs.Slots.{Slot}
 use Rattle.link_table.specs.Linked.{Linked, HasNoLinks, known_tenant, appear, vanish}
 use Rattle.upload_table.specs.Uploaded.{Uploaded, start_upload, started}
@@ -21,7 +21,7 @@ use Rattle.store_book.specs.Layers.{Layers, book_catalog, IsBook}
 use Rattle.store_book.proofs.Layers.Sums.{get-links_of, mark}
 use Rattle.store_model.proofs.Invariant.Counts.{count-appear}
 use Rattle.store_model.proofs.Invariant.Repos.{holds_none}
-use Rattle.store_model.proofs.Invariant.NewSession.{used-open}
+use Rattle.store_model.proofs.Invariant.Sessions.{used-open}
 use Rattle.store_model.proofs.Commands.Start.{Sound-after_start}
 
 module _ {A E : Type 0} where
@@ -115,12 +115,6 @@ module _ (L : Layers) (l' : Linked) (t : ℕ) (repo : Text) (b : Bool) where
         let step : start C repo ≡ Ok (n, C1) = start_ok u' n known appeared opened ∙ (λ i. Ok (n, book_catalog (record L { links = sym links i; uploads = sym uploads i }))) in
         let sound = Sound-after_start C C1 repo n step short book.sound in
         subst (λ (x : Layers). IsBook x) (λ i. record L { links = links i; uploads = uploads i }) (opened_book sound)
-
--- what appeared is there, and has no links
-pub appeared_there : (l l' : Linked) (t : ℕ) (repo : Text) (b : Bool) → appear l t repo ≡ Ok (b, l') → set.contains l'.repos repo ≡ true
-appeared_there l l' t repo b appeared =
-    let a = ok_of_if _ _ _ _ appeared in
-    ap (λ (x : Linked). set.contains x.repos repo) (sym (λ i. (a.1 i).1)) ∙ now nat_list_cmp_total exact_bytes l.repos repo
 
 -- a repository that isn't there has no links
 pub absent_unlinked : (L : Layers) (repo : Text) → IsBook L → set.contains L.links.repos repo ≡ false → HasNoLinks L.links.links repo

@@ -30,7 +30,8 @@ use Rattle.store_book.proofs.Layers.LinkedSlots.{linked_live}
 use Rattle.finite_maps.proofs.Options.{some_same}
 use Rattle.store_book.proofs.Slots.Reclaimed.{orphan_held}
 use Rattle.store_book.proofs.Slots.Writes.{slot_of_held}
-use Rattle.store_book.proofs.Layers.Ties.{held_of, not_resident}
+use Rattle.slot_table.proofs.Finding.{held_of}
+use Rattle.store_book.proofs.Layers.Ties.{not_resident}
 
 -- ---- the blobs of the slots
 

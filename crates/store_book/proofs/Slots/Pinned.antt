@@ -25,7 +25,7 @@ use Rattle.store_book.specs.SlotSteps.{EachSlot, IsQuiet}
 use Rattle.finite_maps.proofs.Options.{some_same}
 use Rattle.store_book.proofs.Slots.Placed.{free_slot}
 use Rattle.store_book.proofs.Slots.Writes.{with_slot-suc, length-with_slot, slot-same, slot-other, map-with_slot, held_at-same, held_at-other}
-use Rattle.store_book.proofs.Layers.Ties.{not_held}
+use Rattle.slot_table.proofs.Finding.{not_held}
 
 -- ---- lists
 

@@ -18,9 +18,10 @@ use Rattle.store_model.specs.Invariant.{Lawful}
 use Rattle.store_book.specs.Layers.{Layers, catalog_from, IsTied}
 use Rattle.finite_maps.proofs.Maps.{cases_key, get-insert_other}
 use Rattle.finite_maps.proofs.Options.{some_same}
-use Rattle.store_model.proofs.Invariant.NewLink.{unlinked}
+use Rattle.store_model.proofs.Invariant.Links.{unlinked}
 use Rattle.store_book.proofs.Slots.Writes.{length-with_slot, count_by-with_slot, held_at-other, held_at-same}
-use Rattle.store_book.proofs.Layers.Ties.{not_held, not_resident}
+use Rattle.slot_table.proofs.Finding.{not_held}
+use Rattle.store_book.proofs.Layers.Ties.{not_resident}
 use Rattle.store_book.proofs.Slots.Filled.{residents-fill, stored}
 
 abbrev phase_by : Option Slot → Phase

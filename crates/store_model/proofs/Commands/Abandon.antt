@@ -7,7 +7,7 @@ use Rattle.finite_maps.specs.Texts.{Text}
 use Rattle.store_model.specs.Catalog.{Session, Catalog, charged, tenant_of, received}
 use Rattle.store_model.specs.Commands.{tenant, session, not_busy, abandon, without_session}
 use Rattle.store_model.specs.Invariant.{Lawful, KeepsQuotas, FitsSlots, Sound}
-use Rattle.store_model.proofs.Invariant.LostSession.{Lawful-gone, used-gone, used_other-gone}
+use Rattle.store_model.proofs.Invariant.Sessions.{Lawful-gone, used-gone, used_other-gone}
 use Rattle.store_model.proofs.Commands.Hands.{home_charged, home_chunks}
 use Rattle.finite_maps.proofs.Outcomes.{bound_ok, some_of_ok}
 use Rattle.store_model.proofs.Commands.Accepted.{left_by, answer_by, session_found}

@@ -8,7 +8,7 @@ use Rattle.store_model.specs.Catalog.{Catalog, tenant_of, holds, tenant_holds}
 use Rattle.store_model.specs.Commands.{tenant, linked, referrer, unreferenced, delete}
 use Rattle.store_model.specs.Invariant.{Lawful, KeepsQuotas, FitsSlots, Sound}
 use Rattle.store_model.proofs.Invariant.Repos.{is_own, is_no_other}
-use Rattle.store_model.proofs.Invariant.LostLink.{Lawful-unlink, used-unlink, used_other-unlink}
+use Rattle.store_model.proofs.Invariant.Links.{Lawful-unlink, used-unlink, used_other-unlink}
 use Rattle.finite_maps.proofs.Outcomes.{bound_ok, not_refused, some_of_ok}
 use Rattle.store_model.proofs.Commands.Accepted.{left_by, not_more}
 

@@ -16,7 +16,7 @@ use Rattle.store_model.specs.Invariant.{Lawful, KeepsQuotas, FitsSlots, Sound}
 use Rattle.finite_maps.proofs.Lists.{witness}
 use Rattle.finite_maps.proofs.Sets.{now}
 use Rattle.store_model.proofs.Invariant.Repos.{is_own, is_no_other, Lawful-appear, used-appear}
-use Rattle.store_model.proofs.Invariant.NewLink.{is_held, Lawful-link, used_other-link}
+use Rattle.store_model.proofs.Invariant.Links.{is_held, Lawful-link, used_other-link}
 use Rattle.store_model.proofs.Commands.Start.{Lawful-after_start, used-after_start, KeepsQuotas-after_start, FitsSlots-after_start}
 use Rattle.store_model.proofs.Invariant.Use.{used-link}
 use Rattle.finite_maps.proofs.Outcomes.{bound_ok, not_refused, some_of_ok}

@@ -20,7 +20,7 @@ use Rattle.finite_maps.proofs.Rows.{entries-empty, sum_by-map}
 use Rattle.finite_maps.proofs.Sums.{sum_new}
 use Rattle.blob_digest.proofs.KeyOrders.{link_cmp_total, exact_link}
 use Rattle.finite_maps.proofs.Sets.{now, still}
-use Rattle.store_model.proofs.Invariant.NewLink.{unlinked, is_unheld}
+use Rattle.store_model.proofs.Invariant.Links.{unlinked, is_unheld}
 
 module _ (C : Catalog) (lawful : Lawful C) (t : ℕ) (sizes : FinMap text_cmp ℕ) (each : (d : Text) → get sizes d ≡ (if tenant_holds C t d then Some (size C d) else None)) where
   abbrev value : Text × ℕ → ℕ

@@ -2,13 +2,14 @@ use Rattle.std.proofs.Common.{ap, sym, ◌∙◌, subst, refl}
 use Rattle.std.specs.Option.{option_copied}
 use Rattle.std.proofs.lemmas.Result.{err_from_is_err_and}
 use Rattle.finite_maps.specs.Sets as set
+use Rattle.link_table.proofs.Accepted.{appear-contains}
 use Rattle.link_table.specs.Linked.{Linked, HasNoLinks, vanish}
 use Rattle.store_book.specs.BookState.{BookState}
 use Rattle.store_book.specs.Layers.{book_catalog}
 use Rattle.store_model.specs.Commands.{start}
 use Rattle.store_book.specs.Pinned.{Pinned}
 use Rattle.store_book.proofs.Refine.Mount.{session_ok, session_refused, mount_refused_first, can_link, live_source, mount_ok, IsBook-mount}
-use Rattle.store_book.proofs.Refine.Start.{same_catalog, same_book, undone, unneeded, appeared_there, appeared_unlinked}
+use Rattle.store_book.proofs.Refine.Start.{same_catalog, same_book, undone, unneeded, appeared_unlinked}
 use Rattle.store_book.specs.BookFields.{layers}
 use Rattle.store_book.proofs.book.Book.mount.Goals as goal
 use Rattle.store_book.proofs.book.Book.mount.Goals.{then-appeared, else-appeared}
@@ -52,7 +53,7 @@ link_slot-requires-clause-live c =
     live_source (layers c.self.inside) c.in_ok-tenant.tenant c.args.repo.now c.self.invariant (sym c.in_ok-tenant.ensures.known) c.args.digest.now (option_copied c.args.from) c.in-Some.slot (rw c.table.ensures at (sym c.in-Some.ensures))
 
 pub vanish-requires-clause-there : goal.vanish-requires-clause-there
-vanish-requires-clause-there c = ap (λ (l : Linked). set.contains l.repos c.args.repo.now) c.in-Err.ensures.err.0 ∙ appeared_there c.self.inside.links c.appear.new.self c.in_ok-tenant.tenant c.args.repo.now c.in_ok-appeared.appeared c.in_ok-appeared.ensures
+vanish-requires-clause-there c = ap (λ (l : Linked). set.contains l.repos c.args.repo.now) c.in-Err.ensures.err.0 ∙ appear-contains c.self.inside.links c.appear.new.self c.in_ok-tenant.tenant c.args.repo.now c.in_ok-appeared.appeared c.in_ok-appeared.ensures
 
 pub vanish-requires-clause-unlinked : goal.vanish-requires-clause-unlinked
 vanish-requires-clause-unlinked c =

@@ -1,9 +1,9 @@
 use Rattle.std.proofs.Common.{true, ap, sym, ◌∙◌, refl}
 use Rattle.std.proofs.lemmas.Result.{err_from_is_err_and}
-use Rattle.link_table.proofs.Accepted.{appear-own}
+use Rattle.link_table.proofs.Accepted.{appear-contains, appear-own}
 use Rattle.store_book.specs.BookState.{BookState}
 use Rattle.store_book.specs.Layers.{book_catalog}
-use Rattle.store_book.proofs.Refine.Start.{same_catalog, same_book, start_ok, start_refused, start_refused_first, undone, unneeded, IsBook-start, appeared_there, appeared_unlinked}
+use Rattle.store_book.proofs.Refine.Start.{same_catalog, same_book, start_ok, start_refused, start_refused_first, undone, unneeded, IsBook-start, appeared_unlinked}
 use Rattle.store_book.specs.BookFields.{layers}
 use Rattle.store_book.proofs.book.Book.start.Goals as goal
 use Rattle.store_book.proofs.book.Book.start.Goals.{then-is_new, else-is_new}
@@ -20,7 +20,7 @@ pub vanish-requires-clause-own : goal.vanish-requires-clause-own
 vanish-requires-clause-own c = appear-own c.self.inside.links c.appear.new.self c.in_ok-tenant.tenant c.args.repo.now c.in_ok-is_new.is_new c.in_ok-is_new.ensures c.in_ok-tenant.ensures.own
 
 pub vanish-requires-clause-there : goal.vanish-requires-clause-there
-vanish-requires-clause-there c = appeared_there c.self.inside.links c.appear.new.self c.in_ok-tenant.tenant c.args.repo.now c.in_ok-is_new.is_new c.in_ok-is_new.ensures
+vanish-requires-clause-there c = appear-contains c.self.inside.links c.appear.new.self c.in_ok-tenant.tenant c.args.repo.now c.in_ok-is_new.is_new c.in_ok-is_new.ensures
 
 pub vanish-requires-clause-unlinked : goal.vanish-requires-clause-unlinked
 vanish-requires-clause-unlinked c = appeared_unlinked (layers c.self.inside) c.appear.new.self c.in_ok-tenant.tenant c.args.repo.now c.in_ok-is_new.is_new c.self.invariant c.in_ok-is_new.ensures c.if-is_new.true
