@@ -19,7 +19,7 @@ use Rattle.store_model.specs.Catalog.{Number, Chunks, Home, InHand, Session, Tak
 use Rattle.store_model.specs.Invariant.{Lawful}
 use Rattle.store_model.specs.declared.mount.Mount.{Mount}
 use Rattle.store_model.specs.Commands.{tenant, session, lacks_room_for, cannot_open, has_slot, is_full_for, is_digest_accepted, start, mount, has_source, link_held, start_instead, abandon, put_manifest, all_linked, has_manifest, add_manifest, is_full_of_manifests, lease, take, put_back, given_back, finish}
-use Rattle.store_model.proofs.Invariant.NewSession.{fresh}
+use Rattle.store_model.proofs.Invariant.Sessions.{fresh}
 use Rattle.store_model.proofs.Commands.Hands.{home_chunks, received-with_chunk, taken_found, took, whole_long, IsProper}
 use Rattle.store_model.proofs.Commands.Accepted.{answer_by, left_by, session_found}
 use Rattle.finite_maps.proofs.Outcomes.{bound_ok}

@@ -1,5 +1,6 @@
 pub mod Accepted
 pub mod HolderCounts
+pub mod LinkKeys
 pub mod ManifestRows
 pub mod ManifestTableRows
 pub mod Soundness

@@ -2,8 +2,8 @@
 use Rattle.std.proofs.Common.{◌≡◌, Bool, true, false, cond, List, [], ◌∷◌, length, map, filter, Option, Some, None, is_some, Result, Ok, Err, refl, sym, ap, ◌∙◌, subst}
 use Rattle.std.specs.Prelude.{T, ◌&&◌, nat_le, IsSome}
 use Rattle.std.specs.declared.cmp.Ordering.{Ordering}
-use Rattle.std.specs.Ordering.{eq_by_cmp, is_eq, is_lt, ordering_then}
-use Rattle.std.specs.Cmp.{tied_then, tied_itself, Equal-is}
+use Rattle.std.specs.Ordering.{eq_by_cmp, is_lt, ordering_then}
+use Rattle.std.specs.Cmp.{tied_itself, Equal-is}
 use Rattle.std.specs.Cmp.Lexicographic.{nat_list_cmp_total, texts_ties}
 use Rattle.std.specs.List.{flat_map, find as first}
 use Rattle.std.specs.Option.{option_map, option_map_or}
@@ -31,6 +31,7 @@ use Rattle.oci_manifest.specs.Manifests.{refers}
 use Rattle.link_table.specs.Manifests.{Kept, put_in, referrer_in}
 use Rattle.link_table.specs.ManifestTable.{ManifestBytes, Groups, group_rows, flat, manifest_bytes, manifests_in, manifests_on, referrer_on, put_on}
 use Rattle.finite_maps.proofs.Parts.{or_else, find-++, insert_by, remove_by, remove_absent, where_key-agree, where_key-all}
+use Rattle.link_table.proofs.LinkKeys.{link_tie, both_ties, none_anyway}
 
 from_T : (b : Bool) → T b → b ≡ true
 from_T true h = refl
@@ -61,20 +62,6 @@ failed_same : {S U : Type 0} {e f : Refusal} → failed {S = S} e ≡ failed f �
 failed_same {e = e} h = ap (λ x. failed x) (ap (refusal_of e) h)
 
 -- ---- rows with a repository's name
-
-both_ties : {X : Type 0} (a b : Bool) (v x : Option X) → cond (a && b) v (cond a x None) ≡ cond a (cond b v x) None
-both_ties true b v x = refl
-both_ties false b v x = refl
-
-none_anyway : {X : Type 0} (b : Bool) → None ≡ cond {A = Option X} b None None
-none_anyway true = refl
-none_anyway false = refl
-
-link_tie : (r d s e : Text) → eq_by_cmp link_cmp (r, d) (s, e) ≡ (eq_by_cmp text_cmp r s && eq_by_cmp text_cmp d e)
-link_tie r d s e = sym (tied_then (text_cmp r s) (text_cmp d e))
-
-itself : (r : Text) → eq_by_cmp text_cmp r r ≡ true
-itself r = ap is_eq (tied_itself nat_list_cmp_total r)
 
 -- the rows es of the repository n
 abbrev paired : Text → List (Text × Text) → List (Link × Text)

@@ -58,9 +58,6 @@ module _ {K : Type 0} (R : K → K → Ordering) (o : IsTotalOrder R) where
       let first = next 0 x (omega arith) in
       ((first, below_all (g (h x)) (g (h y)) (map g (map h ys)) first rest.0), rest)
 
-not_same : (a b : Text) (r : Bool) → same_text a b ≡ r → text_cmp a b ≡ Less → r ≡ false
-not_same a b r is less = sym is ∙ texts_ties a b ∙ ap is_eq less
-
 -- a name below all others is none of them
 unnamed : (a : Text) (ts : List Tenant) → AllByRecursion (λ b. text_cmp a b ≡ Less) (map (λ t. t.name) ts) → count_by (λ t. same_text t.name a) ts ≡ 0
 unnamed a [] all = refl

@@ -4,7 +4,7 @@ use Prim.Native.Nat.{zero, suc}
 use Rattle.std.specs.Prelude.{◌&&◌, slice_get}
 use Rattle.std.specs.declared.cmp.Ordering.TheVariants.{Less, Equal}
 use Rattle.std.specs.Ordering.{eq_by_cmp, is_eq, is_lt, ordering_then}
-use Rattle.std.specs.Cmp.{tied_then, tied_itself, eq_by_cmp_equiv}
+use Rattle.std.specs.Cmp.{tied_itself, eq_by_cmp_equiv}
 use Rattle.std.specs.Cmp.Lexicographic.{nat_list_cmp_total, texts_ties}
 use Rattle.std.specs.List.{flat_map, insert, remove, HoldsAt, AllByRecursion}
 use Rattle.std.specs.List.Sorted.{IsBinarySearchResult, IsStrictlySortedBy}
@@ -31,11 +31,9 @@ use Rattle.link_table.specs.TenantRepos.{blobs_on, count}
 use Rattle.link_table.specs.Rows.{named, links_in, owned_shown, IsInOrder, AreRepos}
 use Rattle.link_table.specs.declared.repo.Repo.{Repo}
 use Rattle.finite_maps.proofs.Parts.{find_nowhere, find_in_part, find-set_part, where_key-agree, where_key-all}
+use Rattle.link_table.proofs.LinkKeys.{link_tie, both_ties, none_anyway}
 
 -- ---- the repositories
-
-name_of : Repo → Text
-name_of r = r.name
 
 names_marked : (rows : List Repo) → map (λ (e : Text × Unit {0}). e.0) (map named rows) ≡ map (λ r. r.name) rows
 names_marked [] = refl
@@ -128,19 +126,8 @@ apart (r ∷ rows) all (suc i) (suc j) a b x y differ = apart rows all.1 i j a b
 
 -- ---- the links of one row
 
-both_ties : {X : Type 0} (a b : Bool) (v x : Option X) → cond (a && b) v (cond a x None) ≡ cond a (cond b v x) None
-both_ties true b v x = refl
-both_ties false b v x = refl
-
-link_tie : (r d s e : Text) → eq_by_cmp link_cmp (r, d) (s, e) ≡ (eq_by_cmp text_cmp r s && eq_by_cmp text_cmp d e)
-link_tie r d s e = sym (tied_then (text_cmp r s) (text_cmp d e))
-
 find-paired : (n r d : Text) (es : List (Text × ℕ)) → find link_cmp (r, d) (map {B = Link × ℕ} (λ e. ((n, e.0), e.1)) es) ≡ cond (eq_by_cmp text_cmp r n) (find text_cmp d es) None
 find-paired n r d [] = none_anyway (eq_by_cmp text_cmp r n)
-  where
-    none_anyway : (b : Bool) → None ≡ cond {A = Option ℕ} b None None
-    none_anyway true = refl
-    none_anyway false = refl
 find-paired n r d (e ∷ es) =
     (λ i. cond (link_tie r d n e.0 i) (Some e.1) (find-paired n r d es i))
     ∙ both_ties (eq_by_cmp text_cmp r n) (eq_by_cmp text_cmp d e.0) (Some e.1) (find text_cmp d es)

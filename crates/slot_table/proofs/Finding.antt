@@ -1,19 +1,18 @@
 -- What is found in the slots of a table.
-use Rattle.std.proofs.Common.{◌≡◌, ℕ, ◌+◌, ◌<◌, ◌≤◌, Bool, true, false, cond, List, [], ◌∷◌, Ok, drop, take, length-drop, ◌-◌, length, get_or, Option, Some, None, is_some, refl, sym, ap, ◌∙◌, arith}
+use Rattle.std.proofs.Common.{◌≡◌, ℕ, ◌<◌, Bool, true, false, cond, List, [], ◌∷◌, length, get_or, Option, Some, None, is_some, refl, sym, ap, ◌∙◌, arith}
 use Prim.Native.Nat.{zero, suc}
-use Rattle.std.specs.Prelude.{slice_get, position, nat_le, ◌&&◌, replicate}
-use Rattle.std.specs.Option.{option_map, option_map_or}
+use Rattle.std.specs.Prelude.{slice_get}
+use Rattle.std.specs.Option.{option_map_or}
 use Rattle.std.specs.List.{list_any}
-use Rattle.std.proofs.lemmas.Bool.{and_from, le-leb, or_right}
+use Rattle.std.proofs.lemmas.Bool.{or_right}
 use Rattle.std.specs.Cmp.Lexicographic.{same_text as text_is}
-use Rattle.std.proofs.Math.Seq.{take-length}
 use Rattle.std.proofs.lemmas.Option.{slice_get-get_or}
 use Rattle.std.proofs.lemmas.List.Quantifiers.{position-Some}
 use Rattle.finite_maps.proofs.Texts.{same_itself}
 use Rattle.finite_maps.proofs.Rows.{is_some-position}
 use Rattle.finite_maps.specs.Texts.{Text, same_text}
 use Rattle.slot_table.specs.declared.phase.Phase.TheVariants as phase
-use Rattle.slot_table.specs.Slots.{Slot, Held, Content, Free, Used, Retired, held_in, held_at, phase_in, slot_of, has_digest, is_free, is_orphan, orphan_from, phase_at, opening, empty_slot}
+use Rattle.slot_table.specs.Slots.{Slot, Held, Content, Free, Used, Retired, held_in, held_at, phase_in, slot_of, has_digest, phase_at, empty_slot}
 
 not_retired_live : phase.Retired ≡ phase.Live → {B : Type 0} → B
 not_retired_live e = cc
@@ -49,24 +48,6 @@ live_in (Some s) h live e = live_by s.content h live e
 -- a live slot's blob is not condemned
 pub live-marked : (slots : List Slot) (k : ℕ) (h : Held) → phase_at slots k ≡ phase.Live → held_at slots k ≡ Some h → h.condemned ≡ false
 live-marked slots k h live e = live_in (slice_get slots k) h live e
-
--- a free slot's phase
-pub free_phase : (s : Slot) → is_free s ≡ true → phase_in s.content ≡ phase.Free
-free_phase s free = elim s.content as (λ c. elim c as (λ _. Bool) [ Free ↦ true | Used h ↦ false | Retired ↦ false ] ≡ true → phase_in c ≡ phase.Free) [
-  | Free ↦ λ e. refl
-  | Used h ↦ λ e. absurd cc
-  | Retired ↦ λ e. absurd cc
-] free
-
--- within the limits a new table is made
-pub opening_in : (n first : ℕ) → 1 ≤ n → n ≤ 65536 → opening n first ≡ Ok (replicate n (empty_slot first))
-opening_in n first low high = let h : (nat_le 1 n && nat_le n 65536) ≡ true = and_from _ _ (le-leb 1 n low) (le-leb n 65536 high) in rw h refl
-
--- what is found in the rows behind a number
-pub orphan_from-tail : (slots : List Slot) (n : ℕ) (o : Option ℕ) → o ≡ position is_orphan (take (length slots - n) (drop n slots)) → option_map (λ i. n + i) o ≡ orphan_from slots n
-orphan_from-tail slots n o is =
-    let whole : take (length slots - n) (drop n slots) ≡ drop n slots = ap (λ m. take m (drop n slots)) (sym (length-drop n slots)) ∙ take-length (drop n slots) in
-    ap (option_map (λ i. n + i)) (is ∙ ap (position is_orphan) whole)
 
 -- ---- the slot of a digest
 

@@ -10,7 +10,6 @@ use Rattle.std.proofs.lemmas.List.Sums.{sum_by-set, sum_by-append, sum_by-cons, 
 use Rattle.slot_table.specs.declared.phase.Phase.TheVariants as phase
 use Rattle.slot_table.specs.Slots.{Slot, Content, Free, Used, Retired, held_in, held_at, phase_in, phase_at, is_free, free_slots}
 use Rattle.slot_table.specs.Indexes.{is_free_at, Stacks}
-use Rattle.slot_table.proofs.Finding.{free_phase}
 use Rattle.slot_table.proofs.Writes.{slice_get-set_same, slice_get-set_other}
 
 -- ---- free slots
@@ -22,14 +21,6 @@ free_within slots k free = within (slice_get slots k) refl
     within : (o : Option Slot) → slice_get slots k ≡ o → k < length slots
     within None e = let gone : false ≡ true = ap (λ o. option_map_or is_free o false) (sym e) ∙ free in absurd cc
     within (Some s) e = slice_get_within slots k s e
-
-free_by : (o : Option Slot) → option_map_or is_free o false ≡ true → option_map_or (λ s. phase_in s.content) o phase.Retired ≡ phase.Free
-free_by None free = absurd cc
-free_by (Some s) free = free_phase s free
-
--- a free slot's phase
-pub free_at-phase : (slots : List Slot) (k : ℕ) → is_free_at slots k ≡ true → phase_at slots k ≡ phase.Free
-free_at-phase slots k free = free_by (slice_get slots k) free
 
 held_by : (c : Content) → elim c as (λ _. Bool) [ Free ↦ true | Used h ↦ false | Retired ↦ false ] ≡ true → held_in c ≡ None
 held_by Free free = refl
@@ -177,7 +168,3 @@ ArePushed-push n pushed stack lt are = record {
   within = omega arith;
   each = λ k. count-push stack (n - 1 - pushed) k ∙ ap (λ m. m + cond ((n - 1 - pushed) == k) 1 0) (are.each k) ∙ one_more n pushed k lt;
 }
-
--- in the end all are
-pub all_pushed : (n k : ℕ) (stack : List ℕ) → ArePushed n n stack → count_by (λ x. x == k) stack ≡ cond (nat_lt k n) 1 0
-all_pushed n k stack are = are.each k ∙ (grind (arith, nat_tests))

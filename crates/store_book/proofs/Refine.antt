@@ -1,7 +1,7 @@
 -- Each call of the book is its definition: from what the calls of the layers did, one file a call.
 pub mod Abandon
-pub mod Cases
 pub mod Delete
+pub mod Events
 pub mod Finish
 pub mod Lease
 pub mod Look

@@ -41,26 +41,34 @@ is_lent s = option_map_or (λ h. h.lent) (held_in s.content) false
 abbrev pub lent_marks : List Slot → List Bool
 lent_marks slots = map is_lent slots
 
-abbrev pub catalog_from : Linked → Uploaded → List Slot → List Bool → ℕ → Catalog
-catalog_from l u slots lent max_blob = record {
-  tenants = l.tenants;
-  slots = length slots;
-  max_blob = max_blob;
-  repos = l.repos;
-  links = links_of l.links;
-  manifests = l.manifests;
-  sessions = u.sessions;
-  next = u.next;
-  residents = residents_of slots lent;
-  retired = count_by is_retired slots;
+-- The layers of a book, as contracts see each: the links, the uploads and the slots, and the largest size of a blob.
+pub record Layers : Type 0 where
+  pub links : Linked
+  pub uploads : Uploaded
+  pub slots : List Slot
+  pub max_blob : ℕ
+
+abbrev pub catalog_from : Layers → List Bool → Catalog
+catalog_from L lent = record {
+  tenants = L.links.tenants;
+  slots = length L.slots;
+  max_blob = L.max_blob;
+  repos = L.links.repos;
+  links = links_of L.links.links;
+  manifests = L.links.manifests;
+  sessions = L.uploads.sessions;
+  next = L.uploads.next;
+  residents = residents_of L.slots lent;
+  retired = count_by is_retired L.slots;
 }
 
 -- what the layers stand for together
-abbrev pub book_catalog : Linked → Uploaded → List Slot → ℕ → Catalog
-book_catalog l u slots max_blob = catalog_from l u slots (lent_marks slots) max_blob
+abbrev pub book_catalog : Layers → Catalog
+book_catalog L = catalog_from L (lent_marks L.slots)
 
-abbrev pub book_state : Linked → Uploaded → Pinned → ℕ → BookState
-book_state l u pinned max_blob = record { catalog = book_catalog l u pinned.slots max_blob; table = pinned.table; slots = shown pinned }
+-- the same with the table of the slots' words, and what they say of the slots
+abbrev pub book_state : Catalog → Pinned → BookState
+book_state C pinned = record { catalog = C; table = pinned.table; slots = shown pinned }
 
 -- What the book keeps of its layers, besides that their catalog is sound.
 pub record IsTied (l : Linked) (slots : List Slot) (lent : List Bool) (C : Catalog) : Type 0 where
@@ -79,11 +87,11 @@ pub record AreCharges (l : Linked) (C : Catalog) : Type 0 where
   pub sums : (t : ℕ) → t < length l.tenants → slice_index l.charges t ≡ session_charges_of C t
 
 -- What a book keeps: its catalog is sound, and its layers agree.
-pub record IsBook (l : Linked) (u : Uploaded) (slots : List Slot) (max_blob : ℕ) : Type 0 where
-  pub sound : Sound (book_catalog l u slots max_blob)
-  pub tied : IsTied l slots (lent_marks slots) (book_catalog l u slots max_blob)
-  pub charges : AreCharges l (book_catalog l u slots max_blob)
+pub record IsBook (L : Layers) : Type 0 where
+  pub sound : Sound (book_catalog L)
+  pub tied : IsTied L.links L.slots (lent_marks L.slots) (book_catalog L)
+  pub charges : AreCharges L.links (book_catalog L)
 
 -- The use that the layers keep of a tenant, at which a quota is measured and which is printed, is the one that the catalog defines.
 abbrev pub UsesAreKept : Type 0
-UsesAreKept = (l : Linked) (u : Uploaded) (slots : List Slot) (max_blob : ℕ) → IsBook l u slots max_blob → (t : ℕ) → t < length l.tenants → used_in l t ≡ used (book_catalog l u slots max_blob) t
+UsesAreKept = (L : Layers) → IsBook L → (t : ℕ) → t < length L.links.tenants → used_in L.links t ≡ used (book_catalog L) t

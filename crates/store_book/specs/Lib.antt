@@ -1,4 +1,6 @@
+pub mod BookFields
 pub mod BookState
+pub mod Events
 pub mod Internal
 pub mod Layers
 pub mod Leased

@@ -49,11 +49,12 @@ impl Model for Book {
 
     ghost coded = { coded_state };
 
-    ghost use Rattle.store_book.specs.Layers.{book_state, IsBook};
+    ghost use Rattle.store_book.specs.Layers.{IsBook};
+    ghost use Rattle.store_book.specs.BookFields.{layers, state};
 
-    ghost view = { λ a. book_state a.links a.uploads a.slots a.max_blob };
+    ghost view = { state };
 
-    ghost invariant = { λ a. IsBook a.links a.uploads a.slots.slots a.max_blob };
+    ghost invariant = { λ b. IsBook (layers b) };
 }
 
 /// The largest limit on the size of a blob, in bytes.

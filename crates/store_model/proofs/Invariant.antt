@@ -4,12 +4,9 @@ pub mod Bounds
 pub mod Chunks
 pub mod Counts
 pub mod DistinctUse
-pub mod LostLink
-pub mod LostSession
+pub mod Links
 pub mod Manifests
-pub mod NewLink
-pub mod NewSession
 pub mod Repos
 pub mod SessionTenants
-pub mod TenantNames
+pub mod Sessions
 pub mod Use

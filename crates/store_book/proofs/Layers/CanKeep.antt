@@ -1,15 +1,13 @@
 -- In a book, a blob that is not too long can be linked.
-use Rattle.std.proofs.Common.{◌≡◌, ℕ, ◌^◌, ◌<◌, ◌≤◌, true, List, length, Some, None, Ok, sym, ap, ◌∙◌, arith}
+use Rattle.std.proofs.Common.{◌≡◌, ℕ, ◌^◌, ◌<◌, ◌≤◌, true, length, Some, None, Ok, sym, ap, ◌∙◌, arith}
 use Rattle.std.specs.FinMap.{get}
 use Rattle.finite_maps.proofs.Options.{not_some, some_same}
 use Rattle.blob_digest.specs.declared.refusal.Refusal.TheVariants.{NameUnknown}
 use Rattle.finite_maps.specs.Sets as set
-use Rattle.slot_table.specs.Slots.{Slot}
-use Rattle.link_table.specs.Linked.{Linked, known_tenant}
-use Rattle.upload_table.specs.Uploaded.{Uploaded}
+use Rattle.link_table.specs.Linked.{known_tenant}
 use Rattle.finite_maps.specs.Texts.{Text}
 use Rattle.store_model.specs.Catalog.{Resident, Catalog, tenant_of}
-use Rattle.store_book.specs.Layers.{lent_marks, book_catalog, IsBook}
+use Rattle.store_book.specs.Layers.{Layers, lent_marks, book_catalog, IsBook}
 use Rattle.store_book.specs.Internal.Keeping.{CanKeep}
 use Rattle.store_book.proofs.Refine.Take.{use_is}
 use Rattle.store_model.proofs.Invariant.Bounds.{count_small, used_small}
@@ -19,27 +17,27 @@ use Rattle.finite_maps.proofs.Outcomes.{some_of_ok}
 use Rattle.store_model.proofs.Commands.Accepted.{tenant_there}
 use Rattle.store_book.proofs.Layers.Ties.{not_resident, slot_is_resident}
 
-module _ (l : Linked) (u : Uploaded) (slots : List Slot) (max_blob t : ℕ) (repo : Text) (blob : Text × Text) (book : IsBook l u slots max_blob)
-    (known : known_tenant l repo ≡ Ok t) (there : set.contains l.repos repo ≡ true) (small : length blob.1 ≤ 2 ^ 50) where
+module _ (L : Layers) (t : ℕ) (repo : Text) (blob : Text × Text) (book : IsBook L)
+    (known : known_tenant L.links repo ≡ Ok t) (there : set.contains L.links.repos repo ≡ true) (small : length blob.1 ≤ 2 ^ 50) where
   abbrev C : Catalog
-  C = book_catalog l u slots max_blob
+  C = book_catalog L
 
-  pub CanKeep-book : CanKeep l slots t repo blob
+  pub CanKeep-book : CanKeep L.links L.slots t repo blob
   CanKeep-book =
-      let name : tenant_of l.tenants repo ≡ Some t = some_of_ok (tenant_of l.tenants repo) NameUnknown t known in
-      let in_tenants : t < length l.tenants = tenant_there l.tenants repo t name in
+      let name : tenant_of L.links.tenants repo ≡ Some t = some_of_ok (tenant_of L.links.tenants repo) NameUnknown t known in
+      let in_tenants : t < length L.links.tenants = tenant_there L.links.tenants repo t name in
       record {
         tenant = in_tenants;
         own = is_own C t repo name;
         there = there;
-        held = λ d none r. not_some (get l.links (r, d)) (λ n at. let b = book.tied.sizes (r, d) n at in let absent = not_resident slots (lent_marks slots) d none in let clash : None ≡ Some b.0 = sym absent ∙ b.1 in cc);
+        held = λ d none r. not_some (get L.links.links (r, d)) (λ n at. let b = book.tied.sizes (r, d) n at in let absent = not_resident L.slots (lent_marks L.slots) d none in let clash : None ≡ Some b.0 = sym absent ∙ b.1 in cc);
         sizes = λ k h r n at linked.
             (let b = book.tied.sizes (r, h.digest) n linked in
-            let x = slot_is_resident slots (lent_marks slots) (length-marks slots) book.tied.distinct k h at in
+            let x = slot_is_resident L.slots (lent_marks L.slots) (length-marks L.slots) book.tied.distinct k h at in
             let same : b.0 ≡ x.0 = some_same (sym b.1 ∙ x.1) in
             b.2 ∙ ap (λ (y : Resident). length y.bytes) same ∙ ap length x.2);
         room =
-            (let used = use_is l u slots max_blob t book in_tenants in
+            (let used = use_is L t book in_tenants in
             let few = used_small C book.sound t in_tenants in
             omega arith);
         counts = λ k h at. (let n = book.tied.counts k h at in let few = count_small C book.sound.lawful h.digest in omega arith);

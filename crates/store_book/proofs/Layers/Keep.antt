@@ -19,22 +19,22 @@ use Rattle.finite_maps.proofs.Sets.{insert_there}
 use Rattle.slot_table.specs.declared.phase.Phase.TheVariants as phase
 use Rattle.slot_table.specs.Slots.{Slot, Held, Content, Free, Used, Retired, phase_in, held_in, is_free, is_retired, with_slot, fill, on_held, raise, mark, phase_at, held_at, slot_of}
 use Rattle.link_table.specs.Linked.{Linked}
-use Rattle.upload_table.specs.Uploaded.{Uploaded}
 use Rattle.finite_maps.specs.Texts.{Text, text_cmp}
 use Rattle.store_model.specs.Catalog.{Link, Resident, Catalog, holds}
 use Rattle.store_model.specs.Commands.{was_lent, same_bytes, is_full_for}
 use Rattle.store_model.specs.Invariant.{Lawful}
-use Rattle.store_book.specs.Layers.{links_of, lent_marks, resident_of, catalog_from, book_catalog, IsTied}
+use Rattle.store_book.specs.Layers.{Layers, links_of, lent_marks, resident_of, catalog_from, book_catalog, IsTied}
 use Rattle.store_book.specs.Internal.Keeping.{linked, revived, IsKept, again, anew}
 use Rattle.finite_maps.proofs.Maps.{get-insert_at}
 use Rattle.store_book.proofs.Slots.Lent.{length-marks, marks-on, marks-fill, unmarked}
 use Rattle.store_book.proofs.Slots.Changed.{resident_at, mark-KeepsTies, held_at-with, catalog-change, IsTied-change}
 use Rattle.store_model.proofs.Invariant.Blobs.{Lawful-put}
 use Rattle.store_book.proofs.Layers.Sums.{holds_is}
-use Rattle.store_book.proofs.Layers.Ties.{links_of-insert, catalog-relink, IsTied-link, raise-KeepsBlob, held_of, slot_is_resident, not_resident, rooms}
+use Rattle.slot_table.proofs.Finding.{held_of}
+use Rattle.store_book.proofs.Layers.Ties.{links_of-insert, catalog-relink, IsTied-link, raise-KeepsBlob, slot_is_resident, not_resident, rooms}
 use Rattle.store_book.proofs.Slots.Filled.{stored}
 use Rattle.store_book.proofs.Slots.Placed.{catalog-fill, IsTied-fill, held_at-fill, free_slot}
-use Rattle.store_model.proofs.Invariant.NewLink.{unlinked}
+use Rattle.store_model.proofs.Invariant.Links.{unlinked}
 
 -- where an element passes, some are counted
 counted_there : {A : Type 0} (p : A → Bool) (xs : List A) (k : ℕ) (x : A) → slice_get xs k ≡ Some x → p x ≡ true → 0 < count_by p xs
@@ -79,25 +79,25 @@ blob_of C blob = record { bytes = blob.1; condemned = false; lent = was_lent (ge
 abbrev pub keeping : Catalog → Text → Text × Text → Catalog
 keeping C repo blob = record C { links = set.insert C.links (repo, blob.0); residents = insert C.residents blob.0 (blob_of C blob) }
 
-module _ (l : Linked) (u : Uploaded) (slots : List Slot) (max_blob : ℕ) (repo : Text) (blob : Text × Text) where
+module _ (L : Layers) (repo : Text) (blob : Text × Text) where
   abbrev C : Catalog
-  C = book_catalog l u slots max_blob
+  C = book_catalog L
 
   -- what is known where a blob was linked
   pub record Keeps (l' : Linked) (slots' : List Slot) : Type 0 where
-    pub catalog : book_catalog l' u slots' max_blob ≡ keeping C repo blob
-    pub tied : IsTied l' slots' (lent_marks slots') (book_catalog l' u slots' max_blob)
-    pub links : l' ≡ linked l repo blob
+    pub catalog : book_catalog (record L { links = l'; slots = slots' }) ≡ keeping C repo blob
+    pub tied : IsTied l' slots' (lent_marks slots') (book_catalog (record L { links = l'; slots = slots' }))
+    pub links : l' ≡ linked L.links repo blob
     pub same : same_bytes (get C.residents blob.0) blob.1 ≡ true
     pub housed : is_full_for C blob.0 ≡ false
 
-  module _ (tied : IsTied l slots (lent_marks slots) C) (lawful : Lawful C) (there : set.contains l.repos repo ≡ true) where
-    named : (k : Link) → set.contains (links_of l.links) k ≡ true → set.contains l.repos k.0 ≡ true
+  module _ (tied : IsTied L.links L.slots (lent_marks L.slots) C) (lawful : Lawful C) (there : set.contains L.links.repos repo ≡ true) where
+    named : (k : Link) → set.contains (links_of L.links.links) k ≡ true → set.contains L.links.repos k.0 ≡ true
     named k h = (lawful.links k h).repo
 
-    module _ (k : ℕ) (h : Held) (at : held_at slots k ≡ Some h) (digest : h.digest ≡ blob.0) (bytes : h.bytes ≡ blob.1) (live : h.condemned ≡ false) where
+    module _ (k : ℕ) (h : Held) (at : held_at L.slots k ≡ Some h) (digest : h.digest ≡ blob.0) (bytes : h.bytes ≡ blob.1) (live : h.condemned ≡ false) where
       resident : (b : Resident) × (get C.residents h.digest ≡ Some b) × (b.bytes ≡ h.bytes) × (b.condemned ≡ h.condemned)
-      resident = slot_is_resident slots (lent_marks slots) (length-marks slots) tied.distinct k h at
+      resident = slot_is_resident L.slots (lent_marks L.slots) (length-marks L.slots) tied.distinct k h at
 
       kept : get C.residents blob.0 ≡ Some resident.0
       kept = ap (get C.residents) (sym digest) ∙ resident.1
@@ -118,110 +118,110 @@ module _ (l : Linked) (u : Uploaded) (slots : List Slot) (max_blob : ℕ) (repo 
       housed_there : is_full_for C blob.0 ≡ false
       housed_there = ap (λ o. not (is_some o) && nat_le C.slots (len C.residents + C.retired)) kept
 
-      module _ (old : contains_key l.links (repo, blob.0) ≡ true) where
-        found : (n : ℕ) × (get l.links (repo, blob.0) ≡ Some n)
-        found = some_value (get l.links (repo, blob.0)) old
+      module _ (old : contains_key L.links.links (repo, blob.0) ≡ true) where
+        found : (n : ℕ) × (get L.links.links (repo, blob.0) ≡ Some n)
+        found = some_value (get L.links.links (repo, blob.0)) old
 
-        same_links : insert l.links (repo, blob.0) (length blob.1) ≡ l.links
+        same_links : insert L.links.links (repo, blob.0) (length blob.1) ≡ L.links.links
         same_links =
             let b = tied.sizes (repo, blob.0) found.0 found.1 in
             let is : b.0 ≡ resident.0 = some_same (sym b.1 ∙ kept) in
             let n : found.0 ≡ length blob.1 = b.2 ∙ ap (λ (x : Resident). length x.bytes) is ∙ sym size in
-            insert_back link_cmp_total exact_link l.links (repo, blob.0) (length blob.1) (found.1 ∙ ap Some n)
+            insert_back link_cmp_total exact_link L.links.links (repo, blob.0) (length blob.1) (found.1 ∙ ap Some n)
 
         held_before : set.contains C.links (repo, blob.0) ≡ true
-        held_before = holds_is l u slots (lent_marks slots) max_blob tied named repo blob.0 ∙ old
+        held_before = holds_is L (lent_marks L.slots) tied named repo blob.0 ∙ old
 
         -- a link that was there leaves all as it was
-        pub Keeps-old : Keeps (linked l repo blob) slots
+        pub Keeps-old : Keeps (linked L.links repo blob) L.slots
         Keeps-old =
-            let same_l : linked l repo blob ≡ l = λ i. record l { links = same_links i } in
+            let same_l : linked L.links repo blob ≡ L.links = λ i. record L.links { links = same_links i } in
             let links : set.insert C.links (repo, blob.0) ≡ C.links = insert_there link_cmp_total exact_link C.links (repo, blob.0) held_before in
             record {
-              catalog = (λ i. book_catalog (same_l i) u slots max_blob) ∙ (λ i. record C { links = sym links i; residents = sym same_residents i });
-              tied = subst (λ (x : Linked). IsTied x slots (lent_marks slots) (book_catalog x u slots max_blob)) (sym same_l) tied;
+              catalog = (λ i. book_catalog (record L { links = same_l i })) ∙ (λ i. record C { links = sym links i; residents = sym same_residents i });
+              tied = subst (λ (x : Linked). IsTied x L.slots (lent_marks L.slots) (book_catalog (record L { links = x }))) (sym same_l) tied;
               links = refl;
               same = same_there;
               housed = housed_there;
             }
 
-      module _ (new : contains_key l.links (repo, blob.0) ≡ false) where
+      module _ (new : contains_key L.links.links (repo, blob.0) ≡ false) where
         abbrev raised : List Slot
-        raised = with_slot slots k (on_held raise)
+        raised = with_slot L.slots k (on_held raise)
 
         not_held_before : holds C repo h.digest ≡ false
-        not_held_before = ap (holds C repo) digest ∙ holds_is l u slots (lent_marks slots) max_blob tied named repo blob.0 ∙ new
+        not_held_before = ap (holds C repo) digest ∙ holds_is L (lent_marks L.slots) tied named repo blob.0 ∙ new
 
-        relinked : catalog_from (linked l repo blob) u raised (lent_marks slots) max_blob ≡ record C { links = set.insert C.links (repo, blob.0) }
+        relinked : catalog_from (record L { links = linked L.links repo blob; slots = raised }) (lent_marks L.slots) ≡ record C { links = set.insert C.links (repo, blob.0) }
         relinked =
-            catalog-relink l (insert l.links (repo, blob.0) (length blob.1)) u slots (lent_marks slots) max_blob k h at raise raise-KeepsBlob tied
-            ∙ (λ i. record C { links = links_of-insert l.links (repo, blob.0) (length blob.1) i })
+            catalog-relink L (insert L.links.links (repo, blob.0) (length blob.1)) (lent_marks L.slots) k h at raise raise-KeepsBlob tied
+            ∙ (λ i. record C { links = links_of-insert L.links.links (repo, blob.0) (length blob.1) i })
 
-        tied_then : IsTied (linked l repo blob) raised (lent_marks slots) (catalog_from (linked l repo blob) u raised (lent_marks slots) max_blob)
+        tied_then : IsTied (linked L.links repo blob) raised (lent_marks L.slots) (catalog_from (record L { links = linked L.links repo blob; slots = raised }) (lent_marks L.slots))
         tied_then =
-            subst (λ (d : Text). IsTied (record l { links = insert l.links (repo, d) (length blob.1) }) raised (lent_marks slots) (catalog_from (record l { links = insert l.links (repo, d) (length blob.1) }) u raised (lent_marks slots) max_blob))
-            digest (IsTied-link l u slots (lent_marks slots) max_blob k h at tied repo there (length blob.1) resident.0 resident.1 size not_held_before)
+            subst (λ (d : Text). IsTied (record L.links { links = insert L.links.links (repo, d) (length blob.1) }) raised (lent_marks L.slots) (catalog_from (record L { links = record L.links { links = insert L.links.links (repo, d) (length blob.1) }; slots = raised }) (lent_marks L.slots)))
+            digest (IsTied-link L (lent_marks L.slots) k h at tied repo there (length blob.1) resident.0 resident.1 size not_held_before)
 
         -- a new link counts in its slot
-        pub Keeps-new : Keeps (linked l repo blob) raised
+        pub Keeps-new : Keeps (linked L.links repo blob) raised
         Keeps-new =
-            let marks : lent_marks slots ≡ lent_marks raised = sym (marks-on raise (λ h. refl) slots k) in
+            let marks : lent_marks L.slots ≡ lent_marks raised = sym (marks-on raise (λ h. refl) L.slots k) in
             record {
-              catalog = (λ i. catalog_from (linked l repo blob) u raised (sym marks i) max_blob) ∙ relinked ∙ (λ i. record C { links = set.insert C.links (repo, blob.0); residents = sym same_residents i });
-              tied = subst (λ (m : List Bool). IsTied (linked l repo blob) raised m (catalog_from (linked l repo blob) u raised m max_blob)) marks tied_then;
+              catalog = (λ i. catalog_from (record L { links = linked L.links repo blob; slots = raised }) (sym marks i)) ∙ relinked ∙ (λ i. record C { links = set.insert C.links (repo, blob.0); residents = sym same_residents i });
+              tied = subst (λ (m : List Bool). IsTied (linked L.links repo blob) raised m (catalog_from (record L { links = linked L.links repo blob; slots = raised }) m)) marks tied_then;
               links = refl;
               same = same_there;
               housed = housed_there;
             }
 
-    module _ (k : ℕ) (none : slot_of slots blob.0 ≡ None) (free : phase_at slots k ≡ phase.Free) where
+    module _ (k : ℕ) (none : slot_of L.slots blob.0 ≡ None) (free : phase_at L.slots k ≡ phase.Free) where
       abbrev slots1 : List Slot
-      slots1 = with_slot slots k (fill blob)
+      slots1 = with_slot L.slots k (fill blob)
 
       abbrev slots2 : List Slot
       slots2 = with_slot slots1 k (on_held raise)
 
-      slot_there : (s : Slot) × (slice_get slots k ≡ Some s) × (held_in s.content ≡ None) × (is_retired s ≡ false)
-      slot_there = free_slot slots k free
+      slot_there : (s : Slot) × (slice_get L.slots k ≡ Some s) × (held_in s.content ≡ None) × (is_retired s ≡ false)
+      slot_there = free_slot L.slots k free
 
       abbrev C1 : Catalog
-      C1 = catalog_from l u slots1 (lent_marks slots) max_blob
+      C1 = catalog_from (record L { slots = slots1 }) (lent_marks L.slots)
 
       filled_catalog : C1 ≡ record C { residents = insert C.residents blob.0 (stored blob false) }
-      filled_catalog = catalog-fill l u slots (lent_marks slots) max_blob k blob false free (unmarked slots k free) none
+      filled_catalog = catalog-fill L (lent_marks L.slots) k blob false free (unmarked L.slots k free) none
 
-      filled_tied : IsTied l slots1 (lent_marks slots) C1
-      filled_tied = IsTied-fill l u slots (lent_marks slots) max_blob k blob false free (unmarked slots k free) none tied lawful
+      filled_tied : IsTied L.links slots1 (lent_marks L.slots) C1
+      filled_tied = IsTied-fill L (lent_marks L.slots) k blob false free (unmarked L.slots k free) none tied lawful
 
       absent : get C.residents blob.0 ≡ None
-      absent = not_resident slots (lent_marks slots) blob.0 none
+      absent = not_resident L.slots (lent_marks L.slots) blob.0 none
 
       abbrev filled : Held
       filled = record { digest = blob.0; bytes = blob.1; condemned = false; lent = false; links = 0 }
 
       in_slot : held_at slots1 k ≡ Some filled
-      in_slot = held_at-fill l u slots (lent_marks slots) max_blob k blob false free (unmarked slots k free) none
+      in_slot = held_at-fill L (lent_marks L.slots) k blob false free (unmarked L.slots k free) none
 
       kept_now : get C1.residents blob.0 ≡ Some (stored blob false)
       kept_now = ap (λ (D : Catalog). get D.residents blob.0) filled_catalog ∙ get-insert_at nat_list_cmp_total exact_bytes C.residents blob.0 (stored blob false)
 
-      tied_now : IsTied (linked l repo blob) slots2 (lent_marks slots) (catalog_from (linked l repo blob) u slots2 (lent_marks slots) max_blob)
-      tied_now = IsTied-link l u slots1 (lent_marks slots) max_blob k filled in_slot filled_tied repo there (length blob.1) (stored blob false) kept_now refl (unlinked C lawful blob.0 absent repo)
+      tied_now : IsTied (linked L.links repo blob) slots2 (lent_marks L.slots) (catalog_from (record L { links = linked L.links repo blob; slots = slots2 }) (lent_marks L.slots))
+      tied_now = IsTied-link (record L { slots = slots1 }) (lent_marks L.slots) k filled in_slot filled_tied repo there (length blob.1) (stored blob false) kept_now refl (unlinked C lawful blob.0 absent repo)
 
-      catalog_now : catalog_from (linked l repo blob) u slots2 (lent_marks slots) max_blob ≡ keeping C repo blob
+      catalog_now : catalog_from (record L { links = linked L.links repo blob; slots = slots2 }) (lent_marks L.slots) ≡ keeping C repo blob
       catalog_now =
-          catalog-relink l (insert l.links (repo, blob.0) (length blob.1)) u slots1 (lent_marks slots) max_blob k filled in_slot raise raise-KeepsBlob filled_tied
-          ∙ (λ i. record C1 { links = links_of-insert l.links (repo, blob.0) (length blob.1) i })
+          catalog-relink (record L { slots = slots1 }) (insert L.links.links (repo, blob.0) (length blob.1)) (lent_marks L.slots) k filled in_slot raise raise-KeepsBlob filled_tied
+          ∙ (λ i. record C1 { links = links_of-insert L.links.links (repo, blob.0) (length blob.1) i })
           ∙ (λ i. record (filled_catalog i) { links = set.insert C.links (repo, blob.0) })
           ∙ (λ i. record C { links = set.insert C.links (repo, blob.0); residents = insert C.residents blob.0 (record { bytes = blob.1; condemned = false; lent = was_lent (sym absent i) }) })
 
       -- a blob that filled a free slot is kept, with one link
-      pub Keeps-filled : Keeps (linked l repo blob) slots2
+      pub Keeps-filled : Keeps (linked L.links repo blob) slots2
       Keeps-filled =
-          let marks : lent_marks slots ≡ lent_marks slots2 = sym (marks-on raise (λ h. refl) slots1 k ∙ marks-fill blob slots k free) in
+          let marks : lent_marks L.slots ≡ lent_marks slots2 = sym (marks-on raise (λ h. refl) slots1 k ∙ marks-fill blob L.slots k free) in
           record {
-            catalog = (λ i. catalog_from (linked l repo blob) u slots2 (sym marks i) max_blob) ∙ catalog_now;
-            tied = subst (λ (m : List Bool). IsTied (linked l repo blob) slots2 m (catalog_from (linked l repo blob) u slots2 m max_blob)) marks tied_now;
+            catalog = (λ i. catalog_from (record L { links = linked L.links repo blob; slots = slots2 }) (sym marks i)) ∙ catalog_now;
+            tied = subst (λ (m : List Bool). IsTied (linked L.links repo blob) slots2 m (catalog_from (record L { links = linked L.links repo blob; slots = slots2 }) m)) marks tied_now;
             links = refl;
             same = ap (λ o. same_bytes o blob.1) absent;
             housed = ap (λ o. not (is_some o) && nat_le C.slots (len C.residents + C.retired)) absent ∙ has_room;
@@ -229,20 +229,20 @@ module _ (l : Linked) (u : Uploaded) (slots : List Slot) (max_blob : ℕ) (repo 
         where
           has_room : nat_le C.slots (len C.residents + C.retired) ≡ false
           has_room =
-              let sum = rooms l u slots (lent_marks slots) max_blob (length-marks slots) tied.distinct in
-              let some = counted_there is_free slots k slot_there.0 slot_there.1 (free_is slots k slot_there.0 slot_there.1 free) in
+              let sum = rooms L (lent_marks L.slots) (length-marks L.slots) tied.distinct in
+              let some = counted_there is_free L.slots k slot_there.0 slot_there.1 (free_is L.slots k slot_there.0 slot_there.1 free) in
               le-false C.slots (len C.residents + C.retired) (omega arith)
 
 -- ---- what linking a blob left
 
-module _ (l : Linked) (u : Uploaded) (slots : List Slot) (max_blob : ℕ) (repo : Text) (blob : Text × Text) where
+module _ (L : Layers) (repo : Text) (blob : Text × Text) where
   abbrev B : Catalog
-  B = book_catalog l u slots max_blob
+  B = book_catalog L
 
-  module _ (tied : IsTied l slots (lent_marks slots) B) (lawful : Lawful B) (there : set.contains l.repos repo ≡ true) where
-    module _ (k : ℕ) (h : Held) (at : held_at slots k ≡ Some h) (digest : h.digest ≡ blob.0) (bytes : h.bytes ≡ blob.1) where
+  module _ (tied : IsTied L.links L.slots (lent_marks L.slots) B) (lawful : Lawful B) (there : set.contains L.links.repos repo ≡ true) where
+    module _ (k : ℕ) (h : Held) (at : held_at L.slots k ≡ Some h) (digest : h.digest ≡ blob.0) (bytes : h.bytes ≡ blob.1) where
       abbrev live_again : List Slot
-      live_again = revived slots k
+      live_again = revived L.slots k
 
       abbrev live_one : Resident
       live_one = record { bytes = h.bytes; condemned = false; lent = h.lent }
@@ -251,13 +251,13 @@ module _ (l : Linked) (u : Uploaded) (slots : List Slot) (max_blob : ℕ) (repo 
       abbrev D : Catalog
       D = record B { residents = insert B.residents h.digest live_one }
 
-      catalog_live_again : book_catalog l u live_again max_blob ≡ D
-      catalog_live_again = catalog-change (mark false) (mark-KeepsTies false) l u slots max_blob k h at tied
+      catalog_live_again : book_catalog (record L { slots = live_again }) ≡ D
+      catalog_live_again = catalog-change (mark false) (mark-KeepsTies false) L k h at tied
 
       was : get B.residents h.digest ≡ Some (resident_of h.lent h)
-      was = resident_at slots k h at tied.distinct
+      was = resident_at L.slots k h at tied.distinct
 
-      lawful_live_again : Lawful (book_catalog l u live_again max_blob)
+      lawful_live_again : Lawful (book_catalog (record L { slots = live_again }))
       lawful_live_again = subst (λ (X : Catalog). Lawful X) (sym catalog_live_again) (Lawful-put B h.digest live_one refl lawful (lawful.content h.digest (resident_of h.lent h) was))
 
       twice : (b : Resident) → insert (insert B.residents h.digest live_one) blob.0 b ≡ insert B.residents blob.0 b
@@ -268,13 +268,13 @@ module _ (l : Linked) (u : Uploaded) (slots : List Slot) (max_blob : ℕ) (repo 
           ap (λ (d : Text). was_lent (get D.residents d)) (sym digest) ∙ ap was_lent (get-insert_at nat_list_cmp_total exact_bytes B.residents h.digest live_one)
           ∙ sym (ap (λ (d : Text). was_lent (get B.residents d)) (sym digest) ∙ ap was_lent was)
 
-      keeping_live_again : keeping (book_catalog l u live_again max_blob) repo blob ≡ keeping B repo blob
+      keeping_live_again : keeping (book_catalog (record L { slots = live_again })) repo blob ≡ keeping B repo blob
       keeping_live_again =
           (λ i. keeping (catalog_live_again i) repo blob)
           ∙ (λ i. record B { links = set.insert B.links (repo, blob.0); residents = twice (record { bytes = blob.1; condemned = false; lent = was_lent (get D.residents blob.0) }) i })
           ∙ (λ i. record B { links = set.insert B.links (repo, blob.0); residents = insert B.residents blob.0 (record { bytes = blob.1; condemned = false; lent = same_lent i }) })
 
-      Keeps-live_again : (l' : Linked) (slots' : List Slot) → Keeps l u live_again max_blob repo blob l' slots' → Keeps l u slots max_blob repo blob l' slots'
+      Keeps-live_again : (l' : Linked) (slots' : List Slot) → Keeps (record L { slots = live_again }) repo blob l' slots' → Keeps L repo blob l' slots'
       Keeps-live_again l' slots' keeps =
           let kept : get B.residents blob.0 ≡ Some (resident_of h.lent h) = ap (get B.residents) (sym digest) ∙ was in
           record {
@@ -285,18 +285,18 @@ module _ (l : Linked) (u : Uploaded) (slots : List Slot) (max_blob : ℕ) (repo 
             housed = ap (λ o. not (is_some o) && nat_le B.slots (len B.residents + B.retired)) kept;
           }
 
-      by_link : (b : Bool) → contains_key l.links (repo, blob.0) ≡ b → Keeps l u live_again max_blob repo blob (linked l repo blob) (if b then live_again else with_slot live_again k (on_held raise))
-      by_link true is = Keeps-old l u live_again max_blob repo blob (IsTied-change (mark false) (mark-KeepsTies false) l u slots max_blob k h at tied) lawful_live_again there k (mark false h) (held_at-with (mark false) (mark-KeepsTies false) slots k h at) digest bytes refl is
-      by_link false is = Keeps-new l u live_again max_blob repo blob (IsTied-change (mark false) (mark-KeepsTies false) l u slots max_blob k h at tied) lawful_live_again there k (mark false h) (held_at-with (mark false) (mark-KeepsTies false) slots k h at) digest bytes refl is
+      by_link : (b : Bool) → contains_key L.links.links (repo, blob.0) ≡ b → Keeps (record L { slots = live_again }) repo blob (linked L.links repo blob) (if b then live_again else with_slot live_again k (on_held raise))
+      by_link true is = Keeps-old (record L { slots = live_again }) repo blob (IsTied-change (mark false) (mark-KeepsTies false) L k h at tied) lawful_live_again there k (mark false h) (held_at-with (mark false) (mark-KeepsTies false) L.slots k h at) digest bytes refl is
+      by_link false is = Keeps-new (record L { slots = live_again }) repo blob (IsTied-change (mark false) (mark-KeepsTies false) L k h at tied) lawful_live_again there k (mark false h) (held_at-with (mark false) (mark-KeepsTies false) L.slots k h at) digest bytes refl is
 
-      Keeps-again : Keeps l u slots max_blob repo blob (linked l repo blob) (if contains_key l.links (repo, blob.0) then live_again else with_slot live_again k (on_held raise))
-      Keeps-again = Keeps-live_again _ _ (by_link (contains_key l.links (repo, blob.0)) refl)
+      Keeps-again : Keeps L repo blob (linked L.links repo blob) (if contains_key L.links.links (repo, blob.0) then live_again else with_slot live_again k (on_held raise))
+      Keeps-again = Keeps-live_again _ _ (by_link (contains_key L.links.links (repo, blob.0)) refl)
 
-    pub IsKept-Keeps : (l' : Linked) (slots' : List Slot) → IsKept l slots repo blob l' slots' → Keeps l u slots max_blob repo blob l' slots'
+    pub IsKept-Keeps : (l' : Linked) (slots' : List Slot) → IsKept L.links L.slots repo blob l' slots' → Keeps L repo blob l' slots'
     IsKept-Keeps l' slots' (again k h place at bytes links slots_are) =
-        let held = held_of slots blob.0 k place in
+        let held = held_of L.slots blob.0 k place in
         let same : held.0 ≡ h = some_same (sym held.1 ∙ at) in
         let digest : h.digest ≡ blob.0 = ap (λ (x : Held). x.digest) (sym same) ∙ held.2 in
-        subst (λ (x : Linked). Keeps l u slots max_blob repo blob x slots') (sym links) (subst (λ (x : List Slot). Keeps l u slots max_blob repo blob (linked l repo blob) x) (sym slots_are) (Keeps-again k h at digest bytes))
+        subst (λ (x : Linked). Keeps L repo blob x slots') (sym links) (subst (λ (x : List Slot). Keeps L repo blob (linked L.links repo blob) x) (sym slots_are) (Keeps-again k h at digest bytes))
     IsKept-Keeps l' slots' (anew k none free links slots_are) =
-        subst (λ (x : Linked). Keeps l u slots max_blob repo blob x slots') (sym links) (subst (λ (x : List Slot). Keeps l u slots max_blob repo blob (linked l repo blob) x) (sym slots_are) (Keeps-filled l u slots max_blob repo blob tied lawful there k none free))
+        subst (λ (x : Linked). Keeps L repo blob x slots') (sym links) (subst (λ (x : List Slot). Keeps L repo blob (linked L.links repo blob) x) (sym slots_are) (Keeps-filled L repo blob tied lawful there k none free))

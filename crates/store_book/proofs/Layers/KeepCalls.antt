@@ -1,5 +1,5 @@
 -- Linking a sealed blob, from what the calls of the links and the slots did.
-use Rattle.std.proofs.Common.{◌≡◌, ◌≢◌, ℕ, ◌+◌, ◌<◌, ◌^◌, arith, Bool, true, false, cond, not, List, [], length, Some, None, Ok, is_some, refl, sym, ap, ◌∙◌, subst, bytes_eq}
+use Rattle.std.proofs.Common.{◌≡◌, ◌≢◌, ℕ, ◌+◌, ◌<◌, ◌^◌, arith, Bool, true, false, cond, not, List, [], length, Some, None, Ok, is_some, refl, sym, ap, ◌∙◌, bytes_eq}
 use Rattle.std.specs.Prelude.{if◌then◌else◌}
 use Rattle.std.specs.Option.{option_map_or}
 use Rattle.std.specs.Ordering.{eq_by_cmp}
@@ -18,7 +18,7 @@ use Rattle.store_book.specs.Internal.Keeping.{revived, bytes_at, CanKeep, IsKept
 use Rattle.store_book.proofs.Slots.Changed.{held_at-with, mark-KeepsTies}
 use Rattle.finite_maps.proofs.Maps.{get-insert_at}
 use Rattle.store_book.proofs.Slots.Writes.{phase_live}
-use Rattle.store_book.proofs.Layers.Ties.{held_of}
+use Rattle.slot_table.proofs.Finding.{held_of}
 
 -- what a link answered, and left
 module _ (l l' : Linked) (repo digest : Text) (n : ℕ) (b : Bool) (made : link l repo digest n ≡ Ok (b, l')) where
@@ -63,16 +63,6 @@ module _ (slots : List Slot) (k : ℕ) (blob : Text × Text) (found : slot_of sl
   same_by_test test =
       let h = held_of slots blob.0 k found in
       (h.0, h.1, h.2, (bytes_decides h.0.bytes blob.1).0 (ap (λ o. option_map_or (λ (x : Held). bytes_eq x.bytes blob.1) o false) (sym h.1) ∙ test))
-
-  -- bytes that passed the test are those of the blob
-  blob_by_test : test_at slots k blob.1 ≡ true → ◌≡◌ {A = Text × Text} (blob.0, bytes_at slots k) blob
-  blob_by_test test = let h = same_by_test test in λ i. (blob.0, (ap (λ o. option_map_or (λ (x : Held). x.bytes) o []) h.1 ∙ h.3) i)
-
-  pub can_by_test : (l : Linked) (t : ℕ) (repo : Text) → CanKeep l slots t repo blob → test_at slots k blob.1 ≡ true → CanKeep l slots t repo (blob.0, bytes_at slots k)
-  can_by_test l t repo can test = subst (λ (b : Text × Text). CanKeep l slots t repo b) (sym (blob_by_test test)) can
-
-  pub kept_by_test : (l l' : Linked) (slots' : List Slot) (repo : Text) → test_at slots k blob.1 ≡ true → IsKept l slots repo (blob.0, bytes_at slots k) l' slots' → IsKept l slots repo blob l' slots'
-  kept_by_test l l' slots' repo test kept = subst (λ (b : Text × Text). IsKept l slots repo b l' slots') (blob_by_test test) kept
 
 -- a blob whose slot holds the same bytes
 module _ (slots : List Slot) (k : ℕ) (blob : Text × Text) (found : slot_of slots blob.0 ≡ Some k) (test : test_at slots k blob.1 ≡ true) where

@@ -19,12 +19,11 @@ use Rattle.blob_digest.proofs.KeyOrders.{link_cmp_total}
 use Rattle.finite_maps.proofs.Texts.{tied_text}
 use Rattle.finite_maps.proofs.Rows.{sum_by-from_entries}
 use Rattle.slot_table.specs.Slots.{Slot, Held, Free, Used, Retired, held_at, held_in, IsDistinct}
-use Rattle.link_table.specs.Linked.{Linked, blobs_of, total_size, used_in}
+use Rattle.link_table.specs.Linked.{blobs_of, total_size, used_in}
 use Rattle.link_table.proofs.Weights.{IsBlobs-blobs}
 use Rattle.finite_maps.specs.Texts.{Text, text_cmp}
 use Rattle.store_model.specs.Catalog.{Link, Resident, Catalog, link_cmp, is_of, is_tenants, holds, tenant_holds, used}
-use Rattle.upload_table.specs.Uploaded.{Uploaded}
-use Rattle.store_book.specs.Layers.{links_of, resident_of, with_resident, resident_rows, catalog_from, AreCharges, IsTied}
+use Rattle.store_book.specs.Layers.{Layers, links_of, resident_of, with_resident, resident_rows, catalog_from, AreCharges, IsTied}
 
 -- ---- a sum over some keys of a map
 
@@ -156,41 +155,41 @@ is_some_map : (o : Option ℕ) → is_some (option_map mark o) ≡ is_some o
 is_some_map None = refl
 is_some_map (Some n) = refl
 
-module _ (l : Linked) (u : Uploaded) (slots : List Slot) (marks : List Bool) (max_blob : ℕ) (tied : IsTied l slots marks (catalog_from l u slots marks max_blob))
-    (named : (k : Link) → set.contains (links_of l.links) k ≡ true → set.contains l.repos k.0 ≡ true) where
+module _ (L : Layers) (marks : List Bool) (tied : IsTied L.links L.slots marks (catalog_from L marks))
+    (named : (k : Link) → set.contains (links_of L.links.links) k ≡ true → set.contains L.links.repos k.0 ≡ true) where
   abbrev C : Catalog
-  C = catalog_from l u slots marks max_blob
+  C = catalog_from L marks
 
   abbrev rows : List (Text × Resident)
-  rows = resident_rows slots marks
+  rows = resident_rows L.slots marks
 
-  pub holds_is : (r d : Text) → holds C r d ≡ is_some (get l.links (r, d))
-  holds_is r d = ap is_some (get-links_of l.links (r, d)) ∙ is_some_map (get l.links (r, d))
+  pub holds_is : (r d : Text) → holds C r d ≡ is_some (get L.links.links (r, d))
+  holds_is r d = ap is_some (get-links_of L.links.links (r, d)) ∙ is_some_map (get L.links.links (r, d))
 
   module _ (t : ℕ) where
-    held_by : (r d : Text) (n : ℕ) → is_tenants l.tenants t r ≡ true → get l.links (r, d) ≡ Some n → tenant_holds C t d ≡ true
+    held_by : (r d : Text) (n : ℕ) → is_tenants L.links.tenants t r ≡ true → get L.links.links (r, d) ≡ Some n → tenant_holds C t d ≡ true
     held_by r d n own at =
         let here : holds C r d ≡ true = holds_is r d ∙ ap is_some at in
         list_any_weaker (eq_by_cmp text_cmp r) (λ q. is_of C t q && holds C q d)
         (λ q tie. subst (λ (x : Text). (is_of C t x && holds C x d) ≡ true) (exact_bytes r q ((Equal-is (text_cmp r q)).0 tie)) (and_from (is_of C t r) (holds C r d) own here))
         (set.items C.repos) (sym (contains_key-keys C.repos r) ∙ named (r, d) here)
 
-    size_at : (q : Text) (o : Option ℕ) → get (blobs_of l t) q ≡ o → o ≡ cond (tenant_holds C t q) (option_map (λ b. length b.bytes) (find text_cmp q rows)) None
+    size_at : (q : Text) (o : Option ℕ) → get (blobs_of L.links t) q ≡ o → o ≡ cond (tenant_holds C t q) (option_map (λ b. length b.bytes) (find text_cmp q rows)) None
     size_at q None is = sym (none_at (tenant_holds C t q) refl)
       where
         none_at : (b : Bool) → tenant_holds C t q ≡ b → cond b (option_map (λ b. length b.bytes) (find text_cmp q rows)) None ≡ None
         none_at true h =
             let r = witness (λ r. is_of C t r && holds C r q) (set.items C.repos) h in
             let both = and_parts (is_of C t r.0) (holds C r.0 q) r.1 in
-            let none = (IsBlobs-blobs (is_tenants l.tenants t) l.links).none q r.0 is both.0 in
+            let none = (IsBlobs-blobs (is_tenants L.links.tenants t) L.links.links).none q r.0 is both.0 in
             absurd (false≢true (ap is_some (sym none) ∙ sym (holds_is r.0 q) ∙ both.1))
         none_at false h = refl
     size_at q (Some n) is =
-        let r = (IsBlobs-blobs (is_tenants l.tenants t) l.links).some q n is in
+        let r = (IsBlobs-blobs (is_tenants L.links.tenants t) L.links.links).some q n is in
         let b = tied.sizes (r.0, q) n r.2 in
         let found : find text_cmp q rows ≡ Some b.0 = sym (get-from_entries nat_list_cmp_total rows q) ∙ b.1 in
         rw (held_by r.0 q n r.1 r.2, found) (ap Some b.2)
 
     -- the use that the links keep is that of the catalog
-    pub used_is : AreCharges l C → t < length l.tenants → used_in l t ≡ used C t
-    used_is charges lt = λ i. sum-part (tenant_holds C t) (λ (b : Resident). length b.bytes) (blobs_of l t) rows (IsApart-rows slots marks tied.distinct) (λ q. size_at q (get (blobs_of l t) q) refl) i + charges.sums t lt i
+    pub used_is : AreCharges L.links C → t < length L.links.tenants → used_in L.links t ≡ used C t
+    used_is charges lt = λ i. sum-part (tenant_holds C t) (λ (b : Resident). length b.bytes) (blobs_of L.links t) rows (IsApart-rows L.slots marks tied.distinct) (λ q. size_at q (get (blobs_of L.links t) q) refl) i + charges.sums t lt i

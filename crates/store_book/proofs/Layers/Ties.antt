@@ -15,15 +15,14 @@ use Rattle.finite_maps.proofs.Sets.{insert_there}
 use Rattle.finite_maps.proofs.Sums.{insert-remove, get-remove_same}
 use Rattle.finite_maps.specs.Rows.{IsApart}
 use Rattle.std.specs.Cmp.Lexicographic.{nat_list_cmp_total}
-pub use Rattle.slot_table.proofs.Finding.{held_of, not_held}
+use Rattle.slot_table.proofs.Finding.{not_held}
 use Rattle.slot_table.specs.Slots.{Slot, Held, Content, Free, Used, Retired, held_at, held_in, IsDistinct, is_retired, is_free, free_slots, slot_of, with_slot, on_held, content_with, raise, lower}
 use Rattle.link_table.specs.Linked.{Linked}
 use Rattle.finite_maps.specs.Texts.{Text, text_cmp}
 use Rattle.store_model.specs.Catalog.{Link, Resident, Catalog, link_cmp, holds, count}
-use Rattle.upload_table.specs.Uploaded.{Uploaded}
 use Rattle.store_book.proofs.Slots.Writes.{with_slot-suc, length-with_slot, count_by-with_slot, held_at-same, held_at-other, slot_of_held}
 use Rattle.store_model.proofs.Invariant.Counts.{count-link, count_other-link}
-use Rattle.store_book.specs.Layers.{links_of, resident_of, with_resident, resident_rows, residents_of, catalog_from, IsTied}
+use Rattle.store_book.specs.Layers.{Layers, links_of, resident_of, with_resident, resident_rows, residents_of, catalog_from, IsTied}
 use Rattle.store_book.proofs.Layers.Sums.{get-links_of, mark, found_slot, IsApart-rows}
 
 -- ---- links without their sizes
@@ -90,63 +89,63 @@ module _ (g : Held → Held) (keeps : KeepsBlob g) where
       let s = slot_of_held slots k h at in
       held_at-same slots k (on_held g) s.0 s.1 ∙ held_content s.0.content ∙ ap (option_map g) s.2
 
-module _ (l : Linked) (links' : FinMap link_cmp ℕ) (u : Uploaded) (slots : List Slot) (marks : List Bool) (max_blob k : ℕ) (h : Held) (at : held_at slots k ≡ Some h) (g : Held → Held) (keeps : KeepsBlob g)
-    (tied : IsTied l slots marks (catalog_from l u slots marks max_blob)) where
+module _ (L : Layers) (links' : FinMap link_cmp ℕ) (marks : List Bool) (k : ℕ) (h : Held) (at : held_at L.slots k ≡ Some h) (g : Held → Held) (keeps : KeepsBlob g)
+    (tied : IsTied L.links L.slots marks (catalog_from L marks)) where
   abbrev before : Catalog
-  before = catalog_from l u slots marks max_blob
+  before = catalog_from L marks
 
   abbrev after : Catalog
   after = record before { links = links_of links' }
 
   abbrev slots' : List Slot
-  slots' = with_slot slots k (on_held g)
+  slots' = with_slot L.slots k (on_held g)
 
   abbrev l' : Linked
-  l' = record l { links = links' }
+  l' = record L.links { links = links' }
 
   -- a change of links and of one count is one of the catalog's links alone
-  pub catalog-relink : catalog_from l' u slots' marks max_blob ≡ after
+  pub catalog-relink : catalog_from (record L { links = l'; slots = slots' }) marks ≡ after
   catalog-relink = λ i. record {
-    tenants = l.tenants;
-    slots = length-with_slot slots k (on_held g) i;
-    max_blob = max_blob;
-    repos = l.repos;
+    tenants = L.links.tenants;
+    slots = length-with_slot L.slots k (on_held g) i;
+    max_blob = L.max_blob;
+    repos = L.links.repos;
     links = links_of links';
     manifests = before.manifests;
-    sessions = u.sessions;
-    next = u.next;
-    residents = from_entries {R = text_cmp} (rows-with_slot g keeps slots k marks i);
-    retired = retired-with_slot g keeps slots k i;
+    sessions = L.uploads.sessions;
+    next = L.uploads.next;
+    residents = from_entries {R = text_cmp} (rows-with_slot g keeps L.slots k marks i);
+    retired = retired-with_slot g keeps L.slots k i;
   }
 
   abbrev Origin : ℕ → Held → Type 0
-  Origin m x = (y : Held) × (held_at slots m ≡ Some y) × (x.digest ≡ y.digest)
+  Origin m x = (y : Held) × (held_at L.slots m ≡ Some y) × (x.digest ≡ y.digest)
 
   origin : (m : ℕ) (x : Held) → held_at slots' m ≡ Some x → Origin m x
   origin m x here = elim (cases_eq m k) [
-    | inl e ↦ (h, ap (held_at slots) e ∙ at, ap (λ (y : Held). y.digest) (sym (some_same (sym (held_at-on g keeps slots k h at) ∙ ap (held_at slots') (sym e) ∙ here))) ∙ keeps.digest h)
-    | inr other ↦ (x, sym (held_at-other slots k (on_held g) m other) ∙ here, refl)
+    | inl e ↦ (h, ap (held_at L.slots) e ∙ at, ap (λ (y : Held). y.digest) (sym (some_same (sym (held_at-on g keeps L.slots k h at) ∙ ap (held_at slots') (sym e) ∙ here))) ∙ keeps.digest h)
+    | inr other ↦ (x, sym (held_at-other L.slots k (on_held g) m other) ∙ here, refl)
   ]
 
   module _ (sizes : (key : Link) (n : ℕ) → get links' key ≡ Some n → (b : Resident) × (get before.residents key.1 ≡ Some b) × (n ≡ length b.bytes))
       (counted : (g h).links ≡ count after h.digest) (others : (x : Text) → (x ≡ h.digest → ⊥) → count after x ≡ count before x) where
     counts_after : (m : ℕ) (x : Held) → held_at slots' m ≡ Some x → x.links ≡ count after x.digest
     counts_after m x here = elim (cases_eq m k) [
-      | inl e ↦ (let is : g h ≡ x = some_same (sym (held_at-on g keeps slots k h at) ∙ ap (held_at slots') (sym e) ∙ here) in
+      | inl e ↦ (let is : g h ≡ x = some_same (sym (held_at-on g keeps L.slots k h at) ∙ ap (held_at slots') (sym e) ∙ here) in
           ap (λ (y : Held). y.links) (sym is) ∙ counted ∙ ap (count after) (sym (keeps.digest h) ∙ ap (λ (y : Held). y.digest) is))
-      | inr other ↦ (let there = sym (held_at-other slots k (on_held g) m other) ∙ here in
+      | inr other ↦ (let there = sym (held_at-other L.slots k (on_held g) m other) ∙ here in
           tied.counts m x there ∙ sym (others x.digest (λ same. other (tied.distinct m k x h there at same))))
     ]
 
     tied_after : IsTied l' slots' marks after
     tied_after = record {
-      marks = tied.marks ∙ sym (length-with_slot slots k (on_held g));
+      marks = tied.marks ∙ sym (length-with_slot L.slots k (on_held g));
       distinct = λ a b x y at_a at_b same. (let p = origin a x at_a in let q = origin b y at_b in tied.distinct a b p.0 q.0 p.1 q.1 (sym p.2 ∙ same ∙ q.2));
       sizes = sizes;
       counts = counts_after;
     }
 
-    pub IsTied-relink : IsTied l' slots' marks (catalog_from l' u slots' marks max_blob)
+    pub IsTied-relink : IsTied l' slots' marks (catalog_from (record L { links = l'; slots = slots' }) marks)
     IsTied-relink = subst (λ (C : Catalog). IsTied l' slots' marks C) (sym catalog-relink) tied_after
 
 -- ---- what a mount and a delete leave
@@ -154,49 +153,49 @@ module _ (l : Linked) (links' : FinMap link_cmp ℕ) (u : Uploaded) (slots : Lis
 same_key : (a b : Link) → eq_by_cmp link_cmp a b ≡ true → a ≡ b
 same_key a b tie = exact_link a b ((Equal-is (link_cmp a b)).0 tie)
 
-module _ (l : Linked) (u : Uploaded) (slots : List Slot) (marks : List Bool) (max_blob k : ℕ) (h : Held) (at : held_at slots k ≡ Some h)
-    (tied : IsTied l slots marks (catalog_from l u slots marks max_blob)) (r : Text) (there : set.contains l.repos r ≡ true) where
+module _ (L : Layers) (marks : List Bool) (k : ℕ) (h : Held) (at : held_at L.slots k ≡ Some h)
+    (tied : IsTied L.links L.slots marks (catalog_from L marks)) (r : Text) (there : set.contains L.links.repos r ≡ true) where
   abbrev C : Catalog
-  C = catalog_from l u slots marks max_blob
+  C = catalog_from L marks
 
   -- a link of a resident blob, and its slot counts one more
   pub IsTied-link : (n : ℕ) (b : Resident) → get C.residents h.digest ≡ Some b → n ≡ length b.bytes → holds C r h.digest ≡ false →
-      IsTied (record l { links = insert l.links (r, h.digest) n }) (with_slot slots k (on_held raise)) marks (catalog_from (record l { links = insert l.links (r, h.digest) n }) u (with_slot slots k (on_held raise)) marks max_blob)
+      IsTied (record L.links { links = insert L.links.links (r, h.digest) n }) (with_slot L.slots k (on_held raise)) marks (catalog_from (record L { links = record L.links { links = insert L.links.links (r, h.digest) n }; slots = with_slot L.slots k (on_held raise) }) marks)
   IsTied-link n b kept size new =
-      let D : Catalog = record C { links = links_of (insert l.links (r, h.digest) n) } in
-      let same : D ≡ record C { links = set.insert C.links (r, h.digest) } = λ i. record C { links = links_of-insert l.links (r, h.digest) n i } in
+      let D : Catalog = record C { links = links_of (insert L.links.links (r, h.digest) n) } in
+      let same : D ≡ record C { links = set.insert C.links (r, h.digest) } = λ i. record C { links = links_of-insert L.links.links (r, h.digest) n i } in
       let old : h.links ≡ count C h.digest = tied.counts k h at in
       let more : count (record C { links = set.insert C.links (r, h.digest) }) h.digest ≡ 1 + count C h.digest = count-link C r h.digest there new in
       let after : count D h.digest ≡ 1 + count C h.digest = ap (λ (X : Catalog). count X h.digest) same ∙ more in
       let counted : h.links + 1 ≡ count D h.digest = omega arith in
-      IsTied-relink l (insert l.links (r, h.digest) n) u slots marks max_blob k h at raise raise-KeepsBlob tied
-      (λ key m found. sized key m (eq_by_cmp link_cmp key (r, h.digest)) refl (sym (get-insert link_cmp_total l.links (r, h.digest) n key) ∙ found))
+      IsTied-relink L (insert L.links.links (r, h.digest) n) marks k h at raise raise-KeepsBlob tied
+      (λ key m found. sized key m (eq_by_cmp link_cmp key (r, h.digest)) refl (sym (get-insert link_cmp_total L.links.links (r, h.digest) n key) ∙ found))
       counted
       (λ x differ. ap (λ (X : Catalog). count X x) same ∙ count_other-link C r h.digest x differ)
     where
-      sized : (key : Link) (m : ℕ) (t : Bool) → eq_by_cmp link_cmp key (r, h.digest) ≡ t → cond t (Some n) (get l.links key) ≡ Some m → (c : Resident) × (get C.residents key.1 ≡ Some c) × (m ≡ length c.bytes)
+      sized : (key : Link) (m : ℕ) (t : Bool) → eq_by_cmp link_cmp key (r, h.digest) ≡ t → cond t (Some n) (get L.links.links key) ≡ Some m → (c : Resident) × (get C.residents key.1 ≡ Some c) × (m ≡ length c.bytes)
       sized key m true tie found = (b, ap (λ (q : Link). get C.residents q.1) (same_key key (r, h.digest) tie) ∙ kept, sym (some_same found) ∙ size)
       sized key m false tie found = tied.sizes key m found
 
   -- a link less, and its slot counts one less
-  pub IsTied-unlink : (n : ℕ) → get l.links (r, h.digest) ≡ Some n →
-      IsTied (record l { links = remove l.links (r, h.digest) }) (with_slot slots k (on_held lower)) marks (catalog_from (record l { links = remove l.links (r, h.digest) }) u (with_slot slots k (on_held lower)) marks max_blob)
+  pub IsTied-unlink : (n : ℕ) → get L.links.links (r, h.digest) ≡ Some n →
+      IsTied (record L.links { links = remove L.links.links (r, h.digest) }) (with_slot L.slots k (on_held lower)) marks (catalog_from (record L { links = record L.links { links = remove L.links.links (r, h.digest) }; slots = with_slot L.slots k (on_held lower) }) marks)
   IsTied-unlink n linked =
-      let D : Catalog = record C { links = links_of (remove l.links (r, h.digest)) } in
+      let D : Catalog = record C { links = links_of (remove L.links.links (r, h.digest)) } in
       let E : Catalog = record C { links = set.remove C.links (r, h.digest) } in
-      let same : D ≡ E = λ i. record C { links = links_of-remove l.links (r, h.digest) i } in
-      let contained : set.contains C.links (r, h.digest) ≡ true = ap is_some (get-links_of l.links (r, h.digest) ∙ ap (option_map mark) linked) in
+      let same : D ≡ E = λ i. record C { links = links_of-remove L.links.links (r, h.digest) i } in
+      let contained : set.contains C.links (r, h.digest) ≡ true = ap is_some (get-links_of L.links.links (r, h.digest) ∙ ap (option_map mark) linked) in
       let again : record E { links = set.insert E.links (r, h.digest) } ≡ C = λ i. record C { links = (insert-remove link_cmp_total exact_link C.links (r, h.digest) tt ∙ insert_there link_cmp_total exact_link C.links (r, h.digest) contained) i } in
       let gone : holds E r h.digest ≡ false = ap is_some (get-remove_same link_cmp_total exact_link C.links (r, h.digest)) in
       let old : h.links ≡ count C h.digest = tied.counts k h at in
       let one_more : count C h.digest ≡ 1 + count E h.digest = sym (ap (λ (X : Catalog). count X h.digest) again) ∙ count-link E r h.digest there gone in
       let less : h.links - 1 ≡ count E h.digest = omega arith in
-      IsTied-relink l (remove l.links (r, h.digest)) u slots marks max_blob k h at lower lower-KeepsBlob tied
-      (λ key m found. tied.sizes key m (kept_at key m (eq_by_cmp link_cmp key (r, h.digest)) (sym (get-remove link_cmp_total l.links (r, h.digest) key) ∙ found)))
+      IsTied-relink L (remove L.links.links (r, h.digest)) marks k h at lower lower-KeepsBlob tied
+      (λ key m found. tied.sizes key m (kept_at key m (eq_by_cmp link_cmp key (r, h.digest)) (sym (get-remove link_cmp_total L.links.links (r, h.digest) key) ∙ found)))
       (less ∙ sym (ap (λ (X : Catalog). count X h.digest) same))
       (λ x differ. ap (λ (X : Catalog). count X x) same ∙ sym (sym (ap (λ (X : Catalog). count X x) again) ∙ count_other-link E r h.digest x differ))
     where
-      kept_at : (key : Link) (m : ℕ) (b : Bool) → cond b None (get l.links key) ≡ Some m → get l.links key ≡ Some m
+      kept_at : (key : Link) (m : ℕ) (b : Bool) → cond b None (get L.links.links key) ≡ Some m → get L.links.links key ≡ Some m
       kept_at key m true e = cc
       kept_at key m false e = e
 
@@ -229,11 +228,11 @@ kinds (s ∷ slots) (m ∷ marks) e =
     omega arith
 
 -- the catalog has room for a blob exactly where a slot is free
-pub rooms : (l : Linked) (u : Uploaded) (slots : List Slot) (marks : List Bool) (max_blob : ℕ) → length marks ≡ length slots → IsDistinct slots →
-    len (catalog_from l u slots marks max_blob).residents + (catalog_from l u slots marks max_blob).retired + free_slots slots ≡ length slots
-rooms l u slots marks max_blob one_each distinct =
-    let a = len-rows (resident_rows slots marks) (IsApart-rows slots marks distinct) in
-    let b = kinds slots marks one_each in
+pub rooms : (L : Layers) (marks : List Bool) → length marks ≡ length L.slots → IsDistinct L.slots →
+    len (catalog_from L marks).residents + (catalog_from L marks).retired + free_slots L.slots ≡ length L.slots
+rooms L marks one_each distinct =
+    let a = len-rows (resident_rows L.slots marks) (IsApart-rows L.slots marks distinct) in
+    let b = kinds L.slots marks one_each in
     omega arith
 
 -- ---- where a digest is

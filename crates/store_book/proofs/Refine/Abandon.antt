@@ -1,11 +1,10 @@
 -- `Book::abandon`, from what its calls of the layers did.
-use Rattle.std.proofs.Common.{◌≡◌, ℕ, ◌-◌, ◌<◌, ◌≤◌, List, length, Some, Result, Ok, Err, refl, sym, ap, ◌∙◌, subst}
+use Rattle.std.proofs.Common.{◌≡◌, ℕ, ◌-◌, ◌<◌, ◌≤◌, length, Some, Result, Ok, Err, refl, sym, ap, ◌∙◌, subst}
 use Rattle.std.specs.Prelude.{slice_index, slice_set}
 use Rattle.std.specs.FinMap.{get, remove}
 use Rattle.std.proofs.Math.ListN.{length-set}
 use Rattle.blob_digest.specs.declared.refusal.Refusal.{Refusal}
 use Rattle.blob_digest.specs.declared.refusal.Refusal.TheVariants.{NameUnknown}
-use Rattle.slot_table.specs.Slots.{Slot}
 use Rattle.link_table.specs.Linked.{Linked, discharge, known_tenant}
 use Rattle.store_model.specs.Sessions.{Session, charged, home_in, not_busy, received, session_in, session_charges}
 use Rattle.upload_table.specs.Uploaded.{Uploaded}
@@ -13,7 +12,7 @@ use Rattle.finite_maps.specs.Texts.{Text}
 use Rattle.store_model.specs.Catalog.{Catalog, tenant_of}
 use Rattle.finite_maps.specs.Outcomes.{◌>>=◌}
 use Rattle.store_model.specs.Commands.{abandon}
-use Rattle.store_book.specs.Layers.{book_catalog, IsBook}
+use Rattle.store_book.specs.Layers.{Layers, book_catalog, IsBook}
 use Rattle.store_model.proofs.Commands.Hands.{home_charged, home_chunks}
 use Rattle.store_model.proofs.Commands.Abandon.{Sound-after_abandon}
 use Rattle.finite_maps.proofs.Outcomes.{bound_ok, some_of_ok}
@@ -25,45 +24,45 @@ received_ok : (x : Result Session Refusal) (n : ℕ) → (x >>= λ s. not_busy s
 received_ok (Ok s) n h = let b = bound_ok (not_busy s.chunks) (λ _. Ok (received s)) n h in (s, refl, b.1, cc b.2)
 received_ok (Err e) n h = absurd cc
 
-module _ (l : Linked) (u : Uploaded) (slots : List Slot) (max_blob t number : ℕ) (repo : Text) (known : known_tenant l repo ≡ Ok t) where
+module _ (L : Layers) (t number : ℕ) (repo : Text) (known : known_tenant L.links repo ≡ Ok t) where
   abbrev C : Catalog
-  C = book_catalog l u slots max_blob
+  C = book_catalog L
 
-  module _ (n : ℕ) (answered : home_in u.sessions (t, number) repo ≡ Ok n) where
-    abbrev of_repo : (s : Session) × (session_in (get u.sessions (t, number)) repo ≡ Ok s) × (not_busy s.chunks ≡ Ok tt) × (received s ≡ n)
-    of_repo = received_ok (session_in (get u.sessions (t, number)) repo) n answered
+  module _ (n : ℕ) (answered : home_in L.uploads.sessions (t, number) repo ≡ Ok n) where
+    abbrev of_repo : (s : Session) × (session_in (get L.uploads.sessions (t, number)) repo ≡ Ok s) × (not_busy s.chunks ≡ Ok tt) × (received s ≡ n)
+    of_repo = received_ok (session_in (get L.uploads.sessions (t, number)) repo) n answered
 
-    found : get u.sessions (t, number) ≡ Some of_repo.0
-    found = (session_found (get u.sessions (t, number)) repo of_repo.0 of_repo.1).0
+    found : get L.uploads.sessions (t, number) ≡ Some of_repo.0
+    found = (session_found (get L.uploads.sessions (t, number)) repo of_repo.0 of_repo.1).0
 
-    there : t < length l.tenants
-    there = tenant_there l.tenants repo t (some_of_ok (tenant_of l.tenants repo) NameUnknown t known)
+    there : t < length L.links.tenants
+    there = tenant_there L.links.tenants repo t (some_of_ok (tenant_of L.links.tenants repo) NameUnknown t known)
 
     abbrev l1 : Linked
-    l1 = discharge l t n
+    l1 = discharge L.links t n
 
     abbrev u1 : Uploaded
-    u1 = record u { sessions = remove u.sessions (t, number) }
+    u1 = record L.uploads { sessions = remove L.uploads.sessions (t, number) }
 
-    abandoned : abandon C repo number ≡ Ok (n, book_catalog l1 u1 slots max_blob)
-    abandoned = rw (known, of_repo.1, of_repo.2) (ap (λ m. Ok (m, book_catalog l1 u1 slots max_blob)) of_repo.3)
+    abandoned : abandon C repo number ≡ Ok (n, book_catalog (record L { links = l1; uploads = u1 }))
+    abandoned = rw (known, of_repo.1, of_repo.2) (ap (λ m. Ok (m, book_catalog (record L { links = l1; uploads = u1 }))) of_repo.3)
 
     counts : charged of_repo.0 ≡ n
     counts = let home = home_chunks of_repo.0.chunks tt of_repo.2 in home_charged of_repo.0 home.0 home.1 ∙ of_repo.3
 
-    module _ (book : IsBook l u slots max_blob) where
-      pub abandoned_charged : n ≤ slice_index l.charges t
-      abandoned_charged = subst (λ m. m ≤ slice_index l.charges t) counts (session_charged l u slots max_blob t number book there of_repo.0 found)
+    module _ (book : IsBook L) where
+      pub abandoned_charged : n ≤ slice_index L.links.charges t
+      abandoned_charged = subst (λ m. m ≤ slice_index L.links.charges t) counts (session_charged L t number book there of_repo.0 found)
 
-      sums_after : (v : ℕ) → v < length l.tenants → slice_index l1.charges v ≡ session_charges u1.sessions v
-      sums_after v lt = subst (λ m. slice_index (slice_set l.charges t (slice_index l.charges t - m)) v ≡ session_charges u1.sessions v) counts (sums-gone l u slots max_blob t number book there of_repo.0 found v lt)
+      sums_after : (v : ℕ) → v < length L.links.tenants → slice_index l1.charges v ≡ session_charges u1.sessions v
+      sums_after v lt = subst (λ m. slice_index (slice_set L.links.charges t (slice_index L.links.charges t - m)) v ≡ session_charges u1.sessions v) counts (sums-gone L t number book there of_repo.0 found v lt)
 
       -- a session that was given up leaves a book
-      pub IsBook-abandon : (l' : Linked) (u' : Uploaded) → l' ≡ l1 → u' ≡ u1 → IsBook l' u' slots max_blob
+      pub IsBook-abandon : (l' : Linked) (u' : Uploaded) → l' ≡ l1 → u' ≡ u1 → IsBook (record L { links = l'; uploads = u' })
       IsBook-abandon l' u' links uploads =
-          let now : IsBook l1 u1 slots max_blob = record {
-            sound = Sound-after_abandon C (book_catalog l1 u1 slots max_blob) repo number n abandoned book.sound;
+          let now : IsBook (record L { links = l1; uploads = u1 }) = record {
+            sound = Sound-after_abandon C (book_catalog (record L { links = l1; uploads = u1 })) repo number n abandoned book.sound;
             tied = record { marks = book.tied.marks; distinct = book.tied.distinct; sizes = book.tied.sizes; counts = book.tied.counts };
-            charges = record { one_each = length-set l.charges t (slice_index l.charges t - n) ∙ book.charges.one_each; sums = sums_after };
+            charges = record { one_each = length-set L.links.charges t (slice_index L.links.charges t - n) ∙ book.charges.one_each; sums = sums_after };
           } in
-          subst (λ (x : Linked). IsBook x u' slots max_blob) (sym links) (subst (λ (x : Uploaded). IsBook l1 x slots max_blob) (sym uploads) now)
+          subst (λ (x : Layers). IsBook x) (λ i. record L { links = sym links i; uploads = sym uploads i }) now

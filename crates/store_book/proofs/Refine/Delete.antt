@@ -8,12 +8,11 @@ use Rattle.finite_maps.specs.Sets as set
 use Rattle.slot_table.specs.declared.phase.Phase.TheVariants as phase
 use Rattle.slot_table.specs.Slots.{Slot, Held, slot_of, held_at, phase_at, links_at, with_slot, on_held, lower}
 use Rattle.link_table.specs.Linked.{Linked, known_tenant, unlink}
-use Rattle.upload_table.specs.Uploaded.{Uploaded}
 use Rattle.finite_maps.specs.Texts.{Text}
 use Rattle.store_model.specs.Catalog.{Catalog, count, holds}
 use Rattle.store_model.specs.Commands.{delete, referrer}
 use Rattle.store_book.specs.Internal.Keeping.{linked_slot}
-use Rattle.store_book.specs.Layers.{lent_marks, catalog_from, book_catalog, IsTied, IsBook}
+use Rattle.store_book.specs.Layers.{Layers, lent_marks, catalog_from, book_catalog, IsTied, IsBook}
 use Rattle.store_book.specs.Pinned.{Pinned, shown, slotted, with_looks}
 use Rattle.store_book.proofs.Slots.Pinned.{all_seen-with_slot, lower-seen}
 use Rattle.store_model.proofs.Invariant.Counts.{count-unlink}
@@ -21,62 +20,59 @@ use Rattle.store_book.proofs.Slots.Lent.{marks-on}
 use Rattle.store_model.proofs.Commands.Delete.{Sound-after_delete}
 use Rattle.store_book.proofs.Layers.LinkedSlots.{holds_linked, linked_live, linked_some, linked_none}
 use Rattle.store_book.proofs.Slots.Writes.{phase_live}
-use Rattle.store_book.proofs.Layers.Ties.{links_of-remove, catalog-relink, IsTied-unlink, lower-KeepsBlob, held_of}
+use Rattle.slot_table.proofs.Finding.{held_of}
+use Rattle.store_book.proofs.Layers.Ties.{links_of-remove, catalog-relink, IsTied-unlink, lower-KeepsBlob}
 
 -- a count that falls isn't seen
 pub slots_kept : (p q : Pinned) (k : ℕ) → q ≡ slotted k (on_held lower) p → (q.table ≡ p.table) × (shown q ≡ shown p)
 slots_kept p q k is = (ap (λ (x : Pinned). x.table) is, ap shown is ∙ ap (with_looks p.looks) (all_seen-with_slot p.slots k (on_held lower) p.bounds lower-seen))
 
-module _ (l : Linked) (u : Uploaded) (slots : List Slot) (max_blob t : ℕ) (repo digest : Text) (book : IsBook l u slots max_blob) (known : known_tenant l repo ≡ Ok t) where
+module _ (L : Layers) (t : ℕ) (repo digest : Text) (book : IsBook L) (known : known_tenant L.links repo ≡ Ok t) where
   abbrev C : Catalog
-  C = book_catalog l u slots max_blob
+  C = book_catalog L
 
   -- a digest that the repository doesn't hold
-  pub delete_unknown : linked_slot l slots repo digest ≡ None → delete C repo digest ≡ Err BlobUnknown
-  delete_unknown none = rw (known, linked_none l u slots max_blob book repo digest none) refl
+  pub delete_unknown : linked_slot L.links L.slots repo digest ≡ None → delete C repo digest ≡ Err BlobUnknown
+  delete_unknown none = rw (known, linked_none L book repo digest none) refl
 
-  module _ (k : ℕ) (at_slot : linked_slot l slots repo digest ≡ Some k) where
-    abbrev found : (contains_key l.links (repo, digest) ≡ true) × (slot_of slots digest ≡ Some k)
-    found = linked_some l u slots max_blob book repo digest k at_slot
-
-    -- the link that goes is there
-    pub linked_there : contains_key l.links (repo, digest) ≡ true
-    linked_there = found.0
+  module _ (k : ℕ) (at_slot : linked_slot L.links L.slots repo digest ≡ Some k) where
+    abbrev found : (contains_key L.links.links (repo, digest) ≡ true) × (slot_of L.slots digest ≡ Some k)
+    found = linked_some L book repo digest k at_slot
 
     has : holds C repo digest ≡ true
-    has = holds_linked l u slots max_blob book repo digest ∙ found.0
+    has = holds_linked L book repo digest ∙ found.0
 
-    abbrev held : (h : Held) × (held_at slots k ≡ Some h) × (h.digest ≡ digest)
-    held = held_of slots digest k found.1
+    abbrev held : (h : Held) × (held_at L.slots k ≡ Some h) × (h.digest ≡ digest)
+    held = held_of L.slots digest k found.1
 
     -- its slot is live, and counts it
-    pub live_there : phase_at slots k ≡ phase.Live
-    live_there = phase_live slots k held.0 held.1 (linked_live l u slots max_blob book repo digest k held.0 held.1 held.2 has)
+    pub live_there : phase_at L.slots k ≡ phase.Live
+    live_there = phase_live L.slots k held.0 held.1 (linked_live L book repo digest k held.0 held.1 held.2 has)
 
-    pub counted_there : 0 < links_at slots k
+    pub counted_there : 0 < links_at L.slots k
     counted_there =
-        let links : links_at slots k ≡ held.0.links = ap (λ o. option_map_or (λ (h : Held). h.links) o 0) held.1 in
+        let links : links_at L.slots k ≡ held.0.links = ap (λ o. option_map_or (λ (h : Held). h.links) o 0) held.1 in
         let old : held.0.links ≡ count C digest = book.tied.counts k held.0 held.1 ∙ ap (count C) held.2 in
         let one = count-unlink C repo digest (book.sound.lawful.links (repo, digest) has).repo has in
         omega arith
 
     abbrev l' : Linked
-    l' = unlink l repo digest
+    l' = unlink L.links repo digest
 
     abbrev slots' : List Slot
-    slots' = with_slot slots k (on_held lower)
+    slots' = with_slot L.slots k (on_held lower)
 
     abbrev C' : Catalog
-    C' = book_catalog l' u slots' max_blob
+    C' = book_catalog (record L { links = l'; slots = slots' })
 
-    marks : lent_marks slots ≡ lent_marks slots'
-    marks = sym (marks-on lower (λ h. refl) slots k)
+    marks : lent_marks L.slots ≡ lent_marks slots'
+    marks = sym (marks-on lower (λ h. refl) L.slots k)
 
     left : C' ≡ record C { links = set.remove C.links (repo, digest) }
     left =
-        (λ i. catalog_from l' u slots' (sym marks i) max_blob)
-        ∙ catalog-relink l (remove l.links (repo, digest)) u slots (lent_marks slots) max_blob k held.0 held.1 lower lower-KeepsBlob book.tied
-        ∙ (λ i. record C { links = links_of-remove l.links (repo, digest) i })
+        (λ i. catalog_from (record L { links = l'; slots = slots' }) (sym marks i))
+        ∙ catalog-relink L (remove L.links.links (repo, digest)) (lent_marks L.slots) k held.0 held.1 lower lower-KeepsBlob book.tied
+        ∙ (λ i. record C { links = links_of-remove L.links.links (repo, digest) i })
 
     -- a manifest that refers to the digest
     pub delete_referenced : (manifest : Text) → referrer C repo digest ≡ Some manifest → delete C repo digest ≡ Err (Referenced manifest)
@@ -88,12 +84,12 @@ module _ (l : Linked) (u : Uploaded) (slots : List Slot) (max_blob t : ℕ) (rep
 
       tied_after : IsTied l' slots' (lent_marks slots') C'
       tied_after =
-          let n = some_value (get l.links (repo, digest)) found.0 in
-          let at_digest = IsTied-unlink l u slots (lent_marks slots) max_blob k held.0 held.1 book.tied repo (book.sound.lawful.links (repo, digest) has).repo n.0 (ap (λ (d : Text). get l.links (repo, d)) held.2 ∙ n.1) in
-          subst (λ m. IsTied l' slots' m (catalog_from l' u slots' m max_blob)) marks
-          (subst (λ (d : Text). IsTied (unlink l repo d) slots' (lent_marks slots) (catalog_from (unlink l repo d) u slots' (lent_marks slots) max_blob)) held.2 at_digest)
+          let n = some_value (get L.links.links (repo, digest)) found.0 in
+          let at_digest = IsTied-unlink L (lent_marks L.slots) k held.0 held.1 book.tied repo (book.sound.lawful.links (repo, digest) has).repo n.0 (ap (λ (d : Text). get L.links.links (repo, d)) held.2 ∙ n.1) in
+          subst (λ m. IsTied l' slots' m (catalog_from (record L { links = l'; slots = slots' }) m)) marks
+          (subst (λ (d : Text). IsTied (unlink L.links repo d) slots' (lent_marks L.slots) (catalog_from (record L { links = unlink L.links repo d; slots = slots' }) (lent_marks L.slots))) held.2 at_digest)
 
-      deleted_book : IsBook l' u slots' max_blob
+      deleted_book : IsBook (record L { links = l'; slots = slots' })
       deleted_book = record {
         sound = Sound-after_delete C C' repo digest deleted book.sound;
         tied = tied_after;
@@ -101,9 +97,9 @@ module _ (l : Linked) (u : Uploaded) (slots : List Slot) (max_blob t : ℕ) (rep
       }
 
       module _ (l1 : Linked) (slots1 : List Slot) (links : l1 ≡ l') (slots_are : slots1 ≡ slots') where
-        pub delete_ok : delete C repo digest ≡ Ok (tt, book_catalog l1 u slots1 max_blob)
-        delete_ok = deleted ∙ (λ i. Ok (tt, book_catalog (sym links i) u (sym slots_are i) max_blob))
+        pub delete_ok : delete C repo digest ≡ Ok (tt, book_catalog (record L { links = l1; slots = slots1 }))
+        delete_ok = deleted ∙ (λ i. Ok (tt, book_catalog (record L { links = sym links i; slots = sym slots_are i })))
 
         -- a deleted link leaves a book
-        pub IsBook-delete : IsBook l1 u slots1 max_blob
-        IsBook-delete = subst (λ (x : Linked). IsBook x u slots1 max_blob) (sym links) (subst (λ (x : List Slot). IsBook l' u x max_blob) (sym slots_are) deleted_book)
+        pub IsBook-delete : IsBook (record L { links = l1; slots = slots1 })
+        IsBook-delete = subst (λ (x : Layers). IsBook x) (λ i. record L { links = sym links i; slots = sym slots_are i }) deleted_book

@@ -17,7 +17,7 @@ use Rattle.finite_maps.specs.Texts.{Text}
 use Rattle.store_model.specs.Catalog.{Catalog, session_charges_of}
 use Rattle.finite_maps.specs.Outcomes.{◌>>=◌, refuse}
 use Rattle.store_model.specs.Commands.{finish, given_back, same_bytes, is_full_for}
-use Rattle.store_book.specs.Layers.{lent_marks, book_catalog, IsBook}
+use Rattle.store_book.specs.Layers.{Layers, lent_marks, book_catalog, IsBook}
 use Rattle.store_book.specs.Internal.Keeping.{CanKeep, IsKept, IsUnkept, differs, full}
 use Rattle.store_book.proofs.Layers.Keep.{Keeps, IsKept-Keeps}
 use Rattle.store_book.proofs.Slots.Lent.{length-marks}
@@ -29,33 +29,31 @@ use Rattle.finite_maps.proofs.Outcomes.{bound_ok, not_refused}
 use Rattle.store_book.proofs.Refine.PutBack.{here_charged, here_small, here_tenant, session_here, IsBook-home}
 use Rattle.store_book.proofs.Layers.SessionCharges.{sums-gone}
 use Rattle.store_model.proofs.Invariant.SessionTenants.{session_owner}
-use Rattle.store_book.proofs.Layers.Ties.{held_of, slot_is_resident, not_resident, rooms}
+use Rattle.slot_table.proofs.Finding.{held_of}
+use Rattle.store_book.proofs.Layers.Ties.{slot_is_resident, not_resident, rooms}
 
-module _ (l : Linked) (u : Uploaded) (slots : List Slot) (max_blob : ℕ) (h : Taken) (digest : Text) where
+module _ (L : Layers) (h : Taken) (digest : Text) where
   abbrev C : Catalog
-  C = book_catalog l u slots max_blob
+  C = book_catalog L
 
   abbrev whole : Text
   whole = whole_of h
 
-  pub finish_unknown : (e : Refusal) → taken_session (get u.sessions h.key) h ≡ Err e → finish C h digest ≡ Err e
-  finish_unknown e unknown = rw unknown refl
-
-  module _ (book : IsBook l u slots max_blob) (proper : IsProper h) (full_h : IsFull h) (s : Session) (here : taken_session (get u.sessions h.key) h ≡ Ok s) where
+  module _ (book : IsBook L) (proper : IsProper h) (full_h : IsFull h) (s : Session) (here : taken_session (get L.uploads.sessions h.key) h ≡ Ok s) where
     pub finish_other_digest : is_digest_of digest whole ≡ false → finish C h digest ≡ Err DigestInvalid
     finish_other_digest other = rw (here, other) refl
 
-    pub found : get u.sessions h.key ≡ Some s
-    found = (session_here l u slots max_blob h book proper s here).0
+    pub found : get L.uploads.sessions h.key ≡ Some s
+    found = (session_here L h book proper s here).0
 
-    repo_there : set.contains l.repos s.repo ≡ true
+    repo_there : set.contains L.links.repos s.repo ≡ true
     repo_there = (book.sound.lawful.sessions h.key s found).repo
 
-    pub known : known_tenant l s.repo ≡ Ok h.key.0
+    pub known : known_tenant L.links s.repo ≡ Ok h.key.0
     known = rw (session_owner C book.sound.lawful h.key s found) refl
 
     long : length whole ≡ charged s
-    long = whole_long h proper full_h ∙ sym (here_charged l u slots max_blob h book proper s here)
+    long = whole_long h proper full_h ∙ sym (here_charged L h book proper s here)
 
     whole_small : length whole ≤ 2 ^ 50
     whole_small =
@@ -64,12 +62,12 @@ module _ (l : Linked) (u : Uploaded) (slots : List Slot) (max_blob : ℕ) (h : T
         omega (arith, long, small, most)
 
     -- the sealed blob can be linked
-    pub CanKeep-finished : (blob : Text × Text) → blob ≡ (digest, whole) → CanKeep l slots h.key.0 s.repo blob
-    CanKeep-finished blob is = CanKeep-book l u slots max_blob h.key.0 s.repo blob book known repo_there (rw is whole_small)
+    pub CanKeep-finished : (blob : Text × Text) → blob ≡ (digest, whole) → CanKeep L.links L.slots h.key.0 s.repo blob
+    CanKeep-finished blob is = CanKeep-book L h.key.0 s.repo blob book known repo_there (rw is whole_small)
 
     -- what is reserved, and the whole, were charged
-    pub reserve_charged : h.reserved ≤ slice_index l.charges h.key.0
-    reserve_charged = let small = here_small l u slots max_blob h book proper s here in omega arith
+    pub reserve_charged : h.reserved ≤ slice_index L.links.charges h.key.0
+    reserve_charged = let small = here_small L h book proper s here in omega arith
 
     module _ (agrees : is_digest_of digest whole ≡ true) where
       finish_other_bytes : same_bytes (get C.residents digest) whole ≡ false → finish C h digest ≡ Err DigestInvalid
@@ -79,56 +77,56 @@ module _ (l : Linked) (u : Uploaded) (slots : List Slot) (max_blob : ℕ) (h : T
       finish_full same is_full = rw (here, agrees, same, is_full) refl
 
       -- a blob that can't be linked
-      pub finish_unkept : (e : Refusal) → IsUnkept slots (digest, whole) e → finish C h digest ≡ Err e
+      pub finish_unkept : (e : Refusal) → IsUnkept L.slots (digest, whole) e → finish C h digest ≡ Err e
       finish_unkept e (differs k x place at other is) =
-          let held = held_of slots digest k place in
+          let held = held_of L.slots digest k place in
           let same : held.0 ≡ x = some_same (sym held.1 ∙ at) in
           let named : x.digest ≡ digest = ap (λ (y : Held). y.digest) (sym same) ∙ held.2 in
-          let b = slot_is_resident slots (lent_marks slots) (length-marks slots) book.tied.distinct k x at in
+          let b = slot_is_resident L.slots (lent_marks L.slots) (length-marks L.slots) book.tied.distinct k x at in
           let kept : get C.residents digest ≡ Some b.0 = ap (get C.residents) (sym named) ∙ b.1 in
           let no_match : same_bytes (get C.residents digest) whole ≡ false =
           ap (λ o. same_bytes o whole) kept ∙ false_from_ne_true (same_bytes (Some b.0) whole) (λ match. other (sym b.2 ∙ text_is_same b.0.bytes whole match)) in
           finish_other_bytes no_match ∙ ap Err (sym is)
       finish_unkept e (full none no_slot is) =
-          let absent = not_resident slots (lent_marks slots) digest none in
-          let sum = rooms l u slots (lent_marks slots) max_blob (length-marks slots) book.tied.distinct in
+          let absent = not_resident L.slots (lent_marks L.slots) digest none in
+          let sum = rooms L (lent_marks L.slots) (length-marks L.slots) book.tied.distinct in
           let crowded : nat_le C.slots (len C.residents + C.retired) ≡ true = le-leb C.slots (len C.residents + C.retired) (omega arith) in
           let no_room : is_full_for C digest ≡ true = (λ i. not (is_some (absent i)) && crowded i) in
           finish_full (ap (λ o. same_bytes o whole) absent) no_room ∙ ap Err (sym is)
 
-      module _ (l' : Linked) (slots' : List Slot) (kept : IsKept l slots s.repo (digest, whole) l' slots') where
-        keeps : Keeps l u slots max_blob s.repo (digest, whole) l' slots'
-        keeps = IsKept-Keeps l u slots max_blob s.repo (digest, whole) book.tied book.sound.lawful repo_there l' slots' kept
+      module _ (l' : Linked) (slots' : List Slot) (kept : IsKept L.links L.slots s.repo (digest, whole) l' slots') where
+        keeps : Keeps L s.repo (digest, whole) l' slots'
+        keeps = IsKept-Keeps L s.repo (digest, whole) book.tied book.sound.lawful repo_there l' slots' kept
 
         abbrev l1 : Linked
         l1 = discharge l' h.key.0 (length whole)
 
         abbrev u1 : Uploaded
-        u1 = with_sessions u (remove u.sessions h.key)
+        u1 = with_sessions L.uploads (remove L.uploads.sessions h.key)
 
         abbrev C1 : Catalog
-        C1 = book_catalog l1 u1 slots' max_blob
+        C1 = book_catalog (record L { links = l1; uploads = u1; slots = slots' })
 
         finished_as : finish C h digest ≡ Ok (length whole, C1)
-        finished_as = rw (here, agrees, keeps.same, keeps.housed) (λ i. Ok (length whole, record (sym keeps.catalog i) { sessions = remove u.sessions h.key }))
+        finished_as = rw (here, agrees, keeps.same, keeps.housed) (λ i. Ok (length whole, record (sym keeps.catalog i) { sessions = remove L.uploads.sessions h.key }))
 
-        same_charges : l'.charges ≡ l.charges
+        same_charges : l'.charges ≡ L.links.charges
         same_charges = ap (λ (x : Linked). x.charges) keeps.links
 
-        pub same_tenants : length l'.tenants ≡ length l.tenants
+        pub same_tenants : length l'.tenants ≡ length L.links.tenants
         same_tenants = ap (λ (x : Linked). length x.tenants) keeps.links
 
         pub finish_charged : length whole ≤ slice_index l'.charges h.key.0
         finish_charged =
-            let small = here_small l u slots max_blob h book proper s here in
+            let small = here_small L h book proper s here in
             let counts = whole_long h proper full_h in
             rw same_charges (omega arith)
 
-        sums_after : (v : ℕ) → v < length l.tenants → slice_index (slice_set l.charges h.key.0 (slice_index l.charges h.key.0 - length whole)) v ≡ session_charges_of C1 v
-        sums_after v lt = ap (λ n. slice_index (slice_set l.charges h.key.0 (slice_index l.charges h.key.0 - n)) v) long ∙ sums-gone l u slots max_blob h.key.0 h.key.1 book (here_tenant l u slots max_blob h book proper s here) s found v lt
+        sums_after : (v : ℕ) → v < length L.links.tenants → slice_index (slice_set L.links.charges h.key.0 (slice_index L.links.charges h.key.0 - length whole)) v ≡ session_charges_of C1 v
+        sums_after v lt = ap (λ n. slice_index (slice_set L.links.charges h.key.0 (slice_index L.links.charges h.key.0 - n)) v) long ∙ sums-gone L h.key.0 h.key.1 book (here_tenant L h book proper s here) s found v lt
 
         -- a session that was finished leaves a book
-        finished_book : IsBook l1 u1 slots' max_blob
+        finished_book : IsBook (record L { links = l1; uploads = u1; slots = slots' })
         finished_book = record {
           sound = Sound-after_finish C C1 h digest (length whole) proper full_h finished_as book.sound;
           tied = record { marks = keeps.tied.marks; distinct = keeps.tied.distinct; sizes = keeps.tied.sizes; counts = keeps.tied.counts };
@@ -139,29 +137,30 @@ module _ (l : Linked) (u : Uploaded) (slots : List Slot) (max_blob : ℕ) (h : T
         }
 
         module _ (l'' : Linked) (u'' : Uploaded) (links : l'' ≡ l1) (uploads : u'' ≡ u1) where
-          pub finish_ok : finish C h digest ≡ Ok (length whole, book_catalog l'' u'' slots' max_blob)
-          finish_ok = finished_as ∙ (λ i. Ok (length whole, book_catalog (sym links i) (sym uploads i) slots' max_blob))
+          pub finish_ok : finish C h digest ≡ Ok (length whole, book_catalog (record L { links = l''; uploads = u''; slots = slots' }))
+          finish_ok = finished_as ∙ (λ i. Ok (length whole, book_catalog (record L { links = sym links i; uploads = sym uploads i; slots = slots' })))
 
-          pub IsBook-finish : IsBook l'' u'' slots' max_blob
-          IsBook-finish = subst (λ (x : Linked). IsBook x u'' slots' max_blob) (sym links) (subst (λ (x : Uploaded). IsBook l1 x slots' max_blob) (sym uploads) finished_book)
+          pub IsBook-finish : IsBook (record L { links = l''; uploads = u''; slots = slots' })
+          IsBook-finish = subst (λ (x : Layers). IsBook x) (λ i. record L { links = sym links i; uploads = sym uploads i; slots = slots' }) finished_book
 
     -- ---- a refused finish
 
     abbrev back : Uploaded
-    back = with_sessions u (given_up u.sessions h)
+    back = with_sessions L.uploads (given_up L.uploads.sessions h)
 
-    given : with_sessions u (with_chunks u.sessions h.key s (Home h.chunks)) ≡ back
-    given = ap (λ o. with_sessions u (brought_home u.sessions h o)) (sym here)
+    given : with_sessions L.uploads (with_chunks L.uploads.sessions h.key s (Home h.chunks)) ≡ back
+    given = ap (λ o. with_sessions L.uploads (brought_home L.uploads.sessions h o)) (sym here)
 
     -- the session comes home, and its reserve is discharged
-    pub IsBook-given_back : (l' : Linked) (u' : Uploaded) → l' ≡ discharge l h.key.0 h.reserved → u' ≡ back → IsBook l' u' slots max_blob
+    pub IsBook-given_back : (l' : Linked) (u' : Uploaded) → l' ≡ discharge L.links h.key.0 h.reserved → u' ≡ back → IsBook (record L { links = l'; uploads = u' })
     IsBook-given_back l' u' links uploads =
-        let now = IsBook-home l u slots max_blob h book proper s here h.chunks h.reserved proper.pieces refl in
-        subst (λ (x : Linked). IsBook x u' slots max_blob) (sym links) (subst (λ (x : Uploaded). IsBook (discharge l h.key.0 h.reserved) x slots max_blob) (given ∙ sym uploads) now)
+        let now = IsBook-home L h book proper s here h.chunks h.reserved proper.pieces refl in
+        let home = given ∙ sym uploads in
+        subst (λ (x : Layers). IsBook x) (λ i. record L { links = sym links i; uploads = home i }) now
 
   -- what it leaves is the catalog with the hand given back
-  pub given_back_is : (l' : Linked) (u' : Uploaded) (k : ℕ) → l' ≡ discharge l h.key.0 k → u' ≡ with_sessions u (given_up u.sessions h) → book_catalog l' u' slots max_blob ≡ given_back C h
-  given_back_is l' u' k links uploads = λ i. book_catalog (links i) (uploads i) slots max_blob
+  pub given_back_is : (l' : Linked) (u' : Uploaded) (k : ℕ) → l' ≡ discharge L.links h.key.0 k → u' ≡ with_sessions L.uploads (given_up L.uploads.sessions h) → book_catalog (record L { links = l'; uploads = u' }) ≡ given_back C h
+  given_back_is l' u' k links uploads = λ i. book_catalog (record L { links = links i; uploads = uploads i })
 
 -- why the layer refuses
 pub layer_refused : (u : Uploaded) (h : Taken) (digest : Text) (e : Refusal) → finish_upload u h digest ≡ Err e → (e ≡ UploadUnknown → ⊥) → (s : Session) × (taken_session (get u.sessions h.key) h ≡ Ok s) × (is_digest_of digest (whole_of h) ≡ false) × (e ≡ DigestInvalid)

@@ -14,13 +14,12 @@ use Rattle.pin_core.specs.Events.{new_weight}
 use Rattle.pin_table.specs.Rule.{raised}
 use Rattle.slot_table.specs.declared.phase.Phase.TheVariants as phase
 use Rattle.slot_table.specs.Slots.{Slot, Held, Content, Free, Used, Retired, content_with, held_at, held_in, phase_at, with_slot, on_held, lend}
-use Rattle.link_table.specs.Linked.{Linked, known_tenant}
-use Rattle.upload_table.specs.Uploaded.{Uploaded}
+use Rattle.link_table.specs.Linked.{known_tenant}
 use Rattle.store_book.specs.BookState.{SlotSeen}
 use Rattle.finite_maps.specs.Texts.{Text}
 use Rattle.store_model.specs.Catalog.{Catalog, holds}
 use Rattle.store_book.specs.Internal.Keeping.{linked_slot}
-use Rattle.store_book.specs.Layers.{resident_of, book_catalog, IsBook}
+use Rattle.store_book.specs.Layers.{Layers, resident_of, book_catalog, IsBook}
 use Rattle.store_book.specs.Pinned.{Pinned, IsFull, blob_digest, row_of, seen, all_seen, bounded, lent_on, shown}
 use Rattle.store_book.specs.SlotSteps.{EachSlot, FindsNoRoom, IsCrowded, IsLending}
 use Rattle.store_model.specs.Commands.{lease, with_lent}
@@ -31,36 +30,36 @@ use Rattle.finite_maps.proofs.Options.{some_same}
 use Rattle.store_book.proofs.Slots.Pinned.{index-set-le, index-set-most, length-all_seen, row-at, seen-at}
 use Rattle.store_book.proofs.Slots.Shown.{EachSlot-shown, get-with_looks}
 use Rattle.store_book.proofs.Slots.Writes.{length-with_slot, phase_live, slot_of_held, slot-same, slot-other}
-use Rattle.store_book.proofs.Layers.Ties.{held_of}
+use Rattle.slot_table.proofs.Finding.{held_of}
 
-module _ (l : Linked) (u : Uploaded) (slots : List Slot) (max_blob t : ℕ) (repo digest : Text) (book : IsBook l u slots max_blob) (known : known_tenant l repo ≡ Ok t) where
+module _ (L : Layers) (t : ℕ) (repo digest : Text) (book : IsBook L) (known : known_tenant L.links repo ≡ Ok t) where
   abbrev C : Catalog
-  C = book_catalog l u slots max_blob
+  C = book_catalog L
 
-  pub lease_unknown : linked_slot l slots repo digest ≡ None → lease false C repo digest ≡ Err BlobUnknown
-  lease_unknown none = rw (known, linked_none l u slots max_blob book repo digest none) refl
+  pub lease_unknown : linked_slot L.links L.slots repo digest ≡ None → lease false C repo digest ≡ Err BlobUnknown
+  lease_unknown none = rw (known, linked_none L book repo digest none) refl
 
-  module _ (k : ℕ) (at_slot : linked_slot l slots repo digest ≡ Some k) where
-    abbrev pub held : (h : Held) × (held_at slots k ≡ Some h) × (h.digest ≡ digest)
-    held = held_of slots digest k (linked_some l u slots max_blob book repo digest k at_slot).1
+  module _ (k : ℕ) (at_slot : linked_slot L.links L.slots repo digest ≡ Some k) where
+    abbrev pub held : (h : Held) × (held_at L.slots k ≡ Some h) × (h.digest ≡ digest)
+    held = held_of L.slots digest k (linked_some L book repo digest k at_slot).1
 
     has : holds C repo digest ≡ true
-    has = holds_linked l u slots max_blob book repo digest ∙ (linked_some l u slots max_blob book repo digest k at_slot).0
+    has = holds_linked L book repo digest ∙ (linked_some L book repo digest k at_slot).0
 
-    pub live_there : phase_at slots k ≡ phase.Live
-    live_there = phase_live slots k held.0 held.1 (linked_live l u slots max_blob book repo digest k held.0 held.1 held.2 has)
+    pub live_there : phase_at L.slots k ≡ phase.Live
+    live_there = phase_live L.slots k held.0 held.1 (linked_live L book repo digest k held.0 held.1 held.2 has)
 
     resident : get C.residents digest ≡ Some (resident_of held.0.lent held.0)
-    resident = ap (get C.residents) (sym held.2) ∙ resident_at slots k held.0 held.1 book.tied.distinct
+    resident = ap (get C.residents) (sym held.2) ∙ resident_at L.slots k held.0 held.1 book.tied.distinct
 
     abbrev slots' : List Slot
-    slots' = with_slot slots k (on_held lend)
+    slots' = with_slot L.slots k (on_held lend)
 
     abbrev C' : Catalog
-    C' = book_catalog l u slots' max_blob
+    C' = book_catalog (record L { slots = slots' })
 
     left : C' ≡ with_lent C digest (resident_of held.0.lent held.0)
-    left = catalog-change lend lend-KeepsTies l u slots max_blob k held.0 held.1 book.tied ∙ ap (λ (d : Text). record C { residents = insert C.residents d (resident_of true held.0) }) held.2
+    left = catalog-change lend lend-KeepsTies L k held.0 held.1 book.tied ∙ ap (λ (d : Text). record C { residents = insert C.residents d (resident_of true held.0) }) held.2
 
     pub lease_full : lease true C repo digest ≡ Err TooManyReaders
     lease_full = rw (known, has, resident) refl
@@ -68,33 +67,33 @@ module _ (l : Linked) (u : Uploaded) (slots : List Slot) (max_blob t : ℕ) (rep
     leased : lease false C repo digest ≡ Ok (held.0.bytes, C')
     leased = rw (known, has, resident) (λ i. Ok (held.0.bytes, sym left i))
 
-    leased_book : IsBook l u slots' max_blob
+    leased_book : IsBook (record L { slots = slots' })
     leased_book = record {
       sound = Sound-after_lease C C' false repo digest held.0.bytes leased book.sound;
-      tied = IsTied-change lend lend-KeepsTies l u slots max_blob k held.0 held.1 book.tied;
+      tied = IsTied-change lend lend-KeepsTies L k held.0 held.1 book.tied;
       charges = record { one_each = book.charges.one_each; sums = book.charges.sums };
     }
 
-    pub IsBook-lease : (slots1 : List Slot) → slots1 ≡ slots' → IsBook l u slots1 max_blob
-    IsBook-lease slots1 is = subst (λ (x : List Slot). IsBook l u x max_blob) (sym is) leased_book
+    pub IsBook-lease : (slots1 : List Slot) → slots1 ≡ slots' → IsBook (record L { slots = slots1 })
+    IsBook-lease slots1 is = subst (λ (x : Layers). IsBook x) (λ i. record L { slots = sym is i }) leased_book
 
     -- what was shared is the blob of the digest
-    shared_blob : (blob : Text × Text) → Some blob ≡ option_map (λ (h : Held). (h.digest, h.bytes)) (held_at slots k) → blob ≡ (held.0.digest, held.0.bytes)
+    shared_blob : (blob : Text × Text) → Some blob ≡ option_map (λ (h : Held). (h.digest, h.bytes)) (held_at L.slots k) → blob ≡ (held.0.digest, held.0.bytes)
     shared_blob blob shared = some_same (shared ∙ ap (option_map (λ (h : Held). (h.digest, h.bytes))) held.1)
 
-    pub shared_digest : (blob : Text × Text) → Some blob ≡ option_map (λ (h : Held). (h.digest, h.bytes)) (held_at slots k) → blob_digest blob ≡ digest
+    pub shared_digest : (blob : Text × Text) → Some blob ≡ option_map (λ (h : Held). (h.digest, h.bytes)) (held_at L.slots k) → blob_digest blob ≡ digest
     shared_digest blob shared = ap blob_digest (shared_blob blob shared) ∙ held.2
 
-    pub lease_ok : (slots1 : List Slot) (blob : Text × Text) → slots1 ≡ slots' → Some blob ≡ option_map (λ (h : Held). (h.digest, h.bytes)) (held_at slots k) → lease false C repo digest ≡ Ok (blob.1, book_catalog l u slots1 max_blob)
+    pub lease_ok : (slots1 : List Slot) (blob : Text × Text) → slots1 ≡ slots' → Some blob ≡ option_map (λ (h : Held). (h.digest, h.bytes)) (held_at L.slots k) → lease false C repo digest ≡ Ok (blob.1, book_catalog (record L { slots = slots1 }))
     lease_ok slots1 blob is shared =
         let same = shared_blob blob shared in
-        leased ∙ (λ i. Ok ((sym same i).1, book_catalog l u (sym is i) max_blob))
+        leased ∙ (λ i. Ok ((sym same i).1, book_catalog (record L { slots = sym is i })))
 
     -- the pin has the digest
-    pub lent_digest : (d : Text) → (row (map row_of slots) k).digest ≡ Some d → d ≡ digest
+    pub lent_digest : (d : Text) → (row (map row_of L.slots) k).digest ≡ Some d → d ≡ digest
     lent_digest d has_digest =
-        let s = slot_of_held slots k held.0 held.1 in
-        some_same (sym has_digest ∙ ap (λ (r : PinRow). r.digest) (row-at slots k s.0 s.1) ∙ ap (option_map (λ (h : Held). h.digest)) s.2) ∙ held.2
+        let s = slot_of_held L.slots k held.0 held.1 in
+        some_same (sym has_digest ∙ ap (λ (r : PinRow). r.digest) (row-at L.slots k s.0 s.1) ∙ ap (option_map (λ (h : Held). h.digest)) s.2) ∙ held.2
 
 -- ---- what is seen
 

@@ -11,11 +11,9 @@ use Rattle.pin_core.specs.World.{IsUsed, row, row_word, word_of}
 use Rattle.pin_table.specs.Rule.{raised}
 use Rattle.slot_table.specs.declared.phase.Phase.TheVariants as phase
 use Rattle.slot_table.specs.Slots.{Slot, Held, Content, Free, Used, Retired, held_at, held_in, phase_in}
-use Rattle.link_table.specs.Linked.{Linked}
-use Rattle.upload_table.specs.Uploaded.{Uploaded}
 use Rattle.store_book.specs.BookState.{SlotSeen}
 use Rattle.store_model.specs.Catalog.{Catalog}
-use Rattle.store_book.specs.Layers.{book_catalog, book_state, resident_of, IsBook}
+use Rattle.store_book.specs.Layers.{Layers, book_catalog, book_state, resident_of, IsBook}
 use Rattle.store_book.specs.Pinned.{Looked, Pinned, Verified, pin_phase, row_of, seen, all_seen, bounded, shown, with_looks}
 use Rattle.store_book.specs.SlotSteps.{EachSlot, HasPin, IsStill, ReadsWord, word_phase}
 use Rattle.store_book.proofs.Slots.Changed.{resident_at}
@@ -71,9 +69,9 @@ reads_word p q k n lt each looked =
           ∙ (λ i. Some (record (seen s.0 (looked.bound i)) { looks = once i }));
     }
 
-module _ (l : Linked) (u : Uploaded) (p q : Pinned) (max_blob : ℕ) (h : PinRecord) (book : IsBook l u p.slots max_blob) (verified : Verified h p q) where
+module _ (L : Layers) (p q : Pinned) (h : PinRecord) (book : IsBook (record L { slots = p.slots })) (verified : Verified h p q) where
   abbrev C : Catalog
-  C = book_catalog l u p.slots max_blob
+  C = book_catalog (record L { slots = p.slots })
 
   used_phase : (c : Content) → IsUsed (pin_phase c) → (phase_in c ≡ phase.Live) ⊎ (phase_in c ≡ phase.Condemned)
   used_phase Free used = absurd used
@@ -93,7 +91,7 @@ module _ (l : Linked) (u : Uploaded) (p q : Pinned) (max_blob : ℕ) (h : PinRec
       let here : held_at p.slots h.slot ≡ Some x = ap (λ o. option_map_or (λ (y : Slot). held_in y.content) o None) at ∙ is in
       ap (get C.residents) (sym same) ∙ resident_at p.slots h.slot x here book.tied.distinct
 
-  pub HasPin-verified : HasPin h (book_state l u p max_blob)
+  pub HasPin-verified : HasPin h (book_state C p)
   HasPin-verified =
       let keeps = verified.keeps in
       let there = keeps.there in

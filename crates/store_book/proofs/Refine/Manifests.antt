@@ -10,44 +10,33 @@ use Rattle.blob_digest.specs.Digests.{sha256_text}
 use Rattle.blob_digest.specs.Outcomes.{OutcomeIn}
 use Rattle.finite_maps.specs.Sets as set
 use Rattle.blob_digest.specs.declared.refusal.Refusal.{Refusal}
-use Rattle.blob_digest.specs.declared.refusal.Refusal.TheVariants.{LimitReached, ManifestUnknown, ManifestBlobUnknown}
+use Rattle.blob_digest.specs.declared.refusal.Refusal.TheVariants.{LimitReached, ManifestBlobUnknown}
 use Rattle.finite_maps.proofs.Options.{some_same, some_none, no_value}
-use Rattle.slot_table.specs.Slots.{Slot}
 use Rattle.oci_manifest.specs.Manifests.{IsManifest, refs_of, max_manifest}
 use Rattle.link_table.specs.ManifestTable.{manifests_in}
 use Rattle.link_table.specs.Linked.{Linked, known_tenant, appear, cannot_appear, drop_manifest, put_manifest as put_manifest_on}
-use Rattle.upload_table.specs.Uploaded.{Uploaded}
 use Rattle.finite_maps.specs.Texts.{Text}
 use Rattle.store_model.specs.Catalog.{Catalog}
-use Rattle.store_model.specs.Commands.{put_manifest, get_manifest, delete_manifest, all_linked}
+use Rattle.store_model.specs.Commands.{put_manifest, delete_manifest, all_linked}
 use Rattle.store_book.specs.Internal.Keeping.{all_held, with_manifest_on}
 use Rattle.store_model.specs.Invariant.{Sound}
-use Rattle.store_book.specs.Layers.{book_catalog, IsBook}
+use Rattle.store_book.specs.Layers.{Layers, book_catalog, IsBook}
 use Rattle.store_model.proofs.Invariant.Counts.{count-appear}
 use Rattle.store_book.proofs.Layers.LinkedSlots.{holds_linked}
 use Rattle.store_model.proofs.Commands.Manifests.{Sound-after_put_manifest, Sound-after_delete_manifest}
 
-module _ (l : Linked) (u : Uploaded) (slots : List Slot) (max_blob t : ℕ) (repo digest : Text) (known : known_tenant l repo ≡ Ok t) where
+module _ (L : Layers) (t : ℕ) (repo digest : Text) (known : known_tenant L.links repo ≡ Ok t) where
   abbrev C : Catalog
-  C = book_catalog l u slots max_blob
+  C = book_catalog L
 
   abbrev after : Catalog
-  after = book_catalog (drop_manifest l repo digest) u slots max_blob
+  after = book_catalog (record L { links = drop_manifest L.links repo digest })
 
-  pub get_unknown : get l.manifests (repo, digest) ≡ None → get_manifest C repo digest ≡ Err ManifestUnknown
-  get_unknown none = rw (known, none) refl
-
-  pub get_there : (bytes : Text) → get l.manifests (repo, digest) ≡ Some bytes → get_manifest C repo digest ≡ Ok bytes
-  get_there bytes is = rw (known, is) refl
-
-  pub delete_unknown : get l.manifests (repo, digest) ≡ None → delete_manifest C repo digest ≡ Err ManifestUnknown
-  delete_unknown none = rw (known, none) refl
-
-  pub delete_there : (bytes : Text) → get l.manifests (repo, digest) ≡ Some bytes → delete_manifest C repo digest ≡ Ok (tt, after)
+  pub delete_there : (bytes : Text) → get L.links.manifests (repo, digest) ≡ Some bytes → delete_manifest C repo digest ≡ Ok (tt, after)
   delete_there bytes is = rw (known, is) refl
 
   -- a deleted manifest leaves a book
-  pub IsBook-delete_manifest : (bytes : Text) → get l.manifests (repo, digest) ≡ Some bytes → IsBook l u slots max_blob → IsBook (drop_manifest l repo digest) u slots max_blob
+  pub IsBook-delete_manifest : (bytes : Text) → get L.links.manifests (repo, digest) ≡ Some bytes → IsBook L → IsBook (record L { links = drop_manifest L.links repo digest })
   IsBook-delete_manifest bytes is book = record {
     sound = Sound-after_delete_manifest C after repo digest (delete_there bytes is) book.sound;
     tied = record { marks = book.tied.marks; distinct = book.tied.distinct; sizes = book.tied.sizes; counts = book.tied.counts };
@@ -96,69 +85,69 @@ module _ (l : Linked) (t : ℕ) (repo bytes : Text) where
   pub appeared_put : (l' : Linked) (b : Bool) → appear l t repo ≡ Ok (b, l') → with_manifest_on l t repo bytes ≡ put_manifest_on l' repo bytes
   appeared_put l' b shown = rw shown refl
 
-module _ (l : Linked) (u : Uploaded) (slots : List Slot) (max_blob t : ℕ) (repo bytes : Text) (refs : List Text) (name : Text) (book : IsBook l u slots max_blob) (known : known_tenant l repo ≡ Ok t) (read : IsManifest bytes refs name) where
+module _ (L : Layers) (t : ℕ) (repo bytes : Text) (refs : List Text) (name : Text) (book : IsBook L) (known : known_tenant L.links repo ≡ Ok t) (read : IsManifest bytes refs name) where
   abbrev B : Catalog
-  B = book_catalog l u slots max_blob
+  B = book_catalog L
 
-  linked_is : (digests : List Text) → all_linked B repo digests ≡ all_held l repo digests
+  linked_is : (digests : List Text) → all_linked B repo digests ≡ all_held L.links repo digests
   linked_is [] = refl
-  linked_is (d ∷ digests) = λ i. cond (holds_linked l u slots max_blob book repo d i) (linked_is digests i) (Err (ManifestBlobUnknown d))
+  linked_is (d ∷ digests) = λ i. cond (holds_linked L book repo d i) (linked_is digests i) (Err (ManifestBlobUnknown d))
 
   fits : nat_lt max_manifest (length bytes) ≡ false
   fits = le-ltb max_manifest (length bytes) read.fits
 
-  pub put_unlinked : (e : Refusal) → all_held l repo refs ≡ Err e → put_manifest B repo bytes ≡ Err e
+  pub put_unlinked : (e : Refusal) → all_held L.links repo refs ≡ Err e → put_manifest B repo bytes ≡ Err e
   put_unlinked e is = rw (known, fits, read.named, linked_is refs, is) refl
 
-  module _ (held : all_held l repo refs ≡ Ok tt) where
-    pub put_there : is_some (get l.manifests (repo, name)) ≡ true → put_manifest B repo bytes ≡ Ok (name, B)
+  module _ (held : all_held L.links repo refs ≡ Ok tt) where
+    pub put_there : is_some (get L.links.manifests (repo, name)) ≡ true → put_manifest B repo bytes ≡ Ok (name, B)
     put_there is =
-        let there : is_some (get l.manifests (repo, sha256_text bytes)) ≡ true = ap (λ d. is_some (get l.manifests (repo, d))) (sym read.agrees) ∙ is in
+        let there : is_some (get L.links.manifests (repo, sha256_text bytes)) ≡ true = ap (λ d. is_some (get L.links.manifests (repo, d))) (sym read.agrees) ∙ is in
         rw (known, fits, read.named, linked_is refs, held, there, read.agrees) refl
 
-    module _ (absent : is_some (get l.manifests (repo, name)) ≡ false) where
-      new : get l.manifests (repo, sha256_text bytes) ≡ None
-      new = no_value (get l.manifests (repo, sha256_text bytes)) (ap (λ d. is_some (get l.manifests (repo, d))) (sym read.agrees) ∙ absent)
+    module _ (absent : is_some (get L.links.manifests (repo, name)) ≡ false) where
+      new : get L.links.manifests (repo, sha256_text bytes) ≡ None
+      new = no_value (get L.links.manifests (repo, sha256_text bytes)) (ap (λ d. is_some (get L.links.manifests (repo, d))) (sym read.agrees) ∙ absent)
 
-      pub put_refused : (e : Refusal) → with_manifest_on l t repo bytes ≡ Err e → put_manifest B repo bytes ≡ Err e
-      put_refused e refused = by_room (cannot_appear l t repo) refl
+      pub put_refused : (e : Refusal) → with_manifest_on L.links t repo bytes ≡ Err e → put_manifest B repo bytes ≡ Err e
+      put_refused e refused = by_room (cannot_appear L.links t repo) refl
         where
-          by_count : (full : Bool) → cannot_appear l t repo ≡ false → nat_le 1024 (manifests_in l.manifests repo) ≡ full → put_manifest B repo bytes ≡ Err e
+          by_count : (full : Bool) → cannot_appear L.links t repo ≡ false → nat_le 1024 (manifests_in L.links.manifests repo) ≡ full → put_manifest B repo bytes ≡ Err e
           by_count true room is = rw (known, fits, read.named, linked_is refs, held, new, room, is) (let h = rw (room, new, is) at refused in let same : LimitReached ≡ e = cc in ap Err same)
           by_count false room is = absurd (let h = rw (room, new, is) at refused in cc)
 
-          by_room : (full : Bool) → cannot_appear l t repo ≡ full → put_manifest B repo bytes ≡ Err e
+          by_room : (full : Bool) → cannot_appear L.links t repo ≡ full → put_manifest B repo bytes ≡ Err e
           by_room true is = rw (known, fits, read.named, linked_is refs, held, new, is) (let h = rw is at refused in let same : LimitReached ≡ e = cc in ap Err same)
-          by_room false is = by_count (nat_le 1024 (manifests_in l.manifests repo)) is refl
+          by_room false is = by_count (nat_le 1024 (manifests_in L.links.manifests repo)) is refl
 
       -- what is left: the repository, and in it the manifest
       abbrev l1 : Linked
-      l1 = record l { repos = set.insert l.repos repo; manifests = insert l.manifests (repo, sha256_text bytes) bytes }
+      l1 = record L.links { repos = set.insert L.links.repos repo; manifests = insert L.links.manifests (repo, sha256_text bytes) bytes }
 
-      added : (l' : Linked) → with_manifest_on l t repo bytes ≡ Ok (tt, l') → (cannot_appear l t repo ≡ false) × (nat_le 1024 (manifests_in l.manifests repo) ≡ false) × (l1 ≡ l')
-      added l' done = by_room (cannot_appear l t repo) refl
+      added : (l' : Linked) → with_manifest_on L.links t repo bytes ≡ Ok (tt, l') → (cannot_appear L.links t repo ≡ false) × (nat_le 1024 (manifests_in L.links.manifests repo) ≡ false) × (l1 ≡ l')
+      added l' done = by_room (cannot_appear L.links t repo) refl
         where
-          by_count : (full : Bool) → cannot_appear l t repo ≡ false → nat_le 1024 (manifests_in l.manifests repo) ≡ full → (cannot_appear l t repo ≡ false) × (nat_le 1024 (manifests_in l.manifests repo) ≡ false) × (l1 ≡ l')
+          by_count : (full : Bool) → cannot_appear L.links t repo ≡ false → nat_le 1024 (manifests_in L.links.manifests repo) ≡ full → (cannot_appear L.links t repo ≡ false) × (nat_le 1024 (manifests_in L.links.manifests repo) ≡ false) × (l1 ≡ l')
           by_count true room is = absurd (let h = rw (room, new, is) at done in cc)
           by_count false room is = (room, is, (let h = rw (room, new, is) at done in same_state h))
 
-          by_room : (full : Bool) → cannot_appear l t repo ≡ full → (cannot_appear l t repo ≡ false) × (nat_le 1024 (manifests_in l.manifests repo) ≡ false) × (l1 ≡ l')
+          by_room : (full : Bool) → cannot_appear L.links t repo ≡ full → (cannot_appear L.links t repo ≡ false) × (nat_le 1024 (manifests_in L.links.manifests repo) ≡ false) × (l1 ≡ l')
           by_room true is = absurd (let h = rw is at done in cc)
-          by_room false is = by_count (nat_le 1024 (manifests_in l.manifests repo)) is refl
+          by_room false is = by_count (nat_le 1024 (manifests_in L.links.manifests repo)) is refl
 
-      pub put_ok : (l' : Linked) → with_manifest_on l t repo bytes ≡ Ok (tt, l') → put_manifest B repo bytes ≡ Ok (name, book_catalog l' u slots max_blob)
+      pub put_ok : (l' : Linked) → with_manifest_on L.links t repo bytes ≡ Ok (tt, l') → put_manifest B repo bytes ≡ Ok (name, book_catalog (record L { links = l' }))
       put_ok l' done =
           let a = added l' done in
-          rw (known, fits, read.named, linked_is refs, held, new, a.0, a.1, read.agrees) (λ i. Ok (sha256_text bytes, book_catalog (a.2 i) u slots max_blob))
+          rw (known, fits, read.named, linked_is refs, held, new, a.0, a.1, read.agrees) (λ i. Ok (sha256_text bytes, book_catalog (record L { links = a.2 i })))
 
       -- a manifest that was put leaves a book
-      pub IsBook-put_manifest : (l' : Linked) → with_manifest_on l t repo bytes ≡ Ok (tt, l') → length repo ≤ 255 → IsBook l' u slots max_blob
+      pub IsBook-put_manifest : (l' : Linked) → with_manifest_on L.links t repo bytes ≡ Ok (tt, l') → length repo ≤ 255 → IsBook (record L { links = l' })
       IsBook-put_manifest l' done short =
           let step = put_ok l' done in
           let is = (added l' done).2 in
-          let sound = Sound-after_put_manifest B (book_catalog l' u slots max_blob) repo bytes name step short book.sound in
-          subst (λ (x : Linked). IsBook x u slots max_blob) is (record {
-            sound = subst (λ (x : Linked). Sound (book_catalog x u slots max_blob)) (sym is) sound;
+          let sound = Sound-after_put_manifest B (book_catalog (record L { links = l' })) repo bytes name step short book.sound in
+          subst (λ (x : Linked). IsBook (record L { links = x })) is (record {
+            sound = subst (λ (x : Linked). Sound (book_catalog (record L { links = x }))) (sym is) sound;
             tied = record {
               marks = book.tied.marks;
               distinct = book.tied.distinct;

@@ -10,13 +10,12 @@ use Rattle.finite_maps.specs.Sets as set
 use Rattle.slot_table.specs.declared.phase.Phase.TheVariants as phase
 use Rattle.slot_table.specs.Slots.{Slot, Held, slot_of, held_at, phase_at}
 use Rattle.link_table.specs.Linked.{Linked, known_tenant, appear}
-use Rattle.upload_table.specs.Uploaded.{Uploaded}
 use Rattle.store_model.specs.declared.mount.Mount.TheVariants as mounting
 use Rattle.finite_maps.specs.Texts.{Text}
 use Rattle.store_model.specs.Catalog.{Resident, Catalog, tenant_of, is_of, holds}
 use Rattle.store_model.specs.Commands.{mount, has_source, start, start_instead, link_held, with_link, lacks_room_for}
 use Rattle.store_book.specs.Internal.Keeping.{bytes_at, source_slot, CanKeep, IsKept}
-use Rattle.store_book.specs.Layers.{lent_marks, book_catalog, IsBook}
+use Rattle.store_book.specs.Layers.{Layers, lent_marks, book_catalog, IsBook}
 use Rattle.store_model.proofs.Invariant.Bounds.{held_within, used_small}
 use Rattle.store_model.proofs.Invariant.Counts.{count-appear}
 use Rattle.store_book.proofs.Layers.KeepCalls.{bytes_there}
@@ -24,7 +23,7 @@ use Rattle.store_book.proofs.Layers.CanKeep.{CanKeep-book}
 use Rattle.store_book.proofs.Layers.Keep.{Keeps, IsKept-Keeps, same_residents}
 use Rattle.store_book.proofs.Slots.Lent.{length-marks}
 use Rattle.store_model.proofs.Invariant.Repos.{Lawful-appear, used-appear}
-use Rattle.store_model.proofs.Invariant.NewLink.{is_held}
+use Rattle.store_model.proofs.Invariant.Links.{is_held}
 use Rattle.store_model.proofs.Commands.Mount.{source_of, Sound-after_mount}
 use Rattle.store_book.proofs.Layers.LinkedSlots.{linked_live, source_some, source_none}
 use Rattle.store_book.proofs.Slots.Writes.{phase_live}
@@ -32,24 +31,25 @@ use Rattle.finite_maps.proofs.Outcomes.{some_of_ok}
 use Rattle.store_model.proofs.Commands.Accepted.{tenant_there}
 use Rattle.finite_maps.proofs.Sets.{now}
 use Rattle.store_book.proofs.Refine.Start.{ok_of_if, err_of_if}
-use Rattle.store_book.proofs.Layers.Ties.{held_of, slot_is_resident}
+use Rattle.slot_table.proofs.Finding.{held_of}
+use Rattle.store_book.proofs.Layers.Ties.{slot_is_resident}
 
-module _ (l : Linked) (u : Uploaded) (slots : List Slot) (max_blob t : ℕ) (repo : Text) (book : IsBook l u slots max_blob) (known : known_tenant l repo ≡ Ok t) where
+module _ (L : Layers) (t : ℕ) (repo : Text) (book : IsBook L) (known : known_tenant L.links repo ≡ Ok t) where
   abbrev C : Catalog
-  C = book_catalog l u slots max_blob
+  C = book_catalog L
 
-  name : tenant_of l.tenants repo ≡ Some t
-  name = some_of_ok (tenant_of l.tenants repo) NameUnknown t known
+  name : tenant_of L.links.tenants repo ≡ Some t
+  name = some_of_ok (tenant_of L.links.tenants repo) NameUnknown t known
 
-  in_tenants : t < length l.tenants
-  in_tenants = tenant_there l.tenants repo t name
+  in_tenants : t < length L.links.tenants
+  in_tenants = tenant_there L.links.tenants repo t name
 
   abbrev l0 : Linked
-  l0 = record l { repos = set.insert l.repos repo }
+  l0 = record L.links { repos = set.insert L.links.repos repo }
 
   module _ (short : length repo ≤ 255) (room : lacks_room_for C t repo ≡ false) where
     -- a repository that appears leaves a book
-    IsBook-appear : IsBook l0 u slots max_blob
+    IsBook-appear : IsBook (record L { links = l0 })
     IsBook-appear = record {
       sound = record {
         lawful = Lawful-appear C t repo book.sound.lawful name short room;
@@ -69,9 +69,9 @@ module _ (l : Linked) (u : Uploaded) (slots : List Slot) (max_blob t : ℕ) (rep
     by_source : (b : Bool) → has_source C t digest from ≡ b → mount C repo digest from ≡ (if b then link_held C t repo digest else start_instead C repo)
     by_source b is = rw (known, is) refl
 
-    module _ (none : source_slot l slots t from digest ≡ None) where
+    module _ (none : source_slot L.links L.slots t from digest ≡ None) where
       instead : mount C repo digest from ≡ start_instead C repo
-      instead = by_source false (source_none l u slots max_blob book t from digest none)
+      instead = by_source false (source_none L book t from digest none)
 
       -- a session is opened where there is no source
       pub session_ok : (n : ℕ) (D : Catalog) → start C repo ≡ Ok (n, D) → mount C repo digest from ≡ Ok (mounting.Session n, D)
@@ -80,43 +80,39 @@ module _ (l : Linked) (u : Uploaded) (slots : List Slot) (max_blob t : ℕ) (rep
       pub session_refused : (e : Refusal) → start C repo ≡ Err e → mount C repo digest from ≡ Err e
       session_refused e refused = instead ∙ rw refused refl
 
-    module _ (k : ℕ) (found : source_slot l slots t from digest ≡ Some k) where
-      abbrev source : (has_source C t digest from ≡ true) × (slot_of slots digest ≡ Some k)
-      source = source_some l u slots max_blob book t from digest k found
+    module _ (k : ℕ) (found : source_slot L.links L.slots t from digest ≡ Some k) where
+      abbrev source : (has_source C t digest from ≡ true) × (slot_of L.slots digest ≡ Some k)
+      source = source_some L book t from digest k found
 
       -- a repository of the tenant that holds the blob
       abbrev holder : (q : Text) × (is_of C t q ≡ true) × (holds C q digest ≡ true)
       holder = source_of C t digest from source.0
 
-      -- the source has a slot
-      pub source_slot_of : slot_of slots digest ≡ Some k
-      source_slot_of = source.1
-
       links_it : mount C repo digest from ≡ link_held C t repo digest
       links_it = by_source true source.0
 
       -- a repository that can't appear
-      pub mount_refused_first : (e : Refusal) → appear l t repo ≡ Err e → mount C repo digest from ≡ Err e
+      pub mount_refused_first : (e : Refusal) → appear L.links t repo ≡ Err e → mount C repo digest from ≡ Err e
       mount_refused_first e refused = let a = err_of_if _ _ _ _ refused in links_it ∙ rw a.0 (ap Err a.1)
 
       abbrev blob : Text × Text
-      blob = (digest, bytes_at slots k)
+      blob = (digest, bytes_at L.slots k)
 
-      abbrev held : (h : Held) × (held_at slots k ≡ Some h) × (h.digest ≡ digest)
-      held = held_of slots digest k source.1
+      abbrev held : (h : Held) × (held_at L.slots k ≡ Some h) × (h.digest ≡ digest)
+      held = held_of L.slots digest k source.1
 
       same_bytes_there : held.0.bytes ≡ blob.1
-      same_bytes_there = sym (bytes_there slots k digest source.1)
+      same_bytes_there = sym (bytes_there L.slots k digest source.1)
 
       abbrev resident : (b : Resident) × (get C.residents held.0.digest ≡ Some b) × (b.bytes ≡ held.0.bytes) × (b.condemned ≡ held.0.condemned)
-      resident = slot_is_resident slots (lent_marks slots) (length-marks slots) book.tied.distinct k held.0 held.1
+      resident = slot_is_resident L.slots (lent_marks L.slots) (length-marks L.slots) book.tied.distinct k held.0 held.1
 
       -- its slot is live
       source_live : held.0.condemned ≡ false
-      source_live = linked_live l u slots max_blob book holder.0 digest k held.0 held.1 held.2 holder.2
+      source_live = linked_live L book holder.0 digest k held.0 held.1 held.2 holder.2
 
-      pub live_source : phase_at slots k ≡ phase.Live
-      live_source = phase_live slots k held.0 held.1 source_live
+      pub live_source : phase_at L.slots k ≡ phase.Live
+      live_source = phase_live L.slots k held.0 held.1 source_live
 
       -- the tenant holds the blob, so that it is within its use
       small : length blob.1 ≤ 2 ^ 50
@@ -129,35 +125,35 @@ module _ (l : Linked) (u : Uploaded) (slots : List Slot) (max_blob t : ℕ) (rep
           omega arith
 
       module _ (short : length repo ≤ 255) (room : lacks_room_for C t repo ≡ false) where
-        abbrev book0 : IsBook l0 u slots max_blob
+        abbrev book0 : IsBook (record L { links = l0 })
         book0 = IsBook-appear short room
 
         there0 : set.contains l0.repos repo ≡ true
-        there0 = now nat_list_cmp_total exact_bytes l.repos repo
+        there0 = now nat_list_cmp_total exact_bytes L.links.repos repo
 
-        can0 : CanKeep l0 slots t repo blob
-        can0 = CanKeep-book l0 u slots max_blob t repo blob book0 known there0 small
+        can0 : CanKeep l0 L.slots t repo blob
+        can0 = CanKeep-book (record L { links = l0 }) t repo blob book0 known there0 small
 
-        module _ (l' : Linked) (slots' : List Slot) (kept : IsKept l0 slots repo blob l' slots') where
-          keeps : Keeps l0 u slots max_blob repo blob l' slots'
-          keeps = IsKept-Keeps l0 u slots max_blob repo blob book0.tied book0.sound.lawful there0 l' slots' kept
+        module _ (l' : Linked) (slots' : List Slot) (kept : IsKept l0 L.slots repo blob l' slots') where
+          keeps : Keeps (record L { links = l0 }) repo blob l' slots'
+          keeps = IsKept-Keeps (record L { links = l0 }) repo blob book0.tied book0.sound.lawful there0 l' slots' kept
 
           abbrev C' : Catalog
-          C' = book_catalog l' u slots' max_blob
+          C' = book_catalog (record L { links = l'; slots = slots' })
 
           left : C' ≡ with_link C repo digest
-          left = keeps.catalog ∙ (λ i. record (with_link C repo digest) { residents = same_residents l0 u slots max_blob repo blob book0.tied book0.sound.lawful there0 k held.0 held.1 held.2 same_bytes_there source_live i })
+          left = keeps.catalog ∙ (λ i. record (with_link C repo digest) { residents = same_residents (record L { links = l0 }) repo blob book0.tied book0.sound.lawful there0 k held.0 held.1 held.2 same_bytes_there source_live i })
 
           mounted : mount C repo digest from ≡ Ok (mounting.Mounted, C')
           mounted = links_it ∙ rw room (λ i. Ok (mounting.Mounted, sym left i))
 
-          same_charges : l'.charges ≡ l.charges
+          same_charges : l'.charges ≡ L.links.charges
           same_charges = ap (λ (x : Linked). x.charges) keeps.links
 
-          same_tenants : length l'.tenants ≡ length l.tenants
+          same_tenants : length l'.tenants ≡ length L.links.tenants
           same_tenants = ap (λ (x : Linked). length x.tenants) keeps.links
 
-          mounted_book : IsBook l' u slots' max_blob
+          mounted_book : IsBook (record L { links = l'; slots = slots' })
           mounted_book = record {
             sound = Sound-after_mount C C' repo digest from mounting.Mounted mounted short book.sound;
             tied = keeps.tied;
@@ -168,7 +164,7 @@ module _ (l : Linked) (u : Uploaded) (slots : List Slot) (max_blob t : ℕ) (rep
           }
 
       -- after the repository appeared
-      module _ (l1 : Linked) (is_new : Bool) (appeared : appear l t repo ≡ Ok (is_new, l1)) (short : length repo ≤ 255) where
+      module _ (l1 : Linked) (is_new : Bool) (appeared : appear L.links t repo ≡ Ok (is_new, l1)) (short : length repo ≤ 255) where
         room1 : lacks_room_for C t repo ≡ false
         room1 = (ok_of_if _ _ _ _ appeared).0
 
@@ -176,16 +172,16 @@ module _ (l : Linked) (u : Uploaded) (slots : List Slot) (max_blob t : ℕ) (rep
         appeared_is = let a = ok_of_if _ _ _ _ appeared in λ i. (a.1 i).1
 
         -- the blob can be linked
-        pub can_link : CanKeep l1 slots t repo blob
-        can_link = subst (λ (x : Linked). CanKeep x slots t repo blob) appeared_is (can0 short room1)
+        pub can_link : CanKeep l1 L.slots t repo blob
+        can_link = subst (λ (x : Linked). CanKeep x L.slots t repo blob) appeared_is (can0 short room1)
 
-        module _ (l' : Linked) (slots' : List Slot) (kept : IsKept l1 slots repo blob l' slots') where
-          kept0 : IsKept l0 slots repo blob l' slots'
-          kept0 = subst (λ (x : Linked). IsKept x slots repo blob l' slots') (sym appeared_is) kept
+        module _ (l' : Linked) (slots' : List Slot) (kept : IsKept l1 L.slots repo blob l' slots') where
+          kept0 : IsKept l0 L.slots repo blob l' slots'
+          kept0 = subst (λ (x : Linked). IsKept x L.slots repo blob l' slots') (sym appeared_is) kept
 
-          pub mount_ok : mount C repo digest from ≡ Ok (mounting.Mounted, book_catalog l' u slots' max_blob)
+          pub mount_ok : mount C repo digest from ≡ Ok (mounting.Mounted, book_catalog (record L { links = l'; slots = slots' }))
           mount_ok = mounted short room1 l' slots' kept0
 
           -- a mounted blob leaves a book
-          pub IsBook-mount : IsBook l' u slots' max_blob
+          pub IsBook-mount : IsBook (record L { links = l'; slots = slots' })
           IsBook-mount = mounted_book short room1 l' slots' kept0

@@ -26,7 +26,7 @@ use Rattle.pin_core.specs.Events.{IsOutside}
 use Rattle.store_book.specs.Pinned.{Pinned, shown, with_looks}
 use Rattle.store_book.proofs.Slots.Shown.{shown-opening}
 use Rattle.store_book.proofs.Slots.Pinned.{seen-opening}
-use Rattle.store_book.specs.Layers.{links_of, resident_rows, lent_marks, book_catalog, book_state, IsBook}
+use Rattle.store_book.specs.Layers.{Layers, links_of, resident_rows, lent_marks, book_catalog, book_state, IsBook}
 use Rattle.store_book.specs.Openings.{IsSized, OpensBook}
 use Rattle.store_book.proofs.Slots.Lent.{length-marks}
 use Rattle.store_model.proofs.Commands.Opening.{Sound-opening}
@@ -82,8 +82,11 @@ module _ (tenants : List Tenant) (slots first max_blob : ℕ) where
   abbrev u : Uploaded
   u = uploads.opening (length tenants) 1
 
+  abbrev L : Layers
+  L = record { links = l; uploads = u; slots = new_slots slots first; max_blob = max_blob }
+
   abbrev C : Catalog
-  C = book_catalog l u (new_slots slots first) max_blob
+  C = book_catalog L
 
   pub catalog-opening : C ≡ opening tenants slots max_blob
   catalog-opening = λ i. record {
@@ -99,7 +102,7 @@ module _ (tenants : List Tenant) (slots first max_blob : ℕ) where
     retired = none_retired slots first i;
   }
 
-  pub IsBook-opening : AreTenants tenants → IsSized slots max_blob → IsBook l u (new_slots slots first) max_blob
+  pub IsBook-opening : AreTenants tenants → IsSized slots max_blob → IsBook L
   IsBook-opening are sized = record {
     sound = subst (λ (D : Catalog). Sound D) (sym catalog-opening) (Sound-opening tenants slots max_blob are.limits.some are.limits.few are.rising sized.blobs (recursion_from_All _ tenants are.limits.quotas) sized.some sized.few);
     tied = record {
@@ -130,13 +133,17 @@ module _ (given : List Tenant) (l' : Linked) (u' : Uploaded) (p : Pinned) (t : T
   upload_is : u l'.tenants count first max_blob ≡ u'
   upload_is = sym (uploads_are ∙ ap (λ m. uploads.opening m 1) one_each)
 
-  pub opened_book : IsBook l' u' p.slots max_blob
-  opened_book =
-      subst (λ (x : Linked). IsBook x u' p.slots max_blob) (sym opened.empty)
-      (subst (λ (x : Uploaded). IsBook (links.opening l'.tenants) x p.slots max_blob) upload_is
-      (subst (λ (x : List Slot). IsBook (links.opening l'.tenants) (uploads.opening (length l'.tenants) 1) x max_blob) slots_are (IsBook-opening l'.tenants count first max_blob opened.tenants sized)))
+  -- the layers of a new book
+  abbrev made_layers : Layers
+  made_layers = record { links = l'; uploads = u'; slots = p.slots; max_blob = max_blob }
 
-  pub opens_book : OpensBook given count max_blob first (book_state l' u' p max_blob)
+  layers_are : L l'.tenants count first max_blob ≡ made_layers
+  layers_are = λ i. record { links = sym opened.empty i; uploads = upload_is i; slots = slots_are i; max_blob = max_blob }
+
+  pub opened_book : IsBook made_layers
+  opened_book = subst (λ (x : Layers). IsBook x) layers_are (IsBook-opening l'.tenants count first max_blob opened.tenants sized)
+
+  pub opens_book : OpensBook given count max_blob first (book_state (book_catalog made_layers) p)
   opens_book = record {
     names = opened.names;
     limits = opened.limits;
@@ -144,7 +151,7 @@ module _ (given : List Tenant) (l' : Linked) (u' : Uploaded) (p : Pinned) (t : T
     catalog = record {
       same = opened.same;
       rising = opened.tenants.rising;
-      empty = (λ i. book_catalog (opened.empty i) (sym upload_is i) (sym slots_are i) max_blob) ∙ catalog-opening l'.tenants count first max_blob;
+      empty = ap book_catalog (sym layers_are) ∙ catalog-opening l'.tenants count first max_blob;
     };
     slots = ap shown made ∙ ap (with_looks (replicate count 0)) (seen-opening count first) ∙ shown-opening count _;
   }

@@ -14,19 +14,19 @@ use Rattle.finite_maps.proofs.Lists.{all_weaker, is_true, flat_map-same, all_sam
 use Rattle.finite_maps.specs.Sets as set
 use Rattle.blob_digest.proofs.KeyOrders.{link_cmp_total, exact_link}
 use Rattle.finite_maps.proofs.Rows.{found_value}
-use Rattle.slot_table.specs.Slots.{Slot, Held, slot_of, links_at}
+use Rattle.slot_table.specs.Slots.{Held, slot_of, links_at}
 use Rattle.link_table.specs.ManifestTable.{manifests_on}
-use Rattle.link_table.specs.Linked.{Linked, Tenant, used_in, blobs_in, repos_of}
+use Rattle.link_table.specs.Linked.{Tenant, used_in, blobs_in, repos_of}
 use Rattle.finite_maps.proofs.Sorted.{IsApart-sorted, entries-sorted}
 use Rattle.store_model.specs.Sessions.{listed, sessions_of}
-use Rattle.upload_table.specs.Uploaded.{Uploaded}
 use Rattle.finite_maps.specs.Texts.{Text, same_text}
 use Rattle.store_model.specs.Catalog.{Link, Resident, Catalog, is_of, link_cmp, used, size, count}
-use Rattle.store_book.specs.Layers.{links_of, lent_marks, book_catalog, IsBook}
+use Rattle.store_book.specs.Layers.{Layers, links_of, lent_marks, book_catalog, IsBook}
 use Rattle.store_book.specs.Internal.Lines.{CanPrint, blob_row, links_to, session_row, repo_rows, tenant_rows, book_rows}
 use Rattle.store_model.specs.BookText.{blob_line, blob_text, book_line, book_text, end_line, manifest_row, manifest_text, repo_text, repository_line, tenant_line, tenant_text}
 use Rattle.store_book.proofs.Refine.Take.{use_is}
-use Rattle.store_book.proofs.Layers.Ties.{held_of, not_resident}
+use Rattle.slot_table.proofs.Finding.{held_of}
+use Rattle.store_book.proofs.Layers.Ties.{not_resident}
 
 -- ---- lists
 
@@ -77,54 +77,54 @@ blobs_same f g repo (e ∷ es) same = by_test (same_text e.0.0 repo) (blobs_same
 
 -- ---- the book
 
-module _ (l : Linked) (u : Uploaded) (slots : List Slot) (max_blob : ℕ) (book : IsBook l u slots max_blob) where
+module _ (L : Layers) (book : IsBook L) where
   abbrev C : Catalog
-  C = book_catalog l u slots max_blob
+  C = book_catalog L
 
-  counted : (d : Text) (b : Resident) → get C.residents d ≡ Some b → links_to slots d ≡ count C d
-  counted d b kept = by_slot (slot_of slots d) refl
+  counted : (d : Text) (b : Resident) → get C.residents d ≡ Some b → links_to L.slots d ≡ count C d
+  counted d b kept = by_slot (slot_of L.slots d) refl
     where
-      by_slot : (o : Option ℕ) → slot_of slots d ≡ o → option_map_or (links_at slots) o 0 ≡ count C d
-      by_slot None none = absurd (let gone = sym kept ∙ not_resident slots (lent_marks slots) d none in cc)
+      by_slot : (o : Option ℕ) → slot_of L.slots d ≡ o → option_map_or (links_at L.slots) o 0 ≡ count C d
+      by_slot None none = absurd (let gone = sym kept ∙ not_resident L.slots (lent_marks L.slots) d none in cc)
       by_slot (Some k) found =
-          let h = held_of slots d k found in
+          let h = held_of L.slots d k found in
           ap (λ (o : Option Held). option_map_or (λ h. h.links) o 0) h.1 ∙ book.tied.counts k h.0 h.1 ∙ ap (count C) h.2
 
-  linked : (e : Link × ℕ) → get l.links e.0 ≡ Some e.1 → blob_row slots (e.0.1, e.1) ≡ blob_text C e.0
+  linked : (e : Link × ℕ) → get L.links.links e.0 ≡ Some e.1 → blob_row L.slots (e.0.1, e.1) ≡ blob_text C e.0
   linked e there =
       let b = book.tied.sizes e.0 e.1 there in
       let length_is : e.1 ≡ size C e.0.1 = b.2 ∙ ap (λ o. option_map_or (λ (b : Resident). length b.bytes) o 0) (sym b.1) in
-      let links_are : links_to slots e.0.1 ≡ count C e.0.1 = counted e.0.1 b.0 b.1 in
+      let links_are : links_to L.slots e.0.1 ≡ count C e.0.1 = counted e.0.1 b.0 b.1 in
       λ i. blob_line e.0.1 (length_is i) (links_are i)
 
-  blobs_are : (repo : Text) → flat_map (blob_row slots) (blobs_in l repo) ≡ flat_map (blob_text C) (filter (λ l. same_text l.0 repo) (set.items C.links))
+  blobs_are : (repo : Text) → flat_map (blob_row L.slots) (blobs_in L.links repo) ≡ flat_map (blob_text C) (filter (λ l. same_text l.0 repo) (set.items C.links))
   blobs_are repo =
-      blobs_same (blob_row slots) (blob_text C) repo (entries l.links) (all_weaker (λ e. get l.links e.0 ≡ Some e.1) (λ e. blob_row slots (e.0.1, e.1) ≡ blob_text C e.0) linked (entries l.links) (each_found l.links))
-      ∙ ap (λ (ls : List Link). flat_map (blob_text C) (filter (λ l. same_text l.0 repo) ls)) (sym (items_links l.links))
+      blobs_same (blob_row L.slots) (blob_text C) repo (entries L.links.links) (all_weaker (λ e. get L.links.links e.0 ≡ Some e.1) (λ e. blob_row L.slots (e.0.1, e.1) ≡ blob_text C e.0) linked (entries L.links.links) (each_found L.links.links))
+      ∙ ap (λ (ls : List Link). flat_map (blob_text C) (filter (λ l. same_text l.0 repo) ls)) (sym (items_links L.links.links))
 
-  manifests_are : (repo : Text) → flat_map manifest_row (manifests_on l.manifests repo) ≡ flat_map manifest_text (filter (λ e. same_text e.0.0 repo) (entries C.manifests))
-  manifests_are repo = flat_map-map manifest_row (λ e. (e.0.1, e.1)) (filter (λ e. same_text e.0.0 repo) (entries l.manifests))
+  manifests_are : (repo : Text) → flat_map manifest_row (manifests_on L.links.manifests repo) ≡ flat_map manifest_text (filter (λ e. same_text e.0.0 repo) (entries C.manifests))
+  manifests_are repo = flat_map-map manifest_row (λ e. (e.0.1, e.1)) (filter (λ e. same_text e.0.0 repo) (entries L.links.manifests))
 
-  repo_is : (t : ℕ) (repo : Text) → repo_rows l u slots t repo ≡ repo_text C t repo
-  repo_is t repo = λ i. repository_line repo ++ blobs_are repo i ++ manifests_are repo i ++ flat_map-map session_row listed (sessions_of u.sessions t repo) i
+  repo_is : (t : ℕ) (repo : Text) → repo_rows L.links L.uploads L.slots t repo ≡ repo_text C t repo
+  repo_is t repo = λ i. repository_line repo ++ blobs_are repo i ++ manifests_are repo i ++ flat_map-map session_row listed (sessions_of L.uploads.sessions t repo) i
 
-  tenant_is : (e : ℕ × Tenant) → e.0 < length l.tenants → tenant_rows l u slots e ≡ tenant_text C e
+  tenant_is : (e : ℕ × Tenant) → e.0 < length L.links.tenants → tenant_rows L.links L.uploads L.slots e ≡ tenant_text C e
   tenant_is e there =
-      let repos_are : flat_map (repo_rows l u slots e.0) (repos_of l e.0) ≡ flat_map (repo_text C e.0) (repos_of l e.0) =
-      flat_map-same (repo_rows l u slots e.0) (repo_text C e.0) (repos_of l e.0) (all_same (λ r. repo_rows l u slots e.0 r ≡ repo_text C e.0 r) (repo_is e.0) (repos_of l e.0)) in
-      let used_is : used_in l e.0 ≡ used C e.0 = use_is l u slots max_blob e.0 book there in
-      λ i. tenant_line e.1.name (used_is i) e.1.quota (slice_index u.next e.0) ++ repos_are i
+      let repos_are : flat_map (repo_rows L.links L.uploads L.slots e.0) (repos_of L.links e.0) ≡ flat_map (repo_text C e.0) (repos_of L.links e.0) =
+      flat_map-same (repo_rows L.links L.uploads L.slots e.0) (repo_text C e.0) (repos_of L.links e.0) (all_same (λ r. repo_rows L.links L.uploads L.slots e.0 r ≡ repo_text C e.0 r) (repo_is e.0) (repos_of L.links e.0)) in
+      let used_is : used_in L.links e.0 ≡ used C e.0 = use_is L e.0 book there in
+      λ i. tenant_line e.1.name (used_is i) e.1.quota (slice_index L.uploads.next e.0) ++ repos_are i
 
   -- the layers' lines are the book's text
-  pub text_is : book_rows l u slots ≡ book_text C
+  pub text_is : book_rows L.links L.uploads L.slots ≡ book_text C
   text_is =
       ap (λ (t : Text). book_line ++ t ++ end_line)
-      (flat_map-same (tenant_rows l u slots) (tenant_text C) (enumerate_from 0 l.tenants)
-      (all_weaker (λ e. e.0 < length l.tenants) (λ e. tenant_rows l u slots e ≡ tenant_text C e) tenant_is (enumerate_from 0 l.tenants) (numbers_below l.tenants 0 (length l.tenants) (omega arith))))
+      (flat_map-same (tenant_rows L.links L.uploads L.slots) (tenant_text C) (enumerate_from 0 L.links.tenants)
+      (all_weaker (λ e. e.0 < length L.links.tenants) (λ e. tenant_rows L.links L.uploads L.slots e ≡ tenant_text C e) tenant_is (enumerate_from 0 L.links.tenants) (numbers_below L.links.tenants 0 (length L.links.tenants) (omega arith))))
 
   -- a book can be printed
-  pub can_print : CanPrint l u
+  pub can_print : CanPrint L.links L.uploads
   can_print = record {
     next = book.sound.lawful.numbering.one_each;
-    repos = λ t. let few = book.sound.lawful.repositories.few t in let same = length-filter (is_of C t) (set.items l.repos) in omega arith;
+    repos = λ t. let few = book.sound.lawful.repositories.few t in let same = length-filter (is_of C t) (set.items L.links.repos) in omega arith;
   }

@@ -1,18 +1,15 @@
 -- `Book::put_back`, and what a refused `Book::finish` leaves.
-use Rattle.std.proofs.Common.{◌≡◌, ◌≢◌, ℕ, ◌+◌, ◌-◌, ◌<◌, ◌≤◌, List, [], length, Some, Result, Ok, Err, refl, sym, ap, ◌∙◌, subst, arith}
+use Rattle.std.proofs.Common.{◌≡◌, ◌≢◌, ℕ, ◌+◌, ◌-◌, ◌<◌, ◌≤◌, List, [], length, Some, Result, Ok, refl, sym, ap, ◌∙◌, subst, arith}
 use Rattle.std.specs.Prelude.{slice_index}
 use Rattle.std.specs.List.{AllByRecursion, sum_by}
 use Rattle.std.specs.FinMap.{get}
 use Rattle.blob_digest.specs.declared.refusal.Refusal.{Refusal}
-use Rattle.slot_table.specs.Slots.{Slot}
 use Rattle.link_table.specs.Linked.{Linked, discharge}
-use Rattle.store_model.specs.Sessions.{Home, InHand, Session, Sessions, Taken, charged, chunks_of, put_back_in, taken_session, with_chunks}
+use Rattle.store_model.specs.Sessions.{Home, InHand, Session, Taken, charged, chunks_of, put_back_in, taken_session, with_chunks}
 use Rattle.upload_table.specs.Uploaded.{Uploaded, put_back_upload, with_sessions}
 use Rattle.finite_maps.specs.Texts.{Text}
 use Rattle.store_model.specs.Catalog.{Catalog}
-use Rattle.finite_maps.specs.Outcomes.{◌>>=◌}
-use Rattle.store_model.specs.Commands.{put_back}
-use Rattle.store_book.specs.Layers.{book_catalog, IsBook}
+use Rattle.store_book.specs.Layers.{Layers, book_catalog, IsBook}
 use Rattle.store_book.proofs.Layers.ChunkCharges.{IsBook-chunks}
 use Rattle.store_model.proofs.Commands.Hands.{all_chunks, spare, spare_is, taken_found, IsProper}
 use Rattle.finite_maps.proofs.Outcomes.{bound_ok}
@@ -22,59 +19,46 @@ use Rattle.store_model.proofs.Invariant.SessionTenants.{session_tenant}
 snd_of : {A B : Type 0} {x y : A} {u v : B} → ◌≡◌ {A = Result (A × B) Refusal} (Ok (x, u)) (Ok (y, v)) → (x ≡ y) × (u ≡ v)
 snd_of {A} {B} {x} {y} {u} {v} e = let p : ◌≡◌ {A = A × B} (x, u) (y, v) = cc in (λ i. (p i).0, λ i. (p i).1)
 
-module _ (l : Linked) (u : Uploaded) (slots : List Slot) (max_blob : ℕ) (h : Taken) where
+module _ (L : Layers) (h : Taken) where
   abbrev C : Catalog
-  C = book_catalog l u slots max_blob
+  C = book_catalog L
 
-  pub put_back_refused : (e : Refusal) → put_back_upload u h ≡ Err e → put_back C h ≡ Err e
-  put_back_refused e refused = by (put_back_in u.sessions h) refused
-    where
-      by : (x : Result (ℕ × Sessions) Refusal) → ◌>>=◌ {B = ℕ × Uploaded} x (λ back. Ok (back.0, with_sessions u back.1)) ≡ Err e → ◌>>=◌ {B = ℕ × Catalog} x (λ back. Ok (back.0, record C { sessions = back.1 })) ≡ Err e
-      by (Ok back) h = absurd cc
-      by (Err d) h = let same : d ≡ e = cc in ap (λ (r : Refusal). Err r) same
-
-  pub put_back_ok : (n : ℕ) (u' : Uploaded) (l' : Linked) (k : ℕ) → put_back_upload u h ≡ Ok (n, u') → l' ≡ discharge l h.key.0 k → put_back C h ≡ Ok (n, book_catalog l' u' slots max_blob)
-  put_back_ok n u' l' k back links =
-      let a = bound_ok (put_back_in u.sessions h) _ (n, u') back in
-      let p = snd_of a.2 in
-      rw a.1 (λ i. Ok (p.0 i, book_catalog (sym links i) (p.1 i) slots max_blob))
-
-  module _ (book : IsBook l u slots max_blob) (proper : IsProper h) (s : Session) (here : taken_session (get u.sessions h.key) h ≡ Ok s) where
-    pub session_here : (get u.sessions h.key ≡ Some s) × (s.chunks ≡ InHand (sum_by length h.chunks) h.reserved)
-    session_here = taken_found (get u.sessions h.key) h s here
+  module _ (book : IsBook L) (proper : IsProper h) (s : Session) (here : taken_session (get L.uploads.sessions h.key) h ≡ Ok s) where
+    pub session_here : (get L.uploads.sessions h.key ≡ Some s) × (s.chunks ≡ InHand (sum_by length h.chunks) h.reserved)
+    session_here = taken_found (get L.uploads.sessions h.key) h s here
 
     pub here_charged : charged s ≡ sum_by length h.chunks + h.reserved
     here_charged = rw session_here.1 refl
 
-    pub here_tenant : h.key.0 < length l.tenants
+    pub here_tenant : h.key.0 < length L.links.tenants
     here_tenant = session_tenant C book.sound.lawful h.key s session_here.0
 
     -- what a session in hand counts was charged
-    pub here_small : sum_by length h.chunks + h.reserved ≤ slice_index l.charges h.key.0
-    here_small = let counts = here_charged in let was = session_charged l u slots max_blob h.key.0 h.key.1 book here_tenant s session_here.0 in omega arith
+    pub here_small : sum_by length h.chunks + h.reserved ≤ slice_index L.links.charges h.key.0
+    here_small = let counts = here_charged in let was = session_charged L h.key.0 h.key.1 book here_tenant s session_here.0 in omega arith
 
     -- chunks that come home, and what they don't fill of the reserve discharged, leave a book
     pub IsBook-home : (chunks : List Text) (k : ℕ) → AllByRecursion (λ c. c ≢ []) chunks → sum_by length chunks + k ≡ sum_by length h.chunks + h.reserved →
-        IsBook (discharge l h.key.0 k) (with_sessions u (with_chunks u.sessions h.key s (Home chunks))) slots max_blob
+        IsBook (record L { links = discharge L.links h.key.0 k; uploads = with_sessions L.uploads (with_chunks L.uploads.sessions h.key s (Home chunks)) })
     IsBook-home chunks k nonempty sum =
         let was = here_charged in
         let most = here_small in
         let small = (book.sound.lawful.sessions h.key s session_here.0).small in
         let counts : charged (record s { chunks = Home chunks }) ≡ sum_by length chunks = omega arith in
-        IsBook-chunks l u slots max_blob book h.key s (Home chunks) session_here.0 (slice_index l.charges h.key.0 - k) (omega (arith, was, most, counts, sum)) nonempty (omega (arith, was, small, counts, sum))
+        IsBook-chunks L book h.key s (Home chunks) session_here.0 (slice_index L.links.charges h.key.0 - k) (omega (arith, was, most, counts, sum)) nonempty (omega (arith, was, small, counts, sum))
         (λ there. let keeps = book.sound.quotas h.key.0 there in omega (arith, was, counts, sum, keeps))
 
-  module _ (book : IsBook l u slots max_blob) (proper : IsProper h) where
-    met : (n : ℕ) (u' : Uploaded) → put_back_upload u h ≡ Ok (n, u') → (s : Session) × (taken_session (get u.sessions h.key) h ≡ Ok s) × (with_sessions u (with_chunks u.sessions h.key s (Home (chunks_of h))) ≡ u')
+  module _ (book : IsBook L) (proper : IsProper h) where
+    met : (n : ℕ) (u' : Uploaded) → put_back_upload L.uploads h ≡ Ok (n, u') → (s : Session) × (taken_session (get L.uploads.sessions h.key) h ≡ Ok s) × (with_sessions L.uploads (with_chunks L.uploads.sessions h.key s (Home (chunks_of h))) ≡ u')
     met n u' back =
-        let a = bound_ok (put_back_in u.sessions h) _ (n, u') back in
-        let b = bound_ok (taken_session (get u.sessions h.key) h) _ a.0 a.1 in
-        (b.0, b.1, ap (with_sessions u) (snd_of b.2).1 ∙ (snd_of a.2).1)
+        let a = bound_ok (put_back_in L.uploads.sessions h) _ (n, u') back in
+        let b = bound_ok (taken_session (get L.uploads.sessions h.key) h) _ a.0 a.1 in
+        (b.0, b.1, ap (with_sessions L.uploads) (snd_of b.2).1 ∙ (snd_of a.2).1)
 
-    pub put_back_tenant : (n : ℕ) (u' : Uploaded) → put_back_upload u h ≡ Ok (n, u') → h.key.0 < length l.tenants
+    pub put_back_tenant : (n : ℕ) (u' : Uploaded) → put_back_upload L.uploads h ≡ Ok (n, u') → h.key.0 < length L.links.tenants
     put_back_tenant n u' back = let p = met n u' back in here_tenant book proper p.0 p.1
 
-    pub put_back_charged : (n : ℕ) (u' : Uploaded) → put_back_upload u h ≡ Ok (n, u') → spare h ≤ slice_index l.charges h.key.0
+    pub put_back_charged : (n : ℕ) (u' : Uploaded) → put_back_upload L.uploads h ≡ Ok (n, u') → spare h ≤ slice_index L.links.charges h.key.0
     put_back_charged n u' back =
         let p = met n u' back in
         let most = here_small book proper p.0 p.1 in
@@ -82,8 +66,8 @@ module _ (l : Linked) (u : Uploaded) (slots : List Slot) (max_blob : ℕ) (h : T
         omega arith
 
     -- a hand that was put back leaves a book
-    pub IsBook-put_back : (n : ℕ) (u' : Uploaded) (l' : Linked) → put_back_upload u h ≡ Ok (n, u') → l' ≡ discharge l h.key.0 (spare h) → IsBook l' u' slots max_blob
+    pub IsBook-put_back : (n : ℕ) (u' : Uploaded) (l' : Linked) → put_back_upload L.uploads h ≡ Ok (n, u') → l' ≡ discharge L.links h.key.0 (spare h) → IsBook (record L { links = l'; uploads = u' })
     IsBook-put_back n u' l' back links =
         let p = met n u' back in
         let now = IsBook-home book proper p.0 p.1 (chunks_of h) (spare h) (all_chunks h proper) (spare_is h proper) in
-        subst (λ (x : Linked). IsBook x u' slots max_blob) (sym links) (subst (λ (x : Uploaded). IsBook (discharge l h.key.0 (spare h)) x slots max_blob) p.2 now)
+        subst (λ (x : Layers). IsBook x) (λ i. record L { links = sym links i; uploads = p.2 i }) now

@@ -9,7 +9,7 @@ use Rattle.std.proofs.lemmas.Map.Lookups.{exact_bytes}
 use Rattle.finite_maps.proofs.Options.{not_some}
 use Rattle.blob_digest.specs.declared.refusal.Refusal.{Refusal}
 use Rattle.finite_maps.specs.Sets as set
-use Rattle.finite_maps.proofs.Sets.{insert_there, remove-insert, now}
+use Rattle.finite_maps.proofs.Sets.{insert_there, remove-insert}
 use Rattle.slot_table.specs.Slots.{Slot}
 use Rattle.link_table.specs.Linked.{Linked, HasNoLinks, known_tenant, appear, vanish}
 use Rattle.upload_table.specs.Uploaded.{Uploaded, start_upload, started}
@@ -17,11 +17,11 @@ use Rattle.finite_maps.specs.Texts.{Text}
 use Rattle.store_model.specs.Catalog.{Catalog, session_charges_of}
 use Rattle.store_model.specs.Commands.{start}
 use Rattle.store_model.specs.Invariant.{Sound}
-use Rattle.store_book.specs.Layers.{book_catalog, IsBook}
+use Rattle.store_book.specs.Layers.{Layers, book_catalog, IsBook}
 use Rattle.store_book.proofs.Layers.Sums.{get-links_of, mark}
 use Rattle.store_model.proofs.Invariant.Counts.{count-appear}
 use Rattle.store_model.proofs.Invariant.Repos.{holds_none}
-use Rattle.store_model.proofs.Invariant.NewSession.{used-open}
+use Rattle.store_model.proofs.Invariant.Sessions.{used-open}
 use Rattle.store_model.proofs.Commands.Start.{Sound-after_start}
 
 module _ {A E : Type 0} where
@@ -34,12 +34,15 @@ module _ {A E : Type 0} where
   err_of_if false d e x h = absurd cc
 
 -- layers that are as they were
-module _ (l l' : Linked) (u u' : Uploaded) (slots slots' : List Slot) (max_blob : ℕ) (links : l' ≡ l) (uploads : u' ≡ u) (slots_are : slots' ≡ slots) where
-  pub same_catalog : book_catalog l' u' slots' max_blob ≡ book_catalog l u slots max_blob
-  same_catalog = λ i. book_catalog (links i) (uploads i) (slots_are i) max_blob
+module _ (L : Layers) (l' : Linked) (u' : Uploaded) (slots' : List Slot) (links : l' ≡ L.links) (uploads : u' ≡ L.uploads) (slots_are : slots' ≡ L.slots) where
+  abbrev same_layers : record L { links = l'; uploads = u'; slots = slots' } ≡ L
+  same_layers = λ i. record L { links = links i; uploads = uploads i; slots = slots_are i }
 
-  pub same_book : IsBook l u slots max_blob → IsBook l' u' slots' max_blob
-  same_book book = subst (λ (x : Linked). IsBook x u' slots' max_blob) (sym links) (subst (λ (x : Uploaded). IsBook l x slots' max_blob) (sym uploads) (subst (λ (x : List Slot). IsBook l u x max_blob) (sym slots_are) book))
+  pub same_catalog : book_catalog (record L { links = l'; uploads = u'; slots = slots' }) ≡ book_catalog L
+  same_catalog = ap book_catalog same_layers
+
+  pub same_book : IsBook L → IsBook (record L { links = l'; uploads = u'; slots = slots' })
+  same_book book = subst (λ (x : Layers). IsBook x) (sym same_layers) book
 
 module _ (l l' : Linked) (t : ℕ) (repo : Text) (b : Bool) (appeared : appear l t repo ≡ Ok (b, l')) where
   -- what appeared is taken back
@@ -55,42 +58,42 @@ module _ (l l' : Linked) (t : ℕ) (repo : Text) (b : Bool) (appeared : appear l
       let there : set.contains l.repos repo ≡ true = not-false _ ((λ i. (a.1 i).0) ∙ old) in
       sym (λ i. (a.1 i).1) ∙ (λ i. record l { repos = insert_there nat_list_cmp_total exact_bytes l.repos repo there i })
 
-module _ (l l' : Linked) (u : Uploaded) (slots : List Slot) (max_blob t : ℕ) (repo : Text) (b : Bool) where
+module _ (L : Layers) (l' : Linked) (t : ℕ) (repo : Text) (b : Bool) where
   abbrev C : Catalog
-  C = book_catalog l u slots max_blob
+  C = book_catalog L
 
-  pub start_ok : (u' : Uploaded) (n : ℕ) → known_tenant l repo ≡ Ok t → appear l t repo ≡ Ok (b, l') → start_upload u t repo ≡ Ok (n, u') →
-      start C repo ≡ Ok (n, book_catalog l' u' slots max_blob)
+  pub start_ok : (u' : Uploaded) (n : ℕ) → known_tenant L.links repo ≡ Ok t → appear L.links t repo ≡ Ok (b, l') → start_upload L.uploads t repo ≡ Ok (n, u') →
+      start C repo ≡ Ok (n, book_catalog (record L { links = l'; uploads = u' }))
   start_ok u' n known appeared opened =
       let a = ok_of_if _ _ _ _ appeared in
       let s = ok_of_if _ _ _ _ opened in
-      rw (known, a.0, s.0) (λ i. Ok ((s.1 i).0, book_catalog ((a.1 i).1) ((s.1 i).1) slots max_blob))
+      rw (known, a.0, s.0) (λ i. Ok ((s.1 i).0, book_catalog (record L { links = (a.1 i).1; uploads = (s.1 i).1 })))
 
-  pub start_refused_first : (e : Refusal) → known_tenant l repo ≡ Ok t → appear l t repo ≡ Err e → start C repo ≡ Err e
+  pub start_refused_first : (e : Refusal) → known_tenant L.links repo ≡ Ok t → appear L.links t repo ≡ Err e → start C repo ≡ Err e
   start_refused_first e known refused =
       let a = err_of_if _ _ _ _ refused in
       rw (known, a.0) (ap Err a.1)
 
-  pub start_refused : (e : Refusal) → known_tenant l repo ≡ Ok t → appear l t repo ≡ Ok (b, l') → start_upload u t repo ≡ Err e → start C repo ≡ Err e
+  pub start_refused : (e : Refusal) → known_tenant L.links repo ≡ Ok t → appear L.links t repo ≡ Ok (b, l') → start_upload L.uploads t repo ≡ Err e → start C repo ≡ Err e
   start_refused e known appeared refused =
       let a = ok_of_if _ _ _ _ appeared in
       let s = err_of_if _ _ _ _ refused in
       rw (known, a.0, s.0) (ap Err s.1)
 
-  module _ (book : IsBook l u slots max_blob) where
+  module _ (book : IsBook L) where
     abbrev l1 : Linked
-    l1 = record l { repos = set.insert l.repos repo }
+    l1 = record L.links { repos = set.insert L.links.repos repo }
 
     abbrev u1 : Uploaded
-    u1 = started u t repo
+    u1 = started L.uploads t repo
 
     abbrev C1 : Catalog
-    C1 = book_catalog l1 u1 slots max_blob
+    C1 = book_catalog (record L { links = l1; uploads = u1 })
 
     same_sessions : (v : ℕ) → session_charges_of C1 v ≡ session_charges_of C v
     same_sessions v = let same = used-open C t repo book.sound.lawful v in omega arith
 
-    opened_book : Sound C1 → IsBook l1 u1 slots max_blob
+    opened_book : Sound C1 → IsBook (record L { links = l1; uploads = u1 })
     opened_book sound = record {
       sound = sound;
       tied = record {
@@ -103,30 +106,24 @@ module _ (l l' : Linked) (u : Uploaded) (slots : List Slot) (max_blob t : ℕ) (
     }
 
     -- a session that was opened leaves a book
-    pub IsBook-start : (u' : Uploaded) (n : ℕ) → length repo ≤ 255 → known_tenant l repo ≡ Ok t → appear l t repo ≡ Ok (b, l') → start_upload u t repo ≡ Ok (n, u') → IsBook l' u' slots max_blob
+    pub IsBook-start : (u' : Uploaded) (n : ℕ) → length repo ≤ 255 → known_tenant L.links repo ≡ Ok t → appear L.links t repo ≡ Ok (b, l') → start_upload L.uploads t repo ≡ Ok (n, u') → IsBook (record L { links = l'; uploads = u' })
     IsBook-start u' n short known appeared opened =
         let a = ok_of_if _ _ _ _ appeared in
         let s = ok_of_if _ _ _ _ opened in
         let links : l1 ≡ l' = λ i. (a.1 i).1 in
         let uploads : u1 ≡ u' = λ i. (s.1 i).1 in
-        let step : start C repo ≡ Ok (n, C1) = start_ok u' n known appeared opened ∙ (λ i. Ok (n, book_catalog (sym links i) (sym uploads i) slots max_blob)) in
+        let step : start C repo ≡ Ok (n, C1) = start_ok u' n known appeared opened ∙ (λ i. Ok (n, book_catalog (record L { links = sym links i; uploads = sym uploads i }))) in
         let sound = Sound-after_start C C1 repo n step short book.sound in
-        subst (λ (x : Linked). IsBook x u' slots max_blob) links (subst (λ (x : Uploaded). IsBook l1 x slots max_blob) uploads (opened_book sound))
-
--- what appeared is there, and has no links
-pub appeared_there : (l l' : Linked) (t : ℕ) (repo : Text) (b : Bool) → appear l t repo ≡ Ok (b, l') → set.contains l'.repos repo ≡ true
-appeared_there l l' t repo b appeared =
-    let a = ok_of_if _ _ _ _ appeared in
-    ap (λ (x : Linked). set.contains x.repos repo) (sym (λ i. (a.1 i).1)) ∙ now nat_list_cmp_total exact_bytes l.repos repo
+        subst (λ (x : Layers). IsBook x) (λ i. record L { links = links i; uploads = uploads i }) (opened_book sound)
 
 -- a repository that isn't there has no links
-pub absent_unlinked : (l : Linked) (u : Uploaded) (slots : List Slot) (max_blob : ℕ) (repo : Text) → IsBook l u slots max_blob → set.contains l.repos repo ≡ false → HasNoLinks l.links repo
-absent_unlinked l u slots max_blob repo book absent d =
-    let unheld = holds_none (book_catalog l u slots max_blob) repo book.sound.lawful absent d in
-    not_some (get l.links (repo, d)) (λ n at. true≢false (sym (ap is_some (get-links_of l.links (repo, d) ∙ ap (option_map mark) at)) ∙ unheld))
+pub absent_unlinked : (L : Layers) (repo : Text) → IsBook L → set.contains L.links.repos repo ≡ false → HasNoLinks L.links.links repo
+absent_unlinked L repo book absent d =
+    let unheld = holds_none (book_catalog L) repo book.sound.lawful absent d in
+    not_some (get L.links.links (repo, d)) (λ n at. true≢false (sym (ap is_some (get-links_of L.links.links (repo, d) ∙ ap (option_map mark) at)) ∙ unheld))
 
-pub appeared_unlinked : (l l' : Linked) (u : Uploaded) (slots : List Slot) (max_blob t : ℕ) (repo : Text) (b : Bool) → IsBook l u slots max_blob → appear l t repo ≡ Ok (b, l') → b ≡ true → HasNoLinks l'.links repo
-appeared_unlinked l l' u slots max_blob t repo b book appeared new d =
+pub appeared_unlinked : (L : Layers) (l' : Linked) (t : ℕ) (repo : Text) (b : Bool) → IsBook L → appear L.links t repo ≡ Ok (b, l') → b ≡ true → HasNoLinks l'.links repo
+appeared_unlinked L l' t repo b book appeared new d =
     let a = ok_of_if _ _ _ _ appeared in
-    let absent : set.contains l.repos repo ≡ false = not-true _ ((λ i. (a.1 i).0) ∙ new) in
-    ap (λ (x : Linked). get x.links (repo, d)) (sym (λ i. (a.1 i).1)) ∙ absent_unlinked l u slots max_blob repo book absent d
+    let absent : set.contains L.links.repos repo ≡ false = not-true _ ((λ i. (a.1 i).0) ∙ new) in
+    ap (λ (x : Linked). get x.links (repo, d)) (sym (λ i. (a.1 i).1)) ∙ absent_unlinked L repo book absent d

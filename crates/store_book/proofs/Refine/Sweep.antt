@@ -13,11 +13,9 @@ use Rattle.finite_maps.proofs.Lists.{count_by-none, there_at}
 use Rattle.finite_maps.proofs.Rows.{sum_by-from_entries}
 use Rattle.slot_table.specs.Slots.{Slot, Held, Content, Free, Used, Retired, held_at, held_in, slot_of, is_orphan, on_held, content_with, mark, IsDistinct}
 use Rattle.slot_table.proofs.Indexing.{slot_of_none}
-use Rattle.link_table.specs.Linked.{Linked}
-use Rattle.upload_table.specs.Uploaded.{Uploaded}
 use Rattle.finite_maps.specs.Texts.{Text, text_cmp}
 use Rattle.store_model.specs.Catalog.{Link, Resident, Catalog, holds, count}
-use Rattle.store_book.specs.Layers.{resident_of, with_resident, resident_rows, residents_of, lent_marks, book_catalog, IsBook}
+use Rattle.store_book.specs.Layers.{Layers, resident_of, with_resident, resident_rows, residents_of, lent_marks, book_catalog, IsBook}
 use Rattle.store_book.specs.Pinned.{Pinned}
 use Rattle.store_model.specs.declared.swept.Swept.{Swept}
 use Rattle.store_model.specs.Sweep.{IsLeft, IsSweep}
@@ -32,7 +30,8 @@ use Rattle.store_book.proofs.Layers.LinkedSlots.{linked_live}
 use Rattle.finite_maps.proofs.Options.{some_same}
 use Rattle.store_book.proofs.Slots.Reclaimed.{orphan_held}
 use Rattle.store_book.proofs.Slots.Writes.{slot_of_held}
-use Rattle.store_book.proofs.Layers.Ties.{held_of, not_resident}
+use Rattle.slot_table.proofs.Finding.{held_of}
+use Rattle.store_book.proofs.Layers.Ties.{not_resident}
 
 -- ---- the blobs of the slots
 
@@ -72,12 +71,12 @@ held_there slots k s at = ap (λ o. option_map_or (λ (x : Slot). held_in x.cont
 marked : (s : Slot) (h : Held) → s.content ≡ Used h → held_in (on_held (mark true) s).content ≡ Some (mark true h)
 marked s h is = ap (λ c. held_in (content_with (mark true) c)) is
 
-module _ (l : Linked) (u : Uploaded) (p q : Pinned) (max_blob : ℕ) (swept : Swept) (book : IsBook l u p.slots max_blob) (sweep : Sweeps p q swept) where
+module _ (L : Layers) (p q : Pinned) (swept : Swept) (book : IsBook (record L { slots = p.slots })) (sweep : Sweeps p q swept) where
   abbrev C : Catalog
-  C = book_catalog l u p.slots max_blob
+  C = book_catalog (record L { slots = p.slots })
 
   abbrev C' : Catalog
-  C' = book_catalog l u q.slots max_blob
+  C' = book_catalog (record L { slots = q.slots })
 
   abbrev distinct : IsDistinct p.slots
   distinct = book.tied.distinct
@@ -235,7 +234,7 @@ module _ (l : Linked) (u : Uploaded) (p q : Pinned) (max_blob : ℕ) (swept : Sw
   -- a condemned blob has no links
   unlinked : (k : ℕ) (h : Held) → held_at p.slots k ≡ Some h → h.condemned ≡ true → h.links ≡ 0
   unlinked k h at is =
-      book.tied.counts k h at ∙ count_by-none (λ r. holds C r h.digest) (λ r. false_from_ne_true (holds C r h.digest) (λ has. true≢false (sym is ∙ linked_live l u p.slots max_blob book r h.digest k h at refl has))) (set.items C.repos)
+      book.tied.counts k h at ∙ count_by-none (λ r. holds C r h.digest) (λ r. false_from_ne_true (holds C r h.digest) (λ has. true≢false (sym is ∙ linked_live (record L { slots = p.slots }) book r h.digest k h at refl has))) (set.items C.repos)
 
   abbrev is_condemned : Text × Resident → Bool
   is_condemned e = e.1.condemned
@@ -277,13 +276,13 @@ module _ (l : Linked) (u : Uploaded) (p q : Pinned) (max_blob : ℕ) (swept : Sw
     held = left_held;
   }
 
-  sized : (key : Link) (n : ℕ) → get l.links key ≡ Some n → (b : Resident) × (get C'.residents key.1 ≡ Some b) × (n ≡ length b.bytes)
+  sized : (key : Link) (n : ℕ) → get L.links.links key ≡ Some n → (b : Resident) × (get C'.residents key.1 ≡ Some b) × (n ≡ length b.bytes)
   sized key n found =
       let b = book.tied.sizes key n found in
-      let there : set.contains C.links key ≡ true = holds_is l u p.slots (lent_marks p.slots) max_blob book.tied (λ k h. (book.sound.lawful.links k h).repo) key.0 key.1 ∙ ap is_some found in
+      let there : set.contains C.links key ≡ true = holds_is (record L { slots = p.slots }) (lent_marks p.slots) book.tied (λ k h. (book.sound.lawful.links k h).repo) key.0 key.1 ∙ ap is_some found in
       (b.0, linked_stays C C' swept IsSweep-slots book.sound.lawful key there b.0 b.1, b.2)
 
-  pub IsBook-sweep : IsBook l u q.slots max_blob
+  pub IsBook-sweep : IsBook (record L { slots = q.slots })
   IsBook-sweep = record {
     sound = Sound-sweep C C' swept IsSweep-slots book.sound.lawful book.sound.quotas book.sound.slots;
     tied = record {

@@ -9,11 +9,9 @@ use Rattle.std.specs.FinMap.{find, get, insert, get-from_entries, get-insert, sa
 use Rattle.std.proofs.lemmas.Bool.{cases_eq, false_from_ne_true}
 use Rattle.std.proofs.lemmas.Map.Lookups.{exact_bytes}
 use Rattle.slot_table.specs.Slots.{Slot, Held, Content, Free, Used, Retired, held_at, held_in, IsDistinct, is_retired, with_slot, on_held, content_with, mark, lend}
-use Rattle.link_table.specs.Linked.{Linked}
-use Rattle.upload_table.specs.Uploaded.{Uploaded}
 use Rattle.finite_maps.specs.Texts.{Text, text_cmp}
 use Rattle.store_model.specs.Catalog.{Link, Resident, Catalog, count}
-use Rattle.store_book.specs.Layers.{resident_of, with_resident, resident_rows, residents_of, lent_marks, book_catalog, IsTied}
+use Rattle.store_book.specs.Layers.{Layers, resident_of, with_resident, resident_rows, residents_of, lent_marks, book_catalog, IsTied}
 use Rattle.store_book.proofs.Layers.Sums.{IsDistinct-rest}
 use Rattle.store_book.proofs.Slots.Filled.{swapped}
 use Rattle.store_book.proofs.Slots.Lent.{length-marks}
@@ -113,12 +111,12 @@ module _ (g : Held → Held) (keeps : KeepsTies g) where
           ∙ swapped (h.digest, h.bytes) q x.digest (marked h) (resident_of x.lent x) (find text_cmp q (rows_of slots)) (apart s slots x h k (ap held_in e) at distinct)
       by_content rest Retired e = rest
 
-  module _ (l : Linked) (u : Uploaded) (slots : List Slot) (max_blob k : ℕ) (h : Held) (at : held_at slots k ≡ Some h) (tied : IsTied l slots (lent_marks slots) (book_catalog l u slots max_blob)) where
+  module _ (L : Layers) (k : ℕ) (h : Held) (at : held_at L.slots k ≡ Some h) (tied : IsTied L.links L.slots (lent_marks L.slots) (book_catalog L)) where
     abbrev C : Catalog
-    C = book_catalog l u slots max_blob
+    C = book_catalog L
 
     abbrev slots' : List Slot
-    slots' = with_slot slots k (on_held g)
+    slots' = with_slot L.slots k (on_held g)
 
     abbrev after : Catalog
     after = record C { residents = insert C.residents h.digest (marked h) }
@@ -126,42 +124,42 @@ module _ (g : Held → Held) (keeps : KeepsTies g) where
     same_residents : residents_of slots' (lent_marks slots') ≡ after.residents
     same_residents = same_map nat_list_cmp_total exact_bytes (residents_of slots' (lent_marks slots')) after.residents (λ q.
         get-from_entries nat_list_cmp_total (rows_of slots') q
-        ∙ find-change slots k h q at tied.distinct
-        ∙ ap (cond (eq_by_cmp text_cmp q h.digest) (Some (marked h))) (sym (get-from_entries nat_list_cmp_total (rows_of slots) q))
+        ∙ find-change L.slots k h q at tied.distinct
+        ∙ ap (cond (eq_by_cmp text_cmp q h.digest) (Some (marked h))) (sym (get-from_entries nat_list_cmp_total (rows_of L.slots) q))
         ∙ sym (get-insert nat_list_cmp_total C.residents h.digest (marked h) q))
 
     -- the catalog keeps the changed blob
-    pub catalog-change : book_catalog l u slots' max_blob ≡ after
+    pub catalog-change : book_catalog (record L { slots = slots' }) ≡ after
     catalog-change = λ i. record C {
-      slots = length-with_slot slots k (on_held g) i;
+      slots = length-with_slot L.slots k (on_held g) i;
       residents = same_residents i;
-      retired = count_by-with_slot is_retired slots k (on_held g) (λ s here. same_retired s.content s.generation) i;
+      retired = count_by-with_slot is_retired L.slots k (on_held g) (λ s here. same_retired s.content s.generation) i;
     }
 
     abbrev Origin : ℕ → Held → Type 0
-    Origin m x = (y : Held) × (held_at slots m ≡ Some y) × (x.digest ≡ y.digest) × (x.links ≡ y.links)
+    Origin m x = (y : Held) × (held_at L.slots m ≡ Some y) × (x.digest ≡ y.digest) × (x.links ≡ y.links)
 
     origin : (m : ℕ) (x : Held) → held_at slots' m ≡ Some x → Origin m x
     origin m x here = elim (cases_eq m k) [
       | inl e ↦
-          let is : g h ≡ x = some_same (sym (held_at-with slots k h at) ∙ ap (held_at slots') (sym e) ∙ here) in
-          (h, ap (held_at slots) e ∙ at, ap (λ (y : Held). y.digest) (sym is) ∙ keeps.digest h, ap (λ (y : Held). y.links) (sym is) ∙ keeps.links h)
-      | inr other ↦ (x, sym (held_at-other slots k (on_held g) m other) ∙ here, refl, refl)
+          let is : g h ≡ x = some_same (sym (held_at-with L.slots k h at) ∙ ap (held_at slots') (sym e) ∙ here) in
+          (h, ap (held_at L.slots) e ∙ at, ap (λ (y : Held). y.digest) (sym is) ∙ keeps.digest h, ap (λ (y : Held). y.links) (sym is) ∙ keeps.links h)
+      | inr other ↦ (x, sym (held_at-other L.slots k (on_held g) m other) ∙ here, refl, refl)
     ]
 
-    sized : (key : Link) (n : ℕ) → get l.links key ≡ Some n → (b : Resident) × (get after.residents key.1 ≡ Some b) × (n ≡ length b.bytes)
+    sized : (key : Link) (n : ℕ) → get L.links.links key ≡ Some n → (b : Resident) × (get after.residents key.1 ≡ Some b) × (n ≡ length b.bytes)
     sized key n found =
         let b = tied.sizes key n found in
         elim (cases_key nat_list_cmp_total exact_bytes key.1 h.digest) [
           | inl e ↦
-              let is : b.0 ≡ resident_of h.lent h = some_same (sym b.1 ∙ ap (get C.residents) e ∙ resident_at slots k h at tied.distinct) in
+              let is : b.0 ≡ resident_of h.lent h = some_same (sym b.1 ∙ ap (get C.residents) e ∙ resident_at L.slots k h at tied.distinct) in
               (marked h, ap (get after.residents) e ∙ get-insert_at nat_list_cmp_total exact_bytes C.residents h.digest (marked h), b.2 ∙ ap (λ (x : Resident). length x.bytes) is ∙ ap length (sym (keeps.bytes h)))
           | inr differ ↦ (b.0, get-insert_other nat_list_cmp_total exact_bytes C.residents h.digest (marked h) key.1 differ ∙ b.1, b.2)
         ]
 
     -- the layers agree then
-    pub IsTied-change : IsTied l slots' (lent_marks slots') (book_catalog l u slots' max_blob)
-    IsTied-change = subst (λ (D : Catalog). IsTied l slots' (lent_marks slots') D) (sym catalog-change) (record {
+    pub IsTied-change : IsTied L.links slots' (lent_marks slots') (book_catalog (record L { slots = slots' }))
+    IsTied-change = subst (λ (D : Catalog). IsTied L.links slots' (lent_marks slots') D) (sym catalog-change) (record {
       marks = length-marks slots';
       distinct = λ a b x y at_a at_b same. (let o = origin a x at_a in let p = origin b y at_b in tied.distinct a b o.0 p.0 o.1 p.1 (sym o.2 ∙ same ∙ p.2));
       sizes = sized;

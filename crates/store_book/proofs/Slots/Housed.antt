@@ -16,7 +16,7 @@ use Rattle.finite_maps.proofs.Options.{some_same}
 use Rattle.store_book.proofs.Slots.Pinned.{seen-at}
 use Rattle.store_book.proofs.Slots.Shown.{EachSlot-shown, housing_blind}
 use Rattle.store_book.proofs.Slots.Writes.{slot-other, slot-same, with_slot-twice}
-use Rattle.store_book.proofs.Layers.Ties.{held_of}
+use Rattle.slot_table.proofs.Finding.{held_of}
 
 -- the digest of what a slot holds
 abbrev digest_in : Content → Option Text

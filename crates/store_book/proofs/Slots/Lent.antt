@@ -4,12 +4,11 @@ use Prim.Native.Nat.{zero, suc}
 use Rattle.std.specs.Prelude.{slice_get}
 use Rattle.std.specs.Option.{option_map_or}
 use Rattle.slot_table.specs.declared.phase.Phase.TheVariants as phase
-use Rattle.slot_table.specs.Slots.{Slot, Held, Content, Free, Used, Retired, held_in, held_at, phase_at, with_slot, on_held, content_with, fill, mark}
+use Rattle.slot_table.specs.Slots.{Slot, Held, Content, Free, Used, Retired, held_in, phase_at, with_slot, on_held, content_with, fill}
 use Rattle.finite_maps.specs.Texts.{Text}
-use Rattle.store_book.specs.Internal.Keeping.{revived}
 use Rattle.store_book.specs.Layers.{is_lent, lent_marks}
 use Rattle.finite_maps.proofs.Options.{some_same}
-use Rattle.store_book.proofs.Slots.Writes.{map-with_slot, with_slot-suc}
+use Rattle.store_book.proofs.Slots.Writes.{map-with_slot}
 use Rattle.store_book.proofs.Slots.Placed.{free_slot}
 
 pub length-marks : (slots : List Slot) → length (lent_marks slots) ≡ length slots
@@ -38,14 +37,3 @@ pub marks-fill : (blob : Text × Text) (slots : List Slot) (k : ℕ) → phase_a
 marks-fill blob slots k free =
     let s = free_slot slots k free in
     map-with_slot is_lent slots k (fill blob) (λ x here. let same : s.0 ≡ x = some_same (sym s.1 ∙ here) in sym (ap is_lent (sym same) ∙ ap (λ o. option_map_or (λ (h : Held). h.lent) o false) s.2))
-
--- a live blob stays as it is
-pub revived-live : (slots : List Slot) (k : ℕ) (h : Held) → held_at slots k ≡ Some h → h.condemned ≡ false → revived slots k ≡ slots
-revived-live [] k h at live = refl
-revived-live (s ∷ slots) zero h at live = ap (λ (x : Slot). x ∷ slots) (λ i. record { generation = s.generation; content = by_content s.content at i })
-  where
-    by_content : (c : Content) → held_in c ≡ Some h → content_with (mark false) c ≡ c
-    by_content Free e = cc
-    by_content (Used x) e = let same : x ≡ h = some_same e in λ i. Used (record { digest = x.digest; bytes = x.bytes; condemned = sym (ap (λ (y : Held). y.condemned) same ∙ live) i; lent = x.lent; links = x.links })
-    by_content Retired e = cc
-revived-live (s ∷ slots) (suc k) h at live = with_slot-suc s slots k (on_held (mark false)) ∙ ap (λ xs. s ∷ xs) (revived-live slots k h at live)

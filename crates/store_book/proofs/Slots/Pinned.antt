@@ -1,5 +1,5 @@
 -- The slots and the keeper's rows agree, call by call; and what is seen of the slots.
-use Rattle.std.proofs.Common.{◌≡◌, ℕ, ◌+◌, ◌<◌, ◌≤◌, ◌⊎◌, Bool, true, false, cond, List, [], ◌∷◌, length, map, get_or, Option, Some, None, refl, sym, ap, ◌∙◌, subst, arith, inl, inr}
+use Rattle.std.proofs.Common.{◌≡◌, ℕ, ◌+◌, ◌≤◌, ◌⊎◌, Bool, true, false, cond, List, [], ◌∷◌, length, map, get_or, Option, Some, None, refl, sym, ap, ◌∙◌, subst, arith, inl, inr}
 use Prim.Native.Nat.{zero, suc}
 use Rattle.std.specs.Prelude.{slice_get, slice_index, slice_set, replicate, ◌≢◌, nat_le, ◌&&◌, Result, Ok, Err, if◌then◌else◌}
 use Rattle.std.specs.Option.{option_map, option_map_or}
@@ -20,13 +20,12 @@ use Rattle.blob_digest.specs.declared.refusal.Refusal.TheVariants.{LimitReached}
 use Rattle.store_book.specs.BookState.{SlotSeen}
 use Rattle.finite_maps.specs.Texts.{Text}
 use Rattle.store_book.specs.Internal.Keeping.{revived}
-use Rattle.store_book.specs.Pinned.{Pinned, IsPinned, pin_phase, row_of, seen, all_seen, with_both, slotted, Quietly}
+use Rattle.store_book.specs.Pinned.{Pinned, IsPinned, row_of, seen, all_seen, with_both, slotted, Quietly}
 use Rattle.store_book.specs.SlotSteps.{EachSlot, IsQuiet}
 use Rattle.finite_maps.proofs.Options.{some_same}
 use Rattle.store_book.proofs.Slots.Placed.{free_slot}
 use Rattle.store_book.proofs.Slots.Writes.{with_slot-suc, length-with_slot, slot-same, slot-other, map-with_slot, held_at-same, held_at-other}
-use Rattle.slot_table.proofs.Finding.{live_within}
-use Rattle.store_book.proofs.Layers.Ties.{not_held}
+use Rattle.slot_table.proofs.Finding.{not_held}
 
 -- ---- lists
 
@@ -199,28 +198,6 @@ lower-row s = by_content s.content
 
 -- ---- placing
 
-pub free_there : (slots : List Slot) (rows : List PinRow) (bounds : List ℕ) → IsPinned slots rows bounds → (k : ℕ) → phase_at slots k ≡ phase.Free → k < length rows
-free_there slots rows bounds kept k free =
-    let s = free_slot slots k free in
-    let lt = slice_get_within slots k s.0 s.1 in
-    let long : length rows ≡ length slots = ap length kept.same_rows ∙ length-map slots row_of in
-    omega arith
-
-pub free_row : (slots : List Slot) (rows : List PinRow) (bounds : List ℕ) → IsPinned slots rows bounds → (k : ℕ) → phase_at slots k ≡ phase.Free → (row rows k).phase ≡ pin.Free
-free_row slots rows bounds kept k free =
-    let s = free_slot slots k free in
-    ap (λ rs. (row rs k).phase) kept.same_rows ∙ ap (λ (r : PinRow). r.phase) (row-at slots k s.0 s.1)
-    ∙ by_content s.0.content (sym (ap (λ o. option_map_or (λ (x : Slot). phase_in x.content) o phase.Retired) s.1) ∙ free)
-  where
-    by_content : (c : Content) → phase_in c ≡ phase.Free → pin_phase c ≡ pin.Free
-    by_content Free e = refl
-    by_content (Used h) e = not_free h.condemned e
-      where
-        not_free : (b : Bool) → cond b phase.Condemned phase.Live ≡ phase.Free → cond b pin.Condemned pin.Live ≡ pin.Free
-        not_free true e = cc
-        not_free false e = cc
-    by_content Retired e = cc
-
 pub new_digest : (slots : List Slot) (rows : List PinRow) (bounds : List ℕ) → IsPinned slots rows bounds → (d : Text) → slot_of slots d ≡ None → IsNew d rows
 new_digest slots rows bounds kept d none = subst (λ rs. IsNew d rs) (sym kept.same_rows) (λ k default lt used has.
     let s = there_at slots k (let long = length-map slots row_of in omega arith) in
@@ -274,20 +251,6 @@ used_condemned (Used h) e = (h, refl, is h.condemned e)
     is true e = refl
     is false e = cc
 used_condemned Retired e = absurd cc
-
-pub condemned_there : (slots : List Slot) (rows : List PinRow) (bounds : List ℕ) → IsPinned slots rows bounds → (k : ℕ) → phase_at slots k ≡ phase.Condemned → k < length rows
-condemned_there slots rows bounds kept k is =
-    let s = condemned_slot slots k is in
-    let lt = slice_get_within slots k s.0 s.1 in
-    let long : length rows ≡ length slots = ap length kept.same_rows ∙ length-map slots row_of in
-    omega arith
-
-pub condemned_row : (slots : List Slot) (rows : List PinRow) (bounds : List ℕ) → IsPinned slots rows bounds → (k : ℕ) → phase_at slots k ≡ phase.Condemned → (row rows k).phase ≡ pin.Condemned
-condemned_row slots rows bounds kept k is =
-    let s = condemned_slot slots k is in
-    let h = used_condemned s.0.content s.2 in
-    ap (λ rs. (row rs k).phase) kept.same_rows ∙ ap (λ (r : PinRow). r.phase) (row-at slots k s.0 s.1)
-    ∙ ap pin_phase h.1 ∙ ap (λ b. cond b pin.Condemned pin.Live) h.2
 
 -- the blob of a slot is condemned, or live again
 pub IsPinned-marked : (b : Bool) (slots : List Slot) (rows : List PinRow) (bounds : List ℕ) → IsPinned slots rows bounds → (k : ℕ) (s : Slot) (h : Held) → slice_get slots k ≡ Some s → s.content ≡ Used h →
@@ -413,17 +376,3 @@ index-set-le (x ∷ xs) zero n zero le = le
 index-set-le (x ∷ xs) zero n (suc j) le = le-self (slice_index xs j)
 index-set-le (x ∷ xs) (suc k) n zero le = le-self x
 index-set-le (x ∷ xs) (suc k) n (suc j) le = index-set-le xs k n j le
-
--- a look lowers a bound
-pub IsPinned-looked : (slots : List Slot) (rows : List PinRow) (bounds : List ℕ) → IsPinned slots rows bounds → (k n : ℕ) → n ≤ slice_index bounds k → IsPinned slots rows (slice_set bounds k n)
-IsPinned-looked slots rows bounds kept k n le = record {
-  same_rows = kept.same_rows;
-  one_each = length-set bounds k n ∙ kept.one_each;
-  unlent = λ j h here mark. (let zero_then = kept.unlent j h here mark in let lower = index-set-le bounds k n j le in omega arith);
-}
-
-pub live_there : (slots : List Slot) (rows : List PinRow) (bounds : List ℕ) → IsPinned slots rows bounds → (k : ℕ) → phase_at slots k ≡ phase.Live → k < length rows
-live_there slots rows bounds kept k live =
-    let lt = live_within slots k live in
-    let long : length rows ≡ length slots = ap length kept.same_rows ∙ length-map slots row_of in
-    omega arith

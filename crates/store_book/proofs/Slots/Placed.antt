@@ -12,17 +12,16 @@ use Rattle.slot_table.specs.declared.phase.Phase.TheVariants as phase
 use Rattle.slot_table.specs.Slots.{Slot, Held, Content, Free, Used, Retired, with_slot, fill, phase_at, phase_in, held_at, held_in, slot_of, is_retired}
 use Rattle.finite_maps.proofs.Lists.{count_by-none}
 use Rattle.finite_maps.specs.Sets as set
-use Rattle.link_table.specs.Linked.{Linked}
-use Rattle.upload_table.specs.Uploaded.{Uploaded}
 use Rattle.finite_maps.specs.Texts.{Text}
 use Rattle.store_model.specs.Catalog.{Link, Resident, Catalog, holds, count}
 use Rattle.store_model.specs.Invariant.{Lawful}
-use Rattle.store_book.specs.Layers.{catalog_from, IsTied}
+use Rattle.store_book.specs.Layers.{Layers, catalog_from, IsTied}
 use Rattle.finite_maps.proofs.Maps.{cases_key, get-insert_other}
 use Rattle.finite_maps.proofs.Options.{some_same}
-use Rattle.store_model.proofs.Invariant.NewLink.{unlinked}
+use Rattle.store_model.proofs.Invariant.Links.{unlinked}
 use Rattle.store_book.proofs.Slots.Writes.{length-with_slot, count_by-with_slot, held_at-other, held_at-same}
-use Rattle.store_book.proofs.Layers.Ties.{not_held, not_resident}
+use Rattle.slot_table.proofs.Finding.{not_held}
+use Rattle.store_book.proofs.Layers.Ties.{not_resident}
 use Rattle.store_book.proofs.Slots.Filled.{residents-fill, stored}
 
 abbrev phase_by : Option Slot → Phase
@@ -41,29 +40,29 @@ free_slot slots k free = there (slice_get slots k) refl free
     there None e f = cc
     there (Some s) e f = let x = at s s.content refl f in (s, e, x.0, x.1)
 
-module _ (l : Linked) (u : Uploaded) (slots : List Slot) (marks : List Bool) (max_blob k : ℕ) (blob : Text × Text) (m : Bool)
-    (free : phase_at slots k ≡ phase.Free) (at : slice_get marks k ≡ Some m) (none : slot_of slots blob.0 ≡ None) where
+module _ (L : Layers) (marks : List Bool) (k : ℕ) (blob : Text × Text) (m : Bool)
+    (free : phase_at L.slots k ≡ phase.Free) (at : slice_get marks k ≡ Some m) (none : slot_of L.slots blob.0 ≡ None) where
   abbrev C : Catalog
-  C = catalog_from l u slots marks max_blob
+  C = catalog_from L marks
 
   abbrev slots' : List Slot
-  slots' = with_slot slots k (fill blob)
+  slots' = with_slot L.slots k (fill blob)
 
   abbrev after : Catalog
   after = record C { residents = insert C.residents blob.0 (stored blob m) }
 
   absent : get C.residents blob.0 ≡ None
-  absent = not_resident slots marks blob.0 none
+  absent = not_resident L.slots marks blob.0 none
 
   -- to fill a free slot is to keep one blob more
-  pub catalog-fill : catalog_from l u slots' marks max_blob ≡ after
+  pub catalog-fill : catalog_from (record L { slots = slots' }) marks ≡ after
   catalog-fill =
-      let s = free_slot slots k free in
-      let retired : count_by is_retired slots' ≡ count_by is_retired slots =
-      count_by-with_slot is_retired slots k (fill blob) (λ x here. let same : s.0 ≡ x = some_same (sym s.1 ∙ here) in sym (ap is_retired (sym same) ∙ s.3)) in
+      let s = free_slot L.slots k free in
+      let retired : count_by is_retired slots' ≡ count_by is_retired L.slots =
+      count_by-with_slot is_retired L.slots k (fill blob) (λ x here. let same : s.0 ≡ x = some_same (sym s.1 ∙ here) in sym (ap is_retired (sym same) ∙ s.3)) in
       λ i. record C {
-        slots = length-with_slot slots k (fill blob) i;
-        residents = residents-fill blob slots k marks m free at absent i;
+        slots = length-with_slot L.slots k (fill blob) i;
+        residents = residents-fill blob L.slots k marks m free at absent i;
         retired = retired i;
       }
 
@@ -71,23 +70,23 @@ module _ (l : Linked) (u : Uploaded) (slots : List Slot) (marks : List Bool) (ma
   filled = record { digest = blob.0; bytes = blob.1; condemned = false; lent = false; links = 0 }
 
   pub held_at-fill : held_at slots' k ≡ Some filled
-  held_at-fill = let s = free_slot slots k free in held_at-same slots k (fill blob) s.0 s.1
+  held_at-fill = let s = free_slot L.slots k free in held_at-same L.slots k (fill blob) s.0 s.1
 
   -- what a slot holds then
   abbrev pub Holds : ℕ → Held → Type 0
-  Holds j h = ((j ≡ k) × (filled ≡ h)) ⊎ ((j ≡ k → ⊥) × (held_at slots j ≡ Some h))
+  Holds j h = ((j ≡ k) × (filled ≡ h)) ⊎ ((j ≡ k → ⊥) × (held_at L.slots j ≡ Some h))
 
   pub held_then : (j : ℕ) (h : Held) → held_at slots' j ≡ Some h → Holds j h
   held_then j h here = elim (cases_eq j k) [
     | inl e ↦ inl (e, some_same (sym held_at-fill ∙ ap (held_at slots') (sym e) ∙ here))
-    | inr other ↦ inr (other, sym (held_at-other slots k (fill blob) j other) ∙ here)
+    | inr other ↦ inr (other, sym (held_at-other L.slots k (fill blob) j other) ∙ here)
   ]
 
-  module _ (tied : IsTied l slots marks C) (lawful : Lawful C) where
+  module _ (tied : IsTied L.links L.slots marks C) (lawful : Lawful C) where
     apart : (a b : ℕ) (x y : Held) → Holds a x → Holds b y → x.digest ≡ y.digest → a ≡ b
     apart a b x y (inl p) (inl q) same = p.0 ∙ sym q.0
-    apart a b x y (inl p) (inr q) same = absurd (not_held slots blob.0 none b y q.1 (sym same ∙ ap (λ (h : Held). h.digest) (sym p.1)))
-    apart a b x y (inr p) (inl q) same = absurd (not_held slots blob.0 none a x p.1 (same ∙ ap (λ (h : Held). h.digest) (sym q.1)))
+    apart a b x y (inl p) (inr q) same = absurd (not_held L.slots blob.0 none b y q.1 (sym same ∙ ap (λ (h : Held). h.digest) (sym p.1)))
+    apart a b x y (inr p) (inl q) same = absurd (not_held L.slots blob.0 none a x p.1 (same ∙ ap (λ (h : Held). h.digest) (sym q.1)))
     apart a b x y (inr p) (inr q) same = tied.distinct a b x y p.1 q.1 same
 
     counted : (j : ℕ) (h : Held) → Holds j h → h.links ≡ count after h.digest
@@ -96,7 +95,7 @@ module _ (l : Linked) (u : Uploaded) (slots : List Slot) (marks : List Bool) (ma
         subst (λ (x : Held). x.links ≡ count after x.digest) p.1 (sym zero)
     counted j h (inr p) = tied.counts j h p.1
 
-    sized : (key : Link) (n : ℕ) → get l.links key ≡ Some n → (b : Resident) × (get after.residents key.1 ≡ Some b) × (n ≡ length b.bytes)
+    sized : (key : Link) (n : ℕ) → get L.links.links key ≡ Some n → (b : Resident) × (get after.residents key.1 ≡ Some b) × (n ≡ length b.bytes)
     sized key n found =
         let b = tied.sizes key n found in
         elim (cases_key nat_list_cmp_total exact_bytes key.1 blob.0) [
@@ -105,9 +104,9 @@ module _ (l : Linked) (u : Uploaded) (slots : List Slot) (marks : List Bool) (ma
         ]
 
     -- the layers agree then
-    pub IsTied-fill : IsTied l slots' marks (catalog_from l u slots' marks max_blob)
-    IsTied-fill = subst (λ (D : Catalog). IsTied l slots' marks D) (sym catalog-fill) (record {
-      marks = tied.marks ∙ sym (length-with_slot slots k (fill blob));
+    pub IsTied-fill : IsTied L.links slots' marks (catalog_from (record L { slots = slots' }) marks)
+    IsTied-fill = subst (λ (D : Catalog). IsTied L.links slots' marks D) (sym catalog-fill) (record {
+      marks = tied.marks ∙ sym (length-with_slot L.slots k (fill blob));
       distinct = λ a b x y at_a at_b same. apart a b x y (held_then a x at_a) (held_then b y at_b) same;
       sizes = sized;
       counts = λ j h here. counted j h (held_then j h here);

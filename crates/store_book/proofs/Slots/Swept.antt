@@ -111,21 +111,6 @@ pub record IsPartly (p q : Pinned) (from : ℕ) (n : Swept) : Type 0 where
   pub retired : count_by is_retired q.slots ≡ count_by is_retired p.slots + n.retired
   pub last : 0 < n.retired → (k : ℕ) × (s : Slot) × (slice_get p.slots k ≡ Some s) × (s.generation + 1 ≡ 2 ^ 32)
 
-pub begins : (p : Pinned) → IsPartly p p 0 (record { condemned = 0; freed = 0; held = 0; retired = 0 })
-begins p = record {
-  table = refl;
-  long = refl;
-  within = omega arith;
-  rest = refl;
-  bounds = λ k le. refl;
-  each = λ k s lt at. absurd (omega arith);
-  condemned = omega arith;
-  all = omega arith;
-  left = omega arith;
-  retired = omega arith;
-  last = λ lt. absurd (omega arith);
-}
-
 -- ---- the next orphan
 
 pub found_orphan : (slots : List Slot) (from k : ℕ) → orphan_from slots from ≡ Some k → (i : ℕ) × (k ≡ from + i) × IsFirst is_orphan (drop from slots) i

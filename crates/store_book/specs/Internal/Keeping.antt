@@ -34,13 +34,13 @@ abbrev pub revived : List Slot → ℕ → List Slot
 revived slots k = with_slot slots k (on_held (mark false))
 
 -- the slots after a link of the blob in slot k, which counts where it is new
-abbrev pub counted : Linked → List Slot → Text → Text → ℕ → List Slot
-counted l slots repo digest k = if fmap.contains_key l.links (repo, digest) then slots else with_slot slots k (on_held raise)
+abbrev pub with_link_count : Linked → List Slot → Text → Text → ℕ → List Slot
+with_link_count l slots repo digest k = if fmap.contains_key l.links (repo, digest) then slots else with_slot slots k (on_held raise)
 
 -- A blob is linked in a repository. Its digest had a slot, which holds the same bytes, is live now, and counts the link where it is new; or
 -- a free slot was filled with it, and counts one link.
 pub data IsKept (l : Linked) (slots : List Slot) (repo : Text) (blob : Text × Text) (l' : Linked) (slots' : List Slot) : Type 0 where
-  again : (k : ℕ) (h : Held) → slot_of slots blob.0 ≡ Some k → held_at slots k ≡ Some h → h.bytes ≡ blob.1 → l' ≡ linked l repo blob → slots' ≡ counted l (revived slots k) repo blob.0 k → IsKept l slots repo blob l' slots'
+  again : (k : ℕ) (h : Held) → slot_of slots blob.0 ≡ Some k → held_at slots k ≡ Some h → h.bytes ≡ blob.1 → l' ≡ linked l repo blob → slots' ≡ with_link_count l (revived slots k) repo blob.0 k → IsKept l slots repo blob l' slots'
   anew : (k : ℕ) → slot_of slots blob.0 ≡ None → phase_at slots k ≡ phase.Free → l' ≡ linked l repo blob → slots' ≡ with_slot (with_slot slots k (fill blob)) k (on_held raise) → IsKept l slots repo blob l' slots'
 
 -- Why a blob isn't linked: its digest has a slot with other bytes, or none, and no slot is free.

@@ -1,16 +1,16 @@
 -- An accepted abandon keeps all that is kept.
-use Rattle.std.proofs.Common.{◌≡◌, ℕ, Some, Ok, subst, arith, inl, inr, ◌+◌, ap}
+use Rattle.std.proofs.Common.{◌≡◌, ℕ, Some, Ok, subst, arith, inl, inr}
 use Rattle.std.specs.FinMap.{get}
 use Rattle.std.proofs.lemmas.Bool.{cases_eq}
 use Rattle.blob_digest.specs.declared.refusal.Refusal.TheVariants.{NameUnknown}
 use Rattle.finite_maps.specs.Texts.{Text}
-use Rattle.store_model.specs.Catalog.{Session, Catalog, charged, tenant_of, used, received}
+use Rattle.store_model.specs.Catalog.{Session, Catalog, charged, tenant_of, received}
 use Rattle.store_model.specs.Commands.{tenant, session, not_busy, abandon, without_session}
 use Rattle.store_model.specs.Invariant.{Lawful, KeepsQuotas, FitsSlots, Sound}
-use Rattle.store_model.proofs.Invariant.LostSession.{Lawful-gone, used-gone, used_other-gone}
+use Rattle.store_model.proofs.Invariant.Sessions.{Lawful-gone, used-gone, used_other-gone}
 use Rattle.store_model.proofs.Commands.Hands.{home_charged, home_chunks}
 use Rattle.finite_maps.proofs.Outcomes.{bound_ok, some_of_ok}
-use Rattle.store_model.proofs.Commands.Accepted.{left_by, answer_by, same_tenant, session_found}
+use Rattle.store_model.proofs.Commands.Accepted.{left_by, answer_by, session_found}
 
 module _ (C C' : Catalog) (repo : Text) (number n : ℕ) (stepped : abandon C repo number ≡ Ok (n, C')) where
   record Abandoned : Type 0 where
@@ -29,18 +29,6 @@ module _ (C C' : Catalog) (repo : Text) (number n : ℕ) (stepped : abandon C re
       let d = bound_ok (not_busy b.0.chunks) _ (n, C') b.2 in
       let home = home_chunks b.0.chunks d.0 d.1 in
       record { t = a.0; known = some_of_ok (tenant_of C.tenants repo) NameUnknown a.0 a.1; s = b.0; found = (session_found _ repo b.0 b.1).0; counts = home_charged b.0 home.0 home.1; answer = answer_by d.2; left = left_by d.2 }
-
-  -- the tenant's use falls by the session's length
-  pub used-after_abandon : (t : ℕ) → tenant_of C.tenants repo ≡ Some t → used C t ≡ used C' t + n
-  used-after_abandon t known =
-      let p = abandoned in
-      let is_t : p.t ≡ t = same_tenant (tenant_of C.tenants repo) p.t t p.known known in
-      let sum = used-gone C (p.t, number) p.s p.found in
-      let now : used (without_session C p.t number) p.t ≡ used C' p.t = ap (λ D. used D p.t) p.left in
-      let answer = p.answer in
-      let counts = p.counts in
-      let at : used C p.t ≡ used C' p.t + n = omega arith in
-      subst (λ u. used C u ≡ used C' u + n) is_t at
 
   pub Lawful-after_abandon : Lawful C → Lawful C'
   Lawful-after_abandon lawful = let p = abandoned in subst (λ (D : Catalog). Lawful D) p.left (Lawful-gone C (p.t, number) lawful)

@@ -24,9 +24,6 @@ pub not_more : (b : Bool) (n : ℕ) → cond b n 0 ≤ n
 not_more true n = omega arith
 not_more false n = omega arith
 
-pub same_tenant : (o : Option ℕ) (t u : ℕ) → o ≡ Some t → o ≡ Some u → t ≡ u
-same_tenant o t u e f = cc
-
 pub tenant_there : (tenants : List Tenant) (repo : Text) (t : ℕ) → tenant_of tenants repo ≡ Some t → t < length tenants
 tenant_there tenants repo t known = let none : Tenant = record { name = []; quota = 0 } in (position-Some (λ x. same_text x.name (tenant_name repo)) tenants t none known).0
 

@@ -1,16 +1,14 @@
 -- An accepted delete keeps all that is kept. The tenant's use falls by the blob, unless another of its repositories holds it.
-use Rattle.std.proofs.Common.{◌≡◌, ℕ, true, length, Option, Some, None, Ok, refl, subst, arith, inl, inr, ◌≢◌, ◌+◌, ap, ◌∙◌}
+use Rattle.std.proofs.Common.{◌≡◌, ℕ, true, length, Option, Some, None, Ok, refl, subst, arith, inl, inr}
 use Rattle.std.proofs.lemmas.Bool.{cases_eq, not-false}
 use Rattle.blob_digest.specs.declared.refusal.Refusal.TheVariants.{NameUnknown}
-use Rattle.std.specs.FinMap.{get}
-use Rattle.std.specs.Prelude.{if◌then◌else◌}
 use Rattle.finite_maps.specs.Sets as set
 use Rattle.finite_maps.specs.Texts.{Text}
-use Rattle.store_model.specs.Catalog.{Catalog, tenant_of, holds, tenant_holds, Resident, used}
+use Rattle.store_model.specs.Catalog.{Catalog, tenant_of, holds, tenant_holds}
 use Rattle.store_model.specs.Commands.{tenant, linked, referrer, unreferenced, delete}
 use Rattle.store_model.specs.Invariant.{Lawful, KeepsQuotas, FitsSlots, Sound}
 use Rattle.store_model.proofs.Invariant.Repos.{is_own, is_no_other}
-use Rattle.store_model.proofs.Invariant.LostLink.{Lawful-unlink, used-unlink, used_other-unlink}
+use Rattle.store_model.proofs.Invariant.Links.{Lawful-unlink, used-unlink, used_other-unlink}
 use Rattle.finite_maps.proofs.Outcomes.{bound_ok, not_refused, some_of_ok}
 use Rattle.store_model.proofs.Commands.Accepted.{left_by, not_more}
 
@@ -32,15 +30,6 @@ module _ (C C' : Catalog) (repo digest : Text) (stepped : delete C repo digest �
       let b = bound_ok (linked C repo digest) _ (tt, C') a.2 in
       let c = bound_ok (unreferenced (referrer C repo digest)) _ (tt, C') b.2 in
       record { t = a.0; known = some_of_ok (tenant_of C.tenants repo) NameUnknown a.0 a.1; has = not-false _ (not_refused _ _ _ b.1); free = none_refers _ c.1; left = left_by c.2 }
-
-  -- the tenant's use falls by the blob's length, unless another of its repositories holds it; no other's changes
-  pub used-after_delete : Lawful C → (t : ℕ) → tenant_of C.tenants repo ≡ Some t → (b : Resident) → get C.residents digest ≡ Some b → used C t + (if tenant_holds C' t digest then length b.bytes else 0) ≡ used C' t + length b.bytes
-  used-after_delete lawful t known b found =
-      let link = lawful.links (repo, digest) deleted.has in
-      subst (λ (D : Catalog). used C t + (if tenant_holds D t digest then length b.bytes else 0) ≡ used D t + length b.bytes) deleted.left (used-unlink C repo digest deleted.has t b link.repo (is_own C t repo known) found)
-
-  pub used_other-after_delete : (t u : ℕ) → tenant_of C.tenants repo ≡ Some t → u ≢ t → used C u ≡ used C' u
-  used_other-after_delete t u known other = used_other-unlink C repo digest deleted.has u (is_no_other C t u repo known other) ∙ ap (λ D. used D u) deleted.left
 
   pub Lawful-after_delete : Lawful C → Lawful C'
   Lawful-after_delete lawful = subst (λ (D : Catalog). Lawful D) deleted.left (Lawful-unlink C repo digest lawful deleted.free)

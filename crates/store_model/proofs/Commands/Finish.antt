@@ -17,8 +17,8 @@ use Rattle.finite_maps.proofs.Texts.{text_is_same}
 use Rattle.finite_maps.proofs.Maps.{get-insert_at}
 use Rattle.store_model.proofs.Invariant.Repos.{is_own, is_no_other}
 use Rattle.store_model.proofs.Invariant.Blobs.{Lawful-put, used-put, FitsSlots-put}
-use Rattle.store_model.proofs.Invariant.NewLink.{Lawful-link, used_other-link}
-use Rattle.store_model.proofs.Invariant.LostSession.{Lawful-gone, used-gone, used_other-gone}
+use Rattle.store_model.proofs.Invariant.Links.{Lawful-link, used_other-link}
+use Rattle.store_model.proofs.Invariant.Sessions.{Lawful-gone, used-gone, used_other-gone}
 use Rattle.store_model.proofs.Invariant.Use.{used-link}
 use Rattle.store_model.proofs.Commands.Hands.{taken_found, whole_long, IsProper}
 use Rattle.finite_maps.proofs.Outcomes.{bound_ok, not_refused}

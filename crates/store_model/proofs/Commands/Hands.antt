@@ -8,10 +8,10 @@ use Rattle.std.proofs.lemmas.List.Sums.{sum_by_push}
 use Rattle.blob_digest.specs.declared.range.ByteRange.{ByteRange}
 use Rattle.blob_digest.specs.declared.refusal.Refusal.{Refusal}
 use Rattle.blob_digest.specs.declared.refusal.Refusal.TheVariants.{NameUnknown, UploadUnknown}
-use Rattle.store_model.specs.Sessions.{are_taken, brought_home, chunks_of, hand_in, not_busy, put_back_in, session_in, take_in, taken_session, whole_of, with_chunk, with_chunks, IsFull}
+use Rattle.store_model.specs.Sessions.{are_taken, chunks_of, hand_in, not_busy, put_back_in, session_in, take_in, taken_session, whole_of, with_chunk, with_chunks, IsFull}
 use Rattle.finite_maps.specs.Texts.{Text}
 use Rattle.store_model.specs.Catalog.{Chunks, Home, InHand, Session, Taken, Catalog, charged, quota_of, received, tenant_of, used}
-use Rattle.store_model.specs.Commands.{check, given_back, put_back, take, tenant, within_quota}
+use Rattle.store_model.specs.Commands.{check, put_back, take, tenant, within_quota}
 use Rattle.store_model.specs.Invariant.{Sound}
 use Rattle.store_model.proofs.Invariant.Chunks.{Sound-chunks}
 use Rattle.store_model.proofs.Commands.Accepted.{answer_by, left_by, length-concat, length_fits, session_found}
@@ -181,10 +181,3 @@ Sound-after_put_back C C' h n proper stepped sound =
   where
     snd_of : {A B : Type 0} {x y : A} {u v : B} → ◌≡◌ {A = Result (A × B) Refusal} (Ok (x, u)) (Ok (y, v)) → u ≡ v
     snd_of {A} {B} {x} {y} {u} {v} e = let p : ◌≡◌ {A = A × B} (x, u) (y, v) = cc in λ i. (p i).1
-
-pub Sound-given_back : (C : Catalog) (h : Taken) → IsProper h → Sound C → Sound (given_back C h)
-Sound-given_back C h proper sound = by (taken_session (get C.sessions h.key) h) refl
-  where
-    by : (o : Result Session Refusal) → taken_session (get C.sessions h.key) h ≡ o → Sound (record C { sessions = brought_home C.sessions h o })
-    by (Ok s) here = Sound-home C h proper s here h.chunks proper.pieces (omega arith) sound
-    by (Err e) here = sound

@@ -1,10 +1,10 @@
 -- An accepted lease keeps all that is kept. No use changes.
-use Rattle.std.proofs.Common.{◌≡◌, ℕ, Bool, true, length, Some, is_some, Ok, sym, ap, ◌∙◌, subst, arith}
+use Rattle.std.proofs.Common.{◌≡◌, Bool, true, length, Some, is_some, Ok, sym, ap, ◌∙◌, subst, arith}
 use Rattle.std.specs.FinMap.{get}
 use Rattle.std.proofs.lemmas.Bool.{not-false, true≢false}
 use Rattle.blob_digest.specs.declared.refusal.Refusal.TheVariants.{BlobUnknown, TooManyReaders}
 use Rattle.finite_maps.specs.Texts.{Text}
-use Rattle.store_model.specs.Catalog.{Resident, Catalog, holds, used}
+use Rattle.store_model.specs.Catalog.{Resident, Catalog, holds}
 use Rattle.store_model.specs.Commands.{tenant, linked, linked_blob, with_lent, lease}
 use Rattle.finite_maps.specs.Outcomes.{refuse}
 use Rattle.store_model.specs.Invariant.{Lawful, KeepsQuotas, FitsSlots, Sound}
@@ -36,10 +36,6 @@ module _ (C C' : Catalog) (crowded : Bool) (repo digest bytes : Text) (stepped :
       let link = lawful.links (repo, digest) leased.has in
       let is : link.kept.0 ≡ leased.b = some_same (sym link.kept.1 ∙ leased.found) in
       subst (λ (D : Catalog). Lawful D) leased.left (Lawful-put C digest marked (ap (λ (b : Resident). b.condemned) (sym is) ∙ link.kept.2) lawful (lawful.content digest leased.b leased.found))
-
-  pub used-after_lease : Lawful C → (u : ℕ) → used C' u ≡ used C u
-  used-after_lease lawful u =
-      ap (λ D. used D u) (sym leased.left) ∙ used-put C digest marked lawful (λ old h. ap (λ (b : Resident). length b.bytes) (some_same (sym h ∙ leased.found))) u
 
   pub KeepsQuotas-after_lease : Lawful C → KeepsQuotas C → KeepsQuotas C'
   KeepsQuotas-after_lease lawful keeps = subst (λ (D : Catalog). KeepsQuotas D) leased.left (λ u there.

@@ -84,9 +84,6 @@ module _ (C C' : Catalog) (repo bytes name : Text) (stepped : put_manifest C rep
   pub Lawful-after_put_manifest : Lawful C'
   Lawful-after_put_manifest = put.lawful_after
 
-  pub used-after_put_manifest : (u : ℕ) → used C' u ≡ used C u
-  used-after_put_manifest = put.use_alike
-
   pub KeepsQuotas-after_put_manifest : KeepsQuotas C → KeepsQuotas C'
   KeepsQuotas-after_put_manifest = put.keeps_after
 

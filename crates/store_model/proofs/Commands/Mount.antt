@@ -16,7 +16,7 @@ use Rattle.store_model.specs.Invariant.{Lawful, KeepsQuotas, FitsSlots, Sound}
 use Rattle.finite_maps.proofs.Lists.{witness}
 use Rattle.finite_maps.proofs.Sets.{now}
 use Rattle.store_model.proofs.Invariant.Repos.{is_own, is_no_other, Lawful-appear, used-appear}
-use Rattle.store_model.proofs.Invariant.NewLink.{is_held, Lawful-link, used_other-link}
+use Rattle.store_model.proofs.Invariant.Links.{is_held, Lawful-link, used_other-link}
 use Rattle.store_model.proofs.Commands.Start.{Lawful-after_start, used-after_start, KeepsQuotas-after_start, FitsSlots-after_start}
 use Rattle.store_model.proofs.Invariant.Use.{used-link}
 use Rattle.finite_maps.proofs.Outcomes.{bound_ok, not_refused, some_of_ok}
@@ -104,9 +104,6 @@ module _ (C C' : Catalog) (repo digest : Text) (from : Option Text) (answer : Mo
 
   pub Lawful-after_mount : Lawful C'
   Lawful-after_mount = mounted.lawful_after
-
-  pub used-after_mount : (u : ℕ) → used C' u ≡ used C u
-  used-after_mount = mounted.use_alike
 
   pub KeepsQuotas-after_mount : KeepsQuotas C → KeepsQuotas C'
   KeepsQuotas-after_mount = mounted.keeps_after

@@ -22,7 +22,7 @@ use Rattle.finite_maps.specs.Outcomes.{◌>>=◌, refuse}
 use Rattle.store_model.specs.Commands.{linked, unreferenced, refers, referrer}
 use Rattle.store_model.specs.Invariant.{RefersTo, IsLeastReferrer, ReferencedStays}
 use Rattle.finite_maps.proofs.Lists.{is_true}
-use Rattle.store_model.proofs.Invariant.LostLink.{unreferred}
+use Rattle.store_model.proofs.Invariant.Links.{unreferred}
 
 -- ---- the first entry that passes a test, in the order of the keys
 

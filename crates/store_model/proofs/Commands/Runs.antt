@@ -1,14 +1,10 @@
 -- From a sound catalog each case of a command, each sweep and each run leads to a sound one.
-use Rattle.std.proofs.Common.{false, ◌≡◌, ℕ, ◌≤◌, ◌<◌, ◌^◌, map, List, [], ◌∷◌, length, Result, Ok, Err, sym, subst}
-use Rattle.std.specs.List.{AllByRecursion}
+use Rattle.std.proofs.Common.{false, ◌≡◌, ◌≤◌, [], ◌∷◌, length, Result, Ok, Err, sym, subst}
 use Rattle.blob_digest.specs.declared.refusal.Refusal.{Refusal}
-use Rattle.std.specs.List.Sorted.{IsStrictlySortedBy}
-use Rattle.store_model.specs.Catalog.{Catalog, Tenant, opening}
-use Rattle.finite_maps.specs.Texts.{text_cmp}
-use Rattle.store_model.proofs.Commands.Opening.{Sound-opening}
+use Rattle.store_model.specs.Catalog.{Catalog}
 use Rattle.store_model.specs.Commands.{Outcome}
 use Rattle.store_model.specs.Invariant.{Sound}
-use Rattle.store_model.specs.Runs.{Command, Answer, Event, answered, told, outcome, IsCase, Happens, IsRun, IsNamed, RunsStaySound, repo_of, Start, Status, Append, Close, Abandon, Mount, Delete, PutManifest, GetManifest, DeleteManifest, Lease, Called, Swept}
+use Rattle.store_model.specs.Runs.{Command, Answer, Event, answered, told, outcome, IsCase, Happens, IsNamed, RunsStaySound, repo_of, Start, Status, Append, Close, Abandon, Mount, Delete, PutManifest, GetManifest, DeleteManifest, Lease, Called, Swept}
 use Rattle.store_model.proofs.Commands.Accepted.{left_by}
 use Rattle.store_model.proofs.Commands.Start.{Sound-after_start}
 use Rattle.store_model.proofs.Commands.AppendClose.{Sound-after_append, Sound-after_close}
@@ -53,9 +49,3 @@ Sound-event C C' (Swept swept) short happens sound = Sound-sweep C C' swept happ
 pub Sound-run : RunsStaySound
 Sound-run C C' [] short run sound = subst (λ (D : Catalog). Sound D) (sym run) sound
 Sound-run C C' (e ∷ es) short run sound = Sound-run run.0 C' es short.1 run.2 (Sound-event C run.0 e short.0 run.1 sound)
-
--- Each catalog that is reached from a new one is sound.
-pub Sound-reached : (tenants : List Tenant) (slots max_blob : ℕ) → 0 < length tenants → length tenants ≤ 256 → IsStrictlySortedBy text_cmp (map (λ t. t.name) tenants) → max_blob ≤ 2 ^ 40 → AllByRecursion (λ t. t.quota ≤ 2 ^ 50) tenants →
-    0 < slots → slots ≤ 65536 → (es : List Event) → AllByRecursion IsNamed es → (C : Catalog) → IsRun (opening tenants slots max_blob) es C → Sound C
-Sound-reached tenants slots max_blob some few rise small quotas any at_most es short C run =
-    Sound-run (opening tenants slots max_blob) C es short run (Sound-opening tenants slots max_blob some few rise small quotas any at_most)

@@ -13,7 +13,7 @@ use Rattle.store_model.proofs.Invariant.Repos.{is_own, Lawful-appear, used-appea
 use Rattle.std.specs.Cmp.Lexicographic.{nat_list_cmp_total}
 use Rattle.std.proofs.lemmas.Map.Lookups.{exact_bytes}
 use Rattle.finite_maps.proofs.Sets.{now}
-use Rattle.store_model.proofs.Invariant.NewSession.{Lawful-open, used-open}
+use Rattle.store_model.proofs.Invariant.Sessions.{Lawful-open, used-open}
 
 module _ (C : Catalog) (t : ℕ) (r : Text) (lawful : Lawful C) (known : tenant_of C.tenants r ≡ Some t) (there : t < length C.tenants) (short : length r ≤ 255)
     (room : lacks_room_for C t r ≡ false) (opens : cannot_open C t ≡ false) where

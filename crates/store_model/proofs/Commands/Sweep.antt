@@ -16,7 +16,7 @@ use Rattle.store_model.specs.Sweep.{is_orphan, IsLeft, IsSweep}
 use Rattle.store_model.proofs.Commands.SomeSweep.{left_bytes}
 use Rattle.finite_maps.proofs.Maps.{sum_alike, term}
 use Rattle.finite_maps.proofs.Lists.{sum_by-add, sum_by-ones}
-use Rattle.store_model.proofs.Invariant.NewLink.{uncounted, is_unheld}
+use Rattle.store_model.proofs.Invariant.Links.{uncounted, is_unheld}
 
 one_each : (x : Option Resident) → cond {A = ℕ} (is_none x) 1 0 + cond {A = ℕ} (is_none x) 0 1 ≡ 1
 one_each None = omega arith

@@ -9,7 +9,7 @@ use Rattle.store_model.specs.Catalog.{Resident, Catalog, tenant_holds, blob_shar
 use Rattle.store_model.specs.Invariant.{Lawful, FitsSlots}
 use Rattle.finite_maps.proofs.Sums.{sum_new, sum_changed}
 use Rattle.finite_maps.proofs.Maps.{get-insert_at, get-insert_other, got-insert, cases_key}
-use Rattle.store_model.proofs.Invariant.NewLink.{unlinked, is_unheld}
+use Rattle.store_model.proofs.Invariant.Links.{unlinked, is_unheld}
 
 module _ (C : Catalog) (d : Text) (b : Resident) where
   abbrev after : Catalog

@@ -72,9 +72,6 @@ count-unlink C r d there has =
     ap (λ s. count (record C { links = s }) d) (sym (back C r d has))
     ∙ count-link (unlinked C r d) r d there (ap is_some (get-remove_same link_cmp_total exact_link C.links (r, d)))
 
-pub count_other-unlink : (C : Catalog) (r d : Text) → holds C r d ≡ true → (x : Text) → x ≢ d → count C x ≡ count (record C { links = set.remove C.links (r, d) }) x
-count_other-unlink C r d has x differ = ap (λ s. count (record C { links = s }) x) (sym (back C r d has)) ∙ count_other-link (unlinked C r d) r d x differ
-
 -- ---- the same count over the links
 
 module _ (C : Catalog) (d : Text) where

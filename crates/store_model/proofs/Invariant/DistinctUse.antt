@@ -20,7 +20,7 @@ use Rattle.finite_maps.proofs.Rows.{entries-empty, sum_by-map}
 use Rattle.finite_maps.proofs.Sums.{sum_new}
 use Rattle.blob_digest.proofs.KeyOrders.{link_cmp_total, exact_link}
 use Rattle.finite_maps.proofs.Sets.{now, still}
-use Rattle.store_model.proofs.Invariant.NewLink.{unlinked, is_unheld}
+use Rattle.store_model.proofs.Invariant.Links.{unlinked, is_unheld}
 
 module _ (C : Catalog) (lawful : Lawful C) (t : ℕ) (sizes : FinMap text_cmp ℕ) (each : (d : Text) → get sizes d ≡ (if tenant_holds C t d then Some (size C d) else None)) where
   abbrev value : Text × ℕ → ℕ
@@ -34,11 +34,6 @@ module _ (C : Catalog) (lawful : Lawful C) (t : ℕ) (sizes : FinMap text_cmp �
   alike d None none = sym (ap (term value d) (each d ∙ ap (λ h. cond h (Some (size C d)) None) (is_unheld C t d (unlinked C lawful d none))))
   alike d (Some b) found =
       at_held (tenant_holds C t d) d b (size C d) (ap (λ x. option_map_or (λ (y : Resident). length y.bytes) x 0) found) ∙ sym (ap (term value d) (each d))
-
-  pub used_by_sizes : used C t ≡ sum_by value (entries sizes) + session_charges_of C t
-  used_by_sizes =
-      let blobs : sum_by (blob_share C t) (entries C.residents) ≡ sum_by value (entries sizes) = sum_alike nat_list_cmp_total exact_bytes (blob_share C t) value C.residents sizes (λ d. alike d (get C.residents d) refl) in
-      omega arith
 
 -- ---- the set of the digests that a tenant holds
 

@@ -7,7 +7,7 @@ use Rattle.std.specs.List.{list_any}
 use Rattle.std.specs.Prelude.{nat_lt}
 use Rattle.std.specs.FinMap.{contains_key-keys, FinMap, get, insert, remove}
 use Rattle.std.proofs.lemmas.Bool.{ne_eqb, true≢false, and_parts}
-use Rattle.store_model.specs.Catalog.{count, Link, Number, Home, Session, Resident, Catalog, number_cmp, tenant_of, is_of, holds, next_of}
+use Rattle.store_model.specs.Catalog.{count, Link, Number, Home, Session, Resident, Catalog, link_cmp, number_cmp, tenant_of, is_of, holds, next_of}
 use Rattle.store_model.specs.declared.swept.Swept.{Swept}
 use Rattle.store_model.specs.Sweep.{IsSweep, IsLeft, is_orphan}
 use Rattle.finite_maps.proofs.Lists.{list_any_weaker, list_any_count}
@@ -39,6 +39,31 @@ use Rattle.store_model.proofs.Noninterference.LocalRespect.{Leaves, answers_leav
 twice : {A : Type 0} → A → A × A
 twice x = (x, x)
 
+-- ---- one field written
+
+module _ (content : Text → Text) (C : Catalog) (consistent : Consistent content C) where
+  with_links : (links : kept_set.Set link_cmp) → ((l : Link) → kept_set.contains links l ≡ true → (kept_set.contains C.repos l.0 ≡ true) × (is_some (get C.residents l.1) ≡ true)) → Consistent content (record C { links = links })
+  with_links links each = record { repos = consistent.repos; links = λ l h. (each l h).0; kept = λ l h. (each l h).1; manifests = consistent.manifests; sessions = consistent.sessions; bytes = consistent.bytes }
+
+  -- a blob that is kept, or kept anew
+  with_blob : (d : Text) (b : Resident) → b.bytes ≡ content d → Consistent content (record C { residents = insert C.residents d b })
+  with_blob d b fits = record {
+    repos = consistent.repos;
+    links = consistent.links;
+    kept = λ l h. still_there nat_list_cmp_total exact_bytes C.residents d l.1 b (consistent.kept l h);
+    manifests = consistent.manifests;
+    sessions = consistent.sessions;
+    bytes = λ q x h. ⊎_elim (λ e. ap (λ (y : Resident). y.bytes) (sym e.1) ∙ fits ∙ ap content (sym e.0)) (consistent.bytes q x) (got-insert nat_list_cmp_total exact_bytes C.residents d b q x h);
+  }
+
+  with_manifests : (manifests : FinMap link_cmp Text) → ((l : Link) (b : Text) → get manifests l ≡ Some b → kept_set.contains C.repos l.0 ≡ true) → Consistent content (record C { manifests = manifests })
+  with_manifests manifests each = record { repos = consistent.repos; links = consistent.links; kept = consistent.kept; manifests = each; sessions = consistent.sessions; bytes = consistent.bytes }
+
+  with_sessions : (sessions : FinMap number_cmp Session) → ((k : Number) (s : Session) → get sessions k ≡ Some s → kept_set.contains C.repos s.repo ≡ true) → Consistent content (record C { sessions = sessions })
+  with_sessions sessions each = record { repos = consistent.repos; links = consistent.links; kept = consistent.kept; manifests = consistent.manifests; sessions = each; bytes = consistent.bytes }
+
+-- ---- the commands
+
 module _ (content : Text → Text) (C : Catalog) (consistent : Consistent content C) (r : Text) where
   -- a repository that is new
   repos_known : (t : ℕ) → tenant_of C.tenants r ≡ Some t → (q : Text) → kept_set.contains (kept_set.insert C.repos r) q ≡ true → is_some (tenant_of C.tenants q) ≡ true
@@ -51,22 +76,31 @@ module _ (content : Text → Text) (C : Catalog) (consistent : Consistent conten
   is_in : kept_set.contains (kept_set.insert C.repos r) r ≡ true
   is_in = now nat_list_cmp_total exact_bytes C.repos r
 
-  consistent_new : (t : ℕ) → tenant_of C.tenants r ≡ Some t → Consistent content (new_session C t r)
-  consistent_new t known = record {
+  abbrev appeared : Catalog
+  appeared = record C { repos = kept_set.insert C.repos r }
+
+  consistent_appeared : (t : ℕ) → tenant_of C.tenants r ≡ Some t → Consistent content appeared
+  consistent_appeared t known = record {
     repos = repos_known t known;
     links = λ l h. stays l.0 (consistent.links l h);
     kept = consistent.kept;
     manifests = λ l b h. stays l.0 (consistent.manifests l b h);
-    sessions = λ k s h. ⊎_elim (λ e. subst (λ (x : Session). kept_set.contains (kept_set.insert C.repos r) x.repo ≡ true) e.1 is_in) (λ h. stays s.repo (consistent.sessions k s h))
-        (got-insert number_cmp_total exact_number C.sessions (t, next_of C t) (record { repo = r; chunks = Home [] }) k s h);
+    sessions = λ k s h. stays s.repo (consistent.sessions k s h);
     bytes = consistent.bytes;
   }
 
-  consistent_sessions : (m : FinMap number_cmp Session) → ((k : Number) (s : Session) → get m k ≡ Some s → kept_set.contains C.repos s.repo ≡ true) → Consistent content (record C { sessions = m })
-  consistent_sessions m h = record { repos = consistent.repos; links = consistent.links; kept = consistent.kept; manifests = consistent.manifests; sessions = h; bytes = consistent.bytes }
+  consistent_new : (t : ℕ) → tenant_of C.tenants r ≡ Some t → Consistent content (new_session C t r)
+  consistent_new t known =
+      let there = consistent_appeared t known in
+      with_sessions content appeared there (insert C.sessions (t, next_of C t) new) (λ k s h.
+      ⊎_elim (λ e. subst (λ (x : Session). kept_set.contains (kept_set.insert C.repos r) x.repo ≡ true) e.1 is_in) (λ h. there.sessions k s h)
+      (got-insert number_cmp_total exact_number C.sessions (t, next_of C t) new k s h))
+    where
+      new : Session
+      new = record { repo = r; chunks = Home [] }
 
   consistent_append : (key : Number) (b : Text) → Consistent content (record C { sessions = append_in C.sessions key b })
-  consistent_append key b = consistent_sessions (append_in C.sessions key b) (λ k s h. at (get C.sessions key) refl k s h)
+  consistent_append key b = with_sessions content C consistent (append_in C.sessions key b) (λ k s h. at (get C.sessions key) refl k s h)
     where
       at : (o : Option Session) → get C.sessions key ≡ o → (k : Number) (s : Session) → get (option_map_or (λ s. insert C.sessions key (longer b s)) o C.sessions) k ≡ Some s → kept_set.contains C.repos s.repo ≡ true
       at None found k s h = consistent.sessions k s h
@@ -74,7 +108,7 @@ module _ (content : Text → Text) (C : Catalog) (consistent : Consistent conten
           (got-insert number_cmp_total exact_number C.sessions key (longer b x) k s h)
 
   consistent_abandon : (key : Number) → Consistent content (record C { sessions = remove C.sessions key })
-  consistent_abandon key = consistent_sessions (remove C.sessions key) (λ k s h. consistent.sessions k s (got-remove number_cmp_total exact_number C.sessions key k s h))
+  consistent_abandon key = with_sessions content C consistent (remove C.sessions key) (λ k s h. consistent.sessions k s (got-remove number_cmp_total exact_number C.sessions key k s h))
 
   -- the repository of a session that was checked is there
   repo_there : (f : Session → Result ℕ Refusal) (key : Number) (o : Option Session) (after : ℕ) → get C.sessions key ≡ o → (session_in o r >>= f) ≡ Ok after → kept_set.contains C.repos r ≡ true
@@ -84,76 +118,44 @@ module _ (content : Text → Text) (C : Catalog) (consistent : Consistent conten
       subst (λ (x : Text). kept_set.contains C.repos x ≡ true) is.1 (consistent.sessions key a.0 (found ∙ is.0))
 
   consistent_stored : (t n : ℕ) (d w : Text) → kept_set.contains C.repos r ≡ true → content d ≡ w → Consistent content (stored C t r n d w)
-  consistent_stored t n d w there fits = record {
-    repos = consistent.repos;
-    links = λ l h. ⊎_elim (λ (e : l ≡ (r, d)). subst (λ (x : Link). kept_set.contains C.repos x.0 ≡ true) (sym e) there) (consistent.links l) (member link_cmp_total exact_link C.links (r, d) l h);
-    kept = λ l h. ⊎_elim (λ (e : l ≡ (r, d)). subst (λ (x : Link). is_some (get (insert C.residents d new) x.1) ≡ true) (sym e) (ap is_some (get-insert_at nat_list_cmp_total exact_bytes C.residents d new)))
-        (λ h. still_there nat_list_cmp_total exact_bytes C.residents d l.1 new (consistent.kept l h)) (member link_cmp_total exact_link C.links (r, d) l h);
-    manifests = consistent.manifests;
-    sessions = λ k s h. consistent.sessions k s (got-remove number_cmp_total exact_number C.sessions (t, n) k s h);
-    bytes = λ q b h. ⊎_elim (λ e. ap (λ (x : Resident). x.bytes) (sym e.1) ∙ sym fits ∙ ap content (sym e.0)) (consistent.bytes q b) (got-insert nat_list_cmp_total exact_bytes C.residents d new q b h);
-  }
+  consistent_stored t n d w there fits =
+      let kept = with_blob content C consistent d new (sym fits) in
+      let linked = with_links content (record C { residents = insert C.residents d new }) kept (kept_set.insert C.links (r, d)) (λ l h.
+      ⊎_elim (λ (e : l ≡ (r, d)). subst (λ (x : Link). (kept_set.contains C.repos x.0 ≡ true) × (is_some (get (insert C.residents d new) x.1) ≡ true)) (sym e)
+      (there, ap is_some (get-insert_at nat_list_cmp_total exact_bytes C.residents d new)))
+      (λ h. (kept.links l h, kept.kept l h)) (member link_cmp_total exact_link C.links (r, d) l h)) in
+      with_sessions content (record C { residents = insert C.residents d new; links = kept_set.insert C.links (r, d) }) linked (remove C.sessions (t, n))
+      (λ k s h. consistent.sessions k s (got-remove number_cmp_total exact_number C.sessions (t, n) k s h))
     where
       new : Resident
       new = record { bytes = w; condemned = false; lent = Commands.was_lent (get C.residents d) }
 
   consistent_linked : (t : ℕ) (d : Text) → tenant_of C.tenants r ≡ Some t → is_some (get C.residents d) ≡ true → Consistent content (with_link C r d)
-  consistent_linked t d known there = record {
-    repos = repos_known t known;
-    links = λ l h. ⊎_elim (λ (e : l ≡ (r, d)). subst (λ (x : Link). kept_set.contains (kept_set.insert C.repos r) x.0 ≡ true) (sym e) is_in) (λ h. stays l.0 (consistent.links l h)) (member link_cmp_total exact_link C.links (r, d) l h);
-    kept = λ l h. ⊎_elim (λ (e : l ≡ (r, d)). subst (λ (x : Link). is_some (get C.residents x.1) ≡ true) (sym e) there) (consistent.kept l) (member link_cmp_total exact_link C.links (r, d) l h);
-    manifests = λ l b h. stays l.0 (consistent.manifests l b h);
-    sessions = λ k s h. stays s.repo (consistent.sessions k s h);
-    bytes = consistent.bytes;
-  }
+  consistent_linked t d known there =
+      let new = consistent_appeared t known in
+      with_links content appeared new (kept_set.insert C.links (r, d)) (λ l h.
+      ⊎_elim (λ (e : l ≡ (r, d)). subst (λ (x : Link). (kept_set.contains (kept_set.insert C.repos r) x.0 ≡ true) × (is_some (get C.residents x.1) ≡ true)) (sym e) (is_in, there))
+      (λ h. (new.links l h, new.kept l h)) (member link_cmp_total exact_link C.links (r, d) l h))
 
   source_kept : (t : ℕ) (d : Text) (from : Option Text) → has_source C t d from ≡ true → is_some (get C.residents d) ≡ true
   source_kept t d None has = held_kept content C consistent t d has
   source_kept t d (Some q) has = consistent.kept (q, d) (and_parts (is_of C t q) (holds C q d) has).1
 
   consistent_delete : (d : Text) → Consistent content (record C { links = kept_set.remove C.links (r, d) })
-  consistent_delete d = record {
-    repos = consistent.repos;
-    links = λ l h. consistent.links l (was_member link_cmp_total exact_link C.links (r, d) l h);
-    kept = λ l h. consistent.kept l (was_member link_cmp_total exact_link C.links (r, d) l h);
-    manifests = consistent.manifests;
-    sessions = consistent.sessions;
-    bytes = consistent.bytes;
-  }
+  consistent_delete d = with_links content C consistent (kept_set.remove C.links (r, d)) (λ l h. let was = was_member link_cmp_total exact_link C.links (r, d) l h in (consistent.links l was, consistent.kept l was))
 
   consistent_put : (t : ℕ) (b : Text) → tenant_of C.tenants r ≡ Some t → Consistent content (with_manifest C r b)
-  consistent_put t b known = record {
-    repos = repos_known t known;
-    links = λ l h. stays l.0 (consistent.links l h);
-    kept = consistent.kept;
-    manifests = λ l x h. ⊎_elim (λ e. subst (λ (y : Link). kept_set.contains (kept_set.insert C.repos r) y.0 ≡ true) (sym e.0) is_in) (λ h. stays l.0 (consistent.manifests l x h))
-        (got-insert link_cmp_total exact_link C.manifests (r, sha256_text b) b l x h);
-    sessions = λ k s h. stays s.repo (consistent.sessions k s h);
-    bytes = consistent.bytes;
-  }
+  consistent_put t b known =
+      let new = consistent_appeared t known in
+      with_manifests content appeared new (insert C.manifests (r, sha256_text b) b) (λ l x h.
+      ⊎_elim (λ e. subst (λ (y : Link). kept_set.contains (kept_set.insert C.repos r) y.0 ≡ true) (sym e.0) is_in) (λ h. new.manifests l x h)
+      (got-insert link_cmp_total exact_link C.manifests (r, sha256_text b) b l x h))
 
   consistent_delete_manifest : (m : Text) → Consistent content (record C { manifests = remove C.manifests (r, m) })
-  consistent_delete_manifest m = record {
-    repos = consistent.repos;
-    links = consistent.links;
-    kept = consistent.kept;
-    manifests = λ l b h. consistent.manifests l b (got-remove link_cmp_total exact_link C.manifests (r, m) l b h);
-    sessions = consistent.sessions;
-    bytes = consistent.bytes;
-  }
+  consistent_delete_manifest m = with_manifests content C consistent (remove C.manifests (r, m)) (λ l b h. consistent.manifests l b (got-remove link_cmp_total exact_link C.manifests (r, m) l b h))
 
   consistent_lease : (d : Text) (b : Resident) → get C.residents d ≡ Some b → Consistent content (with_lent C d b)
-  consistent_lease d b found = record {
-    repos = consistent.repos;
-    links = consistent.links;
-    kept = λ l h. still_there nat_list_cmp_total exact_bytes C.residents d l.1 lent (consistent.kept l h);
-    manifests = consistent.manifests;
-    sessions = consistent.sessions;
-    bytes = λ q x h. ⊎_elim (λ e. ap (λ (y : Resident). y.bytes) (sym e.1) ∙ consistent.bytes d b found ∙ ap content (sym e.0)) (consistent.bytes q x) (got-insert nat_list_cmp_total exact_bytes C.residents d lent q x h);
-  }
-    where
-      lent : Resident
-      lent = record b { lent = true }
+  consistent_lease d b found = with_blob content C consistent d (record b { lent = true }) (consistent.bytes d b found)
 
   consistent_close : (housed : Catalog → Text → Result (Unit {0}) Refusal) (n : ℕ) (d : Text) (g : Option ByteRange) (b : Text) → Fits content (named d (whole_of C r n b)) →
       Leaves (Consistent content) (Commands.close_by housed C r n d g b)

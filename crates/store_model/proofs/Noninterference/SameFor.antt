@@ -66,13 +66,16 @@ module _ (t : ℕ) (C D : Visible) (alike : AreAlike t C D) where
   with_sessions r s agree = record { tenants = alike.tenants; max_blob = alike.max_blob; numbers = alike.numbers; next = alike.next; repos = alike.repos; links = alike.links; manifests = alike.manifests; sessions = agree }
 
 -- What holds of each catalog of a run, where `content` gives the whole that was brought with a digest.
-pub record Consistent (content : Text → Text) (C : Catalog) : Type 0 where
-  pub repos : (r : Text) → set.contains C.repos r ≡ true → is_some (tenant_of C.tenants r) ≡ true
-  pub links : (l : Link) → set.contains C.links l ≡ true → set.contains C.repos l.0 ≡ true
-  pub kept : (l : Link) → set.contains C.links l ≡ true → is_some (get C.residents l.1) ≡ true
-  pub manifests : (l : Link) (b : Text) → get C.manifests l ≡ Some b → set.contains C.repos l.0 ≡ true
-  pub sessions : (k : Number) (s : Session) → get C.sessions k ≡ Some s → set.contains C.repos s.repo ≡ true
-  pub bytes : (d : Text) (b : Resident) → get C.residents d ≡ Some b → b.bytes ≡ content d
+pub record AreConsistent (content : Text → Text) (ts : List Tenant) (rs : set.Set text_cmp) (ls : set.Set link_cmp) (blobs : FinMap text_cmp Resident) (ms : FinMap link_cmp Text) (ss : FinMap number_cmp Session) : Type 0 where
+  pub repos : (r : Text) → set.contains rs r ≡ true → is_some (tenant_of ts r) ≡ true
+  pub links : (l : Link) → set.contains ls l ≡ true → set.contains rs l.0 ≡ true
+  pub kept : (l : Link) → set.contains ls l ≡ true → is_some (get blobs l.1) ≡ true
+  pub manifests : (l : Link) (b : Text) → get ms l ≡ Some b → set.contains rs l.0 ≡ true
+  pub sessions : (k : Number) (s : Session) → get ss k ≡ Some s → set.contains rs s.repo ≡ true
+  pub bytes : (d : Text) (b : Resident) → get blobs d ≡ Some b → b.bytes ≡ content d
+
+abbrev pub Consistent : (Text → Text) → Catalog → Type 0
+Consistent content C = AreConsistent content C.tenants C.repos C.links C.residents C.manifests C.sessions
 
 -- ---- lists of blobs
 

@@ -21,7 +21,7 @@ use Rattle.blob_digest.proofs.KeyOrders.{number_cmp_total, exact_number, link_cm
 use Rattle.finite_maps.proofs.Lists.{all_weaker, flat_map-same, all_same}
 use Rattle.finite_maps.proofs.Options.{not_some}
 use Rattle.store_model.proofs.Invariant.Repos.{is_own}
-use Rattle.store_model.proofs.Invariant.NewLink.{is_held}
+use Rattle.store_model.proofs.Invariant.Links.{is_held}
 use Rattle.store_model.proofs.Noninterference.SameFor.{Alike, Consistent, of_same, find-blobs, used-blobs, tenant_holds_same, in_sessions_same}
 use Rattle.store_model.proofs.Noninterference.LocalRespect.{alike_through}
 use Rattle.store_model.proofs.Noninterference.Runs.{content_of, pairs_of, followed, isolated}

@@ -14,85 +14,86 @@ use Rattle.store_model.specs.Commands.{given_back}
 use Rattle.store_book.proofs.Refine.Finish.{found, finish_charged, finish_ok, finish_other_digest, finish_unkept, given_back_is, layer_finished, layer_refused, layer_unknown, reserve_charged, same_tenants, CanKeep-finished, IsBook-finish, IsBook-given_back}
 use Rattle.store_book.proofs.Refine.PutBack.{here_tenant}
 use Rattle.store_book.proofs.Slots.Shown.{Quietly-shown}
+use Rattle.store_book.specs.BookFields.{layers}
 use Rattle.store_book.proofs.book.Book.finish.Goals as goal
 
 pub discharge-requires : goal.discharge-requires
 discharge-requires c =
     let p = layer_refused c.self.inside.uploads c.args.hand c.args.digest.now c.in-Err.refusal c.in-Err.ensures.does.0 (λ e. c.in_default.not-UploadUnknown e) in
     rw (c.tenant-tenant.ensures, c.reserved-reserved.ensures.value) (record {
-      there = here_tenant c.self.inside.links c.self.inside.uploads c.self.inside.slots.slots c.self.inside.max_blob c.args.hand c.self.invariant (record { pieces = c.reserved-reserved.ensures.pieces; last = c.reserved-reserved.ensures.last }) p.0 p.1;
-      charged = reserve_charged c.self.inside.links c.self.inside.uploads c.self.inside.slots.slots c.self.inside.max_blob c.args.hand c.args.digest.now c.self.invariant (record { pieces = c.reserved-reserved.ensures.pieces; last = c.reserved-reserved.ensures.last }) c.requires.full p.0 p.1;
+      there = here_tenant (layers c.self.inside) c.args.hand c.self.invariant (record { pieces = c.reserved-reserved.ensures.pieces; last = c.reserved-reserved.ensures.last }) p.0 p.1;
+      charged = reserve_charged (layers c.self.inside) c.args.hand c.args.digest.now c.self.invariant (record { pieces = c.reserved-reserved.ensures.pieces; last = c.reserved-reserved.ensures.last }) c.requires.full p.0 p.1;
     })
 
 pub invariant_of-self-in_default : goal.invariant_of-self-in_default
 invariant_of-self-in_default c =
     let p = layer_refused c.self.inside.uploads c.args.hand c.args.digest.now c.in-Err.refusal c.in-Err.ensures.does.0 (λ e. c.in_default.not-UploadUnknown e) in
-    IsBook-given_back c.self.inside.links c.self.inside.uploads c.self.inside.slots.slots c.self.inside.max_blob c.args.hand c.args.digest.now c.self.invariant (record { pieces = c.reserved-reserved.ensures.pieces; last = c.reserved-reserved.ensures.last }) c.requires.full p.0 p.1 c.discharge.new.self c.finish.new.self (rw (c.tenant-tenant.ensures, c.reserved-reserved.ensures.value) at c.discharge.ensures) c.in-Err.ensures.does.1
+    IsBook-given_back (layers c.self.inside) c.args.hand c.args.digest.now c.self.invariant (record { pieces = c.reserved-reserved.ensures.pieces; last = c.reserved-reserved.ensures.last }) c.requires.full p.0 p.1 c.discharge.new.self c.finish.new.self (rw (c.tenant-tenant.ensures, c.reserved-reserved.ensures.value) at c.discharge.ensures) c.in-Err.ensures.does.1
 
 pub keep-requires-clause-can : goal.keep-requires-clause-can
 keep-requires-clause-can c =
     let p = layer_finished c.self.inside.uploads c.args.hand c.args.digest.now c.in-Ok.both.0 c.finish.new.self c.in-Ok.ensures.does in
-    let at = found c.self.inside.links c.self.inside.uploads c.self.inside.slots.slots c.self.inside.max_blob c.args.hand c.args.digest.now c.self.invariant (record { pieces = c.reserved-reserved.ensures.pieces; last = c.reserved-reserved.ensures.last }) c.requires.full p.0 p.1 in
+    let at = found (layers c.self.inside) c.args.hand c.args.digest.now c.self.invariant (record { pieces = c.reserved-reserved.ensures.pieces; last = c.reserved-reserved.ensures.last }) c.requires.full p.0 p.1 in
     let repo : c.repo_of-repo.result.now ≡ p.0.repo = c.repo_of-repo.ensures ∙ (λ i. repo_at (p.4 i) (c.in-Ok.ensures.key i)) ∙ ap (λ (o : Option Session). option_map_or (λ (s : Session). s.repo) o []) at in
-    rw (c.tenant-tenant.ensures, repo) (CanKeep-finished c.self.inside.links c.self.inside.uploads c.self.inside.slots.slots c.self.inside.max_blob c.args.hand c.args.digest.now c.self.invariant (record { pieces = c.reserved-reserved.ensures.pieces; last = c.reserved-reserved.ensures.last }) c.requires.full p.0 p.1 c.in-Ok.both.0 p.3)
+    rw (c.tenant-tenant.ensures, repo) (CanKeep-finished (layers c.self.inside) c.args.hand c.args.digest.now c.self.invariant (record { pieces = c.reserved-reserved.ensures.pieces; last = c.reserved-reserved.ensures.last }) c.requires.full p.0 p.1 c.in-Ok.both.0 p.3)
 
 pub discharge-requires-in-Ok-keep-clause-there : goal.discharge-requires-in-Ok-keep-clause-there
 discharge-requires-in-Ok-keep-clause-there c =
     let p = layer_finished c.self.inside.uploads c.args.hand c.args.digest.now c.in-Ok.both.0 c.finish.new.self c.in-Ok.ensures.does in
-    let at = found c.self.inside.links c.self.inside.uploads c.self.inside.slots.slots c.self.inside.max_blob c.args.hand c.args.digest.now c.self.invariant (record { pieces = c.reserved-reserved.ensures.pieces; last = c.reserved-reserved.ensures.last }) c.requires.full p.0 p.1 in
+    let at = found (layers c.self.inside) c.args.hand c.args.digest.now c.self.invariant (record { pieces = c.reserved-reserved.ensures.pieces; last = c.reserved-reserved.ensures.last }) c.requires.full p.0 p.1 in
     let repo : c.repo_of-repo.result.now ≡ p.0.repo = c.repo_of-repo.ensures ∙ (λ i. repo_at (p.4 i) (c.in-Ok.ensures.key i)) ∙ ap (λ (o : Option Session). option_map_or (λ (s : Session). s.repo) o []) at in
     let kept = subst (λ (b : Text × Text). IsKept c.self.inside.links c.self.inside.slots.slots p.0.repo b c.keep.new.links c.keep.new.slots.slots) p.3 (subst (λ (r : Text). IsKept c.self.inside.links c.self.inside.slots.slots r c.in-Ok.both.0 c.keep.new.links c.keep.new.slots.slots) repo c.in-Ok-keep.ensures.ok) in
-    let tenants = same_tenants c.self.inside.links c.self.inside.uploads c.self.inside.slots.slots c.self.inside.max_blob c.args.hand c.args.digest.now c.self.invariant (record { pieces = c.reserved-reserved.ensures.pieces; last = c.reserved-reserved.ensures.last }) c.requires.full p.0 p.1 p.2 c.keep.new.links c.keep.new.slots.slots kept in
-    let there = here_tenant c.self.inside.links c.self.inside.uploads c.self.inside.slots.slots c.self.inside.max_blob c.args.hand c.self.invariant (record { pieces = c.reserved-reserved.ensures.pieces; last = c.reserved-reserved.ensures.last }) p.0 p.1 in
+    let tenants = same_tenants (layers c.self.inside) c.args.hand c.args.digest.now c.self.invariant (record { pieces = c.reserved-reserved.ensures.pieces; last = c.reserved-reserved.ensures.last }) c.requires.full p.0 p.1 p.2 c.keep.new.links c.keep.new.slots.slots kept in
+    let there = here_tenant (layers c.self.inside) c.args.hand c.self.invariant (record { pieces = c.reserved-reserved.ensures.pieces; last = c.reserved-reserved.ensures.last }) p.0 p.1 in
     rw c.tenant-tenant.ensures (omega (arith, tenants, there))
 
 pub discharge-requires-in-Ok-keep-clause-charged : goal.discharge-requires-in-Ok-keep-clause-charged
 discharge-requires-in-Ok-keep-clause-charged c =
     let p = layer_finished c.self.inside.uploads c.args.hand c.args.digest.now c.in-Ok.both.0 c.finish.new.self c.in-Ok.ensures.does in
-    let at = found c.self.inside.links c.self.inside.uploads c.self.inside.slots.slots c.self.inside.max_blob c.args.hand c.args.digest.now c.self.invariant (record { pieces = c.reserved-reserved.ensures.pieces; last = c.reserved-reserved.ensures.last }) c.requires.full p.0 p.1 in
+    let at = found (layers c.self.inside) c.args.hand c.args.digest.now c.self.invariant (record { pieces = c.reserved-reserved.ensures.pieces; last = c.reserved-reserved.ensures.last }) c.requires.full p.0 p.1 in
     let repo : c.repo_of-repo.result.now ≡ p.0.repo = c.repo_of-repo.ensures ∙ (λ i. repo_at (p.4 i) (c.in-Ok.ensures.key i)) ∙ ap (λ (o : Option Session). option_map_or (λ (s : Session). s.repo) o []) at in
     let kept = subst (λ (b : Text × Text). IsKept c.self.inside.links c.self.inside.slots.slots p.0.repo b c.keep.new.links c.keep.new.slots.slots) p.3 (subst (λ (r : Text). IsKept c.self.inside.links c.self.inside.slots.slots r c.in-Ok.both.0 c.keep.new.links c.keep.new.slots.slots) repo c.in-Ok-keep.ensures.ok) in
     let size = ap length (c.bytes.ensures.value ∙ ap (λ (b : Text × Text). b.1) p.3) in
-    rw (c.tenant-tenant.ensures, size) (finish_charged c.self.inside.links c.self.inside.uploads c.self.inside.slots.slots c.self.inside.max_blob c.args.hand c.args.digest.now c.self.invariant (record { pieces = c.reserved-reserved.ensures.pieces; last = c.reserved-reserved.ensures.last }) c.requires.full p.0 p.1 p.2 c.keep.new.links c.keep.new.slots.slots kept)
+    rw (c.tenant-tenant.ensures, size) (finish_charged (layers c.self.inside) c.args.hand c.args.digest.now c.self.invariant (record { pieces = c.reserved-reserved.ensures.pieces; last = c.reserved-reserved.ensures.last }) c.requires.full p.0 p.1 p.2 c.keep.new.links c.keep.new.slots.slots kept)
 
 pub invariant_of-self-in-Ok-keep : goal.invariant_of-self-in-Ok-keep
 invariant_of-self-in-Ok-keep c =
     let p = layer_finished c.self.inside.uploads c.args.hand c.args.digest.now c.in-Ok.both.0 c.finish.new.self c.in-Ok.ensures.does in
-    let at = found c.self.inside.links c.self.inside.uploads c.self.inside.slots.slots c.self.inside.max_blob c.args.hand c.args.digest.now c.self.invariant (record { pieces = c.reserved-reserved.ensures.pieces; last = c.reserved-reserved.ensures.last }) c.requires.full p.0 p.1 in
+    let at = found (layers c.self.inside) c.args.hand c.args.digest.now c.self.invariant (record { pieces = c.reserved-reserved.ensures.pieces; last = c.reserved-reserved.ensures.last }) c.requires.full p.0 p.1 in
     let repo : c.repo_of-repo.result.now ≡ p.0.repo = c.repo_of-repo.ensures ∙ (λ i. repo_at (p.4 i) (c.in-Ok.ensures.key i)) ∙ ap (λ (o : Option Session). option_map_or (λ (s : Session). s.repo) o []) at in
     let kept = subst (λ (b : Text × Text). IsKept c.self.inside.links c.self.inside.slots.slots p.0.repo b c.keep.new.links c.keep.new.slots.slots) p.3 (subst (λ (r : Text). IsKept c.self.inside.links c.self.inside.slots.slots r c.in-Ok.both.0 c.keep.new.links c.keep.new.slots.slots) repo c.in-Ok-keep.ensures.ok) in
     let size = ap length (c.bytes.ensures.value ∙ ap (λ (b : Text × Text). b.1) p.3) in
     let links = rw (c.tenant-tenant.ensures, size) at c.discharge-in-Ok-keep.ensures in
     let uploads = c.forget.ensures ∙ (λ i. with_sessions (p.4 i) (remove (p.4 i).sessions (c.in-Ok.ensures.key i))) in
-    IsBook-finish c.self.inside.links c.self.inside.uploads c.self.inside.slots.slots c.self.inside.max_blob c.args.hand c.args.digest.now c.self.invariant (record { pieces = c.reserved-reserved.ensures.pieces; last = c.reserved-reserved.ensures.last }) c.requires.full p.0 p.1 p.2 c.keep.new.links c.keep.new.slots.slots kept c.discharge-in-Ok-keep.new.self c.forget.new.self links uploads
+    IsBook-finish (layers c.self.inside) c.args.hand c.args.digest.now c.self.invariant (record { pieces = c.reserved-reserved.ensures.pieces; last = c.reserved-reserved.ensures.last }) c.requires.full p.0 p.1 p.2 c.keep.new.links c.keep.new.slots.slots kept c.discharge-in-Ok-keep.new.self c.forget.new.self links uploads
 
 pub discharge-requires-in-Err-keep-clause-there : goal.discharge-requires-in-Err-keep-clause-there
 discharge-requires-in-Err-keep-clause-there c =
     let p = layer_finished c.self.inside.uploads c.args.hand c.args.digest.now c.in-Ok.both.0 c.finish.new.self c.in-Ok.ensures.does in
-    rw (c.tenant-tenant.ensures, c.in-Err-keep.ensures.err.0) (here_tenant c.self.inside.links c.self.inside.uploads c.self.inside.slots.slots c.self.inside.max_blob c.args.hand c.self.invariant (record { pieces = c.reserved-reserved.ensures.pieces; last = c.reserved-reserved.ensures.last }) p.0 p.1)
+    rw (c.tenant-tenant.ensures, c.in-Err-keep.ensures.err.0) (here_tenant (layers c.self.inside) c.args.hand c.self.invariant (record { pieces = c.reserved-reserved.ensures.pieces; last = c.reserved-reserved.ensures.last }) p.0 p.1)
 
 pub discharge-requires-in-Err-keep-clause-charged : goal.discharge-requires-in-Err-keep-clause-charged
 discharge-requires-in-Err-keep-clause-charged c =
     let p = layer_finished c.self.inside.uploads c.args.hand c.args.digest.now c.in-Ok.both.0 c.finish.new.self c.in-Ok.ensures.does in
-    rw (c.tenant-tenant.ensures, c.in-Err-keep.ensures.err.0, c.reserved-reserved.ensures.value) (reserve_charged c.self.inside.links c.self.inside.uploads c.self.inside.slots.slots c.self.inside.max_blob c.args.hand c.args.digest.now c.self.invariant (record { pieces = c.reserved-reserved.ensures.pieces; last = c.reserved-reserved.ensures.last }) c.requires.full p.0 p.1)
+    rw (c.tenant-tenant.ensures, c.in-Err-keep.ensures.err.0, c.reserved-reserved.ensures.value) (reserve_charged (layers c.self.inside) c.args.hand c.args.digest.now c.self.invariant (record { pieces = c.reserved-reserved.ensures.pieces; last = c.reserved-reserved.ensures.last }) c.requires.full p.0 p.1)
 
 pub invariant_of-self-in-Err-keep : goal.invariant_of-self-in-Err-keep
 invariant_of-self-in-Err-keep c =
     let p = layer_finished c.self.inside.uploads c.args.hand c.args.digest.now c.in-Ok.both.0 c.finish.new.self c.in-Ok.ensures.does in
     let links = rw (c.tenant-tenant.ensures, c.in-Err-keep.ensures.err.0, c.reserved-reserved.ensures.value) at c.discharge-in-Err-keep.ensures in
     let uploads = c.reopen.ensures ∙ ap (λ (b : Text × Text). reopened c.finish.new.self c.in-Ok.both.1 b.1) c.in-Err-keep.ensures.back ∙ c.in-Ok.ensures.restores.1 in
-    rw (ap (λ (p : Pinned). p.slots) c.in-Err-keep.ensures.err.1) (IsBook-given_back c.self.inside.links c.self.inside.uploads c.self.inside.slots.slots c.self.inside.max_blob c.args.hand c.args.digest.now c.self.invariant (record { pieces = c.reserved-reserved.ensures.pieces; last = c.reserved-reserved.ensures.last }) c.requires.full p.0 p.1 c.discharge-in-Err-keep.new.self c.reopen.new.self links uploads)
+    rw (ap (λ (p : Pinned). p.slots) c.in-Err-keep.ensures.err.1) (IsBook-given_back (layers c.self.inside) c.args.hand c.args.digest.now c.self.invariant (record { pieces = c.reserved-reserved.ensures.pieces; last = c.reserved-reserved.ensures.last }) c.requires.full p.0 p.1 c.discharge-in-Err-keep.new.self c.reopen.new.self links uploads)
 
 pub returns-in-Ok-keep-clause-does : goal.returns-in-Ok-keep-clause-does
 returns-in-Ok-keep-clause-does c =
     let p = layer_finished c.self.inside.uploads c.args.hand c.args.digest.now c.in-Ok.both.0 c.finish.new.self c.in-Ok.ensures.does in
-    let at = found c.self.inside.links c.self.inside.uploads c.self.inside.slots.slots c.self.inside.max_blob c.args.hand c.args.digest.now c.self.invariant (record { pieces = c.reserved-reserved.ensures.pieces; last = c.reserved-reserved.ensures.last }) c.requires.full p.0 p.1 in
+    let at = found (layers c.self.inside) c.args.hand c.args.digest.now c.self.invariant (record { pieces = c.reserved-reserved.ensures.pieces; last = c.reserved-reserved.ensures.last }) c.requires.full p.0 p.1 in
     let repo : c.repo_of-repo.result.now ≡ p.0.repo = c.repo_of-repo.ensures ∙ (λ i. repo_at (p.4 i) (c.in-Ok.ensures.key i)) ∙ ap (λ (o : Option Session). option_map_or (λ (s : Session). s.repo) o []) at in
     let kept = subst (λ (b : Text × Text). IsKept c.self.inside.links c.self.inside.slots.slots p.0.repo b c.keep.new.links c.keep.new.slots.slots) p.3 (subst (λ (r : Text). IsKept c.self.inside.links c.self.inside.slots.slots r c.in-Ok.both.0 c.keep.new.links c.keep.new.slots.slots) repo c.in-Ok-keep.ensures.ok) in
     let size = ap length (c.bytes.ensures.value ∙ ap (λ (b : Text × Text). b.1) p.3) in
     let links = rw (c.tenant-tenant.ensures, size) at c.discharge-in-Ok-keep.ensures in
     let uploads = c.forget.ensures ∙ (λ i. with_sessions (p.4 i) (remove (p.4 i).sessions (c.in-Ok.ensures.key i))) in
-    rw (← c.self.view_is, size) (finish_ok c.self.inside.links c.self.inside.uploads c.self.inside.slots.slots c.self.inside.max_blob c.args.hand c.args.digest.now c.self.invariant (record { pieces = c.reserved-reserved.ensures.pieces; last = c.reserved-reserved.ensures.last }) c.requires.full p.0 p.1 p.2 c.keep.new.links c.keep.new.slots.slots kept c.discharge-in-Ok-keep.new.self c.forget.new.self links uploads)
+    rw (← c.self.view_is, size) (finish_ok (layers c.self.inside) c.args.hand c.args.digest.now c.self.invariant (record { pieces = c.reserved-reserved.ensures.pieces; last = c.reserved-reserved.ensures.last }) c.requires.full p.0 p.1 p.2 c.keep.new.links c.keep.new.slots.slots kept c.discharge-in-Ok-keep.new.self c.forget.new.self links uploads)
 
 pub returns-in-Ok-keep-clause-slots : goal.returns-in-Ok-keep-clause-slots
 returns-in-Ok-keep-clause-slots c = rw (← c.self.view_is) (Quietly-shown c.self.inside.slots c.keep.new.slots c.in-Ok-keep.ensures.quiet)
@@ -102,8 +103,8 @@ returns-in-Err-keep-clause-does c =
     let p = layer_finished c.self.inside.uploads c.args.hand c.args.digest.now c.in-Ok.both.0 c.finish.new.self c.in-Ok.ensures.does in
     let links = rw (c.tenant-tenant.ensures, c.in-Err-keep.ensures.err.0, c.reserved-reserved.ensures.value) at c.discharge-in-Err-keep.ensures in
     let uploads = c.reopen.ensures ∙ ap (λ (b : Text × Text). reopened c.finish.new.self c.in-Ok.both.1 b.1) c.in-Err-keep.ensures.back ∙ c.in-Ok.ensures.restores.1 in (
-      (λ other. rw (← c.self.view_is) (finish_unkept c.self.inside.links c.self.inside.uploads c.self.inside.slots.slots c.self.inside.max_blob c.args.hand c.args.digest.now c.self.invariant (record { pieces = c.reserved-reserved.ensures.pieces; last = c.reserved-reserved.ensures.last }) c.requires.full p.0 p.1 p.2 c.in-Err-keep.refusal (subst (λ (b : Text × Text). IsUnkept c.self.inside.slots.slots b c.in-Err-keep.refusal) p.3 (c.in-Err-keep.ensures.refused other)))),
-      ap (λ s. book_catalog c.discharge-in-Err-keep.new.self c.reopen.new.self s c.self.inside.max_blob) (ap (λ (p : Pinned). p.slots) c.in-Err-keep.ensures.err.1) ∙ given_back_is c.self.inside.links c.self.inside.uploads c.self.inside.slots.slots c.self.inside.max_blob c.args.hand c.args.digest.now c.discharge-in-Err-keep.new.self c.reopen.new.self c.args.hand.reserved links uploads ∙ ap (λ (s : BookState). given_back s.catalog c.args.hand) c.self.view_is,
+      (λ other. rw (← c.self.view_is) (finish_unkept (layers c.self.inside) c.args.hand c.args.digest.now c.self.invariant (record { pieces = c.reserved-reserved.ensures.pieces; last = c.reserved-reserved.ensures.last }) c.requires.full p.0 p.1 p.2 c.in-Err-keep.refusal (subst (λ (b : Text × Text). IsUnkept c.self.inside.slots.slots b c.in-Err-keep.refusal) p.3 (c.in-Err-keep.ensures.refused other)))),
+      ap (λ s. book_catalog (record (layers c.self.inside) { links = c.discharge-in-Err-keep.new.self; uploads = c.reopen.new.self; slots = s })) (ap (λ (p : Pinned). p.slots) c.in-Err-keep.ensures.err.1) ∙ given_back_is (layers c.self.inside) c.args.hand c.args.digest.now c.discharge-in-Err-keep.new.self c.reopen.new.self c.args.hand.reserved links uploads ∙ ap (λ (s : BookState). given_back s.catalog c.args.hand) c.self.view_is,
     )
 
 pub invariant_of-self : goal.invariant_of-self
@@ -112,8 +113,8 @@ invariant_of-self c = rw (c.in-Err.ensures.does.1 ∙ layer_unknown c.self.insid
 pub returns-in_default-clause-does : goal.returns-in_default-clause-does
 returns-in_default-clause-does c =
     let p = layer_refused c.self.inside.uploads c.args.hand c.args.digest.now c.in-Err.refusal c.in-Err.ensures.does.0 (λ e. c.in_default.not-UploadUnknown e) in (
-      (λ other. rw (← c.self.view_is, p.3) (finish_other_digest c.self.inside.links c.self.inside.uploads c.self.inside.slots.slots c.self.inside.max_blob c.args.hand c.args.digest.now c.self.invariant (record { pieces = c.reserved-reserved.ensures.pieces; last = c.reserved-reserved.ensures.last }) c.requires.full p.0 p.1 p.2)),
-      given_back_is c.self.inside.links c.self.inside.uploads c.self.inside.slots.slots c.self.inside.max_blob c.args.hand c.args.digest.now c.discharge.new.self c.finish.new.self c.reserved-reserved.result (rw c.tenant-tenant.ensures at c.discharge.ensures) c.in-Err.ensures.does.1 ∙ ap (λ (s : BookState). given_back s.catalog c.args.hand) c.self.view_is,
+      (λ other. rw (← c.self.view_is, p.3) (finish_other_digest (layers c.self.inside) c.args.hand c.args.digest.now c.self.invariant (record { pieces = c.reserved-reserved.ensures.pieces; last = c.reserved-reserved.ensures.last }) c.requires.full p.0 p.1 p.2)),
+      given_back_is (layers c.self.inside) c.args.hand c.args.digest.now c.discharge.new.self c.finish.new.self c.reserved-reserved.result (rw c.tenant-tenant.ensures at c.discharge.ensures) c.in-Err.ensures.does.1 ∙ ap (λ (s : BookState). given_back s.catalog c.args.hand) c.self.view_is,
     )
 
 pub returns-in-Ok-keep-clause-housed : goal.returns-in-Ok-keep-clause-housed

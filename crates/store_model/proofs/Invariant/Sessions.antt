@@ -1,17 +1,18 @@
--- A session that opens in a repository keeps the catalog lawful, and no use changes.
-use Rattle.std.proofs.Common.{◌≡◌, ℕ, ◌+◌, ◌^◌, ◌<◌, ◌≤◌, true, false, cond, [], length, Option, Some, None, refl, sym, ap, ◌∙◌, subst, arith, inl, inr, get_or-set_same, get_or-set_other}
+-- A session that opens in a repository keeps the catalog lawful, and no use changes. So does one that is gone, which takes what it counts
+-- from its tenant's use.
+use Rattle.std.proofs.Common.{◌≡◌, ℕ, ◌+◌, ◌^◌, ◌<◌, ◌≤◌, true, false, cond, [], length, Option, Some, None, refl, sym, ap, ◌∙◌, subst, arith, inl, inr, get_or-set_same, get_or-set_other, ◌≢◌}
 use Rattle.std.specs.Prelude.{◌==◌, nat_le, slice_set}
-use Rattle.std.specs.FinMap.{get, insert}
+use Rattle.std.specs.FinMap.{get, insert, remove}
 use Rattle.std.proofs.lemmas.Bool.{cases_eq, leb-false, eq-eqb, ne_eqb, or_parts}
 use Rattle.std.proofs.lemmas.List.{length-set}
 use Rattle.finite_maps.specs.Sets as set
 use Rattle.finite_maps.specs.Texts.{Text}
-use Rattle.store_model.specs.Catalog.{Number, Home, Session, Catalog, is_of, open_sessions, session_charge, used, next_of}
+use Rattle.store_model.specs.Catalog.{Number, Home, Session, Catalog, is_of, open_sessions, session_charge, used, next_of, charged}
 use Rattle.store_model.specs.Commands.{cannot_open}
 use Rattle.store_model.specs.Invariant.{Lawful, LawfulSession}
 use Rattle.blob_digest.proofs.KeyOrders.{number_cmp_total, exact_number}
-use Rattle.finite_maps.proofs.Sums.{sum_new}
-use Rattle.finite_maps.proofs.Maps.{got-insert}
+use Rattle.finite_maps.proofs.Sums.{sum_new, sum_split}
+use Rattle.finite_maps.proofs.Maps.{got-insert, got-remove, sum_at}
 
 module _ (C : Catalog) (t : ℕ) (r : Text) (lawful : Lawful C) where
   abbrev new : Session
@@ -97,3 +98,39 @@ module _ (C : Catalog) (t : ℕ) (r : Text) (lawful : Lawful C) where
       few_sessions = open_few;
       few_manifests = lawful.few_manifests;
     }
+
+-- ---- a session that is gone
+
+module _ (C : Catalog) (key : Number) where
+  abbrev without : Catalog
+  without = record C { sessions = remove C.sessions key }
+
+  fewer : (u : ℕ) → open_sessions without u ≤ open_sessions C u
+  fewer u = let sum = sum_at number_cmp_total exact_number (λ e. cond (e.0.0 == u) 1 0) C.sessions key in omega arith
+
+  pub Lawful-gone : Lawful C → Lawful without
+  Lawful-gone lawful = record {
+    content = lawful.content;
+    links = lawful.links;
+    manifests = lawful.manifests;
+    sessions = λ q s h. lawful.sessions q s (got-remove number_cmp_total exact_number C.sessions key q s h);
+    repositories = lawful.repositories;
+    numbering = lawful.numbering;
+    limits = lawful.limits;
+    few_manifests = lawful.few_manifests;
+    few_sessions = λ u. let few = lawful.few_sessions u in let less = fewer u in omega arith;
+  }
+
+  module _ (s : Session) (found : get C.sessions key ≡ Some s) where
+    -- the tenant's use falls by what the session counted, and no other's
+    pub used-gone : used C key.0 ≡ used without key.0 + charged s
+    used-gone =
+        let sum = sum_split number_cmp_total exact_number (session_charge key.0) C.sessions key s found in
+        let own : session_charge key.0 (key, s) ≡ charged s = ap (λ b. cond b (charged s) 0) (eq-eqb key.0 key.0 refl) in
+        omega arith
+
+    pub used_other-gone : (u : ℕ) → u ≢ key.0 → used C u ≡ used without u
+    used_other-gone u other =
+        let sum = sum_split number_cmp_total exact_number (session_charge u) C.sessions key s found in
+        let none : session_charge u (key, s) ≡ 0 = ap (λ b. cond b (charged s) 0) (ne_eqb key.0 u (λ e. other (sym e))) in
+        omega arith

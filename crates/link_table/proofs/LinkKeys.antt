@@ -1,0 +1,18 @@
+-- Links by the name of a repository and by a digest: how such a pair ties, and what is found by one that may tie.
+use Rattle.std.proofs.Common.{◌≡◌, Bool, true, false, cond, Option, None, refl, sym}
+use Rattle.std.specs.Prelude.{◌&&◌}
+use Rattle.std.specs.Ordering.{eq_by_cmp}
+use Rattle.std.specs.Cmp.{tied_then}
+use Rattle.finite_maps.specs.Texts.{Text, text_cmp}
+use Rattle.blob_digest.specs.Keys.{link_cmp}
+
+pub link_tie : (r d s e : Text) → eq_by_cmp link_cmp (r, d) (s, e) ≡ (eq_by_cmp text_cmp r s && eq_by_cmp text_cmp d e)
+link_tie r d s e = sym (tied_then (text_cmp r s) (text_cmp d e))
+
+pub both_ties : {X : Type 0} (a b : Bool) (v x : Option X) → cond (a && b) v (cond a x None) ≡ cond a (cond b v x) None
+both_ties true b v x = refl
+both_ties false b v x = refl
+
+pub none_anyway : {X : Type 0} (b : Bool) → None ≡ cond {A = Option X} b None None
+none_anyway true = refl
+none_anyway false = refl
