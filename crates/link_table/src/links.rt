@@ -6,7 +6,7 @@ ghost use Rattle.blob_digest.specs.Outcomes.{Does, DoesExactly};
 ghost use Rattle.blob_digest.specs.declared.refusal.Refusal.TheVariants.{Memory};
 ghost use Rattle.link_table.specs.ManifestTable.{referrer_on, manifests_on};
 ghost use Rattle.link_table.specs.TenantRepos.{nothing};
-ghost use Rattle.link_table.specs.Linked.{is_tenants, known_tenant, used_in, quota_in, blobs_of, repos_of, blobs_in, link, unlink, put_manifest, drop_manifest, charge, discharge, appear, vanish, IsSizeOf, HasNoLinks};
+ghost use Rattle.link_table.specs.Linked.{is_tenants, known_tenant, used_in, quota_in, blobs_of, repos_of, blobs_in, first_unlinked, link, unlink, put_manifest, drop_manifest, charge, discharge, appear, vanish, IsSizeOf, HasNoLinks};
 ghost use Rattle.link_table.specs.Tenancy.{Opens, AreTenants, RefusesTenants, tenants_shown};
 
 use crate::blobs::Blobs;
@@ -258,6 +258,21 @@ impl Links {
             Some(t) => self.repos[t].holds(repo, digest),
             None => false,
         }
+    }
+
+    /// The first of some digests whose blob a repository of a tenant doesn't hold. The repository is found
+    /// once; each digest takes the logarithm of the number of its blobs.
+    pub fn first_unlinked(
+        &self,
+        tenant: u16,
+        repo: &RepoName,
+        digests: &[Digest],
+    ) -> Option<Digest>
+        requires there { tenant < length self.now.tenants }
+        requires own { is_tenants self.now.tenants tenant repo.now ≡ true }
+        ensures { result ≡ first_unlinked self.now.links repo.now digests.now }
+    {
+        self.repos[tenant as usize].first_unlinked(repo, digests)
     }
 
     /// Whether some repository of a tenant holds the blob of a digest: whether its count isn't 0. It takes

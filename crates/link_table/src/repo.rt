@@ -1,6 +1,7 @@
 //! A repository, and the blobs that it holds.
 
-ghost use Rattle.std.specs.Prelude.{◌≡◌, OnOk, OnErr, IfErr, cond, Some, None, length};
+ghost use Rattle.std.specs.Prelude.{◌≡◌, OnOk, OnErr, IfErr, cond, Some, None, is_some, length, not};
+ghost use Rattle.std.specs.List.{find};
 ghost use Rattle.std.specs.BTreeMap as tree;
 ghost use Rattle.finite_maps.specs.Texts.{Text, text_cmp};
 ghost use Rattle.blob_digest.specs.declared.refusal.Refusal.TheVariants.{Memory};
@@ -22,6 +23,16 @@ pub fn place_of(rows: &[Repo], repo: &RepoName) -> Result<usize, usize>
     ensures place { IsBinarySearchResult (λ r. text_cmp r.name repo.now) rows.now result }
 {
     rows.binary_search_by(|r| r.name.cmp(repo))
+}
+
+/// The first of some digests whose blob a repository doesn't hold.
+pub fn first_missing(repo: &Repo, digests: &[Digest]) -> Option<Digest>
+    ensures { result ≡ find (λ d. not (is_some (tree.get text_cmp repo.now.blobs d))) digests.now }
+{
+    digests
+        .iter()
+        .copied()
+        .find(|digest| !repo.blobs.contains_key(digest))
 }
 
 /// A repository holds a blob of this digest and size. Refused with `Memory` alone, and then

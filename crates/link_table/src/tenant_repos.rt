@@ -6,10 +6,10 @@ ghost use Rattle.std.specs.FinMap as fmap;
 ghost use Rattle.finite_maps.specs.Sets as set;
 ghost use Rattle.blob_digest.specs.Outcomes.{Does};
 ghost use Rattle.blob_digest.specs.declared.refusal.Refusal.TheVariants.{Memory};
-ghost use Rattle.link_table.specs.Linked.{HasNoLinks};
+ghost use Rattle.link_table.specs.Linked.{HasNoLinks, first_unlinked};
 ghost use Rattle.link_table.specs.TenantRepos.{count, nothing, appear_on, blobs_on};
 
-use crate::repo::{Repo, insert_blob, place_of, remove_blob};
+use crate::repo::{Repo, first_missing, insert_blob, place_of, remove_blob};
 use blob_digest::{Digest, Refusal, RepoName};
 use std::alloc::Global;
 use std::collections::BTreeMap;
@@ -117,6 +117,16 @@ impl TenantRepos {
         match place_of(self.repos.as_slice(), repo) {
             Ok(place) => self.repos[place].blobs.contains_key(digest),
             Err(_) => false,
+        }
+    }
+
+    /// The first of some digests whose blob a repository doesn't hold.
+    pub fn first_unlinked(&self, repo: &RepoName, digests: &[Digest]) -> Option<Digest>
+        ensures { result ≡ first_unlinked self.now.links repo.now digests.now }
+    {
+        match place_of(self.repos.as_slice(), repo) {
+            Ok(place) => first_missing(&self.repos[place], digests),
+            Err(_) => digests.first().copied(),
         }
     }
 
