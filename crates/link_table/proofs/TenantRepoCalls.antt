@@ -1,5 +1,5 @@
 -- What the calls on a tenant's repositories give.
-use Rattle.std.proofs.Common.{◌≡◌, ◌<◌, ◌≤◌, true, false, not, Option, Some, None, is_some, Result, Ok, Err, refl, ap}
+use Rattle.std.proofs.Common.{◌≡◌, ◌<◌, ◌≤◌, true, false, not, Result, Ok, Err, refl, ap}
 use Rattle.std.specs.Prelude.{OnOk, OnErr, nat_le}
 use Rattle.std.specs.Cmp.Lexicographic.{nat_list_cmp_total}
 use Rattle.std.proofs.lemmas.Bool.{le-leb, lt-leb, and_from, and_left, and_right}

@@ -1,6 +1,6 @@
 //! The repositories of one tenant.
 
-ghost use Rattle.std.specs.Prelude.{◌≡◌, ◌≤◌, OnOk, OnErr, IfErr, Some, true, slice_get, []};
+ghost use Rattle.std.specs.Prelude.{◌≡◌, ◌≤◌, not, IfOk, OnOk, OnErr, IfErr, Some, true, slice_get, []};
 ghost use Rattle.std.specs.Option.{option_copied, option_map_or};
 ghost use Rattle.std.specs.FinMap as fmap;
 ghost use Rattle.finite_maps.specs.Sets as set;
@@ -84,13 +84,15 @@ impl TenantRepos {
         }
     }
 
-    /// Links a blob of this digest and size in a repository that is there. Refused with `Memory`
-    /// alone, and then nothing has changed.
-    pub fn link(&mut self, repo: &RepoName, digest: &Digest, size: u64) -> Result<(), Refusal>
+    /// Links a blob of this digest and size in a repository that is there, and answers whether the link
+    /// is new. Refused with `Memory` alone, and then nothing has changed.
+    pub fn link(&mut self, repo: &RepoName, digest: &Digest, size: u64) -> Result<bool, Refusal>
         requires { set.contains self.old.repos repo.now ≡ true }
+        ensures new { IfOk result (λ b. b ≡ not (fmap.contains_key self.old.links (repo.now, digest.now))) }
         ensures ok { OnOk result (self.new ≡ record self.old { links = fmap.insert self.old.links (repo.now, digest.now) size }) }
         ensures err { OnErr result (self.new ≡ self.old) }
         ensures refused { IfErr result (λ e. e ≡ Memory) }
+        ensures few { count self.old ≤ 1024 }
     {
         match place_of(self.repos.as_slice(), repo) {
             Ok(place) => insert_blob(&mut self.repos[place], digest, size),
@@ -111,8 +113,7 @@ impl TenantRepos {
 
     /// Whether a repository holds the blob of a digest.
     pub fn holds(&self, repo: &RepoName, digest: &Digest) -> bool
-        ensures held { result ≡ fmap.contains_key self.now.links (repo.now, digest.now) }
-        ensures few { count self.now ≤ 1024 }
+        ensures { result ≡ fmap.contains_key self.now.links (repo.now, digest.now) }
     {
         match place_of(self.repos.as_slice(), repo) {
             Ok(place) => self.repos[place].blobs.contains_key(digest),
