@@ -167,6 +167,10 @@ counted_any p (x ∷ xs) = ap (nat_lt 0) (sum_by-cons (λ y. cond (p y) 1 0) x x
 pub holders_at : (tenants : List Tenant) (links : FinMap link_cmp ℕ) (holders : List (FinMap text_cmp ℕ)) → Counts tenants links holders → (t : ℕ) → t < length tenants → (m : FinMap text_cmp ℕ) → m ≡ get_or holders t m → slice_get holders t ≡ Some m
 holders_at tenants links holders counts t lt m read = slice_get_read holders (length holders) t m refl (omega (arith, counts.one_each)) read
 
+-- one more is more than one where there was one
+pub past_one : (n m : ℕ) → n ≡ m + 1 → nat_lt 1 n ≡ nat_lt 0 m
+past_one n m is = grind (arith, nat_tests)
+
 -- whether a tenant holds a digest, as its count tells
 pub held-counted : (tenants : List Tenant) (links : FinMap link_cmp ℕ) (holders : List (FinMap text_cmp ℕ)) → Counts tenants links holders → (t : ℕ) (m : FinMap text_cmp ℕ) → slice_get holders t ≡ Some m → (d : Text) → nat_lt 0 (count_in m d) ≡ list_any (is_held tenants t d) (entries links)
 held-counted tenants links holders counts t m at d = ap (nat_lt 0) (sym (count_of-at holders t m at d) ∙ counts.counted t d) ∙ counted_any (is_held tenants t d) (entries links)
@@ -191,18 +195,6 @@ module _ (tenants : List Tenant) (links : FinMap link_cmp ℕ) (holders : List (
     one_each = one_each_set new;
     counted = λ u e. same_of holders t old at new same u e ∙ counts.counted u e;
   }
-
-  -- what was raised and lowered again is as before
-  pub Counts-back : (more back again : FinMap text_cmp ℕ) (d : Text) → ((e : Text) → count_in more e ≡ count_in old e + cond (same_text d e) 1 0) →
-      back ≡ get_or (set holders t more) t back → ((e : Text) → count_in again e + cond (same_text d e) 1 0 ≡ count_in back e) → Counts tenants links (set (set holders t more) t again)
-  Counts-back more back again d up read down =
-      let there = slice_get_read (set holders t more) (length (set holders t more)) t back refl (omega (arith, slice_get_within holders t old at, length-set holders t more)) read in record {
-        one_each = length-set (set holders t more) t again ∙ one_each_set more;
-        counted = λ u e. same_less (count_of (set (set holders t more) t again) u e) (count_of holders u e) (cond (is_key t d u e) 1 0) (less_of (set holders t more) t back there again d down u e ∙ more_of holders t old at more d up u e) ∙ counts.counted u e;
-      }
-    where
-      same_less : (a b k : ℕ) → a + k ≡ b + k → a ≡ b
-      same_less a b k p = omega arith
 
   module _ (new : FinMap text_cmp ℕ) (r d : Text) (n : ℕ) (own : is_tenants tenants t r ≡ true) where
     same_less : (a b k m : ℕ) → a + k ≡ m → m ≡ k + b → a ≡ b

@@ -1,5 +1,5 @@
 -- What is kept of a table's running numbers, through each call.
-use Rattle.std.proofs.Common.{◌≡◌, ℕ, ◌+◌, ◌-◌, ◌<◌, ◌≤◌, ◌^◌, Bool, true, false, cond, List, [], ◌∷◌, length, get_or, set, Option, Some, None, is_some, Ok, refl, sym, ap, ◌∙◌, arith, inl, inr, get_or-set_same, get_or-set_other, length-set}
+use Rattle.std.proofs.Common.{◌≡◌, ℕ, ◌+◌, ◌-◌, ◌<◌, ◌≤◌, ◌^◌, Bool, true, false, cond, not, List, [], ◌∷◌, length, get_or, set, Option, Some, None, is_some, Ok, refl, sym, ap, ◌∙◌, arith, inl, inr, get_or-set_same, get_or-set_other, length-set}
 use Rattle.std.specs.Prelude.{if◌then◌else◌, slice_index, nat_eq, replicate, ◌&&◌, ◌||◌}
 use Rattle.std.specs.Option.{option_eq}
 use Rattle.std.specs.List.{list_any}
@@ -7,7 +7,7 @@ use Rattle.std.specs.Ordering.{eq_by_cmp}
 use Rattle.std.specs.Cmp.{eq_by_cmp_equiv}
 use Rattle.std.specs.Cmp.Lexicographic.{nat_list_cmp_total, texts_ties}
 use Rattle.std.specs.FinMap.{FinMap, find, get, insert, remove, entries, empty, get-empty, get-from_entries}
-use Rattle.std.proofs.lemmas.Bool.{cases_eq, ne_eqb}
+use Rattle.std.proofs.lemmas.Bool.{cases_eq, ne_eqb, true≢false}
 use Rattle.std.proofs.lemmas.List.{length-replicate, get_or-replicate}
 use Rattle.std.proofs.lemmas.Option.{slice_get_read, get_or_from_slice_get}
 use Rattle.finite_maps.specs.Texts.{Text, text_cmp, same_text}
@@ -126,9 +126,22 @@ module _ (tenants : List Tenant) (links : FinMap link_cmp ℕ) (weights charges 
 
 -- ---- what `link` gives
 
+-- what the call on the repository answers: whether it held nothing of the digest
+pub was_there : (b held : Bool) → b ≡ not held → b ≡ false → held ≡ true
+was_there b true is old = refl
+was_there b false is old = absurd (true≢false (sym is ∙ old))
+
+pub was_new : (b held : Bool) → b ≡ not held → b ≡ true → held ≡ false
+was_new b true is new = absurd (true≢false (sym new ∙ is))
+was_new b false is new = refl
+
+-- a link that is there, with the one size of its digest
+pub linked_again : (links : FinMap link_cmp ℕ) (r d : Text) (n m : ℕ) → get links (r, d) ≡ Some m → IsSizeOf links d n → insert links (r, d) n ≡ links
+linked_again links r d n m there fits = insert_back link_cmp_total exact_link links (r, d) n (there ∙ ap Some (fits r m there))
+
 pub link_there : (l : Linked) (r d : Text) (n m : ℕ) → get l.links (r, d) ≡ Some m → IsSizeOf l.links d n → link l r d n ≡ Ok (false, l)
 link_there l r d n m there fits =
-    let same : insert l.links (r, d) n ≡ l.links = insert_back link_cmp_total exact_link l.links (r, d) n (there ∙ ap Some (fits r m there)) in
+    let same : insert l.links (r, d) n ≡ l.links = linked_again l.links r d n m there fits in
     rw there (λ i. Ok (false, record { tenants = l.tenants; repos = l.repos; links = same i; manifests = l.manifests; charges = l.charges }))
 
 pub link_new : (l : Linked) (r d : Text) (n : ℕ) (m : FinMap link_cmp ℕ) → get l.links (r, d) ≡ None → m ≡ insert l.links (r, d) n →

@@ -19,7 +19,8 @@ use Rattle.blob_digest.specs.declared.refusal.Refusal.{Refusal}
 use Rattle.blob_digest.specs.declared.refusal.Refusal.TheVariants.{LimitReached}
 use Rattle.blob_digest.proofs.KeyOrders.{link_cmp_total, exact_link}
 use Rattle.finite_maps.proofs.Texts.{tied_text}
-use Rattle.finite_maps.proofs.Options.{some_same, some_none}
+use Rattle.finite_maps.proofs.Maps.{remove-insert_new}
+use Rattle.finite_maps.proofs.Options.{some_same, some_none, no_value}
 use Rattle.finite_maps.proofs.Rows.{entries-empty, no_tie}
 use Rattle.link_table.specs.Linked.{Linked, Tenant, is_tenants, appear, cannot_appear, HasNoLinks}
 use Rattle.link_table.specs.ManifestTable.{ManifestBytes}
@@ -168,6 +169,12 @@ module _ (tenants : List Tenant) (by_tenant : List Owned) (owned : IsOwned tenan
   IsOwned-same new is = IsOwned-set tenants by_tenant owned t s at new
       (λ q h. owned.own t s q at (ap (λ (x : Owned). sets.contains x.repos q) (sym is) ∙ h))
       (λ q e h. ap (λ (x : Owned). sets.contains x.repos q) is ∙ owned.known t s q e at (ap (λ (x : Owned). fmap.contains_key x.links (q, e)) (sym is) ∙ h))
+
+-- a link that was made and taken out again
+pub unlinked_again : (s more back : Owned) (r d : Text) (n : ℕ) → more ≡ record s { links = insert s.links (r, d) n } → back ≡ record more { links = remove more.links (r, d) } → is_some (get s.links (r, d)) ≡ false → back ≡ s
+unlinked_again s more back r d n made undone absent =
+    undone ∙ ap (λ (x : Owned). record x { links = remove x.links (r, d) }) made
+    ∙ ap (λ m. record s { links = m }) (remove-insert_new link_cmp_total exact_link s.links (r, d) n (no_value (get s.links (r, d)) absent))
 
 -- ---- a table with nothing in it
 

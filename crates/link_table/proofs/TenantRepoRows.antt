@@ -1,5 +1,5 @@
 -- The rows of a tenant's repositories, in the order of their names, as a set and a map.
-use Rattle.std.proofs.Common.{◌≡◌, ℕ, ◌<◌, ◌≤◌, Bool, true, false, cond, List, [], ◌∷◌, ◌++◌, length, map, get_or, Option, Some, None, is_some, Err, refl, sym, ap, ◌∙◌, arith, set}
+use Rattle.std.proofs.Common.{◌≡◌, ℕ, ◌<◌, ◌≤◌, Bool, true, false, cond, List, [], ◌∷◌, ◌++◌, length, map, get_or, not, Option, Some, None, is_some, Err, refl, sym, ap, ◌∙◌, arith, set}
 use Prim.Native.Nat.{zero, suc}
 use Rattle.std.specs.Prelude.{◌&&◌, slice_get}
 use Rattle.std.specs.declared.cmp.Ordering.TheVariants.{Less, Equal}
@@ -27,6 +27,7 @@ use Rattle.finite_maps.proofs.Rows.{from_entries-remove, entries-empty}
 use Rattle.finite_maps.proofs.Sorted.{IsApart-sorted, is_sorted-remove, entries-sorted, from_entries-put, is_sorted_put, gap, missing, put_at, found_at, map_at}
 use Rattle.finite_maps.proofs.Trees.{get_is}
 use Rattle.finite_maps.specs.Rows.{IsApart}
+use Rattle.link_table.specs.Linked.{first_unlinked}
 use Rattle.link_table.specs.TenantRepos.{blobs_on, count}
 use Rattle.link_table.specs.Rows.{named, links_in, owned_shown, IsInOrder, AreRepos}
 use Rattle.link_table.specs.declared.repo.Repo.{Repo}
@@ -155,6 +156,11 @@ find-changed row new d w name is k =
     ∙ (λ i. cond (sym (link_tie k.0 k.1 row.name d) i) w (sym (find-links_in row k.0 k.1) i))
 
 -- ---- the links of all rows
+
+-- of a repository without links the first of some digests is unlinked
+pub first_of_none : (links : FinMap link_cmp ℕ) (q : Text) → ((d : Text) → get links (q, d) ≡ None) → (ds : List Text) → first_unlinked links q ds ≡ slice_get ds 0
+first_of_none links q none [] = refl
+first_of_none links q none (d ∷ ds) = ap (λ o. cond (not (is_some o)) (Some d) (first_unlinked links q ds)) (none d)
 
 module _ (rows : List Repo) (order : IsInOrder rows) where
   -- a repository that is no row has no links

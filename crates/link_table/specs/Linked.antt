@@ -1,6 +1,7 @@
 -- What a table of links stands for: tenants with quotas, repositories, links with the sizes of their blobs, and charges.
-use Rattle.std.specs.Prelude.{◌≡◌, ℕ, ◌+◌, ◌-◌, ◌&&◌, not, nat_le, nat_lt, Bool, Some, None, Result, Ok, Err, List, [], ◌∷◌, length, map, filter, sum_by, slice_get, slice_index, slice_set, replicate, if◌then◌else◌}
+use Rattle.std.specs.Prelude.{◌≡◌, ℕ, ◌+◌, ◌-◌, ◌&&◌, not, nat_le, nat_lt, Bool, Option, Some, None, Result, Ok, Err, List, [], ◌∷◌, length, map, filter, sum_by, slice_get, slice_index, slice_set, replicate, if◌then◌else◌}
 use Rattle.std.proofs.Common.{refl}
+use Rattle.std.specs.List.{find}
 use Rattle.std.specs.Option.{option_map_or, ok_or}
 use Rattle.std.specs.FinMap as fmap
 use Rattle.std.specs.Coded.{Coded, code_by, coded×, coded_ℕ, coded_list}
@@ -76,6 +77,10 @@ repos_of l t = filter (is_tenants l.tenants t) (set.items l.repos)
 -- the digests that a repository holds, in their order, each with its size
 abbrev pub blobs_in : Linked → Text → List (Text × ℕ)
 blobs_in l repo = map (λ e. (e.0.1, e.1)) (filter (λ e. same_text e.0.0 repo) (fmap.entries l.links))
+
+-- the first of some digests that a repository doesn't hold
+abbrev pub first_unlinked : fmap.FinMap link_cmp ℕ → Text → List Text → Option Text
+first_unlinked links repo digests = find (λ d. not (fmap.contains_key links (repo, d))) digests
 
 -- ---- what the calls do
 

@@ -66,17 +66,18 @@ pub fn holders_of(holders: &Holders, digest: &Digest) -> u64
     holders.counts.get(digest).copied().unwrap_or(0)
 }
 
-/// One more repository of a tenant holds a digest. Refused with `Memory` alone, and then nothing
-/// has changed.
-pub fn increment(holders: &mut Holders, digest: &Digest) -> Result<(), Refusal>
+/// One more repository of a tenant holds a digest. Answers how many do now. Refused with `Memory`
+/// alone, and then nothing has changed.
+pub fn increment(holders: &mut Holders, digest: &Digest) -> Result<u64, Refusal>
     requires { count_in holders.old digest.now + 1 < 2 ^ 64 }
+    ensures count { IfOk result (λ n. n ≡ count_in holders.old digest.now + 1) }
     ensures ok { OnOk result ((d : Text) → count_in holders.new d ≡ count_in holders.old d + (if same_text digest.now d then 1 else 0)) }
     ensures err { OnErr result ((d : Text) → count_in holders.new d ≡ count_in holders.old d) }
     ensures refused { IfErr result (λ e. e ≡ Memory) }
 {
     let count = holders_of(holders, digest) + 1;
     holders.counts.insert(*digest, count)?;
-    Ok(())
+    Ok(count)
 }
 
 /// One repository of a tenant less holds a digest. It takes no memory.

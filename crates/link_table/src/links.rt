@@ -6,7 +6,7 @@ ghost use Rattle.blob_digest.specs.Outcomes.{Does, DoesExactly};
 ghost use Rattle.blob_digest.specs.declared.refusal.Refusal.TheVariants.{Memory};
 ghost use Rattle.link_table.specs.ManifestTable.{referrer_on, manifests_on};
 ghost use Rattle.link_table.specs.TenantRepos.{nothing};
-ghost use Rattle.link_table.specs.Linked.{is_tenants, known_tenant, used_in, quota_in, blobs_of, repos_of, blobs_in, link, unlink, put_manifest, drop_manifest, charge, discharge, appear, vanish, IsSizeOf, HasNoLinks};
+ghost use Rattle.link_table.specs.Linked.{is_tenants, known_tenant, used_in, quota_in, blobs_of, repos_of, blobs_in, first_unlinked, link, unlink, put_manifest, drop_manifest, charge, discharge, appear, vanish, IsSizeOf, HasNoLinks};
 ghost use Rattle.link_table.specs.Tenancy.{Opens, AreTenants, RefusesTenants, tenants_shown};
 
 use crate::blobs::Blobs;
@@ -198,8 +198,8 @@ impl Links {
     }
 
     /// Links a blob of this digest and size in a repository of a tenant, and answers whether the
-    /// link is new. Running out of memory is refused. Beside finding the repository, it takes the logarithm of
-    /// the number of digests that the tenant holds.
+    /// link is new. Running out of memory is refused. The repository is found once, and the digest once in
+    /// it; beside that it takes the logarithm of the number of digests that the tenant holds.
     pub fn link(
         &mut self,
         tenant: u16,
@@ -214,18 +214,21 @@ impl Links {
         requires room { used_in self.old tenant + size < 2 ^ 64 }
         ensures { Does (λ b. b) result self.old self.new (link self.old repo.now digest.now size) }
     {
-        if self.repos[tenant as usize].holds(repo, digest) {
+        let place = tenant as usize;
+        let repos = &mut self.repos[place];
+        if !repos.link(repo, digest, size)? {
             return Ok(false);
         }
-        let held = holders_of(&self.holders[tenant as usize], digest) > 0;
-        let weight = bytes_with(self.blob_bytes[tenant as usize], held, size);
-        increment(&mut self.holders[tenant as usize], digest)?;
-        if let Err(e) = self.repos[tenant as usize].link(repo, digest, size) {
-            decrement(&mut self.holders[tenant as usize], digest);
-            return Err(e);
+        match increment(&mut self.holders[place], digest) {
+            Ok(count) => {
+                self.blob_bytes[place] = bytes_with(self.blob_bytes[place], count > 1, size);
+                Ok(true)
+            }
+            Err(refusal) => {
+                repos.unlink(repo, digest);
+                Err(refusal)
+            }
         }
-        self.blob_bytes[tenant as usize] = weight;
-        Ok(true)
     }
 
     /// Takes a link out of a repository of a tenant. It takes no memory, and as long as `link`.
@@ -258,6 +261,16 @@ impl Links {
             Some(t) => self.repos[t].holds(repo, digest),
             None => false,
         }
+    }
+
+    /// The first of some digests whose blob a repository of a tenant doesn't hold. The repository is found
+    /// once; each digest takes the logarithm of the number of its blobs.
+    pub fn first_unlinked(&self, tenant: u16, repo: &RepoName, digests: &[Digest]) -> Option<Digest>
+        requires there { tenant < length self.now.tenants }
+        requires own { is_tenants self.now.tenants tenant repo.now ≡ true }
+        ensures { result ≡ first_unlinked self.now.links repo.now digests.now }
+    {
+        self.repos[tenant as usize].first_unlinked(repo, digests)
     }
 
     /// Whether some repository of a tenant holds the blob of a digest: whether its count isn't 0. It takes

@@ -1,15 +1,15 @@
 //! The repositories of one tenant.
 
-ghost use Rattle.std.specs.Prelude.{◌≡◌, ◌≤◌, OnOk, OnErr, IfErr, Some, true, slice_get, []};
+ghost use Rattle.std.specs.Prelude.{◌≡◌, ◌≤◌, not, IfOk, OnOk, OnErr, IfErr, Some, true, slice_get, []};
 ghost use Rattle.std.specs.Option.{option_copied, option_map_or};
 ghost use Rattle.std.specs.FinMap as fmap;
 ghost use Rattle.finite_maps.specs.Sets as set;
 ghost use Rattle.blob_digest.specs.Outcomes.{Does};
 ghost use Rattle.blob_digest.specs.declared.refusal.Refusal.TheVariants.{Memory};
-ghost use Rattle.link_table.specs.Linked.{HasNoLinks};
+ghost use Rattle.link_table.specs.Linked.{HasNoLinks, first_unlinked};
 ghost use Rattle.link_table.specs.TenantRepos.{count, nothing, appear_on, blobs_on};
 
-use crate::repo::{Repo, insert_blob, place_of, remove_blob};
+use crate::repo::{Repo, first_missing, insert_blob, place_of, remove_blob};
 use blob_digest::{Digest, Refusal, RepoName};
 use std::alloc::Global;
 use std::collections::BTreeMap;
@@ -84,13 +84,15 @@ impl TenantRepos {
         }
     }
 
-    /// Links a blob of this digest and size in a repository that is there. Refused with `Memory`
-    /// alone, and then nothing has changed.
-    pub fn link(&mut self, repo: &RepoName, digest: &Digest, size: u64) -> Result<(), Refusal>
+    /// Links a blob of this digest and size in a repository that is there, and answers whether the link
+    /// is new. Refused with `Memory` alone, and then nothing has changed.
+    pub fn link(&mut self, repo: &RepoName, digest: &Digest, size: u64) -> Result<bool, Refusal>
         requires { set.contains self.old.repos repo.now ≡ true }
+        ensures new { IfOk result (λ b. b ≡ not (fmap.contains_key self.old.links (repo.now, digest.now))) }
         ensures ok { OnOk result (self.new ≡ record self.old { links = fmap.insert self.old.links (repo.now, digest.now) size }) }
         ensures err { OnErr result (self.new ≡ self.old) }
         ensures refused { IfErr result (λ e. e ≡ Memory) }
+        ensures few { count self.old ≤ 1024 }
     {
         match place_of(self.repos.as_slice(), repo) {
             Ok(place) => insert_blob(&mut self.repos[place], digest, size),
@@ -111,12 +113,21 @@ impl TenantRepos {
 
     /// Whether a repository holds the blob of a digest.
     pub fn holds(&self, repo: &RepoName, digest: &Digest) -> bool
-        ensures held { result ≡ fmap.contains_key self.now.links (repo.now, digest.now) }
-        ensures few { count self.now ≤ 1024 }
+        ensures { result ≡ fmap.contains_key self.now.links (repo.now, digest.now) }
     {
         match place_of(self.repos.as_slice(), repo) {
             Ok(place) => self.repos[place].blobs.contains_key(digest),
             Err(_) => false,
+        }
+    }
+
+    /// The first of some digests whose blob a repository doesn't hold.
+    pub fn first_unlinked(&self, repo: &RepoName, digests: &[Digest]) -> Option<Digest>
+        ensures { result ≡ first_unlinked self.now.links repo.now digests.now }
+    {
+        match place_of(self.repos.as_slice(), repo) {
+            Ok(place) => first_missing(&self.repos[place], digests),
+            Err(_) => digests.first().copied(),
         }
     }
 

@@ -80,6 +80,31 @@ fn goes(rt: &impl Abort, links: &mut Links, step: Step, repo: &RepoName, digest:
     assert!(rt; links.holds(repo, digest) != matches!(step, Step::Gone));
 }
 
+/// The first of some digests that a repository doesn't hold.
+fn misses(
+    rt: &impl Abort,
+    links: &Links,
+    repo: &RepoName,
+    digests: &[Digest],
+    wanted: Option<Digest>,
+) {
+    let tenant = links.tenant(repo).expect(rt, "a tenant");
+    assert_eq!(rt; links.first_unlinked(tenant, repo, digests), wanted);
+}
+
+#[test]
+fn the_first_unlinked_digest_is_named(rt: HostRuntime) {
+    let alloc = rt.alloc();
+    let mut links = opened(&rt, alloc, &[("acme", 1000)]);
+    let one = name(&rt, alloc, "acme/one");
+    let (abc, empty) = (digest(&rt, ABC), digest(&rt, EMPTY));
+    misses(&rt, &links, &one, &[empty, abc], Some(empty));
+    goes(&rt, &mut links, Step::New, &one, &abc);
+    misses(&rt, &links, &one, &[abc, empty], Some(empty));
+    misses(&rt, &links, &one, &[abc], None);
+    misses(&rt, &links, &one, &[], None);
+}
+
 /// The tenant of a repository uses so many bytes.
 fn uses(rt: &impl Abort, alloc: Global, links: &Links, repo: &str, wanted: u64) {
     let tenant = links.tenant(&name(rt, alloc, repo)).expect(rt, "a tenant");

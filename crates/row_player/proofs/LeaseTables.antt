@@ -68,12 +68,13 @@ shared_ok L L1 L2 L3 L4 name second x one other e1 e2 e3 e4 found free differ is
     e4 ∙ (λ i. fmap.insert ((e3 ∙ (λ j. fmap.insert ((e2 ∙ ap (λ (m : Leases). fmap.remove m name) e1) j) name (is_one j)) ∙ insert-remove name_cmp_total exact_name L name (halved x)) i) second (is_other i)) in
     rw (first, free, not_equal x.weight 1 differ) (ap (λ (m : Leases). (Shared, m)) all)
 
--- a lease that is taken out and comes back
-pub shared_err : (L L1 L2 L3 : Leases) (name second : Name) (x back : Lent) (e : Refusal) → L1 ≡ L → L2 ≡ fmap.remove L1 name → L3 ≡ fmap.insert L2 name back
-    → fmap.get L1 name ≡ Some x → fmap.get L second ≡ None → back ≡ x → (e ≡ Memory) ⊎ ((e ≡ WeightSpent) × (x.weight ≡ 1)) → ((e ≡ Memory) × (L3 ≡ L)) ⊎ ((Refused e, L3) ≡ shared_in L name second)
-shared_err L L1 L2 L3 name second x back e e1 e2 e3 found free is_back why =
+-- a lease that is taken out and comes back, and the room for the second one goes
+pub shared_err : (L L1 L2 L3 L4 : Leases) (name second : Name) (x back : Lent) (e : Refusal) → L1 ≡ L → L2 ≡ fmap.remove L1 name → L3 ≡ fmap.insert L2 name back → L4 ≡ fmap.remove L3 second
+    → fmap.get L1 name ≡ Some x → fmap.get L second ≡ None → back ≡ x → (e ≡ Memory) ⊎ ((e ≡ WeightSpent) × (x.weight ≡ 1)) → ((e ≡ Memory) × (L4 ≡ L)) ⊎ ((Refused e, L4) ≡ shared_in L name second)
+shared_err L L1 L2 L3 L4 name second x back e e1 e2 e3 e4 found free is_back why =
     let first : fmap.get L name ≡ Some x = ap (λ (m : Leases). fmap.get m name) (sym e1) ∙ found in
-    let same : L3 ≡ L = e3 ∙ (λ i. fmap.insert ((e2 ∙ ap (λ (m : Leases). fmap.remove m name) e1) i) name (is_back i)) ∙ put_back L name x first in
+    let same3 : L3 ≡ L = e3 ∙ (λ i. fmap.insert ((e2 ∙ ap (λ (m : Leases). fmap.remove m name) e1) i) name (is_back i)) ∙ put_back L name x first in
+    let same : L4 ≡ L = e4 ∙ ap (λ (m : Leases). fmap.remove m second) same3 ∙ remove_free L second free in
     elim why [
       | inl memory ↦ inl (memory, same)
       | inr spent ↦ inr (rw (first, free, eq-eqb x.weight 1 spent.1, spent.0) (ap (λ (m : Leases). (Refused WeightSpent, m)) same))
@@ -109,26 +110,34 @@ module _ {L : Type 0} (lent : L → Lent) where
   pub get-leases_in : (m : tree.BTreeMap Key (Option L)) (p : Key) → tree.IsOrdered key_cmp m → fmap.get (leases_in lent m) (name_at p) ≡ held_of lent (tree.get key_cmp m p)
   get-leases_in m p ordered = get-from_entries name_cmp_total (held_rows lent m.entries) (name_at p) ∙ find_held p m.entries ordered
 
-  by_test : (b : Bool) (room : Option L) (old : Option (Option L)) → held_of lent (cond b (Some room) old) ≡ cond b (option_map lent room) (held_of lent old)
-  by_test true room old = refl
-  by_test false room old = refl
+  -- the same, by a row that is known
+  pub held_at : (m : tree.BTreeMap Key (Option L)) (p : Key) → tree.IsOrdered key_cmp m → (row : Option (Option L)) → row ≡ tree.get key_cmp m p → held_of lent row ≡ fmap.get (leases_in lent m) (name_at p)
+  held_at m p ordered row is = ap (held_of lent) is ∙ sym (get-leases_in m p ordered)
+
+  by_test : (b : Bool) (row old : Option (Option L)) → held_of lent (cond b row old) ≡ cond b (held_of lent row) (held_of lent old)
+  by_test true row old = refl
+  by_test false row old = refl
 
   module _ (m n : tree.BTreeMap Key (Option L)) (p : Key) (before : tree.IsOrdered key_cmp m) (after : tree.IsOrdered key_cmp n) where
-    put_at : (room : Option L) → tree.Updates key_cmp m n p (Some room) → (x : Name) → fmap.get (leases_in lent n) x ≡ cond (eq_by_cmp name_cmp x (name_at p)) (option_map lent room) (fmap.get (leases_in lent m) x)
-    put_at room puts x =
+    put_at : (row : Option (Option L)) → tree.Updates key_cmp m n p row → (x : Name) → fmap.get (leases_in lent n) x ≡ cond (eq_by_cmp name_cmp x (name_at p)) (held_of lent row) (fmap.get (leases_in lent m) x)
+    put_at row puts x =
         get-leases_in n (key_of x) after
         ∙ ap (held_of lent) (puts.0 (key_of x))
-        ∙ by_test (is_at (key_cmp p) (key_of x)) room (tree.get key_cmp m (key_of x))
-        ∙ ap (λ b. cond b (option_map lent room) (held_of lent (tree.get key_cmp m (key_of x)))) ((eq_by_cmp_equiv name_cmp_total).symm (name_at p) x)
-        ∙ ap (cond (eq_by_cmp name_cmp x (name_at p)) (option_map lent room)) (sym (get-leases_in m (key_of x) before))
+        ∙ by_test (is_at (key_cmp p) (key_of x)) row (tree.get key_cmp m (key_of x))
+        ∙ ap (λ b. cond b (held_of lent row) (held_of lent (tree.get key_cmp m (key_of x)))) ((eq_by_cmp_equiv name_cmp_total).symm (name_at p) x)
+        ∙ ap (cond (eq_by_cmp name_cmp x (name_at p)) (held_of lent row)) (sym (get-leases_in m (key_of x) before))
 
     -- a lease goes under the name
     pub put_lease : (l : L) → tree.Updates key_cmp m n p (Some (Some l)) → leases_in lent n ≡ fmap.insert (leases_in lent m) (name_at p) (lent l)
-    put_lease l puts = same_map name_cmp_total exact_name _ _ (λ x. put_at (Some l) puts x ∙ sym (get-insert name_cmp_total (leases_in lent m) (name_at p) (lent l) x))
+    put_lease l puts = same_map name_cmp_total exact_name _ _ (λ x. put_at (Some (Some l)) puts x ∙ sym (get-insert name_cmp_total (leases_in lent m) (name_at p) (lent l) x))
 
     -- none is there any more
     pub put_none : tree.Updates key_cmp m n p (Some None) → leases_in lent n ≡ fmap.remove (leases_in lent m) (name_at p)
-    put_none puts = same_map name_cmp_total exact_name _ _ (λ x. put_at None puts x ∙ sym (get-remove name_cmp_total (leases_in lent m) (name_at p) x))
+    put_none puts = same_map name_cmp_total exact_name _ _ (λ x. put_at (Some None) puts x ∙ sym (get-remove name_cmp_total (leases_in lent m) (name_at p) x))
+
+    -- a row is taken out
+    pub take_row : tree.Updates key_cmp m n p None → leases_in lent n ≡ fmap.remove (leases_in lent m) (name_at p)
+    take_row takes = same_map name_cmp_total exact_name _ _ (λ x. put_at None takes x ∙ sym (get-remove name_cmp_total (leases_in lent m) (name_at p) x))
 
     -- none was there
     pub put_room : fmap.get (leases_in lent m) (name_at p) ≡ None → tree.Updates key_cmp m n p (Some None) → leases_in lent n ≡ leases_in lent m

@@ -1,5 +1,5 @@
--- What a table of leases stands for. Its keys are names that stand in the script; a name without a lease may keep its row, for a lease
--- to come.
+-- What a table of leases stands for. Its keys are names that stand in the script; a row without a lease is room for one that is to come
+-- in the same call.
 use Rattle.std.specs.Prelude.{ℕ, List, [], ◌∷◌, Option, Some, None, IsSome}
 use Rattle.std.specs.declared.cmp.Ordering.{Ordering}
 use Rattle.std.specs.Ordering.{nat_cmp, ordering_then}

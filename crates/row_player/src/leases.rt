@@ -138,6 +138,20 @@ fn held_in<'t, 'r, B: Backend>(
     }
 }
 
+/// Takes a name's row out, and answers the lease that it held.
+fn take<'r, B: Backend>(table: &mut Table<'r, B::Lease>, name: LeaseName<'r>) -> Option<B::Lease>
+    requires ordered { tree.IsOrdered key_cmp table.old }
+    ensures was { option_map B.lent result ≡ fmap.get (leases_in B.lent table.old) (name_at name.entry) }
+    ensures takes { leases_in B.lent table.new ≡ fmap.remove (leases_in B.lent table.old) (name_at name.entry) }
+    ensures gone { ¬ (HasRow table.new name.entry) }
+    ensures ordered { tree.IsOrdered key_cmp table.new }
+{
+    match table.remove(&name) {
+        Some(room) => room,
+        None => None,
+    }
+}
+
 /// Asks a backend for a lease, which the table keeps under a name that has none. Room is made first, so
 /// that out of memory changes nothing.
 fn lend_in<'r, B: Backend>(
@@ -158,7 +172,10 @@ fn lend_in<'r, B: Backend>(
             release::<B>(exchange::<B>(table, name, Some(held)));
             Ok(size)
         }
-        Err(refusal) => Err(refusal),
+        Err(refusal) => {
+            release::<B>(take::<B>(table, name));
+            Err(refusal)
+        }
     }
 }
 
@@ -190,6 +207,7 @@ fn share_in<'r, B: Backend>(
         }
         Err((refusal, held)) => {
             release::<B>(exchange::<B>(table, name, Some(held)));
+            release::<B>(take::<B>(table, second));
             Err(refusal)
         }
     }
@@ -224,11 +242,13 @@ fn return_in<'r, B: Backend>(table: &mut Table<'r, B::Lease>, name: LeaseName<'r
     ensures returns { (answer_of result, leases_in B.lent table.new) ≡ give_back_of (leases_in B.lent table.old) (name_at name.entry) (fmap.get (leases_in B.lent table.old) (name_at name.entry)) }
     ensures ordered { tree.IsOrdered key_cmp table.new }
 {
-    if held_in::<B>(table, name).is_none() {
-        return Reply::NoLease;
+    match take::<B>(table, name) {
+        Some(held) => {
+            B::give_back(held);
+            Reply::GivenBack
+        }
+        None => Reply::NoLease,
     }
-    release::<B>(exchange::<B>(table, name, None));
-    Reply::GivenBack
 }
 
 /// Asks a backend for a lease, which is kept under a name that has none, and answers the blob's size in

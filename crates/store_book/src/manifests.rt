@@ -14,21 +14,22 @@ use oci_manifest::{Manifest, read};
 use std::alloc::Global;
 use std::sync::Arc;
 
-/// Refuses the first of some digests that a repository doesn't hold, if there is one
-/// (`ManifestBlobUnknown`). It takes a look-up for each.
+/// Refuses the first of some digests that a repository of a tenant doesn't hold, if there is one
+/// (`ManifestBlobUnknown`). The repository is found once.
 pub(crate) fn check_linked(
     links: &Links,
+    tenant: u16,
     repo: &RepoName,
     digests: &[Digest],
 ) -> Result<(), Refusal>
+    requires there { tenant < length links.now.tenants }
+    requires own { is_tenants links.now.tenants tenant repo.now ≡ true }
     ensures { result ≡ all_held links.now repo.now digests.now }
 {
-    for digest in digests {
-        if !links.holds(repo, digest) {
-            return Err(Refusal::ManifestBlobUnknown { digest: *digest });
-        }
+    match links.first_unlinked(tenant, repo, digests) {
+        Some(digest) => Err(Refusal::ManifestBlobUnknown { digest }),
+        None => Ok(()),
     }
-    Ok(())
 }
 
 /// Keeps a manifest of a repository under the digest of its bytes. The repository appears with it.
@@ -86,7 +87,8 @@ impl Book {
     }
 
     /// Keeps a manifest that was read, as `put_manifest` does with its bytes, of which it is the last part: none
-    /// is hashed or copied. Each reference takes the logarithm of the number of links, and, where the manifest is
+    /// is hashed or copied. The repository is found once for all references, of which each takes the logarithm of the
+    /// number of the repository's blobs, and, where the manifest is
     /// new, that of the references of the repository's manifests.
     ///
     /// Refused, in this order: a tenant that is not there (`NameUnknown`); a reference that the repository
@@ -98,7 +100,7 @@ impl Book {
         ensures slots { (self.new.table ≡ self.old.table) × (self.new.slots ≡ self.old.slots) }
     {
         let tenant = self.links.tenant(repo)?;
-        check_linked(&self.links, repo, manifest.refs())?;
+        check_linked(&self.links, tenant, repo, manifest.refs())?;
         let digest = manifest.digest();
         if self.links.manifest(repo, &digest).is_some() {
             return Ok(digest);

@@ -1,9 +1,9 @@
 -- The calls of the book on manifests, from what their calls of the layers did.
-use Rattle.std.proofs.Common.{◌≡◌, ℕ, ◌+◌, ◌≤◌, Bool, true, false, cond, List, [], ◌∷◌, length, drop, Option, Some, None, Ok, Err, is_some, refl, sym, ap, ◌∙◌, subst, arith}
+use Rattle.std.proofs.Common.{◌≡◌, ℕ, ◌+◌, ◌≤◌, Bool, true, false, cond, List, [], ◌∷◌, length, drop, not, Option, Some, None, Result, Ok, Err, is_some, refl, sym, ap, ◌∙◌, subst, arith}
 use Prim.Native.Nat.{zero, suc}
 use native.Mathlib.Numerals.{unary_clauses}
 use Rattle.std.specs.Prelude.{slice_get, nat_le, nat_lt}
-use Rattle.std.specs.Option.{option_map}
+use Rattle.std.specs.Option.{option_map, option_map_or}
 use Rattle.std.specs.FinMap.{get, insert, contains_key}
 use Rattle.std.proofs.lemmas.Bool.{le-ltb}
 use Rattle.blob_digest.specs.Digests.{sha256_text}
@@ -14,7 +14,7 @@ use Rattle.blob_digest.specs.declared.refusal.Refusal.TheVariants.{LimitReached,
 use Rattle.finite_maps.proofs.Options.{some_same, some_none, no_value}
 use Rattle.oci_manifest.specs.Manifests.{IsManifest, refs_of, max_manifest}
 use Rattle.link_table.specs.ManifestTable.{manifests_in}
-use Rattle.link_table.specs.Linked.{Linked, known_tenant, appear, cannot_appear, drop_manifest, put_manifest as put_manifest_on}
+use Rattle.link_table.specs.Linked.{Linked, known_tenant, appear, cannot_appear, first_unlinked, drop_manifest, put_manifest as put_manifest_on}
 use Rattle.finite_maps.specs.Texts.{Text}
 use Rattle.store_model.specs.Catalog.{Catalog}
 use Rattle.store_model.specs.Commands.{put_manifest, delete_manifest, all_linked}
@@ -43,29 +43,6 @@ module _ (L : Layers) (t : ℕ) (repo digest : Text) (known : known_tenant L.lin
     charges = record { one_each = book.charges.one_each; sums = book.charges.sums };
   }
 
--- ---- the references of a manifest, one after the other
-
-next : (xs : List Text) (i : ℕ) (x : Text) → slice_get xs i ≡ Some x → drop i xs ≡ x ∷ drop (i + 1) xs
-next [] i x at = some_none (sym at)
-next (y ∷ ys) zero x at = ap (λ z. z ∷ ys) (some_same at)
-next (y ∷ ys) (suc i) x at = simp unary_clauses (simp unary_clauses at (next ys i x at))
-
-past : (xs : List Text) (i : ℕ) → length xs ≤ i → drop i xs ≡ []
-past [] zero le = refl
-past [] (suc i) le = refl
-past (y ∷ ys) zero le = absurd (omega arith)
-past (y ∷ ys) (suc i) le = past ys i (omega arith)
-
-module _ (l : Linked) (repo : Text) (xs : List Text) (i : ℕ) where
-  pub held_next : (x : Text) → slice_get xs i ≡ Some x → contains_key l.links (repo, x) ≡ true → all_held l repo (drop i xs) ≡ all_held l repo (drop (i + 1) xs)
-  held_next x at held = ap (all_held l repo) (next xs i x at) ∙ ap (λ b. cond b (all_held l repo (drop (i + 1) xs)) (Err (ManifestBlobUnknown x))) held
-
-  pub held_not : (x : Text) → slice_get xs i ≡ Some x → contains_key l.links (repo, x) ≡ false → all_held l repo (drop i xs) ≡ Err (ManifestBlobUnknown x)
-  held_not x at held = ap (all_held l repo) (next xs i x at) ∙ ap (λ b. cond b (all_held l repo (drop (i + 1) xs)) (Err (ManifestBlobUnknown x))) held
-
-  pub held_all : length xs ≤ i → all_held l repo (drop i xs) ≡ Ok tt
-  held_all le = ap (all_held l repo) (past xs i le)
-
 -- ---- putting a manifest
 
 same_state : {x y : Linked} → ◌≡◌ {A = OutcomeIn Linked (Unit {0})} (Ok (tt, x)) (Ok (tt, y)) → x ≡ y
@@ -89,9 +66,18 @@ module _ (L : Layers) (t : ℕ) (repo bytes : Text) (refs : List Text) (name : T
   abbrev B : Catalog
   B = book_catalog L
 
+  abbrev refused_for : Option Text → Result (Unit {0}) Refusal
+  refused_for unlinked = option_map_or (λ d. Err (ManifestBlobUnknown d)) unlinked (Ok tt)
+
+  by_test : (b : Bool) (d : Text) (rest : Option Text) → cond b (refused_for rest) (Err (ManifestBlobUnknown d)) ≡ refused_for (cond (not b) (Some d) rest)
+  by_test true d rest = refl
+  by_test false d rest = refl
+
   linked_is : (digests : List Text) → all_linked B repo digests ≡ all_held L.links repo digests
   linked_is [] = refl
-  linked_is (d ∷ digests) = λ i. cond (holds_linked L book repo d i) (linked_is digests i) (Err (ManifestBlobUnknown d))
+  linked_is (d ∷ digests) =
+      (λ i. cond (holds_linked L book repo d i) (linked_is digests i) (Err (ManifestBlobUnknown d)))
+      ∙ by_test (contains_key L.links.links (repo, d)) d (first_unlinked L.links.links repo digests)
 
   fits : nat_lt max_manifest (length bytes) ≡ false
   fits = le-ltb max_manifest (length bytes) read.fits

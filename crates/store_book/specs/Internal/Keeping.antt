@@ -10,7 +10,7 @@ use Rattle.blob_digest.specs.declared.refusal.Refusal.{Refusal}
 use Rattle.blob_digest.specs.declared.refusal.Refusal.TheVariants.{DigestInvalid, StoreFull, ManifestBlobUnknown}
 use Rattle.slot_table.specs.Slots.{Slot, Held, slot_of, held_at, phase_at, free_slots, with_slot, fill, on_held, raise, mark}
 use Rattle.slot_table.specs.declared.phase.Phase.TheVariants as phase
-use Rattle.link_table.specs.Linked.{Linked, is_tenants, blobs_of, used_in, appear, put_manifest}
+use Rattle.link_table.specs.Linked.{Linked, is_tenants, blobs_of, used_in, first_unlinked, appear, put_manifest}
 
 -- the bytes that slot k holds
 abbrev pub bytes_at : List Slot → ℕ → Text
@@ -60,8 +60,7 @@ pub record CanKeep (l : Linked) (slots : List Slot) (t : ℕ) (repo : Text) (blo
 
 -- a repository holds each of these digests; the first that it doesn't hold is named
 abbrev pub all_held : Linked → Text → List Text → Result (Unit {0}) Refusal
-all_held l repo [] = Ok tt
-all_held l repo (digest ∷ digests) = if fmap.contains_key l.links (repo, digest) then all_held l repo digests else Err (ManifestBlobUnknown digest)
+all_held l repo digests = option_map_or (λ digest. Err (ManifestBlobUnknown digest)) (first_unlinked l.links repo digests) (Ok tt)
 
 -- a manifest more under the digest of its bytes, in a repository that is there from now on
 abbrev pub with_manifest_on : Linked → ℕ → Text → Text → OutcomeIn Linked (Unit {0})

@@ -14,6 +14,6 @@ returns-in-Ok-clause-shares g c =
 pub returns-in-Err-clause-shares : goal.returns-in-Err-clause-shares
 returns-in-Err-clause-shares g c =
     let free : fmap.get (leases_in g.B.Backend.lent c.args.table.now) (name_at c.args.second) ≡ None = search rules in
-    shared_err (leases_in g.B.Backend.lent c.args.table.now) (leases_in g.B.Backend.lent c.reserve.new.table) (leases_in g.B.Backend.lent c.exchange.new.table) (leases_in g.B.Backend.lent c.exchange-in-Err.new.table)
+    shared_err (leases_in g.B.Backend.lent c.args.table.now) (leases_in g.B.Backend.lent c.reserve.new.table) (leases_in g.B.Backend.lent c.exchange.new.table) (leases_in g.B.Backend.lent c.exchange-in-Err.new.table) (leases_in g.B.Backend.lent c.take.new.table)
     (name_at c.args.name) (name_at c.args.second) (g.B.Backend.lent c.in-Some.held) (g.B.Backend.lent c.in-Err.held) c.in-Err.refusal
-    c.in_ok-reserve.ensures.same c.exchange.ensures.puts c.exchange-in-Err.ensures.puts (sym c.in-Some.ensures.was) free c.in-Err.ensures.0 c.in-Err.ensures.1
+    c.in_ok-reserve.ensures.same c.exchange.ensures.puts c.exchange-in-Err.ensures.puts c.take.ensures.takes (sym c.in-Some.ensures.was) free c.in-Err.ensures.0 c.in-Err.ensures.1

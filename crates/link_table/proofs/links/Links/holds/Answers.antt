@@ -18,7 +18,7 @@ returns-in-Some c =
     let tenants = tenants_shown c.self.inside.tenants.items in
     let own = is_tenants-found tenants c.args.repo.now c.in-Some.t (tenant_of-rows c.self.inside.tenants.items c.args.repo.now c.tenant.result.now c.tenant.ensures.value ∙ sym (rw c.as_slice.ensures.value at c.in-Some.ensures)) in
     let at = owned_at tenants c.self.inside.repos.items c.self.invariant.1 c.in-Some.t (own_within tenants c.in-Some.t c.args.repo.now own) c.index.result.now c.index.ensures in
-    c.holds.ensures.held ∙ ap is_some (sym (links-there tenants c.self.inside.repos.items c.self.invariant.1 c.in-Some.t c.index.result.now at c.args.repo.now own c.args.digest.now))
+    c.holds.ensures ∙ ap is_some (sym (links-there tenants c.self.inside.repos.items c.self.invariant.1 c.in-Some.t c.index.result.now at c.args.repo.now own c.args.digest.now))
     ∙ ap (λ (l : Linked). contains_key l.links (c.args.repo.now, c.args.digest.now)) c.self.view_is
 
 pub returns-in-None : goal.returns-in-None
