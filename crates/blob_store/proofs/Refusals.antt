@@ -12,8 +12,8 @@ use Rattle.oci_manifest.specs.Manifests.{max_manifest, refs_of}
 use Rattle.finite_maps.specs.Texts.{Text}
 use Rattle.store_model.specs.Catalog.{Catalog, holds, tenant_of}
 use Rattle.store_model.specs.Commands.{add_manifest, all_linked, has_manifest, is_full_of_manifests, lacks_room_for, put_manifest, tenant}
-use Rattle.blob_store.specs.Counting.{Content, counted, has_room}
-use Rattle.blob_store.specs.Totals.{Amounts}
+use Rattle.locked_book.specs.Counting.{Content, counted, has_room}
+use Rattle.store_model.specs.Amounts.{Amounts}
 
 -- not what bytes are refused for that are no manifest, or too many
 abbrev pub IsOther : Refusal → Type 0

@@ -5,9 +5,9 @@ use Rattle.std.proofs.Math.Seq.{get_or-append_seam}
 use Rattle.std.proofs.lemmas.List.{get_or_append_left}
 use Rattle.std.proofs.lemmas.List.Sums.{sum_by-cons}
 use Rattle.blob_store.specs.Seats.{SeatActs}
-use Rattle.blob_store.specs.Totals.{Amounts, nothing, plus, sum_of}
+use Rattle.store_model.specs.Amounts.{Amounts, nothing, plus, sum_of}
 use Rattle.blob_store.specs.Workers.{ArePlayed, AreSettled, IsPlayed}
-use Rattle.blob_store.specs.declared.desk.Settled.{Settled}
+use Rattle.locked_book.specs.declared.desk.Settled.{Settled}
 use Rattle.blob_store.proofs.Places.{at_pushed}
 use Rattle.row_player.specs.Answers.{Answer}
 use Rattle.row_player.specs.Commands.{Command}

@@ -3,7 +3,7 @@ use Rattle.std.specs.Prelude.{ℕ, length}
 use Rattle.std.proofs.Common.{refl}
 use Rattle.std.specs.Coded.{Coded, code_by, coded×, coded_ℕ}
 use Rattle.store_book.specs.BookState.{BookState, coded_state}
-use Rattle.blob_store.specs.Names.{LedgerName, StoreNames, setting_of}
+use Rattle.locked_book.specs.Names.{LedgerName, StoreNames, setting_of}
 
 -- a new book, and four new ledgers
 pub record PartsView : Type 0 where

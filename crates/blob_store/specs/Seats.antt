@@ -1,6 +1,6 @@
 -- What a desk gets by the requests of a worker's rows.
 use Rattle.std.specs.Prelude.{◌≡◌, ◌+◌}
-use Rattle.blob_store.specs.Totals.{Amounts}
+use Rattle.store_model.specs.Amounts.{Amounts}
 use Rattle.row_player.specs.Answers.{Answer}
 use Rattle.row_player.specs.Commands.{Request}
 use Rattle.row_player.specs.Counts.{abandoned_of, chunk_of, closed_of, request_amount}

@@ -1,8 +1,8 @@
 -- What workers answer.
 use Rattle.std.specs.Prelude.{◌≡◌, ◌≤◌, ◌<◌, ℕ, ◌+◌, List, [], length, get_or}
-use Rattle.blob_store.specs.Totals.{Amounts, nothing}
+use Rattle.store_model.specs.Amounts.{Amounts, nothing}
 use Rattle.blob_store.specs.Seats.{SeatActs}
-use Rattle.blob_store.specs.declared.desk.Settled.{Settled}
+use Rattle.locked_book.specs.declared.desk.Settled.{Settled}
 use Rattle.row_player.specs.Answers.{Answer}
 use Rattle.row_player.specs.Counts.{counted_abandons, counted_bytes, counted_closed, counted_commands}
 use Rattle.row_player.specs.Leases.{Leases, none}

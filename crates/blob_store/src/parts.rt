@@ -3,8 +3,8 @@
 ghost use Rattle.std.specs.Prelude.{◌≡◌, IfOk, IfErr};
 ghost use Rattle.store_book.specs.Openings.{OpensBook, RefusesBook, tenants_shown};
 
-use crate::kept::LEDGER_PARTS;
 use blob_digest::Refusal;
+use locked_book::LEDGER_PARTS;
 use pin_table::Pins;
 use std::alloc::Global;
 use std::marker::Model;
@@ -27,7 +27,7 @@ pub struct Parts {
 impl Model for Parts {
     ghost use Rattle.std.specs.Prelude.{◌≡◌};
     ghost use Rattle.std.specs.FinMap.{empty};
-    ghost use Rattle.blob_store.specs.Totals.{ledger_parts};
+    ghost use Rattle.locked_book.specs.Totals.{ledger_parts};
     ghost use Rattle.blob_store.specs.Parts.{PartsView, coded_parts};
 
     ghost Value = { PartsView };

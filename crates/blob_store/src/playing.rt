@@ -1,18 +1,16 @@
 //! A script played by workers.
 ghost use Rattle.std.specs.Prelude.{ℕ, ◌≡◌, ◌⊎◌, ◌+◌, ◌<◌, ◌≤◌, [], IfOk, IfErr, true, length, map, vec_len, vec_capacity};
 ghost use Rattle.blob_digest.specs.declared.refusal.Refusal.TheVariants.{LimitReached, Memory};
-ghost use Rattle.blob_store.specs.Totals.{Amounts, nothing, sum_of};
+ghost use Rattle.store_model.specs.Amounts.{Amounts, nothing, sum_of};
 ghost use Rattle.blob_store.specs.Workers.{AllAt, ArePlayed, AreSettled, IsPlayed, IsReady, IsWorkerAt};
 ghost use Rattle.row_player.specs.Answers.{answers_of};
 ghost use Rattle.row_player.specs.RowViews.{row_view};
 ghost use Rattle.row_player.specs.Shares.{own_answers, own_rows};
 
-use crate::desk::{Desk, Settled};
-use crate::droppable_desk::DroppableDesk;
-use crate::names::Naming;
 use crate::store::Store;
 use crate::workers::{Job, Outcome, WorkersDone, play_all};
 use blob_digest::Refusal;
+use locked_book::{Desk, DroppableDesk, Naming, Settled};
 use row_player::{Gate, Reply, Row, Worker, in_row_order};
 use std::alloc::Global;
 use std::sync::Wait;

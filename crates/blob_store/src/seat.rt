@@ -1,11 +1,10 @@
 //! What the rows of a worker are played on: a store that others use too, and the worker's desk.
 ghost use Rattle.std.specs.Prelude.{◌≡◌};
 
-use crate::desk::Desk;
 use crate::lease::Lease;
-use crate::names::Naming;
 use crate::store::Store;
 use blob_digest::{Digest, Refusal, RepoName};
+use locked_book::{Desk, Naming};
 use row_player::{Backend, Command, Piece, Reply, mount_reply};
 use std::sync::Wait;
 use store_book::Swept;

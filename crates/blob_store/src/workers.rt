@@ -1,14 +1,13 @@
 //! Workers that play the rows of a script on one store, each in a thread of its own.
 ghost use Rattle.std.specs.Prelude.{ℕ, ◌≡◌, ◌+◌, ◌<◌, ◌≤◌, true, map, vec_len, vec_capacity};
-ghost use Rattle.blob_store.specs.Totals.{nothing};
+ghost use Rattle.store_model.specs.Amounts.{nothing};
 ghost use Rattle.blob_store.specs.Workers.{AllAt, IsPlayed, IsReady, IsWorkerAt};
 ghost use Rattle.row_player.specs.Answers.{answers_of};
 ghost use Rattle.row_player.specs.RowViews.{row_view};
 
-use crate::droppable_desk::DroppableDesk;
-use crate::names::Naming;
 use crate::seat::Seat;
 use crate::store::Store;
+use locked_book::{DroppableDesk, Naming};
 use row_player::{Gate, Reply, Row, Worker, play_rows};
 use std::alloc::Global;
 use std::sync::Wait;

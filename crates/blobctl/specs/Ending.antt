@@ -3,8 +3,8 @@ use Rattle.std.specs.Prelude.{◌≡◌, ◌⊎◌, ◌<◌, ◌≤◌, ℕ, Lis
 use Rattle.std.specs.Io.KnownBytes.{Appends, Consumes}
 use Rattle.finite_maps.specs.Texts.{Text}
 use Rattle.blob_digest.specs.Tenants.{Tenant}
-use Rattle.blob_store.specs.Names.{setting_of}
-use Rattle.blob_store.specs.Totals.{Amounts}
+use Rattle.locked_book.specs.Names.{setting_of}
+use Rattle.store_model.specs.Amounts.{Amounts}
 use Rattle.blob_store.specs.Workers.{IsPlayed}
 use Rattle.blobctl.specs.Inputs.{IsTooLong, max_script}
 use Rattle.blobctl.specs.Played.{Played}

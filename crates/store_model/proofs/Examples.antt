@@ -2,6 +2,7 @@
 pub mod Commands
 pub mod Digests
 pub mod Hands
+pub mod Histories
 pub mod Isolation
 pub mod Limits
 pub mod Manifests

@@ -1,6 +1,9 @@
+pub mod Amounts
 pub mod BookText
 pub mod Catalog
 pub mod Commands
+pub mod Hands
+pub mod Histories
 pub mod Invariant
 pub mod Noninterference
 pub mod Runs

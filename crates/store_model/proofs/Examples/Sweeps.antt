@@ -58,7 +58,7 @@ emptied retired = record (unlinked false false) { residents = empty; retired = r
 abbrev blob : Bool → Bool → Resident
 blob condemned lent = record { bytes = abc_bytes; condemned = condemned; lent = lent }
 
-is_only : (b : Resident) (d : Text) (x : Resident) → get (insert {R = text_cmp} empty abc b) d ≡ Some x → (d ≡ abc) × (b ≡ x)
+pub is_only : (b : Resident) (d : Text) (x : Resident) → get (insert {R = text_cmp} empty abc b) d ≡ Some x → (d ≡ abc) × (b ≡ x)
 is_only b d x h = ⊎_elim (λ e. e) (λ h. nothing (get-empty text_cmp d) h) (got-insert nat_list_cmp_total exact_bytes empty abc b d x h)
 
 -- what is left, by what is left of the one blob

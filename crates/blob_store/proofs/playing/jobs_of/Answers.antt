@@ -1,8 +1,8 @@
 use Rattle.std.proofs.Common.{◌≡◌, ◌≤◌, ◌∙◌, [], ap, arith, length, map, refl, subst, sym, vec_capacity}
-use Rattle.blob_store.specs.Totals.{sum_of}
+use Rattle.store_model.specs.Amounts.{sum_of}
 use Rattle.blob_store.specs.Workers.{AllAt, IsReady, IsWorkerAt}
 use Rattle.blob_store.proofs.Places.{at_first, at_last, at_pushed}
-use Rattle.blob_store.proofs.Sums.{nothing_left}
+use Rattle.locked_book.proofs.Sums.{nothing_left}
 use Rattle.row_player.specs.RowViews.{row_view}
 use Rattle.row_player.specs.Shares.{own_rows}
 use Rattle.blob_store.proofs.playing.jobs_of.Goals as goal

@@ -1,5 +1,5 @@
 use Rattle.std.proofs.Common.{◌≡◌, [], ◌+◌, ◌≤◌, length, map, vec_len, vec_capacity}
-use Rattle.blob_store.specs.Totals.{nothing, sum_of}
+use Rattle.store_model.specs.Amounts.{nothing, sum_of}
 use Rattle.blob_store.specs.Workers.{AllAt, IsReady, IsWorkerAt}
 use Rattle.row_player.specs.RowViews.{row_view}
 use Rattle.row_player.specs.Shares.{own_rows}

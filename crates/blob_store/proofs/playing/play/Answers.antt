@@ -1,7 +1,7 @@
 use Rattle.std.proofs.Common.{◌≡◌, ◌+◌, ◌∙◌, ℕ, true, [], ap, arith, get_or, length, map, subst, sym, vec_len}
 use Rattle.std.proofs.lemmas.Bool.{eqb-true}
 use Rattle.std.proofs.lemmas.List.{length-map}
-use Rattle.blob_store.specs.Totals.{sum_of}
+use Rattle.store_model.specs.Amounts.{sum_of}
 use Rattle.blob_store.specs.Workers.{AllAt, IsPlayed}
 use Rattle.blob_store.proofs.Settlings.{are_settled, each_played, whole_lists}
 use Rattle.row_player.specs.Answers.{answers_of}

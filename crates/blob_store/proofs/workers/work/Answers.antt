@@ -1,6 +1,6 @@
 use Rattle.std.proofs.Common.{◌∙◌, map, sym, subst}
 use Rattle.blob_store.specs.Seats.{SeatActs}
-use Rattle.blob_store.specs.Totals.{nothing}
+use Rattle.store_model.specs.Amounts.{nothing}
 use Rattle.row_player.specs.Answers.{answers_of}
 use Rattle.row_player.specs.Leases.{none}
 use Rattle.row_player.specs.RowViews.{row_view}

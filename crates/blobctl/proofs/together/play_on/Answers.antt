@@ -2,7 +2,7 @@ use Rattle.std.proofs.Common.{◌++◌, ◌∙◌, ap, refl, sym}
 use Rattle.std.proofs.lemmas.List.{length-map}
 use Rattle.csv.proofs.WriteFacts.{appends-more}
 use Rattle.store_model.specs.BookText.{book_text}
-use Rattle.blob_store.specs.Names.{StoreNames}
+use Rattle.locked_book.specs.Names.{StoreNames}
 use Rattle.row_player.specs.Answers.{answer_of, answers_of}
 use Rattle.row_player.specs.RowViews.{row_view}
 use Rattle.row_player.specs.Replies.{replies_text}

@@ -1,4 +1,4 @@
-use Rattle.blob_store.proofs.Answered.{some_book}
+use Rattle.locked_book.proofs.Answered.{some_book}
 use Rattle.blob_store.proofs.store.Store.print.Goals as goal
 
 pub returns : goal.returns

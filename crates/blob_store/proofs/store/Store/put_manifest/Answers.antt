@@ -1,4 +1,4 @@
-use Rattle.blob_store.specs.Totals.{one}
+use Rattle.store_model.specs.Amounts.{one}
 use Rattle.blob_store.proofs.Refusals.{no_manifest, no_size}
 use Rattle.blob_store.proofs.store.Store.put_manifest.Goals as goal
 

@@ -1,6 +1,0 @@
-use Rattle.std.specs.Arc.{arc_value}
-use Rattle.blob_store.proofs.Answered.{manifest_digest}
-use Rattle.blob_store.proofs.kept.Kept.get_manifest.Goals as goal
-
-pub returns-clause-digest : goal.returns-clause-digest
-returns-clause-digest g c = manifest_digest c.self.inside.book.catalog c.args.repo.now c.args.digest.now (arc_value c.in_ok-manifest.manifest) c.audit.ensures.lawful c.in_ok-manifest.ensures

@@ -1,4 +1,0 @@
-use Rattle.blob_store.proofs.kept.Kept.sweep.Goals as goal
-
-pub returns-clause-slots : goal.returns-clause-slots
-returns-clause-slots g c = rw (← c.self.view_is) c.sweep.ensures.slots.1

@@ -1,0 +1,4 @@
+pub mod Sums
+pub mod Answered
+pub mod SessionSums
+pub mod Rooms

@@ -1,0 +1,43 @@
+use Rattle.std.proofs.Common.{arith, ◌∙◌}
+use Rattle.std.specs.Arc.{arc_value}
+use Rattle.store_book.specs.Pinned.{blob_bytes}
+use Rattle.store_model.specs.Amounts.{one}
+use Rattle.store_book.specs.SlotSteps.{EachSlot, IsStill}
+use Rattle.locked_book.proofs.Answered.{lent_content, on_err}
+use Rattle.locked_book.proofs.SessionSums.{lease_sums}
+use Rattle.locked_book.proofs.Rooms.{added, room_given}
+use Rattle.locked_book.proofs.kept.Kept.lease.Goals as goal
+
+pub invariant_of-self-2 : goal.invariant_of-self-2
+invariant_of-self-2 g c =
+    let was = c.self.invariant in
+    let lent = c.in_ok-lent.ensures.does in
+    let sums = lease_sums c.self.inside.book.catalog c.lease.new.self.catalog lent.crowded c.args.repo.now c.args.digest.now (blob_bytes (arc_value c.in_ok-lent.lent.1)) lent.does in
+    let hands = sums.hands in
+    let reserve = sums.reserve in
+    let bytes = sums.bytes in
+    let totals = added c.self.inside.counters c.add.new.self (one 0 0 0) c.add.ensures.totals in
+    let room = room_given (record { book = c.self.inside.book; counts = c.self.inside.counters }) c.args.self.now 0 c.in_ok-room.field-0 c.self.view_is c.in_ok-room.ensures in (
+      omega (arith, was.0, hands),
+      omega (arith, was.1, reserve),
+      omega (arith, was.0, room.0, totals.commands),
+      omega (arith, was.1, room.1, totals.received),
+      omega (arith, was.4, bytes, totals.received, totals.closed, totals.abandoned),
+      c.lease.ensures.slots.0 ∙ was.5,
+      c.lease.ensures.slots.1.0 ∙ was.6,
+      sums.setting ∙ was.7,
+    )
+
+pub returns-clause-content : goal.returns-clause-content
+returns-clause-content g c =
+    let lent = c.in_ok-lent.ensures.does in
+    lent_content c.self.inside.book.catalog c.lease.new.self.catalog lent.crowded c.args.repo.now c.args.digest.now (blob_bytes (arc_value c.in_ok-lent.lent.1)) c.audit.ensures.lawful lent.does
+
+pub returns-clause-slots : goal.returns-clause-slots
+returns-clause-slots g c = rw (← c.self.view_is) c.lease.ensures.slots.1
+
+pub returns-in_err-lent-clause-slots : goal.returns-in_err-lent-clause-slots
+returns-in_err-lent-clause-slots g c = rw (← c.self.view_is) c.lease.ensures.slots.1
+
+pub returns-in_err-lent-clause-refused : goal.returns-in_err-lent-clause-refused
+returns-in_err-lent-clause-refused g c = on_err {P = EachSlot IsStill c.args.self.now.book.slots c.lease.new.self.slots} c.from_residual-in_err-lent.result (rw (← c.self.view_is) c.in_err-lent.ensures.refused)

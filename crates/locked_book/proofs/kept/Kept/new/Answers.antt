@@ -1,0 +1,24 @@
+use Rattle.std.proofs.Common.{ap, arith}
+use Rattle.store_model.specs.Sessions.{received, reserved_of}
+use Rattle.store_model.specs.Hands.{hand_of}
+use Rattle.locked_book.specs.Totals.{Counts}
+use Rattle.locked_book.proofs.SessionSums.{no_sessions}
+use Rattle.locked_book.proofs.kept.Kept.new.Goals as goal
+
+pub invariant_of-result : goal.invariant_of-result
+invariant_of-result g c =
+    let none = c.requires.book in
+    let bytes = no_sessions c.args.book.catalog.sessions (λ e. received e.1) none in
+    let commands = ap (λ (k : Counts). k.totals.commands) c.requires.counters in
+    let received = ap (λ (k : Counts). k.totals.received) c.requires.counters in
+    let closed = ap (λ (k : Counts). k.totals.closed) c.requires.counters in
+    let abandoned = ap (λ (k : Counts). k.totals.abandoned) c.requires.counters in (
+      no_sessions c.args.book.catalog.sessions hand_of none,
+      no_sessions c.args.book.catalog.sessions (λ e. reserved_of e.1.chunks) none,
+      omega arith,
+      omega arith,
+      omega arith,
+      c.requires.named.0,
+      c.requires.named.1,
+      c.requires.named.2,
+    )

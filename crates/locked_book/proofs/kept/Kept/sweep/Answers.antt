@@ -1,0 +1,4 @@
+use Rattle.locked_book.proofs.kept.Kept.sweep.Goals as goal
+
+pub returns-clause-slots : goal.returns-clause-slots
+returns-clause-slots g c = rw (← c.self.view_is) c.sweep.ensures.slots.1

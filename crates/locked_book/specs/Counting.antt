@@ -1,0 +1,95 @@
+-- What lies under the lock, and what a command answers there and counts.
+use Rattle.std.specs.Prelude.{◌≡◌, ℕ, ◌+◌, ◌^◌, nat_lt, ◌==◌, ◌&&◌, ◌||◌, not, Bool, true, List, Result, Ok}
+use Rattle.std.proofs.Common.{refl}
+use Rattle.std.specs.Coded.{Coded, code_by, coded×, coded_ℕ}
+use Rattle.blob_digest.specs.declared.refusal.Refusal.TheVariants.{LimitReached}
+use Rattle.blob_digest.specs.declared.refusal.Refusal.{Refusal}
+use Rattle.blob_digest.specs.Outcomes.{Does, OutcomeIn}
+use Rattle.finite_maps.specs.Outcomes.{◌>>=◌, refuse}
+use Rattle.finite_maps.specs.Texts.{Text}
+use Rattle.store_model.specs.Catalog.{Catalog}
+use Rattle.store_book.specs.BookState.{BookState, SlotSeen, coded_state}
+use Rattle.store_book.specs.SlotSteps.{IsCrowded}
+use Rattle.store_model.specs.Commands.{Outcome, lease}
+use Rattle.store_model.specs.Amounts.{Amounts, coded_amounts, one, plus}
+use Rattle.store_model.specs.Hands.{in_hand, received_in_sessions, reserved}
+use Rattle.locked_book.specs.Totals.{Counts}
+
+-- the book, and what is counted
+pub record Content : Type 0 where
+  pub book : BookState
+  pub counts : Counts
+
+abbrev pub coded_counts : Coded Counts
+coded_counts = code_by ((Amounts × Amounts) × ℕ) (coded× (coded× coded_amounts coded_amounts) coded_ℕ) (λ c. ((c.totals, c.settled), c.desks)) (λ p. record { totals = p.0.0; settled = p.0.1; desks = p.1 }) (λ _. refl)
+
+abbrev pub coded_content : Coded Content
+coded_content = code_by (BookState × Counts) (coded× coded_state coded_counts) (λ k. (k.book, k.counts)) (λ p. record { book = p.0; counts = p.1 }) (λ _. refl)
+
+-- what was received is in sessions, was closed or was abandoned
+abbrev pub IsBalanced : Content → Type 0
+IsBalanced k = k.counts.totals.received ≡ received_in_sessions k.book.catalog + k.counts.totals.closed + k.counts.totals.abandoned
+
+-- ---- counting
+
+-- whether one more command that brings n bytes can be counted, beside those that are in hand
+abbrev pub has_room : Content → ℕ → Bool
+has_room k n = nat_lt (k.counts.totals.commands + in_hand k.book.catalog + 1) (2 ^ 64) && nat_lt (k.counts.totals.received + reserved k.book.catalog + n) (2 ^ 64)
+
+abbrev pub with_catalog : Content → Catalog → Content
+with_catalog k C = record k { book = record k.book { catalog = C } }
+
+-- the same with other slots
+abbrev pub with_slots : Content → List SlotSeen → Content
+with_slots k slots = record k { book = record k.book { slots = slots } }
+
+-- the content and a desk after an accepted command of these amounts
+abbrev pub with_counted : Content × Amounts → Catalog → Amounts → Content × Amounts
+with_counted at C a = (record (with_catalog at.0 C) { counts = record at.0.counts { totals = plus at.0.counts.totals a } }, plus at.1 a)
+
+-- a step on the catalog, of which nothing is counted
+abbrev pub uncounted : {A : Type 0} → (Catalog → Outcome A) → Content → OutcomeIn Content A
+uncounted step k = do
+  done ← step k.book.catalog
+  Ok (done.0, with_catalog k done.1)
+
+-- a step on the catalog whose answer, once accepted, is counted by its amounts in the totals and in a desk
+abbrev pub accepted : {A : Type 0} → (A → Amounts) → (Catalog → Outcome A) → Content × Amounts → OutcomeIn (Content × Amounts) A
+accepted amounts step at = do
+  done ← step at.0.book.catalog
+  Ok (done.0, with_counted at done.1 (amounts done.0))
+
+-- the same where, before all else, one more command can be counted
+abbrev pub counted : {A : Type 0} → (A → Amounts) → (Catalog → Outcome A) → Content × Amounts → OutcomeIn (Content × Amounts) A
+counted amounts step at = do
+  _ ← refuse (not (has_room at.0 0)) LimitReached
+  accepted amounts step at
+
+-- a step that takes a session in hand for n bytes: it can be counted once it is accepted
+abbrev pub reserving : {A : Type 0} → ℕ → (Catalog → Outcome A) → Content → OutcomeIn Content A
+reserving n step k = do
+  _ ← refuse (not (has_room k n)) LimitReached
+  uncounted step k
+
+-- an answer that changes nothing
+abbrev pub unchanged : {A : Type 0} → Result A Refusal → Catalog → Outcome A
+unchanged answer C = do
+  a ← answer
+  Ok (a, C)
+
+-- whether so many more desks can't be handed out
+abbrev pub cannot_hand_out : Content → ℕ → Bool
+cannot_hand_out k n = n == 0 || nat_lt 1024 (k.counts.desks + n)
+
+-- so many more desks are out
+abbrev pub handing_out : ℕ → Content → OutcomeIn Content (Unit {0})
+handing_out n k = do
+  _ ← refuse (cannot_hand_out k n) LimitReached
+  Ok (tt, record k { counts = record k.counts { desks = k.counts.desks + n } })
+
+-- A lease does what its definition says, counted. It is refused for its readers only where a look found no room for one more. What it does
+-- to the slots is left out here.
+pub record Lends {A : Type 0} (view : A → Text) (result : Result A Refusal) (old new : Content × Amounts) (repo digest : Text) : Type 0 where
+  pub crowded : Bool
+  pub does : Does view result old (with_slots new.0 old.0.book.slots, new.1) (counted (λ _. one 0 0 0) (λ C. lease crowded C repo digest) old)
+  pub look : crowded ≡ true → IsCrowded digest new.0.book.slots
