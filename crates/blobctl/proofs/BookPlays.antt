@@ -12,7 +12,7 @@ use Rattle.store_book.specs.SlotSteps.{EachSlot, HasLast}
 use Rattle.row_player.specs.Answers.{Answer, Session, Received, Stored, Abandoned, Mounted, Deleted, Manifest, Body, Leased, Bytes, Shared, Verified, GivenBack, Swept, NoLease, NameTaken, Refused}
 use Rattle.row_player.specs.Commands.{Command, Start, Status, Append, Close, Abandon, Mount, Delete, PutManifest, GetManifest, DeleteManifest, Lease, Request, Calls, Verifies, Sweeps, command_of}
 use Rattle.row_player.specs.Leases.{Lent, Leases, none}
-use Rattle.blobctl.specs.Played.{Acts, ActsCall, IsCrowdedOut, result_of, outcome, Happens, HappensCall, RisesByOne}
+use Rattle.blobctl.specs.Played.{Acts, ActsCall, IsCrowdedOut, result_of, outcome, Leads, LeadsCall, RisesByOne}
 use Rattle.row_player.specs.Plays.{Plays, RowStep, StepOf, State, LendsWhereFree, VerifiesLease, named}
 use Rattle.row_player.specs.Rows.{RowView}
 
@@ -55,7 +55,7 @@ none_retired : (n : ℕ) → ¬ (0 < n) → n ≡ 0
 none_retired zero not = refl
 none_retired (suc n) not = absurd (not (omega arith))
 
-call_happens : (n : ℕ) (C : Catalog) (slots : List SlotSeen) (command : Command) (answer : Answer) (C' : Catalog) → AreLow n slots → n ≤ 65537 → answer ≢ Refused Memory → ActsCall C slots command answer C' → HappensCall C command answer C'
+call_happens : (n : ℕ) (C : Catalog) (slots : List SlotSeen) (command : Command) (answer : Answer) (C' : Catalog) → AreLow n slots → n ≤ 65537 → answer ≢ Refused Memory → ActsCall C slots command answer C' → LeadsCall C command answer C'
 call_happens n C slots command (Session x) C' low few not_memory h = sym (ap (result_of C) h)
 call_happens n C slots command (Received x) C' low few not_memory h = sym (ap (result_of C) h)
 call_happens n C slots command (Stored x) C' low few not_memory h = sym (ap (result_of C) h)
@@ -80,7 +80,7 @@ call_happens n C slots command (Refused refusal) C' low few not_memory h =
     (λ i. (Refused refusal, h.1 i)) ∙ sym (ap (result_of C) refused)
 
 -- what a book does happens to its catalog, unless memory ran out
-request_happens : (n : ℕ) (old new : BookState) (request : Request) (answer : Answer) → AreLow n old.slots → n ≤ 65536 → answer ≢ Refused Memory → Acts old request answer new → Happens old.catalog request answer new.catalog × AreLow (n + 1) new.slots
+request_happens : (n : ℕ) (old new : BookState) (request : Request) (answer : Answer) → AreLow n old.slots → n ≤ 65536 → answer ≢ Refused Memory → Acts old request answer new → Leads old.catalog request answer new.catalog × AreLow (n + 1) new.slots
 request_happens n old new (Calls command) answer low few not_memory h =
     let after = low_by_one n old.slots new.slots low h.1 in
     (call_happens (n + 1) old.catalog new.slots command answer new.catalog after (omega (arith, few)) not_memory h.0, after)
@@ -98,7 +98,7 @@ catalog_in s = s.catalog
 same_low : (n : ℕ) (old new : BookState) → new ≡ old → AreLow n old.slots → AreLow (n + 1) new.slots
 same_low n old new same low = subst (λ (x : BookState). AreLow (n + 1) x.slots) (sym same) (still_low n old.slots low)
 
-store_happens : (n : ℕ) (o : Result (Option Command) Refusal) (old new : BookState) (answer : Answer) → AreLow n old.slots → n ≤ 65536 → answer ≢ Refused Memory → StepOf Acts o old answer new → StepOf Happens o old.catalog answer new.catalog × AreLow (n + 1) new.slots
+store_happens : (n : ℕ) (o : Result (Option Command) Refusal) (old new : BookState) (answer : Answer) → AreLow n old.slots → n ≤ 65536 → answer ≢ Refused Memory → StepOf Acts o old answer new → StepOf Leads o old.catalog answer new.catalog × AreLow (n + 1) new.slots
 store_happens n (Ok (Some command)) old new answer low few not_memory step = let h = request_happens n old new (Calls command) answer low few not_memory step.1 in ((step.0, h.0), h.1)
 store_happens n (Ok None) old new answer low few not_memory step = absurd step
 store_happens n (Err refusal) old new answer low few not_memory step = ((step.0, ap catalog_in step.1), same_low n old new step.1 low)
@@ -107,19 +107,19 @@ bytes_not_memory : (bytes : Text) → Bytes bytes ≢ Refused Memory
 bytes_not_memory bytes e = absurd (let h = e in cc)
 
 lends_happen : (n : ℕ) (o : Option Lent) (old new : State BookState) (line : RowView) (answer : Answer) → AreLow n old.0.slots → n ≤ 65536 → answer ≢ Refused Memory → LendsWhereFree Acts o old line answer new
-    → LendsWhereFree Happens o (catalog_of old) line answer (catalog_of new) × AreLow (n + 1) new.0.slots
+    → LendsWhereFree Leads o (catalog_of old) line answer (catalog_of new) × AreLow (n + 1) new.0.slots
 lends_happen n (Some lease) old new line answer low few not_memory h = ((h.0, ap catalog_of h.1), same_low n old.0 new.0 (ap (λ (x : State BookState). x.0) h.1) low)
 lends_happen n None old new line answer low few not_memory h = elim h [
   | inl l ↦ let d = request_happens n old.0 new.0 (Calls (Lease line.repo line.digest)) (Bytes l.0) low few (bytes_not_memory l.0) l.1 in (inl (l.0, d.0, l.2, l.3), d.1)
   | inr r ↦ let d = request_happens n old.0 new.0 (Calls (Lease line.repo line.digest)) (Refused r.0) low few (λ e. not_memory (r.2 ∙ e)) r.1 in (inr (r.0, d.0, r.2, r.3), d.1)
 ]
 
-verify_happens : (n : ℕ) (o : Option Lent) (old new : BookState) (answer : Answer) → AreLow n old.slots → n ≤ 65536 → answer ≢ Refused Memory → VerifiesLease Acts o old answer new → VerifiesLease Happens o old.catalog answer new.catalog × AreLow (n + 1) new.slots
+verify_happens : (n : ℕ) (o : Option Lent) (old new : BookState) (answer : Answer) → AreLow n old.slots → n ≤ 65536 → answer ≢ Refused Memory → VerifiesLease Acts o old answer new → VerifiesLease Leads o old.catalog answer new.catalog × AreLow (n + 1) new.slots
 verify_happens n None old new answer low few not_memory h = ((h.0, ap catalog_in h.1), same_low n old new h.1 low)
 verify_happens n (Some lease) old new answer low few not_memory h = request_happens n old new (Verifies (length lease.bytes)) answer low few not_memory h
 
 row_happens : (n : ℕ) (old new : State BookState) (line : RowView) (answer : Answer) → AreLow n old.0.slots → n ≤ 65536 → answer ≢ Refused Memory → RowStep Acts old line answer new
-    → RowStep Happens (catalog_of old) line answer (catalog_of new) × AreLow (n + 1) new.0.slots
+    → RowStep Leads (catalog_of old) line answer (catalog_of new) × AreLow (n + 1) new.0.slots
 row_happens n old new line answer low few not_memory step = elim step [
   | inl store ↦ let h = store_happens n (command_of line) old.0 new.0 answer low few not_memory store.0 in (inl (h.0, store.1), h.1)
   | inr (inl lends) ↦ let h = lends_happen n (named old.1 line) old new line answer low few not_memory lends.2 in (inr (inl (lends.0, lends.1, h.0)), h.1)
@@ -130,7 +130,7 @@ row_happens n old new line answer low few not_memory step = elim step [
   | inr (inr (inr (inr (inr (inr sweeps))))) ↦ let h = request_happens n old.0 new.0 Sweeps answer low few not_memory sweeps.1 in (inr (inr (inr (inr (inr (inr (sweeps.0, h.0, sweeps.2)))))), h.1)
 ]
 
-pub all_happen : (n : ℕ) (old new : State BookState) (lines : List RowView) (answers : List Answer) → AreLow n old.0.slots → n + length lines ≤ 65536 → Plays Acts old lines answers new → Plays Happens (catalog_of old) lines answers (catalog_of new)
+pub all_happen : (n : ℕ) (old new : State BookState) (lines : List RowView) (answers : List Answer) → AreLow n old.0.slots → n + length lines ≤ 65536 → Plays Acts old lines answers new → Plays Leads (catalog_of old) lines answers (catalog_of new)
 all_happen n old new [] [] low few h = ap catalog_of h
 all_happen n old new [] (r ∷ rs) low few h = absurd h
 all_happen n old new (l ∷ ls) [] low few h = absurd h
@@ -150,6 +150,6 @@ fresh_low slots n s all first free k t at = of_replicate (IsLow 0) n k s t (omeg
 
 pub run_happens : {A E : Type 0} (Opens : Catalog → Type 0) (r : Result A E) (book : A → BookState) (answers : A → List Answer) (lines : List RowView) (first : BookState) → Opens first.catalog → AreLow 0 first.slots → length lines ≤ 65536
     → IfOk r (λ p. (left : Leases) × Plays Acts (first, none) lines (answers p) (book p, left))
-    → IfOk r (λ p. (C : Catalog) × (left : Leases) × Opens C × Plays Happens (C, none) lines (answers p) ((book p).catalog, left))
+    → IfOk r (λ p. (C : Catalog) × (left : Leases) × Opens C × Plays Leads (C, none) lines (answers p) ((book p).catalog, left))
 run_happens Opens (Ok p) book answers lines first opens fresh few h = (first.catalog, h.0, opens, all_happen 0 (first, none) (book p, h.0) lines (answers p) fresh (omega (arith, few)) h.1)
 run_happens Opens (Err e) book answers lines first opens fresh few h = tt

@@ -22,7 +22,7 @@ use Rattle.store_model.specs.Sweep.{IsLeft, IsSweep, is_orphan}
 use Rattle.store_model.specs.declared.swept.Swept.{Swept as SweptCounts}
 use Rattle.row_player.specs.Answers.{Answer, Swept}
 use Rattle.row_player.specs.Commands.{Command, Start, Status, Append, Close, Abandon, Mount, Delete, PutManifest, GetManifest, DeleteManifest, Lease, Sweeps, command_of, is_lease, uses_repo}
-use Rattle.blobctl.specs.Played.{Happens, outcome, result_of, row_answer}
+use Rattle.blobctl.specs.Played.{Leads, outcome, result_of, row_answer}
 use Rattle.row_player.specs.Plays.{Plays, RowStep, State, StepOf, StoreRow, VerifiesLease, give_back_of, name_of, named, piece_of, read_of, second_of, shared_in}
 use Rattle.csv.specs.Machine.{next_record}
 use Rattle.csv.specs.Reading.{AreRecords, Reached}
@@ -44,7 +44,7 @@ LentNone C = (d : Text) (b : Resident) → get C.residents d ≡ Some b → b.le
 
 -- ---- one step
 
-pub store_same : (o : Result (Option Command) Refusal) (C D E : Catalog) (a b : Answer) → StepOf Happens o C a D → StepOf Happens o C b E → ◌≡◌ {A = Answer × Catalog} (a, D) (b, E)
+pub store_same : (o : Result (Option Command) Refusal) (C D E : Catalog) (a b : Answer) → StepOf Leads o C a D → StepOf Leads o C b E → ◌≡◌ {A = Answer × Catalog} (a, D) (b, E)
 store_same (Ok (Some command)) C D E a b one two = one.1 ∙ sym two.1
 store_same (Ok None) C D E a b one two = absurd one
 store_same (Err refusal) C D E a b one two = λ i. ((one.0 ∙ sym two.0) i, (one.1 ∙ sym two.1) i)
@@ -110,7 +110,7 @@ answered_keeps answer (Ok x) keeps y e = ok_keeps (answer x.0) x.1 (keeps x refl
 answered_keeps answer (Err r) keeps y e = absurd (let h = e in cc)
 
 module _ (C : Catalog) (none : LentNone C) where
-  read_keeps : {A : Type 0} (answer : A → runs.Answer) (r : Result A Refusal) → Keeps (runs.told answer C r)
+  read_keeps : {A : Type 0} (answer : A → runs.Answer) (r : Result A Refusal) → Keeps (runs.reading answer C r)
   unfolding Keeps
   read_keeps answer (Ok x) y e = ok_keeps (answer x) C none y e
   read_keeps answer (Err r) y e = absurd (let h = e in cc)
@@ -163,7 +163,7 @@ module _ (C : Catalog) (none : LentNone C) where
   result_none (Ok x) keeps = keeps x refl
   result_none (Err r) keeps = none
 
-  pub store_none : (o : Result (Option Command) Refusal) (D : Catalog) (a : Answer) → StepOf Happens o C a D → LentNone D
+  pub store_none : (o : Result (Option Command) Refusal) (D : Catalog) (a : Answer) → StepOf Leads o C a D → LentNone D
   store_none (Ok (Some command)) D a step = subst LentNone (sym (ap (λ (p : Answer × Catalog). p.1) step.1)) (result_none (outcome C command) (outcome_keeps command step.0))
   store_none (Ok None) D a step = absurd step
   store_none (Err refusal) D a step = subst LentNone (sym step.1) none
@@ -174,14 +174,14 @@ module _ (C : Catalog) (none : LentNone C) where
 RowOf : Verb → State Catalog → RowView → Answer → State Catalog → Type 0
 RowOf verb.Read s line a t = (a ≡ read_of (named s.1 line) (piece_of line.range)) × (t ≡ s)
 RowOf verb.Share s line a t = ((a, t.1) ≡ shared_in s.1 (name_of line) (second_of line)) × (t.0 ≡ s.0)
-RowOf verb.Verify s line a t = VerifiesLease Happens (named s.1 line) s.0 a t.0 × (t.1 ≡ s.1)
+RowOf verb.Verify s line a t = VerifiesLease Leads (named s.1 line) s.0 a t.0 × (t.1 ≡ s.1)
 RowOf verb.GiveBack s line a t = ((a, t.1) ≡ give_back_of s.1 (name_of line) (named s.1 line)) × (t.0 ≡ s.0)
-RowOf verb.Sweep s line a t = Happens s.0 Sweeps a t.0 × (t.1 ≡ s.1)
+RowOf verb.Sweep s line a t = Leads s.0 Sweeps a t.0 × (t.1 ≡ s.1)
 RowOf verb.Lease s line a t = ⊥
-RowOf _ s line a t = StoreRow Happens s line a t
+RowOf _ s line a t = StoreRow Leads s line a t
 
 module _ (s t : State Catalog) (line : RowView) (a : Answer) where
-  of_store : (v : Verb) → uses_repo v ≡ true → v ≢ verb.Lease → StoreRow Happens s line a t → RowOf v s line a t
+  of_store : (v : Verb) → uses_repo v ≡ true → v ≢ verb.Lease → StoreRow Leads s line a t → RowOf v s line a t
   unfolding RowOf
   of_store verb.Start uses other h = h
   of_store verb.Status uses other h = h
@@ -200,11 +200,11 @@ module _ (s t : State Catalog) (line : RowView) (a : Answer) where
   of_store verb.GiveBack uses other h = absurd (false≢true uses)
   of_store verb.Sweep uses other h = absurd (false≢true uses)
 
-  repo_named : (u : Bool) → uses_repo line.verb ≡ u → StoreRow Happens s line a t → u ≡ true
+  repo_named : (u : Bool) → uses_repo line.verb ≡ u → StoreRow Leads s line a t → u ≡ true
   repo_named true is h = refl
   repo_named false is h = absurd (let k = rw (spells_none line line.verb refl is) at h.0 in k)
 
-  row_of : line.verb ≢ verb.Lease → RowStep Happens s line a t → RowOf line.verb s line a t
+  row_of : line.verb ≢ verb.Lease → RowStep Leads s line a t → RowOf line.verb s line a t
   unfolding RowOf
   row_of other step = elim step [
     | inl store ↦ of_store line.verb (repo_named (uses_repo line.verb) refl store) other store
@@ -217,10 +217,10 @@ module _ (s t : State Catalog) (line : RowView) (a : Answer) where
   ]
 
 module _ (s t u : State Catalog) (line : RowView) (a b : Answer) where
-  store_rows : StoreRow Happens s line a t → StoreRow Happens s line b u → ◌≡◌ {A = Answer × State Catalog} (a, t) (b, u)
+  store_rows : StoreRow Leads s line a t → StoreRow Leads s line b u → ◌≡◌ {A = Answer × State Catalog} (a, t) (b, u)
   store_rows h k = let p = store_same (command_of line) s.0 t.0 u.0 a b h.0 k.0 in λ i. ((p i).0, ((p i).1, (h.1 ∙ sym k.1) i))
 
-  verify_same : (o : Option Lent) → VerifiesLease Happens o s.0 a t.0 → VerifiesLease Happens o s.0 b u.0 → ◌≡◌ {A = Answer × Catalog} (a, t.0) (b, u.0)
+  verify_same : (o : Option Lent) → VerifiesLease Leads o s.0 a t.0 → VerifiesLease Leads o s.0 b u.0 → ◌≡◌ {A = Answer × Catalog} (a, t.0) (b, u.0)
   verify_same None h k = λ i. ((h.0 ∙ sym k.0) i, (h.1 ∙ sym k.1) i)
   verify_same (Some lease) h k = λ i. ((h.0 ∙ sym k.0) i, (h.1 ∙ sym k.1) i)
 
@@ -246,7 +246,7 @@ module _ (s t u : State Catalog) (line : RowView) (a b : Answer) where
       λ i. ((h.0.1 ∙ ap (λ (x : Answer × Catalog). x.0) p ∙ sym k.0.1) i, ((p i).1, (h.1 ∙ sym k.1) i))
 
 module _ (s t : State Catalog) (line : RowView) (a : Answer) (none : LentNone s.0) where
-  verify_none : (o : Option Lent) → VerifiesLease Happens o s.0 a t.0 → LentNone t.0
+  verify_none : (o : Option Lent) → VerifiesLease Leads o s.0 a t.0 → LentNone t.0
   verify_none None h = subst LentNone (sym h.1) none
   verify_none (Some lease) h = subst LentNone (sym h.1) none
 
@@ -270,7 +270,7 @@ module _ (s t : State Catalog) (line : RowView) (a : Answer) (none : LentNone s.
   row_none verb.Sweep h = sweep_none s.0 none h.0.0 t.0 h.0.2
 
 -- the rows of a script, none of which leases a blob, are answered and leave what they do
-pub plays_same : (s t u : State Catalog) (lines : List RowView) (one two : List Answer) → LentNone s.0 → LeaseNothing lines → Plays Happens s lines one t → Plays Happens s lines two u → ◌≡◌ {A = List Answer × State Catalog} (one, t) (two, u)
+pub plays_same : (s t u : State Catalog) (lines : List RowView) (one two : List Answer) → LentNone s.0 → LeaseNothing lines → Plays Leads s lines one t → Plays Leads s lines two u → ◌≡◌ {A = List Answer × State Catalog} (one, t) (two, u)
 plays_same s t u [] [] [] none nothing h k = λ i. ([], (h ∙ sym k) i)
 plays_same s t u [] [] (b ∷ bs) none nothing h k = absurd k
 plays_same s t u [] (a ∷ as') bs none nothing h k = absurd h
@@ -279,7 +279,7 @@ plays_same s t u (l ∷ ls) (a ∷ as') [] none nothing h k = absurd k
 plays_same s t u (l ∷ ls) (a ∷ as') (b ∷ bs) none nothing h k =
     let here = row_of s h.0 l a nothing.0 h.1 in
     let p = rows_same s h.0 k.0 l a b none l.verb here (row_of s k.0 l b nothing.0 k.1) in
-    let rest = subst (λ (m : State Catalog). Plays Happens m ls bs u) (sym (ap (λ (x : Answer × State Catalog). x.1) p)) k.3 in
+    let rest = subst (λ (m : State Catalog). Plays Leads m ls bs u) (sym (ap (λ (x : Answer × State Catalog). x.1) p)) k.3 in
     let q = plays_same h.0 t u ls as' bs (row_none s h.0 l a none l.verb here) nothing.1 h.3 rest in
     λ i. ((p i).0 ∷ (q i).0, (q i).1)
 

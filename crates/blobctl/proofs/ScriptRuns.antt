@@ -19,7 +19,7 @@ use Rattle.row_player.specs.Rows.{RowView}
 use Rattle.row_player.specs.declared.row.Verb.{Verb}
 use Rattle.row_player.specs.declared.row.Verb.TheVariants as verb
 use Rattle.row_player.proofs.Spellings.{names_repo, repo_spelled}
-use Rattle.blobctl.specs.Played.{Happens, result_of, row_answer}
+use Rattle.blobctl.specs.Played.{Leads, result_of, row_answer}
 use Rattle.blobctl.specs.ScriptRuns.{AreEventsOf, IsEvent, IsNoEvent, rows_of, shown_reply}
 
 -- ---- one row
@@ -69,7 +69,7 @@ abbrev Told : Catalog → RowView → Answer → Catalog → Type 0
 Told C line a C' = (IsNoEvent line a × (C' ≡ C)) ⊎ ((e : runs.Event) × IsEvent line a e × runs.Happens C e C')
 
 module _ (C C' : Catalog) (line : RowView) (a : Answer) where
-  store_told : (o : Result (Option Command) Refusal) → command_of line ≡ o → StepOf Happens o C a C' → Told C line a C'
+  store_told : (o : Result (Option Command) Refusal) → command_of line ≡ o → StepOf Leads o C a C' → Told C line a C'
   store_told (Ok (Some c)) is h = let x = asked C C' c a (runs.outcome false C c) refl h.1 in inr (runs.Called c x.0, (is, x.2 ∙ plain_shown c x.0 h.0), x.1)
   store_told (Ok None) is h = absurd h
   store_told (Err refusal) is h = inl (inl (refusal, is, h.0), h.1)
@@ -78,12 +78,12 @@ module _ (C C' : Catalog) (line : RowView) (a : Answer) where
   no_event : (v : Verb) → uses_repo v ≡ false → v ≢ verb.Sweep → line.verb ≡ v → IsNoEvent line a
   no_event v none other is = inr (inr (ap uses_repo is ∙ none, λ e. other (sym is ∙ e)))
 
-  verify_told : (o : Option Lent) → VerifiesLease Happens o C a C' → C' ≡ C
+  verify_told : (o : Option Lent) → VerifiesLease Leads o C a C' → C' ≡ C
   verify_told None h = h.1
   verify_told (Some lease) h = h.1
 
 module _ (s t : State Catalog) (line : RowView) (a : Answer) where
-  lease_told : (o : Option Lent) → line.verb ≡ verb.Lease → command_of line ≡ Ok (Some (Lease line.repo line.digest)) → LendsWhereFree Happens o s line a t → Told s.0 line a t.0
+  lease_told : (o : Option Lent) → line.verb ≡ verb.Lease → command_of line ≡ Ok (Some (Lease line.repo line.digest)) → LendsWhereFree Leads o s line a t → Told s.0 line a t.0
   lease_told (Some lease) is spells h = inl (inr (inl (is, h.0)), ap (λ (x : State Catalog). x.0) h.1)
   lease_told None is spells h = elim h [
     | inl l ↦
@@ -96,7 +96,7 @@ module _ (s t : State Catalog) (line : RowView) (a : Answer) where
         inr (runs.Called c x.0, (spells, r.2 ∙ refused_shown line.repo line.digest r.0 x.0 x.2), x.1)
   ]
 
-  row_told : RowStep Happens s line a t → Told s.0 line a t.0
+  row_told : RowStep Leads s line a t → Told s.0 line a t.0
   row_told step = elim step [
     | inl store ↦ store_told s.0 t.0 line a (command_of line) refl store.0
     | inr (inl lends) ↦ lease_told (lease_named s.1 line) lends.0 lends.1 lends.2
@@ -119,7 +119,7 @@ row_first C D C' line a lines answers here rest = elim here [
   | inr h ↦ (h.0 ∷ rest.0, inr (h.0, rest.0, refl, h.1, rest.1), (D, h.2, rest.2))
 ]
 
-pub plays_run : (s t : State Catalog) (lines : List RowView) (answers : List Answer) → Plays Happens s lines answers t → Run s.0 lines answers t.0
+pub plays_run : (s t : State Catalog) (lines : List RowView) (answers : List Answer) → Plays Leads s lines answers t → Run s.0 lines answers t.0
 plays_run s t [] [] h = ([], refl, ap (λ (x : State Catalog). x.0) h)
 plays_run s t [] (a ∷ as') h = absurd h
 plays_run s t (l ∷ ls) [] h = absurd h

@@ -23,7 +23,7 @@ use Rattle.store_model.proofs.Commands.SomeSweep.{after, some_sweep, swept}
 use Rattle.row_player.specs.Answers.{Answer, Leased, Shared, Verified, NoLease, NameTaken, Swept, Refused, mount_answer}
 use Rattle.row_player.specs.Commands.{Command, Start, Status, Append, Close, Abandon, Mount, Delete, PutManifest, GetManifest, DeleteManifest, Lease, command_of, digest_in, range_by, range_in, range_with, repo_in, source_in, uses_digest, uses_range, uses_repo, uses_source, where_used}
 use Rattle.row_player.specs.Leases.{Leases, Lent, Name, halved, new_lease}
-use Rattle.blobctl.specs.Played.{Happens, outcome, result_of, row_answer}
+use Rattle.blobctl.specs.Played.{Leads, outcome, result_of, row_answer}
 use Rattle.row_player.specs.Plays.{Plays, RowStep, State, StepOf, VerifiesLease, LendsWhereFree, give_back_of, name_of, named, piece_of, read_of, second_of, share_of, shared_in}
 use Rattle.row_player.specs.Rows.{RowView}
 use Rattle.row_player.specs.declared.row.Verb.{Verb}
@@ -188,7 +188,7 @@ mount_good mounting.Mounted = tt
 mount_good (mounting.Session number) = tt
 
 module _ (C : Catalog) where
-  read_good : {A : Type 0} (inner : A → runs.Answer) (answer : runs.Answer → Answer) → ((a : A) → Good (answer (inner a))) → (r : Result A Refusal) → Fine r → Told (runs.answered answer (runs.told inner C r))
+  read_good : {A : Type 0} (inner : A → runs.Answer) (answer : runs.Answer → Answer) → ((a : A) → Good (answer (inner a))) → (r : Result A Refusal) → Fine r → Told (runs.answered answer (runs.reading inner C r))
   read_good inner answer good (Ok x) fine = good x
   read_good inner answer good (Err e) fine = fine
 
@@ -232,10 +232,10 @@ give_back_good L name (Some lease) = tt
 module _ (s : State Catalog) (line : RowView) where
   -- a row has an answer, and leaves something
   abbrev Step : Type 0
-  Step = (a : Answer) × (t : State Catalog) × RowStep Happens s line a t × Good a
+  Step = (a : Answer) × (t : State Catalog) × RowStep Leads s line a t × Good a
 
   refused : (refusal : Refusal) → command_of line ≡ Err refusal → Step
-  refused refusal is = (Refused refusal, s, inl (subst (λ (o : Result (Option Command) Refusal). StepOf Happens o s.0 (Refused refusal) s.0) (sym is) (refl, refl), refl), subst (λ (o : Result (Option Command) Refusal). Fine o) is (command_fine line))
+  refused refusal is = (Refused refusal, s, inl (subst (λ (o : Result (Option Command) Refusal). StepOf Leads o s.0 (Refused refusal) s.0) (sym is) (refl, refl), refl), subst (λ (o : Result (Option Command) Refusal). Fine o) is (command_fine line))
 
   store_step : Fits line → uses_repo line.verb ≡ true → line.verb ≢ verb.Lease → (o : Result (Option Command) Refusal) → command_of line ≡ o → Step
   store_step fit uses other (Err refusal) is = refused refusal is
@@ -243,10 +243,10 @@ module _ (s : State Catalog) (line : RowView) where
       let c = has_command line fit uses other o is in
       let x : Answer × Catalog = result_of s.0 (outcome s.0 c.0) in
       let spells : command_of line ≡ Ok (Some c.0) = is ∙ ap (λ (p : Option Command). Ok p) c.1 in
-      (x.0, (x.1, s.1), inl (subst (λ (o : Result (Option Command) Refusal). StepOf Happens o s.0 x.0 x.1) (sym spells) (c.2, refl), refl), result_good s.0 (outcome s.0 c.0) (outcome_good s.0 c.0))
+      (x.0, (x.1, s.1), inl (subst (λ (o : Result (Option Command) Refusal). StepOf Leads o s.0 x.0 x.1) (sym spells) (c.2, refl), refl), result_good s.0 (outcome s.0 c.0) (outcome_good s.0 c.0))
 
   abbrev Lending : Option Lent → Type 0
-  Lending o = (a : Answer) × (t : State Catalog) × LendsWhereFree Happens o s line a t × Good a
+  Lending o = (a : Answer) × (t : State Catalog) × LendsWhereFree Leads o s line a t × Good a
 
   lends : (o : steps.Outcome Text) → steps.lease false s.0 line.repo line.digest ≡ o → Fine o → Lending None
   lends (Ok x) is fine = (Leased (length x.0), (x.1, fmap.insert s.1 (name_of line) (new_lease x.0)), inl (x.0, ap (λ (o : steps.Outcome Text). result_of s.0 (runs.answered (row_answer (Lease line.repo line.digest)) (runs.answered runs.Bytes o))) (sym is), refl, refl), tt)
@@ -260,7 +260,7 @@ module _ (s : State Catalog) (line : RowView) where
   lease_step leases (Err refusal) is = refused refusal is
   lease_step leases (Ok o) is = let x = lending (named s.1 line) in (x.0, x.1, inr (inl (leases, has_lease line leases o is, x.2)), x.3)
 
-  verifying : (o : Option Lent) → (a : Answer) × (C : Catalog) × VerifiesLease Happens o s.0 a C × Good a
+  verifying : (o : Option Lent) → (a : Answer) × (C : Catalog) × VerifiesLease Leads o s.0 a C × Good a
   verifying None = (NoLease, s.0, (refl, refl), tt)
   verifying (Some lease) = (Verified (length lease.bytes), s.0, (refl, refl), tt)
 
@@ -290,7 +290,7 @@ module _ (s : State Catalog) (line : RowView) where
   step fit verb.DeleteManifest is = of_store fit verb.DeleteManifest is refl (λ e. absurd (let h = e in cc))
 
 -- rows that fit their commands are answered, and leave something
-pub some_run : (s : State Catalog) (lines : List RowView) → AllFit lines → (answers : List Answer) × (t : State Catalog) × Plays Happens s lines answers t
+pub some_run : (s : State Catalog) (lines : List RowView) → AllFit lines → (answers : List Answer) × (t : State Catalog) × Plays Leads s lines answers t
 some_run s [] fit = ([], s, refl)
 some_run s (line ∷ lines) fit =
     let here = step s line fit.0 line.verb refl in

@@ -34,7 +34,7 @@ pub record IsReadWhole {R : Type 0} (remaining : R → Option (List ℕ)) (old n
   pub unfailed : HasNotFailed old new
 
 -- what a run that ends well has read is a script, and what it has written is the text of playing it
-pub record EndsWell {R : Type 0} (remaining : R → Option (List ℕ)) (old new : Watched R) (held holds : Option (List ℕ)) (tenants : List Tenant) (slots max_blob : ℕ) : Type 0 where
+pub record RunSucceeds {R : Type 0} (remaining : R → Option (List ℕ)) (old new : Watched R) (held holds : Option (List ℕ)) (tenants : List Tenant) (slots max_blob : ℕ) : Type 0 where
   pub script : Text
   pub read : IsReadWhole remaining old new script
   pub text : Text
@@ -44,7 +44,7 @@ pub record EndsWell {R : Type 0} (remaining : R → Option (List ℕ)) (old new 
 -- What workers that play rows together on a store of these tenants and limits write: one reply to each row, in the order of the rows, of
 -- which each worker's are those of playing its rows in their order; and then a book that is sound, of the tenants, quotas, slots and limit
 -- on blobs that the store was opened with.
-pub record PlayedTogether (workers : ℕ) (tenants : List Tenant) (slots max_blob : ℕ) (rows : List RowView) (text : Text) : Type 0 where
+pub record PlayedByWorkers (workers : ℕ) (tenants : List Tenant) (slots max_blob : ℕ) (rows : List RowView) (text : Text) : Type 0 where
   pub answers : List Answer
   pub one_each : length answers ≡ length rows
   pub own : (w : ℕ) → w < workers → (desk : Amounts) × IsPlayed workers w rows desk (own_answers workers w rows answers)
@@ -56,14 +56,14 @@ pub record PlayedTogether (workers : ℕ) (tenants : List Tenant) (slots max_blo
   pub written : text ≡ replies_text answers ++ book_text last
 
 -- what a run of several workers that ends well has read is a script, and what it has written is theirs
-pub record EndsTogether {R : Type 0} (remaining : R → Option (List ℕ)) (old new : Watched R) (held holds : Option (List ℕ)) (workers : ℕ) (tenants : List Tenant) (slots max_blob : ℕ) : Type 0 where
+pub record WorkersRunSucceeds {R : Type 0} (remaining : R → Option (List ℕ)) (old new : Watched R) (held holds : Option (List ℕ)) (workers : ℕ) (tenants : List Tenant) (slots max_blob : ℕ) : Type 0 where
   pub script : Text
   pub read : IsReadWhole remaining old new script
   pub rows : List RowView
   pub all : AreRowsOf script rows
   pub text : Text
   pub written : Appends held holds text
-  pub played : PlayedTogether workers tenants slots max_blob rows text
+  pub played : PlayedByWorkers workers tenants slots max_blob rows text
 
 -- Why a run ends early: the first bad row of what was read whole; a failed read, or too long a script; a write, after the script was
 -- read whole and has good rows alone; or out of memory, with no read that failed.

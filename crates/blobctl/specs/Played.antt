@@ -51,18 +51,18 @@ result_of C (Ok x) = x
 result_of C (Err refusal) = (Refused refusal, C)
 
 -- a command leads from one catalog to another with its answer
-abbrev pub HappensCall : Catalog → Command → Answer → Catalog → Type 0
-HappensCall C command answer C' = (answer, C') ≡ result_of C (outcome C command)
+abbrev pub LeadsCall : Catalog → Command → Answer → Catalog → Type 0
+LeadsCall C command answer C' = (answer, C') ≡ result_of C (outcome C command)
 
 -- a sweep leads from one catalog to another, and retires no slot
-abbrev pub HappensSweep : Catalog → Answer → Catalog → Type 0
-HappensSweep C answer C' = (swept : SweptCounts) × (answer ≡ Swept swept) × IsSweep C swept C' × (swept.retired ≡ 0)
+abbrev pub LeadsSweep : Catalog → Answer → Catalog → Type 0
+LeadsSweep C answer C' = (swept : SweptCounts) × (answer ≡ Swept swept) × IsSweep C swept C' × (swept.retired ≡ 0)
 
 -- what a store is asked for leads from one catalog to another; neither `Memory` nor `TooManyReaders` is answered
-abbrev pub Happens : Catalog → Request → Answer → Catalog → Type 0
-Happens C (Calls command) answer C' = HappensCall C command answer C'
-Happens C (Verifies size) answer C' = (answer ≡ Verified size) × (C' ≡ C)
-Happens C Sweeps answer C' = HappensSweep C answer C'
+abbrev pub Leads : Catalog → Request → Answer → Catalog → Type 0
+Leads C (Calls command) answer C' = LeadsCall C command answer C'
+Leads C (Verifies size) answer C' = (answer ≡ Verified size) × (C' ≡ C)
+Leads C Sweeps answer C' = LeadsSweep C answer C'
 
 -- ---- the same of a book, which may refuse as out of memory in place of any answer, and a lease where a slot has too many readers
 
@@ -102,5 +102,5 @@ pub record Played (tenants : List Tenant) (slots max_blob : ℕ) (script text : 
   pub answers : List Answer
   pub last : Catalog
   pub left : leases.Leases
-  pub run : Plays Happens (first, leases.none) rows answers (last, left)
+  pub run : Plays Leads (first, leases.none) rows answers (last, left)
   pub written : text ≡ replies_text answers ++ book_text last

@@ -28,7 +28,7 @@ ghost use Rattle.blobctl.specs.declared.fault.Fault.TheVariants.{Write};
 
 #[cfg(test)]
 mod algorithm_tests;
-mod alone;
+mod one_worker;
 mod arguments;
 mod fault;
 #[cfg(test)]
@@ -54,7 +54,7 @@ mod tenants;
 mod test_scripts;
 #[cfg(test)]
 mod tests;
-mod together;
+mod workers;
 mod watched;
 #[cfg(test)]
 mod worker_tests;
@@ -71,7 +71,7 @@ use std::{env, io};
 
 /// Runs on standard input and output, with threads where there are several workers. What is written is collected first, so that a fault of
 /// the last write is a write fault too.
-fn run_here(
+fn run_on_stdio(
     rt: &HostRuntime,
     threads: &(impl Threads + Wait + Sync),
     options: &Options,
@@ -115,7 +115,7 @@ fn stopped(rt: &HostRuntime, stop: &Stop) -> u8
 
 /// Why the words of the command line can't be read: since memory ran out, or since one of them is not
 /// UTF-8.
-fn unread(error: io::Error) -> Stop {
+fn arguments_stop(error: io::Error) -> Stop {
     match error.kind() {
         ErrorKind::OutOfMemory => Stop::Memory,
         _ => Stop::NotUtf8,
@@ -134,14 +134,14 @@ fn options_here(rt: &HostRuntime) -> Result<Options, Stop>
 {
     match words_of(rt) {
         Ok(words) => read_options(rt.alloc(), words.as_slice()),
-        Err(error) => Err(unread(error)),
+        Err(error) => Err(arguments_stop(error)),
     }
 }
 
 fn main(rt: HostRuntime) -> ExitCode {
     let status = match options_here(&rt) {
         Err(stop) => stopped(&rt, &stop),
-        Ok(options) => match run_here(&rt, &rt, &options) {
+        Ok(options) => match run_on_stdio(&rt, &rt, &options) {
             Ok(()) => 0,
             Err(fault) => faulted(&rt, fault),
         },

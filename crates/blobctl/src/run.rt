@@ -1,7 +1,7 @@
 //! A run: reads a script, plays it, and writes the replies and the book.
 ghost use Rattle.std.specs.Prelude.{◌≡◌, ◌≢◌, ◌+◌, false, IfOk, IfErr, OnOk, map};
 ghost use Rattle.finite_maps.specs.Texts.{Text};
-ghost use Rattle.blobctl.specs.Ending.{EndsTogether, EndsWell, Explains, IsReadWhole};
+ghost use Rattle.blobctl.specs.Ending.{WorkersRunSucceeds, RunSucceeds, Explains, IsReadWhole};
 ghost use Rattle.blobctl.specs.Inputs.{TakesAtMost, max_script};
 ghost use Rattle.row_player.specs.RowViews.{row_view};
 ghost use Rattle.blobctl.specs.Options.{IsWithin};
@@ -9,13 +9,13 @@ ghost use Rattle.blobctl.specs.Script.{AreRowsOf};
 ghost use Rattle.blobctl.specs.Watching.{has_failed, inner_of};
 ghost use Rattle.store_book.specs.Openings.{tenants_shown};
 
-use crate::alone::play_alone;
+use crate::one_worker::play_by_one;
 use crate::fault::Fault;
 use crate::input::read_script;
 use crate::options::Options;
 use crate::output::write_played;
 use crate::script::read_rows;
-use crate::together::play_together;
+use crate::workers::play_by_workers;
 use crate::watched::Watched;
 use row_player::Row;
 use std::alloc::Global;
@@ -52,13 +52,13 @@ pub fn run_one<R: Read, W: Write>(
 ) -> Result<(), Fault>
     requires within { IsWithin options.now }
     requires unfailed { has_failed reader.old ≡ false }
-    ensures played { OnOk result (EndsWell R.remaining reader.old reader.new (W.contents writer.old) (W.contents writer.new) (tenants_shown options.now.store.tenants.items) options.now.store.slots options.now.store.max_blob) }
+    ensures played { OnOk result (RunSucceeds R.remaining reader.old reader.new (W.contents writer.old) (W.contents writer.new) (tenants_shown options.now.store.tenants.items) options.now.store.slots options.now.store.max_blob) }
     ensures most { TakesAtMost (R.remaining (inner_of reader.old)) (R.remaining (inner_of reader.new)) (max_script + 1) }
     ensures silent { IfErr result (λ e. e ≢ Fault.Write → writer.new ≡ writer.old) }
     ensures fault { IfErr result (λ e. Explains R.remaining reader.old reader.new e) }
 {
     let rows = read_all(alloc, reader)?;
-    let Ok((book, replies)) = play_alone(alloc, options, rows.as_slice()) else {
+    let Ok((book, replies)) = play_by_one(alloc, options, rows.as_slice()) else {
         return Err(Fault::Memory);
     };
     write_played(writer, replies.as_slice(), &book)?;
@@ -80,8 +80,8 @@ pub fn run<T: Threads + Wait + Sync, R: Read, W: Write>(
 ) -> Result<(), Fault>
     requires within { IsWithin options.now }
     requires unfailed { has_failed reader.old ≡ false }
-    ensures played { options.now.workers ≡ 1 → OnOk result (EndsWell R.remaining reader.old reader.new (W.contents writer.old) (W.contents writer.new) (tenants_shown options.now.store.tenants.items) options.now.store.slots options.now.store.max_blob) }
-    ensures together { options.now.workers ≢ 1 → OnOk result (EndsTogether R.remaining reader.old reader.new (W.contents writer.old) (W.contents writer.new) options.now.workers (tenants_shown options.now.store.tenants.items) options.now.store.slots options.now.store.max_blob) }
+    ensures played { options.now.workers ≡ 1 → OnOk result (RunSucceeds R.remaining reader.old reader.new (W.contents writer.old) (W.contents writer.new) (tenants_shown options.now.store.tenants.items) options.now.store.slots options.now.store.max_blob) }
+    ensures together { options.now.workers ≢ 1 → OnOk result (WorkersRunSucceeds R.remaining reader.old reader.new (W.contents writer.old) (W.contents writer.new) options.now.workers (tenants_shown options.now.store.tenants.items) options.now.store.slots options.now.store.max_blob) }
     ensures most { TakesAtMost (R.remaining (inner_of reader.old)) (R.remaining (inner_of reader.new)) (max_script + 1) }
     ensures silent { IfErr result (λ e. e ≢ Fault.Write → writer.new ≡ writer.old) }
     ensures fault { IfErr result (λ e. Explains R.remaining reader.old reader.new e) }
@@ -90,5 +90,5 @@ pub fn run<T: Threads + Wait + Sync, R: Read, W: Write>(
         return run_one(alloc, reader, writer, options);
     }
     let rows = read_all(alloc, reader)?;
-    play_together(rt, alloc, writer, options, rows.as_slice())
+    play_by_workers(rt, alloc, writer, options, rows.as_slice())
 }

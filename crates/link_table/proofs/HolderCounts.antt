@@ -236,8 +236,8 @@ abbrev empty_map : FinMap text_cmp ℕ
 empty_map = fmap.empty
 
 -- empty maps count no links
-pub Counts-opening : (tenants : List Tenant) (links : FinMap link_cmp ℕ) (holders : List (FinMap text_cmp ℕ)) → entries links ≡ [] → length holders ≡ length tenants → All (λ h. h ≡ empty_map) holders → Counts tenants links holders
-Counts-opening tenants links holders none many empty = record {
+pub Counts-initial : (tenants : List Tenant) (links : FinMap link_cmp ℕ) (holders : List (FinMap text_cmp ℕ)) → entries links ≡ [] → length holders ≡ length tenants → All (λ h. h ≡ empty_map) holders → Counts tenants links holders
+Counts-initial tenants links holders none many empty = record {
   one_each = many;
   counted = λ t d. nothing_at t d (slice_get holders t) refl ∙ sym (ap (count_by (is_held tenants t d)) none);
 }

@@ -243,9 +243,9 @@ copied_value f None = refl
 copied_value f (Some m) = refl
 
 -- nothing refers to anything
-pub IsIndexed-opening : (rows : tree.BTreeMap Text (Arc Text Global)) (s : BTreeSet (Text × Option Text)) → rows.entries ≡ [] → s.keys ≡ [] → IsIndexed (kept rows) s
-IsIndexed-opening rows s none empty d None = ap (list_any (tree.is_at (refer_cmp (d, None)))) empty
-IsIndexed-opening rows s none empty d (Some k) =
+pub IsIndexed-initial : (rows : tree.BTreeMap Text (Arc Text Global)) (s : BTreeSet (Text × Option Text)) → rows.entries ≡ [] → s.keys ≡ [] → IsIndexed (kept rows) s
+IsIndexed-initial rows s none empty d None = ap (list_any (tree.is_at (refer_cmp (d, None)))) empty
+IsIndexed-initial rows s none empty d (Some k) =
     ap (list_any (tree.is_at (refer_cmp (d, Some k)))) empty
     ∙ sym (ap (λ o. option_map_or (λ c. refers c d) o false) (ap (λ es. get (fmap.from_entries {R = text_cmp} (map {B = Text × Text} (λ (e : Text × Arc Text Global). (e.0, e.1.value)) es)) k) none ∙ fmap.get-empty text_cmp k))
 

@@ -156,9 +156,9 @@ none_total passes = rw (entries-empty link_cmp ℕ) (rw (entries-empty text_cmp 
 nothing_linked : {B : Type 0} (k : Link) (n : ℕ) → get (empty {X = ℕ} {R = link_cmp}) k ≡ Some n → B
 nothing_linked k n h = (let e : None ≡ Some n = sym (get-empty link_cmp k) ∙ h in cc)
 
-pub IsSound-opening : (tenants : List Tenant) (links : FinMap link_cmp ℕ) (weights charges : List ℕ) → AreTenants tenants → links ≡ empty →
+pub IsSound-initial : (tenants : List Tenant) (links : FinMap link_cmp ℕ) (weights charges : List ℕ) → AreTenants tenants → links ≡ empty →
     weights ≡ replicate (length tenants) 0 → charges ≡ replicate (length tenants) 0 → IsSound tenants links weights charges
-IsSound-opening tenants links weights charges ordered no_links ws cs = rw (no_links, ws, cs) (record {
+IsSound-initial tenants links weights charges ordered no_links ws cs = rw (no_links, ws, cs) (record {
   ordered = ordered;
   one_each = (length-replicate {A = ℕ} (length tenants) 0, length-replicate {A = ℕ} (length tenants) 0);
   one_size = λ r s d m n f g. nothing_linked (r, d) m f;

@@ -182,11 +182,11 @@ none_shown : (n : ℕ) → (flat_map (λ (s : Owned). entries s.repos) (replicat
 none_shown zero = (refl, refl)
 none_shown (suc n) = (rw (entries-empty text_cmp (Unit {0})) (none_shown n).0, rw (entries-empty link_cmp ℕ) (none_shown n).1)
 
-pub repos-opening : (n : ℕ) → repos_shown (replicate n nothing) ≡ sets.none
-repos-opening n = ap (λ es. from_entries {R = text_cmp} es) (none_shown n).0
+pub repos-initial : (n : ℕ) → repos_shown (replicate n nothing) ≡ sets.none
+repos-initial n = ap (λ es. from_entries {R = text_cmp} es) (none_shown n).0
 
-pub links-opening : (n : ℕ) → links_shown (replicate n nothing) ≡ empty
-links-opening n = ap (λ es. from_entries {R = link_cmp} es) (none_shown n).1
+pub links-initial : (n : ℕ) → links_shown (replicate n nothing) ≡ empty
+links-initial n = ap (λ es. from_entries {R = link_cmp} es) (none_shown n).1
 
 each_nothing : (n j : ℕ) (u : Owned) → slice_get (replicate n nothing) j ≡ Some u → u ≡ nothing
 each_nothing zero j u at = some_none (sym at)
@@ -197,8 +197,8 @@ length-nothing : (n : ℕ) → length (replicate n nothing) ≡ n
 length-nothing zero = refl
 length-nothing (suc n) = ap suc (length-nothing n)
 
-pub IsOwned-opening : (tenants : List Tenant) (by_tenant : List Owned) (n : ℕ) → n ≡ length tenants → by_tenant ≡ replicate n nothing → IsOwned tenants by_tenant
-IsOwned-opening tenants by_tenant n many is = rw is (record {
+pub IsOwned-initial : (tenants : List Tenant) (by_tenant : List Owned) (n : ℕ) → n ≡ length tenants → by_tenant ≡ replicate n nothing → IsOwned tenants by_tenant
+IsOwned-initial tenants by_tenant n many is = rw is (record {
   one_each = length-nothing n ∙ many;
   own = λ t s r at h. absurd (true≢false (sym h ∙ ap (λ (x : Owned). sets.contains x.repos r) (each_nothing n t s at) ∙ ap is_some (get-empty text_cmp r)));
   known = λ t s r d at h. absurd (true≢false (sym h ∙ ap (λ (x : Owned). fmap.contains_key x.links (r, d)) (each_nothing n t s at) ∙ ap is_some (get-empty link_cmp (r, d))));

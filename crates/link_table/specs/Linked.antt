@@ -85,8 +85,8 @@ first_unlinked links repo digests = find (λ d. not (fmap.contains_key links (re
 -- ---- what the calls do
 
 -- a table with nothing in it
-abbrev pub opening : List Tenant → Linked
-opening tenants = record { tenants = tenants; repos = set.none; links = fmap.empty; manifests = fmap.empty; charges = replicate (length tenants) 0 }
+abbrev pub initial_links : List Tenant → Linked
+initial_links tenants = record { tenants = tenants; repos = set.none; links = fmap.empty; manifests = fmap.empty; charges = replicate (length tenants) 0 }
 
 -- the number of a repository's tenant, or that there is none
 abbrev pub known_tenant : Linked → Text → Result ℕ Refusal

@@ -8,7 +8,7 @@ use Rattle.blob_digest.specs.Names.{IsComponent}
 use Rattle.blob_digest.specs.Tenants.{Tenant}
 use Rattle.blob_digest.specs.declared.refusal.Refusal.{Refusal}
 use Rattle.blob_digest.specs.declared.refusal.Refusal.TheVariants.{NameInvalid, LimitReached, Memory}
-use Rattle.link_table.specs.Linked.{Linked, opening}
+use Rattle.link_table.specs.Linked.{Linked, initial_links}
 
 -- each name is one component of a repository's name (OCI Distribution Specification 1.1, "Pulling manifests"), and no name comes twice
 pub record HasNames (ts : List Tenant) : Type 0 where
@@ -47,7 +47,7 @@ pub record Opens (given : List Tenant) (l : Linked) : Type 0 where
   pub limits : IsWithinLimits given
   pub same : IsPermutation given l.tenants
   pub tenants : AreTenants l.tenants
-  pub empty : l ≡ opening l.tenants
+  pub empty : l ≡ initial_links l.tenants
 
 -- a name with a quota
 abbrev pub tenant_shown : String Global × ℕ → Tenant

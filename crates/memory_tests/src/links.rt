@@ -1,6 +1,6 @@
 //! Repositories that appear, and their manifests.
 
-use crate::attempt::{Answer, Calls, judged, play};
+use crate::calls::{Answer, Calls, judged, play};
 use crate::commands::tenants;
 use crate::stopped::Stopped;
 use blob_digest::{Refusal, RepoName};

@@ -7,10 +7,10 @@
 //! made for the calls, and by none of them, ends the program early.
 #![tactic(auto)]
 
-mod attempt;
+mod calls;
 mod commands;
 mod links;
-mod makers;
+mod values;
 mod on_book;
 mod on_play;
 mod on_store;
@@ -20,7 +20,7 @@ mod stopped;
 mod texts;
 
 use crate::links::play_links;
-use crate::makers::play_makers;
+use crate::values::play_values;
 use crate::on_book::play_on_book;
 use crate::on_play::play_on_play;
 use crate::on_store::play_on_store;
@@ -63,7 +63,7 @@ fn play_all<R: Print + AllocGlobal + Threads + Wait + Sync>(
     first: u64,
 ) -> Result<(), Stopped> {
     grow(rt.alloc(), first)?;
-    play_makers(rt)?;
+    play_values(rt)?;
     play_texts(rt)?;
     play_sessions(rt)?;
     play_slots(rt)?;

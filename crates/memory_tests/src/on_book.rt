@@ -2,7 +2,7 @@
 
 ghost use Rattle.std.specs.Prelude.{◌≡◌, length};
 
-use crate::attempt::{Answer, Calls, judged, play, refused, whether};
+use crate::calls::{Answer, Calls, judged, play, refused, whether};
 use crate::commands::{Command, Names, commands, config};
 use crate::stopped::Stopped;
 use blob_digest::{Algorithm, ByteRange, Digest, Refusal, RepoName};

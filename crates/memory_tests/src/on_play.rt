@@ -3,7 +3,7 @@
 ghost use Rattle.std.specs.Prelude.{◌≡◌};
 ghost use Rattle.blob_store.specs.Parts.{names_of};
 
-use crate::attempt::{Answer, Found, print_found, refused, whether};
+use crate::calls::{Answer, Verdict, print_verdict, refused, whether};
 use crate::commands::config;
 use crate::stopped::Stopped;
 use blob_digest::{Digest, Refusal, RepoName};
@@ -168,19 +168,19 @@ impl<'s, 'd, S: Naming + Send + Sync, W: Threads + Wait + Sync> Shared<'s, 'd, S
     /// What becomes of the script. Where it finds no memory, it is played again, for new sessions: the rows
     /// before the one that found no memory stand, and the second try has to have the same replies. What can be
     /// seen in between is the number of desks that are out, and whether a lease still holds a slot.
-    fn attempt(&mut self) -> Result<Found, Stopped> {
+    fn call_twice(&mut self) -> Result<Verdict, Stopped> {
         let first = self.script()?;
         match self.answer(first.as_slice()) {
-            Answer::Wanted => Ok(Found::Accepted),
-            Answer::Other => Ok(Found::Wrong),
+            Answer::Wanted => Ok(Verdict::Accepted),
+            Answer::Other => Ok(Verdict::Wrong),
             Answer::Memory => {
                 if !self.are_settled() || self.sweep().held != 0 {
-                    return Ok(Found::Changed);
+                    return Ok(Verdict::Changed);
                 }
                 let second = self.script()?;
                 match self.answer(second.as_slice()) {
-                    Answer::Wanted => Ok(Found::Refused),
-                    _ => Ok(Found::Lasting),
+                    Answer::Wanted => Ok(Verdict::Refused),
+                    _ => Ok(Verdict::Lasting),
                 }
             }
         }
@@ -216,8 +216,8 @@ fn play_at<S: Naming + Send + Sync, W: Print + Threads + Wait + Sync>(
         desk,
         targets,
     };
-    let found = shared.attempt()?;
-    print_found(rt, "workers", "play", 0, found)
+    let found = shared.call_twice()?;
+    print_verdict(rt, "workers", "play", 0, found)
 }
 
 /// The script on the store of these parts.

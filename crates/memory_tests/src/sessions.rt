@@ -1,6 +1,6 @@
 //! The calls of the table of sessions.
 
-use crate::attempt::{Answer, Calls, judged, play, whether};
+use crate::calls::{Answer, Calls, judged, play, whether};
 use crate::stopped::Stopped;
 use blob_digest::{Algorithm, Refusal, RepoName};
 use std::alloc::AllocGlobal;

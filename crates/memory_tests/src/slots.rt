@@ -1,6 +1,6 @@
 //! Blobs that are placed in slots.
 
-use crate::attempt::{Answer, Calls, play, refused, whether};
+use crate::calls::{Answer, Calls, play, refused, whether};
 use crate::stopped::Stopped;
 use blob_digest::{Algorithm, Blob, Digest, Refusal, Running};
 use slot_table::{Phase, SlotTable};

@@ -1,6 +1,6 @@
 //! Calls that append to a text.
 
-use crate::attempt::{Answer, Calls, play, refused, whether};
+use crate::calls::{Answer, Calls, play, refused, whether};
 use crate::stopped::Stopped;
 use blob_digest::{Algorithm, Digest, Refusal};
 use row_player::Reply;

@@ -1,7 +1,7 @@
 pub mod Names
 pub mod Weights
 pub mod Shares
-pub mod Held
+pub mod PinsAreValid
 pub mod Spans
 pub mod Changes
 pub mod Runs

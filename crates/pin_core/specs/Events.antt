@@ -126,6 +126,6 @@ after_all p [] = p
 after_all p (e ∷ es) = after_all (after p e) es
 
 -- each event can happen in its turn
-abbrev pub Happens : PinWorld → List Event → Type 0
-Happens p [] = Unit {0}
-Happens p (e ∷ es) = Can p e × Happens (after p e) es
+abbrev pub CanAll : PinWorld → List Event → Type 0
+CanAll p [] = Unit {0}
+CanAll p (e ∷ es) = Can p e × CanAll (after p e) es

@@ -6,8 +6,8 @@ use Rattle.pin_core.specs.declared.world.PinRecord.{PinRecord}
 use Rattle.pin_core.specs.declared.event.Event.{Event}
 use Rattle.pin_core.specs.declared.event.Event.TheVariants.{Give, Lend, Share, Leave}
 use Rattle.finite_maps.specs.Texts.{Text}
-use Rattle.pin_core.specs.World.{PinWorld, PinsAreValid, IsState, hold_named, row, opening, word, word_of, max_weight}
-use Rattle.pin_core.specs.Events.{after_all, Happens}
+use Rattle.pin_core.specs.World.{PinWorld, PinsAreValid, IsState, hold_named, row, initial_world, word, word_of, max_weight}
+use Rattle.pin_core.specs.Events.{after_all, CanAll}
 
 -- the world before the i-th event
 abbrev pub world_at : PinWorld → List Event → ℕ → PinWorld
@@ -42,8 +42,8 @@ pub record Reclaims (p : PinWorld) (es : List Event) : Type 0 where
 
 -- It holds of every list of events that can happen in their turn, from any number of free slots of any generation on, and from any world on that keeps what every state keeps.
 pub record Reclamation : Type 0 where
-  pub from_opening : (n g : ℕ) (es : List Event) → Happens (opening n g) es → Reclaims (opening n g) es
-  pub from_any : (p : PinWorld) (es : List Event) → IsState p → Happens p es → Reclaims p es
+  pub from_opening : (n g : ℕ) (es : List Event) → CanAll (initial_world n g) es → Reclaims (initial_world n g) es
+  pub from_any : (p : PinWorld) (es : List Event) → IsState p → CanAll p es → Reclaims p es
 
 -- a word tells its generation, phase and sum of weights
 abbrev pub Packing : Type 0

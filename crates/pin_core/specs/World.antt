@@ -71,8 +71,8 @@ abbrev pub IsWeight : PinRecord → Type 0
 IsWeight h = (e : ℕ) × (e ≤ 10) × (h.weight ≡ 2 ^ e)
 
 -- n free slots of generation g, and no pin
-abbrev pub opening : ℕ → ℕ → PinWorld
-opening n g = record { rows = replicate n (record { generation = g; phase = Free; digest = None }); pins = [] }
+abbrev pub initial_world : ℕ → ℕ → PinWorld
+initial_world n g = record { rows = replicate n (record { generation = g; phase = Free; digest = None }); pins = [] }
 
 -- ---- words
 

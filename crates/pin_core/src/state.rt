@@ -3,7 +3,7 @@
 ghost use Rattle.std.specs.Prelude.{◌≡◌, ◌⊎◌, ◌+◌, ◌<◌, ◌↔◌, length, slice_get, None, IfOk, IfErr, OnOk, OnErr, IfSome, IsTrue, ◌^◌};
 ghost use Rattle.std.specs.Option.{option_map, option_map_or};
 ghost use Rattle.blob_digest.specs.declared.refusal.Refusal.TheVariants.{LimitReached, Memory};
-ghost use Rattle.pin_core.specs.World.{IsState, holds_of, hold_named, opening, row, weight_on, word_row};
+ghost use Rattle.pin_core.specs.World.{IsState, holds_of, hold_named, initial_world, row, weight_on, word_row};
 ghost use Rattle.pin_core.specs.Events.{AddsPin, Can, IsIn, IsOutside, after, with_row};
 ghost use Rattle.pin_core.specs.declared.event.Event.TheVariants.{Give, Lend, Share, Leave, Condemn, Revive, Reclaim, Look, Verify};
 
@@ -38,7 +38,7 @@ impl PinState {
     ///
     /// Refused with `LimitReached` exactly outside 1 to 65,536 slots, and with `Memory` only within.
     pub fn new(alloc: Global, slots: u32, first_generation: u32) -> Result<PinState, Refusal>
-        ensures made { IfOk result (λ s. ¬ IsOutside slots × (s ≡ opening slots first_generation)) }
+        ensures made { IfOk result (λ s. ¬ IsOutside slots × (s ≡ initial_world slots first_generation)) }
         ensures refused { IfErr result (λ e. ((e ≡ LimitReached) × IsOutside slots) ⊎ ((e ≡ Memory) × ¬ IsOutside slots)) }
     {
         if slots < 1 || slots > MAX_SLOTS {

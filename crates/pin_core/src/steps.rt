@@ -2,7 +2,7 @@
 
 ghost use Rattle.std.specs.Prelude.{◌≡◌, IfOk, IfErr, MatchOption};
 ghost use Rattle.blob_digest.specs.declared.refusal.Refusal.TheVariants.{Memory};
-ghost use Rattle.pin_core.specs.Events.{Can, Happens, after_all, pinstep};
+ghost use Rattle.pin_core.specs.Events.{Can, CanAll, after_all, pinstep};
 
 use crate::event::Event;
 use crate::state::PinState;
@@ -30,7 +30,7 @@ pub fn step(state: &PinState, event: &Event) -> Result<Option<PinState>, Refusal
 /// Refused with `Memory` alone. Slots and pins are copied once for the whole list; each event then
 /// goes over the slots or the pins, as in `step`.
 pub fn run(state: &PinState, events: &[Event]) -> Result<Option<PinState>, Refusal>
-    ensures ran { IfOk result (λ o. MatchOption o (¬ Happens state.now events.now) (λ s. Happens state.now events.now × (s ≡ after_all state.now events.now))) }
+    ensures ran { IfOk result (λ o. MatchOption o (¬ CanAll state.now events.now) (λ s. CanAll state.now events.now × (s ≡ after_all state.now events.now))) }
     ensures refused { IfErr result (λ e. e ≡ Memory) }
 {
     let mut next = state.copy()?;

@@ -28,8 +28,8 @@ fn after(
     first_generation: u32,
     events: &[Event],
 ) -> PinState {
-    let opening = PinState::new(alloc, slots, first_generation).expect(rt, "memory");
-    run(&opening, events)
+    let initial_world = PinState::new(alloc, slots, first_generation).expect(rt, "memory");
+    run(&initial_world, events)
         .expect(rt, "memory")
         .expect(rt, "events that can happen")
 }
@@ -74,8 +74,8 @@ fn none_can(rt: &impl Abort, state: &PinState, impossible: &[Event]) {
 }
 
 /// These events happen in turn, and after each the word of slot 0 is the one beside it.
-fn words_follow(rt: &impl Abort, opening: PinState, rows: &[(Event, u64)]) -> PinState {
-    let mut state = opening;
+fn words_follow(rt: &impl Abort, initial_world: PinState, rows: &[(Event, u64)]) -> PinState {
+    let mut state = initial_world;
     for (event, word) in rows {
         state = stepped(rt, &state, *event);
         assert_eq!(rt; word_at(&state, 0), *word);
@@ -113,8 +113,8 @@ fn a_pin_keeps_its_slot(rt: HostRuntime) {
         Event::Condemn { slot: 0 },
         Event::Reclaim { slot: 0 },
     ];
-    let opening = after(&rt, rt.alloc(), 1, 0, &[]);
-    assert!(rt; run(&opening, &events).expect(&rt, "memory").is_none());
+    let initial_world = after(&rt, rt.alloc(), 1, 0, &[]);
+    assert!(rt; run(&initial_world, &events).expect(&rt, "memory").is_none());
     let lent = after(&rt, rt.alloc(), 1, 0, &events[..3]);
     none_can(&rt, &lent, &[Event::Reclaim { slot: 0 }, give(0, OBJ)]);
 }
@@ -138,9 +138,9 @@ fn a_slot_without_pins_is_reclaimed(rt: HostRuntime) {
 
 #[test]
 fn the_words_of_one_slot(rt: HostRuntime) {
-    let opening = after(&rt, rt.alloc(), 1, 0, &[]);
-    assert_eq!(rt; word_at(&opening, 0), 0);
-    let given = words_follow(&rt, opening, &[(give(0, ABC), 0x0000_0000_8000_0000)]);
+    let initial_world = after(&rt, rt.alloc(), 1, 0, &[]);
+    assert_eq!(rt; word_at(&initial_world, 0), 0);
+    let given = words_follow(&rt, initial_world, &[(give(0, ABC), 0x0000_0000_8000_0000)]);
     digest_is(&rt, &given, 0, Some(digest_of(ABC)));
     let left = [
         (Event::Lend { slot: 0, pin: 7 }, 0x0000_0000_8000_0400),

@@ -13,8 +13,8 @@ use Rattle.pin_core.specs.declared.world.PinRow.{PinRow}
 use Rattle.pin_core.specs.declared.world.PinEntry.{PinEntry}
 use Rattle.pin_core.specs.declared.world.PinRecord.{PinRecord}
 use Rattle.pin_core.specs.declared.event.Event.{Event}
-use Rattle.pin_core.specs.World.{PinWorld, IsState, holds_of, weight_on, word, row, row_word, no_row, max_weight, opening}
-use Rattle.pin_core.specs.Events.{Can, after, Happens, after_all, with_row, with_pins}
+use Rattle.pin_core.specs.World.{PinWorld, IsState, holds_of, weight_on, word, row, row_word, no_row, max_weight, initial_world}
+use Rattle.pin_core.specs.Events.{Can, after, CanAll, after_all, with_row, with_pins}
 use Rattle.pin_table.specs.declared.view.KeeperView.{KeeperView}
 use Rattle.pin_table.specs.declared.view.View.{View}
 use Rattle.pin_table.specs.declared.view.View.TheVariants.{Keeper}
@@ -27,16 +27,16 @@ after_push : (p : PinWorld) (es : List Event) (e : Event) → after_all p (es ++
 after_push p [] e = refl
 after_push p (x ∷ es) e = after_push (after p x) es e
 
-happens_push : (p : PinWorld) (es : List Event) (e : Event) → Happens p es → Can (after_all p es) e → Happens p (es ++ e ∷ [])
+happens_push : (p : PinWorld) (es : List Event) (e : Event) → CanAll p es → Can (after_all p es) e → CanAll p (es ++ e ∷ [])
 happens_push p [] e h can = (can, tt)
 happens_push p (x ∷ es) e h can = (h.0, happens_push (after p x) es e h.1 can)
 
 -- one event more
-pub advanced : (n g : ℕ) (ws ws' : List ℕ) (vs vs' : List View) (r : Ruled n g ws vs) (e : Event) → Leads (after_all (opening n g) r.events) e ws' vs' → Ruled n g ws' vs'
+pub advanced : (n g : ℕ) (ws ws' : List ℕ) (vs vs' : List View) (r : Ruled n g ws vs) (e : Event) → Leads (after_all (initial_world n g) r.events) e ws' vs' → Ruled n g ws' vs'
 advanced n g ws ws' vs vs' r e leads = record {
   events = r.events ++ e ∷ [];
-  happen = happens_push (opening n g) r.events e r.happen leads.0;
-  agrees = subst (λ p. Agrees ws' vs' p) (sym (after_push (opening n g) r.events e)) leads.1;
+  happen = happens_push (initial_world n g) r.events e r.happen leads.0;
+  agrees = subst (λ p. Agrees ws' vs' p) (sym (after_push (initial_world n g) r.events e)) leads.1;
 }
 
 -- ---- what agreeing says

@@ -4,7 +4,7 @@ use Rattle.std.specs.Prelude.{slice_index}
 use mathlib.Core.Option.{some}
 use lib.ListN.{get_elem?}
 use Rattle.pin_core.specs.declared.world.PinRecord.{PinRecord}
-use Rattle.pin_core.specs.World.{PinWorld, IsValidPin, holds_of, max_weight, opening, row, row_word, weight_at, weight_on}
+use Rattle.pin_core.specs.World.{PinWorld, IsValidPin, holds_of, max_weight, initial_world, row, row_word, weight_at, weight_on}
 use Rattle.pin_core.specs.Events.{after_all}
 use Rattle.pin_core.proofs.Spans.{reclamation}
 use Rattle.pin_table.specs.declared.view.KeeperView.{KeeperView}
@@ -31,7 +31,7 @@ module _ (words : List ℕ) (views : List View) (p : PinWorld) (a : Agrees words
 
 pub running_words : RunningWords
 running_words n g words views r =
-    let p : PinWorld = after_all (opening n g) r.events in record {
+    let p : PinWorld = after_all (initial_world n g) r.events in record {
       events = r.events;
       happen = r.happen;
       reclaims = reclamation.from_opening n g r.events r.happen;

@@ -11,12 +11,12 @@ use Rattle.pin_core.specs.declared.world.Phase.TheVariants.{Free}
 use Rattle.pin_core.specs.declared.world.PinRecord.{PinRecord}
 use Rattle.pin_core.specs.declared.event.Event.{Event}
 use Rattle.pin_core.specs.declared.event.Event.TheVariants.{Give, Lend, Share, Leave, Condemn, Revive, Reclaim, Look, Verify}
-use Rattle.pin_core.specs.World.{PinWorld, opening, row, weight_at, weight_on}
+use Rattle.pin_core.specs.World.{PinWorld, initial_world, row, weight_at, weight_on}
 use Rattle.pin_core.specs.Events.{after, after_all, given_row, half, reclaimed_row}
 use Rattle.pin_table.specs.declared.view.KeeperView.{KeeperView}
 use Rattle.pin_table.specs.declared.view.View.{View}
 use Rattle.pin_table.specs.declared.view.View.TheVariants.{Left, Pin, Empty}
-use Rattle.pin_table.specs.Rule.{all_holds, gone, gone_at, gone_since, holds_in, in_hand}
+use Rattle.pin_table.specs.Rule.{all_holds, gone, gone_at, gone_since, holds_in, in_transit}
 use Rattle.pin_table.specs.Looks.{CallMoment, EndedByCall, FoundByCall, Follows, FollowsPin, IsCall, IsPinCall, IsUnderRule, Weighed, by_call, by_leave, by_share, end, seats_on}
 use Rattle.pin_table.proofs.Holds.{sum_one, sum_set, weight_same}
 use Rattle.pin_table.proofs.Accounts.{none_after, since_at, view_set}
@@ -47,25 +47,25 @@ by_views f (v ∷ vs) = omega (arith, sum_by-append f (holds_in v) (all_holds vs
 
 -- what the rule says of the slot k at a moment
 record Sums (m : CallMoment) (k : ℕ) : Type 0 where
-  hand : ℕ
-  hand_is : hand ≡ weight_on k (in_hand m.keeper.hand)
-  lent : slice_index m.keeper.lent k ≡ hand + seats_on k m.own + seats_on k m.others + sum_by (gone_at k) m.own + sum_by (gone_at k) m.others
-  bound : slice_index m.keeper.bounds k ≡ hand + seats_on k m.own + seats_on k m.others + sum_by (gone_since k (slice_index m.keeper.looks k)) m.own + sum_by (gone_since k (slice_index m.keeper.looks k)) m.others
+  transit : ℕ
+  transit_is : transit ≡ weight_on k (in_transit m.keeper.transit)
+  lent : slice_index m.keeper.lent k ≡ transit + seats_on k m.own + seats_on k m.others + sum_by (gone_at k) m.own + sum_by (gone_at k) m.others
+  bound : slice_index m.keeper.bounds k ≡ transit + seats_on k m.own + seats_on k m.others + sum_by (gone_since k (slice_index m.keeper.looks k)) m.own + sum_by (gone_since k (slice_index m.keeper.looks k)) m.others
   past : (c : ℕ) → slice_index m.keeper.looks k < c → sum_by (gone_since k c) m.others ≡ 0
 
 sums_of : (n g : ℕ) (m : CallMoment) (k : ℕ) → IsUnderRule n g m → k < n → Sums m k
 sums_of n g m k r l =
-    let p = after_all (opening n g) r.ruled.events in
+    let p = after_all (initial_world n g) r.ruled.events in
     let x = known r.ruled.agrees in
-    let long : length p.rows ≡ n = all_long (opening n g) r.ruled.events ∙ length-replicate n (record { generation = g; phase = Free; digest = None }) in
+    let long : length p.rows ≡ n = all_long (initial_world n g) r.ruled.events ∙ length-replicate n (record { generation = g; phase = Free; digest = None }) in
     let there : k < length p.rows = omega (arith, long) in
     let total : (f : View → ℕ) → sum_by f r.seats ≡ sum_by f m.own + sum_by f m.others = λ f. sym (sum_by-IsPermutation f r.seats (m.own ++ m.others) r.order) ∙ sum_by-append f m.own m.others in
     let pins : weight_on k (all_holds r.seats) ≡ seats_on k m.own + seats_on k m.others =
     omega (arith, by_views (weight_at k) r.seats, by_views (weight_at k) m.own, by_views (weight_at k) m.others, total (λ v. sum_by (weight_at k) (holds_in v))) in
     let world = x.sums (weight_at k) in
     let c : ℕ = slice_index m.keeper.looks k in record {
-      hand = weight_on k (in_hand m.keeper.hand);
-      hand_is = refl;
+      transit = weight_on k (in_transit m.keeper.transit);
+      transit_is = refl;
       lent = omega (arith, x.accounts.at_lent k there, total (gone_at k));
       bound = omega (arith, x.accounts.at_bounds k there, total (gone_since k c));
       past = λ d above. omega (arith, none_after m.keeper.looks k d r.seats above x.accounts.past, total (gone_since k d));
@@ -83,8 +83,8 @@ total k vs = seats_on k vs + sum_by (gone_at k) vs
 
 -- a step of another seat, over which the keeper and the call's own seats stay
 module _ (m x : CallMoment) (k : ℕ) (a : Sums m k) (b : Sums x k) (keeper : x.keeper ≡ m.keeper) (own : x.own ≡ m.own) where
-  hands : weight_on k (in_hand x.keeper.hand) ≡ weight_on k (in_hand m.keeper.hand)
-  hands = ap (λ (v : KeeperView). weight_on k (in_hand v.hand)) keeper
+  transits : weight_on k (in_transit x.keeper.transit) ≡ weight_on k (in_transit m.keeper.transit)
+  transits = ap (λ (v : KeeperView). weight_on k (in_transit v.transit)) keeper
 
   owned : seats_on k x.own ≡ seats_on k m.own
   owned = ap (λ vs. seats_on k vs) own
@@ -94,15 +94,15 @@ module _ (m x : CallMoment) (k : ℕ) (a : Sums m k) (b : Sums x k) (keeper : x.
       let c : ℕ = slice_index m.keeper.looks k in
       let bound = ap (λ (v : KeeperView). slice_index v.bounds k) keeper in
       let since = ap (λ vs. sum_by (gone_since k c) vs) own in
-      let at : slice_index x.keeper.bounds k ≡ b.hand + seats_on k x.own + seats_on k x.others + sum_by (gone_since k c) x.own + sum_by (gone_since k c) x.others =
-      subst (λ i. slice_index x.keeper.bounds k ≡ b.hand + seats_on k x.own + seats_on k x.others + sum_by (gone_since k i) x.own + sum_by (gone_since k i) x.others) (ap (λ (v : KeeperView). slice_index v.looks k) keeper) b.bound in
-      omega (arith, a.bound, a.hand_is, b.hand_is, hands, owned)
+      let at : slice_index x.keeper.bounds k ≡ b.transit + seats_on k x.own + seats_on k x.others + sum_by (gone_since k c) x.own + sum_by (gone_since k c) x.others =
+      subst (λ i. slice_index x.keeper.bounds k ≡ b.transit + seats_on k x.own + seats_on k x.others + sum_by (gone_since k i) x.own + sum_by (gone_since k i) x.others) (ap (λ (v : KeeperView). slice_index v.looks k) keeper) b.bound in
+      omega (arith, a.bound, a.transit_is, b.transit_is, transits, owned)
 
   same_total : total k x.others ≡ total k m.others
   same_total =
       let lent = ap (λ (v : KeeperView). slice_index v.lent k) keeper in
       let left = ap (λ vs. sum_by (gone_at k) vs) own in
-      omega (arith, a.lent, b.lent, a.hand_is, b.hand_is, hands, owned)
+      omega (arith, a.lent, b.lent, a.transit_is, b.transit_is, transits, owned)
 
 -- ---- what others' steps leave
 
@@ -194,12 +194,12 @@ found_by_call n g m xs k back c l empty empty' none one lent held =
     let e : ℕ = slice_index m.keeper.looks k + 1 in
     let a = sums_of n g m k (rule_at n g m xs c) l in
     let b = sums_of n g last k (rule_end n g m xs c) l in
-    let hand : a.hand ≡ 0 = a.hand_is ∙ ap (λ o. weight_on k (in_hand o)) empty in
-    let hand' : b.hand ≡ 0 = b.hand_is ∙ ap (λ o. weight_on k (in_hand o)) empty' in
+    let transit : a.transit ≡ 0 = a.transit_is ∙ ap (λ o. weight_on k (in_transit o)) empty in
+    let transit' : b.transit ≡ 0 = b.transit_is ∙ ap (λ o. weight_on k (in_transit o)) empty' in
     let keeper_view = all_total n g k l m xs c in
     let mine : seats_on k last.own + sum_by (gone_at k) last.own ≡ back = omega (arith, a.lent, b.lent) in
     let less = sum_by-le-sum_by (gone_since k e) (gone_at k) last.own (λ v. since_at k e v) in
-    let bound = subst (λ i. slice_index last.keeper.bounds k ≡ b.hand + seats_on k last.own + seats_on k last.others + sum_by (gone_since k i) last.own + sum_by (gone_since k i) last.others) one b.bound in
+    let bound = subst (λ i. slice_index last.keeper.bounds k ≡ b.transit + seats_on k last.own + seats_on k last.others + sum_by (gone_since k i) last.own + sum_by (gone_since k i) last.others) one b.bound in
     (account k e last.others, by_walk (walk n g k e l xs m (account k e last.others + 1) c one (inl (omega arith))), omega (arith, bound))
   where
     by_walk : {v : ℕ} → Weighed k v xs ⊎ (v ≡ v + 1) → Weighed k v xs
@@ -212,9 +212,9 @@ own_total : (m x : CallMoment) (k : ℕ) → Sums m k → Sums x k → FollowsPi
 own_total m x k a b (inr own) = ap (λ vs. total k vs) own
 own_total m x k a b (inl apart) =
     let lent = ap (λ (v : KeeperView). slice_index v.lent k) apart.0 in
-    let hand = ap (λ (v : KeeperView). weight_on k (in_hand v.hand)) apart.0 in
+    let transit = ap (λ (v : KeeperView). weight_on k (in_transit v.transit)) apart.0 in
     let others = ap (λ vs. total k vs) apart.1 in
-    omega (arith, a.lent, b.lent, a.hand_is, b.hand_is)
+    omega (arith, a.lent, b.lent, a.transit_is, b.transit_is)
 
 pin_total : (n g k : ℕ) → k < n → (m : CallMoment) (xs : List CallMoment) → IsPinCall n g m xs → total k (end m xs).own ≡ total k m.own
 pin_total n g k l m [] c = refl

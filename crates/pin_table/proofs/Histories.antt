@@ -3,12 +3,12 @@ use Rattle.std.proofs.Common.{◌≡◌, ◌⊎◌, ℕ, zero, suc, ◌≤◌, L
 use Rattle.std.proofs.lemmas.List.Sums.{sum_by-cons}
 use Rattle.pin_core.specs.declared.event.Event.{Event}
 use Rattle.pin_core.specs.declared.event.Event.TheVariants.{Give, Lend, Share, Leave, Condemn, Revive, Reclaim, Look, Verify}
-use Rattle.pin_core.specs.World.{PinWorld, opening}
-use Rattle.pin_core.specs.Events.{Happens, after, after_all}
+use Rattle.pin_core.specs.World.{PinWorld, initial_world}
+use Rattle.pin_core.specs.Events.{CanAll, after, after_all}
 use Rattle.pin_core.proofs.Spans.{reclamation}
 use Rattle.pin_table.specs.declared.view.View.{View}
 use Rattle.pin_table.specs.Rule.{Agrees}
-use Rattle.pin_table.specs.Steps.{SeatStep, look, give, lend, hand, leave, condemn, revive, reclaim, miss, share, verify, IsEvent, Leads}
+use Rattle.pin_table.specs.Steps.{SeatStep, look, give, lend, hand_over, leave, condemn, revive, reclaim, miss, share, verify, IsEvent, Leads}
 use Rattle.pin_table.specs.Laws.{AreMade, Histories, Moment, events_in, later, new_table, next}
 use Rattle.pin_table.proofs.PinSeats.{opens}
 use Rattle.pin_table.proofs.StepLaws.{steps}
@@ -18,7 +18,7 @@ one_or_none : (p : PinWorld) (x : SeatStep) (ws : List ℕ) (vs : List View) →
 one_or_none p (look v s me) ws vs t = inl (refl, (Look s.word, t))
 one_or_none p (give v s me d) ws vs t = inl (refl, (Give s.word d, t))
 one_or_none p (lend v s me) ws vs t = inl (refl, (Lend s.word t.0, t.1))
-one_or_none p (hand v) ws vs t = inr (refl, t)
+one_or_none p (hand_over v) ws vs t = inr (refl, t)
 one_or_none p (leave id h s me) ws vs t = inl (refl, (Leave t.0, t.2))
 one_or_none p (condemn v s me) ws vs t = inl (refl, (Condemn s.word, t))
 one_or_none p (revive v s me) ws vs t = inl (refl, (Revive s.word, t))
@@ -30,7 +30,7 @@ one_or_none p (verify v id h) ws vs t = inl (refl, (Verify t.0, t.2))
 -- the events of a list of steps from the moment m, with which the world p agrees
 record Followed (m : Moment) (p : PinWorld) (xs : List SeatStep) : Type 0 where
   events : List Event
-  happen : Happens p events
+  happen : CanAll p events
   one_each : length events ≡ sum_by events_in xs
   agrees : (i : ℕ) → i ≤ length xs → Agrees (later m (take i xs)).words (later m (take i xs)).views (after_all p (take (sum_by events_in (take i xs)) events))
 
@@ -80,7 +80,7 @@ follow m p (x ∷ xs) a t = by_kind (λ q b. follow (next m x) q xs b t.1) (one_
 
 pub histories : Histories
 histories n g xs t =
-    let r = follow (new_table n g) (opening n g) xs (opens n g) t in record {
+    let r = follow (new_table n g) (initial_world n g) xs (opens n g) t in record {
       events = r.events;
       happen = r.happen;
       reclaims = reclamation.from_opening n g r.events r.happen;

@@ -12,15 +12,15 @@ use Rattle.pin_core.specs.declared.world.Phase.TheVariants.{Free}
 use Rattle.pin_core.specs.declared.world.PinRow.{PinRow}
 use Rattle.pin_core.specs.declared.world.PinRecord.{PinRecord}
 use Rattle.pin_core.specs.declared.event.Event.TheVariants.{Leave, Share, Verify}
-use Rattle.pin_core.specs.World.{PinWorld, IsWeight, IsValidPin, hold_named, holds_of, weight_at, weight_on, row, row_word, word_of, phase_bits, no_row, opening}
+use Rattle.pin_core.specs.World.{PinWorld, IsWeight, IsValidPin, hold_named, holds_of, weight_at, weight_on, row, row_word, word_of, phase_bits, no_row, initial_world}
 use Rattle.pin_core.specs.Events.{Can, after, half}
-use Rattle.pin_core.proofs.Held.{state_after, state_opening}
+use Rattle.pin_core.proofs.PinsAreValid.{state_after, state_initial}
 use Rattle.pin_core.proofs.Shares.{shared_sum}
 use Rattle.pin_table.specs.declared.view.KeeperView.{KeeperView}
 use Rattle.pin_table.specs.declared.view.View.{View}
 use Rattle.pin_table.specs.declared.view.View.TheVariants.{Keeper, Pin, Left, Empty}
-use Rattle.pin_table.specs.Rule.{Accounts, Agrees, all_holds, gone, gone_at, gone_since, holds_in, in_hand, keeper_view, IsPinSeat, IsPast, opening_view}
-use Rattle.pin_table.specs.Plays.{with_hand, own_seat}
+use Rattle.pin_table.specs.Rule.{Accounts, Agrees, all_holds, gone, gone_at, gone_since, holds_in, in_transit, keeper_view, IsPinSeat, IsPast, initial_view}
+use Rattle.pin_table.specs.Plays.{with_transit, own_seat}
 use Rattle.pin_table.specs.Steps.{Leads}
 use Rattle.pin_table.proofs.Orders.{one, one_self, permutes}
 use Rattle.pin_table.proofs.Names.{fresh, unnamed, name_of, left_sum, shared_sums}
@@ -40,8 +40,8 @@ pub record Pinned (ws : List ℕ) (vs : List View) (p : PinWorld) (id : ℕ) (h 
   pub weighs : IsWeight h
 
 -- the sum over the world's pins, by seats
-pub seat_sums : {ws : List ℕ} {vs : List View} {p : PinWorld} (a : Agrees ws vs p) (f : PinRecord → ℕ) → sum_by f (holds_of p) ≡ sum_by f (in_hand a.keeper.hand) + sum_by f (all_holds a.others)
-seat_sums a f = sums a f ∙ ap (λ l. sum_by f (all_holds l)) a.seats ∙ sum_by-append f (in_hand a.keeper.hand) (all_holds a.others)
+pub seat_sums : {ws : List ℕ} {vs : List View} {p : PinWorld} (a : Agrees ws vs p) (f : PinRecord → ℕ) → sum_by f (holds_of p) ≡ sum_by f (in_transit a.keeper.transit) + sum_by f (all_holds a.others)
+seat_sums a f = sums a f ∙ ap (λ l. sum_by f (all_holds l)) a.seats ∙ sum_by-append f (in_transit a.keeper.transit) (all_holds a.others)
 
 pub pinned : {ws : List ℕ} {vs : List View} {p : PinWorld} (a : Agrees ws vs p) (id : ℕ) (h : PinRecord) → get_elem? vs id ≡ some (Pin h) → Pinned ws vs p id h
 pinned a zero h at =
@@ -88,7 +88,7 @@ leaves {ws} {vs} {p} {id} {h} c fits =
     left_word n (row p.rows k).generation (phase_bits (row p.rows k).phase) (weight_on k (holds_of p)) (weight_on k (holds_of q)) h.weight fits (a.at_words k within) less (small h c.weighs) in
     let others = set a.others c.place u in
     let pins = permutes (all_holds (Keeper a.keeper ∷ others)) (holds_of q)
-    (λ f. omega (arith, sum_by-append f (in_hand a.keeper.hand) (all_holds others), seat_sums a f, lost f, sum_set f a.others c.place (Pin h) u c.at, sum_one f h)) in
+    (λ f. omega (arith, sum_by-append f (in_transit a.keeper.transit) (all_holds others), seat_sums a f, lost f, sum_set f a.others c.place (Pin h) u c.at, sum_one f h)) in
     let bound : a.keeper.bounds ≡ set a.keeper.bounds k (slice_index a.keeper.bounds k) = bound_same a k in
     let made' = changed ws vs p q a k m (slice_index a.keeper.bounds k) a.keeper others (All-set IsPinSeat a.others c.place u tt a.guests) a.rows bound pins (state_after p (Leave c.name) can a.state)
     (pins_changed p k m (slice_index a.keeper.bounds k) q.pins within made (λ j ne. let z : weight_at j h ≡ 0 = weight_apart j h (λ e. ne (sym e)) in omega (arith, lost (weight_at j))) (a.limits k within))
@@ -111,7 +111,7 @@ shares {ws} {vs} {p} {id} {h} c more =
     let q = after p (Share c.name second) in
     let others = set a.others c.place (Pin g) ++ Pin g ∷ [] in
     let pins = permutes (all_holds (Keeper a.keeper ∷ others)) (holds_of q)
-    (λ f. omega (arith, sum_by-append f (in_hand a.keeper.hand) (all_holds others), seat_sums a f, shared_sums f c.name second p.pins h a.state.named c.named, sum_push f (set a.others c.place (Pin g)) (Pin g), sum_set f a.others c.place (Pin h) (Pin g) c.at, sum_one f h, sum_one f g)) in
+    (λ f. omega (arith, sum_by-append f (in_transit a.keeper.transit) (all_holds others), seat_sums a f, shared_sums f c.name second p.pins h a.state.named c.named, sum_push f (set a.others c.place (Pin g)) (Pin g), sum_set f a.others c.place (Pin h) (Pin g) c.at, sum_one f h, sum_one f g)) in
     let still : (f : View → ℕ) → f (Pin h) ≡ 0 → f (Pin g) ≡ 0 → sum_by f others ≡ sum_by f a.others = λ f x y. omega (arith, sum_by_push f (set a.others c.place (Pin g)) (Pin g), view_set f a.others c.place (Pin h) (Pin g) c.at) in
     let guests = All-push IsPinSeat (set a.others c.place (Pin g)) (Pin g) (All-set IsPinSeat a.others c.place (Pin g) tt a.guests) tt in
     let made = regrouped ws vs p q.pins a a.keeper others guests refl refl pins (state_after p (Share c.name second) can a.state) (λ j. shared_sum j c.name second p.pins a.state.named big a.state.weights)
@@ -119,9 +119,9 @@ shares {ws} {vs} {p} {id} {h} c more =
     (All-push (IsPast a.keeper.looks) (set a.others c.place (Pin g)) (Pin g) (All-set (IsPast a.keeper.looks) a.others c.place (Pin g) tt a.accounts.past) tt) a.accounts) in
     (can, subst (λ l. Agrees ws (set l id (Pin g) ++ Pin g ∷ []) q) (sym a.seats) (subst (λ i. Agrees ws (set (Keeper a.keeper ∷ a.others) i (Pin g) ++ Pin g ∷ []) q) (sym c.id_is) made))
 
--- ---- the keeper's hand
+-- ---- the pin in transit
 
-own_seat_sum : (f : PinRecord → ℕ) (o : Option PinRecord) → sum_by f (holds_in (own_seat o)) ≡ sum_by f (in_hand o)
+own_seat_sum : (f : PinRecord → ℕ) (o : Option PinRecord) → sum_by f (holds_in (own_seat o)) ≡ sum_by f (in_transit o)
 own_seat_sum f None = refl
 own_seat_sum f (Some h) = refl
 
@@ -137,36 +137,36 @@ own_seat_guest : (o : Option PinRecord) → IsPinSeat (own_seat o)
 own_seat_guest None = tt
 own_seat_guest (Some h) = tt
 
-pub hands_out : {ws : List ℕ} {vs : List View} {p : PinWorld} (a : Agrees ws vs p) (v : KeeperView) → get_elem? vs 0 ≡ some (Keeper v) → Agrees ws (set vs 0 (Keeper (with_hand None v)) ++ own_seat v.hand ∷ []) p
+pub hands_out : {ws : List ℕ} {vs : List View} {p : PinWorld} (a : Agrees ws vs p) (v : KeeperView) → get_elem? vs 0 ≡ some (Keeper v) → Agrees ws (set vs 0 (Keeper (with_transit None v)) ++ own_seat v.transit ∷ []) p
 hands_out {ws} {vs} {p} a v at =
     let same = is_keeper a v at in
-    let u = with_hand None v in
-    let others = a.others ++ own_seat v.hand ∷ [] in
+    let u = with_transit None v in
+    let others = a.others ++ own_seat v.transit ∷ [] in
     let pins = permutes (all_holds (Keeper u ∷ others)) (holds_of p)
-    (λ f. omega (arith, seat_sums a f, ap (λ (x : KeeperView). sum_by f (in_hand x.hand)) same, sum_push f a.others (own_seat v.hand), own_seat_sum f v.hand)) in
-    let still : (f : View → ℕ) → ((h : PinRecord) → f (Pin h) ≡ 0) → f Empty ≡ 0 → sum_by f others ≡ sum_by f a.others = λ f x y. omega (arith, sum_by_push f a.others (own_seat v.hand), own_seat_none f x y v.hand) in
+    (λ f. omega (arith, seat_sums a f, ap (λ (x : KeeperView). sum_by f (in_transit x.transit)) same, sum_push f a.others (own_seat v.transit), own_seat_sum f v.transit)) in
+    let still : (f : View → ℕ) → ((h : PinRecord) → f (Pin h) ≡ 0) → f Empty ≡ 0 → sum_by f others ≡ sum_by f a.others = λ f x y. omega (arith, sum_by_push f a.others (own_seat v.transit), own_seat_none f x y v.transit) in
     let accounts = regrouped_kept (length p.rows) a.keeper.bounds a.keeper.looks a.keeper.lent a.others others (holds_of p) (holds_of p) (λ k. still (gone_at k) (λ h. refl) refl) (λ k look. still (gone_since k look) (λ h. refl) refl) (λ j. refl)
-    (All-push (IsPast a.keeper.looks) a.others (own_seat v.hand) a.accounts.past (own_seat_past a.keeper.looks v.hand)) a.accounts in
-    subst (λ l. Agrees ws (set l 0 (Keeper u) ++ own_seat v.hand ∷ []) p) (sym a.seats)
-    (regrouped ws vs p p.pins a u others (All-push IsPinSeat a.others (own_seat v.hand) a.guests (own_seat_guest v.hand)) (sym (ap (λ (x : KeeperView). x.rows) same)) (sym (ap (λ (x : KeeperView). x.bounds) same)) pins a.state (λ j. refl)
+    (All-push (IsPast a.keeper.looks) a.others (own_seat v.transit) a.accounts.past (own_seat_past a.keeper.looks v.transit)) a.accounts in
+    subst (λ l. Agrees ws (set l 0 (Keeper u) ++ own_seat v.transit ∷ []) p) (sym a.seats)
+    (regrouped ws vs p p.pins a u others (All-push IsPinSeat a.others (own_seat v.transit) a.guests (own_seat_guest v.transit)) (sym (ap (λ (x : KeeperView). x.rows) same)) (sym (ap (λ (x : KeeperView). x.bounds) same)) pins a.state (λ j. refl)
     (subst (λ (x : KeeperView). Accounts (length p.rows) x.bounds x.looks x.lent others (holds_of p)) same accounts))
 
--- a pin goes from its seat into the hand
+-- a pin goes from its seat to the keeper
 pub record Taken (ws : List ℕ) (vs : List View) (p : PinWorld) (v : KeeperView) (id : ℕ) (h : PinRecord) : Type 0 where
   pub name : ℕ
   pub named : hold_named name p.pins ≡ Some h
-  pub leads : Leads p (Verify name) ws (set (set vs 0 (Keeper (with_hand (Some h) v))) id Empty)
+  pub leads : Leads p (Verify name) ws (set (set vs 0 (Keeper (with_transit (Some h) v))) id Empty)
 
-pub takes_in : {ws : List ℕ} {vs : List View} {p : PinWorld} (a : Agrees ws vs p) (v : KeeperView) (id : ℕ) (h : PinRecord) → get_elem? vs 0 ≡ some (Keeper v) → v.hand ≡ None → ¬ (id ≡ 0)
-    → get_elem? (set vs 0 (Keeper (with_hand (Some h) v))) id ≡ some (Pin h) → Taken ws vs p v id h
+pub takes_in : {ws : List ℕ} {vs : List View} {p : PinWorld} (a : Agrees ws vs p) (v : KeeperView) (id : ℕ) (h : PinRecord) → get_elem? vs 0 ≡ some (Keeper v) → v.transit ≡ None → ¬ (id ≡ 0)
+    → get_elem? (set vs 0 (Keeper (with_transit (Some h) v))) id ≡ some (Pin h) → Taken ws vs p v id h
 takes_in a v zero h at empty ne there = absurd (ne refl)
 takes_in {ws} {vs} {p} a v (suc place) h at empty ne there =
     let same = is_keeper a v at in
-    let u = with_hand (Some h) v in
+    let u = with_transit (Some h) v in
     let here : get_elem? a.others place ≡ some (Pin h) = ap (λ l. get_elem? (set l 0 (Keeper u)) (suc place)) (sym a.seats) ∙ there in
     let c = pinned a (suc place) h (ap (λ l. get_elem? l (suc place)) a.seats ∙ here) in
     let others = set a.others place Empty in
-    let none : (f : PinRecord → ℕ) → sum_by f (in_hand a.keeper.hand) ≡ 0 = λ f. ap (λ (x : KeeperView). sum_by f (in_hand x.hand)) same ∙ ap (λ o. sum_by f (in_hand o)) empty in
+    let none : (f : PinRecord → ℕ) → sum_by f (in_transit a.keeper.transit) ≡ 0 = λ f. ap (λ (x : KeeperView). sum_by f (in_transit x.transit)) same ∙ ap (λ o. sum_by f (in_transit o)) empty in
     let still : (f : View → ℕ) → f (Pin h) ≡ 0 → f Empty ≡ 0 → sum_by f others ≡ sum_by f a.others = λ f x y. omega (arith, view_set f a.others place (Pin h) Empty here) in
     let accounts = regrouped_kept (length p.rows) a.keeper.bounds a.keeper.looks a.keeper.lent a.others others (holds_of p) (holds_of p) (λ k. still (gone_at k) refl refl) (λ k look. still (gone_since k look) refl refl) (λ j. refl)
     (All-set (IsPast a.keeper.looks) a.others place Empty tt a.accounts.past) a.accounts in
@@ -184,7 +184,7 @@ takes_in {ws} {vs} {p} a v (suc place) h at empty ne there =
 
 -- ---- a new table
 
-pub opens : (n g : ℕ) → Agrees (replicate n (word_of g Free 0)) (opening_view n g ∷ []) (opening n g)
+pub opens : (n g : ℕ) → Agrees (replicate n (word_of g Free 0)) (initial_view n g ∷ []) (initial_world n g)
 opens n g =
     let r : PinRow = record { generation = g; phase = Free; digest = None } in
     let rs = replicate n r in record {
@@ -194,7 +194,7 @@ opens n g =
       guests = All-nil IsPinSeat;
       rows = refl;
       pins = IsPermutation-refl [];
-      state = state_opening n g;
+      state = state_initial n g;
       all_words = length-replicate n (word_of g Free 0) ∙ sym (length-replicate n r);
       at_words = λ k h. let l : k < n = omega (arith, length-replicate n r) in get_or-replicate n k (word_of g Free 0) 0 l ∙ sym (let x : row rs k ≡ r = get_or-replicate n k r no_row l in ap (λ y. row_word y 0) x);
       accounts = record {

@@ -11,13 +11,13 @@ use Rattle.pin_core.specs.declared.world.Phase.TheVariants.{Free, Live, Condemne
 use Rattle.pin_core.specs.declared.world.PinRecord.{PinRecord}
 use Rattle.pin_core.specs.declared.event.Event.{Event}
 use Rattle.pin_core.specs.declared.event.Event.TheVariants.{Give, Lend, Leave, Share, Condemn, Revive, Reclaim, Look, Verify}
-use Rattle.pin_core.specs.World.{PinWorld, holds_of, weight_on, row, row_word, word_of, max_weight, opening}
+use Rattle.pin_core.specs.World.{PinWorld, holds_of, weight_on, row, row_word, word_of, max_weight, initial_world}
 use Rattle.pin_core.specs.Events.{IsNew, new_weight, reclaimed_row, after_all, in_phase, given_row, lent_hold}
 use Rattle.pin_table.specs.declared.view.KeeperView.{KeeperView}
 use Rattle.pin_table.specs.declared.view.View.{View}
 use Rattle.pin_table.specs.declared.view.View.TheVariants.{Keeper, Pin, Left, Empty}
-use Rattle.pin_table.specs.Rule.{Ruled, Agrees, gone, opening_view}
-use Rattle.pin_table.specs.Plays.{with_hand, with_lent, with_look, with_row, looked, gave, lent, left, condemned, revived, reclaimed, without_transit, transit_pin, halved, taken_in}
+use Rattle.pin_table.specs.Rule.{Ruled, Agrees, gone, initial_view}
+use Rattle.pin_table.specs.Plays.{with_transit, with_lent, with_look, with_row, looked, gave, lent, left, condemned, revived, reclaimed, without_transit, transit_pin, halved, taken_in}
 use Rattle.pin_table.specs.Steps.{Leads}
 use Rattle.pin_table.proofs.Names.{fresh}
 use Rattle.pin_table.proofs.Agreement.{advanced, is_keeper}
@@ -43,10 +43,10 @@ module _ (m g slots : ℕ) where
       (subst (λ x. Allows (holds m g) slots 0 x k f (then x)) (sym me_is) (λ s r homes at fits.
       let a = r.agrees in
       let here = is_long s.words s.views r at in
-      let t = law s.words s.views (after_all (opening m g) r.events) (keeping a v k at here) fits in
+      let t = law s.words s.views (after_all (initial_world m g) r.events) (keeping a v k at here) fits in
       (Keeper t.0, keeps, tt, advanced m g s.words (set s.words k (f (slice_index s.words k))) s.views (set s.views 0 (Keeper t.0)) r t.1 t.2, t.3)))
     where
-      is_long : (ws : List ℕ) (vs : List View) (r : Ruled m g ws vs) → get_elem? vs 0 ≡ some (Keeper v) → k < length (after_all (opening m g) r.events).rows
+      is_long : (ws : List ℕ) (vs : List View) (r : Ruled m g ws vs) → get_elem? vs 0 ≡ some (Keeper v) → k < length (after_all (initial_world m g) r.events).rows
       is_long ws vs r at = let same = is_keeper r.agrees v at in omega (arith, l, ap (λ x. length x) r.agrees.rows, ap (λ (x : KeeperView). length x.rows) same)
 
   pub look_allowed : (k id : ℕ) (me : Seated) (v : KeeperView) → id ≡ 0 → me ≡ (Keeper v, []) → k < length v.rows → Allows (holds m g) slots id me k (λ n. n) (looked (step slots k 0 0 none) me)
@@ -58,10 +58,10 @@ module _ (m g slots : ℕ) where
   give_allowed d k id me v z is l free new = by_keeper k id me v (λ n. bit_or n 2147483648) (gave d (step slots k 2147483648 0 none)) z is l (λ ws vs p c fits.
       (with_look k 0 (with_row k (given_row d (row v.rows k)) v), Give k d, gives d c free new, refl))
 
-  pub lend_allowed : (k id : ℕ) (me : Seated) (v : KeeperView) → id ≡ 0 → me ≡ (Keeper v, []) → k < length v.rows → v.hand ≡ None → (row v.rows k).phase ≡ Live → slice_index v.bounds k + new_weight ≤ max_weight
+  pub lend_allowed : (k id : ℕ) (me : Seated) (v : KeeperView) → id ≡ 0 → me ≡ (Keeper v, []) → k < length v.rows → v.transit ≡ None → (row v.rows k).phase ≡ Live → slice_index v.bounds k + new_weight ≤ max_weight
       → Allows (holds m g) slots id me k (λ n. (n + 1024) % 18446744073709551616) (lent (step slots k 1024 0 none) me)
   lend_allowed k id me v z is l empty live room = by_keeper k id me v (λ n. (n + 1024) % 18446744073709551616) (lent (step slots k 1024 0 none)) z is l (λ ws vs p c fits.
-      (with_hand (Some (lent_hold k (row v.rows k))) (with_lent k v), Lend k (fresh p.pins), lends c fits empty live room, refl))
+      (with_transit (Some (lent_hold k (row v.rows k))) (with_lent k v), Lend k (fresh p.pins), lends c fits empty live room, refl))
 
   pub condemn_allowed : (k id : ℕ) (me : Seated) (v : KeeperView) → id ≡ 0 → me ≡ (Keeper v, []) → k < length v.rows → (row v.rows k).phase ≡ Live
       → Allows (holds m g) slots id me k (λ n. bit_or n 1073741824) (condemned (step slots k 1073741824 0 none) me)
@@ -97,20 +97,20 @@ module _ (m g slots : ℕ) where
 pub share_allowed : (m g id : ℕ) (w : View) (h : PinRecord) → w ≡ Pin h → 1 < h.weight → Splits (holds m g) id w (halved w) (halved w)
 share_allowed m g id w h is more = subst (λ x. Splits (holds m g) id x (halved x) (halved x)) (sym is) (λ s r at.
     let c = pinned r.agrees id h at in
-    advanced m g s.words s.words s.views (slice_set s.views id (halved (Pin h)) ++ halved (Pin h) ∷ []) r (Share c.name (fresh (after_all (opening m g) r.events).pins)) (shares c more))
+    advanced m g s.words s.words s.views (slice_set s.views id (halved (Pin h)) ++ halved (Pin h) ∷ []) r (Share c.name (fresh (after_all (initial_world m g) r.events).pins)) (shares c more))
 
-pub hand_allowed : (m g id : ℕ) (w : View) (v : KeeperView) → id ≡ 0 → w ≡ Keeper v → Splits (holds m g) id w (without_transit w) (transit_pin w)
-hand_allowed m g id w v z is = subst (λ i. Splits (holds m g) i w (without_transit w) (transit_pin w)) (sym z) (subst (λ x. Splits (holds m g) 0 x (without_transit x) (transit_pin x)) (sym is) (λ s r at.
+pub transit_allowed : (m g id : ℕ) (w : View) (v : KeeperView) → id ≡ 0 → w ≡ Keeper v → Splits (holds m g) id w (without_transit w) (transit_pin w)
+transit_allowed m g id w v z is = subst (λ i. Splits (holds m g) i w (without_transit w) (transit_pin w)) (sym z) (subst (λ x. Splits (holds m g) 0 x (without_transit x) (transit_pin x)) (sym is) (λ s r at.
     record { events = r.events; happen = r.happen; agrees = hands_out r.agrees v at }))
 
-pub verify_allowed : (m g id : ℕ) (w : View) (v : KeeperView) (other : ℕ) (u : View) (h : PinRecord) → id ≡ 0 → w ≡ Keeper v → v.hand ≡ None → u ≡ Pin h → Joins (holds m g) id w other u (taken_in w u) Empty
+pub verify_allowed : (m g id : ℕ) (w : View) (v : KeeperView) (other : ℕ) (u : View) (h : PinRecord) → id ≡ 0 → w ≡ Keeper v → v.transit ≡ None → u ≡ Pin h → Joins (holds m g) id w other u (taken_in w u) Empty
 verify_allowed m g id w v other u h z is empty pin =
     subst (λ i. Joins (holds m g) i w other u (taken_in w u) Empty) (sym z)
     (subst (λ x. Joins (holds m g) 0 x other u (taken_in x u) Empty) (sym is)
     (subst (λ y. Joins (holds m g) 0 (Keeper v) other y (taken_in (Keeper v) y) Empty) (sym pin) (λ s r at ne there.
     let t = takes_in r.agrees v other h at empty ne there in
-    advanced m g s.words s.words s.views (slice_set (slice_set s.views 0 (Keeper (with_hand (Some h) v))) other Empty) r (Verify t.name) t.leads)))
+    advanced m g s.words s.words s.views (slice_set (slice_set s.views 0 (Keeper (with_transit (Some h) v))) other Empty) r (Verify t.name) t.leads)))
 
 -- a new table
-pub new_allowed : (m g : ℕ) (ws : List ℕ) → ws ≡ replicate m (word_of g Free 0) → Ruled m g ws (opening_view m g ∷ [])
-new_allowed m g ws is = record { events = []; happen = tt; agrees = subst (λ l. Agrees l (opening_view m g ∷ []) (opening m g)) (sym is) (opens m g) }
+pub new_allowed : (m g : ℕ) (ws : List ℕ) → ws ≡ replicate m (word_of g Free 0) → Ruled m g ws (initial_view m g ∷ [])
+new_allowed m g ws is = record { events = []; happen = tt; agrees = subst (λ l. Agrees l (initial_view m g ∷ []) (initial_world m g)) (sym is) (opens m g) }

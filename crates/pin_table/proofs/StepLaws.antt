@@ -10,7 +10,7 @@ use Rattle.pin_table.specs.declared.view.View.{View}
 use Rattle.pin_table.specs.declared.view.View.TheVariants.{Keeper, Left}
 use Rattle.pin_table.specs.Rule.{Agrees, gone}
 use Rattle.pin_table.specs.Plays.{Finds, Move, Seated, reclaimed, with_look}
-use Rattle.pin_table.specs.Steps.{SeatStep, look, give, lend, hand, leave, condemn, revive, reclaim, miss, share, verify, Exchanges, IsEvent, IsMade, Leads, OfKeeper, looks_of, views_after, words_after}
+use Rattle.pin_table.specs.Steps.{SeatStep, look, give, lend, hand_over, leave, condemn, revive, reclaim, miss, share, verify, Exchanges, IsEvent, IsMade, Leads, OfKeeper, looks_of, views_after, words_after}
 use Rattle.pin_table.specs.Laws.{StepsAreEvents}
 use Rattle.pin_table.proofs.Bits.{one_sum}
 use Rattle.pin_table.proofs.Names.{fresh}
@@ -47,7 +47,7 @@ module _ (ws : List ℕ) (vs : List View) (p : PinWorld) (a : Agrees ws vs p) wh
   by_step (look v s me) t = looked_by v s.word t.1.0 me (kept_by v s t.0) t.1.1 t.1.3
   by_step (give v s me d) t = led (Give s.word d) _ _ 0 _ me (ap (λ x. set ws s.word (bit_or (slice_index ws s.word) x)) (sym t.3)) t.4 (gives d (kept_by v s t.0) t.1 t.2)
   by_step (lend v s me) t = (fresh p.pins, led (Lend s.word (fresh p.pins)) _ _ 0 _ me (ap (λ x. set ws s.word ((slice_index ws s.word + x) % 18446744073709551616)) (sym t.4)) t.5 (lends (kept_by v s t.0) t.0.1.1 t.1 t.2 t.3))
-  by_step (hand v) t = hands_out a v t
+  by_step (hand_over v) t = hands_out a v t
   by_step (leave id h s me) t =
       let c = pinned a id h t.0 in
       let fits : slice_index ws h.slot < 18446744073709551616 = subst (λ k. slice_index ws k < 18446744073709551616) t.2 t.1.1 in (

@@ -6,16 +6,16 @@ use Rattle.pin_core.specs.Events.{lent_hold}
 use Rattle.pin_table.specs.declared.view.KeeperView.{KeeperView}
 use Rattle.pin_table.specs.declared.view.View.TheVariants.{Keeper, Left, Pin}
 use Rattle.pin_table.specs.Rule.{gone}
-use Rattle.pin_table.specs.Plays.{Move, Seated, Finds, HandKept, with_hand, with_lent, with_look, left, looked, lent}
+use Rattle.pin_table.specs.Plays.{Move, Seated, Finds, TransitKept, with_transit, with_lent, with_look, left, looked, lent}
 
--- the keeper found this sum, and the pin in its hand is kept
+-- the keeper found this sum, and the pin in transit is kept
 pub looked_at : (s : Move) (v : KeeperView) (me : Seated) (n : ℕ) (after : Seated) → me ≡ (Keeper v, []) → looked s me n after
-    → (weight : ℕ) × Finds s.word n v weight × HandKept v.rows v.hand × (after ≡ (Keeper (with_look s.word weight v), []))
+    → (weight : ℕ) × Finds s.word n v weight × TransitKept v.rows v.transit × (after ≡ (Keeper (with_look s.word weight v), []))
 looked_at s v me n after is t = subst (λ m. looked s m n after) is t
 
--- the keeper has the new pin in its hand
+-- the keeper has the new pin in transit
 pub lent_at : (s : Move) (v : KeeperView) (me : Seated) (n : ℕ) (after : Seated) → me ≡ (Keeper v, []) → lent s me n after
-    → after ≡ (Keeper (with_hand (Some (lent_hold s.word (row v.rows s.word))) (with_lent s.word v)), [])
+    → after ≡ (Keeper (with_transit (Some (lent_hold s.word (row v.rows s.word))) (with_lent s.word v)), [])
 lent_at s v me n after is t = subst (λ m. lent s m n after) is t
 
 -- the pin was left

@@ -11,12 +11,12 @@ use Rattle.pin_core.specs.declared.world.PinRecord.{PinRecord}
 use Rattle.pin_core.specs.declared.event.Event.TheVariants.{Give, Lend, Condemn, Revive, Reclaim, Look}
 use Rattle.pin_core.specs.World.{PinWorld, IsState, IsValidPin, holds_of, weight_at, weight_on, row, row_word, word_of, max_weight}
 use Rattle.pin_core.specs.Events.{Can, after, IsNew, new_weight, given_row, in_phase, reclaimed_row, lent_hold}
-use Rattle.pin_core.proofs.Held.{free_unused, state_after, unused}
+use Rattle.pin_core.proofs.PinsAreValid.{free_unused, state_after, unused}
 use Rattle.pin_table.specs.declared.view.KeeperView.{KeeperView}
 use Rattle.pin_table.specs.declared.view.View.{View}
 use Rattle.pin_table.specs.declared.view.View.TheVariants.{Keeper}
-use Rattle.pin_table.specs.Rule.{Accounts, Agrees, all_holds, in_hand}
-use Rattle.pin_table.specs.Plays.{Finds, HandKept, with_hand, with_lent, with_look, with_row}
+use Rattle.pin_table.specs.Rule.{Accounts, Agrees, all_holds, in_transit}
+use Rattle.pin_table.specs.Plays.{Finds, TransitKept, with_transit, with_lent, with_look, with_row}
 use Rattle.pin_table.specs.Steps.{Leads}
 use Rattle.pin_table.proofs.Bits.{set_used, set_condemned, clear_condemned}
 use Rattle.pin_table.proofs.Orders.{one, one_self, permutes}
@@ -55,12 +55,12 @@ accounts {p = p} c = subst (λ (x : KeeperView). Accounts (length p.rows) x.boun
 
 -- the keeper's step: its view becomes u, and the world q
 pub by_keeper : {ws : List ℕ} {vs : List View} {p : PinWorld} {v : KeeperView} {k : ℕ} (c : Keeping ws vs p v k) (m b : ℕ) (u : KeeperView) (q : PinWorld) → q.rows ≡ u.rows → u.bounds ≡ set v.bounds k b
-    → ((f : PinRecord → ℕ) → sum_by f (in_hand u.hand) + sum_by f (holds_of p) ≡ sum_by f (in_hand v.hand) + sum_by f (holds_of q)) → IsState q → Change p k m b q → Accounts (length p.rows) u.bounds u.looks u.lent c.agrees.others (holds_of q) → Agrees (set ws k m) (set vs 0 (Keeper u)) q
-by_keeper {ws} {vs} {p} {v} {k} c m b u q rows bounds hands state change accounts =
+    → ((f : PinRecord → ℕ) → sum_by f (in_transit u.transit) + sum_by f (holds_of p) ≡ sum_by f (in_transit v.transit) + sum_by f (holds_of q)) → IsState q → Change p k m b q → Accounts (length p.rows) u.bounds u.looks u.lent c.agrees.others (holds_of q) → Agrees (set ws k m) (set vs 0 (Keeper u)) q
+by_keeper {ws} {vs} {p} {v} {k} c m b u q rows bounds transits state change accounts =
     let a = c.agrees in
     let pins = permutes (all_holds (Keeper u ∷ a.others)) (holds_of q) (λ f.
-    let before : sum_by f (holds_of p) ≡ sum_by f (in_hand v.hand ++ all_holds a.others) = sums a f ∙ ap (λ l. sum_by f (all_holds l)) a.seats ∙ ap (λ (x : KeeperView). sum_by f (in_hand x.hand ++ all_holds a.others)) c.same in
-    omega (arith, hands f, before, sum_by-append f (in_hand v.hand) (all_holds a.others), sum_by-append f (in_hand u.hand) (all_holds a.others))) in
+    let before : sum_by f (holds_of p) ≡ sum_by f (in_transit v.transit ++ all_holds a.others) = sums a f ∙ ap (λ l. sum_by f (all_holds l)) a.seats ∙ ap (λ (x : KeeperView). sum_by f (in_transit x.transit ++ all_holds a.others)) c.same in
+    omega (arith, transits f, before, sum_by-append f (in_transit v.transit) (all_holds a.others), sum_by-append f (in_transit u.transit) (all_holds a.others))) in
     subst (λ l. Agrees (set ws k m) (set l 0 (Keeper u)) q) (sym a.seats)
     (changed ws vs p q a k m b u a.others a.guests rows (bounds ∙ ap (λ (x : KeeperView). set x.bounds k b) (sym c.same)) pins state change accounts)
 
@@ -68,16 +68,16 @@ by_keeper {ws} {vs} {p} {v} {k} c m b u q rows bounds hands state change account
 pub bound_kept : (v : KeeperView) (k : ℕ) → v.bounds ≡ set v.bounds k (slice_index v.bounds k)
 bound_kept v k = sym (set-get_or v.bounds k 0)
 
--- the pin in the hand is kept
-pub hand_kept : {ws : List ℕ} {vs : List View} {p : PinWorld} {v : KeeperView} {k : ℕ} → Keeping ws vs p v k → HandKept v.rows v.hand
-hand_kept {ws} {vs} {p} {v} {k} c = by_hand v.hand refl
+-- the pin in transit is kept
+pub hand_kept : {ws : List ℕ} {vs : List View} {p : PinWorld} {v : KeeperView} {k : ℕ} → Keeping ws vs p v k → TransitKept v.rows v.transit
+hand_kept {ws} {vs} {p} {v} {k} c = by_hand v.transit refl
   where
-    by_hand : (o : Option PinRecord) → v.hand ≡ o → HandKept v.rows o
+    by_hand : (o : Option PinRecord) → v.transit ≡ o → TransitKept v.rows o
     by_hand None e = tt
     by_hand (Some h) e =
         let a = c.agrees in
-        let before : sum_by (one h) (holds_of p) ≡ sum_by (one h) (in_hand (Some h) ++ all_holds a.others) =
-        sums a (one h) ∙ ap (λ l. sum_by (one h) (all_holds l)) a.seats ∙ ap (λ (x : KeeperView). sum_by (one h) (in_hand x.hand ++ all_holds a.others)) c.same ∙ ap (λ o. sum_by (one h) (in_hand o ++ all_holds a.others)) e in
+        let before : sum_by (one h) (holds_of p) ≡ sum_by (one h) (in_transit (Some h) ++ all_holds a.others) =
+        sums a (one h) ∙ ap (λ l. sum_by (one h) (all_holds l)) a.seats ∙ ap (λ (x : KeeperView). sum_by (one h) (in_transit x.transit ++ all_holds a.others)) c.same ∙ ap (λ o. sum_by (one h) (in_transit o ++ all_holds a.others)) e in
         subst (λ rs. IsValidPin rs h) c.rows (all_counted (IsValidPin p.rows) h (holds_of p) a.state.held (omega (arith, before, sum_by-append (one h) (h ∷ []) (all_holds a.others), sum_one (one h) h, one_self h)))
 
 -- ---- Look
@@ -115,8 +115,8 @@ gives {ws} {vs} {p} {v} {k} d c free new =
 lent_word : (n g w : ℕ) → n < 18446744073709551616 → n ≡ g * 4294967296 + 2147483648 + w → w + 1024 < 1073741824 → (n + 1024) % 18446744073709551616 ≡ g * 4294967296 + 2147483648 + (w + 1024)
 lent_word n g w fits is l = omega arith
 
-pub lends : {ws : List ℕ} {vs : List View} {p : PinWorld} {v : KeeperView} {k : ℕ} → Keeping ws vs p v k → slice_index ws k < 18446744073709551616 → v.hand ≡ None → (row v.rows k).phase ≡ Live → slice_index v.bounds k + new_weight ≤ max_weight
-    → Leads p (Lend k (fresh p.pins)) (set ws k ((slice_index ws k + 1024) % 18446744073709551616)) (set vs 0 (Keeper (with_hand (Some (lent_hold k (row v.rows k))) (with_lent k v))))
+pub lends : {ws : List ℕ} {vs : List View} {p : PinWorld} {v : KeeperView} {k : ℕ} → Keeping ws vs p v k → slice_index ws k < 18446744073709551616 → v.transit ≡ None → (row v.rows k).phase ≡ Live → slice_index v.bounds k + new_weight ≤ max_weight
+    → Leads p (Lend k (fresh p.pins)) (set ws k ((slice_index ws k + 1024) % 18446744073709551616)) (set vs 0 (Keeper (with_transit (Some (lent_hold k (row v.rows k))) (with_lent k v))))
 lends {ws} {vs} {p} {v} {k} c fits empty live room =
     let name = fresh p.pins in
     let live' : (row p.rows k).phase ≡ Live = ap (λ rs. (row rs k).phase) c.rows ∙ live in
@@ -135,8 +135,8 @@ lends {ws} {vs} {p} {v} {k} c fits empty live room =
     let made : m ≡ row_word (row p.rows k) (weight_on k (holds_of q)) =
     lent_word n (row p.rows k).generation w fits at (omega arith) ∙ ap (λ x. word_of (row p.rows k).generation Live x) (sym more) ∙ ap (λ x. word_of (row p.rows k).generation x (weight_on k (holds_of q))) (sym live') in (
       can,
-      by_keeper c m (slice_index v.bounds k + new_weight) (with_hand (Some h) (with_lent k v)) q c.rows refl
-          (λ f. let none : sum_by f (in_hand v.hand) ≡ 0 = ap (λ o. sum_by f (in_hand o)) empty in omega (arith, total f, none, sum_one f h, ap f same))
+      by_keeper c m (slice_index v.bounds k + new_weight) (with_transit (Some h) (with_lent k v)) q c.rows refl
+          (λ f. let none : sum_by f (in_transit v.transit) ≡ 0 = ap (λ o. sum_by f (in_transit o)) empty in omega (arith, total f, none, sum_one f h, ap f same))
           (state_after p (Lend k name) can c.agrees.state)
           (pins_changed p k m (slice_index v.bounds k + new_weight) q.pins c.within made (λ j ne. let z : weight_at j g ≡ 0 = weight_apart j g (λ e. ne (sym e)) in omega (arith, total (weight_at j))) room)
           (lends_kept (length p.rows) v.bounds v.looks v.lent c.agrees.others (holds_of p) (holds_of q) g c.within (λ j. total (weight_at j)) (accounts c)),

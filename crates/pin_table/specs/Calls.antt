@@ -3,7 +3,7 @@ use Rattle.std.specs.Prelude.{◌≡◌, ℕ, ◌+◌, ◌<◌, ◌≤◌, repli
 use Rattle.atomic_table.specs.Seated.{TableId}
 use Rattle.pin_core.specs.declared.world.PinRow.{PinRow}
 use Rattle.pin_core.specs.declared.world.PinRecord.{PinRecord}
-use Rattle.pin_core.specs.World.{IsValidPin, row, row_word, opening, max_weight}
+use Rattle.pin_core.specs.World.{IsValidPin, row, row_word, initial_world, max_weight}
 use Rattle.pin_core.specs.Events.{new_weight, last_generation, reclaimed_row, lent_hold, half}
 use Rattle.pin_table.specs.declared.view.View.{View}
 use Rattle.pin_table.specs.Rule.{raised}
@@ -33,7 +33,7 @@ seat_value t u = record { table = t; view = u }
 
 -- the keeper of n free slots of generation g
 abbrev pub opened : TableId → ℕ → ℕ → KeeperValue
-opened t n g = record { table = t; rows = (opening n g).rows; bounds = replicate n 0; looks = replicate n 0; lent = replicate n 0 }
+opened t n g = record { table = t; rows = (initial_world n g).rows; bounds = replicate n 0; looks = replicate n 0; lent = replicate n 0 }
 
 -- the keeper with another row and bound for the slot k, at which it looked once more
 abbrev pub with_both : ℕ → PinRow → ℕ → KeeperValue → KeeperValue

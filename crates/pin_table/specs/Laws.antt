@@ -5,18 +5,18 @@ use lib.ListN.{get_elem?}
 use Rattle.pin_core.specs.declared.world.Phase.TheVariants.{Free}
 use Rattle.pin_core.specs.declared.world.PinRecord.{PinRecord}
 use Rattle.pin_core.specs.declared.event.Event.{Event}
-use Rattle.pin_core.specs.World.{PinWorld, IsValidPin, opening, row, row_word, word_of, max_weight}
-use Rattle.pin_core.specs.Events.{Happens, after_all}
+use Rattle.pin_core.specs.World.{PinWorld, IsValidPin, initial_world, row, row_word, word_of, max_weight}
+use Rattle.pin_core.specs.Events.{CanAll, after_all}
 use Rattle.pin_core.specs.Laws.{Reclaims, world_at}
 use Rattle.pin_table.specs.declared.view.KeeperView.{KeeperView}
 use Rattle.pin_table.specs.declared.view.View.{View}
 use Rattle.pin_table.specs.declared.view.View.TheVariants.{Keeper, Pin}
-use Rattle.pin_table.specs.Rule.{Agrees, Ruled, opening_view}
-use Rattle.pin_table.specs.Steps.{SeatStep, look, give, lend, hand, leave, condemn, revive, reclaim, miss, share, verify, IsMade, words_after, views_after, IsEvent}
+use Rattle.pin_table.specs.Rule.{Agrees, Ruled, initial_view}
+use Rattle.pin_table.specs.Steps.{SeatStep, look, give, lend, hand_over, leave, condemn, revive, reclaim, miss, share, verify, IsMade, words_after, views_after, IsEvent}
 
 -- All kinds of step. A new table agrees with free slots; and each step leads from every world with which the table agrees before it to one with which it agrees after it.
 pub record StepsAreEvents : Type 0 where
-  pub made : (n g : ℕ) → Agrees (replicate n (word_of g Free 0)) (opening_view n g ∷ []) (opening n g)
+  pub made : (n g : ℕ) → Agrees (replicate n (word_of g Free 0)) (initial_view n g ∷ []) (initial_world n g)
   pub steps : (words : List ℕ) (views : List View) (p : PinWorld) (x : SeatStep) → Agrees words views p → IsMade words views x → IsEvent p x (words_after words x) (views_after views x)
 
 -- ---- histories
@@ -28,7 +28,7 @@ pub record Moment : Type 0 where
 
 -- a new table of n slots of generation g
 abbrev pub new_table : ℕ → ℕ → Moment
-new_table n g = record { words = replicate n (word_of g Free 0); views = opening_view n g ∷ [] }
+new_table n g = record { words = replicate n (word_of g Free 0); views = initial_view n g ∷ [] }
 
 -- the moment after a step, and after a list of steps
 abbrev pub next : Moment → SeatStep → Moment
@@ -48,7 +48,7 @@ abbrev pub events_in : SeatStep → ℕ
 events_in (look v s me) = 1
 events_in (give v s me d) = 1
 events_in (lend v s me) = 1
-events_in (hand v) = 0
+events_in (hand_over v) = 0
 events_in (leave id h s me) = 1
 events_in (condemn v s me) = 1
 events_in (revive v s me) = 1
@@ -60,10 +60,10 @@ events_in (verify v id h) = 1
 -- Of a list of steps from a new table on: one list of events, an event a step and none for a split of the keeper's seat, which can happen in its turn and of which the law of the core holds; and at each moment words and views agree with the world after the events so far.
 pub record History (n g : ℕ) (xs : List SeatStep) : Type 0 where
   pub events : List Event
-  pub happen : Happens (opening n g) events
-  pub reclaims : Reclaims (opening n g) events
+  pub happen : CanAll (initial_world n g) events
+  pub reclaims : Reclaims (initial_world n g) events
   pub one_each : length events ≡ sum_by events_in xs
-  pub agrees : (i : ℕ) → i ≤ length xs → Agrees (later (new_table n g) (take i xs)).words (later (new_table n g) (take i xs)).views (world_at (opening n g) events (sum_by events_in (take i xs)))
+  pub agrees : (i : ℕ) → i ≤ length xs → Agrees (later (new_table n g) (take i xs)).words (later (new_table n g) (take i xs)).views (world_at (initial_world n g) events (sum_by events_in (take i xs)))
 
 -- It holds of every list of steps that are made in their turn, of whichever seats.
 abbrev pub Histories : Type 0
@@ -74,9 +74,9 @@ Histories = (n g : ℕ) (xs : List SeatStep) → AreMade (new_table n g) xs → 
 -- Of words and views under the rule, from n free slots of generation g: the law of the core holds of the events that led there; and the slot of each pin that a seat has is used and its own by the keeper's rows, and its word counts the pin.
 pub record Running (n g : ℕ) (words : List ℕ) (views : List View) : Type 0 where
   pub events : List Event
-  pub happen : Happens (opening n g) events
-  pub reclaims : Reclaims (opening n g) events
-  pub agrees : Agrees words views (after_all (opening n g) events)
+  pub happen : CanAll (initial_world n g) events
+  pub reclaims : Reclaims (initial_world n g) events
+  pub agrees : Agrees words views (after_all (initial_world n g) events)
   pub keeps : (v : KeeperView) (id : ℕ) (h : PinRecord) → get_elem? views 0 ≡ some (Keeper v) → get_elem? views id ≡ some (Pin h) → IsValidPin v.rows h
   pub counts : (v : KeeperView) (id : ℕ) (h : PinRecord) → get_elem? views 0 ≡ some (Keeper v) → get_elem? views id ≡ some (Pin h)
       → (weight : ℕ) × (slice_index words h.slot ≡ row_word (row v.rows h.slot) weight) × (h.weight ≤ weight) × (weight ≤ max_weight)

@@ -62,9 +62,9 @@ abbrev pub Weighed : ℕ → ℕ → List CallMoment → Type 0
 Weighed k weight [] = ⊥
 Weighed k weight (x ∷ xs) = (seats_on k x.others ≡ weight) ⊎ Weighed k weight xs
 
--- A call that begins and ends with an empty hand, with pins of which none has left, and in the end has pins of at least the weight that it had and lent, by the count: where it counts one look more at the slot k, the bound is what the pins of others weighed there at a moment of the call, and that weight.
+-- A call that begins and ends with no pin in transit, with pins of which none has left, and in the end has pins of at least the weight that it had and lent, by the count: where it counts one look more at the slot k, the bound is what the pins of others weighed there at a moment of the call, and that weight.
 abbrev pub FoundByCall : ℕ → ℕ → Type 0
-FoundByCall n g = (m : CallMoment) (xs : List CallMoment) (k back : ℕ) → IsCall n g m xs → k < n → m.keeper.hand ≡ None → (end m xs).keeper.hand ≡ None → sum_by (gone_at k) m.own ≡ 0 → slice_index (end m xs).keeper.looks k ≡ slice_index m.keeper.looks k + 1
+FoundByCall n g = (m : CallMoment) (xs : List CallMoment) (k back : ℕ) → IsCall n g m xs → k < n → m.keeper.transit ≡ None → (end m xs).keeper.transit ≡ None → sum_by (gone_at k) m.own ≡ 0 → slice_index (end m xs).keeper.looks k ≡ slice_index m.keeper.looks k + 1
     → slice_index (end m xs).keeper.lent k + seats_on k m.own ≡ slice_index m.keeper.lent k + back → back ≤ seats_on k (end m xs).own → (weight : ℕ) × Weighed k weight xs × (slice_index (end m xs).keeper.bounds k ≡ weight + back)
 
 -- ---- a call on a pin

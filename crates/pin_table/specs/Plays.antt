@@ -22,19 +22,19 @@ Move = Step (Unit {0})
 
 -- what the keeper knows, with another row for the slot k
 abbrev pub with_row : ℕ → PinRow → KeeperView → KeeperView
-with_row k r v = keeper_view (slice_set v.rows k r) v.bounds v.looks v.lent v.hand
+with_row k r v = keeper_view (slice_set v.rows k r) v.bounds v.looks v.lent v.transit
 
--- the same with this hand
-abbrev pub with_hand : Option PinRecord → KeeperView → KeeperView
-with_hand hand v = keeper_view v.rows v.bounds v.looks v.lent hand
+-- the same with this pin in transit
+abbrev pub with_transit : Option PinRecord → KeeperView → KeeperView
+with_transit transit v = keeper_view v.rows v.bounds v.looks v.lent transit
 
 -- the same with a new pin's weight more on the slot k
 abbrev pub with_lent : ℕ → KeeperView → KeeperView
-with_lent k v = keeper_view v.rows (raised k new_weight v.bounds) v.looks (raised k new_weight v.lent) v.hand
+with_lent k v = keeper_view v.rows (raised k new_weight v.bounds) v.looks (raised k new_weight v.lent) v.transit
 
 -- what the keeper knows after one more look at the slot k, on which it found this sum
 abbrev pub with_look : ℕ → ℕ → KeeperView → KeeperView
-with_look k weight v = keeper_view v.rows (slice_set v.bounds k weight) (raised k 1 v.looks) v.lent v.hand
+with_look k weight v = keeper_view v.rows (slice_set v.bounds k weight) (raised k 1 v.looks) v.lent v.transit
 
 -- the keeper found the word n of the slot k: its row's, with this sum, which is within the bound
 pub record Finds (k n : ℕ) (v : KeeperView) (weight : ℕ) : Type 0 where
@@ -42,16 +42,16 @@ pub record Finds (k n : ℕ) (v : KeeperView) (weight : ℕ) : Type 0 where
   pub within : weight ≤ slice_index v.bounds k
   pub fits : weight ≤ max_weight
 
--- the slot of the pin in the hand is used, and has the pin's generation and digest
-abbrev pub HandKept : List PinRow → Option PinRecord → Type 0
-HandKept rows None = Unit {0}
-HandKept rows (Some h) = IsValidPin rows h
+-- the slot of the pin in transit is used, and has the pin's generation and digest
+abbrev pub TransitKept : List PinRow → Option PinRecord → Type 0
+TransitKept rows None = Unit {0}
+TransitKept rows (Some h) = IsValidPin rows h
 
 -- ---- steps on a word
 
 -- the keeper looked once more, and the bound is the sum in the word
 abbrev pub looked : Move → Seated → ℕ → Seated → Type 0
-looked s (Keeper v, c) n me = (weight : ℕ) × Finds s.word n v weight × HandKept v.rows v.hand × (me ≡ (Keeper (with_look s.word weight v), c))
+looked s (Keeper v, c) n me = (weight : ℕ) × Finds s.word n v weight × TransitKept v.rows v.transit × (me ≡ (Keeper (with_look s.word weight v), c))
 looked s (u, c) n me = me ≡ (u, c)
 
 -- the keeper gave the slot this digest, and knows that nothing weighs on it
@@ -59,9 +59,9 @@ abbrev pub gave : Text → Move → Seated → ℕ → Seated → Type 0
 gave d s (Keeper v, c) n me = me ≡ (Keeper (with_look s.word 0 (with_row s.word (given_row d (row v.rows s.word)) v)), c)
 gave d s (u, c) n me = me ≡ (u, c)
 
--- the keeper has a new pin in its hand, and lent its weight
+-- the keeper has a new pin in transit, and lent its weight
 abbrev pub lent : Move → Seated → ℕ → Seated → Type 0
-lent s (Keeper v, c) n me = me ≡ (Keeper (with_hand (Some (lent_hold s.word (row v.rows s.word))) (with_lent s.word v)), c)
+lent s (Keeper v, c) n me = me ≡ (Keeper (with_transit (Some (lent_hold s.word (row v.rows s.word))) (with_lent s.word v)), c)
 lent s (u, c) n me = me ≡ (u, c)
 
 -- the pin was left, when the keeper had looked so often at its slot
@@ -88,9 +88,9 @@ reclaimed s (u, c) n me = me ≡ (u, c)
 
 -- ---- splits and joins of seats
 
--- the pin in the keeper's hand gets a seat of its own
+-- the pin in transit gets a seat of its own
 abbrev pub without_transit : View → View
-without_transit (Keeper v) = Keeper (with_hand None v)
+without_transit (Keeper v) = Keeper (with_transit None v)
 without_transit u = u
 
 abbrev pub own_seat : Option PinRecord → View
@@ -98,7 +98,7 @@ own_seat None = Empty
 own_seat (Some h) = Pin h
 
 abbrev pub transit_pin : View → View
-transit_pin (Keeper v) = own_seat v.hand
+transit_pin (Keeper v) = own_seat v.transit
 transit_pin u = Empty
 
 -- a pin becomes two of half its weight
@@ -106,7 +106,7 @@ abbrev pub halved : View → View
 halved (Pin h) = Pin (half h)
 halved u = u
 
--- the pin of a seat goes into the keeper's hand
+-- the pin of a seat goes to the keeper
 abbrev pub pin_of : View → Option PinRecord
 pin_of (Pin h) = Some h
 pin_of (Keeper v) = None
@@ -114,5 +114,5 @@ pin_of (Left g) = None
 pin_of Empty = None
 
 abbrev pub taken_in : View → View → View
-taken_in (Keeper v) u = Keeper (with_hand (pin_of u) v)
+taken_in (Keeper v) u = Keeper (with_transit (pin_of u) v)
 taken_in w u = w

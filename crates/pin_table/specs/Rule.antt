@@ -4,16 +4,16 @@ use Rattle.std.specs.List.{All}
 use Rattle.pin_core.specs.declared.world.PinRow.{PinRow}
 use Rattle.pin_core.specs.declared.world.PinRecord.{PinRecord}
 use Rattle.pin_core.specs.declared.event.Event.{Event}
-use Rattle.pin_core.specs.World.{PinWorld, IsState, holds_of, weight_at, weight_on, word, max_weight, opening}
-use Rattle.pin_core.specs.Events.{Happens, after_all}
+use Rattle.pin_core.specs.World.{PinWorld, IsState, holds_of, weight_at, weight_on, word, max_weight, initial_world}
+use Rattle.pin_core.specs.Events.{CanAll, after_all}
 use Rattle.pin_table.specs.declared.view.Gone.{Gone}
 use Rattle.pin_table.specs.declared.view.KeeperView.{KeeperView}
 use Rattle.pin_table.specs.declared.view.View.{View}
 use Rattle.pin_table.specs.declared.view.View.TheVariants.{Keeper, Pin, Left, Empty}
 
--- what the keeper knows: the rows; of each slot a bound on the sum of weights, how often the keeper looked at it, and what it ever lent; and the pin in its hand
+-- what the keeper knows: the rows; of each slot a bound on the sum of weights, how often the keeper looked at it, and what it ever lent; and the pin in transit
 abbrev pub keeper_view : List PinRow → List ℕ → List ℕ → List ℕ → Option PinRecord → KeeperView
-keeper_view rows bounds looks lent hand = record { rows = rows; bounds = bounds; looks = looks; lent = lent; hand = hand }
+keeper_view rows bounds looks lent transit = record { rows = rows; bounds = bounds; looks = looks; lent = lent; transit = transit }
 
 -- a pin that left when the keeper had looked so often at its slot
 abbrev pub gone : PinRecord → ℕ → Gone
@@ -37,14 +37,14 @@ lent_by (Pin h) = []
 lent_by (Left g) = []
 lent_by Empty = []
 
--- the pin in the hand, if there is one
-abbrev pub in_hand : Option PinRecord → List PinRecord
-in_hand None = []
-in_hand (Some h) = h ∷ []
+-- the pin in transit, if there is one
+abbrev pub in_transit : Option PinRecord → List PinRecord
+in_transit None = []
+in_transit (Some h) = h ∷ []
 
--- the pins that a seat stands for: the one in the keeper's hand, or the seat's own
+-- the pins that a seat stands for: the one in transit, or the seat's own
 abbrev pub holds_in : View → List PinRecord
-holds_in (Keeper v) = in_hand v.hand
+holds_in (Keeper v) = in_transit v.transit
 holds_in (Pin h) = h ∷ []
 holds_in (Left g) = []
 holds_in Empty = []
@@ -115,9 +115,9 @@ pub record Agrees (words : List ℕ) (views : List View) (w : PinWorld) : Type 0
 -- The rule: from n free slots of generation g, events that can happen in their turn lead to a world with which words and seats agree.
 pub record Ruled (n g : ℕ) (words : List ℕ) (views : List View) : Type 0 where
   pub events : List Event
-  pub happen : Happens (opening n g) events
-  pub agrees : Agrees words views (after_all (opening n g) events)
+  pub happen : CanAll (initial_world n g) events
+  pub agrees : Agrees words views (after_all (initial_world n g) events)
 
 -- what the keeper knows of n free slots of generation g
-abbrev pub opening_view : ℕ → ℕ → View
-opening_view n g = Keeper (keeper_view (opening n g).rows (replicate n 0) (replicate n 0) (replicate n 0) None)
+abbrev pub initial_view : ℕ → ℕ → View
+initial_view n g = Keeper (keeper_view (initial_world n g).rows (replicate n 0) (replicate n 0) (replicate n 0) None)

@@ -24,7 +24,7 @@ pub data SeatStep : Type 0 where
   -- its fetch_add of a new pin's weight
   lend : KeeperView → Move → Seated → SeatStep
   -- a split of its seat
-  hand : KeeperView → SeatStep
+  hand_over : KeeperView → SeatStep
   -- a fetch_sub of a pin's weight, by the seat of that number
   leave : ℕ → PinRecord → Move → Seated → SeatStep
   -- the keeper's fetch_or of bit 30
@@ -65,15 +65,15 @@ module _ (words : List ℕ) (views : List View) where
   abbrev pub IsMade : SeatStep → Type 0
   IsMade (look v s me) = OfKeeper v s × looked s (Keeper v, []) (slice_index words s.word) me
   IsMade (give v s me d) = OfKeeper v s × ((row v.rows s.word).phase ≡ Free) × IsNew d v.rows × (s.first ≡ used_bit) × gave d s (Keeper v, []) (slice_index words s.word) me
-  IsMade (lend v s me) = OfKeeper v s × (v.hand ≡ None) × ((row v.rows s.word).phase ≡ Live) × (slice_index v.bounds s.word + new_weight ≤ max_weight) × (s.first ≡ new_weight) × lent s (Keeper v, []) (slice_index words s.word) me
-  IsMade (hand v) = get_elem? views 0 ≡ some (Keeper v)
+  IsMade (lend v s me) = OfKeeper v s × (v.transit ≡ None) × ((row v.rows s.word).phase ≡ Live) × (slice_index v.bounds s.word + new_weight ≤ max_weight) × (s.first ≡ new_weight) × lent s (Keeper v, []) (slice_index words s.word) me
+  IsMade (hand_over v) = get_elem? views 0 ≡ some (Keeper v)
   IsMade (leave id h s me) = (get_elem? views id ≡ some (Pin h)) × IsWord words s.word × (s.word ≡ h.slot) × (s.first ≡ h.weight) × (me ≡ (Left (gone h (slice_index (looks_of views) h.slot)), []))
   IsMade (condemn v s me) = OfKeeper v s × ((row v.rows s.word).phase ≡ Live) × (s.first ≡ condemned_bit) × condemned s (Keeper v, []) (slice_index words s.word) me
   IsMade (revive v s me) = OfKeeper v s × ((row v.rows s.word).phase ≡ Condemned) × (s.first ≡ not_condemned) × revived s (Keeper v, []) (slice_index words s.word) me
   IsMade (reclaim v s me) = OfKeeper v s × Exchanges v s × (slice_index words s.word ≡ s.first) × reclaimed s (Keeper v, []) (slice_index words s.word) me
   IsMade (miss v s me) = OfKeeper v s × Exchanges v s × (slice_index words s.word ≢ s.first) × reclaimed s (Keeper v, []) (slice_index words s.word) me
   IsMade (share id h) = (get_elem? views id ≡ some (Pin h)) × (1 < h.weight)
-  IsMade (verify v id h) = (get_elem? views 0 ≡ some (Keeper v)) × (v.hand ≡ None) × (id ≢ 0) × (get_elem? (slice_set views 0 (taken_in (Keeper v) (Pin h))) id ≡ some (Pin h))
+  IsMade (verify v id h) = (get_elem? views 0 ≡ some (Keeper v)) × (v.transit ≡ None) × (id ≢ 0) × (get_elem? (slice_set views 0 (taken_in (Keeper v) (Pin h))) id ≡ some (Pin h))
 
 module _ (words : List ℕ) where
   -- the words after it
@@ -81,7 +81,7 @@ module _ (words : List ℕ) where
   words_after (look v s me) = words
   words_after (give v s me d) = slice_set words s.word (bit_or (slice_index words s.word) s.first)
   words_after (lend v s me) = slice_set words s.word ((slice_index words s.word + s.first) % 2 ^ 64)
-  words_after (hand v) = words
+  words_after (hand_over v) = words
   words_after (leave id h s me) = slice_set words s.word ((slice_index words s.word + (2 ^ 64 - s.first)) % 2 ^ 64)
   words_after (condemn v s me) = slice_set words s.word (bit_or (slice_index words s.word) s.first)
   words_after (revive v s me) = slice_set words s.word (bit_and (slice_index words s.word) s.first)
@@ -96,7 +96,7 @@ module _ (views : List View) where
   views_after (look v s me) = slice_set views 0 me.0
   views_after (give v s me d) = slice_set views 0 me.0
   views_after (lend v s me) = slice_set views 0 me.0
-  views_after (hand v) = slice_set views 0 (without_transit (Keeper v)) ++ transit_pin (Keeper v) ∷ []
+  views_after (hand_over v) = slice_set views 0 (without_transit (Keeper v)) ++ transit_pin (Keeper v) ∷ []
   views_after (leave id h s me) = slice_set views id me.0
   views_after (condemn v s me) = slice_set views 0 me.0
   views_after (revive v s me) = slice_set views 0 me.0
@@ -114,7 +114,7 @@ abbrev pub IsEvent : PinWorld → SeatStep → List ℕ → List View → Type 0
 IsEvent p (look v s me) words views = Leads p (Look s.word) words views
 IsEvent p (give v s me d) words views = Leads p (Give s.word d) words views
 IsEvent p (lend v s me) words views = (n : ℕ) × Leads p (Lend s.word n) words views
-IsEvent p (hand v) words views = Agrees words views p
+IsEvent p (hand_over v) words views = Agrees words views p
 IsEvent p (leave id h s me) words views = (n : ℕ) × (hold_named n p.pins ≡ Some h) × Leads p (Leave n) words views
 IsEvent p (condemn v s me) words views = Leads p (Condemn s.word) words views
 IsEvent p (revive v s me) words views = Leads p (Revive s.word) words views

@@ -15,7 +15,7 @@ ghost use Rattle.pin_table.specs.Calls.{opened, with_both, rowed, lent_on, seat_
 
 use crate::keeper::Keeper;
 use crate::pin::{Left, Pin};
-use crate::plays::{Condemn, Give, Given, Hand, Leave, Lend, Look, Reclaiming, Revive, Share};
+use crate::plays::{Condemn, Give, Given, Transit, Leave, Lend, Look, Reclaiming, Revive, Share};
 use crate::reclaim::Reclaim;
 use crate::rule::{Opening, PinSeat, PinShared, PinTable};
 use blob_digest::{Digest, MAX_SLOTS, Refusal};
@@ -158,7 +158,7 @@ impl Pins {
         };
         shared.fetch_add::<Lend>(&mut keeper.seat, word, NEW_WEIGHT as u64);
         keeper.bounds[word] += NEW_WEIGHT;
-        let seat = shared.split_seat::<Hand>(&mut keeper.seat);
+        let seat = shared.split_seat::<Transit>(&mut keeper.seat);
         let hold = PinRecord {
             slot,
             generation: row.generation,
@@ -240,10 +240,10 @@ impl Pins {
         let Pin { hold, seat } = pin;
         let shared = &self.table.shared;
         let word = hold.slot as usize;
-        shared.join_seat::<Hand>(&mut keeper.seat, seat);
+        shared.join_seat::<Transit>(&mut keeper.seat, seat);
         let found = shared.load::<Look>(&mut keeper.seat, word);
         keeper.bounds[word] = unpack(found).weight;
-        let seat = shared.split_seat::<Hand>(&mut keeper.seat);
+        let seat = shared.split_seat::<Transit>(&mut keeper.seat);
         Pin { hold, seat }
     }
 

@@ -37,7 +37,7 @@ impl<D: Given> Play<(), View> for Give<D> {
     ghost then = { gave D.digest };
 }
 
-/// The keeper lends a pin, which it has in its hand then.
+/// The keeper lends a pin, which is in transit then.
 pub struct Lend;
 
 impl Play<(), View> for Lend {
@@ -82,10 +82,10 @@ impl Play<(), View> for Reclaiming {
     ghost then = { reclaimed };
 }
 
-/// A pin goes between the keeper's hand and a seat of its own.
-pub struct Hand;
+/// A pin goes between the keeper and a seat of its own.
+pub struct Transit;
 
-impl Split<View> for Hand {
+impl Split<View> for Transit {
     ghost use Rattle.pin_table.specs.Plays.{without_transit, transit_pin};
 
     ghost left = { without_transit };
@@ -93,7 +93,7 @@ impl Split<View> for Hand {
     ghost right = { transit_pin };
 }
 
-impl Join<View> for Hand {
+impl Join<View> for Transit {
     ghost use Rattle.pin_table.specs.Plays.{taken_in};
     ghost use Rattle.pin_table.specs.declared.view.View.TheVariants.{Empty};
 

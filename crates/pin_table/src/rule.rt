@@ -15,11 +15,11 @@ pub struct Opening {
 pub struct PinRule;
 
 impl TableRule<(), View, Opening> for PinRule {
-    ghost use Rattle.pin_table.specs.Rule.{Ruled, opening_view};
+    ghost use Rattle.pin_table.specs.Rule.{Ruled, initial_view};
 
     ghost holds = { λ about s. Ruled about.slots about.first_generation s.words s.views };
 
-    ghost first = { λ about. opening_view about.slots about.first_generation };
+    ghost first = { λ about. initial_view about.slots about.first_generation };
 }
 
 pub type PinTable = Table<(), View, Opening, PinRule, Global>;

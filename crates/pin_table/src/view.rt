@@ -5,13 +5,13 @@ use std::collections::LinkedList;
 
 /// What the keeper knows: of all slots the rows; by slot number a bound on the sum of weights, which
 /// is what the keeper's last look found and what it lent since, how often it looked, and what it ever
-/// lent; and the pin that it has in its hand in the middle of a call.
+/// lent; and the pin in transit in the middle of a call.
 pub struct KeeperView {
     pub rows: LinkedList<PinRow>,
     pub bounds: LinkedList<u32>,
     pub looks: LinkedList<u64>,
     pub lent: LinkedList<u64>,
-    pub hand: Option<PinRecord>,
+    pub transit: Option<PinRecord>,
 }
 
 /// A pin that was left, and how often the keeper had looked at its slot by then.

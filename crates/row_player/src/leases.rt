@@ -31,10 +31,10 @@ pub struct Leases<'r, B: Backend> {
 
 impl<'r, B: Backend> Model for Leases<'r, B> {
     ghost use Rattle.std.specs.BTreeMap as tree;
-    ghost use Rattle.row_player.specs.Leases.{Leases as Held, coded_leases};
+    ghost use Rattle.row_player.specs.Leases.{Leases as LeasesView, coded_leases};
     ghost use Rattle.row_player.specs.LeaseTables.{leases_in, key_cmp};
 
-    ghost Value = { Held };
+    ghost Value = { LeasesView };
 
     ghost coded = { coded_leases };
 

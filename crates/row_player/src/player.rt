@@ -2,7 +2,7 @@
 ghost use Rattle.std.specs.Prelude.{◌≡◌, ◌≢◌, ◌⊎◌, ◌++◌, ◌∷◌, [], ◌≤◌, ◌<◌, ◌^◌, true, Some, None, IfOk, IfErr, OnOk, MatchResult, IsTrue, ◌↔◌, length, map, vec_capacity, vec_len};
 ghost use Rattle.row_player.specs.Answers.{answer_of, answers_of, Refused};
 ghost use Rattle.row_player.specs.Commands.{is_command};
-ghost use Rattle.row_player.specs.Leases.{Leases as Held, none};
+ghost use Rattle.row_player.specs.Leases.{Leases as LeasesView, none};
 ghost use Rattle.row_player.specs.RowViews.{row_view};
 ghost use Rattle.row_player.specs.Plays.{AnswersCall, AnswersRead, AnswersRow, Plays, RowStep, piece_of};
 ghost use Rattle.row_player.specs.Shares.{own_rows};
@@ -182,7 +182,7 @@ pub fn play_rows<B: Backend, G: Gate>(
 ) -> Result<Vec<Reply>, Refusal>
     requires empty { replies.items ≡ [] }
     requires room { length (own_rows worker.workers worker.number (map row_view rows.now)) ≤ vec_capacity replies }
-    ensures played { IfOk result (λ v. (left : Held) × Plays B.acts (backend.old, none) (own_rows worker.workers worker.number (map row_view rows.now)) (answers_of v.items) (backend.new, left)) }
+    ensures played { IfOk result (λ v. (left : LeasesView) × Plays B.acts (backend.old, none) (own_rows worker.workers worker.number (map row_view rows.now)) (answers_of v.items) (backend.new, left)) }
     ensures refused { IfErr result (λ e. e ≡ Refusal.Memory) }
 {
     let mut leases = Leases::new(alloc);
@@ -195,7 +195,7 @@ pub fn play_rows<B: Backend, G: Gate>(
 /// memory; the rows that were accepted before it stand. The leases that the lanes still hold at the
 /// end are given back.
 pub fn play<B: Backend>(alloc: Global, backend: &mut B, rows: &[Row]) -> Result<Vec<Reply>, Refusal>
-    ensures played { IfOk result (λ replies. (left : Held) × Plays B.acts (backend.old, none) (map row_view rows.now) (answers_of replies.items) (backend.new, left)) }
+    ensures played { IfOk result (λ replies. (left : LeasesView) × Plays B.acts (backend.old, none) (map row_view rows.now) (answers_of replies.items) (backend.new, left)) }
     ensures refused { IfErr result (λ e. e ≡ Refusal.Memory) }
 {
     let worker = Worker {

@@ -4,10 +4,10 @@ use mathlib.Core.Option.{none}
 use Rattle.atomic_table.specs.Table.{State, Me, step, keeps, Allows, Splits, Joins}
 use Rattle.shared_log.specs.declared.view.Known.{Known}
 use Rattle.shared_log.specs.declared.view.View.{View}
-use Rattle.shared_log.specs.declared.view.View.TheVariants.{Owner, Held, Spent}
+use Rattle.shared_log.specs.declared.view.View.TheVariants.{Owner, OfWriter, Empty}
 use Rattle.shared_log.specs.Entries.{Entry}
 use Rattle.shared_log.specs.Rule.{contents, Ruled}
-use Rattle.shared_log.specs.Steps.{empty_handed, handed, taken_in, one_more, newcomer, appended, appends}
+use Rattle.shared_log.specs.Steps.{without_transit, transit_view, taken_in, one_more, newcomer, appended, appends}
 use Rattle.shared_log.proofs.Keeps as rule
 
 module _ {E : Type 0} where
@@ -21,7 +21,7 @@ module _ {E : Type 0} where
       (subst (λ (x : Me (Unit {0}) (View E)). Allows holds slots 0 x 0 (λ n. n) (appends events (step slots 0 0 0 none) x)) (sym is)
       (λ st r homes at fits. (Owner (appended events (contents log writers (Some k)) (Some k)), keeps, tt, rule.appends log writers k events st.views r at, (rule.tells (contents log writers (Some k)) st.views r at, refl))))
 
-  -- with no writer in the hand
+  -- with no writer in transit
   pub look_allowed : (slots id : ℕ) (me : Me (Unit {0}) (View E)) (log : List (Entry E)) (writers : ℕ) (events : List E) → id ≡ 0 → me ≡ (Owner (contents log writers None), [])
       → Allows holds slots id me 0 (λ n. n) (appends events (step slots 0 0 0 none) me)
   look_allowed slots id me log writers events z is =
@@ -29,17 +29,17 @@ module _ {E : Type 0} where
       (subst (λ (x : Me (Unit {0}) (View E)). Allows holds slots 0 x 0 (λ n. n) (appends events (step slots 0 0 0 none) x)) (sym is)
       (λ st r homes at fits. (Owner (contents log writers None), keeps, tt, rule.stays log writers st.views r at, (rule.tells (contents log writers None) st.views r at, refl))))
 
-  pub hand_allowed : (id : ℕ) (v : View E) (log : List (Entry E)) (writers : ℕ) (k : Known E) → id ≡ 0 → v ≡ Owner (contents log writers (Some k)) → Splits holds id v (empty_handed v) (handed v)
-  hand_allowed id v log writers k z is =
-      subst (λ i. Splits holds i v (empty_handed v) (handed v)) (sym z)
-      (subst (λ (x : View E). Splits holds 0 x (empty_handed x) (handed x)) (sym is)
+  pub transit_allowed : (id : ℕ) (v : View E) (log : List (Entry E)) (writers : ℕ) (k : Known E) → id ≡ 0 → v ≡ Owner (contents log writers (Some k)) → Splits holds id v (without_transit v) (transit_view v)
+  transit_allowed id v log writers k z is =
+      subst (λ i. Splits holds i v (without_transit v) (transit_view v)) (sym z)
+      (subst (λ (x : View E). Splits holds 0 x (without_transit x) (transit_view x)) (sym is)
       (λ st r at. rule.gives log writers k st.views r at))
 
-  pub take_allowed : (id : ℕ) (v : View E) (log : List (Entry E)) (writers other : ℕ) (u : View E) (k : Known E) → id ≡ 0 → v ≡ Owner (contents log writers None) → u ≡ Held k → Joins holds id v other u (taken_in v u) Spent
+  pub take_allowed : (id : ℕ) (v : View E) (log : List (Entry E)) (writers other : ℕ) (u : View E) (k : Known E) → id ≡ 0 → v ≡ Owner (contents log writers None) → u ≡ OfWriter k → Joins holds id v other u (taken_in v u) Empty
   take_allowed id v log writers other u k z is held =
-      subst (λ i. Joins holds i v other u (taken_in v u) Spent) (sym z)
-      (subst (λ (x : View E). Joins holds 0 x other u (taken_in x u) Spent) (sym is)
-      (subst (λ (y : View E). Joins holds 0 (Owner (contents log writers None)) other y (taken_in (Owner (contents log writers None)) y) Spent) (sym held)
+      subst (λ i. Joins holds i v other u (taken_in v u) Empty) (sym z)
+      (subst (λ (x : View E). Joins holds 0 x other u (taken_in x u) Empty) (sym is)
+      (subst (λ (y : View E). Joins holds 0 (Owner (contents log writers None)) other y (taken_in (Owner (contents log writers None)) y) Empty) (sym held)
       (λ st r at ne there. rule.takes log writers k st.views other r at ne there)))
 
   pub cut_allowed : (id : ℕ) (v : View E) (log : List (Entry E)) (writers : ℕ) → id ≡ 0 → v ≡ Owner (contents log writers None) → Splits holds id v (one_more v) (newcomer v)

@@ -7,10 +7,10 @@ use Rattle.atomic_table.proofs.Lists.{at_set, at_longer, set_else}
 use Rattle.shared_log.specs.declared.view.Known.{Known}
 use Rattle.shared_log.specs.declared.view.Contents.{Contents}
 use Rattle.shared_log.specs.declared.view.View.{View}
-use Rattle.shared_log.specs.declared.view.View.TheVariants.{Owner, Held, Spent}
+use Rattle.shared_log.specs.declared.view.View.TheVariants.{Owner, OfWriter, Empty}
 use Rattle.shared_log.specs.Entries.{Entry, entries_by, events_by}
-use Rattle.shared_log.specs.Rule.{contents, known, IsOf, InHand, Fits, Ruled, opening_view}
-use Rattle.shared_log.specs.Steps.{HandIsOf, Tells}
+use Rattle.shared_log.specs.Rule.{contents, known, IsOf, InTransit, Fits, Ruled, initial_view}
+use Rattle.shared_log.specs.Steps.{TransitIsOf, Tells}
 use Rattle.shared_log.specs.Calls.{contents_of}
 use Rattle.shared_log.proofs.Lists.{prefix_self, prefix_more, set_top, at_end, chosen, left_over, events_own, events_other}
 
@@ -25,20 +25,20 @@ module _ {E : Type 0} where
   record Ready (c : Contents E) (views : List (View E)) : Type 0 where
     seat : ℕ → ℕ
     each : (id : ℕ) (v : View E) → get_elem? views id ≡ some v → Fits c seat id v
-    hand : InHand c seat c.hand
+    transit : InTransit c seat c.transit
     unused : (number : ℕ) → c.writers ≤ number → events_by number c.entries ≡ []
 
   ready : (c : Contents E) (views : List (View E)) → Ruled views → get_elem? views 0 ≡ some (Owner c) → Ready c views
   ready c views r at =
       let same : r.contents ≡ c = ap contents_of (some-injective (Owner r.contents) (Owner c) (sym r.top ∙ at)) in
-      subst (λ (x : Contents E). Ready x views) same (record { seat = r.seat; each = r.each; hand = r.hand; unused = r.unused })
+      subst (λ (x : Contents E). Ready x views) same (record { seat = r.seat; each = r.each; transit = r.transit; unused = r.unused })
 
-  hand_is_of : (c : Contents E) (seat : ℕ → ℕ) (hand : Option (Known E)) → InHand c seat hand → HandIsOf c hand
-  hand_is_of c seat None h = tt
-  hand_is_of c seat (Some k) h = h.1
+  transit_is_of : (c : Contents E) (seat : ℕ → ℕ) (transit : Option (Known E)) → InTransit c seat transit → TransitIsOf c transit
+  transit_is_of c seat None h = tt
+  transit_is_of c seat (Some k) h = h.1
 
   pub tells : (c : Contents E) (views : List (View E)) → Ruled views → get_elem? views 0 ≡ some (Owner c) → Tells c
-  tells c views r at = let t = ready c views r at in record { hand = hand_is_of c t.seat c.hand t.hand; unused = t.unused }
+  tells c views r at = let t = ready c views r at in record { transit = transit_is_of c t.seat c.transit t.transit; unused = t.unused }
 
   -- what is known of each view after the first was changed
   fits_set : (c : Contents E) (seat : ℕ → ℕ) (views : List (View E)) → ((id : ℕ) (v : View E) → id ≢ 0 → get_elem? views id ≡ some v → Fits c seat id v) → (id : ℕ) (v : View E) → get_elem? (set views 0 (Owner c)) id ≡ some v → Fits c seat id v
@@ -55,7 +55,7 @@ module _ {E : Type 0} where
     abbrev empty : Contents E
     empty = contents log writers None
 
-    -- ---- the writer in the hand appends
+    -- ---- the writer in transit appends
 
     module _ (events : List E) where
       abbrev longer : List (Entry E)
@@ -66,23 +66,23 @@ module _ {E : Type 0} where
 
       other_fits : (seat : ℕ → ℕ) (id : ℕ) (v : View E) → seat k.number ≡ 0 → id ≢ 0 → Fits holding seat id v → Fits after seat id v
       other_fits seat id (Owner o) here ne f = absurd (ne f.0)
-      other_fits seat id (Held t) here ne f = (f.0, of_longer log writers t k.number events (λ same. ne (sym f.0 ∙ (ap seat (sym same) ∙ here))) f.1)
-      other_fits seat id Spent here ne f = tt
+      other_fits seat id (OfWriter t) here ne f = (f.0, of_longer log writers t k.number events (λ same. ne (sym f.0 ∙ (ap seat (sym same) ∙ here))) f.1)
+      other_fits seat id Empty here ne f = tt
 
       pub appends : (views : List (View E)) → Ruled views → get_elem? views 0 ≡ some (Owner (contents log writers (Some k))) → Ruled (set views 0 (Owner after))
       appends views r at =
           let t = ready holding views r at in
-          let number = t.hand.1.number in
+          let number = t.transit.1.number in
           record {
             contents = after;
             seat = t.seat;
             top = set_top views (Owner holding) (Owner after) at;
-            each = fits_set after t.seat views (λ id v ne e. other_fits t.seat id v t.hand.0 ne (t.each id v e));
-            hand = (t.hand.0, record { number = number; seen = prefix_self longer; own = events_own k.number log events ∙ ap (λ xs. xs ++ events) t.hand.1.own });
+            each = fits_set after t.seat views (λ id v ne e. other_fits t.seat id v t.transit.0 ne (t.each id v e));
+            transit = (t.transit.0, record { number = number; seen = prefix_self longer; own = events_own k.number log events ∙ ap (λ xs. xs ++ events) t.transit.1.own });
             unused = λ other le. events_other k.number other log events (λ same. omega arith) ∙ t.unused other le;
           }
 
-    -- ---- a writer comes into the hand
+    -- ---- a writer comes into transit
 
     moved : (ℕ → ℕ) → ℕ → ℕ → ℕ
     moved seat to n = if n == k.number then to else seat n
@@ -95,57 +95,57 @@ module _ {E : Type 0} where
     unfolding moved
     moved_else seat to n ne = left_over (n == k.number) to (seat n) (ne_eqb n k.number ne)
 
-    moved_fits : (seat : ℕ → ℕ) (to : ℕ) (hand other : Option (Known E)) (id : ℕ) (v : View E) → id ≢ seat k.number → id ≢ 0 → Fits (contents log writers hand) seat id v → Fits (contents log writers other) (moved seat to) id v
-    moved_fits seat to hand other id (Owner o) apart ne f = absurd (ne f.0)
-    moved_fits seat to hand other id (Held t) apart ne f = (moved_else seat to t.number (λ same. apart (sym f.0 ∙ ap seat same)) ∙ f.0, f.1)
-    moved_fits seat to hand other id Spent apart ne f = tt
+    moved_fits : (seat : ℕ → ℕ) (to : ℕ) (transit other : Option (Known E)) (id : ℕ) (v : View E) → id ≢ seat k.number → id ≢ 0 → Fits (contents log writers transit) seat id v → Fits (contents log writers other) (moved seat to) id v
+    moved_fits seat to transit other id (Owner o) apart ne f = absurd (ne f.0)
+    moved_fits seat to transit other id (OfWriter t) apart ne f = (moved_else seat to t.number (λ same. apart (sym f.0 ∙ ap seat same)) ∙ f.0, f.1)
+    moved_fits seat to transit other id Empty apart ne f = tt
 
-    pub takes : (views : List (View E)) (other : ℕ) → Ruled views → get_elem? views 0 ≡ some (Owner (contents log writers None)) → other ≢ 0 → get_elem? (set views 0 (Owner (contents log writers (Some k)))) other ≡ some (Held k)
-        → Ruled (set (set views 0 (Owner (contents log writers (Some k)))) other Spent)
+    pub takes : (views : List (View E)) (other : ℕ) → Ruled views → get_elem? views 0 ≡ some (Owner (contents log writers None)) → other ≢ 0 → get_elem? (set views 0 (Owner (contents log writers (Some k)))) other ≡ some (OfWriter k)
+        → Ruled (set (set views 0 (Owner (contents log writers (Some k)))) other Empty)
     takes views other r at ne there =
         let t = ready empty views r at in
         let first = set views 0 (Owner holding) in
-        let was : get_elem? views other ≡ some (Held k) = ⊎_elim (λ (x : (other ≡ 0) × (Owner holding ≡ Held k)). absurd (ne x.0)) (λ (x : (other ≢ 0) × (get_elem? views other ≡ some (Held k))). x.1) (at_set views 0 other (Owner holding) (Held k) there) in
-        let has = t.each other (Held k) was in
+        let was : get_elem? views other ≡ some (OfWriter k) = ⊎_elim (λ (x : (other ≡ 0) × (Owner holding ≡ OfWriter k)). absurd (ne x.0)) (λ (x : (other ≢ 0) × (get_elem? views other ≡ some (OfWriter k))). x.1) (at_set views 0 other (Owner holding) (OfWriter k) there) in
+        let has = t.each other (OfWriter k) was in
         record {
           contents = holding;
           seat = moved t.seat 0;
-          top = set_else first other 0 Spent (λ z. ne (sym z)) ∙ set_top views (Owner empty) (Owner holding) at;
+          top = set_else first other 0 Empty (λ z. ne (sym z)) ∙ set_top views (Owner empty) (Owner holding) at;
           each = λ id v e. ⊎_elim
-              (λ (x : (id ≡ other) × (Spent ≡ v)). subst (λ (y : View E). Fits holding (moved t.seat 0) id y) x.1 tt)
+              (λ (x : (id ≡ other) × (Empty ≡ v)). subst (λ (y : View E). Fits holding (moved t.seat 0) id y) x.1 tt)
               (λ (x : (id ≢ other) × (get_elem? first id ≡ some v)).
               ⊎_elim
               (λ (y : (id ≡ 0) × (Owner holding ≡ v)). subst (λ (z : View E). Fits holding (moved t.seat 0) id z) y.1 (y.0, refl))
               (λ (y : (id ≢ 0) × (get_elem? views id ≡ some v)). moved_fits t.seat 0 None (Some k) id v (λ z. x.0 (z ∙ has.0)) y.0 (t.each id v y.1))
               (at_set views 0 id (Owner holding) v x.1))
-              (at_set first other id Spent v e);
-          hand = (moved_here t.seat 0, has.1);
+              (at_set first other id Empty v e);
+          transit = (moved_here t.seat 0, has.1);
           unused = t.unused;
         }
 
     -- ---- it gets a seat of its own again
 
-    pub gives : (views : List (View E)) → Ruled views → get_elem? views 0 ≡ some (Owner (contents log writers (Some k))) → Ruled (set views 0 (Owner (contents log writers None)) ++ Held k ∷ [])
+    pub gives : (views : List (View E)) → Ruled views → get_elem? views 0 ≡ some (Owner (contents log writers (Some k))) → Ruled (set views 0 (Owner (contents log writers None)) ++ OfWriter k ∷ [])
     gives views r at =
         let t = ready holding views r at in
         let rest = set views 0 (Owner empty) in
         record {
           contents = empty;
           seat = moved t.seat (length rest);
-          top = at_longer rest (Held k ∷ []) 0 (Owner empty) (set_top views (Owner holding) (Owner empty) at);
+          top = at_longer rest (OfWriter k ∷ []) 0 (Owner empty) (set_top views (Owner holding) (Owner empty) at);
           each = λ id v e. ⊎_elim
               (λ (was : get_elem? rest id ≡ some v).
               ⊎_elim
               (λ (y : (id ≡ 0) × (Owner empty ≡ v)). subst (λ (z : View E). Fits empty (moved t.seat (length rest)) id z) y.1 (y.0, refl))
-              (λ (y : (id ≢ 0) × (get_elem? views id ≡ some v)). moved_fits t.seat (length rest) (Some k) None id v (λ z. y.0 (z ∙ t.hand.0)) y.0 (t.each id v y.1))
+              (λ (y : (id ≢ 0) × (get_elem? views id ≡ some v)). moved_fits t.seat (length rest) (Some k) None id v (λ z. y.0 (z ∙ t.transit.0)) y.0 (t.each id v y.1))
               (at_set views 0 id (Owner empty) v was))
-              (λ (x : (id ≡ length rest) × (Held k ≡ v)). subst (λ (z : View E). Fits empty (moved t.seat (length rest)) id z) x.1 (moved_here t.seat (length rest) ∙ sym x.0, t.hand.1))
-              (at_end rest (Held k) v id e);
-          hand = tt;
+              (λ (x : (id ≡ length rest) × (OfWriter k ≡ v)). subst (λ (z : View E). Fits empty (moved t.seat (length rest)) id z) x.1 (moved_here t.seat (length rest) ∙ sym x.0, t.transit.1))
+              (at_end rest (OfWriter k) v id e);
+          transit = tt;
           unused = t.unused;
         }
 
-  -- ---- with no writer in the hand nothing is appended
+  -- ---- with no writer in transit nothing is appended
 
   module _ (log : List (Entry E)) (writers : ℕ) where
     pub stays : (views : List (View E)) → Ruled views → get_elem? views 0 ≡ some (Owner (contents log writers None)) → Ruled (set views 0 (Owner (contents log writers None)))
@@ -157,7 +157,7 @@ module _ {E : Type 0} where
           seat = t.seat;
           top = set_top views (Owner c) (Owner c) at;
           each = fits_set c t.seat views (λ id v ne e. t.each id v e);
-          hand = tt;
+          transit = tt;
           unused = t.unused;
         }
 
@@ -172,43 +172,43 @@ module _ {E : Type 0} where
     cut_fits : (seat : ℕ → ℕ) (to id : ℕ) (v : View E) → id ≢ 0 → Fits (contents log writers None) seat id v → Fits one_more (new_seat seat to) id v
     unfolding new_seat
     cut_fits seat to id (Owner o) ne f = absurd (ne f.0)
-    cut_fits seat to id (Held t) ne f =
+    cut_fits seat to id (OfWriter t) ne f =
         let number = f.1.number in
         (left_over (t.number == writers) to (seat t.number) (ne_eqb t.number writers (λ same. omega arith)) ∙ f.0, record { number = omega arith; seen = f.1.seen; own = f.1.own })
-    cut_fits seat to id Spent ne f = tt
+    cut_fits seat to id Empty ne f = tt
 
-    pub cuts : (views : List (View E)) → Ruled views → get_elem? views 0 ≡ some (Owner (contents log writers None)) → Ruled (set views 0 (Owner (contents log (writers + 1) None)) ++ Held (known writers log []) ∷ [])
+    pub cuts : (views : List (View E)) → Ruled views → get_elem? views 0 ≡ some (Owner (contents log writers None)) → Ruled (set views 0 (Owner (contents log (writers + 1) None)) ++ OfWriter (known writers log []) ∷ [])
     unfolding new_seat
     cuts views r at =
         let t = ready (contents log writers None) views r at in
         let rest = set views 0 (Owner one_more) in
         let to = new_seat t.seat (length rest) in
-        let new : Fits one_more to (length rest) (Held (known writers log [])) =
+        let new : Fits one_more to (length rest) (OfWriter (known writers log [])) =
         (chosen (writers == writers) (length rest) (t.seat writers) (eq-eqb writers writers refl), record { number = omega arith; seen = prefix_self log; own = t.unused writers (omega arith) }) in
         record {
           contents = one_more;
           seat = to;
-          top = at_longer rest (Held (known writers log []) ∷ []) 0 (Owner one_more) (set_top views (Owner (contents log writers None)) (Owner one_more) at);
+          top = at_longer rest (OfWriter (known writers log []) ∷ []) 0 (Owner one_more) (set_top views (Owner (contents log writers None)) (Owner one_more) at);
           each = λ id v e. ⊎_elim
               (λ (was : get_elem? rest id ≡ some v). fits_set one_more to views (λ i u ne f. cut_fits t.seat (length rest) i u ne (t.each i u f)) id v was)
-              (λ (x : (id ≡ length rest) × (Held (known writers log []) ≡ v)). subst (λ (z : ℕ × View E). Fits one_more to z.0 z.1) (λ i. (sym x.0 i, x.1 i)) new)
-              (at_end rest (Held (known writers log [])) v id e);
-          hand = tt;
+              (λ (x : (id ≡ length rest) × (OfWriter (known writers log []) ≡ v)). subst (λ (z : ℕ × View E). Fits one_more to z.0 z.1) (λ i. (sym x.0 i, x.1 i)) new)
+              (at_end rest (OfWriter (known writers log [])) v id e);
+          transit = tt;
           unused = λ number le. t.unused number (omega arith);
         }
 
   -- ---- at the start
 
-  pub opens : Ruled (opening_view {E = E} ∷ [])
+  pub opens : Ruled (initial_view {E = E} ∷ [])
   opens = record {
     contents = contents [] 0 None;
     seat = λ n. n;
     top = refl;
     each = first;
-    hand = tt;
+    transit = tt;
     unused = λ number le. refl;
   }
     where
-      first : (id : ℕ) (v : View E) → get_elem? (opening_view {E = E} ∷ []) id ≡ some v → Fits (contents [] 0 None) (λ n. n) id v
+      first : (id : ℕ) (v : View E) → get_elem? (initial_view {E = E} ∷ []) id ≡ some v → Fits (contents [] 0 None) (λ n. n) id v
       first zero v e = subst (λ (y : View E). Fits (contents [] 0 None) (λ n. n) 0 y) (some-injective (Owner (contents [] 0 None)) v e) (refl, refl)
       first (suc id) v e = absurd (some-ne-none v (sym e))

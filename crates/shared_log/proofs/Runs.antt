@@ -7,7 +7,7 @@ use Rattle.atomic_table.specs.Seated.{TableId}
 use Rattle.atomic_table.proofs.Lists.{at_set}
 use Rattle.shared_log.specs.Entries.{Entry, entry, events_by, IsPrefix}
 use Rattle.shared_log.specs.Calls.{Log, Writer, Agrees, with_writer, new_writer, with_entry, has_appended, has_seen}
-use Rattle.shared_log.specs.Laws.{Call, Joins, Appends, CatchesUp, Moment, opening, Happens, IsRun, appended_in, EveryRun}
+use Rattle.shared_log.specs.Laws.{Call, Joins, Appends, CatchesUp, Moment, initial_moment, Leads, IsRun, appended_in, EveryRun}
 use Rattle.shared_log.proofs.Lists.{prefix_self, prefix_more, at_end, events_own, events_other}
 
 pub in_range : {A : Type 0} (l : List A) (i : ℕ) (a : A) → get_elem? l i ≡ some a → i < length l
@@ -23,12 +23,12 @@ module _ {E : Type 0} where
     own : events_by n entries ≡ w.own
 
   -- of all writers at one moment
-  record Kept (m : Moment E) : Type 0 where
+  record AllAgree (m : Moment E) : Type 0 where
     count : length m.writers ≡ m.log.writers
     each : (n : ℕ) (w : Writer E) → get_elem? m.writers n ≡ some w → Stands m.log.entries n w
     unused : (n : ℕ) → m.log.writers ≤ n → events_by n m.log.entries ≡ []
 
-  joins : (m : Moment E) → Kept m → Kept (record { log = with_writer m.log; writers = m.writers ++ new_writer m.log ∷ [] })
+  joins : (m : Moment E) → AllAgree m → AllAgree (record { log = with_writer m.log; writers = m.writers ++ new_writer m.log ∷ [] })
   joins m k = record {
     count = length-append m.writers (new_writer m.log ∷ []) ∙ ap (λ x. x + 1) k.count;
     each = λ n w e. ⊎_elim
@@ -47,7 +47,7 @@ module _ {E : Type 0} where
     own = events_other n i entries (event ∷ []) ne ∙ s.own;
   }
 
-  appends : (m : Moment E) (n : ℕ) (w : Writer E) (event : E) → Kept m → get_elem? m.writers n ≡ some w → Kept (record { log = with_entry n event m.log; writers = set m.writers n (has_appended event m.log.entries w) })
+  appends : (m : Moment E) (n : ℕ) (w : Writer E) (event : E) → AllAgree m → get_elem? m.writers n ≡ some w → AllAgree (record { log = with_entry n event m.log; writers = set m.writers n (has_appended event m.log.entries w) })
   appends m n w event k at =
       let s = k.each n w at in
       let within : n < length m.writers = in_range m.writers n w at in
@@ -67,7 +67,7 @@ module _ {E : Type 0} where
         unused = λ i le. events_other n i m.log.entries (event ∷ []) (λ same. omega arith) ∙ k.unused i le;
       }
 
-  catches_up : (m : Moment E) (n : ℕ) (w : Writer E) → Kept m → get_elem? m.writers n ≡ some w → Kept (record { log = m.log; writers = set m.writers n (has_seen m.log.entries w) })
+  catches_up : (m : Moment E) (n : ℕ) (w : Writer E) → AllAgree m → get_elem? m.writers n ≡ some w → AllAgree (record { log = m.log; writers = set m.writers n (has_seen m.log.entries w) })
   catches_up m n w k at =
       let s = k.each n w at in
       let after = has_seen m.log.entries w in
@@ -82,30 +82,30 @@ module _ {E : Type 0} where
       }
 
   -- a moment that is known by its parts
-  at_parts : (m : Moment E) (l : Log E) (ws : List (Writer E)) → m.log ≡ l → m.writers ≡ ws → Kept (record { log = l; writers = ws }) → Kept m
-  at_parts m l ws log writers k = subst (λ (x : Moment E). Kept x) (λ j. record { log = sym log j; writers = sym writers j }) k
+  at_parts : (m : Moment E) (l : Log E) (ws : List (Writer E)) → m.log ≡ l → m.writers ≡ ws → AllAgree (record { log = l; writers = ws }) → AllAgree m
+  at_parts m l ws log writers k = subst (λ (x : Moment E). AllAgree x) (λ j. record { log = sym log j; writers = sym writers j }) k
 
-  happens : (m m' : Moment E) (c : Call E) → Kept m → Happens m c m' → Kept m'
+  happens : (m m' : Moment E) (c : Call E) → AllAgree m → Leads m c m' → AllAgree m'
   happens m m' Joins k h = at_parts m' _ _ h.0 h.1 (joins m k)
   happens m m' (Appends n event) k h = at_parts m' _ _ h.0 h.1.2 (appends m n h.1.0 event k h.1.1)
   happens m m' (CatchesUp n) k h = at_parts m' _ _ h.0 h.1.2 (catches_up m n h.1.0 k h.1.1)
 
   -- the entries after one call
-  entries_after : (m m' : Moment E) (c : Call E) (cs : List (Call E)) → Happens m c m' → m'.log.entries ++ appended_in cs ≡ m.log.entries ++ appended_in (c ∷ cs)
+  entries_after : (m m' : Moment E) (c : Call E) (cs : List (Call E)) → Leads m c m' → m'.log.entries ++ appended_in cs ≡ m.log.entries ++ appended_in (c ∷ cs)
   entries_after m m' Joins cs h = ap (λ (l : Log E). l.entries ++ appended_in cs) h.0
   entries_after m m' (Appends n event) cs h = ap (λ (l : Log E). l.entries ++ appended_in cs) h.0 ∙ append_assoc m.log.entries (entry n event ∷ []) (appended_in cs)
   entries_after m m' (CatchesUp n) cs h = ap (λ (l : Log E). l.entries ++ appended_in cs) h.0
 
-  runs : (calls : List (Call E)) (m m' : Moment E) → Kept m → IsRun m calls m' → Kept m' × (m'.log.entries ≡ m.log.entries ++ appended_in calls)
-  runs [] m m' k run = (subst (λ (x : Moment E). Kept x) (sym run) k, ap (λ (x : Moment E). x.log.entries) run ∙ sym (append-nil m.log.entries))
+  runs : (calls : List (Call E)) (m m' : Moment E) → AllAgree m → IsRun m calls m' → AllAgree m' × (m'.log.entries ≡ m.log.entries ++ appended_in calls)
+  runs [] m m' k run = (subst (λ (x : Moment E). AllAgree x) (sym run) k, ap (λ (x : Moment E). x.log.entries) run ∙ sym (append-nil m.log.entries))
   runs (c ∷ cs) m m' k run =
       let rest = runs cs run.0 m' (happens m run.0 c k run.1) run.2 in
       (rest.0, rest.1 ∙ entries_after m run.0 c cs run.1)
 
-  opens : (name : TableId) → Kept (opening {E = E} name)
+  opens : (name : TableId) → AllAgree (initial_moment {E = E} name)
   opens name = record { count = refl; each = λ n w e. absurd (some-ne-none w (sym e)); unused = λ n le. refl }
 
-  agrees : (m : Moment E) (n : ℕ) (w : Writer E) → Kept m → get_elem? m.writers n ≡ some w → (w.number ≡ n) × Agrees m.log w
+  agrees : (m : Moment E) (n : ℕ) (w : Writer E) → AllAgree m → get_elem? m.writers n ≡ some w → (w.number ≡ n) × Agrees m.log w
   agrees m n w k at =
       let s = k.each n w at in
       let number = s.number in
@@ -114,4 +114,4 @@ module _ {E : Type 0} where
       (s.number, record { number = omega arith; seen = s.seen; own = ap (λ b. events_by b m.log.entries) s.number ∙ s.own; unused = k.unused })
 
 pub every_run : (E : Type 0) → EveryRun E
-every_run E name calls m run = let r = runs calls (opening name) m (opens name) run in record { entries = r.1; writers = λ n w at. agrees m n w r.0 at }
+every_run E name calls m run = let r = runs calls (initial_moment name) m (opens name) run in record { entries = r.1; writers = λ n w at. agrees m n w r.0 at }

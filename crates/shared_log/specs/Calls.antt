@@ -4,7 +4,7 @@ use Rattle.atomic_table.specs.Seated.{TableId}
 use Rattle.shared_log.specs.declared.view.Known.{Known}
 use Rattle.shared_log.specs.declared.view.Contents.{Contents}
 use Rattle.shared_log.specs.declared.view.View.{View}
-use Rattle.shared_log.specs.declared.view.View.TheVariants.{Owner, Held}
+use Rattle.shared_log.specs.declared.view.View.TheVariants.{Owner, OfWriter}
 use Rattle.shared_log.specs.Entries.{Entry, entry, entries_by, events_by, IsPrefix}
 use Rattle.shared_log.specs.Rule.{contents, known}
 
@@ -65,7 +65,7 @@ contents_of (Owner c) = c
 contents_of v = contents [] 0 None
 
 abbrev pub known_of : {E : Type 0} → View E → Known E
-known_of (Held k) = k
+known_of (OfWriter k) = k
 known_of v = known 0 [] []
 
 abbrev pub known_in : {E : Type 0} → List (View E) → Known E

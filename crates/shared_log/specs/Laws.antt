@@ -17,23 +17,23 @@ pub record Moment (E : Type 0) : Type 0 where
   pub log : Log E
   pub writers : List (Writer E)
 
-abbrev pub opening : {E : Type 0} → TableId → Moment E
-opening name = record { log = record { name = name; entries = []; writers = 0 }; writers = [] }
+abbrev pub initial_moment : {E : Type 0} → TableId → Moment E
+initial_moment name = record { log = record { name = name; entries = []; writers = 0 }; writers = [] }
 
 -- the writer of this number becomes another, and the rest stay
 abbrev pub Becomes : {E : Type 0} → Moment E → ℕ → (Writer E → Writer E) → Moment E → Type 0
 Becomes {E = E} m n change m' = (w : Writer E) × (get_elem? m.writers n ≡ some w) × (m'.writers ≡ set m.writers n (change w))
 
 -- a call leads from one moment to another
-abbrev pub Happens : {E : Type 0} → Moment E → Call E → Moment E → Type 0
-Happens m Joins m' = (m'.log ≡ with_writer m.log) × (m'.writers ≡ m.writers ++ new_writer m.log ∷ [])
-Happens m (Appends n event) m' = (m'.log ≡ with_entry n event m.log) × Becomes m n (has_appended event m.log.entries) m'
-Happens m (CatchesUp n) m' = (m'.log ≡ m.log) × Becomes m n (has_seen m.log.entries) m'
+abbrev pub Leads : {E : Type 0} → Moment E → Call E → Moment E → Type 0
+Leads m Joins m' = (m'.log ≡ with_writer m.log) × (m'.writers ≡ m.writers ++ new_writer m.log ∷ [])
+Leads m (Appends n event) m' = (m'.log ≡ with_entry n event m.log) × Becomes m n (has_appended event m.log.entries) m'
+Leads m (CatchesUp n) m' = (m'.log ≡ m.log) × Becomes m n (has_seen m.log.entries) m'
 
 -- calls in turn lead from one moment to another
 abbrev pub IsRun : {E : Type 0} → Moment E → List (Call E) → Moment E → Type 0
 IsRun m [] m' = m' ≡ m
-IsRun {E = E} m (c ∷ cs) m' = (next : Moment E) × Happens m c next × IsRun next cs m'
+IsRun {E = E} m (c ∷ cs) m' = (next : Moment E) × Leads m c next × IsRun next cs m'
 
 -- what was appended, in the order of the calls, each with the number of who appended it
 abbrev pub appended_in : {E : Type 0} → List (Call E) → List (Entry E)
@@ -49,4 +49,4 @@ pub record Explains {E : Type 0} (calls : List (Call E)) (m : Moment E) : Type 0
 
 -- at every moment of every run
 abbrev pub EveryRun : Type 0 → Type 0
-EveryRun E = (name : TableId) (calls : List (Call E)) (m : Moment E) → IsRun (opening name) calls m → Explains calls m
+EveryRun E = (name : TableId) (calls : List (Call E)) (m : Moment E) → IsRun (initial_moment name) calls m → Explains calls m

@@ -4,7 +4,7 @@ ghost use Rattle.std.specs.Prelude.{◌≡◌, [], IfOk};
 ghost use Rattle.shared_log.specs.Entries.{events_by};
 ghost use Rattle.shared_log.specs.Calls.{Agrees, with_writer, new_writer, with_entry, has_appended, has_seen, with_entries, has_written};
 
-use crate::rule::{Append, Event, Events, Hand, NewWriter, Nothing, One, Place, Token, Words};
+use crate::rule::{Append, Event, Events, Transit, NewWriter, Nothing, One, Place, Token, Words};
 use atomic_table::Badge;
 use std::alloc::{AllocError, Global};
 use std::marker::Model;
@@ -42,13 +42,13 @@ impl<E> Model for Writer<E> {
     ghost use Rattle.std.specs.Prelude.{◌≡◌, [], ◌∷◌};
     ghost use Rattle.shared_log.specs.Entries.{events_by};
     ghost use Rattle.shared_log.specs.Calls as calls;
-    ghost use Rattle.shared_log.specs.declared.view.View.TheVariants.{Held};
+    ghost use Rattle.shared_log.specs.declared.view.View.TheVariants.{OfWriter};
 
     ghost Value = { calls.Writer E };
 
     ghost view = { λ w. calls.writer w.token.table_id (calls.known_in w.token.views) };
 
-    ghost invariant = { λ w. (w.token.views ≡ Held (calls.known_in w.token.views) ∷ []) × (events_by (calls.known_in w.token.views).number (calls.known_in w.token.views).seen ≡ (calls.known_in w.token.views).own) };
+    ghost invariant = { λ w. (w.token.views ≡ OfWriter (calls.known_in w.token.views) ∷ []) × (events_by (calls.known_in w.token.views).number (calls.known_in w.token.views).seen ≡ (calls.known_in w.token.views).own) };
 }
 
 impl<E> Writer<E> {
@@ -114,9 +114,9 @@ impl<E> SharedLog<E> {
         let words = &self.words;
         let shared = &words.shared;
         let token = mem::replace(&mut writer.token, Badge::blank());
-        shared.join_seat::<Hand>(&mut self.place, token.into_seat());
+        shared.join_seat::<Transit>(&mut self.place, token.into_seat());
         shared.load::<Append<D>>(&mut self.place, 0);
-        let seat = shared.split_seat::<Hand>(&mut self.place);
+        let seat = shared.split_seat::<Transit>(&mut self.place);
         writer.token = seat.into_badge();
     }
 }

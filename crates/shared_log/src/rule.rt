@@ -43,31 +43,31 @@ pub struct Logged<E> {
 }
 
 impl<E> TableRule<(), View<E>, ()> for Logged<E> {
-    ghost use Rattle.shared_log.specs.Rule.{Ruled, opening_view};
+    ghost use Rattle.shared_log.specs.Rule.{Ruled, initial_view};
 
     ghost holds = { λ _ s. Ruled s.views };
 
-    ghost first = { λ _. opening_view };
+    ghost first = { λ _. initial_view };
 }
 
-/// A writer goes between the owner's hand and a seat of its own.
-pub struct Hand;
+/// A writer goes between the owner and a seat of its own.
+pub struct Transit;
 
-impl<E> Split<View<E>> for Hand {
-    ghost use Rattle.shared_log.specs.Steps.{empty_handed, handed};
+impl<E> Split<View<E>> for Transit {
+    ghost use Rattle.shared_log.specs.Steps.{without_transit, transit_view};
 
-    ghost left = { empty_handed };
+    ghost left = { without_transit };
 
-    ghost right = { handed };
+    ghost right = { transit_view };
 }
 
-impl<E> Join<View<E>> for Hand {
+impl<E> Join<View<E>> for Transit {
     ghost use Rattle.shared_log.specs.Steps.{taken_in};
-    ghost use Rattle.shared_log.specs.declared.view.View.TheVariants.{Spent};
+    ghost use Rattle.shared_log.specs.declared.view.View.TheVariants.{Empty};
 
     ghost both = { taken_in };
 
-    ghost spent = { Spent };
+    ghost spent = { Empty };
 }
 
 /// A new writer.
@@ -81,7 +81,7 @@ impl<E> Split<View<E>> for NewWriter {
     ghost right = { newcomer };
 }
 
-/// The writer in the owner's hand appends what `D` names, and sees all.
+/// The writer in transit appends what `D` names, and sees all.
 pub struct Append<D> {
     events: PhantomData<D>,
 }

@@ -15,12 +15,12 @@ pub struct Known<E> {
     pub own: LinkedList<E>,
 }
 
-/// What the log's owner knows: all entries, how many writers there are, and what the writer knows that it has
-/// in its hand in the middle of a call.
+/// What the log's owner knows: all entries, how many writers there are, and what the writer in
+/// transit knows in the middle of a call.
 pub struct Contents<E> {
     pub entries: LinkedList<Entry<E>>,
     pub writers: u64,
-    pub hand: Option<Known<E>>,
+    pub transit: Option<Known<E>>,
 }
 
 /// What a seat stands for.
@@ -28,7 +28,7 @@ pub enum View<E> {
     /// The owner, at the first seat.
     Owner(Contents<E>),
     /// A writer.
-    Held(Known<E>),
+    OfWriter(Known<E>),
     /// A seat whose writer is elsewhere.
-    Spent,
+    Empty,
 }

@@ -97,8 +97,8 @@ abbrev pub empty_slot : ℕ → Slot
 empty_slot generation = record { generation = generation; content = Free }
 
 -- the slots of a new table
-abbrev pub opening : ℕ → ℕ → Result (List Slot) Refusal
-opening slots first = if nat_le 1 slots && nat_le slots 65536 then Ok (replicate slots (empty_slot first)) else Err LimitReached
+abbrev pub initial_slots : ℕ → ℕ → Result (List Slot) Refusal
+initial_slots slots first = if nat_le 1 slots && nat_le slots 65536 then Ok (replicate slots (empty_slot first)) else Err LimitReached
 
 -- the slot holds a blob, live and without links
 abbrev pub fill : Text × Text → Slot → Slot

@@ -7,7 +7,7 @@ ghost use Rattle.std.specs.BTreeMap as tree;
 ghost use Rattle.finite_maps.specs.Texts.{Text, text_cmp};
 ghost use Rattle.blob_digest.specs.Outcomes.{Answers};
 ghost use Rattle.blob_digest.specs.declared.refusal.Refusal.TheVariants.{Memory, StoreFull};
-ghost use Rattle.slot_table.specs.Slots.{slot_of, held_at, phase_at, links_at, generation_at, free_slots, empty_slot, is_orphan, orphan_from, has_digest, opening, with_slot, fill, on_held, raise, lower, lend, mark, emptied, retire, IsDistinct, IsUnlinked};
+ghost use Rattle.slot_table.specs.Slots.{slot_of, held_at, phase_at, links_at, generation_at, free_slots, empty_slot, is_orphan, orphan_from, has_digest, initial_slots, with_slot, fill, on_held, raise, lower, lend, mark, emptied, retire, IsDistinct, IsUnlinked};
 ghost use Rattle.slot_table.specs.declared.phase.Phase.TheVariants as phase;
 
 use crate::phase::Phase;
@@ -93,7 +93,7 @@ impl SlotTable {
     /// Refused with `LimitReached` outside 1 to 65,536 slots, and with `Memory` only within, where
     /// the rows or the stack find none.
     pub fn new(alloc: Global, slots: u32, first_generation: u32) -> Result<SlotTable, Refusal>
-        ensures answers { Answers (λ t. t) result (opening slots first_generation) }
+        ensures answers { Answers (λ t. t) result (initial_slots slots first_generation) }
         ensures memory { IfErr result (λ e. e ≡ Memory → (1 ≤ slots) × (slots ≤ 65536)) }
     {
         if slots < 1 {

@@ -54,21 +54,21 @@ answered f (Ok x) = Ok (f x.0, x.1)
 answered f (Err e) = Err e
 
 -- what a command answers that changes nothing
-abbrev pub told : {A : Type 0} → (A → Answer) → Catalog → Result A Refusal → Outcome Answer
-told f C (Ok a) = Ok (f a, C)
-told f C (Err e) = Err e
+abbrev pub reading : {A : Type 0} → (A → Answer) → Catalog → Result A Refusal → Outcome Answer
+reading f C (Ok a) = Ok (f a, C)
+reading f C (Err e) = Err e
 
 -- what a command answers and leaves, where the slot of what it lends is crowded or isn't
 abbrev pub outcome : Bool → Catalog → Command → Outcome Answer
 outcome crowded C (Start r) = answered Number (Commands.start C r)
-outcome crowded C (Status r n) = told Number C (Commands.status C r n)
+outcome crowded C (Status r n) = reading Number C (Commands.status C r n)
 outcome crowded C (Append r n g b) = answered Number (Commands.append C r n g b)
 outcome crowded C (Close r n d g b) = answered Number (Commands.close C r n d g b)
 outcome crowded C (Abandon r n) = answered Number (Commands.abandon C r n)
 outcome crowded C (Mount r d from) = answered Mounting (Commands.mount C r d from)
 outcome crowded C (Delete r d) = answered (λ _. Done) (Commands.delete C r d)
 outcome crowded C (PutManifest r b) = answered Bytes (Commands.put_manifest C r b)
-outcome crowded C (GetManifest r m) = told Bytes C (Commands.get_manifest C r m)
+outcome crowded C (GetManifest r m) = reading Bytes C (Commands.get_manifest C r m)
 outcome crowded C (DeleteManifest r m) = answered (λ _. Done) (Commands.delete_manifest C r m)
 outcome crowded C (Lease r d) = answered Bytes (Commands.lease crowded C r d)
 

@@ -26,7 +26,7 @@ use Rattle.blob_digest.specs.declared.refusal.Refusal.{Refusal}
 use Rattle.blob_digest.specs.declared.refusal.Refusal.TheVariants.{LimitReached}
 use Rattle.store_model.specs.Sessions.{Chunks, Home, Session, Sessions, charged, session_charges, is_of_repo, open_in, sessions_of, session_charge, with_chunks}
 use Rattle.upload_table.specs.Tenants.{Numbered, charged_in, entries_from, is_exhausted, no_sessions, of_tenant, start_here, tenants_shown, with_chunks_here, without}
-use Rattle.upload_table.specs.Uploaded.{Uploaded, opening, start_upload, started, with_sessions}
+use Rattle.upload_table.specs.Uploaded.{Uploaded, initial_uploads, start_upload, started, with_sessions}
 
 -- ---- the entries are in order
 
@@ -324,5 +324,5 @@ nothing_from : (j k first : ℕ) → entries_from j (replicate k (no_sessions fi
 nothing_from j zero first = refl
 nothing_from j (suc k) first = (λ i. map (of_tenant j) (entries-empty nat_cmp Session i) ++ nothing_from (j + 1) k first i)
 
-pub opening_is : (k first : ℕ) → tenants_shown (replicate k (no_sessions first)) ≡ opening k first
-opening_is k first = (λ i. record { next = next-replicate k first i; sessions = from_entries {R = number_cmp} (nothing_from 0 k first i) })
+pub initial_is : (k first : ℕ) → tenants_shown (replicate k (no_sessions first)) ≡ initial_uploads k first
+initial_is k first = (λ i. record { next = next-replicate k first i; sessions = from_entries {R = number_cmp} (nothing_from 0 k first i) })

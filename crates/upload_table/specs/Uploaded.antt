@@ -45,8 +45,8 @@ coded_uploaded = code_by (List ℕ × Sessions) (coded× (coded_list coded_ℕ) 
 -- ---- what the calls do
 
 -- no sessions, and for each tenant the same first number
-abbrev pub opening : ℕ → ℕ → Uploaded
-opening tenants first = record { next = replicate tenants first; sessions = fmap.empty }
+abbrev pub initial_uploads : ℕ → ℕ → Uploaded
+initial_uploads tenants first = record { next = replicate tenants first; sessions = fmap.empty }
 
 -- a tenant has at most 64 sessions, and their numbers are below 2^32
 abbrev pub cannot_start : Uploaded → ℕ → Bool

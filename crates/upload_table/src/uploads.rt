@@ -7,7 +7,7 @@ ghost use Rattle.blob_digest.specs.Digests.{is_digest_of};
 ghost use Rattle.blob_digest.specs.Outcomes.{Does, DoesExactly};
 ghost use Rattle.blob_digest.specs.declared.refusal.Refusal.TheVariants.{Memory};
 ghost use Rattle.store_model.specs.Sessions.{Session, charged, check_in, given_up, hand_in, home_in, session_charges, is_home, received_in, session_in, sessions_of, listed, take_in, taken_session};
-ghost use Rattle.upload_table.specs.Uploaded.{finish_upload, brought_with, cut, opening, put_back_upload, repo_at, start_upload, with_sessions, CanReopen, reopened};
+ghost use Rattle.upload_table.specs.Uploaded.{finish_upload, brought_with, cut, initial_uploads, put_back_upload, repo_at, start_upload, with_sessions, CanReopen, reopened};
 ghost use Rattle.store_model.specs.Sessions.{IsFull};
 ghost use Rattle.upload_table.specs.Rows.{session_of, AreWhole, IsWhole};
 ghost use Rattle.upload_table.specs.Tenants.{no_sessions};
@@ -67,7 +67,7 @@ impl Uploads {
     /// A table without sessions, in which each tenant's first session has the same number. Refused is
     /// out of memory.
     pub fn new(alloc: Global, tenants: u16, first_number: u32) -> Result<Uploads, Refusal>
-        ensures value { IfOk result (λ u. u ≡ opening tenants first_number) }
+        ensures value { IfOk result (λ u. u ≡ initial_uploads tenants first_number) }
         ensures refused { IfErr result (λ e. e ≡ Refusal.Memory) }
     {
         let tenants = tenants_from(alloc, tenants, first_number)?;

@@ -5,7 +5,7 @@ use Rattle.blob_digest.specs.declared.refusal.Refusal.{Refusal}
 use Rattle.blob_digest.specs.declared.refusal.Refusal.TheVariants.{Memory, TooManyReaders}
 use Rattle.store_model.specs.Catalog.{Catalog}
 use Rattle.store_model.specs.Commands.{tenant, linked_blob, lease}
-use Rattle.store_model.specs.Runs.{Command, Answer, answered, told, outcome, takes_memory, Lease, Bytes}
+use Rattle.store_model.specs.Runs.{Command, Answer, answered, reading, outcome, takes_memory, Lease, Bytes}
 use Rattle.finite_maps.specs.Texts.{Text}
 use Rattle.finite_maps.specs.Outcomes.{refuse}
 use Rattle.store_book.specs.Events.{ChangesAreEvents, ExactChangesAreEvents, ReadsAreEvents, ExactReadsAreEvents, LeasesAreEvents}
@@ -36,8 +36,8 @@ module _ (B : Type 0) (f : B → Answer) where
   changes_exactly C C' command o (Err e) is does = (inl (false, is ∙ ap (answered f) does.0), does.1)
 
   pub reads : ReadsAreEvents B f
-  reads C command o (Ok b) takes is does = is ∙ ap (told f C) does
-  reads C command o (Err e) takes is does = (refused C command false e takes (λ n. is ∙ ap (told f C) (does n)), refl)
+  reads C command o (Ok b) takes is does = is ∙ ap (reading f C) does
+  reads C command o (Err e) takes is does = (refused C command false e takes (λ n. is ∙ ap (reading f C) (does n)), refl)
 
   pub reads_exactly : ExactReadsAreEvents B f
   reads_exactly C command (Ok b) is = is

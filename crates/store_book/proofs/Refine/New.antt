@@ -77,10 +77,10 @@ few_or n = by (nat_le n 65536) refl
 
 module _ (tenants : List Tenant) (slots first max_blob : ℕ) where
   abbrev l : Linked
-  l = links.opening tenants
+  l = links.initial_links tenants
 
   abbrev u : Uploaded
-  u = uploads.opening (length tenants) 1
+  u = uploads.initial_uploads (length tenants) 1
 
   abbrev L : Layers
   L = record { links = l; uploads = u; slots = new_slots slots first; max_blob = max_blob }
@@ -119,7 +119,7 @@ module _ (tenants : List Tenant) (slots first max_blob : ℕ) where
 
 -- what the layers were made with makes a book
 module _ (given : List Tenant) (l' : Linked) (u' : Uploaded) (p : Pinned) (t : TableId) (count first max_blob n : ℕ) (opened : Opens given l') (small : max_blob ≤ 2 ^ 40) (within : ¬ IsOutside count)
-    (made : p ≡ record { table = t; slots = replicate count (empty_slot first); bounds = replicate count 0; looks = replicate count 0 }) (uploads_are : u' ≡ uploads.opening n 1) (one_each : n ≡ length l'.tenants) where
+    (made : p ≡ record { table = t; slots = replicate count (empty_slot first); bounds = replicate count 0; looks = replicate count 0 }) (uploads_are : u' ≡ uploads.initial_uploads n 1) (one_each : n ≡ length l'.tenants) where
   slots_are : new_slots count first ≡ p.slots
   slots_are = sym (ap (λ (x : Pinned). x.slots) made)
 
@@ -131,7 +131,7 @@ module _ (given : List Tenant) (l' : Linked) (u' : Uploaded) (p : Pinned) (t : T
   }
 
   upload_is : u l'.tenants count first max_blob ≡ u'
-  upload_is = sym (uploads_are ∙ ap (λ m. uploads.opening m 1) one_each)
+  upload_is = sym (uploads_are ∙ ap (λ m. uploads.initial_uploads m 1) one_each)
 
   -- the layers of a new book
   abbrev made_layers : Layers

@@ -14,7 +14,7 @@ use Rattle.pin_core.specs.Events.{IsNew, given_row, in_phase}
 use Rattle.pin_core.specs.World.{row, no_row}
 use Rattle.pin_table.specs.Rule.{raised}
 use Rattle.slot_table.specs.declared.phase.Phase.TheVariants as phase
-use Rattle.slot_table.specs.Slots.{opening as slots_opening, Slot, Held, Content, Free, Used, Retired, held_in, held_at, phase_in, phase_at, slot_of, with_slot, on_held, content_with, fill, mark, raise, lower, lend, empty_slot}
+use Rattle.slot_table.specs.Slots.{initial_slots, Slot, Held, Content, Free, Used, Retired, held_in, held_at, phase_in, phase_at, slot_of, with_slot, on_held, content_with, fill, mark, raise, lower, lend, empty_slot}
 use Rattle.blob_digest.specs.declared.refusal.Refusal.{Refusal}
 use Rattle.blob_digest.specs.declared.refusal.Refusal.TheVariants.{LimitReached}
 use Rattle.store_book.specs.BookState.{SlotSeen}
@@ -331,7 +331,7 @@ pub seen-opening : (n first : ℕ) → all_seen (replicate n (empty_slot first))
 seen-opening zero first = refl
 seen-opening (suc n) first = ap (λ (xs : List SlotSeen). seen (empty_slot first) 0 ∷ xs) (seen-opening n first)
 
-pub opened_slots : (count first : ℕ) (slots : List Slot) → slots_opening count first ≡ Ok slots → slots ≡ replicate count (empty_slot first)
+pub opened_slots : (count first : ℕ) (slots : List Slot) → initial_slots count first ≡ Ok slots → slots ≡ replicate count (empty_slot first)
 opened_slots count first slots h = by_test (nat_le 1 count && nat_le count 65536) h
   where
     by_test : (b : Bool) → ◌≡◌ {A = Result (List Slot) Refusal} (if b then Ok (replicate count (empty_slot first)) else Err LimitReached) (Ok slots) → slots ≡ replicate count (empty_slot first)

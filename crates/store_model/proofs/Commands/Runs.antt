@@ -4,7 +4,7 @@ use Rattle.blob_digest.specs.declared.refusal.Refusal.{Refusal}
 use Rattle.store_model.specs.Catalog.{Catalog}
 use Rattle.store_model.specs.Commands.{Outcome}
 use Rattle.store_model.specs.Invariant.{Sound}
-use Rattle.store_model.specs.Runs.{Command, Answer, Event, answered, told, outcome, IsCase, Happens, IsNamed, RunsStaySound, repo_of, Start, Status, Append, Close, Abandon, Mount, Delete, PutManifest, GetManifest, DeleteManifest, Lease, Called, Swept}
+use Rattle.store_model.specs.Runs.{Command, Answer, Event, answered, reading, outcome, IsCase, Happens, IsNamed, RunsStaySound, repo_of, Start, Status, Append, Close, Abandon, Mount, Delete, PutManifest, GetManifest, DeleteManifest, Lease, Called, Swept}
 use Rattle.store_model.proofs.Commands.Accepted.{left_by}
 use Rattle.store_model.proofs.Commands.Start.{Sound-after_start}
 use Rattle.store_model.proofs.Commands.AppendClose.{Sound-after_append, Sound-after_close}
@@ -21,20 +21,20 @@ answered_ok : {A : Type 0} (f : A → Answer) (o : Outcome A) (a : Answer) (C' :
 answered_ok {A} f (Ok x) a C' h = let p : ◌≡◌ {A = Answer × Catalog} (f x.0, x.1) (a, C') = cc in (x.0, λ i. Ok (x.0, (p i).1))
 answered_ok f (Err e) a C' h = absurd cc
 
-told_ok : {A : Type 0} (f : A → Answer) (C : Catalog) (x : Result A Refusal) (a : Answer) (C' : Catalog) → told f C x ≡ Ok (a, C') → C ≡ C'
-told_ok f C (Ok x) a C' h = left_by h
-told_ok f C (Err e) a C' h = absurd cc
+reading_ok : {A : Type 0} (f : A → Answer) (C : Catalog) (x : Result A Refusal) (a : Answer) (C' : Catalog) → reading f C x ≡ Ok (a, C') → C ≡ C'
+reading_ok f C (Ok x) a C' h = left_by h
+reading_ok f C (Err e) a C' h = absurd cc
 
 accepted : (C C' : Catalog) (command : Command) (a : Answer) → length (repo_of command) ≤ 255 → outcome false C command ≡ Ok (a, C') → Sound C → Sound C'
 accepted C C' (Start r) a short h sound = let o = answered_ok _ _ a C' h in Sound-after_start C C' r o.0 o.1 short sound
-accepted C C' (Status r n) a short h sound = subst (λ (D : Catalog). Sound D) (told_ok _ C _ a C' h) sound
+accepted C C' (Status r n) a short h sound = subst (λ (D : Catalog). Sound D) (reading_ok _ C _ a C' h) sound
 accepted C C' (Append r n g b) a short h sound = let o = answered_ok _ _ a C' h in Sound-after_append C C' r b n o.0 g o.1 sound
 accepted C C' (Close r n d g b) a short h sound = let o = answered_ok _ _ a C' h in Sound-after_close C C' r d b n o.0 g o.1 sound
 accepted C C' (Abandon r n) a short h sound = let o = answered_ok _ _ a C' h in Sound-after_abandon C C' r n o.0 o.1 sound
 accepted C C' (Mount r d from) a short h sound = let o = answered_ok _ _ a C' h in Sound-after_mount C C' r d from o.0 o.1 short sound
 accepted C C' (Delete r d) a short h sound = let o = answered_ok _ _ a C' h in Sound-after_delete C C' r d o.1 sound
 accepted C C' (PutManifest r b) a short h sound = let o = answered_ok _ _ a C' h in Sound-after_put_manifest C C' r b o.0 o.1 short sound
-accepted C C' (GetManifest r d) a short h sound = subst (λ (D : Catalog). Sound D) (told_ok _ C _ a C' h) sound
+accepted C C' (GetManifest r d) a short h sound = subst (λ (D : Catalog). Sound D) (reading_ok _ C _ a C' h) sound
 accepted C C' (DeleteManifest r d) a short h sound = let o = answered_ok _ _ a C' h in Sound-after_delete_manifest C C' r d o.1 sound
 accepted C C' (Lease r d) a short h sound = let o = answered_ok _ _ a C' h in Sound-after_lease C C' false r d o.0 o.1 sound
 

@@ -34,7 +34,7 @@ use Rattle.store_model.proofs.Commands.SomeSweep.{left_bytes}
 use Rattle.finite_maps.proofs.Maps.{got-insert, got-remove, get-insert_at, still_there}
 use Rattle.finite_maps.proofs.Sets.{still, now, member, was_member}
 use Rattle.store_model.proofs.Noninterference.StepConsistency.{Fits, fits_whole, longer}
-use Rattle.store_model.proofs.Noninterference.LocalRespect.{Leaves, answers_leave, told_leave, start_leaves, append_leaves, close_leaves, abandon_leaves, mount_leaves, delete_leaves, put_leaves, delete_manifest_leaves, lease_leaves}
+use Rattle.store_model.proofs.Noninterference.LocalRespect.{Leaves, answers_leave, reading_leave, start_leaves, append_leaves, close_leaves, abandon_leaves, mount_leaves, delete_leaves, put_leaves, delete_manifest_leaves, lease_leaves}
 
 twice : {A : Type 0} → A → A × A
 twice x = (x, x)
@@ -167,7 +167,7 @@ module _ (content : Text → Text) (C : Catalog) (consistent : Consistent conten
 -- what an accepted command leaves, among others and alone
 pub consistent_command : (content : Text → Text) (C : Catalog) → Consistent content C → (command : Command) → Fits content (brought_by C command) → Leaves (Consistent content) (outcome false C command) × Leaves (Consistent content) (outcome_alone C command)
 consistent_command content C s (runs.Start r) fits = twice (answers_leave (Consistent content) runs.Number _ (start_leaves (Consistent content) C r (consistent_new content C s r)))
-consistent_command content C s (runs.Status r n) fits = twice (told_leave (Consistent content) runs.Number C (Commands.status C r n) s)
+consistent_command content C s (runs.Status r n) fits = twice (reading_leave (Consistent content) runs.Number C (Commands.status C r n) s)
 consistent_command content C s (runs.Append r n g b) fits = twice (answers_leave (Consistent content) runs.Number _ (append_leaves (Consistent content) C r n g b (λ t _. consistent_append content C s r (t, n) b)))
 consistent_command content C s (runs.Close r n d g b) fits =
     (answers_leave (Consistent content) runs.Number _ (consistent_close content C s r has_slot n d g b fits), answers_leave (Consistent content) runs.Number _ (consistent_close content C s r unhoused n d g b fits))
@@ -176,7 +176,7 @@ consistent_command content C s (runs.Mount r d from) fits = twice (answers_leave
     mount_leaves (Consistent content) C r d from (consistent_new content C s r) (λ t known has. consistent_linked content C s r t d known (source_kept content C s r t d from has))))
 consistent_command content C s (runs.Delete r d) fits = twice (answers_leave (Consistent content) (λ _. runs.Done) _ (delete_leaves (Consistent content) C r d (consistent_delete content C s r d)))
 consistent_command content C s (runs.PutManifest r b) fits = twice (answers_leave (Consistent content) runs.Bytes _ (put_leaves (Consistent content) C r b s (λ t known. consistent_put content C s r t b known)))
-consistent_command content C s (runs.GetManifest r m) fits = twice (told_leave (Consistent content) runs.Bytes C (Commands.get_manifest C r m) s)
+consistent_command content C s (runs.GetManifest r m) fits = twice (reading_leave (Consistent content) runs.Bytes C (Commands.get_manifest C r m) s)
 consistent_command content C s (runs.DeleteManifest r m) fits = twice (answers_leave (Consistent content) (λ _. runs.Done) _ (delete_manifest_leaves (Consistent content) C r m (consistent_delete_manifest content C s r m)))
 consistent_command content C s (runs.Lease r d) fits = twice (answers_leave (Consistent content) runs.Bytes _ (lease_leaves (Consistent content) C r false d (consistent_lease content C s r d)))
 

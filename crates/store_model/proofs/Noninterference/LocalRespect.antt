@@ -20,7 +20,7 @@ use Rattle.finite_maps.specs.Outcomes.{◌>>=◌, refuse}
 use Rattle.store_model.specs.Commands.{Outcome, tenant, session_in, not_busy, length_after, new_session, append_in, whole_in, is_digest_accepted, same_bytes, stored, has_source, with_link, with_manifest, with_lent, linked, linked_blob, lacks_room_for, cannot_open, has_manifest, is_full_of_manifests, all_linked, unreferenced, within_quota, has_slot}
 use Rattle.store_model.specs.declared.mount.Mount.TheVariants as mounting
 use Rattle.store_model.specs.Runs as runs
-use Rattle.store_model.specs.Runs.{Command, Answer, answered, told, outcome, repo_of}
+use Rattle.store_model.specs.Runs.{Command, Answer, answered, reading, outcome, repo_of}
 use Rattle.blob_digest.proofs.KeyOrders.{number_cmp_total, exact_number, link_cmp_total, exact_link}
 use Rattle.finite_maps.proofs.Outcomes.{bound_ok, not_refused, some_of_ok}
 use Rattle.finite_maps.proofs.Agreement.{AgreeOn, unseen_insert, unseen_remove}
@@ -47,9 +47,9 @@ module _ (P : Catalog → Type 0) where
   answers_leave f (Ok x) h = h
   answers_leave f (Err e) h = tt
 
-  pub told_leave : {A : Type 0} (f : A → Answer) (C : Catalog) (x : Result A Refusal) → P C → Leaves P (told f C x)
-  told_leave f C (Ok x) same = same
-  told_leave f C (Err e) same = tt
+  pub reading_leave : {A : Type 0} (f : A → Answer) (C : Catalog) (x : Result A Refusal) → P C → Leaves P (reading f C x)
+  reading_leave f C (Ok x) same = same
+  reading_leave f C (Err e) same = tt
 
   started_leave : (x : Outcome ℕ) → Leaves P x → Leaves P (x >>= λ s. Ok (mounting.Session s.0, s.1))
   started_leave (Ok x) h = h
@@ -180,27 +180,27 @@ module _ (C : Catalog) (u : ℕ) (r : Text) (other : is_of C u r ≡ false) wher
 
 pub unseen_command : (C : Catalog) (u : ℕ) (command : Command) → is_of C u (repo_of command) ≡ false → Leaves (λ X. Alike u X C) (outcome false C command)
 unseen_command C u (runs.Start r) other = answers_leave (λ X. Alike u X C) runs.Number _ (unseen_start C u r other)
-unseen_command C u (runs.Status r n) other = told_leave (λ X. Alike u X C) runs.Number C (Commands.status C r n) (alike_itself u C)
+unseen_command C u (runs.Status r n) other = reading_leave (λ X. Alike u X C) runs.Number C (Commands.status C r n) (alike_itself u C)
 unseen_command C u (runs.Append r n g b) other = answers_leave (λ X. Alike u X C) runs.Number _ (unseen_add C u r other n g b)
 unseen_command C u (runs.Close r n d g b) other = answers_leave (λ X. Alike u X C) runs.Number _ (unseen_close C u r other has_slot n d g b)
 unseen_command C u (runs.Abandon r n) other = answers_leave (λ X. Alike u X C) runs.Number _ (unseen_abandon C u r other n)
 unseen_command C u (runs.Mount r d from) other = answers_leave (λ X. Alike u X C) runs.Mounting _ (unseen_mount C u r other d from)
 unseen_command C u (runs.Delete r d) other = answers_leave (λ X. Alike u X C) (λ _. runs.Done) _ (unseen_delete C u r other d)
 unseen_command C u (runs.PutManifest r b) other = answers_leave (λ X. Alike u X C) runs.Bytes _ (unseen_put C u r other b)
-unseen_command C u (runs.GetManifest r m) other = told_leave (λ X. Alike u X C) runs.Bytes C (Commands.get_manifest C r m) (alike_itself u C)
+unseen_command C u (runs.GetManifest r m) other = reading_leave (λ X. Alike u X C) runs.Bytes C (Commands.get_manifest C r m) (alike_itself u C)
 unseen_command C u (runs.DeleteManifest r m) other = answers_leave (λ X. Alike u X C) (λ _. runs.Done) _ (unseen_delete_manifest C u r other m)
 unseen_command C u (runs.Lease r d) other = answers_leave (λ X. Alike u X C) runs.Bytes _ (unseen_lease C u r other false d)
 
 -- the tenants stay as they are
 pub tenants_stay : (C : Catalog) (command : Command) → Leaves (λ X. X.tenants ≡ C.tenants) (outcome false C command)
 tenants_stay C (runs.Start r) = answers_leave (λ X. X.tenants ≡ C.tenants) runs.Number _ (start_leaves (λ X. X.tenants ≡ C.tenants) C r (λ t _. refl))
-tenants_stay C (runs.Status r n) = told_leave (λ X. X.tenants ≡ C.tenants) runs.Number C (Commands.status C r n) refl
+tenants_stay C (runs.Status r n) = reading_leave (λ X. X.tenants ≡ C.tenants) runs.Number C (Commands.status C r n) refl
 tenants_stay C (runs.Append r n g b) = answers_leave (λ X. X.tenants ≡ C.tenants) runs.Number _ (append_leaves (λ X. X.tenants ≡ C.tenants) C r n g b (λ t _. refl))
 tenants_stay C (runs.Close r n d g b) = answers_leave (λ X. X.tenants ≡ C.tenants) runs.Number _ (close_leaves (λ X. X.tenants ≡ C.tenants) C r has_slot n d g b (λ t after _ _ _. refl))
 tenants_stay C (runs.Abandon r n) = answers_leave (λ X. X.tenants ≡ C.tenants) runs.Number _ (abandon_leaves (λ X. X.tenants ≡ C.tenants) C r n (λ t _. refl))
 tenants_stay C (runs.Mount r d from) = answers_leave (λ X. X.tenants ≡ C.tenants) runs.Mounting _ (mount_leaves (λ X. X.tenants ≡ C.tenants) C r d from (λ t _. refl) (λ t _ _. refl))
 tenants_stay C (runs.Delete r d) = answers_leave (λ X. X.tenants ≡ C.tenants) (λ _. runs.Done) _ (delete_leaves (λ X. X.tenants ≡ C.tenants) C r d refl)
 tenants_stay C (runs.PutManifest r b) = answers_leave (λ X. X.tenants ≡ C.tenants) runs.Bytes _ (put_leaves (λ X. X.tenants ≡ C.tenants) C r b refl (λ t _. refl))
-tenants_stay C (runs.GetManifest r m) = told_leave (λ X. X.tenants ≡ C.tenants) runs.Bytes C (Commands.get_manifest C r m) refl
+tenants_stay C (runs.GetManifest r m) = reading_leave (λ X. X.tenants ≡ C.tenants) runs.Bytes C (Commands.get_manifest C r m) refl
 tenants_stay C (runs.DeleteManifest r m) = answers_leave (λ X. X.tenants ≡ C.tenants) (λ _. runs.Done) _ (delete_manifest_leaves (λ X. X.tenants ≡ C.tenants) C r m refl)
 tenants_stay C (runs.Lease r d) = answers_leave (λ X. X.tenants ≡ C.tenants) runs.Bytes _ (lease_leaves (λ X. X.tenants ≡ C.tenants) C r false d (λ b _. refl))

@@ -22,7 +22,7 @@ use Rattle.store_model.specs.Commands.{Outcome, tenant, session_in, not_busy, le
 use Rattle.store_model.specs.Sessions.{at_home, with_chunk}
 use Rattle.store_model.specs.declared.mount.Mount.TheVariants as mounting
 use Rattle.store_model.specs.Runs as runs
-use Rattle.store_model.specs.Runs.{Command, Answer, answered, told, outcome, repo_of}
+use Rattle.store_model.specs.Runs.{Command, Answer, answered, reading, outcome, repo_of}
 use Rattle.store_model.specs.Noninterference.{unhoused, outcome_alone, whole_of, named, brought_by}
 use Rattle.blob_digest.proofs.KeyOrders.{number_cmp_total, exact_number, link_cmp_total, exact_link}
 use Rattle.finite_maps.proofs.Texts.{same_itself}
@@ -61,9 +61,9 @@ answers_match t f (Ok x) (Err e) m = m
 answers_match t f (Err e) (Ok y) m = m
 answers_match t f (Err e) (Err d) m = m
 
-told_match : {A : Type 0} (t : ℕ) (f : A → Answer) (C D : Catalog) (x y : Result A Refusal) → x ≡ y → Alike t C D → Matches t (told f C x) (told f D y)
-told_match t f C D (Ok a) y e alike = subst (λ y. Matches t (Ok (f a, C)) (told f D y)) e (refl, alike)
-told_match t f C D (Err r) y e alike = subst (λ y. Matches t (Err r) (told f D y)) e refl
+reading_match : {A : Type 0} (t : ℕ) (f : A → Answer) (C D : Catalog) (x y : Result A Refusal) → x ≡ y → Alike t C D → Matches t (reading f C x) (reading f D y)
+reading_match t f C D (Ok a) y e alike = subst (λ y. Matches t (Ok (f a, C)) (reading f D y)) e (refl, alike)
+reading_match t f C D (Err r) y e alike = subst (λ y. Matches t (Err r) (reading f D y)) e refl
 
 started_match : (t : ℕ) (x y : Outcome ℕ) → Matches t x y → Matches t (x >>= λ s. Ok (mounting.Session s.0, s.1)) (y >>= λ s. Ok (mounting.Session s.0, s.1))
 started_match t (Ok x) (Ok y) m = (ap mounting.Session m.0, m.1)
@@ -163,8 +163,8 @@ module _ (content : Text → Text) (t : ℕ) (C D : Catalog) (alike : Alike t C 
   read_same : {A : Type 0} (f g : ℕ → Result A Refusal) → f t ≡ g t → (tenant C r >>= f) ≡ (tenant D r >>= g)
   read_same f g e = ap (λ x. x >>= f) (known C t r own) ∙ e ∙ sym (ap (λ x. x >>= g) (known D t r own_D))
 
-  pub own_status : (n : ℕ) → Matches t (told runs.Number C (Commands.status C r n)) (told runs.Number D (Commands.status D r n))
-  own_status n = told_match t runs.Number C D _ _ (read_same _ _ (ap (λ x. x >>= λ s. Ok (received s)) (session_same t C D alike r n))) alike
+  pub own_status : (n : ℕ) → Matches t (reading runs.Number C (Commands.status C r n)) (reading runs.Number D (Commands.status D r n))
+  own_status n = reading_match t runs.Number C D _ _ (read_same _ _ (ap (λ x. x >>= λ s. Ok (received s)) (session_same t C D alike r n))) alike
 
   pub own_append : (n : ℕ) (g : Option ByteRange) (b : Text) → Matches t (Commands.append C r n g b) (Commands.append D r n g b)
   own_append n g b = with_tenant _ _ (
@@ -228,8 +228,8 @@ module _ (content : Text → Text) (t : ℕ) (C D : Catalog) (alike : Alike t C 
         with_manifests t _ _ (with_repos t (visible C) (visible D) alike _ _ (agree_insert nat_list_cmp_total exact_bytes (is_of C t) C.repos D.repos r tt alike.repos)) _ _ (agree_insert link_cmp_total exact_link (λ l. is_of C t l.0) C.manifests D.manifests (r, sha256_text b) b alike.manifests),
       ))))))))
 
-  pub own_get : (m : Text) → Matches t (told runs.Bytes C (Commands.get_manifest C r m)) (told runs.Bytes D (Commands.get_manifest D r m))
-  own_get m = told_match t runs.Bytes C D _ _ (read_same _ _ (ap (λ o. ok_or o ManifestUnknown) (found_same m))) alike
+  pub own_get : (m : Text) → Matches t (reading runs.Bytes C (Commands.get_manifest C r m)) (reading runs.Bytes D (Commands.get_manifest D r m))
+  own_get m = reading_match t runs.Bytes C D _ _ (read_same _ _ (ap (λ o. ok_or o ManifestUnknown) (found_same m))) alike
 
   pub own_delete_manifest : (m : Text) → Matches t (Commands.delete_manifest C r m) (Commands.delete_manifest D r m)
   own_delete_manifest m = with_tenant _ _ (same_check t _ _ (ap (λ o. ok_or o ManifestUnknown) (found_same m)) _ _ (λ b _. (

@@ -3,7 +3,7 @@ use Rattle.store_model.specs.Catalog.{Catalog}
 use Rattle.store_model.specs.BookText.{book_text}
 use Rattle.row_player.specs.Answers.{Answer}
 use Rattle.row_player.specs.Leases.{none}
-use Rattle.blobctl.specs.Played.{Happens}
+use Rattle.blobctl.specs.Played.{Leads}
 use Rattle.row_player.specs.Plays.{Plays, State}
 use Rattle.row_player.specs.Replies.{replies_text}
 use Rattle.row_player.specs.Rows.{RowView}
@@ -17,7 +17,7 @@ pub returns-clause-most : goal.returns-clause-most
 returns-clause-most c tenants slots max_blob script text other one nothing two =
     let first = one_opening tenants slots max_blob one.first two.first one.opened two.opened in
     let rows = rows_are_one script two.rows one.rows two.all one.all in
-    let run = subst (λ (C : Catalog). Plays Happens (C, none) one.rows two.answers (two.last, two.left)) (sym first) (subst (λ (ls : List RowView). Plays Happens (two.first, none) ls two.answers (two.last, two.left)) rows two.run) in
+    let run = subst (λ (C : Catalog). Plays Leads (C, none) one.rows two.answers (two.last, two.left)) (sym first) (subst (λ (ls : List RowView). Plays Leads (two.first, none) ls two.answers (two.last, two.left)) rows two.run) in
     let same = plays_same (one.first, none) (one.last, one.left) (two.last, two.left) one.rows one.answers two.answers (opening_none one.first one.first.tenants slots max_blob one.opened.empty) nothing one.run run in
     one.written ∙ ap (λ (x : List Answer × State Catalog). replies_text x.0 ++ book_text x.1.0) same ∙ sym two.written
 

@@ -6,9 +6,9 @@ use Rattle.blob_digest.specs.Keys.{link_cmp}
 use Rattle.finite_maps.proofs.Rows.{entries-empty}
 use Rattle.link_table.specs.TenantRepos.{links_shown, repos_shown}
 use Rattle.link_table.specs.Tenancy.{tenant_shown, tenants_shown}
-use Rattle.link_table.proofs.HolderCounts.{Counts-opening}
-use Rattle.link_table.proofs.Soundness.{IsSound-opening}
-use Rattle.link_table.proofs.Tables.{links-opening, repos-opening, IsOwned-opening}
+use Rattle.link_table.proofs.HolderCounts.{Counts-initial}
+use Rattle.link_table.proofs.Soundness.{IsSound-initial}
+use Rattle.link_table.proofs.Tables.{links-initial, repos-initial, IsOwned-initial}
 use Rattle.link_table.proofs.links.Links.new.Goals as goal
 
 pub invariant_of-result : goal.invariant_of-result
@@ -19,11 +19,11 @@ invariant_of-result c =
     let k : c.in_ok-charges.charges.items ≡ replicate (length c.in_ok-tenants.tenants.items) 0 = search rules in
     let s = rw c.as_slice-count.ensures.value at c.in_ok-repos.ensures.ok in
     let holders = rw c.as_slice-count.ensures.value at c.in_ok-holders.ensures.ok in
-    let links = ap links_shown s ∙ links-opening (length c.in_ok-tenants.tenants.items) in (
-      IsSound-opening tenants (links_shown c.in_ok-repos.repos.items) c.in_ok-blob_bytes.blob_bytes.items c.in_ok-charges.charges.items
+    let links = ap links_shown s ∙ links-initial (length c.in_ok-tenants.tenants.items) in (
+      IsSound-initial tenants (links_shown c.in_ok-repos.repos.items) c.in_ok-blob_bytes.blob_bytes.items c.in_ok-charges.charges.items
           c.in_ok-tenants.ensures.kept links (w ∙ ap (λ m. replicate m 0) (sym n)) (k ∙ ap (λ m. replicate m 0) (sym n)),
-      IsOwned-opening tenants c.in_ok-repos.repos.items (length c.in_ok-tenants.tenants.items) (sym n) s,
-      Counts-opening tenants (links_shown c.in_ok-repos.repos.items) c.in_ok-holders.holders.items (ap entries links ∙ entries-empty link_cmp ℕ)
+      IsOwned-initial tenants c.in_ok-repos.repos.items (length c.in_ok-tenants.tenants.items) (sym n) s,
+      Counts-initial tenants (links_shown c.in_ok-repos.repos.items) c.in_ok-holders.holders.items (ap entries links ∙ entries-empty link_cmp ℕ)
           (holders.0 ∙ sym n) holders.1,
     )
 
@@ -34,8 +34,8 @@ returns-clause-opened c =
     let k : c.in_ok-charges.charges.items ≡ replicate (length c.in_ok-tenants.tenants.items) 0 = search rules in
     let charges = k ∙ ap (λ m. replicate m 0) (sym n) in
     let s = rw c.as_slice-count.ensures.value at c.in_ok-repos.ensures.ok in
-    let links = ap links_shown s ∙ links-opening (length c.in_ok-tenants.tenants.items) in
-    let repos = ap repos_shown s ∙ repos-opening (length c.in_ok-tenants.tenants.items) in
+    let links = ap links_shown s ∙ links-initial (length c.in_ok-tenants.tenants.items) in
+    let repos = ap repos_shown s ∙ repos-initial (length c.in_ok-tenants.tenants.items) in
     record {
       names = c.in_ok-tenants.ensures.names;
       limits = c.in_ok-tenants.ensures.limits;

@@ -3,7 +3,7 @@ use Rattle.pin_core.specs.World.{PinWorld}
 use Rattle.pin_core.specs.Events.{Can, in_phase}
 use Rattle.pin_core.specs.declared.world.Phase.TheVariants.{Condemned}
 use Rattle.pin_core.specs.declared.event.Event.TheVariants.{Condemn}
-use Rattle.pin_core.proofs.Held.{state_after, row_set}
+use Rattle.pin_core.proofs.PinsAreValid.{state_after, row_set}
 use Rattle.pin_core.proofs.state.PinState.condemn.Goals as goal
 
 pub set_row-requires-clause-state : goal.set_row-requires-clause-state

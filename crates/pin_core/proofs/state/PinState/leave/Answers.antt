@@ -2,7 +2,7 @@ use Rattle.std.proofs.Common.{sym, subst}
 use Rattle.pin_core.specs.World.{PinWorld}
 use Rattle.pin_core.specs.Events.{Can}
 use Rattle.pin_core.specs.declared.event.Event.TheVariants.{Leave}
-use Rattle.pin_core.proofs.Held.{state_after}
+use Rattle.pin_core.proofs.PinsAreValid.{state_after}
 use Rattle.pin_core.proofs.state.PinState.leave.Goals as goal
 
 pub invariant_of-self : goal.invariant_of-self

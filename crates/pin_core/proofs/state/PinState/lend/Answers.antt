@@ -3,7 +3,7 @@ use Rattle.pin_core.specs.World.{PinWorld, IsState}
 use Rattle.pin_core.specs.Events.{Can, lent_hold, entry}
 use Rattle.pin_core.specs.declared.world.PinEntry.{PinEntry}
 use Rattle.pin_core.specs.declared.event.Event.TheVariants.{Lend}
-use Rattle.pin_core.proofs.Held.{state_after, row_read, lent_is}
+use Rattle.pin_core.proofs.PinsAreValid.{state_after, row_read, lent_is}
 use Rattle.pin_core.proofs.state.PinState.lend.Goals as goal
 
 pub invariant_of-self-2 : goal.invariant_of-self-2

@@ -2,7 +2,7 @@ use Rattle.std.proofs.Common.{sym, subst}
 use Rattle.pin_core.specs.World.{PinWorld}
 use Rattle.pin_core.specs.Events.{Can, reclaimed_row}
 use Rattle.pin_core.specs.declared.event.Event.TheVariants.{Reclaim}
-use Rattle.pin_core.proofs.Held.{state_after, row_set}
+use Rattle.pin_core.proofs.PinsAreValid.{state_after, row_set}
 use Rattle.pin_core.proofs.state.PinState.reclaim.Goals as goal
 
 pub set_row-requires-clause-state : goal.set_row-requires-clause-state

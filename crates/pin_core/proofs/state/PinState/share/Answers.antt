@@ -3,7 +3,7 @@ use Rattle.pin_core.specs.World.{PinWorld, IsState, hold_named}
 use Rattle.pin_core.specs.Events.{Can, halve, half, entry, second}
 use Rattle.pin_core.specs.declared.world.PinEntry.{PinEntry}
 use Rattle.pin_core.specs.declared.event.Event.TheVariants.{Share}
-use Rattle.pin_core.proofs.Held.{state_after}
+use Rattle.pin_core.proofs.PinsAreValid.{state_after}
 use Rattle.pin_core.proofs.Names.{second_kept}
 use Rattle.pin_core.proofs.state.PinState.share.Goals as goal
 

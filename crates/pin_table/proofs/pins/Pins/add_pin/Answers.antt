@@ -5,7 +5,7 @@ use Rattle.atomic_table.specs.Table.{step}
 use Rattle.pin_table.specs.Rule.{keeper_view, lent_by, looks_by}
 use Rattle.pin_table.proofs.Seats.{sits}
 use Rattle.pin_table.proofs.StepResults.{lent_at}
-use Rattle.pin_table.proofs.RuleKept.{lend_allowed, hand_allowed}
+use Rattle.pin_table.proofs.RuleKept.{lend_allowed, transit_allowed}
 use Rattle.pin_table.proofs.pins.Pins.add_pin.Goals as goal
 
 pub fetch_add-requires : goal.fetch_add-requires
@@ -23,4 +23,4 @@ split_seat-seat-requires c =
     let f = c.fetch_add.ensures in
     let word = t.word in
     let has = lent_at (step c.self.inside.table.shared.table_id.slots c.args.slot 1024 0 none) (keeper_view c.keeper.inside.rows.items c.keeper.inside.bounds.items (looks_by c.keeper.inside.seat.me.0) (lent_by c.keeper.inside.seat.me.0) None) _ _ _ i.1 f.2 in
-    (f.0 ∙ t.table, omega arith, hand_allowed _ _ _ _ _ (f.1 ∙ i.0) (ap (λ m. m.0) has))
+    (f.0 ∙ t.table, omega arith, transit_allowed _ _ _ _ _ (f.1 ∙ i.0) (ap (λ m. m.0) has))

@@ -9,7 +9,7 @@ use Rattle.pin_table.specs.declared.view.View.TheVariants.{Keeper}
 use Rattle.pin_table.proofs.Seats.{keeper_is, verified}
 use Rattle.pin_table.proofs.Bits.{one_sum}
 use Rattle.pin_table.proofs.StepResults.{looked_at}
-use Rattle.pin_table.proofs.RuleKept.{look_allowed, hand_allowed, verify_allowed}
+use Rattle.pin_table.proofs.RuleKept.{look_allowed, transit_allowed, verify_allowed}
 use Rattle.pin_table.proofs.pins.Pins.verify.Goals as goal
 
 pub join_seat-requires : goal.join_seat-requires
@@ -48,7 +48,7 @@ split_seat-seat-requires c =
     let within = p.1 in
     let has = j.2 ∙ ap (λ m. (taken_in m.0 c.pin.inside.seat.me.0, m.1)) i.1 ∙ ap (λ m. (taken_in (Keeper (keeper_view c.keeper.inside.rows.items c.keeper.inside.bounds.items (looks_by c.keeper.inside.seat.me.0) (lent_by c.keeper.inside.seat.me.0) None)) m.0, [])) p.0 in
     let saw = looked_at (step c.self.inside.table.shared.table_id.slots c.pin.inside.hold.slot 0 0 none) (keeper_view c.keeper.inside.rows.items c.keeper.inside.bounds.items (looks_by c.keeper.inside.seat.me.0) (lent_by c.keeper.inside.seat.me.0) (Some c.pin.inside.hold)) _ _ _ has l.2 in
-    (l.0 ∙ j.0 ∙ table, omega arith, hand_allowed _ _ _ _ _ (l.1 ∙ j.1 ∙ i.0) (ap (λ m. m.0) saw.3))
+    (l.0 ∙ j.0 ∙ table, omega arith, transit_allowed _ _ _ _ _ (l.1 ∙ j.1 ∙ i.0) (ap (λ m. m.0) saw.3))
 
 pub returns-clause-kept : goal.returns-clause-kept
 returns-clause-kept c =

@@ -6,7 +6,7 @@ use Rattle.locked_book.specs.Names.{StoreNames}
 use Rattle.row_player.specs.Answers.{answer_of, answers_of}
 use Rattle.row_player.specs.RowViews.{row_view}
 use Rattle.row_player.specs.Replies.{replies_text}
-use Rattle.blobctl.proofs.together.play_on.Goals as goal
+use Rattle.blobctl.proofs.workers.play_on_store.Goals as goal
 
 pub returns-clause-played : goal.returns-clause-played
 returns-clause-played g c =

@@ -15,7 +15,7 @@ use Rattle.pin_core.specs.declared.world.PinEntry.{PinEntry}
 use Rattle.pin_core.specs.declared.event.Event.{Event}
 use Rattle.pin_core.specs.declared.event.Event.TheVariants.{Give, Lend, Share, Leave, Condemn, Revive, Reclaim, Look, Verify}
 use Rattle.finite_maps.specs.Texts.{Text}
-use Rattle.pin_core.specs.World.{PinWorld, IsValidPin, HasDigest, IsState, IsUsed, IsWeight, max_weight, hold_named, holds_of, opening, row, no_row}
+use Rattle.pin_core.specs.World.{PinWorld, IsValidPin, HasDigest, IsState, IsUsed, IsWeight, max_weight, hold_named, holds_of, initial_world, row, no_row}
 use Rattle.pin_core.specs.Events.{Can, after, with_row, half, halve, second, entry, lent_hold, digest_or, given_row, in_phase, reclaimed_row}
 use Rattle.pin_core.proofs.Names.{hold_in, all_named, all_map, all_filter, all_push, clear_holds, named_push, named_filter, named_shared}
 use Rattle.pin_core.proofs.Weights.{lent_fits, filter_fits}
@@ -114,8 +114,8 @@ state_after p (Reclaim k) can g = let r = reclaimed_row (row p.rows k) in
 state_after p (Look k) can g = g
 state_after p (Verify n) can g = g
 
-pub state_opening : (n g : ℕ) → IsState (opening n g)
-state_opening n g = record { held = All-nil (IsValidPin (opening n g).rows); named = tt; weights = All-nil IsWeight; fits = λ k. omega arith; digests = All-replicate HasDigest n (record { generation = g; phase = Free; digest = None }) ((λ u. absurd u), (λ _. refl)) }
+pub state_initial : (n g : ℕ) → IsState (initial_world n g)
+state_initial n g = record { held = All-nil (IsValidPin (initial_world n g).rows); named = tt; weights = All-nil IsWeight; fits = λ k. omega arith; digests = All-replicate HasDigest n (record { generation = g; phase = Free; digest = None }) ((λ u. absurd u), (λ _. refl)) }
 
 -- generations rise, and a slot that was given in a generation is free again only in a later one
 reclaimed_rises : (r : PinRow) → r.generation ≤ (reclaimed_row r).generation

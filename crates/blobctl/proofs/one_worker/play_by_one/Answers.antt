@@ -4,7 +4,7 @@ use Rattle.store_book.specs.Openings.{OpensCatalog, tenants_shown}
 use Rattle.row_player.specs.Answers.{answers_of}
 use Rattle.row_player.specs.RowViews.{row_view}
 use Rattle.blobctl.proofs.BookPlays.{AreLow, fresh_low, run_happens}
-use Rattle.blobctl.proofs.alone.play_alone.Goals as goal
+use Rattle.blobctl.proofs.one_worker.play_by_one.Goals as goal
 
 pub returns-clause-played : goal.returns-clause-played
 returns-clause-played c =
@@ -13,4 +13,4 @@ returns-clause-played c =
     let opened = c.in_ok-book.ensures.opened in
     let fresh : AreLow 0 book.slots = fresh_low book.slots store.slots _ opened.slots c.requires.within.first refl in
     let few : length (map row_view c.args.rows.now) ≤ 65536 = rw (length-map c.args.rows.now row_view) c.requires.few in
-    run_happens (OpensCatalog (tenants_shown store.tenants.items) store.slots store.max_blob) c.play_in.result (λ p. p.0) (λ p. answers_of p.1.items) (map row_view c.args.rows.now) book opened.catalog fresh few c.play_in.ensures.played
+    run_happens (OpensCatalog (tenants_shown store.tenants.items) store.slots store.max_blob) c.play_on_book.result (λ p. p.0) (λ p. answers_of p.1.items) (map row_view c.args.rows.now) book opened.catalog fresh few c.play_on_book.ensures.played

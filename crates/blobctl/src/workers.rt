@@ -2,7 +2,7 @@
 ghost use Rattle.std.specs.Prelude.{◌≡◌, ◌≢◌, ◌⊎◌, IfErr, OnOk, map};
 ghost use Rattle.std.specs.Io.KnownBytes.{Appends};
 ghost use Rattle.finite_maps.specs.Texts.{Text};
-ghost use Rattle.blobctl.specs.Ending.{PlayedTogether};
+ghost use Rattle.blobctl.specs.Ending.{PlayedByWorkers};
 ghost use Rattle.blobctl.specs.Options.{CanWork, IsWithin};
 ghost use Rattle.blob_store.specs.Parts.{names_of};
 ghost use Rattle.row_player.specs.RowViews.{row_view};
@@ -21,7 +21,7 @@ use std::thread::Threads;
 
 /// Plays all rows by workers on the store of these parts, which were made by the options and whose names are those that
 /// the type parameter says, and writes the replies and then the book.
-fn play_on<T: Threads + Wait + Sync, W: Write, S: Naming + Send + Sync>(
+fn play_on_store<T: Threads + Wait + Sync, W: Write, S: Naming + Send + Sync>(
     rt: &T,
     alloc: Global,
     writer: &mut W,
@@ -32,7 +32,7 @@ fn play_on<T: Threads + Wait + Sync, W: Write, S: Naming + Send + Sync>(
     requires workers { CanWork options.now.workers }
     requires opened { OpensBook (tenants_shown options.now.store.tenants.items) options.now.store.slots options.now.store.max_blob options.now.store.first_generation parts.book }
     requires named { names_of parts ≡ S.names }
-    ensures played { OnOk result ((text : Text) × Appends (W.contents writer.old) (W.contents writer.new) text × PlayedTogether options.now.workers (tenants_shown options.now.store.tenants.items) options.now.store.slots options.now.store.max_blob (map row_view rows.now) text) }
+    ensures played { OnOk result ((text : Text) × Appends (W.contents writer.old) (W.contents writer.new) text × PlayedByWorkers options.now.workers (tenants_shown options.now.store.tenants.items) options.now.store.slots options.now.store.max_blob (map row_view rows.now) text) }
     ensures silent { IfErr result (λ e. e ≢ Fault.Write → writer.new ≡ writer.old) }
     ensures refused { IfErr result (λ e. (e ≡ Fault.Memory) ⊎ (e ≡ Fault.Write)) }
 {
@@ -52,7 +52,7 @@ fn play_on<T: Threads + Wait + Sync, W: Write, S: Naming + Send + Sync>(
 /// Plays all rows by workers on a new store, and writes the replies in the order of the rows, and then the book, which
 /// has the tenants, the quotas, the slots and the limit on blobs of the options.
 /// Refused with `Memory`, and then nothing is written; and what the writer refuses.
-pub fn play_together<T: Threads + Wait + Sync, W: Write>(
+pub fn play_by_workers<T: Threads + Wait + Sync, W: Write>(
     rt: &T,
     alloc: Global,
     writer: &mut W,
@@ -60,12 +60,12 @@ pub fn play_together<T: Threads + Wait + Sync, W: Write>(
     rows: &[Row],
 ) -> Result<(), Fault>
     requires { IsWithin options.now }
-    ensures played { OnOk result ((text : Text) × Appends (W.contents writer.old) (W.contents writer.new) text × PlayedTogether options.now.workers (tenants_shown options.now.store.tenants.items) options.now.store.slots options.now.store.max_blob (map row_view rows.now) text) }
+    ensures played { OnOk result ((text : Text) × Appends (W.contents writer.old) (W.contents writer.new) text × PlayedByWorkers options.now.workers (tenants_shown options.now.store.tenants.items) options.now.store.slots options.now.store.max_blob (map row_view rows.now) text) }
     ensures silent { IfErr result (λ e. e ≢ Fault.Write → writer.new ≡ writer.old) }
     ensures refused { IfErr result (λ e. (e ≡ Fault.Memory) ⊎ (e ≡ Fault.Write)) }
 {
     let Ok(parts) = Parts::new(alloc, &options.store) else {
         return Err(Fault::Memory);
     };
-    play_on::<T, W, Brand>(rt, alloc, writer, parts, options, rows)
+    play_on_store::<T, W, Brand>(rt, alloc, writer, parts, options, rows)
 }

@@ -1,10 +1,10 @@
 //! Rows played on a book that one thread has.
 ghost use Rattle.std.specs.Prelude.{◌≡◌, IfOk, IfErr, map};
 ghost use Rattle.row_player.specs.Answers.{answers_of};
-ghost use Rattle.row_player.specs.Leases.{Leases as Held, none};
+ghost use Rattle.row_player.specs.Leases.{Leases as LeasesView, none};
 ghost use Rattle.row_player.specs.RowViews.{row_view};
 ghost use Rattle.blobctl.specs.Options.{IsWithin};
-ghost use Rattle.blobctl.specs.Played.{Acts, Happens};
+ghost use Rattle.blobctl.specs.Played.{Acts, Leads};
 ghost use Rattle.row_player.specs.Plays.{Plays};
 ghost use Rattle.blobctl.specs.Script.{max_rows};
 ghost use Rattle.std.specs.Prelude.{◌≤◌, length};
@@ -21,7 +21,7 @@ use std::marker::{Brand, PhantomData};
 use store_book::{Book, PinsName};
 
 /// Plays all rows on a book with the words of its slots, which one pin table names.
-fn play_in<N: PinsName>(
+fn play_on_book<N: PinsName>(
     alloc: Global,
     book: Book,
     pins: &Pins,
@@ -29,7 +29,7 @@ fn play_in<N: PinsName>(
 ) -> Result<(Book, Vec<Reply>), Refusal>
     requires here { book.table ≡ N.table }
     requires there { pins.now ≡ N.table }
-    ensures played { IfOk result (λ p. (left : Held) × Plays Acts (book, none) (map row_view rows.now) (answers_of p.1.items) (p.0, left)) }
+    ensures played { IfOk result (λ p. (left : LeasesView) × Plays Acts (book, none) (map row_view rows.now) (answers_of p.1.items) (p.0, left)) }
     ensures refused { IfErr result (λ e. e ≡ Refusal.Memory) }
 {
     let mut pinned: PinnedBook<'_, N> = PinnedBook {
@@ -48,16 +48,16 @@ fn play_in<N: PinsName>(
 
 /// Plays all rows on a new book, and answers the book and one reply for each row. Refused with
 /// `Memory` alone.
-pub fn play_alone(
+pub fn play_by_one(
     alloc: Global,
     options: &Options,
     rows: &[Row],
 ) -> Result<(Book, Vec<Reply>), Refusal>
     requires within { IsWithin options.now }
     requires few { length rows.now ≤ max_rows }
-    ensures played { IfOk result (λ p. (first : Catalog) × (left : Held) × OpensCatalog (tenants_shown options.now.store.tenants.items) options.now.store.slots options.now.store.max_blob first × Plays Happens (first, none) (map row_view rows.now) (answers_of p.1.items) (p.0.catalog, left)) }
+    ensures played { IfOk result (λ p. (first : Catalog) × (left : LeasesView) × OpensCatalog (tenants_shown options.now.store.tenants.items) options.now.store.slots options.now.store.max_blob first × Plays Leads (first, none) (map row_view rows.now) (answers_of p.1.items) (p.0.catalog, left)) }
     ensures refused { IfErr result (λ e. e ≡ Refusal.Memory) }
 {
     let (book, pins) = Book::new(alloc, &options.store)?;
-    play_in::<Brand>(alloc, book, &pins, rows)
+    play_on_book::<Brand>(alloc, book, &pins, rows)
 }

@@ -1,6 +1,6 @@
 //! Calls that make a value, and leave the ones that they are given as they are.
 
-use crate::attempt::{Answer, Calls, play, refused, whether};
+use crate::calls::{Answer, Calls, play, refused, whether};
 use crate::commands::{config, tenants};
 use crate::stopped::Stopped;
 use blob_digest::{Algorithm, Digest, Refusal, RepoName};
@@ -41,7 +41,7 @@ pub enum Make<'a> {
 
 /// What the calls are given.
 #[derive(Drop)]
-pub struct Makers<'a> {
+pub struct Values<'a> {
     alloc: Global,
     makes: &'a [Make<'a>],
     name: RepoName,
@@ -80,7 +80,7 @@ fn made<T: Drop>(found: Result<T, Refusal>) -> Answer {
     }
 }
 
-impl<'a> Makers<'a> {
+impl<'a> Values<'a> {
     fn name_of(&self, bytes: &[u8]) -> Answer {
         match RepoName::parse(self.alloc, bytes) {
             Ok(name) => whether(name.text().as_bytes() == bytes),
@@ -115,7 +115,7 @@ impl<'a> Makers<'a> {
     }
 }
 
-impl<'a> Calls for Makers<'a> {
+impl<'a> Calls for Values<'a> {
     fn count(&self) -> usize {
         self.makes.len()
     }
@@ -194,7 +194,7 @@ fn twice(alloc: Global) -> Result<Vec<Vec<(String, u64)>>, Stopped> {
 }
 
 /// The calls that make a value.
-pub fn play_makers<R: Print + AllocGlobal>(rt: &R) -> Result<(), Stopped> {
+pub fn play_values<R: Print + AllocGlobal>(rt: &R) -> Result<(), Stopped> {
     let alloc = rt.alloc();
     let digest = Digest::of(Algorithm::Sha256, b"abc");
     let lend = Event::Lend { slot: 0, pin: 1 };
@@ -214,7 +214,7 @@ pub fn play_makers<R: Print + AllocGlobal>(rt: &R) -> Result<(), Stopped> {
         Make::Book,
         Make::Parts,
     ];
-    let mut makers = Makers {
+    let mut values = Values {
         alloc,
         makes: makes.as_slice(),
         name: RepoName::parse(alloc, b"acme/one")?,
@@ -222,5 +222,5 @@ pub fn play_makers<R: Print + AllocGlobal>(rt: &R) -> Result<(), Stopped> {
         config: config(alloc)?,
         tenants: twice(alloc)?,
     };
-    play(rt, "makes", &mut makers)
+    play(rt, "makes", &mut values)
 }

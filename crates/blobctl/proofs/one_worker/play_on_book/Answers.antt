@@ -4,7 +4,7 @@ use Rattle.row_player.specs.Leases.{none}
 use Rattle.row_player.specs.RowViews.{row_view}
 use Rattle.blobctl.specs.Played.{Acts}
 use Rattle.row_player.proofs.PlayedRows.{plays_through}
-use Rattle.blobctl.proofs.alone.play_in.Goals as goal
+use Rattle.blobctl.proofs.one_worker.play_on_book.Goals as goal
 
 pub returns-clause-played : goal.returns-clause-played
 returns-clause-played g c =

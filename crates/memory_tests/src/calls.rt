@@ -43,7 +43,7 @@ pub fn refused(refusal: Refusal) -> Answer {
 
 /// What became of a call.
 #[derive(Clone, Copy, PartialEq, Eq, Debug)]
-pub enum Found {
+pub enum Verdict {
     /// It answered what it has to.
     Accepted,
     /// It found no memory once and had changed nothing, and then answered what it has to.
@@ -56,14 +56,14 @@ pub enum Found {
     Wrong,
 }
 
-impl fmt::Display for Found {
+impl fmt::Display for Verdict {
     fn fmt<W: fmt::Write>(&self, f: &mut fmt::Formatter<W>) -> fmt::Result {
         match self {
-            Found::Accepted => f.write_str("accepted"),
-            Found::Refused => f.write_str("refused, then accepted"),
-            Found::Changed => f.write_str("refused, and CHANGED"),
-            Found::Lasting => f.write_str("refused, and NOT ACCEPTED"),
-            Found::Wrong => f.write_str("ANSWERED OTHERWISE"),
+            Verdict::Accepted => f.write_str("accepted"),
+            Verdict::Refused => f.write_str("refused, then accepted"),
+            Verdict::Changed => f.write_str("refused, and CHANGED"),
+            Verdict::Lasting => f.write_str("refused, and NOT ACCEPTED"),
+            Verdict::Wrong => f.write_str("ANSWERED OTHERWISE"),
         }
     }
 }
@@ -87,41 +87,41 @@ pub trait Calls {
 }
 
 /// What becomes of a call. Where it finds no memory, it is made again.
-fn attempt<C: Calls>(calls: &mut C, place: usize) -> Found {
+fn call_twice<C: Calls>(calls: &mut C, place: usize) -> Verdict {
     calls.remember();
     match calls.call(place) {
-        Answer::Wanted => Found::Accepted,
-        Answer::Other => Found::Wrong,
+        Answer::Wanted => Verdict::Accepted,
+        Answer::Other => Verdict::Wrong,
         Answer::Memory => {
             if !calls.is_same() {
-                return Found::Changed;
+                return Verdict::Changed;
             }
             match calls.call(place) {
-                Answer::Wanted => Found::Refused,
-                _ => Found::Lasting,
+                Answer::Wanted => Verdict::Refused,
+                _ => Verdict::Lasting,
             }
         }
     }
 }
 
 /// Prints what became of a call: whose it is, its name and its place.
-pub fn print_found<R: Print>(
+pub fn print_verdict<R: Print>(
     rt: &R,
     whose: &str,
     name: &str,
     place: usize,
-    found: Found,
+    verdict: Verdict,
 ) -> Result<(), Stopped> {
-    println!(rt; "{whose} {name} {place}: {found}")?;
+    println!(rt; "{whose} {name} {place}: {verdict}")?;
     Ok(())
 }
 
 /// Makes all calls in turn, and prints what becomes of each.
 pub fn play<R: Print, C: Calls>(rt: &R, whose: &str, calls: &mut C) -> Result<(), Stopped> {
     for place in 0..calls.count() {
-        let found = attempt(calls, place);
+        let found = call_twice(calls, place);
         let name = calls.name(place);
-        print_found(rt, whose, name, place, found)?;
+        print_verdict(rt, whose, name, place, found)?;
     }
     Ok(())
 }
