@@ -6,7 +6,7 @@ use Rattle.blob_digest.specs.Outcomes.{Answers, Does, DoesExactly}
 use Rattle.finite_maps.specs.Texts.{Text}
 use Rattle.store_model.specs.Catalog.{Catalog}
 use Rattle.store_model.specs.Commands.{Outcome}
-use Rattle.store_model.specs.Runs.{Answer, Bytes, Called, Command, Happens, Lease, answered, outcome, takes_memory, told}
+use Rattle.store_model.specs.Runs.{Answer, Bytes, Called, Command, Happens, Lease, answered, outcome, reading, takes_memory}
 use Rattle.store_book.specs.BookState.{SlotSeen}
 use Rattle.store_book.specs.SlotSteps.{Leases}
 
@@ -28,10 +28,10 @@ ExactChangesAreEvents B f = (C C' : Catalog) (command : Command) (o : Outcome B)
 -- One that changes nothing, and one that takes no memory for it.
 abbrev pub ReadsAreEvents : (B : Type 0) → (B → Answer) → Type 0
 ReadsAreEvents B f = (C : Catalog) (command : Command) (o result : Result B Refusal) →
-    takes_memory command ≡ true → outcome false C command ≡ told f C o → Answers (λ b. b) result o → Happens C (Called command (reply_by f result)) C
+    takes_memory command ≡ true → outcome false C command ≡ reading f C o → Answers (λ b. b) result o → Happens C (Called command (reply_by f result)) C
 
 abbrev pub ExactReadsAreEvents : (B : Type 0) → (B → Answer) → Type 0
-ExactReadsAreEvents B f = (C : Catalog) (command : Command) (o : Result B Refusal) → outcome false C command ≡ told f C o → Happens C (Called command (reply_by f o)) C
+ExactReadsAreEvents B f = (C : Catalog) (command : Command) (o : Result B Refusal) → outcome false C command ≡ reading f C o → Happens C (Called command (reply_by f o)) C
 
 -- A lease.
 abbrev pub LeasesAreEvents : Type 0
