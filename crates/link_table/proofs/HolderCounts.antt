@@ -75,16 +75,16 @@ module _ (old new : FinMap text_cmp ℕ) (d : Text) (w : Option ℕ) (put : (q :
       by_key false there = before e there
 
   -- the count at the key is one more
-  pub raised : unwrap_or w 0 ≡ count_in old d + 1 → (e : Text) → count_in new e ≡ count_in old e + cond (same_text d e) 1 0
-  raised is e = count_in-update e ∙ by_key (same_text d e) refl
+  pub counts_more : unwrap_or w 0 ≡ count_in old d + 1 → (e : Text) → count_in new e ≡ count_in old e + cond (same_text d e) 1 0
+  counts_more is e = count_in-update e ∙ by_key (same_text d e) refl
     where
       by_key : (b : Bool) → same_text d e ≡ b → cond b (unwrap_or w 0) (count_in old e) ≡ count_in old e + cond b 1 0
       by_key true key = is ∙ ap (λ k. count_in old k + 1) (text_is_same d e key)
       by_key false key = omega arith
 
   -- the count at the key is one less
-  pub lowered : unwrap_or w 0 + 1 ≡ count_in old d → (e : Text) → count_in new e + cond (same_text d e) 1 0 ≡ count_in old e
-  lowered is e = ap (λ n. n + cond (same_text d e) 1 0) (count_in-update e) ∙ by_key (same_text d e) refl
+  pub counts_less : unwrap_or w 0 + 1 ≡ count_in old d → (e : Text) → count_in new e + cond (same_text d e) 1 0 ≡ count_in old e
+  counts_less is e = ap (λ n. n + cond (same_text d e) 1 0) (count_in-update e) ∙ by_key (same_text d e) refl
     where
       by_key : (b : Bool) → same_text d e ≡ b → cond b (unwrap_or w 0) (count_in old e) + cond b 1 0 ≡ count_in old e
       by_key true key = is ∙ ap (count_in old) (text_is_same d e key)

@@ -17,7 +17,7 @@ use Rattle.finite_maps.proofs.Rows.{entries-empty}
 use Rattle.finite_maps.proofs.Sums.{insert_back}
 use Rattle.link_table.specs.Linked.{Tenant, Linked, sizes, blobs, total_size, is_tenants, tenant_of, IsSizeOf, link}
 use Rattle.link_table.specs.Tenancy.{AreTenants}
-use Rattle.link_table.specs.Running.{IsSound}
+use Rattle.link_table.specs.Usage.{KeepsUsage}
 use Rattle.link_table.specs.Holders.{is_held}
 use Rattle.finite_maps.proofs.Options.{option_eq_some}
 use Rattle.link_table.proofs.Weights.{HasOneSize-insert, HasOneSize-remove, total-insert, total-other, total-remove, total-remove_other}
@@ -64,63 +64,63 @@ module _ (tenants : List Tenant) (t : ℕ) (d : Text) where
   pub contains-blob : (links : FinMap link_cmp ℕ) → is_some (get (blobs (is_tenants tenants t) links) d) ≡ list_any (is_held tenants t d) (entries links)
   contains-blob links = ap is_some (get-from_entries nat_list_cmp_total (sizes (is_tenants tenants t) (entries links)) d) ∙ found_size (entries links)
 
-module _ (tenants : List Tenant) (links : FinMap link_cmp ℕ) (weights charges : List ℕ) (sound : IsSound tenants links weights charges) (t : ℕ) (lt : t < length tenants) (r d : Text) (size : ℕ) (own : is_tenants tenants t r ≡ true) where
-  within : t < length weights
+module _ (tenants : List Tenant) (links : FinMap link_cmp ℕ) (blob_bytes charges : List ℕ) (sound : KeepsUsage tenants links blob_bytes charges) (t : ℕ) (lt : t < length tenants) (r d : Text) (size : ℕ) (own : is_tenants tenants t r ≡ true) where
+  within : t < length blob_bytes
   within = omega (arith, sound.one_each.0)
 
   abbrev holds : FinMap link_cmp ℕ → Bool
   holds m = is_some (get (blobs (is_tenants tenants t) m) d)
 
-  pub IsSound-link : IsSizeOf links d size → total_size (blobs (is_tenants tenants t) links) + slice_index charges t + size < 2 ^ 64 →
-      (held : Bool) → held ≡ holds links → (x w : ℕ) → x ≡ get_or weights t x → w ≡ x + (if held then 0 else size) → IsSound tenants (insert links (r, d) size) (set weights t w) charges
-  IsSound-link fits room held is_held x w read is =
-      let at : x ≡ slice_index weights t = read_at weights t x within read in
-      let weighed : slice_index weights t ≡ total_size (blobs (is_tenants tenants t) links) = sound.weighed t lt in
+  pub KeepsUsage-link : IsSizeOf links d size → total_size (blobs (is_tenants tenants t) links) + slice_index charges t + size < 2 ^ 64 →
+      (held : Bool) → held ≡ holds links → (x w : ℕ) → x ≡ get_or blob_bytes t x → w ≡ x + (if held then 0 else size) → KeepsUsage tenants (insert links (r, d) size) (set blob_bytes t w) charges
+  KeepsUsage-link fits room held is_held x w read is =
+      let at : x ≡ slice_index blob_bytes t = read_at blob_bytes t x within read in
+      let summed : slice_index blob_bytes t ≡ total_size (blobs (is_tenants tenants t) links) = sound.summed t lt in
       let most : w ≤ x + size = at_most held w x size is in
-      let is_w : w ≡ slice_index weights t + (if held then 0 else size) = is ∙ ap (λ n. n + (if held then 0 else size)) at in
+      let is_w : w ≡ slice_index blob_bytes t + (if held then 0 else size) = is ∙ ap (λ n. n + (if held then 0 else size)) at in
       let fits_now : w + slice_index charges t < 2 ^ 64 = omega arith in record {
         ordered = sound.ordered;
-        one_each = (length-set weights t w ∙ sound.one_each.0, sound.one_each.1);
+        one_each = (length-set blob_bytes t w ∙ sound.one_each.0, sound.one_each.1);
         one_size = HasOneSize-insert links r d size sound.one_size fits;
-        weighed = λ u below. elim (cases_eq u t) [
-          | inl e ↦ rw e (get_or-set_same weights t w 0 within ∙ is_w ∙ (λ i. sound.weighed t lt i + (if is_held i then 0 else size))
+        summed = λ u below. elim (cases_eq u t) [
+          | inl e ↦ rw e (get_or-set_same blob_bytes t w 0 within ∙ is_w ∙ (λ i. sound.summed t lt i + (if is_held i then 0 else size))
               ∙ sym (total-insert links r d size sound.one_size fits (is_tenants tenants t) own))
-          | inr other ↦ get_or-set_other weights t u w 0 other ∙ sound.weighed u below
+          | inr other ↦ get_or-set_other blob_bytes t u w 0 other ∙ sound.summed u below
               ∙ sym (total-other links r d size sound.one_size fits (is_tenants tenants u) (others tenants t u r own other))
         ];
         small = λ u below. elim (cases_eq u t) [
-          | inl e ↦ rw (e, get_or-set_same weights t w 0 within) fits_now
-          | inr other ↦ rw (get_or-set_other weights t u w 0 other) (sound.small u below)
+          | inl e ↦ rw (e, get_or-set_same blob_bytes t w 0 within) fits_now
+          | inr other ↦ rw (get_or-set_other blob_bytes t u w 0 other) (sound.small u below)
         ];
       }
 
-  module _ (there : get links (r, d) ≡ Some size) (held : Bool) (is_held : held ≡ holds (remove links (r, d))) (x : ℕ) (read : x ≡ get_or weights t x) where
-    before : slice_index weights t ≡ total_size (blobs (is_tenants tenants t) (remove links (r, d))) + (if held then 0 else size)
+  module _ (there : get links (r, d) ≡ Some size) (held : Bool) (is_held : held ≡ holds (remove links (r, d))) (x : ℕ) (read : x ≡ get_or blob_bytes t x) where
+    before : slice_index blob_bytes t ≡ total_size (blobs (is_tenants tenants t) (remove links (r, d))) + (if held then 0 else size)
     before =
-        sound.weighed t lt ∙ total-remove links r d size sound.one_size there (is_tenants tenants t) own
+        sound.summed t lt ∙ total-remove links r d size sound.one_size there (is_tenants tenants t) own
         ∙ (λ j. total_size (blobs (is_tenants tenants t) (remove links (r, d))) + (if sym is_held j then 0 else size))
 
-    at : x ≡ slice_index weights t
-    at = read_at weights t x within read
+    at : x ≡ slice_index blob_bytes t
+    at = read_at blob_bytes t x within read
 
     pub light_enough : (if held then 0 else size) ≤ x
     light_enough = omega (arith, before, at)
 
-    pub IsSound-unlink : (w : ℕ) → w ≡ x - (if held then 0 else size) → IsSound tenants (remove links (r, d)) (set weights t w) charges
-    IsSound-unlink w is =
+    pub KeepsUsage-unlink : (w : ℕ) → w ≡ x - (if held then 0 else size) → KeepsUsage tenants (remove links (r, d)) (set blob_bytes t w) charges
+    KeepsUsage-unlink w is =
         let lighter : w ≡ total_size (blobs (is_tenants tenants t) (remove links (r, d))) = omega (arith, before, at) in
         let small_now : w + slice_index charges t < 2 ^ 64 = (let s = sound.small t lt in omega (arith, before, at)) in record {
           ordered = sound.ordered;
-          one_each = (length-set weights t w ∙ sound.one_each.0, sound.one_each.1);
+          one_each = (length-set blob_bytes t w ∙ sound.one_each.0, sound.one_each.1);
           one_size = HasOneSize-remove links sound.one_size (r, d);
-          weighed = λ u below. elim (cases_eq u t) [
-            | inl e ↦ rw (e, get_or-set_same weights t w 0 within) lighter
-            | inr other ↦ get_or-set_other weights t u w 0 other ∙ sound.weighed u below
+          summed = λ u below. elim (cases_eq u t) [
+            | inl e ↦ rw (e, get_or-set_same blob_bytes t w 0 within) lighter
+            | inr other ↦ get_or-set_other blob_bytes t u w 0 other ∙ sound.summed u below
                 ∙ total-remove_other links r d size sound.one_size there (is_tenants tenants u) (others tenants t u r own other)
           ];
           small = λ u below. elim (cases_eq u t) [
-            | inl e ↦ rw (e, get_or-set_same weights t w 0 within) small_now
-            | inr other ↦ rw (get_or-set_other weights t u w 0 other) (sound.small u below)
+            | inl e ↦ rw (e, get_or-set_same blob_bytes t w 0 within) small_now
+            | inr other ↦ rw (get_or-set_other blob_bytes t u w 0 other) (sound.small u below)
           ];
         }
 
@@ -156,12 +156,12 @@ none_total passes = rw (entries-empty link_cmp ℕ) (rw (entries-empty text_cmp 
 nothing_linked : {B : Type 0} (k : Link) (n : ℕ) → get (empty {X = ℕ} {R = link_cmp}) k ≡ Some n → B
 nothing_linked k n h = (let e : None ≡ Some n = sym (get-empty link_cmp k) ∙ h in cc)
 
-pub IsSound-initial : (tenants : List Tenant) (links : FinMap link_cmp ℕ) (weights charges : List ℕ) → AreTenants tenants → links ≡ empty →
-    weights ≡ replicate (length tenants) 0 → charges ≡ replicate (length tenants) 0 → IsSound tenants links weights charges
-IsSound-initial tenants links weights charges ordered no_links ws cs = rw (no_links, ws, cs) (record {
+pub KeepsUsage-initial : (tenants : List Tenant) (links : FinMap link_cmp ℕ) (blob_bytes charges : List ℕ) → AreTenants tenants → links ≡ empty →
+    blob_bytes ≡ replicate (length tenants) 0 → charges ≡ replicate (length tenants) 0 → KeepsUsage tenants links blob_bytes charges
+KeepsUsage-initial tenants links blob_bytes charges ordered no_links ws cs = rw (no_links, ws, cs) (record {
   ordered = ordered;
   one_each = (length-replicate {A = ℕ} (length tenants) 0, length-replicate {A = ℕ} (length tenants) 0);
   one_size = λ r s d m n f g. nothing_linked (r, d) m f;
-  weighed = λ t lt. get_or-replicate {A = ℕ} (length tenants) t 0 0 lt ∙ sym (none_total (is_tenants tenants t));
+  summed = λ t lt. get_or-replicate {A = ℕ} (length tenants) t 0 0 lt ∙ sym (none_total (is_tenants tenants t));
   small = λ t lt. let a = get_or-replicate {A = ℕ} (length tenants) t 0 0 lt in omega arith;
 })

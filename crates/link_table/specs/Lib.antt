@@ -1,7 +1,7 @@
 pub mod Linked
 pub mod TenantRepos
 pub mod Rows
-pub mod Running
+pub mod Usage
 pub mod Tenancy
 pub mod Holders
 pub mod ManifestTable

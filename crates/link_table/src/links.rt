@@ -53,12 +53,12 @@ impl Model for Links {
 
     ghost use Rattle.link_table.specs.Tenancy.{tenants_shown};
     ghost use Rattle.link_table.specs.TenantRepos.{repos_shown, links_shown, IsOwned};
-    ghost use Rattle.link_table.specs.Running.{IsSound};
+    ghost use Rattle.link_table.specs.Usage.{KeepsUsage};
     ghost use Rattle.link_table.specs.Holders.{Counts};
 
     ghost view = { λ a. record { tenants = tenants_shown a.tenants.items; repos = repos_shown a.repos.items; links = links_shown a.repos.items; manifests = a.manifests; charges = a.charges.items } };
 
-    ghost invariant = { λ a. IsSound (tenants_shown a.tenants.items) (links_shown a.repos.items) a.blob_bytes.items a.charges.items × IsOwned (tenants_shown a.tenants.items) a.repos.items × Counts (tenants_shown a.tenants.items) (links_shown a.repos.items) a.holders.items };
+    ghost invariant = { λ a. KeepsUsage (tenants_shown a.tenants.items) (links_shown a.repos.items) a.blob_bytes.items a.charges.items × IsOwned (tenants_shown a.tenants.items) a.repos.items × Counts (tenants_shown a.tenants.items) (links_shown a.repos.items) a.holders.items };
 }
 
 /// As many tenants without repositories.

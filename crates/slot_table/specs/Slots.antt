@@ -115,12 +115,12 @@ abbrev pub on_held : (Held → Held) → Slot → Slot
 on_held f s = record s { content = content_with f s.content }
 
 -- one link more
-abbrev pub raise : Held → Held
-raise h = record h { links = h.links + 1 }
+abbrev pub link_up : Held → Held
+link_up h = record h { links = h.links + 1 }
 
 -- one link less
-abbrev pub lower : Held → Held
-lower h = record h { links = h.links - 1 }
+abbrev pub link_down : Held → Held
+link_down h = record h { links = h.links - 1 }
 
 -- lent
 abbrev pub lend : Held → Held

@@ -2,7 +2,7 @@
 
 ghost use Rattle.std.specs.Prelude.{◌≡◌, ◌+◌, ◌<◌, ◌^◌};
 ghost use Rattle.std.specs.Option.{option_map};
-ghost use Rattle.slot_table.specs.Slots.{empty_slot, held_in, is_orphan, phase_in, links_in, fill, on_held, raise, lower, lend, mark, emptied, retire};
+ghost use Rattle.slot_table.specs.Slots.{empty_slot, held_in, is_orphan, phase_in, links_in, fill, on_held, link_up, link_down, lend, mark, emptied, retire};
 
 use crate::phase::Phase;
 use blob_digest::Blob;
@@ -117,9 +117,9 @@ impl Row {
     }
 
     /// The slot's blob has one link more.
-    pub fn raise_links(&mut self)
+    pub fn link_up(&mut self)
         requires { links_in self.old.content + 1 < 2 ^ 32 }
-        ensures { self.new ≡ on_held raise self.old }
+        ensures { self.new ≡ on_held link_up self.old }
     {
         if let Cell::Used(filled) = &mut self.cell {
             filled.links += 1;
@@ -127,9 +127,9 @@ impl Row {
     }
 
     /// The slot's blob has one link less.
-    pub fn lower_links(&mut self)
+    pub fn link_down(&mut self)
         requires { 0 < links_in self.old.content }
-        ensures { self.new ≡ on_held lower self.old }
+        ensures { self.new ≡ on_held link_down self.old }
     {
         if let Cell::Used(filled) = &mut self.cell {
             filled.links -= 1;

@@ -7,7 +7,7 @@ ghost use Rattle.std.specs.BTreeMap as tree;
 ghost use Rattle.finite_maps.specs.Texts.{Text, text_cmp};
 ghost use Rattle.blob_digest.specs.Outcomes.{Answers};
 ghost use Rattle.blob_digest.specs.declared.refusal.Refusal.TheVariants.{Memory, StoreFull};
-ghost use Rattle.slot_table.specs.Slots.{slot_of, held_at, phase_at, links_at, generation_at, free_slots, empty_slot, is_orphan, orphan_from, has_digest, initial_slots, with_slot, fill, on_held, raise, lower, lend, mark, emptied, retire, IsDistinct, IsUnlinked};
+ghost use Rattle.slot_table.specs.Slots.{slot_of, held_at, phase_at, links_at, generation_at, free_slots, empty_slot, is_orphan, orphan_from, has_digest, initial_slots, with_slot, fill, on_held, link_up, link_down, lend, mark, emptied, retire, IsDistinct, IsUnlinked};
 ghost use Rattle.slot_table.specs.declared.phase.Phase.TheVariants as phase;
 
 use crate::phase::Phase;
@@ -222,18 +222,18 @@ impl SlotTable {
     pub fn link_up(&mut self, slot: u32)
         requires live { phase_at self.old slot ≡ phase.Live }
         requires room { links_at self.old slot + 1 < 2 ^ 32 }
-        ensures { self.new ≡ with_slot self.old slot (on_held raise) }
+        ensures { self.new ≡ with_slot self.old slot (on_held link_up) }
     {
-        self.rows[slot as usize].raise_links();
+        self.rows[slot as usize].link_up();
     }
 
     /// Counts one link less of a live blob.
     pub fn link_down(&mut self, slot: u32)
         requires live { phase_at self.old slot ≡ phase.Live }
         requires linked { 0 < links_at self.old slot }
-        ensures { self.new ≡ with_slot self.old slot (on_held lower) }
+        ensures { self.new ≡ with_slot self.old slot (on_held link_down) }
     {
-        self.rows[slot as usize].lower_links();
+        self.rows[slot as usize].link_down();
     }
 
     /// Marks a live blob as lent. The mark stays as long as the slot holds the blob.

@@ -6,7 +6,7 @@ ghost use Rattle.std.specs.Arc.{arc_value};
 ghost use Rattle.blob_digest.specs.declared.refusal.Refusal.TheVariants.{LimitReached, Memory, StoreFull, TooManyReaders};
 ghost use Rattle.pin_core.specs.Events.{IsOutside};
 ghost use Rattle.pin_table.specs.Calls.{IsUnheld};
-ghost use Rattle.slot_table.specs.Slots.{Held, empty_slot, held_at, phase_at, links_at, slot_of, free_slots, fill, on_held, raise, lower, mark};
+ghost use Rattle.slot_table.specs.Slots.{Held, empty_slot, held_at, phase_at, links_at, slot_of, free_slots, fill, on_held, link_up, link_down, mark};
 ghost use Rattle.slot_table.specs.declared.phase.Phase.TheVariants as phase;
 ghost use Rattle.store_book.specs.Pinned.{is_orphan_at, with_both, slotted, IsLent, IsFull, Looked, Reclaimed, Verified};
 
@@ -85,7 +85,7 @@ impl PinnedSlots {
     pub fn link_up(&mut self, slot: u32)
         requires live { phase_at self.old.slots slot ≡ phase.Live }
         requires room { links_at self.old.slots slot + 1 < 2 ^ 32 }
-        ensures { self.new ≡ slotted slot (on_held raise) self.old }
+        ensures { self.new ≡ slotted slot (on_held link_up) self.old }
     {
         self.slots.link_up(slot);
     }
@@ -94,7 +94,7 @@ impl PinnedSlots {
     pub fn link_down(&mut self, slot: u32)
         requires live { phase_at self.old.slots slot ≡ phase.Live }
         requires linked { 0 < links_at self.old.slots slot }
-        ensures { self.new ≡ slotted slot (on_held lower) self.old }
+        ensures { self.new ≡ slotted slot (on_held link_down) self.old }
     {
         self.slots.link_down(slot);
     }

@@ -17,7 +17,7 @@ use Rattle.finite_maps.proofs.Texts.{same_text_is}
 use Rattle.finite_maps.proofs.Sums.{insert_back}
 use Rattle.finite_maps.proofs.Sets.{insert_there}
 use Rattle.slot_table.specs.declared.phase.Phase.TheVariants as phase
-use Rattle.slot_table.specs.Slots.{Slot, Held, Content, Free, Used, Retired, phase_in, held_in, is_free, is_retired, with_slot, fill, on_held, raise, mark, phase_at, held_at, slot_of}
+use Rattle.slot_table.specs.Slots.{Slot, Held, Content, Free, Used, Retired, phase_in, held_in, is_free, is_retired, with_slot, fill, on_held, link_up, mark, phase_at, held_at, slot_of}
 use Rattle.link_table.specs.Linked.{Linked}
 use Rattle.finite_maps.specs.Texts.{Text, text_cmp}
 use Rattle.store_model.specs.Catalog.{Link, Resident, Catalog, holds}
@@ -31,7 +31,7 @@ use Rattle.store_book.proofs.Slots.Changed.{resident_at, mark-KeepsTies, held_at
 use Rattle.store_model.proofs.Invariant.Blobs.{Lawful-put}
 use Rattle.store_book.proofs.Layers.Sums.{holds_is}
 use Rattle.slot_table.proofs.Finding.{held_of}
-use Rattle.store_book.proofs.Layers.Ties.{links_of-insert, catalog-relink, IsTied-link, raise-KeepsBlob, slot_is_resident, not_resident, rooms}
+use Rattle.store_book.proofs.Layers.Ties.{links_of-insert, catalog-relink, IsTied-link, link_up-KeepsBlob, slot_is_resident, not_resident, rooms}
 use Rattle.store_book.proofs.Slots.Filled.{stored}
 use Rattle.store_book.proofs.Slots.Placed.{catalog-fill, IsTied-fill, held_at-fill, free_slot}
 use Rattle.store_model.proofs.Invariant.Links.{unlinked}
@@ -146,29 +146,29 @@ module _ (L : Layers) (repo : Text) (blob : Text × Text) where
             }
 
       module _ (new : contains_key L.links.links (repo, blob.0) ≡ false) where
-        abbrev raised : List Slot
-        raised = with_slot L.slots k (on_held raise)
+        abbrev linked_up : List Slot
+        linked_up = with_slot L.slots k (on_held link_up)
 
         not_held_before : holds C repo h.digest ≡ false
         not_held_before = ap (holds C repo) digest ∙ holds_is L (lent_marks L.slots) tied named repo blob.0 ∙ new
 
-        relinked : catalog_from (record L { links = linked L.links repo blob; slots = raised }) (lent_marks L.slots) ≡ record C { links = set.insert C.links (repo, blob.0) }
+        relinked : catalog_from (record L { links = linked L.links repo blob; slots = linked_up }) (lent_marks L.slots) ≡ record C { links = set.insert C.links (repo, blob.0) }
         relinked =
-            catalog-relink L (insert L.links.links (repo, blob.0) (length blob.1)) (lent_marks L.slots) k h at raise raise-KeepsBlob tied
+            catalog-relink L (insert L.links.links (repo, blob.0) (length blob.1)) (lent_marks L.slots) k h at link_up link_up-KeepsBlob tied
             ∙ (λ i. record C { links = links_of-insert L.links.links (repo, blob.0) (length blob.1) i })
 
-        tied_then : IsTied (linked L.links repo blob) raised (lent_marks L.slots) (catalog_from (record L { links = linked L.links repo blob; slots = raised }) (lent_marks L.slots))
+        tied_then : IsTied (linked L.links repo blob) linked_up (lent_marks L.slots) (catalog_from (record L { links = linked L.links repo blob; slots = linked_up }) (lent_marks L.slots))
         tied_then =
-            subst (λ (d : Text). IsTied (record L.links { links = insert L.links.links (repo, d) (length blob.1) }) raised (lent_marks L.slots) (catalog_from (record L { links = record L.links { links = insert L.links.links (repo, d) (length blob.1) }; slots = raised }) (lent_marks L.slots)))
+            subst (λ (d : Text). IsTied (record L.links { links = insert L.links.links (repo, d) (length blob.1) }) linked_up (lent_marks L.slots) (catalog_from (record L { links = record L.links { links = insert L.links.links (repo, d) (length blob.1) }; slots = linked_up }) (lent_marks L.slots)))
             digest (IsTied-link L (lent_marks L.slots) k h at tied repo there (length blob.1) resident.0 resident.1 size not_held_before)
 
         -- a new link counts in its slot
-        pub Keeps-new : Keeps (linked L.links repo blob) raised
+        pub Keeps-new : Keeps (linked L.links repo blob) linked_up
         Keeps-new =
-            let marks : lent_marks L.slots ≡ lent_marks raised = sym (marks-on raise (λ h. refl) L.slots k) in
+            let marks : lent_marks L.slots ≡ lent_marks linked_up = sym (marks-on link_up (λ h. refl) L.slots k) in
             record {
-              catalog = (λ i. catalog_from (record L { links = linked L.links repo blob; slots = raised }) (sym marks i)) ∙ relinked ∙ (λ i. record C { links = set.insert C.links (repo, blob.0); residents = sym same_residents i });
-              tied = subst (λ (m : List Bool). IsTied (linked L.links repo blob) raised m (catalog_from (record L { links = linked L.links repo blob; slots = raised }) m)) marks tied_then;
+              catalog = (λ i. catalog_from (record L { links = linked L.links repo blob; slots = linked_up }) (sym marks i)) ∙ relinked ∙ (λ i. record C { links = set.insert C.links (repo, blob.0); residents = sym same_residents i });
+              tied = subst (λ (m : List Bool). IsTied (linked L.links repo blob) linked_up m (catalog_from (record L { links = linked L.links repo blob; slots = linked_up }) m)) marks tied_then;
               links = refl;
               same = same_there;
               housed = housed_there;
@@ -179,7 +179,7 @@ module _ (L : Layers) (repo : Text) (blob : Text × Text) where
       slots1 = with_slot L.slots k (fill blob)
 
       abbrev slots2 : List Slot
-      slots2 = with_slot slots1 k (on_held raise)
+      slots2 = with_slot slots1 k (on_held link_up)
 
       slot_there : (s : Slot) × (slice_get L.slots k ≡ Some s) × (held_in s.content ≡ None) × (is_retired s ≡ false)
       slot_there = free_slot L.slots k free
@@ -210,7 +210,7 @@ module _ (L : Layers) (repo : Text) (blob : Text × Text) where
 
       catalog_now : catalog_from (record L { links = linked L.links repo blob; slots = slots2 }) (lent_marks L.slots) ≡ keeping C repo blob
       catalog_now =
-          catalog-relink (record L { slots = slots1 }) (insert L.links.links (repo, blob.0) (length blob.1)) (lent_marks L.slots) k filled in_slot raise raise-KeepsBlob filled_tied
+          catalog-relink (record L { slots = slots1 }) (insert L.links.links (repo, blob.0) (length blob.1)) (lent_marks L.slots) k filled in_slot link_up link_up-KeepsBlob filled_tied
           ∙ (λ i. record C1 { links = links_of-insert L.links.links (repo, blob.0) (length blob.1) i })
           ∙ (λ i. record (filled_catalog i) { links = set.insert C.links (repo, blob.0) })
           ∙ (λ i. record C { links = set.insert C.links (repo, blob.0); residents = insert C.residents blob.0 (record { bytes = blob.1; condemned = false; lent = was_lent (sym absent i) }) })
@@ -218,7 +218,7 @@ module _ (L : Layers) (repo : Text) (blob : Text × Text) where
       -- a blob that filled a free slot is kept, with one link
       pub Keeps-filled : Keeps (linked L.links repo blob) slots2
       Keeps-filled =
-          let marks : lent_marks L.slots ≡ lent_marks slots2 = sym (marks-on raise (λ h. refl) slots1 k ∙ marks-fill blob L.slots k free) in
+          let marks : lent_marks L.slots ≡ lent_marks slots2 = sym (marks-on link_up (λ h. refl) slots1 k ∙ marks-fill blob L.slots k free) in
           record {
             catalog = (λ i. catalog_from (record L { links = linked L.links repo blob; slots = slots2 }) (sym marks i)) ∙ catalog_now;
             tied = subst (λ (m : List Bool). IsTied (linked L.links repo blob) slots2 m (catalog_from (record L { links = linked L.links repo blob; slots = slots2 }) m)) marks tied_now;
@@ -285,11 +285,11 @@ module _ (L : Layers) (repo : Text) (blob : Text × Text) where
             housed = ap (λ o. not (is_some o) && nat_le B.slots (len B.residents + B.retired)) kept;
           }
 
-      by_link : (b : Bool) → contains_key L.links.links (repo, blob.0) ≡ b → Keeps (record L { slots = live_again }) repo blob (linked L.links repo blob) (if b then live_again else with_slot live_again k (on_held raise))
+      by_link : (b : Bool) → contains_key L.links.links (repo, blob.0) ≡ b → Keeps (record L { slots = live_again }) repo blob (linked L.links repo blob) (if b then live_again else with_slot live_again k (on_held link_up))
       by_link true is = Keeps-old (record L { slots = live_again }) repo blob (IsTied-change (mark false) (mark-KeepsTies false) L k h at tied) lawful_live_again there k (mark false h) (held_at-with (mark false) (mark-KeepsTies false) L.slots k h at) digest bytes refl is
       by_link false is = Keeps-new (record L { slots = live_again }) repo blob (IsTied-change (mark false) (mark-KeepsTies false) L k h at tied) lawful_live_again there k (mark false h) (held_at-with (mark false) (mark-KeepsTies false) L.slots k h at) digest bytes refl is
 
-      Keeps-again : Keeps L repo blob (linked L.links repo blob) (if contains_key L.links.links (repo, blob.0) then live_again else with_slot live_again k (on_held raise))
+      Keeps-again : Keeps L repo blob (linked L.links repo blob) (if contains_key L.links.links (repo, blob.0) then live_again else with_slot live_again k (on_held link_up))
       Keeps-again = Keeps-live_again _ _ (by_link (contains_key L.links.links (repo, blob.0)) refl)
 
     pub IsKept-Keeps : (l' : Linked) (slots' : List Slot) → IsKept L.links L.slots repo blob l' slots' → Keeps L repo blob l' slots'

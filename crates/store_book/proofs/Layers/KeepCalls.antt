@@ -12,7 +12,7 @@ use Rattle.blob_digest.specs.Keys.{Link, link_cmp}
 use Rattle.blob_digest.specs.declared.refusal.Refusal.TheVariants.{DigestInvalid}
 use Rattle.blob_digest.proofs.KeyOrders.{link_cmp_total, exact_link}
 use Rattle.slot_table.specs.declared.phase.Phase.TheVariants as phase
-use Rattle.slot_table.specs.Slots.{Slot, Held, slot_of, held_at, links_at, phase_at, with_slot, fill, on_held, raise, mark}
+use Rattle.slot_table.specs.Slots.{Slot, Held, slot_of, held_at, links_at, phase_at, with_slot, fill, on_held, link_up, mark}
 use Rattle.link_table.specs.Linked.{Linked, link, unlink}
 use Rattle.store_book.specs.Internal.Keeping.{revived, bytes_at, CanKeep, IsKept, IsUnkept, again, anew, differs}
 use Rattle.store_book.proofs.Slots.Changed.{held_at-with, mark-KeepsTies}
@@ -84,15 +84,15 @@ module _ (slots : List Slot) (k : ℕ) (blob : Text × Text) (found : slot_of sl
       let few = can.counts k there.0 there.1 in
       omega arith
 
-  pub kept_new : (l l' : Linked) (slots' : List Slot) (repo : Text) → link l repo blob.0 (length blob.1) ≡ Ok (true, l') → slots' ≡ with_slot (revived slots k) k (on_held raise) → IsKept l slots repo blob l' slots'
-  kept_new l l' slots' repo made raised =
+  pub kept_new : (l l' : Linked) (slots' : List Slot) (repo : Text) → link l repo blob.0 (length blob.1) ≡ Ok (true, l') → slots' ≡ with_slot (revived slots k) k (on_held link_up) → IsKept l slots repo blob l' slots'
+  kept_new l l' slots' repo made linked_up =
       let new = not-true _ (link_new l l' repo blob.0 (length blob.1) true made) in
-      again k there.0 found there.1 there.3 (sym (link_left l l' repo blob.0 (length blob.1) true made)) (raised ∙ ap (λ b. if b then revived slots k else with_slot (revived slots k) k (on_held raise)) (sym new))
+      again k there.0 found there.1 there.3 (sym (link_left l l' repo blob.0 (length blob.1) true made)) (linked_up ∙ ap (λ b. if b then revived slots k else with_slot (revived slots k) k (on_held link_up)) (sym new))
 
   pub kept_old : (l l' : Linked) (slots' : List Slot) (repo : Text) → link l repo blob.0 (length blob.1) ≡ Ok (false, l') → slots' ≡ revived slots k → IsKept l slots repo blob l' slots'
   kept_old l l' slots' repo made same =
       let old = not-false _ (link_new l l' repo blob.0 (length blob.1) false made) in
-      again k there.0 found there.1 there.3 (sym (link_left l l' repo blob.0 (length blob.1) false made)) (same ∙ ap (λ b. if b then revived slots k else with_slot (revived slots k) k (on_held raise)) (sym old))
+      again k there.0 found there.1 there.3 (sym (link_left l l' repo blob.0 (length blob.1) false made)) (same ∙ ap (λ b. if b then revived slots k else with_slot (revived slots k) k (on_held link_up)) (sym old))
 
 module _ (slots : List Slot) (k : ℕ) (digest : Text) (found : slot_of slots digest ≡ Some k) where
   abbrev blob_there : Text × Text
@@ -107,19 +107,19 @@ module _ (slots : List Slot) (k : ℕ) (digest : Text) (found : slot_of slots di
       let h = held_of slots digest k found in
       can.sizes k h.0 r m h.1 (ap (λ (d : Text). get l.links (r, d)) h.2 ∙ at) ∙ ap length (sym bytes_there)
 
-  pub again_new : (l l' : Linked) (slots' : List Slot) (repo : Text) → link l repo digest (length (bytes_at slots k)) ≡ Ok (true, l') → slots' ≡ with_slot (revived slots k) k (on_held raise) → IsKept l slots repo blob_there l' slots'
-  again_new l l' slots' repo made raised =
+  pub again_new : (l l' : Linked) (slots' : List Slot) (repo : Text) → link l repo digest (length (bytes_at slots k)) ≡ Ok (true, l') → slots' ≡ with_slot (revived slots k) k (on_held link_up) → IsKept l slots repo blob_there l' slots'
+  again_new l l' slots' repo made linked_up =
       let h = held_of slots digest k found in
       let new = not-true _ (link_new l l' repo digest (length (bytes_at slots k)) true made) in
-      again k h.0 found h.1 (sym bytes_there) (sym (link_left l l' repo digest (length (bytes_at slots k)) true made)) (raised ∙ ap (λ b. if b then revived slots k else with_slot (revived slots k) k (on_held raise)) (sym new))
+      again k h.0 found h.1 (sym bytes_there) (sym (link_left l l' repo digest (length (bytes_at slots k)) true made)) (linked_up ∙ ap (λ b. if b then revived slots k else with_slot (revived slots k) k (on_held link_up)) (sym new))
 
   pub again_old : (l l' : Linked) (repo : Text) → link l repo digest (length (bytes_at slots k)) ≡ Ok (false, l') → IsKept l slots repo blob_there l' (revived slots k)
   again_old l l' repo made =
       let h = held_of slots digest k found in
       let old = not-false _ (link_new l l' repo digest (length (bytes_at slots k)) false made) in
-      again k h.0 found h.1 (sym bytes_there) (sym (link_left l l' repo digest (length (bytes_at slots k)) false made)) (ap (λ b. if b then revived slots k else with_slot (revived slots k) k (on_held raise)) (sym old))
+      again k h.0 found h.1 (sym bytes_there) (sym (link_left l l' repo digest (length (bytes_at slots k)) false made)) (ap (λ b. if b then revived slots k else with_slot (revived slots k) k (on_held link_up)) (sym old))
 
 pub kept_anew : (l l' : Linked) (slots slots1 slots' : List Slot) (repo : Text) (blob : Text × Text) (k : ℕ) (b : Bool) → slot_of slots blob.0 ≡ None → phase_at slots k ≡ phase.Free → link l repo blob.0 (length blob.1) ≡ Ok (b, l') →
-    slots1 ≡ with_slot slots k (fill blob) → slots' ≡ with_slot slots1 k (on_held raise) → IsKept l slots repo blob l' slots'
-kept_anew l l' slots slots1 slots' repo blob k b none free made filled raised =
-    anew k none free (sym (link_left l l' repo blob.0 (length blob.1) b made)) (raised ∙ ap (λ xs. with_slot xs k (on_held raise)) filled)
+    slots1 ≡ with_slot slots k (fill blob) → slots' ≡ with_slot slots1 k (on_held link_up) → IsKept l slots repo blob l' slots'
+kept_anew l l' slots slots1 slots' repo blob k b none free made filled linked_up =
+    anew k none free (sym (link_left l l' repo blob.0 (length blob.1) b made)) (linked_up ∙ ap (λ xs. with_slot xs k (on_held link_up)) filled)

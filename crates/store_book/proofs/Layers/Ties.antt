@@ -16,7 +16,7 @@ use Rattle.finite_maps.proofs.Sums.{insert-remove, get-remove_same}
 use Rattle.finite_maps.specs.Rows.{IsApart}
 use Rattle.std.specs.Cmp.Lexicographic.{nat_list_cmp_total}
 use Rattle.slot_table.proofs.Finding.{not_held}
-use Rattle.slot_table.specs.Slots.{Slot, Held, Content, Free, Used, Retired, held_at, held_in, IsDistinct, is_retired, is_free, free_slots, slot_of, with_slot, on_held, content_with, raise, lower}
+use Rattle.slot_table.specs.Slots.{Slot, Held, Content, Free, Used, Retired, held_at, held_in, IsDistinct, is_retired, is_free, free_slots, slot_of, with_slot, on_held, content_with, link_up, link_down}
 use Rattle.link_table.specs.Linked.{Linked}
 use Rattle.finite_maps.specs.Texts.{Text, text_cmp}
 use Rattle.store_model.specs.Catalog.{Link, Resident, Catalog, link_cmp, holds, count}
@@ -52,11 +52,11 @@ pub record KeepsBlob (g : Held → Held) : Type 0 where
   pub digest : (h : Held) → (g h).digest ≡ h.digest
   pub resident : (h : Held) (lent : Bool) → resident_of lent (g h) ≡ resident_of lent h
 
-pub raise-KeepsBlob : KeepsBlob raise
-raise-KeepsBlob = record { digest = λ h. refl; resident = λ h lent. refl }
+pub link_up-KeepsBlob : KeepsBlob link_up
+link_up-KeepsBlob = record { digest = λ h. refl; resident = λ h lent. refl }
 
-pub lower-KeepsBlob : KeepsBlob lower
-lower-KeepsBlob = record { digest = λ h. refl; resident = λ h lent. refl }
+pub link_down-KeepsBlob : KeepsBlob link_down
+link_down-KeepsBlob = record { digest = λ h. refl; resident = λ h lent. refl }
 
 module _ (g : Held → Held) (keeps : KeepsBlob g) where
   same_content : (c : Content) (m : Bool) (rest : List (Text × Resident)) → with_resident (content_with g c) m rest ≡ with_resident c m rest
@@ -160,7 +160,7 @@ module _ (L : Layers) (marks : List Bool) (k : ℕ) (h : Held) (at : held_at L.s
 
   -- a link of a resident blob, and its slot counts one more
   pub IsTied-link : (n : ℕ) (b : Resident) → get C.residents h.digest ≡ Some b → n ≡ length b.bytes → holds C r h.digest ≡ false →
-      IsTied (record L.links { links = insert L.links.links (r, h.digest) n }) (with_slot L.slots k (on_held raise)) marks (catalog_from (record L { links = record L.links { links = insert L.links.links (r, h.digest) n }; slots = with_slot L.slots k (on_held raise) }) marks)
+      IsTied (record L.links { links = insert L.links.links (r, h.digest) n }) (with_slot L.slots k (on_held link_up)) marks (catalog_from (record L { links = record L.links { links = insert L.links.links (r, h.digest) n }; slots = with_slot L.slots k (on_held link_up) }) marks)
   IsTied-link n b kept size new =
       let D : Catalog = record C { links = links_of (insert L.links.links (r, h.digest) n) } in
       let same : D ≡ record C { links = set.insert C.links (r, h.digest) } = λ i. record C { links = links_of-insert L.links.links (r, h.digest) n i } in
@@ -168,7 +168,7 @@ module _ (L : Layers) (marks : List Bool) (k : ℕ) (h : Held) (at : held_at L.s
       let more : count (record C { links = set.insert C.links (r, h.digest) }) h.digest ≡ 1 + count C h.digest = count-link C r h.digest there new in
       let after : count D h.digest ≡ 1 + count C h.digest = ap (λ (X : Catalog). count X h.digest) same ∙ more in
       let counted : h.links + 1 ≡ count D h.digest = omega arith in
-      IsTied-relink L (insert L.links.links (r, h.digest) n) marks k h at raise raise-KeepsBlob tied
+      IsTied-relink L (insert L.links.links (r, h.digest) n) marks k h at link_up link_up-KeepsBlob tied
       (λ key m found. sized key m (eq_by_cmp link_cmp key (r, h.digest)) refl (sym (get-insert link_cmp_total L.links.links (r, h.digest) n key) ∙ found))
       counted
       (λ x differ. ap (λ (X : Catalog). count X x) same ∙ count_other-link C r h.digest x differ)
@@ -179,7 +179,7 @@ module _ (L : Layers) (marks : List Bool) (k : ℕ) (h : Held) (at : held_at L.s
 
   -- a link less, and its slot counts one less
   pub IsTied-unlink : (n : ℕ) → get L.links.links (r, h.digest) ≡ Some n →
-      IsTied (record L.links { links = remove L.links.links (r, h.digest) }) (with_slot L.slots k (on_held lower)) marks (catalog_from (record L { links = record L.links { links = remove L.links.links (r, h.digest) }; slots = with_slot L.slots k (on_held lower) }) marks)
+      IsTied (record L.links { links = remove L.links.links (r, h.digest) }) (with_slot L.slots k (on_held link_down)) marks (catalog_from (record L { links = record L.links { links = remove L.links.links (r, h.digest) }; slots = with_slot L.slots k (on_held link_down) }) marks)
   IsTied-unlink n linked =
       let D : Catalog = record C { links = links_of (remove L.links.links (r, h.digest)) } in
       let E : Catalog = record C { links = set.remove C.links (r, h.digest) } in
@@ -190,7 +190,7 @@ module _ (L : Layers) (marks : List Bool) (k : ℕ) (h : Held) (at : held_at L.s
       let old : h.links ≡ count C h.digest = tied.counts k h at in
       let one_more : count C h.digest ≡ 1 + count E h.digest = sym (ap (λ (X : Catalog). count X h.digest) again) ∙ count-link E r h.digest there gone in
       let less : h.links - 1 ≡ count E h.digest = omega arith in
-      IsTied-relink L (remove L.links.links (r, h.digest)) marks k h at lower lower-KeepsBlob tied
+      IsTied-relink L (remove L.links.links (r, h.digest)) marks k h at link_down link_down-KeepsBlob tied
       (λ key m found. tied.sizes key m (kept_at key m (eq_by_cmp link_cmp key (r, h.digest)) (sym (get-remove link_cmp_total L.links.links (r, h.digest) key) ∙ found)))
       (less ∙ sym (ap (λ (X : Catalog). count X h.digest) same))
       (λ x differ. ap (λ (X : Catalog). count X x) same ∙ sym (sym (ap (λ (X : Catalog). count X x) again) ∙ count_other-link E r h.digest x differ))

@@ -6,7 +6,7 @@ use Rattle.blob_digest.specs.declared.refusal.Refusal.TheVariants.{BlobUnknown, 
 use Rattle.finite_maps.proofs.Options.{some_value}
 use Rattle.finite_maps.specs.Sets as set
 use Rattle.slot_table.specs.declared.phase.Phase.TheVariants as phase
-use Rattle.slot_table.specs.Slots.{Slot, Held, slot_of, held_at, phase_at, links_at, with_slot, on_held, lower}
+use Rattle.slot_table.specs.Slots.{Slot, Held, slot_of, held_at, phase_at, links_at, with_slot, on_held, link_down}
 use Rattle.link_table.specs.Linked.{Linked, known_tenant, unlink}
 use Rattle.finite_maps.specs.Texts.{Text}
 use Rattle.store_model.specs.Catalog.{Catalog, count, holds}
@@ -14,18 +14,18 @@ use Rattle.store_model.specs.Commands.{delete, referrer}
 use Rattle.store_book.specs.Internal.Keeping.{linked_slot}
 use Rattle.store_book.specs.Layers.{Layers, lent_marks, catalog_from, book_catalog, IsTied, IsBook}
 use Rattle.store_book.specs.Pinned.{Pinned, shown, slotted, with_looks}
-use Rattle.store_book.proofs.Slots.Pinned.{all_seen-with_slot, lower-seen}
+use Rattle.store_book.proofs.Slots.Pinned.{all_seen-with_slot, link_down-seen}
 use Rattle.store_model.proofs.Invariant.Counts.{count-unlink}
 use Rattle.store_book.proofs.Slots.Lent.{marks-on}
 use Rattle.store_model.proofs.Commands.Delete.{Sound-after_delete}
 use Rattle.store_book.proofs.Layers.LinkedSlots.{holds_linked, linked_live, linked_some, linked_none}
 use Rattle.store_book.proofs.Slots.Writes.{phase_live}
 use Rattle.slot_table.proofs.Finding.{held_of}
-use Rattle.store_book.proofs.Layers.Ties.{links_of-remove, catalog-relink, IsTied-unlink, lower-KeepsBlob}
+use Rattle.store_book.proofs.Layers.Ties.{links_of-remove, catalog-relink, IsTied-unlink, link_down-KeepsBlob}
 
 -- a count that falls isn't seen
-pub slots_kept : (p q : Pinned) (k : ℕ) → q ≡ slotted k (on_held lower) p → (q.table ≡ p.table) × (shown q ≡ shown p)
-slots_kept p q k is = (ap (λ (x : Pinned). x.table) is, ap shown is ∙ ap (with_looks p.looks) (all_seen-with_slot p.slots k (on_held lower) p.bounds lower-seen))
+pub slots_kept : (p q : Pinned) (k : ℕ) → q ≡ slotted k (on_held link_down) p → (q.table ≡ p.table) × (shown q ≡ shown p)
+slots_kept p q k is = (ap (λ (x : Pinned). x.table) is, ap shown is ∙ ap (with_looks p.looks) (all_seen-with_slot p.slots k (on_held link_down) p.bounds link_down-seen))
 
 module _ (L : Layers) (t : ℕ) (repo digest : Text) (book : IsBook L) (known : known_tenant L.links repo ≡ Ok t) where
   abbrev C : Catalog
@@ -60,18 +60,18 @@ module _ (L : Layers) (t : ℕ) (repo digest : Text) (book : IsBook L) (known : 
     l' = unlink L.links repo digest
 
     abbrev slots' : List Slot
-    slots' = with_slot L.slots k (on_held lower)
+    slots' = with_slot L.slots k (on_held link_down)
 
     abbrev C' : Catalog
     C' = book_catalog (record L { links = l'; slots = slots' })
 
     marks : lent_marks L.slots ≡ lent_marks slots'
-    marks = sym (marks-on lower (λ h. refl) L.slots k)
+    marks = sym (marks-on link_down (λ h. refl) L.slots k)
 
     left : C' ≡ record C { links = set.remove C.links (repo, digest) }
     left =
         (λ i. catalog_from (record L { links = l'; slots = slots' }) (sym marks i))
-        ∙ catalog-relink L (remove L.links.links (repo, digest)) (lent_marks L.slots) k held.0 held.1 lower lower-KeepsBlob book.tied
+        ∙ catalog-relink L (remove L.links.links (repo, digest)) (lent_marks L.slots) k held.0 held.1 link_down link_down-KeepsBlob book.tied
         ∙ (λ i. record C { links = links_of-remove L.links.links (repo, digest) i })
 
     -- a manifest that refers to the digest

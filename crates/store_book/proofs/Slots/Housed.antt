@@ -5,7 +5,7 @@ use Rattle.std.specs.Option.{option_map, option_map_or}
 use Rattle.std.specs.FinMap.{contains_key}
 use Rattle.std.proofs.lemmas.Bool.{cases_eq}
 use Rattle.slot_table.specs.declared.phase.Phase.TheVariants as phase
-use Rattle.slot_table.specs.Slots.{Slot, Held, Content, Free, Used, Retired, held_at, held_in, phase_in, with_slot, on_held, content_with, fill, mark, raise}
+use Rattle.slot_table.specs.Slots.{Slot, Held, Content, Free, Used, Retired, held_at, held_in, phase_in, with_slot, on_held, content_with, fill, mark, link_up}
 use Rattle.link_table.specs.Linked.{Linked}
 use Rattle.store_book.specs.BookState.{SlotSeen}
 use Rattle.finite_maps.specs.Texts.{Text}
@@ -61,10 +61,10 @@ revived_live Free h e = absurd cc
 revived_live (Used x) h e = (refl, ap (λ (y : Held). Some y.digest) (some_same e))
 revived_live Retired h e = absurd cc
 
-raised_live : (c : Content) (h : Held) → held_in c ≡ Some h → (phase_in (content_with raise (content_with (mark false) c)) ≡ phase.Live) × (digest_in (content_with raise (content_with (mark false) c)) ≡ Some h.digest)
-raised_live Free h e = absurd cc
-raised_live (Used x) h e = (refl, ap (λ (y : Held). Some y.digest) (some_same e))
-raised_live Retired h e = absurd cc
+linked_live : (c : Content) (h : Held) → held_in c ≡ Some h → (phase_in (content_with link_up (content_with (mark false) c)) ≡ phase.Live) × (digest_in (content_with link_up (content_with (mark false) c)) ≡ Some h.digest)
+linked_live Free h e = absurd cc
+linked_live (Used x) h e = (refl, ap (λ (y : Held). Some y.digest) (some_same e))
+linked_live Retired h e = absurd cc
 
 -- what a slot holds, by its place
 held_slot : (p : Pinned) (k : ℕ) (h : Held) (s : Slot) → held_at p.slots k ≡ Some h → slice_get p.slots k ≡ Some s → held_in s.content ≡ Some h
@@ -79,11 +79,11 @@ each_housed p q l l' repo blob quiet (again k h place at bytes links slots_are) 
     was : (s : Slot) → slice_get p.slots k ≡ Some s → (phase_in s.content ≡ phase.Free) ⊎ (digest_in s.content ≡ Some blob.0)
     was s here = inr (ap (option_map (λ (x : Held). x.digest)) (held_slot p k h s at here) ∙ ap Some is_digest)
 
-    by : (b : Bool) → q.slots ≡ (if b then revived p.slots k else with_slot (revived p.slots k) k (on_held raise)) → EachSlot (IsHousing blob.0) (all_seen p.slots p.bounds) (all_seen q.slots q.bounds)
+    by : (b : Bool) → q.slots ≡ (if b then revived p.slots k else with_slot (revived p.slots k) k (on_held link_up)) → EachSlot (IsHousing blob.0) (all_seen p.slots p.bounds) (all_seen q.slots q.bounds)
     by true is = one_housed p q blob.0 quiet k (on_held (mark false)) is was (λ s here. (let live = revived_live s.content h (held_slot p k h s at here) in (live.0, live.1 ∙ ap Some is_digest)))
-    by false is = one_housed p q blob.0 quiet k (λ s. on_held raise (on_held (mark false) s)) (is ∙ with_slot-twice p.slots k (on_held (mark false)) (on_held raise)) was (λ s here. (let live = raised_live s.content h (held_slot p k h s at here) in (live.0, live.1 ∙ ap Some is_digest)))
+    by false is = one_housed p q blob.0 quiet k (λ s. on_held link_up (on_held (mark false) s)) (is ∙ with_slot-twice p.slots k (on_held (mark false)) (on_held link_up)) was (λ s here. (let live = linked_live s.content h (held_slot p k h s at here) in (live.0, live.1 ∙ ap Some is_digest)))
 each_housed p q l l' repo blob quiet (anew k none free links slots_are) =
-    one_housed p q blob.0 quiet k (λ s. on_held raise (fill blob s)) (slots_are ∙ with_slot-twice p.slots k (fill blob) (on_held raise))
+    one_housed p q blob.0 quiet k (λ s. on_held link_up (fill blob s)) (slots_are ∙ with_slot-twice p.slots k (fill blob) (on_held link_up))
     (λ s here. inl (sym (ap (λ o. option_map_or (λ (x : Slot). phase_in x.content) o phase.Retired) here) ∙ free)) (λ s here. (refl, refl))
 
 -- the same with how often each slot was looked at

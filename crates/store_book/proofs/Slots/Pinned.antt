@@ -14,7 +14,7 @@ use Rattle.pin_core.specs.Events.{IsNew, given_row, in_phase}
 use Rattle.pin_core.specs.World.{row, no_row}
 use Rattle.pin_table.specs.Rule.{raised}
 use Rattle.slot_table.specs.declared.phase.Phase.TheVariants as phase
-use Rattle.slot_table.specs.Slots.{initial_slots, Slot, Held, Content, Free, Used, Retired, held_in, held_at, phase_in, phase_at, slot_of, with_slot, on_held, content_with, fill, mark, raise, lower, lend, empty_slot}
+use Rattle.slot_table.specs.Slots.{initial_slots, Slot, Held, Content, Free, Used, Retired, held_in, held_at, phase_in, phase_at, slot_of, with_slot, on_held, content_with, fill, mark, link_up, link_down, lend, empty_slot}
 use Rattle.blob_digest.specs.declared.refusal.Refusal.{Refusal}
 use Rattle.blob_digest.specs.declared.refusal.Refusal.TheVariants.{LimitReached}
 use Rattle.store_book.specs.BookState.{SlotSeen}
@@ -54,18 +54,18 @@ all_seen-with_slot (s ∷ slots) zero f (b ∷ bounds) same = ap (λ x. x ∷ al
 all_seen-with_slot (s ∷ slots) (suc k) f [] same = ap (λ xs. all_seen xs []) (with_slot-suc s slots k f) ∙ ap (λ xs. seen s 0 ∷ xs) (all_seen-with_slot slots k f [] same)
 all_seen-with_slot (s ∷ slots) (suc k) f (b ∷ bounds) same = ap (λ xs. all_seen xs (b ∷ bounds)) (with_slot-suc s slots k f) ∙ ap (λ xs. seen s b ∷ xs) (all_seen-with_slot slots k f bounds same)
 
-pub raise-seen : (s : Slot) (b : ℕ) → seen (on_held raise s) b ≡ seen s b
-raise-seen s b = by_content s.content
+pub link_up-seen : (s : Slot) (b : ℕ) → seen (on_held link_up s) b ≡ seen s b
+link_up-seen s b = by_content s.content
   where
-    by_content : (c : Content) → seen (record { generation = s.generation; content = content_with raise c }) b ≡ seen (record { generation = s.generation; content = c }) b
+    by_content : (c : Content) → seen (record { generation = s.generation; content = content_with link_up c }) b ≡ seen (record { generation = s.generation; content = c }) b
     by_content Free = refl
     by_content (Used h) = refl
     by_content Retired = refl
 
-pub lower-seen : (s : Slot) (b : ℕ) → seen (on_held lower s) b ≡ seen s b
-lower-seen s b = by_content s.content
+pub link_down-seen : (s : Slot) (b : ℕ) → seen (on_held link_down s) b ≡ seen s b
+link_down-seen s b = by_content s.content
   where
-    by_content : (c : Content) → seen (record { generation = s.generation; content = content_with lower c }) b ≡ seen (record { generation = s.generation; content = c }) b
+    by_content : (c : Content) → seen (record { generation = s.generation; content = content_with link_down c }) b ≡ seen (record { generation = s.generation; content = c }) b
     by_content Free = refl
     by_content (Used h) = refl
     by_content Retired = refl
@@ -180,18 +180,18 @@ IsPinned-kept g same mark_kept slots k rows bounds kept = record {
     by_origin j x y (inl e) unlent = ap (λ (h : Held). h.lent) (sym e) ∙ unlent
     by_origin j x y (inr e) unlent = sym (mark_kept y) ∙ ap (λ (h : Held). h.lent) (sym e.1) ∙ unlent
 
-pub raise-row : (s : Slot) → row_of (on_held raise s) ≡ row_of s
-raise-row s = by_content s.content
+pub link_up-row : (s : Slot) → row_of (on_held link_up s) ≡ row_of s
+link_up-row s = by_content s.content
   where
-    by_content : (c : Content) → row_of (record { generation = s.generation; content = content_with raise c }) ≡ row_of (record { generation = s.generation; content = c })
+    by_content : (c : Content) → row_of (record { generation = s.generation; content = content_with link_up c }) ≡ row_of (record { generation = s.generation; content = c })
     by_content Free = refl
     by_content (Used h) = refl
     by_content Retired = refl
 
-pub lower-row : (s : Slot) → row_of (on_held lower s) ≡ row_of s
-lower-row s = by_content s.content
+pub link_down-row : (s : Slot) → row_of (on_held link_down s) ≡ row_of s
+link_down-row s = by_content s.content
   where
-    by_content : (c : Content) → row_of (record { generation = s.generation; content = content_with lower c }) ≡ row_of (record { generation = s.generation; content = c })
+    by_content : (c : Content) → row_of (record { generation = s.generation; content = content_with link_down c }) ≡ row_of (record { generation = s.generation; content = c })
     by_content Free = refl
     by_content (Used h) = refl
     by_content Retired = refl

@@ -8,7 +8,7 @@ use Rattle.finite_maps.specs.Outcomes.{◌>>=◌}
 use Rattle.finite_maps.specs.Sets as set
 use Rattle.blob_digest.specs.declared.refusal.Refusal.{Refusal}
 use Rattle.blob_digest.specs.declared.refusal.Refusal.TheVariants.{DigestInvalid, StoreFull, ManifestBlobUnknown}
-use Rattle.slot_table.specs.Slots.{Slot, Held, slot_of, held_at, phase_at, free_slots, with_slot, fill, on_held, raise, mark}
+use Rattle.slot_table.specs.Slots.{Slot, Held, slot_of, held_at, phase_at, free_slots, with_slot, fill, on_held, link_up, mark}
 use Rattle.slot_table.specs.declared.phase.Phase.TheVariants as phase
 use Rattle.link_table.specs.Linked.{Linked, is_tenants, blobs_of, used_in, first_unlinked, appear, put_manifest}
 
@@ -35,13 +35,13 @@ revived slots k = with_slot slots k (on_held (mark false))
 
 -- the slots after a link of the blob in slot k, which counts where it is new
 abbrev pub with_link_count : Linked → List Slot → Text → Text → ℕ → List Slot
-with_link_count l slots repo digest k = if fmap.contains_key l.links (repo, digest) then slots else with_slot slots k (on_held raise)
+with_link_count l slots repo digest k = if fmap.contains_key l.links (repo, digest) then slots else with_slot slots k (on_held link_up)
 
 -- A blob is linked in a repository. Its digest had a slot, which holds the same bytes, is live now, and counts the link where it is new; or
 -- a free slot was filled with it, and counts one link.
 pub data IsKept (l : Linked) (slots : List Slot) (repo : Text) (blob : Text × Text) (l' : Linked) (slots' : List Slot) : Type 0 where
   again : (k : ℕ) (h : Held) → slot_of slots blob.0 ≡ Some k → held_at slots k ≡ Some h → h.bytes ≡ blob.1 → l' ≡ linked l repo blob → slots' ≡ with_link_count l (revived slots k) repo blob.0 k → IsKept l slots repo blob l' slots'
-  anew : (k : ℕ) → slot_of slots blob.0 ≡ None → phase_at slots k ≡ phase.Free → l' ≡ linked l repo blob → slots' ≡ with_slot (with_slot slots k (fill blob)) k (on_held raise) → IsKept l slots repo blob l' slots'
+  anew : (k : ℕ) → slot_of slots blob.0 ≡ None → phase_at slots k ≡ phase.Free → l' ≡ linked l repo blob → slots' ≡ with_slot (with_slot slots k (fill blob)) k (on_held link_up) → IsKept l slots repo blob l' slots'
 
 -- Why a blob isn't linked: its digest has a slot with other bytes, or none, and no slot is free.
 pub data IsUnkept (slots : List Slot) (blob : Text × Text) (e : Refusal) : Type 0 where

@@ -1,5 +1,5 @@
 use Rattle.std.proofs.Common.{◌≡◌, true, false, rules, refl, sym, ap, ◌∙◌}
-use Rattle.slot_table.specs.Slots.{with_slot, on_held, raise, mark, phase_at}
+use Rattle.slot_table.specs.Slots.{with_slot, on_held, link_up, mark, phase_at}
 use Rattle.store_book.specs.Pinned.{Pinned, Quietly}
 use Rattle.store_book.proofs.Layers.KeepCalls.{test_at, differs_by_test, again_size, awake_live, awake_room, kept_new, kept_old}
 use Rattle.store_book.proofs.Slots.Pinned.{Quietly-same, Quietly-slotted}
@@ -36,7 +36,7 @@ returns-after-is_new-clause-ok c =
     elim c.if-is_new.branch [
       | then-is_new w ↦
           kept_new c.args.slots.now.slots c.args.slot c.args.blob c.requires.there test c.args.links.now c.link.new.self c.if-is_new.slots.slots c.args.repo.now (rw (c.digest.ensures.value, c.bytes-2.ensures.value, w.if-is_new.true) at c.in-Ok.ensures)
-          (ap (λ (p : Pinned). p.slots) (w.slots-is ∙ w.link_up.ensures ∙ ap (λ (q : Pinned). record { table = q.table; slots = with_slot q.slots c.args.slot (on_held raise); bounds = q.bounds; looks = q.looks }) c.revive.ensures))
+          (ap (λ (p : Pinned). p.slots) (w.slots-is ∙ w.link_up.ensures ∙ ap (λ (q : Pinned). record { table = q.table; slots = with_slot q.slots c.args.slot (on_held link_up); bounds = q.bounds; looks = q.looks }) c.revive.ensures))
       | else-is_new w ↦
           kept_old c.args.slots.now.slots c.args.slot c.args.blob c.requires.there test c.args.links.now c.link.new.self c.if-is_new.slots.slots c.args.repo.now (rw (c.digest.ensures.value, c.bytes-2.ensures.value, w.if-is_new.false) at c.in-Ok.ensures)
           (ap (λ (p : Pinned). p.slots) (w.slots-is ∙ c.revive.ensures))
@@ -46,6 +46,6 @@ pub returns-after-is_new-clause-quiet : goal.returns-after-is_new-clause-quiet
 returns-after-is_new-clause-quiet c =
     let awake : Quietly c.args.slots.now c.revive.new.self = Quietly-slotted c.args.slots.now c.args.slots.now c.revive.new.self c.args.slot (on_held (mark false)) (λ s. refl) (Quietly-same c.args.slots.now) c.revive.ensures in
     elim c.if-is_new.branch [
-      | then-is_new w ↦ Quietly-slotted c.args.slots.now c.revive.new.self c.if-is_new.slots c.args.slot (on_held raise) (λ s. refl) awake (w.slots-is ∙ w.link_up.ensures)
+      | then-is_new w ↦ Quietly-slotted c.args.slots.now c.revive.new.self c.if-is_new.slots c.args.slot (on_held link_up) (λ s. refl) awake (w.slots-is ∙ w.link_up.ensures)
       | else-is_new w ↦ rw w.slots-is awake
     ]

@@ -1,5 +1,5 @@
 use Rattle.std.proofs.Common.{◌∙◌, ap, refl, length}
-use Rattle.slot_table.specs.Slots.{on_held, raise}
+use Rattle.slot_table.specs.Slots.{on_held, link_up}
 use Rattle.store_book.specs.Pinned.{Pinned}
 use Rattle.store_book.proofs.Slots.Pinned.{Quietly-placed, Quietly-slotted}
 use Rattle.store_book.proofs.Layers.KeepCalls.{link_there, unlink-link, kept_anew}
@@ -15,7 +15,7 @@ returns-in-Ok-clause-ok c =
 
 pub returns-in-Ok-clause-quiet : goal.returns-in-Ok-clause-quiet
 returns-in-Ok-clause-quiet c =
-    Quietly-slotted c.args.slots.now c.place.new.self c.link_up.new.self c.in-Ok.slot (on_held raise) (λ s. refl) (Quietly-placed c.args.slots.now c.place.new.self c.in-Ok.slot c.args.blob c.in-Ok.ensures.ok) c.link_up.ensures
+    Quietly-slotted c.args.slots.now c.place.new.self c.link_up.new.self c.in-Ok.slot (on_held link_up) (λ s. refl) (Quietly-placed c.args.slots.now c.place.new.self c.in-Ok.slot c.args.blob c.in-Ok.ensures.ok) c.link_up.ensures
 
 pub returns-in-Err-place-clause-err : goal.returns-in-Err-place-clause-err
 returns-in-Err-place-clause-err c = (

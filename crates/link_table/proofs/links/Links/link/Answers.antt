@@ -5,7 +5,7 @@ use Rattle.link_table.specs.TenantRepos.{Owned, links_shown}
 use Rattle.link_table.specs.Tenancy.{tenants_shown}
 use Rattle.link_table.proofs.HolderCounts.{holders_at, count_in-most, held-counted, past_one, Counts-insert, Counts-same}
 use Rattle.link_table.proofs.TenantRepos.{links-there, repos-there, links-insert, links-same, repos-same}
-use Rattle.link_table.proofs.Soundness.{contains-blob, IsSound-link, link_there, link_new, linked_again, was_new, was_there}
+use Rattle.link_table.proofs.Soundness.{contains-blob, KeepsUsage-link, link_there, link_new, linked_again, was_new, was_there}
 use Rattle.link_table.proofs.Tables.{owned_at, linked_of, unlinked_again, IsOwned-link, IsOwned-same}
 use Rattle.link_table.proofs.links.Links.link.Goals as goal
 
@@ -76,7 +76,7 @@ invariant_of-self-in-Ok c =
     let known = ap is_some (sym (repos-there tenants by_tenant c.self.invariant.1 c.args.tenant s at c.args.repo.now own)) ∙ (rw (← c.self.view_is) at c.requires.known) in
     let counted = holders_at tenants (links_shown by_tenant) c.self.inside.holders.items c.self.invariant.2 c.args.tenant lt c.index_mut.result.now c.index_mut.ensures.value in
     let held = past_one c.in-Ok.count _ c.in-Ok.ensures.count ∙ held-counted tenants (links_shown by_tenant) c.self.inside.holders.items c.self.invariant.2 c.args.tenant c.index_mut.result.now counted c.args.digest.now ∙ sym (contains-blob tenants c.args.tenant c.args.digest.now (links_shown by_tenant)) in (
-      rw links (IsSound-link tenants (links_shown by_tenant) c.self.inside.blob_bytes.items c.self.inside.charges.items c.self.invariant.0 c.args.tenant lt c.args.repo.now c.args.digest.now c.args.size own
+      rw links (KeepsUsage-link tenants (links_shown by_tenant) c.self.inside.blob_bytes.items c.self.inside.charges.items c.self.invariant.0 c.args.tenant lt c.args.repo.now c.args.digest.now c.args.size own
           (rw (← c.self.view_is) at c.requires.size) (rw (← c.self.view_is) at c.requires.room) (nat_lt 1 c.in-Ok.count) held c.index.result.now c.bytes_with.result c.index.ensures c.bytes_with.ensures),
       IsOwned-link tenants by_tenant c.self.invariant.1 c.self.inside.manifests c.self.inside.charges.items c.args.tenant s at c.args.repo.now own c.link.new.self c.args.digest.now c.args.size known c.in_ok-link.ensures.ok,
       rw links (Counts-insert tenants (links_shown by_tenant) c.self.inside.holders.items c.self.invariant.2 c.args.tenant c.index_mut.result.now counted c.increment.new.holders c.args.repo.now c.args.digest.now c.args.size own absent c.in-Ok.ensures.ok),

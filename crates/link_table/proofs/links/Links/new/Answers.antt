@@ -7,7 +7,7 @@ use Rattle.finite_maps.proofs.Rows.{entries-empty}
 use Rattle.link_table.specs.TenantRepos.{links_shown, repos_shown}
 use Rattle.link_table.specs.Tenancy.{tenant_shown, tenants_shown}
 use Rattle.link_table.proofs.HolderCounts.{Counts-initial}
-use Rattle.link_table.proofs.Soundness.{IsSound-initial}
+use Rattle.link_table.proofs.Soundness.{KeepsUsage-initial}
 use Rattle.link_table.proofs.Tables.{links-initial, repos-initial, IsOwned-initial}
 use Rattle.link_table.proofs.links.Links.new.Goals as goal
 
@@ -20,7 +20,7 @@ invariant_of-result c =
     let s = rw c.as_slice-count.ensures.value at c.in_ok-repos.ensures.ok in
     let holders = rw c.as_slice-count.ensures.value at c.in_ok-holders.ensures.ok in
     let links = ap links_shown s ∙ links-initial (length c.in_ok-tenants.tenants.items) in (
-      IsSound-initial tenants (links_shown c.in_ok-repos.repos.items) c.in_ok-blob_bytes.blob_bytes.items c.in_ok-charges.charges.items
+      KeepsUsage-initial tenants (links_shown c.in_ok-repos.repos.items) c.in_ok-blob_bytes.blob_bytes.items c.in_ok-charges.charges.items
           c.in_ok-tenants.ensures.kept links (w ∙ ap (λ m. replicate m 0) (sym n)) (k ∙ ap (λ m. replicate m 0) (sym n)),
       IsOwned-initial tenants c.in_ok-repos.repos.items (length c.in_ok-tenants.tenants.items) (sym n) s,
       Counts-initial tenants (links_shown c.in_ok-repos.repos.items) c.in_ok-holders.holders.items (ap entries links ∙ entries-empty link_cmp ℕ)

@@ -5,7 +5,7 @@ use Rattle.link_table.specs.TenantRepos.{Owned, links_shown}
 use Rattle.link_table.specs.Tenancy.{tenants_shown}
 use Rattle.link_table.proofs.HolderCounts.{holders_at, held-counted, some_counted, Counts-remove}
 use Rattle.link_table.proofs.TenantRepos.{links-there, links-remove, repos-same}
-use Rattle.link_table.proofs.Soundness.{contains-blob, light_enough, IsSound-unlink}
+use Rattle.link_table.proofs.Soundness.{contains-blob, light_enough, KeepsUsage-unlink}
 use Rattle.link_table.proofs.Tables.{owned_at, IsOwned-unlink}
 use Rattle.link_table.proofs.links.Links.unlink.Goals as goal
 
@@ -54,7 +54,7 @@ invariant_of-self c =
     let after = holders_at tenants without holders counts c.args.tenant lt c.index.result.now c.index.ensures in
     let held = ap (nat_lt 0) c.holders_of-held.ensures ∙ held-counted tenants without holders counts c.args.tenant c.index.result.now after c.args.digest.now ∙ sym (contains-blob tenants c.args.tenant c.args.digest.now without) in
     let links = links-remove tenants by_tenant c.self.invariant.1 c.args.tenant s at c.args.repo.now own c.args.digest.now c.unlink.new.self (ap (λ (x : Owned). x.links) c.in-Some.ensures.gone) in (
-      rw links (IsSound-unlink tenants (links_shown by_tenant) c.self.inside.blob_bytes.items c.self.inside.charges.items c.self.invariant.0 c.args.tenant lt c.args.repo.now c.args.digest.now c.in-Some.size own there (nat_lt 0 c.holders_of-held.result) held
+      rw links (KeepsUsage-unlink tenants (links_shown by_tenant) c.self.inside.blob_bytes.items c.self.inside.charges.items c.self.invariant.0 c.args.tenant lt c.args.repo.now c.args.digest.now c.in-Some.size own there (nat_lt 0 c.holders_of-held.result) held
           c.index-in-Some.result.now c.index-in-Some.ensures c.bytes_without.result c.bytes_without.ensures),
       IsOwned-unlink tenants by_tenant c.self.invariant.1 c.self.inside.manifests c.self.inside.charges.items c.args.tenant s at c.args.repo.now own c.unlink.new.self c.args.digest.now c.in-Some.ensures.gone,
       rw links counts,
