@@ -1,15 +1,13 @@
 -- What a book's calls say of its slots and its leases, as rows are played on it.
-use Rattle.std.proofs.Common.{◌≡◌, ◌≢◌, ◌⊎◌, ◌∙◌, ℕ, Bool, List, true, false, Option, Some, None, Result, Ok, Err, ap, arith, inl, inr, refl, sym, length}
-use Rattle.std.specs.Prelude.{MatchResult, slice_get, not}
+use Rattle.std.proofs.Common.{◌≡◌, ◌≢◌, ◌⊎◌, ℕ, Bool, List, true, false, Option, Some, None, Result, Ok, Err, ap, arith, inl, inr, refl}
+use Rattle.std.specs.Prelude.{MatchResult, not}
 use Rattle.std.specs.Option.{ok_or}
 use Rattle.std.specs.FinMap as fmap
 use Rattle.std.proofs.lemmas.Bool.{cases_lt}
-use Rattle.std.proofs.lemmas.Option.{same_Some}
 use Rattle.finite_maps.specs.Texts.{Text}
 use Rattle.finite_maps.specs.Outcomes.{◌>>=◌, refuse}
 use Rattle.blob_digest.specs.declared.refusal.Refusal.{Refusal}
 use Rattle.blob_digest.specs.declared.refusal.Refusal.TheVariants.{NameUnknown, BlobUnknown, TooManyReaders}
-use Rattle.slot_table.specs.declared.phase.Phase.TheVariants as phase
 use Rattle.store_model.specs.Catalog.{Catalog, Resident, holds, tenant_of}
 use Rattle.store_model.specs.Runs as runs
 use Rattle.store_model.specs.Commands.{Outcome, lease, with_lent}
@@ -24,20 +22,6 @@ use Rattle.blobctl.specs.Played.{ActsCall, RisesByOne, row_answer}
 each : {R Q : SlotSeen → SlotSeen → Type 0} (old new : List SlotSeen) → ((a b : SlotSeen) → R a b → Q a b) → slots.EachSlot R old new → slots.EachSlot Q old new
 each old new weaker h = (h.0, λ k a b was at. weaker a b (h.1 k a b was at))
 
-pub same_rise : (old new : List SlotSeen) → new ≡ old → slots.EachSlot RisesByOne old new
-same_rise old new same = (
-  ap length same,
-  λ k a b was at.
-      let one : b ≡ a = same_Some b a (sym at ∙ ap (λ (xs : List SlotSeen). slice_get xs k) same ∙ was) in
-      rw one (omega arith, omega arith),
-)
-
-quiet_rises : (a b : SlotSeen) → slots.IsQuiet a b → RisesByOne a b
-quiet_rises a b quiet = (omega (arith, quiet.0), omega (arith, quiet.1))
-
-pub quiet_rise : (old new : List SlotSeen) → slots.EachSlot slots.IsQuiet old new → slots.EachSlot RisesByOne old new
-quiet_rise old new h = each old new quiet_rises h
-
 lending_rises : (digest : Text) (a b : SlotSeen) → slots.IsLending digest a b → RisesByOne a b
 lending_rises digest a b lending = (
   omega (arith, lending.0),
@@ -49,21 +33,6 @@ lending_rises digest a b lending = (
 
 pub lending_rise : (digest : Text) (old new : List SlotSeen) → slots.EachSlot (slots.IsLending digest) old new → slots.EachSlot RisesByOne old new
 lending_rise digest old new h = each old new (lending_rises digest) h
-
-still_rises : (a b : SlotSeen) → slots.IsStill a b → RisesByOne a b
-still_rises a b still = (omega (arith, still.0), omega (arith, still.3))
-
-pub still_rise : (old new : List SlotSeen) → slots.EachSlot slots.IsStill old new → slots.EachSlot RisesByOne old new
-still_rise old new h = each old new still_rises h
-
-swept_rises : (a b : SlotSeen) → slots.IsSweptSlot a b → RisesByOne a b
-swept_rises a b (slots.same still) = still_rises a b still
-swept_rises a b (slots.condemned was still) = still_rises (record a { phase = phase.Condemned }) b still
-swept_rises a b (slots.freed d was more is) = rw is (omega arith, omega arith)
-swept_rises a b (slots.retired d was last is) = rw is (omega arith, omega arith)
-
-pub swept_rise : (old new : List SlotSeen) → slots.EachSlot slots.IsSweptSlot old new → slots.EachSlot RisesByOne old new
-swept_rise old new h = each old new swept_rises h
 
 -- ---- leases
 

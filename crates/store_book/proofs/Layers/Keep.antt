@@ -27,7 +27,7 @@ use Rattle.store_book.specs.Layers.{Layers, links_of, lent_marks, resident_of, c
 use Rattle.store_book.specs.Internal.Keeping.{linked, revived, IsKept, again, anew}
 use Rattle.finite_maps.proofs.Maps.{get-insert_at}
 use Rattle.store_book.proofs.Slots.Lent.{length-marks, marks-on, marks-fill, unmarked}
-use Rattle.store_book.proofs.Slots.Changed.{resident_at, mark-KeepsTies, held_at-with, catalog-change, IsTied-change}
+use Rattle.store_book.proofs.Slots.Changed.{resident_at, mark-KeepsTies, catalog-change, IsTied-change}
 use Rattle.store_model.proofs.Invariant.Blobs.{Lawful-put}
 use Rattle.store_book.proofs.Layers.Sums.{holds_is}
 use Rattle.slot_table.proofs.Finding.{held_of}
@@ -35,6 +35,7 @@ use Rattle.store_book.proofs.Layers.Ties.{links_of-insert, catalog-relink, IsTie
 use Rattle.store_book.proofs.Slots.Filled.{stored}
 use Rattle.store_book.proofs.Slots.Placed.{catalog-fill, IsTied-fill, held_at-fill, free_slot}
 use Rattle.store_model.proofs.Invariant.Links.{unlinked}
+use Rattle.store_book.proofs.Slots.Writes.{held_at-on}
 
 -- where an element passes, some are counted
 counted_there : {A : Type 0} (p : A → Bool) (xs : List A) (k : ℕ) (x : A) → slice_get xs k ≡ Some x → p x ≡ true → 0 < count_by p xs
@@ -286,8 +287,8 @@ module _ (L : Layers) (repo : Text) (blob : Text × Text) where
           }
 
       by_link : (b : Bool) → contains_key L.links.links (repo, blob.0) ≡ b → Keeps (record L { slots = live_again }) repo blob (linked L.links repo blob) (if b then live_again else with_slot live_again k (on_held link_up))
-      by_link true is = Keeps-old (record L { slots = live_again }) repo blob (IsTied-change (mark false) (mark-KeepsTies false) L k h at tied) lawful_live_again there k (mark false h) (held_at-with (mark false) (mark-KeepsTies false) L.slots k h at) digest bytes refl is
-      by_link false is = Keeps-new (record L { slots = live_again }) repo blob (IsTied-change (mark false) (mark-KeepsTies false) L k h at tied) lawful_live_again there k (mark false h) (held_at-with (mark false) (mark-KeepsTies false) L.slots k h at) digest bytes refl is
+      by_link true is = Keeps-old (record L { slots = live_again }) repo blob (IsTied-change (mark false) (mark-KeepsTies false) L k h at tied) lawful_live_again there k (mark false h) (held_at-on (mark false) L.slots k h at) digest bytes refl is
+      by_link false is = Keeps-new (record L { slots = live_again }) repo blob (IsTied-change (mark false) (mark-KeepsTies false) L k h at tied) lawful_live_again there k (mark false h) (held_at-on (mark false) L.slots k h at) digest bytes refl is
 
       Keeps-again : Keeps L repo blob (linked L.links repo blob) (if contains_key L.links.links (repo, blob.0) then live_again else with_slot live_again k (on_held link_up))
       Keeps-again = Keeps-live_again _ _ (by_link (contains_key L.links.links (repo, blob.0)) refl)

@@ -15,9 +15,8 @@ use Rattle.slot_table.specs.declared.phase.Phase.TheVariants as phase
 use Rattle.slot_table.specs.Slots.{Slot, Held, slot_of, held_at, links_at, phase_at, with_slot, fill, on_held, link_up, mark}
 use Rattle.link_table.specs.Linked.{Linked, link, unlink}
 use Rattle.store_book.specs.Internal.Keeping.{revived, bytes_at, CanKeep, IsKept, IsUnkept, again, anew, differs}
-use Rattle.store_book.proofs.Slots.Changed.{held_at-with, mark-KeepsTies}
 use Rattle.finite_maps.proofs.Maps.{get-insert_at}
-use Rattle.store_book.proofs.Slots.Writes.{phase_live}
+use Rattle.store_book.proofs.Slots.Writes.{phase_live, held_at-on}
 use Rattle.slot_table.proofs.Finding.{held_of}
 
 -- what a link answered, and left
@@ -70,7 +69,7 @@ module _ (slots : List Slot) (k : ℕ) (blob : Text × Text) (found : slot_of sl
   there = same_by_test slots k blob found test
 
   awake_holds : held_at (revived slots k) k ≡ Some (mark false there.0)
-  awake_holds = held_at-with (mark false) (mark-KeepsTies false) slots k there.0 there.1
+  awake_holds = held_at-on (mark false) slots k there.0 there.1
 
   pub again_size : (l : Linked) (t : ℕ) (repo : Text) → CanKeep l slots t repo blob → (r : Text) (m : ℕ) → get l.links (r, blob.0) ≡ Some m → m ≡ length blob.1
   again_size l t repo can r m at = can.sizes k there.0 r m there.1 (ap (λ (d : Text). get l.links (r, d)) there.2 ∙ at) ∙ ap length there.3

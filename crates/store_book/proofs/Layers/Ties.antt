@@ -20,7 +20,7 @@ use Rattle.slot_table.specs.Slots.{Slot, Held, Content, Free, Used, Retired, hel
 use Rattle.link_table.specs.Linked.{Linked}
 use Rattle.finite_maps.specs.Texts.{Text, text_cmp}
 use Rattle.store_model.specs.Catalog.{Link, Resident, Catalog, link_cmp, holds, count}
-use Rattle.store_book.proofs.Slots.Writes.{with_slot-suc, length-with_slot, count_by-with_slot, held_at-same, held_at-other, slot_of_held}
+use Rattle.store_book.proofs.Slots.Writes.{with_slot-suc, length-with_slot, held_at-other, held_at-on, retired-with_slot}
 use Rattle.store_model.proofs.Invariant.Counts.{count-link, count_other-link}
 use Rattle.store_book.specs.Layers.{Layers, links_of, resident_of, with_resident, resident_rows, residents_of, catalog_from, IsTied}
 use Rattle.store_book.proofs.Layers.Sums.{get-links_of, mark, found_slot, IsApart-rows}
@@ -71,24 +71,6 @@ module _ (g : Held → Held) (keeps : KeepsBlob g) where
   rows-with_slot (s ∷ slots) (suc k) [] = ap (λ x. resident_rows x []) (with_slot-suc s slots k (on_held g))
   rows-with_slot (s ∷ slots) (suc k) (m ∷ marks) = ap (λ x. resident_rows x (m ∷ marks)) (with_slot-suc s slots k (on_held g)) ∙ ap (with_resident s.content m) (rows-with_slot slots k marks)
 
-  same_retired : (c : Content) (n : ℕ) → is_retired (record { generation = n; content = content_with g c }) ≡ is_retired (record { generation = n; content = c })
-  same_retired Free n = refl
-  same_retired (Used h) n = refl
-  same_retired Retired n = refl
-
-  pub retired-with_slot : (slots : List Slot) (k : ℕ) → count_by is_retired (with_slot slots k (on_held g)) ≡ count_by is_retired slots
-  retired-with_slot slots k = count_by-with_slot is_retired slots k (on_held g) (λ s at. same_retired s.content s.generation)
-
-  held_content : (c : Content) → held_in (content_with g c) ≡ option_map g (held_in c)
-  held_content Free = refl
-  held_content (Used h) = refl
-  held_content Retired = refl
-
-  pub held_at-on : (slots : List Slot) (k : ℕ) (h : Held) → held_at slots k ≡ Some h → held_at (with_slot slots k (on_held g)) k ≡ Some (g h)
-  held_at-on slots k h at =
-      let s = slot_of_held slots k h at in
-      held_at-same slots k (on_held g) s.0 s.1 ∙ held_content s.0.content ∙ ap (option_map g) s.2
-
 module _ (L : Layers) (links' : FinMap link_cmp ℕ) (marks : List Bool) (k : ℕ) (h : Held) (at : held_at L.slots k ≡ Some h) (g : Held → Held) (keeps : KeepsBlob g)
     (tied : IsTied L.links L.slots marks (catalog_from L marks)) where
   abbrev before : Catalog
@@ -115,7 +97,7 @@ module _ (L : Layers) (links' : FinMap link_cmp ℕ) (marks : List Bool) (k : �
     sessions = L.uploads.sessions;
     next = L.uploads.next;
     residents = from_entries {R = text_cmp} (rows-with_slot g keeps L.slots k marks i);
-    retired = retired-with_slot g keeps L.slots k i;
+    retired = retired-with_slot g L.slots k i;
   }
 
   abbrev Origin : ℕ → Held → Type 0
@@ -123,7 +105,7 @@ module _ (L : Layers) (links' : FinMap link_cmp ℕ) (marks : List Bool) (k : �
 
   origin : (m : ℕ) (x : Held) → held_at slots' m ≡ Some x → Origin m x
   origin m x here = elim (cases_eq m k) [
-    | inl e ↦ (h, ap (held_at L.slots) e ∙ at, ap (λ (y : Held). y.digest) (sym (some_same (sym (held_at-on g keeps L.slots k h at) ∙ ap (held_at slots') (sym e) ∙ here))) ∙ keeps.digest h)
+    | inl e ↦ (h, ap (held_at L.slots) e ∙ at, ap (λ (y : Held). y.digest) (sym (some_same (sym (held_at-on g L.slots k h at) ∙ ap (held_at slots') (sym e) ∙ here))) ∙ keeps.digest h)
     | inr other ↦ (x, sym (held_at-other L.slots k (on_held g) m other) ∙ here, refl)
   ]
 
@@ -131,7 +113,7 @@ module _ (L : Layers) (links' : FinMap link_cmp ℕ) (marks : List Bool) (k : �
       (counted : (g h).links ≡ count after h.digest) (others : (x : Text) → (x ≡ h.digest → ⊥) → count after x ≡ count before x) where
     counts_after : (m : ℕ) (x : Held) → held_at slots' m ≡ Some x → x.links ≡ count after x.digest
     counts_after m x here = elim (cases_eq m k) [
-      | inl e ↦ (let is : g h ≡ x = some_same (sym (held_at-on g keeps L.slots k h at) ∙ ap (held_at slots') (sym e) ∙ here) in
+      | inl e ↦ (let is : g h ≡ x = some_same (sym (held_at-on g L.slots k h at) ∙ ap (held_at slots') (sym e) ∙ here) in
           ap (λ (y : Held). y.links) (sym is) ∙ counted ∙ ap (count after) (sym (keeps.digest h) ∙ ap (λ (y : Held). y.digest) is))
       | inr other ↦ (let there = sym (held_at-other L.slots k (on_held g) m other) ∙ here in
           tied.counts m x there ∙ sym (others x.digest (λ same. other (tied.distinct m k x h there at same))))

@@ -1,14 +1,14 @@
 -- A kept blob is changed in its slot and keeps its digest, its bytes and its links: the catalog keeps the changed one, and the layers agree.
 use Rattle.std.proofs.Common.{◌≡◌, ℕ, Bool, true, false, cond, List, [], ◌∷◌, length, Option, Some, refl, sym, ap, ◌∙◌, subst, arith, inl, inr}
 use Prim.Native.Nat.{zero, suc}
-use Rattle.std.specs.Option.{option_map, option_map_or}
+use Rattle.std.specs.Option.{option_map_or}
 use Rattle.std.specs.Ordering.{eq_by_cmp, is_eq}
 use Rattle.std.specs.Cmp.{tied_itself, Equal-is}
 use Rattle.std.specs.Cmp.Lexicographic.{nat_list_cmp_total}
 use Rattle.std.specs.FinMap.{find, get, insert, get-from_entries, get-insert, same_map}
 use Rattle.std.proofs.lemmas.Bool.{cases_eq, false_from_ne_true}
 use Rattle.std.proofs.lemmas.Map.Lookups.{exact_bytes}
-use Rattle.slot_table.specs.Slots.{Slot, Held, Content, Free, Used, Retired, held_at, held_in, IsDistinct, is_retired, with_slot, on_held, content_with, mark, lend}
+use Rattle.slot_table.specs.Slots.{Slot, Held, Content, Free, Used, Retired, held_at, held_in, IsDistinct, with_slot, on_held, content_with, mark, lend}
 use Rattle.finite_maps.specs.Texts.{Text, text_cmp}
 use Rattle.store_model.specs.Catalog.{Link, Resident, Catalog, count}
 use Rattle.store_book.specs.Layers.{Layers, resident_of, with_resident, resident_rows, residents_of, lent_marks, book_catalog, IsTied}
@@ -17,7 +17,7 @@ use Rattle.store_book.proofs.Slots.Filled.{swapped}
 use Rattle.store_book.proofs.Slots.Lent.{length-marks}
 use Rattle.finite_maps.proofs.Options.{some_same}
 use Rattle.finite_maps.proofs.Maps.{cases_key, get-insert_at, get-insert_other}
-use Rattle.store_book.proofs.Slots.Writes.{with_slot-suc, length-with_slot, count_by-with_slot, held_at-same, held_at-other, slot_of_held}
+use Rattle.store_book.proofs.Slots.Writes.{with_slot-suc, length-with_slot, held_at-other, held_at-on, retired-with_slot}
 
 abbrev rows_of : List Slot → List (Text × Resident)
 rows_of slots = resident_rows slots (lent_marks slots)
@@ -62,21 +62,6 @@ pub lend-KeepsTies : KeepsTies lend
 lend-KeepsTies = record { digest = λ h. refl; bytes = λ h. refl; links = λ h. refl }
 
 module _ (g : Held → Held) (keeps : KeepsTies g) where
-  held_content : (c : Content) → held_in (content_with g c) ≡ option_map g (held_in c)
-  held_content Free = refl
-  held_content (Used h) = refl
-  held_content Retired = refl
-
-  pub held_at-with : (slots : List Slot) (k : ℕ) (h : Held) → held_at slots k ≡ Some h → held_at (with_slot slots k (on_held g)) k ≡ Some (g h)
-  held_at-with slots k h at =
-      let s = slot_of_held slots k h at in
-      held_at-same slots k (on_held g) s.0 s.1 ∙ held_content s.0.content ∙ ap (option_map g) s.2
-
-  same_retired : (c : Content) (n : ℕ) → is_retired (record { generation = n; content = content_with g c }) ≡ is_retired (record { generation = n; content = c })
-  same_retired Free n = refl
-  same_retired (Used h) n = refl
-  same_retired Retired n = refl
-
   abbrev marked : Held → Resident
   marked h = resident_of (g h).lent (g h)
 
@@ -133,7 +118,7 @@ module _ (g : Held → Held) (keeps : KeepsTies g) where
     catalog-change = λ i. record C {
       slots = length-with_slot L.slots k (on_held g) i;
       residents = same_residents i;
-      retired = count_by-with_slot is_retired L.slots k (on_held g) (λ s here. same_retired s.content s.generation) i;
+      retired = retired-with_slot g L.slots k i;
     }
 
     abbrev Origin : ℕ → Held → Type 0
@@ -142,7 +127,7 @@ module _ (g : Held → Held) (keeps : KeepsTies g) where
     origin : (m : ℕ) (x : Held) → held_at slots' m ≡ Some x → Origin m x
     origin m x here = elim (cases_eq m k) [
       | inl e ↦
-          let is : g h ≡ x = some_same (sym (held_at-with L.slots k h at) ∙ ap (held_at slots') (sym e) ∙ here) in
+          let is : g h ≡ x = some_same (sym (held_at-on g L.slots k h at) ∙ ap (held_at slots') (sym e) ∙ here) in
           (h, ap (held_at L.slots) e ∙ at, ap (λ (y : Held). y.digest) (sym is) ∙ keeps.digest h, ap (λ (y : Held). y.links) (sym is) ∙ keeps.links h)
       | inr other ↦ (x, sym (held_at-other L.slots k (on_held g) m other) ∙ here, refl, refl)
     ]

@@ -2,11 +2,11 @@
 use Rattle.std.proofs.Common.{◌≡◌, ℕ, ◌+◌, Bool, false, cond, List, [], ◌∷◌, length, map, set as write, Option, Some, None, refl, sym, ap, ◌∙◌}
 use Prim.Native.Nat.{zero, suc}
 use Rattle.std.specs.Prelude.{slice_get}
-use Rattle.std.specs.Option.{option_map_or}
+use Rattle.std.specs.Option.{option_map, option_map_or}
 use Rattle.std.specs.List.{count_by}
 use Rattle.std.proofs.lemmas.List.Sums.{sum_by-cons}
 use Rattle.slot_table.specs.declared.phase.Phase.TheVariants as phase
-use Rattle.slot_table.specs.Slots.{Slot, Held, Content, Free, Used, Retired, held_at, held_in, phase_at, phase_in, with_slot}
+use Rattle.slot_table.specs.Slots.{Slot, Held, Content, Free, Used, Retired, content_with, held_at, held_in, is_retired, on_held, phase_at, phase_in, with_slot}
 
 pub with_slot-suc : (s : Slot) (slots : List Slot) (k : ℕ) (f : Slot → Slot) → with_slot (s ∷ slots) (suc k) f ≡ s ∷ with_slot slots k f
 with_slot-suc s slots k f = at (slice_get slots k)
@@ -81,3 +81,24 @@ phase_live slots k h at live =
     by_content Free e = cc
     by_content (Used g) e = let same : g ≡ h = cc in ap (λ b. cond b phase.Condemned phase.Live) (ap (λ (x : Held). x.condemned) same ∙ live)
     by_content Retired e = cc
+
+-- ---- a change of what a slot holds
+
+module _ (g : Held → Held) where
+  same_retired : (c : Content) (n : ℕ) → is_retired (record { generation = n; content = content_with g c }) ≡ is_retired (record { generation = n; content = c })
+  same_retired Free n = refl
+  same_retired (Used h) n = refl
+  same_retired Retired n = refl
+
+  pub retired-with_slot : (slots : List Slot) (k : ℕ) → count_by is_retired (with_slot slots k (on_held g)) ≡ count_by is_retired slots
+  retired-with_slot slots k = count_by-with_slot is_retired slots k (on_held g) (λ s at. same_retired s.content s.generation)
+
+  held_content : (c : Content) → held_in (content_with g c) ≡ option_map g (held_in c)
+  held_content Free = refl
+  held_content (Used h) = refl
+  held_content Retired = refl
+
+  pub held_at-on : (slots : List Slot) (k : ℕ) (h : Held) → held_at slots k ≡ Some h → held_at (with_slot slots k (on_held g)) k ≡ Some (g h)
+  held_at-on slots k h at =
+      let s = slot_of_held slots k h at in
+      held_at-same slots k (on_held g) s.0 s.1 ∙ held_content s.0.content ∙ ap (option_map g) s.2

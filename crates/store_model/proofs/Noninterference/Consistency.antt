@@ -34,7 +34,7 @@ use Rattle.store_model.proofs.Commands.SomeSweep.{left_bytes}
 use Rattle.finite_maps.proofs.Maps.{got-insert, got-remove, get-insert_at, still_there}
 use Rattle.finite_maps.proofs.Sets.{still, now, member, was_member}
 use Rattle.store_model.proofs.Noninterference.StepConsistency.{Fits, fits_whole, longer}
-use Rattle.store_model.proofs.Noninterference.LocalRespect.{Leaves, answers_leave, reading_leave, start_leaves, append_leaves, close_leaves, abandon_leaves, mount_leaves, delete_leaves, put_leaves, delete_manifest_leaves, lease_leaves}
+use Rattle.store_model.proofs.Noninterference.LocalRespect.{Leaves, alike_itself, answers_leave, reading_leave, start_leaves, append_leaves, close_leaves, abandon_leaves, mount_leaves, delete_leaves, put_leaves, delete_manifest_leaves, lease_leaves}
 
 twice : {A : Type 0} → A → A × A
 twice x = (x, x)
@@ -206,13 +206,4 @@ consistent_sweep content C C' swept consistent sweep = subst (λ X. Consistent c
     at d b (Some x) found h = sym (left_bytes (is_orphan C d) x b (subst (λ o. IsLeft (is_orphan C d) x o) h (sweep.orphans d x found))) ∙ consistent.bytes d x found
 
 pub unseen_sweep : (u : ℕ) (C C' : Catalog) (swept : Swept) → IsSweep C swept C' → Alike u C' C
-unseen_sweep u C C' swept sweep = subst (λ X. Alike u X C) (sym sweep.rest) (record {
-  tenants = refl;
-  max_blob = refl;
-  numbers = refl;
-  next = refl;
-  repos = λ q is. refl;
-  links = λ q is. refl;
-  manifests = λ q is. refl;
-  sessions = λ q is. refl;
-})
+unseen_sweep u C C' swept sweep = subst (λ X. Alike u X C) (sym sweep.rest) (alike_itself u C)
