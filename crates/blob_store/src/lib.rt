@@ -2,10 +2,9 @@
 //! leases, and the workers that play a script on it.
 //!
 //! It stands on `locked_book` for what lies under the lock and for the desks, on `store_book` for leases, and on
-//! `row_player` for the rows that workers play. Each time the lock is got, the book is sound, and the bytes received are those in sessions,
-//! closed and abandoned. What a desk got is what its accepted commands come to; once all desks are settled, the sums
-//! of their shares are the totals. A lease is read, shared and given back without the lock. Workers answer each row
-//! of a script once, in the order of the rows.
+//! `row_player` for the rows that workers play. Each command is a step of one legal history. What a desk got is what its
+//! accepted commands come to; once all desks are settled, the sums of their shares are the totals. A lease is read,
+//! shared and given back without the lock. Workers answer each row of a script once, in the order of the rows.
 #![tactic(auto)]
 
 #[cfg(test)]
@@ -37,7 +36,8 @@ mod workers;
 
 pub use lease::Lease;
 pub use locked_book::{
-    Counters, Desk, DroppableDesk, Kept, LEDGER_PARTS, MAX_DESKS, Naming, Settled, Totals,
+    Counters, Desk, DroppableDesk, Kept, LEDGER_PARTS, LockedBook, MAX_DESKS, Naming, Settled,
+    Totals,
 };
 pub use parts::Parts;
 pub use playing::{MAX_WORKERS, Played, play};

@@ -4,14 +4,15 @@ ghost use Rattle.std.specs.Prelude.{◌≡◌, IfOk, IfErr};
 ghost use Rattle.store_book.specs.Openings.{OpensBook, RefusesBook, tenants_shown};
 
 use blob_digest::Refusal;
-use locked_book::LEDGER_PARTS;
+use locked_book::{LEDGER_PARTS, Step};
 use pin_table::Pins;
+use shared_log::SharedLog;
 use std::alloc::Global;
 use std::marker::Model;
 use std::sync::ledger::Blank;
 use store_book::{Book, Config};
 
-/// The parts of a store: a new book with its pins, and four new ledgers. No type names them yet: `Store::new`
+/// The parts of a store: a new book with its pins, four new ledgers, and an empty log. No type names them yet: `Store::new`
 /// does.
 #[derive(Drop)]
 pub struct Parts {
@@ -22,10 +23,11 @@ pub struct Parts {
     pub(crate) received: Blank,
     pub(crate) closed: Blank,
     pub(crate) abandoned: Blank,
+    pub(crate) log: SharedLog<Step>,
 }
 
 impl Model for Parts {
-    ghost use Rattle.std.specs.Prelude.{◌≡◌};
+    ghost use Rattle.std.specs.Prelude.{◌≡◌, []};
     ghost use Rattle.std.specs.FinMap.{empty};
     ghost use Rattle.locked_book.specs.Totals.{ledger_parts};
     ghost use Rattle.blob_store.specs.Parts.{PartsView, coded_parts};
@@ -40,9 +42,10 @@ impl Model for Parts {
       received = record { name = p.received.name; parts = p.received.parts };
       closed = record { name = p.closed.name; parts = p.closed.parts };
       abandoned = record { name = p.abandoned.name; parts = p.abandoned.parts };
+      log = p.log.name;
     } };
 
-    ghost invariant = { λ p. (p.book.table ≡ p.pins) × (p.book.catalog.sessions ≡ empty) × (p.commands.parts ≡ ledger_parts) × (p.received.parts ≡ ledger_parts) × (p.closed.parts ≡ ledger_parts) × (p.abandoned.parts ≡ ledger_parts) };
+    ghost invariant = { λ p. (p.book.table ≡ p.pins) × (p.book.catalog.sessions ≡ empty) × (p.commands.parts ≡ ledger_parts) × (p.received.parts ≡ ledger_parts) × (p.closed.parts ≡ ledger_parts) × (p.abandoned.parts ≡ ledger_parts) × (p.log.entries ≡ []) };
 }
 
 impl Parts {
@@ -57,6 +60,7 @@ impl Parts {
         ensures refused { IfErr result (λ e. RefusesBook e (tenants_shown config.now.tenants.items) config.now.slots config.now.max_blob) }
     {
         let (book, pins) = Book::new(alloc, config)?;
+        let log = SharedLog::new(alloc)?;
         Ok(Parts {
             alloc,
             book,
@@ -65,6 +69,7 @@ impl Parts {
             received: Blank::new(LEDGER_PARTS),
             closed: Blank::new(LEDGER_PARTS),
             abandoned: Blank::new(LEDGER_PARTS),
+            log,
         })
     }
 }

@@ -2,13 +2,18 @@
 
 ghost use Rattle.std.specs.Prelude.{◌≡◌, ◌⊎◌, ◌+◌, ◌<◌, ◌≤◌, IfErr, IfOk, IfSome, MatchResult, None, OnErr, OnOk, Some, length, sum_by, vec_len};
 ghost use Rattle.std.specs.Arc.{arc_value};
-ghost use Rattle.std.specs.Io.KnownBytes.{Appends};
+ghost use Rattle.std.specs.Io.KnownBytes.{Appends as Writes};
 ghost use Rattle.blob_digest.specs.Digests.{sha256_text};
 ghost use Rattle.oci_manifest.specs.Manifests.{max_manifest, refs_of};
 ghost use Rattle.store_model.specs.Catalog.{Catalog};
 ghost use Rattle.store_model.specs.BookText.{book_text};
 ghost use Rattle.store_book.specs.SlotSteps.{HasPin};
 ghost use Rattle.store_model.specs.Sweep.{IsSweep};
+ghost use Rattle.std.specs.Option.{option_copied};
+ghost use Rattle.store_model.specs.Histories.{Performed};
+ghost use Rattle.store_model.specs.Runs.{Start, Status, Abandon, Mount as MountCommand, Delete, PutManifest, GetManifest, DeleteManifest, Lease as LeaseCommand, Number, Mounting, Bytes, Done};
+ghost use Rattle.locked_book.specs.Calls.{reply};
+ghost use Rattle.locked_book.specs.History.{Adds, Appends, AreFresh, Closes, amounts_of};
 ghost use Rattle.locked_book.specs.Found.{InSomeBook};
 ghost use Rattle.blob_store.specs.Parts.{names_of};
 ghost use Rattle.store_model.specs.Amounts.{nothing, plus, one, sum_of};
@@ -16,8 +21,8 @@ ghost use Rattle.blob_digest.specs.declared.refusal.Refusal.TheVariants.{LimitRe
 
 use crate::lease::Lease;
 use crate::parts::Parts;
-use blob_digest::{Algorithm, ByteRange, Digest, Refusal, RepoName};
-use locked_book::{Counters, Desk, Kept, Naming, Settled, Totals};
+use blob_digest::{ByteRange, Digest, Refusal, RepoName};
+use locked_book::{Counters, Desk, LockedBook, Naming, Settled, Totals};
 use oci_manifest::{Manifest, read};
 use pin_table::Pins;
 use std::alloc::Global;
@@ -26,20 +31,19 @@ use std::io::{self, Write};
 use std::marker::Model;
 use std::sync::{Arc, Mutex, MutexGuard, Wait};
 use store_book::{Mount, Swept};
-use upload_table::Hand;
 
 /// A store that threads share: the pins, and one lock around the book with the totals.
 ///
-/// Each command is the lock around one function of `Kept`, of the same name, whose contract says what it does
+/// Each command is the lock around one function of `LockedBook`, of the same name, whose contract says what it does
 /// to the book and the totals; `append`, `close` and `put_manifest` are the lock around two of them, and copy
-/// and hash between the two without it. Here it is said what a command does to the desk of its caller. All of
-/// them may wait for the lock.
+/// and hash between the two without it. Here it is said what a command does to the desk of its caller, and, in its
+/// clause `history`, that it is a step of the store's history, with this reply. All of them may wait for the lock.
 ///
 /// A command can't be counted where, with those in hand, 2^64 would be accepted or 2^64 bytes received.
 #[derive(Drop)]
 pub struct Store<S: Naming> {
     pins: Pins,
-    kept: Mutex<Kept<S>>,
+    book: Mutex<LockedBook<S>>,
     alloc: Global,
 }
 
@@ -68,19 +72,6 @@ fn spin_wait() {
     }
 }
 
-/// Fills a chunk in: one that is to be the last is hashed by the algorithm that is named.
-fn fill_in(hand: Hand, bytes: &[u8], last: Option<Algorithm>) -> Result<Hand, Hand>
-    requires len { length bytes.now ≡ hand.reserved }
-    requires empty { hand.last ≡ None }
-    ensures ok { IfOk result (λ h. h ≡ record hand { last = Some bytes.now }) }
-    ensures err { IfErr result (λ h. h ≡ hand) }
-{
-    match last {
-        Some(algorithm) => hand.fill_last(bytes, algorithm),
-        None => hand.fill(bytes),
-    }
-}
-
 impl<S: Naming> Store<S> {
     /// The store of these parts, whose names are those that the type parameter says.
     pub fn new(parts: Parts) -> Store<S>
@@ -94,25 +85,26 @@ impl<S: Naming> Store<S> {
             received,
             closed,
             abandoned,
+            log,
         } = parts;
         let counters = Counters::new(commands, received, closed, abandoned);
         Store {
             pins,
-            kept: Mutex::new(Kept::new(book, counters)),
+            book: Mutex::new(LockedBook::new(book, counters, log)),
             alloc,
         }
     }
 
     /// The lock, once it is free. Most commands hold it for a microsecond, so it is tried some times before the
     /// thread sleeps, which with its wake costs several times that.
-    fn locked(&self, rt: &impl Wait) -> MutexGuard<'_, Kept<S>> {
+    fn locked(&self, rt: &impl Wait) -> MutexGuard<'_, LockedBook<S>> {
         for _ in 0..LOCK_TRIES {
-            if let Some(kept) = self.kept.try_lock() {
-                return kept;
+            if let Some(book) = self.book.try_lock() {
+                return book;
             }
             spin_wait();
         }
-        self.kept.lock(rt)
+        self.book.lock(rt)
     }
 
     /// Makes desks with empty shares.
@@ -120,7 +112,7 @@ impl<S: Naming> Store<S> {
     /// Refused, in this order: no desks, or more than 1,024 that would be out (`LimitReached`); out of
     /// memory.
     pub fn desks(&self, rt: &impl Wait, count: u64) -> Result<Vec<Desk<S>>, Refusal>
-        ensures made { IfOk result (λ v. (vec_len v ≡ count) × (sum_of v.items ≡ nothing)) }
+        ensures made { IfOk result (λ v. (vec_len v ≡ count) × AreFresh v.items) }
         ensures limit { (count ≡ 0) ⊎ (1024 < count) → MatchResult result (λ _. ⊥) (λ e. e ≡ LimitReached) }
         ensures refused { IfErr result (λ e. (e ≡ LimitReached) ⊎ (e ≡ Memory)) }
     {
@@ -130,7 +122,7 @@ impl<S: Naming> Store<S> {
     /// Settles desks: the sums of their shares, and the number of desks still out. Where that is 0, the totals
     /// are the sums of all shares settled so far.
     pub fn settle(&self, rt: &impl Wait, desks: Vec<Desk<S>>) -> Settled
-        ensures { (result.commands ≡ (sum_of desks.items).commands) × (result.received ≡ (sum_of desks.items).received) × (result.closed ≡ (sum_of desks.items).closed) × (result.abandoned ≡ (sum_of desks.items).abandoned) }
+        ensures { (result.commands ≡ (sum_of (amounts_of desks.items)).commands) × (result.received ≡ (sum_of (amounts_of desks.items)).received) × (result.closed ≡ (sum_of (amounts_of desks.items)).closed) × (result.abandoned ≡ (sum_of (amounts_of desks.items)).abandoned) }
     {
         self.locked(rt).settle(desks)
     }
@@ -149,8 +141,9 @@ impl<S: Naming> Store<S> {
     /// (`NameUnknown`); a tenant that has 1,024 repositories where this one is new, or 64 sessions, or no session
     /// number left (`LimitReached`); out of memory.
     pub fn start(&self, rt: &impl Wait, desk: &mut Desk<S>, repo: &RepoName) -> Result<u32, Refusal>
-        ensures ok { OnOk result (desk.new ≡ plus desk.old (one 0 0 0)) }
-        ensures err { OnErr result (desk.new ≡ desk.old) }
+        ensures ok { OnOk result (desk.new.amounts ≡ plus desk.old.amounts (one 0 0 0)) }
+        ensures err { OnErr result (desk.new.amounts ≡ desk.old.amounts) }
+        ensures history { Adds S.names.opening desk.old.trace (Performed (Start repo.now) (reply Number result)) desk.new.trace }
     {
         self.locked(rt).start(desk, repo)
     }
@@ -167,36 +160,11 @@ impl<S: Naming> Store<S> {
         repo: &RepoName,
         number: u32,
     ) -> Result<u64, Refusal>
-        ensures ok { OnOk result (desk.new ≡ plus desk.old (one 0 0 0)) }
-        ensures err { OnErr result (desk.new ≡ desk.old) }
+        ensures ok { OnOk result (desk.new.amounts ≡ plus desk.old.amounts (one 0 0 0)) }
+        ensures err { OnErr result (desk.new.amounts ≡ desk.old.amounts) }
+        ensures history { Adds S.names.opening desk.old.trace (Performed (Status repo.now number) (reply Number result)) desk.new.trace }
     {
         self.locked(rt).status(desk, repo, number)
-    }
-
-    /// Takes a session in hand under the lock, and fills the chunk in without it: one that is to be the last is
-    /// hashed by the digest's algorithm alone. Where there is no memory for that, the session is put back as
-    /// it was.
-    fn fill(
-        &self,
-        rt: &impl Wait,
-        repo: &RepoName,
-        number: u32,
-        range: Option<ByteRange>,
-        bytes: &[u8],
-        last: Option<Algorithm>,
-    ) -> Result<Hand, Refusal>
-        ensures filled { IfOk result (λ h. h.last ≡ Some bytes.now) }
-        ensures ends { IfOk result (λ h. IfSome range (λ r. sum_by length h.chunks + length bytes.now ≡ r.end + 1)) }
-    {
-        let len = bytes.len() as u64;
-        let hand = self.locked(rt).take(repo, number, range, len)?;
-        match fill_in(hand, bytes, last) {
-            Ok(hand) => Ok(hand),
-            Err(hand) => {
-                let _ = self.locked(rt).give_up(hand);
-                Err(Refusal::Memory)
-            }
-        }
     }
 
     /// Adds a chunk to a session, and answers the received length (OCI Distribution Specification 1.1,
@@ -217,12 +185,20 @@ impl<S: Naming> Store<S> {
         range: Option<ByteRange>,
         bytes: &[u8],
     ) -> Result<u64, Refusal>
-        ensures ok { OnOk result (desk.new ≡ plus desk.old (one (length bytes.now) 0 0)) }
-        ensures err { OnErr result (desk.new ≡ desk.old) }
+        ensures ok { OnOk result (desk.new.amounts ≡ plus desk.old.amounts (one (length bytes.now) 0 0)) }
+        ensures err { OnErr result (desk.new.amounts ≡ desk.old.amounts) }
         ensures ends { IfOk result (λ n. IfSome range (λ r. n ≡ r.end + 1)) }
+        ensures history { Appends S.names.opening desk.old.trace repo.now number range bytes.now result desk.new.trace }
     {
-        let hand = self.fill(rt, repo, number, range, bytes, None)?;
-        self.locked(rt).put_back(desk, hand)
+        let len = bytes.len() as u64;
+        let hand = self.locked(rt).take(desk, repo, number, range, len)?;
+        match hand.fill(bytes) {
+            Ok(hand) => self.locked(rt).put_back(desk, hand),
+            Err(hand) => {
+                let _ = self.locked(rt).give_up(desk, hand);
+                Err(Refusal::Memory)
+            }
+        }
     }
 
     /// Closes a session with its last chunk, which may be empty: its bytes become the blob of this
@@ -244,13 +220,21 @@ impl<S: Naming> Store<S> {
         range: Option<ByteRange>,
         bytes: &[u8],
     ) -> Result<u64, Refusal>
-        ensures ok { IfOk result (λ n. desk.new ≡ plus desk.old (one (length bytes.now) n 0)) }
-        ensures err { OnErr result (desk.new ≡ desk.old) }
+        ensures ok { IfOk result (λ n. desk.new.amounts ≡ plus desk.old.amounts (one (length bytes.now) n 0)) }
+        ensures err { OnErr result (desk.new.amounts ≡ desk.old.amounts) }
         ensures ends { IfOk result (λ n. IfSome range (λ r. n ≡ r.end + 1)) }
+        ensures history { Closes S.names.opening desk.old.trace repo.now number digest.now range bytes.now result desk.new.trace }
     {
+        let len = bytes.len() as u64;
         let algorithm = digest.algorithm();
-        let whole = self.fill(rt, repo, number, range, bytes, Some(algorithm))?;
-        self.locked(rt).finish(&self.pins, desk, whole, digest)
+        let hand = self.locked(rt).take(desk, repo, number, range, len)?;
+        match hand.fill_last(bytes, algorithm) {
+            Ok(hand) => self.locked(rt).finish(&self.pins, desk, hand, digest),
+            Err(hand) => {
+                let _ = self.locked(rt).give_up(desk, hand);
+                Err(Refusal::Memory)
+            }
+        }
     }
 
     /// Gives a session up with its bytes, and answers how many it had received. Its number is not
@@ -266,8 +250,9 @@ impl<S: Naming> Store<S> {
         repo: &RepoName,
         number: u32,
     ) -> Result<u64, Refusal>
-        ensures ok { IfOk result (λ n. desk.new ≡ plus desk.old (one 0 0 n)) }
-        ensures err { OnErr result (desk.new ≡ desk.old) }
+        ensures ok { IfOk result (λ n. desk.new.amounts ≡ plus desk.old.amounts (one 0 0 n)) }
+        ensures err { OnErr result (desk.new.amounts ≡ desk.old.amounts) }
+        ensures history { Adds S.names.opening desk.old.trace (Performed (Abandon repo.now number) (reply Number result)) desk.new.trace }
     {
         self.locked(rt).abandon(desk, repo, number)
     }
@@ -288,8 +273,9 @@ impl<S: Naming> Store<S> {
         digest: &Digest,
         from: Option<&RepoName>,
     ) -> Result<Mount, Refusal>
-        ensures ok { OnOk result (desk.new ≡ plus desk.old (one 0 0 0)) }
-        ensures err { OnErr result (desk.new ≡ desk.old) }
+        ensures ok { OnOk result (desk.new.amounts ≡ plus desk.old.amounts (one 0 0 0)) }
+        ensures err { OnErr result (desk.new.amounts ≡ desk.old.amounts) }
+        ensures history { Adds S.names.opening desk.old.trace (Performed (MountCommand repo.now digest.now (option_copied from.entry)) (reply Mounting result)) desk.new.trace }
     {
         self.locked(rt).mount(desk, repo, digest, from)
     }
@@ -307,8 +293,9 @@ impl<S: Naming> Store<S> {
         repo: &RepoName,
         digest: &Digest,
     ) -> Result<(), Refusal>
-        ensures ok { OnOk result (desk.new ≡ plus desk.old (one 0 0 0)) }
-        ensures err { OnErr result (desk.new ≡ desk.old) }
+        ensures ok { OnOk result (desk.new.amounts ≡ plus desk.old.amounts (one 0 0 0)) }
+        ensures err { OnErr result (desk.new.amounts ≡ desk.old.amounts) }
+        ensures history { Adds S.names.opening desk.old.trace (Performed (Delete repo.now digest.now) (reply (λ _. Done) result)) desk.new.trace }
     {
         self.locked(rt).delete(desk, repo, digest)
     }
@@ -329,17 +316,20 @@ impl<S: Naming> Store<S> {
         repo: &RepoName,
         bytes: &[u8],
     ) -> Result<Digest, Refusal>
-        ensures ok { OnOk result (desk.new ≡ plus desk.old (one 0 0 0)) }
-        ensures err { OnErr result (desk.new ≡ desk.old) }
+        ensures ok { OnOk result (desk.new.amounts ≡ plus desk.old.amounts (one 0 0 0)) }
+        ensures err { OnErr result (desk.new.amounts ≡ desk.old.amounts) }
+        ensures history { Adds S.names.opening desk.old.trace (Performed (PutManifest repo.now bytes.now) (reply Bytes result)) desk.new.trace }
         ensures digest { IfOk result (λ d. d ≡ sha256_text bytes.now) }
         ensures too_long { max_manifest < length bytes.now → MatchResult result (λ _. ⊥) (λ e. (e ≡ LimitReached) ⊎ (e ≡ NameUnknown) ⊎ (e ≡ SizeInvalid)) }
         ensures size { IfErr result (λ e. e ≡ SizeInvalid → max_manifest < length bytes.now) }
         ensures no_manifest { refs_of bytes.now ≡ None → length bytes.now ≤ max_manifest → MatchResult result (λ _. ⊥) (λ e. (e ≡ LimitReached) ⊎ (e ≡ NameUnknown) ⊎ (e ≡ ManifestInvalid) ⊎ (e ≡ Memory)) }
         ensures invalid { IfErr result (λ e. e ≡ ManifestInvalid → refs_of bytes.now ≡ None) }
     {
-        self.locked(rt).check_tenant(repo)?;
-        let manifest = read(self.alloc, bytes)?;
-        self.locked(rt).keep_manifest(desk, repo, manifest)
+        self.locked(rt).check_tenant(desk, repo, bytes)?;
+        match read(self.alloc, bytes) {
+            Ok(manifest) => self.locked(rt).keep_manifest(desk, repo, manifest),
+            Err(unread) => Err(self.locked(rt).refuse_manifest(desk, repo, bytes, unread)),
+        }
     }
 
     /// The manifest that a repository has under a digest (OCI Distribution Specification 1.1, "Pulling
@@ -354,8 +344,9 @@ impl<S: Naming> Store<S> {
         repo: &RepoName,
         digest: &Digest,
     ) -> Result<Arc<Manifest, Global>, Refusal>
-        ensures ok { OnOk result (desk.new ≡ plus desk.old (one 0 0 0)) }
-        ensures err { OnErr result (desk.new ≡ desk.old) }
+        ensures ok { OnOk result (desk.new.amounts ≡ plus desk.old.amounts (one 0 0 0)) }
+        ensures err { OnErr result (desk.new.amounts ≡ desk.old.amounts) }
+        ensures history { Adds S.names.opening desk.old.trace (Performed (GetManifest repo.now digest.now) (reply (λ m. Bytes (arc_value m)) result)) desk.new.trace }
         ensures digest { IfOk result (λ m. sha256_text (arc_value m) ≡ digest.now) }
     {
         self.locked(rt).get_manifest(desk, repo, digest)
@@ -373,8 +364,9 @@ impl<S: Naming> Store<S> {
         repo: &RepoName,
         digest: &Digest,
     ) -> Result<(), Refusal>
-        ensures ok { OnOk result (desk.new ≡ plus desk.old (one 0 0 0)) }
-        ensures err { OnErr result (desk.new ≡ desk.old) }
+        ensures ok { OnOk result (desk.new.amounts ≡ plus desk.old.amounts (one 0 0 0)) }
+        ensures err { OnErr result (desk.new.amounts ≡ desk.old.amounts) }
+        ensures history { Adds S.names.opening desk.old.trace (Performed (DeleteManifest repo.now digest.now) (reply (λ _. Done) result)) desk.new.trace }
     {
         self.locked(rt).delete_manifest(desk, repo, digest)
     }
@@ -391,8 +383,9 @@ impl<S: Naming> Store<S> {
         repo: &RepoName,
         digest: &Digest,
     ) -> Result<Lease<'_, S>, Refusal>
-        ensures ok { OnOk result (desk.new ≡ plus desk.old (one 0 0 0)) }
-        ensures err { OnErr result (desk.new ≡ desk.old) }
+        ensures ok { OnOk result (desk.new.amounts ≡ plus desk.old.amounts (one 0 0 0)) }
+        ensures err { OnErr result (desk.new.amounts ≡ desk.old.amounts) }
+        ensures history { Adds S.names.opening desk.old.trace (Performed (LeaseCommand repo.now digest.now) (reply (λ l. Bytes l.bytes) result)) desk.new.trace }
         ensures leased { IfOk result (λ l. (l.hold.digest ≡ digest.now) × (l.hold.weight ≡ 1024)) }
     {
         let (pin, blob) = self.locked(rt).lease(&self.pins, desk, repo, digest)?;
@@ -432,7 +425,7 @@ impl<S: Naming> Store<S> {
     ///
     /// Refused is what the writer refuses.
     pub fn print<W: Write>(&self, rt: &impl Wait, writer: &mut W) -> io::Result<()>
-        ensures { OnOk result (InSomeBook S.names.slots S.names.setting (λ b. Appends (W.contents writer.old) (W.contents writer.new) (book_text b.catalog))) }
+        ensures { OnOk result (InSomeBook S.names.slots S.names.setting (λ b. Writes (W.contents writer.old) (W.contents writer.new) (book_text b.catalog))) }
     {
         self.locked(rt).print(writer)
     }

@@ -47,7 +47,7 @@ pub struct PlaysRows<'r> {
 }
 
 impl<'r, S: Naming> Promise<Outcome<S>> for PlaysRows<'r> {
-    ghost kept_by = { λ p o. o.completed ≡ true → IsPlayed p.worker.workers p.worker.number (map row_view p.rows.now) o.desk (answers_of o.replies.items) };
+    ghost kept_by = { λ p o. o.completed ≡ true → IsPlayed p.worker.workers p.worker.number (map row_view p.rows.now) o.desk.amounts (answers_of o.replies.items) };
 }
 
 /// Plays a worker's rows on the store, and gives back the leases that its lanes still hold. It plays
@@ -61,8 +61,8 @@ fn work<W: Wait, G: Gate, S: Naming>(
     halt: &AtomicBool,
     job: Job<S>,
 ) -> Outcome<S>
-    requires ready { IsReady job.worker.workers job.worker.number (map row_view rows.now) job.desk job.replies.items (vec_capacity job.replies) }
-    ensures { result.completed ≡ true → IsPlayed job.worker.workers job.worker.number (map row_view rows.now) result.desk (answers_of result.replies.items) }
+    requires ready { IsReady job.worker.workers job.worker.number (map row_view rows.now) job.desk.amounts job.replies.items (vec_capacity job.replies) }
+    ensures { result.completed ≡ true → IsPlayed job.worker.workers job.worker.number (map row_view rows.now) result.desk.amounts (answers_of result.replies.items) }
 {
     let Job {
         desk,
@@ -131,19 +131,19 @@ pub fn play_all<W: Threads + Wait + Sync, G: Gate + Send + Sync, S: Naming + Sen
     jobs: Vec<Job<S>>,
     room: WorkersDone<S>,
 ) -> WorkersDone<S>
-    requires ready { AllAt (λ k j. IsWorkerAt (vec_len jobs) k j.worker.workers j.worker.number × IsReady (vec_len jobs) j.worker.number (map row_view rows.now) j.desk j.replies.items (vec_capacity j.replies)) jobs.items }
+    requires ready { AllAt (λ k j. IsWorkerAt (vec_len jobs) k j.worker.workers j.worker.number × IsReady (vec_len jobs) j.worker.number (map row_view rows.now) j.desk.amounts j.replies.items (vec_capacity j.replies)) jobs.items }
     requires room { (vec_len room.outcomes ≡ 0) × (vec_len jobs ≤ vec_capacity room.outcomes) × (vec_len room.unstarted ≡ 0) × (vec_len jobs ≤ vec_capacity room.unstarted) }
     ensures len { vec_len result.outcomes + vec_len result.unstarted ≡ vec_len jobs }
-    ensures each { AllAt (λ k o. (w : ℕ) → w + k + 1 ≡ vec_len result.outcomes → o.completed ≡ true → IsPlayed (vec_len jobs) w (map row_view rows.now) o.desk (answers_of o.replies.items)) result.outcomes.items }
+    ensures each { AllAt (λ k o. (w : ℕ) → w + k + 1 ≡ vec_len result.outcomes → o.completed ≡ true → IsPlayed (vec_len jobs) w (map row_view rows.now) o.desk.amounts (answers_of o.replies.items)) result.outcomes.items }
 {
     thread::scope(
         thread::scope_env(),
         rt,
         move |scope| -> WorkersDone<S>
-            requires ready { AllAt (λ k j. IsWorkerAt (vec_len jobs) k j.worker.workers j.worker.number × IsReady (vec_len jobs) j.worker.number (map row_view rows.now) j.desk j.replies.items (vec_capacity j.replies)) jobs.items }
+            requires ready { AllAt (λ k j. IsWorkerAt (vec_len jobs) k j.worker.workers j.worker.number × IsReady (vec_len jobs) j.worker.number (map row_view rows.now) j.desk.amounts j.replies.items (vec_capacity j.replies)) jobs.items }
             requires room { (vec_len room.outcomes ≡ 0) × (vec_len jobs ≤ vec_capacity room.outcomes) × (vec_len room.unstarted ≡ 0) × (vec_len jobs ≤ vec_capacity room.unstarted) }
             ensures len { vec_len result.outcomes + vec_len result.unstarted ≡ vec_len jobs }
-            ensures each { AllAt (λ k o. (w : ℕ) → w + k + 1 ≡ vec_len result.outcomes → o.completed ≡ true → IsPlayed (vec_len jobs) w (map row_view rows.entry.now) o.desk (answers_of o.replies.items)) result.outcomes.items }
+            ensures each { AllAt (λ k o. (w : ℕ) → w + k + 1 ≡ vec_len result.outcomes → o.completed ≡ true → IsPlayed (vec_len jobs) w (map row_view rows.entry.now) o.desk.amounts (answers_of o.replies.items)) result.outcomes.items }
         {
             let WorkersDone {
                 mut outcomes,
@@ -167,8 +167,8 @@ pub fn play_all<W: Threads + Wait + Sync, G: Gate + Send + Sync, S: Naming + Sen
                 let worker = job.worker;
                 let promise = PlaysRows { rows, worker };
                 let there = move || -> Outcome<S>
-                    requires ready { IsReady job.worker.workers job.worker.number (map row_view rows.now) job.desk job.replies.items (vec_capacity job.replies) }
-                    ensures { result.completed ≡ true → IsPlayed job.worker.workers job.worker.number (map row_view rows.entry.now) result.desk (answers_of result.replies.items) }
+                    requires ready { IsReady job.worker.workers job.worker.number (map row_view rows.now) job.desk.amounts job.replies.items (vec_capacity job.replies) }
+                    ensures { result.completed ≡ true → IsPlayed job.worker.workers job.worker.number (map row_view rows.entry.now) result.desk.amounts (answers_of result.replies.items) }
                 { work(rt, alloc, store, gate, rows, halt, job) };
                 match scope.spawn_with(promise, there) {
                     Ok(child) => children.push_reserved(child),

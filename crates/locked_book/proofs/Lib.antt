@@ -2,3 +2,6 @@ pub mod Sums
 pub mod Answered
 pub mod SessionSums
 pub mod Rooms
+pub mod Additions
+pub mod Counted
+pub mod Unread

@@ -1,6 +1,8 @@
 -- Sums of amounts.
-use Rattle.std.proofs.Common.{◌≡◌, List, [], ◌∷◌, ◌++◌, sym, ap, ◌∙◌, arith}
+use Rattle.std.proofs.Common.{◌≡◌, List, [], ◌∷◌, ◌++◌, ap, ◌∙◌, arith}
+use Rattle.std.proofs.lemmas.List.{map-append}
 use Rattle.store_model.specs.Amounts.{Amounts, nothing, plus, sum_of}
+use Rattle.locked_book.specs.History.{AreFresh, DeskView, amounts_of}
 
 same_amounts : (a b : Amounts) → a.commands ≡ b.commands → a.received ≡ b.received → a.closed ≡ b.closed → a.abandoned ≡ b.abandoned → a ≡ b
 same_amounts a b p q r s = λ i. record { commands = p i; received = q i; closed = r i; abandoned = s i }
@@ -20,13 +22,16 @@ taken_in a b rest all x goal p q r =
     (omega (arith, ap (λ a. a.closed) p, ap (λ a. a.closed) q, ap (λ a. a.closed) r))
     (omega (arith, ap (λ a. a.abandoned) p, ap (λ a. a.abandoned) q, ap (λ a. a.abandoned) r))
 
-pub nothing_pushed : (xs : List Amounts) → sum_of xs ≡ nothing → sum_of (xs ++ nothing ∷ []) ≡ nothing
-nothing_pushed xs e = sum_of_pushed xs nothing ∙ ap (λ a. plus a nothing) e
+-- ---- the amounts of desks
 
--- where a sum is nothing, so is each part
-pub nothing_left : (xs : List Amounts) (x : Amounts) → sum_of (xs ++ x ∷ []) ≡ nothing → (x ≡ nothing) × (sum_of xs ≡ nothing)
-nothing_left xs x e =
-    let h : plus (sum_of xs) x ≡ nothing = sym (sum_of_pushed xs x) ∙ e in (
-      same_amounts _ _ (omega (arith, ap (λ a. a.commands) h)) (omega (arith, ap (λ a. a.received) h)) (omega (arith, ap (λ a. a.closed) h)) (omega (arith, ap (λ a. a.abandoned) h)),
-      same_amounts _ _ (omega (arith, ap (λ a. a.commands) h)) (omega (arith, ap (λ a. a.received) h)) (omega (arith, ap (λ a. a.closed) h)) (omega (arith, ap (λ a. a.abandoned) h)),
-    )
+pub desk_pushed : (xs : List DeskView) (d : DeskView) → sum_of (amounts_of (xs ++ d ∷ [])) ≡ plus (sum_of (amounts_of xs)) d.amounts
+desk_pushed xs d = ap sum_of (map-append (λ x. x.amounts) xs (d ∷ [])) ∙ sum_of_pushed (amounts_of xs) d.amounts
+
+pub fresh_pushed : (xs : List DeskView) (d : DeskView) → AreFresh xs → (d.amounts ≡ nothing) × (d.trace.own ≡ []) → AreFresh (xs ++ d ∷ [])
+fresh_pushed [] d all here = (here.0, here.1, tt)
+fresh_pushed (x ∷ xs) d all here = (all.0, all.1, fresh_pushed xs d all.2 here)
+
+-- what is left after one was taken from fresh desks, and that one
+pub fresh_left : (xs : List DeskView) (d : DeskView) → AreFresh (xs ++ d ∷ []) → (d.amounts ≡ nothing) × AreFresh xs
+fresh_left [] d all = (all.0, tt)
+fresh_left (x ∷ xs) d all = let rest = fresh_left xs d all.2 in (rest.0, (all.0, all.1, rest.1))

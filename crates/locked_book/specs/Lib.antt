@@ -2,3 +2,5 @@ pub mod Totals
 pub mod Counting
 pub mod Names
 pub mod Found
+pub mod History
+pub mod Calls

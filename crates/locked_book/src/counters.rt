@@ -1,12 +1,13 @@
 //! The totals, with a ledger for each.
-ghost use Rattle.std.specs.Prelude.{◌≡◌, ◌+◌, ◌<◌, ◌≤◌, ◌^◌, ℕ, ◌&&◌, nat_lt, vec_len, vec_capacity};
-ghost use Rattle.store_model.specs.Amounts.{Amounts, nothing, plus, one, sum_of};
+ghost use Rattle.std.specs.Prelude.{◌≡◌, ◌+◌, ◌<◌, ◌≤◌, ◌^◌, ℕ, ◌&&◌, nat_lt};
+ghost use Rattle.store_model.specs.Amounts.{Amounts, nothing, plus, one};
 ghost use Rattle.locked_book.specs.Totals.{Counts, ledger_parts};
 
 use crate::counter::Counter;
-use crate::desk::{Desk, Settled};
+use crate::desk::Settled;
 use crate::kept::LEDGER_PARTS;
 use crate::names::{Abandoned, Closed, Commands, Naming, Received};
+use crate::tally::Tally;
 use crate::totals::Totals;
 use std::marker::Model;
 use std::sync::ledger::Blank;
@@ -62,7 +63,7 @@ impl<S: Naming> Counters<S> {
     }
 
     /// Counts an accepted command.
-    pub fn add(&mut self, desk: &mut Desk<S>, received: u64, closed: u64, abandoned: u64)
+    pub fn add(&mut self, desk: &mut Tally<S>, received: u64, closed: u64, abandoned: u64)
         requires commands { self.old.totals.commands + 1 < 2 ^ 64 }
         requires received { self.old.totals.received + received < 2 ^ 64 }
         requires closed { self.old.totals.closed + closed < 2 ^ 64 }
@@ -103,14 +104,14 @@ impl<S: Naming> Counters<S> {
         self.desks
     }
 
-    /// A desk with empty shares.
-    pub fn issue(&mut self) -> Desk<S>
+    /// The tally of a new desk, with empty shares.
+    pub fn issue(&mut self) -> Tally<S>
         requires { self.old.desks + 1 < LEDGER_PARTS }
         ensures counts { self.new ≡ record self.old { desks = self.old.desks + 1 } }
         ensures desk { result ≡ nothing }
     {
         self.desks += 1;
-        Desk {
+        Tally {
             commands: self.commands.issue(),
             received: self.received.issue(),
             closed: self.closed.issue(),
@@ -118,14 +119,14 @@ impl<S: Naming> Counters<S> {
         }
     }
 
-    /// Settles a desk. Once none is out, all of the totals is settled.
-    pub fn settle(&mut self, desk: Desk<S>)
+    /// Settles a desk's tally. Once none is out, all of the totals is settled.
+    pub fn settle(&mut self, desk: Tally<S>)
         ensures totals { (self.new.totals ≡ self.old.totals) × (self.new.desks + 1 ≡ self.old.desks) }
         ensures settled { self.new.settled ≡ plus self.old.settled desk }
         ensures bound { (self.new.settled.commands ≤ self.old.totals.commands) × (self.new.settled.received ≤ self.old.totals.received) × (self.new.settled.closed ≤ self.old.totals.closed) × (self.new.settled.abandoned ≤ self.old.totals.abandoned) }
         ensures all { self.new.desks ≡ 0 → self.new.settled ≡ self.new.totals }
     {
-        let Desk {
+        let Tally {
             commands,
             received,
             closed,
@@ -160,31 +161,6 @@ impl<S: Naming> Counters<S> {
             closed: self.closed.settled(),
             abandoned: self.abandoned.settled(),
             left: self.desks,
-        }
-    }
-
-    /// Settles desks.
-    pub fn settle_all(&mut self, desks: Vec<Desk<S>>)
-        ensures totals { (self.new.totals ≡ self.old.totals) × (self.new.desks + vec_len desks ≡ self.old.desks) }
-        ensures settled { self.new.settled ≡ plus self.old.settled (sum_of desks.items) }
-    {
-        let mut desks = desks;
-        while let Some(desk) = desks.pop() {
-            self.settle(desk);
-        }
-        desks.destroy_empty();
-    }
-
-    /// Issues desks with empty shares, for which there is room.
-    #[tactic(auto, using(crate::proofs::Sums::nothing_pushed))]
-    pub fn issue_all(&mut self, desks: &mut Vec<Desk<S>>, count: u64)
-        requires count { self.old.desks + count < LEDGER_PARTS }
-        requires room { (vec_len desks.old ≡ 0) × (count ≤ vec_capacity desks.old) }
-        ensures counts { (self.new.totals ≡ self.old.totals) × (self.new.settled ≡ self.old.settled) × (self.new.desks ≡ self.old.desks + count) }
-        ensures desks { (vec_len desks.new ≡ count) × (sum_of desks.new.items ≡ nothing) }
-    {
-        for _i in 0..count {
-            desks.push_reserved(self.issue());
         }
     }
 }

@@ -1,72 +1,64 @@
-//! A worker's share of the totals.
-ghost use Rattle.std.specs.Prelude.{◌≡◌, ◌+◌, ◌<◌, ◌^◌, ℕ};
-ghost use Rattle.store_model.specs.Amounts.{Amounts, nothing, plus, one};
+//! The desk of one who uses a store.
+ghost use Rattle.std.specs.Prelude.{◌≡◌, ℕ};
 
-use crate::counter::CounterShare;
 use crate::droppable_desk::DroppableDesk;
-use crate::names::{Abandoned, Closed, Commands, Naming, Received};
+use crate::history::HistoryWriter;
+use crate::names::Naming;
+use crate::tally::Tally;
 use std::marker::Model;
 
-/// A worker's share of the four totals. It can't be dropped: `Store::settle` takes it. `into_droppable` makes it one
-/// that a closure and a thread's result can hold.
+/// The desk of one who uses a store: a share of the four totals, and the right to add to the store's history under a
+/// number of its own. Contracts see its amounts, and its part in the history: its number, the beginning of the history
+/// that it has seen, and its own steps. It can't be dropped: `LockedBook::settle` takes it. `into_droppable` makes it
+/// one that a closure and a thread's result can hold.
 pub struct Desk<S: Naming> {
-    pub(crate) commands: CounterShare<Commands<S>>,
-    pub(crate) received: CounterShare<Received<S>>,
-    pub(crate) closed: CounterShare<Closed<S>>,
-    pub(crate) abandoned: CounterShare<Abandoned<S>>,
+    pub(crate) tally: Tally<S>,
+    pub(crate) writer: HistoryWriter<S>,
 }
 
 impl<S: Naming> Model for Desk<S> {
-    ghost Value = { Amounts };
+    ghost use Rattle.locked_book.specs.History.{DeskView};
 
-    ghost view = { λ d. record { commands = d.commands; received = d.received; closed = d.closed; abandoned = d.abandoned } };
+    ghost Value = { DeskView };
+
+    ghost view = { λ d. record { amounts = d.tally; trace = d.writer } };
 }
 
 impl<S: Naming> Desk<S> {
     /// Accepted commands.
     pub fn commands(&self) -> u64
-        ensures { result ≡ self.now.commands }
+        ensures { result ≡ self.now.amounts.commands }
     {
-        self.commands.amount()
+        self.tally.commands.amount()
     }
 
     /// Bytes received.
     pub fn received(&self) -> u64
-        ensures { result ≡ self.now.received }
+        ensures { result ≡ self.now.amounts.received }
     {
-        self.received.amount()
+        self.tally.received.amount()
     }
 
     /// Bytes of closed sessions.
     pub fn closed(&self) -> u64
-        ensures { result ≡ self.now.closed }
+        ensures { result ≡ self.now.amounts.closed }
     {
-        self.closed.amount()
+        self.tally.closed.amount()
     }
 
     /// Bytes of abandoned sessions.
     pub fn abandoned(&self) -> u64
-        ensures { result ≡ self.now.abandoned }
+        ensures { result ≡ self.now.amounts.abandoned }
     {
-        self.abandoned.amount()
+        self.tally.abandoned.amount()
     }
 
     /// The same desk, for a closure or a thread's result. It takes no memory.
     pub fn into_droppable(self) -> DroppableDesk<S>
         ensures { result ≡ self }
     {
-        let Desk {
-            commands,
-            received,
-            closed,
-            abandoned,
-        } = self;
-        DroppableDesk {
-            commands,
-            received,
-            closed,
-            abandoned,
-        }
+        let Desk { tally, writer } = self;
+        DroppableDesk { tally, writer }
     }
 }
 

@@ -23,8 +23,9 @@ ghost use Rattle.store_model.specs.Hands.{received_in_sessions, filled_length};
 ghost use Rattle.locked_book.specs.Counting.{IsBalanced, Lends, cannot_hand_out, has_room, with_catalog, with_slots, uncounted, accepted, counted, reserving, handing_out, unchanged};
 
 use crate::counters::Counters;
-use crate::desk::{Desk, Settled};
+use crate::desk::Settled;
 use crate::names::Naming;
+use crate::tally::Tally;
 use crate::totals::Totals;
 use blob_digest::{Blob, ByteRange, Digest, Refusal, RepoName};
 use oci_manifest::Manifest;
@@ -109,7 +110,7 @@ impl<S: Naming> Kept<S> {
 
     /// Opens a session, as `Book::start` does, and counts it. Before all else it is refused, as
     /// `LimitReached`, where one more command can't be counted.
-    pub fn start(&mut self, desk: &mut Desk<S>, repo: &RepoName) -> Result<u32, Refusal>
+    pub fn start(&mut self, desk: &mut Tally<S>, repo: &RepoName) -> Result<u32, Refusal>
         ensures does { Does (λ n. n) result (self.old, desk.old) (self.new, desk.new) (counted (λ _. one 0 0 0) (λ catalog. start catalog repo.now) (self.old, desk.old)) }
     {
         self.room(0)?;
@@ -122,7 +123,7 @@ impl<S: Naming> Kept<S> {
     /// The received length of a session, as `Book::status` answers it, counted.
     pub fn status(
         &mut self,
-        desk: &mut Desk<S>,
+        desk: &mut Tally<S>,
         repo: &RepoName,
         number: u32,
     ) -> Result<u64, Refusal>
@@ -137,7 +138,7 @@ impl<S: Naming> Kept<S> {
     /// Gives a session up, as `Book::abandon` does, and counts its bytes as abandoned.
     pub fn abandon(
         &mut self,
-        desk: &mut Desk<S>,
+        desk: &mut Tally<S>,
         repo: &RepoName,
         number: u32,
     ) -> Result<u64, Refusal>
@@ -153,7 +154,7 @@ impl<S: Naming> Kept<S> {
     /// `Book::mount` does, counted.
     pub fn mount(
         &mut self,
-        desk: &mut Desk<S>,
+        desk: &mut Tally<S>,
         repo: &RepoName,
         digest: &Digest,
         from: Option<&RepoName>,
@@ -170,7 +171,7 @@ impl<S: Naming> Kept<S> {
     /// Takes a link out of a repository, as `Book::delete` does, counted.
     pub fn delete(
         &mut self,
-        desk: &mut Desk<S>,
+        desk: &mut Tally<S>,
         repo: &RepoName,
         digest: &Digest,
     ) -> Result<(), Refusal>
@@ -194,7 +195,7 @@ impl<S: Naming> Kept<S> {
     /// Keeps a manifest that was read, as `Book::keep_manifest` does, counted.
     pub fn keep_manifest(
         &mut self,
-        desk: &mut Desk<S>,
+        desk: &mut Tally<S>,
         repo: &RepoName,
         manifest: Manifest,
     ) -> Result<Digest, Refusal>
@@ -210,7 +211,7 @@ impl<S: Naming> Kept<S> {
     /// A manifest of a repository, as `Book::get_manifest` answers it, counted.
     pub fn get_manifest(
         &mut self,
-        desk: &mut Desk<S>,
+        desk: &mut Tally<S>,
         repo: &RepoName,
         digest: &Digest,
     ) -> Result<Arc<Manifest, Global>, Refusal>
@@ -227,7 +228,7 @@ impl<S: Naming> Kept<S> {
     /// Takes a manifest out of a repository, as `Book::delete_manifest` does, counted.
     pub fn delete_manifest(
         &mut self,
-        desk: &mut Desk<S>,
+        desk: &mut Tally<S>,
         repo: &RepoName,
         digest: &Digest,
     ) -> Result<(), Refusal>
@@ -244,7 +245,7 @@ impl<S: Naming> Kept<S> {
     pub fn lease(
         &mut self,
         pins: &Pins,
-        desk: &mut Desk<S>,
+        desk: &mut Tally<S>,
         repo: &RepoName,
         digest: &Digest,
     ) -> Result<(Pin, Arc<Blob, Global>), Refusal>
@@ -332,7 +333,7 @@ impl<S: Naming> Kept<S> {
 
     /// Puts a session's chunks back with the one that was filled in, as `Book::put_back` does, and counts
     /// the command with that chunk's bytes.
-    pub fn put_back(&mut self, desk: &mut Desk<S>, hand: Hand) -> Result<u64, Refusal>
+    pub fn put_back(&mut self, desk: &mut Tally<S>, hand: Hand) -> Result<u64, Refusal>
         requires filled { hand.last ≢ None }
         ensures does { DoesExactly (λ n. n) result (self.old, desk.old) (self.new, desk.new) (accepted (λ _. one (filled_length hand) 0 0) (λ catalog. put_back catalog hand) (self.old, desk.old)) }
         ensures length { IfOk result (λ n. n ≡ sum_by length hand.chunks + filled_length hand) }
@@ -362,7 +363,7 @@ impl<S: Naming> Kept<S> {
     pub fn finish(
         &mut self,
         pins: &Pins,
-        desk: &mut Desk<S>,
+        desk: &mut Tally<S>,
         hand: Hand,
         digest: &Digest,
     ) -> Result<u64, Refusal>
@@ -393,44 +394,40 @@ impl<S: Naming> Kept<S> {
         }
     }
 
-    /// Makes desks with empty shares.
-    ///
-    /// Refused, in this order: no desks, or more than 1,024 that would be out (`LimitReached`); out of
-    /// memory.
-    pub fn desks(&mut self, alloc: Global, count: u64) -> Result<Vec<Desk<S>>, Refusal>
-        ensures made { IfOk result (λ v. (vec_len v ≡ count) × (sum_of v.items ≡ nothing)) }
-        ensures does { Does (λ _. tt) result self.old self.new (handing_out count self.old) }
-        ensures limit { cannot_hand_out self.old count ≡ true → MatchResult result (λ _. ⊥) (λ e. e ≡ LimitReached) }
-        ensures refused { IfErr result (λ e. (e ≡ LimitReached) ⊎ (e ≡ Refusal.Memory)) }
+    /// Whether so many more desks can't be handed out.
+    pub fn lacks_desks(&self, count: u64) -> bool
+        ensures { result ≡ cannot_hand_out self.now count }
     {
-        if count == 0 || count > MAX_DESKS || self.counters.desks() > MAX_DESKS - count {
-            return Err(Refusal::LimitReached);
-        }
-        let mut desks = Vec::with_capacity(alloc, count as usize)?;
-        self.counters.issue_all(&mut desks, count);
-        Ok(desks)
+        count == 0 || count > MAX_DESKS || self.counters.desks() > MAX_DESKS - count
     }
 
-    /// Settles desks: the sums of their shares, and the number still out. Once none is out, all of the
-    /// totals is settled.
-    pub fn settle(&mut self, desks: Vec<Desk<S>>) -> Settled
-        ensures sums { (result.commands ≡ (sum_of desks.items).commands) × (result.received ≡ (sum_of desks.items).received) × (result.closed ≡ (sum_of desks.items).closed) × (result.abandoned ≡ (sum_of desks.items).abandoned) }
-        ensures left { (result.left ≡ self.new.counts.desks) × (self.new.counts.desks + vec_len desks ≡ self.old.counts.desks) }
-        ensures same { (self.new.book ≡ self.old.book) × (self.new.counts.totals ≡ self.old.counts.totals) }
-        ensures settled { self.new.counts.settled ≡ plus self.old.counts.settled (sum_of desks.items) }
-        ensures all { result.left ≡ 0 → self.new.counts.settled ≡ self.new.counts.totals }
+    /// The tally of a new desk, with empty shares.
+    pub fn issue(&mut self) -> Tally<S>
+        requires { self.old.counts.desks + 1 < LEDGER_PARTS }
+        ensures counts { self.new ≡ record self.old { counts = record self.old.counts { desks = self.old.counts.desks + 1 } } }
+        ensures empty { result ≡ nothing }
     {
-        let before = self.counters.settled();
-        self.counters.settle_all(desks);
+        self.counters.issue()
+    }
+
+    /// Settles a desk's tally.
+    pub fn settle(&mut self, tally: Tally<S>)
+        ensures same { (self.new.book ≡ self.old.book) × (self.new.counts.totals ≡ self.old.counts.totals) }
+        ensures desks { self.new.counts.desks + 1 ≡ self.old.counts.desks }
+        ensures settled { self.new.counts.settled ≡ plus self.old.counts.settled tally }
+    {
+        self.counters.settle(tally);
+    }
+
+    /// What was settled so far, of which none is more than its total. Once no desk is out, it is the totals.
+    pub fn settled(&mut self) -> Settled
+        ensures same { self.new ≡ self.old }
+        ensures amounts { (result.commands ≡ self.old.counts.settled.commands) × (result.received ≡ self.old.counts.settled.received) × (result.closed ≡ self.old.counts.settled.closed) × (result.abandoned ≡ self.old.counts.settled.abandoned) }
+        ensures left { result.left ≡ self.old.counts.desks }
+        ensures all { result.left ≡ 0 → self.old.counts.settled ≡ self.old.counts.totals }
+    {
         self.counters.audit();
-        let after = self.counters.settled();
-        Settled {
-            commands: after.commands - before.commands,
-            received: after.received - before.received,
-            closed: after.closed - before.closed,
-            abandoned: after.abandoned - before.abandoned,
-            left: after.left,
-        }
+        self.counters.settled()
     }
 
     /// The totals.

@@ -6,7 +6,7 @@ use std::marker::{Brand, PhantomData};
 use std::sync::ledger::Ledger;
 use store_book::PinsName;
 
-/// Which store: the table of its pins, what it was made with, and its four ledgers. It has no values, and no code: a
+/// Which store: the table of its pins, what it was made with, its four ledgers, and its log. It has no values, and no code: a
 /// type that carries such a parameter belongs to the store of these names.
 pub trait Naming {
     ghost names: { StoreNames };

@@ -1,0 +1,13 @@
+use Rattle.std.proofs.Common.{◌∙◌, ap, subst, sym}
+use Rattle.store_model.specs.Histories.{IsLegal}
+use Rattle.locked_book.specs.History.{steps_of}
+use Rattle.locked_book.proofs.history.History.writer.Goals as goal
+
+pub invariant_of-result : goal.invariant_of-result
+invariant_of-result g c =
+    let opening = g.S.Naming.names.opening in
+    let made = c.writer-writer.ensures.writer in (
+      ap (λ w. w.name) made ∙ c.self.invariant,
+      c.audit.ensures,
+      subst (λ w. IsLegal opening (steps_of w.seen)) (sym made) (subst (λ es. IsLegal opening (steps_of es)) (sym c.self.view_is) c.requires),
+    )

@@ -1,0 +1,495 @@
+//! What lies under the lock: the book with its totals, and its history.
+
+ghost use Rattle.std.specs.Prelude.{◌≡◌, ◌≢◌, ◌⊎◌, ◌+◌, ◌<◌, ◌≤◌, None, IfErr, IfOk, IfSome, MatchResult, OnOk, Err, [], true, length, sum_by, vec_len, vec_capacity, if◌then◌else◌};
+ghost use Rattle.std.specs.Arc.{arc_value};
+ghost use Rattle.std.specs.FinMap.{empty};
+ghost use Rattle.std.specs.Option.{option_copied};
+ghost use Rattle.std.specs.Io.KnownBytes.{Appends};
+ghost use Rattle.blob_digest.specs.Digests.{is_digest_of, sha256_text};
+ghost use Rattle.blob_digest.specs.Outcomes.{Does, DoesExactly};
+ghost use Rattle.blob_digest.specs.declared.refusal.Refusal.TheVariants.{LimitReached};
+ghost use Rattle.store_model.specs.Amounts.{nothing, plus, one, sum_of};
+ghost use Rattle.store_model.specs.BookText.{book_text};
+ghost use Rattle.store_model.specs.Commands.{check_tenant, start, status, abandon, mount, delete, put_manifest, get_manifest, delete_manifest, take, put_back, finish, given_back};
+ghost use Rattle.store_model.specs.Hands.{filled_length, received_in_sessions};
+ghost use Rattle.store_model.specs.Histories.{Performed, Took, PutBack, Finished, IsLegal};
+ghost use Rattle.store_model.specs.Runs.{Start, Status, Abandon, Mount as MountCommand, Delete, PutManifest, GetManifest, DeleteManifest, Lease, Number, Mounting, Bytes, Done};
+ghost use Rattle.store_model.specs.Sessions.{IsFull};
+ghost use Rattle.store_model.specs.Sweep.{IsSweep};
+ghost use Rattle.store_book.specs.Pinned.{blob_bytes, blob_digest};
+ghost use Rattle.store_book.specs.SlotSteps.{EachSlot, HasPin, IsStill, ReadsWord};
+ghost use Rattle.locked_book.specs.Calls.{reply};
+ghost use Rattle.locked_book.specs.Counting.{IsBalanced, Lends, cannot_hand_out, has_room, with_catalog, with_slots, uncounted, accepted, counted, reserving, handing_out, unchanged};
+ghost use Rattle.locked_book.specs.Found.{IsSoundOf};
+ghost use Rattle.locked_book.specs.History.{Adds, AreFresh, IsUnread, amounts_of, steps_of};
+ghost use Rattle.locked_book.specs.Names.{setting_of};
+
+use crate::call::Call;
+use crate::counters::Counters;
+use crate::desk::{Desk, Settled};
+use crate::history::{History, HistoryWriter};
+use crate::kept::Kept;
+use crate::names::Naming;
+use crate::step::Step;
+use crate::totals::Totals;
+use blob_digest::{Blob, ByteRange, Digest, Refusal, RepoName};
+use oci_manifest::Manifest;
+use pin_table::{Pin, Pins};
+use shared_log::SharedLog;
+use std::alloc::Global;
+use std::io::{self, Write};
+use std::marker::Model;
+use std::snapshot::Snapshot;
+use std::sync::Arc;
+use store_book::{Book, Mount, Swept};
+use upload_table::Hand;
+
+/// The book with its totals, and its history, which leads from the opening catalog to that of the book, and to the
+/// totals. A sweep is added by a writer that is nobody's.
+#[derive(Drop)]
+pub struct LockedBook<S: Naming> {
+    kept: Kept<S>,
+    history: History<S>,
+    nobody: HistoryWriter<S>,
+}
+
+impl<S: Naming> Model for LockedBook<S> {
+    ghost use Rattle.locked_book.specs.Counting.{Content, coded_content};
+    ghost use Rattle.locked_book.specs.History.{Leaves, state_of};
+
+    ghost Value = { Content };
+
+    ghost coded = { coded_content };
+
+    ghost view = { λ b. b.kept };
+
+    ghost invariant = { λ b. Leaves S.names.opening b.history (state_of b.kept) };
+}
+
+impl<S: Naming> LockedBook<S> {
+    /// The value of a book without sessions, with the slots and the setting that the name says, nothing counted, and no
+    /// step made.
+    pub fn new(book: Book, counters: Counters<S>, log: SharedLog<Step>) -> LockedBook<S>
+        requires book { book.catalog.sessions ≡ empty }
+        requires named { (book.table ≡ S.names.table) × (length book.slots ≡ S.names.slots) × (setting_of book.catalog ≡ S.names.setting) }
+        requires counters { counters ≡ record { totals = nothing; settled = nothing; desks = 0 } }
+        requires log { (log.name ≡ S.names.log) × (log.entries ≡ []) }
+        requires opening { book.catalog ≡ S.names.opening }
+        ensures { result ≡ record { book = book; counts = counters } }
+    {
+        let kept = Kept::new(book, counters);
+        let mut history = History::new(log);
+        let nobody = history.writer();
+        LockedBook {
+            kept,
+            history,
+            nobody,
+        }
+    }
+
+    /// Opens a session, as `Kept::start` does.
+    pub fn start(&mut self, desk: &mut Desk<S>, repo: &RepoName) -> Result<u32, Refusal>
+        ensures does { Does (λ n. n) result (self.old, desk.old.amounts) (self.new, desk.new.amounts) (counted (λ _. one 0 0 0) (λ catalog. start catalog repo.now) (self.old, desk.old.amounts)) }
+        ensures history { Adds S.names.opening desk.old.trace (Performed (Start repo.now) (reply Number result)) desk.new.trace }
+    {
+        let result = self.kept.start(&mut desk.tally, repo);
+        self.history
+            .add(&mut desk.writer, Call::Start(repo, &result));
+        result
+    }
+
+    /// The received length of a session, as `Kept::status` answers it.
+    pub fn status(
+        &mut self,
+        desk: &mut Desk<S>,
+        repo: &RepoName,
+        number: u32,
+    ) -> Result<u64, Refusal>
+        ensures does { DoesExactly (λ n. n) result (self.old, desk.old.amounts) (self.new, desk.new.amounts) (counted (λ _. one 0 0 0) (λ catalog. unchanged (status catalog repo.now number) catalog) (self.old, desk.old.amounts)) }
+        ensures history { Adds S.names.opening desk.old.trace (Performed (Status repo.now number) (reply Number result)) desk.new.trace }
+    {
+        let result = self.kept.status(&mut desk.tally, repo, number);
+        self.history
+            .add(&mut desk.writer, Call::Status(repo, number, &result));
+        result
+    }
+
+    /// Gives a session up, as `Kept::abandon` does.
+    pub fn abandon(
+        &mut self,
+        desk: &mut Desk<S>,
+        repo: &RepoName,
+        number: u32,
+    ) -> Result<u64, Refusal>
+        ensures does { DoesExactly (λ n. n) result (self.old, desk.old.amounts) (self.new, desk.new.amounts) (counted (λ n. one 0 0 n) (λ catalog. abandon catalog repo.now number) (self.old, desk.old.amounts)) }
+        ensures history { Adds S.names.opening desk.old.trace (Performed (Abandon repo.now number) (reply Number result)) desk.new.trace }
+    {
+        let result = self.kept.abandon(&mut desk.tally, repo, number);
+        self.history
+            .add(&mut desk.writer, Call::Abandon(repo, number, &result));
+        result
+    }
+
+    /// Links a blob that the tenant holds, or opens a session, as `Kept::mount` does.
+    pub fn mount(
+        &mut self,
+        desk: &mut Desk<S>,
+        repo: &RepoName,
+        digest: &Digest,
+        from: Option<&RepoName>,
+    ) -> Result<Mount, Refusal>
+        ensures does { Does (λ m. m) result (self.old, desk.old.amounts) (self.new, desk.new.amounts) (counted (λ _. one 0 0 0) (λ catalog. mount catalog repo.now digest.now (option_copied from.entry)) (self.old, desk.old.amounts)) }
+        ensures history { Adds S.names.opening desk.old.trace (Performed (MountCommand repo.now digest.now (option_copied from.entry)) (reply Mounting result)) desk.new.trace }
+    {
+        let result = self.kept.mount(&mut desk.tally, repo, digest, from);
+        self.history
+            .add(&mut desk.writer, Call::Mount(repo, digest, from, &result));
+        result
+    }
+
+    /// Takes a link out of a repository, as `Kept::delete` does.
+    pub fn delete(
+        &mut self,
+        desk: &mut Desk<S>,
+        repo: &RepoName,
+        digest: &Digest,
+    ) -> Result<(), Refusal>
+        ensures does { DoesExactly (λ u. u) result (self.old, desk.old.amounts) (self.new, desk.new.amounts) (counted (λ _. one 0 0 0) (λ catalog. delete catalog repo.now digest.now) (self.old, desk.old.amounts)) }
+        ensures history { Adds S.names.opening desk.old.trace (Performed (Delete repo.now digest.now) (reply (λ _. Done) result)) desk.new.trace }
+    {
+        let result = self.kept.delete(&mut desk.tally, repo, digest);
+        self.history
+            .add(&mut desk.writer, Call::Delete(repo, digest, &result));
+        result
+    }
+
+    /// Keeps a manifest that was read, as `Kept::keep_manifest` does.
+    pub fn keep_manifest(
+        &mut self,
+        desk: &mut Desk<S>,
+        repo: &RepoName,
+        manifest: Manifest,
+    ) -> Result<Digest, Refusal>
+        ensures does { Does (λ d. d) result (self.old, desk.old.amounts) (self.new, desk.new.amounts) (counted (λ _. one 0 0 0) (λ catalog. put_manifest catalog repo.now manifest) (self.old, desk.old.amounts)) }
+        ensures digest { IfOk result (λ d. d ≡ sha256_text manifest) }
+        ensures history { Adds S.names.opening desk.old.trace (Performed (PutManifest repo.now manifest) (reply Bytes result)) desk.new.trace }
+    {
+        let given = Snapshot::of(&manifest);
+        let result = self.kept.keep_manifest(&mut desk.tally, repo, manifest);
+        self.history
+            .add(&mut desk.writer, Call::PutManifest(repo, &given, &result));
+        result
+    }
+
+    /// A manifest of a repository, as `Kept::get_manifest` answers it.
+    pub fn get_manifest(
+        &mut self,
+        desk: &mut Desk<S>,
+        repo: &RepoName,
+        digest: &Digest,
+    ) -> Result<Arc<Manifest, Global>, Refusal>
+        ensures does { Does (λ m. arc_value m) result (self.old, desk.old.amounts) (self.new, desk.new.amounts) (counted (λ _. one 0 0 0) (λ catalog. unchanged (get_manifest catalog repo.now digest.now) catalog) (self.old, desk.old.amounts)) }
+        ensures digest { IfOk result (λ m. sha256_text (arc_value m) ≡ digest.now) }
+        ensures history { Adds S.names.opening desk.old.trace (Performed (GetManifest repo.now digest.now) (reply (λ m. Bytes (arc_value m)) result)) desk.new.trace }
+    {
+        let result = self.kept.get_manifest(&mut desk.tally, repo, digest);
+        self.history
+            .add(&mut desk.writer, Call::GetManifest(repo, digest, &result));
+        result
+    }
+
+    /// Takes a manifest out of a repository, as `Kept::delete_manifest` does.
+    pub fn delete_manifest(
+        &mut self,
+        desk: &mut Desk<S>,
+        repo: &RepoName,
+        digest: &Digest,
+    ) -> Result<(), Refusal>
+        ensures does { DoesExactly (λ u. u) result (self.old, desk.old.amounts) (self.new, desk.new.amounts) (counted (λ _. one 0 0 0) (λ catalog. delete_manifest catalog repo.now digest.now) (self.old, desk.old.amounts)) }
+        ensures history { Adds S.names.opening desk.old.trace (Performed (DeleteManifest repo.now digest.now) (reply (λ _. Done) result)) desk.new.trace }
+    {
+        let result = self.kept.delete_manifest(&mut desk.tally, repo, digest);
+        self.history.add(
+            &mut desk.writer,
+            Call::DeleteManifest(repo, digest, &result),
+        );
+        result
+    }
+
+    /// Lends a blob that a repository holds, as `Kept::lease` does.
+    pub fn lease(
+        &mut self,
+        pins: &Pins,
+        desk: &mut Desk<S>,
+        repo: &RepoName,
+        digest: &Digest,
+    ) -> Result<(Pin, Arc<Blob, Global>), Refusal>
+        requires table { pins.now ≡ S.names.table }
+        ensures does { Lends (λ r. blob_bytes (arc_value r.1)) result (self.old, desk.old.amounts) (self.new, desk.new.amounts) repo.now digest.now }
+        ensures pin { IfOk result (λ r. (r.0.table ≡ S.names.table) × (r.0.hold.digest ≡ digest.now) × (r.0.hold.weight ≡ 1024)) }
+        ensures content { IfOk result (λ r. is_digest_of digest.now (blob_bytes (arc_value r.1)) ≡ true) }
+        ensures blob { IfOk result (λ r. blob_digest (arc_value r.1) ≡ digest.now) }
+        ensures history { Adds S.names.opening desk.old.trace (Performed (Lease repo.now digest.now) (reply (λ r. Bytes (blob_bytes (arc_value r.1))) result)) desk.new.trace }
+    {
+        let result = self.kept.lease(pins, &mut desk.tally, repo, digest);
+        self.history
+            .add(&mut desk.writer, Call::Lease(repo, digest, &result));
+        result
+    }
+
+    /// Takes a session in hand, as `Kept::take` does. Nothing is counted yet.
+    pub fn take(
+        &mut self,
+        desk: &mut Desk<S>,
+        repo: &RepoName,
+        number: u32,
+        range: Option<ByteRange>,
+        len: u64,
+    ) -> Result<Hand, Refusal>
+        ensures does { DoesExactly (λ h. h) result self.old self.new (reserving len (λ catalog. take catalog repo.now number range len) self.old) }
+        ensures ends { IfOk result (λ h. IfSome range (λ r. sum_by length h.chunks + len ≡ r.end + 1)) }
+        ensures same { desk.new.amounts ≡ desk.old.amounts }
+        ensures history { Adds S.names.opening desk.old.trace (Took repo.now number range len result) desk.new.trace }
+    {
+        let result = self.kept.take(repo, number, range, len);
+        self.history.add(
+            &mut desk.writer,
+            Call::Take(repo, number, range, len, &result),
+        );
+        result
+    }
+
+    /// Puts a session's chunks back with the one that was filled in, as `Kept::put_back` does.
+    pub fn put_back(&mut self, desk: &mut Desk<S>, hand: Hand) -> Result<u64, Refusal>
+        requires filled { hand.last ≢ None }
+        ensures does { DoesExactly (λ n. n) result (self.old, desk.old.amounts) (self.new, desk.new.amounts) (accepted (λ _. one (filled_length hand) 0 0) (λ catalog. put_back catalog hand) (self.old, desk.old.amounts)) }
+        ensures length { IfOk result (λ n. n ≡ sum_by length hand.chunks + filled_length hand) }
+        ensures history { Adds S.names.opening desk.old.trace (PutBack hand result) desk.new.trace }
+    {
+        let given = Snapshot::of(&hand);
+        let result = self.kept.put_back(&mut desk.tally, hand);
+        self.history
+            .add(&mut desk.writer, Call::PutBack(&given, &result));
+        result
+    }
+
+    /// Puts a session's chunks back as they were before it was taken, as `Kept::give_up` does.
+    pub fn give_up(&mut self, desk: &mut Desk<S>, hand: Hand) -> Result<u64, Refusal>
+        requires unfilled { hand.last ≡ None }
+        ensures does { DoesExactly (λ n. n) result self.old self.new (uncounted (λ catalog. put_back catalog hand) self.old) }
+        ensures same { desk.new.amounts ≡ desk.old.amounts }
+        ensures history { Adds S.names.opening desk.old.trace (PutBack hand result) desk.new.trace }
+    {
+        let given = Snapshot::of(&hand);
+        let result = self.kept.give_up(hand);
+        self.history
+            .add(&mut desk.writer, Call::PutBack(&given, &result));
+        result
+    }
+
+    /// Closes a session in hand, as `Kept::finish` does.
+    pub fn finish(
+        &mut self,
+        pins: &Pins,
+        desk: &mut Desk<S>,
+        hand: Hand,
+        digest: &Digest,
+    ) -> Result<u64, Refusal>
+        requires table { pins.now ≡ S.names.table }
+        requires full { IsFull hand }
+        ensures does { Does (λ n. n) result (with_catalog self.old (given_back self.old.book.catalog hand), desk.old.amounts) (with_slots self.new self.old.book.slots, desk.new.amounts) (accepted (λ n. one (filled_length hand) n 0) (λ catalog. finish catalog hand digest.now) (self.old, desk.old.amounts)) }
+        ensures length { IfOk result (λ n. n ≡ sum_by length hand.chunks + filled_length hand) }
+        ensures history { Adds S.names.opening desk.old.trace (Finished hand digest.now result) desk.new.trace }
+    {
+        let given = Snapshot::of(&hand);
+        let result = self.kept.finish(pins, &mut desk.tally, hand, digest);
+        self.history
+            .add(&mut desk.writer, Call::Finish(&given, digest, &result));
+        result
+    }
+
+    /// Refuses a put of a manifest to a repository for which no command is accepted, as `Kept::check_tenant` does. Where
+    /// it is accepted, no step is made.
+    pub fn check_tenant(
+        &mut self,
+        desk: &mut Desk<S>,
+        repo: &RepoName,
+        bytes: &[u8],
+    ) -> Result<(), Refusal>
+        ensures answers { result ≡ (if has_room self.old 0 then check_tenant self.old.book.catalog repo.now else Err LimitReached) }
+        ensures ok { OnOk result (desk.new ≡ desk.old) }
+        ensures same { desk.new.amounts ≡ desk.old.amounts }
+        ensures history { IfErr result (λ e. Adds S.names.opening desk.old.trace (Performed (PutManifest repo.now bytes.now) (Err e)) desk.new.trace) }
+    {
+        match self.kept.check_tenant(repo) {
+            Ok(()) => Ok(()),
+            Err(refusal) => {
+                self.history.add(
+                    &mut desk.writer,
+                    Call::RefuseManifest(repo, bytes, &refusal),
+                );
+                Err(refusal)
+            }
+        }
+    }
+
+    /// Refuses bytes that are no manifest, unless the repository is refused first.
+    pub fn refuse_manifest(
+        &mut self,
+        desk: &mut Desk<S>,
+        repo: &RepoName,
+        bytes: &[u8],
+        unread: Refusal,
+    ) -> Refusal
+        requires unread { IsUnread bytes.now unread }
+        ensures answers { (result ≡ unread) ⊎ (Err result ≡ (if has_room self.old 0 then check_tenant self.old.book.catalog repo.now else Err LimitReached)) }
+        ensures same { desk.new.amounts ≡ desk.old.amounts }
+        ensures history { Adds S.names.opening desk.old.trace (Performed (PutManifest repo.now bytes.now) (Err result)) desk.new.trace }
+    {
+        let refusal = match self.kept.check_tenant(repo) {
+            Ok(()) => unread,
+            Err(refusal) => refusal,
+        };
+        self.history.add(
+            &mut desk.writer,
+            Call::RefuseManifest(repo, bytes, &refusal),
+        );
+        refusal
+    }
+
+    /// Goes over the slots, as `Kept::sweep` does.
+    pub fn sweep(&mut self, pins: &Pins) -> Swept
+        requires table { pins.now ≡ S.names.table }
+        ensures sound { IsSoundOf S.names.slots S.names.setting self.old.book }
+        ensures sweeps { IsSweep self.old.book.catalog result self.new.book.catalog }
+        ensures counts { self.new.counts ≡ self.old.counts }
+    {
+        let result = self.kept.sweep(pins);
+        self.history.add(&mut self.nobody, Call::Sweep(&result));
+        result
+    }
+
+    /// The pin with all that it had, as `Kept::verify` tells of it. No step is made.
+    pub fn verify(&mut self, pins: &Pins, pin: Pin) -> Pin
+        requires table { (pins.now ≡ S.names.table) × (pin.table ≡ S.names.table) }
+        ensures sound { IsSoundOf S.names.slots S.names.setting self.old.book }
+        ensures same { result ≡ pin }
+        ensures kept { HasPin pin.hold self.old.book }
+    {
+        self.kept.verify(pins, pin)
+    }
+
+    /// The word of a slot, as `Kept::word` reads it. No step is made.
+    pub fn word(&mut self, pins: &Pins, slot: u32) -> u64
+        requires table { pins.now ≡ S.names.table }
+        requires within { slot < S.names.slots }
+        ensures word { ReadsWord slot result self.old.book.slots self.new.book.slots }
+        ensures content { (self.new.book.catalog ≡ self.old.book.catalog) × (self.new.counts ≡ self.old.counts) }
+        ensures slots { EachSlot IsStill self.old.book.slots self.new.book.slots }
+    {
+        self.kept.word(pins, slot)
+    }
+
+    /// Writes the text of the book, as `Kept::print` does.
+    pub fn print<W: Write>(&self, writer: &mut W) -> io::Result<()>
+        ensures sound { IsSoundOf S.names.slots S.names.setting self.now.book }
+        ensures text { OnOk result (Appends (W.contents writer.old) (W.contents writer.new) (book_text self.now.book.catalog)) }
+    {
+        self.kept.print(writer)
+    }
+
+    /// A new desk with empty shares, which has made no step.
+    fn issue(&mut self) -> Desk<S>
+        requires { self.old.counts.desks + 1 < 1025 }
+        ensures counts { self.new ≡ record self.old { counts = record self.old.counts { desks = self.old.counts.desks + 1 } } }
+        ensures fresh { (result.amounts ≡ nothing) × (result.trace.own ≡ []) }
+    {
+        let tally = self.kept.issue();
+        let writer = self.history.writer();
+        Desk { tally, writer }
+    }
+
+    /// Issues desks with empty shares, for which there is room.
+    fn issue_all(&mut self, desks: &mut Vec<Desk<S>>, count: u64)
+        requires count { self.old.counts.desks + count < 1025 }
+        requires room { (vec_len desks.old ≡ 0) × (count ≤ vec_capacity desks.old) }
+        ensures counts { self.new ≡ record self.old { counts = record self.old.counts { desks = self.old.counts.desks + count } } }
+        ensures desks { (vec_len desks.new ≡ count) × AreFresh desks.new.items }
+    {
+        for _i in 0..count {
+            desks.push_reserved(self.issue());
+        }
+    }
+
+    /// Makes desks with empty shares, which have made no step.
+    ///
+    /// Refused, in this order: no desks, or more than 1,024 that would be out (`LimitReached`); out of
+    /// memory.
+    pub fn desks(&mut self, alloc: Global, count: u64) -> Result<Vec<Desk<S>>, Refusal>
+        ensures made { IfOk result (λ v. (vec_len v ≡ count) × AreFresh v.items) }
+        ensures does { Does (λ _. tt) result self.old self.new (handing_out count self.old) }
+        ensures limit { cannot_hand_out self.old count ≡ true → MatchResult result (λ _. ⊥) (λ e. e ≡ LimitReached) }
+        ensures refused { IfErr result (λ e. (e ≡ LimitReached) ⊎ (e ≡ Refusal.Memory)) }
+    {
+        if self.kept.lacks_desks(count) {
+            return Err(Refusal::LimitReached);
+        }
+        let mut desks = Vec::with_capacity(alloc, count as usize)?;
+        self.issue_all(&mut desks, count);
+        Ok(desks)
+    }
+
+    /// Settles a desk.
+    fn settle_one(&mut self, desk: Desk<S>)
+        ensures same { (self.new.book ≡ self.old.book) × (self.new.counts.totals ≡ self.old.counts.totals) }
+        ensures desks { self.new.counts.desks + 1 ≡ self.old.counts.desks }
+        ensures settled { self.new.counts.settled ≡ plus self.old.counts.settled desk.amounts }
+    {
+        let Desk { tally, writer: _ } = desk;
+        self.kept.settle(tally);
+    }
+
+    /// Settles desks.
+    fn settle_all(&mut self, desks: Vec<Desk<S>>)
+        ensures same { (self.new.book ≡ self.old.book) × (self.new.counts.totals ≡ self.old.counts.totals) }
+        ensures desks { self.new.counts.desks + vec_len desks ≡ self.old.counts.desks }
+        ensures settled { self.new.counts.settled ≡ plus self.old.counts.settled (sum_of (amounts_of desks.items)) }
+    {
+        let mut desks = desks;
+        while let Some(desk) = desks.pop() {
+            self.settle_one(desk);
+        }
+        desks.destroy_empty();
+    }
+
+    /// Settles desks: the sums of their shares, and the number still out. Once none is out, all of the
+    /// totals is settled.
+    pub fn settle(&mut self, desks: Vec<Desk<S>>) -> Settled
+        ensures sums { (result.commands ≡ (sum_of (amounts_of desks.items)).commands) × (result.received ≡ (sum_of (amounts_of desks.items)).received) × (result.closed ≡ (sum_of (amounts_of desks.items)).closed) × (result.abandoned ≡ (sum_of (amounts_of desks.items)).abandoned) }
+        ensures left { (result.left ≡ self.new.counts.desks) × (self.new.counts.desks + vec_len desks ≡ self.old.counts.desks) }
+        ensures same { (self.new.book ≡ self.old.book) × (self.new.counts.totals ≡ self.old.counts.totals) }
+        ensures settled { self.new.counts.settled ≡ plus self.old.counts.settled (sum_of (amounts_of desks.items)) }
+        ensures all { result.left ≡ 0 → self.new.counts.settled ≡ self.new.counts.totals }
+    {
+        let before = self.kept.settled();
+        self.settle_all(desks);
+        let after = self.kept.settled();
+        Settled {
+            commands: after.commands - before.commands,
+            received: after.received - before.received,
+            closed: after.closed - before.closed,
+            abandoned: after.abandoned - before.abandoned,
+            left: after.left,
+        }
+    }
+
+    /// The totals.
+    pub fn totals(&self) -> Totals
+        ensures amounts { (result.commands ≡ self.now.counts.totals.commands) × (result.received ≡ self.now.counts.totals.received) × (result.closed ≡ self.now.counts.totals.closed) × (result.abandoned ≡ self.now.counts.totals.abandoned) }
+        ensures in_sessions { result.in_sessions ≡ received_in_sessions self.now.book.catalog }
+        ensures balanced { result.received ≡ result.in_sessions + result.closed + result.abandoned }
+        ensures desks { result.desks ≡ self.now.counts.desks }
+    {
+        self.kept.totals()
+    }
+}
