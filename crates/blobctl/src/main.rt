@@ -28,7 +28,6 @@ ghost use Rattle.blobctl.specs.declared.fault.Fault.TheVariants.{Write};
 
 #[cfg(test)]
 mod algorithm_tests;
-mod one_worker;
 mod arguments;
 mod fault;
 #[cfg(test)]
@@ -42,6 +41,7 @@ mod lease_tests;
 mod manifest_tests;
 #[cfg(test)]
 mod mount_tests;
+mod one_worker;
 mod options;
 mod output;
 mod pinned_book;
@@ -54,10 +54,10 @@ mod tenants;
 mod test_scripts;
 #[cfg(test)]
 mod tests;
-mod workers;
 mod watched;
 #[cfg(test)]
 mod worker_tests;
+mod workers;
 
 use crate::arguments::read_options;
 use crate::fault::Fault;

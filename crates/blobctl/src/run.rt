@@ -9,14 +9,14 @@ ghost use Rattle.blobctl.specs.Script.{AreRowsOf};
 ghost use Rattle.blobctl.specs.Watching.{has_failed, inner_of};
 ghost use Rattle.store_book.specs.Openings.{tenants_shown};
 
-use crate::one_worker::play_by_one;
 use crate::fault::Fault;
 use crate::input::read_script;
+use crate::one_worker::play_by_one;
 use crate::options::Options;
 use crate::output::write_played;
 use crate::script::read_rows;
-use crate::workers::play_by_workers;
 use crate::watched::Watched;
+use crate::workers::play_by_workers;
 use row_player::Row;
 use std::alloc::Global;
 use std::io::{Read, Write};

@@ -10,7 +10,6 @@
 mod calls;
 mod commands;
 mod links;
-mod values;
 mod on_book;
 mod on_play;
 mod on_store;
@@ -18,9 +17,9 @@ mod sessions;
 mod slots;
 mod stopped;
 mod texts;
+mod values;
 
 use crate::links::play_links;
-use crate::values::play_values;
 use crate::on_book::play_on_book;
 use crate::on_play::play_on_play;
 use crate::on_store::play_on_store;
@@ -28,6 +27,7 @@ use crate::sessions::play_sessions;
 use crate::slots::play_slots;
 use crate::stopped::Stopped;
 use crate::texts::play_texts;
+use crate::values::play_values;
 use std::alloc::{AllocError, AllocGlobal, Global};
 use std::io::{Print, Read};
 use std::process::ExitCode;

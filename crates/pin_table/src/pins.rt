@@ -15,7 +15,7 @@ ghost use Rattle.pin_table.specs.Calls.{opened, with_both, rowed, lent_on, seat_
 
 use crate::keeper::Keeper;
 use crate::pin::{Left, Pin};
-use crate::plays::{Condemn, Give, Given, Transit, Leave, Lend, Look, Reclaiming, Revive, Share};
+use crate::plays::{Condemn, Give, Given, Leave, Lend, Look, Reclaiming, Revive, Share, Transit};
 use crate::reclaim::Reclaim;
 use crate::rule::{Opening, PinSeat, PinShared, PinTable};
 use blob_digest::{Digest, MAX_SLOTS, Refusal};

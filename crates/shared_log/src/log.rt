@@ -4,7 +4,7 @@ ghost use Rattle.std.specs.Prelude.{◌≡◌, [], IfOk};
 ghost use Rattle.shared_log.specs.Entries.{events_by};
 ghost use Rattle.shared_log.specs.Calls.{Agrees, with_writer, new_writer, with_entry, has_appended, has_seen, with_entries, has_written};
 
-use crate::rule::{Append, Event, Events, Transit, NewWriter, Nothing, One, Place, Token, Words};
+use crate::rule::{Append, Event, Events, NewWriter, Nothing, One, Place, Token, Transit, Words};
 use atomic_table::Badge;
 use std::alloc::{AllocError, Global};
 use std::marker::Model;
