@@ -12,7 +12,7 @@ use Rattle.store_model.specs.Catalog.{Catalog}
 use Rattle.store_model.specs.declared.mount.Mount as mount
 use Rattle.store_model.specs.declared.swept.Swept.{Swept}
 use Rattle.store_model.specs.Sweep.{IsSweep}
-use Rattle.store_model.specs.Runs.{Command, Start, Status, Abandon, Mount, Delete, PutManifest, GetManifest, DeleteManifest, Lease, Answer, Number, Mounting, Bytes, Done, outcome, answered, told, takes_memory}
+use Rattle.store_model.specs.Runs.{Command, Start, Status, Abandon, Mount, Delete, PutManifest, GetManifest, DeleteManifest, Lease, Answer, Number, Mounting, Bytes, Done, outcome, answered, reading, takes_memory}
 use Rattle.store_model.specs.Commands as commands
 use Rattle.store_model.specs.Commands.{Outcome}
 use Rattle.finite_maps.proofs.Outcomes.{bound_ok, not_refused}
@@ -115,14 +115,14 @@ module _ {B : Type 0} (k k' : Content) (a a' : Amounts) (command : Command) (f :
 pub starts : (k k' : Content) (a a' : Amounts) (repo : Text) (result : Result ℕ Refusal) → Does (λ n. n) result (k, a) (k', a') (counted (λ _. one 0 0 0) (λ C. commands.start C repo) (k, a)) → IsStep (state_of k) (Performed (Start repo) (reply Number result)) (state_of k')
 starts k k' a a' repo result h = is_step k k' a a' (Start repo) Number (λ _. one 0 0 0) (λ C. commands.start C repo) (λ C. refl) (λ b. refl) (λ n. n) refl result h
 
-told_unchanged : {B : Type 0} (f : B → Answer) (C : Catalog) (r : Result B Refusal) → told f C r ≡ answered f (unchanged r C)
-told_unchanged f C (Ok n) = refl
-told_unchanged f C (Err e) = refl
+reading_unchanged : {B : Type 0} (f : B → Answer) (C : Catalog) (r : Result B Refusal) → reading f C r ≡ answered f (unchanged r C)
+reading_unchanged f C (Ok n) = refl
+reading_unchanged f C (Err e) = refl
 
 pub looks : (k k' : Content) (a a' : Amounts) (repo : Text) (number : ℕ) (result : Result ℕ Refusal) → DoesExactly (λ n. n) result (k, a) (k', a') (counted (λ _. one 0 0 0) (λ C. unchanged (commands.status C repo number) C) (k, a))
     → IsStep (state_of k) (Performed (Status repo number) (reply Number result)) (state_of k')
 looks k k' a a' repo number result h =
-    is_exact_step k k' a a' (Status repo number) Number (λ _. one 0 0 0) (λ C. unchanged (commands.status C repo number) C) (λ C. told_unchanged Number C (commands.status C repo number)) (λ b. refl) result h
+    is_exact_step k k' a a' (Status repo number) Number (λ _. one 0 0 0) (λ C. unchanged (commands.status C repo number) C) (λ C. reading_unchanged Number C (commands.status C repo number)) (λ b. refl) result h
 
 pub abandons : (k k' : Content) (a a' : Amounts) (repo : Text) (number : ℕ) (result : Result ℕ Refusal) → DoesExactly (λ n. n) result (k, a) (k', a') (counted (λ n. one 0 0 n) (λ C. commands.abandon C repo number) (k, a))
     → IsStep (state_of k) (Performed (Abandon repo number) (reply Number result)) (state_of k')
@@ -143,7 +143,7 @@ stores k k' a a' repo bytes result h = is_step k k' a a' (PutManifest repo bytes
 pub gets : {A : Type 0} (view : A → Text) (k k' : Content) (a a' : Amounts) (repo digest : Text) (result : Result A Refusal) → Does view result (k, a) (k', a') (counted (λ _. one 0 0 0) (λ C. unchanged (commands.get_manifest C repo digest) C) (k, a))
     → IsStep (state_of k) (Performed (GetManifest repo digest) (reply (λ m. Bytes (view m)) result)) (state_of k')
 gets view k k' a a' repo digest result h =
-    is_step k k' a a' (GetManifest repo digest) Bytes (λ _. one 0 0 0) (λ C. unchanged (commands.get_manifest C repo digest) C) (λ C. told_unchanged Bytes C (commands.get_manifest C repo digest)) (λ b. refl) view refl result h
+    is_step k k' a a' (GetManifest repo digest) Bytes (λ _. one 0 0 0) (λ C. unchanged (commands.get_manifest C repo digest) C) (λ C. reading_unchanged Bytes C (commands.get_manifest C repo digest)) (λ b. refl) view refl result h
 
 pub drops : (k k' : Content) (a a' : Amounts) (repo digest : Text) (result : Result (Unit {0}) Refusal) → DoesExactly (λ u. u) result (k, a) (k', a') (counted (λ _. one 0 0 0) (λ C. commands.delete_manifest C repo digest) (k, a))
     → IsStep (state_of k) (Performed (DeleteManifest repo digest) (reply (λ _. Done) result)) (state_of k')
