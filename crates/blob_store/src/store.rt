@@ -195,7 +195,7 @@ impl<S: Naming> Store<S> {
         match hand.fill(bytes) {
             Ok(hand) => self.locked(rt).put_back(desk, hand),
             Err(hand) => {
-                let _ = self.locked(rt).give_up(desk, hand);
+                let _ = self.locked(rt).cancel(desk, hand);
                 Err(Refusal::Memory)
             }
         }
@@ -231,7 +231,7 @@ impl<S: Naming> Store<S> {
         match hand.fill_last(bytes, algorithm) {
             Ok(hand) => self.locked(rt).finish(&self.pins, desk, hand, digest),
             Err(hand) => {
-                let _ = self.locked(rt).give_up(desk, hand);
+                let _ = self.locked(rt).cancel(desk, hand);
                 Err(Refusal::Memory)
             }
         }

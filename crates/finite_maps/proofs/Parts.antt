@@ -110,9 +110,6 @@ module _ {K X : Type 0} {R : K → K → Ordering} (o : IsTotalOrder R) (same : 
       ∙ as_passes (p q) (find R q (entries m)) (find R q (entries n)) (λ h. sym (get-entries m q) ∙ agree q h ∙ get-entries n q)
       ∙ sym (find-where_key R p q (alike q) (entries n)))
 
-  all_pass_at : (p : K → Bool) (e : K × X) (es : List (K × X)) → p e.0 ≡ true → where_key R p es ≡ es → where_key R p (e ∷ es) ≡ e ∷ es
-  all_pass_at p e es pass rest = rw pass (ap (λ xs. e ∷ xs) rest)
-
   -- a test that each key passes
   pub where_key-all : (p : K → Bool) (m : FinMap R X) → ((q : K) (v : X) → get m q ≡ Some v → p q ≡ true) → where_key R p (entries m) ≡ entries m
   where_key-all p m pass =

@@ -1,10 +1,10 @@
 -- Rows of a list as a finite map: what a push, a write, a removal and a sum are in the map.
-use Rattle.std.proofs.Common.{◌≡◌, ℕ, ◌+◌, ◌<◌, Bool, true, false, cond, not, List, [], ◌∷◌, ◌++◌, length, map, get_or, set, Option, Some, None, is_some, refl, sym, ap, ◌∙◌, arith}
+use Rattle.std.proofs.Common.{◌≡◌, ℕ, ◌+◌, ◌<◌, Bool, true, false, cond, not, List, [], ◌∷◌, length, map, get_or, set, Some, None, is_some, refl, sym, ap, ◌∙◌, arith}
 use Rattle.std.specs.declared.cmp.Ordering.{Ordering}
 use Rattle.std.specs.declared.cmp.Ordering.TheVariants.{Less, Equal, Greater}
 use Rattle.std.specs.Ordering.{is_eq, eq_by_cmp}
 use Rattle.std.specs.Cmp.{IsTotalOrder, eq_by_cmp_equiv, Equal-is, tied_itself}
-use Rattle.std.specs.FinMap.Entries.{find-append, find_tied}
+use Rattle.std.specs.FinMap.Entries.{find_tied}
 use Rattle.std.specs.List.{sum_by, remove, prefix_len, position, position_or_len, list_any}
 use Rattle.std.proofs.lemmas.List.{length-map}
 use Rattle.std.specs.FinMap.{FinMap, find, put, entries, from_entries, get, insert, get-entries, get-from_entries, empty, len-empty, len-entries, get-insert, entries-insert, same_map, IsAntisymmetric, get-remove, remove as fremove}
@@ -68,15 +68,6 @@ module _ {K X : Type 0} (R : K → K → Ordering) (o : IsTotalOrder R) where
         | false ↦ λ h. (refl, h)
       ] none
 
-  -- rows stay apart after a push of a new key
-  pub IsApart-push : (es : List (K × X)) (k : K) (v : X) → IsApart R es → find R k es ≡ None → IsApart R (es ++ (k, v) ∷ [])
-  IsApart-push [] k v apart none = (refl, tt)
-  IsApart-push (e ∷ es) k v apart none =
-      let parts = unfound k v e es none in (
-        find-append R o es k v e.0 parts.1 ∙ rw ((eq_by_cmp_equiv o).symm e.0 k ∙ parts.0) apart.0,
-        IsApart-push es k v apart.1 parts.1,
-      )
-
 prefix_len-map : {A B : Type 0} (p : B → Bool) (f : A → B) (xs : List A) → prefix_len p (map f xs) ≡ prefix_len (λ x. p (f x)) xs
 prefix_len-map p f [] = refl
 prefix_len-map p f (x ∷ xs) = ap (λ n. cond (p (f x)) (1 + n) 0) (prefix_len-map p f xs)
@@ -138,17 +129,6 @@ module _ {K X : Type 0} (R : K → K → Ordering) (o : IsTotalOrder R) where
             | false ↦ λ first. rest
           ] refl
 
-  pub IsApart-remove : (es : List (K × X)) (i : ℕ) (d : K × X) → IsApart R es → i < length es → IsApart R (remove es i)
-  IsApart-remove [] i d apart lt = absurd (omega arith)
-  IsApart-remove (e ∷ es) zero d apart lt = apart.1
-  IsApart-remove (e ∷ es) (suc i) d apart lt =
-      let within : i < length es = omega arith in
-      (find-remove es i d e.0 apart.1 within ∙ ap (cond (eq_by_cmp R e.0 (get_or es i d).0) None) apart.0 ∙ none_anyway (eq_by_cmp R e.0 (get_or es i d).0), IsApart-remove es i d apart.1 within)
-    where
-      none_anyway : {Y : Type 0} (b : Bool) → cond {A = Option Y} b None None ≡ None
-      none_anyway true = refl
-      none_anyway false = refl
-
   -- so the rows that are left are the map without the key
   pub from_entries-remove : IsAntisymmetric R → (es : List (K × X)) (i : ℕ) (d : K × X) (k : K) → IsApart R es → i < length es → (get_or es i d).0 ≡ k →
       from_entries {R = R} (remove es i) ≡ fremove (from_entries es) k
@@ -195,20 +175,6 @@ module _ {K X : Type 0} (R : K → K → Ordering) (o : IsTotalOrder R) where
             ] refl
             | false ↦ λ first. rest
           ] refl
-
-  pub IsApart-set : (es : List (K × X)) (i : ℕ) (d f : K × X) → IsApart R es → i < length es → (get_or es i d).0 ≡ f.0 → IsApart R (set es i f)
-  IsApart-set [] i d f apart lt key = absurd (omega arith)
-  IsApart-set (e ∷ es) zero d f apart lt key = (rw (← key) apart.0, apart.1)
-  IsApart-set (e ∷ es) (suc i) d f apart lt key =
-      let within : i < length es = omega arith in
-      (apart_from e es i d f apart.0 apart.1 within key, IsApart-set es i d f apart.1 within key)
-    where
-      apart_from : (e : K × X) (es : List (K × X)) (i : ℕ) (d f : K × X) → find R e.0 es ≡ None → IsApart R es → i < length es → (get_or es i d).0 ≡ f.0 → find R e.0 (set es i f) ≡ None
-      apart_from e es i d f none apart within key =
-          find-set es i d f e.0 apart within key ∙ (elim (eq_by_cmp R e.0 f.0) as (λ b. eq_by_cmp R e.0 f.0 ≡ b → cond b (Some f.1) (find R e.0 es) ≡ None) [
-            | true ↦ λ tie. absurd (found_at es i d within (rw key (tie_none e.0 f.0 es ((eq_by_cmp_equiv o).symm f.0 e.0 ∙ tie) none)))
-            | false ↦ λ tie. none
-          ] refl)
 
   pub from_entries-set : IsAntisymmetric R → (es : List (K × X)) (i : ℕ) (d f : K × X) → IsApart R es → i < length es → (get_or es i d).0 ≡ f.0 →
       from_entries {R = R} (set es i f) ≡ insert (from_entries es) f.0 f.1

@@ -234,13 +234,13 @@ gives_up k k' hand (Err e) none h =
     record { leaves = (uncounted_err k k' (λ C. commands.put_back C hand) e h.0, same.catalog); counts = same.totals }
 
 pub finishes : (k k' : Content) (a a' : Amounts) (hand : Taken) (digest : Text) (result : Result ℕ Refusal)
-    → Does (λ n. n) result (with_catalog k (commands.given_back k.book.catalog hand), a) (with_slots k' k.book.slots, a') (accepted (λ n. one (filled_length hand) n 0) (λ C. commands.finish C hand digest) (k, a))
+    → Does (λ n. n) result (with_catalog k (commands.after_cancel k.book.catalog hand), a) (with_slots k' k.book.slots, a') (accepted (λ n. one (filled_length hand) n 0) (λ C. commands.finish C hand digest) (k, a))
     → IsStep (state_of k) (Finished hand digest result) (state_of k')
 finishes k k' a a' hand digest (Ok n) h =
     let x = accepted_ok k (with_slots k' k.book.slots) a a' (λ n. one (filled_length hand) n 0) (λ C. commands.finish C hand digest) n h in
     record { leaves = x.steps; counts = x.totals }
 finishes k k' a a' hand digest (Err e) h =
-    let same = same_content (with_catalog k (commands.given_back k.book.catalog hand)) (with_slots k' k.book.slots) (ap (λ (q : Content × Amounts). q.0) h.1) in
+    let same = same_content (with_catalog k (commands.after_cancel k.book.catalog hand)) (with_slots k' k.book.slots) (ap (λ (q : Content × Amounts). q.0) h.1) in
     record { leaves = (λ n. accepted_err k k' a a' (λ n. one (filled_length hand) n 0) (λ C. commands.finish C hand digest) e (h.0 n), same.catalog); counts = same.totals }
 
 -- ---- sweeps

@@ -18,7 +18,7 @@ use Rattle.finite_maps.specs.Texts.{Text}
 use Rattle.store_model.specs.Catalog.{Number, Chunks, Home, InHand, Session, Taken, Catalog, number_cmp, received, next_of}
 use Rattle.store_model.specs.Invariant.{Lawful}
 use Rattle.store_model.specs.declared.mount.Mount.{Mount}
-use Rattle.store_model.specs.Commands.{tenant, session, lacks_room_for, cannot_open, has_slot, is_full_for, is_digest_accepted, start, mount, has_source, link_held, start_instead, abandon, put_manifest, all_linked, has_manifest, add_manifest, is_full_of_manifests, lease, take, put_back, given_back, finish}
+use Rattle.store_model.specs.Commands.{tenant, session, lacks_room_for, cannot_open, has_slot, is_full_for, is_digest_accepted, start, mount, has_source, link_held, start_instead, abandon, put_manifest, all_linked, has_manifest, add_manifest, is_full_of_manifests, lease, take, put_back, after_cancel, finish}
 use Rattle.store_model.proofs.Invariant.Sessions.{fresh}
 use Rattle.store_model.proofs.Commands.Hands.{home_chunks, received-with_chunk, taken_found, took, whole_long, IsProper}
 use Rattle.store_model.proofs.Commands.Accepted.{answer_by, left_by, session_found}
@@ -182,18 +182,18 @@ module _ (C : Catalog) (h : Taken) (s : Session) (here : taken_session (get C.se
       let z = change.bytes in
       record { hands = omega arith; reserve = omega arith; bytes = omega arith; setting = refl }
 
-  pub given_back_sums : Sums C (given_back C h) 0 0 0 1 h.reserved 0
-  given_back_sums =
+  pub after_cancel_sums : Sums C (after_cancel C h) 0 0 0 1 h.reserved 0
+  after_cancel_sums =
       let change = home_sums h.chunks in
       let z = change.bytes in
       subst (λ (D : Catalog). Sums C D 0 0 0 1 h.reserved 0) (λ i. record C { sessions = brought_home C.sessions h (sym here i) }) (record { hands = change.hands; reserve = change.reserve; bytes = omega arith; setting = refl })
 
 -- a refused finish of a hand whose session is there
-pub refused_sums : (C D : Catalog) (h : Taken) → D ≡ given_back C h → is_ok (taken_session (get C.sessions h.key) h) ≡ true → Sums C D 0 0 0 1 h.reserved 0
+pub refused_sums : (C D : Catalog) (h : Taken) → D ≡ after_cancel C h → is_ok (taken_session (get C.sessions h.key) h) ≡ true → Sums C D 0 0 0 1 h.reserved 0
 refused_sums C D h left is = by (taken_session (get C.sessions h.key) h) refl is
   where
     by : (o : Result Session Refusal) → taken_session (get C.sessions h.key) h ≡ o → is_ok o ≡ true → Sums C D 0 0 0 1 h.reserved 0
-    by (Ok s) here is = subst (λ (E : Catalog). Sums C E 0 0 0 1 h.reserved 0) (sym left) (given_back_sums C h s here)
+    by (Ok s) here is = subst (λ (E : Catalog). Sums C E 0 0 0 1 h.reserved 0) (sym left) (after_cancel_sums C h s here)
     by (Err e) here is = absurd cc
 
 -- all chunks of a hand
@@ -251,7 +251,7 @@ finish_sums C C' h digest n proper full stepped =
     }
 
 -- a hand that no session is in hand for changes nothing
-pub unknown_stays : (C D : Catalog) (h : Taken) (digest : Text) → D ≡ given_back C h → finish C h digest ≡ Err UploadUnknown → D ≡ C
+pub unknown_stays : (C D : Catalog) (h : Taken) (digest : Text) → D ≡ after_cancel C h → finish C h digest ≡ Err UploadUnknown → D ≡ C
 unknown_stays C D h digest left refused = by (taken_session (get C.sessions h.key) h) refl
   where
     not_unknown : {A : Type 0} (a b : Bool) (x : A) → ◌≡◌ {A = Result A Refusal} (◌>>=◌ {B = A} (refuse a DigestInvalid) (λ _. ◌>>=◌ {B = A} (refuse b StoreFull) (λ _. Ok x))) (Err UploadUnknown) → ⊥

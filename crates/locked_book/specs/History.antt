@@ -60,7 +60,7 @@ abbrev pub filled : Taken → Text → Taken
 filled hand bytes = record hand { last = Some bytes }
 
 -- a session was taken in hand, and put back as it was, since its chunk found no memory
-pub record GivesUp (C : Catalog) (old : Trace) (repo : Text) (number : ℕ) (range : Option ByteRange) (bytes : Text) (new : Trace) : Type 0 where
+pub record Cancels (C : Catalog) (old : Trace) (repo : Text) (number : ℕ) (range : Option ByteRange) (bytes : Text) (new : Trace) : Type 0 where
   pub hand : Taken
   pub mid : Trace
   pub back : Result ℕ Refusal
@@ -72,14 +72,14 @@ abbrev pub Appends : Catalog → Trace → Text → ℕ → Option ByteRange →
 Appends C old repo number range bytes result new =
     ((e : Refusal) × (result ≡ Err e) × Adds C old (Took repo number range (length bytes) (Err e)) new)
     ⊎ ((hand : Taken) × (mid : Trace) × Adds C old (Took repo number range (length bytes) (Ok hand)) mid × Adds C mid (PutBack (filled hand bytes) result) new)
-    ⊎ ((result ≡ Err Memory) × GivesUp C old repo number range bytes new)
+    ⊎ ((result ≡ Err Memory) × Cancels C old repo number range bytes new)
 
 -- A close is two steps: its session is taken in hand, and finished with the last chunk.
 abbrev pub Closes : Catalog → Trace → Text → ℕ → Text → Option ByteRange → Text → Result ℕ Refusal → Trace → Type 0
 Closes C old repo number digest range bytes result new =
     ((e : Refusal) × (result ≡ Err e) × Adds C old (Took repo number range (length bytes) (Err e)) new)
     ⊎ ((hand : Taken) × (mid : Trace) × Adds C old (Took repo number range (length bytes) (Ok hand)) mid × Adds C mid (Finished (filled hand bytes) digest result) new)
-    ⊎ ((result ≡ Err Memory) × GivesUp C old repo number range bytes new)
+    ⊎ ((result ≡ Err Memory) × Cancels C old repo number range bytes new)
 
 -- bytes are refused that are too long, or no manifest, or for want of memory
 abbrev pub IsUnread : Text → Refusal → Type 0

@@ -14,7 +14,7 @@ ghost use Rattle.store_model.specs.Invariant.{Sound};
 ghost use Rattle.store_book.specs.Pinned.{blob_bytes, blob_digest};
 ghost use Rattle.store_model.specs.BookText.{book_text};
 ghost use Rattle.store_book.specs.SlotSteps.{EachSlot, HasLast, HasPin, IsHousing, IsLending, IsQuiet, IsStill, IsSweptSlot, ReadsWord};
-ghost use Rattle.store_model.specs.Commands.{check_tenant, start, status, abandon, mount, delete, put_manifest, get_manifest, delete_manifest, take, put_back, finish, given_back};
+ghost use Rattle.store_model.specs.Commands.{check_tenant, start, status, abandon, mount, delete, put_manifest, get_manifest, delete_manifest, take, put_back, finish, after_cancel};
 ghost use Rattle.store_model.specs.Sweep.{IsSweep};
 ghost use Rattle.locked_book.specs.Found.{IsSoundOf};
 ghost use Rattle.locked_book.specs.Names.{setting_of};
@@ -347,7 +347,7 @@ impl<S: Naming> Kept<S> {
     }
 
     /// Puts a session's chunks back as they were before it was taken, and counts nothing.
-    pub fn give_up(&mut self, hand: Hand) -> Result<u64, Refusal>
+    pub fn cancel(&mut self, hand: Hand) -> Result<u64, Refusal>
         requires unfilled { hand.last ≡ None }
         ensures does { DoesExactly (λ n. n) result self.old self.new (uncounted (λ catalog. put_back catalog hand) self.old) }
     {
@@ -369,7 +369,7 @@ impl<S: Naming> Kept<S> {
     ) -> Result<u64, Refusal>
         requires table { pins.now ≡ S.names.table }
         requires full { IsFull hand }
-        ensures does { Does (λ n. n) result (with_catalog self.old (given_back self.old.book.catalog hand), desk.old) (with_slots self.new self.old.book.slots, desk.new) (accepted (λ n. one (filled_length hand) n 0) (λ catalog. finish catalog hand digest.now) (self.old, desk.old)) }
+        ensures does { Does (λ n. n) result (with_catalog self.old (after_cancel self.old.book.catalog hand), desk.old) (with_slots self.new self.old.book.slots, desk.new) (accepted (λ n. one (filled_length hand) n 0) (λ catalog. finish catalog hand digest.now) (self.old, desk.old)) }
         ensures length { IfOk result (λ n. n ≡ sum_by length hand.chunks + filled_length hand) }
         ensures slots { EachSlot IsQuiet self.old.book.slots self.new.book.slots }
         ensures housed { OnOk result (EachSlot (IsHousing digest.now) self.old.book.slots self.new.book.slots) }

@@ -10,7 +10,7 @@ ghost use Rattle.blob_digest.specs.Outcomes.{Does, DoesExactly};
 ghost use Rattle.blob_digest.specs.declared.refusal.Refusal.TheVariants.{LimitReached};
 ghost use Rattle.store_model.specs.Amounts.{nothing, plus, one, sum_of};
 ghost use Rattle.store_model.specs.BookText.{book_text};
-ghost use Rattle.store_model.specs.Commands.{check_tenant, start, status, abandon, mount, delete, put_manifest, get_manifest, delete_manifest, take, put_back, finish, given_back};
+ghost use Rattle.store_model.specs.Commands.{check_tenant, start, status, abandon, mount, delete, put_manifest, get_manifest, delete_manifest, take, put_back, finish, after_cancel};
 ghost use Rattle.store_model.specs.Hands.{filled_length, received_in_sessions};
 ghost use Rattle.store_model.specs.Histories.{Performed, Took, PutBack, Finished, IsLegal};
 ghost use Rattle.store_model.specs.Runs.{Start, Status, Abandon, Mount as MountCommand, Delete, PutManifest, GetManifest, DeleteManifest, Lease, Number, Mounting, Bytes, Done};
@@ -273,15 +273,15 @@ impl<S: Naming> LockedBook<S> {
         result
     }
 
-    /// Puts a session's chunks back as they were before it was taken, as `Kept::give_up` does.
-    pub fn give_up(&mut self, desk: &mut Desk<S>, hand: Hand) -> Result<u64, Refusal>
+    /// Puts a session's chunks back as they were before it was taken, as `Kept::cancel` does.
+    pub fn cancel(&mut self, desk: &mut Desk<S>, hand: Hand) -> Result<u64, Refusal>
         requires unfilled { hand.last ≡ None }
         ensures does { DoesExactly (λ n. n) result self.old self.new (uncounted (λ catalog. put_back catalog hand) self.old) }
         ensures same { desk.new.amounts ≡ desk.old.amounts }
         ensures history { Adds S.names.opening desk.old.trace (PutBack hand result) desk.new.trace }
     {
         let given = Snapshot::of(&hand);
-        let result = self.kept.give_up(hand);
+        let result = self.kept.cancel(hand);
         self.history
             .add(&mut desk.writer, Call::PutBack(&given, &result));
         result
@@ -297,7 +297,7 @@ impl<S: Naming> LockedBook<S> {
     ) -> Result<u64, Refusal>
         requires table { pins.now ≡ S.names.table }
         requires full { IsFull hand }
-        ensures does { Does (λ n. n) result (with_catalog self.old (given_back self.old.book.catalog hand), desk.old.amounts) (with_slots self.new self.old.book.slots, desk.new.amounts) (accepted (λ n. one (filled_length hand) n 0) (λ catalog. finish catalog hand digest.now) (self.old, desk.old.amounts)) }
+        ensures does { Does (λ n. n) result (with_catalog self.old (after_cancel self.old.book.catalog hand), desk.old.amounts) (with_slots self.new self.old.book.slots, desk.new.amounts) (accepted (λ n. one (filled_length hand) n 0) (λ catalog. finish catalog hand digest.now) (self.old, desk.old.amounts)) }
         ensures length { IfOk result (λ n. n ≡ sum_by length hand.chunks + filled_length hand) }
         ensures history { Adds S.names.opening desk.old.trace (Finished hand digest.now result) desk.new.trace }
     {

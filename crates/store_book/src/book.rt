@@ -9,7 +9,7 @@ ghost use Rattle.store_book.specs.Pinned.{blob_bytes, blob_digest};
 ghost use Rattle.store_book.specs.Openings.{OpensBook, RefusesBook};
 ghost use Rattle.store_model.specs.BookText.{book_text};
 ghost use Rattle.store_book.specs.SlotSteps.{EachSlot, FindsNoRoom, HasLast, HasPin, IsHousing, IsLending, IsQuiet, IsStill, IsSweptSlot, Leases, ReadsWord};
-ghost use Rattle.store_model.specs.Commands.{start, status, append, close, abandon, mount, delete, take, put_back, finish, given_back};
+ghost use Rattle.store_model.specs.Commands.{start, status, append, close, abandon, mount, delete, take, put_back, finish, after_cancel};
 ghost use Rattle.store_model.specs.Sweep.{IsSweep};
 ghost use Rattle.store_model.specs.Sessions.{taken_session};
 ghost use Rattle.store_model.specs.Sessions.{IsFull};
@@ -241,7 +241,7 @@ impl Book {
     pub fn finish(&mut self, pins: &Pins, hand: Hand, digest: &Digest) -> Result<u64, Refusal>
         requires table { self.old.table ≡ pins.now }
         requires full { IsFull hand }
-        ensures does { Does (λ n. n) result (given_back self.old.catalog hand) self.new.catalog (finish self.old.catalog hand digest.now) }
+        ensures does { Does (λ n. n) result (after_cancel self.old.catalog hand) self.new.catalog (finish self.old.catalog hand digest.now) }
         ensures taken { IfErr result (λ e. e ≢ UploadUnknown → IsOk (taken_session (get self.old.catalog.sessions hand.key) hand)) }
         ensures slots { (self.new.table ≡ self.old.table) × EachSlot IsQuiet self.old.slots self.new.slots }
         ensures housed { OnOk result (EachSlot (IsHousing digest.now) self.old.slots self.new.slots) }

@@ -13,7 +13,7 @@ pub use Rattle.blob_digest.specs.Outcomes.{OutcomeIn}
 pub use Rattle.finite_maps.specs.Outcomes.{◌>>=◌, refuse}
 use Rattle.oci_manifest.specs.Manifests.{refs_of, max_manifest}
 pub use Rattle.oci_manifest.specs.Manifests.{refers}
-pub use Rattle.store_model.specs.Sessions.{session_in, not_busy, length_after, check_in, append_in, whole_in, hand_in, take_in, put_back_in, taken_session, whole_of, given_up}
+pub use Rattle.store_model.specs.Sessions.{session_in, not_busy, length_after, check_in, append_in, whole_in, hand_in, take_in, put_back_in, taken_session, whole_of, cancelled_in}
 use Rattle.finite_maps.specs.Texts.{Text, same_text}
 use Rattle.store_model.specs.Catalog.{Catalog, Session, Taken, Home, Resident, tenant_of, is_of, quota_of, holds, tenant_holds, used, received, next_of, open_sessions, repos_of, manifests_of}
 use Rattle.store_model.specs.declared.mount.Mount.{Mount}
@@ -149,8 +149,8 @@ put_back C hand = do
   Ok (back.0, record C { sessions = back.1 })
 
 -- what a refused finish leaves: the hand's session, if any, is as before it was taken
-abbrev pub given_back : Catalog → Taken → Catalog
-given_back C hand = record C { sessions = given_up C.sessions hand }
+abbrev pub after_cancel : Catalog → Taken → Catalog
+after_cancel C hand = record C { sessions = cancelled_in C.sessions hand }
 
 -- closes a session in hand under the digest of the whole, and answers the blob's size
 abbrev pub finish : Catalog → Taken → Text → Outcome ℕ

@@ -6,7 +6,7 @@ use Rattle.blob_digest.specs.declared.refusal.Refusal.TheVariants.{LimitReached,
 use Rattle.finite_maps.specs.Texts.{Text}
 use Rattle.store_model.specs.Amounts.{Amounts, nothing, plus, one}
 use Rattle.store_model.specs.Catalog.{Catalog, Taken}
-use Rattle.store_model.specs.Commands.{take, put_back, finish, given_back}
+use Rattle.store_model.specs.Commands.{take, put_back, finish, after_cancel}
 use Rattle.store_model.specs.Hands.{in_hand, reserved, filled_length}
 use Rattle.store_model.specs.Runs.{Command, Append, Close, Abandon, Answer, Number, IsCase}
 use Rattle.store_model.specs.Sweep.{IsSweep}
@@ -71,7 +71,7 @@ MayLeave s (Took r n g len (Err e)) C' = ((take s.catalog r n g len ≡ Err e) �
 MayLeave s (PutBack h (Ok n)) C' = put_back s.catalog h ≡ Ok (n, C')
 MayLeave s (PutBack h (Err e)) C' = (put_back s.catalog h ≡ Err e) × (C' ≡ s.catalog)
 MayLeave s (Finished h d (Ok n)) C' = finish s.catalog h d ≡ Ok (n, C')
-MayLeave s (Finished h d (Err e)) C' = (e ≢ Memory → finish s.catalog h d ≡ Err e) × (C' ≡ given_back s.catalog h)
+MayLeave s (Finished h d (Err e)) C' = (e ≢ Memory → finish s.catalog h d ≡ Err e) × (C' ≡ after_cancel s.catalog h)
 
 -- a step leads from one state to another
 pub record IsStep (s : State) (step : Step) (s' : State) : Type 0 where

@@ -225,8 +225,8 @@ brought_home sessions h (Ok s) = with_chunks sessions h.key s (Home h.chunks)
 brought_home sessions h (Err e) = sessions
 
 -- the sessions after a hand was given up
-abbrev pub given_up : Sessions → Taken → Sessions
-given_up sessions h = brought_home sessions h (taken_session (fmap.get sessions h.key) h)
+abbrev pub cancelled_in : Sessions → Taken → Sessions
+cancelled_in sessions h = brought_home sessions h (taken_session (fmap.get sessions h.key) h)
 
 -- a chunk was filled in, or none is to come
 abbrev pub IsFull : Taken → Type 0

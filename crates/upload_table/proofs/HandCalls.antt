@@ -10,7 +10,7 @@ use Rattle.finite_maps.specs.Texts.{Text}
 use Rattle.blob_digest.specs.Digests.{is_digest_of}
 use Rattle.blob_digest.specs.declared.refusal.Refusal.TheVariants.{DigestInvalid}
 use Rattle.finite_maps.proofs.Options.{some_same}
-use Rattle.store_model.specs.Sessions.{Chunks, Home, InHand, Session, Taken, at_home, brought_home, charged, chunks_in, chunks_of, given_up, hand_in, received_of, reserved_of, take_in, taken_session, whole_of, with_chunks}
+use Rattle.store_model.specs.Sessions.{Chunks, Home, InHand, Session, Taken, at_home, brought_home, charged, chunks_in, chunks_of, cancelled_in, hand_in, received_of, reserved_of, take_in, taken_session, whole_of, with_chunks}
 use Rattle.upload_table.specs.Uploaded.{Rest, Uploaded, BeginsWith, CanReopen, brought_with, cut, finish_upload, put_back_upload, reopened, with_sessions}
 use Rattle.upload_table.specs.Rows.{IsWhole}
 use Rattle.upload_table.specs.declared.upload.ChunkBuffer.{ChunkBuffer}
@@ -61,7 +61,7 @@ module _ (v : Uploaded) (h : Taken) (x : Session) (taken : IsTaken (get v.sessio
   pub brought : (key : Number) (chunks : List Text) → key ≡ h.key → brought_with v key chunks ≡ with_sessions v (with_chunks v.sessions h.key x (Home chunks))
   brought key chunks same = (λ j. brought_with v (same j) chunks) ∙ ap (λ o. with_sessions v (option_map_or (λ (s : Session). with_chunks v.sessions h.key s (Home chunks)) o v.sessions)) taken.found
 
-  pub given : given_up v.sessions h ≡ with_chunks v.sessions h.key x (Home h.chunks)
+  pub given : cancelled_in v.sessions h ≡ with_chunks v.sessions h.key x (Home h.chunks)
   given = ap (brought_home v.sessions h) taken.known
 
   -- its chunks can be put back from bytes that begin with them
@@ -70,7 +70,7 @@ module _ (v : Uploaded) (h : Taken) (x : Session) (taken : IsTaken (get v.sessio
       let len : sum_by length h.chunks ≡ sum r.lens = ap (sum_by length) (sym cuts) ∙ sum_by-cut r.lens bytes begins.within in
       record { there = (x.repo, h.reserved, ap (get v.sessions) same ∙ taken.found ∙ ap (λ (c : Chunks). Some (record { repo = x.repo; chunks = c })) (taken.chunks ∙ ap (λ k. InHand k h.reserved) len)); begins = begins }
 
-  pub reopens : (r : Rest) (bytes : List ℕ) → r.key ≡ h.key → cut r.lens bytes ≡ h.chunks → reopened v r bytes ≡ with_sessions v (given_up v.sessions h)
+  pub reopens : (r : Rest) (bytes : List ℕ) → r.key ≡ h.key → cut r.lens bytes ≡ h.chunks → reopened v r bytes ≡ with_sessions v (cancelled_in v.sessions h)
   reopens r bytes same cuts =
       ap (with_sessions v) ((λ j. option_map_or (λ (s : Session). with_chunks v.sessions (same j) s (Home (cuts j))) (get v.sessions (same j)) v.sessions)
       ∙ ap (λ o. option_map_or (λ (s : Session). with_chunks v.sessions h.key s (Home h.chunks)) o v.sessions) taken.found ∙ sym given)

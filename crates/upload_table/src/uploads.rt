@@ -6,7 +6,7 @@ ghost use Rattle.std.specs.FinMap as fmap;
 ghost use Rattle.blob_digest.specs.Digests.{is_digest_of};
 ghost use Rattle.blob_digest.specs.Outcomes.{Does, DoesExactly};
 ghost use Rattle.blob_digest.specs.declared.refusal.Refusal.TheVariants.{Memory};
-ghost use Rattle.store_model.specs.Sessions.{Session, charged, check_in, given_up, hand_in, home_in, session_charges, is_home, received_in, session_in, sessions_of, listed, take_in, taken_session};
+ghost use Rattle.store_model.specs.Sessions.{Session, charged, check_in, cancelled_in, hand_in, home_in, session_charges, is_home, received_in, session_in, sessions_of, listed, take_in, taken_session};
 ghost use Rattle.upload_table.specs.Uploaded.{finish_upload, brought_with, cut, initial_uploads, put_back_upload, repo_at, start_upload, with_sessions, CanReopen, reopened};
 ghost use Rattle.store_model.specs.Sessions.{IsFull};
 ghost use Rattle.upload_table.specs.Rows.{session_of, AreWhole, IsWhole};
@@ -199,10 +199,10 @@ impl Uploads {
     /// before it was taken.
     pub fn finish(&mut self, hand: Hand, digest: &Digest) -> Result<(Blob, PendingClose), Refusal>
         requires full { IsFull hand }
-        ensures does { DoesExactly (λ r. r.0) result (with_sessions self.old (given_up self.old.sessions hand)) self.new (finish_upload self.old hand digest.now) }
+        ensures does { DoesExactly (λ r. r.0) result (with_sessions self.old (cancelled_in self.old.sessions hand)) self.new (finish_upload self.old hand digest.now) }
         ensures agrees { IfOk result (λ r. is_digest_of r.0.0 r.0.1 ≡ true) }
         ensures key { IfOk result (λ r. r.1.key ≡ hand.key) }
-        ensures restores { IfOk result (λ r. CanReopen self.new r.1 r.0.1 × (reopened self.new r.1 r.0.1 ≡ with_sessions self.old (given_up self.old.sessions hand))) }
+        ensures restores { IfOk result (λ r. CanReopen self.new r.1 r.0.1 × (reopened self.new r.1 r.0.1 ≡ with_sessions self.old (cancelled_in self.old.sessions hand))) }
     {
         if !self.has_taken(&hand) {
             hand.discard();

@@ -11,12 +11,12 @@ use Rattle.finite_maps.specs.Sets as set
 use Rattle.finite_maps.proofs.Texts.{text_is_same}
 use Rattle.slot_table.specs.Slots.{Slot, Held}
 use Rattle.link_table.specs.Linked.{Linked, known_tenant, discharge}
-use Rattle.store_model.specs.Sessions.{Home, Session, Taken, are_taken, brought_home, charged, given_up, taken_session, whole_of, with_chunks, IsFull}
+use Rattle.store_model.specs.Sessions.{Home, Session, Taken, are_taken, brought_home, charged, cancelled_in, taken_session, whole_of, with_chunks, IsFull}
 use Rattle.upload_table.specs.Uploaded.{Uploaded, finish_upload, with_sessions}
 use Rattle.finite_maps.specs.Texts.{Text}
 use Rattle.store_model.specs.Catalog.{Catalog, session_charges_of}
 use Rattle.finite_maps.specs.Outcomes.{◌>>=◌, refuse}
-use Rattle.store_model.specs.Commands.{finish, given_back, same_bytes, is_full_for}
+use Rattle.store_model.specs.Commands.{finish, after_cancel, same_bytes, is_full_for}
 use Rattle.store_book.specs.Layers.{Layers, lent_marks, book_catalog, IsBook}
 use Rattle.store_book.specs.Internal.Keeping.{CanKeep, IsKept, IsUnkept, differs, full}
 use Rattle.store_book.proofs.Layers.Keep.{Keeps, IsKept-Keeps}
@@ -146,21 +146,21 @@ module _ (L : Layers) (h : Taken) (digest : Text) where
     -- ---- a refused finish
 
     abbrev back : Uploaded
-    back = with_sessions L.uploads (given_up L.uploads.sessions h)
+    back = with_sessions L.uploads (cancelled_in L.uploads.sessions h)
 
     given : with_sessions L.uploads (with_chunks L.uploads.sessions h.key s (Home h.chunks)) ≡ back
     given = ap (λ o. with_sessions L.uploads (brought_home L.uploads.sessions h o)) (sym here)
 
     -- the session comes home, and its reserve is discharged
-    pub IsBook-given_back : (l' : Linked) (u' : Uploaded) → l' ≡ discharge L.links h.key.0 h.reserved → u' ≡ back → IsBook (record L { links = l'; uploads = u' })
-    IsBook-given_back l' u' links uploads =
+    pub IsBook-after_cancel : (l' : Linked) (u' : Uploaded) → l' ≡ discharge L.links h.key.0 h.reserved → u' ≡ back → IsBook (record L { links = l'; uploads = u' })
+    IsBook-after_cancel l' u' links uploads =
         let now = IsBook-home L h book proper s here h.chunks h.reserved proper.pieces refl in
         let home = given ∙ sym uploads in
         subst (λ (x : Layers). IsBook x) (λ i. record L { links = sym links i; uploads = home i }) now
 
   -- what it leaves is the catalog with the hand given back
-  pub given_back_is : (l' : Linked) (u' : Uploaded) (k : ℕ) → l' ≡ discharge L.links h.key.0 k → u' ≡ with_sessions L.uploads (given_up L.uploads.sessions h) → book_catalog (record L { links = l'; uploads = u' }) ≡ given_back C h
-  given_back_is l' u' k links uploads = λ i. book_catalog (record L { links = links i; uploads = uploads i })
+  pub after_cancel_is : (l' : Linked) (u' : Uploaded) (k : ℕ) → l' ≡ discharge L.links h.key.0 k → u' ≡ with_sessions L.uploads (cancelled_in L.uploads.sessions h) → book_catalog (record L { links = l'; uploads = u' }) ≡ after_cancel C h
+  after_cancel_is l' u' k links uploads = λ i. book_catalog (record L { links = links i; uploads = uploads i })
 
 -- why the layer refuses
 pub layer_refused : (u : Uploaded) (h : Taken) (digest : Text) (e : Refusal) → finish_upload u h digest ≡ Err e → (e ≡ UploadUnknown → ⊥) → (s : Session) × (taken_session (get u.sessions h.key) h ≡ Ok s) × (is_digest_of digest (whole_of h) ≡ false) × (e ≡ DigestInvalid)
@@ -183,13 +183,13 @@ layer_refused u h digest e refused other = by (taken_session (get u.sessions h.k
     by (Err d) here = absurd (other (let k : ◌≡◌ {A = Result ((Text × Text) × Uploaded) Refusal} (Err d) (Err e) = rw here at refused in let same : d ≡ e = cc in sym same ∙ unknown (get u.sessions h.key) d here))
 
 -- where the layer knows no such hand, nothing changes
-pub layer_unknown : (u : Uploaded) (h : Taken) (digest : Text) (e : Refusal) → finish_upload u h digest ≡ Err e → e ≡ UploadUnknown → with_sessions u (given_up u.sessions h) ≡ u
+pub layer_unknown : (u : Uploaded) (h : Taken) (digest : Text) (e : Refusal) → finish_upload u h digest ≡ Err e → e ≡ UploadUnknown → with_sessions u (cancelled_in u.sessions h) ≡ u
 layer_unknown u h digest e refused unknown = by (taken_session (get u.sessions h.key) h) refl
   where
-    by : (x : Result Session Refusal) → taken_session (get u.sessions h.key) h ≡ x → with_sessions u (given_up u.sessions h) ≡ u
+    by : (x : Result Session Refusal) → taken_session (get u.sessions h.key) h ≡ x → with_sessions u (cancelled_in u.sessions h) ≡ u
     by (Ok s) here = digests (is_digest_of digest (whole_of h)) refl (rw here at refused)
       where
-        digests : (b : Bool) → is_digest_of digest (whole_of h) ≡ b → ◌>>=◌ {B = (Text × Text) × Uploaded} (refuse (not (is_digest_of digest (whole_of h))) DigestInvalid) (λ _. Ok ((digest, whole_of h), u)) ≡ Err e → with_sessions u (given_up u.sessions h) ≡ u
+        digests : (b : Bool) → is_digest_of digest (whole_of h) ≡ b → ◌>>=◌ {B = (Text × Text) × Uploaded} (refuse (not (is_digest_of digest (whole_of h))) DigestInvalid) (λ _. Ok ((digest, whole_of h), u)) ≡ Err e → with_sessions u (cancelled_in u.sessions h) ≡ u
         digests true agrees h = absurd (let k = rw agrees at h in cc)
         digests false agrees h = absurd (let k = rw (agrees, unknown) at h in cc)
     by (Err d) here = ap (λ (o : Result Session Refusal). with_sessions u (brought_home u.sessions h o)) here

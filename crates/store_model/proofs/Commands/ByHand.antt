@@ -15,7 +15,7 @@ use Rattle.store_model.specs.Sessions.{append_in, at_home, brought_home, chunks_
 use Rattle.finite_maps.specs.Texts.{Text}
 use Rattle.store_model.specs.Catalog.{Number, Home, InHand, Session, Taken, Catalog, number_cmp, received}
 use Rattle.finite_maps.specs.Outcomes.{◌>>=◌, refuse}
-use Rattle.store_model.specs.Commands.{Outcome, append, check, close, finish, given_back, has_slot, is_digest_accepted, put_back, stored, take, tenant, within_quota}
+use Rattle.store_model.specs.Commands.{Outcome, append, check, close, finish, after_cancel, has_slot, is_digest_accepted, put_back, stored, take, tenant, within_quota}
 use Rattle.store_model.proofs.Commands.Hands.{received-with_chunk, took, Checked, TookIn}
 use Rattle.finite_maps.proofs.Maps.{get-insert_at}
 use Rattle.finite_maps.proofs.Outcomes.{bound_ok}
@@ -136,7 +136,7 @@ module _ (C C1 : Catalog) (repo : Text) (number : ℕ) (range : Option ByteRange
   unfilled : put_back C2 h ≡ Ok (received s, C)
   unfilled = rw (here None) (λ i. Ok (sym received_is i, record C { sessions = as_before i }))
 
-  refused_is : given_back C2 (record h { last = Some b }) ≡ C
+  refused_is : after_cancel C2 (record h { last = Some b }) ≡ C
   refused_is = (λ i. record C { sessions = (ap (brought_home C2.sessions (record h { last = Some b })) (here (Some b)) ∙ as_before) i })
 
   whole : whole_of (record h { last = Some b }) ≡ whole_in C.sessions key b
@@ -158,8 +158,8 @@ module _ (C C1 : Catalog) (repo : Text) (number : ℕ) (range : Option ByteRange
   pub back_by_hand : put_back C1 hand ≡ Ok (received s, C)
   back_by_hand = (λ i. put_back (sym left i) (sym hand_is i)) ∙ unfilled
 
-  pub refused_by_hand : given_back C1 (record hand { last = Some b }) ≡ C
-  refused_by_hand = (λ i. given_back (sym left i) (record (sym hand_is i) { last = Some b })) ∙ refused_is
+  pub refused_by_hand : after_cancel C1 (record hand { last = Some b }) ≡ C
+  refused_by_hand = (λ i. after_cancel (sym left i) (record (sym hand_is i) { last = Some b })) ∙ refused_is
 
   pub not_filled : (hand.last ≡ None) × (hand.reserved ≡ length b)
   not_filled = (ap (λ (x : Taken). x.last) (sym hand_is), ap (λ (x : Taken). x.reserved) (sym hand_is))
@@ -179,10 +179,10 @@ module _ (C C1 : Catalog) (repo : Text) (number : ℕ) (range : Option ByteRange
           clash : {A : Type 0} {x : A} → ◌≡◌ {A = Result A Refusal} (Ok x) (Err e) → ⊥
           clash h = cc
 
-  pub close_does : (r : Result ℕ Refusal) (D : Catalog) (h' : Taken) (digest : Text) → h' ≡ record hand { last = Some b } → Does (λ (n : ℕ). n) r (given_back C1 h') D (finish C1 h' digest) → Does (λ (n : ℕ). n) r C D (close C repo number digest range b)
+  pub close_does : (r : Result ℕ Refusal) (D : Catalog) (h' : Taken) (digest : Text) → h' ≡ record hand { last = Some b } → Does (λ (n : ℕ). n) r (after_cancel C1 h') D (finish C1 h' digest) → Does (λ (n : ℕ). n) r C D (close C repo number digest range b)
   close_does r D h' digest is done =
-      subst (λ (E : Catalog). Does (λ (n : ℕ). n) r E D (close C repo number digest range b)) (ap (given_back C1) is ∙ refused_by_hand)
-      (subst (λ (o : Outcome ℕ). Does (λ (n : ℕ). n) r (given_back C1 h') D o) (ap (λ x. finish C1 x digest) is ∙ close_by_hand digest) done)
+      subst (λ (E : Catalog). Does (λ (n : ℕ). n) r E D (close C repo number digest range b)) (ap (after_cancel C1) is ∙ refused_by_hand)
+      (subst (λ (o : Outcome ℕ). Does (λ (n : ℕ). n) r (after_cancel C1 h') D o) (ap (λ x. finish C1 x digest) is ∙ close_by_hand digest) done)
 
   pub undone : (r : Result ℕ Refusal) (D : Catalog) (h' : Taken) → h' ≡ hand → DoesExactly (λ (n : ℕ). n) r C1 D (put_back C1 h') → D ≡ C
   undone r D h' is = by r

@@ -11,7 +11,7 @@ use Rattle.blob_digest.proofs.KeyOrders.{number_cmp_total}
 use Rattle.finite_maps.proofs.Rows.{entries-empty}
 use Rattle.finite_maps.specs.Texts.{Text}
 use Rattle.store_model.specs.Catalog.{Catalog, Home, Session, Taken, opening, used}
-use Rattle.store_model.specs.Commands.{abandon, append, append_in, close, given_back, put_back, status, take, take_in}
+use Rattle.store_model.specs.Commands.{abandon, append, append_in, close, after_cancel, put_back, status, take, take_in}
 use Rattle.store_model.specs.BookText.{book_text}
 
 abbrev one : Text
@@ -101,5 +101,5 @@ put_back_empty = simp (get-insert {X = Session} number_cmp_total, get-empty) ref
 used_after_an_empty_hand : used back 0 ≡ 2
 used_after_an_empty_hand = simp (get-insert {X = Session} number_cmp_total, get-empty, entries-insert {X = Session} number_cmp_total, entries-empty) refl
 
-given_back_is_put_back : given_back held filled ≡ back
-given_back_is_put_back = simp (get-insert {X = Session} number_cmp_total, get-empty) refl
+after_cancel_is_put_back : after_cancel held filled ≡ back
+after_cancel_is_put_back = simp (get-insert {X = Session} number_cmp_total, get-empty) refl

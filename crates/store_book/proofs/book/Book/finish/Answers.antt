@@ -10,8 +10,8 @@ use Rattle.store_book.specs.SlotSteps.{EachSlot, IsHousing}
 use Rattle.store_book.proofs.Slots.Housed.{EachSlot-housed}
 use Rattle.store_book.specs.Internal.Keeping.{IsKept, IsUnkept}
 use Rattle.store_book.specs.Layers.{book_catalog}
-use Rattle.store_model.specs.Commands.{given_back}
-use Rattle.store_book.proofs.Refine.Finish.{found, finish_charged, finish_ok, finish_other_digest, finish_unkept, given_back_is, layer_finished, layer_refused, layer_unknown, reserve_charged, same_tenants, CanKeep-finished, IsBook-finish, IsBook-given_back}
+use Rattle.store_model.specs.Commands.{after_cancel}
+use Rattle.store_book.proofs.Refine.Finish.{found, finish_charged, finish_ok, finish_other_digest, finish_unkept, after_cancel_is, layer_finished, layer_refused, layer_unknown, reserve_charged, same_tenants, CanKeep-finished, IsBook-finish, IsBook-after_cancel}
 use Rattle.store_book.proofs.Refine.PutBack.{here_tenant}
 use Rattle.store_book.proofs.Slots.Shown.{Quietly-shown}
 use Rattle.store_book.specs.BookFields.{layers}
@@ -28,7 +28,7 @@ discharge-requires c =
 pub invariant_of-self-in_default : goal.invariant_of-self-in_default
 invariant_of-self-in_default c =
     let p = layer_refused c.self.inside.uploads c.args.hand c.args.digest.now c.in-Err.refusal c.in-Err.ensures.does.0 (λ e. c.in_default.not-UploadUnknown e) in
-    IsBook-given_back (layers c.self.inside) c.args.hand c.args.digest.now c.self.invariant (record { pieces = c.reserved-reserved.ensures.pieces; last = c.reserved-reserved.ensures.last }) c.requires.full p.0 p.1 c.discharge.new.self c.finish.new.self (rw (c.tenant-tenant.ensures, c.reserved-reserved.ensures.value) at c.discharge.ensures) c.in-Err.ensures.does.1
+    IsBook-after_cancel (layers c.self.inside) c.args.hand c.args.digest.now c.self.invariant (record { pieces = c.reserved-reserved.ensures.pieces; last = c.reserved-reserved.ensures.last }) c.requires.full p.0 p.1 c.discharge.new.self c.finish.new.self (rw (c.tenant-tenant.ensures, c.reserved-reserved.ensures.value) at c.discharge.ensures) c.in-Err.ensures.does.1
 
 pub keep-requires-clause-can : goal.keep-requires-clause-can
 keep-requires-clause-can c =
@@ -82,7 +82,7 @@ invariant_of-self-in-Err-keep c =
     let p = layer_finished c.self.inside.uploads c.args.hand c.args.digest.now c.in-Ok.both.0 c.finish.new.self c.in-Ok.ensures.does in
     let links = rw (c.tenant-tenant.ensures, c.in-Err-keep.ensures.err.0, c.reserved-reserved.ensures.value) at c.discharge-in-Err-keep.ensures in
     let uploads = c.reopen.ensures ∙ ap (λ (b : Text × Text). reopened c.finish.new.self c.in-Ok.both.1 b.1) c.in-Err-keep.ensures.back ∙ c.in-Ok.ensures.restores.1 in
-    rw (ap (λ (p : Pinned). p.slots) c.in-Err-keep.ensures.err.1) (IsBook-given_back (layers c.self.inside) c.args.hand c.args.digest.now c.self.invariant (record { pieces = c.reserved-reserved.ensures.pieces; last = c.reserved-reserved.ensures.last }) c.requires.full p.0 p.1 c.discharge-in-Err-keep.new.self c.reopen.new.self links uploads)
+    rw (ap (λ (p : Pinned). p.slots) c.in-Err-keep.ensures.err.1) (IsBook-after_cancel (layers c.self.inside) c.args.hand c.args.digest.now c.self.invariant (record { pieces = c.reserved-reserved.ensures.pieces; last = c.reserved-reserved.ensures.last }) c.requires.full p.0 p.1 c.discharge-in-Err-keep.new.self c.reopen.new.self links uploads)
 
 pub returns-in-Ok-keep-clause-does : goal.returns-in-Ok-keep-clause-does
 returns-in-Ok-keep-clause-does c =
@@ -104,7 +104,7 @@ returns-in-Err-keep-clause-does c =
     let links = rw (c.tenant-tenant.ensures, c.in-Err-keep.ensures.err.0, c.reserved-reserved.ensures.value) at c.discharge-in-Err-keep.ensures in
     let uploads = c.reopen.ensures ∙ ap (λ (b : Text × Text). reopened c.finish.new.self c.in-Ok.both.1 b.1) c.in-Err-keep.ensures.back ∙ c.in-Ok.ensures.restores.1 in (
       (λ other. rw (← c.self.view_is) (finish_unkept (layers c.self.inside) c.args.hand c.args.digest.now c.self.invariant (record { pieces = c.reserved-reserved.ensures.pieces; last = c.reserved-reserved.ensures.last }) c.requires.full p.0 p.1 p.2 c.in-Err-keep.refusal (subst (λ (b : Text × Text). IsUnkept c.self.inside.slots.slots b c.in-Err-keep.refusal) p.3 (c.in-Err-keep.ensures.refused other)))),
-      ap (λ s. book_catalog (record (layers c.self.inside) { links = c.discharge-in-Err-keep.new.self; uploads = c.reopen.new.self; slots = s })) (ap (λ (p : Pinned). p.slots) c.in-Err-keep.ensures.err.1) ∙ given_back_is (layers c.self.inside) c.args.hand c.args.digest.now c.discharge-in-Err-keep.new.self c.reopen.new.self c.args.hand.reserved links uploads ∙ ap (λ (s : BookState). given_back s.catalog c.args.hand) c.self.view_is,
+      ap (λ s. book_catalog (record (layers c.self.inside) { links = c.discharge-in-Err-keep.new.self; uploads = c.reopen.new.self; slots = s })) (ap (λ (p : Pinned). p.slots) c.in-Err-keep.ensures.err.1) ∙ after_cancel_is (layers c.self.inside) c.args.hand c.args.digest.now c.discharge-in-Err-keep.new.self c.reopen.new.self c.args.hand.reserved links uploads ∙ ap (λ (s : BookState). after_cancel s.catalog c.args.hand) c.self.view_is,
     )
 
 pub invariant_of-self : goal.invariant_of-self
@@ -114,7 +114,7 @@ pub returns-in_default-clause-does : goal.returns-in_default-clause-does
 returns-in_default-clause-does c =
     let p = layer_refused c.self.inside.uploads c.args.hand c.args.digest.now c.in-Err.refusal c.in-Err.ensures.does.0 (λ e. c.in_default.not-UploadUnknown e) in (
       (λ other. rw (← c.self.view_is, p.3) (finish_other_digest (layers c.self.inside) c.args.hand c.args.digest.now c.self.invariant (record { pieces = c.reserved-reserved.ensures.pieces; last = c.reserved-reserved.ensures.last }) c.requires.full p.0 p.1 p.2)),
-      given_back_is (layers c.self.inside) c.args.hand c.args.digest.now c.discharge.new.self c.finish.new.self c.reserved-reserved.result (rw c.tenant-tenant.ensures at c.discharge.ensures) c.in-Err.ensures.does.1 ∙ ap (λ (s : BookState). given_back s.catalog c.args.hand) c.self.view_is,
+      after_cancel_is (layers c.self.inside) c.args.hand c.args.digest.now c.discharge.new.self c.finish.new.self c.reserved-reserved.result (rw c.tenant-tenant.ensures at c.discharge.ensures) c.in-Err.ensures.does.1 ∙ ap (λ (s : BookState). after_cancel s.catalog c.args.hand) c.self.view_is,
     )
 
 pub returns-in-Ok-keep-clause-housed : goal.returns-in-Ok-keep-clause-housed

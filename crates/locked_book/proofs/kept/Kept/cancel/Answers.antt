@@ -1,6 +1,6 @@
 use Rattle.std.proofs.Common.{ap, arith, length, ◌∙◌}
 use Rattle.locked_book.proofs.SessionSums.{unfilled_is, put_back_sums}
-use Rattle.locked_book.proofs.kept.Kept.give_up.Goals as goal
+use Rattle.locked_book.proofs.kept.Kept.cancel.Goals as goal
 
 pub overflow_sub-self : goal.overflow_sub-self
 overflow_sub-self g c =
