@@ -1,7 +1,6 @@
-use Rattle.std.proofs.Common.{ap, arith, length, ◌∙◌}
-use Rattle.store_model.specs.Amounts.{one}
+use Rattle.std.proofs.Common.{ap, arith, length}
 use Rattle.locked_book.proofs.SessionSums.{abandon_sums}
-use Rattle.locked_book.proofs.Rooms.{added, room_given}
+use Rattle.locked_book.proofs.Keeping.{counted_kept}
 use Rattle.locked_book.proofs.kept.Kept.abandon.Goals as goal
 
 pub add-requires-clause-abandoned : goal.add-requires-clause-abandoned
@@ -13,19 +12,5 @@ add-requires-clause-abandoned g c =
 
 pub invariant_of-self-2 : goal.invariant_of-self-2
 invariant_of-self-2 g c =
-    let was = c.self.invariant in
     let sums = abandon_sums c.self.inside.book.catalog c.abandon.new.self.catalog c.args.repo.now c.args.number c.in_ok-length.length c.in_ok-length.ensures.does in
-    let hands = sums.hands in
-    let reserve = sums.reserve in
-    let bytes = sums.bytes in
-    let totals = added c.self.inside.counters c.add.new.self (one 0 0 c.in_ok-length.length) c.add.ensures.totals in
-    let room = room_given (record { book = c.self.inside.book; counts = c.self.inside.counters }) c.args.self.now 0 c.in_ok-room.field-0 c.self.view_is c.in_ok-room.ensures in (
-      omega (arith, was.0, hands),
-      omega (arith, was.1, reserve),
-      omega (arith, was.0, room.0, totals.commands),
-      omega (arith, was.1, room.1, totals.received),
-      omega (arith, was.4, bytes, totals.received, totals.closed, totals.abandoned),
-      c.abandon.ensures.slots.0 ∙ was.5,
-      ap length c.abandon.ensures.slots.1 ∙ was.6,
-      sums.setting ∙ was.7,
-    )
+    counted_kept g.S.Naming.names c.self.inside.book c.abandon.new.self c.self.inside.counters c.add.new.self c.args.self.now c.self.inside.hands c.self.inside.reserve c.in_ok-length.length c.in_ok-room.field-0 c.self.invariant sums c.add.ensures.totals c.self.view_is c.in_ok-room.ensures c.abandon.ensures.slots.0 (ap length c.abandon.ensures.slots.1)

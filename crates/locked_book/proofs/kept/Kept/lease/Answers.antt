@@ -1,32 +1,16 @@
-use Rattle.std.proofs.Common.{arith, ◌∙◌}
 use Rattle.std.specs.Arc.{arc_value}
 use Rattle.store_book.specs.Pinned.{blob_bytes}
-use Rattle.store_model.specs.Amounts.{one}
 use Rattle.store_book.specs.SlotSteps.{EachSlot, IsStill}
 use Rattle.locked_book.proofs.Answered.{lent_content, on_err}
 use Rattle.locked_book.proofs.SessionSums.{lease_sums}
-use Rattle.locked_book.proofs.Rooms.{added, room_given}
+use Rattle.locked_book.proofs.Keeping.{counted_kept}
 use Rattle.locked_book.proofs.kept.Kept.lease.Goals as goal
 
 pub invariant_of-self-2 : goal.invariant_of-self-2
 invariant_of-self-2 g c =
-    let was = c.self.invariant in
     let lent = c.in_ok-lent.ensures.does in
     let sums = lease_sums c.self.inside.book.catalog c.lease.new.self.catalog lent.crowded c.args.repo.now c.args.digest.now (blob_bytes (arc_value c.in_ok-lent.lent.1)) lent.does in
-    let hands = sums.hands in
-    let reserve = sums.reserve in
-    let bytes = sums.bytes in
-    let totals = added c.self.inside.counters c.add.new.self (one 0 0 0) c.add.ensures.totals in
-    let room = room_given (record { book = c.self.inside.book; counts = c.self.inside.counters }) c.args.self.now 0 c.in_ok-room.field-0 c.self.view_is c.in_ok-room.ensures in (
-      omega (arith, was.0, hands),
-      omega (arith, was.1, reserve),
-      omega (arith, was.0, room.0, totals.commands),
-      omega (arith, was.1, room.1, totals.received),
-      omega (arith, was.4, bytes, totals.received, totals.closed, totals.abandoned),
-      c.lease.ensures.slots.0 ∙ was.5,
-      c.lease.ensures.slots.1.0 ∙ was.6,
-      sums.setting ∙ was.7,
-    )
+    counted_kept g.S.Naming.names c.self.inside.book c.lease.new.self c.self.inside.counters c.add.new.self c.args.self.now c.self.inside.hands c.self.inside.reserve 0 c.in_ok-room.field-0 c.self.invariant sums c.add.ensures.totals c.self.view_is c.in_ok-room.ensures c.lease.ensures.slots.0 c.lease.ensures.slots.1.0
 
 pub returns-clause-content : goal.returns-clause-content
 returns-clause-content g c =

@@ -1,24 +1,9 @@
-use Rattle.std.proofs.Common.{ap, arith, length, ◌∙◌}
-use Rattle.store_model.specs.Amounts.{one}
+use Rattle.std.proofs.Common.{ap, length}
 use Rattle.locked_book.proofs.SessionSums.{start_sums}
-use Rattle.locked_book.proofs.Rooms.{added, room_given}
+use Rattle.locked_book.proofs.Keeping.{counted_kept}
 use Rattle.locked_book.proofs.kept.Kept.start.Goals as goal
 
 pub invariant_of-self-2 : goal.invariant_of-self-2
 invariant_of-self-2 g c =
-    let was = c.self.invariant in
     let sums = start_sums c.self.inside.book.catalog c.start.new.self.catalog c.args.repo.now c.in_ok-number.number c.audit.ensures.lawful c.in_ok-number.ensures.does in
-    let hands = sums.hands in
-    let reserve = sums.reserve in
-    let bytes = sums.bytes in
-    let totals = added c.self.inside.counters c.add.new.self (one 0 0 0) c.add.ensures.totals in
-    let room = room_given (record { book = c.self.inside.book; counts = c.self.inside.counters }) c.args.self.now 0 c.in_ok-room.field-0 c.self.view_is c.in_ok-room.ensures in (
-      omega (arith, was.0, hands),
-      omega (arith, was.1, reserve),
-      omega (arith, was.0, room.0, totals.commands),
-      omega (arith, was.1, room.1, totals.received),
-      omega (arith, was.4, bytes, totals.received, totals.closed, totals.abandoned),
-      c.start.ensures.slots.0 ∙ was.5,
-      ap length c.start.ensures.slots.1 ∙ was.6,
-      sums.setting ∙ was.7,
-    )
+    counted_kept g.S.Naming.names c.self.inside.book c.start.new.self c.self.inside.counters c.add.new.self c.args.self.now c.self.inside.hands c.self.inside.reserve 0 c.in_ok-room.field-0 c.self.invariant sums c.add.ensures.totals c.self.view_is c.in_ok-room.ensures c.start.ensures.slots.0 (ap length c.start.ensures.slots.1)
