@@ -10,10 +10,10 @@ ghost use Rattle.store_model.specs.BookText.{book_text};
 ghost use Rattle.store_book.specs.SlotSteps.{HasPin};
 ghost use Rattle.store_model.specs.Sweep.{IsSweep};
 ghost use Rattle.std.specs.Option.{option_copied};
-ghost use Rattle.store_model.specs.Histories.{Performed};
+ghost use Rattle.store_model.specs.Histories.{Cleaned, Performed};
 ghost use Rattle.store_model.specs.Runs.{Start, Status, Abandon, Mount as MountCommand, Delete, PutManifest, GetManifest, DeleteManifest, Lease as LeaseCommand, Number, Mounting, Bytes, Done};
 ghost use Rattle.locked_book.specs.Calls.{reply};
-ghost use Rattle.locked_book.specs.History.{Adds, Appends, AreFresh, Closes, amounts_of};
+ghost use Rattle.locked_book.specs.History.{Adds, AddsByNobody, Appends, AreFresh, Closes, amounts_of};
 ghost use Rattle.locked_book.specs.Found.{InSomeBook};
 ghost use Rattle.blob_store.specs.Parts.{names_of};
 ghost use Rattle.store_model.specs.Amounts.{nothing, plus, one, sum_of};
@@ -394,9 +394,10 @@ impl<S: Naming> Store<S> {
 
     /// Condemns each live blob that no repository links, and frees or retires the slot of each condemned one
     /// that no lease holds. It goes over the slots once, and takes no memory. What it answers is the count of a
-    /// sweep of a sound book.
+    /// sweep of a book of this store, and this sweep is a step of the store's history.
     pub fn sweep(&self, rt: &impl Wait) -> Swept
-        ensures { InSomeBook S.names.slots S.names.setting (λ b. (C : Catalog) × IsSweep b.catalog result C) }
+        ensures sweeps { InSomeBook S.names (λ b. (C : Catalog) × IsSweep b.catalog result C) }
+        ensures history { AddsByNobody S.names.opening (Cleaned result) }
     {
         self.locked(rt).sweep(&self.pins)
     }
@@ -405,7 +406,7 @@ impl<S: Naming> Store<S> {
     /// digest. It takes no memory.
     pub fn verify<'s>(&'s self, rt: &impl Wait, lease: Lease<'s, S>) -> Lease<'s, S>
         ensures same { result ≡ lease.entry }
-        ensures kept { InSomeBook S.names.slots S.names.setting (HasPin lease.entry.hold) }
+        ensures kept { InSomeBook S.names (HasPin lease.entry.hold) }
     {
         let (pin, blob) = lease.into_parts();
         let pin = self.locked(rt).verify(&self.pins, pin);
@@ -420,12 +421,12 @@ impl<S: Naming> Store<S> {
         self.locked(rt).word(&self.pins, slot)
     }
 
-    /// Writes the text of the book, without taking memory, as `Book::print` does: that of a sound book with the
-    /// tenants, the quotas, the slots and the limit on blobs that the store was made with.
+    /// Writes the text of the book, without taking memory, as `Book::print` does: that of a book of this store, which a legal
+    /// history leaves, with the tenants, the quotas, the slots and the limit on blobs that the store was made with.
     ///
     /// Refused is what the writer refuses.
     pub fn print<W: Write>(&self, rt: &impl Wait, writer: &mut W) -> io::Result<()>
-        ensures { OnOk result (InSomeBook S.names.slots S.names.setting (λ b. Writes (W.contents writer.old) (W.contents writer.new) (book_text b.catalog))) }
+        ensures { OnOk result (InSomeBook S.names (λ b. Writes (W.contents writer.old) (W.contents writer.new) (book_text b.catalog))) }
     {
         self.locked(rt).print(writer)
     }

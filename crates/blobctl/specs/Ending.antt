@@ -3,6 +3,7 @@ use Rattle.std.specs.Prelude.{◌≡◌, ◌⊎◌, ◌<◌, ◌≤◌, ℕ, Lis
 use Rattle.std.specs.Io.KnownBytes.{Appends, Consumes}
 use Rattle.finite_maps.specs.Texts.{Text}
 use Rattle.blob_digest.specs.Tenants.{Tenant}
+use Rattle.locked_book.specs.Found.{IsReached}
 use Rattle.locked_book.specs.Names.{setting_of}
 use Rattle.store_model.specs.Amounts.{Amounts}
 use Rattle.blob_store.specs.Workers.{IsPlayed}
@@ -42,8 +43,8 @@ pub record RunSucceeds {R : Type 0} (remaining : R → Option (List ℕ)) (old n
   pub played : Played tenants slots max_blob script text
 
 -- What workers that play rows together on a store of these tenants and limits write: one reply to each row, in the order of the rows, of
--- which each worker's are those of playing its rows in their order; and then a book that is sound, of the tenants, quotas, slots and limit
--- on blobs that the store was opened with.
+-- which each worker's are those of playing its rows in their order; and then a book that a legal history leaves, from the catalog with which
+-- the store was opened. It is sound, of the tenants, quotas, slots and limit on blobs of that catalog.
 pub record PlayedByWorkers (workers : ℕ) (tenants : List Tenant) (slots max_blob : ℕ) (rows : List RowView) (text : Text) : Type 0 where
   pub answers : List Answer
   pub one_each : length answers ≡ length rows
@@ -51,6 +52,7 @@ pub record PlayedByWorkers (workers : ℕ) (tenants : List Tenant) (slots max_bl
   pub first : Catalog
   pub opened : OpensCatalog tenants slots max_blob first
   pub last : Catalog
+  pub reached : IsReached first last
   pub sound : Sound last
   pub same : setting_of last ≡ setting_of first
   pub written : text ≡ replies_text answers ++ book_text last

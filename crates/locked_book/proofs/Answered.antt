@@ -14,8 +14,8 @@ use Rattle.store_model.specs.Commands.{tenant, get_manifest, linked, linked_blob
 use Rattle.finite_maps.specs.Outcomes.{refuse}
 use Rattle.store_model.proofs.Commands.Accepted.{answer_by, left_by}
 use Rattle.finite_maps.proofs.Outcomes.{bound_ok, some_of_ok}
-use Rattle.locked_book.specs.Found.{InSomeBook, IsSoundOf}
-use Rattle.locked_book.specs.Names.{Setting}
+use Rattle.locked_book.specs.Found.{InSomeBook, IsBookOf}
+use Rattle.locked_book.specs.Names.{StoreNames}
 
 -- ---- blobs and manifests
 
@@ -49,10 +49,10 @@ manifest_digest C repo digest bytes lawful answered =
 
 -- ---- the text
 
-pub some_book : {A E : Type 0} (r : Result A E) (slots : ℕ) (setting : Setting) (book : BookState) (before after : Option (List ℕ)) → IsSoundOf slots setting book → OnOk r (Appends before after (book_text book.catalog))
-    → OnOk r (InSomeBook slots setting (λ b. Appends before after (book_text b.catalog)))
-some_book (Ok a) slots setting book before after sound text = (book, sound, text)
-some_book (Err e) slots setting book before after sound text = tt
+pub some_book : {A E : Type 0} (r : Result A E) (names : StoreNames) (book : BookState) (before after : Option (List ℕ)) → IsBookOf names book → OnOk r (Appends before after (book_text book.catalog))
+    → OnOk r (InSomeBook names (λ b. Appends before after (book_text b.catalog)))
+some_book (Ok a) names book before after found text = (book, found, text)
+some_book (Err e) names book before after found text = tt
 
 -- ---- refusals
 

@@ -55,6 +55,10 @@ pub record Adds (C : Catalog) (old : Trace) (step : Step) (new : Trace) : Type 0
   pub agrees : events_by new.number new.seen ≡ new.own
   pub legal : IsLegal C (steps_of new.seen)
 
+-- the same of a step that no desk made, but a writer that nobody sees
+abbrev pub AddsByNobody : Catalog → Step → Type 0
+AddsByNobody C step = (old new : Trace) × Adds C old step new
+
 -- the hand with its chunk
 abbrev pub filled : Taken → Text → Taken
 filled hand bytes = record hand { last = Some bytes }

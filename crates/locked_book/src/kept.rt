@@ -16,7 +16,6 @@ ghost use Rattle.store_model.specs.BookText.{book_text};
 ghost use Rattle.store_book.specs.SlotSteps.{EachSlot, HasLast, HasPin, IsHousing, IsLending, IsQuiet, IsStill, IsSweptSlot, ReadsWord};
 ghost use Rattle.store_model.specs.Commands.{check_tenant, start, status, abandon, mount, delete, put_manifest, get_manifest, delete_manifest, take, put_back, finish, after_cancel};
 ghost use Rattle.store_model.specs.Sweep.{IsSweep};
-ghost use Rattle.locked_book.specs.Found.{IsSoundOf};
 ghost use Rattle.locked_book.specs.Names.{setting_of};
 ghost use Rattle.store_model.specs.Amounts.{nothing, plus, one, sum_of};
 ghost use Rattle.store_model.specs.Hands.{received_in_sessions, filled_length};
@@ -264,30 +263,25 @@ impl<S: Naming> Kept<S> {
         Ok(lent)
     }
 
-    /// Goes over the slots, as `Book::sweep` does. Nothing is counted. What is swept is a sound book.
+    /// Goes over the slots, as `Book::sweep` does. Nothing is counted.
     pub fn sweep(&mut self, pins: &Pins) -> Swept
         requires table { pins.now ≡ S.names.table }
-        ensures sound { IsSoundOf S.names.slots S.names.setting self.old.book }
         ensures sweeps { IsSweep self.old.book.catalog result self.new.book.catalog }
         ensures slots { EachSlot IsSweptSlot self.old.book.slots self.new.book.slots }
         ensures retired { 0 < result.retired → HasLast self.old.book.slots }
         ensures counts { self.new.counts ≡ self.old.counts }
     {
-        self.audit();
         self.book.sweep(pins)
     }
 
-    /// The pin with all that it had, as `Book::verify` tells of it. Nothing is counted. It is found in a sound
-    /// book.
+    /// The pin with all that it had, as `Book::verify` tells of it. Nothing is counted.
     pub fn verify(&mut self, pins: &Pins, pin: Pin) -> Pin
         requires table { (pins.now ≡ S.names.table) × (pin.table ≡ S.names.table) }
-        ensures sound { IsSoundOf S.names.slots S.names.setting self.old.book }
         ensures same { result ≡ pin }
         ensures kept { HasPin pin.hold self.old.book }
         ensures content { (self.new.book.catalog ≡ self.old.book.catalog) × (self.new.counts ≡ self.old.counts) }
         ensures slots { EachSlot IsStill self.old.book.slots self.new.book.slots }
     {
-        self.audit();
         self.book.verify(pins, pin)
     }
 
@@ -302,12 +296,10 @@ impl<S: Naming> Kept<S> {
         self.book.word(pins, slot)
     }
 
-    /// Writes the text of the book, as `Book::print` does. What is printed is a sound catalog of the store's setting.
+    /// Writes the text of the book, as `Book::print` does.
     pub fn print<W: Write>(&self, writer: &mut W) -> io::Result<()>
-        ensures sound { IsSoundOf S.names.slots S.names.setting self.now.book }
         ensures text { OnOk result (Appends (W.contents writer.old) (W.contents writer.new) (book_text self.now.book.catalog)) }
     {
-        self.audit();
         self.book.print(writer)
     }
 

@@ -12,7 +12,7 @@ ghost use Rattle.store_model.specs.Amounts.{nothing, plus, one, sum_of};
 ghost use Rattle.store_model.specs.BookText.{book_text};
 ghost use Rattle.store_model.specs.Commands.{check_tenant, start, status, abandon, mount, delete, put_manifest, get_manifest, delete_manifest, take, put_back, finish, after_cancel};
 ghost use Rattle.store_model.specs.Hands.{filled_length, received_in_sessions};
-ghost use Rattle.store_model.specs.Histories.{Performed, Took, PutBack, Finished, IsLegal};
+ghost use Rattle.store_model.specs.Histories.{Cleaned, Performed, Took, PutBack, Finished, IsLegal};
 ghost use Rattle.store_model.specs.Runs.{Start, Status, Abandon, Mount as MountCommand, Delete, PutManifest, GetManifest, DeleteManifest, Lease, Number, Mounting, Bytes, Done};
 ghost use Rattle.store_model.specs.Sessions.{IsFull};
 ghost use Rattle.store_model.specs.Sweep.{IsSweep};
@@ -20,8 +20,8 @@ ghost use Rattle.store_book.specs.Pinned.{blob_bytes, blob_digest};
 ghost use Rattle.store_book.specs.SlotSteps.{EachSlot, HasPin, IsStill, ReadsWord};
 ghost use Rattle.locked_book.specs.Calls.{reply};
 ghost use Rattle.locked_book.specs.Counting.{IsBalanced, Lends, cannot_hand_out, has_room, with_catalog, with_slots, uncounted, accepted, counted, reserving, handing_out, unchanged};
-ghost use Rattle.locked_book.specs.Found.{IsSoundOf};
-ghost use Rattle.locked_book.specs.History.{Adds, AreFresh, IsUnread, amounts_of, steps_of};
+ghost use Rattle.locked_book.specs.Found.{IsBookOf};
+ghost use Rattle.locked_book.specs.History.{Adds, AddsByNobody, AreFresh, IsUnread, amounts_of, steps_of};
 ghost use Rattle.locked_book.specs.Names.{setting_of};
 
 use crate::call::Call;
@@ -85,6 +85,15 @@ impl<S: Naming> LockedBook<S> {
             history,
             nobody,
         }
+    }
+
+    /// Changes nothing, and tells what holds at all times: the book is one that a legal history of the store leaves, it is
+    /// sound, and what was received is in sessions, was closed or was abandoned.
+    pub fn audit(&self)
+        ensures found { IsBookOf S.names self.now.book }
+        ensures balanced { IsBalanced self.now }
+    {
+        self.kept.audit();
     }
 
     /// Opens a session, as `Kept::start` does.
@@ -357,13 +366,15 @@ impl<S: Naming> LockedBook<S> {
         refusal
     }
 
-    /// Goes over the slots, as `Kept::sweep` does.
+    /// Goes over the slots, as `Kept::sweep` does. Its step has a writer that is no desk's.
     pub fn sweep(&mut self, pins: &Pins) -> Swept
         requires table { pins.now ≡ S.names.table }
-        ensures sound { IsSoundOf S.names.slots S.names.setting self.old.book }
+        ensures found { IsBookOf S.names self.old.book }
         ensures sweeps { IsSweep self.old.book.catalog result self.new.book.catalog }
         ensures counts { self.new.counts ≡ self.old.counts }
+        ensures history { AddsByNobody S.names.opening (Cleaned result) }
     {
+        self.audit();
         let result = self.kept.sweep(pins);
         self.history.add(&mut self.nobody, Call::Sweep(&result));
         result
@@ -372,10 +383,11 @@ impl<S: Naming> LockedBook<S> {
     /// The pin with all that it had, as `Kept::verify` tells of it. No step is made.
     pub fn verify(&mut self, pins: &Pins, pin: Pin) -> Pin
         requires table { (pins.now ≡ S.names.table) × (pin.table ≡ S.names.table) }
-        ensures sound { IsSoundOf S.names.slots S.names.setting self.old.book }
+        ensures found { IsBookOf S.names self.old.book }
         ensures same { result ≡ pin }
         ensures kept { HasPin pin.hold self.old.book }
     {
+        self.audit();
         self.kept.verify(pins, pin)
     }
 
@@ -392,9 +404,10 @@ impl<S: Naming> LockedBook<S> {
 
     /// Writes the text of the book, as `Kept::print` does.
     pub fn print<W: Write>(&self, writer: &mut W) -> io::Result<()>
-        ensures sound { IsSoundOf S.names.slots S.names.setting self.now.book }
+        ensures found { IsBookOf S.names self.now.book }
         ensures text { OnOk result (Appends (W.contents writer.old) (W.contents writer.new) (book_text self.now.book.catalog)) }
     {
+        self.audit();
         self.kept.print(writer)
     }
 

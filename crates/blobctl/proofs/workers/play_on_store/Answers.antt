@@ -1,7 +1,9 @@
-use Rattle.std.proofs.Common.{◌++◌, ◌∙◌, ap, refl, sym}
+use Rattle.std.proofs.Common.{◌++◌, ◌∙◌, ap, refl, subst, sym}
 use Rattle.std.proofs.lemmas.List.{length-map}
 use Rattle.csv.proofs.WriteFacts.{appends-more}
 use Rattle.store_model.specs.BookText.{book_text}
+use Rattle.store_model.specs.Catalog.{Catalog}
+use Rattle.locked_book.specs.Found.{IsReached}
 use Rattle.locked_book.specs.Names.{StoreNames}
 use Rattle.row_player.specs.Answers.{answer_of, answers_of}
 use Rattle.row_player.specs.RowViews.{row_view}
@@ -22,6 +24,7 @@ returns-clause-played g c =
         first = c.args.parts.book.catalog;
         opened = c.requires.opened.catalog;
         last = book.0.catalog;
+        reached = subst (λ (C : Catalog). IsReached C book.0.catalog) (ap (λ (n : StoreNames). n.opening) (sym c.requires.named)) book.1.reached;
         sound = book.1.sound;
         same = book.1.made ∙ sym (ap (λ (n : StoreNames). n.setting) c.requires.named);
         written = refl;
