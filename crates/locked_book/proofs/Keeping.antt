@@ -1,28 +1,15 @@
--- What `Kept` keeps, and that a command which is counted keeps it.
-use Rattle.std.proofs.Common.{◌≡◌, ℕ, ◌+◌, ◌^◌, ◌<◌, not, Result, Ok, length, arith, ◌∙◌}
+-- A command that is counted keeps what `Kept` keeps.
+use Rattle.std.proofs.Common.{◌≡◌, ℕ, not, Result, Ok, length, arith, ◌∙◌}
 use Rattle.blob_digest.specs.declared.refusal.Refusal.{Refusal}
 use Rattle.blob_digest.specs.declared.refusal.Refusal.TheVariants.{LimitReached}
 use Rattle.finite_maps.specs.Outcomes.{refuse}
 use Rattle.store_model.specs.Amounts.{one, plus}
-use Rattle.store_model.specs.Hands.{in_hand, reserved}
 use Rattle.store_book.specs.BookState.{BookState}
-use Rattle.locked_book.specs.Counting.{Content, IsBalanced, has_room}
-use Rattle.locked_book.specs.Names.{StoreNames, setting_of}
+use Rattle.locked_book.specs.Counting.{Content, IsKept, has_room}
+use Rattle.locked_book.specs.Names.{StoreNames}
 use Rattle.locked_book.specs.Totals.{Counts}
 use Rattle.locked_book.proofs.Rooms.{added, room_given}
 use Rattle.locked_book.proofs.SessionSums.{Sums}
-
--- the invariant of `Kept`, of these hands and this reserve
-abbrev pub IsKept : StoreNames → BookState → Counts → ℕ → ℕ → Type 0
-IsKept names book counts hands reserve =
-    (hands ≡ in_hand book.catalog)
-    × (reserve ≡ reserved book.catalog)
-    × (counts.totals.commands + hands < 2 ^ 64)
-    × (counts.totals.received + reserve < 2 ^ 64)
-    × IsBalanced (record { book = book; counts = counts })
-    × (book.table ≡ names.table)
-    × (length book.slots ≡ names.slots)
-    × (setting_of book.catalog ≡ names.setting)
 
 -- a command that brings nothing and takes nothing in hand, which gave up so many bytes, was counted
 pub counted_kept : (names : StoreNames) (b b' : BookState) (k k' : Counts) (seen : Content) (hands reserve left : ℕ) (u : Unit {0}) → IsKept names b k hands reserve → Sums b.catalog b'.catalog 0 0 0 0 0 left

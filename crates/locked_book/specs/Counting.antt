@@ -1,5 +1,5 @@
 -- What lies under the lock, and what a command answers there and counts.
-use Rattle.std.specs.Prelude.{◌≡◌, ℕ, ◌+◌, ◌^◌, nat_lt, ◌==◌, ◌&&◌, ◌||◌, not, Bool, true, List, Result, Ok}
+use Rattle.std.specs.Prelude.{◌≡◌, ℕ, ◌+◌, ◌^◌, ◌<◌, nat_lt, ◌==◌, ◌&&◌, ◌||◌, not, Bool, true, List, Result, Ok, length}
 use Rattle.std.proofs.Common.{refl}
 use Rattle.std.specs.Coded.{Coded, code_by, coded×, coded_ℕ}
 use Rattle.blob_digest.specs.declared.refusal.Refusal.TheVariants.{LimitReached}
@@ -13,6 +13,7 @@ use Rattle.store_book.specs.SlotSteps.{IsCrowded}
 use Rattle.store_model.specs.Commands.{Outcome, lease}
 use Rattle.store_model.specs.Amounts.{Amounts, coded_amounts, one, plus}
 use Rattle.store_model.specs.Hands.{in_hand, received_in_sessions, reserved}
+use Rattle.locked_book.specs.Names.{StoreNames, setting_of}
 use Rattle.locked_book.specs.Totals.{Counts}
 
 -- the book, and what is counted
@@ -29,6 +30,21 @@ coded_content = code_by (BookState × Counts) (coded× coded_state coded_counts)
 -- what was received is in sessions, was closed or was abandoned
 abbrev pub IsBalanced : Content → Type 0
 IsBalanced k = k.counts.totals.received ≡ received_in_sessions k.book.catalog + k.counts.totals.closed + k.counts.totals.abandoned
+
+-- ---- what is kept
+
+-- What holds of a book with its counts, of so many sessions in hand and so many bytes reserved for them: each that is in hand can still be
+-- counted, what was received is balanced, and the book has the table, the slots and the setting of the store.
+abbrev pub IsKept : StoreNames → BookState → Counts → ℕ → ℕ → Type 0
+IsKept names book counts hands reserve =
+    (hands ≡ in_hand book.catalog)
+    × (reserve ≡ reserved book.catalog)
+    × (counts.totals.commands + hands < 2 ^ 64)
+    × (counts.totals.received + reserve < 2 ^ 64)
+    × IsBalanced (record { book = book; counts = counts })
+    × (book.table ≡ names.table)
+    × (length book.slots ≡ names.slots)
+    × (setting_of book.catalog ≡ names.setting)
 
 -- ---- counting
 

@@ -56,10 +56,7 @@ pub struct Kept<S: Naming> {
 }
 
 impl<S: Naming> Model for Kept<S> {
-    ghost use Rattle.std.specs.Prelude.{◌≡◌, ◌+◌, ◌<◌, ◌^◌, length};
-    ghost use Rattle.store_model.specs.Hands.{in_hand, reserved};
-    ghost use Rattle.locked_book.specs.Counting.{Content, coded_content, IsBalanced};
-    ghost use Rattle.locked_book.specs.Names.{setting_of};
+    ghost use Rattle.locked_book.specs.Counting.{Content, coded_content, IsKept};
 
     ghost Value = { Content };
 
@@ -67,7 +64,7 @@ impl<S: Naming> Model for Kept<S> {
 
     ghost view = { λ k. record { book = k.book; counts = k.counters } };
 
-    ghost invariant = { λ k. (k.hands ≡ in_hand k.book.catalog) × (k.reserve ≡ reserved k.book.catalog) × (k.counters.totals.commands + k.hands < 2 ^ 64) × (k.counters.totals.received + k.reserve < 2 ^ 64) × IsBalanced (record { book = k.book; counts = k.counters }) × (k.book.table ≡ S.names.table) × (length k.book.slots ≡ S.names.slots) × (setting_of k.book.catalog ≡ S.names.setting) };
+    ghost invariant = { λ k. IsKept S.names k.book k.counters k.hands k.reserve };
 }
 
 impl<S: Naming> Kept<S> {
