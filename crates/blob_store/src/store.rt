@@ -10,7 +10,7 @@ ghost use Rattle.store_model.specs.BookText.{book_text};
 ghost use Rattle.store_book.specs.SlotSteps.{HasPin};
 ghost use Rattle.store_model.specs.Sweep.{IsSweep};
 ghost use Rattle.std.specs.Option.{option_copied};
-ghost use Rattle.store_model.specs.Histories.{Cleaned, Performed};
+ghost use Rattle.store_model.specs.Histories.{Performed, Cleaned};
 ghost use Rattle.store_model.specs.Runs.{Start, Status, Abandon, Mount as MountCommand, Delete, PutManifest, GetManifest, DeleteManifest, Lease as LeaseCommand, Number, Mounting, Bytes, Done};
 ghost use Rattle.locked_book.specs.Calls.{reply};
 ghost use Rattle.locked_book.specs.History.{Adds, AddsByNobody, Appends, AreFresh, Closes, amounts_of};

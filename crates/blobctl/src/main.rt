@@ -11,10 +11,10 @@
 //! It promises, of the function `run`: what a run of one worker that ends well has written is the
 //! replies and the book that the definitions of the store give for the script's rows; what one of
 //! several workers has written is one reply for each row, in the order of the rows, those of each worker
-//! as its rows in their order are answered, and a sound book; a bad row is the first one; a bad row, a
-//! read fault and running out of memory write nothing; a read fault comes only where a read failed or the
-//! script is too long, and where the run ends otherwise no read failed. A write fault where no write
-//! failed is ruled out by tests alone.
+//! as its rows in their order are answered, and a sound book that a legal history leaves; a bad row is the
+//! first one; a bad row, a read fault and running out of memory write nothing; a read fault comes only
+//! where a read failed or the script is too long, and where the run ends otherwise no read failed. A write
+//! fault where no write failed is ruled out by tests alone.
 //!
 //! Of the definitions it proves (`laws`) that a script has a text, and no other where it leases nothing,
 //! and that its replies and book are a run of each tenant's commands, which don't see each other.

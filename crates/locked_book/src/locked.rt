@@ -12,7 +12,7 @@ ghost use Rattle.store_model.specs.Amounts.{nothing, plus, one, sum_of};
 ghost use Rattle.store_model.specs.BookText.{book_text};
 ghost use Rattle.store_model.specs.Commands.{check_tenant, start, status, abandon, mount, delete, put_manifest, get_manifest, delete_manifest, take, put_back, finish, after_cancel};
 ghost use Rattle.store_model.specs.Hands.{filled_length, received_in_sessions};
-ghost use Rattle.store_model.specs.Histories.{Cleaned, Performed, Took, PutBack, Finished, IsLegal};
+ghost use Rattle.store_model.specs.Histories.{Performed, Cleaned, Took, PutBack, Finished, IsLegal};
 ghost use Rattle.store_model.specs.Runs.{Start, Status, Abandon, Mount as MountCommand, Delete, PutManifest, GetManifest, DeleteManifest, Lease, Number, Mounting, Bytes, Done};
 ghost use Rattle.store_model.specs.Sessions.{IsFull};
 ghost use Rattle.store_model.specs.Sweep.{IsSweep};

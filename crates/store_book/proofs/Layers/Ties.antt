@@ -110,11 +110,11 @@ module _ (L : Layers) (links' : FinMap link_cmp ℕ) (marks : List Bool) (k : �
   ]
 
   module _ (sizes : (key : Link) (n : ℕ) → get links' key ≡ Some n → (b : Resident) × (get before.residents key.1 ≡ Some b) × (n ≡ length b.bytes))
-      (counted : (g h).links ≡ count after h.digest) (others : (x : Text) → (x ≡ h.digest → ⊥) → count after x ≡ count before x) where
+      (as_many_links : (g h).links ≡ count after h.digest) (others : (x : Text) → (x ≡ h.digest → ⊥) → count after x ≡ count before x) where
     counts_after : (m : ℕ) (x : Held) → held_at slots' m ≡ Some x → x.links ≡ count after x.digest
     counts_after m x here = elim (cases_eq m k) [
       | inl e ↦ (let is : g h ≡ x = some_same (sym (held_at-on g L.slots k h at) ∙ ap (held_at slots') (sym e) ∙ here) in
-          ap (λ (y : Held). y.links) (sym is) ∙ counted ∙ ap (count after) (sym (keeps.digest h) ∙ ap (λ (y : Held). y.digest) is))
+          ap (λ (y : Held). y.links) (sym is) ∙ as_many_links ∙ ap (count after) (sym (keeps.digest h) ∙ ap (λ (y : Held). y.digest) is))
       | inr other ↦ (let there = sym (held_at-other L.slots k (on_held g) m other) ∙ here in
           tied.counts m x there ∙ sym (others x.digest (λ same. other (tied.distinct m k x h there at same))))
     ]
@@ -149,10 +149,10 @@ module _ (L : Layers) (marks : List Bool) (k : ℕ) (h : Held) (at : held_at L.s
       let old : h.links ≡ count C h.digest = tied.counts k h at in
       let more : count (record C { links = set.insert C.links (r, h.digest) }) h.digest ≡ 1 + count C h.digest = count-link C r h.digest there new in
       let after : count D h.digest ≡ 1 + count C h.digest = ap (λ (X : Catalog). count X h.digest) same ∙ more in
-      let counted : h.links + 1 ≡ count D h.digest = omega arith in
+      let as_many_links : h.links + 1 ≡ count D h.digest = omega arith in
       IsTied-relink L (insert L.links.links (r, h.digest) n) marks k h at link_up link_up-KeepsBlob tied
       (λ key m found. sized key m (eq_by_cmp link_cmp key (r, h.digest)) refl (sym (get-insert link_cmp_total L.links.links (r, h.digest) n key) ∙ found))
-      counted
+      as_many_links
       (λ x differ. ap (λ (X : Catalog). count X x) same ∙ count_other-link C r h.digest x differ)
     where
       sized : (key : Link) (m : ℕ) (t : Bool) → eq_by_cmp link_cmp key (r, h.digest) ≡ t → cond t (Some n) (get L.links.links key) ≡ Some m → (c : Resident) × (get C.residents key.1 ≡ Some c) × (m ≡ length c.bytes)

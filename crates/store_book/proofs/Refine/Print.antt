@@ -81,8 +81,8 @@ module _ (L : Layers) (book : IsBook L) where
   abbrev C : Catalog
   C = book_catalog L
 
-  counted : (d : Text) (b : Resident) → get C.residents d ≡ Some b → links_to L.slots d ≡ count C d
-  counted d b kept = by_slot (slot_of L.slots d) refl
+  as_many_links : (d : Text) (b : Resident) → get C.residents d ≡ Some b → links_to L.slots d ≡ count C d
+  as_many_links d b kept = by_slot (slot_of L.slots d) refl
     where
       by_slot : (o : Option ℕ) → slot_of L.slots d ≡ o → option_map_or (links_at L.slots) o 0 ≡ count C d
       by_slot None none = absurd (let gone = sym kept ∙ not_resident L.slots (lent_marks L.slots) d none in cc)
@@ -94,7 +94,7 @@ module _ (L : Layers) (book : IsBook L) where
   linked e there =
       let b = book.tied.sizes e.0 e.1 there in
       let length_is : e.1 ≡ size C e.0.1 = b.2 ∙ ap (λ o. option_map_or (λ (b : Resident). length b.bytes) o 0) (sym b.1) in
-      let links_are : links_to L.slots e.0.1 ≡ count C e.0.1 = counted e.0.1 b.0 b.1 in
+      let links_are : links_to L.slots e.0.1 ≡ count C e.0.1 = as_many_links e.0.1 b.0 b.1 in
       λ i. blob_line e.0.1 (length_is i) (links_are i)
 
   blobs_are : (repo : Text) → flat_map (blob_row L.slots) (blobs_in L.links repo) ≡ flat_map (blob_text C) (filter (λ l. same_text l.0 repo) (set.items C.links))

@@ -89,11 +89,11 @@ module _ (L : Layers) (marks : List Bool) (k : ℕ) (blob : Text × Text) (m : B
     apart a b x y (inr p) (inl q) same = absurd (not_held L.slots blob.0 none a x p.1 (same ∙ ap (λ (h : Held). h.digest) (sym q.1)))
     apart a b x y (inr p) (inr q) same = tied.distinct a b x y p.1 q.1 same
 
-    counted : (j : ℕ) (h : Held) → Holds j h → h.links ≡ count after h.digest
-    counted j h (inl p) =
+    as_many_links : (j : ℕ) (h : Held) → Holds j h → h.links ≡ count after h.digest
+    as_many_links j h (inl p) =
         let zero : count C blob.0 ≡ 0 = count_by-none (λ r. holds C r blob.0) (unlinked C lawful blob.0 absent) (set.items C.repos) in
         subst (λ (x : Held). x.links ≡ count after x.digest) p.1 (sym zero)
-    counted j h (inr p) = tied.counts j h p.1
+    as_many_links j h (inr p) = tied.counts j h p.1
 
     sized : (key : Link) (n : ℕ) → get L.links.links key ≡ Some n → (b : Resident) × (get after.residents key.1 ≡ Some b) × (n ≡ length b.bytes)
     sized key n found =
@@ -109,5 +109,5 @@ module _ (L : Layers) (marks : List Bool) (k : ℕ) (blob : Text × Text) (m : B
       marks = tied.marks ∙ sym (length-with_slot L.slots k (fill blob));
       distinct = λ a b x y at_a at_b same. apart a b x y (held_then a x at_a) (held_then b y at_b) same;
       sizes = sized;
-      counts = λ j h here. counted j h (held_then j h here);
+      counts = λ j h here. as_many_links j h (held_then j h here);
     })

@@ -108,12 +108,12 @@ module _ (C : Catalog) (d : Text) where
         omega arith
   ]
 
-  counted : (s : set.Set link_cmp) → In_repos s → count (over s) d ≡ by_links s
-  counted = map_induct link_cmp_total exact_link (λ (s : set.Set link_cmp). In_repos s → count (over s) d ≡ by_links s)
+  count_over : (s : set.Set link_cmp) → In_repos s → count (over s) d ≡ by_links s
+  count_over = map_induct link_cmp_total exact_link (λ (s : set.Set link_cmp). In_repos s → count (over s) d ≡ by_links s)
       (λ _. count_by-none (λ q. holds (over set.none) q d) (λ q. ap is_some (get-empty link_cmp (q, d))) (set.items C.repos)
       ∙ sym (ap (λ (es : List (Link × Unit {0})). count_by (λ l. eq_by_cmp text_cmp d l.1) (map (λ e. e.0) es)) (entries-empty link_cmp (Unit {0}))))
       (λ s l v none rest in_repos. one_more s l none (in_repos l (now link_cmp_total exact_link s l)) (rest (λ q h. in_repos q (still link_cmp_total exact_link s l q h))))
 
 -- The number of repositories that hold a digest is the number of links to it.
 pub count-by_links : (C : Catalog) → Lawful C → (d : Text) → count C d ≡ count_by (λ l. eq_by_cmp text_cmp d l.1) (set.items C.links)
-count-by_links C lawful d = counted C d C.links (λ l h. (lawful.links l h).repo)
+count-by_links C lawful d = count_over C d C.links (λ l h. (lawful.links l h).repo)
