@@ -29,7 +29,9 @@ use std::alloc::Global;
 use std::hint::spin_loop;
 use std::io::{self, Write};
 use std::marker::Model;
+use std::sync::atomic::AtomicU64;
 use std::sync::{Arc, Mutex, MutexGuard, Wait};
+use std::time::Duration;
 use store_book::{Mount, Swept};
 
 /// A store that threads share: the pins, and one lock around the book with the totals.
@@ -44,6 +46,8 @@ use store_book::{Mount, Swept};
 pub struct Store<S: Naming> {
     pins: Pins,
     book: Mutex<LockedBook<S>>,
+    /// Stays 0: who rests between two tries of the lock sleeps on it until the time is over.
+    rest: AtomicU64,
     alloc: Global,
 }
 
@@ -58,16 +62,23 @@ impl<S: Naming> Model for Store<S> {
     ghost invariant = { λ s. s.pins ≡ S.names.table };
 }
 
-/// How often the lock is tried before a thread sleeps until it is free.
-const LOCK_TRIES: u32 = 20;
+/// How often a thread that waits for the lock tries it, spins, tries it again and rests, before it sleeps until it is
+/// woken: with `REST_MICROS`, some ten milliseconds in all. Only what holds the lock that long, as printing, has the
+/// others sleep until they are woken.
+const LOCK_ROUNDS: u32 = 64;
 
-/// How often a thread spins from one try to the next: the time of some commands, so that whoever has the lock
-/// may come back to it while the book's memory is still near.
-const SPINS_PER_TRY: u32 = 1000;
+/// How often a thread spins between the two tries of a round: a tenth of a microsecond to a whole one, by the
+/// processor, which is about what a command holds the lock for. More would burn time that the holder may want.
+const SPINS_PER_ROUND: u32 = 30;
+
+/// How many microseconds a thread rests at the end of a round. The rest is a system call of a few microseconds, so
+/// that who waits takes a few hundredths of a processor, and nobody has to wake it. That is what it costs: the lock
+/// may be free for as long before the thread sees it, and longer by what the system is late.
+const REST_MICROS: u64 = 100;
 
 /// Waits for a moment, without letting the processor go.
 fn spin_wait() {
-    for _ in 0..SPINS_PER_TRY {
+    for _ in 0..SPINS_PER_ROUND {
         spin_loop();
     }
 }
@@ -91,18 +102,25 @@ impl<S: Naming> Store<S> {
         Store {
             pins,
             book: Mutex::new(LockedBook::new(book, counters, log)),
+            rest: AtomicU64::new(0),
             alloc,
         }
     }
 
-    /// The lock, once it is free. Most commands hold it for a microsecond, so it is tried some times before the
-    /// thread sleeps, which with its wake costs several times that.
+    /// The lock, once it is free. Most commands hold it for a microsecond, so a thread that waits spins for that
+    /// long, and then rests. It isn't woken at the end: the holder pays for no wake, and goes on with its
+    /// rows while the book's memory is near. After `LOCK_ROUNDS` it sleeps until it is woken.
     fn locked(&self, rt: &impl Wait) -> MutexGuard<'_, LockedBook<S>> {
-        for _ in 0..LOCK_TRIES {
+        for _ in 0..LOCK_ROUNDS {
             if let Some(book) = self.book.try_lock() {
                 return book;
             }
             spin_wait();
+            if let Some(book) = self.book.try_lock() {
+                return book;
+            }
+            self.rest
+                .park_timeout(rt, 0, Duration::from_micros(REST_MICROS));
         }
         self.book.lock(rt)
     }

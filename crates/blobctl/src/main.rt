@@ -69,6 +69,9 @@ use std::sync::Wait;
 use std::thread::Threads;
 use std::{env, io};
 
+/// How many bytes of the output are collected for one write.
+const WRITE_BUFFER: usize = 65_536;
+
 /// Runs on standard input and output, with threads where there are several workers. What is written is collected first, so that a fault of
 /// the last write is a write fault too.
 fn run_on_stdio(
@@ -79,7 +82,7 @@ fn run_on_stdio(
     requires { IsWithin options.now }
 {
     let mut reader = Watched::new(rt.reader());
-    let Ok(mut writer) = BufWriter::new(rt.alloc(), io::writer(rt)) else {
+    let Ok(mut writer) = BufWriter::with_capacity(rt.alloc(), WRITE_BUFFER, io::writer(rt)) else {
         return Err(Fault::Memory);
     };
     run::run(threads, rt.alloc(), &mut reader, &mut writer, options)?;

@@ -20,6 +20,7 @@ use crate::workers::play_by_workers;
 use row_player::Row;
 use std::alloc::Global;
 use std::io::{Read, Write};
+use std::mem;
 use std::sync::Wait;
 use std::thread::Threads;
 
@@ -43,7 +44,7 @@ fn read_all<R: Read>(alloc: Global, reader: &mut Watched<R>) -> Result<Vec<Row>,
 /// the run ends in another way, no read failed and the script was no longer. One byte more than that
 /// is read at most. After a write fault nothing is known of what was written. Writing takes no memory. While it plays, the
 /// run holds the rows, the replies and the book; the script's text is held only until its rows are
-/// made.
+/// made. Where it ends well it gives none of this back: the program ends then, and its memory with it.
 pub fn run_one<R: Read, W: Write>(
     alloc: Global,
     reader: &mut Watched<R>,
@@ -62,6 +63,9 @@ pub fn run_one<R: Read, W: Write>(
         return Err(Fault::Memory);
     };
     write_played(writer, replies.as_slice(), &book)?;
+    mem::forget(book);
+    mem::forget(replies);
+    mem::forget(rows);
     Ok(())
 }
 
@@ -90,5 +94,7 @@ pub fn run<T: Threads + Wait + Sync, R: Read, W: Write>(
         return run_one(alloc, reader, writer, options);
     }
     let rows = read_all(alloc, reader)?;
-    play_by_workers(rt, alloc, writer, options, rows.as_slice())
+    play_by_workers(rt, alloc, writer, options, rows.as_slice())?;
+    mem::forget(rows);
+    Ok(())
 }

@@ -16,11 +16,12 @@ use row_player::{OpenGate, Row};
 use std::alloc::Global;
 use std::io::Write;
 use std::marker::Brand;
+use std::mem;
 use std::sync::Wait;
 use std::thread::Threads;
 
 /// Plays all rows by workers on the store of these parts, which were made by the options and whose names are those that
-/// the type parameter says, and writes the replies and then the book.
+/// the type parameter says, and writes the replies and then the book. Where that ends well, neither is given back.
 fn play_on_store<T: Threads + Wait + Sync, W: Write, S: Naming + Send + Sync>(
     rt: &T,
     alloc: Global,
@@ -46,6 +47,8 @@ fn play_on_store<T: Threads + Wait + Sync, W: Write, S: Naming + Send + Sync>(
     let Ok(()) = store.print(rt, writer) else {
         return Err(Fault::Write);
     };
+    mem::forget(store);
+    mem::forget(played);
     Ok(())
 }
 
