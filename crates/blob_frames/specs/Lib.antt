@@ -1,0 +1,4 @@
+pub mod Frames
+pub mod Laws
+pub mod Lines
+pub mod Replies
