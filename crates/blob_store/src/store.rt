@@ -10,7 +10,7 @@ ghost use Rattle.store_model.specs.BookText.{book_text};
 ghost use Rattle.store_book.specs.SlotSteps.{HasPin};
 ghost use Rattle.store_model.specs.Sweep.{IsSweep};
 ghost use Rattle.std.specs.Option.{option_copied};
-ghost use Rattle.store_model.specs.Histories.{Performed};
+ghost use Rattle.store_model.specs.Histories.{Performed, Cleaned};
 ghost use Rattle.store_model.specs.Runs.{Start, Status, Abandon, Mount as MountCommand, Delete, PutManifest, GetManifest, DeleteManifest, Lease as LeaseCommand, Number, Mounting, Bytes, Done};
 ghost use Rattle.locked_book.specs.Calls.{reply};
 ghost use Rattle.locked_book.specs.History.{Adds, Appends, AreFresh, Closes, amounts_of};
@@ -399,6 +399,14 @@ impl<S: Naming> Store<S> {
         ensures { InSomeBook S.names.slots S.names.setting (λ b. (C : Catalog) × IsSweep b.catalog result C) }
     {
         self.locked(rt).sweep(&self.pins)
+    }
+
+    /// Sweeps as `sweep` does, for whoever has a desk: the sweep is a step of the desk's. It takes no memory.
+    pub fn sweep_at(&self, rt: &impl Wait, desk: &mut Desk<S>) -> Swept
+        ensures same { desk.new.amounts ≡ desk.old.amounts }
+        ensures history { Adds S.names.opening desk.old.trace (Cleaned result) desk.new.trace }
+    {
+        self.locked(rt).sweep_at(&self.pins, desk)
     }
 
     /// The lease with all that it had. Under the lock its slot is found used, in its generation, with its
