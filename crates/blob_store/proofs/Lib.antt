@@ -1,3 +1,4 @@
 pub mod Refusals
 pub mod Places
 pub mod Settlings
+pub mod Seated

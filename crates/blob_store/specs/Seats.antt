@@ -1,14 +1,76 @@
--- What a desk gets by the requests of a worker's rows.
-use Rattle.std.specs.Prelude.{◌≡◌, ◌+◌}
+-- What a desk gets by the requests of a worker's rows, and which steps of the store's history they are.
+use Rattle.std.specs.Prelude.{◌≡◌, ◌⊎◌, ◌+◌, ℕ, List, [], ◌∷◌, ◌++◌, Option, Result, Ok, Err, length}
+use Rattle.blob_digest.specs.declared.range.ByteRange.{ByteRange}
+use Rattle.blob_digest.specs.declared.refusal.Refusal.{Refusal}
+use Rattle.blob_digest.specs.declared.refusal.Refusal.TheVariants.{Memory}
+use Rattle.finite_maps.specs.Texts.{Text}
 use Rattle.store_model.specs.Amounts.{Amounts}
-use Rattle.row_player.specs.Answers.{Answer}
-use Rattle.row_player.specs.Commands.{Request}
+use Rattle.store_model.specs.Catalog.{Taken}
+use Rattle.store_model.specs.Histories.{Step, Performed, Cleaned, Took, PutBack, Finished}
+use Rattle.store_model.specs.Runs as runs
+use Rattle.store_model.specs.declared.swept.Swept.{Swept as SweptCounts}
+use Rattle.locked_book.specs.History.{DeskView, filled}
+use Rattle.row_player.specs.Answers.{Answer, Received, Stored, Swept, Refused}
+use Rattle.row_player.specs.CommandAnswers.{row_answer}
+use Rattle.row_player.specs.Commands.{Command, Append, Close, Request, Calls, Verifies, Sweeps}
 use Rattle.row_player.specs.Counts.{abandoned_of, chunk_of, closed_of, request_amount}
+
+-- ---- amounts
 
 -- A desk gets a command, its chunk's bytes, and the size that a close was answered, where it was accepted, and else nothing. The answer to
 -- an abandoned session has no number: what was abandoned changes by such an answer alone.
-pub record SeatActs (old : Amounts) (request : Request) (answer : Answer) (new : Amounts) : Type 0 where
+pub record AmountActs (old : Amounts) (request : Request) (answer : Answer) (new : Amounts) : Type 0 where
   pub commands : new.commands ≡ old.commands + request_amount (λ _ _. 1) request answer
   pub received : new.received ≡ old.received + request_amount (λ command _. chunk_of command) request answer
   pub closed : new.closed ≡ old.closed + request_amount closed_of request answer
   pub abandoned : request_amount (λ command _. abandoned_of command) request answer ≡ 0 → new.abandoned ≡ old.abandoned
+
+-- ---- steps
+
+-- a result as a row's answer
+abbrev pub told : {A : Type 0} → (A → Answer) → Result A Refusal → Answer
+told f (Ok a) = f a
+told f (Err e) = Refused e
+
+-- The steps of an append or a close. Taking its session in hand is refused, which is one step; or the session is taken, and put back or finished
+-- with the chunk, by the step that is given; or it is put back as it was, since the chunk found no memory.
+abbrev pub AreUploadSteps : Text → ℕ → Option ByteRange → Text → (Taken → Result ℕ Refusal → Step) → (ℕ → Answer) → Answer → List Step → Type 0
+AreUploadSteps repo number range bytes last f answer steps =
+    ((e : Refusal) × (steps ≡ Took repo number range (length bytes) (Err e) ∷ []) × (answer ≡ Refused e))
+    ⊎ ((hand : Taken) × (result : Result ℕ Refusal) × (steps ≡ Took repo number range (length bytes) (Ok hand) ∷ last (filled hand bytes) result ∷ []) × (answer ≡ told f result))
+    ⊎ ((hand : Taken) × (back : Result ℕ Refusal) × (steps ≡ Took repo number range (length bytes) (Ok hand) ∷ PutBack hand back ∷ []) × (answer ≡ Refused Memory))
+
+-- the steps of a command that is answered so: each other command is one step, with its reply
+abbrev pub AreCommandSteps : Command → Answer → List Step → Type 0
+AreCommandSteps (Append repo number range bytes) answer steps = AreUploadSteps repo number range bytes PutBack Received answer steps
+AreCommandSteps (Close repo number digest range bytes) answer steps = AreUploadSteps repo number range bytes (λ hand result. Finished hand digest result) Stored answer steps
+AreCommandSteps command answer steps = (result : Result runs.Answer Refusal) × (steps ≡ Performed command result ∷ []) × (answer ≡ told (row_answer command) result)
+
+-- the steps of a request: looking at a lease's slot is none, and a sweep is one
+abbrev pub AreRequestSteps : Request → Answer → List Step → Type 0
+AreRequestSteps (Calls command) answer steps = AreCommandSteps command answer steps
+AreRequestSteps (Verifies size) answer steps = steps ≡ []
+AreRequestSteps Sweeps answer steps = (swept : SweptCounts) × (steps ≡ Cleaned swept ∷ []) × (answer ≡ Swept swept)
+
+-- the steps so far go on by those of the request
+abbrev pub StepActs : List Step → Request → Answer → List Step → Type 0
+StepActs old request answer new = (steps : List Step) × AreRequestSteps request answer steps × (new ≡ old ++ steps)
+
+-- ---- both
+
+-- what a desk got, and the steps that it made
+pub record Work : Type 0 where
+  pub amounts : Amounts
+  pub steps : List Step
+
+abbrev pub work_of : DeskView → Work
+work_of desk = record { amounts = desk.amounts; steps = desk.trace.own }
+
+pub record WorkActs (old : Work) (request : Request) (answer : Answer) (new : Work) : Type 0 where
+  pub amounts : AmountActs old.amounts request answer new.amounts
+  pub steps : StepActs old.steps request answer new.steps
+
+-- a desk gets this and makes these steps, and keeps its number
+pub record SeatActs (old : DeskView) (request : Request) (answer : Answer) (new : DeskView) : Type 0 where
+  pub work : WorkActs (work_of old) request answer (work_of new)
+  pub number : new.trace.number ≡ old.trace.number

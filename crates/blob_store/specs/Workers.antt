@@ -1,7 +1,8 @@
 -- What workers answer.
 use Rattle.std.specs.Prelude.{◌≡◌, ◌≤◌, ◌<◌, ℕ, ◌+◌, List, [], length, get_or}
-use Rattle.store_model.specs.Amounts.{Amounts, nothing}
-use Rattle.blob_store.specs.Seats.{SeatActs}
+use Rattle.store_model.specs.Amounts.{nothing}
+use Rattle.locked_book.specs.History.{DeskView}
+use Rattle.blob_store.specs.Seats.{Work, WorkActs, work_of}
 use Rattle.locked_book.specs.declared.desk.Settled.{Settled}
 use Rattle.row_player.specs.Answers.{Answer}
 use Rattle.row_player.specs.Counts.{counted_abandons, counted_bytes, counted_closed, counted_commands}
@@ -15,15 +16,19 @@ use Rattle.row_player.specs.declared.reply.Reply.{Reply}
 abbrev pub AllAt : {X : Type 0} → (ℕ → X → Type 0) → List X → Type 0
 AllAt {X} P xs = (k : ℕ) (d : X) → k < length xs → P k (get_or xs k d)
 
--- The rows of a worker, of so many workers, were played in their order with these answers, from no lease on, and its desk, with
--- nothing at first, got this.
-abbrev pub IsPlayed : ℕ → ℕ → List RowView → Amounts → List Answer → Type 0
-IsPlayed workers worker rows desk answers = (left : Leases) × Plays SeatActs (nothing, none) (own_rows workers worker rows) answers (desk, left)
+-- nothing got, and no step made
+abbrev pub no_work : Work
+no_work = record { amounts = nothing; steps = [] }
 
--- the workers, from the first on, have these desks and answers
-pub record ArePlayed (workers : ℕ) (rows : List RowView) (desks : List Amounts) (lists : List (List Answer)) : Type 0 where
-  pub as_many : length desks ≡ length lists
-  pub each : AllAt (λ w answers. IsPlayed workers w rows (get_or desks w nothing) answers) lists
+-- The rows of a worker, of so many workers, were played in their order with these answers, from no lease on; its desk got this by them, and its
+-- steps are those of the rows, in the rows' order and with the replies that were answered.
+abbrev pub IsPlayed : ℕ → ℕ → List RowView → Work → List Answer → Type 0
+IsPlayed workers worker rows work answers = (left : Leases) × Plays WorkActs (no_work, none) (own_rows workers worker rows) answers (work, left)
+
+-- the workers, from the first on, have this work and these answers
+pub record ArePlayed (workers : ℕ) (rows : List RowView) (works : List Work) (lists : List (List Answer)) : Type 0 where
+  pub as_many : length works ≡ length lists
+  pub each : AllAt (λ w answers. IsPlayed workers w rows (get_or works w no_work) answers) lists
 
 -- What workers settle is what the answers to the rows say: the accepted commands, the bytes of their chunks, and the sizes of what was
 -- closed. What was abandoned has no number in an answer; it is nothing where no row gave a session up.
@@ -34,8 +39,8 @@ pub record AreSettled (rows : List RowView) (answers : List Answer) (settled : S
   pub abandoned : counted_abandons rows answers ≡ 0 → settled.abandoned ≡ 0
 
 -- a worker has nothing on its desk yet, and room for its replies
-pub record IsReady (workers worker : ℕ) (rows : List RowView) (desk : Amounts) (replies : List Reply) (room : ℕ) : Type 0 where
-  pub fresh : desk ≡ nothing
+pub record IsReady (workers worker : ℕ) (rows : List RowView) (desk : DeskView) (replies : List Reply) (room : ℕ) : Type 0 where
+  pub fresh : work_of desk ≡ no_work
   pub empty : replies ≡ []
   pub fits : length (own_rows workers worker rows) ≤ room
 

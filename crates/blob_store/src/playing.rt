@@ -1,8 +1,8 @@
 //! A script played by workers.
 ghost use Rattle.std.specs.Prelude.{ℕ, ◌≡◌, ◌⊎◌, ◌+◌, ◌<◌, ◌≤◌, [], IfOk, IfErr, true, length, map, vec_len, vec_capacity};
 ghost use Rattle.blob_digest.specs.declared.refusal.Refusal.TheVariants.{LimitReached, Memory};
-ghost use Rattle.store_model.specs.Amounts.{Amounts};
-ghost use Rattle.locked_book.specs.History.{AreFresh, amounts_of};
+ghost use Rattle.locked_book.specs.History.{AreFresh};
+ghost use Rattle.blob_store.specs.Seats.{Work, work_of};
 ghost use Rattle.blob_store.specs.Workers.{AllAt, ArePlayed, AreSettled, IsPlayed, IsReady, IsWorkerAt};
 ghost use Rattle.row_player.specs.Answers.{answers_of};
 ghost use Rattle.row_player.specs.RowViews.{row_view};
@@ -59,7 +59,7 @@ fn jobs_of<S: Naming>(
     ensures len { vec_len result ≡ vec_len desks.old }
     ensures desks { (vec_len desks.new ≡ 0) × (vec_capacity desks.new ≡ vec_capacity desks.old) }
     ensures emptied { (vec_len lists.new ≡ 0) × (vec_capacity lists.new ≡ vec_capacity lists.old) }
-    ensures ready { AllAt (λ k j. IsWorkerAt (vec_len desks.old) k j.worker.workers j.worker.number × IsReady (vec_len desks.old) j.worker.number (map row_view rows.now) j.desk.amounts j.replies.items (vec_capacity j.replies)) result.items }
+    ensures ready { AllAt (λ k j. IsWorkerAt (vec_len desks.old) k j.worker.workers j.worker.number × IsReady (vec_len desks.old) j.worker.number (map row_view rows.now) j.desk j.replies.items (vec_capacity j.replies)) result.items }
 {
     let workers = desks.len();
     while let Some(desk) = desks.pop() {
@@ -85,11 +85,11 @@ fn collect<S: Naming>(
     desks: &mut Vec<Desk<S>>,
     lists: &mut Vec<Vec<Reply>>,
 ) -> bool
-    requires each { AllAt (λ k o. (w : ℕ) → w + k + 1 ≡ vec_len outcomes → o.completed ≡ true → IsPlayed workers w (map row_view rows.now) o.desk.amounts (answers_of o.replies.items)) outcomes.items }
+    requires each { AllAt (λ k o. (w : ℕ) → w + k + 1 ≡ vec_len outcomes → o.completed ≡ true → IsPlayed workers w (map row_view rows.now) (work_of o.desk) (answers_of o.replies.items)) outcomes.items }
     requires room { (vec_len desks.old ≡ 0) × (vec_len outcomes ≤ vec_capacity desks.old) × (vec_len lists.old ≡ 0) × (vec_len outcomes ≤ vec_capacity lists.old) }
     ensures len { (vec_len desks.new ≡ vec_len outcomes) × (vec_len lists.new ≡ vec_len outcomes) }
     ensures capacity { vec_capacity desks.new ≡ vec_capacity desks.old }
-    ensures played { result ≡ true → ArePlayed workers (map row_view rows.now) (amounts_of desks.new.items) (map (λ v. answers_of v.items) lists.new.items) }
+    ensures played { result ≡ true → ArePlayed workers (map row_view rows.now) (map work_of desks.new.items) (map (λ v. answers_of v.items) lists.new.items) }
 {
     let mut completed = true;
     while let Some(outcome) = outcomes.pop() {
@@ -134,7 +134,7 @@ pub fn play<W: Threads + Wait + Sync, G: Gate + Send + Sync, S: Naming + Send + 
 ) -> Result<Played, Refusal>
     requires { (0 < workers) × (workers ≤ MAX_WORKERS) }
     ensures replies { IfOk result (λ p. length p.replies.items ≡ length rows.now) }
-    ensures each { IfOk result (λ p. (w : ℕ) → w < workers → (desk : Amounts) × IsPlayed workers w (map row_view rows.now) desk (own_answers workers w (map row_view rows.now) (answers_of p.replies.items))) }
+    ensures each { IfOk result (λ p. (w : ℕ) → w < workers → (work : Work) × IsPlayed workers w (map row_view rows.now) work (own_answers workers w (map row_view rows.now) (answers_of p.replies.items))) }
     ensures settled { IfOk result (λ p. AreSettled (map row_view rows.now) (answers_of p.replies.items) p.settled) }
     ensures refused { IfErr result (λ e. (e ≡ LimitReached) ⊎ (e ≡ Memory)) }
 {

@@ -10,7 +10,7 @@ use std::sync::Wait;
 use store_book::Swept;
 
 /// A store with a worker's desk, on which rows are played. Each request is the store's call of its name;
-/// contracts see what the desk gets by it.
+/// contracts see what the desk gets by it, and the steps that it is.
 pub struct Seat<'s, W: Wait, S: Naming> {
     /// What the calls wait by.
     pub rt: &'s W,
@@ -26,7 +26,7 @@ impl<'s, W: Wait, S: Naming> Backend for Seat<'s, W, S> {
     ghost use Rattle.blob_store.specs.Seats.{SeatActs};
     ghost use Rattle.row_player.specs.Leases.{Lent};
 
-    ghost acts = { λ old request answer new. SeatActs old.desk.amounts request answer new.desk.amounts };
+    ghost acts = { λ old request answer new. SeatActs old.desk request answer new.desk };
 
     ghost lent = { λ l. record { bytes = l.bytes; weight = l.hold.weight } };
 
@@ -114,7 +114,7 @@ impl<'s, W: Wait, S: Naming> Backend for Seat<'s, W, S> {
     }
 
     fn sweep(&mut self) -> Swept {
-        self.store.sweep(self.rt)
+        self.store.sweep_at(self.rt, &mut self.desk)
     }
 
     fn size(lease: &Lease<'s, S>) -> u64 {

@@ -420,6 +420,14 @@ impl<S: Naming> Store<S> {
         self.locked(rt).sweep(&self.pins)
     }
 
+    /// Sweeps as `sweep` does, for whoever has a desk: the sweep is a step of the desk's. It takes no memory.
+    pub fn sweep_at(&self, rt: &impl Wait, desk: &mut Desk<S>) -> Swept
+        ensures same { desk.new.amounts ≡ desk.old.amounts }
+        ensures history { Adds S.names.opening desk.old.trace (Cleaned result) desk.new.trace }
+    {
+        self.locked(rt).sweep_at(&self.pins, desk)
+    }
+
     /// The lease with all that it had. Under the lock its slot is found used, in its generation, with its
     /// digest. It takes no memory.
     pub fn verify<'s>(&'s self, rt: &impl Wait, lease: Lease<'s, S>) -> Lease<'s, S>

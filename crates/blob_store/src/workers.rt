@@ -1,6 +1,6 @@
 //! Workers that play the rows of a script on one store, each in a thread of its own.
 ghost use Rattle.std.specs.Prelude.{ℕ, ◌≡◌, ◌+◌, ◌<◌, ◌≤◌, true, map, vec_len, vec_capacity};
-ghost use Rattle.store_model.specs.Amounts.{nothing};
+ghost use Rattle.blob_store.specs.Seats.{work_of};
 ghost use Rattle.blob_store.specs.Workers.{AllAt, IsPlayed, IsReady, IsWorkerAt};
 ghost use Rattle.row_player.specs.Answers.{answers_of};
 ghost use Rattle.row_player.specs.RowViews.{row_view};
@@ -13,7 +13,7 @@ use std::alloc::Global;
 use std::sync::Wait;
 use std::sync::atomic::{AtomicBool, Ordering};
 use std::thread;
-use std::thread::{Promise, Threads};
+use std::thread::{Promise, PromisedHandle, Threads};
 
 /// What a worker begins with: its desk, and room for its replies.
 #[derive(Drop)]
@@ -47,7 +47,7 @@ pub struct PlaysRows<'r> {
 }
 
 impl<'r, S: Naming> Promise<Outcome<S>> for PlaysRows<'r> {
-    ghost kept_by = { λ p o. o.completed ≡ true → IsPlayed p.worker.workers p.worker.number (map row_view p.rows.now) o.desk.amounts (answers_of o.replies.items) };
+    ghost kept_by = { λ p o. o.completed ≡ true → IsPlayed p.worker.workers p.worker.number (map row_view p.rows.now) (work_of o.desk) (answers_of o.replies.items) };
 }
 
 /// Plays a worker's rows on the store, and gives back the leases that its lanes still hold. It plays
@@ -61,8 +61,8 @@ fn work<W: Wait, G: Gate, S: Naming>(
     halt: &AtomicBool,
     job: Job<S>,
 ) -> Outcome<S>
-    requires ready { IsReady job.worker.workers job.worker.number (map row_view rows.now) job.desk.amounts job.replies.items (vec_capacity job.replies) }
-    ensures { result.completed ≡ true → IsPlayed job.worker.workers job.worker.number (map row_view rows.now) result.desk.amounts (answers_of result.replies.items) }
+    requires ready { IsReady job.worker.workers job.worker.number (map row_view rows.now) job.desk job.replies.items (vec_capacity job.replies) }
+    ensures { result.completed ≡ true → IsPlayed job.worker.workers job.worker.number (map row_view rows.now) (work_of result.desk) (answers_of result.replies.items) }
 {
     let Job {
         desk,
@@ -101,9 +101,6 @@ fn work<W: Wait, G: Gate, S: Naming>(
     }
 }
 
-/// Names what a loop's facts speak of, which see only what is read from the loop on.
-fn stays(_rows: &[Row], _count: usize) {}
-
 /// Adds the desks of workers that are not started.
 fn add_unstarted<S: Naming>(
     mut jobs: Vec<Job<S>>,
@@ -116,6 +113,29 @@ fn add_unstarted<S: Naming>(
         unstarted.push_reserved(job.desk);
     }
     unstarted
+}
+
+/// Joins the workers that were started, all but the first, the last one first, and adds what each ended with; and then
+/// what the first worker ended with.
+fn join_all<'r, W: Threads, S: Naming>(
+    rt: &W,
+    rows: &'r [Row],
+    workers: usize,
+    mut children: Vec<PromisedHandle<Outcome<S>, PlaysRows<'r>>>,
+    first: Outcome<S>,
+    mut outcomes: Vec<Outcome<S>>,
+) -> Vec<Outcome<S>>
+    requires children { AllAt (λ w h. (h.promise.rows.now ≡ rows.now) × (h.promise.worker.workers ≡ workers) × (h.promise.worker.number ≡ w + 1)) children.items }
+    requires first { first.completed ≡ true → IsPlayed workers 0 (map row_view rows.now) (work_of first.desk) (answers_of first.replies.items) }
+    requires room { (vec_len outcomes ≡ 0) × (vec_len children < vec_capacity outcomes) }
+    ensures len { vec_len result ≡ vec_len children.entry + 1 }
+    ensures each { AllAt (λ k o. (w : ℕ) → w + k + 1 ≡ vec_len result → o.completed ≡ true → IsPlayed workers w (map row_view rows.now) (work_of o.desk) (answers_of o.replies.items)) result.items }
+{
+    while let Some(child) = children.pop() {
+        outcomes.push_reserved(child.join(rt));
+    }
+    outcomes.push_reserved(first);
+    outcomes
 }
 
 /// Plays the last job, the first worker's, in the calling thread, once each other one was started in a thread of its
@@ -131,22 +151,22 @@ pub fn play_all<W: Threads + Wait + Sync, G: Gate + Send + Sync, S: Naming + Sen
     jobs: Vec<Job<S>>,
     room: WorkersDone<S>,
 ) -> WorkersDone<S>
-    requires ready { AllAt (λ k j. IsWorkerAt (vec_len jobs) k j.worker.workers j.worker.number × IsReady (vec_len jobs) j.worker.number (map row_view rows.now) j.desk.amounts j.replies.items (vec_capacity j.replies)) jobs.items }
+    requires ready { AllAt (λ k j. IsWorkerAt (vec_len jobs) k j.worker.workers j.worker.number × IsReady (vec_len jobs) j.worker.number (map row_view rows.now) j.desk j.replies.items (vec_capacity j.replies)) jobs.items }
     requires room { (vec_len room.outcomes ≡ 0) × (vec_len jobs ≤ vec_capacity room.outcomes) × (vec_len room.unstarted ≡ 0) × (vec_len jobs ≤ vec_capacity room.unstarted) }
     ensures len { vec_len result.outcomes + vec_len result.unstarted ≡ vec_len jobs }
-    ensures each { AllAt (λ k o. (w : ℕ) → w + k + 1 ≡ vec_len result.outcomes → o.completed ≡ true → IsPlayed (vec_len jobs) w (map row_view rows.now) o.desk.amounts (answers_of o.replies.items)) result.outcomes.items }
+    ensures each { AllAt (λ k o. (w : ℕ) → w + k + 1 ≡ vec_len result.outcomes → o.completed ≡ true → IsPlayed (vec_len jobs) w (map row_view rows.now) (work_of o.desk) (answers_of o.replies.items)) result.outcomes.items }
 {
     thread::scope(
         thread::scope_env(),
         rt,
         move |scope| -> WorkersDone<S>
-            requires ready { AllAt (λ k j. IsWorkerAt (vec_len jobs) k j.worker.workers j.worker.number × IsReady (vec_len jobs) j.worker.number (map row_view rows.now) j.desk.amounts j.replies.items (vec_capacity j.replies)) jobs.items }
+            requires ready { AllAt (λ k j. IsWorkerAt (vec_len jobs) k j.worker.workers j.worker.number × IsReady (vec_len jobs) j.worker.number (map row_view rows.now) j.desk j.replies.items (vec_capacity j.replies)) jobs.items }
             requires room { (vec_len room.outcomes ≡ 0) × (vec_len jobs ≤ vec_capacity room.outcomes) × (vec_len room.unstarted ≡ 0) × (vec_len jobs ≤ vec_capacity room.unstarted) }
             ensures len { vec_len result.outcomes + vec_len result.unstarted ≡ vec_len jobs }
-            ensures each { AllAt (λ k o. (w : ℕ) → w + k + 1 ≡ vec_len result.outcomes → o.completed ≡ true → IsPlayed (vec_len jobs) w (map row_view rows.entry.now) o.desk.amounts (answers_of o.replies.items)) result.outcomes.items }
+            ensures each { AllAt (λ k o. (w : ℕ) → w + k + 1 ≡ vec_len result.outcomes → o.completed ≡ true → IsPlayed (vec_len jobs) w (map row_view rows.entry.now) (work_of o.desk) (answers_of o.replies.items)) result.outcomes.items }
         {
             let WorkersDone {
-                mut outcomes,
+                outcomes,
                 mut unstarted,
             } = room;
             let mut jobs = jobs;
@@ -167,8 +187,8 @@ pub fn play_all<W: Threads + Wait + Sync, G: Gate + Send + Sync, S: Naming + Sen
                 let worker = job.worker;
                 let promise = PlaysRows { rows, worker };
                 let there = move || -> Outcome<S>
-                    requires ready { IsReady job.worker.workers job.worker.number (map row_view rows.now) job.desk.amounts job.replies.items (vec_capacity job.replies) }
-                    ensures { result.completed ≡ true → IsPlayed job.worker.workers job.worker.number (map row_view rows.entry.now) result.desk.amounts (answers_of result.replies.items) }
+                    requires ready { IsReady job.worker.workers job.worker.number (map row_view rows.now) job.desk job.replies.items (vec_capacity job.replies) }
+                    ensures { result.completed ≡ true → IsPlayed job.worker.workers job.worker.number (map row_view rows.entry.now) (work_of result.desk) (answers_of result.replies.items) }
                 { work(rt, alloc, store, gate, rows, halt, job) };
                 match scope.spawn_with(promise, there) {
                     Ok(child) => children.push_reserved(child),
@@ -181,14 +201,9 @@ pub fn play_all<W: Threads + Wait + Sync, G: Gate + Send + Sync, S: Naming + Sen
                 }
             }
             let unstarted = add_unstarted(jobs, unstarted);
-            let outcome = work(rt, alloc, store, gate, rows, halt, own);
-            while let Some(child) = children.pop() {
-                outcomes.push_reserved(child.join(rt));
-            }
-            stays(rows, count);
-            outcomes.push_reserved(outcome);
+            let first = work(rt, alloc, store, gate, rows, halt, own);
             WorkersDone {
-                outcomes,
+                outcomes: join_all(rt, rows, count, children, first, outcomes),
                 unstarted,
             }
         },

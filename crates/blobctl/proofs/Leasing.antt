@@ -15,7 +15,8 @@ use Rattle.store_book.specs.BookState.{SlotSeen}
 use Rattle.store_book.specs.SlotSteps as slots
 use Rattle.row_player.specs.Answers.{Answer, Bytes, Refused}
 use Rattle.row_player.specs.Commands.{Lease}
-use Rattle.blobctl.specs.Played.{ActsCall, RisesByOne, row_answer}
+use Rattle.blobctl.specs.Played.{ActsCall, RisesByOne}
+use Rattle.row_player.specs.CommandAnswers.{row_answer}
 
 -- ---- slots
 

@@ -22,7 +22,8 @@ use Rattle.store_model.specs.Sweep.{IsLeft, IsSweep, is_orphan}
 use Rattle.store_model.specs.declared.swept.Swept.{Swept as SweptCounts}
 use Rattle.row_player.specs.Answers.{Answer, Swept}
 use Rattle.row_player.specs.Commands.{Command, Start, Status, Append, Close, Abandon, Mount, Delete, PutManifest, GetManifest, DeleteManifest, Lease, Sweeps, command_of, is_lease, uses_repo}
-use Rattle.blobctl.specs.Played.{Leads, outcome, result_of, row_answer}
+use Rattle.blobctl.specs.Played.{Leads, outcome, result_of}
+use Rattle.row_player.specs.CommandAnswers.{row_answer}
 use Rattle.row_player.specs.Plays.{Plays, RowStep, State, StepOf, StoreRow, VerifiesLease, give_back_of, name_of, named, piece_of, read_of, second_of, shared_in}
 use Rattle.csv.specs.Machine.{next_record}
 use Rattle.csv.specs.Reading.{AreRecords, Reached}

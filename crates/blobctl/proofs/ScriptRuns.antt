@@ -19,7 +19,8 @@ use Rattle.row_player.specs.Rows.{RowView}
 use Rattle.row_player.specs.declared.row.Verb.{Verb}
 use Rattle.row_player.specs.declared.row.Verb.TheVariants as verb
 use Rattle.row_player.proofs.Spellings.{names_repo, repo_spelled}
-use Rattle.blobctl.specs.Played.{Leads, result_of, row_answer}
+use Rattle.blobctl.specs.Played.{Leads, result_of}
+use Rattle.row_player.specs.CommandAnswers.{row_answer}
 use Rattle.blobctl.specs.ScriptRuns.{AreEventsOf, IsEvent, IsNoEvent, rows_of, shown_reply}
 
 -- ---- one row

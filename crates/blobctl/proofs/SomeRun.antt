@@ -23,7 +23,8 @@ use Rattle.store_model.proofs.Commands.SomeSweep.{after, some_sweep, swept}
 use Rattle.row_player.specs.Answers.{Answer, Leased, Shared, Verified, NoLease, NameTaken, Swept, Refused, mount_answer}
 use Rattle.row_player.specs.Commands.{Command, Start, Status, Append, Close, Abandon, Mount, Delete, PutManifest, GetManifest, DeleteManifest, Lease, command_of, digest_in, range_by, range_in, range_with, repo_in, source_in, uses_digest, uses_range, uses_repo, uses_source, where_used}
 use Rattle.row_player.specs.Leases.{Leases, Lent, Name, halved, new_lease}
-use Rattle.blobctl.specs.Played.{Leads, outcome, result_of, row_answer}
+use Rattle.blobctl.specs.Played.{Leads, outcome, result_of}
+use Rattle.row_player.specs.CommandAnswers.{row_answer}
 use Rattle.row_player.specs.Plays.{Plays, RowStep, State, StepOf, VerifiesLease, LendsWhereFree, give_back_of, name_of, named, piece_of, read_of, second_of, share_of, shared_in}
 use Rattle.row_player.specs.Rows.{RowView}
 use Rattle.row_player.specs.declared.row.Verb.{Verb}

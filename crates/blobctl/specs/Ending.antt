@@ -5,7 +5,7 @@ use Rattle.finite_maps.specs.Texts.{Text}
 use Rattle.blob_digest.specs.Tenants.{Tenant}
 use Rattle.locked_book.specs.Found.{IsReached}
 use Rattle.locked_book.specs.Names.{setting_of}
-use Rattle.store_model.specs.Amounts.{Amounts}
+use Rattle.blob_store.specs.Seats.{Work}
 use Rattle.blob_store.specs.Workers.{IsPlayed}
 use Rattle.blobctl.specs.Inputs.{IsTooLong, max_script}
 use Rattle.blobctl.specs.Played.{Played}
@@ -43,12 +43,12 @@ pub record RunSucceeds {R : Type 0} (remaining : R → Option (List ℕ)) (old n
   pub played : Played tenants slots max_blob script text
 
 -- What workers that play rows together on a store of these tenants and limits write: one reply to each row, in the order of the rows, of
--- which each worker's are those of playing its rows in their order; and then a book that a legal history leaves, from the catalog with which
--- the store was opened. It is sound, of the tenants, quotas, slots and limit on blobs of that catalog.
+-- which each worker's are those of playing its rows in their order, with the steps that they are; and then a book that a legal history
+-- leaves, from the catalog with which the store was opened. It is sound, of the tenants, quotas, slots and limit on blobs of that catalog.
 pub record PlayedByWorkers (workers : ℕ) (tenants : List Tenant) (slots max_blob : ℕ) (rows : List RowView) (text : Text) : Type 0 where
   pub answers : List Answer
   pub one_each : length answers ≡ length rows
-  pub own : (w : ℕ) → w < workers → (desk : Amounts) × IsPlayed workers w rows desk (own_answers workers w rows answers)
+  pub own : (w : ℕ) → w < workers → (work : Work) × IsPlayed workers w rows work (own_answers workers w rows answers)
   pub first : Catalog
   pub opened : OpensCatalog tenants slots max_blob first
   pub last : Catalog

@@ -13,33 +13,14 @@ use Rattle.store_book.specs.BookState.{BookState, SlotSeen}
 use Rattle.store_book.specs.SlotSteps.{EachSlot, HasLast, IsCrowded}
 use Rattle.store_model.specs.Sweep.{IsSweep}
 use Rattle.store_model.specs.declared.swept.Swept.{Swept as SweptCounts}
-use Rattle.row_player.specs.Answers.{Answer, Session, Received, Stored, Abandoned, Deleted, Manifest, Body, Bytes, Verified, Swept, Refused, mount_answer}
-use Rattle.row_player.specs.Commands.{Command, Start, Close, Abandon, PutManifest, GetManifest, Lease, Request, Calls, Verifies, Sweeps}
+use Rattle.row_player.specs.Answers.{Answer, Verified, Swept, Refused}
+use Rattle.row_player.specs.CommandAnswers.{row_answer}
+use Rattle.row_player.specs.Commands.{Command, Lease, Request, Calls, Verifies, Sweeps}
 use Rattle.row_player.specs.Leases as leases
 use Rattle.row_player.specs.Plays.{Plays}
 use Rattle.row_player.specs.Replies.{replies_text}
 use Rattle.row_player.specs.Rows.{RowView}
 use Rattle.blobctl.specs.Script.{AreRowsOf}
-
--- what a row is answered where its command gives this number
-abbrev pub number_answer : Command → ℕ → Answer
-number_answer (Start repo) n = Session n
-number_answer (Close repo number digest range bytes) n = Stored n
-number_answer (Abandon repo number) n = Abandoned
-number_answer command n = Received n
-
--- what it is answered where its command gives these bytes; a lease is answered by the bytes of its blob
-abbrev pub bytes_answer : Command → Text → Answer
-bytes_answer (PutManifest repo body) bytes = Manifest bytes
-bytes_answer (GetManifest repo digest) bytes = Body bytes
-bytes_answer command bytes = Bytes bytes
-
--- what a row is answered where its command is answered so
-abbrev pub row_answer : Command → runs.Answer → Answer
-row_answer command (runs.Number n) = number_answer command n
-row_answer command (runs.Mounting mounted) = mount_answer mounted
-row_answer command (runs.Bytes bytes) = bytes_answer command bytes
-row_answer command runs.Done = Deleted
 
 -- what a command answers and leaves, where no slot has too many readers
 abbrev pub outcome : Catalog → Command → steps.Outcome Answer

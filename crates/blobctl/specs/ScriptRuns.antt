@@ -11,7 +11,8 @@ use Rattle.row_player.specs.Answers.{Answer, Leased, NameTaken, Swept, Refused}
 use Rattle.row_player.specs.Commands.{Command, Lease, command_of, uses_repo}
 use Rattle.row_player.specs.Rows.{RowView}
 use Rattle.row_player.specs.declared.row.Verb.TheVariants as verb
-use Rattle.blobctl.specs.Played.{Played, row_answer}
+use Rattle.blobctl.specs.Played.{Played}
+use Rattle.row_player.specs.CommandAnswers.{row_answer}
 
 -- ---- the events of rows
 

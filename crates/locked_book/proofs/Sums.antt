@@ -32,6 +32,6 @@ fresh_pushed [] d all here = (here.0, here.1, tt)
 fresh_pushed (x ∷ xs) d all here = (all.0, all.1, fresh_pushed xs d all.2 here)
 
 -- what is left after one was taken from fresh desks, and that one
-pub fresh_left : (xs : List DeskView) (d : DeskView) → AreFresh (xs ++ d ∷ []) → (d.amounts ≡ nothing) × AreFresh xs
-fresh_left [] d all = (all.0, tt)
+pub fresh_left : (xs : List DeskView) (d : DeskView) → AreFresh (xs ++ d ∷ []) → ((d.amounts ≡ nothing) × (d.trace.own ≡ [])) × AreFresh xs
+fresh_left [] d all = ((all.0, all.1), tt)
 fresh_left (x ∷ xs) d all = let rest = fresh_left xs d all.2 in (rest.0, (all.0, all.1, rest.1))

@@ -45,7 +45,7 @@ use store_book::{Book, Mount, Swept};
 use upload_table::Hand;
 
 /// The book with its totals, and its history, which leads from the opening catalog to that of the book, and to the
-/// totals. A sweep is added by a writer that is nobody's.
+/// totals. A sweep without a desk is added by a writer that is nobody's.
 #[derive(Drop)]
 pub struct LockedBook<S: Naming> {
     kept: Kept<S>,
@@ -377,6 +377,19 @@ impl<S: Naming> LockedBook<S> {
         self.audit();
         let result = self.kept.sweep(pins);
         self.history.add(&mut self.nobody, Call::Sweep(&result));
+        result
+    }
+
+    /// Goes over the slots, as `sweep` does, for whoever has a desk: the step is the desk's.
+    pub fn sweep_at(&mut self, pins: &Pins, desk: &mut Desk<S>) -> Swept
+        requires table { pins.now ≡ S.names.table }
+        ensures sweeps { IsSweep self.old.book.catalog result self.new.book.catalog }
+        ensures counts { self.new.counts ≡ self.old.counts }
+        ensures same { desk.new.amounts ≡ desk.old.amounts }
+        ensures history { Adds S.names.opening desk.old.trace (Cleaned result) desk.new.trace }
+    {
+        let result = self.kept.sweep(pins);
+        self.history.add(&mut desk.writer, Call::Sweep(&result));
         result
     }
 

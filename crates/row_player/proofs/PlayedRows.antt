@@ -3,8 +3,8 @@ use Rattle.std.proofs.Common.{◌≡◌, ◌≢◌, ◌⊎◌, ◌<◌, ◌+◌,
 use Rattle.std.proofs.lemmas.List.{map-append, take_more}
 use Rattle.blob_digest.specs.declared.refusal.Refusal.{Refusal}
 use Rattle.blob_digest.specs.declared.refusal.Refusal.TheVariants.{Memory}
-use Rattle.row_player.specs.Answers.{Answer, Refused}
-use Rattle.row_player.specs.Commands.{Calls, Command, Request, Lease, command_of}
+use Rattle.row_player.specs.Answers.{Answer, Bytes, Refused}
+use Rattle.row_player.specs.Commands.{Calls, Command, Request, Lease, Sweeps, Verifies, command_of}
 use Rattle.row_player.specs.Leases.{Leases, Lent}
 use Rattle.row_player.specs.RowViews.{row_view}
 use Rattle.row_player.specs.Plays.{LendsWhereFree, Plays, RowStep, State, StepOf, VerifiesLease, named}
@@ -51,27 +51,25 @@ lines_more rows i row within is =
 
 -- ---- what is played on may show less of itself
 
-module _ {S T : Type 0} (shown : S → T) (acts : T → Request → Answer → T → Type 0) where
-  abbrev through : S → Request → Answer → S → Type 0
-  through old request answer new = acts (shown old) request answer (shown new)
-
+module _ {S T : Type 0} (shown : S → T) (does : S → Request → Answer → S → Type 0) (acts : T → Request → Answer → T → Type 0) (tells : (old : S) (request : Request) (answer : Answer) (new : S) → does old request answer new → acts (shown old) request answer (shown new)) where
   abbrev shows : State S → State T
   shows s = (shown s.0, s.1)
 
-  lends_through : (o : Option Lent) (old new : State S) (line : RowView) (answer : Answer) → LendsWhereFree through o old line answer new → LendsWhereFree acts o (shows old) line answer (shows new)
+  lends_through : (o : Option Lent) (old new : State S) (line : RowView) (answer : Answer) → LendsWhereFree does o old line answer new → LendsWhereFree acts o (shows old) line answer (shows new)
   lends_through (Some lease) old new line answer h = (h.0, ap shows h.1)
-  lends_through None old new line answer h = h
+  lends_through None old new line answer (inl h) = inl (h.0, tells old.0 (Calls (Lease line.repo line.digest)) (Bytes h.0) new.0 h.1, h.2, h.3)
+  lends_through None old new line answer (inr h) = inr (h.0, tells old.0 (Calls (Lease line.repo line.digest)) (Refused h.0) new.0 h.1, h.2, h.3)
 
-  verifies_through : (o : Option Lent) (old new : S) (answer : Answer) → VerifiesLease through o old answer new → VerifiesLease acts o (shown old) answer (shown new)
+  verifies_through : (o : Option Lent) (old new : S) (answer : Answer) → VerifiesLease does o old answer new → VerifiesLease acts o (shown old) answer (shown new)
   verifies_through None old new answer h = (h.0, ap shown h.1)
-  verifies_through (Some lease) old new answer h = h
+  verifies_through (Some lease) old new answer h = tells old (Verifies (length lease.bytes)) answer new h
 
-  store_through : (o : Result (Option Command) Refusal) (old new : S) (answer : Answer) → StepOf through o old answer new → StepOf acts o (shown old) answer (shown new)
-  store_through (Ok (Some command)) old new answer h = h
+  store_through : (o : Result (Option Command) Refusal) (old new : S) (answer : Answer) → StepOf does o old answer new → StepOf acts o (shown old) answer (shown new)
+  store_through (Ok (Some command)) old new answer h = (h.0, tells old (Calls command) answer new h.1)
   store_through (Ok None) old new answer h = absurd h
   store_through (Err refusal) old new answer h = (h.0, ap shown h.1)
 
-  row_through : (old new : State S) (line : RowView) (answer : Answer) → RowStep through old line answer new → RowStep acts (shows old) line answer (shows new)
+  row_through : (old new : State S) (line : RowView) (answer : Answer) → RowStep does old line answer new → RowStep acts (shows old) line answer (shows new)
   row_through old new line answer step = elim step [
     | inl store ↦ inl (store_through (command_of line) old.0 new.0 answer store.0, store.1)
     | inr (inl lends) ↦ inr (inl (lends.0, lends.1, lends_through (named old.1 line) old new line answer lends.2))
@@ -79,10 +77,10 @@ module _ {S T : Type 0} (shown : S → T) (acts : T → Request → Answer → T
     | inr (inr (inr (inl shares))) ↦ inr (inr (inr (inl (shares.0, shares.1, ap shown shares.2))))
     | inr (inr (inr (inr (inl looks)))) ↦ inr (inr (inr (inr (inl (looks.0, verifies_through (named old.1 line) old.0 new.0 answer looks.1, looks.2)))))
     | inr (inr (inr (inr (inr (inl returns))))) ↦ inr (inr (inr (inr (inr (inl (returns.0, returns.1, ap shown returns.2))))))
-    | inr (inr (inr (inr (inr (inr sweeps))))) ↦ inr (inr (inr (inr (inr (inr sweeps)))))
+    | inr (inr (inr (inr (inr (inr sweeps))))) ↦ inr (inr (inr (inr (inr (inr (sweeps.0, tells old.0 Sweeps answer new.0 sweeps.1, sweeps.2))))))
   ]
 
-  pub plays_through : (old new : State S) (lines : List RowView) (answers : List Answer) → Plays through old lines answers new → Plays acts (shows old) lines answers (shows new)
+  pub plays_through : (old new : State S) (lines : List RowView) (answers : List Answer) → Plays does old lines answers new → Plays acts (shows old) lines answers (shows new)
   plays_through old new [] [] h = ap shows h
   plays_through old new [] (r ∷ rs) h = absurd h
   plays_through old new (l ∷ ls) [] h = absurd h

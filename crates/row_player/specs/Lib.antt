@@ -1,4 +1,5 @@
 pub mod Answers
+pub mod CommandAnswers
 pub mod CommandViews
 pub mod Commands
 pub mod Counts

@@ -1,6 +1,8 @@
 use Rattle.std.proofs.Common.{◌≡◌, ◌≤◌, ◌∙◌, [], ap, arith, length, map, refl, subst, sym, vec_capacity}
 use Rattle.locked_book.specs.History.{AreFresh}
+use Rattle.blob_store.specs.Seats.{work_of}
 use Rattle.blob_store.specs.Workers.{AllAt, IsReady, IsWorkerAt}
+use Rattle.blob_store.proofs.Settlings.{fresh_work}
 use Rattle.blob_store.proofs.Places.{at_first, at_last, at_pushed}
 use Rattle.locked_book.proofs.Sums.{fresh_left}
 use Rattle.row_player.specs.RowViews.{row_view}
@@ -18,8 +20,8 @@ loop-desk-preserved g c =
     let desk_count = c.in-Some.ensures.len in
     let list_count = c.in-Some-pop.ensures.len in
     let number : length c.pop-in-Some.new.self.items ≡ c.len-number.result = omega (arith, was.both, desk_count, list_count, c.len-number.ensures, c.pop-in-Some.new.self.ok.0) in
-    let ready : IsReady n c.len-number.result lines c.into_droppable.result.amounts c.in-Some-pop.replies.items (vec_capacity c.in-Some-pop.replies) = record {
-      fresh = ap (λ x. x.amounts) c.into_droppable.ensures ∙ left.0;
+    let ready : IsReady n c.len-number.result lines c.into_droppable.result c.in-Some-pop.replies.items (vec_capacity c.in-Some-pop.replies) = record {
+      fresh = ap work_of c.into_droppable.ensures ∙ fresh_work c.in-Some.desk left.0;
       empty = mine.0;
       fits = subst (λ k. length (own_rows n k lines) ≤ vec_capacity c.in-Some-pop.replies) number mine.1;
     } in
@@ -28,7 +30,7 @@ loop-desk-preserved g c =
       turn = omega (arith, was.all, desk_count, c.len-number.ensures, c.loop-desk.jobs.ok.0);
     } in
     record {
-      jobs = subst (AllAt (λ k j. IsWorkerAt n k j.worker.workers j.worker.number × IsReady n j.worker.number lines j.desk.amounts j.replies.items (vec_capacity j.replies))) (sym c.push_reserved.ensures.items) (at_pushed (λ k j. IsWorkerAt n k j.worker.workers j.worker.number × IsReady n j.worker.number lines j.desk.amounts j.replies.items (vec_capacity j.replies)) c.loop-desk.jobs.items _ was.jobs (turn, ready));
+      jobs = subst (AllAt (λ k j. IsWorkerAt n k j.worker.workers j.worker.number × IsReady n j.worker.number lines j.desk j.replies.items (vec_capacity j.replies))) (sym c.push_reserved.ensures.items) (at_pushed (λ k j. IsWorkerAt n k j.worker.workers j.worker.number × IsReady n j.worker.number lines j.desk j.replies.items (vec_capacity j.replies)) c.loop-desk.jobs.items _ was.jobs (turn, ready));
       lists = at_first (λ w v. (v.items ≡ []) × (length (own_rows n w lines) ≤ vec_capacity v)) c.pop-in-Some.new.self.items c.in-Some-pop.replies lists;
       fresh = left.1;
       workers = was.workers;

@@ -7,7 +7,7 @@ use Rattle.blob_store.proofs.playing.jobs_of.Given as goal
 
 abbrev pub invariant-loop-desk : goal.invariant-loop-desk
 invariant-loop-desk g l = record {
-  jobs : AllAt (λ k j. IsWorkerAt l.workers k j.worker.workers j.worker.number × IsReady l.workers j.worker.number (map row_view l.rows) j.desk.amounts j.replies.items (vec_capacity j.replies)) l.jobs.items;
+  jobs : AllAt (λ k j. IsWorkerAt l.workers k j.worker.workers j.worker.number × IsReady l.workers j.worker.number (map row_view l.rows) j.desk j.replies.items (vec_capacity j.replies)) l.jobs.items;
   lists : AllAt (λ w v. (v.items ≡ []) × (length (own_rows l.workers w (map row_view l.rows)) ≤ vec_capacity v)) l.lists.items;
   fresh : AreFresh l.desks.items;
   workers : l.workers ≡ vec_len l.fn.desks;

@@ -1,6 +1,6 @@
 use Rattle.std.proofs.Common.{◌∙◌, ap, map, sym, subst}
-use Rattle.blob_store.specs.Seats.{SeatActs}
-use Rattle.store_model.specs.Amounts.{nothing}
+use Rattle.blob_store.specs.Seats.{SeatActs, WorkActs, work_of}
+use Rattle.blob_store.specs.Workers.{no_work}
 use Rattle.row_player.specs.Answers.{answers_of}
 use Rattle.row_player.specs.Leases.{none}
 use Rattle.row_player.specs.RowViews.{row_view}
@@ -14,6 +14,7 @@ returns-in-Ok g c = λ _.
     let lines = own_rows c.args.job.worker.workers c.args.job.worker.number (map row_view c.args.rows.now) in
     let answers = answers_of c.in-Ok.replies.items in
     let played = c.in-Ok.ensures.played in
-    let shown = plays_through (λ seat. seat.desk.amounts) SeatActs (_, none) (c.play_rows-played.new.backend, played.0) lines answers played.1 in
-    let begun = subst (λ d. Plays SeatActs (d, none) lines answers (c.play_rows-played.new.backend.desk.amounts, played.0)) (ap (λ x. x.amounts) c.into_desk.ensures ∙ c.requires.ready.fresh) shown in
-    (played.0, subst (λ d. Plays SeatActs (nothing, none) lines answers (d, played.0)) (ap (λ x. x.amounts) (sym c.into_droppable.ensures)) begun)
+    let new = c.play_rows-played.new.backend in
+    let shown = plays_through (λ seat. work_of seat.desk) (λ old request answer new. SeatActs old.desk request answer new.desk) WorkActs (λ old request answer new acts. acts.work) (_, none) (new, played.0) lines answers played.1 in
+    let begun = subst (λ d. Plays WorkActs (d, none) lines answers (work_of new.desk, played.0)) (ap work_of c.into_desk.ensures ∙ c.requires.ready.fresh) shown in
+    (played.0, subst (λ d. Plays WorkActs (no_work, none) lines answers (d, played.0)) (ap work_of (sym c.into_droppable.ensures)) begun)

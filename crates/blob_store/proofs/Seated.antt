@@ -1,0 +1,52 @@
+-- Which steps a call of the store is to the rows of a worker.
+use Rattle.std.proofs.Common.{◌≡◌, ◌⊎◌, ℕ, List, [], ◌∷◌, ◌++◌, Option, Result, Ok, Err, arith, refl, ap, ◌∙◌, inl, inr, append_assoc}
+use Rattle.std.specs.Prelude.{length}
+use Rattle.blob_digest.specs.declared.range.ByteRange.{ByteRange}
+use Rattle.blob_digest.specs.declared.refusal.Refusal.{Refusal}
+use Rattle.blob_digest.specs.declared.refusal.Refusal.TheVariants.{Memory}
+use Rattle.finite_maps.specs.Texts.{Text}
+use Rattle.store_model.specs.Amounts.{Amounts}
+use Rattle.store_model.specs.Catalog.{Catalog, Taken}
+use Rattle.store_model.specs.Histories.{Step, Took, PutBack}
+use Rattle.locked_book.specs.History.{Adds, Cancels, DeskView, Trace, filled}
+use Rattle.row_player.specs.Answers.{Answer, Refused}
+use Rattle.row_player.specs.Commands.{Calls, Command, Request}
+use Rattle.blob_store.specs.Seats.{AmountActs, AreRequestSteps, AreUploadSteps, SeatActs, told}
+
+-- two steps, one after the other
+two_own : (C : Catalog) (old mid new : Trace) (d e : Step) → Adds C old d mid → Adds C mid e new → new.own ≡ old.own ++ d ∷ e ∷ []
+two_own C old mid new d e x y = y.own ∙ ap (λ ds. ds ++ e ∷ []) x.own ∙ append_assoc old.own (d ∷ []) (e ∷ [])
+
+-- the steps of an append or a close
+pub uploaded : (C : Catalog) (old new : Trace) (repo : Text) (number : ℕ) (range : Option ByteRange) (bytes : Text) (last : Taken → Result ℕ Refusal → Step) (f : ℕ → Answer) (result : Result ℕ Refusal)
+    → ((e : Refusal) × (result ≡ Err e) × Adds C old (Took repo number range (length bytes) (Err e)) new)
+    ⊎ ((hand : Taken) × (mid : Trace) × Adds C old (Took repo number range (length bytes) (Ok hand)) mid × Adds C mid (last (filled hand bytes) result) new)
+    ⊎ ((result ≡ Err Memory) × Cancels C old repo number range bytes new)
+    → (new.number ≡ old.number) × ((steps : List Step) × AreUploadSteps repo number range bytes last f (told f result) steps × (new.own ≡ old.own ++ steps))
+uploaded C old new repo number range bytes last f result (inl x) =
+    (x.2.number, (Took repo number range (length bytes) (Err x.0) ∷ [], inl (x.0, refl, ap (told f) x.1), x.2.own))
+uploaded C old new repo number range bytes last f result (inr (inl x)) =
+    let d = Took repo number range (length bytes) (Ok x.0) in
+    let e = last (filled x.0 bytes) result in
+    (x.3.number ∙ x.2.number, (d ∷ e ∷ [], inr (inl (x.0, result, refl, refl)), two_own C old x.1 new d e x.2 x.3))
+uploaded C old new repo number range bytes last f result (inr (inr x)) =
+    let d = Took repo number range (length bytes) (Ok x.1.hand) in
+    let e = PutBack x.1.hand x.1.back in
+    (x.1.put_back.number ∙ x.1.take.number, (d ∷ e ∷ [], inr (inr (x.1.hand, x.1.back, refl, ap (told f) x.0)), two_own C old x.1.mid new d e x.1.take x.1.put_back))
+
+-- an upload's amounts with its steps
+pub both : (old new : DeskView) (request : Request) (answer : Answer) (steps : (new.trace.number ≡ old.trace.number) × ((steps : List Step) × AreRequestSteps request answer steps × (new.trace.own ≡ old.trace.own ++ steps))) → AmountActs old.amounts request answer new.amounts → SeatActs old request answer new
+both old new request answer steps amounts = record { work = record { amounts = amounts; steps = steps.1 }; number = steps.0 }
+
+-- what is refused adds nothing
+pub adds_nothing : (old new : Amounts) (command : Command) (e : Refusal) → new ≡ old → AmountActs old (Calls command) (Refused e) new
+adds_nothing old new command e same =
+    let commands : new.commands ≡ old.commands = ap (λ a. a.commands) same in
+    let received : new.received ≡ old.received = ap (λ a. a.received) same in
+    let closed : new.closed ≡ old.closed = ap (λ a. a.closed) same in
+    record {
+      commands = omega (arith, commands);
+      received = omega (arith, received);
+      closed = omega (arith, closed);
+      abandoned = λ _. ap (λ a. a.abandoned) same;
+    }
