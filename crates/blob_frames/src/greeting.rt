@@ -1,7 +1,9 @@
 //! The greeting with which a line begins.
-ghost use Rattle.std.specs.Prelude.{◌≡◌, true, IfOk, OnOk};
-ghost use Rattle.std.specs.Io.KnownBytes.{Appends, Consumes};
+ghost use Rattle.std.specs.Prelude.{ℕ, List, ◌≡◌, true, false, IfOk, OnOk, IsErrOf, length};
+ghost use Rattle.std.specs.Io.KnownBytes.{Appends, Consumes, IsAtEnd};
 ghost use Rattle.blob_frames.specs.Frames.{greeting};
+ghost use Rattle.blob_frames.specs.Lines.{IsCutOff};
+ghost use Rattle.blob_frames.specs.declared.fault.FrameFault.TheVariants.{CutOff, Malformed};
 
 use crate::fault::FrameFault;
 use crate::fill::fill;
@@ -11,9 +13,13 @@ use std::io::{self, Read, Write};
 const GREETING: [u8; 8] = *b"blobd\0\x01\0";
 
 /// Reads a client's greeting, and answers whether there was one: not where the line was at its end.
-/// `Malformed` comes where other bytes stand in its place, those of another version too.
+/// `CutOff` comes where the line ends within it, and `Malformed` where other bytes stand in its place, those of
+/// another version too.
 pub fn read_greeting<R: Read>(input: &mut R) -> Result<bool, FrameFault>
-    ensures { IfOk result (λ came. came ≡ true → Consumes (R.remaining input.old) (R.remaining input.new) greeting) }
+    ensures greeting { IfOk result (λ came. came ≡ true → Consumes (R.remaining input.old) (R.remaining input.new) greeting) }
+    ensures ended { IfOk result (λ came. came ≡ false → IsAtEnd (R.remaining input.old)) }
+    ensures cut_off { IsErrOf result CutOff → IsCutOff (R.remaining input.old) 8 }
+    ensures malformed { IsErrOf result Malformed → (bytes : List ℕ) × (length bytes ≡ 8) × (bytes ≡ greeting → ⊥) × Consumes (R.remaining input.old) (R.remaining input.new) bytes }
 {
     let mut bytes = [0u8; 8];
     if !fill(input, &mut bytes)? {
