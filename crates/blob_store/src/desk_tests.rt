@@ -1,7 +1,7 @@
 //! As many desks as may be out, a script that finds none, and a desk that is sent to a thread.
 
 use crate::play_tests::{LINES, rows_of};
-use crate::test_steps::{ABC, ONE, Step, TestStore};
+use crate::test_steps::TestStore;
 use crate::{Desk, DroppableDesk, Naming, Settled, play};
 use blob_digest::Refusal;
 use row_player::OpenGate;
@@ -54,11 +54,7 @@ impl<'s, S: Naming + Send + Sync, W: Abort + AllocGlobal + Threads + Wait + Sync
     /// Uploads `abc` with a desk that was sent here, and sends the desk back.
     fn uploads_there(&self, sent: DroppableDesk<S>) -> DroppableDesk<S> {
         let mut desk = sent.into_desk();
-        let upload = [
-            Step::Start(ONE, Ok(1)),
-            Step::Close(ONE, 1, ABC, "", "abc", Ok(3)),
-        ];
-        self.plays(&mut desk, &upload);
+        self.stores_abc(&mut desk);
         desk.into_droppable()
     }
 

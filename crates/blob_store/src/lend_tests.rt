@@ -52,26 +52,33 @@ impl<'s, S: Naming + Send + Sync, W: Abort + AllocGlobal + Threads + Wait + Sync
         None
     }
 
+    /// Lends `abc` as often as it can be, finds its word, and gives all leases back.
+    fn lends_all(&self, desk: &mut Desk<S>) {
+        let rt = self.rt;
+        let mut leases = Vec::new(rt.alloc());
+        let refused = self.lends_on(desk, &mut leases);
+        let count = leases.len();
+        self.plays(desk, &[Step::Word(0, 0x0000_0000_bfff_fc00)]);
+        give_all_back(leases);
+        assert!(rt; refused == Some(Refusal::TooManyReaders));
+        assert_eq!(rt; count, MOST);
+    }
+
+    /// Lends `abc` once, where no lease is out.
+    fn lends_again(&self, desk: &mut Desk<S>) {
+        self.plays(desk, &[Step::Word(0, 0x0000_0000_8000_0000)]);
+        let again = self.leases(desk, ABC);
+        self.plays(desk, &[Step::Word(0, 0x0000_0000_8000_0400)]);
+        again.give_back();
+    }
+
     /// A blob is lent as often as it can be, all leases are given back, and it is lent again.
     pub fn lends_the_most(&self) {
         let rt = self.rt;
         let mut desks = self.store.desks(rt, 1).expect(rt, "a desk");
-        let before = [
-            Step::Start(ONE, Ok(1)),
-            Step::Close(ONE, 1, ABC, "", "abc", Ok(3)),
-        ];
-        self.plays(&mut desks[0], &before);
-        let mut leases = Vec::new(rt.alloc());
-        let refused = self.lends_on(&mut desks[0], &mut leases);
-        let count = leases.len();
-        self.plays(&mut desks[0], &[Step::Word(0, 0x0000_0000_bfff_fc00)]);
-        give_all_back(leases);
-        assert!(rt; refused == Some(Refusal::TooManyReaders));
-        assert_eq!(rt; count, MOST);
-        self.plays(&mut desks[0], &[Step::Word(0, 0x0000_0000_8000_0000)]);
-        let again = self.leases(&mut desks[0], ABC);
-        self.plays(&mut desks[0], &[Step::Word(0, 0x0000_0000_8000_0400)]);
-        again.give_back();
+        self.stores_abc(&mut desks[0]);
+        self.lends_all(&mut desks[0]);
+        self.lends_again(&mut desks[0]);
         self.store.settle(rt, desks);
     }
 }

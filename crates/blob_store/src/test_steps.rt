@@ -331,6 +331,15 @@ impl<'s, S: Naming + Send + Sync, W: Abort + AllocGlobal + Threads + Wait + Sync
         }
     }
 
+    /// Uploads `abc` to `acme/one`, in session 1.
+    pub fn stores_abc(&self, desk: &mut Desk<S>) {
+        let upload = [
+            Step::Start(ONE, Ok(1)),
+            Step::Close(ONE, 1, ABC, "", "abc", Ok(3)),
+        ];
+        self.plays(desk, &upload);
+    }
+
     /// A lease of a blob that a repository holds.
     pub fn leases_from(&self, desk: &mut Desk<S>, repo: &str, of: &str) -> Lease<'s, S> {
         let of = digest(self.rt, of);

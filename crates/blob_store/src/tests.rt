@@ -3,8 +3,8 @@
 ghost use Rattle.std.specs.Prelude.{◌≡◌, ◌≤◌, length};
 ghost use Rattle.blob_store.specs.Parts.{names_of};
 
-use crate::test_steps::{ABC, OBJ, ONE, Step, TWO, TestStore, config};
-use crate::{Lease, Naming, Parts, Settled, Store, Totals};
+use crate::test_steps::{ABC, OBJ, ONE, Step, TWO, TestStore, config, digest};
+use crate::{Desk, Lease, Naming, Parts, Settled, Store, Totals};
 use blob_digest::Refusal;
 use std::alloc::AllocGlobal;
 use std::marker::Brand;
@@ -73,26 +73,35 @@ impl<'s, S: Naming + Send + Sync, W: Abort + AllocGlobal + Threads + Wait + Sync
         }
     }
 
+    /// The totals are these.
+    pub fn finds(&self, totals: Totals) {
+        assert_eq!(self.rt; self.store.totals(self.rt), totals);
+    }
+
+    /// Plays a table at each of two desks. What they settle.
+    fn plays_at_two(&self, first: &[Step], second: &[Step]) -> Settled {
+        let rt = self.rt;
+        let mut desks = self.store.desks(rt, 2).expect(rt, "desks");
+        self.plays(&mut desks[0], first);
+        self.plays(&mut desks[1], second);
+        self.store.settle(rt, desks)
+    }
+
     /// Two desks get their shares, and settle.
     fn two_desks(&self) {
-        let rt = self.rt;
         self.refuses_desks(0);
         self.refuses_desks(1025);
-        let mut desks = self.store.desks(rt, 2).expect(rt, "desks");
         let first = [
             Step::Start(ONE, Ok(1)),
             Step::Append(ONE, 1, "", "abc", Ok(3)),
             Step::Close(ONE, 1, ABC, "", "", Ok(3)),
         ];
-        self.plays(&mut desks[0], &first);
         let second = [
             Step::Start(ONE, Ok(2)),
             Step::Append(ONE, 2, "", "ab", Ok(2)),
             Step::Close(ONE, 2, OBJ, "", "", Err(Refusal::DigestInvalid)),
             Step::Abandon(ONE, 2, Ok(2)),
         ];
-        self.plays(&mut desks[1], &second);
-        let settled = self.store.settle(rt, desks);
         let sums = Settled {
             commands: 6,
             received: 5,
@@ -100,22 +109,30 @@ impl<'s, S: Naming + Send + Sync, W: Abort + AllocGlobal + Threads + Wait + Sync
             abandoned: 2,
             left: 0,
         };
-        assert_eq!(rt; settled, sums);
-        let totals = Totals {
+        assert_eq!(self.rt; self.plays_at_two(&first, &second), sums);
+        self.finds(Totals {
             commands: 6,
             received: 5,
             in_sessions: 0,
             closed: 3,
             abandoned: 2,
             desks: 0,
-        };
-        assert_eq!(rt; self.store.totals(rt), totals);
+        });
+    }
+
+    /// Plays a table at one desk, which has counted what it settles. What that is.
+    fn plays_alone(&self, steps: &[Step]) -> Settled {
+        let rt = self.rt;
+        let mut desks = self.store.desks(rt, 1).expect(rt, "a desk");
+        self.plays(&mut desks[0], steps);
+        let counted = counts(&desks[0]);
+        let settled = self.store.settle(rt, desks);
+        assert_eq!(rt; settled, counted);
+        settled
     }
 
     /// Each command that needs no lease.
     fn commands(&self) {
-        let rt = self.rt;
-        let mut desks = self.store.desks(rt, 1).expect(rt, "a desk");
         let steps = [
             Step::Start(ONE, Ok(1)),
             Step::Append(ONE, 1, "0-1", "ab", Ok(2)),
@@ -143,18 +160,18 @@ impl<'s, S: Naming + Send + Sync, W: Abort + AllocGlobal + Threads + Wait + Sync
                 "book\ntenant acme used 3 quota 1099511627776 next 2\nrepository acme/one\nrepository acme/two\nblob sha256:ba7816bf8f01cfea414140de5dae2223b00361a396177a9cb410ff61f20015ad size 3 links 1\nend\n",
             ),
         ];
-        self.plays(&mut desks[0], &steps);
-        assert_eq!(rt; desks[0].commands(), 11);
-        assert_eq!(rt; desks[0].received(), 3);
-        assert_eq!(rt; desks[0].closed(), 3);
-        assert_eq!(rt; desks[0].abandoned(), 0);
-        self.store.settle(rt, desks);
+        let sums = Settled {
+            commands: 11,
+            received: 3,
+            closed: 3,
+            abandoned: 0,
+            left: 0,
+        };
+        assert_eq!(self.rt; self.plays_alone(&steps), sums);
     }
 
     /// The slot of the last generation is retired, and takes no other blob.
     fn last_generation(&self) {
-        let rt = self.rt;
-        let mut desks = self.store.desks(rt, 1).expect(rt, "a desk");
         let steps = [
             Step::Start(ONE, Ok(1)),
             Step::Close(ONE, 1, ABC, "", "abc", Ok(3)),
@@ -167,51 +184,72 @@ impl<'s, S: Naming + Send + Sync, W: Abort + AllocGlobal + Threads + Wait + Sync
             Step::Sweep(0, 0, 0),
             Step::Word(0, 0xffff_ffff_4000_0000),
         ];
-        self.plays(&mut desks[0], &steps);
-        self.store.settle(rt, desks);
+        self.plays_alone(&steps);
     }
 
     /// Two threads meet at a session, and nothing else is in the totals.
     fn met(&self) {
-        let rt = self.rt;
         let counted = self.busy();
-        let totals = Totals {
+        self.finds(Totals {
             commands: counted.commands,
             received: counted.received,
             in_sessions: 0,
             closed: 0,
             abandoned: counted.abandoned,
             desks: 0,
-        };
-        assert_eq!(rt; self.store.totals(rt), totals);
+        });
+    }
+
+    /// Finds what a lease of `abc` in slot 0 tells.
+    fn tells(&self, lease: &Lease<'s, S>) {
+        let rt = self.rt;
+        assert_eq!(rt; lease.len(), 3);
+        assert!(rt; lease.digest() == digest(rt, ABC));
+        assert_eq!(rt; lease.slot(), 0);
+        assert_eq!(rt; lease.generation(), 0);
+    }
+
+    /// Reads a lease of `abc` from some byte on. What follows in the array is as it was.
+    fn reads_from(&self, lease: &Lease<'s, S>, start: u64, count: usize, wanted: &[u8; 6]) {
+        let mut out = *b"......";
+        assert_eq!(self.rt; lease.read_at(start, &mut out), count);
+        assert!(self.rt; out == *wanted);
     }
 
     /// Finds what a lease of `abc` in slot 0 tells, and reads it.
     fn reads(&self, lease: &Lease<'s, S>) {
+        self.tells(lease);
+        for (start, count, wanted) in [
+            (0, 3, b"abc..."),
+            (2, 1, b"c....."),
+            (3, 0, b"......"),
+            (u64::MAX, 0, b"......"),
+        ] {
+            self.reads_from(lease, start, count, wanted);
+        }
+    }
+
+    /// Finds that the book still has a lease's slot with its blob, reads the lease and gives it back.
+    fn verifies_and_reads(&self, lease: Lease<'s, S>) {
+        let lease = self.store.verify(self.rt, lease);
+        self.reads(&lease);
+        lease.give_back();
+    }
+
+    /// Stores and leases `abc` at one desk, and plays a table before the lease is given back, and another after.
+    fn plays_around_a_lease(&self, meanwhile: &[Step], after: &[Step]) {
         let rt = self.rt;
-        assert_eq!(rt; lease.len(), 3);
-        assert!(rt; lease.digest() == crate::test_steps::digest(rt, ABC));
-        assert_eq!(rt; lease.slot(), 0);
-        assert_eq!(rt; lease.generation(), 0);
-        let mut out = *b"......";
-        assert_eq!(rt; lease.read_at(0, &mut out), 3);
-        assert_eq!(rt; out.as_slice(), b"abc...".as_slice());
-        assert_eq!(rt; lease.read_at(2, &mut out[4..]), 1);
-        assert_eq!(rt; lease.read_at(3, &mut out), 0);
-        assert_eq!(rt; lease.read_at(u64::MAX, &mut out), 0);
-        assert_eq!(rt; out.as_slice(), b"abc.c.".as_slice());
+        let mut desks = self.store.desks(rt, 1).expect(rt, "a desk");
+        self.stores_abc(&mut desks[0]);
+        let lease = self.leases(&mut desks[0], ABC);
+        self.plays(&mut desks[0], meanwhile);
+        self.verifies_and_reads(lease);
+        self.plays(&mut desks[0], after);
+        self.store.settle(rt, desks);
     }
 
     /// A lease keeps the slot of a deleted blob until it is given back.
     fn leased(&self) {
-        let rt = self.rt;
-        let mut desks = self.store.desks(rt, 1).expect(rt, "a desk");
-        let before = [
-            Step::Start(ONE, Ok(1)),
-            Step::Close(ONE, 1, ABC, "", "abc", Ok(3)),
-        ];
-        self.plays(&mut desks[0], &before);
-        let lease = self.leases(&mut desks[0], ABC);
         let meanwhile = [
             Step::Word(0, 0x0000_0000_8000_0400),
             Step::Word(1, 0),
@@ -224,17 +262,12 @@ impl<'s, S: Naming + Send + Sync, W: Abort + AllocGlobal + Threads + Wait + Sync
             Step::Word(0, 0x0000_0000_c000_0400),
             Step::Word(1, 0x0000_0001_0000_0000),
         ];
-        self.plays(&mut desks[0], &meanwhile);
-        let lease = self.store.verify(rt, lease);
-        self.reads(&lease);
-        lease.give_back();
         let after = [
             Step::Word(0, 0x0000_0000_c000_0000),
             Step::Sweep(0, 1, 0),
             Step::Word(0, 0x0000_0001_0000_0000),
         ];
-        self.plays(&mut desks[0], &after);
-        self.store.settle(rt, desks);
+        self.plays_around_a_lease(&meanwhile, &after);
     }
 
     /// A lease of half the weight; the other half is given back.
@@ -251,21 +284,9 @@ impl<'s, S: Naming + Send + Sync, W: Abort + AllocGlobal + Threads + Wait + Sync
         }
     }
 
-    /// A lease is shared ten times, and no more.
-    fn shared(&self) {
+    /// A lease of weight 1 isn't shared; it is given back.
+    fn refuses_to_share(&self, lease: Lease<'s, S>) {
         let rt = self.rt;
-        let mut desks = self.store.desks(rt, 1).expect(rt, "a desk");
-        let before = [
-            Step::Start(ONE, Ok(1)),
-            Step::Close(ONE, 1, ABC, "", "abc", Ok(3)),
-        ];
-        self.plays(&mut desks[0], &before);
-        let mut lease = self.leases(&mut desks[0], ABC);
-        assert_eq!(rt; lease.weight(), 1024);
-        for _ in 0..10 {
-            lease = self.half(lease);
-        }
-        assert_eq!(rt; lease.weight(), 1);
         match lease.share() {
             Ok((left, right)) => {
                 left.give_back();
@@ -278,8 +299,39 @@ impl<'s, S: Naming + Send + Sync, W: Abort + AllocGlobal + Threads + Wait + Sync
                 lease.give_back();
             }
         }
+    }
+
+    /// Shares a lease ten times, and no more.
+    fn shares_ten_times(&self, lease: Lease<'s, S>) {
+        let mut lease = lease;
+        assert_eq!(self.rt; lease.weight(), 1024);
+        for _ in 0..10 {
+            lease = self.half(lease);
+        }
+        assert_eq!(self.rt; lease.weight(), 1);
+        self.refuses_to_share(lease);
+    }
+
+    /// A lease is shared ten times, and no more.
+    fn shared(&self) {
+        let rt = self.rt;
+        let mut desks = self.store.desks(rt, 1).expect(rt, "a desk");
+        self.stores_abc(&mut desks[0]);
+        let lease = self.leases(&mut desks[0], ABC);
+        self.shares_ten_times(lease);
         self.plays(&mut desks[0], &[Step::Word(0, 0x0000_0000_8000_0000)]);
         self.store.settle(rt, desks);
+    }
+}
+
+/// What a desk has counted, as the only one that is out settles it.
+fn counts<S: Naming>(desk: &Desk<S>) -> Settled {
+    Settled {
+        commands: desk.commands(),
+        received: desk.received(),
+        closed: desk.closed(),
+        abandoned: desk.abandoned(),
+        left: 0,
     }
 }
 

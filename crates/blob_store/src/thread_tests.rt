@@ -199,8 +199,7 @@ impl<'s, S: Naming + Send + Sync, W: Abort + AllocGlobal + Threads + Wait + Sync
     pub fn reading(&self) {
         let rt = self.rt;
         let mut desks = self.store.desks(rt, 1).expect(rt, "a desk");
-        assert_eq!(rt; self.start(&mut desks[0], ONE), Ok(1));
-        assert_eq!(rt; self.close(&mut desks[0], ONE, 1, ABC, "", b"abc"), Ok(3));
+        self.stores_abc(&mut desks[0]);
         let flags = Flags {
             leased: AtomicBool::new(false),
             writing: AtomicBool::new(false),

@@ -1,13 +1,12 @@
 //! Worked examples of the same bytes under the digests of both algorithms.
 
 use crate::Mount;
-use crate::test_steps::{ABC, ABC_512, Step, book, plays, small};
+use crate::test_steps::{ABC, ABC_512, Step, book, plays_on, small};
 use blob_digest::Refusal;
 
 #[test]
 fn the_same_bytes_under_two_digests_are_two_blobs(rt: HostRuntime) {
     let (one, two) = ("acme/one", "acme/two");
-    let mut book = book(&rt, &[("acme", 6)]);
     let script = [
         Step::Upload(one, ABC, "abc", Ok(3)),
         Step::Start(one, Ok(2)),
@@ -26,12 +25,11 @@ fn the_same_bytes_under_two_digests_are_two_blobs(rt: HostRuntime) {
             "book\ntenant acme used 3 quota 6 next 3\nrepository acme/one\nblob sha512:ddaf35a193617abacc417349ae20413112e6fa4e89a97ea20a9eeee64b55d39a2192992a274fc1a836ba3c23a3feebbd454d4423643ce80e2a9ac94fa54ca49f size 3 links 2\nrepository acme/two\nblob sha512:ddaf35a193617abacc417349ae20413112e6fa4e89a97ea20a9eeee64b55d39a2192992a274fc1a836ba3c23a3feebbd454d4423643ce80e2a9ac94fa54ca49f size 3 links 2\nend\n",
         ),
     ];
-    plays(&rt, &mut book, &script);
+    plays_on(&rt, book(&rt, &[("acme", 6)]), &script);
 }
 
 #[test]
 fn each_of_two_digests_is_charged(rt: HostRuntime) {
-    let mut book = book(&rt, &[("acme", 5)]);
     let script = [
         Step::Upload("acme/one", ABC, "abc", Ok(3)),
         Step::Upload(
@@ -41,29 +39,27 @@ fn each_of_two_digests_is_charged(rt: HostRuntime) {
             Err(Refusal::Quota { used: 3, quota: 5 }),
         ),
     ];
-    plays(&rt, &mut book, &script);
+    plays_on(&rt, book(&rt, &[("acme", 5)]), &script);
 }
 
 #[test]
 fn each_of_two_digests_takes_a_slot(rt: HostRuntime) {
-    let mut book = small(&rt, 1, 1048576, 1000);
     let script = [
         Step::Upload("acme/one", ABC, "abc", Ok(3)),
         Step::Upload("acme/one", ABC_512, "abc", Err(Refusal::StoreFull)),
         Step::Upload("acme/one", ABC, "abc", Ok(3)),
     ];
-    plays(&rt, &mut book, &script);
+    plays_on(&rt, small(&rt, 1, 1048576, 1000), &script);
 }
 
 #[test]
 fn other_bytes_are_refused_by_either(rt: HostRuntime) {
     let one = "acme/one";
-    let mut book = book(&rt, &[("acme", 1000)]);
     let script = [
         Step::Start(one, Ok(1)),
         Step::Append(one, 1, "", "ab", Ok(2)),
         Step::Close(one, 1, ABC_512, "", "", Err(Refusal::DigestInvalid)),
         Step::Close(one, 1, ABC, "", "c", Ok(3)),
     ];
-    plays(&rt, &mut book, &script);
+    plays_on(&rt, book(&rt, &[("acme", 1000)]), &script);
 }

@@ -5,7 +5,7 @@ ghost use Rattle.std.specs.Prelude.{◌≡◌};
 use crate::Mount;
 use crate::test_steps::{
     ABC, ABC_512, OBJ, Step, Store, book, digest, digest_of, fill, name, opened_at, play, plays,
-    small,
+    plays_on, small,
 };
 use blob_digest::{Blob, Refusal};
 use pin_table::Pin;
@@ -88,46 +88,61 @@ fn held(rt: &(impl Abort + AllocGlobal)) -> (Store, Lease)
     (store, lease)
 }
 
-#[test]
-fn a_leased_blob_is_read_after_its_delete_and_a_sweep(rt: HostRuntime) {
-    let (mut store, lease) = held(&rt);
+/// The same store, after the lease was read and given back.
+fn read_and_given_back(rt: &(impl Abort + AllocGlobal)) -> Store {
+    let (store, lease) = held(rt);
     assert_eq!(rt; lease.blob.bytes(), b"abc".as_slice());
     give_back(&store, lease);
+    store
+}
+
+#[test]
+fn a_leased_blob_is_read_after_its_delete_and_a_sweep(rt: HostRuntime) {
     let script = [
         Step::Word(0x0000_0000_c000_0000),
         Step::Sweep(0, 1, 0, 0),
         Step::Word(0x0000_0001_0000_0000),
         Step::Sweep(0, 0, 0, 0),
     ];
-    plays(&rt, &mut store, &script);
+    plays_on(&rt, read_and_given_back(&rt), &script);
+}
+
+/// Plays some steps under the lease, finds that the book has its slot in its first generation again, gives it
+/// back and plays the others.
+fn plays_under_the_lease(rt: &(impl Abort + AllocGlobal), meanwhile: &[Step], after: &[Step]) {
+    let (mut store, lease) = held(rt);
+    plays(rt, &mut store, meanwhile);
+    let lease = verifies(&mut store, lease);
+    assert_eq!(rt; lease.pin.slot(), 0);
+    assert_eq!(rt; lease.pin.generation(), 0);
+    play(rt, &mut store, &Step::Sweep(0, 0, 0, 0));
+    give_back(&store, lease);
+    plays(rt, &mut store, after);
 }
 
 #[test]
 fn a_condemned_blob_is_live_again_when_it_is_uploaded(rt: HostRuntime) {
-    let (mut store, lease) = held(&rt);
-    let script = [
+    let meanwhile = [
         Step::Upload("acme/one", ABC, "abc", Ok(3)),
         Step::Word(0x0000_0000_8000_0400),
         Step::Prints(
             "book\ntenant acme used 3 quota 1000 next 3\nrepository acme/one\nblob sha256:ba7816bf8f01cfea414140de5dae2223b00361a396177a9cb410ff61f20015ad size 3 links 1\nend\n",
         ),
     ];
-    plays(&rt, &mut store, &script);
-    let lease = verifies(&mut store, lease);
-    assert_eq!(rt; lease.pin.slot(), 0);
-    assert_eq!(rt; lease.pin.generation(), 0);
-    play(&rt, &mut store, &Step::Sweep(0, 0, 0, 0));
-    give_back(&store, lease);
-    let script = [
+    let after = [
         Step::Delete("acme/one", ABC, Ok(())),
         Step::Sweep(1, 1, 0, 0),
     ];
-    plays(&rt, &mut store, &script);
+    plays_under_the_lease(&rt, &meanwhile, &after);
+}
+
+/// A store of one slot, in the last generation.
+fn last_generation(rt: &(impl Abort + AllocGlobal)) -> Store {
+    opened_at(rt, 1, 1048576, &[("acme", 1000)], 4294967295).expect(rt, "a book")
 }
 
 #[test]
 fn a_slot_of_the_last_generation_is_retired(rt: HostRuntime) {
-    let mut store = opened_at(&rt, 1, 1048576, &[("acme", 1000)], 4294967295).expect(&rt, "a book");
     let script = [
         Step::Upload("acme/one", ABC, "abc", Ok(3)),
         Step::Delete("acme/one", ABC, Ok(())),
@@ -135,13 +150,12 @@ fn a_slot_of_the_last_generation_is_retired(rt: HostRuntime) {
         Step::Word(0xffff_ffff_4000_0000),
         Step::Upload("acme/one", OBJ, "{}", Err(Refusal::StoreFull)),
     ];
-    plays(&rt, &mut store, &script);
+    plays_on(&rt, last_generation(&rt), &script);
 }
 
 #[test]
 fn a_full_store_takes_a_blob_after_a_sweep(rt: HostRuntime) {
     let one = "acme/one";
-    let mut store = small(&rt, 1, 1048576, 1000);
     let script = [
         Step::Upload(one, ABC, "abc", Ok(3)),
         Step::Start(one, Ok(2)),
@@ -153,19 +167,24 @@ fn a_full_store_takes_a_blob_after_a_sweep(rt: HostRuntime) {
         Step::Sweep(1, 1, 0, 0),
         Step::Close(one, 2, OBJ, "", "", Ok(2)),
     ];
-    plays(&rt, &mut store, &script);
+    plays_on(&rt, small(&rt, 1, 1048576, 1000), &script);
+}
+
+/// Three repositories of a tenant, of which the first and the third hold ABC.
+fn shared(rt: &(impl Abort + AllocGlobal)) -> Store {
+    let mut store = small(rt, 64, 1048576, 1000);
+    let script = [
+        Step::Upload("acme/one", ABC, "abc", Ok(3)),
+        Step::Start("acme/two", Ok(2)),
+        Step::Mount("acme/three", ABC, "acme/one", Ok(Mount::Mounted)),
+    ];
+    plays(rt, &mut store, &script);
+    store
 }
 
 #[test]
 fn a_repository_lends_what_it_holds(rt: HostRuntime) {
-    let mut store = small(&rt, 64, 1048576, 1000);
-    let mounted = Ok(Mount::Mounted);
-    let script = [
-        Step::Upload("acme/one", ABC, "abc", Ok(3)),
-        Step::Start("acme/two", Ok(2)),
-        Step::Mount("acme/three", ABC, "acme/one", mounted),
-    ];
-    plays(&rt, &mut store, &script);
+    let mut store = shared(&rt);
     for (repo, of, refusal) in [
         ("nobody/x", ABC, Some(Refusal::NameUnknown)),
         ("acme/two", ABC, Some(Refusal::BlobUnknown)),
@@ -187,14 +206,20 @@ fn lends_its_own(rt: &(impl Abort + AllocGlobal), store: &mut Store, of: &str)
     give_back(store, lease);
 }
 
-#[test]
-fn each_of_two_digests_is_lent_as_its_own_blob(rt: HostRuntime) {
-    let mut store = book(&rt, &[("acme", 6)]);
+/// ABC under two digests.
+fn stored_twice(rt: &(impl Abort + AllocGlobal)) -> Store {
+    let mut store = book(rt, &[("acme", 6)]);
     let script = [
         Step::Upload("acme/one", ABC, "abc", Ok(3)),
         Step::Upload("acme/one", ABC_512, "abc", Ok(3)),
     ];
-    plays(&rt, &mut store, &script);
+    plays(rt, &mut store, &script);
+    store
+}
+
+#[test]
+fn each_of_two_digests_is_lent_as_its_own_blob(rt: HostRuntime) {
+    let mut store = stored_twice(&rt);
     for of in [ABC, ABC_512] {
         lends_its_own(&rt, &mut store, of);
     }
@@ -231,16 +256,21 @@ fn sweep_beside_leases(rt: &(impl Abort + AllocGlobal), store: &mut Store, count
     give_back(store, lease);
 }
 
+/// A store of a thousand slots that were filled, swept beside leases, and filled again.
+fn filled_again(rt: &(impl Abort + AllocGlobal)) -> Store {
+    let mut store = small(rt, 1000, 1048576, 1000000);
+    fill(rt, &mut store, 0, 1000);
+    sweep_beside_leases(rt, &mut store, 250);
+    play(rt, &mut store, &Step::Sweep(0, 250, 0, 0));
+    fill(rt, &mut store, 1750, 2000);
+    store
+}
+
 #[test]
 fn a_thousand_slots_are_filled_again(rt: HostRuntime) {
-    let mut store = small(&rt, 1000, 1048576, 1000000);
-    fill(&rt, &mut store, 0, 1000);
-    sweep_beside_leases(&rt, &mut store, 250);
-    plays(&rt, &mut store, &[Step::Sweep(0, 250, 0, 0)]);
-    fill(&rt, &mut store, 1750, 2000);
-    let after = [
+    let script = [
         Step::Sweep(0, 0, 0, 0),
         Step::Says("tenant acme used 4000 quota 1000000 next 2002\n"),
     ];
-    plays(&rt, &mut store, &after);
+    plays_on(&rt, filled_again(&rt), &script);
 }

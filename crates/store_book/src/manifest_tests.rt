@@ -1,7 +1,9 @@
 //! Worked examples of manifests: what they protect, which are refused and in which order, and the
 //! limits. Each digest is as `sha256sum` or `sha512sum` gives it.
 
-use crate::test_steps::{ABC, ABC_512, OBJ, Step, Store, book, digest, plays, put_manifest};
+use crate::test_steps::{
+    ABC, ABC_512, OBJ, Step, Store, book, digest, plays, plays_on, put_manifest,
+};
 use blob_digest::Refusal;
 use std::alloc::AllocGlobal;
 use std::process::Abort;
@@ -56,39 +58,23 @@ const BOTH_ALGORITHMS: &str =
 const BOTH_ALGORITHMS_DIGEST: &str =
     "sha256:d36febd103092c5fd55d2239c528b0527c576ad78cfd2747ca13e72c7cee0231";
 
-/// The refusal of a manifest that refers to a blob which isn't linked.
-fn unlinked(rt: &(impl Abort + AllocGlobal), of: &str) -> Refusal {
-    Refusal::ManifestBlobUnknown {
-        digest: digest(rt, of),
-    }
-}
-
-/// The refusal of a delete of a blob that a manifest refers to.
-fn referenced(rt: &(impl Abort + AllocGlobal), by: &str) -> Refusal {
-    Refusal::Referenced {
-        manifest: digest(rt, by),
-    }
-}
-
 #[test]
 fn a_manifest_protects_its_blobs(rt: HostRuntime) {
-    let mut book = book(&rt, &[("acme", 1000)]);
-    let kept = digest(&rt, IMAGE_DIGEST);
     let script = [
-        Step::PutManifest(ONE, IMAGE, Err(unlinked(&rt, OBJ))),
+        Step::PutUnlinked(ONE, IMAGE, OBJ),
         Step::Prints("book\ntenant acme used 0 quota 1000 next 1\nend\n"),
         Step::Upload(ONE, OBJ, "{}", Ok(2)),
-        Step::PutManifest(ONE, IMAGE, Err(unlinked(&rt, ABC))),
+        Step::PutUnlinked(ONE, IMAGE, ABC),
         Step::Upload(ONE, ABC, "abc", Ok(3)),
-        Step::PutManifest(ONE, IMAGE, Ok(kept)),
+        Step::PutManifest(ONE, IMAGE, Ok(IMAGE_DIGEST)),
         Step::GetManifest(ONE, IMAGE_DIGEST, Ok(IMAGE)),
-        Step::Delete(ONE, ABC, Err(referenced(&rt, IMAGE_DIGEST))),
-        Step::Delete(ONE, OBJ, Err(referenced(&rt, IMAGE_DIGEST))),
+        Step::DeleteReferenced(ONE, ABC, IMAGE_DIGEST),
+        Step::DeleteReferenced(ONE, OBJ, IMAGE_DIGEST),
         Step::Prints(
             "book\ntenant acme used 5 quota 1000 next 3\nrepository acme/one\nblob sha256:44136fa355b3678a1146ad16f7e8649e94fb4fc21fe77e8310c060f61caaff8a size 2 links 1\nblob sha256:ba7816bf8f01cfea414140de5dae2223b00361a396177a9cb410ff61f20015ad size 3 links 1\nmanifest sha256:31d37e4647733e8ec132c6d7afaddee93324351c0d53665cbf2efcd4eae2921f size 294 refs 2\nend\n",
         ),
-        Step::PutManifest(ONE, IMAGE, Ok(kept)),
-        Step::PutManifest("acme/new", IMAGE, Err(unlinked(&rt, OBJ))),
+        Step::PutManifest(ONE, IMAGE, Ok(IMAGE_DIGEST)),
+        Step::PutUnlinked("acme/new", IMAGE, OBJ),
         Step::DeleteManifest(ONE, IMAGE_DIGEST, Ok(())),
         Step::DeleteManifest(ONE, IMAGE_DIGEST, Err(Refusal::ManifestUnknown)),
         Step::GetManifest(ONE, IMAGE_DIGEST, Err(Refusal::ManifestUnknown)),
@@ -97,22 +83,21 @@ fn a_manifest_protects_its_blobs(rt: HostRuntime) {
             "book\ntenant acme used 2 quota 1000 next 3\nrepository acme/one\nblob sha256:44136fa355b3678a1146ad16f7e8649e94fb4fc21fe77e8310c060f61caaff8a size 2 links 1\nend\n",
         ),
     ];
-    plays(&rt, &mut book, &script);
+    plays_on(&rt, book(&rt, &[("acme", 1000)]), &script);
 }
 
 #[test]
 fn what_a_manifest_may_have_besides(rt: HostRuntime) {
-    let mut book = book(&rt, &[("acme", 1000)]);
     let script = [
-        Step::PutManifest(ONE, INDEX, Ok(digest(&rt, INDEX_DIGEST))),
+        Step::PutManifest(ONE, INDEX, Ok(INDEX_DIGEST)),
         Step::GetManifest(ONE, INDEX_DIGEST, Ok(INDEX)),
         Step::Prints(
             "book\ntenant acme used 0 quota 1000 next 1\nrepository acme/one\nmanifest sha256:bc5857ac9458293d5111ab85c952172cd7f56bceb4e3014ddc4cafac8927b313 size 34 refs 0\nend\n",
         ),
         Step::Upload(ONE, OBJ, "{}", Ok(2)),
         Step::Upload(ONE, ABC, "abc", Ok(3)),
-        Step::PutManifest(ONE, WITH_URLS, Ok(digest(&rt, WITH_URLS_DIGEST))),
-        Step::PutManifest(ONE, WITH_SUBJECT, Ok(digest(&rt, WITH_SUBJECT_DIGEST))),
+        Step::PutManifest(ONE, WITH_URLS, Ok(WITH_URLS_DIGEST)),
+        Step::PutManifest(ONE, WITH_SUBJECT, Ok(WITH_SUBJECT_DIGEST)),
         Step::Says(
             "manifest sha256:047be38b699d8367127043586bfb8eb1b977e31bca484b91f4f84ad980d0ffed size 322 refs 2\nmanifest sha256:3dc50746475ae0c716d8971b6e0555a903aa1318c3139cc889f5d97bc2809395 size 309 refs 2\n",
         ),
@@ -123,54 +108,51 @@ fn what_a_manifest_may_have_besides(rt: HostRuntime) {
         ),
         Step::PutManifest(ONE, r#"{"schemaVersion":2"#, Err(Refusal::ManifestInvalid)),
     ];
-    plays(&rt, &mut book, &script);
+    plays_on(&rt, book(&rt, &[("acme", 1000)]), &script);
 }
 
 #[test]
 fn the_lesser_of_two_manifests_is_named(rt: HostRuntime) {
-    let mut book = book(&rt, &[("acme", 1000), ("other", 1000)]);
     let script = [
         Step::Upload(ONE, OBJ, "{}", Ok(2)),
         Step::Upload(ONE, ABC, "abc", Ok(3)),
         Step::Upload("acme/two", ABC, "abc", Ok(3)),
         Step::Upload("other/one", ABC, "abc", Ok(3)),
-        Step::PutManifest(ONE, IMAGE, Ok(digest(&rt, IMAGE_DIGEST))),
-        Step::PutManifest(ONE, ONE_LAYER, Ok(digest(&rt, ONE_LAYER_DIGEST))),
+        Step::PutManifest(ONE, IMAGE, Ok(IMAGE_DIGEST)),
+        Step::PutManifest(ONE, ONE_LAYER, Ok(ONE_LAYER_DIGEST)),
         Step::Delete("acme/two", ABC, Ok(())),
         Step::Delete("other/one", ABC, Ok(())),
         Step::GetManifest("acme/two", IMAGE_DIGEST, Err(Refusal::ManifestUnknown)),
         Step::DeleteManifest("acme/two", IMAGE_DIGEST, Err(Refusal::ManifestUnknown)),
-        Step::Delete(ONE, ABC, Err(referenced(&rt, ONE_LAYER_DIGEST))),
+        Step::DeleteReferenced(ONE, ABC, ONE_LAYER_DIGEST),
         Step::DeleteManifest(ONE, ONE_LAYER_DIGEST, Ok(())),
-        Step::Delete(ONE, ABC, Err(referenced(&rt, IMAGE_DIGEST))),
+        Step::DeleteReferenced(ONE, ABC, IMAGE_DIGEST),
         Step::DeleteManifest(ONE, IMAGE_DIGEST, Ok(())),
         Step::Delete(ONE, ABC, Ok(())),
         Step::Delete(ONE, ABC, Err(Refusal::BlobUnknown)),
     ];
-    plays(&rt, &mut book, &script);
+    plays_on(&rt, book(&rt, &[("acme", 1000), ("other", 1000)]), &script);
 }
 
 #[test]
 fn a_manifest_refers_to_blobs_by_either_algorithm(rt: HostRuntime) {
-    let mut book = book(&rt, &[("acme", 1000)]);
-    let kept = digest(&rt, BOTH_ALGORITHMS_DIGEST);
     let script = [
         Step::Upload(ONE, OBJ, "{}", Ok(2)),
-        Step::PutManifest(ONE, BOTH_ALGORITHMS, Err(unlinked(&rt, ABC_512))),
+        Step::PutUnlinked(ONE, BOTH_ALGORITHMS, ABC_512),
         Step::Upload(ONE, ABC, "abc", Ok(3)),
-        Step::PutManifest(ONE, BOTH_ALGORITHMS, Err(unlinked(&rt, ABC_512))),
+        Step::PutUnlinked(ONE, BOTH_ALGORITHMS, ABC_512),
         Step::Upload(ONE, ABC_512, "abc", Ok(3)),
-        Step::PutManifest(ONE, BOTH_ALGORITHMS, Ok(kept)),
+        Step::PutManifest(ONE, BOTH_ALGORITHMS, Ok(BOTH_ALGORITHMS_DIGEST)),
         Step::Says(
             "manifest sha256:d36febd103092c5fd55d2239c528b0527c576ad78cfd2747ca13e72c7cee0231 size 273 refs 2\n",
         ),
-        Step::Delete(ONE, ABC_512, Err(referenced(&rt, BOTH_ALGORITHMS_DIGEST))),
-        Step::PutManifest(ONE, IMAGE, Ok(digest(&rt, IMAGE_DIGEST))),
+        Step::DeleteReferenced(ONE, ABC_512, BOTH_ALGORITHMS_DIGEST),
+        Step::PutManifest(ONE, IMAGE, Ok(IMAGE_DIGEST)),
         Step::GetManifest(ONE, IMAGE_DIGEST_512, Err(Refusal::ManifestUnknown)),
         Step::DeleteManifest(ONE, IMAGE_DIGEST_512, Err(Refusal::ManifestUnknown)),
         Step::GetManifest(ONE, IMAGE_DIGEST, Ok(IMAGE)),
     ];
-    plays(&rt, &mut book, &script);
+    plays_on(&rt, book(&rt, &[("acme", 1000)]), &script);
 }
 
 /// A text with so many spaces behind it that it has this length.
@@ -191,10 +173,9 @@ fn a_manifest_past_4_mib_is_refused(rt: HostRuntime) {
     assert!(rt; refused == Err(Refusal::SizeInvalid));
     let nothing = "book\ntenant acme used 0 quota 1000 next 1\nend\n";
     plays(&rt, &mut book, &[Step::Prints(nothing)]);
-    let script = [
-        Step::PutManifest(ONE, fits.as_str(), Ok(digest(&rt, PADDED_DIGEST))),
-        Step::GetManifest(ONE, PADDED_DIGEST, Ok(fits.as_str())),
-    ];
+    let kept = put_manifest(&rt, &mut book, ONE, fits.as_str());
+    assert!(rt; kept == Ok(digest(&rt, PADDED_DIGEST)));
+    let script = [Step::GetManifest(ONE, PADDED_DIGEST, Ok(fits.as_str()))];
     plays(&rt, &mut book, &script);
 }
 
@@ -227,7 +208,13 @@ fn a_repository_has_at_most_1024_manifests(rt: HostRuntime) {
         (ONE, first.as_str(), Ok(digest(&rt, first_digest))),
         ("acme/two", next.as_str(), Ok(digest(&rt, next_digest))),
         (ONE, "{}", Err(Refusal::ManifestInvalid)),
-        (ONE, IMAGE, Err(unlinked(&rt, OBJ))),
+        (
+            ONE,
+            IMAGE,
+            Err(Refusal::ManifestBlobUnknown {
+                digest: digest(&rt, OBJ),
+            }),
+        ),
     ] {
         let found = put_manifest(&rt, &mut book, repo, bytes);
         assert!(rt; found == wanted);
@@ -270,18 +257,23 @@ fn a_put_is_refused_for_the_first_of_two_cases(rt: HostRuntime) {
         (new, no_manifest.as_str(), Refusal::SizeInvalid),
         (new, image.as_str(), Refusal::SizeInvalid),
         (new, "{}", Refusal::ManifestInvalid),
-        (new, IMAGE, unlinked(&rt, OBJ)),
+        (
+            new,
+            IMAGE,
+            Refusal::ManifestBlobUnknown {
+                digest: digest(&rt, OBJ),
+            },
+        ),
         (new, INDEX, Refusal::LimitReached),
     ] {
         let found = put_manifest(&rt, &mut book, repo, bytes);
         assert!(rt; found == Err(first));
     }
-    let put = digest(&rt, INDEX_DIGEST);
     let script = [
         Step::GetManifest("nobody/x", INDEX_DIGEST, Err(Refusal::NameUnknown)),
         Step::DeleteManifest("nobody/x", INDEX_DIGEST, Err(Refusal::NameUnknown)),
-        Step::PutManifest("acme/r0", INDEX, Ok(put)),
-        Step::PutManifest("other/new", INDEX, Ok(put)),
+        Step::PutManifest("acme/r0", INDEX, Ok(INDEX_DIGEST)),
+        Step::PutManifest("other/new", INDEX, Ok(INDEX_DIGEST)),
     ];
     plays(&rt, &mut book, &script);
 }

@@ -2,7 +2,7 @@
 
 use crate::Mount;
 use crate::test_steps::{
-    ABC, OBJ, Step, Store, book, digest_of, fill, mount, play, plays, says, small,
+    ABC, OBJ, Step, Store, book, fill, mount, play, plays, plays_on, says, small,
 };
 use blob_digest::Refusal;
 use std::alloc::AllocGlobal;
@@ -12,7 +12,6 @@ const OVER: Refusal = Refusal::Quota { used: 3, quota: 3 };
 
 #[test]
 fn a_mount_links_what_the_tenant_holds(rt: HostRuntime) {
-    let mut book = book(&rt, &[("acme", 1000), ("other", 1000)]);
     let script = [
         Step::Upload("acme/one", ABC, "abc", Ok(3)),
         Step::Mount("acme/two", ABC, "acme/one", Ok(Mount::Mounted)),
@@ -20,12 +19,11 @@ fn a_mount_links_what_the_tenant_holds(rt: HostRuntime) {
             "book\ntenant acme used 3 quota 1000 next 2\nrepository acme/one\nblob sha256:ba7816bf8f01cfea414140de5dae2223b00361a396177a9cb410ff61f20015ad size 3 links 2\nrepository acme/two\nblob sha256:ba7816bf8f01cfea414140de5dae2223b00361a396177a9cb410ff61f20015ad size 3 links 2\ntenant other used 0 quota 1000 next 1\nend\n",
         ),
     ];
-    plays(&rt, &mut book, &script);
+    plays_on(&rt, book(&rt, &[("acme", 1000), ("other", 1000)]), &script);
 }
 
 #[test]
 fn a_mount_from_another_tenant_opens_a_session(rt: HostRuntime) {
-    let mut book = book(&rt, &[("acme", 1000), ("other", 1000)]);
     let script = [
         Step::Upload("acme/one", ABC, "abc", Ok(3)),
         Step::Mount("other/x", ABC, "acme/one", Ok(Mount::Session(1))),
@@ -33,12 +31,11 @@ fn a_mount_from_another_tenant_opens_a_session(rt: HostRuntime) {
             "book\ntenant acme used 3 quota 1000 next 2\nrepository acme/one\nblob sha256:ba7816bf8f01cfea414140de5dae2223b00361a396177a9cb410ff61f20015ad size 3 links 1\ntenant other used 0 quota 1000 next 2\nrepository other/x\nsession 1 received 0\nend\n",
         ),
     ];
-    plays(&rt, &mut book, &script);
+    plays_on(&rt, book(&rt, &[("acme", 1000), ("other", 1000)]), &script);
 }
 
 #[test]
 fn a_mount_without_a_source_links_what_the_tenant_holds(rt: HostRuntime) {
-    let mut book = book(&rt, &[("acme", 1000), ("other", 1000)]);
     let script = [
         Step::Upload("acme/one", ABC, "abc", Ok(3)),
         Step::Mount("acme/two", ABC, "", Ok(Mount::Mounted)),
@@ -54,13 +51,12 @@ fn a_mount_without_a_source_links_what_the_tenant_holds(rt: HostRuntime) {
         Step::Delete("acme/two", ABC, Ok(())),
         Step::Mount("acme/one", ABC, "", Ok(Mount::Session(4))),
     ];
-    plays(&rt, &mut book, &script);
+    plays_on(&rt, book(&rt, &[("acme", 1000), ("other", 1000)]), &script);
 }
 
 #[test]
 fn a_use_falls_with_the_last_link(rt: HostRuntime) {
     let (one, two) = ("acme/one", "acme/two");
-    let mut book = book(&rt, &[("acme", 3)]);
     let script = [
         Step::Upload(one, ABC, "abc", Ok(3)),
         Step::Mount(two, ABC, one, Ok(Mount::Mounted)),
@@ -74,7 +70,7 @@ fn a_use_falls_with_the_last_link(rt: HostRuntime) {
             "book\ntenant acme used 1 quota 3 next 3\nrepository acme/one\nsession 2 received 1\nrepository acme/two\nend\n",
         ),
     ];
-    plays(&rt, &mut book, &script);
+    plays_on(&rt, book(&rt, &[("acme", 3)]), &script);
 }
 
 /// Finds the uses of two tenants and the links to ABC.
@@ -86,6 +82,17 @@ fn counts(rt: &(impl Abort + AllocGlobal), store: &Store, acme: u64, other: u64,
     assert!(rt; says(rt, store, acme.as_str()));
     assert!(rt; says(rt, store, other.as_str()));
     assert!(rt; says(rt, store, links.as_str()));
+}
+
+/// A step, and then the uses of two tenants and the links to ABC.
+type Counted<'a> = (Step<'a>, u64, u64, u64);
+
+/// Plays steps, and counts after each.
+fn counts_on(rt: &(impl Abort + AllocGlobal), mut store: Store, rows: &[Counted]) {
+    for (step, acme, other, links) in rows {
+        play(rt, &mut store, step);
+        counts(rt, &store, *acme, *other, *links);
+    }
 }
 
 fn uploaded(repo: &str) -> Step<'_> {
@@ -110,7 +117,6 @@ fn nothing_deleted(repo: &str) -> Step<'_> {
 
 #[test]
 fn counts_and_uses_follow_two_tenants(rt: HostRuntime) {
-    let mut book = book(&rt, &[("acme", 1000), ("other", 1000)]);
     let script = [
         (uploaded("acme/one"), 3, 0, 1),
         (mounted("acme/one", "acme/one"), 3, 0, 1),
@@ -130,27 +136,22 @@ fn counts_and_uses_follow_two_tenants(rt: HostRuntime) {
         (deleted("other/x"), 3, 0, 1),
         (mounted("acme/three", "acme/two"), 3, 0, 2),
     ];
-    for (step, acme, other, links) in &script {
-        play(&rt, &mut book, step);
-        counts(&rt, &book, *acme, *other, *links);
-    }
+    counts_on(&rt, book(&rt, &[("acme", 1000), ("other", 1000)]), &script);
 }
 
 #[test]
 fn an_unknown_tenant_has_no_mounts(rt: HostRuntime) {
-    let mut book = book(&rt, &[("acme", 1000)]);
     let script = [
         Step::Mount("nobody/x", ABC, "acme/one", Err(Refusal::NameUnknown)),
         Step::Mount("nobody/x", ABC, "", Err(Refusal::NameUnknown)),
         Step::Delete("nobody/x", ABC, Err(Refusal::NameUnknown)),
     ];
-    plays(&rt, &mut book, &script);
+    plays_on(&rt, book(&rt, &[("acme", 1000)]), &script);
 }
 
 #[test]
 fn a_blob_without_links_keeps_its_slot(rt: HostRuntime) {
     let one = "acme/one";
-    let mut book = small(&rt, 1, 1048576, 1000);
     let script = [
         Step::Upload(one, ABC, "abc", Ok(3)),
         Step::Start(one, Ok(2)),
@@ -159,7 +160,7 @@ fn a_blob_without_links_keeps_its_slot(rt: HostRuntime) {
         Step::Close(one, 2, OBJ, "", "{}", Err(Refusal::StoreFull)),
         Step::Upload(one, ABC, "abc", Ok(3)),
     ];
-    plays(&rt, &mut book, &script);
+    plays_on(&rt, small(&rt, 1, 1048576, 1000), &script);
 }
 
 /// A store of 1,000 slots with a blob of 4 bytes in each.
@@ -169,20 +170,20 @@ fn filled(rt: &(impl Abort + AllocGlobal)) -> Store {
     book
 }
 
+/// The digest of the number 7 in four bytes.
+const SEVEN: &str = "sha256:1561ade0621c5acf44b780521f95a1e0b19b4e5032945b860c4032fc28a3a23b";
+
 #[test]
 fn a_thousand_slots_take_a_thousand_blobs(rt: HostRuntime) {
     let one = "acme/one";
-    let mut book = filled(&rt);
-    let bytes = 7u32.to_be_bytes();
-    let of = digest_of(&rt, &bytes);
     let script = [
         Step::Upload(one, ABC, "abc", Err(Refusal::StoreFull)),
-        Step::Delete(one, of.as_str(), Ok(())),
+        Step::Delete(one, SEVEN, Ok(())),
         Step::Upload(one, ABC, "abc", Err(Refusal::StoreFull)),
-        Step::Upload(one, of.as_str(), "\0\0\0\x07", Ok(4)),
+        Step::Upload(one, SEVEN, "\0\0\0\x07", Ok(4)),
         Step::Says("tenant acme used 4000 quota 1000000 next 1004\n"),
     ];
-    plays(&rt, &mut book, &script);
+    plays_on(&rt, filled(&rt), &script);
 }
 
 /// A tenant with 1,024 repositories, of which all but `acme/last` hold ABC.
@@ -200,21 +201,35 @@ fn crowded(rt: &(impl Abort + AllocGlobal)) -> Store {
 
 #[test]
 fn a_tenant_has_1024_repositories(rt: HostRuntime) {
-    let mut book = crowded(&rt);
     let new = "acme/new";
     let script = [
-        Step::Start(new, Err(Refusal::LimitReached)),
-        Step::Mount(new, ABC, "acme/one", Err(Refusal::LimitReached)),
-        Step::Mount(new, ABC, "", Err(Refusal::LimitReached)),
-        Step::Mount(new, ABC, "acme/last", Err(Refusal::LimitReached)),
-        Step::Mount(new, ABC, "acme/none", Err(Refusal::LimitReached)),
+        (Step::Start(new, Err(Refusal::LimitReached)), 3, 0, 1023),
+        (
+            Step::Mount(new, ABC, "acme/one", Err(Refusal::LimitReached)),
+            3,
+            0,
+            1023,
+        ),
+        (
+            Step::Mount(new, ABC, "", Err(Refusal::LimitReached)),
+            3,
+            0,
+            1023,
+        ),
+        (
+            Step::Mount(new, ABC, "acme/last", Err(Refusal::LimitReached)),
+            3,
+            0,
+            1023,
+        ),
+        (
+            Step::Mount(new, ABC, "acme/none", Err(Refusal::LimitReached)),
+            3,
+            0,
+            1023,
+        ),
+        (mounted("acme/last", "acme/one"), 3, 0, 1024),
+        (instead("other/new", "acme/one", 1), 3, 0, 1024),
     ];
-    plays(&rt, &mut book, &script);
-    counts(&rt, &book, 3, 0, 1023);
-    let script = [
-        mounted("acme/last", "acme/one"),
-        instead("other/new", "acme/one", 1),
-    ];
-    plays(&rt, &mut book, &script);
-    counts(&rt, &book, 3, 0, 1024);
+    counts_on(&rt, crowded(&rt), &script);
 }

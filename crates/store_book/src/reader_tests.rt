@@ -112,26 +112,32 @@ fn lends_again(rt: &(impl Abort + AllocGlobal), shelf: &mut Shelf<'_>) {
     reader.leave();
 }
 
+/// Lends the most leases three times, between which some come back, and again when all have come back.
+fn lends_over_and_over<'s>(rt: &(impl Abort + AllocGlobal), shelf: &mut Shelf<'s>) {
+    let mut readers = Vec::new(rt.alloc());
+    for count in [1, 2, MOST] {
+        lends_to_the_most(rt, shelf, &mut readers);
+        give_back(&mut readers, count);
+    }
+    lends_again(rt, shelf);
+    end(readers);
+}
+
+/// A store of one slot, whose `acme/one` holds `abc`.
+fn stored(rt: &(impl Abort + AllocGlobal)) -> Store {
+    let mut store = small(rt, 1, 1048576, 1000);
+    play(rt, &mut store, &Step::Upload("acme/one", ABC, "abc", Ok(3)));
+    store
+}
+
 #[test]
 fn the_most_leases_come_back_and_are_lent_again(rt: HostRuntime) {
-    let mut store = small(&rt, 1, 1048576, 1000);
-    play(
-        &rt,
-        &mut store,
-        &Step::Upload("acme/one", ABC, "abc", Ok(3)),
-    );
-    let Store { book, pins } = store;
+    let Store { book, pins } = stored(&rt);
     let mut shelf = Shelf {
         pins: &pins,
         book,
         repo: name(&rt, "acme/one"),
         of: digest(&rt, ABC),
     };
-    let mut readers = Vec::new(rt.alloc());
-    for count in [1, 2, MOST] {
-        lends_to_the_most(&rt, &mut shelf, &mut readers);
-        give_back(&mut readers, count);
-    }
-    lends_again(&rt, &mut shelf);
-    end(readers);
+    lends_over_and_over(&rt, &mut shelf);
 }

@@ -1,6 +1,6 @@
 //! Which refusal comes where two cases meet in one call, and that none changes the book.
 
-use crate::test_steps::{ABC, EMPTY, OBJ, Step, Store, plays, small};
+use crate::test_steps::{ABC, EMPTY, OBJ, Step, Store, plays, plays_on, small};
 use blob_digest::Refusal;
 use std::alloc::AllocGlobal;
 use std::process::Abort;
@@ -28,19 +28,29 @@ const OVER: Refusal = Refusal::Quota { used: 2, quota: 3 };
 
 #[test]
 fn a_tenant_comes_before_a_session(rt: HostRuntime) {
-    let mut book = crowded(&rt);
     let script = [
         Step::Status("nobody/x", 9, Err(Refusal::NameUnknown)),
         Step::Abandon("nobody/x", 9, Err(Refusal::NameUnknown)),
         Step::Prints(CROWDED),
     ];
-    plays(&rt, &mut book, &script);
+    plays_on(&rt, crowded(&rt), &script);
+}
+
+/// A repository, a session, a range, bytes, and why they aren't appended.
+type Append = (&'static str, u32, &'static str, &'static str, Refusal);
+
+/// Finds why none of these is appended, and that the book stays as it was.
+fn appends_none(rt: &(impl Abort + AllocGlobal), rows: &[Append]) {
+    let mut book = crowded(rt);
+    for (repo, number, places, bytes, first) in rows {
+        let step = Step::Append(repo, *number, places, bytes, Err(*first));
+        plays(rt, &mut book, &[step, Step::Prints(CROWDED)]);
+    }
 }
 
 #[test]
 fn an_append_is_refused_for_the_first_of_two_cases(rt: HostRuntime) {
-    let mut book = crowded(&rt);
-    for (repo, number, places, bytes, first) in [
+    let rows = [
         ("nobody/x", 9, "", "c", Refusal::NameUnknown),
         ("nobody/x", 2, "2-4", "c", Refusal::NameUnknown),
         ("acme/two", 2, "2-4", "c", Refusal::UploadUnknown),
@@ -52,16 +62,32 @@ fn an_append_is_refused_for_the_first_of_two_cases(rt: HostRuntime) {
         ("acme/one", 2, "3-5", "cde", Refusal::SizeInvalid),
         ("acme/one", 2, "3-4", "cd", LATE),
         ("acme/one", 2, "2-3", "cd", OVER),
-    ] {
-        let step = Step::Append(repo, number, places, bytes, Err(first));
-        plays(&rt, &mut book, &[step, Step::Prints(CROWDED)]);
+    ];
+    appends_none(&rt, &rows);
+}
+
+/// A repository, a session, a digest, a range, bytes, and why the session isn't closed with them.
+type Close = (
+    &'static str,
+    u32,
+    &'static str,
+    &'static str,
+    &'static str,
+    Refusal,
+);
+
+/// Finds why none of these closes a session, and that the book stays as it was.
+fn closes_none(rt: &(impl Abort + AllocGlobal), rows: &[Close]) {
+    let mut book = crowded(rt);
+    for (repo, number, of, places, bytes, first) in rows {
+        let step = Step::Close(repo, *number, of, places, bytes, Err(*first));
+        plays(rt, &mut book, &[step, Step::Prints(CROWDED)]);
     }
 }
 
 #[test]
 fn a_close_is_refused_for_the_first_of_two_cases(rt: HostRuntime) {
-    let mut book = crowded(&rt);
-    for (repo, number, of, places, bytes, first) in [
+    let rows = [
         ("nobody/x", 9, OBJ, "", "c", Refusal::NameUnknown),
         ("nobody/x", 2, OBJ, "2-4", "c", Refusal::NameUnknown),
         ("acme/two", 2, OBJ, "2-4", "c", Refusal::UploadUnknown),
@@ -77,8 +103,6 @@ fn a_close_is_refused_for_the_first_of_two_cases(rt: HostRuntime) {
         ("acme/one", 2, OBJ, "2-3", "cd", OVER),
         ("acme/one", 2, OBJ, "", "c", Refusal::DigestInvalid),
         ("acme/one", 2, ABC, "", "c", Refusal::StoreFull),
-    ] {
-        let step = Step::Close(repo, number, of, places, bytes, Err(first));
-        plays(&rt, &mut book, &[step, Step::Prints(CROWDED)]);
-    }
+    ];
+    closes_none(&rt, &rows);
 }

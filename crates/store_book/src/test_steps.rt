@@ -108,8 +108,12 @@ pub enum Step<'a> {
     Upload(&'a str, &'a str, &'a str, Result<u64, Refusal>),
     Mount(&'a str, &'a str, &'a str, Result<Mount, Refusal>),
     Delete(&'a str, &'a str, Result<(), Refusal>),
-    /// A put of these bytes.
-    PutManifest(&'a str, &'a str, Result<Digest, Refusal>),
+    /// A delete that is refused, since this manifest refers to the blob.
+    DeleteReferenced(&'a str, &'a str, &'a str),
+    /// A put of these bytes, which are kept under this digest.
+    PutManifest(&'a str, &'a str, Result<&'a str, Refusal>),
+    /// A put of these bytes that is refused, since this blob isn't linked.
+    PutUnlinked(&'a str, &'a str, &'a str),
     /// A get, and the bytes that it answers.
     GetManifest(&'a str, &'a str, Result<&'a str, Refusal>),
     DeleteManifest(&'a str, &'a str, Result<(), Refusal>),
@@ -297,6 +301,31 @@ fn delete_manifest(
     store.book.delete_manifest(&name(rt, repo), &digest(rt, of))
 }
 
+/// The refusal of a manifest that refers to a blob which isn't linked.
+fn unlinked(rt: &(impl Abort + AllocGlobal), of: &str) -> Refusal {
+    Refusal::ManifestBlobUnknown {
+        digest: digest(rt, of),
+    }
+}
+
+/// The refusal of a delete of a blob that a manifest refers to.
+fn referenced(rt: &(impl Abort + AllocGlobal), by: &str) -> Refusal {
+    Refusal::Referenced {
+        manifest: digest(rt, by),
+    }
+}
+
+/// What a put answers, whose digest a text names.
+fn kept(
+    rt: &(impl Abort + AllocGlobal),
+    wanted: &Result<&str, Refusal>,
+) -> Result<Digest, Refusal> {
+    match wanted {
+        Ok(of) => Ok(digest(rt, of)),
+        Err(refusal) => Err(*refusal),
+    }
+}
+
 /// Whether the text of a book has some text in it.
 pub fn says(rt: &(impl Abort + AllocGlobal), store: &Store, text: &str) -> bool {
     printed(rt, store).as_str().contains(text)
@@ -342,8 +371,18 @@ fn goes(rt: &(impl Abort + AllocGlobal), store: &mut Store, step: &Step) -> Resu
         }
         Step::Mount(repo, of, from, wanted) => is(rt, &mount(rt, store, repo, of, from), wanted),
         Step::Delete(repo, of, wanted) => is(rt, &delete(rt, store, repo, of), wanted),
+        Step::DeleteReferenced(repo, of, by) => {
+            is(rt, &delete(rt, store, repo, of), &Err(referenced(rt, by)))
+        }
         Step::PutManifest(repo, bytes, wanted) => {
-            is(rt, &put_manifest(rt, store, repo, bytes), wanted)
+            is(rt, &put_manifest(rt, store, repo, bytes), &kept(rt, wanted))
+        }
+        Step::PutUnlinked(repo, bytes, of) => {
+            is(
+                rt,
+                &put_manifest(rt, store, repo, bytes),
+                &Err(unlinked(rt, of)),
+            )
         }
         Step::GetManifest(repo, of, wanted) => match get_manifest(rt, store, repo, of) {
             Ok(text) => is(rt, &Ok(text.as_str()), wanted),
@@ -392,4 +431,9 @@ pub fn plays(rt: &(impl Abort + AllocGlobal), store: &mut Store, steps: &[Step])
             panic!(rt; "step {number}: {told}");
         }
     }
+}
+
+/// Plays a table in a store.
+pub fn plays_on(rt: &(impl Abort + AllocGlobal), mut store: Store, steps: &[Step]) {
+    plays(rt, &mut store, steps);
 }

@@ -1,7 +1,9 @@
 //! Worked examples, by values that stand outside the program.
 
-use crate::test_steps::{ABC, EMPTY, OBJ, Step, book, opened, plays, small};
+use crate::test_steps::{ABC, EMPTY, OBJ, Step, Store, book, opened, play, plays_on, small};
 use blob_digest::Refusal;
+use std::alloc::AllocGlobal;
+use std::process::Abort;
 
 const LATE: Refusal = Refusal::RangeInvalid { received: 2 };
 
@@ -9,10 +11,13 @@ const OVER: Refusal = Refusal::Quota { used: 2, quota: 2 };
 
 #[test]
 fn a_new_book_has_its_tenants_in_the_order_of_their_names(rt: HostRuntime) {
-    let mut book = book(&rt, &[("zeta", 5), ("acme", 1000)]);
     let text =
         "book\ntenant acme used 0 quota 1000 next 1\ntenant zeta used 0 quota 5 next 1\nend\n";
-    plays(&rt, &mut book, &[Step::Prints(text)]);
+    plays_on(
+        &rt,
+        book(&rt, &[("zeta", 5), ("acme", 1000)]),
+        &[Step::Prints(text)],
+    );
 }
 
 #[test]
@@ -44,7 +49,6 @@ fn a_book_that_cannot_be_opened_is_refused(rt: HostRuntime) {
 #[test]
 fn an_upload_in_two_chunks_is_kept(rt: HostRuntime) {
     let one = "acme/one";
-    let mut book = book(&rt, &[("acme", 1000)]);
     let script = [
         Step::Start(one, Ok(1)),
         Step::Append(one, 1, "0-0", "a", Ok(1)),
@@ -57,13 +61,12 @@ fn an_upload_in_two_chunks_is_kept(rt: HostRuntime) {
             "book\ntenant acme used 3 quota 1000 next 2\nrepository acme/one\nblob sha256:ba7816bf8f01cfea414140de5dae2223b00361a396177a9cb410ff61f20015ad size 3 links 1\nend\n",
         ),
     ];
-    plays(&rt, &mut book, &script);
+    plays_on(&rt, book(&rt, &[("acme", 1000)]), &script);
 }
 
 #[test]
 fn an_empty_blob_is_kept(rt: HostRuntime) {
     let one = "acme/one";
-    let mut book = book(&rt, &[("acme", 1000)]);
     let script = [
         Step::Start(one, Ok(1)),
         Step::Close(one, 1, EMPTY, "", "", Ok(0)),
@@ -71,13 +74,12 @@ fn an_empty_blob_is_kept(rt: HostRuntime) {
             "book\ntenant acme used 0 quota 1000 next 2\nrepository acme/one\nblob sha256:e3b0c44298fc1c149afbf4c8996fb92427ae41e4649b934ca495991b7852b855 size 0 links 1\nend\n",
         ),
     ];
-    plays(&rt, &mut book, &script);
+    plays_on(&rt, book(&rt, &[("acme", 1000)]), &script);
 }
 
 #[test]
 fn a_chunk_comes_where_the_last_one_ended(rt: HostRuntime) {
     let one = "acme/one";
-    let mut book = book(&rt, &[("acme", 1000)]);
     let script = [
         Step::Start(one, Ok(1)),
         Step::Append(one, 1, "0-1", "ab", Ok(2)),
@@ -86,25 +88,23 @@ fn a_chunk_comes_where_the_last_one_ended(rt: HostRuntime) {
         Step::Append(one, 1, "", "", Ok(2)),
         Step::Append(one, 1, "2-2", "c", Ok(3)),
     ];
-    plays(&rt, &mut book, &script);
+    plays_on(&rt, book(&rt, &[("acme", 1000)]), &script);
 }
 
 #[test]
 fn a_blob_past_the_limit_is_refused(rt: HostRuntime) {
     let one = "acme/one";
-    let mut book = small(&rt, 64, 2, 1000);
     let script = [
         Step::Start(one, Ok(1)),
         Step::Append(one, 1, "", "ab", Ok(2)),
         Step::Append(one, 1, "2-2", "c", Err(Refusal::SizeInvalid)),
     ];
-    plays(&rt, &mut book, &script);
+    plays_on(&rt, small(&rt, 64, 2, 1000), &script);
 }
 
 #[test]
 fn a_refused_close_leaves_the_session_as_it_was(rt: HostRuntime) {
     let one = "acme/one";
-    let mut book = book(&rt, &[("acme", 1000)]);
     let script = [
         Step::Start(one, Ok(1)),
         Step::Append(one, 1, "", "ab", Ok(2)),
@@ -114,13 +114,12 @@ fn a_refused_close_leaves_the_session_as_it_was(rt: HostRuntime) {
         Step::Close(one, 1, ABC, "2-2", "c", Ok(3)),
         Step::Close(one, 1, ABC, "2-2", "c", Err(Refusal::UploadUnknown)),
     ];
-    plays(&rt, &mut book, &script);
+    plays_on(&rt, book(&rt, &[("acme", 1000)]), &script);
 }
 
 #[test]
 fn a_use_past_the_quota_is_refused(rt: HostRuntime) {
     let one = "acme/one";
-    let mut book = book(&rt, &[("acme", 2)]);
     let script = [
         Step::Start(one, Ok(1)),
         Step::Append(one, 1, "", "ab", Ok(2)),
@@ -130,30 +129,32 @@ fn a_use_past_the_quota_is_refused(rt: HostRuntime) {
             "book\ntenant acme used 2 quota 2 next 2\nrepository acme/one\nsession 1 received 2\nend\n",
         ),
     ];
-    plays(&rt, &mut book, &script);
+    plays_on(&rt, book(&rt, &[("acme", 2)]), &script);
 }
 
 #[test]
 fn a_blob_that_is_kept_is_counted_once(rt: HostRuntime) {
     let (one, two) = ("acme/one", "acme/two");
-    let mut book = book(&rt, &[("acme", 6)]);
-    for (repo, number) in [(one, 1), (one, 2), (two, 3)] {
-        let script = [
-            Step::Start(repo, Ok(number)),
-            Step::Append(repo, number, "", "abc", Ok(3)),
-            Step::Close(repo, number, ABC, "", "", Ok(3)),
-        ];
-        plays(&rt, &mut book, &script);
-    }
-    let text =
-        "book\ntenant acme used 3 quota 6 next 4\nrepository acme/one\nblob sha256:ba7816bf8f01cfea414140de5dae2223b00361a396177a9cb410ff61f20015ad size 3 links 2\nrepository acme/two\nblob sha256:ba7816bf8f01cfea414140de5dae2223b00361a396177a9cb410ff61f20015ad size 3 links 2\nend\n";
-    plays(&rt, &mut book, &[Step::Prints(text)]);
+    let script = [
+        Step::Start(one, Ok(1)),
+        Step::Append(one, 1, "", "abc", Ok(3)),
+        Step::Close(one, 1, ABC, "", "", Ok(3)),
+        Step::Start(one, Ok(2)),
+        Step::Append(one, 2, "", "abc", Ok(3)),
+        Step::Close(one, 2, ABC, "", "", Ok(3)),
+        Step::Start(two, Ok(3)),
+        Step::Append(two, 3, "", "abc", Ok(3)),
+        Step::Close(two, 3, ABC, "", "", Ok(3)),
+        Step::Prints(
+            "book\ntenant acme used 3 quota 6 next 4\nrepository acme/one\nblob sha256:ba7816bf8f01cfea414140de5dae2223b00361a396177a9cb410ff61f20015ad size 3 links 2\nrepository acme/two\nblob sha256:ba7816bf8f01cfea414140de5dae2223b00361a396177a9cb410ff61f20015ad size 3 links 2\nend\n",
+        ),
+    ];
+    plays_on(&rt, book(&rt, &[("acme", 6)]), &script);
 }
 
 #[test]
 fn a_store_without_a_free_slot_keeps_the_session(rt: HostRuntime) {
     let one = "acme/one";
-    let mut book = small(&rt, 1, 1048576, 1000);
     let script = [
         Step::Start(one, Ok(1)),
         Step::Close(one, 1, ABC, "", "abc", Ok(3)),
@@ -162,31 +163,34 @@ fn a_store_without_a_free_slot_keeps_the_session(rt: HostRuntime) {
         Step::Close(one, 2, OBJ, "", "", Err(Refusal::StoreFull)),
         Step::Append(one, 2, "", "", Ok(2)),
     ];
-    plays(&rt, &mut book, &script);
+    plays_on(&rt, small(&rt, 1, 1048576, 1000), &script);
+}
+
+/// A book whose tenant `acme` has 64 sessions, all of `acme/one`.
+fn with_64_sessions(rt: &(impl Abort + AllocGlobal)) -> Store {
+    let mut book = book(rt, &[("acme", 1000), ("other", 0)]);
+    for number in 1..65u32 {
+        play(rt, &mut book, &Step::Start("acme/one", Ok(number)));
+    }
+    book
 }
 
 #[test]
 fn a_repository_without_a_session_is_not_left_behind(rt: HostRuntime) {
     let (one, two) = ("acme/one", "acme/two");
-    let mut book = book(&rt, &[("acme", 1000), ("other", 0)]);
-    let nobody = Step::Start("nobody/x", Err(Refusal::NameUnknown));
-    plays(&rt, &mut book, &[nobody]);
-    for number in 1..65u32 {
-        plays(&rt, &mut book, &[Step::Start(one, Ok(number))]);
-    }
     let script = [
+        Step::Start("nobody/x", Err(Refusal::NameUnknown)),
         Step::Start(two, Err(Refusal::LimitReached)),
         Step::Abandon(one, 1, Ok(0)),
         Step::Start(two, Ok(65)),
         Step::Append(two, 2, "", "a", Err(Refusal::UploadUnknown)),
     ];
-    plays(&rt, &mut book, &script);
+    plays_on(&rt, with_64_sessions(&rt), &script);
 }
 
 #[test]
 fn a_session_is_asked_for_and_given_up(rt: HostRuntime) {
     let (one, two) = ("acme/one", "acme/two");
-    let mut book = book(&rt, &[("acme", 3)]);
     let script = [
         Step::Start(one, Ok(1)),
         Step::Status(one, 1, Ok(0)),
@@ -199,5 +203,5 @@ fn a_session_is_asked_for_and_given_up(rt: HostRuntime) {
         Step::Start(one, Ok(2)),
         Step::Append(one, 2, "", "abc", Ok(3)),
     ];
-    plays(&rt, &mut book, &script);
+    plays_on(&rt, book(&rt, &[("acme", 3)]), &script);
 }
