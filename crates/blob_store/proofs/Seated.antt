@@ -11,7 +11,7 @@ use Rattle.store_model.specs.Histories.{Step, Took, PutBack}
 use Rattle.locked_book.specs.History.{Adds, Cancels, DeskView, Trace, filled}
 use Rattle.row_player.specs.Answers.{Answer, Refused}
 use Rattle.row_player.specs.Commands.{Calls, Command, Request}
-use Rattle.blob_store.specs.Seats.{AmountActs, AreRequestSteps, AreUploadSteps, SeatActs, told}
+use Rattle.blob_store.specs.Seats.{AmountActs, AreRequestSteps, AreUploadSteps, SeatActs, as_answer}
 
 -- two steps, one after the other
 two_own : (C : Catalog) (old mid new : Trace) (d e : Step) → Adds C old d mid → Adds C mid e new → new.own ≡ old.own ++ d ∷ e ∷ []
@@ -22,9 +22,9 @@ pub uploaded : (C : Catalog) (old new : Trace) (repo : Text) (number : ℕ) (ran
     → ((e : Refusal) × (result ≡ Err e) × Adds C old (Took repo number range (length bytes) (Err e)) new)
     ⊎ ((hand : Taken) × (mid : Trace) × Adds C old (Took repo number range (length bytes) (Ok hand)) mid × Adds C mid (last (filled hand bytes) result) new)
     ⊎ ((result ≡ Err Memory) × Cancels C old repo number range bytes new)
-    → (new.number ≡ old.number) × ((steps : List Step) × AreUploadSteps repo number range bytes last f (told f result) steps × (new.own ≡ old.own ++ steps))
+    → (new.number ≡ old.number) × ((steps : List Step) × AreUploadSteps repo number range bytes last f (as_answer f result) steps × (new.own ≡ old.own ++ steps))
 uploaded C old new repo number range bytes last f result (inl x) =
-    (x.2.number, (Took repo number range (length bytes) (Err x.0) ∷ [], inl (x.0, refl, ap (told f) x.1), x.2.own))
+    (x.2.number, (Took repo number range (length bytes) (Err x.0) ∷ [], inl (x.0, refl, ap (as_answer f) x.1), x.2.own))
 uploaded C old new repo number range bytes last f result (inr (inl x)) =
     let d = Took repo number range (length bytes) (Ok x.0) in
     let e = last (filled x.0 bytes) result in
@@ -32,7 +32,7 @@ uploaded C old new repo number range bytes last f result (inr (inl x)) =
 uploaded C old new repo number range bytes last f result (inr (inr x)) =
     let d = Took repo number range (length bytes) (Ok x.1.hand) in
     let e = PutBack x.1.hand x.1.back in
-    (x.1.put_back.number ∙ x.1.take.number, (d ∷ e ∷ [], inr (inr (x.1.hand, x.1.back, refl, ap (told f) x.0)), two_own C old x.1.mid new d e x.1.take x.1.put_back))
+    (x.1.put_back.number ∙ x.1.take.number, (d ∷ e ∷ [], inr (inr (x.1.hand, x.1.back, refl, ap (as_answer f) x.0)), two_own C old x.1.mid new d e x.1.take x.1.put_back))
 
 -- an upload's amounts with its steps
 pub both : (old new : DeskView) (request : Request) (answer : Answer) (steps : (new.trace.number ≡ old.trace.number) × ((steps : List Step) × AreRequestSteps request answer steps × (new.trace.own ≡ old.trace.own ++ steps))) → AmountActs old.amounts request answer new.amounts → SeatActs old request answer new

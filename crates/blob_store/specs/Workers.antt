@@ -1,7 +1,8 @@
 -- What workers answer.
 use Rattle.std.specs.Prelude.{◌≡◌, ◌≤◌, ◌<◌, ℕ, ◌+◌, List, [], length, get_or}
 use Rattle.store_model.specs.Amounts.{nothing}
-use Rattle.locked_book.specs.History.{DeskView}
+use Rattle.store_model.specs.Catalog.{Catalog}
+use Rattle.locked_book.specs.History.{DeskView, IsPart}
 use Rattle.blob_store.specs.Seats.{Work, WorkActs, work_of}
 use Rattle.locked_book.specs.declared.desk.Settled.{Settled}
 use Rattle.row_player.specs.Answers.{Answer}
@@ -25,10 +26,19 @@ no_work = record { amounts = nothing; steps = [] }
 abbrev pub IsPlayed : ℕ → ℕ → List RowView → Work → List Answer → Type 0
 IsPlayed workers worker rows work answers = (left : Leases) × Plays WorkActs (no_work, none) (own_rows workers worker rows) answers (work, left)
 
--- the workers, from the first on, have this work and these answers
-pub record ArePlayed (workers : ℕ) (rows : List RowView) (works : List Work) (lists : List (List Answer)) : Type 0 where
-  pub as_many : length works ≡ length lists
-  pub each : AllAt (λ w answers. IsPlayed workers w rows (get_or works w no_work) answers) lists
+-- The same of a worker's desk. Its steps are part of a legal history of the store, which has under the desk's number just these.
+pub record HasPlayed (C : Catalog) (workers worker : ℕ) (rows : List RowView) (desk : DeskView) (answers : List Answer) : Type 0 where
+  pub played : IsPlayed workers worker rows (work_of desk) answers
+  pub part : IsPart C desk.trace
+
+-- a desk that got nothing, made no step and saw none
+abbrev pub no_desk : DeskView
+no_desk = record { amounts = nothing; trace = record { number = 0; seen = []; own = [] } }
+
+-- the workers, from the first on, have these desks and these answers
+pub record ArePlayed (C : Catalog) (workers : ℕ) (rows : List RowView) (desks : List DeskView) (lists : List (List Answer)) : Type 0 where
+  pub as_many : length desks ≡ length lists
+  pub each : AllAt (λ w answers. HasPlayed C workers w rows (get_or desks w no_desk) answers) lists
 
 -- What workers settle is what the answers to the rows say: the accepted commands, the bytes of their chunks, and the sizes of what was
 -- closed. What was abandoned has no number in an answer; it is nothing where no row gave a session up.

@@ -1,9 +1,8 @@
 //! A script played by workers.
 ghost use Rattle.std.specs.Prelude.{ℕ, ◌≡◌, ◌⊎◌, ◌+◌, ◌<◌, ◌≤◌, [], IfOk, IfErr, true, length, map, vec_len, vec_capacity};
 ghost use Rattle.blob_digest.specs.declared.refusal.Refusal.TheVariants.{LimitReached, Memory};
-ghost use Rattle.locked_book.specs.History.{AreFresh};
-ghost use Rattle.blob_store.specs.Seats.{Work, work_of};
-ghost use Rattle.blob_store.specs.Workers.{AllAt, ArePlayed, AreSettled, IsPlayed, IsReady, IsWorkerAt};
+ghost use Rattle.locked_book.specs.History.{AreFresh, DeskView};
+ghost use Rattle.blob_store.specs.Workers.{AllAt, ArePlayed, AreSettled, HasPlayed, IsReady, IsWorkerAt};
 ghost use Rattle.row_player.specs.Answers.{answers_of};
 ghost use Rattle.row_player.specs.RowViews.{row_view};
 ghost use Rattle.row_player.specs.Shares.{own_answers, own_rows};
@@ -85,11 +84,11 @@ fn collect<S: Naming>(
     desks: &mut Vec<Desk<S>>,
     lists: &mut Vec<Vec<Reply>>,
 ) -> bool
-    requires each { AllAt (λ k o. (w : ℕ) → w + k + 1 ≡ vec_len outcomes → o.completed ≡ true → IsPlayed workers w (map row_view rows.now) (work_of o.desk) (answers_of o.replies.items)) outcomes.items }
+    requires each { AllAt (λ k o. (w : ℕ) → w + k + 1 ≡ vec_len outcomes → o.completed ≡ true → HasPlayed S.names.opening workers w (map row_view rows.now) o.desk (answers_of o.replies.items)) outcomes.items }
     requires room { (vec_len desks.old ≡ 0) × (vec_len outcomes ≤ vec_capacity desks.old) × (vec_len lists.old ≡ 0) × (vec_len outcomes ≤ vec_capacity lists.old) }
     ensures len { (vec_len desks.new ≡ vec_len outcomes) × (vec_len lists.new ≡ vec_len outcomes) }
     ensures capacity { vec_capacity desks.new ≡ vec_capacity desks.old }
-    ensures played { result ≡ true → ArePlayed workers (map row_view rows.now) (map work_of desks.new.items) (map (λ v. answers_of v.items) lists.new.items) }
+    ensures played { result ≡ true → ArePlayed S.names.opening workers (map row_view rows.now) desks.new.items (map (λ v. answers_of v.items) lists.new.items) }
 {
     let mut completed = true;
     while let Some(outcome) = outcomes.pop() {
@@ -134,7 +133,7 @@ pub fn play<W: Threads + Wait + Sync, G: Gate + Send + Sync, S: Naming + Send + 
 ) -> Result<Played, Refusal>
     requires { (0 < workers) × (workers ≤ MAX_WORKERS) }
     ensures replies { IfOk result (λ p. length p.replies.items ≡ length rows.now) }
-    ensures each { IfOk result (λ p. (w : ℕ) → w < workers → (work : Work) × IsPlayed workers w (map row_view rows.now) work (own_answers workers w (map row_view rows.now) (answers_of p.replies.items))) }
+    ensures each { IfOk result (λ p. (w : ℕ) → w < workers → (desk : DeskView) × HasPlayed S.names.opening workers w (map row_view rows.now) desk (own_answers workers w (map row_view rows.now) (answers_of p.replies.items))) }
     ensures settled { IfOk result (λ p. AreSettled (map row_view rows.now) (answers_of p.replies.items) p.settled) }
     ensures refused { IfErr result (λ e. (e ≡ LimitReached) ⊎ (e ≡ Memory)) }
 {

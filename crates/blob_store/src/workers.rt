@@ -1,7 +1,6 @@
 //! Workers that play the rows of a script on one store, each in a thread of its own.
 ghost use Rattle.std.specs.Prelude.{ℕ, ◌≡◌, ◌+◌, ◌<◌, ◌≤◌, true, map, vec_len, vec_capacity};
-ghost use Rattle.blob_store.specs.Seats.{work_of};
-ghost use Rattle.blob_store.specs.Workers.{AllAt, IsPlayed, IsReady, IsWorkerAt};
+ghost use Rattle.blob_store.specs.Workers.{AllAt, HasPlayed, IsReady, IsWorkerAt};
 ghost use Rattle.row_player.specs.Answers.{answers_of};
 ghost use Rattle.row_player.specs.RowViews.{row_view};
 
@@ -39,7 +38,8 @@ pub struct WorkersDone<S: Naming> {
     pub unstarted: Vec<DroppableDesk<S>>,
 }
 
-/// What a worker promises: if it played all of its rows, then with its replies, and its desk got what they come to.
+/// What a worker promises: if it played all of its rows, then with its replies, its desk got what they come to, and its
+/// steps are theirs.
 #[derive(Clone, Copy)]
 pub struct PlaysRows<'r> {
     rows: &'r [Row],
@@ -47,7 +47,7 @@ pub struct PlaysRows<'r> {
 }
 
 impl<'r, S: Naming> Promise<Outcome<S>> for PlaysRows<'r> {
-    ghost kept_by = { λ p o. o.completed ≡ true → IsPlayed p.worker.workers p.worker.number (map row_view p.rows.now) (work_of o.desk) (answers_of o.replies.items) };
+    ghost kept_by = { λ p o. o.completed ≡ true → HasPlayed S.names.opening p.worker.workers p.worker.number (map row_view p.rows.now) o.desk (answers_of o.replies.items) };
 }
 
 /// Plays a worker's rows on the store, and gives back the leases that its lanes still hold. It plays
@@ -62,7 +62,7 @@ fn work<W: Wait, G: Gate, S: Naming>(
     job: Job<S>,
 ) -> Outcome<S>
     requires ready { IsReady job.worker.workers job.worker.number (map row_view rows.now) job.desk job.replies.items (vec_capacity job.replies) }
-    ensures { result.completed ≡ true → IsPlayed job.worker.workers job.worker.number (map row_view rows.now) (work_of result.desk) (answers_of result.replies.items) }
+    ensures { result.completed ≡ true → HasPlayed S.names.opening job.worker.workers job.worker.number (map row_view rows.now) result.desk (answers_of result.replies.items) }
 {
     let Job {
         desk,
@@ -88,11 +88,14 @@ fn work<W: Wait, G: Gate, S: Naming>(
         desk,
     } = seat;
     match played {
-        Ok(replies) => Outcome {
-            desk: desk.into_droppable(),
-            replies,
-            completed: true,
-        },
+        Ok(replies) => {
+            desk.audit();
+            Outcome {
+                desk: desk.into_droppable(),
+                replies,
+                completed: true,
+            }
+        }
         Err(_) => Outcome {
             desk: desk.into_droppable(),
             replies: Vec::new(alloc),
@@ -126,10 +129,10 @@ fn join_all<'r, W: Threads, S: Naming>(
     mut outcomes: Vec<Outcome<S>>,
 ) -> Vec<Outcome<S>>
     requires children { AllAt (λ w h. (h.promise.rows.now ≡ rows.now) × (h.promise.worker.workers ≡ workers) × (h.promise.worker.number ≡ w + 1)) children.items }
-    requires first { first.completed ≡ true → IsPlayed workers 0 (map row_view rows.now) (work_of first.desk) (answers_of first.replies.items) }
+    requires first { first.completed ≡ true → HasPlayed S.names.opening workers 0 (map row_view rows.now) first.desk (answers_of first.replies.items) }
     requires room { (vec_len outcomes ≡ 0) × (vec_len children < vec_capacity outcomes) }
     ensures len { vec_len result ≡ vec_len children.entry + 1 }
-    ensures each { AllAt (λ k o. (w : ℕ) → w + k + 1 ≡ vec_len result → o.completed ≡ true → IsPlayed workers w (map row_view rows.now) (work_of o.desk) (answers_of o.replies.items)) result.items }
+    ensures each { AllAt (λ k o. (w : ℕ) → w + k + 1 ≡ vec_len result → o.completed ≡ true → HasPlayed S.names.opening workers w (map row_view rows.now) o.desk (answers_of o.replies.items)) result.items }
 {
     while let Some(child) = children.pop() {
         outcomes.push_reserved(child.join(rt));
@@ -154,7 +157,7 @@ pub fn play_all<W: Threads + Wait + Sync, G: Gate + Send + Sync, S: Naming + Sen
     requires ready { AllAt (λ k j. IsWorkerAt (vec_len jobs) k j.worker.workers j.worker.number × IsReady (vec_len jobs) j.worker.number (map row_view rows.now) j.desk j.replies.items (vec_capacity j.replies)) jobs.items }
     requires room { (vec_len room.outcomes ≡ 0) × (vec_len jobs ≤ vec_capacity room.outcomes) × (vec_len room.unstarted ≡ 0) × (vec_len jobs ≤ vec_capacity room.unstarted) }
     ensures len { vec_len result.outcomes + vec_len result.unstarted ≡ vec_len jobs }
-    ensures each { AllAt (λ k o. (w : ℕ) → w + k + 1 ≡ vec_len result.outcomes → o.completed ≡ true → IsPlayed (vec_len jobs) w (map row_view rows.now) (work_of o.desk) (answers_of o.replies.items)) result.outcomes.items }
+    ensures each { AllAt (λ k o. (w : ℕ) → w + k + 1 ≡ vec_len result.outcomes → o.completed ≡ true → HasPlayed S.names.opening (vec_len jobs) w (map row_view rows.now) o.desk (answers_of o.replies.items)) result.outcomes.items }
 {
     thread::scope(
         thread::scope_env(),
@@ -163,7 +166,7 @@ pub fn play_all<W: Threads + Wait + Sync, G: Gate + Send + Sync, S: Naming + Sen
             requires ready { AllAt (λ k j. IsWorkerAt (vec_len jobs) k j.worker.workers j.worker.number × IsReady (vec_len jobs) j.worker.number (map row_view rows.now) j.desk j.replies.items (vec_capacity j.replies)) jobs.items }
             requires room { (vec_len room.outcomes ≡ 0) × (vec_len jobs ≤ vec_capacity room.outcomes) × (vec_len room.unstarted ≡ 0) × (vec_len jobs ≤ vec_capacity room.unstarted) }
             ensures len { vec_len result.outcomes + vec_len result.unstarted ≡ vec_len jobs }
-            ensures each { AllAt (λ k o. (w : ℕ) → w + k + 1 ≡ vec_len result.outcomes → o.completed ≡ true → IsPlayed (vec_len jobs) w (map row_view rows.entry.now) (work_of o.desk) (answers_of o.replies.items)) result.outcomes.items }
+            ensures each { AllAt (λ k o. (w : ℕ) → w + k + 1 ≡ vec_len result.outcomes → o.completed ≡ true → HasPlayed S.names.opening (vec_len jobs) w (map row_view rows.entry.now) o.desk (answers_of o.replies.items)) result.outcomes.items }
         {
             let WorkersDone {
                 outcomes,
@@ -188,7 +191,7 @@ pub fn play_all<W: Threads + Wait + Sync, G: Gate + Send + Sync, S: Naming + Sen
                 let promise = PlaysRows { rows, worker };
                 let there = move || -> Outcome<S>
                     requires ready { IsReady job.worker.workers job.worker.number (map row_view rows.now) job.desk job.replies.items (vec_capacity job.replies) }
-                    ensures { result.completed ≡ true → IsPlayed job.worker.workers job.worker.number (map row_view rows.entry.now) (work_of result.desk) (answers_of result.replies.items) }
+                    ensures { result.completed ≡ true → HasPlayed S.names.opening job.worker.workers job.worker.number (map row_view rows.entry.now) result.desk (answers_of result.replies.items) }
                 { work(rt, alloc, store, gate, rows, halt, job) };
                 match scope.spawn_with(promise, there) {
                     Ok(child) => children.push_reserved(child),

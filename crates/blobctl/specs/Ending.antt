@@ -5,8 +5,8 @@ use Rattle.finite_maps.specs.Texts.{Text}
 use Rattle.blob_digest.specs.Tenants.{Tenant}
 use Rattle.locked_book.specs.Found.{IsReached}
 use Rattle.locked_book.specs.Names.{setting_of}
-use Rattle.blob_store.specs.Seats.{Work}
-use Rattle.blob_store.specs.Workers.{IsPlayed}
+use Rattle.locked_book.specs.History.{DeskView}
+use Rattle.blob_store.specs.Workers.{HasPlayed}
 use Rattle.blobctl.specs.Inputs.{IsTooLong, max_script}
 use Rattle.blobctl.specs.Played.{Played}
 use Rattle.row_player.specs.Answers.{Answer}
@@ -43,14 +43,14 @@ pub record RunSucceeds {R : Type 0} (remaining : R → Option (List ℕ)) (old n
   pub played : Played tenants slots max_blob script text
 
 -- What workers that play rows together on a store of these tenants and limits write: one reply to each row, in the order of the rows, of
--- which each worker's are those of playing its rows in their order, with the steps that they are; and then a book that a legal history
--- leaves, from the catalog with which the store was opened. It is sound, of the tenants, quotas, slots and limit on blobs of that catalog.
+-- which each worker's are those of playing its rows in their order, by steps of a legal history from the opening catalog on, which has no others
+-- of this worker's; and then a book that such a history leaves, sound and of the tenants, quotas, slots and limit on blobs of that catalog.
 pub record PlayedByWorkers (workers : ℕ) (tenants : List Tenant) (slots max_blob : ℕ) (rows : List RowView) (text : Text) : Type 0 where
   pub answers : List Answer
   pub one_each : length answers ≡ length rows
-  pub own : (w : ℕ) → w < workers → (work : Work) × IsPlayed workers w rows work (own_answers workers w rows answers)
   pub first : Catalog
   pub opened : OpensCatalog tenants slots max_blob first
+  pub own : (w : ℕ) → w < workers → (desk : DeskView) × HasPlayed first workers w rows desk (own_answers workers w rows answers)
   pub last : Catalog
   pub reached : IsReached first last
   pub sound : Sound last

@@ -31,6 +31,11 @@ pub record Trace : Type 0 where
   pub seen : List (Entry Step)
   pub own : List Step
 
+-- Part of a legal history: what was seen of it is legal, and has under this number just its own steps, each once and in order.
+pub record IsPart (C : Catalog) (trace : Trace) : Type 0 where
+  pub legal : IsLegal C (steps_of trace.seen)
+  pub own : events_by trace.number trace.seen ≡ trace.own
+
 -- what contracts see of a desk
 pub record DeskView : Type 0 where
   pub amounts : Amounts

@@ -1,5 +1,6 @@
 //! The desk of one who uses a store.
 ghost use Rattle.std.specs.Prelude.{◌≡◌, ℕ};
+ghost use Rattle.locked_book.specs.History.{IsPart};
 
 use crate::droppable_desk::DroppableDesk;
 use crate::history::HistoryWriter;
@@ -51,6 +52,13 @@ impl<S: Naming> Desk<S> {
         ensures { result ≡ self.now.amounts.abandoned }
     {
         self.tally.abandoned.amount()
+    }
+
+    /// Tells what is so of every desk: its part in the history is part of a legal one. It does nothing.
+    pub fn audit(&self)
+        ensures { IsPart S.names.opening self.now.trace }
+    {
+        self.writer.audit();
     }
 
     /// The same desk, for a closure or a thread's result. It takes no memory.

@@ -3,7 +3,7 @@
 ghost use Rattle.std.specs.Prelude.{◌≡◌, [], ◌⊎◌};
 ghost use Rattle.store_model.specs.Histories.{State, IsLegal, IsStep};
 ghost use Rattle.locked_book.specs.Calls.{step_of};
-ghost use Rattle.locked_book.specs.History.{Adds, Leaves, steps_of};
+ghost use Rattle.locked_book.specs.History.{Adds, IsPart, Leaves, steps_of};
 
 use crate::call::Call;
 use crate::names::Naming;
@@ -49,6 +49,15 @@ impl<S: Naming> Model for HistoryWriter<S> {
     ghost view = { λ w. record { number = w.writer.number; seen = w.writer.seen; own = w.writer.own } };
 
     ghost invariant = { λ w. (w.writer.name ≡ S.names.log) × (events_by w.writer.number w.writer.seen ≡ w.writer.own) × IsLegal S.names.opening (steps_of w.writer.seen) };
+}
+
+impl<S: Naming> HistoryWriter<S> {
+    /// Tells what is so of every writer. It does nothing.
+    pub fn audit(&self)
+        ensures { IsPart S.names.opening self.now }
+    {
+        let _ = &self.writer;
+    }
 }
 
 impl<S: Naming> History<S> {

@@ -6,7 +6,7 @@ use Rattle.finite_maps.specs.Texts.{Text}
 use Rattle.blob_digest.specs.declared.refusal.Refusal.{Refusal}
 use Rattle.row_player.specs.Answers.{Answer, Bytes, Leased, Refused}
 use Rattle.row_player.specs.Commands.{Command, Lease, Request, Calls, Verifies, Sweeps, command_of}
-use Rattle.row_player.specs.Counts.{abandoned_of, chunk_of, closed_of, counted, counted_abandons, counted_bytes, counted_closed, counted_commands, is_accepted, request_amount, row_amount, spelled_amount}
+use Rattle.row_player.specs.Counts.{abandoned_of, chunk_of, closed_of, rows_amount, counted_abandons, counted_bytes, counted_closed, counted_commands, is_accepted, request_amount, row_amount, spelled_amount}
 use Rattle.row_player.specs.Leases.{Lent}
 use Rattle.row_player.specs.Plays.{LendsWhereFree, Plays, RowStep, State, StepOf, VerifiesLease, named}
 use Rattle.row_player.specs.Rows.{RowView}
@@ -70,7 +70,7 @@ module _ (Goes : ℕ → ℕ → ℕ → Type 0) (stays : (a b : ℕ) → b ≡ 
         | inr (inr (inr (inr (inr (inr sweeps))))) ↦ asked old.0 new.0 Sweeps answer answer line sweeps.1 (sym (no_command line answer (rw sweeps.0 refl)))
       ]
 
-      plays_counted : (old new : State S) (lines : List RowView) (answers : List Answer) → Plays acts old lines answers new → Goes (count old.0) (counted value lines answers) (count new.0)
+      plays_counted : (old new : State S) (lines : List RowView) (answers : List Answer) → Plays acts old lines answers new → Goes (count old.0) (rows_amount value lines answers) (count new.0)
       plays_counted old new [] [] h = stays (count old.0) (count new.0) (ap (λ (s : State S). count s.0) h)
       plays_counted old new [] (r ∷ rs) h = absurd h
       plays_counted old new (l ∷ ls) [] h = absurd h

@@ -53,21 +53,21 @@ abbrev pub row_amount : (Command → Answer → ℕ) → RowView × Answer → �
 row_amount value p = spelled_amount value (command_of p.0) p.1
 
 -- what the rows with their answers come to
-abbrev pub counted : (Command → Answer → ℕ) → List RowView → List Answer → ℕ
-counted value rows answers = sum_by (row_amount value) (zip rows answers)
+abbrev pub rows_amount : (Command → Answer → ℕ) → List RowView → List Answer → ℕ
+rows_amount value rows answers = sum_by (row_amount value) (zip rows answers)
 
 -- how many commands of the store were accepted
 abbrev pub counted_commands : List RowView → List Answer → ℕ
-counted_commands rows answers = counted (λ _ _. 1) rows answers
+counted_commands rows answers = rows_amount (λ _ _. 1) rows answers
 
 -- how many bytes the chunks of the accepted rows have
 abbrev pub counted_bytes : List RowView → List Answer → ℕ
-counted_bytes rows answers = counted (λ command _. chunk_of command) rows answers
+counted_bytes rows answers = rows_amount (λ command _. chunk_of command) rows answers
 
 -- how many bytes the accepted closes were answered to have stored
 abbrev pub counted_closed : List RowView → List Answer → ℕ
-counted_closed rows answers = counted closed_of rows answers
+counted_closed rows answers = rows_amount closed_of rows answers
 
 -- how many sessions the accepted rows gave up
 abbrev pub counted_abandons : List RowView → List Answer → ℕ
-counted_abandons rows answers = counted (λ command _. abandoned_of command) rows answers
+counted_abandons rows answers = rows_amount (λ command _. abandoned_of command) rows answers

@@ -3,9 +3,8 @@ use Rattle.std.proofs.lemmas.Bool.{eqb-true}
 use Rattle.std.proofs.lemmas.List.{length-map}
 use Rattle.store_model.specs.Amounts.{sum_of}
 use Rattle.locked_book.specs.History.{amounts_of}
-use Rattle.blob_store.specs.Seats.{work_of}
-use Rattle.blob_store.specs.Workers.{AllAt, IsPlayed}
-use Rattle.blob_store.proofs.Settlings.{amounts_of_work, are_settled, each_played, whole_lists}
+use Rattle.blob_store.specs.Workers.{AllAt, HasPlayed}
+use Rattle.blob_store.proofs.Settlings.{are_settled, each_played, whole_lists}
 use Rattle.row_player.specs.Answers.{answers_of}
 use Rattle.row_player.specs.RowViews.{row_view}
 use Rattle.row_player.specs.Shares.{AreTogether, own_rows}
@@ -14,7 +13,7 @@ use Rattle.blob_store.proofs.playing.play.Goals as goal
 pub collect-ended-requires-clause-each : goal.collect-ended-requires-clause-each
 collect-ended-requires-clause-each g c =
     let jobs : vec_len c.jobs_of-jobs.result ≡ c.args.workers = c.jobs_of-jobs.ensures.len ∙ c.in_ok-desks.ensures.made.0 in
-    subst (λ m. AllAt (λ k o. (w : ℕ) → w + k + 1 ≡ vec_len c.play_all-outcomes.result.outcomes → o.completed ≡ true → IsPlayed m w (map row_view c.args.rows.now) (work_of o.desk) (answers_of o.replies.items)) c.play_all-outcomes.result.outcomes.items) jobs c.play_all-outcomes.ensures.each
+    subst (λ m. AllAt (λ k o. (w : ℕ) → w + k + 1 ≡ vec_len c.play_all-outcomes.result.outcomes → o.completed ≡ true → HasPlayed g.S.Naming.names.opening m w (map row_view c.args.rows.now) o.desk (answers_of o.replies.items)) c.play_all-outcomes.result.outcomes.items) jobs c.play_all-outcomes.ensures.each
 
 pub in_row_order-requires-clause-whole : goal.in_row_order-requires-clause-whole
 in_row_order-requires-clause-whole g c =
@@ -25,7 +24,7 @@ in_row_order-requires-clause-whole g c =
     let size : length lists.items ≡ n = omega (arith, none, lists.ok.0, c.collect-ended.ensures.len.1, c.play_all-outcomes.ensures.len, c.jobs_of-jobs.ensures.len, c.in_ok-desks.ensures.made.0) in
     let shown = map (λ v. answers_of v.items) lists.items in
     let are = c.collect-ended.ensures.played c.if-ended.true in
-    λ w lt. whole_lists n lines (map work_of c.collect-ended.new.desks.items) shown are w (omega (arith, lt, length-map lists.items (λ v. answers_of v.items))) ∙ ap (λ m. length (own_rows m w lines)) (sym size)
+    λ w lt. whole_lists g.S.Naming.names.opening n lines c.collect-ended.new.desks.items shown are w (omega (arith, lt, length-map lists.items (λ v. answers_of v.items))) ∙ ap (λ m. length (own_rows m w lines)) (sym size)
 
 pub returns-then-ended-clause-each : goal.returns-then-ended-clause-each
 returns-then-ended-clause-each g c =
@@ -38,7 +37,7 @@ returns-then-ended-clause-each g c =
     let shown = map (λ v. answers_of v.items) lists.items in
     let are = c.collect-ended.ensures.played c.if-ended.true in
     let together = subst (λ m. AreTogether m lines (λ w. get_or shown w []) answers) size c.in_row_order.ensures in
-    each_played n lines (map work_of c.collect-ended.new.desks.items) shown answers (length-map lists.items (λ v. answers_of v.items) ∙ size) are together
+    each_played g.S.Naming.names.opening n lines c.collect-ended.new.desks.items shown answers (length-map lists.items (λ v. answers_of v.items) ∙ size) are together
 
 pub returns-then-ended-clause-settled : goal.returns-then-ended-clause-settled
 returns-then-ended-clause-settled g c =
@@ -49,12 +48,11 @@ returns-then-ended-clause-settled g c =
     let answers = answers_of c.in_row_order.result.items in
     let none = eqb-true (vec_len c.play_all-outcomes.result.unstarted) 0 (sym c.is_empty-started.ensures ∙ c.if-started.true) in
     let size : length lists.items ≡ n = omega (arith, none, lists.ok.0, c.collect-ended.ensures.len.1, c.play_all-outcomes.ensures.len, c.jobs_of-jobs.ensures.len, c.in_ok-desks.ensures.made.0) in
-    let desk_size : length (map work_of desks.items) ≡ n = omega (arith, length-map desks.items work_of, size, lists.ok.0, desks.ok.0, c.collect-ended.ensures.len.0, c.collect-ended.ensures.len.1) in
+    let desk_size : length desks.items ≡ n = omega (arith, size, lists.ok.0, desks.ok.0, c.collect-ended.ensures.len.0, c.collect-ended.ensures.len.1) in
     let shown = map (λ v. answers_of v.items) lists.items in
     let are = c.collect-ended.ensures.played c.if-ended.true in
     let together = subst (λ m. AreTogether m lines (λ w. get_or shown w []) answers) size c.in_row_order.ensures in
     let sums = c.settle-settled.ensures in
     let same = c.add_desks.ensures.none none in
-    are_settled n lines (map work_of desks.items) shown answers c.settle-settled.result desk_size c.requires.0 are together
-    (subst (λ all. (c.settle-settled.result.commands ≡ (sum_of all).commands) × (c.settle-settled.result.received ≡ (sum_of all).received) × (c.settle-settled.result.closed ≡ (sum_of all).closed) × (c.settle-settled.result.abandoned ≡ (sum_of all).abandoned))
-    (ap amounts_of same ∙ sym (amounts_of_work desks.items)) sums)
+    are_settled g.S.Naming.names.opening n lines desks.items shown answers c.settle-settled.result desk_size c.requires.0 are together
+    (subst (λ all. (c.settle-settled.result.commands ≡ (sum_of all).commands) × (c.settle-settled.result.received ≡ (sum_of all).received) × (c.settle-settled.result.closed ≡ (sum_of all).closed) × (c.settle-settled.result.abandoned ≡ (sum_of all).abandoned)) (ap amounts_of same) sums)

@@ -1,6 +1,7 @@
 use Rattle.std.proofs.Common.{◌∙◌, ap, map, sym, subst}
 use Rattle.blob_store.specs.Seats.{SeatActs, WorkActs, work_of}
 use Rattle.blob_store.specs.Workers.{no_work}
+use Rattle.locked_book.specs.History.{IsPart}
 use Rattle.row_player.specs.Answers.{answers_of}
 use Rattle.row_player.specs.Leases.{none}
 use Rattle.row_player.specs.RowViews.{row_view}
@@ -17,4 +18,7 @@ returns-in-Ok g c = λ _.
     let new = c.play_rows-played.new.backend in
     let shown = plays_through (λ seat. work_of seat.desk) (λ old request answer new. SeatActs old.desk request answer new.desk) WorkActs (λ old request answer new acts. acts.work) (_, none) (new, played.0) lines answers played.1 in
     let begun = subst (λ d. Plays WorkActs (d, none) lines answers (work_of new.desk, played.0)) (ap work_of c.into_desk.ensures ∙ c.requires.ready.fresh) shown in
-    (played.0, subst (λ d. Plays WorkActs (no_work, none) lines answers (d, played.0)) (ap work_of (sym c.into_droppable.ensures)) begun)
+    record {
+      played = (played.0, subst (λ d. Plays WorkActs (no_work, none) lines answers (d, played.0)) (ap work_of (sym c.into_droppable.ensures)) begun);
+      part = subst (λ d. IsPart g.S.Naming.names.opening d.trace) (sym c.into_droppable.ensures) c.audit.ensures;
+    }

@@ -1,6 +1,5 @@
 use Rattle.std.proofs.Common.{◌≡◌, ◌+◌, ◌∙◌, ℕ, ap, arith, length, map, rules, subst, sym, true, vec_capacity, vec_len}
-use Rattle.blob_store.specs.Seats.{work_of}
-use Rattle.blob_store.specs.Workers.{AllAt, IsPlayed, IsReady, IsWorkerAt}
+use Rattle.blob_store.specs.Workers.{AllAt, HasPlayed, IsReady, IsWorkerAt}
 use Rattle.blob_store.proofs.Places.{at_first, at_last, at_pushed}
 use Rattle.row_player.specs.Answers.{answers_of}
 use Rattle.row_player.specs.RowViews.{row_view}
@@ -90,15 +89,15 @@ join_all-requires g c =
     let left = c.in-Some.ensures.len in
     let first : own.worker.number ≡ 0 = omega (arith, turn, left, count, c.pop.new.self.ok.0) in
     let done = c.work-first.result in
-    let of_all = subst (λ k. done.completed ≡ true → IsPlayed k own.worker.number lines (work_of done.desk) (answers_of done.replies.items)) mine.0.among c.work-first.ensures in
+    let of_all = subst (λ k. done.completed ≡ true → HasPlayed g.S.Naming.names.opening k own.worker.number lines done.desk (answers_of done.replies.items)) mine.0.among c.work-first.ensures in
     record {
       children = was.children;
-      first = subst (λ k. done.completed ≡ true → IsPlayed n k lines (work_of done.desk) (answers_of done.replies.items)) first of_all;
+      first = subst (λ k. done.completed ≡ true → HasPlayed g.S.Naming.names.opening n k lines done.desk (answers_of done.replies.items)) first of_all;
       room = (was.none.1, omega (arith, was.all, was.outcomes));
     }
 
 pub returns : goal.returns
 returns g c = record {
   len = search rules;
-  each = subst (λ m. AllAt (λ k o. (w : ℕ) → w + k + 1 ≡ vec_len c.join_all.result → o.completed ≡ true → IsPlayed m w (map row_view c.captures.rows.now) (work_of o.desk) (answers_of o.replies.items)) c.join_all.result.items) c.len-count.ensures c.join_all.ensures.each;
+  each = subst (λ m. AllAt (λ k o. (w : ℕ) → w + k + 1 ≡ vec_len c.join_all.result → o.completed ≡ true → HasPlayed g.S.Naming.names.opening m w (map row_view c.captures.rows.now) o.desk (answers_of o.replies.items)) c.join_all.result.items) c.len-count.ensures c.join_all.ensures.each;
 }
