@@ -3,3 +3,4 @@ pub mod Writes
 pub mod Indexing
 pub mod Stacking
 pub mod Changes
+pub mod SlotSets

@@ -35,6 +35,19 @@ none_by (Some s) free = held_by s.content free
 pub free_at-held : (slots : List Slot) (k : ℕ) → is_free_at slots k ≡ true → held_at slots k ≡ None
 free_at-held slots k free = none_by (slice_get slots k) free
 
+free_by : (c : Content) → elim c as (λ _. Bool) [ Free ↦ true | Used h ↦ false | Retired ↦ false ] ≡ true → phase_in c ≡ phase.Free
+free_by Free free = refl
+free_by (Used h) free = absurd cc
+free_by Retired free = absurd cc
+
+phase_by : (o : Option Slot) → option_map_or is_free o false ≡ true → option_map_or (λ s. phase_in s.content) o phase.Retired ≡ phase.Free
+phase_by None free = absurd cc
+phase_by (Some s) free = free_by s.content free
+
+-- a free slot's phase
+pub free_at-phase : (slots : List Slot) (k : ℕ) → is_free_at slots k ≡ true → phase_at slots k ≡ phase.Free
+free_at-phase slots k free = phase_by (slice_get slots k) free
+
 condemned_by : (c : Content) → phase_in c ≡ phase.Condemned → elim c as (λ _. Bool) [ Free ↦ true | Used h ↦ false | Retired ↦ false ] ≡ false
 condemned_by Free e = absurd cc
 condemned_by (Used h) e = refl

@@ -7,6 +7,7 @@
 
 mod phase;
 mod row;
+mod slot_set;
 mod table;
 
 pub use blob_digest::MAX_SLOTS;

@@ -1,17 +1,18 @@
 //! The slots of a store, with an index of their digests and a stack of the free ones.
 
-ghost use Rattle.std.specs.Prelude.{◌≡◌, ◌≢◌, ℕ, ◌+◌, ◌<◌, ◌≤◌, ◌^◌, ◌==◌, nat_lt, length, replicate, None, IfOk, IfErr, OnErr, position, count_by, if◌then◌else◌, true, false};
+ghost use Rattle.std.specs.Prelude.{◌≡◌, ◌≢◌, ℕ, ◌+◌, ◌<◌, ◌≤◌, ◌^◌, ◌==◌, nat_lt, length, replicate, None, IfOk, IfErr, OnErr, count_by, if◌then◌else◌, true, false};
 ghost use Rattle.std.specs.Option.{option_map};
 ghost use Rattle.std.specs.Vec.{vec_len, vec_capacity};
 ghost use Rattle.std.specs.BTreeMap as tree;
 ghost use Rattle.finite_maps.specs.Texts.{Text, text_cmp};
 ghost use Rattle.blob_digest.specs.Outcomes.{Answers};
 ghost use Rattle.blob_digest.specs.declared.refusal.Refusal.TheVariants.{Memory, StoreFull};
-ghost use Rattle.slot_table.specs.Slots.{slot_of, held_at, phase_at, links_at, generation_at, free_slots, empty_slot, is_orphan, orphan_from, has_digest, initial_slots, with_slot, fill, on_held, link_up, link_down, lend, mark, emptied, retire, IsDistinct, IsUnlinked};
+ghost use Rattle.slot_table.specs.Slots.{slot_of, held_at, phase_at, links_at, generation_at, free_slots, empty_slot, orphan_from, has_digest, initial_slots, with_slot, fill, on_held, link_up, link_down, lend, mark, emptied, retire, IsDistinct, IsUnlinked};
 ghost use Rattle.slot_table.specs.declared.phase.Phase.TheVariants as phase;
 
 use crate::phase::Phase;
 use crate::row::Row;
+use crate::slot_set::SlotSet;
 use blob_digest::{Blob, Digest, MAX_SLOTS, Refusal};
 use std::alloc::{AllocError, Global};
 use std::collections::BTreeMap;
@@ -21,16 +22,18 @@ use std::sync::Arc;
 /// The slots of a store, 1 to 65,536, each with its generation and what it holds. Contracts see
 /// the list of the slots. No digest has two slots, and a condemned blob has no links.
 ///
-/// A slot is named by its number, from 0 on. An index has the digest of each used slot, and a
-/// stack has the free slots, with room for all from the start. So `find`, `place`, `free` and
-/// `retire` take steps by the logarithm of the used slots, `orphans_from` goes over the slots, and
-/// each other call takes a few steps. Only `new` and `place` take memory.
+/// A slot is named by its number, from 0 on. An index has the digest of each used slot, a
+/// stack has the free slots, with room for all from the start, and a set has the used slots without
+/// links. So `find`, `place`, `free` and `retire` take steps by the logarithm of the used slots,
+/// `orphans_from` passes over 64 slots with links in one step, and each other call takes a few steps. Only
+/// `new` and `place` take memory.
 #[derive(Drop)]
 pub struct SlotTable {
     alloc: Global,
     rows: Vec<Row>,
     index: BTreeMap<Digest, u32>,
     free: Vec<u32>,
+    orphans: SlotSet,
 }
 
 impl Model for SlotTable {
@@ -38,12 +41,13 @@ impl Model for SlotTable {
     ghost use Rattle.std.specs.Vec.{vec_capacity};
     ghost use Rattle.slot_table.specs.Slots.{Slot, IsTable};
     ghost use Rattle.slot_table.specs.Indexes.{IsIndexed};
+    ghost use Rattle.slot_table.specs.SlotSets.{HasOrphans};
 
     ghost Value = { List Slot };
 
     ghost view = { λ a. a.rows.items };
 
-    ghost invariant = { λ a. IsTable a.rows.items × IsIndexed a.rows.items a.index a.free.items (vec_capacity a.free) };
+    ghost invariant = { λ a. IsTable a.rows.items × IsIndexed a.rows.items a.index a.free.items (vec_capacity a.free) × HasOrphans a.rows.items a.orphans };
 }
 
 /// The rows of free slots of one generation.
@@ -79,19 +83,12 @@ fn forget(index: &mut BTreeMap<Digest, u32>, row: &Row)
     }
 }
 
-/// The first slot that holds a blob without links.
-fn orphan_place(rows: &[Row]) -> Option<usize>
-    ensures { result ≡ position is_orphan rows.now }
-{
-    rows.iter().position(|row| row.is_orphan())
-}
-
 impl SlotTable {
     /// Makes a table of free slots, each of the first generation, with a stack of them. It keeps the
     /// allocator for the blobs that are placed.
     ///
     /// Refused with `LimitReached` outside 1 to 65,536 slots, and with `Memory` only within, where
-    /// the rows or the stack find none.
+    /// the rows, the stack or the set find none.
     pub fn new(alloc: Global, slots: u32, first_generation: u32) -> Result<SlotTable, Refusal>
         ensures answers { Answers (λ t. t) result (initial_slots slots first_generation) }
         ensures memory { IfErr result (λ e. e ≡ Memory → (1 ≤ slots) × (slots ≤ 65536)) }
@@ -104,11 +101,13 @@ impl SlotTable {
         }
         let rows = empty_rows(alloc, slots, first_generation)?;
         let free = all_slots(alloc, slots)?;
+        let orphans = SlotSet::new(alloc, slots)?;
         Ok(SlotTable {
             alloc,
             rows,
             index: BTreeMap::new(alloc),
             free,
+            orphans,
         })
     }
 
@@ -170,18 +169,11 @@ impl SlotTable {
     }
 
     /// The least slot, from a slot on, that holds a blob without links, condemned ones among them.
-    /// It may be asked past the last slot, and goes over the slots up to the one that it answers.
+    /// It may be asked past the last slot. Slots up to the one that it answers are passed over, 64 in one step.
     pub fn orphans_from(&self, slot: u32) -> Option<u32>
         ensures { result ≡ orphan_from self.now slot }
     {
-        let first = slot as usize;
-        if first >= self.rows.len() {
-            return None;
-        }
-        match orphan_place(&self.rows[first..]) {
-            Some(further) => Some((first + further) as u32),
-            None => None,
-        }
+        self.orphans.first_from(slot)
     }
 
     /// Puts a blob into a free slot, live and without links, and answers the slot. Which free slot
@@ -209,6 +201,7 @@ impl SlotTable {
             Ok(blob) => {
                 self.free.pop();
                 self.rows[slot as usize].fill(blob);
+                self.orphans.set(slot, true);
                 Ok(slot)
             }
             Err(failed) => {
@@ -225,6 +218,7 @@ impl SlotTable {
         ensures { self.new ≡ with_slot self.old slot (on_held link_up) }
     {
         self.rows[slot as usize].link_up();
+        self.orphans.set(slot, false);
     }
 
     /// Counts one link less of a live blob.
@@ -233,7 +227,10 @@ impl SlotTable {
         requires linked { 0 < links_at self.old slot }
         ensures { self.new ≡ with_slot self.old slot (on_held link_down) }
     {
-        self.rows[slot as usize].link_down();
+        let row = &mut self.rows[slot as usize];
+        row.link_down();
+        let is_orphan = row.is_orphan();
+        self.orphans.set(slot, is_orphan);
     }
 
     /// Marks a live blob as lent. The mark stays as long as the slot holds the blob.
@@ -271,6 +268,7 @@ impl SlotTable {
         let row = &mut self.rows[slot as usize];
         forget(&mut self.index, row);
         row.free();
+        self.orphans.set(slot, false);
         match self.free.push(slot) {
             Ok(()) => {}
             Err(_) => unreachable!(),
@@ -285,5 +283,6 @@ impl SlotTable {
         let row = &mut self.rows[slot as usize];
         forget(&mut self.index, row);
         row.retire();
+        self.orphans.set(slot, false);
     }
 }

@@ -55,17 +55,17 @@ enum Step {
     Retire,
 }
 
-fn link_up(table: &mut SlotTable) -> bool {
-    if 0 < table.len() && table.phase(0) == Phase::Live && table.links(0) < u32::MAX {
-        table.link_up(0);
+fn link_up(table: &mut SlotTable, slot: u32) -> bool {
+    if slot < table.len() && table.phase(slot) == Phase::Live && table.links(slot) < u32::MAX {
+        table.link_up(slot);
         return true;
     }
     false
 }
 
-fn link_down(table: &mut SlotTable) -> bool {
-    if 0 < table.len() && table.phase(0) == Phase::Live && table.links(0) > 0 {
-        table.link_down(0);
+fn link_down(table: &mut SlotTable, slot: u32) -> bool {
+    if slot < table.len() && table.phase(slot) == Phase::Live && table.links(slot) > 0 {
+        table.link_down(slot);
         return true;
     }
     false
@@ -110,8 +110,8 @@ fn retire(table: &mut SlotTable) -> bool {
 fn goes(alloc: Global, table: &mut SlotTable, step: Step) -> bool {
     match step {
         Step::Place => place(alloc, table, b"abc"),
-        Step::LinkUp => link_up(table),
-        Step::LinkDown => link_down(table),
+        Step::LinkUp => link_up(table, 0),
+        Step::LinkDown => link_down(table, 0),
         Step::Condemn => condemn(table, 0),
         Step::Revive => revive(table),
         Step::Free => free(table, 0),
@@ -268,4 +268,30 @@ fn a_thousand_slots_are_filled_and_freed_and_filled_again(rt: HostRuntime) {
     holds(&rt, &table, Phase::Free, 1, (0, 0));
     assert!(rt; place_numbers(alloc, &mut table, 1000, 1000));
     holds(&rt, &table, Phase::Live, 1, (0, 1000));
+}
+
+#[test]
+fn slots_without_links_are_found_in_their_order(rt: HostRuntime) {
+    let alloc = rt.alloc();
+    let mut table = SlotTable::new(alloc, 200, 0).expect(&rt, "memory");
+    assert!(rt; place_numbers(alloc, &mut table, 0, 200));
+    for slot in 0..200 {
+        assert!(rt; link_up(&mut table, slot));
+    }
+    assert_eq!(rt; table.orphans_from(0), None);
+    for slot in [0, 63, 64, 199] {
+        assert!(rt; link_down(&mut table, slot));
+    }
+    for (from, found) in [
+        (0, Some(0)),
+        (1, Some(63)),
+        (63, Some(63)),
+        (64, Some(64)),
+        (65, Some(199)),
+        (199, Some(199)),
+        (200, None),
+        (u32::MAX, None),
+    ] {
+        assert_eq!(rt; table.orphans_from(from), found);
+    }
 }

@@ -1,12 +1,13 @@
-use Rattle.std.proofs.Common.{◌≡◌, ◌-◌, ◌<◌, ◌++◌, ◌∷◌, [], length, false, Result, Ok, Err, Some, sym, ◌∙◌, ap, arith}
+use Rattle.std.proofs.Common.{◌≡◌, ◌-◌, ◌*◌, ◌<◌, ◌≤◌, ◌++◌, ◌∷◌, [], length, true, false, refl, Result, Ok, Err, Some, sym, ◌∙◌, ap, arith}
 use Rattle.std.specs.Prelude.{slice_get}
 use Rattle.std.specs.Result.{is_err, OnOk}
 use Rattle.std.specs.Vec.{vec_len, vec_capacity}
 use Rattle.slot_table.specs.Slots.{fill}
 use Rattle.slot_table.specs.Indexes.{IsIndexed}
-use Rattle.slot_table.proofs.Stacking.{stacked_free, free_within, popped}
+use Rattle.slot_table.proofs.Stacking.{stacked_free, free_within, free_at-phase, popped}
 use Rattle.slot_table.proofs.Writes.{with_slot-set}
 use Rattle.slot_table.proofs.Changes.{placed, taken_back}
+use Rattle.slot_table.proofs.SlotSets.{orphans-set}
 use Rattle.slot_table.proofs.table.SlotTable.place.Goals as goal
 
 is_done : {T E P : Type 0} (r : Result T E) → is_err r ≡ false → OnOk r P → P
@@ -21,6 +22,22 @@ index_mut-requires c =
     let within : c.in-Some.slot < length slots = free_within slots c.in-Some.slot (stacked_free slots stack (length stack - 1) c.in-Some.slot c.self.invariant.1.stacked top) in
     omega arith
 
+pub set-requires : goal.set-requires
+set-requires c =
+    let slots = c.self.inside.rows.items in
+    let stack = c.self.inside.free.items in
+    let top : slice_get stack (length stack - 1) ≡ Some c.in-Some.slot = sym (c.in-Some.ensures ∙ c.last.ensures.value ∙ ap (λ xs. slice_get xs (length xs - 1)) c.deref.ensures.value) in
+    let within : c.in-Some.slot < length slots = free_within slots c.in-Some.slot (stacked_free slots stack (length stack - 1) c.in-Some.slot c.self.invariant.1.stacked top) in
+    let roomy : length slots ≤ 64 * length c.self.inside.orphans = c.self.invariant.2.roomy in
+    omega arith
+
+pub returns-in-Ok-clause-free : goal.returns-in-Ok-clause-free
+returns-in-Ok-clause-free c =
+    let slots = c.self.inside.rows.items in
+    let stack = c.self.inside.free.items in
+    let top : slice_get stack (length stack - 1) ≡ Some c.in-Some.slot = sym (c.in-Some.ensures ∙ c.last.ensures.value ∙ ap (λ xs. slice_get xs (length xs - 1)) c.deref.ensures.value) in
+    rw (← c.self.view_is) (free_at-phase slots c.in-Some.slot (stacked_free slots stack (length stack - 1) c.in-Some.slot c.self.invariant.1.stacked top))
+
 pub invariant_of-self-in-Ok : goal.invariant_of-self-in-Ok
 invariant_of-self-in-Ok c =
     let slots = c.self.inside.rows.items in
@@ -32,8 +49,9 @@ invariant_of-self-in-Ok c =
     let put = (is_done c.insert.result (sym c.is_err.ensures.value ∙ c.if-is_err.false) c.insert.ensures.updates).0 in
     let filled : c.fill.new.self ≡ fill c.args.blob c.index_mut.result.now = c.fill.ensures ∙ ap (λ b. fill b c.index_mut.result.now) c.in-Ok.ensures.ok in
     let kept : IsIndexed slots c.self.inside.index (c.pop.new.self.items ++ slot ∷ []) (vec_capacity c.pop.new.self) = rw (← items, c.pop.ensures.capacity) c.self.invariant.1 in
-    rw filled (placed slots slot c.index_mut.result.now c.args.blob c.self.inside.index c.insert.new.self c.pop.new.self.items (vec_capacity c.pop.new.self)
-    c.self.invariant.0 kept (rw c.self.view_is c.requires) free c.index_mut.ensures.value (rw c.digest-digest.ensures.value at put))
+    let table = placed slots slot c.index_mut.result.now c.args.blob c.self.inside.index c.insert.new.self c.pop.new.self.items (vec_capacity c.pop.new.self)
+    c.self.invariant.0 kept (rw c.self.view_is c.requires) free c.index_mut.ensures.value (rw c.digest-digest.ensures.value at put) in
+    rw filled (table.0, table.1, orphans-set slots slot (fill c.args.blob c.index_mut.result.now) true c.self.inside.orphans c.set.new.self (free_within slots slot free) refl c.set.ensures.each c.set.ensures.len c.self.invariant.2)
 
 pub invariant_of-self-in-Err : goal.invariant_of-self-in-Err
 invariant_of-self-in-Err c =
@@ -47,6 +65,7 @@ invariant_of-self-in-Err c =
         counted = kept.counted;
         roomy = kept.roomy;
       },
+      c.self.invariant.2,
     )
 
 pub returns-in-Ok-clause-ok : goal.returns-in-Ok-clause-ok
