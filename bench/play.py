@@ -4,7 +4,6 @@ The program is the one that `rt run` leaves in crates/blobctl/out/blobctl.
 """
 import hashlib
 import os
-import resource
 import subprocess
 import sys
 import tempfile
@@ -46,12 +45,19 @@ def times(words, script, runs):
 
 
 def one_run(words, path):
-    before = resource.getrusage(resource.RUSAGE_CHILDREN)
-    start = time.monotonic()
-    with open(path, "rb") as script:
-        done = subprocess.run([PROGRAM, *words], stdin=script, stdout=subprocess.DEVNULL, stderr=subprocess.PIPE)
-    wall = time.monotonic() - start
-    if done.returncode:
-        sys.exit(f"blobctl ended with {done.returncode}: {done.stderr.decode()}")
-    after = resource.getrusage(resource.RUSAGE_CHILDREN)
-    return wall, (after.ru_utime + after.ru_stime) - (before.ru_utime + before.ru_stime)
+    wall, usage = measured(PROGRAM, words, path, os.devnull)
+    return wall, usage.ru_utime + usage.ru_stime
+
+
+def measured(program, words, path, out):
+    """The wall time of one run of a program on the script of a file, and what it used; its output goes to a file."""
+    with open(path, "rb") as script, open(out, "wb") as text, tempfile.TemporaryFile() as says:
+        start = time.monotonic()
+        child = subprocess.Popen([program, *words], stdin=script, stdout=text, stderr=says)
+        _, status, usage = os.wait4(child.pid, 0)
+        wall = time.monotonic() - start
+        child.returncode = os.waitstatus_to_exitcode(status)
+        if child.returncode:
+            says.seek(0)
+            sys.exit(f"{os.path.basename(program)} ended with {child.returncode}: {says.read().decode()}")
+    return wall, usage

@@ -411,8 +411,8 @@ impl<S: Naming> Store<S> {
     }
 
     /// Condemns each live blob that no repository links, and frees or retires the slot of each condemned one
-    /// that no lease holds. It goes over the slots once, and takes no memory. What it answers is the count of a
-    /// sweep of a book of this store, and this sweep is a step of the store's history.
+    /// that no lease holds, at the cost of `Book::sweep`. It takes no memory. What it answers is the count of a
+    /// sweep of a book that a legal history of this store leaves, and some such history ends with this sweep.
     pub fn sweep(&self, rt: &impl Wait) -> Swept
         ensures sweeps { InSomeBook S.names (λ b. (C : Catalog) × IsSweep b.catalog result C) }
         ensures history { AddsByNobody S.names.opening (Cleaned result) }

@@ -260,7 +260,7 @@ impl<S: Naming> Kept<S> {
         Ok(lent)
     }
 
-    /// Goes over the slots, as `Book::sweep` does. Nothing is counted.
+    /// Sweeps as `Book::sweep` does. Nothing is counted.
     pub fn sweep(&mut self, pins: &Pins) -> Swept
         requires table { pins.now ≡ S.names.table }
         ensures sweeps { IsSweep self.old.book.catalog result self.new.book.catalog }

@@ -366,7 +366,7 @@ impl<S: Naming> LockedBook<S> {
         refusal
     }
 
-    /// Goes over the slots, as `Kept::sweep` does. Its step has a writer that is no desk's.
+    /// Sweeps as `Kept::sweep` does. Its step has a writer that is no desk's.
     pub fn sweep(&mut self, pins: &Pins) -> Swept
         requires table { pins.now ≡ S.names.table }
         ensures found { IsBookOf S.names self.old.book }
@@ -380,7 +380,7 @@ impl<S: Naming> LockedBook<S> {
         result
     }
 
-    /// Goes over the slots, as `sweep` does, for whoever has a desk: the step is the desk's.
+    /// Sweeps as `sweep` does, for whoever has a desk: the step is the desk's.
     pub fn sweep_at(&mut self, pins: &Pins, desk: &mut Desk<S>) -> Swept
         requires table { pins.now ≡ S.names.table }
         ensures sweeps { IsSweep self.old.book.catalog result self.new.book.catalog }

@@ -383,7 +383,8 @@ impl Book {
 
     /// Condemns each live blob that no repository links, and reclaims the slot of each condemned one:
     /// it is free in its next generation, or retired in the last one, or held by leases. A blob that
-    /// was never lent goes at once. It goes over the slots once, and takes no memory.
+    /// was never lent goes at once. It goes once over the blobs without links, for the others 64 slots cost one test;
+    /// and it takes no memory.
     pub fn sweep(&mut self, pins: &Pins) -> Swept
         requires { self.old.table ≡ pins.now }
         ensures sweeps { IsSweep self.old.catalog result self.new.catalog }

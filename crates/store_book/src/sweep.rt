@@ -24,8 +24,8 @@ fn count(swept: &mut Swept, was_live: bool, became: Reclaim)
     }
 }
 
-/// Goes over the slots once. A live blob without links is condemned; the slot of each condemned one is
-/// freed or retired where no pin is on it. It takes no memory.
+/// Goes over the blobs without links once, in the order of their slots. A live one is condemned; the slot of each
+/// condemned one is freed or retired where no pin is on it. It takes no memory.
 pub(crate) fn sweep_slots(slots: &mut PinnedSlots, pins: &Pins) -> Swept
     requires table { slots.old.table ≡ pins.now }
     requires few { length slots.old.slots ≤ 65536 }

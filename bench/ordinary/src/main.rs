@@ -1,0 +1,72 @@
+//! The program of `docs/FORMATS.md` as one would write it in ordinary Rust: `HashMap`s and `BTreeMap`s, one `Mutex`
+//! around the book, an atomic word for each slot, and no use in giving memory back at the end. Nothing of it is proved.
+//! It is what `bench/ordinary.py` compares the processor time of `blobctl` with.
+
+mod book;
+mod digest;
+mod manifest;
+mod name;
+mod player;
+mod script;
+
+use std::io::{self, Read, Write};
+use std::process::exit;
+
+/// What the command line says.
+pub struct Options {
+    pub slots: usize,
+    pub max_blob: u64,
+    pub workers: usize,
+    pub tenants: Vec<(String, u64)>,
+}
+
+fn options() -> Option<Options> {
+    let mut options = Options {
+        slots: 64,
+        max_blob: 1 << 20,
+        workers: 1,
+        tenants: Vec::new(),
+    };
+    let mut words = std::env::args().skip(1);
+    while let Some(word) = words.next() {
+        match word.as_str() {
+            "--slots" => options.slots = words.next()?.parse().ok()?,
+            "--max-blob" => options.max_blob = words.next()?.parse().ok()?,
+            "--workers" => options.workers = words.next()?.parse().ok()?,
+            _ => {
+                let (name, quota) = word.split_once('=')?;
+                options.tenants.push((name.to_string(), quota.parse().ok()?));
+            }
+        }
+    }
+    Some(options)
+}
+
+fn main() {
+    let Some(options) = options() else {
+        eprintln!("ordinary: wrong arguments");
+        exit(2);
+    };
+    let mut script = Vec::new();
+    if io::stdin().lock().read_to_end(&mut script).is_err() {
+        exit(3);
+    }
+    let rows = match script::rows(&script) {
+        Ok(rows) => rows,
+        Err(number) => {
+            eprintln!("ordinary: bad row {number}");
+            exit(1);
+        }
+    };
+    drop(script);
+    let book = book::Book::new(&options);
+    let (replies, book) = player::play(&rows, book, options.workers);
+    let mut out = io::BufWriter::with_capacity(1 << 16, io::stdout().lock());
+    let written = replies
+        .iter()
+        .enumerate()
+        .try_for_each(|(i, reply)| reply.write(i + 1, &mut out))
+        .and_then(|()| book.print(&mut out))
+        .and_then(|()| out.flush());
+    exit(if written.is_ok() { 0 } else { 4 });
+}
