@@ -2,3 +2,4 @@ pub mod Refusals
 pub mod Places
 pub mod Settlings
 pub mod Seated
+pub mod Interleavings

@@ -20,6 +20,7 @@ mod parts;
 #[cfg(test)]
 mod play_tests;
 mod playing;
+mod queries;
 #[cfg(test)]
 mod refusal_tests;
 mod seat;
@@ -40,7 +41,7 @@ pub use locked_book::{
     Totals,
 };
 pub use parts::Parts;
-pub use playing::{MAX_WORKERS, Played, play};
+pub use playing::{MAX_WORKERS, Played, PlayedToEnd, play, play_to_end};
 pub use row_player::{Gate, OpenGate, Reply, Row, Verb};
 pub use seat::Seat;
 pub use store::Store;

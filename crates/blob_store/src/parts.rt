@@ -45,7 +45,7 @@ impl Model for Parts {
       log = p.log.name;
     } };
 
-    ghost invariant = { λ p. (p.book.table ≡ p.pins) × (p.book.catalog.sessions ≡ empty) × (p.commands.parts ≡ ledger_parts) × (p.received.parts ≡ ledger_parts) × (p.closed.parts ≡ ledger_parts) × (p.abandoned.parts ≡ ledger_parts) × (p.log.entries ≡ []) };
+    ghost invariant = { λ p. (p.book.table ≡ p.pins) × (p.book.catalog.sessions ≡ empty) × (p.commands.parts ≡ ledger_parts) × (p.received.parts ≡ ledger_parts) × (p.closed.parts ≡ ledger_parts) × (p.abandoned.parts ≡ ledger_parts) × (p.log.entries ≡ []) × (p.log.writers ≡ 0) };
 }
 
 impl Parts {

@@ -1,11 +1,12 @@
 //! Scripts that one worker and two workers play, and what a gate is asked.
 
-ghost use Rattle.std.specs.Prelude.{◌<◌, ◌≤◌};
+ghost use Rattle.std.specs.Prelude.{◌≡◌, ◌<◌, ◌≤◌};
+ghost use Rattle.blob_store.specs.Parts.{names_of};
 
 use crate::test_steps::{ABC, TestStore};
 use crate::thread_tests::awaits;
-use crate::{Naming, Settled, play};
-use row_player::{Gate, Reply, Row, Verb, has_fields};
+use crate::{Naming, Parts, Settled, play, play_to_end};
+use row_player::{Gate, OpenGate, Reply, Row, Verb, has_fields};
 use std::alloc::AllocGlobal;
 use std::process::Abort;
 use std::sync::Wait;
@@ -324,4 +325,22 @@ impl<'s, S: Naming + Send + Sync, W: Abort + AllocGlobal + Threads + Wait + Sync
         };
         assert_eq!(rt; settled, sums);
     }
+}
+
+/// Two workers play on a store of their own to its end: these are the replies, and this is the book that is left.
+pub fn plays_to_end<S: Naming + Send + Sync, W: Abort + AllocGlobal + Threads + Wait + Sync>(
+    rt: &W,
+    parts: Parts,
+)
+    requires { names_of parts ≡ S.names }
+{
+    let rows = rows_of(rt, LINES.as_slice());
+    let ended = play_to_end::<_, _, S>(rt, rt.alloc(), parts, rows.as_slice(), 2, &OpenGate).expect(
+        rt, "memory",
+    );
+    let wanted = texts(rt, LINES.as_slice());
+    expect_replies(rt, ended.replies.as_slice(), wanted.as_slice());
+    let mut written: Vec<u8> = Vec::new(rt.alloc());
+    ended.book.print(&mut written).expect(rt, "memory");
+    assert!(rt; written.as_slice() == BOOK.as_bytes());
 }

@@ -1,16 +1,18 @@
 //! A script played by workers.
-ghost use Rattle.std.specs.Prelude.{ℕ, ◌≡◌, ◌⊎◌, ◌+◌, ◌<◌, ◌≤◌, [], IfOk, IfErr, true, length, map, vec_len, vec_capacity};
+ghost use Rattle.std.specs.Prelude.{ℕ, ◌≡◌, ◌⊎◌, ◌+◌, ◌<◌, ◌≤◌, [], IfOk, IfErr, IfSome, true, length, map, vec_len, vec_capacity};
 ghost use Rattle.blob_digest.specs.declared.refusal.Refusal.TheVariants.{LimitReached, Memory};
 ghost use Rattle.locked_book.specs.History.{AreFresh, DeskView};
-ghost use Rattle.blob_store.specs.Workers.{AllAt, ArePlayed, AreSettled, HasPlayed, IsReady, IsWorkerAt};
+ghost use Rattle.blob_store.specs.Parts.{names_of};
+ghost use Rattle.blob_store.specs.Workers.{AllAt, ArePlayed, AreSettled, HasPlayed, HavePlayed, IsInterleaved, IsReady, IsWorkerAt};
 ghost use Rattle.row_player.specs.Answers.{answers_of};
 ghost use Rattle.row_player.specs.RowViews.{row_view};
 ghost use Rattle.row_player.specs.Shares.{own_answers, own_rows};
 
+use crate::parts::Parts;
 use crate::store::Store;
 use crate::workers::{Job, Outcome, WorkersDone, play_all};
 use blob_digest::Refusal;
-use locked_book::{Desk, DroppableDesk, Naming, Settled};
+use locked_book::{Desk, DroppableDesk, LockedBook, Naming, Settled};
 use row_player::{Gate, Reply, Row, Worker, in_row_order};
 use std::alloc::Global;
 use std::sync::Wait;
@@ -29,6 +31,24 @@ pub struct Played {
     pub settled: Settled,
 }
 
+/// What playing a script to the end of its store answers.
+#[derive(Drop)]
+pub struct PlayedToEnd<S: Naming> {
+    /// One reply for each row, in the order of the rows.
+    pub replies: Vec<Reply>,
+    /// The book that is left.
+    pub book: LockedBook<S>,
+}
+
+/// Room for what workers begin and end with, and for all replies.
+#[derive(Drop)]
+struct Room<S: Naming> {
+    lists: Vec<Vec<Reply>>,
+    merged: Vec<Reply>,
+    jobs: Vec<Job<S>>,
+    done: WorkersDone<S>,
+}
+
 /// Room for the replies of each worker.
 fn lists_for(alloc: Global, rows: &[Row], workers: usize) -> Result<Vec<Vec<Reply>>, Refusal>
     requires { 0 < workers }
@@ -42,6 +62,26 @@ fn lists_for(alloc: Global, rows: &[Row], workers: usize) -> Result<Vec<Vec<Repl
         lists.push_reserved(worker.room(alloc, rows)?);
     }
     Ok(lists)
+}
+
+/// All room that workers need.
+fn room_for<S: Naming>(alloc: Global, rows: &[Row], workers: usize) -> Result<Room<S>, Refusal>
+    requires { 0 < workers }
+    ensures lists { IfOk result (λ r. (vec_len r.lists ≡ workers) × (workers ≤ vec_capacity r.lists) × AllAt (λ w l. (l.items ≡ []) × (length (own_rows workers w (map row_view rows.now)) ≤ vec_capacity l)) r.lists.items) }
+    ensures merged { IfOk result (λ r. (vec_len r.merged ≡ 0) × (length rows.now ≤ vec_capacity r.merged)) }
+    ensures jobs { IfOk result (λ r. (vec_len r.jobs ≡ 0) × (workers ≤ vec_capacity r.jobs)) }
+    ensures done { IfOk result (λ r. (vec_len r.done.outcomes ≡ 0) × (workers ≤ vec_capacity r.done.outcomes) × (vec_len r.done.unstarted ≡ 0) × (workers ≤ vec_capacity r.done.unstarted)) }
+    ensures refused { IfErr result (λ e. e ≡ Memory) }
+{
+    Ok(Room {
+        lists: lists_for(alloc, rows, workers)?,
+        merged: Vec::with_capacity(alloc, rows.len())?,
+        jobs: Vec::with_capacity(alloc, workers)?,
+        done: WorkersDone {
+            outcomes: Vec::with_capacity(alloc, workers)?,
+            unstarted: Vec::with_capacity(alloc, workers)?,
+        },
+    })
 }
 
 /// The jobs of all workers, the last one first: each has a desk and room for its replies. The two vectors that
@@ -114,6 +154,47 @@ fn add_desks<S: Naming>(mut unstarted: Vec<DroppableDesk<S>>, desks: &mut Vec<De
     }
 }
 
+/// Plays a script by as many workers as there are desks, and puts the desks back in their order. No replies, where memory
+/// ran out for a row or for a thread.
+fn play_at<W: Threads + Wait + Sync, G: Gate + Send + Sync, S: Naming + Send + Sync>(
+    rt: &W,
+    alloc: Global,
+    store: &Store<S>,
+    rows: &[Row],
+    gate: &G,
+    room: Room<S>,
+    desks: &mut Vec<Desk<S>>,
+) -> Option<Vec<Reply>>
+    requires fresh { (0 < vec_len desks.old) × AreFresh desks.old.items }
+    requires lists { (vec_len room.lists ≡ vec_len desks.old) × AllAt (λ w l. (l.items ≡ []) × (length (own_rows (vec_len desks.old) w (map row_view rows.now)) ≤ vec_capacity l)) room.lists.items }
+    requires merged { (vec_len room.merged ≡ 0) × (length rows.now ≤ vec_capacity room.merged) }
+    requires jobs { (vec_len room.jobs ≡ 0) × (vec_len desks.old ≤ vec_capacity room.jobs) }
+    requires done { (vec_len room.done.outcomes ≡ 0) × (vec_len desks.old ≤ vec_capacity room.done.outcomes) × (vec_len room.done.unstarted ≡ 0) × (vec_len desks.old ≤ vec_capacity room.done.unstarted) }
+    ensures { IfSome result (λ replies. HavePlayed S.names.opening (vec_len desks.old) (map row_view rows.now) desks.new.items (answers_of replies.items)) }
+{
+    let Room {
+        mut lists,
+        merged,
+        jobs,
+        done,
+    } = room;
+    let workers = desks.len();
+    let jobs = jobs_of(rows, desks, &mut lists, jobs);
+    let halt = AtomicBool::new(false);
+    let WorkersDone {
+        outcomes,
+        unstarted,
+    } = play_all(rt, alloc, store, gate, rows, &halt, jobs, done);
+    let started = unstarted.is_empty();
+    let ended = collect(rows, workers, outcomes, desks, &mut lists);
+    add_desks(unstarted, desks);
+    if started && ended {
+        Some(in_row_order(rows, lists, merged))
+    } else {
+        None
+    }
+}
+
 /// Plays a script by workers, the first in the calling thread and each other one in a thread of its own: a row of
 /// a lane is played by the worker whose number is the lane's modulo the workers', each worker plays its rows in
 /// their order, and the gate is asked before and after each row, outside the lock. At its end a worker gives back
@@ -137,30 +218,44 @@ pub fn play<W: Threads + Wait + Sync, G: Gate + Send + Sync, S: Naming + Send + 
     ensures settled { IfOk result (λ p. AreSettled (map row_view rows.now) (answers_of p.replies.items) p.settled) }
     ensures refused { IfErr result (λ e. (e ≡ LimitReached) ⊎ (e ≡ Memory)) }
 {
-    let mut lists = lists_for(alloc, rows, workers)?;
-    let merged = Vec::with_capacity(alloc, rows.len())?;
-    let jobs = Vec::with_capacity(alloc, workers)?;
-    let room = WorkersDone {
-        outcomes: Vec::with_capacity(alloc, workers)?,
-        unstarted: Vec::with_capacity(alloc, workers)?,
-    };
+    let room = room_for(alloc, rows, workers)?;
     let mut desks = store.desks(rt, workers as u64)?;
-    let jobs = jobs_of(rows, &mut desks, &mut lists, jobs);
-    let halt = AtomicBool::new(false);
-    let WorkersDone {
-        outcomes,
-        unstarted,
-    } = play_all(rt, alloc, store, gate, rows, &halt, jobs, room);
-    let started = unstarted.is_empty();
-    let ended = collect(rows, workers, outcomes, &mut desks, &mut lists);
-    add_desks(unstarted, &mut desks);
+    let played = play_at(rt, alloc, store, rows, gate, room, &mut desks);
     let settled = store.settle(rt, desks);
-    if started && ended {
-        Ok(Played {
-            replies: in_row_order(rows, lists, merged),
-            settled,
-        })
-    } else {
-        Err(Refusal::Memory)
+    match played {
+        Some(replies) => Ok(Played { replies, settled }),
+        None => Err(Refusal::Memory),
+    }
+}
+
+/// Plays a script by workers as `play` does, on a new store of these parts that nobody else uses, and answers the replies
+/// with the book that is left. The steps of all workers are one legal history, which has no others and leaves this book. The
+/// names of the parts are those that the type parameter says.
+///
+/// Refused as `play` refuses. Out of memory is answered as well where the history has steps that are no worker's, of which there are
+/// none, since nobody else has the store.
+pub fn play_to_end<W: Threads + Wait + Sync, G: Gate + Send + Sync, S: Naming + Send + Sync>(
+    rt: &W,
+    alloc: Global,
+    parts: Parts,
+    rows: &[Row],
+    workers: usize,
+    gate: &G,
+) -> Result<PlayedToEnd<S>, Refusal>
+    requires workers { (0 < workers) × (workers ≤ MAX_WORKERS) }
+    requires named { names_of parts ≡ S.names }
+    ensures replies { IfOk result (λ p. length p.replies.items ≡ length rows.now) }
+    ensures together { IfOk result (λ p. IsInterleaved S.names.opening workers (map row_view rows.now) (answers_of p.replies.items) p.book.book.catalog) }
+    ensures refused { IfErr result (λ e. (e ≡ LimitReached) ⊎ (e ≡ Memory)) }
+{
+    let room = room_for(alloc, rows, workers)?;
+    let store = Store::<S>::new(parts);
+    let mut desks = store.desks(rt, workers as u64)?;
+    let played = play_at(rt, alloc, &store, rows, gate, room, &mut desks);
+    let mut book = store.into_book();
+    let is_whole = book.conclude(desks);
+    match played {
+        Some(replies) if is_whole => Ok(PlayedToEnd { replies, book }),
+        _ => Err(Refusal::Memory),
     }
 }

@@ -107,10 +107,21 @@ impl<S: Naming> Store<S> {
         }
     }
 
+    /// What lies under the lock, once nobody uses the store any more.
+    pub(crate) fn into_book(self) -> LockedBook<S> {
+        let Store {
+            pins: _,
+            book,
+            rest: _,
+            alloc: _,
+        } = self;
+        book.into_inner()
+    }
+
     /// The lock, once it is free. Most commands hold it for a microsecond, so a thread that waits spins for that
     /// long, and then rests. It isn't woken at the end: the holder pays for no wake, and goes on with its
     /// rows while the book's memory is near. After `LOCK_ROUNDS` it sleeps until it is woken.
-    fn locked(&self, rt: &impl Wait) -> MutexGuard<'_, LockedBook<S>> {
+    pub(crate) fn locked(&self, rt: &impl Wait) -> MutexGuard<'_, LockedBook<S>> {
         for _ in 0..LOCK_ROUNDS {
             if let Some(book) = self.book.try_lock() {
                 return book;

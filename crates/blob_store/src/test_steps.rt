@@ -10,7 +10,7 @@ use std::marker::Model;
 use std::process::Abort;
 use std::sync::Wait;
 use std::thread::Threads;
-use store_book::{Config, Mount, Swept};
+use store_book::{Config, Mount, Swept, Usage};
 
 pub const ABC: &str = "sha256:ba7816bf8f01cfea414140de5dae2223b00361a396177a9cb410ff61f20015ad";
 
@@ -81,6 +81,13 @@ pub enum Step<'a> {
     Sweep(u32, u32, u32),
     /// A sweep that condemns so many blobs and retires their slots.
     Retire(u32),
+    /// The size of a blob of a repository, and of the manifest of these bytes.
+    Stat(&'a str, &'a str, Result<u64, Refusal>),
+    StatManifest(&'a str, &'a str, Result<u64, Refusal>),
+    /// What the tenant of a repository uses, and its quota.
+    Uses(&'a str, Result<Usage, Refusal>),
+    /// So many slots are free.
+    Free(u32),
     /// The word of a slot is this.
     Word(u32, u64),
     /// The text of the book is this.
@@ -233,6 +240,20 @@ impl<'s, S: Naming + Send + Sync, W: Abort + AllocGlobal + Threads + Wait + Sync
         self.store.sweep(self.rt)
     }
 
+    fn stat(&self, repo: &str, of: &str) -> Result<u64, Refusal> {
+        let of = digest(self.rt, of);
+        self.store.stat(self.rt, &name(self.rt, repo), &of)
+    }
+
+    fn stat_manifest(&self, repo: &str, bytes: &[u8]) -> Result<u64, Refusal> {
+        let of = Digest::of(Algorithm::Sha256, bytes);
+        self.store.stat_manifest(self.rt, &name(self.rt, repo), &of)
+    }
+
+    fn usage(&self, repo: &str) -> Result<Usage, Refusal> {
+        self.store.usage(self.rt, &name(self.rt, repo))
+    }
+
     /// The word of a slot, where the store has that slot.
     fn word(&self, slot: u32) -> Option<u64> {
         if slot < self.slots {
@@ -314,6 +335,12 @@ impl<'s, S: Naming + Send + Sync, W: Abort + AllocGlobal + Threads + Wait + Sync
                 };
                 is(rt, &self.sweep(), &wanted)
             }
+            Step::Stat(repo, of, wanted) => is(rt, &self.stat(repo, of), wanted),
+            Step::StatManifest(repo, bytes, wanted) => {
+                is(rt, &self.stat_manifest(repo, bytes.as_bytes()), wanted)
+            }
+            Step::Uses(repo, wanted) => is(rt, &self.usage(repo), wanted),
+            Step::Free(wanted) => is(rt, &self.store.free_slots(rt), wanted),
             Step::Word(slot, wanted) => is(rt, &self.word(*slot), &Some(*wanted)),
             Step::Prints(wanted) => is_text(rt, self.printed().as_str(), wanted),
         }

@@ -3,6 +3,7 @@
 ghost use Rattle.std.specs.Prelude.{◌≡◌, ◌≤◌, length};
 ghost use Rattle.blob_store.specs.Parts.{names_of};
 
+use crate::play_tests::plays_to_end;
 use crate::test_steps::{ABC, OBJ, ONE, Step, TWO, TestStore, config, digest};
 use crate::{Desk, Lease, Naming, Parts, Settled, Store, Totals};
 use blob_digest::Refusal;
@@ -11,7 +12,7 @@ use std::marker::Brand;
 use std::process::Abort;
 use std::sync::Wait;
 use std::thread::Threads;
-use store_book::{Config, Mount};
+use store_book::{Config, Mount, Usage};
 
 const MANIFEST: &str = "{\"schemaVersion\":2,\"manifests\":[]}";
 
@@ -37,6 +38,7 @@ enum Scene {
     LoadedWithAll,
     TwoWorkers,
     OneWorker,
+    ToEnd,
     AllDesks,
     SentDesk,
     MostLeases,
@@ -131,7 +133,7 @@ impl<'s, S: Naming + Send + Sync, W: Abort + AllocGlobal + Threads + Wait + Sync
         settled
     }
 
-    /// Each command that needs no lease.
+    /// Each command that needs no lease, and queries, which count nothing.
     fn commands(&self) {
         let steps = [
             Step::Start(ONE, Ok(1)),
@@ -154,6 +156,15 @@ impl<'s, S: Naming + Send + Sync, W: Abort + AllocGlobal + Threads + Wait + Sync
             Step::PutManifest(TWO, "no manifest", Err(Refusal::ManifestInvalid)),
             Step::PutManifest(TWO, MANIFEST, Ok(())),
             Step::GetManifest(TWO, MANIFEST),
+            Step::StatManifest(TWO, MANIFEST, Ok(34)),
+            Step::Stat(TWO, ABC, Ok(3)),
+            Step::Uses(
+                TWO,
+                Ok(Usage {
+                    used: 3,
+                    quota: 1 << 40,
+                }),
+            ),
             Step::DeleteManifest(TWO, MANIFEST, Ok(())),
             Step::DeleteManifest(TWO, MANIFEST, Err(Refusal::ManifestUnknown)),
             Step::Prints(
@@ -204,6 +215,7 @@ impl<'s, S: Naming + Send + Sync, W: Abort + AllocGlobal + Threads + Wait + Sync
     fn tells(&self, lease: &Lease<'s, S>) {
         let rt = self.rt;
         assert_eq!(rt; lease.len(), 3);
+        assert!(rt; lease.bytes() == b"abc".as_slice());
         assert!(rt; lease.digest() == digest(rt, ABC));
         assert_eq!(rt; lease.slot(), 0);
         assert_eq!(rt; lease.generation(), 0);
@@ -259,12 +271,14 @@ impl<'s, S: Naming + Send + Sync, W: Abort + AllocGlobal + Threads + Wait + Sync
             Step::Delete(ONE, ABC, Ok(())),
             Step::Delete(ONE, OBJ, Ok(())),
             Step::Sweep(2, 1, 1),
+            Step::Free(1),
             Step::Word(0, 0x0000_0000_c000_0400),
             Step::Word(1, 0x0000_0001_0000_0000),
         ];
         let after = [
             Step::Word(0, 0x0000_0000_c000_0000),
             Step::Sweep(0, 1, 0),
+            Step::Free(2),
             Step::Word(0, 0x0000_0001_0000_0000),
         ];
         self.plays_around_a_lease(&meanwhile, &after);
@@ -345,6 +359,9 @@ fn play<S: Naming + Send + Sync, W: Abort + AllocGlobal + Threads + Wait + Sync>
     requires named { names_of parts ≡ S.names }
     requires there { slots ≤ length parts.book.slots }
 {
+    if let Scene::ToEnd = scene {
+        return plays_to_end::<S, W>(rt, parts);
+    }
     let store = Store::<S>::new(parts);
     let test = TestStore {
         rt,
@@ -363,6 +380,7 @@ fn play<S: Naming + Send + Sync, W: Abort + AllocGlobal + Threads + Wait + Sync>
         Scene::LoadedWithAll => test.loaded(true, LOADED_WITH_ALL),
         Scene::TwoWorkers => test.two_workers(),
         Scene::OneWorker => test.one_worker(),
+        Scene::ToEnd => {}
         Scene::AllDesks => test.all_desks(),
         Scene::SentDesk => test.sends_a_desk(),
         Scene::MostLeases => test.lends_the_most(),
@@ -420,6 +438,11 @@ fn two_workers_play_at_the_same_time(rt: HostRuntime) {
 #[test]
 fn a_gate_is_asked_before_and_after_each_row(rt: HostRuntime) {
     play_on_a_store(&rt, &["acme", "other"], Scene::OneWorker);
+}
+
+#[test]
+fn two_workers_play_to_the_end_of_their_store(rt: HostRuntime) {
+    play_on_a_store(&rt, &["acme", "other"], Scene::ToEnd);
 }
 
 #[test]

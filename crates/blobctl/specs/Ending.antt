@@ -1,18 +1,15 @@
 -- How a run ends.
-use Rattle.std.specs.Prelude.{◌≡◌, ◌⊎◌, ◌<◌, ◌≤◌, ℕ, List, ◌++◌, Option, IfSome, length, true}
+use Rattle.std.specs.Prelude.{◌≡◌, ◌⊎◌, ◌≤◌, ℕ, List, ◌++◌, Option, IfSome, length, true}
 use Rattle.std.specs.Io.KnownBytes.{Appends, Consumes}
 use Rattle.finite_maps.specs.Texts.{Text}
 use Rattle.blob_digest.specs.Tenants.{Tenant}
-use Rattle.locked_book.specs.Found.{IsReached}
 use Rattle.locked_book.specs.Names.{setting_of}
-use Rattle.locked_book.specs.History.{DeskView}
-use Rattle.blob_store.specs.Workers.{HasPlayed}
+use Rattle.blob_store.specs.Workers.{IsInterleaved}
 use Rattle.blobctl.specs.Inputs.{IsTooLong, max_script}
 use Rattle.blobctl.specs.Played.{Played}
 use Rattle.row_player.specs.Answers.{Answer}
 use Rattle.row_player.specs.Replies.{replies_text}
 use Rattle.row_player.specs.Rows.{RowView}
-use Rattle.row_player.specs.Shares.{own_answers}
 use Rattle.store_model.specs.Catalog.{Catalog}
 use Rattle.store_model.specs.Invariant.{Sound}
 use Rattle.store_book.specs.Openings.{OpensCatalog}
@@ -42,17 +39,17 @@ pub record RunSucceeds {R : Type 0} (remaining : R → Option (List ℕ)) (old n
   pub written : Appends held holds text
   pub played : Played tenants slots max_blob script text
 
--- What workers that play rows together on a store of these tenants and limits write: one reply to each row, in the order of the rows, of
--- which each worker's are those of playing its rows in their order, by steps of a legal history from the opening catalog on, which has no others
--- of this worker's; and then a book that such a history leaves, sound and of the tenants, quotas, slots and limit on blobs of that catalog.
+-- What workers that play rows together on a store of these tenants and limits write: one reply to each row, in the order of the rows, and then
+-- the book that is left. All is one legal history from the opening catalog to that book's, in which each worker's steps are those of its rows, in
+-- their order and with these replies, and there are no others. The book is sound, and has the opening catalog's tenants, quotas, slots and limit
+-- on blobs.
 pub record PlayedByWorkers (workers : ℕ) (tenants : List Tenant) (slots max_blob : ℕ) (rows : List RowView) (text : Text) : Type 0 where
   pub answers : List Answer
   pub one_each : length answers ≡ length rows
   pub first : Catalog
   pub opened : OpensCatalog tenants slots max_blob first
-  pub own : (w : ℕ) → w < workers → (desk : DeskView) × HasPlayed first workers w rows desk (own_answers workers w rows answers)
   pub last : Catalog
-  pub reached : IsReached first last
+  pub run : IsInterleaved first workers rows answers last
   pub sound : Sound last
   pub same : setting_of last ≡ setting_of first
   pub written : text ≡ replies_text answers ++ book_text last

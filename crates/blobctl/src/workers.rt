@@ -11,7 +11,7 @@ ghost use Rattle.store_book.specs.Openings.{OpensBook, tenants_shown};
 use crate::fault::Fault;
 use crate::options::Options;
 use crate::output::write_replies;
-use blob_store::{Naming, Parts, Store, play};
+use blob_store::{Naming, Parts, PlayedToEnd, play_to_end};
 use row_player::{OpenGate, Row};
 use std::alloc::Global;
 use std::io::Write;
@@ -20,8 +20,9 @@ use std::mem;
 use std::sync::Wait;
 use std::thread::Threads;
 
-/// Plays all rows by workers on the store of these parts, which were made by the options and whose names are those that
-/// the type parameter says, and writes the replies and then the book. Where that ends well, neither is given back.
+/// Plays all rows by workers on a store of these parts, which were made by the options and whose names are those that
+/// the type parameter says, and writes the replies and then the book that is left. Where that ends well, neither is given
+/// back.
 fn play_on_store<T: Threads + Wait + Sync, W: Write, S: Naming + Send + Sync>(
     rt: &T,
     alloc: Global,
@@ -37,18 +38,19 @@ fn play_on_store<T: Threads + Wait + Sync, W: Write, S: Naming + Send + Sync>(
     ensures silent { IfErr result (λ e. e ≢ Fault.Write → writer.new ≡ writer.old) }
     ensures refused { IfErr result (λ e. (e ≡ Fault.Memory) ⊎ (e ≡ Fault.Write)) }
 {
-    let store = Store::<S>::new(parts);
-    let Ok(played) = play(rt, alloc, &store, rows, options.workers, &OpenGate) else {
+    let Ok(played) = play_to_end::<_, _, S>(rt, alloc, parts, rows, options.workers, &OpenGate)
+    else {
         return Err(Fault::Memory);
     };
-    let Ok(()) = write_replies(writer, played.replies.as_slice()) else {
+    let PlayedToEnd { replies, book } = played;
+    let Ok(()) = write_replies(writer, replies.as_slice()) else {
         return Err(Fault::Write);
     };
-    let Ok(()) = store.print(rt, writer) else {
+    let Ok(()) = book.print(writer) else {
         return Err(Fault::Write);
     };
-    mem::forget(store);
-    mem::forget(played);
+    mem::forget(book);
+    mem::forget(replies);
     Ok(())
 }
 

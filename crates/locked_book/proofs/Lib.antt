@@ -6,3 +6,4 @@ pub mod Keeping
 pub mod Additions
 pub mod Counted
 pub mod Unread
+pub mod Wholes

@@ -1,5 +1,5 @@
 -- What contracts see of a store's history and of a desk's part in it, and what a call tells of it.
-use Rattle.std.specs.Prelude.{◌≡◌, ◌⊎◌, ◌<◌, ◌≤◌, ℕ, List, [], ◌∷◌, ◌++◌, None, Some, Option, Result, Ok, Err, length, map}
+use Rattle.std.specs.Prelude.{◌≡◌, ◌⊎◌, ◌<◌, ◌≤◌, ℕ, List, [], ◌∷◌, ◌++◌, None, Some, Option, Result, Ok, Err, get_or, length, map}
 use Rattle.blob_digest.specs.declared.range.ByteRange.{ByteRange}
 use Rattle.blob_digest.specs.declared.refusal.Refusal.{Refusal}
 use Rattle.blob_digest.specs.declared.refusal.Refusal.TheVariants.{Memory, SizeInvalid, ManifestInvalid}
@@ -45,6 +45,17 @@ pub record DeskView : Type 0 where
 abbrev pub amounts_of : List DeskView → List Amounts
 amounts_of desks = map (λ d. d.amounts) desks
 
+-- the steps of each desk
+abbrev pub steps_of_each : List DeskView → List (List Step)
+steps_of_each desks = map (λ d. d.trace.own) desks
+
+-- A history that leads from the opening catalog to this state, and has under each number just the steps at this place of a list: no number past
+-- its end has any.
+pub record IsWhole (C : Catalog) (s : State) (lists : List (List Step)) : Type 0 where
+  pub order : List (Entry Step)
+  pub leads : Leaves C order s
+  pub each : (n : ℕ) → events_by n order ≡ get_or lists n []
+
 -- desks that got nothing and made no step
 abbrev pub AreFresh : List DeskView → Type 0
 AreFresh [] = Unit {0}
@@ -60,7 +71,7 @@ pub record Adds (C : Catalog) (old : Trace) (step : Step) (new : Trace) : Type 0
   pub agrees : events_by new.number new.seen ≡ new.own
   pub legal : IsLegal C (steps_of new.seen)
 
--- the same of a step that no desk made, but a writer that nobody sees
+-- the same of a step that no desk made, but a writer of its own
 abbrev pub AddsByNobody : Catalog → Step → Type 0
 AddsByNobody C step = (old new : Trace) × Adds C old step new
 

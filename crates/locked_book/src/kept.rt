@@ -93,6 +93,13 @@ impl<S: Naming> Kept<S> {
         self.book.audit();
     }
 
+    /// The book, which tells sizes, uses and free slots. Nothing of that is counted.
+    pub fn book(&self) -> &Book
+        ensures { result.now ≡ self.now.book }
+    {
+        &self.book
+    }
+
     /// Refuses where one more command with these bytes can't be counted.
     fn room(&self, bytes: u64) -> Result<(), Refusal>
         ensures { result ≡ refuse (not (has_room self.now bytes)) LimitReached }

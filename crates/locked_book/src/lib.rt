@@ -18,6 +18,7 @@ mod history;
 mod kept;
 mod locked;
 mod names;
+mod settling;
 mod step;
 mod tally;
 mod totals;

@@ -21,15 +21,16 @@ ghost use Rattle.store_book.specs.SlotSteps.{EachSlot, HasPin, IsStill, ReadsWor
 ghost use Rattle.locked_book.specs.Calls.{reply};
 ghost use Rattle.locked_book.specs.Counting.{IsBalanced, Lends, cannot_hand_out, has_room, with_catalog, with_slots, uncounted, accepted, counted, reserving, handing_out, unchanged};
 ghost use Rattle.locked_book.specs.Found.{IsBookOf};
-ghost use Rattle.locked_book.specs.History.{Adds, AddsByNobody, AreFresh, IsUnread, amounts_of, steps_of};
+ghost use Rattle.locked_book.specs.History.{Adds, AddsByNobody, AreFresh, IsUnread, IsWhole, amounts_of, state_of, steps_of_each};
 ghost use Rattle.locked_book.specs.Names.{setting_of};
 
 use crate::call::Call;
 use crate::counters::Counters;
 use crate::desk::{Desk, Settled};
-use crate::history::{History, HistoryWriter};
+use crate::history::History;
 use crate::kept::Kept;
 use crate::names::Naming;
+use crate::settling::settle_all;
 use crate::step::Step;
 use crate::totals::Totals;
 use blob_digest::{Blob, ByteRange, Digest, Refusal, RepoName};
@@ -45,12 +46,11 @@ use store_book::{Book, Mount, Swept};
 use upload_table::Hand;
 
 /// The book with its totals, and its history, which leads from the opening catalog to that of the book, and to the
-/// totals. A sweep without a desk is added by a writer that is nobody's.
+/// totals. Each sweep without a desk is added by a writer of its own, that no desk has.
 #[derive(Drop)]
 pub struct LockedBook<S: Naming> {
     kept: Kept<S>,
     history: History<S>,
-    nobody: HistoryWriter<S>,
 }
 
 impl<S: Naming> Model for LockedBook<S> {
@@ -73,17 +73,13 @@ impl<S: Naming> LockedBook<S> {
         requires book { book.catalog.sessions ≡ empty }
         requires named { (book.table ≡ S.names.table) × (length book.slots ≡ S.names.slots) × (setting_of book.catalog ≡ S.names.setting) }
         requires counters { counters ≡ record { totals = nothing; settled = nothing; desks = 0 } }
-        requires log { (log.name ≡ S.names.log) × (log.entries ≡ []) }
+        requires log { (log.name ≡ S.names.log) × (log.entries ≡ []) × (log.writers ≡ 0) }
         requires opening { book.catalog ≡ S.names.opening }
         ensures { result ≡ record { book = book; counts = counters } }
     {
-        let kept = Kept::new(book, counters);
-        let mut history = History::new(log);
-        let nobody = history.writer();
         LockedBook {
-            kept,
-            history,
-            nobody,
+            kept: Kept::new(book, counters),
+            history: History::new(log),
         }
     }
 
@@ -94,6 +90,15 @@ impl<S: Naming> LockedBook<S> {
         ensures balanced { IsBalanced self.now }
     {
         self.kept.audit();
+    }
+
+    /// The book, which tells sizes, uses and free slots. No step is made.
+    pub fn book(&self) -> &Book
+        ensures found { IsBookOf S.names self.now.book }
+        ensures same { result.now ≡ self.now.book }
+    {
+        self.audit();
+        self.kept.book()
     }
 
     /// Opens a session, as `Kept::start` does.
@@ -366,7 +371,7 @@ impl<S: Naming> LockedBook<S> {
         refusal
     }
 
-    /// Sweeps as `Kept::sweep` does. Its step has a writer that is no desk's.
+    /// Sweeps as `Kept::sweep` does. Its step has a writer of its own, that no desk has.
     pub fn sweep(&mut self, pins: &Pins) -> Swept
         requires table { pins.now ≡ S.names.table }
         ensures found { IsBookOf S.names self.old.book }
@@ -376,7 +381,8 @@ impl<S: Naming> LockedBook<S> {
     {
         self.audit();
         let result = self.kept.sweep(pins);
-        self.history.add(&mut self.nobody, Call::Sweep(&result));
+        let mut nobody = self.history.writer();
+        self.history.add(&mut nobody, Call::Sweep(&result));
         result
     }
 
@@ -465,27 +471,16 @@ impl<S: Naming> LockedBook<S> {
         Ok(desks)
     }
 
-    /// Settles a desk.
-    fn settle_one(&mut self, desk: Desk<S>)
-        ensures same { (self.new.book ≡ self.old.book) × (self.new.counts.totals ≡ self.old.counts.totals) }
-        ensures desks { self.new.counts.desks + 1 ≡ self.old.counts.desks }
-        ensures settled { self.new.counts.settled ≡ plus self.old.counts.settled desk.amounts }
-    {
-        let Desk { tally, writer: _ } = desk;
-        self.kept.settle(tally);
-    }
-
-    /// Settles desks.
-    fn settle_all(&mut self, desks: Vec<Desk<S>>)
+    /// Settles desks at the end of their use, and tells whether their steps are all that were ever made here: those of each desk
+    /// under the number of its place, and no others. It is so for desks that were made first and stand in the order in which
+    /// they were made, where no other desk was ever made and nobody swept without one.
+    pub fn conclude(&mut self, desks: Vec<Desk<S>>) -> bool
         ensures same { (self.new.book ≡ self.old.book) × (self.new.counts.totals ≡ self.old.counts.totals) }
         ensures desks { self.new.counts.desks + vec_len desks ≡ self.old.counts.desks }
         ensures settled { self.new.counts.settled ≡ plus self.old.counts.settled (sum_of (amounts_of desks.items)) }
+        ensures whole { result ≡ true → IsWhole S.names.opening (state_of self.new) (steps_of_each desks.items) }
     {
-        let mut desks = desks;
-        while let Some(desk) = desks.pop() {
-            self.settle_one(desk);
-        }
-        desks.destroy_empty();
+        settle_all(&mut self.kept, &mut self.history, desks)
     }
 
     /// Settles desks: the sums of their shares, and the number still out. Once none is out, all of the
@@ -498,7 +493,7 @@ impl<S: Naming> LockedBook<S> {
         ensures all { result.left ≡ 0 → self.new.counts.settled ≡ self.new.counts.totals }
     {
         let before = self.kept.settled();
-        self.settle_all(desks);
+        let _ = self.conclude(desks);
         let after = self.kept.settled();
         Settled {
             commands: after.commands - before.commands,

@@ -18,7 +18,8 @@ pub source_bad : (text : Text) → length text ≢ 0 → is_repo_name text ≡ f
 source_bad [] some h = absurd (some refl)
 source_bad (c ∷ cs) some h = rw h refl
 
-range_holds : (r : ByteRange) → range_with (Some (r.start, r.end)) ≡ Ok (Some r)
+-- ends in order are a range's
+pub range_holds : (r : ByteRange) → range_with (Some (r.start, r.end)) ≡ Ok (Some r)
 range_holds r = go (nat_le r.start r.end) (nat_lt r.end (2 ^ 63)) refl refl
   where
     go : (o s : Bool) (p : nat_le r.start r.end ≡ o) (q : nat_lt r.end (2 ^ 63) ≡ s) → range_by r.start r.end o s p q ≡ Ok (Some r)

@@ -1,6 +1,6 @@
 pub mod Counting
 pub mod Digits
-mod FieldTexts
+pub mod FieldTexts
 pub mod LeaseTables
 pub mod Orders
 pub mod Partitions

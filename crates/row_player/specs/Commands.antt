@@ -124,12 +124,16 @@ command verb.DeleteManifest repo from digest range number body = Some (DeleteMan
 command verb.Lease repo from digest range number body = Some (Lease repo digest)
 command _ repo from digest range number body = None
 
--- The command that a row spells, or the refusal of the first of its fields, in this order, that spells nothing. A row of a lease that its
--- lane has, and a sweep, spell none, and are not refused here.
+-- The command of a verb whose fields these are, or the refusal of the first of them, in this order, that spells nothing. What asks for
+-- something else than a command spells none, and is not refused here. So rows of a script and frames of a line spell their commands.
+abbrev pub command_from : Verb → (repo source digest : Text) → Result (Option ByteRange) Refusal → Option ℕ → Text → Result (Option Command) Refusal
+command_from verb repo source digest range number body = do
+  repo ← where_used (uses_repo verb) [] (repo_in repo)
+  from ← where_used (uses_source verb) None (source_in source)
+  digest ← where_used (uses_digest verb) [] (digest_in digest)
+  range ← where_used (uses_range verb) None range
+  Ok (command verb repo from digest range number body)
+
+-- The command that a row spells. A row of a lease that its lane has, and a sweep, spell none.
 abbrev pub command_of : RowView → Result (Option Command) Refusal
-command_of row = do
-  repo ← where_used (uses_repo row.verb) [] (repo_in row.repo)
-  from ← where_used (uses_source row.verb) None (source_in row.key)
-  digest ← where_used (uses_digest row.verb) [] (digest_in row.digest)
-  range ← where_used (uses_range row.verb) None (range_in row.range)
-  Ok (command row.verb repo from digest range (session_number row.key) row.body)
+command_of row = command_from row.verb row.repo row.key row.digest (range_in row.range) (session_number row.key) row.body

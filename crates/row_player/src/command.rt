@@ -1,10 +1,9 @@
 //! The commands that rows spell.
-ghost use Rattle.std.specs.Prelude.{◌≡◌, true, Some};
+ghost use Rattle.std.specs.Prelude.{◌≡◌, true, IsSome, Some};
 ghost use Rattle.blob_digest.specs.Outcomes.{Answers};
 ghost use Rattle.row_player.specs.CommandViews.{command_view};
-ghost use Rattle.row_player.specs.Commands.{command_of, digest_in, is_command, range_in, repo_in, source_in, uses_session};
+ghost use Rattle.row_player.specs.Commands.{command_from, command_of, digest_in, is_command, range_in, repo_in, source_in, uses_session};
 ghost use Rattle.row_player.specs.RowViews.{row_view};
-ghost use Rattle.row_player.specs.Rows.{session_number};
 
 use crate::fields::session;
 use crate::row::{Row, Verb};
@@ -111,14 +110,96 @@ fn source_in(alloc: Global, text: &[u8]) -> Result<Option<RepoName>, Refusal>
     Ok(Some(from))
 }
 
-/// The number of the session that a row names.
-fn number_in(row: &Row) -> u32
-    requires { uses_session row.now.verb ≡ true }
-    ensures { session_number row.now.key.items ≡ Some result }
+/// What a command is spelled with, in a row of a script or in a frame of a line.
+#[derive(Drop)]
+pub struct Fields<'r> {
+    /// The repository's name.
+    pub repo: &'r [u8],
+    /// The name of the repository that a blob is mounted from, or nothing.
+    pub source: &'r [u8],
+    /// The digest's text.
+    pub digest: &'r [u8],
+    /// The range of a chunk, or why there is none.
+    pub range: Result<Option<ByteRange>, Refusal>,
+    /// The number of a session.
+    pub number: Option<u32>,
+    /// The bytes of a chunk or of a manifest.
+    pub body: &'r [u8],
+}
+
+/// The number of a session that is there.
+fn session_in(number: Option<u32>) -> u32
+    requires { IsSome number }
+    ensures { number ≡ Some result }
 {
-    match session(row.key.as_slice()) {
+    match number {
         Some(number) => number,
         None => unreachable!(),
+    }
+}
+
+/// The command of a verb with these fields. Refused is the first of the fields that it uses, in the order
+/// repository, source, digest and range, that spells nothing.
+pub fn command_from<'r>(
+    alloc: Global,
+    verb: Verb,
+    fields: Fields<'r>,
+) -> Result<Command<'r>, Refusal>
+    requires command { is_command verb ≡ true }
+    requires session { uses_session verb ≡ true → IsSome fields.number }
+    ensures { Answers (λ c. Some (command_view c)) result (command_from verb fields.entry.repo.now fields.entry.source.now fields.entry.digest.now fields.entry.range fields.entry.number fields.entry.body.now) }
+{
+    let Fields {
+        repo,
+        source,
+        digest,
+        range,
+        number,
+        body,
+    } = fields;
+    let repo = repo_in(alloc, repo)?;
+    match verb {
+        Verb::Start => Ok(Command::Start { repo }),
+        Verb::Status => Ok(Command::Status {
+            repo,
+            number: session_in(number),
+        }),
+        Verb::Append => Ok(Command::Append {
+            repo,
+            number: session_in(number),
+            range: range?,
+            bytes: body,
+        }),
+        Verb::Close => Ok(Command::Close {
+            repo,
+            number: session_in(number),
+            digest: digest_in(digest)?,
+            range: range?,
+            bytes: body,
+        }),
+        Verb::Abandon => Ok(Command::Abandon {
+            repo,
+            number: session_in(number),
+        }),
+        Verb::Mount => Ok(Command::Mount {
+            repo,
+            from: source_in(alloc, source)?,
+            digest: digest_in(digest)?,
+        }),
+        Verb::Delete => Ok(Command::Delete {
+            repo,
+            digest: digest_in(digest)?,
+        }),
+        Verb::PutManifest => Ok(Command::PutManifest { repo, bytes: body }),
+        Verb::GetManifest => Ok(Command::GetManifest {
+            repo,
+            digest: digest_in(digest)?,
+        }),
+        Verb::DeleteManifest => Ok(Command::DeleteManifest {
+            repo,
+            digest: digest_in(digest)?,
+        }),
+        _ => unreachable!(),
     }
 }
 
@@ -128,49 +209,16 @@ pub fn command_in<'r>(alloc: Global, row: &'r Row) -> Result<Command<'r>, Refusa
     requires { is_command row.now.verb ≡ true }
     ensures { Answers (λ c. Some (command_view c)) result (command_of (row_view row.now)) }
 {
-    let repo = repo_in(alloc, row.repo.as_slice())?;
-    let bytes = row.body.as_slice();
-    match row.verb {
-        Verb::Start => Ok(Command::Start { repo }),
-        Verb::Status => Ok(Command::Status {
-            repo,
-            number: number_in(row),
-        }),
-        Verb::Append => Ok(Command::Append {
-            repo,
-            number: number_in(row),
-            range: range_in(row.range.as_slice())?,
-            bytes,
-        }),
-        Verb::Close => Ok(Command::Close {
-            repo,
-            number: number_in(row),
-            digest: digest_in(row.digest.as_slice())?,
-            range: range_in(row.range.as_slice())?,
-            bytes,
-        }),
-        Verb::Abandon => Ok(Command::Abandon {
-            repo,
-            number: number_in(row),
-        }),
-        Verb::Mount => Ok(Command::Mount {
-            repo,
-            from: source_in(alloc, row.key.as_slice())?,
-            digest: digest_in(row.digest.as_slice())?,
-        }),
-        Verb::Delete => Ok(Command::Delete {
-            repo,
-            digest: digest_in(row.digest.as_slice())?,
-        }),
-        Verb::PutManifest => Ok(Command::PutManifest { repo, bytes }),
-        Verb::GetManifest => Ok(Command::GetManifest {
-            repo,
-            digest: digest_in(row.digest.as_slice())?,
-        }),
-        Verb::DeleteManifest => Ok(Command::DeleteManifest {
-            repo,
-            digest: digest_in(row.digest.as_slice())?,
-        }),
-        _ => unreachable!(),
-    }
+    command_from(
+        alloc,
+        row.verb,
+        Fields {
+            repo: row.repo.as_slice(),
+            source: row.key.as_slice(),
+            digest: row.digest.as_slice(),
+            range: range_in(row.range.as_slice()),
+            number: session(row.key.as_slice()),
+            body: row.body.as_slice(),
+        },
+    )
 }

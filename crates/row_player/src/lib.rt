@@ -26,7 +26,7 @@ mod row;
 mod worker;
 
 pub use backend::Backend;
-pub use command::Command;
+pub use command::{Command, Fields, command_from, digest_in, repo_in};
 pub use fields::has_fields;
 pub use gate::{Gate, OpenGate};
 pub use order::in_row_order;

@@ -10,6 +10,7 @@ pub mod Mount
 pub mod New
 pub mod Print
 pub mod PutBack
+pub mod Queries
 pub mod Start
 pub mod Sweep
 pub mod Take

@@ -1,6 +1,7 @@
 pub mod BookFields
 pub mod BookState
 pub mod Events
+pub mod FreeSlots
 pub mod Internal
 pub mod Layers
 pub mod Leased

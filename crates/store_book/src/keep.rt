@@ -25,7 +25,7 @@ fn holds(slots: &SlotTable, slot: u32, bytes: &[u8]) -> bool
 }
 
 /// How many bytes a slot holds.
-fn held_len(slots: &SlotTable, slot: u32) -> u64
+pub(crate) fn held_len(slots: &SlotTable, slot: u32) -> u64
     requires { slot < length slots.now }
     ensures { result ≡ length (bytes_at slots.now slot) }
 {

@@ -82,6 +82,13 @@ impl<'p, N: PinsName> Lease<'p, N> {
         &self.blob
     }
 
+    /// The blob's bytes, as the store has them: none is copied.
+    pub fn bytes(&self) -> &[u8]
+        ensures { result.now ≡ self.now.bytes }
+    {
+        self.blob.bytes()
+    }
+
     /// The blob's size in bytes.
     pub fn len(&self) -> u64
         ensures { result ≡ length self.now.bytes }

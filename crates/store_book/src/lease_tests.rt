@@ -235,24 +235,43 @@ fn delete_each(rt: &(impl Abort + AllocGlobal), store: &mut Store, from: u32, to
     }
 }
 
+/// Leases the blob of a number.
+fn leases_number(rt: &(impl Abort + AllocGlobal), store: &mut Store, number: u32) -> Lease
+    ensures table { store.new.book.table ≡ store.old.book.table }
+    ensures pin { result.pin.table ≡ store.new.book.table }
+{
+    leases(rt, store, digest_of(rt, &number.to_be_bytes()).as_str())
+}
+
+/// Finds that a lease has the bytes of a number.
+fn has_number(rt: &(impl Abort + AllocGlobal), lease: &Lease, number: u32) {
+    assert_eq!(rt; lease.blob.bytes(), number.to_be_bytes().as_slice());
+}
+
+/// Deletes a thousand blobs, of which 250 are out, and sweeps; then fills the slots that are free with others.
+fn sweeps_and_fills(rt: &(impl Abort + AllocGlobal), store: &mut Store)
+    ensures { store.new.book.table ≡ store.old.book.table }
+{
+    delete_each(rt, store, 0, 1000);
+    play(rt, store, &Step::Sweep(1000, 750, 250, 0));
+    fill(rt, store, 1000, 1750);
+    let full = Err(Refusal::StoreFull);
+    play(rt, store, &Step::Upload("acme/one", ABC, "abc", full));
+}
+
 /// Leases so many blobs of a thousand; deletes all, and sweeps while the leases are out; then fills the
 /// slots that are free with others, and gives the leases back.
 fn sweep_beside_leases(rt: &(impl Abort + AllocGlobal), store: &mut Store, count: u32)
     ensures { store.new.book.table ≡ store.old.book.table }
 {
     if count == 0 {
-        delete_each(rt, store, 0, 1000);
-        play(rt, store, &Step::Sweep(1000, 750, 250, 0));
-        fill(rt, store, 1000, 1750);
-        let full = Err(Refusal::StoreFull);
-        play(rt, store, &Step::Upload("acme/one", ABC, "abc", full));
+        sweeps_and_fills(rt, store);
         return;
     }
     let number = count - 1;
-    let bytes = number.to_be_bytes();
-    let lease = leases(rt, store, digest_of(rt, &bytes).as_str());
+    let lease = leases_number(rt, store, number);
     sweep_beside_leases(rt, store, number);
-    assert_eq!(rt; lease.blob.bytes(), bytes.as_slice());
+    has_number(rt, &lease, number);
     give_back(store, lease);
 }
 

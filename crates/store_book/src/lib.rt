@@ -32,6 +32,9 @@ mod mount;
 mod mount_tests;
 mod pinned_slots;
 mod print;
+mod queries;
+#[cfg(test)]
+mod query_tests;
 #[cfg(test)]
 mod reader_tests;
 #[cfg(test)]
@@ -47,4 +50,4 @@ pub use config::Config;
 pub use lease::{Lease, PinsName};
 pub use link_table::{MAX_QUOTA, MAX_TENANTS};
 pub use slot_table::MAX_SLOTS;
-pub use store_model::{Mount, Swept};
+pub use store_model::{Mount, Swept, Usage};

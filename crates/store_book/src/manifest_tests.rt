@@ -1,9 +1,7 @@
 //! Worked examples of manifests: what they protect, which are refused and in which order, and the
 //! limits. Each digest is as `sha256sum` or `sha512sum` gives it.
 
-use crate::test_steps::{
-    ABC, ABC_512, OBJ, Step, Store, book, digest, plays, plays_on, put_manifest,
-};
+use crate::test_steps::{ABC, ABC_512, OBJ, Step, Store, book, plays_on, put_manifest};
 use blob_digest::Refusal;
 use std::alloc::AllocGlobal;
 use std::process::Abort;
@@ -164,19 +162,22 @@ fn padded(rt: &(impl Abort + AllocGlobal), text: &str, len: usize) -> String {
     padded
 }
 
+/// Of two texts of an index the one that passes the limit is refused, and the one that reaches it is kept.
+fn keeps_the_one_that_fits<'a>(rt: &(impl Abort + AllocGlobal), passes: &'a str, fits: &'a str) {
+    let script = [
+        Step::PutManifest(ONE, passes, Err(Refusal::SizeInvalid)),
+        Step::Prints("book\ntenant acme used 0 quota 1000 next 1\nend\n"),
+        Step::PutManifest(ONE, fits, Ok(PADDED_DIGEST)),
+        Step::GetManifest(ONE, PADDED_DIGEST, Ok(fits)),
+    ];
+    plays_on(rt, book(rt, &[("acme", 1000)]), &script);
+}
+
 #[test]
 fn a_manifest_past_4_mib_is_refused(rt: HostRuntime) {
-    let mut book = book(&rt, &[("acme", 1000)]);
-    let fits = padded(&rt, INDEX, 4_194_304);
     let passes = padded(&rt, INDEX, 4_194_305);
-    let refused = put_manifest(&rt, &mut book, ONE, passes.as_str());
-    assert!(rt; refused == Err(Refusal::SizeInvalid));
-    let nothing = "book\ntenant acme used 0 quota 1000 next 1\nend\n";
-    plays(&rt, &mut book, &[Step::Prints(nothing)]);
-    let kept = put_manifest(&rt, &mut book, ONE, fits.as_str());
-    assert!(rt; kept == Ok(digest(&rt, PADDED_DIGEST)));
-    let script = [Step::GetManifest(ONE, PADDED_DIGEST, Ok(fits.as_str()))];
-    plays(&rt, &mut book, &script);
+    let fits = padded(&rt, INDEX, 4_194_304);
+    keeps_the_one_that_fits(&rt, passes.as_str(), fits.as_str());
 }
 
 /// An index that has a number among its annotations.
@@ -196,41 +197,32 @@ fn filled(rt: &(impl Abort + AllocGlobal)) -> Store {
     book
 }
 
+const FIRST_DIGEST: &str =
+    "sha256:43a95671f7b81ff959683294c42f65f869cc09ede1d759e1a1b0aa286c0c2e52";
+
+const NEXT_DIGEST: &str = "sha256:833bc180aa02dfa0a7c77b9c409e65b90f5842be7c2aacd5ecb868070d6e95f4";
+
+/// Of a repository that has the most indexes, and the first of them, the next one is kept in the place of the first.
+fn keeps_the_next_instead<'a>(rt: &(impl Abort + AllocGlobal), first: &'a str, next: &'a str) {
+    let script = [
+        Step::PutManifest(ONE, next, Err(Refusal::LimitReached)),
+        Step::PutManifest(ONE, first, Ok(FIRST_DIGEST)),
+        Step::PutManifest("acme/two", next, Ok(NEXT_DIGEST)),
+        Step::PutManifest(ONE, "{}", Err(Refusal::ManifestInvalid)),
+        Step::PutUnlinked(ONE, IMAGE, OBJ),
+        Step::GetManifest(ONE, NEXT_DIGEST, Err(Refusal::ManifestUnknown)),
+        Step::DeleteManifest(ONE, FIRST_DIGEST, Ok(())),
+        Step::PutManifest(ONE, next, Ok(NEXT_DIGEST)),
+        Step::PutManifest(ONE, first, Err(Refusal::LimitReached)),
+    ];
+    plays_on(rt, filled(rt), &script);
+}
+
 #[test]
 fn a_repository_has_at_most_1024_manifests(rt: HostRuntime) {
-    let mut book = filled(&rt);
     let first = numbered(&rt, 0);
     let next = numbered(&rt, 1024);
-    let first_digest = "sha256:43a95671f7b81ff959683294c42f65f869cc09ede1d759e1a1b0aa286c0c2e52";
-    let next_digest = "sha256:833bc180aa02dfa0a7c77b9c409e65b90f5842be7c2aacd5ecb868070d6e95f4";
-    for (repo, bytes, wanted) in [
-        (ONE, next.as_str(), Err(Refusal::LimitReached)),
-        (ONE, first.as_str(), Ok(digest(&rt, first_digest))),
-        ("acme/two", next.as_str(), Ok(digest(&rt, next_digest))),
-        (ONE, "{}", Err(Refusal::ManifestInvalid)),
-        (
-            ONE,
-            IMAGE,
-            Err(Refusal::ManifestBlobUnknown {
-                digest: digest(&rt, OBJ),
-            }),
-        ),
-    ] {
-        let found = put_manifest(&rt, &mut book, repo, bytes);
-        assert!(rt; found == wanted);
-    }
-    let script = [
-        Step::GetManifest(ONE, next_digest, Err(Refusal::ManifestUnknown)),
-        Step::DeleteManifest(ONE, first_digest, Ok(())),
-    ];
-    plays(&rt, &mut book, &script);
-    for (bytes, wanted) in [
-        (next.as_str(), Ok(digest(&rt, next_digest))),
-        (first.as_str(), Err(Refusal::LimitReached)),
-    ] {
-        let found = put_manifest(&rt, &mut book, ONE, bytes);
-        assert!(rt; found == wanted);
-    }
+    keeps_the_next_instead(&rt, first.as_str(), next.as_str());
 }
 
 /// A book with two tenants, of which `acme` has 1,024 repositories, each with an index.
@@ -244,36 +236,33 @@ fn crowded(rt: &(impl Abort + AllocGlobal)) -> Store {
     book
 }
 
-#[test]
-fn a_put_is_refused_for_the_first_of_two_cases(rt: HostRuntime) {
-    let mut book = crowded(&rt);
-    let no_manifest = padded(&rt, "", 4_194_305);
-    let image = padded(&rt, IMAGE, 4_194_305);
-    let new = "acme/new";
-    for (repo, bytes, first) in [
-        ("nobody/x", no_manifest.as_str(), Refusal::NameUnknown),
-        ("nobody/x", "{}", Refusal::NameUnknown),
-        ("nobody/x", IMAGE, Refusal::NameUnknown),
-        (new, no_manifest.as_str(), Refusal::SizeInvalid),
-        (new, image.as_str(), Refusal::SizeInvalid),
-        (new, "{}", Refusal::ManifestInvalid),
-        (
-            new,
-            IMAGE,
-            Refusal::ManifestBlobUnknown {
-                digest: digest(&rt, OBJ),
-            },
-        ),
-        (new, INDEX, Refusal::LimitReached),
-    ] {
-        let found = put_manifest(&rt, &mut book, repo, bytes);
-        assert!(rt; found == Err(first));
-    }
+/// Where a text is no manifest and too long, and another is an image and too long, finds the first case of two.
+fn refuses_for_the_first<'a>(
+    rt: &(impl Abort + AllocGlobal),
+    no_manifest: &'a str,
+    image: &'a str,
+) {
+    let (new, nobody) = ("acme/new", "nobody/x");
     let script = [
-        Step::GetManifest("nobody/x", INDEX_DIGEST, Err(Refusal::NameUnknown)),
-        Step::DeleteManifest("nobody/x", INDEX_DIGEST, Err(Refusal::NameUnknown)),
+        Step::PutManifest(nobody, no_manifest, Err(Refusal::NameUnknown)),
+        Step::PutManifest(nobody, "{}", Err(Refusal::NameUnknown)),
+        Step::PutManifest(nobody, IMAGE, Err(Refusal::NameUnknown)),
+        Step::PutManifest(new, no_manifest, Err(Refusal::SizeInvalid)),
+        Step::PutManifest(new, image, Err(Refusal::SizeInvalid)),
+        Step::PutManifest(new, "{}", Err(Refusal::ManifestInvalid)),
+        Step::PutUnlinked(new, IMAGE, OBJ),
+        Step::PutManifest(new, INDEX, Err(Refusal::LimitReached)),
+        Step::GetManifest(nobody, INDEX_DIGEST, Err(Refusal::NameUnknown)),
+        Step::DeleteManifest(nobody, INDEX_DIGEST, Err(Refusal::NameUnknown)),
         Step::PutManifest("acme/r0", INDEX, Ok(INDEX_DIGEST)),
         Step::PutManifest("other/new", INDEX, Ok(INDEX_DIGEST)),
     ];
-    plays(&rt, &mut book, &script);
+    plays_on(rt, crowded(rt), &script);
+}
+
+#[test]
+fn a_put_is_refused_for_the_first_of_two_cases(rt: HostRuntime) {
+    let no_manifest = padded(&rt, "", 4_194_305);
+    let image = padded(&rt, IMAGE, 4_194_305);
+    refuses_for_the_first(&rt, no_manifest.as_str(), image.as_str());
 }

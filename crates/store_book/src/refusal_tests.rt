@@ -1,6 +1,6 @@
 //! Which refusal comes where two cases meet in one call, and that none changes the book.
 
-use crate::test_steps::{ABC, EMPTY, OBJ, Step, Store, plays, plays_on, small};
+use crate::test_steps::{ABC, EMPTY, OBJ, Step, Store, play, plays, small};
 use blob_digest::Refusal;
 use std::alloc::AllocGlobal;
 use std::process::Abort;
@@ -26,83 +26,65 @@ const LATE: Refusal = Refusal::RangeInvalid { received: 2 };
 
 const OVER: Refusal = Refusal::Quota { used: 2, quota: 3 };
 
+/// Plays a step, and finds the book of a crowded store after it.
+fn leaves_crowded(rt: &(impl Abort + AllocGlobal), store: &mut Store, step: &Step) {
+    play(rt, store, step);
+    play(rt, store, &Step::Prints(CROWDED));
+}
+
+/// Plays the steps of a table on a crowded store, and finds that none changes its book.
+fn change_nothing(rt: &(impl Abort + AllocGlobal), steps: &[Step]) {
+    let mut book = crowded(rt);
+    for step in steps {
+        leaves_crowded(rt, &mut book, step);
+    }
+}
+
 #[test]
 fn a_tenant_comes_before_a_session(rt: HostRuntime) {
     let script = [
         Step::Status("nobody/x", 9, Err(Refusal::NameUnknown)),
         Step::Abandon("nobody/x", 9, Err(Refusal::NameUnknown)),
-        Step::Prints(CROWDED),
     ];
-    plays_on(&rt, crowded(&rt), &script);
-}
-
-/// A repository, a session, a range, bytes, and why they aren't appended.
-type Append = (&'static str, u32, &'static str, &'static str, Refusal);
-
-/// Finds why none of these is appended, and that the book stays as it was.
-fn appends_none(rt: &(impl Abort + AllocGlobal), rows: &[Append]) {
-    let mut book = crowded(rt);
-    for (repo, number, places, bytes, first) in rows {
-        let step = Step::Append(repo, *number, places, bytes, Err(*first));
-        plays(rt, &mut book, &[step, Step::Prints(CROWDED)]);
-    }
+    change_nothing(&rt, &script);
 }
 
 #[test]
 fn an_append_is_refused_for_the_first_of_two_cases(rt: HostRuntime) {
-    let rows = [
-        ("nobody/x", 9, "", "c", Refusal::NameUnknown),
-        ("nobody/x", 2, "2-4", "c", Refusal::NameUnknown),
-        ("acme/two", 2, "2-4", "c", Refusal::UploadUnknown),
-        ("acme/two", 2, "3-3", "c", Refusal::UploadUnknown),
-        ("acme/one", 9, "", "cd", Refusal::UploadUnknown),
-        ("acme/one", 2, "3-4", "c", Refusal::SizeInvalid),
-        ("acme/one", 2, "2-2", "cd", Refusal::SizeInvalid),
-        ("acme/one", 2, "", "cde", Refusal::SizeInvalid),
-        ("acme/one", 2, "3-5", "cde", Refusal::SizeInvalid),
-        ("acme/one", 2, "3-4", "cd", LATE),
-        ("acme/one", 2, "2-3", "cd", OVER),
+    let script = [
+        Step::Append("nobody/x", 9, "", "c", Err(Refusal::NameUnknown)),
+        Step::Append("nobody/x", 2, "2-4", "c", Err(Refusal::NameUnknown)),
+        Step::Append("acme/two", 2, "2-4", "c", Err(Refusal::UploadUnknown)),
+        Step::Append("acme/two", 2, "3-3", "c", Err(Refusal::UploadUnknown)),
+        Step::Append("acme/one", 9, "", "cd", Err(Refusal::UploadUnknown)),
+        Step::Append("acme/one", 2, "3-4", "c", Err(Refusal::SizeInvalid)),
+        Step::Append("acme/one", 2, "2-2", "cd", Err(Refusal::SizeInvalid)),
+        Step::Append("acme/one", 2, "", "cde", Err(Refusal::SizeInvalid)),
+        Step::Append("acme/one", 2, "3-5", "cde", Err(Refusal::SizeInvalid)),
+        Step::Append("acme/one", 2, "3-4", "cd", Err(LATE)),
+        Step::Append("acme/one", 2, "2-3", "cd", Err(OVER)),
     ];
-    appends_none(&rt, &rows);
-}
-
-/// A repository, a session, a digest, a range, bytes, and why the session isn't closed with them.
-type Close = (
-    &'static str,
-    u32,
-    &'static str,
-    &'static str,
-    &'static str,
-    Refusal,
-);
-
-/// Finds why none of these closes a session, and that the book stays as it was.
-fn closes_none(rt: &(impl Abort + AllocGlobal), rows: &[Close]) {
-    let mut book = crowded(rt);
-    for (repo, number, of, places, bytes, first) in rows {
-        let step = Step::Close(repo, *number, of, places, bytes, Err(*first));
-        plays(rt, &mut book, &[step, Step::Prints(CROWDED)]);
-    }
+    change_nothing(&rt, &script);
 }
 
 #[test]
 fn a_close_is_refused_for_the_first_of_two_cases(rt: HostRuntime) {
-    let rows = [
-        ("nobody/x", 9, OBJ, "", "c", Refusal::NameUnknown),
-        ("nobody/x", 2, OBJ, "2-4", "c", Refusal::NameUnknown),
-        ("acme/two", 2, OBJ, "2-4", "c", Refusal::UploadUnknown),
-        ("acme/two", 2, OBJ, "3-3", "c", Refusal::UploadUnknown),
-        ("acme/two", 2, ABC, "", "c", Refusal::UploadUnknown),
-        ("acme/one", 9, OBJ, "", "cd", Refusal::UploadUnknown),
-        ("acme/one", 2, OBJ, "3-4", "c", Refusal::SizeInvalid),
-        ("acme/one", 2, OBJ, "2-2", "cd", Refusal::SizeInvalid),
-        ("acme/one", 2, ABC, "2-3", "c", Refusal::SizeInvalid),
-        ("acme/one", 2, OBJ, "3-4", "cd", LATE),
-        ("acme/one", 2, OBJ, "3-3", "c", LATE),
-        ("acme/one", 2, ABC, "3-3", "c", LATE),
-        ("acme/one", 2, OBJ, "2-3", "cd", OVER),
-        ("acme/one", 2, OBJ, "", "c", Refusal::DigestInvalid),
-        ("acme/one", 2, ABC, "", "c", Refusal::StoreFull),
+    let script = [
+        Step::Close("nobody/x", 9, OBJ, "", "c", Err(Refusal::NameUnknown)),
+        Step::Close("nobody/x", 2, OBJ, "2-4", "c", Err(Refusal::NameUnknown)),
+        Step::Close("acme/two", 2, OBJ, "2-4", "c", Err(Refusal::UploadUnknown)),
+        Step::Close("acme/two", 2, OBJ, "3-3", "c", Err(Refusal::UploadUnknown)),
+        Step::Close("acme/two", 2, ABC, "", "c", Err(Refusal::UploadUnknown)),
+        Step::Close("acme/one", 9, OBJ, "", "cd", Err(Refusal::UploadUnknown)),
+        Step::Close("acme/one", 2, OBJ, "3-4", "c", Err(Refusal::SizeInvalid)),
+        Step::Close("acme/one", 2, OBJ, "2-2", "cd", Err(Refusal::SizeInvalid)),
+        Step::Close("acme/one", 2, ABC, "2-3", "c", Err(Refusal::SizeInvalid)),
+        Step::Close("acme/one", 2, OBJ, "3-4", "cd", Err(LATE)),
+        Step::Close("acme/one", 2, OBJ, "3-3", "c", Err(LATE)),
+        Step::Close("acme/one", 2, ABC, "3-3", "c", Err(LATE)),
+        Step::Close("acme/one", 2, OBJ, "2-3", "cd", Err(OVER)),
+        Step::Close("acme/one", 2, OBJ, "", "c", Err(Refusal::DigestInvalid)),
+        Step::Close("acme/one", 2, ABC, "", "c", Err(Refusal::StoreFull)),
     ];
-    closes_none(&rt, &rows);
+    change_nothing(&rt, &script);
 }

@@ -2,7 +2,7 @@
 
 ghost use Rattle.std.specs.Prelude.{◌≡◌, ◌<◌, length};
 
-use crate::{Book, Config, Mount, Swept};
+use crate::{Book, Config, Mount, Swept, Usage};
 use blob_digest::{Algorithm, ByteRange, Digest, Refusal, RepoName};
 use pin_table::Pins;
 use std::alloc::AllocGlobal;
@@ -119,6 +119,13 @@ pub enum Step<'a> {
     DeleteManifest(&'a str, &'a str, Result<(), Refusal>),
     /// A sweep, with how many blobs it condemned, and how many slots it freed, left to leases and retired.
     Sweep(u32, u32, u32, u32),
+    /// The size of a blob of a repository, and of a manifest of this digest.
+    Stat(&'a str, &'a str, Result<u64, Refusal>),
+    StatManifest(&'a str, &'a str, Result<u64, Refusal>),
+    /// What the tenant of a repository uses, and its quota.
+    Uses(&'a str, Result<Usage, Refusal>),
+    /// So many slots are free.
+    Free(u32),
     /// The word of slot 0 is this.
     Word(u64),
     /// The text of the book is this.
@@ -258,6 +265,28 @@ fn sweep(store: &mut Store) -> Swept
     ensures { store.new.book.table ≡ store.old.book.table }
 {
     store.book.sweep(&store.pins)
+}
+
+fn stat(
+    rt: &(impl Abort + AllocGlobal),
+    store: &Store,
+    repo: &str,
+    of: &str,
+) -> Result<u64, Refusal> {
+    store.book.stat(&name(rt, repo), &digest(rt, of))
+}
+
+fn stat_manifest(
+    rt: &(impl Abort + AllocGlobal),
+    store: &Store,
+    repo: &str,
+    of: &str,
+) -> Result<u64, Refusal> {
+    store.book.stat_manifest(&name(rt, repo), &digest(rt, of))
+}
+
+fn usage(rt: &(impl Abort + AllocGlobal), store: &Store, repo: &str) -> Result<Usage, Refusal> {
+    store.book.usage(&name(rt, repo))
 }
 
 /// The word of slot 0.
@@ -400,6 +429,12 @@ fn goes(rt: &(impl Abort + AllocGlobal), store: &mut Store, step: &Step) -> Resu
             };
             is(rt, &sweep(store), &wanted)
         }
+        Step::Stat(repo, of, wanted) => is(rt, &stat(rt, store, repo, of), wanted),
+        Step::StatManifest(repo, of, wanted) => {
+            is(rt, &stat_manifest(rt, store, repo, of), wanted)
+        }
+        Step::Uses(repo, wanted) => is(rt, &usage(rt, store, repo), wanted),
+        Step::Free(wanted) => is(rt, &store.book.free_slots(), wanted),
         Step::Word(wanted) => is(rt, &word(store), wanted),
         Step::Prints(text) => is_text(rt, printed(rt, store).as_str(), text),
         Step::Says(text) => {

@@ -8,3 +8,4 @@ pub mod Limits
 pub mod Manifests
 pub mod Runs
 pub mod Sweeps
+pub mod Threads

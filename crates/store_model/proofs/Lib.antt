@@ -2,3 +2,4 @@ pub mod Commands
 pub mod Examples
 pub mod Invariant
 pub mod Noninterference
+pub mod WholeCommands

@@ -4,8 +4,11 @@ pub mod Catalog
 pub mod Commands
 pub mod Hands
 pub mod Histories
+pub mod HistoryIsolation
 pub mod Invariant
 pub mod Noninterference
+pub mod Queries
 pub mod Runs
 pub mod Sessions
 pub mod Sweep
+pub mod WholeCommands

@@ -11,6 +11,8 @@
 pub mod laws;
 mod mount;
 mod swept;
+mod usage;
 
 pub use mount::Mount;
 pub use swept::Swept;
+pub use usage::Usage;

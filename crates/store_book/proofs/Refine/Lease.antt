@@ -43,13 +43,13 @@ module _ (L : Layers) (t : ℕ) (repo digest : Text) (book : IsBook L) (known : 
     abbrev pub held : (h : Held) × (held_at L.slots k ≡ Some h) × (h.digest ≡ digest)
     held = held_of L.slots digest k (linked_some L book repo digest k at_slot).1
 
-    has : holds C repo digest ≡ true
+    pub has : holds C repo digest ≡ true
     has = holds_linked L book repo digest ∙ (linked_some L book repo digest k at_slot).0
 
     pub live_there : phase_at L.slots k ≡ phase.Live
     live_there = phase_live L.slots k held.0 held.1 (linked_live L book repo digest k held.0 held.1 held.2 has)
 
-    resident : get C.residents digest ≡ Some (resident_of held.0.lent held.0)
+    pub resident : get C.residents digest ≡ Some (resident_of held.0.lent held.0)
     resident = ap (get C.residents) (sym held.2) ∙ resident_at L.slots k held.0 held.1 book.tied.distinct
 
     abbrev slots' : List Slot

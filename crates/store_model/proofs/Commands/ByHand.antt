@@ -27,7 +27,7 @@ both : {A : Type 0} (b : Bool) (x y z : A) → cond b x (cond b y z) ≡ cond b 
 both true x y z = refl
 both false x y z = refl
 
-insert_twice : (m : FinMap number_cmp Session) (k : Number) (v w : Session) → insert (insert m k v) k w ≡ insert m k w
+pub insert_twice : (m : FinMap number_cmp Session) (k : Number) (v w : Session) → insert (insert m k v) k w ≡ insert m k w
 insert_twice m k v w = same_map number_cmp_total exact_number (insert (insert m k v) k w) (insert m k w) (λ q.
     get-insert number_cmp_total (insert m k v) k w q ∙ ap (cond (eq_by_cmp number_cmp q k) (Some w)) (get-insert number_cmp_total m k v q)
     ∙ both (eq_by_cmp number_cmp q k) (Some w) (Some v) (get m q) ∙ sym (get-insert number_cmp_total m k w q))
@@ -73,6 +73,26 @@ checked_length C t number repo range n after p h =
     let same : a.0 ≡ p.s = let e : Some a.0 ≡ Some p.s = sym f.0 ∙ p.found in cc in
     length_is C.max_blob (received a.0) n after range b.2 ∙ ap (λ (s : Session). received s + n) same
 
+module _ (C C1 : Catalog) (repo : Text) (number len : ℕ) (range : Option ByteRange) (hand : Taken) (stepped : take C repo number range len ≡ Ok (hand, C1)) where
+  abbrev by : TookIn C C1 repo number len range hand stepped
+  by = took C C1 repo number len range hand stepped
+
+  -- the hand has its session's chunks, and nothing is filled in
+  pub taken_hand : ◌≡◌ {A = Taken} (record { key = (by.t, number); chunks = by.checked.chunks; reserved = len; last = None }) hand
+  taken_hand = (λ i. record { key = (by.t, number); chunks = chunks_is i; reserved = len; last = None }) ∙ by.is
+    where
+      chunks_is : by.checked.chunks ≡ chunks_in C.sessions (by.t, number)
+      chunks_is = sym (rw by.checked.found (ap at_home by.checked.home))
+
+  pub taken_leaves : record C { sessions = with_chunks C.sessions (by.t, number) by.checked.s (InHand (received by.checked.s) len) } ≡ C1
+  taken_leaves = (λ i. record C { sessions = sessions_is i }) ∙ by.left
+    where
+      sessions_is : with_chunks C.sessions (by.t, number) by.checked.s (InHand (received by.checked.s) len) ≡ take_in C.sessions (by.t, number) len
+      sessions_is = rw by.checked.found refl
+
+  pub taken_received : received by.checked.s ≡ sum_by length by.checked.chunks
+  taken_received = rw by.checked.home refl
+
 module _ (C C1 : Catalog) (repo : Text) (number : ℕ) (range : Option ByteRange) (b : Text) (hand : Taken) (stepped : take C repo number range (length b) ≡ Ok (hand, C1)) where
   abbrev p : TookIn C C1 repo number (length b) range hand stepped
   p = took C C1 repo number (length b) range hand stepped
@@ -93,19 +113,13 @@ module _ (C C1 : Catalog) (repo : Text) (number : ℕ) (range : Option ByteRange
   h = record { key = key; chunks = p.checked.chunks; reserved = length b; last = None }
 
   hand_is : h ≡ hand
-  hand_is = (λ i. record { key = key; chunks = chunks_is i; reserved = length b; last = None }) ∙ p.is
-    where
-      chunks_is : p.checked.chunks ≡ chunks_in C.sessions key
-      chunks_is = sym (rw p.checked.found (ap at_home p.checked.home))
+  hand_is = taken_hand C C1 repo number (length b) range hand stepped
 
   left : C2 ≡ C1
-  left = (λ i. record C { sessions = sessions_is i }) ∙ p.left
-    where
-      sessions_is : with_chunks C.sessions key s (InHand (received s) (length b)) ≡ take_in C.sessions key (length b)
-      sessions_is = rw p.checked.found refl
+  left = taken_leaves C C1 repo number (length b) range hand stepped
 
   received_is : received s ≡ sum_by length p.checked.chunks
-  received_is = rw p.checked.home refl
+  received_is = taken_received C C1 repo number (length b) range hand stepped
 
   found : get C2.sessions key ≡ Some out
   found = get-insert_at number_cmp_total exact_number C.sessions key out
@@ -124,7 +138,7 @@ module _ (C C1 : Catalog) (repo : Text) (number : ℕ) (range : Option ByteRange
   as_before : with_chunks C2.sessions key out (Home p.checked.chunks) ≡ C.sessions
   as_before = again p.checked.chunks ∙ insert_same number_cmp number_cmp_total exact_number C.sessions key (record s { chunks = Home p.checked.chunks }) (p.checked.found ∙ (λ i. Some (record s { chunks = p.checked.home i })))
 
-  append_is : append C repo number range b ≡ Ok (p.after, record C { sessions = append_in C.sessions key b })
+  pub append_is : append C repo number range b ≡ Ok (p.after, record C { sessions = append_in C.sessions key b })
   append_is = rw (p.tenant_ok, p.check_ok, p.quota_ok) refl
 
   filled : put_back C2 (record h { last = Some b }) ≡ append C repo number range b

@@ -1,9 +1,9 @@
 -- The definitions on small literals.
 use Rattle.std.proofs.Common.{◌≡◌, false, List, [], ◌∷◌, Some, None, Ok, Err, refl, arith}
 use Rattle.std.specs.Prelude.{codes}
-use Rattle.std.specs.FinMap.{get-empty, get-insert, get-remove, entries-insert, empty, insert}
+use Rattle.std.specs.FinMap.{get-empty, get-insert, get-remove, len-empty, len-insert, entries-insert, empty, insert}
 use Rattle.std.specs.Cmp.Lexicographic.{nat_list_cmp_total}
-use Rattle.blob_digest.specs.declared.refusal.Refusal.TheVariants.{NameUnknown, UploadUnknown, BlobUnknown, RangeInvalid, SizeInvalid, Quota}
+use Rattle.blob_digest.specs.declared.refusal.Refusal.TheVariants.{NameUnknown, UploadUnknown, BlobUnknown, ManifestUnknown, RangeInvalid, SizeInvalid, Quota}
 use Rattle.std.specs.Fmt.{digits}
 use Rattle.finite_maps.specs.Sets as set
 use Rattle.store_model.specs.Sessions.{Session, append_in}
@@ -12,6 +12,7 @@ use Rattle.finite_maps.specs.Texts.{Text}
 use Rattle.store_model.specs.Catalog.{Tenant, Catalog, Resident, used, count, opening}
 use Rattle.store_model.specs.Commands.{start, append, new_session, mount, with_link, delete}
 use Rattle.store_model.specs.BookText.{book_text}
+use Rattle.store_model.specs.Queries.{stat, stat_manifest, usage, free_slots}
 use Rattle.blob_digest.proofs.KeyOrders.{number_cmp_total, link_cmp_total}
 use Rattle.finite_maps.proofs.Rows.{entries-empty}
 
@@ -142,3 +143,42 @@ used_after_a_delete = simp (entries-insert {X = Unit {0}} nat_list_cmp_total, en
 
 used_after_both : used (record two_links { links = set.remove (set.remove two_links.links (one, codes "d")) (two, codes "d") }) 0 ≡ 0
 used_after_both = simp (entries-insert {X = Unit {0}} nat_list_cmp_total, entries-insert {X = Resident} nat_list_cmp_total, get-remove {X = Unit {0}} link_cmp_total, get-insert {X = Unit {0}} link_cmp_total, entries-empty) refl
+
+-- ---- what is told beside the commands
+
+blob_size : stat two_links two (codes "d") ≡ Ok 3
+blob_size = simp (get-insert {X = Unit {0}} link_cmp_total, get-insert {X = Resident} nat_list_cmp_total) refl
+
+-- another repository of the tenant holds it
+blob_of_another_repository : stat one_link two (codes "d") ≡ Err BlobUnknown
+blob_of_another_repository = simp (get-insert {X = Unit {0}} link_cmp_total, get-empty) refl
+
+blob_of_nobody : stat one_link (codes "nobody/x") (codes "d") ≡ Err NameUnknown
+blob_of_nobody = refl
+
+-- of two tenants, a repository of the first has a manifest of two bytes
+abbrev one_manifest : Catalog
+one_manifest = record two_tenants { manifests = insert empty (one, codes "m") (codes "{}") }
+
+manifest_size : stat_manifest one_manifest one (codes "m") ≡ Ok 2
+manifest_size = simp (get-insert {X = Text} link_cmp_total) refl
+
+manifest_of_another_repository : stat_manifest one_manifest two (codes "m") ≡ Err ManifestUnknown
+manifest_of_another_repository = simp (get-insert {X = Text} link_cmp_total, get-empty) refl
+
+manifest_of_nobody : stat_manifest one_manifest (codes "nobody/x") (codes "m") ≡ Err NameUnknown
+manifest_of_nobody = refl
+
+-- one blob in two repositories, and any of the tenant's names it
+use_of_the_tenant : usage two_links one ≡ Ok (record { used = 3; quota = 1000 })
+use_of_the_tenant = simp (entries-insert {X = Unit {0}} nat_list_cmp_total, entries-insert {X = Resident} nat_list_cmp_total, get-insert {X = Unit {0}} link_cmp_total, get-empty, entries-empty) refl
+
+use_of_the_other_tenant : usage two_links (codes "zeta/x") ≡ Ok (record { used = 0; quota = 5 })
+use_of_the_other_tenant = simp (entries-insert {X = Unit {0}} nat_list_cmp_total, entries-insert {X = Resident} nat_list_cmp_total, get-insert {X = Unit {0}} link_cmp_total, get-empty, entries-empty) refl
+
+use_of_nobody : usage two_links (codes "nobody/x") ≡ Err NameUnknown
+use_of_nobody = refl
+
+-- of 64 slots one is used and two are retired
+free_beside_retired : free_slots (record two_links { retired = 2 }) ≡ 61
+free_beside_retired = simp (len-insert {X = Resident} nat_list_cmp_total, len-empty, get-empty) refl

@@ -59,7 +59,7 @@ module _ (content : Text → Text) (C : Catalog) (consistent : Consistent conten
   with_manifests : (manifests : FinMap link_cmp Text) → ((l : Link) (b : Text) → get manifests l ≡ Some b → kept_set.contains C.repos l.0 ≡ true) → Consistent content (record C { manifests = manifests })
   with_manifests manifests each = record { repos = consistent.repos; links = consistent.links; kept = consistent.kept; manifests = each; sessions = consistent.sessions; bytes = consistent.bytes }
 
-  with_sessions : (sessions : FinMap number_cmp Session) → ((k : Number) (s : Session) → get sessions k ≡ Some s → kept_set.contains C.repos s.repo ≡ true) → Consistent content (record C { sessions = sessions })
+  pub with_sessions : (sessions : FinMap number_cmp Session) → ((k : Number) (s : Session) → get sessions k ≡ Some s → kept_set.contains C.repos s.repo ≡ true) → Consistent content (record C { sessions = sessions })
   with_sessions sessions each = record { repos = consistent.repos; links = consistent.links; kept = consistent.kept; manifests = consistent.manifests; sessions = each; bytes = consistent.bytes }
 
 -- ---- the commands
@@ -117,7 +117,7 @@ module _ (content : Text → Text) (C : Catalog) (consistent : Consistent conten
       let is = session_found o r a.0 a.1 in
       subst (λ (x : Text). kept_set.contains C.repos x ≡ true) is.1 (consistent.sessions key a.0 (found ∙ is.0))
 
-  consistent_stored : (t n : ℕ) (d w : Text) → kept_set.contains C.repos r ≡ true → content d ≡ w → Consistent content (stored C t r n d w)
+  pub consistent_stored : (t n : ℕ) (d w : Text) → kept_set.contains C.repos r ≡ true → content d ≡ w → Consistent content (stored C t r n d w)
   consistent_stored t n d w there fits =
       let kept = with_blob content C consistent d new (sym fits) in
       let linked = with_links content (record C { residents = insert C.residents d new }) kept (kept_set.insert C.links (r, d)) (λ l h.

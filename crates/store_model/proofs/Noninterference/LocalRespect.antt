@@ -35,7 +35,7 @@ Leaves P (Err e) = Unit {0}
 -- ---- lines of an outcome
 
 module _ (P : Catalog → Type 0) where
-  past : {A X : Type 0} (x : Result X Refusal) (f : X → Outcome A) → ((a : X) → x ≡ Ok a → Leaves P (f a)) → Leaves P (x >>= f)
+  pub past : {A X : Type 0} (x : Result X Refusal) (f : X → Outcome A) → ((a : X) → x ≡ Ok a → Leaves P (f a)) → Leaves P (x >>= f)
   past (Ok a) f h = h a refl
   past (Err e) f h = tt
 
@@ -58,7 +58,7 @@ module _ (P : Catalog → Type 0) where
   -- ---- what each command may leave
 
   module _ (C : Catalog) (r : Text) where
-    of_tenant : {A : Type 0} (f : ℕ → Outcome A) → ((t : ℕ) → tenant_of C.tenants r ≡ Some t → Leaves P (f t)) → Leaves P (tenant C r >>= f)
+    pub of_tenant : {A : Type 0} (f : ℕ → Outcome A) → ((t : ℕ) → tenant_of C.tenants r ≡ Some t → Leaves P (f t)) → Leaves P (tenant C r >>= f)
     of_tenant f h = past (tenant C r) f (λ t e. h t (some_of_ok (tenant_of C.tenants r) NameUnknown t e))
 
     pub start_leaves : ((t : ℕ) → tenant_of C.tenants r ≡ Some t → P (new_session C t r)) → Leaves P (Commands.start C r)
@@ -133,7 +133,7 @@ module _ (C : Catalog) (u : ℕ) (r : Text) (other : is_of C u r ≡ false) wher
   abbrev Unseen : Catalog → Type 0
   Unseen X = Alike u X C
 
-  apart : (t : ℕ) → tenant_of C.tenants r ≡ Some t → (t == u) ≡ false
+  pub apart : (t : ℕ) → tenant_of C.tenants r ≡ Some t → (t == u) ≡ false
   apart t k = ap (λ o. option_eq nat_eq o (Some u)) (sym k) ∙ other
 
   unseen_new : (t : ℕ) → tenant_of C.tenants r ≡ Some t → Unseen (new_session C t r)

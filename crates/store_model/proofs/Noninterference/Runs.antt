@@ -85,7 +85,7 @@ module _ (content : Text → Text) where
   fixed : (C : Catalog) (command : Command) (e : Refusal) → IsUncrowded (Called command (Err e)) → (((crowded : Bool) × (outcome crowded C command ≡ Err e)) ⊎ ((e ≡ Memory) × (takes_memory command ≡ true))) → outcome false C command ≡ Err e
   fixed C command e free h = ⊎_elim (λ x. calm C command e x.0 free.2 x.1) (λ x. absurd (free.0 x.0)) h
 
-  own_called : (t : ℕ) (C D mid : Catalog) (command : Command) (r : Result Answer Refusal) → IsCase C command r mid → IsUncrowded (Called command r) → is_of C t (repo_of command) ≡ true →
+  pub own_called : (t : ℕ) (C D mid : Catalog) (command : Command) (r : Result Answer Refusal) → IsCase C command r mid → IsUncrowded (Called command r) → is_of C t (repo_of command) ≡ true →
       Alike t C D → Consistent content C → Consistent content D → Fits content (brought_by C command) → Fits content (brought_by D command) → Kept t D mid r (outcome_alone D command)
   own_called t C D mid command (Ok a) h free own alike c d fits fits_D =
       kept_ok t D mid a (outcome_alone D command) (subst (λ x. Matches t x (outcome_alone D command)) h (own_command content t C D alike c d command own fits)) (consistent_command content D d command fits_D).1
@@ -94,7 +94,7 @@ module _ (content : Text → Text) where
       (subst (λ X. Alike t X D) (sym h.1) alike) d
 
 -- what a tenant's close brings among others and alone
-brought_same : (t : ℕ) (C D : Catalog) → Alike t C D → (command : Command) → is_of C t (repo_of command) ≡ true → brought_by C command ≡ brought_by D command
+pub brought_same : (t : ℕ) (C D : Catalog) → Alike t C D → (command : Command) → is_of C t (repo_of command) ≡ true → brought_by C command ≡ brought_by D command
 brought_same t C D alike (runs.Close r n d g b) own = ap (named d) (
     ap (λ x. x >>= λ u. Commands.session C u r n >>= λ _. Ok (whole_in C.sessions (u, n) b)) (known C t r own)
     ∙ (λ i. session_same t C D alike r n i >>= λ _. Ok (whole_same t C D alike n b i))
@@ -103,7 +103,7 @@ brought_same t C D alike command own = refl
 
 -- ---- a run
 
-fits_both : (content : Text → Text) (xs ys : List (Text × Text)) → Fits content (xs ++ ys) → Fits content xs × Fits content ys
+pub fits_both : (content : Text → Text) (xs ys : List (Text × Text)) → Fits content (xs ++ ys) → Fits content xs × Fits content ys
 fits_both content [] ys h = (tt, h)
 fits_both content (x ∷ xs) ys h = let rest = fits_both content xs ys h.1 in ((h.0, rest.0), rest.1)
 
@@ -188,7 +188,7 @@ is_found (e ∷ es) (suc i) lt none =
       | false ↦ λ h. is_found es i (omega arith) h
     ] none
 
-fits_content : (pairs : List (Text × Text)) → NoCollision pairs → Fits (content_of pairs) pairs
+pub fits_content : (pairs : List (Text × Text)) → NoCollision pairs → Fits (content_of pairs) pairs
 fits_content pairs apart = all_by_index (λ x. content_of pairs x.0 ≡ x.1) ([], []) pairs at
   where
     there : (o : Option Text) → (o ≡ None → ⊥) → (w : Text) × (o ≡ Some w)

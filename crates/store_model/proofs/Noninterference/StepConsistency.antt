@@ -18,7 +18,7 @@ use Rattle.finite_maps.specs.Texts.{Text, same_text}
 use Rattle.store_model.specs.Catalog.{Number, Home, Session, Resident, Catalog, number_cmp, tenant_of, is_of, holds, next_of, received}
 use Rattle.store_model.specs.Commands
 use Rattle.finite_maps.specs.Outcomes.{◌>>=◌, refuse}
-use Rattle.store_model.specs.Commands.{Outcome, tenant, session_in, not_busy, length_after, new_session, append_in, whole_in, same_bytes, is_digest_accepted, is_full_for, stored, all_linked, has_source, with_link, with_manifest, with_lent, linked_blob, unreferenced, is_full_of_manifests, within_quota, lacks_room_for, cannot_open}
+use Rattle.store_model.specs.Commands.{Outcome, tenant, session_in, not_busy, length_after, new_session, whole_in, same_bytes, is_digest_accepted, is_full_for, stored, all_linked, has_source, with_link, with_manifest, with_lent, linked_blob, unreferenced, is_full_of_manifests, within_quota, lacks_room_for, cannot_open}
 use Rattle.store_model.specs.Sessions.{at_home, with_chunk}
 use Rattle.store_model.specs.declared.mount.Mount.TheVariants as mounting
 use Rattle.store_model.specs.Runs as runs
@@ -44,7 +44,7 @@ Fits content pairs = AllByRecursion (λ x. content x.0 ≡ x.1) pairs
 
 -- ---- lines of an outcome
 
-same_check : {A X : Type 0} (t : ℕ) (x y : Result X Refusal) → x ≡ y → (f g : X → Outcome A) → ((a : X) → x ≡ Ok a → Matches t (f a) (g a)) → Matches t (x >>= f) (y >>= g)
+pub same_check : {A X : Type 0} (t : ℕ) (x y : Result X Refusal) → x ≡ y → (f g : X → Outcome A) → ((a : X) → x ≡ Ok a → Matches t (f a) (g a)) → Matches t (x >>= f) (y >>= g)
 same_check t (Ok a) y e f g h = subst (λ y. Matches t (f a) (y >>= g)) e (h a refl)
 same_check t (Err r) y e f g h = subst (λ y. Matches t (Err r) (y >>= g)) e refl
 
@@ -91,18 +91,24 @@ next_alike (x ∷ xs) (y ∷ ys) (suc t) v w e same = next_alike xs ys t v w (om
 abbrev pub longer : Text → Session → Session
 longer b s = record s { chunks = Home (with_chunk (at_home s.chunks) b) }
 
-agree_append : (p : Number → Bool) (m n : FinMap number_cmp Session) (k : Number) (b : Text) → AgreeOn p m n → get m k ≡ get n k → AgreeOn p (append_in m k b) (append_in n k b)
-agree_append p m n k b agree found =
-    subst (λ o. AgreeOn p (append_in m k b) (option_map_or (λ s. insert n k (longer b s)) o n)) found (at (get m k))
+-- a session under a key is changed, where there is one
+pub agree_changed : (p : Number → Bool) (m n : FinMap number_cmp Session) (k : Number) (f : Session → Session) → AgreeOn p m n → get m k ≡ get n k →
+    AgreeOn p (option_map_or (λ s. insert m k (f s)) (get m k) m) (option_map_or (λ s. insert n k (f s)) (get n k) n)
+agree_changed p m n k f agree found =
+    subst (λ o. AgreeOn p (option_map_or (λ s. insert m k (f s)) (get m k) m) (option_map_or (λ s. insert n k (f s)) o n)) found (at (get m k))
   where
-    at : (o : Option Session) → AgreeOn p (option_map_or (λ s. insert m k (longer b s)) o m) (option_map_or (λ s. insert n k (longer b s)) o n)
+    at : (o : Option Session) → AgreeOn p (option_map_or (λ s. insert m k (f s)) o m) (option_map_or (λ s. insert n k (f s)) o n)
     at None = agree
-    at (Some s) = agree_insert number_cmp_total exact_number p m n k (longer b s) agree
+    at (Some s) = agree_insert number_cmp_total exact_number p m n k (f s) agree
 
 -- ---- what a close brings
 
 whole_found : (f : Session → Result ℕ Refusal) (x : Result Session Refusal) (after : ℕ) (w : Text) → (x >>= f) ≡ Ok after → (x >>= λ _. Ok w) ≡ Ok w
 whole_found f x after w h = let a = bound_ok x f after h in ap (λ x. x >>= λ _. Ok w) a.1
+
+-- a whole that is brought with its digest is what `content` says
+pub fits_named : (content : Text → Text) (d w : Text) → Fits content (named d (Ok w)) → is_digest_of d w ≡ true → content d ≡ w
+fits_named content d w fits is = (subst (λ b. Fits content (if b then (d, w) ∷ [] else [])) is fits).0
 
 -- what a close that passed its check brings is the whole that is compared
 pub fits_whole : (content : Text → Text) (C : Catalog) (t : ℕ) (r d last : Text) (n len after : ℕ) (g : Option ByteRange) → tenant C r ≡ Ok t → Commands.check C t r n g len ≡ Ok after →
@@ -110,7 +116,7 @@ pub fits_whole : (content : Text → Text) (C : Catalog) (t : ℕ) (r d last : T
 fits_whole content C t r d last n len after g there checked fits is =
     let brings : whole_of C r n last ≡ Ok (whole_in C.sessions (t, n) last) =
     ap (λ x. x >>= λ t. Commands.session C t r n >>= λ _. Ok (whole_in C.sessions (t, n) last)) there ∙ whole_found _ (Commands.session C t r n) after (whole_in C.sessions (t, n) last) checked in
-    (subst (λ b. Fits content (if b then (d, whole_in C.sessions (t, n) last) ∷ [] else [])) is (subst (λ x. Fits content (named d x)) brings fits)).0
+    fits_named content d (whole_in C.sessions (t, n) last) (subst (λ x. Fits content (named d x)) brings fits) is
 
 -- where it fits, what is kept under the digest is the same
 pub names_alone : (content : Text → Text) (C : Catalog) (d w : Text) → Consistent content C → (is_digest_of d w ≡ true → content d ≡ w) → is_digest_accepted C d w ≡ is_digest_of d w
@@ -130,10 +136,10 @@ module _ (content : Text → Text) (t : ℕ) (C D : Catalog) (alike : Alike t C 
   own_D : is_of D t r ≡ true
   own_D = sym (of_same t C D alike r) ∙ own
 
-  with_tenant : {A : Type 0} (f g : ℕ → Outcome A) → Matches t (f t) (g t) → Matches t (tenant C r >>= f) (tenant D r >>= g)
+  pub with_tenant : {A : Type 0} (f g : ℕ → Outcome A) → Matches t (f t) (g t) → Matches t (tenant C r >>= f) (tenant D r >>= g)
   with_tenant f g m = at_ok t t (tenant C r) (tenant D r) (known C t r own) (known D t r own_D) f g m
 
-  quota_alike : (n : ℕ) → within_quota C t n ≡ within_quota D t n
+  pub quota_alike : (n : ℕ) → within_quota C t n ≡ within_quota D t n
   quota_alike n =
       let q = quota_same t C D alike in
       let u = used_same t C D alike content consistent_C consistent_D in
@@ -171,7 +177,7 @@ module _ (content : Text → Text) (t : ℕ) (C D : Catalog) (alike : Alike t C 
       same_check t _ _ (check_same t C D alike r n g (length b)) _ _ (λ after _.
       same_check t _ _ (quota_alike (length b)) _ _ (λ _ _. (
         refl,
-        with_sessions t (visible C) (visible D) alike _ _ (agree_append (λ k. k.0 == t) C.sessions D.sessions (t, n) b alike.sessions (session_found t C D alike n)),
+        with_sessions t (visible C) (visible D) alike _ _ (agree_changed (λ k. k.0 == t) C.sessions D.sessions (t, n) (longer b) alike.sessions (session_found t C D alike n)),
       ))))
 
   pub own_abandon : (n : ℕ) → Matches t (Commands.abandon C r n) (Commands.abandon D r n)

@@ -1,58 +1,22 @@
-use Rattle.std.proofs.Common.{◌≡◌, ◌+◌, ◌∙◌, ℕ, true, [], ap, arith, get_or, length, map, subst, sym, vec_len}
-use Rattle.std.proofs.lemmas.Bool.{eqb-true}
-use Rattle.std.proofs.lemmas.List.{length-map}
-use Rattle.store_model.specs.Amounts.{sum_of}
-use Rattle.locked_book.specs.History.{amounts_of}
-use Rattle.blob_store.specs.Workers.{AllAt, HasPlayed}
-use Rattle.blob_store.proofs.Settlings.{are_settled, each_played, whole_lists}
+use Rattle.std.proofs.Common.{◌∙◌, map, subst, sym}
+use Rattle.blob_store.specs.Workers.{HavePlayed}
+use Rattle.blob_store.proofs.Settlings.{are_settled, each_played}
 use Rattle.row_player.specs.Answers.{answers_of}
 use Rattle.row_player.specs.RowViews.{row_view}
-use Rattle.row_player.specs.Shares.{AreTogether, own_rows}
 use Rattle.blob_store.proofs.playing.play.Goals as goal
 
-pub collect-ended-requires-clause-each : goal.collect-ended-requires-clause-each
-collect-ended-requires-clause-each g c =
-    let jobs : vec_len c.jobs_of-jobs.result ≡ c.args.workers = c.jobs_of-jobs.ensures.len ∙ c.in_ok-desks.ensures.made.0 in
-    subst (λ m. AllAt (λ k o. (w : ℕ) → w + k + 1 ≡ vec_len c.play_all-outcomes.result.outcomes → o.completed ≡ true → HasPlayed g.S.Naming.names.opening m w (map row_view c.args.rows.now) o.desk (answers_of o.replies.items)) c.play_all-outcomes.result.outcomes.items) jobs c.play_all-outcomes.ensures.each
-
-pub in_row_order-requires-clause-whole : goal.in_row_order-requires-clause-whole
-in_row_order-requires-clause-whole g c =
-    let n = c.args.workers in
-    let lists = c.collect-ended.new.lists in
+pub returns-in-Some-clause-each : goal.returns-in-Some-clause-each
+returns-in-Some-clause-each g c =
     let lines = map row_view c.args.rows.now in
-    let none = eqb-true (vec_len c.play_all-outcomes.result.unstarted) 0 (sym c.is_empty-started.ensures ∙ c.if-started.true) in
-    let size : length lists.items ≡ n = omega (arith, none, lists.ok.0, c.collect-ended.ensures.len.1, c.play_all-outcomes.ensures.len, c.jobs_of-jobs.ensures.len, c.in_ok-desks.ensures.made.0) in
-    let shown = map (λ v. answers_of v.items) lists.items in
-    let are = c.collect-ended.ensures.played c.if-ended.true in
-    λ w lt. whole_lists g.S.Naming.names.opening n lines c.collect-ended.new.desks.items shown are w (omega (arith, lt, length-map lists.items (λ v. answers_of v.items))) ∙ ap (λ m. length (own_rows m w lines)) (sym size)
+    let desks = c.play_at-played.new.desks.items in
+    let answers = answers_of c.in-Some.replies.items in
+    let have = subst (λ m. HavePlayed g.S.Naming.names.opening m lines desks answers) c.in_ok-desks.ensures.made.0 c.in-Some.ensures in
+    each_played g.S.Naming.names.opening c.args.workers lines desks have.lists answers (sym have.played.as_many ∙ have.size) have.played have.together
 
-pub returns-then-ended-clause-each : goal.returns-then-ended-clause-each
-returns-then-ended-clause-each g c =
-    let n = c.args.workers in
-    let lists = c.collect-ended.new.lists in
+pub returns-in-Some-clause-settled : goal.returns-in-Some-clause-settled
+returns-in-Some-clause-settled g c =
     let lines = map row_view c.args.rows.now in
-    let answers = answers_of c.in_row_order.result.items in
-    let none = eqb-true (vec_len c.play_all-outcomes.result.unstarted) 0 (sym c.is_empty-started.ensures ∙ c.if-started.true) in
-    let size : length lists.items ≡ n = omega (arith, none, lists.ok.0, c.collect-ended.ensures.len.1, c.play_all-outcomes.ensures.len, c.jobs_of-jobs.ensures.len, c.in_ok-desks.ensures.made.0) in
-    let shown = map (λ v. answers_of v.items) lists.items in
-    let are = c.collect-ended.ensures.played c.if-ended.true in
-    let together = subst (λ m. AreTogether m lines (λ w. get_or shown w []) answers) size c.in_row_order.ensures in
-    each_played g.S.Naming.names.opening n lines c.collect-ended.new.desks.items shown answers (length-map lists.items (λ v. answers_of v.items) ∙ size) are together
-
-pub returns-then-ended-clause-settled : goal.returns-then-ended-clause-settled
-returns-then-ended-clause-settled g c =
-    let n = c.args.workers in
-    let lists = c.collect-ended.new.lists in
-    let desks = c.collect-ended.new.desks in
-    let lines = map row_view c.args.rows.now in
-    let answers = answers_of c.in_row_order.result.items in
-    let none = eqb-true (vec_len c.play_all-outcomes.result.unstarted) 0 (sym c.is_empty-started.ensures ∙ c.if-started.true) in
-    let size : length lists.items ≡ n = omega (arith, none, lists.ok.0, c.collect-ended.ensures.len.1, c.play_all-outcomes.ensures.len, c.jobs_of-jobs.ensures.len, c.in_ok-desks.ensures.made.0) in
-    let desk_size : length desks.items ≡ n = omega (arith, size, lists.ok.0, desks.ok.0, c.collect-ended.ensures.len.0, c.collect-ended.ensures.len.1) in
-    let shown = map (λ v. answers_of v.items) lists.items in
-    let are = c.collect-ended.ensures.played c.if-ended.true in
-    let together = subst (λ m. AreTogether m lines (λ w. get_or shown w []) answers) size c.in_row_order.ensures in
-    let sums = c.settle-settled.ensures in
-    let same = c.add_desks.ensures.none none in
-    are_settled g.S.Naming.names.opening n lines desks.items shown answers c.settle-settled.result desk_size c.requires.0 are together
-    (subst (λ all. (c.settle-settled.result.commands ≡ (sum_of all).commands) × (c.settle-settled.result.received ≡ (sum_of all).received) × (c.settle-settled.result.closed ≡ (sum_of all).closed) × (c.settle-settled.result.abandoned ≡ (sum_of all).abandoned)) (ap amounts_of same) sums)
+    let desks = c.play_at-played.new.desks.items in
+    let answers = answers_of c.in-Some.replies.items in
+    let have = subst (λ m. HavePlayed g.S.Naming.names.opening m lines desks answers) c.in_ok-desks.ensures.made.0 c.in-Some.ensures in
+    are_settled g.S.Naming.names.opening c.args.workers lines desks have.lists answers c.settle-settled.result have.size c.requires.0 have.played have.together c.settle-settled.ensures

@@ -1,4 +1,4 @@
-use Rattle.std.proofs.Common.{◌≡◌, subst, sym}
+use Rattle.std.proofs.Common.{◌≡◌, IfSome, subst, sym}
 use Rattle.shared_log.specs.Entries.{events_by}
 use Rattle.store_model.specs.Histories.{IsLegal}
 use Rattle.locked_book.specs.Calls.{step_of}
@@ -14,10 +14,11 @@ invariant_of-writer g c =
     let step = step_of c.args.call in
     let way = c.requires in
     let run = subst (λ es. Leaves opening es way.0) (sym c.self.view_is) way.2 in
-    subst (λ w. (w.name ≡ g.S.Naming.names.log) × (events_by w.number w.seen ≡ w.own) × IsLegal opening (steps_of w.seen)) (sym c.append.ensures.writer) (
+    subst (λ w. (w.name ≡ g.S.Naming.names.log) × (events_by w.number w.seen ≡ w.own) × IsLegal opening (steps_of w.seen) × IfSome c.writer.inside.number (λ n. n ≡ w.number)) (sym c.append.ensures.writer) (
       c.writer.invariant.0,
       own_steps opening log writer step way.0 way.1 c.append.ensures.agrees run way.3,
       legal_after opening log writer step way.0 way.1 c.append.ensures.agrees run way.3,
+      c.writer.invariant.3,
     )
 
 pub returns-clause-adds : goal.returns-clause-adds

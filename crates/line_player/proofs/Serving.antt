@@ -1,0 +1,125 @@
+-- Requests that are served, one behind the other.
+use Rattle.std.proofs.Common.{◌≡◌, ◌+◌, ◌∙◌, ◌++◌, ◌∷◌, [], ℕ, List, Option, ap, arith, inl, length, length-append, append-nil, refl, subst, sym}
+use Rattle.std.proofs.lemmas.Grind.{flat_map-append}
+use Rattle.std.proofs.lemmas.List.Concat.{flat_map-cons}
+use Rattle.std.proofs.KnownBytes.{Appends-nil, Appends-trans, Consumes-nil, Consumes-trans}
+use Rattle.std.specs.Io.KnownBytes.{Appends, Consumes}
+use Rattle.blob_frames.specs.Frames.{request_bytes}
+use Rattle.blob_frames.specs.Replies.{Reply, reply_bytes}
+use Rattle.row_player.specs.Answers.{Answer, Manifest, Refused}
+use Rattle.row_player.specs.Answers as answers
+use Rattle.row_player.specs.Commands.{Request}
+use Rattle.line_player.specs.Lendings.{Lending}
+use Rattle.line_player.specs.Outcomes.{Outcome, Answered, Lent, NoCommand, Tells, TellsAnswer, answer_reply}
+use Rattle.line_player.specs.Served.{Ends, Frame, FrameStep, IsServed, Serves, frames_bytes, replies_bytes}
+use Rattle.line_player.specs.declared.ending.Ending.{Ending}
+use Rattle.line_player.specs.declared.ending.Ending.TheVariants.{Closed, CutOff, ReadFailed, Malformed, WriteFailed, Spent}
+
+module _ {S T : Type 0} (acts : S → Request → Answer → S → Type 0) (does : T → Lending → T → Type 0) where
+  -- some requests, and then others
+  pub both : (old mid new : S × T) (fs gs : List Frame) (rs ss : List Reply) → Serves acts does old fs rs mid → Serves acts does mid gs ss new → Serves acts does old (fs ++ gs) (rs ++ ss) new
+  both old mid new [] gs [] ss p q = subst (λ s. Serves acts does s gs ss new) p q
+  both old mid new [] gs (r ∷ rs) ss p q = absurd p
+  both old mid new (f ∷ fs) gs [] ss p q = absurd p
+  both old mid new (f ∷ fs) gs (r ∷ rs) ss p q = (p.0, p.1, both p.0 mid new fs gs rs ss p.2 q)
+
+  -- one request
+  pub one : (old new : S × T) (frame : Frame) (reply : Reply) → FrameStep acts does old frame reply new → Serves acts does old (frame ∷ []) (reply ∷ []) new
+  one old new frame reply step = (new, step, refl)
+
+-- what a line ends by, it ends by after more requests too
+pub ends_later : (ending : Ending) (m n : ℕ) (rest : Option (List ℕ)) → Ends ending n rest → Ends ending (m + n) rest
+ends_later Closed m n rest h = h
+ends_later CutOff m n rest h = h
+ends_later ReadFailed m n rest h = h
+ends_later Malformed m n rest h = h
+ends_later WriteFailed m n rest h = omega (arith, h)
+ends_later Spent m n rest h = omega (arith, h)
+
+-- some reply tells what a request came to
+tells_answer : (answer : Answer) → TellsAnswer answer (answer_reply answer)
+tells_answer (answers.Manifest digest) = inl refl
+tells_answer (answers.Refused refusal) = inl refl
+tells_answer (answers.Session n) = refl
+tells_answer (answers.Received n) = refl
+tells_answer (answers.Stored n) = refl
+tells_answer answers.Abandoned = refl
+tells_answer answers.Mounted = refl
+tells_answer answers.Deleted = refl
+tells_answer (answers.Body bytes) = refl
+tells_answer (answers.Leased n) = refl
+tells_answer (answers.Bytes bytes) = refl
+tells_answer answers.Shared = refl
+tells_answer (answers.Verified n) = refl
+tells_answer answers.GivenBack = refl
+tells_answer (answers.Swept swept) = refl
+tells_answer answers.NoLease = refl
+tells_answer answers.NameTaken = refl
+
+pub some_reply : (outcome : Outcome) → (reply : Reply) × Tells outcome reply
+some_reply (Answered answer) = (answer_reply answer, tells_answer answer)
+some_reply (Lent size number) = (_, refl)
+some_reply NoCommand = (_, refl)
+
+-- the bytes of one request, and of one reply
+frame_alone : (frame : Frame) → frames_bytes (frame ∷ []) ≡ request_bytes frame.head frame.payload
+frame_alone frame = flat_map-cons (λ (f : Frame). request_bytes f.head f.payload) frame [] ∙ append-nil (request_bytes frame.head frame.payload)
+
+reply_alone : (reply : Reply) → replies_bytes (reply ∷ []) ≡ reply_bytes reply
+reply_alone reply = flat_map-cons reply_bytes reply [] ∙ append-nil (reply_bytes reply)
+
+-- the bytes of some requests and of others, and of some replies and of others
+frames_more : (fs gs : List Frame) → frames_bytes (fs ++ gs) ≡ frames_bytes fs ++ frames_bytes gs
+frames_more fs gs = flat_map-append (λ (f : Frame). request_bytes f.head f.payload) fs gs
+
+replies_more : (rs ss : List Reply) → replies_bytes (rs ++ ss) ≡ replies_bytes rs ++ replies_bytes ss
+replies_more rs ss = flat_map-append reply_bytes rs ss
+
+module _ {S T : Type 0} (acts : S → Request → Answer → S → Type 0) (does : T → Lending → T → Type 0) where
+  -- nothing more is read, and nothing is played
+  pub at_once : (old : S × T) (line held : Option (List ℕ)) (ending : Ending) → Ends ending 0 line → IsServed acts does old old line held held ending
+  at_once old line held ending h = record {
+    frames = [];
+    replies = [];
+    served = refl;
+    rest = line;
+    read = Consumes-nil line;
+    written = λ _. Appends-nil held;
+    ends = h;
+  }
+
+  -- a request is played, and its reply isn't written
+  pub unwritten : (old new : S × T) (line rest held holds : Option (List ℕ)) (frame : Frame) (reply : Reply) → FrameStep acts does old frame reply new → Consumes line rest (request_bytes frame.head frame.payload) → IsServed acts does old new line held holds WriteFailed
+  unwritten old new line rest held holds frame reply step read = record {
+    frames = frame ∷ [];
+    replies = reply ∷ [];
+    served = one acts does old new frame reply step;
+    rest = rest;
+    read = subst (Consumes line rest) (sym (frame_alone frame)) read;
+    written = λ h. absurd (h refl);
+    ends = omega arith;
+  }
+
+  -- requests are served, and then what follows them
+  pub then_served : (old mid new : S × T) (line behind held middle holds : Option (List ℕ)) (frames : List Frame) (replies : List Reply) (ending : Ending)
+      → Serves acts does old frames replies mid → Consumes line behind (frames_bytes frames) → Appends held middle (replies_bytes replies) → IsServed acts does mid new behind middle holds ending → IsServed acts does old new line held holds ending
+  then_served old mid new line behind held middle holds frames replies ending served read written last = record {
+    frames = frames ++ last.frames;
+    replies = replies ++ last.replies;
+    served = both acts does old mid new frames last.frames replies last.replies served last.served;
+    rest = last.rest;
+    read = subst (Consumes line last.rest) (sym (frames_more frames last.frames)) (Consumes-trans line behind last.rest (frames_bytes frames) (frames_bytes last.frames) read last.read);
+    written = λ h. subst (Appends held holds) (sym (replies_more replies last.replies)) (Appends-trans held middle holds (replies_bytes replies) (replies_bytes last.replies) written (last.written h));
+    ends = subst (λ n. Ends ending n last.rest) (sym (length-append frames last.frames)) (ends_later ending (length frames) (length last.frames) last.rest last.ends);
+  }
+
+  -- requests are served, and then one more
+  pub one_more : (old mid new : S × T) (line behind rest held middle holds : Option (List ℕ)) (frames : List Frame) (replies : List Reply) (frame : Frame) (reply : Reply)
+      → Serves acts does old frames replies mid → Consumes line behind (frames_bytes frames) → Appends held middle (replies_bytes replies)
+      → FrameStep acts does mid frame reply new → Consumes behind rest (request_bytes frame.head frame.payload) → Appends middle holds (reply_bytes reply)
+      → Serves acts does old (frames ++ frame ∷ []) (replies ++ reply ∷ []) new × Consumes line rest (frames_bytes (frames ++ frame ∷ [])) × Appends held holds (replies_bytes (replies ++ reply ∷ []))
+  one_more old mid new line behind rest held middle holds frames replies frame reply served read written step more told = (
+    both acts does old mid new frames (frame ∷ []) replies (reply ∷ []) served (one acts does mid new frame reply step),
+    subst (Consumes line rest) (sym (frames_more frames (frame ∷ []) ∙ ap (λ l. frames_bytes frames ++ l) (frame_alone frame))) (Consumes-trans line behind rest (frames_bytes frames) (request_bytes frame.head frame.payload) read more),
+    subst (Appends held holds) (sym (replies_more replies (reply ∷ []) ∙ ap (λ l. replies_bytes replies ++ l) (reply_alone reply))) (Appends-trans held middle holds (replies_bytes replies) (reply_bytes reply) written told),
+  )

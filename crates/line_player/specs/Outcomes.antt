@@ -1,0 +1,55 @@
+-- What a request comes to, and the replies that tell it.
+use Rattle.std.specs.Prelude.{◌≡◌, ◌⊎◌, ℕ, []}
+use Rattle.blob_digest.specs.declared.refusal.Refusal.TheVariants.{Memory}
+use Rattle.blob_frames.specs.Replies.{Reply, digest_reply, numbers_reply, refusal_reply}
+use Rattle.finite_maps.specs.Texts.{Text}
+use Rattle.row_player.specs.Answers.{Answer, Session, Received, Stored, Manifest, Body, Leased, Bytes, Verified, Swept, NoLease, NameTaken, Refused, answer_of}
+use Rattle.line_player.specs.declared.outcome.Outcome.{Outcome as Code}
+use Rattle.line_player.specs.declared.outcome.Outcome.TheVariants as code
+
+-- what a request comes to: an answer, a lease of a blob of this size under this number, or that its byte names no command
+pub data Outcome : Type 0 where
+  Answered : Answer → Outcome
+  Lent : ℕ → ℕ → Outcome
+  NoCommand : Outcome
+
+abbrev pub outcome_of : Code → Outcome
+outcome_of (code.Answered reply) = Answered (answer_of reply)
+outcome_of (code.Lent size number) = Lent size number
+outcome_of code.NoCommand = NoCommand
+
+-- it went well, and tells these bytes
+abbrev pub body_reply : Text → Reply
+body_reply bytes = record { status = 0; first = 0; second = 0; digest = []; body = bytes }
+
+-- the reply that tells an answer
+abbrev pub answer_reply : Answer → Reply
+answer_reply (Session number) = numbers_reply 0 number 0
+answer_reply (Received length) = numbers_reply 0 length 0
+answer_reply (Stored size) = numbers_reply 0 size 0
+answer_reply (Manifest digest) = digest_reply 0 digest
+answer_reply (Body bytes) = body_reply bytes
+answer_reply (Leased size) = numbers_reply 0 size 0
+answer_reply (Bytes bytes) = body_reply bytes
+answer_reply (Verified size) = numbers_reply 0 size 0
+answer_reply (Swept swept) = numbers_reply 0 swept.freed swept.held
+answer_reply NoLease = numbers_reply 254 0 0
+answer_reply NameTaken = numbers_reply 254 0 0
+answer_reply (Refused refusal) = refusal_reply refusal
+answer_reply answer = numbers_reply 0 0 0
+
+-- out of memory
+abbrev pub memory_reply : Reply
+memory_reply = refusal_reply Memory
+
+-- A reply tells an answer. Where the answer has a digest, whose text may find no memory, `Memory` may be told in its place.
+abbrev pub TellsAnswer : Answer → Reply → Type 0
+TellsAnswer (Manifest digest) reply = (reply ≡ answer_reply (Manifest digest)) ⊎ (reply ≡ memory_reply)
+TellsAnswer (Refused refusal) reply = (reply ≡ answer_reply (Refused refusal)) ⊎ (reply ≡ memory_reply)
+TellsAnswer answer reply = reply ≡ answer_reply answer
+
+-- a reply tells what a request came to
+abbrev pub Tells : Outcome → Reply → Type 0
+Tells (Answered answer) reply = TellsAnswer answer reply
+Tells (Lent size number) reply = reply ≡ numbers_reply 0 size number
+Tells NoCommand reply = reply ≡ numbers_reply 255 0 0

@@ -1,0 +1,42 @@
+-- What the requests of a line ask for.
+use Rattle.std.specs.Prelude.{ℕ, ◌%◌, ◌==◌, ◌^◌, ◌-◌, if◌then◌else◌, Option, Some, None, Result, Ok}
+use Rattle.blob_digest.specs.declared.range.ByteRange.{ByteRange}
+use Rattle.blob_digest.specs.declared.refusal.Refusal.{Refusal}
+use Rattle.blob_frames.specs.Frames.{body_of, digest_of, repo_of, source_of}
+use Rattle.blob_frames.specs.declared.request.Head.{Head}
+use Rattle.finite_maps.specs.Texts.{Text}
+use Rattle.row_player.specs.Commands.{Command, command_from, range_with}
+use Rattle.row_player.specs.declared.row.Verb.{Verb}
+use Rattle.row_player.specs.declared.row.Verb.TheVariants as verb
+
+-- what a request's first byte asks for, if anything
+abbrev pub verb_of : ℕ → Option Verb
+verb_of n =
+    if n == 1 then Some verb.Start
+    else if n == 2 then Some verb.Status
+    else if n == 3 then Some verb.Append
+    else if n == 4 then Some verb.Close
+    else if n == 5 then Some verb.Abandon
+    else if n == 6 then Some verb.Mount
+    else if n == 7 then Some verb.Delete
+    else if n == 8 then Some verb.PutManifest
+    else if n == 9 then Some verb.GetManifest
+    else if n == 10 then Some verb.DeleteManifest
+    else if n == 11 then Some verb.Lease
+    else if n == 12 then Some verb.Read
+    else if n == 13 then Some verb.GiveBack
+    else if n == 14 then Some verb.Sweep
+    else None
+
+-- the range that a head names: none where its flag isn't set
+abbrev pub range_of : Head → Result (Option ByteRange) Refusal
+range_of h = if h.flags % 2 == 1 then range_with (Some (h.start, h.end)) else Ok None
+
+-- the command that a request spells, by the same rules as a row
+abbrev pub request_command : Verb → Head → Text → Result (Option Command) Refusal
+request_command verb h payload = command_from verb (repo_of h payload) (source_of h payload) (digest_of h payload) (range_of h) (Some h.number) (body_of h payload)
+
+-- the ends of what is read of a blob: those of the range, or those of all
+abbrev pub ends_of : Option ByteRange → ℕ × ℕ
+ends_of None = (0, 2 ^ 63 - 1)
+ends_of (Some range) = (range.start, range.end)

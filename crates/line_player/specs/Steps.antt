@@ -1,0 +1,81 @@
+-- What a request of a line does to the store and to the table of leases, by what these may do.
+use Rattle.std.specs.Prelude.{◌≡◌, ◌⊎◌, ℕ, length, Option, Some, None, Result, Ok, Err}
+use Rattle.blob_digest.specs.declared.range.ByteRange.{ByteRange}
+use Rattle.blob_digest.specs.declared.refusal.Refusal.{Refusal}
+use Rattle.blob_digest.specs.declared.refusal.Refusal.TheVariants.{Memory}
+use Rattle.blob_frames.specs.Frames.{digest_of}
+use Rattle.blob_frames.specs.declared.request.Head.{Head}
+use Rattle.finite_maps.specs.Texts.{Text}
+use Rattle.row_player.specs.Answers.{Answer, Bytes, GivenBack, NoLease, Refused, Swept as SweptAnswer, answer_of}
+use Rattle.row_player.specs.Commands.{Command, Request, Calls, Sweeps, digest_in}
+use Rattle.row_player.specs.Leases.{Lent as LentView}
+use Rattle.row_player.specs.Plays.{StepOf}
+use Rattle.row_player.specs.declared.reply.Reply.{Reply}
+use Rattle.row_player.specs.declared.row.Verb.{Verb}
+use Rattle.row_player.specs.declared.row.Verb.TheVariants as verb
+use Rattle.store_model.specs.declared.swept.Swept.{Swept as SweptCounts}
+use Rattle.line_player.specs.Lendings.{Lending, Kept, NotKept, Read, NotRead, GivenBack as GaveBack, NotGivenBack, IsPieceOf}
+use Rattle.line_player.specs.Outcomes.{Outcome, Answered, Lent, NoCommand}
+use Rattle.line_player.specs.Requests.{ends_of, range_of, request_command, verb_of}
+
+-- ---- commands that are answered with a reply
+
+-- what a call is answered: what a row with this command is, or out of memory with nothing changed
+abbrev pub AnswersCommand : {S : Type 0} → (S → Request → Answer → S → Type 0) → Result (Option Command) Refusal → S → Result Reply Refusal → S → Type 0
+AnswersCommand acts spelled old (Ok reply) new = StepOf acts spelled old (answer_of reply) new
+AnswersCommand acts spelled old (Err refusal) new = ((refusal ≡ Memory) × (new ≡ old)) ⊎ StepOf acts spelled old (Refused refusal) new
+
+-- a row with this command is answered so, and no lease is touched
+abbrev pub CommandStep : {S T : Type 0} → (S → Request → Answer → S → Type 0) → Result (Option Command) Refusal → S × T → Outcome → S × T → Type 0
+CommandStep acts spelled old (Answered answer) new = StepOf acts spelled old.0 answer new.0 × (new.1 ≡ old.1)
+CommandStep acts spelled old outcome new = ⊥
+
+-- ---- leases
+
+-- A blob is lent, and its lease kept under a number, or given back for want of memory; or the store refuses.
+abbrev pub Lends : {S T : Type 0} → (S → Request → Answer → S → Type 0) → (T → Lending → T → Type 0) → Command → S × T → Outcome → S × T → Type 0
+Lends acts does command old (Lent size number) new = (lent : LentView) × (size ≡ length lent.bytes) × acts old.0 (Calls command) (Bytes lent.bytes) new.0 × does old.1 (Kept lent number) new.1
+Lends acts does command old (Answered answer) new =
+    ((refusal : Refusal) × (answer ≡ Refused refusal) × acts old.0 (Calls command) (Refused refusal) new.0 × (new.1 ≡ old.1))
+    ⊎ ((lent : LentView) × (answer ≡ Refused Memory) × acts old.0 (Calls command) (Bytes lent.bytes) new.0 × does old.1 (NotKept lent) new.1)
+Lends acts does command old NoCommand new = ⊥
+
+abbrev pub LeaseStep : {S T : Type 0} → (S → Request → Answer → S → Type 0) → (T → Lending → T → Type 0) → Result (Option Command) Refusal → S × T → Outcome → S × T → Type 0
+LeaseStep acts does (Ok (Some command)) old outcome new = Lends acts does command old outcome new
+LeaseStep acts does (Ok None) old outcome new = ⊥
+LeaseStep acts does (Err refusal) old outcome new = (outcome ≡ Answered (Refused refusal)) × (new ≡ old)
+
+-- a piece of the blob of a lease is read, by the digest that the request names, or there is no such lease
+abbrev pub Reads : {T : Type 0} → (T → Lending → T → Type 0) → ℕ → Text → ℕ × ℕ → T → Outcome → T → Type 0
+Reads does number digest ends old outcome new =
+    ((piece : Text) × (outcome ≡ Answered (Bytes piece)) × IsPieceOf digest ends.0 ends.1 piece × does old (Read number digest ends.0 ends.1 piece) new)
+    ⊎ ((outcome ≡ Answered NoLease) × does old (NotRead number digest) new)
+
+abbrev pub ReadStep : {T : Type 0} → (T → Lending → T → Type 0) → ℕ → Result Text Refusal → Result (Option ByteRange) Refusal → T → Outcome → T → Type 0
+ReadStep does number (Ok digest) (Ok range) old outcome new = Reads does number digest (ends_of range) old outcome new
+ReadStep does number (Ok digest) (Err refusal) old outcome new = (outcome ≡ Answered (Refused refusal)) × (new ≡ old)
+ReadStep does number (Err refusal) range old outcome new = (outcome ≡ Answered (Refused refusal)) × (new ≡ old)
+
+abbrev pub GiveBackStep : {T : Type 0} → (T → Lending → T → Type 0) → ℕ → T → Outcome → T → Type 0
+GiveBackStep does number old outcome new =
+    ((outcome ≡ Answered GivenBack) × does old (GaveBack number) new)
+    ⊎ ((outcome ≡ Answered NoLease) × does old (NotGivenBack number) new)
+
+-- ---- requests
+
+abbrev pub SweepStep : {S : Type 0} → (S → Request → Answer → S → Type 0) → S → Outcome → S → Type 0
+SweepStep acts old outcome new = (swept : SweptCounts) × (outcome ≡ Answered (SweptAnswer swept)) × acts old Sweeps (SweptAnswer swept) new
+
+-- what a request does, by what its byte asks for
+abbrev pub VerbStep : {S T : Type 0} → (S → Request → Answer → S → Type 0) → (T → Lending → T → Type 0) → Option Verb → S × T → Head → Text → Outcome → S × T → Type 0
+VerbStep acts does None old h payload outcome new = (outcome ≡ NoCommand) × (new ≡ old)
+VerbStep acts does (Some verb.Lease) old h payload outcome new = LeaseStep acts does (request_command verb.Lease h payload) old outcome new
+VerbStep acts does (Some verb.Read) old h payload outcome new = ReadStep does h.number (digest_in (digest_of h payload)) (range_of h) old.1 outcome new.1 × (new.0 ≡ old.0)
+VerbStep acts does (Some verb.GiveBack) old h payload outcome new = GiveBackStep does h.number old.1 outcome new.1 × (new.0 ≡ old.0)
+VerbStep acts does (Some verb.Sweep) old h payload outcome new = SweepStep acts old.0 outcome new.0 × (new.1 ≡ old.1)
+VerbStep acts does (Some verb) old h payload outcome new = CommandStep acts (request_command verb h payload) old outcome new
+
+-- a request is played, or memory runs out and nothing is changed
+abbrev pub RequestStep : {S T : Type 0} → (S → Request → Answer → S → Type 0) → (T → Lending → T → Type 0) → S × T → Head → Text → Outcome → S × T → Type 0
+RequestStep acts does old h payload outcome new =
+    ((outcome ≡ Answered (Refused Memory)) × (new ≡ old)) ⊎ VerbStep acts does (verb_of h.command) old h payload outcome new

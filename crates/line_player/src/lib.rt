@@ -1,0 +1,28 @@
+//! Serves a line: reads the requests that come over it, plays each on what keeps a store, and writes its reply.
+//!
+//! A line is any `Read` and `Write`; what requests are played on is any `Backend` of `row_player`, and the leases
+//! that are out are those of any `Lending`. It stands on `blob_frames` for the frames, and on `row_player` for what a
+//! request's fields spell, so that a line's command means what a row's means.
+//!
+//! It promises, of whatever these two may do: requests are played in their order, each once, and each has one reply,
+//! written in that order; a request whose field spells nothing is refused for the first such field and changes
+//! nothing; what is read of a lease is a piece of bytes that have the digest which the request names; and why a line
+//! ends is told, where nothing of it was played that was not read whole.
+#![tactic(auto)]
+
+mod command;
+mod ending;
+mod lending;
+mod line;
+mod outcome;
+mod step;
+
+pub use command::{request_command, verb_of};
+pub use ending::Ending;
+pub use lending::Lending;
+pub use line::serve;
+pub use outcome::{Outcome, write_outcome};
+pub use step::play_request;
+
+#[cfg(test)]
+mod tests;
