@@ -2,16 +2,15 @@
 use Rattle.std.proofs.Common.{◌≡◌, Result, Ok, ℕ, ap, sym}
 use Rattle.blob_digest.specs.declared.refusal.Refusal.{Refusal}
 use Rattle.finite_maps.specs.Texts.{Text}
-use Rattle.row_player.specs.Commands.{digest_in, repo_in}
 use Rattle.store_model.specs.Catalog.{Catalog}
 use Rattle.store_model.specs.Queries.{usage}
 use Rattle.store_model.specs.declared.usage.Usage.{Usage}
 use Rattle.line_player.specs.Queries.{SizeStep, UsageStep, told_size, told_usage}
 
-pub size_told : {S : Type 0} (finds : S → Catalog → Type 0) (size : Catalog → Text → Text → Result ℕ Refusal) (store : S) (named spelled repo digest : Text) (answer : Result ℕ Refusal)
-    → repo_in named ≡ Ok repo → Ok digest ≡ digest_in spelled → ((C : Catalog) × finds store C × (answer ≡ size C repo digest)) → SizeStep finds size store (repo_in named) (digest_in spelled) (told_size answer)
+pub size_told : {S : Type 0} (finds : S → Catalog → Type 0) (size : Catalog → Text → Text → Result ℕ Refusal) (store : S) (named spelled : Result Text Refusal) (repo digest : Text) (answer : Result ℕ Refusal)
+    → named ≡ Ok repo → Ok digest ≡ spelled → ((C : Catalog) × finds store C × (answer ≡ size C repo digest)) → SizeStep finds size store named spelled (told_size answer)
 size_told finds size store named spelled repo digest answer p q found = rw (p, sym q) (found.0, found.1, ap told_size found.2)
 
-pub usage_told : {S : Type 0} (finds : S → Catalog → Type 0) (store : S) (named repo : Text) (answer : Result Usage Refusal)
-    → repo_in named ≡ Ok repo → ((C : Catalog) × finds store C × (answer ≡ usage C repo)) → UsageStep finds store (repo_in named) (told_usage answer)
+pub usage_told : {S : Type 0} (finds : S → Catalog → Type 0) (store : S) (named : Result Text Refusal) (repo : Text) (answer : Result Usage Refusal)
+    → named ≡ Ok repo → ((C : Catalog) × finds store C × (answer ≡ usage C repo)) → UsageStep finds store named (told_usage answer)
 usage_told finds store named repo answer p found = rw p (found.0, found.1, ap told_usage found.2)

@@ -40,7 +40,7 @@ Lends acts does command old (Lent size number) new = (lent : LentView) × (size 
 Lends acts does command old (Answered answer) new =
     ((refusal : Refusal) × (answer ≡ Refused refusal) × acts old.0 (Calls command) (Refused refusal) new.0 × (new.1 ≡ old.1))
     ⊎ ((lent : LentView) × (answer ≡ Refused Memory) × acts old.0 (Calls command) (Bytes lent.bytes) new.0 × does old.1 (NotKept lent) new.1)
-Lends acts does command old NoCommand new = ⊥
+Lends acts does command old outcome new = ⊥
 
 abbrev pub LeaseStep : {S T : Type 0} → (S → Request → Answer → S → Type 0) → (T → Lending → T → Type 0) → Result (Option Command) Refusal → S × T → Outcome → S × T → Type 0
 LeaseStep acts does (Ok (Some command)) old outcome new = Lends acts does command old outcome new
