@@ -12,3 +12,4 @@ pub mod Stops
 pub mod Tenants
 pub mod Texts
 pub mod Watching
+pub mod WorkersText

@@ -15,8 +15,8 @@ use Rattle.store_model.specs.Histories.{Finished, PutBack, Step, Took}
 use Rattle.store_model.specs.HistoryIsolation.{is_step_of}
 use Rattle.store_model.specs.Runs.{repo_of}
 use Rattle.row_player.specs.Answers.{Answer, Received, Refused, Stored}
-use Rattle.row_player.specs.Commands.{Append, Close, Command, command_of, is_command}
-use Rattle.row_player.specs.Plays.{Plays, RowStep, State, StepOf}
+use Rattle.row_player.specs.Commands.{Append, Close, Command, Request, command_of, is_command}
+use Rattle.row_player.specs.Plays.{Plays, RowStep, State, StepOf, StoreRow}
 use Rattle.row_player.specs.Rows.{RowView}
 use Rattle.row_player.specs.declared.row.Verb.{Verb}
 use Rattle.row_player.specs.declared.row.Verb.TheVariants as verb
@@ -49,14 +49,10 @@ AreLineSteps (l ∷ lines) steps = (first : List Step) × (rest : List Step) × 
 
 -- ---- rows that were played
 
-spelled_steps : (o : Result (Option Command) Refusal) (old new : Work) (answer : Answer) → StepOf WorkActs o old answer new → (steps : List Step) × AreRowSteps o answer steps × (new.steps ≡ old.steps ++ steps)
-spelled_steps (Ok (Some command)) old new answer h = h.1.steps
-spelled_steps (Ok None) old new answer h = absurd h
-spelled_steps (Err e) old new answer h = ([], (h.0, refl), ap (λ (w : Work). w.steps) h.1 ∙ sym (append-nil old.steps))
-
-row_steps : (old new : State Work) (row : RowView) (answer : Answer) → is_command row.verb ≡ true → RowStep WorkActs old row answer new → (steps : List Step) × AreRowSteps (command_of row) answer steps × (new.0.steps ≡ old.0.steps ++ steps)
-row_steps old new row answer commands step = elim step [
-  | inl store ↦ spelled_steps (command_of row) old.0 new.0 answer store.0
+-- a row that is a command's is played by its command
+pub store_row : {S : Type 0} (acts : S → Request → Answer → S → Type 0) (old new : State S) (row : RowView) (answer : Answer) → is_command row.verb ≡ true → RowStep acts old row answer new → StoreRow acts old row answer new
+store_row acts old new row answer commands step = elim step [
+  | inl store ↦ store
   | inr (inl lends) ↦ other verb.Lease lends.0 refl
   | inr (inr (inl reads)) ↦ other verb.Read reads.0 refl
   | inr (inr (inr (inl shares))) ↦ other verb.Share shares.0 refl
@@ -68,11 +64,16 @@ row_steps old new row answer commands step = elim step [
     other : {A : Type 0} (v : Verb) → row.verb ≡ v → is_command v ≡ false → A
     other v is none = absurd (false≢true (sym none ∙ ap is_command (sym is) ∙ commands))
 
+spelled_steps : (o : Result (Option Command) Refusal) (old new : Work) (answer : Answer) → StepOf WorkActs o old answer new → (steps : List Step) × AreRowSteps o answer steps × (new.steps ≡ old.steps ++ steps)
+spelled_steps (Ok (Some command)) old new answer h = h.1.steps
+spelled_steps (Ok None) old new answer h = absurd h
+spelled_steps (Err e) old new answer h = ([], (h.0, refl), ap (λ (w : Work). w.steps) h.1 ∙ sym (append-nil old.steps))
+
 pub line_steps : (lines : List Line) (old new : State Work) → AllByRecursion (λ row. is_command row.verb ≡ true) (rows_of lines) → Plays WorkActs old (rows_of lines) (answers_of lines) new
     → (steps : List Step) × AreLineSteps lines steps × (new.0.steps ≡ old.0.steps ++ steps)
 line_steps [] old new commands h = ([], refl, ap (λ (s : State Work). s.0.steps) h ∙ sym (append-nil old.0.steps))
 line_steps (l ∷ lines) old new commands h =
-    let here = row_steps old h.0 l.0 l.1 commands.0 h.1 in
+    let here = spelled_steps (command_of l.0) old.0 h.0.0 l.1 (store_row WorkActs old h.0 l.0 l.1 commands.0 h.1).0 in
     let after = line_steps lines h.0 new commands.1 h.3 in
     (here.0 ++ after.0, (here.0, after.0, here.1, h.2, after.1, refl), after.2 ∙ ap (λ xs. xs ++ after.0) here.2 ∙ append_assoc old.0.steps here.0 after.0)
 
