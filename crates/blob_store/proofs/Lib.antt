@@ -3,3 +3,4 @@ pub mod Places
 pub mod Settlings
 pub mod Seated
 pub mod Interleavings
+pub mod OneText

@@ -1,3 +1,4 @@
+pub mod OneText
 pub mod Parts
 pub mod Seats
 pub mod Workers

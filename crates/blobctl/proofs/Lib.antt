@@ -2,6 +2,7 @@ pub mod BookPlays
 pub mod CommandLines
 pub mod Inputs
 pub mod Leasing
+pub mod OneHistory
 pub mod OneOpening
 pub mod OneRun
 pub mod Records
@@ -9,3 +10,4 @@ pub mod Replies
 pub mod ScriptRuns
 pub mod SomeCommand
 pub mod SomeRun
+pub mod WorkersText

@@ -19,6 +19,7 @@ use Rattle.row_player.specs.Rows.{RowView}
 use Rattle.row_player.specs.declared.row.Verb.{Verb}
 use Rattle.row_player.specs.declared.row.Verb.TheVariants as verb
 use Rattle.row_player.proofs.Spellings.{names_repo, repo_spelled}
+use Rattle.blob_store.specs.Seats.{as_answer}
 use Rattle.blobctl.specs.Played.{Leads, result_of}
 use Rattle.row_player.specs.CommandAnswers.{row_answer}
 use Rattle.blobctl.specs.ScriptRuns.{AreEventsOf, IsEvent, IsNoEvent, rows_of, shown_reply}
@@ -26,11 +27,10 @@ use Rattle.blobctl.specs.ScriptRuns.{AreEventsOf, IsEvent, IsNoEvent, rows_of, s
 -- ---- one row
 
 -- what a row's command answers
-abbrev plain : Command → Result runs.Answer Refusal → Answer
-plain c (Ok a) = row_answer c a
-plain c (Err e) = Refused e
+abbrev pub plain : Command → Result runs.Answer Refusal → Answer
+plain c r = as_answer (row_answer c) r
 
-asked : (C C' : Catalog) (c : Command) (answer : Answer) (o : Outcome runs.Answer) → runs.outcome false C c ≡ o → ◌≡◌ {A = Answer × Catalog} (answer, C') (result_of C (runs.answered (row_answer c) o))
+pub asked : (C C' : Catalog) (c : Command) (answer : Answer) (o : Outcome runs.Answer) → runs.outcome false C c ≡ o → ◌≡◌ {A = Answer × Catalog} (answer, C') (result_of C (runs.answered (row_answer c) o))
     → (r : Result runs.Answer Refusal) × runs.IsCase C c r C' × (answer ≡ plain c r)
 asked C C' c answer (Ok x) is h = (Ok x.0, is ∙ (λ i. Ok (x.0, sym (ap (λ (p : Answer × Catalog). p.1) h) i)), ap (λ (p : Answer × Catalog). p.0) h)
 asked C C' c answer (Err e) is h = (Err e, (inl (false, is), ap (λ (p : Answer × Catalog). p.1) h), ap (λ (p : Answer × Catalog). p.0) h)

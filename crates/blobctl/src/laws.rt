@@ -1,7 +1,13 @@
 //! What follows from the definitions alone.
 ghost use Rattle.blobctl.specs.OneText.{HasOneText, HasText};
 ghost use Rattle.blobctl.specs.ScriptRuns.{BooksFollowRows, ScriptsAreRuns};
+ghost use Rattle.blobctl.specs.WorkersText.{
+  OneWorkerHasHistory,
+  OneWritesAsSeveral,
+  WorkersWriteOneText,
+};
 
+use blob_store::laws::interleavings;
 use store_book::laws::isolation;
 
 /// A script without bad rows has a text on each opening catalog, and where none of its rows leases a
@@ -21,4 +27,16 @@ pub fn tenants_rows()
     ensures books { BooksFollowRows }
 {
     isolation();
+}
+
+/// A script writes the same text, however many workers play it, one included, and in whichever order they come to
+/// their turns. This is said of scripts none of whose rows leases or sweeps, and of which no two lanes share a tenant,
+/// in which no reply is one that others can cause, and no two closes bring different bytes that have the same digest.
+/// What one worker plays is looked at as a history, as what several play is.
+pub fn workers_text()
+    ensures history { OneWorkerHasHistory }
+    ensures one { OneWritesAsSeveral }
+    ensures several { WorkersWriteOneText }
+{
+    interleavings();
 }

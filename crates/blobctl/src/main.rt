@@ -17,7 +17,8 @@
 //! fault where no write failed is ruled out by tests alone.
 //!
 //! Of the definitions it proves (`laws`) that a script has a text, and no other where it leases nothing,
-//! and that its replies and book are a run of each tenant's commands, which don't see each other.
+//! that its replies and book are a run of each tenant's commands, which don't see each other, and that where no
+//! two lanes share a tenant, the text doesn't depend on how many workers play it.
 #![tactic(auto)]
 
 ghost use Rattle.std.specs.Prelude.{◌≡◌, ◌⊎◌, IfOk};

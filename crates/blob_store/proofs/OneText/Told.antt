@@ -1,0 +1,109 @@
+-- What the steps of a history tell, in which no reply is one that others can cause.
+use Rattle.std.proofs.Common.{◌≡◌, ℕ, Bool, false, List, [], ◌∷◌, Option, Some, None, Result, Ok, Err, refl, sym, ap, ◌∙◌, subst, inl, inr, ⊎_elim}
+use Rattle.std.specs.List.{AllByRecursion}
+use Rattle.blob_digest.specs.declared.range.ByteRange.{ByteRange}
+use Rattle.blob_digest.specs.declared.refusal.Refusal.{Refusal}
+use Rattle.blob_digest.specs.declared.refusal.Refusal.TheVariants.{NameUnknown}
+use Rattle.finite_maps.specs.Texts.{Text}
+use Rattle.store_model.specs.Catalog.{Catalog, Taken, Tenant, tenant_of}
+use Rattle.store_model.specs.Commands.{take}
+use Rattle.store_model.specs.Histories.{AreSteps, Cleaned, Finished, MayLeave, Performed, PutBack, State, Step, Took}
+use Rattle.store_model.specs.HistoryIsolation.{AreOwnReplies, IsOwnReply}
+use Rattle.store_model.specs.Runs as runs
+use Rattle.store_model.specs.Runs.{Answer, Command, outcome, repo_of}
+use Rattle.store_model.proofs.Commands.Hands.{took}
+use Rattle.store_model.proofs.Noninterference.Hands.{finish_leaves, put_back_leaves, take_leaves}
+use Rattle.store_model.proofs.Noninterference.LocalRespect.{Leaves, tenants_stay}
+use Rattle.blob_store.specs.OneText.{AreAllOwn}
+
+-- a step was made in a state of these tenants, and its reply is none that others can cause
+pub record IsTold (tenants : List Tenant) (step : Step) : Type 0 where
+  pub state : State
+  pub after : Catalog
+  pub same : state.catalog.tenants ≡ tenants
+  pub leaves : MayLeave state step after
+  pub own : IsOwnReply state step
+
+-- ---- the tenants stay as they are
+
+module _ (s : State) (C' : Catalog) where
+  abbrev Same : Catalog → Type 0
+  Same X = X.tenants ≡ s.catalog.tenants
+
+  stay : (step : Step) → MayLeave s step C' → Same C'
+  stay (Performed command (Ok a)) h = subst (λ x. Leaves Same x) h (tenants_stay s.catalog command)
+  stay (Performed command (Err e)) h = ⊎_elim (λ x. ap (λ (X : Catalog). X.tenants) x.1) (λ x. ap (λ (X : Catalog). X.tenants) x.1) h
+  stay (Cleaned swept) h = ap (λ (X : Catalog). X.tenants) h.rest
+  stay (Took r n g len (Ok hand)) h = subst (λ x. Leaves Same x) h (take_leaves Same s.catalog r n g len (λ t _. refl))
+  stay (Took r n g len (Err e)) h = ap (λ (X : Catalog). X.tenants) h.1
+  stay (PutBack hand (Ok n)) h = subst (λ x. Leaves Same x) h (put_back_leaves Same s.catalog hand (λ x _. refl))
+  stay (PutBack hand (Err e)) h = ap (λ (X : Catalog). X.tenants) h.1
+  stay (Finished hand d (Ok n)) h = subst (λ x. Leaves Same x) h (finish_leaves Same s.catalog hand d (λ x _ _. refl))
+  stay (Finished hand d (Err e)) h = ap (λ (X : Catalog). X.tenants) h.1
+
+pub all_told : (tenants : List Tenant) (steps : List Step) (s s' : State) → s.catalog.tenants ≡ tenants → (run : AreSteps s steps s') → AreAllOwn s steps s' run → AllByRecursion (IsTold tenants) steps
+all_told tenants [] s s' same run own = tt
+all_told tenants (step ∷ steps) s s' same run own = (
+  record { state = s; after = run.0.catalog; same = same; leaves = run.1.leaves; own = own.0 },
+  all_told tenants steps run.0 s' (stay s run.0.catalog step run.1.leaves ∙ same) run.2 own.1,
+)
+
+-- so a tenant's replies are its own
+pub own_of : (tenants : List Tenant) (t : ℕ) (steps : List Step) (s s' : State) (run : AreSteps s steps s') → AreAllOwn s steps s' run → AreOwnReplies tenants t s steps s' run
+own_of tenants t [] s s' run own = tt
+own_of tenants t (step ∷ steps) s s' run own = ((λ _. own.0), own_of tenants t steps run.0 s' run.2 own.1)
+
+-- ---- the tenant of a repository
+
+module _ (tenants : List Tenant) where
+  -- a hand that was taken is of the tenant of its session's repository
+  pub taken_owner : (r : Text) (n : ℕ) (g : Option ByteRange) (len : ℕ) (hand : Taken) → IsTold tenants (Took r n g len (Ok hand)) → tenant_of tenants r ≡ Some hand.key.0
+  taken_owner r n g len hand told =
+      let by = took told.state.catalog told.after r n len g hand told.leaves in
+      ap (λ ts. tenant_of ts r) (sym told.same) ∙ by.known ∙ ap (λ (h : Taken). Some h.key.0) by.is
+
+  -- a repository of no tenant is unknown, whatever is asked of it
+  no_outcome : (crowded : Bool) (C : Catalog) (command : Command) → tenant_of C.tenants (repo_of command) ≡ None → outcome crowded C command ≡ Err NameUnknown
+  no_outcome crowded C (runs.Start r) none = rw none refl
+  no_outcome crowded C (runs.Status r n) none = rw none refl
+  no_outcome crowded C (runs.Append r n g b) none = rw none refl
+  no_outcome crowded C (runs.Close r n d g b) none = rw none refl
+  no_outcome crowded C (runs.Abandon r n) none = rw none refl
+  no_outcome crowded C (runs.Mount r d from) none = rw none refl
+  no_outcome crowded C (runs.Delete r d) none = rw none refl
+  no_outcome crowded C (runs.PutManifest r b) none = rw none refl
+  no_outcome crowded C (runs.GetManifest r m) none = rw none refl
+  no_outcome crowded C (runs.DeleteManifest r m) none = rw none refl
+  no_outcome crowded C (runs.Lease r d) none = rw none refl
+
+  none_there : (C : Catalog) (r : Text) → C.tenants ≡ tenants → tenant_of tenants r ≡ None → tenant_of C.tenants r ≡ None
+  none_there C r same none = ap (λ ts. tenant_of ts r) same ∙ none
+
+  pub performed_unowned : (command : Command) (reply : Result Answer Refusal) → tenant_of tenants (repo_of command) ≡ None → IsTold tenants (Performed command reply) → reply ≡ Err NameUnknown
+  performed_unowned command reply none told = by reply told.leaves told.own
+    where
+      unknown : (crowded : Bool) → outcome crowded told.state.catalog command ≡ Err NameUnknown
+      unknown crowded = no_outcome crowded told.state.catalog command (none_there told.state.catalog (repo_of command) told.same none)
+
+      by : (x : Result Answer Refusal) → MayLeave told.state (Performed command x) told.after → IsOwnReply told.state (Performed command x) → x ≡ Err NameUnknown
+      by (Ok a) leaves own = absurd (let e = sym (unknown false) ∙ leaves in cc)
+      by (Err e) leaves own = elim leaves [
+        | inl case ↦ elim case.0 [
+          | inl x ↦ let same = sym x.1 ∙ unknown x.0 in cc
+          | inr x ↦ absurd (own.0.0 x.0)
+        ]
+        | inr x ↦ absurd (own.1 x.0)
+      ]
+
+  pub took_unowned : (r : Text) (n : ℕ) (g : Option ByteRange) (len : ℕ) (reply : Result Taken Refusal) → tenant_of tenants r ≡ None → IsTold tenants (Took r n g len reply) → reply ≡ Err NameUnknown
+  took_unowned r n g len reply none told = by reply told.leaves told.own
+    where
+      unknown : take told.state.catalog r n g len ≡ Err NameUnknown
+      unknown = rw (none_there told.state.catalog r told.same none) refl
+
+      by : (x : Result Taken Refusal) → MayLeave told.state (Took r n g len x) told.after → IsOwnReply told.state (Took r n g len x) → x ≡ Err NameUnknown
+      by (Ok hand) leaves own = absurd (let e = sym unknown ∙ leaves in cc)
+      by (Err e) leaves own = elim leaves.0 [
+        | inl x ↦ let same = sym x ∙ unknown in cc
+        | inr x ↦ absurd (own.1 x)
+      ]
