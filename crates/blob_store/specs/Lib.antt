@@ -1,3 +1,4 @@
 pub mod Parts
+pub mod RowOrders
 pub mod Seats
 pub mod Workers

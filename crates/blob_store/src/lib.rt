@@ -9,6 +9,7 @@
 
 #[cfg(test)]
 mod desk_tests;
+pub mod laws;
 mod lease;
 #[cfg(test)]
 mod lend_tests;
