@@ -1,13 +1,12 @@
 -- A session in hand stays so until its hand comes back.
-use Rattle.std.proofs.Common.{◌≡◌, ◌≢◌, ℕ, Bool, true, false, List, [], ◌∷◌, length, Option, Some, None, Result, Ok, Err, refl, sym, ap, ◌∙◌, subst}
+use Rattle.std.proofs.Common.{◌≡◌, ◌≢◌, ℕ, true, false, [], length, Option, Some, None, Ok, sym, ap, ◌∙◌, subst}
 use Rattle.std.specs.FinMap.{get, insert, remove}
 use Rattle.std.proofs.lemmas.Bool.{false≢true}
 use Rattle.blob_digest.specs.declared.range.ByteRange.{ByteRange}
-use Rattle.blob_digest.specs.declared.refusal.Refusal.{Refusal}
 use Rattle.blob_digest.proofs.KeyOrders.{number_cmp_total, exact_number}
 use Rattle.finite_maps.specs.Texts.{Text}
 use Rattle.finite_maps.proofs.Maps.{get-insert_other, get-remove_other}
-use Rattle.store_model.specs.Catalog.{Catalog, Home, Number, Session, number_cmp, next_of}
+use Rattle.store_model.specs.Catalog.{Catalog, Home, Number, Session, next_of}
 use Rattle.store_model.specs.Commands
 use Rattle.store_model.specs.Commands.{Outcome, append_in, check, new_session, not_busy, within_quota}
 use Rattle.store_model.specs.Invariant.{Lawful}

@@ -1,5 +1,5 @@
 -- What every step of a history keeps of the hands that are out: the catalog is sound, and the session of each is in hand.
-use Rattle.std.proofs.Common.{◌≡◌, ◌≢◌, ◌⊎◌, ℕ, Bool, true, false, List, [], ◌∷◌, length, Option, Some, None, Result, Ok, Err, refl, sym, ap, ◌∙◌, subst, inl, inr, arith}
+use Rattle.std.proofs.Common.{◌≡◌, ◌≢◌, ℕ, false, List, [], ◌∷◌, length, Option, Some, None, Result, Ok, Err, refl, sym, ap, ◌∙◌, subst, inl, inr, arith}
 use Rattle.std.specs.List.{AllByRecursion}
 use Rattle.std.specs.FinMap.{empty, get, get-empty, insert, remove}
 use Rattle.std.proofs.lemmas.Bool.{false≢true}
@@ -13,10 +13,9 @@ use Rattle.store_model.specs.Catalog.{Catalog, Home, InHand, Number, Session, Ta
 use Rattle.store_model.specs.Commands.{after_cancel, finish, put_back, take}
 use Rattle.store_model.specs.Histories.{Finished, MayLeave, Performed, PutBack, State, Step, Took, Cleaned}
 use Rattle.store_model.specs.Invariant.{Sound}
-use Rattle.store_model.specs.Runs.{Called, Event, IsNamed, Swept}
+use Rattle.store_model.specs.Runs.{Event, IsNamed}
 use Rattle.store_model.specs.Sessions.{are_home, at_home, brought_home, chunks_of, taken_session, with_chunks}
 use Rattle.store_model.specs.WholeCommands.{ComesTo, Hands, Lent}
-use Rattle.store_model.proofs.Commands.Accepted.{left_by}
 use Rattle.store_model.proofs.Commands.ByHand.{taken_hand, taken_leaves}
 use Rattle.store_model.proofs.Commands.Finish.{Sound-after_finish}
 use Rattle.store_model.proofs.Commands.Hands.{IsProper, Sound-after_put_back, Sound-after_take, Sound-home, TookIn, took}
@@ -127,12 +126,15 @@ module _ (C : Catalog) (h : Taken) where
 
 module _ (hands : Hands) (C X : Catalog) (k : Number) (kept : IsKept hands C) where
   left_elsewhere : Sound X → SameElsewhere k C X → IsKept (remove hands k) X
-  left_elsewhere sound same = record { sound = sound; held = λ q out is. elim (cases_key number_cmp_total exact_number q k) [
-    | inl e ↦ absurd (let none : None ≡ Some out = sym (get-remove_same number_cmp_total exact_number hands k) ∙ ap (get (remove hands k)) (sym e) ∙ is in cc)
-    | inr other ↦
-        let was = kept.held q out (sym (get-remove_other number_cmp_total exact_number hands k q other) ∙ is) in
-        record { session = was.session; found = same q other ∙ was.found; in_hand = was.in_hand; pieces = was.pieces }
-  ] }
+  left_elsewhere sound same = record {
+    sound = sound;
+    held = λ q out is. elim (cases_key number_cmp_total exact_number q k) [
+      | inl e ↦ absurd (let none : None ≡ Some out = sym (get-remove_same number_cmp_total exact_number hands k) ∙ ap (get (remove hands k)) (sym e) ∙ is in cc)
+      | inr other ↦
+          let was = kept.held q out (sym (get-remove_other number_cmp_total exact_number hands k q other) ∙ is) in
+          record { session = was.session; found = same q other ∙ was.found; in_hand = was.in_hand; pieces = was.pieces }
+    ];
+  }
 
 module _ (hands : Hands) (s : State) (X : Catalog) (kept : IsKept hands s.catalog) (h : Taken) (out : Lent) (is_out : get hands h.key ≡ Some out) (bytes : Text) (fills : length bytes ≡ out.hand.reserved) (is : h ≡ filled out.hand bytes) where
   proper : IsProper h

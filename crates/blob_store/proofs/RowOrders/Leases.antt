@@ -1,5 +1,5 @@
 -- Rows of several workers play on one table of leases as on those of the workers: a row has to do with the leases of its own lane alone.
-use Rattle.std.proofs.Common.{◌≡◌, ◌≢◌, ◌⊎◌, ◌%◌, ◌==◌, ◌++◌, ◌∷◌, [], ℕ, Bool, true, false, cond, List, map, Option, Some, None, refl, sym, ap, ◌∙◌, subst, inl, inr}
+use Rattle.std.proofs.Common.{◌≡◌, ◌≢◌, ◌%◌, ◌==◌, ◌++◌, ◌∷◌, [], ℕ, Bool, true, false, cond, List, map, Option, Some, None, refl, sym, ap, ◌∙◌, subst, inl, inr}
 use Rattle.std.specs.Prelude.{if◌then◌else◌}
 use Rattle.std.specs.FinMap.{get, get-insert, get-remove, insert, remove}
 use Rattle.std.specs.Ordering.{eq_by_cmp}
@@ -9,7 +9,7 @@ use Rattle.finite_maps.specs.Texts.{Text}
 use Rattle.finite_maps.proofs.Maps.{get-insert_other, get-remove_other}
 use Rattle.store_model.specs.Catalog.{Catalog}
 use Rattle.store_model.specs.Runs.{Event, IsRun}
-use Rattle.row_player.specs.Answers.{Answer, GivenBack, NameTaken, NoLease, Refused, Shared}
+use Rattle.row_player.specs.Answers.{Answer, Refused, Shared}
 use Rattle.row_player.specs.Commands.{Request}
 use Rattle.row_player.specs.Leases.{Leases, Lent, Name, halved, name_cmp, new_lease}
 use Rattle.row_player.specs.Plays.{LendsWhereFree, Plays, RowStep, State, VerifiesLease, give_back_of, name_of, named, piece_of, read_of, second_of, share_of}
@@ -172,9 +172,9 @@ told_plays n (p ∷ order) events C C' table held told run is =
     let goes_on : IsTable n j.after next = (λ name. elim (cases_eq name.0 p.0.lane) [
       | inl e ↦ subst (λ l. get j.after (l, name.1) ≡ get (next (l % n)) (l, name.1)) (sym e) (j.same name.1)
       | inr other ↦ j.elsewhere name other ∙ is name ∙ elim (cases_eq (name.0 % n) w) [
-          | inl q ↦ subst (λ v. get (held v) name ≡ get (next v) name) (sym q) (sym (j.own_elsewhere name other))
-          | inr away ↦ ap (λ m. get m name) (sym (told.5 (name.0 % n) away))
-        ]
+        | inl q ↦ subst (λ v. get (held v) name ≡ get (next v) name) (sym q) (sym (j.own_elsewhere name other))
+        | inr away ↦ ap (λ m. get m name) (sym (told.5 (name.0 % n) away))
+      ]
     ]) in
     let rest = told_plays n order later parts.0 C' j.after next told.6 parts.2 goes_on in
     (rest.0, ((parts.0, j.after), j.does, told.4.fine, rest.1))

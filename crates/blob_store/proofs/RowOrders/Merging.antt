@@ -1,5 +1,5 @@
 -- The steps of all workers are events in some order of the rows: each step but a take completes the row that is its worker's next.
-use Rattle.std.proofs.Common.{◌≡◌, ◌≢◌, ◌⊎◌, ◌<◌, ◌≤◌, ◌%◌, ◌==◌, ◌++◌, ◌∷◌, [], ℕ, Bool, true, false, cond, List, length, Option, Some, None, Result, Ok, refl, sym, ap, ◌∙◌, subst, inl, inr, arith}
+use Rattle.std.proofs.Common.{◌≡◌, ◌≢◌, ◌⊎◌, ◌<◌, ◌≤◌, ◌%◌, ◌==◌, ◌++◌, ◌∷◌, [], ℕ, Bool, true, false, cond, List, length, Option, Some, None, Result, Ok, Err, refl, sym, ap, ◌∙◌, subst, inl, inr, arith}
 use Prim.Native.Nat.{zero, suc}
 use Rattle.std.specs.Prelude.{nat_lt}
 use Rattle.std.specs.List.{AllByRecursion, filter}
@@ -10,21 +10,23 @@ use Rattle.blob_digest.specs.declared.refusal.Refusal.{Refusal}
 use Rattle.blob_digest.proofs.KeyOrders.{number_cmp_total, exact_number}
 use Rattle.finite_maps.proofs.Maps.{cases_key, get-insert_at, get-insert_other, get-remove_other}
 use Rattle.finite_maps.proofs.Sums.{get-remove_same}
+use Rattle.finite_maps.specs.Texts.{Text}
 use Rattle.shared_log.specs.Entries.{events_by}
 use Rattle.shared_log.specs.declared.view.Entry.{Entry}
 use Rattle.store_model.specs.Catalog.{Catalog, Number, Taken, number_cmp}
 use Rattle.store_model.specs.Commands.{take}
-use Rattle.store_model.specs.Histories.{AreSteps, IsStep, MayLeave, State, Step}
+use Rattle.store_model.specs.Histories.{AreSteps, Cleaned, Finished, IsStep, MayLeave, Performed, PutBack, State, Step, Took}
 use Rattle.store_model.specs.Runs as runs
 use Rattle.store_model.specs.Runs.{Called, Event, IsNamed}
-use Rattle.store_model.specs.WholeCommands.{AreWhole, ComesTo, Hands, Lent, numbered}
+use Rattle.store_model.specs.WholeCommands.{AreWhole, ComesTo, Hands, IsCalm, Lent, numbered}
 use Rattle.row_player.specs.Answers.{Answer}
 use Rattle.row_player.specs.Leases.{Leases}
 use Rattle.row_player.specs.Rows.{RowView}
 use Rattle.row_player.specs.Shares.{is_own}
 use Rattle.locked_book.specs.History.{filled, steps_of}
+use Rattle.blob_store.specs.RowOrders.{IsCalmAnswer}
 use Rattle.blob_store.proofs.RowOrders.Kept.{IsKept, its_number, its_reserve, kept_back, kept_finish, kept_take, kept_whole, was_free}
-use Rattle.blob_store.proofs.RowOrders.Rows.{AreLeft, IsReturn, IsRowOf, IsWhole, Taking, lent_by, take_of}
+use Rattle.blob_store.proofs.RowOrders.Rows.{AreLeft, IsMildEvent, IsReturn, IsRowOf, IsWhole, Taking, lent_by, take_of}
 
 -- ---- where a worker is
 
@@ -58,8 +60,9 @@ Goes (Some t) held rows steps = IsMidway t held rows steps
 abbrev pub GoesOn : Place → List Step → Type 0
 GoesOn p steps = Goes p.out p.held p.rows steps
 
-abbrev AreOwn : ℕ → ℕ → List (RowView × Answer) → Type 0
-AreOwn n w rows = AllByRecursion (λ p. p.0.lane % n ≡ w) rows
+-- rows of a worker, none of which is refused for what a hand can cause
+abbrev pub AreOwn : ℕ → ℕ → List (RowView × Answer) → Type 0
+AreOwn n w rows = AllByRecursion (λ p. (p.0.lane % n ≡ w) × IsCalmAnswer p.1) rows
 
 -- all workers, with the entries that are still to come
 pub record AreGoing (n : ℕ) (es : List (Entry Step)) (of : ℕ → Place) : Type 0 where
@@ -145,13 +148,13 @@ module _ (n w : ℕ) (lt : w < n) (of : ℕ → Place) (x : Place) where
     ];
     apart = λ v u a b has_a has_b same. elim (has_out v a has_a) [
       | inl h ↦ elim (has_out u b has_b) [
-          | inl k ↦ h.0 ∙ sym k.0
-          | inr k ↦ absurd (away u b k.1 (ap (λ (y : Taking). y.hand.key) (same_Some t a (sym is ∙ h.1)) ∙ same))
-        ]
+        | inl k ↦ h.0 ∙ sym k.0
+        | inr k ↦ absurd (away u b k.1 (ap (λ (y : Taking). y.hand.key) (same_Some t a (sym is ∙ h.1)) ∙ same))
+      ]
       | inr h ↦ elim (has_out u b has_b) [
-          | inl k ↦ absurd (away v a h.1 (ap (λ (y : Taking). y.hand.key) (same_Some t b (sym is ∙ k.1)) ∙ sym same))
-          | inr k ↦ out.apart v u a b h.1 k.1 same
-        ]
+        | inl k ↦ absurd (away v a h.1 (ap (λ (y : Taking). y.hand.key) (same_Some t b (sym is ∙ k.1)) ∙ sym same))
+        | inr k ↦ out.apart v u a b h.1 k.1 same
+      ]
     ];
     owner = λ k o found. elim (cases_key number_cmp_total exact_number k t.hand.key) [
       | inl e ↦ (w, t, lt, ap (λ (p : Place). p.out) (put_at w x of) ∙ is, sym e)
@@ -193,12 +196,20 @@ Told n held [] events = events ≡ []
 Told n held (p ∷ ps) events =
     (first : List Event) × (later : List Event) × (next : ℕ → Leases) × (events ≡ first ++ later) × IsRowOf (held (p.0.lane % n)) p.0 p.1 first (next (p.0.lane % n)) × ((v : ℕ) → v ≢ p.0.lane % n → next v ≡ held v) × Told n next ps later
 
+-- a step is no refusal that a hand can cause
+abbrev pub IsMild : Step → Type 0
+IsMild (Performed command (Err e)) = IsCalm e
+IsMild (Took repo number range len (Err e)) = IsCalm e
+IsMild (Finished hand digest (Err e)) = IsCalm e
+IsMild step = Unit {0}
+
 -- an order of the workers' rows, with the events that the steps come to
 pub record IsOrdered (n : ℕ) (hands : Hands) (steps : List Step) (of : ℕ → Place) : Type 0 where
   pub order : List (RowView × Answer)
   pub events : List Event
   pub whole : AreWhole hands steps events
   pub named : AllByRecursion IsNamed events
+  pub mild : AllByRecursion IsMild steps
   pub each : (w : ℕ) → w < n → filter (λ p. is_own n w p.0) order ≡ (of w).rows
   pub told : Told n (λ w. (of w).held) order events
 
@@ -208,20 +219,28 @@ both_named (e ∷ first) later a b = (a.0, both_named first later a.1 b)
 
 -- a row of a worker, and then the others
 module _ (n w : ℕ) (lt : w < n) (of : ℕ → Place) (x : Place) (p : RowView × Answer) (next : (of w).rows ≡ p ∷ x.rows) (mine : p.0.lane % n ≡ w) (first : List Event) (does : IsRowOf (of w).held p.0 p.1 first x.held) where
-  with_row : (hands after : Hands) (steps later : List Step) → ((events : List Event) → AreWhole after later events → AreWhole hands steps (first ++ events)) → IsOrdered n after later (put w x of) → IsOrdered n hands steps of
-  with_row hands after steps later whole rest = record {
+  with_row : (hands after : Hands) (steps later : List Step) → ((events : List Event) → AreWhole after later events → AreWhole hands steps (first ++ events)) → (AllByRecursion IsMild later → AllByRecursion IsMild steps) →
+      IsOrdered n after later (put w x of) → IsOrdered n hands steps of
+  with_row hands after steps later whole mild rest = record {
     order = p ∷ rest.order;
     events = first ++ rest.events;
     whole = whole rest.events rest.whole;
     named = both_named first rest.events does.named rest.named;
+    mild = mild rest.mild;
     each = λ v below. elim (cases_eq v w) [
       | inl e ↦ subst (λ u. filter (λ q. is_own n u q.0) (p ∷ rest.order) ≡ (of u).rows) (sym e)
           (rw (eq-eqb (p.0.lane % n) w mine) (ap (λ ps. p ∷ ps) (rest.each w lt ∙ ap (λ (y : Place). y.rows) (put_at w x of)) ∙ sym next))
       | inr other ↦ rw (ne_eqb (p.0.lane % n) v (λ e. other (sym e ∙ mine))) (rest.each v below ∙ ap (λ (y : Place). y.rows) (put_other v w x of other))
     ];
-    told = (first, rest.events, (λ v. (put w x of v).held), refl,
-        subst (λ u. IsRowOf (of u).held p.0 p.1 first (put w x of u).held) (sym mine) (subst (λ (h : Leases). IsRowOf (of w).held p.0 p.1 first h) (sym (ap (λ (y : Place). y.held) (put_at w x of))) does),
-        (λ v other. ap (λ (y : Place). y.held) (put_other v w x of (λ e. other (e ∙ sym mine)))), rest.told);
+    told = (
+      first,
+      rest.events,
+      (λ v. (put w x of v).held),
+      refl,
+      subst (λ u. IsRowOf (of u).held p.0 p.1 first (put w x of u).held) (sym mine) (subst (λ (h : Leases). IsRowOf (of w).held p.0 p.1 first h) (sym (ap (λ (y : Place). y.held) (put_at w x of))) does),
+      (λ v other. ap (λ (y : Place). y.held) (put_other v w x of (λ e. other (e ∙ sym mine)))),
+      rest.told,
+    );
   }
 
 -- ---- the next row of a worker
@@ -246,6 +265,27 @@ no_step h = absurd cc
 same_step : {d e : Step} {ds es : List Step} → ◌≡◌ {A = List Step} (d ∷ ds) (e ∷ es) → (d ≡ e) × (ds ≡ es)
 same_step h = (cc, cc)
 
+-- ---- steps that are refused
+
+mild_whole : (d : Step) (e : Event) → IsWhole d e → IsMildEvent e → IsMild d
+mild_whole (Performed command (Ok a)) e whole mild = tt
+mild_whole (Performed command (Err f)) e whole mild = (subst (λ es. AllByRecursion IsMildEvent es) (whole empty).0 (mild, tt)).0
+mild_whole (Cleaned swept) e whole mild = tt
+mild_whole (Took repo number range len (Ok h)) e whole mild = tt
+mild_whole (Took repo number range len (Err f)) e whole mild = (subst (λ es. AllByRecursion IsMildEvent es) (whole empty).0.4 (mild, tt)).0
+mild_whole (PutBack h reply) e whole mild = tt
+mild_whole (Finished h digest reply) e whole mild = absurd (let c = whole empty in let none : None ≡ Some c.0 = sym (get-empty number_cmp h.key) ∙ c.1 in cc)
+
+mild_return : (t : Taking) (d : Step) (e : Event) → IsReturn t d e → IsMildEvent e → IsMild d
+mild_return t d e r mild = elim r.is [
+  | inl x ↦ subst (λ y. IsMild y) (sym x.0) tt
+  | inr x ↦ subst (λ y. IsMild y) (sym x.1) (finished (filled t.hand r.bytes) x.0 (runs.Close t.repo t.number x.0 t.range r.bytes) r.reply (subst (λ y. IsMildEvent y) x.2 mild))
+]
+  where
+    finished : (h : Taken) (digest : Text) (command : runs.Command) (reply : Result ℕ Refusal) → IsMildEvent (Called command (numbered reply)) → IsMild (Finished h digest reply)
+    finished h digest command (Ok n) mild = tt
+    finished h digest command (Err f) mild = mild
+
 -- ---- no entry is left
 
 module _ (n : ℕ) where
@@ -263,7 +303,7 @@ module _ (n : ℕ) where
       elim (next_row (of w).held p ps [] left) [
         | inl h ↦
             let x : Place = record { out = None; held = h.0; rows = ps } in
-            with_row n w lt of x p is own.0 [] h.1 empty empty [] [] (λ events are. are)
+            with_row n w lt of x p is own.0.0 [] h.1 empty empty [] [] (λ events are. are) (λ mild. mild)
             (last_rows w lt ps (put w x of) (ap (λ (y : Place). y.rows) (put_at w x of)) (goes n w lt of x [] [] going (λ v _. refl) h.2 own.1)
             (λ new going none same. goes_on new going none (λ v other. same v other ∙ put_other v w x of other)))
         | inr (inl h) ↦ no_step h.4
@@ -271,7 +311,7 @@ module _ (n : ℕ) where
       ]
 
   all_last_rows : (m : ℕ) → m ≤ n → (of : ℕ → Place) → AreGoing n [] of → ((v : ℕ) → m ≤ v → v < n → (of v).rows ≡ []) → IsOrdered n empty [] of
-  all_last_rows zero le of going done = record { order = []; events = []; whole = (refl, refl); named = tt; each = λ v below. sym (done v (omega arith) below); told = refl }
+  all_last_rows zero le of going done = record { order = []; events = []; whole = (refl, refl); named = tt; mild = tt; each = λ v below. sym (done v (omega arith) below); told = refl }
   all_last_rows (suc m) le of going done = last_rows m (omega (arith, le)) (of m).rows of refl going (λ new going none same.
       all_last_rows m (omega (arith, le)) new going (λ v above below. elim (cases_eq v m) [
         | inl e ↦ ap (λ u. (new u).rows) e ∙ none
@@ -298,12 +338,14 @@ returned : (hands : Hands) (s : State) (X : Catalog) (t : Taking) (d : Step) (e 
 returned hands s X t d e r number reserve out kept =
     let fills : length r.bytes ≡ t.hand.reserved = r.fills ∙ sym reserve in
     elim r.is [
-      | inl x ↦ subst (λ y. MayLeave s y X → ComesTo hands y (e ∷ []) (remove hands t.hand.key) × IsKept (remove hands t.hand.key) X) (sym x.0) (λ leaves.
-          ((lent_by t, out, inl (r.bytes, (fills, refl), ap (λ y. y ∷ []) x.1 ∙ ap (λ k. Called (runs.Append t.repo k t.range r.bytes) (numbered r.reply) ∷ []) (sym number)), refl),
-          kept_back hands s X kept (filled t.hand r.bytes) (lent_by t) out r.bytes fills refl r.reply leaves))
-      | inr x ↦ subst (λ y. MayLeave s y X → ComesTo hands y (e ∷ []) (remove hands t.hand.key) × IsKept (remove hands t.hand.key) X) (sym x.1) (λ leaves.
-          ((lent_by t, out, (r.bytes, (fills, refl), ap (λ y. y ∷ []) x.2 ∙ ap (λ k. Called (runs.Close t.repo k x.0 t.range r.bytes) (numbered r.reply) ∷ []) (sym number)), refl),
-          kept_finish hands s X kept (filled t.hand r.bytes) (lent_by t) out r.bytes fills refl x.0 r.reply leaves))
+      | inl x ↦ subst (λ y. MayLeave s y X → ComesTo hands y (e ∷ []) (remove hands t.hand.key) × IsKept (remove hands t.hand.key) X) (sym x.0) (λ leaves. (
+        (lent_by t, out, inl (r.bytes, (fills, refl), ap (λ y. y ∷ []) x.1 ∙ ap (λ k. Called (runs.Append t.repo k t.range r.bytes) (numbered r.reply) ∷ []) (sym number)), refl),
+        kept_back hands s X kept (filled t.hand r.bytes) (lent_by t) out r.bytes fills refl r.reply leaves,
+      ))
+      | inr x ↦ subst (λ y. MayLeave s y X → ComesTo hands y (e ∷ []) (remove hands t.hand.key) × IsKept (remove hands t.hand.key) X) (sym x.1) (λ leaves. (
+        (lent_by t, out, (r.bytes, (fills, refl), ap (λ y. y ∷ []) x.2 ∙ ap (λ k. Called (runs.Close t.repo k x.0 t.range r.bytes) (numbered r.reply) ∷ []) (sym number)), refl),
+        kept_finish hands s X kept (filled t.hand r.bytes) (lent_by t) out r.bytes fills refl x.0 r.reply leaves,
+      ))
     ]
 
 module _ (n : ℕ) (e : Entry Step) (es : List (Entry Step)) (s mid : State) (stepped : IsStep s e.event mid) (lt : e.writer < n)
@@ -325,8 +367,9 @@ module _ (n : ℕ) (e : Entry Step) (es : List (Entry Step)) (s mid : State) (st
       let same = same_step m.is in
       let own : AreOwn n w (m.row ∷ m.rest) = subst (λ rows. AreOwn n w rows) m.next (going.own w lt) in
       let back = returned hands s mid.catalog t m.step m.event m.returns m.its_number m.its_reserve (out.lent w t has) kept (subst (λ d. MayLeave s d mid.catalog) same.0 stepped.leaves) in
-      with_row n w lt of x m.row m.next own.0 (m.event ∷ []) m.does hands (remove hands t.hand.key) (steps_of (e ∷ es)) (steps_of es)
+      with_row n w lt of x m.row m.next own.0.0 (m.event ∷ []) m.does hands (remove hands t.hand.key) (steps_of (e ∷ es)) (steps_of es)
       (λ events are. (m.event ∷ [], events, remove hands t.hand.key, subst (λ d. ComesTo hands d (m.event ∷ []) (remove hands t.hand.key)) (sym same.0) back.0, refl, are))
+      (λ mild. (subst (λ d. IsMild d) (sym same.0) (mild_return t m.step m.event m.returns (m.does.mild own.0.1).0), mild))
       (goes_on (remove hands t.hand.key) (put w x of) back.1 (goes n w lt of x (e ∷ es) es going elsewhere (subst (λ steps. AreLeft m.left m.rest steps) (sym same.1) m.goes_on) own.1) (one_back n w lt of x hands t has refl out))
 
   -- a take alone puts no row in the order
@@ -361,6 +404,7 @@ module _ (n : ℕ) (e : Entry Step) (es : List (Entry Step)) (s mid : State) (st
         events = r.events;
         whole = ([], r.events, after, subst (λ d. ComesTo hands d [] after) (sym same.0) (refl, refl), refl, r.whole);
         named = r.named;
+        mild = (subst (λ d. IsMild d) (sym same.0) tt, r.mild);
         each = λ v below. r.each v below ∙ put_alike w x of (λ (y : Place). y.rows) (sym is) v;
         told = subst (λ (f : ℕ → Leases). Told n f r.order r.events) (λ i v. put_alike w x of (λ (y : Place). y.held) refl v i) r.told;
       }
@@ -376,15 +420,16 @@ module _ (n : ℕ) (e : Entry Step) (es : List (Entry Step)) (s mid : State) (st
       elim (next_row (of w).held p ps (e.event ∷ events_by w es) left) [
         | inl h ↦
             let x : Place = record { out = None; held = h.0; rows = ps } in
-            with_row n w lt of x p is own.0 [] h.1 hands hands (steps_of (e ∷ es)) (steps_of (e ∷ es)) (λ events are. are)
+            with_row n w lt of x p is own.0.0 [] h.1 hands hands (steps_of (e ∷ es)) (steps_of (e ∷ es)) (λ events are. are) (λ mild. mild)
             (begins ps (put w x of) hands (ap (λ (y : Place). y.rows) (put_at w x of)) (ap (λ (y : Place). y.out) (put_at w x of)) kept
             (goes n w lt of x (e ∷ es) (e ∷ es) going (λ v _. refl) (subst (λ steps. AreLeft h.0 ps steps) (sym mine) h.2) own.1) (same_out n w lt of x hands none refl out))
         | inr (inl h) ↦
             let x : Place = record { out = None; held = h.3; rows = ps } in
             let same = same_step h.4 in
             let whole : IsWhole e.event h.1 = subst (λ d. IsWhole d h.1) (sym same.0) h.5 in
-            with_row n w lt of x p is own.0 (h.1 ∷ []) h.6 hands hands (steps_of (e ∷ es)) (steps_of es)
+            with_row n w lt of x p is own.0.0 (h.1 ∷ []) h.6 hands hands (steps_of (e ∷ es)) (steps_of es)
             (λ events are. (h.1 ∷ [], events, hands, whole hands, refl, are))
+            (λ mild. (mild_whole e.event h.1 whole (h.6.mild own.0.1).0, mild))
             (goes_on hands (put w x of) (kept_whole hands s mid.catalog kept e.event h.1 whole h.6.named.0 stepped.leaves)
             (goes n w lt of x (e ∷ es) es going elsewhere (subst (λ steps. AreLeft h.3 ps steps) (sym same.1) h.7) own.1) (same_out n w lt of x hands none refl out))
         | inr (inr h) ↦ takes p ps of hands is none kept going out own h

@@ -14,7 +14,7 @@ use Rattle.store_model.specs.Histories.{Cleaned, Finished, Performed, PutBack, S
 use Rattle.store_model.specs.Runs as runs
 use Rattle.store_model.specs.Runs.{Called, Event, IsCase, IsNamed, IsRun, repo_of}
 use Rattle.store_model.specs.Sweep.{IsSweep}
-use Rattle.store_model.specs.WholeCommands.{ComesTo, Hands, IsUpload, Lent as Out, numbered}
+use Rattle.store_model.specs.WholeCommands.{ComesTo, Hands, IsCalm, IsUpload, Lent as Out, numbered}
 use Rattle.row_player.specs.Answers.{Answer, Bytes, Received, Refused, Stored}
 use Rattle.row_player.specs.CommandAnswers.{row_answer}
 use Rattle.row_player.specs.Commands.{Abandon, Append, Calls, Close, Command, Delete, DeleteManifest, GetManifest, Lease, Mount, PutManifest, Request, Start, Status, Sweeps, Verifies, command_of, repo_in}
@@ -24,7 +24,7 @@ use Rattle.row_player.specs.Rows.{RowView}
 use Rattle.row_player.specs.declared.row.Verb.TheVariants as verb
 use Rattle.row_player.proofs.Spellings.{names_repo, repo_spelled, spelled}
 use Rattle.locked_book.specs.History.{filled}
-use Rattle.blob_store.specs.RowOrders.{Leads}
+use Rattle.blob_store.specs.RowOrders.{IsCalmAnswer, Leads}
 use Rattle.blob_store.specs.Seats.{AreRequestSteps, AreUploadSteps, Work, WorkActs, as_answer}
 
 -- ---- the steps of a request
@@ -69,13 +69,22 @@ come_to steps P Q f comes = elim comes [
   | inr (inr x) ↦ inr (inr (x.0, x.1, x.2, x.3, x.4, f (x.2 ∷ []) x.5))
 ]
 
--- the events have short names, and a run of them is the request with this answer
+-- an event is no refusal that a hand can cause
+abbrev pub IsMildEvent : Event → Type 0
+IsMildEvent (Called command (Err e)) = IsCalm e
+IsMildEvent event = Unit {0}
+
+-- the events have short names, are refused for what the request is, and a run of them is the request with this answer
 abbrev IsAsked : Request → Answer → List Event → Type 0
-IsAsked request answer events = AllByRecursion IsNamed events × ((C C' : Catalog) → IsRun C events C' → Leads C request answer C')
+IsAsked request answer events = AllByRecursion IsNamed events × (IsCalmAnswer answer → AllByRecursion IsMildEvent events) × ((C C' : Catalog) → IsRun C events C' → Leads C request answer C')
 
 module _ (command : Command) (answer : Answer) (short : length (repo_of command) ≤ 255) where
+  mild : (reply : Result runs.Answer Refusal) → answer ≡ as_answer (row_answer command) reply → IsCalmAnswer answer → IsMildEvent (Called command reply)
+  mild (Ok a) is calm = tt
+  mild (Err e) is calm = subst (λ a. IsCalmAnswer a) is calm
+
   called : (reply : Result runs.Answer Refusal) → answer ≡ as_answer (row_answer command) reply → IsAsked (Calls command) answer (Called command reply ∷ [])
-  called reply is = ((short, tt), λ C C' run. (reply, subst (λ (X : Catalog). IsCase C command reply X) (sym run.2) run.1, is))
+  called reply is = ((short, tt), (λ calm. (mild reply is calm, tt)), λ C C' run. (reply, subst (λ (X : Catalog). IsCase C command reply X) (sym run.2) run.1, is))
 
   performed : (steps : List Step) → (reply : Result runs.Answer Refusal) × (steps ≡ Performed command reply ∷ []) × (answer ≡ as_answer (row_answer command) reply) → ComeTo steps (IsAsked (Calls command) answer)
   performed steps x = inr (inl (Performed command x.0, Called command x.0, x.1, (λ hands. (refl, refl)), called x.0 x.2))
@@ -119,9 +128,9 @@ request_comes (Calls (PutManifest repo bytes)) answer steps short fine are = per
 request_comes (Calls (GetManifest repo digest)) answer steps short fine are = performed (GetManifest repo digest) answer short steps are
 request_comes (Calls (DeleteManifest repo digest)) answer steps short fine are = performed (DeleteManifest repo digest) answer short steps are
 request_comes (Calls (Lease repo digest)) answer steps short fine are = performed (Lease repo digest) answer short steps are
-request_comes (Verifies size) answer steps short fine are = inl (are.1, (tt, λ C C' run. (are.0, run)))
+request_comes (Verifies size) answer steps short fine are = inl (are.1, (tt, (λ calm. tt), λ C C' run. (are.0, run)))
 request_comes Sweeps answer steps short fine are =
-    inr (inl (Cleaned are.0, runs.Swept are.0, are.1, (λ hands. (refl, refl)), ((tt, tt), λ C C' run. (are.0, subst (λ (X : Catalog). IsSweep C are.0 X) (sym run.2) run.1, are.2))))
+    inr (inl (Cleaned are.0, runs.Swept are.0, are.1, (λ hands. (refl, refl)), ((tt, tt), (λ calm. (tt, tt)), λ C C' run. (are.0, subst (λ (X : Catalog). IsSweep C are.0 X) (sym run.2) run.1, are.2))))
 
 -- ---- the steps of a row
 
@@ -140,6 +149,7 @@ pub record IsRowOf (held : Leases) (row : RowView) (answer : Answer) (events : L
   pub step : (C C' : Catalog) → IsRun C events C' → RowStep Leads (C, held) row answer (C', left)
   pub fine : answer ≢ Refused Memory
   pub named : AllByRecursion IsNamed events
+  pub mild : IsCalmAnswer answer → AllByRecursion IsMildEvent events
 
 -- the steps of a row
 abbrev pub RowComes : State Work → RowView → Answer → State Work → Type 0
@@ -148,17 +158,20 @@ RowComes old row answer new = (steps : List Step) × (new.0.steps ≡ old.0.step
 module _ (old new : State Work) (row : RowView) (answer : Answer) (fine : answer ≢ Refused Memory) where
   -- a row that asks for nothing
   asks_nothing : new.0 ≡ old.0 → ((C C' : Catalog) → C' ≡ C → RowStep Leads (C, old.1) row answer (C', new.1)) → RowComes old row answer new
-  asks_nothing same step = ([], ap (λ (x : Work). x.steps) same ∙ sym (append-nil old.0.steps), inl (refl, record { step = step; fine = fine; named = tt }))
+  asks_nothing same step = ([], ap (λ (x : Work). x.steps) same ∙ sym (append-nil old.0.steps), inl (refl, record { step = step; fine = fine; named = tt; mild = λ calm. tt }))
 
   -- a row that asks for this
-  asks : (request : Request) (given : Answer) → IsShort request → given ≢ Refused Memory → WorkActs old.0 request given new.0 → ((C C' : Catalog) → Leads C request given C' → RowStep Leads (C, old.1) row answer (C', new.1)) → RowComes old row answer new
-  asks request given short fine_given acts step =
-      let made = acts.steps in
-      (made.0, made.2, come_to made.0 (IsAsked request given) (λ es. IsRowOf old.1 row answer es new.1) (λ es asked. record { step = λ C C' run. step C C' (asked.1 C C' run); fine = fine; named = asked.0 })
-      (request_comes request given made.0 short fine_given made.1))
+  asks : (request : Request) (given : Answer) → IsShort request → given ≢ Refused Memory → (IsCalmAnswer answer → IsCalmAnswer given) → WorkActs old.0 request given new.0 → ((C C' : Catalog) → Leads C request given C' → RowStep Leads (C, old.1) row answer (C', new.1)) → RowComes old row answer new
+  asks request given short fine_given calm acts step =
+      let made = acts.steps in (
+        made.0,
+        made.2,
+        come_to made.0 (IsAsked request given) (λ es. IsRowOf old.1 row answer es new.1) (λ es asked. record { step = λ C C' run. step C C' (asked.2 C C' run); fine = fine; named = asked.0; mild = λ c. asked.1 (calm c) })
+            (request_comes request given made.0 short fine_given made.1),
+      )
 
   store_comes : (o : Result (Option Command) Refusal) → command_of row ≡ o → StepOf WorkActs o old.0 answer new.0 → new.1 ≡ old.1 → RowComes old row answer new
-  store_comes (Ok (Some command)) is h same = asks (Calls command) answer (short_name row command is) fine h.1 (λ C C' leads. inl (subst (λ o. StepOf Leads o C answer C') (sym is) (h.0, leads), same))
+  store_comes (Ok (Some command)) is h same = asks (Calls command) answer (short_name row command is) fine (λ c. c) h.1 (λ C C' leads. inl (subst (λ o. StepOf Leads o C answer C') (sym is) (h.0, leads), same))
   store_comes (Ok None) is h same = absurd h
   store_comes (Err refusal) is h same = asks_nothing h.1 (λ C C' stays. inl (subst (λ o. StepOf Leads o C answer C') (sym is) (h.0, stays), same))
 
@@ -167,15 +180,15 @@ module _ (old new : State Work) (row : RowView) (answer : Answer) (fine : answer
       asks_nothing (ap (λ (x : State Work). x.0) h.1)
       (λ C C' stays. inr (inl (is_verb, spells, subst (λ o. LendsWhereFree Leads o (C, old.1) row answer (C', new.1)) (sym is) (h.0, λ i. (stays i, (h.1 i).1)))))
   lease_comes None is is_verb spells h = elim h [
-    | inl l ↦ asks (Calls (Lease row.repo row.digest)) (Bytes l.0) (short_name row _ spells) (λ e. absurd (let k = e in cc)) l.1
+    | inl l ↦ asks (Calls (Lease row.repo row.digest)) (Bytes l.0) (short_name row _ spells) (λ e. absurd (let k = e in cc)) (λ c. tt) l.1
         (λ C C' leads. inr (inl (is_verb, spells, subst (λ o. LendsWhereFree Leads o (C, old.1) row answer (C', new.1)) (sym is) (inl (l.0, leads, l.2, l.3)))))
-    | inr r ↦ asks (Calls (Lease row.repo row.digest)) (Refused r.0) (short_name row _ spells) (λ e. fine (r.2 ∙ e)) r.1
+    | inr r ↦ asks (Calls (Lease row.repo row.digest)) (Refused r.0) (short_name row _ spells) (λ e. fine (r.2 ∙ e)) (λ c. subst (λ a. IsCalmAnswer a) r.2 c) r.1
         (λ C C' leads. inr (inl (is_verb, spells, subst (λ o. LendsWhereFree Leads o (C, old.1) row answer (C', new.1)) (sym is) (inr (r.0, leads, r.2, r.3)))))
   ]
 
   verify_comes : (o : Option Lent) → named old.1 row ≡ o → row.verb ≡ verb.Verify → VerifiesLease WorkActs o old.0 answer new.0 → new.1 ≡ old.1 → RowComes old row answer new
   verify_comes None is is_verb h same = asks_nothing h.1 (λ C C' stays. inr (inr (inr (inr (inl (is_verb, subst (λ o. VerifiesLease Leads o C answer C') (sym is) (h.0, stays), same))))))
-  verify_comes (Some lease) is is_verb h same = asks (Verifies (length lease.bytes)) answer tt fine h (λ C C' leads. inr (inr (inr (inr (inl (is_verb, subst (λ o. VerifiesLease Leads o C answer C') (sym is) leads, same))))))
+  verify_comes (Some lease) is is_verb h same = asks (Verifies (length lease.bytes)) answer tt fine (λ c. c) h (λ C C' leads. inr (inr (inr (inr (inl (is_verb, subst (λ o. VerifiesLease Leads o C answer C') (sym is) leads, same))))))
 
   row_comes : RowStep WorkActs old row answer new → RowComes old row answer new
   row_comes step = elim step [
@@ -185,7 +198,7 @@ module _ (old new : State Work) (row : RowView) (answer : Answer) (fine : answer
     | inr (inr (inr (inl shares))) ↦ asks_nothing shares.2 (λ C C' stays. inr (inr (inr (inl (shares.0, shares.1, stays)))))
     | inr (inr (inr (inr (inl looks)))) ↦ verify_comes (named old.1 row) refl looks.0 looks.1 looks.2
     | inr (inr (inr (inr (inr (inl returns))))) ↦ asks_nothing returns.2 (λ C C' stays. inr (inr (inr (inr (inr (inl (returns.0, returns.1, stays)))))))
-    | inr (inr (inr (inr (inr (inr sweeps))))) ↦ asks Sweeps answer tt fine sweeps.1 (λ C C' leads. inr (inr (inr (inr (inr (inr (sweeps.0, leads, sweeps.2)))))))
+    | inr (inr (inr (inr (inr (inr sweeps))))) ↦ asks Sweeps answer tt fine (λ c. c) sweeps.1 (λ C C' leads. inr (inr (inr (inr (inr (inr (sweeps.0, leads, sweeps.2)))))))
   ]
 
 -- ---- the steps of rows
