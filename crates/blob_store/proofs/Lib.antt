@@ -1,5 +1,6 @@
 pub mod Refusals
 pub mod Places
+pub mod RowOrders
 pub mod Settlings
 pub mod Seated
 pub mod Interleavings

@@ -1,4 +1,5 @@
 pub mod OneText
 pub mod Parts
+pub mod RowOrders
 pub mod Seats
 pub mod Workers

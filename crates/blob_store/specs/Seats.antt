@@ -10,7 +10,7 @@ use Rattle.store_model.specs.Histories.{Step, Performed, Cleaned, Took, PutBack,
 use Rattle.store_model.specs.Runs as runs
 use Rattle.store_model.specs.declared.swept.Swept.{Swept as SweptCounts}
 use Rattle.locked_book.specs.History.{DeskView, filled}
-use Rattle.row_player.specs.Answers.{Answer, Received, Stored, Swept, Refused}
+use Rattle.row_player.specs.Answers.{Answer, Received, Stored, Swept, Refused, Verified}
 use Rattle.row_player.specs.CommandAnswers.{row_answer}
 use Rattle.row_player.specs.Commands.{Command, Append, Close, Request, Calls, Verifies, Sweeps}
 use Rattle.row_player.specs.Counts.{abandoned_of, chunk_of, closed_of, request_amount}
@@ -46,10 +46,10 @@ AreCommandSteps (Append repo number range bytes) answer steps = AreUploadSteps r
 AreCommandSteps (Close repo number digest range bytes) answer steps = AreUploadSteps repo number range bytes (λ hand result. Finished hand digest result) Stored answer steps
 AreCommandSteps command answer steps = (result : Result runs.Answer Refusal) × (steps ≡ Performed command result ∷ []) × (answer ≡ as_answer (row_answer command) result)
 
--- the steps of a request: looking at a lease's slot is none, and a sweep is one
+-- the steps of a request: looking at a lease's slot is none, and answers the size of its blob; a sweep is one
 abbrev pub AreRequestSteps : Request → Answer → List Step → Type 0
 AreRequestSteps (Calls command) answer steps = AreCommandSteps command answer steps
-AreRequestSteps (Verifies size) answer steps = steps ≡ []
+AreRequestSteps (Verifies size) answer steps = (answer ≡ Verified size) × (steps ≡ [])
 AreRequestSteps Sweeps answer steps = (swept : SweptCounts) × (steps ≡ Cleaned swept ∷ []) × (answer ≡ Swept swept)
 
 -- the steps so far go on by those of the request

@@ -1,0 +1,8 @@
+-- The rows of several workers in an order.
+pub mod Held
+pub mod Kept
+pub mod Leases
+pub mod Merging
+pub mod Orders
+pub mod Rows
+pub mod Together

@@ -1,0 +1,176 @@
+-- What every step of a history keeps of the hands that are out: the catalog is sound, and the session of each is in hand.
+use Rattle.std.proofs.Common.{◌≡◌, ◌≢◌, ℕ, false, List, [], ◌∷◌, length, Option, Some, None, Result, Ok, Err, refl, sym, ap, ◌∙◌, subst, inl, inr, arith}
+use Rattle.std.specs.List.{AllByRecursion}
+use Rattle.std.specs.FinMap.{empty, get, get-empty, insert, remove}
+use Rattle.std.proofs.lemmas.Bool.{false≢true}
+use Rattle.blob_digest.specs.declared.range.ByteRange.{ByteRange}
+use Rattle.blob_digest.specs.declared.refusal.Refusal.{Refusal}
+use Rattle.blob_digest.proofs.KeyOrders.{number_cmp_total, exact_number}
+use Rattle.finite_maps.specs.Texts.{Text}
+use Rattle.finite_maps.proofs.Maps.{cases_key, get-insert_at, get-insert_other, get-remove_other}
+use Rattle.finite_maps.proofs.Sums.{get-remove_same}
+use Rattle.store_model.specs.Catalog.{Catalog, Home, InHand, Number, Session, Taken, number_cmp, received}
+use Rattle.store_model.specs.Commands.{after_cancel, finish, put_back, take}
+use Rattle.store_model.specs.Histories.{Finished, MayLeave, Performed, PutBack, State, Step, Took, Cleaned}
+use Rattle.store_model.specs.Invariant.{Sound}
+use Rattle.store_model.specs.Runs.{Event, IsNamed}
+use Rattle.store_model.specs.Sessions.{are_home, at_home, brought_home, chunks_of, taken_session, with_chunks}
+use Rattle.store_model.specs.WholeCommands.{ComesTo, Hands, Lent}
+use Rattle.store_model.proofs.Commands.ByHand.{taken_hand, taken_leaves}
+use Rattle.store_model.proofs.Commands.Finish.{Sound-after_finish}
+use Rattle.store_model.proofs.Commands.Hands.{IsProper, Sound-after_put_back, Sound-after_take, Sound-home, TookIn, took}
+use Rattle.store_model.proofs.Commands.Runs.{Sound-case}
+use Rattle.store_model.proofs.Commands.Sweep.{Sound-sweep}
+use Rattle.store_model.proofs.Noninterference.Hands.{cancel_leaves, finish_leaves, put_back_leaves}
+use Rattle.store_model.proofs.Noninterference.LocalRespect.{Leaves}
+use Rattle.locked_book.specs.History.{filled}
+use Rattle.blob_store.proofs.RowOrders.Held.{stays_in_hand}
+
+-- the session of a hand is in hand, and no chunk of it is empty
+pub record IsHeld (C : Catalog) (k : Number) (out : Lent) : Type 0 where
+  pub session : Session
+  pub found : get C.sessions k ≡ Some session
+  pub in_hand : are_home session.chunks ≡ false
+  pub pieces : AllByRecursion (λ c. c ≢ []) out.hand.chunks
+
+pub record IsKept (hands : Hands) (C : Catalog) : Type 0 where
+  pub sound : Sound C
+  pub held : (k : Number) (out : Lent) → get hands k ≡ Some out → IsHeld C k out
+
+-- ---- takes
+
+module _ (hands : Hands) (C X : Catalog) (kept : IsKept hands C) (r : Text) (n len : ℕ) (g : Option ByteRange) (h : Taken) (stepped : take C r n g len ≡ Ok (h, X)) where
+  abbrev p : TookIn C X r n len g h stepped
+  p = took C X r n len g h stepped
+
+  abbrev key : Number
+  key = (p.t, n)
+
+  abbrev hand : Taken
+  hand = record { key = key; chunks = p.checked.chunks; reserved = len; last = None }
+
+  hand_is : hand ≡ h
+  hand_is = taken_hand C X r n len g h stepped
+
+  pub its_number : h.key.1 ≡ n
+  its_number = ap (λ (x : Taken). x.key.1) (sym hand_is)
+
+  pub its_reserve : h.reserved ≡ len
+  its_reserve = ap (λ (x : Taken). x.reserved) (sym hand_is)
+
+  -- no hand of its session was out
+  pub was_free : get hands h.key ≡ None
+  was_free = subst (λ (x : Taken). get hands x.key ≡ None) hand_is (by (get hands key) refl)
+    where
+      by : (o : Option Lent) → get hands key ≡ o → get hands key ≡ None
+      by None is = is
+      by (Some out) is =
+          let there = kept.held key out is in
+          let same : there.session ≡ p.checked.s = (let both : Some there.session ≡ Some p.checked.s = sym there.found ∙ p.checked.found in cc) in
+          absurd (false≢true (sym there.in_hand ∙ ap (λ (x : Session). are_home x.chunks) same ∙ ap are_home p.checked.home))
+
+  pub kept_take : IsKept (insert hands h.key (record { hand = h; repo = r; range = g })) X
+  kept_take = record { sound = Sound-after_take C X r n len g h stepped kept.sound; held = λ q out is. each q out is }
+    where
+      left : get X.sessions ≡ get (with_chunks C.sessions key p.checked.s (InHand (received p.checked.s) len))
+      left = ap (λ (Y : Catalog). get Y.sessions) (sym (taken_leaves C X r n len g h stepped))
+
+      new : (out : Lent) → get (insert hands h.key (record { hand = h; repo = r; range = g })) key ≡ Some out → IsHeld X key out
+      new out is =
+          let lent : Lent = record { hand = h; repo = r; range = g } in
+          let at : get (insert hands h.key lent) key ≡ Some lent = subst (λ (x : Taken). get (insert hands x.key lent) key ≡ Some lent) hand_is (get-insert_at number_cmp_total exact_number hands key lent) in
+          let same : lent ≡ out = (let both : Some lent ≡ Some out = sym at ∙ is in cc) in
+          record {
+            session = record p.checked.s { chunks = InHand (received p.checked.s) len };
+            found = ap (λ f. f key) left ∙ get-insert_at number_cmp_total exact_number C.sessions key _;
+            in_hand = refl;
+            pieces = subst (λ (x : Lent). AllByRecursion (λ c. c ≢ []) x.hand.chunks) same (subst (λ (x : Taken). AllByRecursion (λ c. c ≢ []) x.chunks) hand_is
+                (subst (λ cs. AllByRecursion (λ c. c ≢ []) cs) (ap at_home p.checked.home) (kept.sound.lawful.sessions key p.checked.s p.checked.found).chunks));
+          }
+
+      each : (q : Number) (out : Lent) → get (insert hands h.key (record { hand = h; repo = r; range = g })) q ≡ Some out → IsHeld X q out
+      each q out is = elim (cases_key number_cmp_total exact_number q key) [
+        | inl e ↦ subst (λ (x : Number). IsHeld X x out) (sym e) (new out (ap (get (insert hands h.key (record { hand = h; repo = r; range = g }))) (sym e) ∙ is))
+        | inr other ↦
+            let away : q ≢ h.key = subst (λ (x : Taken). q ≢ x.key) hand_is other in
+            let was = kept.held q out (sym (get-insert_other number_cmp_total exact_number hands h.key _ q away) ∙ is) in
+            record { session = was.session; found = ap (λ f. f q) left ∙ get-insert_other number_cmp_total exact_number C.sessions key _ q other ∙ was.found; in_hand = was.in_hand; pieces = was.pieces }
+      ]
+
+-- ---- hands that come back
+
+-- other sessions than that of a key are as they were
+abbrev SameElsewhere : Number → Catalog → Catalog → Type 0
+SameElsewhere k C X = (q : Number) → q ≢ k → get X.sessions q ≡ get C.sessions q
+
+module _ (C : Catalog) (h : Taken) where
+  with_other : (s : Session) (chunks : List Text) → SameElsewhere h.key C (record C { sessions = with_chunks C.sessions h.key s (Home chunks) })
+  with_other s chunks q other = get-insert_other number_cmp_total exact_number C.sessions h.key _ q other
+
+  back_elsewhere : (X : Catalog) (n : ℕ) → put_back C h ≡ Ok (n, X) → SameElsewhere h.key C X
+  back_elsewhere X n is = subst (λ o. Leaves (SameElsewhere h.key C) o) is (put_back_leaves (SameElsewhere h.key C) C h (λ s _. with_other s (chunks_of h)))
+
+  finished_elsewhere : (X : Catalog) (n : ℕ) (d : Text) → finish C h d ≡ Ok (n, X) → SameElsewhere h.key C X
+  finished_elsewhere X n d is = subst (λ o. Leaves (SameElsewhere h.key C) o) is (finish_leaves (SameElsewhere h.key C) C h d (λ s _ _ q other. get-remove_other number_cmp_total exact_number C.sessions h.key q other))
+
+  cancelled_elsewhere : SameElsewhere h.key C (after_cancel C h)
+  cancelled_elsewhere = cancel_leaves (SameElsewhere h.key C) C h (λ q other. refl) (λ s _. with_other s h.chunks)
+
+  module _ (proper : IsProper h) (sound : Sound C) where
+    sound_cancelled : Sound (after_cancel C h)
+    sound_cancelled = by (taken_session (get C.sessions h.key) h) refl
+      where
+        by : (x : Result Session Refusal) → taken_session (get C.sessions h.key) h ≡ x → Sound (record C { sessions = brought_home C.sessions h x })
+        by (Ok s) is = Sound-home C h proper s is h.chunks proper.pieces (omega arith) sound
+        by (Err e) is = sound
+
+module _ (hands : Hands) (C X : Catalog) (k : Number) (kept : IsKept hands C) where
+  left_elsewhere : Sound X → SameElsewhere k C X → IsKept (remove hands k) X
+  left_elsewhere sound same = record {
+    sound = sound;
+    held = λ q out is. elim (cases_key number_cmp_total exact_number q k) [
+      | inl e ↦ absurd (let none : None ≡ Some out = sym (get-remove_same number_cmp_total exact_number hands k) ∙ ap (get (remove hands k)) (sym e) ∙ is in cc)
+      | inr other ↦
+          let was = kept.held q out (sym (get-remove_other number_cmp_total exact_number hands k q other) ∙ is) in
+          record { session = was.session; found = same q other ∙ was.found; in_hand = was.in_hand; pieces = was.pieces }
+    ];
+  }
+
+module _ (hands : Hands) (s : State) (X : Catalog) (kept : IsKept hands s.catalog) (h : Taken) (out : Lent) (is_out : get hands h.key ≡ Some out) (bytes : Text) (fills : length bytes ≡ out.hand.reserved) (is : h ≡ filled out.hand bytes) where
+  proper : IsProper h
+  proper = subst (λ (x : Taken). IsProper x) (sym is) (record { pieces = (kept.held h.key out is_out).pieces; last = fills })
+
+  full : h.last ≡ None → h.reserved ≡ 0
+  full none = absurd (let some : Some bytes ≡ None = ap (λ (x : Taken). x.last) (sym is) ∙ none in cc)
+
+  pub kept_back : (reply : Result ℕ Refusal) → MayLeave s (PutBack h reply) X → IsKept (remove hands h.key) X
+  kept_back (Ok n) leaves = left_elsewhere hands s.catalog X h.key kept (Sound-after_put_back s.catalog X h n proper leaves kept.sound) (back_elsewhere s.catalog h X n leaves)
+  kept_back (Err e) leaves = left_elsewhere hands s.catalog X h.key kept (subst (λ (Y : Catalog). Sound Y) (sym leaves.1) kept.sound) (λ q other. ap (λ (Y : Catalog). get Y.sessions q) leaves.1)
+
+  pub kept_finish : (d : Text) (reply : Result ℕ Refusal) → MayLeave s (Finished h d reply) X → IsKept (remove hands h.key) X
+  kept_finish d (Ok n) leaves = left_elsewhere hands s.catalog X h.key kept (Sound-after_finish s.catalog X h d n proper full leaves kept.sound) (finished_elsewhere s.catalog h X n d leaves)
+  kept_finish d (Err e) leaves = left_elsewhere hands s.catalog X h.key kept (subst (λ (Y : Catalog). Sound Y) (sym leaves.1) (sound_cancelled s.catalog h proper kept.sound))
+      (λ q other. ap (λ (Y : Catalog). get Y.sessions q) leaves.1 ∙ cancelled_elsewhere s.catalog h q other)
+
+-- ---- steps that are whole
+
+module _ (hands : Hands) (C X : Catalog) (kept : IsKept hands C) where
+  same_sessions : Sound X → X.sessions ≡ C.sessions → IsKept hands X
+  same_sessions sound same = record { sound = sound; held = λ q out is. (let was = kept.held q out is in record { session = was.session; found = ap (λ m. get m q) same ∙ was.found; in_hand = was.in_hand; pieces = was.pieces }) }
+
+  same_catalog : X ≡ C → IsKept hands X
+  same_catalog same = subst (λ (Y : Catalog). IsKept hands Y) (sym same) kept
+
+-- A step that is an event by itself keeps what is known of the hands.
+pub kept_whole : (hands : Hands) (s : State) (X : Catalog) → IsKept hands s.catalog → (step : Step) (e : Event) → ((hs : Hands) → ComesTo hs step (e ∷ []) hs) → IsNamed e → MayLeave s step X → IsKept hands X
+kept_whole hands s X kept (Performed command (Ok a)) e comes named leaves = record {
+  sound = Sound-case s.catalog X command (Ok a) (subst (λ (es : List Event). AllByRecursion IsNamed es) (comes hands).0 (named, tt)).0 leaves kept.sound;
+  held = λ q out is. (let was = kept.held q out is in
+      record { session = was.session; found = stays_in_hand s.catalog kept.sound.lawful q was.session was.found was.in_hand X command a leaves; in_hand = was.in_hand; pieces = was.pieces });
+}
+kept_whole hands s X kept (Performed command (Err e)) f comes named leaves = same_catalog hands s.catalog X kept (elim leaves [ inl x ↦ x.1 | inr x ↦ x.1 ])
+kept_whole hands s X kept (Cleaned swept) e comes named leaves = same_sessions hands s.catalog X kept (Sound-sweep s.catalog X swept leaves kept.sound.lawful kept.sound.quotas kept.sound.slots) (ap (λ (Y : Catalog). Y.sessions) leaves.rest)
+kept_whole hands s X kept (Took r n g len (Ok h)) e comes named leaves = absurd (let none = (comes hands).0 in cc)
+kept_whole hands s X kept (Took r n g len (Err f)) e comes named leaves = same_catalog hands s.catalog X kept leaves.1
+kept_whole hands s X kept (PutBack h reply) e comes named leaves = absurd (let c = comes empty in let none : None ≡ Some c.0 = sym (get-empty number_cmp h.key) ∙ c.1 in cc)
+kept_whole hands s X kept (Finished h d reply) e comes named leaves = absurd (let c = comes empty in let none : None ≡ Some c.0 = sym (get-empty number_cmp h.key) ∙ c.1 in cc)

@@ -1,0 +1,457 @@
+-- The steps of all workers are events in some order of the rows: each step but a take completes the row that is its worker's next.
+use Rattle.std.proofs.Common.{◌≡◌, ◌≢◌, ◌⊎◌, ◌<◌, ◌≤◌, ◌%◌, ◌==◌, ◌++◌, ◌∷◌, [], ℕ, Bool, true, false, cond, List, length, Option, Some, None, Result, Ok, Err, refl, sym, ap, ◌∙◌, subst, inl, inr, arith}
+use Prim.Native.Nat.{zero, suc}
+use Rattle.std.specs.Prelude.{nat_lt}
+use Rattle.std.specs.List.{AllByRecursion, filter}
+use Rattle.std.specs.FinMap.{empty, get, get-empty, insert, remove, same_map}
+use Rattle.std.proofs.lemmas.Bool.{cases_eq, eq-eqb, ltb-false, ltb-true, ne_eqb}
+use Rattle.std.proofs.lemmas.Option.{same_Some}
+use Rattle.blob_digest.specs.declared.refusal.Refusal.{Refusal}
+use Rattle.blob_digest.proofs.KeyOrders.{number_cmp_total, exact_number}
+use Rattle.finite_maps.proofs.Maps.{cases_key, get-insert_at, get-insert_other, get-remove_other}
+use Rattle.finite_maps.proofs.Sums.{get-remove_same}
+use Rattle.finite_maps.specs.Texts.{Text}
+use Rattle.shared_log.specs.Entries.{events_by}
+use Rattle.shared_log.specs.declared.view.Entry.{Entry}
+use Rattle.store_model.specs.Catalog.{Catalog, Number, Taken, number_cmp}
+use Rattle.store_model.specs.Commands.{take}
+use Rattle.store_model.specs.Histories.{AreSteps, Cleaned, Finished, IsStep, MayLeave, Performed, PutBack, State, Step, Took}
+use Rattle.store_model.specs.Runs as runs
+use Rattle.store_model.specs.Runs.{Called, Event, IsNamed}
+use Rattle.store_model.specs.WholeCommands.{AreWhole, ComesTo, Hands, IsCalm, Lent, numbered}
+use Rattle.row_player.specs.Answers.{Answer}
+use Rattle.row_player.specs.Leases.{Leases}
+use Rattle.row_player.specs.Rows.{RowView}
+use Rattle.row_player.specs.Shares.{is_own}
+use Rattle.locked_book.specs.History.{filled, steps_of}
+use Rattle.blob_store.specs.RowOrders.{IsCalmAnswer}
+use Rattle.blob_store.proofs.RowOrders.Kept.{IsKept, its_number, its_reserve, kept_back, kept_finish, kept_take, kept_whole, was_free}
+use Rattle.blob_store.proofs.RowOrders.Rows.{AreLeft, IsMildEvent, IsReturn, IsRowOf, IsWhole, Taking, lent_by, take_of}
+
+-- ---- where a worker is
+
+-- the hand that a worker has out, the leases of its lanes, and its rows that aren't completed
+pub record Place : Type 0 where
+  pub out : Option Taking
+  pub held : Leases
+  pub rows : List (RowView × Answer)
+
+-- A worker has a hand out by its next row: its next step completes the row.
+pub record IsMidway (t : Taking) (held : Leases) (rows : List (RowView × Answer)) (steps : List Step) : Type 0 where
+  pub its_number : t.hand.key.1 ≡ t.number
+  pub its_reserve : t.hand.reserved ≡ t.len
+  pub step : Step
+  pub event : Event
+  pub returns : IsReturn t step event
+  pub row : RowView × Answer
+  pub rest : List (RowView × Answer)
+  pub next : rows ≡ row ∷ rest
+  pub later : List Step
+  pub left : Leases
+  pub is : steps ≡ step ∷ later
+  pub does : IsRowOf held row.0 row.1 (event ∷ []) left
+  pub goes_on : AreLeft left rest later
+
+-- the steps that a worker is still to make are those of its rows
+abbrev pub Goes : Option Taking → Leases → List (RowView × Answer) → List Step → Type 0
+Goes None held rows steps = AreLeft held rows steps
+Goes (Some t) held rows steps = IsMidway t held rows steps
+
+abbrev pub GoesOn : Place → List Step → Type 0
+GoesOn p steps = Goes p.out p.held p.rows steps
+
+-- rows of a worker, none of which is refused for what a hand can cause
+abbrev pub AreOwn : ℕ → ℕ → List (RowView × Answer) → Type 0
+AreOwn n w rows = AllByRecursion (λ p. (p.0.lane % n ≡ w) × IsCalmAnswer p.1) rows
+
+-- all workers, with the entries that are still to come
+pub record AreGoing (n : ℕ) (es : List (Entry Step)) (of : ℕ → Place) : Type 0 where
+  pub each : (w : ℕ) → w < n → GoesOn (of w) (events_by w es)
+  pub others : (w : ℕ) → n ≤ w → events_by w es ≡ []
+  pub own : (w : ℕ) → w < n → AreOwn n w (of w).rows
+
+-- the hands that are out are those of workers, each that of one
+pub record AreOut (n : ℕ) (hands : Hands) (of : ℕ → Place) : Type 0 where
+  pub lent : (w : ℕ) (t : Taking) → (of w).out ≡ Some t → get hands t.hand.key ≡ Some (lent_by t)
+  pub apart : (v w : ℕ) (t u : Taking) → (of v).out ≡ Some t → (of w).out ≡ Some u → t.hand.key ≡ u.hand.key → v ≡ w
+  pub owner : (k : Number) (out : Lent) → get hands k ≡ Some out → (w : ℕ) × (t : Taking) × (w < n) × ((of w).out ≡ Some t) × (t.hand.key ≡ k)
+
+-- ---- one worker goes on
+
+-- the places with another for one worker
+abbrev put : ℕ → Place → (ℕ → Place) → ℕ → Place
+put w x of v = cond (v == w) x (of v)
+
+put_at : (w : ℕ) (x : Place) (of : ℕ → Place) → put w x of w ≡ x
+put_at w x of = ap (λ b. cond b x (of w)) (eq-eqb w w refl)
+
+put_other : (v w : ℕ) (x : Place) (of : ℕ → Place) → v ≢ w → put w x of v ≡ of v
+put_other v w x of other = ap (λ b. cond b x (of v)) (ne_eqb v w other)
+
+-- what is the same of the other is as it was of all
+put_alike : {A : Type 0} (w : ℕ) (x : Place) (of : ℕ → Place) (f : Place → A) → f x ≡ f (of w) → (v : ℕ) → f (put w x of v) ≡ f (of v)
+put_alike w x of f same v = elim (cases_eq v w) [
+  | inl e ↦ ap (λ u. f (put w x of u)) e ∙ ap f (put_at w x of) ∙ same ∙ ap (λ u. f (of u)) (sym e)
+  | inr other ↦ ap f (put_other v w x of other)
+]
+
+module _ (n w : ℕ) (lt : w < n) (of : ℕ → Place) (x : Place) where
+  abbrev new : ℕ → Place
+  new = put w x of
+
+  goes : (es fs : List (Entry Step)) → AreGoing n es of → ((v : ℕ) → v ≢ w → events_by v fs ≡ events_by v es) → GoesOn x (events_by w fs) → AreOwn n w x.rows → AreGoing n fs new
+  goes es fs going same here mine = record {
+    each = λ v below. elim (cases_eq v w) [
+      | inl e ↦ subst (λ u. GoesOn (new u) (events_by u fs)) (sym e) (subst (λ (p : Place). GoesOn p (events_by w fs)) (sym (put_at w x of)) here)
+      | inr other ↦ subst (λ (p : Place). GoesOn p (events_by v fs)) (sym (put_other v w x of other)) (subst (λ steps. GoesOn (of v) steps) (sym (same v other)) (going.each v below))
+    ];
+    others = λ v above. same v (λ e. absurd (omega (arith, lt, above, e))) ∙ going.others v above;
+    own = λ v below. elim (cases_eq v w) [
+      | inl e ↦ subst (λ u. AreOwn n u (new u).rows) (sym e) (subst (λ (p : Place). AreOwn n w p.rows) (sym (put_at w x of)) mine)
+      | inr other ↦ subst (λ (p : Place). AreOwn n v p.rows) (sym (put_other v w x of other)) (going.own v below)
+    ];
+  }
+
+  -- who has a hand out then
+  has_out : (v : ℕ) (t : Taking) → (new v).out ≡ Some t → ((v ≡ w) × (x.out ≡ Some t)) ⊎ ((v ≢ w) × ((of v).out ≡ Some t))
+  has_out v t is = elim (cases_eq v w) [
+    | inl e ↦ inl (e, ap (λ (p : Place). p.out) (sym (ap new e ∙ put_at w x of)) ∙ is)
+    | inr other ↦ inr (other, ap (λ (p : Place). p.out) (sym (put_other v w x of other)) ∙ is)
+  ]
+
+  still_out : (v : ℕ) (t : Taking) → v ≢ w → (of v).out ≡ Some t → (new v).out ≡ Some t
+  still_out v t other is = ap (λ (p : Place). p.out) (put_other v w x of other) ∙ is
+
+  none_out : (v : ℕ) (t : Taking) → (of w).out ≡ None → (of v).out ≡ Some t → v ≢ w
+  none_out v t none is e = absurd (let h : None ≡ Some t = sym none ∙ ap (λ u. (of u).out) (sym e) ∙ is in cc)
+
+  -- no hand goes out or comes back
+  same_out : (hands : Hands) → (of w).out ≡ None → x.out ≡ None → AreOut n hands of → AreOut n hands new
+  same_out hands was is out = record {
+    lent = λ v t has. out.lent v t (theirs v t has);
+    apart = λ v u t s a b same. out.apart v u t s (theirs v t a) (theirs u s b) same;
+    owner = λ k o found. (let h = out.owner k o found in (h.0, h.1, h.2, still_out h.0 h.1 (none_out h.0 h.1 was h.3) h.3, h.4));
+  }
+    where
+      theirs : (v : ℕ) (t : Taking) → (new v).out ≡ Some t → (of v).out ≡ Some t
+      theirs v t has = elim (has_out v t has) [
+        | inl h ↦ absurd (let e : None ≡ Some t = sym is ∙ h.1 in cc)
+        | inr h ↦ h.1
+      ]
+
+  -- a hand goes out
+  one_out : (hands : Hands) (t : Taking) → (of w).out ≡ None → x.out ≡ Some t → get hands t.hand.key ≡ None → AreOut n hands of → AreOut n (insert hands t.hand.key (lent_by t)) new
+  one_out hands t was is free out = record {
+    lent = λ v u has. elim (has_out v u has) [
+      | inl h ↦ subst (λ (y : Taking). get after y.hand.key ≡ Some (lent_by y)) (same_Some t u (sym is ∙ h.1)) (get-insert_at number_cmp_total exact_number hands t.hand.key (lent_by t))
+      | inr h ↦ get-insert_other number_cmp_total exact_number hands t.hand.key (lent_by t) u.hand.key (λ e. away v u h.1 (sym e)) ∙ out.lent v u h.1
+    ];
+    apart = λ v u a b has_a has_b same. elim (has_out v a has_a) [
+      | inl h ↦ elim (has_out u b has_b) [
+        | inl k ↦ h.0 ∙ sym k.0
+        | inr k ↦ absurd (away u b k.1 (ap (λ (y : Taking). y.hand.key) (same_Some t a (sym is ∙ h.1)) ∙ same))
+      ]
+      | inr h ↦ elim (has_out u b has_b) [
+        | inl k ↦ absurd (away v a h.1 (ap (λ (y : Taking). y.hand.key) (same_Some t b (sym is ∙ k.1)) ∙ sym same))
+        | inr k ↦ out.apart v u a b h.1 k.1 same
+      ]
+    ];
+    owner = λ k o found. elim (cases_key number_cmp_total exact_number k t.hand.key) [
+      | inl e ↦ (w, t, lt, ap (λ (p : Place). p.out) (put_at w x of) ∙ is, sym e)
+      | inr other ↦ (let h = out.owner k o (sym (get-insert_other number_cmp_total exact_number hands t.hand.key (lent_by t) k other) ∙ found) in (h.0, h.1, h.2, still_out h.0 h.1 (none_out h.0 h.1 was h.3) h.3, h.4))
+    ];
+  }
+    where
+      after : Hands
+      after = insert hands t.hand.key (lent_by t)
+
+      away : (v : ℕ) (u : Taking) → (of v).out ≡ Some u → t.hand.key ≢ u.hand.key
+      away v u has e = absurd (let h : None ≡ Some (lent_by u) = sym free ∙ ap (get hands) e ∙ out.lent v u has in cc)
+
+  -- a hand comes back
+  one_back : (hands : Hands) (t : Taking) → (of w).out ≡ Some t → x.out ≡ None → AreOut n hands of → AreOut n (remove hands t.hand.key) new
+  one_back hands t was is out = record {
+    lent = λ v u has. (let h = theirs v u has in get-remove_other number_cmp_total exact_number hands t.hand.key u.hand.key (λ e. h.0 (out.apart v w u t h.1 was e)) ∙ out.lent v u h.1);
+    apart = λ v u a b has_a has_b same. out.apart v u a b (theirs v a has_a).1 (theirs u b has_b).1 same;
+    owner = λ k o found. elim (cases_key number_cmp_total exact_number k t.hand.key) [
+      | inl e ↦ absurd (let h : None ≡ Some o = sym (get-remove_same number_cmp_total exact_number hands t.hand.key) ∙ ap (get (remove hands t.hand.key)) (sym e) ∙ found in cc)
+      | inr other ↦
+          let h = out.owner k o (sym (get-remove_other number_cmp_total exact_number hands t.hand.key k other) ∙ found) in
+          let not_w : h.0 ≢ w = λ e. other (sym h.4 ∙ ap (λ (y : Taking). y.hand.key) (same_Some h.1 t (sym h.3 ∙ ap (λ u. (of u).out) e ∙ was))) in
+          (h.0, h.1, h.2, still_out h.0 h.1 not_w h.3, h.4)
+    ];
+  }
+    where
+      theirs : (v : ℕ) (t : Taking) → (new v).out ≡ Some t → (v ≢ w) × ((of v).out ≡ Some t)
+      theirs v u has = elim (has_out v u has) [
+        | inl h ↦ absurd (let e : None ≡ Some u = sym is ∙ h.1 in cc)
+        | inr h ↦ h
+      ]
+
+-- ---- the order of the rows
+
+-- the rows, each with its answer and by the leases of its worker, are these events
+abbrev pub Told : ℕ → (ℕ → Leases) → List (RowView × Answer) → List Event → Type 0
+Told n held [] events = events ≡ []
+Told n held (p ∷ ps) events =
+    (first : List Event) × (later : List Event) × (next : ℕ → Leases) × (events ≡ first ++ later) × IsRowOf (held (p.0.lane % n)) p.0 p.1 first (next (p.0.lane % n)) × ((v : ℕ) → v ≢ p.0.lane % n → next v ≡ held v) × Told n next ps later
+
+-- a step is no refusal that a hand can cause
+abbrev pub IsMild : Step → Type 0
+IsMild (Performed command (Err e)) = IsCalm e
+IsMild (Took repo number range len (Err e)) = IsCalm e
+IsMild (Finished hand digest (Err e)) = IsCalm e
+IsMild step = Unit {0}
+
+-- an order of the workers' rows, with the events that the steps come to
+pub record IsOrdered (n : ℕ) (hands : Hands) (steps : List Step) (of : ℕ → Place) : Type 0 where
+  pub order : List (RowView × Answer)
+  pub events : List Event
+  pub whole : AreWhole hands steps events
+  pub named : AllByRecursion IsNamed events
+  pub mild : AllByRecursion IsMild steps
+  pub each : (w : ℕ) → w < n → filter (λ p. is_own n w p.0) order ≡ (of w).rows
+  pub told : Told n (λ w. (of w).held) order events
+
+both_named : (first later : List Event) → AllByRecursion IsNamed first → AllByRecursion IsNamed later → AllByRecursion IsNamed (first ++ later)
+both_named [] later a b = b
+both_named (e ∷ first) later a b = (a.0, both_named first later a.1 b)
+
+-- a row of a worker, and then the others
+module _ (n w : ℕ) (lt : w < n) (of : ℕ → Place) (x : Place) (p : RowView × Answer) (next : (of w).rows ≡ p ∷ x.rows) (mine : p.0.lane % n ≡ w) (first : List Event) (does : IsRowOf (of w).held p.0 p.1 first x.held) where
+  with_row : (hands after : Hands) (steps later : List Step) → ((events : List Event) → AreWhole after later events → AreWhole hands steps (first ++ events)) → (AllByRecursion IsMild later → AllByRecursion IsMild steps) →
+      IsOrdered n after later (put w x of) → IsOrdered n hands steps of
+  with_row hands after steps later whole mild rest = record {
+    order = p ∷ rest.order;
+    events = first ++ rest.events;
+    whole = whole rest.events rest.whole;
+    named = both_named first rest.events does.named rest.named;
+    mild = mild rest.mild;
+    each = λ v below. elim (cases_eq v w) [
+      | inl e ↦ subst (λ u. filter (λ q. is_own n u q.0) (p ∷ rest.order) ≡ (of u).rows) (sym e)
+          (rw (eq-eqb (p.0.lane % n) w mine) (ap (λ ps. p ∷ ps) (rest.each w lt ∙ ap (λ (y : Place). y.rows) (put_at w x of)) ∙ sym next))
+      | inr other ↦ rw (ne_eqb (p.0.lane % n) v (λ e. other (sym e ∙ mine))) (rest.each v below ∙ ap (λ (y : Place). y.rows) (put_other v w x of other))
+    ];
+    told = (
+      first,
+      rest.events,
+      (λ v. (put w x of v).held),
+      refl,
+      subst (λ u. IsRowOf (of u).held p.0 p.1 first (put w x of u).held) (sym mine) (subst (λ (h : Leases). IsRowOf (of w).held p.0 p.1 first h) (sym (ap (λ (y : Place). y.held) (put_at w x of))) does),
+      (λ v other. ap (λ (y : Place). y.held) (put_other v w x of (λ e. other (e ∙ sym mine)))),
+      rest.told,
+    );
+  }
+
+-- ---- the next row of a worker
+
+-- a row makes no step; or a step that is an event; or a take and a step that returns the hand
+abbrev NextRow : Leases → RowView × Answer → List (RowView × Answer) → List Step → Type 0
+NextRow held p ps steps =
+    ((left : Leases) × IsRowOf held p.0 p.1 [] left × AreLeft left ps steps)
+    ⊎ ((d : Step) × (e : Event) × (later : List Step) × (left : Leases) × (steps ≡ d ∷ later) × IsWhole d e × IsRowOf held p.0 p.1 (e ∷ []) left × AreLeft left ps later)
+    ⊎ ((t : Taking) × (d : Step) × (e : Event) × (later : List Step) × (left : Leases) × (steps ≡ take_of t ∷ d ∷ later) × IsReturn t d e × IsRowOf held p.0 p.1 (e ∷ []) left × AreLeft left ps later)
+
+next_row : (held : Leases) (p : RowView × Answer) (ps : List (RowView × Answer)) (steps : List Step) → AreLeft held (p ∷ ps) steps → NextRow held p ps steps
+next_row held p ps steps h = elim h.4 [
+  | inl x ↦ inl (h.2, x.1, subst (λ s. AreLeft h.2 ps s) (sym (h.3 ∙ ap (λ f. f ++ h.1) x.0)) h.5)
+  | inr (inl x) ↦ inr (inl (x.0, x.1, h.1, h.2, h.3 ∙ ap (λ f. f ++ h.1) x.2, x.3, x.4, h.5))
+  | inr (inr x) ↦ inr (inr (x.0, x.1, x.2, h.1, h.2, h.3 ∙ ap (λ f. f ++ h.1) x.3, x.4, x.5, h.5))
+]
+
+no_step : {X : Type 0} {d : Step} {later : List Step} → [] ≡ d ∷ later → X
+no_step h = absurd cc
+
+same_step : {d e : Step} {ds es : List Step} → ◌≡◌ {A = List Step} (d ∷ ds) (e ∷ es) → (d ≡ e) × (ds ≡ es)
+same_step h = (cc, cc)
+
+-- ---- steps that are refused
+
+mild_whole : (d : Step) (e : Event) → IsWhole d e → IsMildEvent e → IsMild d
+mild_whole (Performed command (Ok a)) e whole mild = tt
+mild_whole (Performed command (Err f)) e whole mild = (subst (λ es. AllByRecursion IsMildEvent es) (whole empty).0 (mild, tt)).0
+mild_whole (Cleaned swept) e whole mild = tt
+mild_whole (Took repo number range len (Ok h)) e whole mild = tt
+mild_whole (Took repo number range len (Err f)) e whole mild = (subst (λ es. AllByRecursion IsMildEvent es) (whole empty).0.4 (mild, tt)).0
+mild_whole (PutBack h reply) e whole mild = tt
+mild_whole (Finished h digest reply) e whole mild = absurd (let c = whole empty in let none : None ≡ Some c.0 = sym (get-empty number_cmp h.key) ∙ c.1 in cc)
+
+mild_return : (t : Taking) (d : Step) (e : Event) → IsReturn t d e → IsMildEvent e → IsMild d
+mild_return t d e r mild = elim r.is [
+  | inl x ↦ subst (λ y. IsMild y) (sym x.0) tt
+  | inr x ↦ subst (λ y. IsMild y) (sym x.1) (finished (filled t.hand r.bytes) x.0 (runs.Close t.repo t.number x.0 t.range r.bytes) r.reply (subst (λ y. IsMildEvent y) x.2 mild))
+]
+  where
+    finished : (h : Taken) (digest : Text) (command : runs.Command) (reply : Result ℕ Refusal) → IsMildEvent (Called command (numbered reply)) → IsMild (Finished h digest reply)
+    finished h digest command (Ok n) mild = tt
+    finished h digest command (Err f) mild = mild
+
+-- ---- no entry is left
+
+module _ (n : ℕ) where
+  idle : (o : Option Taking) (held : Leases) (rows : List (RowView × Answer)) → Goes o held rows [] → (o ≡ None) × AreLeft held rows []
+  idle None held rows left = (refl, left)
+  idle (Some t) held rows mid = no_step mid.is
+
+  -- the rows that are left to a worker make no step
+  last_rows : (w : ℕ) → w < n → (rows : List (RowView × Answer)) (of : ℕ → Place) → (of w).rows ≡ rows → AreGoing n [] of →
+      ((new : ℕ → Place) → AreGoing n [] new → (new w).rows ≡ [] → ((v : ℕ) → v ≢ w → new v ≡ of v) → IsOrdered n empty [] new) → IsOrdered n empty [] of
+  last_rows w lt [] of is going goes_on = goes_on of going is (λ v _. refl)
+  last_rows w lt (p ∷ ps) of is going goes_on =
+      let left : AreLeft (of w).held (p ∷ ps) [] = subst (λ rows. AreLeft (of w).held rows []) is (idle (of w).out (of w).held (of w).rows (going.each w lt)).1 in
+      let own : AreOwn n w (p ∷ ps) = subst (λ rows. AreOwn n w rows) is (going.own w lt) in
+      elim (next_row (of w).held p ps [] left) [
+        | inl h ↦
+            let x : Place = record { out = None; held = h.0; rows = ps } in
+            with_row n w lt of x p is own.0.0 [] h.1 empty empty [] [] (λ events are. are) (λ mild. mild)
+            (last_rows w lt ps (put w x of) (ap (λ (y : Place). y.rows) (put_at w x of)) (goes n w lt of x [] [] going (λ v _. refl) h.2 own.1)
+            (λ new going none same. goes_on new going none (λ v other. same v other ∙ put_other v w x of other)))
+        | inr (inl h) ↦ no_step h.4
+        | inr (inr h) ↦ no_step h.5
+      ]
+
+  all_last_rows : (m : ℕ) → m ≤ n → (of : ℕ → Place) → AreGoing n [] of → ((v : ℕ) → m ≤ v → v < n → (of v).rows ≡ []) → IsOrdered n empty [] of
+  all_last_rows zero le of going done = record { order = []; events = []; whole = (refl, refl); named = tt; mild = tt; each = λ v below. sym (done v (omega arith) below); told = refl }
+  all_last_rows (suc m) le of going done = last_rows m (omega (arith, le)) (of m).rows of refl going (λ new going none same.
+      all_last_rows m (omega (arith, le)) new going (λ v above below. elim (cases_eq v m) [
+        | inl e ↦ ap (λ u. (new u).rows) e ∙ none
+        | inr other ↦ ap (λ (y : Place). y.rows) (same v other) ∙ done v (omega (arith, above, other)) below
+      ]))
+
+  all_home : (hands : Hands) (of : ℕ → Place) → AreGoing n [] of → AreOut n hands of → hands ≡ empty
+  all_home hands of going out = same_map number_cmp_total exact_number hands empty (λ k. by k (get hands k) refl)
+    where
+      none_left : Hands
+      none_left = empty
+
+      by : (k : Number) (o : Option Lent) → get hands k ≡ o → get hands k ≡ get none_left k
+      by k None is = is ∙ sym (get-empty number_cmp k)
+      by k (Some o) is =
+          let h = out.owner k o is in
+          absurd (let e : None ≡ Some h.1 = sym (idle (of h.0).out (of h.0).held (of h.0).rows (going.each h.0 h.2)).0 ∙ h.3 in cc)
+
+-- ---- one entry
+
+-- what comes of a hand that returns
+returned : (hands : Hands) (s : State) (X : Catalog) (t : Taking) (d : Step) (e : Event) → IsReturn t d e → t.hand.key.1 ≡ t.number → t.hand.reserved ≡ t.len → get hands t.hand.key ≡ Some (lent_by t) →
+    IsKept hands s.catalog → MayLeave s d X → ComesTo hands d (e ∷ []) (remove hands t.hand.key) × IsKept (remove hands t.hand.key) X
+returned hands s X t d e r number reserve out kept =
+    let fills : length r.bytes ≡ t.hand.reserved = r.fills ∙ sym reserve in
+    elim r.is [
+      | inl x ↦ subst (λ y. MayLeave s y X → ComesTo hands y (e ∷ []) (remove hands t.hand.key) × IsKept (remove hands t.hand.key) X) (sym x.0) (λ leaves. (
+        (lent_by t, out, inl (r.bytes, (fills, refl), ap (λ y. y ∷ []) x.1 ∙ ap (λ k. Called (runs.Append t.repo k t.range r.bytes) (numbered r.reply) ∷ []) (sym number)), refl),
+        kept_back hands s X kept (filled t.hand r.bytes) (lent_by t) out r.bytes fills refl r.reply leaves,
+      ))
+      | inr x ↦ subst (λ y. MayLeave s y X → ComesTo hands y (e ∷ []) (remove hands t.hand.key) × IsKept (remove hands t.hand.key) X) (sym x.1) (λ leaves. (
+        (lent_by t, out, (r.bytes, (fills, refl), ap (λ y. y ∷ []) x.2 ∙ ap (λ k. Called (runs.Close t.repo k x.0 t.range r.bytes) (numbered r.reply) ∷ []) (sym number)), refl),
+        kept_finish hands s X kept (filled t.hand r.bytes) (lent_by t) out r.bytes fills refl x.0 r.reply leaves,
+      ))
+    ]
+
+module _ (n : ℕ) (e : Entry Step) (es : List (Entry Step)) (s mid : State) (stepped : IsStep s e.event mid) (lt : e.writer < n)
+    (goes_on : (hands : Hands) (of : ℕ → Place) → IsKept hands mid.catalog → AreGoing n es of → AreOut n hands of → IsOrdered n hands (steps_of es) of) where
+  abbrev w : ℕ
+  w = e.writer
+
+  mine : events_by w (e ∷ es) ≡ e.event ∷ events_by w es
+  mine = rw (eq-eqb e.writer e.writer refl) refl
+
+  elsewhere : (v : ℕ) → v ≢ w → events_by v es ≡ events_by v (e ∷ es)
+  elsewhere v other = rw (ne_eqb e.writer v (λ x. other (sym x))) refl
+
+  -- a hand is out by the next row
+  comes_back : (t : Taking) (of : ℕ → Place) (hands : Hands) → (of w).out ≡ Some t → IsKept hands s.catalog → AreGoing n (e ∷ es) of → AreOut n hands of → IsOrdered n hands (steps_of (e ∷ es)) of
+  comes_back t of hands has kept going out =
+      let m : IsMidway t (of w).held (of w).rows (e.event ∷ events_by w es) = subst (λ steps. IsMidway t (of w).held (of w).rows steps) mine (subst (λ o. Goes o (of w).held (of w).rows (events_by w (e ∷ es))) has (going.each w lt)) in
+      let x : Place = record { out = None; held = m.left; rows = m.rest } in
+      let same = same_step m.is in
+      let own : AreOwn n w (m.row ∷ m.rest) = subst (λ rows. AreOwn n w rows) m.next (going.own w lt) in
+      let back = returned hands s mid.catalog t m.step m.event m.returns m.its_number m.its_reserve (out.lent w t has) kept (subst (λ d. MayLeave s d mid.catalog) same.0 stepped.leaves) in
+      with_row n w lt of x m.row m.next own.0.0 (m.event ∷ []) m.does hands (remove hands t.hand.key) (steps_of (e ∷ es)) (steps_of es)
+      (λ events are. (m.event ∷ [], events, remove hands t.hand.key, subst (λ d. ComesTo hands d (m.event ∷ []) (remove hands t.hand.key)) (sym same.0) back.0, refl, are))
+      (λ mild. (subst (λ d. IsMild d) (sym same.0) (mild_return t m.step m.event m.returns (m.does.mild own.0.1).0), mild))
+      (goes_on (remove hands t.hand.key) (put w x of) back.1 (goes n w lt of x (e ∷ es) es going elsewhere (subst (λ steps. AreLeft m.left m.rest steps) (sym same.1) m.goes_on) own.1) (one_back n w lt of x hands t has refl out))
+
+  -- a take alone puts no row in the order
+  takes : (p : RowView × Answer) (ps : List (RowView × Answer)) (of : ℕ → Place) (hands : Hands) → (of w).rows ≡ p ∷ ps → (of w).out ≡ None → IsKept hands s.catalog → AreGoing n (e ∷ es) of → AreOut n hands of → AreOwn n w (p ∷ ps) →
+      (t : Taking) × (d : Step) × (f : Event) × (later : List Step) × (left : Leases) × (e.event ∷ events_by w es ≡ take_of t ∷ d ∷ later) × IsReturn t d f × IsRowOf (of w).held p.0 p.1 (f ∷ []) left × AreLeft left ps later →
+      IsOrdered n hands (steps_of (e ∷ es)) of
+  takes p ps of hands is none kept going out own h =
+      let t : Taking = h.0 in
+      let x : Place = record { out = Some t; held = (of w).held; rows = p ∷ ps } in
+      let same = same_step h.5 in
+      let taken : take s.catalog t.repo t.number t.range t.len ≡ Ok (t.hand, mid.catalog) = subst (λ d. MayLeave s d mid.catalog) same.0 stepped.leaves in
+      let after : Hands = insert hands t.hand.key (lent_by t) in
+      let midway : IsMidway t (of w).held (p ∷ ps) (events_by w es) = record {
+        its_number = its_number hands s.catalog mid.catalog kept t.repo t.number t.len t.range t.hand taken;
+        its_reserve = its_reserve hands s.catalog mid.catalog kept t.repo t.number t.len t.range t.hand taken;
+        step = h.1;
+        event = h.2;
+        returns = h.6;
+        row = p;
+        rest = ps;
+        next = refl;
+        later = h.3;
+        left = h.4;
+        is = same.1;
+        does = h.7;
+        goes_on = h.8;
+      } in
+      let r = goes_on after (put w x of) (kept_take hands s.catalog mid.catalog kept t.repo t.number t.len t.range t.hand taken) (goes n w lt of x (e ∷ es) es going elsewhere midway own)
+      (one_out n w lt of x hands t none refl (was_free hands s.catalog mid.catalog kept t.repo t.number t.len t.range t.hand taken) out) in
+      record {
+        order = r.order;
+        events = r.events;
+        whole = ([], r.events, after, subst (λ d. ComesTo hands d [] after) (sym same.0) (refl, refl), refl, r.whole);
+        named = r.named;
+        mild = (subst (λ d. IsMild d) (sym same.0) tt, r.mild);
+        each = λ v below. r.each v below ∙ put_alike w x of (λ (y : Place). y.rows) (sym is) v;
+        told = subst (λ (f : ℕ → Leases). Told n f r.order r.events) (λ i v. put_alike w x of (λ (y : Place). y.held) refl v i) r.told;
+      }
+
+  -- or a row begins, after those that make no step
+  begins : (rows : List (RowView × Answer)) (of : ℕ → Place) (hands : Hands) → (of w).rows ≡ rows → (of w).out ≡ None → IsKept hands s.catalog → AreGoing n (e ∷ es) of → AreOut n hands of → IsOrdered n hands (steps_of (e ∷ es)) of
+  begins [] of hands is none kept going out =
+      let left : AreLeft (of w).held [] (e.event ∷ events_by w es) = subst (λ steps. AreLeft (of w).held [] steps) mine (subst (λ rows. AreLeft (of w).held rows (events_by w (e ∷ es))) is (subst (λ o. Goes o (of w).held (of w).rows (events_by w (e ∷ es))) none (going.each w lt))) in
+      no_step (sym left)
+  begins (p ∷ ps) of hands is none kept going out =
+      let left : AreLeft (of w).held (p ∷ ps) (e.event ∷ events_by w es) = subst (λ steps. AreLeft (of w).held (p ∷ ps) steps) mine (subst (λ rows. AreLeft (of w).held rows (events_by w (e ∷ es))) is (subst (λ o. Goes o (of w).held (of w).rows (events_by w (e ∷ es))) none (going.each w lt))) in
+      let own : AreOwn n w (p ∷ ps) = subst (λ rows. AreOwn n w rows) is (going.own w lt) in
+      elim (next_row (of w).held p ps (e.event ∷ events_by w es) left) [
+        | inl h ↦
+            let x : Place = record { out = None; held = h.0; rows = ps } in
+            with_row n w lt of x p is own.0.0 [] h.1 hands hands (steps_of (e ∷ es)) (steps_of (e ∷ es)) (λ events are. are) (λ mild. mild)
+            (begins ps (put w x of) hands (ap (λ (y : Place). y.rows) (put_at w x of)) (ap (λ (y : Place). y.out) (put_at w x of)) kept
+            (goes n w lt of x (e ∷ es) (e ∷ es) going (λ v _. refl) (subst (λ steps. AreLeft h.0 ps steps) (sym mine) h.2) own.1) (same_out n w lt of x hands none refl out))
+        | inr (inl h) ↦
+            let x : Place = record { out = None; held = h.3; rows = ps } in
+            let same = same_step h.4 in
+            let whole : IsWhole e.event h.1 = subst (λ d. IsWhole d h.1) (sym same.0) h.5 in
+            with_row n w lt of x p is own.0.0 (h.1 ∷ []) h.6 hands hands (steps_of (e ∷ es)) (steps_of es)
+            (λ events are. (h.1 ∷ [], events, hands, whole hands, refl, are))
+            (λ mild. (mild_whole e.event h.1 whole (h.6.mild own.0.1).0, mild))
+            (goes_on hands (put w x of) (kept_whole hands s mid.catalog kept e.event h.1 whole h.6.named.0 stepped.leaves)
+            (goes n w lt of x (e ∷ es) es going elsewhere (subst (λ steps. AreLeft h.3 ps steps) (sym same.1) h.7) own.1) (same_out n w lt of x hands none refl out))
+        | inr (inr h) ↦ takes p ps of hands is none kept going out own h
+      ]
+
+-- ---- all entries
+
+one_entry : (n : ℕ) (e : Entry Step) (es : List (Entry Step)) (s mid : State) (hands : Hands) (of : ℕ → Place) → IsKept hands s.catalog → AreGoing n (e ∷ es) of → AreOut n hands of → IsStep s e.event mid →
+    ((hands : Hands) (of : ℕ → Place) → IsKept hands mid.catalog → AreGoing n es of → AreOut n hands of → IsOrdered n hands (steps_of es) of) → IsOrdered n hands (steps_of (e ∷ es)) of
+one_entry n e es s mid hands of kept going out stepped goes_on = by (nat_lt e.writer n) refl
+  where
+    started : e.writer < n → (o : Option Taking) → (of e.writer).out ≡ o → IsOrdered n hands (steps_of (e ∷ es)) of
+    started lt None is = begins n e es s mid stepped lt goes_on (of e.writer).rows of hands refl is kept going out
+    started lt (Some t) is = comes_back n e es s mid stepped lt goes_on t of hands is kept going out
+
+    by : (b : Bool) → nat_lt e.writer n ≡ b → IsOrdered n hands (steps_of (e ∷ es)) of
+    by true is = started (ltb-true e.writer n is) (of e.writer).out refl
+    by false is =
+        let here : events_by e.writer (e ∷ es) ≡ e.event ∷ events_by e.writer es = rw (eq-eqb e.writer e.writer refl) refl in
+        no_step (sym (going.others e.writer (ltb-false e.writer n is)) ∙ here)
+
+pub merged : (n : ℕ) (es : List (Entry Step)) (s last : State) (hands : Hands) (of : ℕ → Place) → IsKept hands s.catalog → AreGoing n es of → AreOut n hands of → AreSteps s (steps_of es) last → IsOrdered n hands (steps_of es) of
+merged n [] s last hands of kept going out run =
+    subst (λ hs. IsOrdered n hs [] of) (sym (all_home n hands of going out)) (all_last_rows n n (omega arith) of going (λ v above below. absurd (omega (arith, above, below))))
+merged n (e ∷ es) s last hands of kept going out run = one_entry n e es s run.0 hands of kept going out run.1 (λ hands of kept going out. merged n es run.0 last hands of kept going out run.2)

@@ -1,0 +1,106 @@
+-- What several workers do together has an order of their rows.
+use Rattle.std.proofs.Common.{◌≡◌, ◌<◌, ◌%◌, ◌==◌, ◌∷◌, [], ℕ, true, false, cond, List, length, map, Some, None, Ok, Err, refl, sym, ap, ◌∙◌, subst}
+use Rattle.std.specs.List.{AllByRecursion, filter, zip}
+use Rattle.std.specs.FinMap.{empty, get-empty}
+use Rattle.std.proofs.lemmas.Bool.{eqb-true}
+use Rattle.std.proofs.lemmas.Map.Made.{keys_of-zip}
+use Rattle.std.proofs.lemmas.Nat.{mod_below}
+use Rattle.finite_maps.proofs.Lists.{filter-map}
+use Rattle.shared_log.specs.Entries.{events_by}
+use Rattle.store_model.specs.Catalog.{Catalog, number_cmp, opening}
+use Rattle.store_model.specs.Histories.{AreSteps, Cleaned, Finished, Performed, PutBack, State, Step, Took, first_state}
+use Rattle.store_model.specs.Invariant.{Sound}
+use Rattle.store_model.specs.WholeCommands.{AreCalm, IsCalmStep}
+use Rattle.store_model.proofs.WholeCommands.Histories.{histories_are_runs}
+use Rattle.row_player.specs.Answers.{Answer}
+use Rattle.row_player.specs.Leases.{none}
+use Rattle.row_player.specs.Plays.{Plays}
+use Rattle.row_player.specs.Rows.{RowView}
+use Rattle.row_player.specs.Shares.{is_own, own_answers, own_rows}
+use Rattle.locked_book.specs.History.{steps_of}
+use Rattle.blob_store.specs.RowOrders.{AreCounted, IsCalmAnswer, IsCountedStep, Leads, RowsHaveOrders}
+use Rattle.blob_store.specs.Seats.{WorkActs}
+use Rattle.blob_store.specs.Workers.{IsInterleaved, no_work}
+use Rattle.blob_store.proofs.RowOrders.Kept.{IsKept}
+use Rattle.blob_store.proofs.RowOrders.Leases.{told_plays}
+use Rattle.blob_store.proofs.RowOrders.Merging.{AreGoing, AreOut, AreOwn, IsMild, IsOrdered, Place, merged}
+use Rattle.blob_store.proofs.RowOrders.Orders.{permuted}
+use Rattle.blob_store.proofs.RowOrders.Rows.{AreLeft, rows_come}
+
+abbrev Pair : Type 0
+Pair = RowView × Answer
+
+-- a worker's rows, each with its answer
+abbrev own_pairs : ℕ → ℕ → List Pair → List Pair
+own_pairs n w pairs = filter (λ p. is_own n w p.0) pairs
+
+calm_pairs : (rows : List RowView) (answers : List Answer) → AllByRecursion IsCalmAnswer answers → AllByRecursion (λ (p : Pair). IsCalmAnswer p.1) (zip rows answers)
+calm_pairs [] answers calm = tt
+calm_pairs (row ∷ rows) [] calm = tt
+calm_pairs (row ∷ rows) (answer ∷ answers) calm = (calm.0, calm_pairs rows answers calm.1)
+
+all_own : (n w : ℕ) (pairs : List Pair) → AllByRecursion (λ (p : Pair). IsCalmAnswer p.1) pairs → AreOwn n w (own_pairs n w pairs)
+all_own n w [] calm = tt
+all_own n w (p ∷ pairs) calm = elim (p.0.lane % n == w) as (λ b. (p.0.lane % n == w) ≡ b → AreOwn n w (cond b (p ∷ own_pairs n w pairs) (own_pairs n w pairs))) [
+  | true ↦ λ is. ((eqb-true (p.0.lane % n) w is, calm.0), all_own n w pairs calm.1)
+  | false ↦ λ is. all_own n w pairs calm.1
+] refl
+
+-- a worker's rows are those of its pairs
+rows_of_pairs : (n w : ℕ) (rows : List RowView) (answers : List Answer) → length answers ≡ length rows → own_rows n w rows ≡ map (λ (p : Pair). p.0) (own_pairs n w (zip rows answers))
+rows_of_pairs n w rows answers size = ap (own_rows n w) (sym (keys_of-zip rows answers size)) ∙ filter-map (is_own n w) (λ (p : Pair). p.0) (zip rows answers)
+
+module _ (C : Catalog) (n : ℕ) (rows : List RowView) (answers : List Answer) (last : Catalog) (sound : Sound C) (size : length answers ≡ length rows) (calm : AllByRecursion IsCalmAnswer answers) (together : IsInterleaved C n rows answers last) where
+  -- all workers before the first step
+  abbrev first_places : ℕ → Place
+  first_places w = record { out = None; held = none; rows = own_pairs n w (zip rows answers) }
+
+  begins : (w : ℕ) → w < n → AreLeft none (own_pairs n w (zip rows answers)) (events_by w together.order)
+  begins w lt =
+      let lane = together.lanes w lt in
+      let come = rows_come (no_work, none) (lane.0, lane.2.0) (own_pairs n w (zip rows answers)) (subst (λ own. Plays WorkActs (no_work, none) own (own_answers n w rows answers) (lane.0, lane.2.0)) (rows_of_pairs n w rows answers size) lane.2.1) in
+      subst (λ steps. AreLeft none (own_pairs n w (zip rows answers)) steps) (sym come.1 ∙ lane.1) come.2
+
+  going : AreGoing n together.order first_places
+  going = record { each = begins; others = together.others; own = λ w _. all_own n w (zip rows answers) (calm_pairs rows answers calm) }
+
+  none_out : AreOut n empty first_places
+  none_out = record {
+    lent = λ w t is. absurd cc;
+    apart = λ v w t u a b same. absurd cc;
+    owner = λ k out is. absurd (let h : None ≡ Some out = sym (get-empty number_cmp k) ∙ is in cc);
+  }
+
+  kept : IsKept empty C
+  kept = record { sound = sound; held = λ k out is. absurd (let h : None ≡ Some out = sym (get-empty number_cmp k) ∙ is in cc) }
+
+  pub ordered : IsOrdered n empty (steps_of together.order) first_places
+  ordered = merged n together.order (first_state C) together.state empty first_places kept going none_out together.legal
+
+calm_step : (s : State) (step : Step) → IsMild step → IsCountedStep s step → IsCalmStep s step
+calm_step s (Performed command (Ok a)) mild counted = tt
+calm_step s (Performed command (Err e)) mild counted = (mild, counted)
+calm_step s (Cleaned swept) mild counted = tt
+calm_step s (Took repo number range len (Ok h)) mild counted = tt
+calm_step s (Took repo number range len (Err e)) mild counted = (mild, counted)
+calm_step s (PutBack h reply) mild counted = tt
+calm_step s (Finished h digest (Ok n)) mild counted = tt
+calm_step s (Finished h digest (Err e)) mild counted = mild
+
+calm_steps : (s : State) (steps : List Step) (last : State) (run : AreSteps s steps last) → AllByRecursion IsMild steps → AreCounted s steps last run → AreCalm s steps last run
+calm_steps s [] last run mild counted = tt
+calm_steps s (step ∷ steps) last run mild counted = (calm_step s step mild.0 counted.0, calm_steps run.0 steps last run.2 mild.1 counted.1)
+
+pub rows_have_orders : RowsHaveOrders
+rows_have_orders tenants slots max_blob workers rows answers last sound some size together calm counted =
+    let C : Catalog = opening tenants slots max_blob in
+    let one = ordered C workers rows answers last sound size calm together in
+    let steps : List Step = steps_of together.order in
+    let run = histories_are_runs tenants slots max_blob steps together.state one.events sound together.legal (calm_steps (first_state C) steps together.state together.legal one.mild counted) one.whole one.named in
+    let plays = told_plays workers one.order one.events C together.state.catalog none (λ w. none) one.told run (λ name. refl) in
+    record {
+      order = one.order;
+      reordered = record { same = permuted (λ (p : Pair). p.0.lane % workers) workers (λ p. mod_below p.0.lane workers some) (zip rows answers) one.order one.each; each = one.each };
+      left = plays.0;
+      run = subst (λ (X : Catalog). Plays Leads (C, none) (map (λ (p : Pair). p.0) one.order) (map (λ (p : Pair). p.1) one.order) (X, plays.0)) together.left plays.1;
+    }
