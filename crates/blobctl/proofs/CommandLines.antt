@@ -24,7 +24,7 @@ use Rattle.clap.specs.declared.error.kind.ErrorKind.{ErrorKind}
 use Rattle.finite_maps.specs.Texts.{Text}
 use Rattle.blobctl.specs.Arguments.{HasNumber, RefusesFound, RefusesWords, program, tenant_words}
 use Rattle.blobctl.specs.Stops.{IsStopFor}
-use Rattle.blobctl.specs.Tenants.{HasBadTenant}
+use Rattle.tenant_words.specs.Tenants.{HasBadTenant}
 use Rattle.blobctl.specs.declared.options.Stop.{Stop}
 use Rattle.blobctl.specs.declared.options.Stop.TheVariants.{Help, Usage, BadTenant, NotUtf8, Memory}
 

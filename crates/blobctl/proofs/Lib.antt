@@ -9,4 +9,3 @@ pub mod Replies
 pub mod ScriptRuns
 pub mod SomeCommand
 pub mod SomeRun
-pub mod TenantLists

@@ -13,7 +13,7 @@ use Rattle.clap.specs.declared.error.kind.ErrorKind.TheVariants.{DisplayHelp}
 use Rattle.finite_maps.specs.Texts.{Text}
 use Rattle.store_book.specs.Openings.{IsSized, tenants_shown}
 use Rattle.blobctl.specs.Options.{CanWork}
-use Rattle.blobctl.specs.Tenants.{HasBadTenant, SpellTenants}
+use Rattle.tenant_words.specs.Tenants.{HasBadTenant, SpellTenants}
 use Rattle.blobctl.specs.declared.options.Options.{Options}
 use Rattle.blobctl.specs.declared.options.Stop.{Stop}
 use Rattle.blobctl.specs.declared.options.Stop.TheVariants.{Help, Usage, BadTenant, NotUtf8, Memory}

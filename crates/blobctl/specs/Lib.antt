@@ -9,6 +9,5 @@ pub mod Records
 pub mod Script
 pub mod ScriptRuns
 pub mod Stops
-pub mod Tenants
 pub mod Texts
 pub mod Watching

@@ -3,6 +3,8 @@ use Rattle.std.specs.Prelude.{⊤, ◌≡◌, ◌≢◌, ℕ, codes, string_byte
 use Rattle.clap.specs.declared.error.kind.ErrorKind.{ErrorKind}
 use Rattle.clap.specs.declared.error.kind.ErrorKind.TheVariants.{DisplayHelp, OutOfMemory}
 use Rattle.finite_maps.specs.Texts.{Text}
+use Rattle.tenant_words.specs.declared.fault.TenantFault.{TenantFault}
+use Rattle.tenant_words.specs.declared.fault.TenantFault.TheVariants as words
 use Rattle.blobctl.specs.declared.options.Stop.{Stop}
 use Rattle.blobctl.specs.declared.options.Stop.TheVariants.{Help, Usage, BadTenant, NotUtf8, Memory}
 
@@ -21,6 +23,11 @@ stop_status (Usage text) = 2
 stop_status BadTenant = 2
 stop_status NotUtf8 = 2
 stop_status Memory = 5
+
+-- how the program stops where the tenants' words are refused
+abbrev pub tenant_stop : TenantFault → Stop
+tenant_stop words.BadTenant = BadTenant
+tenant_stop words.Memory = Memory
 
 -- how the program stops where `clap` answers an error of this kind; out of memory may come in place of either text
 abbrev pub IsStopFor : ErrorKind → Stop → Type 0

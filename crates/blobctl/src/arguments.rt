@@ -6,12 +6,12 @@ ghost use Rattle.blobctl.specs.Options.{IsWithin};
 ghost use Rattle.blobctl.specs.Stops.{IsStopFor};
 
 use crate::options::{Options, Stop};
-use crate::tenants::read_tenants;
 use blob_store::MAX_WORKERS;
 use clap::error::ErrorKind;
 use clap::{Arg, ArgAction, ArgMatches, Command};
 use std::alloc::{AllocError, Global};
 use store_book::{Config, MAX_BLOB, MAX_SLOTS};
+use tenant_words::read_tenants;
 
 /// What `--help` says at its end.
 const AFTER_HELP: &str = "\

@@ -49,7 +49,6 @@ mod run;
 mod script;
 #[cfg(test)]
 mod script_tests;
-mod tenants;
 #[cfg(test)]
 mod test_scripts;
 #[cfg(test)]

@@ -6,6 +6,7 @@ ghost use Rattle.blobctl.specs.declared.options.Stop.TheVariants.{Memory};
 use blob_digest::Refusal;
 use std::alloc::{AllocError, AllocFailed};
 use store_book::Config;
+use tenant_words::TenantFault;
 
 /// What the program runs on.
 #[derive(Debug, Drop)]
@@ -44,6 +45,19 @@ impl<T: Drop> From<AllocFailed<T>> for Stop {
 
     fn from(_error: AllocFailed<T>) -> Stop {
         Stop::Memory
+    }
+}
+
+impl From<TenantFault> for Stop {
+    ghost use Rattle.blobctl.specs.Stops.{tenant_stop};
+
+    ghost from_gives = { λ fault e. e ≡ tenant_stop fault };
+
+    fn from(fault: TenantFault) -> Stop {
+        match fault {
+            TenantFault::BadTenant => Stop::BadTenant,
+            TenantFault::Memory => Stop::Memory,
+        }
     }
 }
 

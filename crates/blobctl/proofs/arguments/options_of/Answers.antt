@@ -6,7 +6,7 @@ use Rattle.clap.proofs.WalkLemmas.{raw_values-rows}
 use Rattle.finite_maps.specs.Texts.{Text}
 use Rattle.store_book.specs.Openings.{tenants_shown}
 use Rattle.blobctl.specs.Arguments.{tenant_words}
-use Rattle.blobctl.specs.Tenants.{HasBadTenant, SpellTenants}
+use Rattle.tenant_words.specs.Tenants.{HasBadTenant, SpellTenants}
 use Rattle.blobctl.proofs.CommandLines.{words_taken}
 use Rattle.blobctl.proofs.arguments.options_of.Goals as goal
 

@@ -1,11 +1,11 @@
--- The tenants that the arguments name.
+-- The tenants that words spell.
 use Rattle.std.specs.Prelude.{◌≡◌, ◌⊎◌, ◌<◌, ◌≤◌, ◌==◌, List, [], ◌∷◌, ◌++◌, Some, length, true}
 use Rattle.std.specs.List.{after_first, before_first, list_any, position_or_len}
 use Rattle.finite_maps.specs.Texts.{Text, same_text}
 use Rattle.blob_digest.specs.Names.{IsComponent}
 use Rattle.blob_digest.specs.Ranges.{number_of}
 use Rattle.blob_digest.specs.Tenants.{Tenant}
-use Rattle.store_book.specs.Openings.{max_quota, max_tenants}
+use Rattle.link_table.specs.Tenancy.{max_quota, max_tenants}
 
 -- what stands before the first `=` is a tenant's name, and what stands after it a quota in decimal digits
 pub record IsTenantWord (word : Text) (tenant : Tenant) : Type 0 where

@@ -2,9 +2,9 @@ use Rattle.std.proofs.Common.{◌≡◌, ◌<◌, ◌∙◌, ◌∷◌, [], arit
 use Rattle.std.proofs.lemmas.List.{map-append}
 use Rattle.std.specs.List.{list_any}
 use Rattle.finite_maps.specs.Texts.{same_text}
-use Rattle.store_book.specs.Openings.{tenant_shown}
-use Rattle.blobctl.proofs.TenantLists.{any_named}
-use Rattle.blobctl.proofs.tenants.add_tenant.Goals as goal
+use Rattle.link_table.specs.Tenancy.{tenant_shown}
+use Rattle.tenant_words.proofs.TenantLists.{any_named}
+use Rattle.tenant_words.proofs.tenants.add_tenant.Goals as goal
 
 pub returns-then-has_name-clause-refused : goal.returns-then-has_name-clause-refused
 returns-then-has_name-clause-refused c =

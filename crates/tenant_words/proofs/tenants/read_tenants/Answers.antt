@@ -5,9 +5,9 @@ use Rattle.std.proofs.lemmas.Result.{err_from_is_err_and}
 use Rattle.finite_maps.specs.Texts.{Text}
 use Rattle.blob_digest.specs.Tenants.{Tenant}
 use Rattle.blob_digest.specs.Names.{IsComponent}
-use Rattle.store_book.specs.Openings.{tenant_shown, tenants_shown, max_quota}
-use Rattle.blobctl.proofs.TenantLists.{all_more, bad_word, once_more, one_spelled, words_more, words_round}
-use Rattle.blobctl.proofs.tenants.read_tenants.Goals as goal
+use Rattle.link_table.specs.Tenancy.{tenant_shown, tenants_shown, max_quota}
+use Rattle.tenant_words.proofs.TenantLists.{all_more, bad_word, once_more, one_spelled, words_more, words_round}
+use Rattle.tenant_words.proofs.tenants.read_tenants.Goals as goal
 
 nothing : Bor Text
 nothing = record { ref_ptr = (0, 0); now = [] }

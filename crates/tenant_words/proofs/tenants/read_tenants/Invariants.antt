@@ -2,9 +2,9 @@ use Rattle.std.proofs.Common.{◌≡◌, ◌≤◌, count_by, length, map, take}
 use Rattle.std.specs.List.{All}
 use Rattle.finite_maps.specs.Texts.{Text, same_text}
 use Rattle.blob_digest.specs.Names.{IsComponent}
-use Rattle.store_book.specs.Openings.{tenants_shown, max_quota, max_tenants}
-use Rattle.blobctl.specs.Tenants.{SpellTenants}
-use Rattle.blobctl.proofs.tenants.read_tenants.Given as goal
+use Rattle.link_table.specs.Tenancy.{tenants_shown, max_quota, max_tenants}
+use Rattle.tenant_words.specs.Tenants.{SpellTenants}
+use Rattle.tenant_words.proofs.tenants.read_tenants.Given as goal
 
 -- the words so far spell the tenants so far, which a store can have
 abbrev pub invariant-loop-word : goal.invariant-loop-word

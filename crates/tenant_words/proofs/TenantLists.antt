@@ -10,10 +10,10 @@ use Rattle.std.specs.List.{All, list_any}
 use Rattle.finite_maps.specs.Texts.{Text, same_text}
 use Rattle.blob_digest.specs.Tenants.{Tenant}
 use Rattle.finite_maps.proofs.Texts.{text_is_same}
-use Rattle.store_book.specs.Openings.{tenants_shown}
-use Rattle.blobctl.specs.Tenants.{HasBadTenant, IsRefusedAfter, IsTenantWord, SpellTenants}
-use Rattle.blobctl.specs.declared.options.Stop.{Stop}
-use Rattle.blobctl.specs.declared.options.Stop.TheVariants.{BadTenant, Memory}
+use Rattle.link_table.specs.Tenancy.{tenants_shown}
+use Rattle.tenant_words.specs.Tenants.{HasBadTenant, IsRefusedAfter, IsTenantWord, SpellTenants}
+use Rattle.tenant_words.specs.declared.fault.TenantFault.{TenantFault}
+use Rattle.tenant_words.specs.declared.fault.TenantFault.TheVariants.{BadTenant, Memory}
 
 -- a name is among the tenants as it is among those that the program keeps
 pub any_named : (tenants : List (String Global × ℕ)) (name : Text) → list_any (λ t. same_text t.name name) (tenants_shown tenants) ≡ list_any (λ t. same_text (string_bytes t.0) name) tenants
@@ -66,9 +66,9 @@ words_round words i d within =
     ∙ map-append (λ (w : Bor Text). w.now) (take i words) (get_or words i d ∷ drop (i + 1) words)
 
 -- a word that names no tenant after those before it is a bad one
-pub bad_word : (words : List Text) (before after : List Text) (tenants : List Tenant) (word : Text) (stop : Stop) → words ≡ before ++ word ∷ after → SpellTenants before tenants
-    → (stop ≡ Memory) ⊎ ((stop ≡ BadTenant) × IsRefusedAfter tenants word) → (stop ≡ Memory) ⊎ ((stop ≡ BadTenant) × HasBadTenant words)
-bad_word words before after tenants word stop whole spelled why =
+pub bad_word : (words : List Text) (before after : List Text) (tenants : List Tenant) (word : Text) (fault : TenantFault) → words ≡ before ++ word ∷ after → SpellTenants before tenants
+    → (fault ≡ Memory) ⊎ ((fault ≡ BadTenant) × IsRefusedAfter tenants word) → (fault ≡ Memory) ⊎ ((fault ≡ BadTenant) × HasBadTenant words)
+bad_word words before after tenants word fault whole spelled why =
     elim why [
       | inl e ↦ inl e
       | inr b ↦ inr (b.0, inr (before, tenants, word, after, whole, spelled, b.1))
