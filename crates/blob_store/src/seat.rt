@@ -5,9 +5,9 @@ use crate::lease::Lease;
 use crate::store::Store;
 use blob_digest::{Digest, Refusal, RepoName};
 use locked_book::{Desk, Naming};
-use row_player::{Backend, Command, Piece, Reply, mount_reply};
+use row_player::{Backend, Command, Piece, Queries, Reply, mount_reply};
 use std::sync::Wait;
-use store_book::Swept;
+use store_book::{Swept, Usage};
 
 /// A store with a worker's desk, on which rows are played. Each request is the store's call of its name;
 /// contracts see what the desk gets by it, and the steps that it is.
@@ -131,5 +131,29 @@ impl<'s, W: Wait, S: Naming> Backend for Seat<'s, W, S> {
 
     fn give_back(lease: Lease<'s, S>) {
         lease.give_back()
+    }
+}
+
+impl<'s, W: Wait, S: Naming> Queries for Seat<'s, W, S> {
+    ghost use Rattle.std.specs.Prelude.{◌≡◌};
+    ghost use Rattle.locked_book.specs.Found.{IsBookOf};
+    ghost use Rattle.store_book.specs.BookState.{BookState};
+
+    ghost finds = { λ _ catalog. (book : BookState) × IsBookOf S.names book × (catalog ≡ book.catalog) };
+
+    fn stat(&self, repo: &RepoName, digest: &Digest) -> Result<u64, Refusal> {
+        self.store.stat(self.rt, repo, digest)
+    }
+
+    fn stat_manifest(&self, repo: &RepoName, digest: &Digest) -> Result<u64, Refusal> {
+        self.store.stat_manifest(self.rt, repo, digest)
+    }
+
+    fn usage(&self, repo: &RepoName) -> Result<Usage, Refusal> {
+        self.store.usage(self.rt, repo)
+    }
+
+    fn free_slots(&self) -> u32 {
+        self.store.free_slots(self.rt)
     }
 }

@@ -9,22 +9,23 @@ use Rattle.blob_frames.specs.Replies.{Reply, reply_bytes}
 use Rattle.row_player.specs.Answers.{Answer, Manifest, Refused}
 use Rattle.row_player.specs.Answers as answers
 use Rattle.row_player.specs.Commands.{Request}
+use Rattle.store_model.specs.Catalog.{Catalog}
 use Rattle.line_player.specs.Lendings.{Lending}
-use Rattle.line_player.specs.Outcomes.{Outcome, Answered, Lent, NoCommand, Tells, TellsAnswer, answer_reply}
+use Rattle.line_player.specs.Outcomes.{Outcome, Answered, Lent, Told, NoCommand, Tells, TellsAnswer, answer_reply}
 use Rattle.line_player.specs.Served.{Ends, Frame, FrameStep, IsServed, Serves, frames_bytes, replies_bytes}
 use Rattle.line_player.specs.declared.ending.Ending.{Ending}
 use Rattle.line_player.specs.declared.ending.Ending.TheVariants.{Closed, CutOff, ReadFailed, Malformed, WriteFailed, Spent}
 
-module _ {S T : Type 0} (acts : S → Request → Answer → S → Type 0) (does : T → Lending → T → Type 0) where
+module _ {S T : Type 0} (acts : S → Request → Answer → S → Type 0) (finds : S → Catalog → Type 0) (does : T → Lending → T → Type 0) where
   -- some requests, and then others
-  pub both : (old mid new : S × T) (fs gs : List Frame) (rs ss : List Reply) → Serves acts does old fs rs mid → Serves acts does mid gs ss new → Serves acts does old (fs ++ gs) (rs ++ ss) new
-  both old mid new [] gs [] ss p q = subst (λ s. Serves acts does s gs ss new) p q
+  pub both : (old mid new : S × T) (fs gs : List Frame) (rs ss : List Reply) → Serves acts finds does old fs rs mid → Serves acts finds does mid gs ss new → Serves acts finds does old (fs ++ gs) (rs ++ ss) new
+  both old mid new [] gs [] ss p q = subst (λ s. Serves acts finds does s gs ss new) p q
   both old mid new [] gs (r ∷ rs) ss p q = absurd p
   both old mid new (f ∷ fs) gs [] ss p q = absurd p
   both old mid new (f ∷ fs) gs (r ∷ rs) ss p q = (p.0, p.1, both p.0 mid new fs gs rs ss p.2 q)
 
   -- one request
-  pub one : (old new : S × T) (frame : Frame) (reply : Reply) → FrameStep acts does old frame reply new → Serves acts does old (frame ∷ []) (reply ∷ []) new
+  pub one : (old new : S × T) (frame : Frame) (reply : Reply) → FrameStep acts finds does old frame reply new → Serves acts finds does old (frame ∷ []) (reply ∷ []) new
   one old new frame reply step = (new, step, refl)
 
 -- what a line ends by, it ends by after more requests too
@@ -59,6 +60,7 @@ tells_answer answers.NameTaken = refl
 pub some_reply : (outcome : Outcome) → (reply : Reply) × Tells outcome reply
 some_reply (Answered answer) = (answer_reply answer, tells_answer answer)
 some_reply (Lent size number) = (_, refl)
+some_reply (Told first second) = (_, refl)
 some_reply NoCommand = (_, refl)
 
 -- the bytes of one request, and of one reply
@@ -75,9 +77,9 @@ frames_more fs gs = flat_map-append (λ (f : Frame). request_bytes f.head f.payl
 replies_more : (rs ss : List Reply) → replies_bytes (rs ++ ss) ≡ replies_bytes rs ++ replies_bytes ss
 replies_more rs ss = flat_map-append reply_bytes rs ss
 
-module _ {S T : Type 0} (acts : S → Request → Answer → S → Type 0) (does : T → Lending → T → Type 0) where
+module _ {S T : Type 0} (acts : S → Request → Answer → S → Type 0) (finds : S → Catalog → Type 0) (does : T → Lending → T → Type 0) where
   -- nothing more is read, and nothing is played
-  pub at_once : (old : S × T) (line held : Option (List ℕ)) (ending : Ending) → Ends ending 0 line → IsServed acts does old old line held held ending
+  pub at_once : (old : S × T) (line held : Option (List ℕ)) (ending : Ending) → Ends ending 0 line → IsServed acts finds does old old line held held ending
   at_once old line held ending h = record {
     frames = [];
     replies = [];
@@ -89,11 +91,11 @@ module _ {S T : Type 0} (acts : S → Request → Answer → S → Type 0) (does
   }
 
   -- a request is played, and its reply isn't written
-  pub unwritten : (old new : S × T) (line rest held holds : Option (List ℕ)) (frame : Frame) (reply : Reply) → FrameStep acts does old frame reply new → Consumes line rest (request_bytes frame.head frame.payload) → IsServed acts does old new line held holds WriteFailed
+  pub unwritten : (old new : S × T) (line rest held holds : Option (List ℕ)) (frame : Frame) (reply : Reply) → FrameStep acts finds does old frame reply new → Consumes line rest (request_bytes frame.head frame.payload) → IsServed acts finds does old new line held holds WriteFailed
   unwritten old new line rest held holds frame reply step read = record {
     frames = frame ∷ [];
     replies = reply ∷ [];
-    served = one acts does old new frame reply step;
+    served = one acts finds does old new frame reply step;
     rest = rest;
     read = subst (Consumes line rest) (sym (frame_alone frame)) read;
     written = λ h. absurd (h refl);
@@ -102,11 +104,11 @@ module _ {S T : Type 0} (acts : S → Request → Answer → S → Type 0) (does
 
   -- requests are served, and then what follows them
   pub then_served : (old mid new : S × T) (line behind held middle holds : Option (List ℕ)) (frames : List Frame) (replies : List Reply) (ending : Ending)
-      → Serves acts does old frames replies mid → Consumes line behind (frames_bytes frames) → Appends held middle (replies_bytes replies) → IsServed acts does mid new behind middle holds ending → IsServed acts does old new line held holds ending
+      → Serves acts finds does old frames replies mid → Consumes line behind (frames_bytes frames) → Appends held middle (replies_bytes replies) → IsServed acts finds does mid new behind middle holds ending → IsServed acts finds does old new line held holds ending
   then_served old mid new line behind held middle holds frames replies ending served read written last = record {
     frames = frames ++ last.frames;
     replies = replies ++ last.replies;
-    served = both acts does old mid new frames last.frames replies last.replies served last.served;
+    served = both acts finds does old mid new frames last.frames replies last.replies served last.served;
     rest = last.rest;
     read = subst (Consumes line last.rest) (sym (frames_more frames last.frames)) (Consumes-trans line behind last.rest (frames_bytes frames) (frames_bytes last.frames) read last.read);
     written = λ h. subst (Appends held holds) (sym (replies_more replies last.replies)) (Appends-trans held middle holds (replies_bytes replies) (replies_bytes last.replies) written (last.written h));
@@ -115,11 +117,11 @@ module _ {S T : Type 0} (acts : S → Request → Answer → S → Type 0) (does
 
   -- requests are served, and then one more
   pub one_more : (old mid new : S × T) (line behind rest held middle holds : Option (List ℕ)) (frames : List Frame) (replies : List Reply) (frame : Frame) (reply : Reply)
-      → Serves acts does old frames replies mid → Consumes line behind (frames_bytes frames) → Appends held middle (replies_bytes replies)
-      → FrameStep acts does mid frame reply new → Consumes behind rest (request_bytes frame.head frame.payload) → Appends middle holds (reply_bytes reply)
-      → Serves acts does old (frames ++ frame ∷ []) (replies ++ reply ∷ []) new × Consumes line rest (frames_bytes (frames ++ frame ∷ [])) × Appends held holds (replies_bytes (replies ++ reply ∷ []))
+      → Serves acts finds does old frames replies mid → Consumes line behind (frames_bytes frames) → Appends held middle (replies_bytes replies)
+      → FrameStep acts finds does mid frame reply new → Consumes behind rest (request_bytes frame.head frame.payload) → Appends middle holds (reply_bytes reply)
+      → Serves acts finds does old (frames ++ frame ∷ []) (replies ++ reply ∷ []) new × Consumes line rest (frames_bytes (frames ++ frame ∷ [])) × Appends held holds (replies_bytes (replies ++ reply ∷ []))
   one_more old mid new line behind rest held middle holds frames replies frame reply served read written step more told = (
-    both acts does old mid new frames (frame ∷ []) replies (reply ∷ []) served (one acts does mid new frame reply step),
+    both acts finds does old mid new frames (frame ∷ []) replies (reply ∷ []) served (one acts finds does mid new frame reply step),
     subst (Consumes line rest) (sym (frames_more frames (frame ∷ []) ∙ ap (λ l. frames_bytes frames ++ l) (frame_alone frame))) (Consumes-trans line behind rest (frames_bytes frames) (request_bytes frame.head frame.payload) read more),
     subst (Appends held holds) (sym (replies_more replies (reply ∷ []) ∙ ap (λ l. replies_bytes replies ++ l) (reply_alone reply))) (Appends-trans held middle holds (replies_bytes replies) (reply_bytes reply) written told),
   )

@@ -7,15 +7,17 @@ use Rattle.row_player.specs.Answers.{Answer, Session, Received, Stored, Manifest
 use Rattle.line_player.specs.declared.outcome.Outcome.{Outcome as Code}
 use Rattle.line_player.specs.declared.outcome.Outcome.TheVariants as code
 
--- what a request comes to: an answer, a lease of a blob of this size under this number, or that its byte names no command
+-- what a request comes to: an answer, a lease of a blob of this size under this number, two numbers that are told, or that its byte asks for nothing
 pub data Outcome : Type 0 where
   Answered : Answer → Outcome
   Lent : ℕ → ℕ → Outcome
+  Told : ℕ → ℕ → Outcome
   NoCommand : Outcome
 
 abbrev pub outcome_of : Code → Outcome
 outcome_of (code.Answered reply) = Answered (answer_of reply)
 outcome_of (code.Lent size number) = Lent size number
+outcome_of (code.Told first second) = Told first second
 outcome_of code.NoCommand = NoCommand
 
 -- it went well, and tells these bytes
@@ -52,4 +54,5 @@ TellsAnswer answer reply = reply ≡ answer_reply answer
 abbrev pub Tells : Outcome → Reply → Type 0
 Tells (Answered answer) reply = TellsAnswer answer reply
 Tells (Lent size number) reply = reply ≡ numbers_reply 0 size number
+Tells (Told first second) reply = reply ≡ numbers_reply 0 first second
 Tells NoCommand reply = reply ≡ numbers_reply 255 0 0

@@ -9,6 +9,7 @@ use Rattle.blob_frames.specs.declared.request.Head.{Head}
 use Rattle.finite_maps.specs.Texts.{Text}
 use Rattle.row_player.specs.Answers.{Answer}
 use Rattle.row_player.specs.Commands.{Request}
+use Rattle.store_model.specs.Catalog.{Catalog}
 use Rattle.line_player.specs.Lendings.{Lending}
 use Rattle.line_player.specs.Outcomes.{Outcome, Tells}
 use Rattle.line_player.specs.Steps.{RequestStep}
@@ -28,14 +29,14 @@ abbrev pub replies_bytes : List Reply → Text
 replies_bytes replies = flat_map reply_bytes replies
 
 -- a request was played, and the reply tells what it came to
-abbrev pub FrameStep : {S T : Type 0} → (S → Request → Answer → S → Type 0) → (T → Lending → T → Type 0) → S × T → Frame → Reply → S × T → Type 0
-FrameStep acts does old frame reply new = (outcome : Outcome) × RequestStep acts does old frame.head frame.payload outcome new × Tells outcome reply
+abbrev pub FrameStep : {S T : Type 0} → (S → Request → Answer → S → Type 0) → (S → Catalog → Type 0) → (T → Lending → T → Type 0) → S × T → Frame → Reply → S × T → Type 0
+FrameStep acts finds does old frame reply new = (outcome : Outcome) × RequestStep acts finds does old frame.head frame.payload outcome new × Tells outcome reply
 
 -- the requests were played in their order, each once and with one reply
-abbrev pub Serves : {S T : Type 0} → (S → Request → Answer → S → Type 0) → (T → Lending → T → Type 0) → S × T → List Frame → List Reply → S × T → Type 0
-Serves acts does old [] [] new = new ≡ old
-Serves {S} {T} acts does old (frame ∷ frames) (reply ∷ replies) new = (mid : S × T) × FrameStep acts does old frame reply mid × Serves acts does mid frames replies new
-Serves acts does old frames replies new = ⊥
+abbrev pub Serves : {S T : Type 0} → (S → Request → Answer → S → Type 0) → (S → Catalog → Type 0) → (T → Lending → T → Type 0) → S × T → List Frame → List Reply → S × T → Type 0
+Serves acts finds does old [] [] new = new ≡ old
+Serves {S} {T} acts finds does old (frame ∷ frames) (reply ∷ replies) new = (mid : S × T) × FrameStep acts finds does old frame reply mid × Serves acts finds does mid frames replies new
+Serves acts finds does old frames replies new = ⊥
 
 -- why a line ends after so many requests, with this left to read
 abbrev pub Ends : Ending → ℕ → Option (List ℕ) → Type 0
@@ -48,10 +49,10 @@ Ends Spent count rest = 2 ^ 64 - 1 ≤ count
 
 -- Behind the greetings: the requests that the line begins with were played in their order, and their replies written, all of them unless a
 -- write failed; and why the line ends.
-pub record IsServed {S T : Type 0} (acts : S → Request → Answer → S → Type 0) (does : T → Lending → T → Type 0) (old new : S × T) (line held holds : Option (List ℕ)) (ending : Ending) : Type 0 where
+pub record IsServed {S T : Type 0} (acts : S → Request → Answer → S → Type 0) (finds : S → Catalog → Type 0) (does : T → Lending → T → Type 0) (old new : S × T) (line held holds : Option (List ℕ)) (ending : Ending) : Type 0 where
   pub frames : List Frame
   pub replies : List Reply
-  pub served : Serves acts does old frames replies new
+  pub served : Serves acts finds does old frames replies new
   pub rest : Option (List ℕ)
   pub read : Consumes line rest (frames_bytes frames)
   pub written : ending ≢ WriteFailed → Appends held holds (replies_bytes replies)
@@ -67,7 +68,7 @@ EndsUngreeted WriteFailed line = (rest : Option (List ℕ)) × Consumes line res
 EndsUngreeted Spent line = ⊥
 
 -- The greetings are exchanged, and then requests served; or the line ends before, with nothing played.
-abbrev pub IsLine : {S T : Type 0} → (S → Request → Answer → S → Type 0) → (T → Lending → T → Type 0) → S × T → S × T → (line held holds : Option (List ℕ)) → Ending → Type 0
-IsLine acts does old new line held holds ending =
+abbrev pub IsLine : {S T : Type 0} → (S → Request → Answer → S → Type 0) → (S → Catalog → Type 0) → (T → Lending → T → Type 0) → S × T → S × T → (line held holds : Option (List ℕ)) → Ending → Type 0
+IsLine acts finds does old new line held holds ending =
     ((new ≡ old) × EndsUngreeted ending line)
-    ⊎ ((rest mid : Option (List ℕ)) × Consumes line rest greeting × Appends held mid greeting × IsServed acts does old new rest mid holds ending)
+    ⊎ ((rest mid : Option (List ℕ)) × Consumes line rest greeting × Appends held mid greeting × IsServed acts finds does old new rest mid holds ending)

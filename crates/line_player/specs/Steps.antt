@@ -13,9 +13,11 @@ use Rattle.row_player.specs.Plays.{StepOf}
 use Rattle.row_player.specs.declared.reply.Reply.{Reply}
 use Rattle.row_player.specs.declared.row.Verb.{Verb}
 use Rattle.row_player.specs.declared.row.Verb.TheVariants as verb
+use Rattle.store_model.specs.Catalog.{Catalog}
 use Rattle.store_model.specs.declared.swept.Swept.{Swept as SweptCounts}
 use Rattle.line_player.specs.Lendings.{Lending, Kept, NotKept, Read, NotRead, GivenBack as GaveBack, NotGivenBack, IsPieceOf}
 use Rattle.line_player.specs.Outcomes.{Outcome, Answered, Lent, NoCommand}
+use Rattle.line_player.specs.Queries.{NoVerbStep, query_of}
 use Rattle.line_player.specs.Requests.{ends_of, range_of, request_command, verb_of}
 
 -- ---- commands that are answered with a reply
@@ -38,7 +40,7 @@ Lends acts does command old (Lent size number) new = (lent : LentView) × (size 
 Lends acts does command old (Answered answer) new =
     ((refusal : Refusal) × (answer ≡ Refused refusal) × acts old.0 (Calls command) (Refused refusal) new.0 × (new.1 ≡ old.1))
     ⊎ ((lent : LentView) × (answer ≡ Refused Memory) × acts old.0 (Calls command) (Bytes lent.bytes) new.0 × does old.1 (NotKept lent) new.1)
-Lends acts does command old NoCommand new = ⊥
+Lends acts does command old outcome new = ⊥
 
 abbrev pub LeaseStep : {S T : Type 0} → (S → Request → Answer → S → Type 0) → (T → Lending → T → Type 0) → Result (Option Command) Refusal → S × T → Outcome → S × T → Type 0
 LeaseStep acts does (Ok (Some command)) old outcome new = Lends acts does command old outcome new
@@ -66,16 +68,16 @@ GiveBackStep does number old outcome new =
 abbrev pub SweepStep : {S : Type 0} → (S → Request → Answer → S → Type 0) → S → Outcome → S → Type 0
 SweepStep acts old outcome new = (swept : SweptCounts) × (outcome ≡ Answered (SweptAnswer swept)) × acts old Sweeps (SweptAnswer swept) new
 
--- what a request does, by what its byte asks for
-abbrev pub VerbStep : {S T : Type 0} → (S → Request → Answer → S → Type 0) → (T → Lending → T → Type 0) → Option Verb → S × T → Head → Text → Outcome → S × T → Type 0
-VerbStep acts does None old h payload outcome new = (outcome ≡ NoCommand) × (new ≡ old)
-VerbStep acts does (Some verb.Lease) old h payload outcome new = LeaseStep acts does (request_command verb.Lease h payload) old outcome new
-VerbStep acts does (Some verb.Read) old h payload outcome new = ReadStep does h.number (digest_in (digest_of h payload)) (range_of h) old.1 outcome new.1 × (new.0 ≡ old.0)
-VerbStep acts does (Some verb.GiveBack) old h payload outcome new = GiveBackStep does h.number old.1 outcome new.1 × (new.0 ≡ old.0)
-VerbStep acts does (Some verb.Sweep) old h payload outcome new = SweepStep acts old.0 outcome new.0 × (new.1 ≡ old.1)
-VerbStep acts does (Some verb) old h payload outcome new = CommandStep acts (request_command verb h payload) old outcome new
+-- what a request does, by what its byte asks for; a query changes nothing
+abbrev pub VerbStep : {S T : Type 0} → (S → Request → Answer → S → Type 0) → (S → Catalog → Type 0) → (T → Lending → T → Type 0) → Option Verb → S × T → Head → Text → Outcome → S × T → Type 0
+VerbStep acts finds does None old h payload outcome new = NoVerbStep finds (query_of h.command) old.0 h payload outcome × (new ≡ old)
+VerbStep acts finds does (Some verb.Lease) old h payload outcome new = LeaseStep acts does (request_command verb.Lease h payload) old outcome new
+VerbStep acts finds does (Some verb.Read) old h payload outcome new = ReadStep does h.number (digest_in (digest_of h payload)) (range_of h) old.1 outcome new.1 × (new.0 ≡ old.0)
+VerbStep acts finds does (Some verb.GiveBack) old h payload outcome new = GiveBackStep does h.number old.1 outcome new.1 × (new.0 ≡ old.0)
+VerbStep acts finds does (Some verb.Sweep) old h payload outcome new = SweepStep acts old.0 outcome new.0 × (new.1 ≡ old.1)
+VerbStep acts finds does (Some verb) old h payload outcome new = CommandStep acts (request_command verb h payload) old outcome new
 
 -- a request is played, or memory runs out and nothing is changed
-abbrev pub RequestStep : {S T : Type 0} → (S → Request → Answer → S → Type 0) → (T → Lending → T → Type 0) → S × T → Head → Text → Outcome → S × T → Type 0
-RequestStep acts does old h payload outcome new =
-    ((outcome ≡ Answered (Refused Memory)) × (new ≡ old)) ⊎ VerbStep acts does (verb_of h.command) old h payload outcome new
+abbrev pub RequestStep : {S T : Type 0} → (S → Request → Answer → S → Type 0) → (S → Catalog → Type 0) → (T → Lending → T → Type 0) → S × T → Head → Text → Outcome → S × T → Type 0
+RequestStep acts finds does old h payload outcome new =
+    ((outcome ≡ Answered (Refused Memory)) × (new ≡ old)) ⊎ VerbStep acts finds does (verb_of h.command) old h payload outcome new

@@ -6,8 +6,9 @@
 //!
 //! It promises, of whatever these two may do: requests are played in their order, each once, and each has one reply,
 //! written in that order; a request whose field spells nothing is refused for the first such field and changes
-//! nothing; what is read of a lease is a piece of bytes that have the digest which the request names; and why a line
-//! ends is told, where nothing of it was played that was not read whole.
+//! nothing; what is read of a lease is a piece of bytes that have the digest which the request names; what a query is
+//! told is so of a catalog that may be found, and changes nothing; and why a line ends is told, where nothing of it was
+//! played that was not read whole.
 #![tactic(auto)]
 
 mod command;
@@ -15,6 +16,7 @@ mod ending;
 mod lending;
 mod line;
 mod outcome;
+mod query;
 mod step;
 
 pub use command::{request_command, verb_of};
@@ -22,6 +24,7 @@ pub use ending::Ending;
 pub use lending::Lending;
 pub use line::serve;
 pub use outcome::{Outcome, write_outcome};
+pub use query::{Query, query_of};
 pub use step::play_request;
 
 #[cfg(test)]

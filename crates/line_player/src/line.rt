@@ -13,7 +13,7 @@ use crate::outcome::{Outcome, write_outcome};
 use crate::step::play_request;
 use blob_digest::Refusal;
 use blob_frames::{FrameFault, Incoming, Request, read_greeting, read_request, write_greeting};
-use row_player::{Backend, Reply};
+use row_player::{Backend, Queries, Reply};
 use std::alloc::Global;
 use std::io::{self, Read, Write};
 
@@ -52,14 +52,14 @@ fn send<O: Write>(alloc: Global, output: &mut O, outcome: &Outcome) -> io::Resul
 }
 
 /// Reads a request, and plays it. Refused is why the line has none.
-fn play_next<B: Backend, L: Lending<B>, I: Read>(
+fn play_next<B: Backend + Queries, L: Lending<B>, I: Read>(
     alloc: Global,
     backend: &mut B,
     leases: &mut L,
     input: &mut I,
     buffer: &mut Vec<u8>,
 ) -> Result<Outcome, Ending>
-    ensures played { IfOk result (λ o. (frame : Frame) × RequestStep B.acts L.does (backend.old, leases.old) frame.head frame.payload (outcome_of o) (backend.new, leases.new) × Consumes (I.remaining input.old) (I.remaining input.new) (request_bytes frame.head frame.payload)) }
+    ensures played { IfOk result (λ o. (frame : Frame) × RequestStep B.acts B.finds L.does (backend.old, leases.old) frame.head frame.payload (outcome_of o) (backend.new, leases.new) × Consumes (I.remaining input.old) (I.remaining input.new) (request_bytes frame.head frame.payload)) }
     ensures same { OnErr result ((backend.new ≡ backend.old) × (leases.new ≡ leases.old)) }
     ensures ended { IfErr result (λ e. Ends e 0 (I.remaining input.old)) }
 {
@@ -77,7 +77,7 @@ fn play_next<B: Backend, L: Lending<B>, I: Read>(
 }
 
 /// Reads a request, plays it, and sends its reply. None where the line goes on.
-fn serve_next<B: Backend, L: Lending<B>, I: Read, O: Write>(
+fn serve_next<B: Backend + Queries, L: Lending<B>, I: Read, O: Write>(
     alloc: Global,
     backend: &mut B,
     leases: &mut L,
@@ -85,8 +85,8 @@ fn serve_next<B: Backend, L: Lending<B>, I: Read, O: Write>(
     output: &mut O,
     buffer: &mut Vec<u8>,
 ) -> Option<Ending>
-    ensures served { IsNone result → (frame : Frame) × (reply : ReplyFrame) × FrameStep B.acts L.does (backend.old, leases.old) frame reply (backend.new, leases.new) × Consumes (I.remaining input.old) (I.remaining input.new) (request_bytes frame.head frame.payload) × Appends (O.contents output.old) (O.contents output.new) (reply_bytes reply) }
-    ensures ended { IfSome result (λ e. IsServed B.acts L.does (backend.old, leases.old) (backend.new, leases.new) (I.remaining input.old) (O.contents output.old) (O.contents output.new) e) }
+    ensures served { IsNone result → (frame : Frame) × (reply : ReplyFrame) × FrameStep B.acts B.finds L.does (backend.old, leases.old) frame reply (backend.new, leases.new) × Consumes (I.remaining input.old) (I.remaining input.new) (request_bytes frame.head frame.payload) × Appends (O.contents output.old) (O.contents output.new) (reply_bytes reply) }
+    ensures ended { IfSome result (λ e. IsServed B.acts B.finds L.does (backend.old, leases.old) (backend.new, leases.new) (I.remaining input.old) (O.contents output.old) (O.contents output.new) e) }
 {
     let outcome = match play_next(alloc, backend, leases, input, buffer) {
         Ok(outcome) => outcome,
@@ -99,14 +99,14 @@ fn serve_next<B: Backend, L: Lending<B>, I: Read, O: Write>(
 }
 
 /// Serves requests until the line ends.
-fn serve_requests<B: Backend, L: Lending<B>, I: Read, O: Write>(
+fn serve_requests<B: Backend + Queries, L: Lending<B>, I: Read, O: Write>(
     alloc: Global,
     backend: &mut B,
     leases: &mut L,
     input: &mut I,
     output: &mut O,
 ) -> Ending
-    ensures { IsServed B.acts L.does (backend.old, leases.old) (backend.new, leases.new) (I.remaining input.old) (O.contents output.old) (O.contents output.new) result }
+    ensures { IsServed B.acts B.finds L.does (backend.old, leases.old) (backend.new, leases.new) (I.remaining input.old) (O.contents output.old) (O.contents output.new) result }
 {
     let mut buffer = Vec::new(alloc);
     for _turn in 0..u64::MAX {
@@ -123,14 +123,14 @@ fn serve_requests<B: Backend, L: Lending<B>, I: Read, O: Write>(
 /// manifest that are replied go from where the store keeps them.
 ///
 /// Where memory runs out for a request, or for what it does, it is answered `Memory`, and the line goes on.
-pub fn serve<B: Backend, L: Lending<B>, I: Read, O: Write>(
+pub fn serve<B: Backend + Queries, L: Lending<B>, I: Read, O: Write>(
     alloc: Global,
     backend: &mut B,
     leases: &mut L,
     input: &mut I,
     output: &mut O,
 ) -> Ending
-    ensures { IsLine B.acts L.does (backend.old, leases.old) (backend.new, leases.new) (I.remaining input.old) (O.contents output.old) (O.contents output.new) result }
+    ensures { IsLine B.acts B.finds L.does (backend.old, leases.old) (backend.new, leases.new) (I.remaining input.old) (O.contents output.old) (O.contents output.new) result }
 {
     match greet(input, output) {
         Some(ending) => ending,

@@ -22,14 +22,21 @@ pub enum Outcome {
         /// The number of the lease.
         number: u32,
     },
-    /// The request's first byte names no command.
+    /// What a query is told.
+    Told {
+        /// A size in bytes, a number of slots, or a use in bytes.
+        first: u64,
+        /// The quota beside a use.
+        second: u64,
+    },
+    /// The request's first byte asks for nothing.
     NoCommand,
 }
 
 /// The status of a request that names a lease which isn't out.
 const NO_LEASE: u32 = 254;
 
-/// The status of a request whose first byte names no command.
+/// The status of a request whose first byte asks for nothing.
 const NO_COMMAND: u32 = 255;
 
 /// Writes a status and two numbers.
@@ -80,6 +87,7 @@ pub fn write_outcome<W: Write>(alloc: Global, output: &mut W, outcome: &Outcome)
     match outcome {
         Outcome::Answered(reply) => write_answer(alloc, output, reply),
         Outcome::Lent { size, number } => write_numbers(output, 0, *size, u64::from(*number)),
+        Outcome::Told { first, second } => write_numbers(output, 0, *first, *second),
         Outcome::NoCommand => write_numbers(output, NO_COMMAND, 0, 0),
     }
 }

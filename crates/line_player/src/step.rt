@@ -3,6 +3,7 @@ ghost use Rattle.std.specs.Prelude.{◌≡◌, ◌⊎◌, true, Some, MatchResul
 ghost use Rattle.blob_digest.specs.declared.refusal.Refusal.TheVariants.{Memory};
 ghost use Rattle.blob_frames.specs.Frames.{digest_of};
 ghost use Rattle.line_player.specs.Outcomes.{Answered, outcome_of};
+ghost use Rattle.line_player.specs.Queries.{NoVerbStep, query_of};
 ghost use Rattle.line_player.specs.Requests.{range_of, request_command};
 ghost use Rattle.line_player.specs.Steps.{AnswersCommand, GiveBackStep, LeaseStep, ReadStep, RequestStep, VerbStep};
 ghost use Rattle.row_player.specs.Answers.{Refused, answer_of};
@@ -11,9 +12,10 @@ ghost use Rattle.row_player.specs.Commands.{digest_in, is_command};
 use crate::command::{blob_named, ends_of, range_of, request_command, verb_of};
 use crate::lending::Lending;
 use crate::outcome::Outcome;
+use crate::query::{ask, query_of};
 use blob_digest::Refusal;
 use blob_frames::Request;
-use row_player::{Backend, Reply, Verb, digest_in};
+use row_player::{Backend, Queries, Reply, Verb, digest_in};
 use std::alloc::Global;
 
 /// Plays a request for a command that is answered with a reply.
@@ -84,18 +86,31 @@ fn answered(played: Result<Reply, Refusal>) -> Outcome
     }
 }
 
+/// Plays a request that asks for no command: it is told what it asks for, if anything.
+fn play_query<B: Queries>(alloc: Global, store: &B, request: &Request<'_>) -> Outcome
+    ensures { (outcome_of result ≡ Answered (Refused Memory)) ⊎ NoVerbStep B.finds (query_of request.now.head.command) store.now request.now.head request.now.payload.now (outcome_of result) }
+{
+    let Some(query) = query_of(request.head.command) else {
+        return Outcome::NoCommand;
+    };
+    match ask(alloc, store, query, request) {
+        Ok((first, second)) => Outcome::Told { first, second },
+        Err(refusal) => Outcome::Answered(Reply::Refused(refusal)),
+    }
+}
+
 /// Plays a request, and answers what it came to. Fields are refused in the order repository, source, digest, range,
 /// and then the call itself may refuse. Running out of memory before the call changes nothing.
-pub fn play_request<B: Backend, L: Lending<B>>(
+pub fn play_request<B: Backend + Queries, L: Lending<B>>(
     alloc: Global,
     backend: &mut B,
     leases: &mut L,
     request: &Request<'_>,
 ) -> Outcome
-    ensures { RequestStep B.acts L.does (backend.old, leases.old) request.now.head request.now.payload.now (outcome_of result) (backend.new, leases.new) }
+    ensures { RequestStep B.acts B.finds L.does (backend.old, leases.old) request.now.head request.now.payload.now (outcome_of result) (backend.new, leases.new) }
 {
     let Some(verb) = verb_of(request.head.command) else {
-        return Outcome::NoCommand;
+        return play_query(alloc, backend, request);
     };
     match verb {
         Verb::Lease => match play_lease(alloc, backend, leases, request) {

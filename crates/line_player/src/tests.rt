@@ -1,11 +1,11 @@
 use crate::{Ending, Lending, serve};
 use blob_digest::{Digest, Refusal, RepoName};
-use row_player::{Backend, Command, Piece, Reply};
+use row_player::{Backend, Command, Piece, Queries, Reply};
 use std::alloc::AllocGlobal;
 use std::io::{self, ErrorKind, Read, Write};
 use std::process::Abort;
 use std::test::Fail;
-use store_model::Swept;
+use store_model::{Swept, Usage};
 
 /// A greeting, as `docs/FRAMES.md` has it.
 const GREETING: &[u8] = b"blobd\x00\x01\x00";
@@ -67,6 +67,29 @@ impl Backend for Chunks {
     }
 
     fn give_back(_lease: ()) {}
+}
+
+impl Queries for Chunks {
+    ghost use Rattle.std.specs.Prelude.{◌≡◌, []};
+    ghost use Rattle.store_model.specs.Catalog.{opening};
+
+    ghost finds = { λ _ catalog. catalog ≡ opening [] 5 0 };
+
+    fn stat(&self, _repo: &RepoName, _digest: &Digest) -> Result<u64, Refusal> {
+        Err(Refusal::NameUnknown)
+    }
+
+    fn stat_manifest(&self, _repo: &RepoName, _digest: &Digest) -> Result<u64, Refusal> {
+        Err(Refusal::NameUnknown)
+    }
+
+    fn usage(&self, _repo: &RepoName) -> Result<Usage, Refusal> {
+        Err(Refusal::NameUnknown)
+    }
+
+    fn free_slots(&self) -> u32 {
+        5
+    }
 }
 
 /// No leases.
@@ -232,8 +255,10 @@ fn status_of(rt: &(impl Abort + AllocGlobal), byte: u8) -> Option<u8> {
 
 #[test]
 fn each_byte_is_replied(rt: HostRuntime) -> Result<(), Fail> {
-    let statuses = [255, 1, 1, 1, 1, 1, 1, 1, 1, 1, 1, 1, 2, 254, 0, 255, 255];
-    for (byte, status) in (0u8..17).zip(statuses) {
+    let statuses = [
+        255, 1, 1, 1, 1, 1, 1, 1, 1, 1, 1, 1, 2, 254, 0, 255, 255, 1, 1, 0, 1, 255,
+    ];
+    for (byte, status) in (0u8..22).zip(statuses) {
         assert_eq!(rt; status_of(&rt, byte), Some(status), "{byte}");
     }
     Ok(())

@@ -8,7 +8,7 @@ use Rattle.line_player.proofs.line.serve_requests.Given as goal
 abbrev pub invariant-loop-turn : goal.invariant-loop-turn
 invariant-loop-turn g l =
     (frames : List Frame) × (replies : List Reply)
-    × Serves g.B.Backend.acts g.L.Lending.does (l.fn.backend, l.fn.leases) frames replies (l.backend, l.leases)
+    × Serves g.B.Backend.acts g.B.Queries.finds g.L.Lending.does (l.fn.backend, l.fn.leases) frames replies (l.backend, l.leases)
     × Consumes (g.I.Read.remaining l.fn.input) (g.I.Read.remaining l.input) (frames_bytes frames)
     × Appends (g.O.Write.contents l.fn.output) (g.O.Write.contents l.output) (replies_bytes replies)
     × (length frames ≡ l._turn)
