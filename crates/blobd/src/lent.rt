@@ -49,7 +49,7 @@ impl<'s, S: Naming> Lent<'s, S> {
     /// Keeps a lease, and answers its number, which no other lease has. Where memory runs out, the lease is given back.
     pub fn keep(&mut self, lease: Lease<'s, S>) -> Option<u32>
         ensures number { IfSome result (λ n. (n ≢ 0) × (tree.get nat_cmp self.old.leases n ≡ None)) }
-        ensures kept { IfSome result (λ n. tree.Updates nat_cmp self.old.leases self.new.leases n (Some lease)) }
+        ensures kept { IfSome result (λ n. tree.Updates nat_cmp self.old.leases self.new.leases n (Some lease.entry)) }
         ensures same { IsNone result → tree.IsUnchanged self.old.leases self.new.leases }
     {
         let Some(number) = self.free_number() else {

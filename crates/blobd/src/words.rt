@@ -1,6 +1,6 @@
 //! Reads the words of the command line.
 ghost use Rattle.std.specs.Prelude.{◌≡◌, ◌⊎◌, ◌≤◌, IfErr, IfOk, MatchOption, Some, ℕ, length, map, string_bytes};
-ghost use Rattle.std.specs.List.{after_first, before_first, position_or_len};
+ghost use Rattle.std.specs.List.{after_first, before_first, position};
 ghost use Rattle.blob_digest.specs.Ranges.{number_of};
 ghost use Rattle.store_book.specs.Openings.{IsSized};
 ghost use Rattle.blobd.specs.Stops.{tenant_stop};
@@ -38,14 +38,22 @@ fn texts(alloc: Global, words: &[String]) -> Result<Vec<&str>, Stop>
     Ok(words.iter().map(|w| w.as_str()).collect(alloc)?)
 }
 
-/// Where the tenants' words end: at a word `--`, or behind them all.
-fn end_of(words: &[String]) -> usize
-    ensures { result ≡ position_or_len (λ w. is_end (string_bytes w)) words.now }
+/// Where the first word `--` stands.
+fn end_of(words: &[String]) -> Option<usize>
+    ensures { result ≡ position (λ w. is_end (string_bytes w)) words.now }
 {
-    words
-        .iter()
-        .position(|w| w.as_str() == "--")
-        .unwrap_or(words.len())
+    words.iter().position(|w| w.as_str() == "--")
+}
+
+/// The words before the first `--`, and those behind it.
+fn parted(words: &[String]) -> (&[String], &[String])
+    ensures before { map string_bytes result.0.now ≡ before_first is_end (map string_bytes words.now) }
+    ensures after { map string_bytes result.1.now ≡ after_first is_end (map string_bytes words.now) }
+{
+    match end_of(words) {
+        Some(end) => (&words[..end], &words[end + 1..]),
+        None => (words, &[]),
+    }
 }
 
 /// What the words say, of which the first is the program's own name.
@@ -66,17 +74,11 @@ pub fn read_words(alloc: Global, words: &[String]) -> Result<Options<'_>, Stop>
     if slots == 0 {
         return Err(Stop::Usage);
     }
-    let end = end_of(rest);
-    let none: &[String] = &[];
-    let paths = if end < rest.len() {
-        &rest[end + 1..]
-    } else {
-        none
-    };
+    let (names, paths) = parted(rest);
     if paths.len() % 2 != 0 {
         return Err(Stop::Usage);
     }
-    let names = texts(alloc, &rest[..end])?;
+    let names = texts(alloc, names)?;
     let tenants = read_tenants(alloc, names.as_slice())?;
     let store = Config {
         slots: slots as u32,
