@@ -1,5 +1,5 @@
 -- A line that is served on something which may show less of itself, and of the leases that are out.
-use Rattle.std.proofs.Common.{◌≡◌, ◌⊎◌, ◌∷◌, [], ℕ, List, Option, Some, None, Result, Ok, Err, ap, inl, inr}
+use Rattle.std.proofs.Common.{◌≡◌, ◌⊎◌, ◌∷◌, [], ℕ, List, Option, Some, None, Result, Ok, Err, ap, inl, inr, subst}
 use Rattle.blob_digest.specs.declared.range.ByteRange.{ByteRange}
 use Rattle.blob_digest.specs.declared.refusal.Refusal.{Refusal}
 use Rattle.blob_frames.specs.Replies.{Reply}
@@ -17,6 +17,11 @@ use Rattle.line_player.specs.Queries.{IsTold, NoVerbStep, QueryStep, SizeStep, U
 use Rattle.line_player.specs.Requests.{ends_of, range_of, request_command}
 use Rattle.line_player.specs.Served.{Frame, FrameStep, IsLine, IsServed, Serves}
 use Rattle.line_player.specs.Steps.{CommandStep, GiveBackStep, LeaseStep, Lends, ReadStep, RequestStep, VerbStep}
+use Rattle.locked_book.specs.History.{DeskView, IsPart}
+use Rattle.locked_book.specs.Names.{StoreNames}
+use Rattle.blob_store.specs.Seats.{WorkActs, work_of}
+use Rattle.blob_store.specs.Workers.{no_work}
+use Rattle.blobd.specs.Served.{IsFound, IsLending, IsServedBy}
 use Rattle.line_player.specs.declared.ending.Ending.{Ending}
 use Rattle.line_player.specs.declared.query.Query.{Query}
 use Rattle.line_player.specs.declared.query.Query.TheVariants as query
@@ -127,3 +132,13 @@ module _ {S T U V : Type 0} (shown : S → U) (lent : T → V)
   pub line_through : (old new : S × T) (line held holds : Option (List ℕ)) (ending : Ending) → IsLine acts finds does old new line held holds ending → IsLine to_act to_find to_do (both old) (both new) line held holds ending
   line_through old new line held holds ending (inl h) = inl (ap both h.0, h.1)
   line_through old new line held holds ending (inr h) = inr (h.0, h.1, h.2, h.3, served_through old new h.0 h.1 holds ending h.4)
+
+-- a line that is served at a desk which had done nothing
+pub served_at : (names : StoreNames) (old new : DeskView) (line held holds : Option (List ℕ)) (ending : Ending) → work_of old ≡ no_work
+    → IsLine WorkActs (λ _ catalog. IsFound names catalog) (λ _ lending _. IsLending lending) (work_of old, tt {0}) (work_of new, tt {0}) line held holds ending
+    → IsPart names.opening new.trace → IsServedBy names line held holds ending
+served_at names old new line held holds ending fresh served part = record {
+  desk = new;
+  served = subst (λ work. IsLine WorkActs (λ _ catalog. IsFound names catalog) (λ _ lending _. IsLending lending) (work, tt {0}) (work_of new, tt {0}) line held holds ending) fresh served;
+  part = part;
+}

@@ -26,5 +26,5 @@ IsFound names catalog = (book : BookState) × IsBookOf names book × (catalog �
 -- of the requests, in their order and with their replies; and these are the desk's part in a legal history of the store.
 pub record IsServedBy (names : StoreNames) (line held holds : Option (List ℕ)) (ending : Ending) : Type 0 where
   pub desk : DeskView
-  pub served : IsLine WorkActs (λ _ catalog. IsFound names catalog) (λ _ lending _. IsLending lending) (no_work, tt) (work_of desk, tt) line held holds ending
+  pub served : IsLine WorkActs (λ _ catalog. IsFound names catalog) (λ _ lending _. IsLending lending) (no_work, tt {0}) (work_of desk, tt {0}) line held holds ending
   pub part : IsPart names.opening desk.trace
