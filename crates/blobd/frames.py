@@ -12,6 +12,7 @@ GREETING = b"blobd\0\1\0"
 # The commands by their numbers.
 START, STATUS, APPEND, CLOSE, ABANDON, MOUNT, DELETE, PUT_MANIFEST, GET_MANIFEST, DELETE_MANIFEST = range(1, 11)
 LEASE, READ, GIVE_BACK, SWEEP = range(11, 15)
+STAT, STAT_MANIFEST, FREE_SLOTS, USAGE = range(17, 21)
 
 # Refusals, and what else a status may say.
 NAME_INVALID, DIGEST_INVALID, NAME_UNKNOWN, UPLOAD_UNKNOWN, SIZE_INVALID, RANGE_INVALID, BLOB_UNKNOWN = range(1, 8)
@@ -48,7 +49,7 @@ MANIFEST = (
     % (sha256(CONFIG), ABC)
 ).encode()
 
-# By `args`, tenant `acme` may use 100 bytes and `other` 4.
+# By `args`, there are 16 slots, and tenant `acme` may use 100 bytes and `other` 4.
 CALLS = [
     # an upload in two chunks, one out of its place
     (request(START, ONE), reply(first=1)),
@@ -85,6 +86,14 @@ CALLS = [
     (request(GET_MANIFEST, ONE, sha256(MANIFEST)), reply(body=MANIFEST)),
     (request(GET_MANIFEST, TWO, sha256(MANIFEST)), reply(MANIFEST_UNKNOWN)),
     (request(DELETE, ONE, ABC), reply(REFERENCED, digest=sha256(MANIFEST))),
+    # what is kept, and how much of it
+    (request(STAT, ONE, ABC), reply(first=3)),
+    (request(STAT, TWO, ABC), reply(BLOB_UNKNOWN)),
+    (request(STAT_MANIFEST, ONE, sha256(MANIFEST)), reply(first=len(MANIFEST))),
+    (request(STAT_MANIFEST, ONE, ABC), reply(MANIFEST_UNKNOWN)),
+    (request(FREE_SLOTS), reply(first=14)),
+    (request(USAGE, ONE), reply(first=5, second=100)),
+    (request(USAGE, "nobody"), reply(NAME_UNKNOWN)),
     (request(DELETE_MANIFEST, ONE, sha256(MANIFEST)), reply()),
     # mounts within a tenant alone
     (request(MOUNT, TWO, ABC, ONE), reply()),
@@ -105,6 +114,7 @@ CALLS = [
     (request(LEASE, TWO, ABC_512), reply(first=3, second=3)),
     # bytes that ask for nothing
     (request(0), reply(NO_COMMAND)),
+    (request(15), reply(NO_COMMAND)),
     (request(99, body=b"any"), reply(NO_COMMAND)),
 ]
 

@@ -7,10 +7,10 @@
 //! a thread and a desk of its own. It ends where its input does, and the program where all its lines have ended. The
 //! program stands on `line_player` for a line, on `blob_store` for the store, and on `tenant_words` for the tenants.
 //!
-//! It promises, of the function `serve_ends`: what was written on a line is the replies of playing the requests that
-//! were read from it, in their order, where each is answered by its place in the store's one history; a lease has a
-//! number that no other has, any line may read it, by its blob's digest, and give it back, and no lease is out at the
-//! end.
+//! It promises, of the function `serve_new`: of each line, what was written is the replies of playing the requests that
+//! were read from it, in their order, and the steps of these requests are part of a legal history of the store, with
+//! these replies. What a read of a lease answers are bytes of the blob that has the digest which the request names, and
+//! a new lease has a number that no other has which is out (`Lent::keep`).
 #![tactic(auto)]
 
 ghost use Rattle.std.specs.Prelude.{◌≡◌, IfErr, IfOk};
@@ -30,7 +30,7 @@ use crate::serving::{Line, serve_new};
 use crate::stop::Stop;
 use crate::totals::TotalsLine;
 use crate::words::{Options, read_words};
-use blob_store::{Parts, Totals};
+use blob_store::Parts;
 use std::env;
 use std::fs::File;
 use std::io::{self, BufReader, BufWriter, ErrorKind, Read, Write};

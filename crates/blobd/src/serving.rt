@@ -1,11 +1,10 @@
 //! Serves lines on a store.
-ghost use Rattle.std.specs.Prelude.{◌≡◌, ◌⊎◌, ◌+◌, ◌≢◌, None, IfErr, IfOk, OnErr};
-ghost use Rattle.std.specs.List.{All};
+ghost use Rattle.std.specs.Prelude.{◌≡◌, ◌⊎◌, ◌+◌, None, Some, IfErr, IfOk, OnErr};
 ghost use Rattle.blob_digest.specs.declared.refusal.Refusal.TheVariants.{LimitReached, Memory};
 ghost use Rattle.blob_store.specs.Parts.{names_of};
 ghost use Rattle.blob_store.specs.Seats.{work_of};
 ghost use Rattle.blob_store.specs.Workers.{no_work};
-ghost use Rattle.blobd.specs.Served.{IsServedBy};
+ghost use Rattle.blobd.specs.Served.{AreServed, IsLineServed, IsServedBy};
 
 use crate::lent::Lent;
 use crate::shared::SharedLeases;
@@ -21,15 +20,17 @@ use std::thread::{self, Threads};
 /// A line: where its requests come from, and where its replies go.
 #[derive(Drop)]
 pub struct Line<I: Read + Drop, O: Write + Drop> {
-    /// Both, until the line ends.
+    /// Both, as long as the line is open.
     ends: Option<(I, O)>,
-    /// Why it ended, or wasn't served.
+    /// Why it ended, or wasn't served; none before.
     served: Option<Result<Ending, Refusal>>,
 }
 
 impl<I: Read + Drop, O: Write + Drop> Line<I, O> {
     /// A line that is to be served.
-    pub fn new(input: I, output: O) -> Line<I, O> {
+    pub fn new(input: I, output: O) -> Line<I, O>
+        ensures { (result.ends ≡ Some (input, output)) × (result.served ≡ None) }
+    {
         Line {
             ends: Some((input, output)),
             served: None,
@@ -37,7 +38,9 @@ impl<I: Read + Drop, O: Write + Drop> Line<I, O> {
     }
 
     /// Why the line ended; or why it wasn't served, which is for want of memory for its desk. None before.
-    pub fn served(&self) -> Option<Result<Ending, Refusal>> {
+    pub fn served(&self) -> Option<Result<Ending, Refusal>>
+        ensures { result ≡ self.now.served }
+    {
         self.served
     }
 }
@@ -100,7 +103,7 @@ fn serve_line<'s, W: Wait, S: Naming, I: Read + Drop, O: Write + Drop>(
     lent: &Mutex<Lent<'s, S>>,
     line: &mut Line<I, O>,
 )
-    ensures { line.new.ends ≡ None }
+    ensures { IsLineServed S.names I.remaining O.contents line.old line.new }
 {
     if let Some((mut input, mut output)) = line.ends.take() {
         line.served = Some(serve_ends(rt, alloc, store, lent, &mut input, &mut output));
@@ -123,7 +126,7 @@ fn serve_lines<
     lent: &'l Mutex<Lent<'s, S>>,
     lines: &mut [Line<I, O>],
 )
-    ensures { All (λ l. l.ends ≡ None) lines.new }
+    ensures { AreServed S.names I.remaining O.contents lines.old lines.new }
 {
     thread::for_each_mut(
         rt,
@@ -142,7 +145,7 @@ fn serve_on<
     I: Read + Send + Drop,
     O: Write + Send + Drop,
 >(rt: &'s W, alloc: Global, store: &'s Store<S>, lines: &mut [Line<I, O>]) -> Totals
-    ensures ended { All (λ l. l.ends ≡ None) lines.new }
+    ensures served { AreServed S.names I.remaining O.contents lines.old lines.new }
     ensures totals { result.received ≡ result.in_sessions + result.closed + result.abandoned }
 {
     let lent = Mutex::new(Lent::<'s, S>::new(alloc));
@@ -159,7 +162,7 @@ fn serve_parts<
     O: Write + Send + Drop,
 >(rt: &W, alloc: Global, parts: Parts, lines: &mut [Line<I, O>]) -> Totals
     requires named { names_of parts ≡ S.names }
-    ensures ended { All (λ l. l.ends ≡ None) lines.new }
+    ensures served { AreServed S.names I.remaining O.contents lines.old lines.new }
     ensures totals { result.received ≡ result.in_sessions + result.closed + result.abandoned }
 {
     let store = Store::<S>::new(parts);
@@ -168,14 +171,15 @@ fn serve_parts<
 
 /// Serves all lines on a new store of these parts, each in a thread of its own, until they end, and answers the store's
 /// totals. A lease that one line has taken the others may read and give back; those that are left at the end are given
-/// back then.
+/// back then. At most 1,024 lines are served at once; where no thread can be started, they are served one behind the
+/// other. A line whose desk finds no memory is not served, and closed all the same.
 pub fn serve_new<W: Threads + Wait + Sync, I: Read + Send + Drop, O: Write + Send + Drop>(
     rt: &W,
     alloc: Global,
     parts: Parts,
     lines: &mut [Line<I, O>],
 ) -> Totals
-    ensures ended { All (λ l. l.ends ≡ None) lines.new }
+    ensures served { AreServed (names_of parts) I.remaining O.contents lines.old lines.new }
     ensures totals { result.received ≡ result.in_sessions + result.closed + result.abandoned }
 {
     serve_parts::<W, Brand, I, O>(rt, alloc, parts, lines)
