@@ -1,7 +1,7 @@
 //! What a client sends, in pieces of a bounded length.
 use bytes::Bytes;
 use hyper::body::HttpBody;
-use hyper::{Body, StatusCode};
+use hyper::{Body, Response, StatusCode};
 use std::time::Duration;
 
 use crate::fault::Fault;
@@ -115,10 +115,14 @@ impl Content {
         }
     }
 
-    /// Takes off what a client still sends after its request was refused, within bounds, and drops it. A client that was
-    /// never asked to send sends nothing.
-    pub fn drain(mut self) {
-        if self.is_awaited && !self.is_begun || self.body.is_end_stream() {
+    /// What a client still sends after its request was refused is taken off, within bounds, and dropped. A client that was
+    /// never asked to send sends nothing: its content goes with the answer, since one that is dropped before is asked for.
+    pub fn drain(mut self, answer: &mut Response<Body>) {
+        if self.body.is_end_stream() {
+            return;
+        }
+        if self.is_awaited && !self.is_begun {
+            answer.extensions_mut().insert(self.body);
             return;
         }
         tokio::spawn(tokio::time::timeout(DRAIN_TIME, async move {

@@ -69,26 +69,24 @@ impl Registry {
         let begun = Instant::now();
         let (method, path) = (request.method().clone(), request.uri().path().to_string());
         let metrics = self.metrics.clone();
-        let response = match tokio::spawn(self.answer(request)).await {
-            Ok(Ok(response)) => response,
-            Ok(Err(fault)) => fault.into_response(),
-            Err(_) => Fault::new(StatusCode::INTERNAL_SERVER_ERROR, "UNSUPPORTED", "the request broke").into_response(),
-        };
+        let response = tokio::spawn(self.answer(request)).await.unwrap_or_else(|_| {
+            Fault::new(StatusCode::INTERNAL_SERVER_ERROR, "UNSUPPORTED", "the request broke").into_response()
+        });
         let took = begun.elapsed();
         metrics.answered(&method, response.status(), took);
         tracing::info!(%method, path, status = response.status().as_u16(), micros = took.as_micros() as u64);
         response
     }
 
-    async fn answer(self: Arc<Self>, request: Request<Body>) -> Served {
+    async fn answer(self: Arc<Self>, request: Request<Body>) -> Response<Body> {
         let (head, body) = request.into_parts();
         let is_awaited = head.headers.contains_key(EXPECT);
         let mut content = Content::new(body, is_awaited, self.metrics.clone());
-        let served = self.route(head, &mut content).await;
-        if served.is_err() {
-            content.drain();
-        }
-        served
+        self.route(head, &mut content).await.unwrap_or_else(|fault| {
+            let mut answer = fault.into_response();
+            content.drain(&mut answer);
+            answer
+        })
     }
 
     async fn route(self: Arc<Self>, head: Parts, content: &mut Content) -> Served {
