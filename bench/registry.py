@@ -1,0 +1,191 @@
+#!/usr/bin/env python3
+"""What pushes, pulls and small requests take of registryd, and of Debian's docker-registry beside it, by the same clients
+in turn: bench/registry.py [--runs N] [--no-sweeps] [MEASURE..]. It wants a built blobd, and the packages skopeo and docker-registry. The
+collector sweeps all the time. For each measure: the wall time of the clients in seconds (median), the ratio of it to
+docker-registry's, and the processor time of each server's programs."""
+import argparse, http.client, json, os, random, shutil, signal, socket, statistics, subprocess, sys, tempfile, time
+
+TOP = os.path.dirname(os.path.dirname(os.path.abspath(__file__)))
+sys.path.insert(0, f"{TOP}/registry/tests")
+from images import image
+from server import Server, sha256
+
+MIB = 1 << 20
+TICKS = os.sysconf("SC_CLK_TCK")
+CONFIG = """version: 0.1
+log: {level: error, accesslog: {disabled: true}}
+storage:
+  filesystem: {rootdirectory: %s}
+  delete: {enabled: true}
+  maintenance: {uploadpurging: {enabled: false}}
+http: {addr: "%s"}
+"""
+
+
+class Ours:
+    """registryd over blobd, fresh."""
+    sweeps = True
+
+    def __init__(self, folder):
+        words = ["--sweep-ms", "0"] if self.sweeps else ["--sweep-ms", "1000000"]
+        self.server = Server("--slots", "65536", *words, tenants=["acme=100000000000"])
+        self.address = self.server.address
+        self.pids = [self.server.process.pid, self.server.child()]
+
+    def end(self):
+        assert self.server.end() == 0
+
+
+class Theirs:
+    """docker-registry over files, fresh."""
+
+    def __init__(self, folder):
+        with socket.socket() as free:
+            free.bind(("127.0.0.1", 0))
+            self.address = f"127.0.0.1:{free.getsockname()[1]}"
+        with open(f"{folder}/config.yml", "w") as file:
+            file.write(CONFIG % (f"{folder}/files", self.address))
+        words = ["docker-registry", "serve", f"{folder}/config.yml"]
+        self.process = subprocess.Popen(words, stdout=subprocess.DEVNULL, stderr=subprocess.DEVNULL)
+        self.pids = [self.process.pid]
+        for _ in range(500):
+            try:
+                connection = http.client.HTTPConnection(self.address, timeout=5)
+                connection.request("GET", "/v2/")
+                if connection.getresponse().status == 200:
+                    break
+            except OSError:
+                time.sleep(0.01)
+
+    def end(self):
+        self.process.send_signal(signal.SIGTERM)
+        self.process.wait()
+
+
+def processor_time(pids):
+    total = 0
+    for pid in pids:
+        with open(f"/proc/{pid}/stat") as file:
+            words = file.read().rsplit(")", 1)[1].split()
+        total += int(words[11]) + int(words[12])
+    return total / TICKS
+
+
+def peak(pids):
+    total = 0
+    for pid in pids:
+        with open(f"/proc/{pid}/status") as file:
+            total += sum(int(line.split()[1]) for line in file if line.startswith("VmHWM"))
+    return total >> 10
+
+
+def together(*commands):
+    """Runs commands side by side, each of which has to end well."""
+    running = [subprocess.Popen(words, stdout=subprocess.DEVNULL, stderr=subprocess.PIPE) for words in commands]
+    for child in running:
+        error = child.communicate()[1]
+        assert child.returncode == 0, error.decode()
+
+
+def push(server, folder, name):
+    return ["skopeo", "--insecure-policy", "copy", "-q", "--dest-tls-verify=false", f"oci:{folder}:latest", f"docker://{server.address}/acme/{name}:latest"]
+
+
+def pull(server, name, folder):
+    return ["skopeo", "--insecure-policy", "copy", "-q", "--src-tls-verify=false", f"docker://{server.address}/acme/{name}:latest", f"oci:{folder}:latest"]
+
+
+def of_images(sizes, count=1):
+    """Pushes so many images with layers of these sizes at once, and pulls them."""
+    def play(server, folder, timed):
+        names = [f"i{n}" for n in range(count)]
+        for n, name in enumerate(names):
+            image(f"{folder}/{name}", sizes, 100 * n)
+        timed("push", lambda: together(*(push(server, f"{folder}/{name}", name) for name in names)))
+        timed("pull", lambda: together(*(pull(server, name, f"{folder}/back-{name}") for name in names)))
+    return play
+
+
+def of_one_put(size):
+    def play(server, folder, timed):
+        path, data = f"{folder}/blob", random.Random(1).randbytes(size)
+        with open(path, "wb") as file:
+            file.write(data)
+        connection = http.client.HTTPConnection(server.address)
+        connection.request("POST", "/v2/acme/a/blobs/uploads/", headers={"Content-Length": "0"})
+        response = connection.getresponse()
+        response.read()
+        at = response.getheader("Location")
+        at = at if at.startswith("http") else f"http://{server.address}{at}"
+        at += ("&" if "?" in at else "?") + f"digest={sha256(data)}"
+        timed("PUT", lambda: together(["curl", "-sSf", "-H", "Content-Type: application/octet-stream", "-H", "Expect:", "-X", "PUT", "-T", path, at]))
+        timed("GET", lambda: together(["curl", "-sSf", "-o", "/dev/null", f"http://{server.address}/v2/acme/a/blobs/{sha256(data)}"]))
+    return play
+
+
+def of_heads(count):
+    def play(server, folder, timed):
+        manifest = image(f"{folder}/tiny", [1000], 1)
+        with open(f"{folder}/tiny/blobs/sha256/{manifest[7:]}") as file:
+            layer = json.load(file)["layers"][0]["digest"]
+        together(push(server, f"{folder}/tiny", "tiny"))
+        def heads():
+            connection = http.client.HTTPConnection(server.address)
+            for _ in range(count):
+                connection.request("HEAD", f"/v2/acme/tiny/blobs/{layer}")
+                response = connection.getresponse()
+                assert response.status == 200
+                response.read()
+        timed("HEADs", heads)
+    return play
+
+
+MEASURES = {
+    "200 MiB in 10 layers": of_images([20 * MIB] * 10),
+    "100 layers of 8 KiB": of_images([8192] * 100),
+    "8 clients, 25 MiB in 5 layers each": of_images([5 * MIB] * 5, 8),
+    "a blob of 200 MiB": of_one_put(200 * MIB),
+    "5,000 of a blob": of_heads(5000),
+}
+
+
+def measured(make, play):
+    """The wall and processor time of each part of a measure, and the server's peak of memory."""
+    parts = {}
+    with tempfile.TemporaryDirectory() as folder:
+        server = make(folder)
+
+        def timed(name, part):
+            before, begun = processor_time(server.pids), time.time()
+            part()
+            parts[name] = (time.time() - begun, processor_time(server.pids) - before)
+        try:
+            play(server, folder, timed)
+            memory = peak(server.pids)
+        finally:
+            server.end()
+    return parts, memory
+
+
+def main():
+    options = argparse.ArgumentParser(description=__doc__)
+    options.add_argument("--runs", type=int, default=3)
+    options.add_argument("--no-sweeps", action="store_true")
+    options.add_argument("measures", nargs="*", metavar="MEASURE", help=" | ".join(MEASURES))
+    options = options.parse_args()
+    Ours.sweeps = not options.no_sweeps
+    for program in ("skopeo", "docker-registry"):
+        if not shutil.which(program):
+            sys.exit(f"there is no {program}: apt-get install {program}")
+    print(f"{'':44} {'ours':>8} {'theirs':>8} {'ratio':>6}   {'processor time':>16}   memory, MiB")
+    for name in options.measures or MEASURES:
+        runs = [(measured(Ours, MEASURES[name]), measured(Theirs, MEASURES[name])) for _ in range(options.runs)]
+        for part in runs[0][0][0]:
+            wall = [statistics.median(run[side][0][part][0] for run in runs) for side in (0, 1)]
+            cpu = [statistics.median(run[side][0][part][1] for run in runs) for side in (0, 1)]
+            memory = [max(run[side][1] for run in runs) for side in (0, 1)]
+            print(f"{part + ': ' + name:44} {wall[0]:8.3f} {wall[1]:8.3f} {wall[0] / wall[1]:6.2f}   {cpu[0]:7.2f} {cpu[1]:7.2f}    {memory[0]:5} {memory[1]:5}", flush=True)
+
+
+if __name__ == "__main__":
+    main()

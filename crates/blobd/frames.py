@@ -1,0 +1,137 @@
+#!/usr/bin/env python3
+"""Writes the run that is kept of blobd, by the rules of docs/FRAMES.md: the frames that it reads from standard input, and
+those that it writes to standard output. With --check it writes nothing, and tells whether the files are these."""
+import hashlib
+import pathlib
+import struct
+import sys
+
+HERE = pathlib.Path(__file__).parent
+GREETING = b"blobd\0\1\0"
+
+# The commands by their numbers.
+START, STATUS, APPEND, CLOSE, ABANDON, MOUNT, DELETE, PUT_MANIFEST, GET_MANIFEST, DELETE_MANIFEST = range(1, 11)
+LEASE, READ, GIVE_BACK, SWEEP = range(11, 15)
+STAT, STAT_MANIFEST, FREE_SLOTS, USAGE = range(17, 21)
+
+# Refusals, and what else a status may say.
+NAME_INVALID, DIGEST_INVALID, NAME_UNKNOWN, UPLOAD_UNKNOWN, SIZE_INVALID, RANGE_INVALID, BLOB_UNKNOWN = range(1, 8)
+MANIFEST_INVALID, MANIFEST_UNKNOWN, MANIFEST_BLOB_UNKNOWN, QUOTA, REFERENCED = range(8, 13)
+NO_LEASE, NO_COMMAND = 254, 255
+
+
+def request(command, repo="", digest="", source="", number=0, span=None, body=b""):
+    texts = [text.encode() for text in (repo, digest, source)]
+    start, end = span or (0, 0)
+    head = struct.pack(
+        "<BBHHHIIQQ", command, span is not None, *map(len, texts), number, len(body), start, end
+    )
+    return head + b"".join(texts) + body
+
+
+def reply(status=0, first=0, second=0, digest="", body=b""):
+    text = digest.encode()
+    return struct.pack("<IIQQQ", status, len(text), first, second, len(body)) + text + body
+
+
+def sha256(data):
+    return "sha256:" + hashlib.sha256(data).hexdigest()
+
+
+ONE, TWO, OTHER = "acme/one", "acme/two", "other/one"
+ABC = sha256(b"abc")
+ABC_512 = "sha512:" + hashlib.sha512(b"abc").hexdigest()
+NOTHING = sha256(b"")
+CONFIG = b"{}"
+MANIFEST = (
+    '{"schemaVersion":2,"config":{"mediaType":"application/vnd.oci.image.config.v1+json","digest":"%s","size":2},'
+    '"layers":[{"mediaType":"application/vnd.oci.image.layer.v1.tar","digest":"%s","size":3}]}'
+    % (sha256(CONFIG), ABC)
+).encode()
+
+# By `args`, there are 16 slots, and tenant `acme` may use 100 bytes and `other` 4.
+CALLS = [
+    # an upload in two chunks, one out of its place
+    (request(START, ONE), reply(first=1)),
+    (request(APPEND, ONE, number=1, span=(0, 1), body=b"ab"), reply(first=2)),
+    (request(APPEND, ONE, number=1, span=(1, 2), body=b"bc"), reply(RANGE_INVALID, first=2)),
+    (request(APPEND, ONE, number=1, span=(2, 3), body=b"c"), reply(SIZE_INVALID)),
+    (request(APPEND, ONE, number=1, span=(2, 2), body=b"c"), reply(first=3)),
+    (request(STATUS, ONE, number=1), reply(first=3)),
+    (request(CLOSE, ONE, NOTHING, number=1), reply(DIGEST_INVALID)),
+    (request(CLOSE, ONE, ABC, number=1), reply(first=3)),
+    (request(STATUS, ONE, number=1), reply(UPLOAD_UNKNOWN)),
+    # names and digests that are none
+    (request(START, "Acme/one"), reply(NAME_INVALID)),
+    (request(START, "nobody/one"), reply(NAME_UNKNOWN)),
+    (request(LEASE, ONE, "sha256:abc"), reply(DIGEST_INVALID)),
+    # a lease, read by ranges
+    (request(LEASE, ONE, NOTHING), reply(BLOB_UNKNOWN)),
+    (request(LEASE, ONE, ABC), reply(first=3, second=1)),
+    (request(LEASE, ONE, ABC), reply(first=3, second=2)),
+    (request(READ, digest=ABC, number=1), reply(body=b"abc")),
+    (request(READ, digest=ABC, number=2, span=(1, 1)), reply(body=b"b")),
+    (request(READ, digest=ABC, number=2, span=(1, 99)), reply(body=b"bc")),
+    (request(READ, digest=ABC, number=2, span=(2, 1)), reply(SIZE_INVALID)),
+    (request(READ, digest=NOTHING, number=1), reply(NO_LEASE)),
+    (request(READ, digest=ABC, number=3), reply(NO_LEASE)),
+    (request(GIVE_BACK, number=2), reply()),
+    (request(GIVE_BACK, number=2), reply(NO_LEASE)),
+    # a manifest keeps its blobs
+    (request(PUT_MANIFEST, ONE, body=b"no manifest"), reply(MANIFEST_INVALID)),
+    (request(PUT_MANIFEST, ONE, body=MANIFEST), reply(MANIFEST_BLOB_UNKNOWN, digest=sha256(CONFIG))),
+    (request(START, ONE), reply(first=2)),
+    (request(CLOSE, ONE, sha256(CONFIG), number=2, body=CONFIG), reply(first=2)),
+    (request(PUT_MANIFEST, ONE, body=MANIFEST), reply(digest=sha256(MANIFEST))),
+    (request(GET_MANIFEST, ONE, sha256(MANIFEST)), reply(body=MANIFEST)),
+    (request(GET_MANIFEST, TWO, sha256(MANIFEST)), reply(MANIFEST_UNKNOWN)),
+    (request(DELETE, ONE, ABC), reply(REFERENCED, digest=sha256(MANIFEST))),
+    # what is kept, and how much of it
+    (request(STAT, ONE, ABC), reply(first=3)),
+    (request(STAT, TWO, ABC), reply(BLOB_UNKNOWN)),
+    (request(STAT_MANIFEST, ONE, sha256(MANIFEST)), reply(first=len(MANIFEST))),
+    (request(STAT_MANIFEST, ONE, ABC), reply(MANIFEST_UNKNOWN)),
+    (request(FREE_SLOTS), reply(first=14)),
+    (request(USAGE, ONE), reply(first=5, second=100)),
+    (request(USAGE, "nobody"), reply(NAME_UNKNOWN)),
+    (request(DELETE_MANIFEST, ONE, sha256(MANIFEST)), reply()),
+    # mounts within a tenant alone
+    (request(MOUNT, TWO, ABC, ONE), reply()),
+    (request(MOUNT, TWO, NOTHING), reply(first=3)),
+    (request(ABANDON, TWO, number=3), reply()),
+    (request(MOUNT, OTHER, ABC, ONE), reply(first=1)),
+    (request(APPEND, OTHER, number=1, body=b"12345"), reply(QUOTA, first=0, second=4)),
+    # sweeps leave what is leased
+    (request(DELETE, ONE, ABC), reply()),
+    (request(DELETE, TWO, ABC), reply()),
+    (request(SWEEP), reply(first=0, second=1)),
+    (request(READ, digest=ABC, number=1), reply(body=b"abc")),
+    (request(GIVE_BACK, number=1), reply()),
+    (request(SWEEP), reply(first=1, second=0)),
+    # a blob by its other digest, which is left leased
+    (request(START, TWO), reply(first=4)),
+    (request(CLOSE, TWO, ABC_512, number=4, span=(0, 2), body=b"abc"), reply(first=3)),
+    (request(LEASE, TWO, ABC_512), reply(first=3, second=3)),
+    # bytes that ask for nothing
+    (request(0), reply(NO_COMMAND)),
+    (request(15), reply(NO_COMMAND)),
+    (request(99, body=b"any"), reply(NO_COMMAND)),
+]
+
+
+def main():
+    files = {
+        "stdin": GREETING + b"".join(call[0] for call in CALLS),
+        "stdout": GREETING + b"".join(call[1] for call in CALLS),
+    }
+    if sys.argv[1:] == ["--check"]:
+        others = [name for name, data in files.items() if (HERE / name).read_bytes() != data]
+        for name in others:
+            print(f"frames.py: crates/blobd/{name} isn't what frames.py writes", file=sys.stderr)
+        return 1 if others else 0
+    for name, data in files.items():
+        (HERE / name).write_bytes(data)
+    return 0
+
+
+sys.exit(main())

@@ -1,0 +1,5 @@
+pub mod Lent
+pub mod Served
+pub mod Stops
+pub mod Totals
+pub mod Words

@@ -1,0 +1,43 @@
+-- What a line comes to that is served on a store which other lines use too.
+use Rattle.std.specs.Prelude.{⊤, ◌≡◌, ◌≢◌, ◌⊎◌, ◌<◌, ℕ, List, Option, None, IfSome, IsSomeAnd, MatchResult, length, slice_index_or}
+use Rattle.blob_digest.specs.declared.refusal.Refusal.TheVariants.{LimitReached, Memory}
+use Rattle.line_player.specs.Lendings.{Lending, Kept, Read, IsPieceOf}
+use Rattle.line_player.specs.Served.{IsLine}
+use Rattle.line_player.specs.declared.ending.Ending.{Ending}
+use Rattle.locked_book.specs.Found.{IsBookOf}
+use Rattle.locked_book.specs.History.{DeskView, IsPart}
+use Rattle.locked_book.specs.Names.{StoreNames}
+use Rattle.blob_store.specs.Seats.{WorkActs, work_of}
+use Rattle.blob_store.specs.Workers.{no_work}
+use Rattle.store_book.specs.BookState.{BookState}
+use Rattle.store_model.specs.Catalog.{Catalog}
+use Rattle.blobd.specs.declared.serving.Line.{Line}
+
+-- what is so of an event of a table of leases whatever others do to it: a lease's number is not 0, and what is read is a piece of bytes that
+-- have the digest
+abbrev pub IsLending : Lending → Type 0
+IsLending (Kept lent number) = number ≢ 0
+IsLending (Read number digest start end piece) = IsPieceOf digest start end piece
+IsLending lending = ⊤
+
+-- the catalog of a book of the store
+abbrev pub IsFound : StoreNames → Catalog → Type 0
+IsFound names catalog = (book : BookState) × IsBookOf names book × (catalog ≡ book.catalog)
+
+-- A line is served: its requests were played in their order, from a desk on that had done nothing, and replied to; the steps of its desk are those
+-- of the requests, in their order and with their replies; and these are the desk's part in a legal history of the store.
+pub record IsServedBy (names : StoreNames) (line held holds : Option (List ℕ)) (ending : Ending) : Type 0 where
+  pub desk : DeskView
+  pub served : IsLine WorkActs (λ _ catalog. IsFound names catalog) (λ _ lending _. IsLending lending) (no_work, tt {0}) (work_of desk, tt {0}) line held holds ending
+  pub part : IsPart names.opening desk.trace
+
+-- An open line was served until it ended, or there was no desk for it; and it is closed.
+pub record IsLineServed {I O : Type 0} (names : StoreNames) (remaining : I → Option (List ℕ)) (contents : O → Option (List ℕ)) (old new : Line I O) : Type 0 where
+  pub closed : new.ends ≡ None
+  pub line : IfSome old.ends (λ ends. IsSomeAnd new.served (λ served. MatchResult served
+      (λ ending. (holds : Option (List ℕ)) × IsServedBy names (remaining ends.0) (contents ends.1) holds ending)
+      (λ refusal. (refusal ≡ LimitReached) ⊎ (refusal ≡ Memory))))
+
+-- each of some lines
+abbrev pub AreServed : {I O : Type 0} → StoreNames → (I → Option (List ℕ)) → (O → Option (List ℕ)) → List (Line I O) → List (Line I O) → Type 0
+AreServed {I} {O} names remaining contents old new = (i : ℕ) (d : Line I O) → i < length old → IsLineServed names remaining contents (slice_index_or old i d) (slice_index_or new i d)

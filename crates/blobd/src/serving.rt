@@ -1,0 +1,186 @@
+//! Serves lines on a store.
+ghost use Rattle.std.specs.Prelude.{◌≡◌, ◌⊎◌, ◌+◌, None, Some, IfErr, IfOk, OnErr};
+ghost use Rattle.blob_digest.specs.declared.refusal.Refusal.TheVariants.{LimitReached, Memory};
+ghost use Rattle.blob_store.specs.Parts.{names_of};
+ghost use Rattle.blob_store.specs.Seats.{work_of};
+ghost use Rattle.blob_store.specs.Workers.{no_work};
+ghost use Rattle.blobd.specs.Served.{AreServed, IsLineServed, IsServedBy};
+
+use crate::lent::Lent;
+use crate::shared::SharedLeases;
+use blob_digest::Refusal;
+use blob_store::{Desk, MAX_DESKS, Naming, Parts, Seat, Store, Totals};
+use line_player::{Ending, serve};
+use std::alloc::Global;
+use std::io::{Read, Write};
+use std::marker::Brand;
+use std::sync::{Mutex, Wait};
+use std::thread::{self, Threads};
+
+/// A line: where its requests come from, and where its replies go.
+#[derive(Drop)]
+pub struct Line<I: Read + Drop, O: Write + Drop> {
+    /// Both, as long as the line is open.
+    ends: Option<(I, O)>,
+    /// Why it ended, or wasn't served; none before.
+    served: Option<Result<Ending, Refusal>>,
+}
+
+impl<I: Read + Drop, O: Write + Drop> Line<I, O> {
+    /// A line that is to be served.
+    pub fn new(input: I, output: O) -> Line<I, O>
+        ensures { (result.ends ≡ Some (input, output)) × (result.served ≡ None) }
+    {
+        Line {
+            ends: Some((input, output)),
+            served: None,
+        }
+    }
+
+    /// Why the line ended; or why it wasn't served, which is for want of memory for its desk. None before.
+    pub fn served(&self) -> Option<Result<Ending, Refusal>>
+        ensures { result ≡ self.now.served }
+    {
+        self.served
+    }
+}
+
+/// Serves requests at a desk that has done nothing, and answers it with why the line ended.
+fn serve_at<'s, W: Wait, S: Naming, I: Read, O: Write>(
+    rt: &'s W,
+    alloc: Global,
+    store: &'s Store<S>,
+    lent: &Mutex<Lent<'s, S>>,
+    desk: Desk<S>,
+    input: &mut I,
+    output: &mut O,
+) -> (Ending, Desk<S>)
+    requires fresh { work_of desk ≡ no_work }
+    ensures { IsServedBy S.names (I.remaining input.old) (O.contents output.old) (O.contents output.new) result.0 }
+{
+    let mut seat = Seat { rt, store, desk };
+    let mut leases = SharedLeases { rt, lent };
+    let ending = serve(alloc, &mut seat, &mut leases, input, output);
+    let Seat {
+        rt: _,
+        store: _,
+        desk,
+    } = seat;
+    desk.audit();
+    (ending, desk)
+}
+
+/// Serves requests at a desk of their own, which is settled at the end, and answers why the line ended.
+///
+/// Refused, in this order: 1,024 desks that are out (`LimitReached`); out of memory. Then nothing is read or written.
+pub fn serve_ends<'s, W: Wait, S: Naming, I: Read, O: Write>(
+    rt: &'s W,
+    alloc: Global,
+    store: &'s Store<S>,
+    lent: &Mutex<Lent<'s, S>>,
+    input: &mut I,
+    output: &mut O,
+) -> Result<Ending, Refusal>
+    ensures served { IfOk result (IsServedBy S.names (I.remaining input.old) (O.contents output.old) (O.contents output.new)) }
+    ensures same { OnErr result ((input.new ≡ input.old) × (output.new ≡ output.old)) }
+    ensures refused { IfErr result (λ e. (e ≡ LimitReached) ⊎ (e ≡ Memory)) }
+{
+    let mut desks = store.desks(rt, 1)?;
+    let Some(desk) = desks.pop() else {
+        unreachable!()
+    };
+    let (ending, desk) = serve_at(rt, alloc, store, lent, desk, input, output);
+    desks.push_reserved(desk);
+    store.settle(rt, desks);
+    Ok(ending)
+}
+
+/// Serves a line until it ends, and drops its two ends then.
+fn serve_line<'s, W: Wait, S: Naming, I: Read + Drop, O: Write + Drop>(
+    rt: &'s W,
+    alloc: Global,
+    store: &'s Store<S>,
+    lent: &Mutex<Lent<'s, S>>,
+    line: &mut Line<I, O>,
+)
+    ensures { IsLineServed S.names I.remaining O.contents line.old line.new }
+{
+    if let Some((mut input, mut output)) = line.ends.take() {
+        line.served = Some(serve_ends(rt, alloc, store, lent, &mut input, &mut output));
+    }
+}
+
+/// Serves all lines until they end, each in a thread of its own, and 1,024 at once. Where no thread can be started,
+/// lines are served one behind the other.
+fn serve_lines<
+    's,
+    'l,
+    W: Threads + Wait + Sync,
+    S: Naming + Send + Sync,
+    I: Read + Send + Drop,
+    O: Write + Send + Drop,
+>(
+    rt: &'s W,
+    alloc: Global,
+    store: &'s Store<S>,
+    lent: &'l Mutex<Lent<'s, S>>,
+    lines: &mut [Line<I, O>],
+)
+    ensures { AreServed S.names I.remaining O.contents lines.old lines.new }
+{
+    thread::for_each_mut(
+        rt,
+        lines,
+        MAX_DESKS as usize,
+        &|_, line| serve_line(rt, alloc, store, lent, line),
+    );
+}
+
+/// Serves all lines on a store with one table of leases, gives back the leases that they leave, and answers the
+/// store's totals.
+fn serve_on<
+    's,
+    W: Threads + Wait + Sync,
+    S: Naming + Send + Sync,
+    I: Read + Send + Drop,
+    O: Write + Send + Drop,
+>(rt: &'s W, alloc: Global, store: &'s Store<S>, lines: &mut [Line<I, O>]) -> Totals
+    ensures served { AreServed S.names I.remaining O.contents lines.old lines.new }
+    ensures totals { result.received ≡ result.in_sessions + result.closed + result.abandoned }
+{
+    let lent = Mutex::new(Lent::<'s, S>::new(alloc));
+    serve_lines(rt, alloc, store, &lent, lines);
+    lent.into_inner().end();
+    store.totals(rt)
+}
+
+/// Serves all lines on the store of these parts, whose names are those that the type parameter says.
+fn serve_parts<
+    W: Threads + Wait + Sync,
+    S: Naming + Send + Sync,
+    I: Read + Send + Drop,
+    O: Write + Send + Drop,
+>(rt: &W, alloc: Global, parts: Parts, lines: &mut [Line<I, O>]) -> Totals
+    requires named { names_of parts ≡ S.names }
+    ensures served { AreServed S.names I.remaining O.contents lines.old lines.new }
+    ensures totals { result.received ≡ result.in_sessions + result.closed + result.abandoned }
+{
+    let store = Store::<S>::new(parts);
+    serve_on(rt, alloc, &store, lines)
+}
+
+/// Serves all lines on a new store of these parts, each in a thread of its own, until they end, and answers the store's
+/// totals. A lease that one line has taken the others may read and give back; those that are left at the end are given
+/// back then. At most 1,024 lines are served at once; where no thread can be started, they are served one behind the
+/// other. A line whose desk finds no memory is not served, and closed all the same.
+pub fn serve_new<W: Threads + Wait + Sync, I: Read + Send + Drop, O: Write + Send + Drop>(
+    rt: &W,
+    alloc: Global,
+    parts: Parts,
+    lines: &mut [Line<I, O>],
+) -> Totals
+    ensures served { AreServed (names_of parts) I.remaining O.contents lines.old lines.new }
+    ensures totals { result.received ≡ result.in_sessions + result.closed + result.abandoned }
+{
+    serve_parts::<W, Brand, I, O>(rt, alloc, parts, lines)
+}

@@ -1,0 +1,32 @@
+//! What the program tells at its end.
+ghost use Rattle.std.specs.Prelude.{Some};
+ghost use Rattle.blobd.specs.Totals.{totals_text};
+
+use blob_store::Totals;
+use std::fmt;
+
+/// The line of a store's totals.
+#[derive(Clone, Copy, Drop)]
+pub struct TotalsLine {
+    /// The totals.
+    pub totals: Totals,
+}
+
+impl fmt::Display for TotalsLine {
+    ghost output = { λ line. Some (totals_text line.totals) };
+
+    fn fmt<W: fmt::Write>(&self, f: &mut fmt::Formatter<W>) -> fmt::Result {
+        let Totals {
+            commands,
+            received,
+            closed,
+            abandoned,
+            in_sessions: _,
+            desks: _,
+        } = self.totals;
+        write!(
+            f,
+            "blobd: {commands} commands, {received} bytes received, {closed} closed, {abandoned} abandoned\n"
+        )
+    }
+}

@@ -1,0 +1,119 @@
+//! Reading and deleting blobs.
+use crate::frames::Refusal;
+use crate::range::{wanted_part, Part};
+use crate::registry::{empty, with_body, Call, Registry, Served};
+use crate::store::{Leased, Lost};
+use hyper::body::Sender;
+use hyper::{Body, StatusCode};
+use std::sync::Arc;
+use std::time::Duration;
+
+/// The most bytes that are read at once.
+const PIECE_LEN: u64 = 1 << 20;
+
+/// How long a client may take none of a piece.
+const IDLE_TIME: Duration = Duration::from_secs(300);
+
+const OCTETS: (&str, &str) = ("Content-Type", "application/octet-stream");
+
+/// end-2: that a blob is there, and how long it is.
+pub async fn head(call: &Call, digest: &str) -> Served {
+    let size = call.registry.store.stat(&call.repo, digest).await??.to_string();
+    let headers = [OCTETS, ("Docker-Content-Digest", digest), ("Accept-Ranges", "bytes"), ("Content-Length", &size)];
+    empty(StatusCode::OK, &headers)
+}
+
+/// end-2: a blob, or a part of it. A client who leaves gives the lease back.
+pub async fn get(call: &Call, digest: &str) -> Served {
+    let leased = call.registry.store.lease(&call.repo, digest).await??;
+    let size = leased.size;
+    let part = call.header("range").map_or(Part::Whole, |text| wanted_part(text, size));
+    let (status, start, end) = match part {
+        Part::Whole => (StatusCode::OK, 0, size),
+        Part::Some(start, last) => (StatusCode::PARTIAL_CONTENT, start, last + 1),
+        Part::Unsatisfiable => {
+            call.registry.store.give_back(leased.number).await??;
+            let range = format!("bytes */{size}");
+            return empty(StatusCode::RANGE_NOT_SATISFIABLE, &[("Content-Range", &range)]);
+        }
+    };
+    let (sender, body) = Body::channel();
+    let reading = Reading { registry: call.registry.clone(), leased, digest: digest.to_string(), start, end };
+    tokio::spawn(reading.send(sender));
+    let len = (end - start).to_string();
+    let headers = [OCTETS, ("Docker-Content-Digest", digest), ("Accept-Ranges", "bytes"), ("Content-Length", &len)];
+    let mut response = with_body(status, &headers, body)?;
+    if status == StatusCode::PARTIAL_CONTENT {
+        let range = format!("bytes {start}-{}/{size}", end - 1);
+        if let Ok(value) = range.parse() {
+            response.headers_mut().insert("Content-Range", value);
+        }
+    }
+    Ok(response)
+}
+
+/// end-10: takes a blob out of a repository.
+pub async fn delete(call: &Call, digest: &str) -> Served {
+    call.registry.store.delete(&call.repo, digest).await??;
+    empty(StatusCode::ACCEPTED, &[])
+}
+
+/// Bytes of a leased blob that are on their way to a client.
+struct Reading {
+    registry: Arc<Registry>,
+    leased: Leased,
+    digest: String,
+    start: u64,
+    end: u64,
+}
+
+/// Why not all bytes were sent.
+enum Stopped {
+    Lost,
+    Refused(Refusal),
+    /// The client left, or takes nothing.
+    Left,
+}
+
+impl From<Lost> for Stopped {
+    fn from(_: Lost) -> Stopped {
+        Stopped::Lost
+    }
+}
+
+impl Reading {
+    /// Sends the bytes, and gives the lease back.
+    async fn send(self, mut sender: Sender) {
+        match self.send_pieces(&mut sender).await {
+            Ok(()) => {}
+            Err(stopped) => {
+                if let Stopped::Refused(refusal) = stopped {
+                    tracing::error!(reason = ?refusal.reason, "a leased blob is refused");
+                }
+                sender.abort();
+            }
+        }
+        let number = self.leased.number;
+        match self.registry.store.give_back(number).await {
+            Ok(Err(refusal)) => tracing::error!(reason = ?refusal.reason, "a lease can't be given back"),
+            Ok(Ok(())) | Err(Lost) => {}
+        }
+    }
+
+    /// Sends the bytes piece by piece. No line is held while the client is waited for.
+    async fn send_pieces(&self, sender: &mut Sender) -> Result<(), Stopped> {
+        let mut start = self.start;
+        while start < self.end {
+            let last = self.end.min(start + PIECE_LEN) - 1;
+            let read = self.registry.store.read(self.leased.number, &self.digest, start, last).await?;
+            let bytes = read.map_err(Stopped::Refused)?;
+            let count = bytes.len();
+            match tokio::time::timeout(IDLE_TIME, sender.send_data(bytes)).await {
+                Ok(Ok(())) => self.registry.metrics.sent(count),
+                Ok(Err(_)) | Err(_) => return Err(Stopped::Left),
+            }
+            start = last + 1;
+        }
+        Ok(())
+    }
+}

@@ -1,0 +1,129 @@
+//! A line to `blobd`: a pair of pipes, which takes one request at a time.
+use crate::frames::{Reason, Refusal, Reply, ReplyHead, Request, GREETING, HEAD_LEN};
+use bytes::Bytes;
+use std::fs::File;
+use std::io::{self, Read, Write};
+use std::os::unix::io::{AsRawFd, FromRawFd};
+use tokio::io::unix::AsyncFd;
+
+/// How many bytes a pipe holds, where the system lets it: as many as are sent at once.
+const PIPE_LEN: libc::c_int = 1 << 20;
+
+/// The longest text of a digest that `blobd` sends, in bytes.
+const MAX_DIGEST: u32 = 256;
+
+/// A pipe's reading end and its writing end. Neither is inherited by a program that is started.
+fn pipe() -> io::Result<(File, File)> {
+    let mut ends = [0; 2];
+    // SAFETY: `ends` has room for the two numbers that the call writes.
+    if unsafe { libc::pipe2(ends.as_mut_ptr(), libc::O_CLOEXEC) } != 0 {
+        return Err(io::Error::last_os_error());
+    }
+    // SAFETY: both numbers are new, and nobody else's.
+    let (reader, writer) = unsafe { (File::from_raw_fd(ends[0]), File::from_raw_fd(ends[1])) };
+    // A pipe that stays short is slower and as good.
+    // SAFETY: the call takes no pointer.
+    unsafe { libc::fcntl(writer.as_raw_fd(), libc::F_SETPIPE_SZ, PIPE_LEN) };
+    Ok((reader, writer))
+}
+
+/// The file, whose reads and writes no longer wait.
+fn without_waiting(file: File) -> io::Result<AsyncFd<File>> {
+    // SAFETY: the calls take no pointer.
+    let done = unsafe {
+        let flags = libc::fcntl(file.as_raw_fd(), libc::F_GETFL);
+        flags >= 0 && libc::fcntl(file.as_raw_fd(), libc::F_SETFL, flags | libc::O_NONBLOCK) == 0
+    };
+    if done {
+        AsyncFd::new(file)
+    } else {
+        Err(io::Error::last_os_error())
+    }
+}
+
+/// A line, this side's ends of its pipes.
+pub struct Line {
+    to: AsyncFd<File>,
+    from: AsyncFd<File>,
+}
+
+/// The other side's ends of a line's pipes: where requests come out, and where replies go in.
+pub struct FarEnds {
+    pub requests: File,
+    pub replies: File,
+}
+
+impl Line {
+    /// A new line and its other side's ends.
+    pub fn new() -> io::Result<(Line, FarEnds)> {
+        let (requests, to) = pipe()?;
+        let (from, replies) = pipe()?;
+        let line = Line { to: without_waiting(to)?, from: without_waiting(from)? };
+        Ok((line, FarEnds { requests, replies }))
+    }
+
+    /// Greets the other side, and takes its greeting.
+    pub async fn greet(&mut self) -> io::Result<()> {
+        self.write(&GREETING).await?;
+        let mut greeting = [0; GREETING.len()];
+        self.read(&mut greeting).await?;
+        if greeting != GREETING {
+            return Err(io::Error::new(io::ErrorKind::InvalidData, "blobd speaks another version"));
+        }
+        Ok(())
+    }
+
+    /// Sends a request and takes its reply. After an error, or where this is dropped before its end, the line is of no
+    /// further use.
+    pub async fn exchange(&mut self, request: &Request<'_>) -> io::Result<Result<Reply, Refusal>> {
+        self.write(&request.head()).await?;
+        for piece in request.body {
+            self.write(piece).await?;
+        }
+        let mut head = [0; HEAD_LEN];
+        self.read(&mut head).await?;
+        let head = ReplyHead::parse(&head);
+        if head.digest_len > MAX_DIGEST {
+            return Err(io::Error::new(io::ErrorKind::InvalidData, "a digest is too long"));
+        }
+        let digest = self.take(u64::from(head.digest_len)).await?;
+        let digest = String::from_utf8_lossy(&digest).into_owned();
+        let body = Bytes::from(self.take(head.body_len).await?);
+        let ReplyHead { status, first, second, .. } = head;
+        Ok(match status {
+            0 => Ok(Reply { first, second, digest, body }),
+            _ => Err(Refusal { reason: Reason::of_status(status), first, second, digest }),
+        })
+    }
+
+    async fn write(&self, mut bytes: &[u8]) -> io::Result<()> {
+        while !bytes.is_empty() {
+            let mut ready = self.to.writable().await?;
+            match ready.try_io(|to| to.get_ref().write(bytes)) {
+                Ok(Err(error)) if error.kind() == io::ErrorKind::Interrupted => {}
+                Ok(written) => bytes = &bytes[written?..],
+                Err(_not_ready) => {}
+            }
+        }
+        Ok(())
+    }
+
+    async fn read(&self, mut bytes: &mut [u8]) -> io::Result<()> {
+        while !bytes.is_empty() {
+            let mut ready = self.from.readable().await?;
+            match ready.try_io(|from| from.get_ref().read(bytes)) {
+                Ok(Err(error)) if error.kind() == io::ErrorKind::Interrupted => {}
+                Ok(Ok(0)) => return Err(io::ErrorKind::UnexpectedEof.into()),
+                Ok(count) => bytes = &mut bytes[count?..],
+                Err(_not_ready) => {}
+            }
+        }
+        Ok(())
+    }
+
+    async fn take(&self, len: u64) -> io::Result<Vec<u8>> {
+        let mut bytes = vec![0; len as usize];
+        self.read(&mut bytes).await?;
+        Ok(bytes)
+    }
+}

@@ -1,0 +1,95 @@
+//! The words of the command line.
+use clap::Parser;
+use std::net::SocketAddr;
+use std::path::PathBuf;
+
+/// A container registry, by the OCI Distribution Specification 1.1. It keeps everything in memory: what was pushed is gone
+/// when it ends.
+#[derive(Debug, Parser)]
+#[command(name = "registryd", version)]
+pub struct Options {
+    /// Where to listen.
+    #[arg(long, value_name = "ADDR:PORT", default_value = "127.0.0.1:5000")]
+    pub listen: SocketAddr,
+    /// How many different blobs can be kept.
+    #[arg(long, value_name = "N", default_value_t = 4096, value_parser = clap::value_parser!(u32).range(1..=65536))]
+    pub slots: u32,
+    /// The longest blob, in bytes.
+    #[arg(long, value_name = "N", default_value_t = 1 << 32)]
+    pub max_blob: u64,
+    /// How many calls can be on their way to the store at once.
+    #[arg(long, value_name = "N", default_value_t = 32, value_parser = clap::value_parser!(u16).range(1..=1024))]
+    pub lines: u16,
+    /// How long the collector rests between sweeps, in milliseconds.
+    #[arg(long, value_name = "N", default_value_t = 1000)]
+    pub sweep_ms: u64,
+    /// After how many seconds an upload that isn't used is given up.
+    #[arg(long, value_name = "N", default_value_t = 3600)]
+    pub session_s: u64,
+    /// A file of users and passwords by `htpasswd`: each user may use the tenant of his name, and nobody else.
+    #[arg(long, value_name = "FILE")]
+    pub htpasswd: Option<PathBuf>,
+    /// Lets anybody in, on other addresses than this machine's too, where there is no file of users.
+    #[arg(long)]
+    pub let_anybody_in: bool,
+    /// The program that keeps the store.
+    #[arg(long, value_name = "PATH", default_value = "blobd")]
+    pub blobd: PathBuf,
+    /// A tenant, the first part of its repositories' names, and how many bytes it may use.
+    #[arg(value_name = "TENANT=QUOTA", required = true, value_parser = tenant)]
+    pub tenants: Vec<String>,
+}
+
+/// A word of the form `TENANT=QUOTA`. What a name may be is for the store to say.
+fn tenant(word: &str) -> Result<String, String> {
+    match word.split_once('=') {
+        Some((name, quota)) if !name.is_empty() && quota.parse::<u64>().is_ok() => Ok(word.to_string()),
+        _ => Err("it has to be TENANT=QUOTA, the quota in bytes".to_string()),
+    }
+}
+
+impl Options {
+    /// Why the options can't stand together, if they can't.
+    pub fn conflict(&self) -> Option<&'static str> {
+        let open = self.htpasswd.is_none() && !self.listen.ip().is_loopback() && !self.let_anybody_in;
+        open.then(|| "without --htpasswd it listens on this machine alone, unless --let-anybody-in is given")
+    }
+
+    /// The tenants' names.
+    pub fn tenant_names(&self) -> Vec<String> {
+        self.tenants.iter().filter_map(|word| word.split_once('=')).map(|(name, _)| name.to_string()).collect()
+    }
+}
+
+#[cfg(test)]
+mod tests {
+    use super::*;
+
+    fn parsed(words: &[&str]) -> Options {
+        let words = [&["registryd"], words].concat();
+        Options::parse_from(words)
+    }
+
+    #[test]
+    fn the_defaults_are_for_this_machine_alone() {
+        let options = parsed(&["acme=1000"]);
+        assert_eq!(options.listen.to_string(), "127.0.0.1:5000");
+        assert_eq!(options.tenant_names(), ["acme"]);
+        assert!(options.conflict().is_none());
+    }
+
+    #[test]
+    fn other_addresses_want_users_or_a_word() {
+        assert!(parsed(&["--listen", "0.0.0.0:80", "a=1"]).conflict().is_some());
+        assert!(parsed(&["--listen", "0.0.0.0:80", "--htpasswd", "users", "a=1"]).conflict().is_none());
+        assert!(parsed(&["--listen", "0.0.0.0:80", "--let-anybody-in", "a=1"]).conflict().is_none());
+    }
+
+    #[test]
+    fn words_that_are_no_tenants_are_refused() {
+        for word in ["acme", "acme=", "=1", "acme=-1", "acme=x"] {
+            assert!(Options::try_parse_from(["registryd", word]).is_err(), "{word}");
+        }
+        assert!(Options::try_parse_from(["registryd"]).is_err());
+    }
+}

@@ -1,0 +1,161 @@
+//! The registry: the store, and what stands beside it.
+use crate::access::Access;
+use crate::content::Content;
+use crate::fault::Fault;
+use crate::metrics::Metrics;
+use crate::path::{query_value, Target};
+use crate::store::{Lost, Store};
+use crate::tags::Tags;
+use crate::uploads::Uploads;
+use crate::{blobs, manifests, uploading};
+use hyper::header::{CONTENT_TYPE, EXPECT};
+use hyper::http::request::Parts;
+use hyper::{Body, Method, Request, Response, StatusCode};
+use std::sync::Arc;
+use std::time::{Duration, Instant};
+
+/// The registry.
+pub struct Registry {
+    pub store: Store,
+    pub access: Access,
+    pub uploads: Uploads,
+    /// Held over a call of the store that puts or deletes a manifest, never while a client is waited for.
+    pub tags: tokio::sync::Mutex<Tags>,
+    pub metrics: Metrics,
+    pub tenants: Vec<String>,
+    pub slots: u32,
+}
+
+/// A request without its content, and its repository.
+pub struct Call {
+    pub registry: Arc<Registry>,
+    pub head: Parts,
+    pub repo: String,
+}
+
+/// What is answered.
+pub type Served = Result<Response<Body>, Fault>;
+
+impl Call {
+    /// The value that the query gives a name.
+    pub fn query(&self, name: &str) -> Option<String> {
+        query_value(self.head.uri.query(), name)
+    }
+
+    /// The text of a header.
+    pub fn header(&self, name: &str) -> Option<&str> {
+        self.head.headers.get(name)?.to_str().ok()
+    }
+}
+
+/// An answer without content.
+pub fn empty(status: StatusCode, headers: &[(&str, &str)]) -> Served {
+    with_body(status, headers, Body::empty())
+}
+
+/// An answer with headers and content.
+pub fn with_body(status: StatusCode, headers: &[(&str, &str)], body: Body) -> Served {
+    let mut response = Response::builder().status(status);
+    for (name, value) in headers {
+        response = response.header(*name, *value);
+    }
+    let fault = |_| Fault::new(StatusCode::BAD_REQUEST, "UNSUPPORTED", "a header can't say this");
+    response.body(body).map_err(fault)
+}
+
+impl Registry {
+    /// Answers a request. It is answered in a task of its own, so that a client who leaves breaks off no call to the store.
+    pub async fn serve(self: Arc<Self>, request: Request<Body>) -> Response<Body> {
+        let begun = Instant::now();
+        let (method, path) = (request.method().clone(), request.uri().path().to_string());
+        let metrics = self.metrics.clone();
+        let response = tokio::spawn(self.answer(request)).await.unwrap_or_else(|_| {
+            Fault::new(StatusCode::INTERNAL_SERVER_ERROR, "UNSUPPORTED", "the request broke").into_response()
+        });
+        let took = begun.elapsed();
+        metrics.answered(&method, response.status(), took);
+        tracing::info!(%method, path, status = response.status().as_u16(), micros = took.as_micros() as u64);
+        response
+    }
+
+    async fn answer(self: Arc<Self>, request: Request<Body>) -> Response<Body> {
+        let (head, body) = request.into_parts();
+        let is_awaited = head.headers.contains_key(EXPECT);
+        let mut content = Content::new(body, is_awaited, self.metrics.clone());
+        self.route(head, &mut content).await.unwrap_or_else(|fault| {
+            let mut answer = fault.into_response();
+            content.drain(&mut answer);
+            answer
+        })
+    }
+
+    async fn route(self: Arc<Self>, head: Parts, content: &mut Content) -> Served {
+        let path = head.uri.path().to_string();
+        if path == "/healthz" {
+            return empty(StatusCode::OK, &[]);
+        }
+        let user = self.access.user(&head.headers).await?;
+        if path == "/metrics" {
+            let text = self.metrics.text(&self.store, &self.tenants, self.slots, self.uploads.len()).await?;
+            return with_body(StatusCode::OK, &[(CONTENT_TYPE.as_str(), "text/plain; version=0.0.4")], text.into());
+        }
+        let target = Target::of(&path).ok_or_else(Fault::path)?;
+        let repo = match target.repo() {
+            Some(repo) => repo.to_string(),
+            None => return empty(StatusCode::OK, &[("Docker-Distribution-API-Version", "registry/2.0")]),
+        };
+        Access::check(&user, &repo)?;
+        let method = head.method.clone();
+        let call = Call { registry: self, head, repo };
+        match (&method, target) {
+            (&Method::GET, Target::Tags { .. }) => manifests::tags(&call).await,
+            (&Method::GET, Target::Manifest { reference, .. }) => manifests::get(&call, reference).await,
+            (&Method::HEAD, Target::Manifest { reference, .. }) => manifests::head(&call, reference).await,
+            (&Method::PUT, Target::Manifest { reference, .. }) => manifests::put(&call, reference, content).await,
+            (&Method::DELETE, Target::Manifest { reference, .. }) => manifests::delete(&call, reference).await,
+            (&Method::POST, Target::Uploads { .. }) => uploading::open(&call, content).await,
+            (&Method::GET, Target::Upload { name, .. }) => uploading::status(&call, name).await,
+            (&Method::PATCH, Target::Upload { name, .. }) => uploading::append(&call, name, content).await,
+            (&Method::PUT, Target::Upload { name, .. }) => uploading::close(&call, name, content).await,
+            (&Method::DELETE, Target::Upload { name, .. }) => uploading::abandon(&call, name).await,
+            (&Method::GET, Target::Blob { digest, .. }) => blobs::get(&call, digest).await,
+            (&Method::HEAD, Target::Blob { digest, .. }) => blobs::head(&call, digest).await,
+            (&Method::DELETE, Target::Blob { digest, .. }) => blobs::delete(&call, digest).await,
+            _ => Err(Fault::method()),
+        }
+    }
+
+    /// Frees slots again and again, with a rest between, until the store is gone.
+    pub async fn sweep(&self, rest: Duration) {
+        while let Ok(Ok(swept)) = self.store.sweep().await {
+            self.metrics.swept(&swept);
+            if swept.freed > 0 {
+                tracing::info!(freed = swept.freed, held = swept.held, "swept");
+            }
+            if rest == Duration::ZERO {
+                tokio::task::yield_now().await;
+            } else {
+                tokio::time::sleep(rest).await;
+            }
+        }
+    }
+
+    /// Gives up the uploads that aren't used for some time, again and again, until the store is gone.
+    pub async fn expire(&self, time: Duration) {
+        let rest = (time / 10).clamp(Duration::from_millis(100), Duration::from_secs(60));
+        while self.expire_once(time).await.is_ok() {
+            tokio::time::sleep(rest).await;
+        }
+    }
+
+    async fn expire_once(&self, time: Duration) -> Result<(), Lost> {
+        for (name, repo, session) in self.uploads.unused_for(time) {
+            // One that a chunk is on its way to is tried again later.
+            if self.store.abandon(&repo, session).await?.is_ok() {
+                self.uploads.remove(&name);
+                tracing::info!(repo, "an unused upload is given up");
+            }
+        }
+        Ok(())
+    }
+}

@@ -1,0 +1,262 @@
+//! The store: a `blobd` process, and the lines to it.
+use crate::frames::{Command, Refusal, Reply, Request};
+use crate::line::{FarEnds, Line};
+use bytes::Bytes;
+use std::io;
+use std::os::unix::io::AsRawFd;
+use std::path::Path;
+use std::sync::Mutex;
+use std::time::Duration;
+use tokio::process::Child;
+use tokio::sync::{Notify, Semaphore};
+
+/// How long `blobd` may take to end once its lines have.
+const END_TIME: Duration = Duration::from_secs(10);
+
+/// What a store is made with.
+pub struct Setup<'a> {
+    pub blobd: &'a Path,
+    pub slots: u32,
+    pub max_blob: u64,
+    /// Words of the form `TENANT=QUOTA`.
+    pub tenants: &'a [String],
+    /// How many lines there are, and so how many calls can be on their way at once.
+    pub lines: usize,
+}
+
+/// What `stat` and a lease tell of a blob.
+pub struct Leased {
+    pub number: u32,
+    pub size: u64,
+}
+
+/// What a mount comes to.
+pub enum Mounted {
+    /// The blob is linked.
+    Linked,
+    /// There is no such blob to mount: a session was opened to upload it.
+    Session(u32),
+}
+
+/// What a sweep did.
+pub struct Swept {
+    pub freed: u64,
+    pub held: u64,
+}
+
+/// The store. A call takes one line while it is made, and waits for one where none is idle.
+pub struct Store {
+    idle: Mutex<Vec<Line>>,
+    count: Semaphore,
+    lost: Notify,
+}
+
+/// A call to the store could not be made, since the store is gone.
+#[derive(Debug)]
+pub struct Lost;
+
+/// What came of a call.
+pub type Answer<T> = Result<Result<T, Refusal>, Lost>;
+
+impl Store {
+    /// Starts `blobd`, and greets it on every line.
+    pub async fn start(setup: Setup<'_>) -> io::Result<(Store, Child)> {
+        let own = std::process::id();
+        let mut command = tokio::process::Command::new(setup.blobd);
+        command.arg(setup.slots.to_string()).arg(setup.max_blob.to_string()).args(setup.tenants).arg("--");
+        let mut lines = Vec::new();
+        let mut far_ends = Vec::new();
+        for _ in 0..setup.lines {
+            let (line, far) = Line::new()?;
+            // The program opens its ends by their names in this process, so that it inherits none.
+            let FarEnds { requests, replies } = &far;
+            command.arg(format!("/proc/{own}/fd/{}", requests.as_raw_fd()));
+            command.arg(format!("/proc/{own}/fd/{}", replies.as_raw_fd()));
+            lines.push(line);
+            far_ends.push(far);
+        }
+        let mut child = command.stdin(std::process::Stdio::null()).spawn()?;
+        let greeted = async {
+            for line in &mut lines {
+                line.greet().await?;
+            }
+            io::Result::Ok(())
+        };
+        tokio::select! {
+            result = greeted => result?,
+            status = child.wait() => {
+                let text = format!("blobd ended: {}", status?);
+                return Err(io::Error::new(io::ErrorKind::Other, text));
+            }
+        }
+        // From here on the other side alone has its ends, so that this one sees where they are closed.
+        drop(far_ends);
+        let store = Store { idle: Mutex::new(lines), count: Semaphore::new(setup.lines), lost: Notify::new() };
+        Ok((store, child))
+    }
+
+    /// Waits until the store is gone.
+    pub async fn lost(&self) {
+        self.lost.notified().await
+    }
+
+    /// Makes a call. A line is put back once its reply is there; one whose call fails or is dropped is closed.
+    async fn ask(&self, request: Request<'_>) -> Answer<Reply> {
+        let permit = self.count.acquire().await.map_err(|_| Lost)?;
+        let idle = self.idle.lock().unwrap().pop();
+        let mut line = match idle {
+            Some(line) => line,
+            None => return Err(Lost),
+        };
+        match line.exchange(&request).await {
+            Ok(answer) => {
+                self.idle.lock().unwrap().push(line);
+                drop(permit);
+                Ok(answer)
+            }
+            Err(error) => {
+                tracing::error!(%error, "the store is gone");
+                self.count.close();
+                self.lost.notify_one();
+                Err(Lost)
+            }
+        }
+    }
+
+    /// Opens a session of an upload: its number.
+    pub async fn start_upload(&self, repo: &str) -> Answer<u32> {
+        let answer = self.ask(Request { repo, ..Request::new(Command::Start) }).await?;
+        Ok(answer.map(|reply| reply.first as u32))
+    }
+
+    /// How many bytes a session has received.
+    pub async fn status(&self, repo: &str, number: u32) -> Answer<u64> {
+        let answer = self.ask(Request { repo, number, ..Request::new(Command::Status) }).await?;
+        Ok(answer.map(|reply| reply.first))
+    }
+
+    /// Adds bytes to a session at a place, which has to be its end: how many it has received then.
+    pub async fn append(&self, repo: &str, number: u32, start: u64, body: &[Bytes]) -> Answer<u64> {
+        let range = range_of(start, body);
+        let answer = self.ask(Request { repo, number, range, body, ..Request::new(Command::Append) }).await?;
+        Ok(answer.map(|reply| reply.first))
+    }
+
+    /// Adds the last bytes to a session and makes it a blob: the blob's size.
+    pub async fn close(&self, repo: &str, number: u32, digest: &str, start: u64, body: &[Bytes]) -> Answer<u64> {
+        let range = range_of(start, body);
+        let answer = self.ask(Request { repo, number, digest, range, body, ..Request::new(Command::Close) }).await?;
+        Ok(answer.map(|reply| reply.first))
+    }
+
+    /// Gives a session up.
+    pub async fn abandon(&self, repo: &str, number: u32) -> Answer<()> {
+        let answer = self.ask(Request { repo, number, ..Request::new(Command::Abandon) }).await?;
+        Ok(answer.map(|_| ()))
+    }
+
+    /// Links a blob of another repository of the tenant, or of any of them.
+    pub async fn mount(&self, repo: &str, digest: &str, source: &str) -> Answer<Mounted> {
+        let answer = self.ask(Request { repo, digest, source, ..Request::new(Command::Mount) }).await?;
+        Ok(answer.map(|reply| match reply.first {
+            0 => Mounted::Linked,
+            session => Mounted::Session(session as u32),
+        }))
+    }
+
+    /// Takes the link of a blob away.
+    pub async fn delete(&self, repo: &str, digest: &str) -> Answer<()> {
+        let answer = self.ask(Request { repo, digest, ..Request::new(Command::Delete) }).await?;
+        Ok(answer.map(|_| ()))
+    }
+
+    /// Keeps a manifest: its digest.
+    pub async fn put_manifest(&self, repo: &str, body: &[Bytes]) -> Answer<String> {
+        let answer = self.ask(Request { repo, body, ..Request::new(Command::PutManifest) }).await?;
+        Ok(answer.map(|reply| reply.digest))
+    }
+
+    /// A manifest's bytes.
+    pub async fn get_manifest(&self, repo: &str, digest: &str) -> Answer<Bytes> {
+        let answer = self.ask(Request { repo, digest, ..Request::new(Command::GetManifest) }).await?;
+        Ok(answer.map(|reply| reply.body))
+    }
+
+    /// Takes a manifest away.
+    pub async fn delete_manifest(&self, repo: &str, digest: &str) -> Answer<()> {
+        let answer = self.ask(Request { repo, digest, ..Request::new(Command::DeleteManifest) }).await?;
+        Ok(answer.map(|_| ()))
+    }
+
+    /// The size of a blob that is linked in a repository.
+    pub async fn stat(&self, repo: &str, digest: &str) -> Answer<u64> {
+        let answer = self.ask(Request { repo, digest, ..Request::new(Command::Stat) }).await?;
+        Ok(answer.map(|reply| reply.first))
+    }
+
+    /// The size of a manifest.
+    pub async fn stat_manifest(&self, repo: &str, digest: &str) -> Answer<u64> {
+        let answer = self.ask(Request { repo, digest, ..Request::new(Command::StatManifest) }).await?;
+        Ok(answer.map(|reply| reply.first))
+    }
+
+    /// A lease of a blob, which has to be given back.
+    pub async fn lease(&self, repo: &str, digest: &str) -> Answer<Leased> {
+        let answer = self.ask(Request { repo, digest, ..Request::new(Command::Lease) }).await?;
+        Ok(answer.map(|reply| Leased { size: reply.first, number: reply.second as u32 }))
+    }
+
+    /// Bytes of a leased blob from a place to another, both included.
+    pub async fn read(&self, lease: u32, digest: &str, start: u64, last: u64) -> Answer<Bytes> {
+        let range = Some((start, last));
+        let answer = self.ask(Request { number: lease, digest, range, ..Request::new(Command::Read) }).await?;
+        Ok(answer.map(|reply| reply.body))
+    }
+
+    /// Ends a lease.
+    pub async fn give_back(&self, lease: u32) -> Answer<()> {
+        let answer = self.ask(Request { number: lease, ..Request::new(Command::GiveBack) }).await?;
+        Ok(answer.map(|_| ()))
+    }
+
+    /// Frees the slots of blobs without links that nobody reads.
+    pub async fn sweep(&self) -> Answer<Swept> {
+        let answer = self.ask(Request::new(Command::Sweep)).await?;
+        Ok(answer.map(|reply| Swept { freed: reply.first, held: reply.second }))
+    }
+
+    /// How many slots are free.
+    pub async fn free_slots(&self) -> Answer<u64> {
+        let answer = self.ask(Request::new(Command::FreeSlots)).await?;
+        Ok(answer.map(|reply| reply.first))
+    }
+
+    /// A tenant's use and its quota, in bytes.
+    pub async fn usage(&self, tenant: &str) -> Answer<(u64, u64)> {
+        let answer = self.ask(Request { repo: tenant, ..Request::new(Command::Usage) }).await?;
+        Ok(answer.map(|reply| (reply.first, reply.second)))
+    }
+
+    /// Closes the lines, by which `blobd` ends, and waits for it. It writes its totals to standard error, which it shares.
+    pub async fn end(&self, mut child: Child) -> io::Result<()> {
+        self.count.close();
+        self.idle.lock().unwrap().clear();
+        match tokio::time::timeout(END_TIME, child.wait()).await {
+            Ok(status) => {
+                let status = status?;
+                if status.success() {
+                    Ok(())
+                } else {
+                    Err(io::Error::new(io::ErrorKind::Other, format!("blobd ended: {status}")))
+                }
+            }
+            Err(_) => child.kill().await,
+        }
+    }
+}
+
+/// The range of a body that begins at a place. An empty one has none.
+fn range_of(start: u64, body: &[Bytes]) -> Option<(u64, u64)> {
+    let len: u64 = body.iter().map(|piece| piece.len() as u64).sum();
+    (len > 0).then(|| (start, start + len - 1))
+}

@@ -1,0 +1,175 @@
+//! Uploads: opened, filled by chunks, closed or given up.
+use crate::content::{Content, Piece, Then};
+use crate::fault::{range_text, Fault};
+use crate::range::content_range;
+use crate::registry::{empty, Call, Served};
+use crate::store::{Answer, Lost, Mounted};
+use bytes::Bytes;
+use hyper::StatusCode;
+use tokio::task::JoinHandle;
+use uuid::Uuid;
+
+/// end-4, end-11: opens an upload, takes a blob whole, or mounts one.
+pub async fn open(call: &Call, content: &mut Content) -> Served {
+    let store = &call.registry.store;
+    if let Some(digest) = call.query("mount") {
+        let source = call.query("from").unwrap_or_default();
+        return match store.mount(&call.repo, &digest, &source).await?? {
+            Mounted::Linked => stored(call, &digest),
+            Mounted::Session(session) => opened(call, session),
+        };
+    }
+    let digest = call.query("digest");
+    let session = store.start_upload(&call.repo).await??;
+    let digest = match digest {
+        Some(digest) => digest,
+        None => return opened(call, session),
+    };
+    // Nobody else knows of this session, so it is given up where it comes to no blob.
+    let closed = take_and_close(call, session, 0, &digest, content).await;
+    if closed.is_err() {
+        let _ = store.abandon(&call.repo, session).await;
+    }
+    closed?;
+    stored(call, &digest)
+}
+
+/// end-13: how much of an upload was received.
+pub async fn status(call: &Call, name: &str) -> Served {
+    let (name, session) = find(call, name)?;
+    let received = call.registry.store.status(&call.repo, session).await??;
+    progress(call, StatusCode::NO_CONTENT, &name, received)
+}
+
+/// end-5: takes a chunk.
+pub async fn append(call: &Call, name: &str, content: &mut Content) -> Served {
+    let (name, session) = find(call, name)?;
+    let start = place(call, session, content).await?;
+    let (start, rest) = take_all_but_last(call, session, start, content).await?;
+    let received = match rest.is_empty() {
+        true => start,
+        false => call.registry.store.append(&call.repo, session, start, &rest).await??,
+    };
+    // The chunk may have taken long.
+    let _ = call.registry.uploads.session(&call.repo, &name);
+    progress(call, StatusCode::ACCEPTED, &name, received)
+}
+
+/// end-6: takes the last chunk, if any, and makes the upload a blob. Where it is refused the upload stays, with the bytes
+/// that were taken.
+pub async fn close(call: &Call, name: &str, content: &mut Content) -> Served {
+    let (name, session) = find(call, name)?;
+    let digest = call.query("digest").ok_or_else(|| {
+        Fault::new(StatusCode::BAD_REQUEST, "DIGEST_INVALID", "the query names no digest")
+    })?;
+    let start = place(call, session, content).await?;
+    take_and_close(call, session, start, &digest, content).await?;
+    call.registry.uploads.remove(&name);
+    stored(call, &digest)
+}
+
+/// end-14: gives an upload up.
+pub async fn abandon(call: &Call, name: &str) -> Served {
+    let (name, session) = find(call, name)?;
+    call.registry.store.abandon(&call.repo, session).await??;
+    call.registry.uploads.remove(&name);
+    empty(StatusCode::NO_CONTENT, &[])
+}
+
+/// An upload's name, and its session.
+fn find(call: &Call, name: &str) -> Result<(Uuid, u32), Fault> {
+    let name = Uuid::parse_str(name).map_err(|_| Fault::upload_unknown())?;
+    Ok((name, call.registry.uploads.session(&call.repo, &name)?))
+}
+
+/// The answer to an upload that is open.
+fn opened(call: &Call, session: u32) -> Served {
+    let name = call.registry.uploads.add(&call.repo, session);
+    progress(call, StatusCode::ACCEPTED, &name, 0)
+}
+
+/// The answer that tells how much of an upload was received.
+fn progress(call: &Call, status: StatusCode, name: &Uuid, received: u64) -> Served {
+    let name = name.to_string();
+    let location = format!("/v2/{}/blobs/uploads/{name}", call.repo);
+    let range = range_text(received);
+    empty(status, &[("Location", &location), ("Range", &range), ("Docker-Upload-UUID", &name)])
+}
+
+/// The answer that tells of a blob in the repository.
+fn stored(call: &Call, digest: &str) -> Served {
+    let location = format!("/v2/{}/blobs/{digest}", call.repo);
+    empty(StatusCode::CREATED, &[("Location", &location), ("Docker-Content-Digest", digest)])
+}
+
+/// The place at which a chunk begins: the upload's end, which its range has to name if there is one.
+async fn place(call: &Call, session: u32, content: &Content) -> Result<u64, Fault> {
+    let received = call.registry.store.status(&call.repo, session).await??;
+    let text = match call.header("content-range") {
+        Some(text) => text,
+        None => return Ok(received),
+    };
+    let (start, last) = content_range(text).ok_or_else(Fault::content_range)?;
+    if content.len.map_or(false, |len| len != last - start + 1) {
+        return Err(Fault::content_range());
+    }
+    if start != received {
+        return Err(Fault::out_of_order(received));
+    }
+    Ok(received)
+}
+
+/// Takes the content, and closes the session with its last piece.
+async fn take_and_close(
+    call: &Call,
+    session: u32,
+    start: u64,
+    digest: &str,
+    content: &mut Content,
+) -> Result<(), Fault> {
+    let (start, rest) = take_all_but_last(call, session, start, content).await?;
+    call.registry.store.close(&call.repo, session, digest, start, &rest).await??;
+    Ok(())
+}
+
+/// A piece on its way to the store, which tells how much the session has received by it.
+struct Sending(JoinHandle<Answer<u64>>);
+
+impl Sending {
+    fn begin(call: &Call, session: u32, start: u64, parts: Vec<Bytes>) -> Sending {
+        let (registry, repo) = (call.registry.clone(), call.repo.clone());
+        Sending(tokio::spawn(async move { registry.store.append(&repo, session, start, &parts).await }))
+    }
+
+    async fn end(self) -> Result<u64, Fault> {
+        Ok(self.0.await.map_err(|_| Lost)???)
+    }
+}
+
+/// Appends the content to a session but for its last piece, which is given back with the place where it belongs. Each
+/// piece names its place, so that two requests can't mix in one session, and the next is read while one is hashed. Where
+/// the client breaks off, what came of it is kept, and the upload can go on from there.
+async fn take_all_but_last(
+    call: &Call,
+    session: u32,
+    mut start: u64,
+    content: &mut Content,
+) -> Result<(u64, Vec<Bytes>), Fault> {
+    let mut sending: Option<Sending> = None;
+    loop {
+        let Piece { parts, then } = content.next().await;
+        if let Some(sending) = sending.take() {
+            start = sending.end().await?;
+        }
+        match then {
+            Then::End => return Ok((start, parts)),
+            Then::More => sending = Some(Sending::begin(call, session, start, parts)),
+            Then::CutOff => {
+                if !parts.is_empty() {
+                    Sending::begin(call, session, start, parts).end().await?;
+                }
+                return Err(Fault::cut_off());
+            }
+        }
+    }
+}
