@@ -7,7 +7,7 @@ use crate::serving::{Line, serve_ends, serve_new};
 use blob_store::{Naming, Parts, Store};
 use line_player::Ending;
 use std::alloc::AllocGlobal;
-use std::io::{self, ErrorKind, Read};
+use std::io::{self, ErrorKind, Read, Write};
 use std::marker::Brand;
 use std::process::Abort;
 use std::sync::atomic::{AtomicU32, Ordering};
@@ -54,10 +54,12 @@ fn sent(rt: &(impl Abort + AllocGlobal), requests: &[Asked<'_>]) -> Vec<u8> {
     for (command, repo, digest, number, body) in requests {
         add(rt, &mut bytes, &[*command, 0]);
         for text in [*repo, *digest, ""] {
-            add(rt, &mut bytes, &(text.len() as u16).to_le_bytes());
+            let len = u16::try_from(text.len()).expect(rt, "a short text");
+            add(rt, &mut bytes, &len.to_le_bytes());
         }
         add(rt, &mut bytes, &number.to_le_bytes());
-        add(rt, &mut bytes, &(body.len() as u32).to_le_bytes());
+        let len = u32::try_from(body.len()).expect(rt, "a short body");
+        add(rt, &mut bytes, &len.to_le_bytes());
         add(rt, &mut bytes, &[0; 16]);
         for text in [*repo, *digest, *body] {
             add(rt, &mut bytes, text.as_bytes());
@@ -220,58 +222,79 @@ impl Read for Meeting<'_> {
     }
 }
 
+/// What a client gets, which is to be these bytes. As many as are so are counted, and the others refused.
+#[derive(Drop)]
+struct Awaited<'m> {
+    left: &'m [u8],
+    count: &'m AtomicU32,
+}
+
+impl Write for Awaited<'_> {
+    fn write(&mut self, buf: &[u8]) -> io::Result<usize> {
+        for byte in buf {
+            match self.left.split_first() {
+                Some((wanted, rest)) if wanted == byte => {
+                    self.left = rest;
+                    self.count.fetch_add(1, Ordering::SeqCst);
+                }
+                _ => return Err(io::Error::from(ErrorKind::Other)),
+            }
+        }
+        Ok(buf.len())
+    }
+
+    fn flush(&mut self) -> io::Result<()> {
+        Ok(())
+    }
+}
+
+/// A line of what a client sends, and is to get.
+fn line<'m>(
+    sent: &'m [u8],
+    wanted: &'m [u8],
+    here: &'m AtomicU32,
+    count: &'m AtomicU32,
+) -> Line<Meeting<'m>, Awaited<'m>> {
+    let input = Meeting {
+        left: sent,
+        here,
+        is_here: false,
+    };
+    let output = Awaited {
+        left: wanted,
+        count,
+    };
+    Line::new(input, output)
+}
+
+/// An upload of `abc`, whole.
+fn upload<'a>(repo: &'a str) -> [Asked<'a>; 2] {
+    [(START, repo, "", 0, ""), (CLOSE, repo, ABC, 1, "abc")]
+}
+
 /// Serves three lines, each of which uploads `abc` for a tenant of its own.
 fn serves_three<W: Abort + AllocGlobal + Threads + Wait + Sync>(rt: &W) {
     let here = AtomicU32::new(0);
-    let one = sent(
-        rt,
-        &[(START, "one/a", "", 0, ""), (CLOSE, "one/a", ABC, 1, "abc")],
-    );
-    let two = sent(
-        rt,
-        &[(START, "two/a", "", 0, ""), (CLOSE, "two/a", ABC, 1, "abc")],
-    );
-    let six = sent(
-        rt,
-        &[(START, "six/a", "", 0, ""), (CLOSE, "six/a", ABC, 1, "abc")],
-    );
-    let mut replies: [Vec<u8>; 3] = [
-        Vec::new(rt.alloc()),
-        Vec::new(rt.alloc()),
-        Vec::new(rt.alloc()),
-    ];
-    let [first, second, third] = &mut replies;
-    let line = |left, output| {
-        Line::new(
-            Meeting {
-                left,
-                here: &here,
-                is_here: false,
-            },
-            output,
-        )
-    };
+    let acme = sent(rt, &upload("acme/one"));
+    let other = sent(rt, &upload("other/one"));
+    let zeta = sent(rt, &upload("zeta/one"));
+    let wanted = told(rt, &[(1, 0, ""), (3, 0, "")]);
+    let count = AtomicU32::new(0);
     let mut lines = [
-        line(one.as_slice(), first),
-        line(two.as_slice(), second),
-        line(six.as_slice(), third),
+        line(acme.as_slice(), wanted.as_slice(), &here, &count),
+        line(other.as_slice(), wanted.as_slice(), &here, &count),
+        line(zeta.as_slice(), wanted.as_slice(), &here, &count),
     ];
-    let totals = serve_new(
-        rt,
-        rt.alloc(),
-        parts(rt, &["one", "two", "six"]),
-        &mut lines,
-    );
+    let parts = parts(rt, &["acme", "other", "zeta"]);
+    let totals = serve_new(rt, rt.alloc(), parts, &mut lines);
     for line in &lines {
         assert!(rt; line.served() == Some(Ok(Ending::Closed)));
     }
     assert_eq!(rt; totals.commands, 6);
     assert_eq!(rt; totals.received, 9);
     assert_eq!(rt; totals.desks, 0);
-    let wanted = told(rt, &[(1, 0, ""), (3, 0, "")]);
-    for reply in &replies {
-        assert!(rt; reply.as_slice() == wanted.as_slice());
-    }
+    // a greeting of 8 bytes, and two replies of 32, on each
+    assert_eq!(rt; count.load(Ordering::SeqCst), 216);
 }
 
 #[test]
