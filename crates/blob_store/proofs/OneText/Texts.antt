@@ -57,7 +57,7 @@ lane_of tenants rows share t = elim (passing own (Contains rows) rows there) [
     there : AllByRecursion (Contains rows) rows
     there = recursion_from_All (Contains rows) rows (All-contains_itself rows)
 
--- what is said of the rows of lines, of their rows
+-- what each of the rows has, the row of each line has
 all_rows : (P : RowView → Type 0) (lines : List Line) → AllByRecursion P (rows_of lines) → AllByRecursion (λ l. P l.0) lines
 all_rows P [] h = tt
 all_rows P (l ∷ lines) h = (h.0, all_rows P lines h.1)
