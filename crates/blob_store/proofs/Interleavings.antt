@@ -1,5 +1,5 @@
 -- Workers' rows are one legal history: those of several, whose desks have their steps, and those of one that is alone.
-use Rattle.std.proofs.Common.{◌≡◌, ◌∙◌, ◌<◌, ◌≤◌, ◌%◌, ℕ, zero, suc, List, [], ◌∷◌, ap, arith, get_or, length, refl, subst, sym}
+use Rattle.std.proofs.Common.{◌≡◌, ◌∙◌, ◌%◌, ℕ, zero, suc, List, [], ◌∷◌, ap, arith, get_or, length, refl, subst, sym}
 use Rattle.std.proofs.lemmas.Bool.{eq-eqb}
 use Rattle.std.proofs.lemmas.Nat.{mod_below}
 use Rattle.shared_log.specs.Entries.{entries_by, events_by}

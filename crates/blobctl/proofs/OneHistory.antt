@@ -1,5 +1,5 @@
 -- What one worker plays is a history: each row's command is a step, or takes a session in hand and puts it back or finishes it at once.
-use Rattle.std.proofs.Common.{◌≡◌, ◌≢◌, ◌⊎◌, ℕ, ◌+◌, List, [], ◌∷◌, ◌++◌, length, Bool, true, false, Option, Some, None, Result, Ok, Err, refl, sym, ap, ◌∙◌, subst, inl, inr, append_assoc}
+use Rattle.std.proofs.Common.{◌≡◌, ℕ, ◌+◌, List, [], ◌∷◌, ◌++◌, length, true, false, Option, Some, None, Result, Ok, Err, refl, sym, ap, ◌∙◌, subst, inl, inr, append_assoc}
 use Rattle.std.specs.List.{AllByRecursion}
 use Rattle.std.proofs.lemmas.List.{append-nil}
 use Rattle.blob_digest.specs.declared.range.ByteRange.{ByteRange}
@@ -12,7 +12,7 @@ use Rattle.store_model.specs.Commands.{Outcome, take}
 use Rattle.store_model.specs.Histories.{AreSteps, Finished, MayLeave, Performed, PutBack, State, Step, Took, first_state, step_amounts}
 use Rattle.store_model.specs.Runs as runs
 use Rattle.store_model.proofs.Commands.ByHand.{append_by_hand, append_is, append_refused, close_by_hand, close_refused, refused_by_hand}
-use Rattle.row_player.specs.Answers.{Answer, Refused}
+use Rattle.row_player.specs.Answers.{Answer}
 use Rattle.row_player.specs.CommandAnswers.{row_answer}
 use Rattle.row_player.specs.Commands.{Append, Calls, Close, Command, Request, command_of, is_command}
 use Rattle.row_player.specs.Counts.{chunk_of, closed_of, request_amount}
@@ -27,7 +27,7 @@ use Rattle.blob_store.specs.Seats.{AreCommandSteps, Work, WorkActs}
 use Rattle.blob_store.specs.Workers.{IsInterleaved, no_work}
 use Rattle.blob_store.proofs.Interleavings.{by_one}
 use Rattle.blob_store.proofs.OneText.RowSteps.{store_row}
-use Rattle.blobctl.specs.Played.{Leads, outcome, result_of}
+use Rattle.blobctl.specs.Played.{Leads, result_of}
 use Rattle.blobctl.proofs.ScriptRuns.{asked}
 
 -- ---- steps

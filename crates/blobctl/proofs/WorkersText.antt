@@ -1,7 +1,6 @@
 -- Texts that workers write of the same rows.
-use Rattle.std.proofs.Common.{◌≡◌, ◌<◌, ◌++◌, ◌∙◌, ℕ, List, length, ap, refl, subst, sym}
+use Rattle.std.proofs.Common.{◌≡◌, ◌<◌, ◌++◌, ◌∙◌, ℕ, List, length, ap, refl, subst}
 use Rattle.blob_digest.specs.Tenants.{Tenant}
-use Rattle.finite_maps.specs.Texts.{Text}
 use Rattle.store_model.specs.BookText.{book_text}
 use Rattle.store_model.specs.Catalog.{Catalog, opening}
 use Rattle.store_model.specs.Histories.{LeadsTo}

@@ -4,7 +4,7 @@ use Rattle.std.specs.Prelude.{◌==◌, nat_eq}
 use Rattle.std.specs.Option.{option_eq}
 use Rattle.std.specs.List.{AllByRecursion, Contains, filter, zip}
 use Rattle.std.proofs.lemmas.Bool.{cases_Bool, cases_lt, eq-eqb, ne_eqb, true≢false}
-use Rattle.std.proofs.lemmas.List.Elements.{All-contains_itself, recursion_from_All}
+use Rattle.std.proofs.lemmas.List.Elements.{All-contains_itself, All-filter, All-from_recursion, recursion_from_All}
 use Rattle.std.proofs.lemmas.Nat.{mod_below}
 use Rattle.std.proofs.lemmas.Slice.Zip.{firsts-zip}
 use Rattle.finite_maps.proofs.Lists.{all_weaker, filter-map}
@@ -57,17 +57,10 @@ lane_of tenants rows share t = elim (passing own (Contains rows) rows there) [
     there : AllByRecursion (Contains rows) rows
     there = recursion_from_All (Contains rows) rows (All-contains_itself rows)
 
--- what is said of the rows of lines, of their rows
+-- what each of the rows has, the row of each line has
 all_rows : (P : RowView → Type 0) (lines : List Line) → AllByRecursion P (rows_of lines) → AllByRecursion (λ l. P l.0) lines
 all_rows P [] h = tt
 all_rows P (l ∷ lines) h = (h.0, all_rows P lines h.1)
-
-filtered : {A : Type 0} (P : A → Type 0) (p : A → Bool) (xs : List A) → AllByRecursion P xs → AllByRecursion P (filter p xs)
-filtered P p [] h = tt
-filtered P p (x ∷ xs) h = elim (p x) as (λ b. AllByRecursion P (cond b (x ∷ filter p xs) (filter p xs))) [
-  | true ↦ (h.0, filtered P p xs h.1)
-  | false ↦ filtered P p xs h.1
-]
 
 -- ---- the answers of all rows
 
@@ -123,12 +116,15 @@ module _ (tenants : List Tenant) (slots max_blob : ℕ) (rows : List RowView) (s
     told_by : (w : ℕ) → AllByRecursion (IsTold tenants) (events_by w play.run.order)
     told_by w = all_by (IsTold tenants) w play.run.order told
 
+    own_commands : (w : ℕ) → NeitherLeaseNorSweep (own_rows n w rows)
+    own_commands w = recursion_from_All _ (own_rows n w rows) (All-filter (is_own n w) (λ row. is_command row.verb ≡ true) rows (All-from_recursion _ rows commands))
+
     -- the steps of a worker are those of its rows
     worker_steps : (w : ℕ) → w < n → AreLineSteps (filter (own w) lines) (events_by w play.run.order)
     worker_steps w lt =
         let lane = play.run.lanes w lt in
         let is : own_rows n w rows ≡ rows_of (filter (own w) lines) = ap (own_rows n w) (sym rows_are) ∙ filter-map (is_own n w) (λ (l : Line). l.0) lines in
-        let all : AllByRecursion (λ row. is_command row.verb ≡ true) (rows_of (filter (own w) lines)) = subst (AllByRecursion (λ row. is_command row.verb ≡ true)) is (filtered _ (is_own n w) rows commands) in
+        let all : AllByRecursion (λ row. is_command row.verb ≡ true) (rows_of (filter (own w) lines)) = subst (AllByRecursion (λ row. is_command row.verb ≡ true)) is (own_commands w) in
         let h = line_steps (filter (own w) lines) (no_work, none) (lane.0, lane.2.0) all (subst (λ rs. Plays WorkActs (no_work, none) rs (answers_of (filter (own w) lines)) (lane.0, lane.2.0)) is lane.2.1) in
         subst (AreLineSteps (filter (own w) lines)) (sym h.2 ∙ lane.1) h.1
 
