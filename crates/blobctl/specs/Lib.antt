@@ -11,3 +11,4 @@ pub mod ScriptRuns
 pub mod Stops
 pub mod Texts
 pub mod Watching
+pub mod WorkersOrder

@@ -1,7 +1,9 @@
 //! What follows from the definitions alone.
 ghost use Rattle.blobctl.specs.OneText.{HasOneText, HasText};
 ghost use Rattle.blobctl.specs.ScriptRuns.{BooksFollowRows, ScriptsAreRuns};
+ghost use Rattle.blobctl.specs.WorkersOrder.{WorkersHaveOrders};
 
+use blob_store::laws::orders_of_rows;
 use store_book::laws::isolation;
 
 /// A script without bad rows has a text on each opening catalog, and where none of its rows leases a
@@ -21,4 +23,13 @@ pub fn tenants_rows()
     ensures books { BooksFollowRows }
 {
     isolation();
+}
+
+/// What several workers write for a script is what its rows do in some order, one whole row after another:
+/// the reply at each row, and the book that is left. The rows of each worker keep their order. This is said
+/// of runs in which no reply is that a session is busy or a quota is passed, and none is for want of a count.
+pub fn workers_order()
+    ensures orders { WorkersHaveOrders }
+{
+    orders_of_rows();
 }
