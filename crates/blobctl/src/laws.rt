@@ -1,13 +1,14 @@
 //! What follows from the definitions alone.
 ghost use Rattle.blobctl.specs.OneText.{HasOneText, HasText};
 ghost use Rattle.blobctl.specs.ScriptRuns.{BooksFollowRows, ScriptsAreRuns};
+ghost use Rattle.blobctl.specs.WorkersOrder.{WorkersHaveOrders};
 ghost use Rattle.blobctl.specs.WorkersText.{
   OneWorkerHasHistory,
   OneWritesAsSeveral,
   WorkersWriteOneText,
 };
 
-use blob_store::laws::interleavings;
+use blob_store::laws::{interleavings, orders_of_rows};
 use store_book::laws::isolation;
 
 /// A script without bad rows has a text on each opening catalog, and where none of its rows leases a
@@ -39,4 +40,13 @@ pub fn workers_text()
     ensures several { WorkersWriteOneText }
 {
     interleavings();
+}
+
+/// What several workers write for a script is what its rows do in some order, one whole row after another:
+/// the reply at each row, and the book that is left. The rows of each worker keep their order. This is said
+/// of runs in which no reply is that a session is busy or a quota is passed, and none is for want of a count.
+pub fn workers_order()
+    ensures orders { WorkersHaveOrders }
+{
+    orders_of_rows();
 }
