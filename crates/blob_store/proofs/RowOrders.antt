@@ -1,4 +1,6 @@
 -- The rows of several workers in an order.
+pub mod Calm
+pub mod Counts
 pub mod Held
 pub mod Kept
 pub mod Leases

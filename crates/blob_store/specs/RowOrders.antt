@@ -1,11 +1,10 @@
 -- What several workers do is what their rows do in some order, one whole row after another.
-use Rattle.std.specs.Prelude.{◌≡◌, ◌<◌, ℕ, List, [], ◌∷◌, length, map, Result, Err}
-use Rattle.std.specs.List.{AllByRecursion, filter, zip}
+use Rattle.std.specs.Prelude.{◌≡◌, ◌<◌, ◌^◌, ℕ, List, length, map, Result}
+use Rattle.std.specs.List.{AllByRecursion, filter, sum_by, zip}
 use Rattle.std.specs.List.Sorted.{IsPermutation}
 use Rattle.blob_digest.specs.Tenants.{Tenant}
 use Rattle.blob_digest.specs.declared.refusal.Refusal.{Refusal}
 use Rattle.store_model.specs.Catalog.{Catalog, opening}
-use Rattle.store_model.specs.Histories.{AreSteps, IsUncountable, Performed, State, Step, Took, first_state}
 use Rattle.store_model.specs.Invariant.{Sound}
 use Rattle.store_model.specs.Runs as runs
 use Rattle.store_model.specs.Sweep.{IsSweep}
@@ -18,7 +17,6 @@ use Rattle.row_player.specs.Leases.{Leases, none}
 use Rattle.row_player.specs.Plays.{Plays}
 use Rattle.row_player.specs.Rows.{RowView}
 use Rattle.row_player.specs.Shares.{is_own}
-use Rattle.locked_book.specs.History.{steps_of}
 use Rattle.blob_store.specs.Seats.{as_answer}
 use Rattle.blob_store.specs.Workers.{IsInterleaved}
 
@@ -49,20 +47,14 @@ abbrev pub IsCalmAnswer : Answer → Type 0
 IsCalmAnswer (Refused e) = IsCalm e
 IsCalmAnswer answer = Unit {0}
 
--- a step is not refused for want of a count
-abbrev pub IsCountedStep : State → Step → Type 0
-IsCountedStep s (Performed command (Err e)) = ¬ (IsUncountable s 0 e)
-IsCountedStep s (Took repo number range len (Err e)) = ¬ (IsUncountable s len e)
-IsCountedStep s step = Unit {0}
-
-abbrev pub AreCounted : (s : State) (steps : List Step) (last : State) → AreSteps s steps last → Type 0
-AreCounted s [] last run = Unit {0}
-AreCounted s (step ∷ steps) last run = IsCountedStep s step × AreCounted run.0 steps last run.2
+-- rows so few, and with so few bytes in their bodies, that each command of theirs can be counted
+pub record AreFew (rows : List RowView) : Type 0 where
+  pub number : length rows < 2 ^ 63
+  pub bytes : sum_by (λ row. length row.body) rows < 2 ^ 63
 
 -- ---- the law
 
--- What several workers do together has such an order, where no answer is `Busy` or `Quota`, and none is for want of a count.
+-- What several workers do together has such an order, where no answer is `Busy` or `Quota`.
 abbrev pub RowsHaveOrders : Type 0
-RowsHaveOrders = (tenants : List Tenant) (slots max_blob workers : ℕ) (rows : List RowView) (answers : List Answer) (last : Catalog) → Sound (opening tenants slots max_blob) → 0 < workers → length answers ≡ length rows →
-    (together : IsInterleaved (opening tenants slots max_blob) workers rows answers last) → AllByRecursion IsCalmAnswer answers → AreCounted (first_state (opening tenants slots max_blob)) (steps_of together.order) together.state together.legal →
-    HasOrder (opening tenants slots max_blob) workers rows answers last
+RowsHaveOrders = (tenants : List Tenant) (slots max_blob workers : ℕ) (rows : List RowView) (answers : List Answer) (last : Catalog) → Sound (opening tenants slots max_blob) → 0 < workers → length answers ≡ length rows → AreFew rows →
+    AllByRecursion IsCalmAnswer answers → IsInterleaved (opening tenants slots max_blob) workers rows answers last → HasOrder (opening tenants slots max_blob) workers rows answers last

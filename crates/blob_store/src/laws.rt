@@ -13,8 +13,8 @@ pub fn interleavings()
 
 /// What several workers do together on a new store is what their rows do in some order, one whole row
 /// after another, each with its answer: from no lease on, with the same catalog at the end, and the rows
-/// of each worker as they stand. This is said where no row is answered `Busy` or `Quota`, and none is
-/// refused for want of a count, of which there are 2^64; no row is answered `Memory`.
+/// of each worker as they stand. This is said where no row is answered `Busy` or `Quota`, and where
+/// the rows, and the bytes of their bodies, are fewer than 2^63. No row is answered `Memory`.
 pub fn orders_of_rows()
     ensures orders { RowsHaveOrders }
 {}

@@ -43,8 +43,9 @@ pub fn workers_text()
 }
 
 /// What several workers write for a script is what its rows do in some order, one whole row after another:
-/// the reply at each row, and the book that is left. The rows of each worker keep their order. This is said
-/// of runs in which no reply is that a session is busy or a quota is passed, and none is for want of a count.
+/// the reply at each row, and then the book that is left. The rows of each worker keep their order. This is
+/// said of runs in which no reply is that a session is busy or a quota is passed, and of fewer than 2^63 rows
+/// with fewer than 2^63 bytes in their bodies.
 pub fn workers_order()
     ensures orders { WorkersHaveOrders }
 {

@@ -1,11 +1,13 @@
 -- The steps of all workers are events in some order of the rows: each step but a take completes the row that is its worker's next.
-use Rattle.std.proofs.Common.{◌≡◌, ◌≢◌, ◌⊎◌, ◌<◌, ◌≤◌, ◌%◌, ◌==◌, ◌++◌, ◌∷◌, [], ℕ, Bool, true, false, cond, List, length, Option, Some, None, Result, Ok, Err, refl, sym, ap, ◌∙◌, subst, inl, inr, arith}
+use Rattle.std.proofs.Common.{◌≡◌, ◌≢◌, ◌⊎◌, ◌<◌, ◌≤◌, ◌+◌, ◌%◌, ◌==◌, ◌++◌, ◌∷◌, [], ℕ, Bool, true, false, cond, List, length, Option, Some, None, Result, Ok, Err, refl, sym, ap, ◌∙◌, subst, inl, inr, arith}
 use Prim.Native.Nat.{zero, suc}
 use Rattle.std.specs.Prelude.{nat_lt}
-use Rattle.std.specs.List.{AllByRecursion, filter}
+use Rattle.std.specs.List.{AllByRecursion, filter, sum_by}
 use Rattle.std.specs.FinMap.{empty, get, get-empty, insert, remove, same_map}
 use Rattle.std.proofs.lemmas.Bool.{cases_eq, eq-eqb, ltb-false, ltb-true, ne_eqb}
+use Rattle.std.proofs.lemmas.List.Sums.{sum_by-cons}
 use Rattle.std.proofs.lemmas.Option.{same_Some}
+use Rattle.blob_digest.specs.declared.range.ByteRange.{ByteRange}
 use Rattle.blob_digest.specs.declared.refusal.Refusal.{Refusal}
 use Rattle.blob_digest.proofs.KeyOrders.{number_cmp_total, exact_number}
 use Rattle.finite_maps.proofs.Maps.{cases_key, get-insert_at, get-insert_other, get-remove_other}
@@ -16,17 +18,20 @@ use Rattle.shared_log.specs.declared.view.Entry.{Entry}
 use Rattle.store_model.specs.Catalog.{Catalog, Number, Taken, number_cmp}
 use Rattle.store_model.specs.Commands.{take}
 use Rattle.store_model.specs.Histories.{AreSteps, Cleaned, Finished, IsStep, MayLeave, Performed, PutBack, State, Step, Took}
+use Rattle.store_model.specs.Hands.{filled_length}
+use Rattle.store_model.specs.Invariant.{Sound}
 use Rattle.store_model.specs.Runs as runs
 use Rattle.store_model.specs.Runs.{Called, Event, IsNamed}
-use Rattle.store_model.specs.WholeCommands.{AreWhole, ComesTo, Hands, IsCalm, Lent, numbered}
+use Rattle.store_model.specs.WholeCommands.{AreWhole, ComesTo, Hands, IsCalm, IsUpload, Lent, numbered}
 use Rattle.row_player.specs.Answers.{Answer}
+use Rattle.row_player.specs.Counts.{chunk_of}
 use Rattle.row_player.specs.Leases.{Leases}
 use Rattle.row_player.specs.Rows.{RowView}
 use Rattle.row_player.specs.Shares.{is_own}
 use Rattle.locked_book.specs.History.{filled, steps_of}
 use Rattle.blob_store.specs.RowOrders.{IsCalmAnswer}
 use Rattle.blob_store.proofs.RowOrders.Kept.{IsKept, its_number, its_reserve, kept_back, kept_finish, kept_take, kept_whole, was_free}
-use Rattle.blob_store.proofs.RowOrders.Rows.{AreLeft, IsMildEvent, IsReturn, IsRowOf, IsWhole, Taking, lent_by, take_of}
+use Rattle.blob_store.proofs.RowOrders.Rows.{AreLeft, IsMildEvent, IsReturn, IsRowOf, IsWhole, Taking, chunk_in, lent_by, take_of}
 
 -- ---- where a worker is
 
@@ -203,13 +208,34 @@ IsMild (Took repo number range len (Err e)) = IsCalm e
 IsMild (Finished hand digest (Err e)) = IsCalm e
 IsMild step = Unit {0}
 
+-- a step is a command but where it only takes a hand
+abbrev pub commands_in : Step → ℕ
+commands_in (Took repo number range len (Ok hand)) = 0
+commands_in step = 1
+
+-- the bytes of a step's chunk, but where it only takes a hand
+abbrev pub bytes_in : Step → ℕ
+bytes_in (Performed command reply) = chunk_of command
+bytes_in (Took repo number range len (Err e)) = len
+bytes_in (PutBack hand reply) = filled_length hand
+bytes_in (Finished hand digest reply) = filled_length hand
+bytes_in step = 0
+
+-- each catalog of a run but the last is sound
+abbrev pub AreSound : (s : State) (steps : List Step) (last : State) → AreSteps s steps last → Type 0
+AreSound s [] last run = Unit {0}
+AreSound s (step ∷ steps) last run = Sound s.catalog × AreSound run.0 steps last run.2
+
 -- an order of the workers' rows, with the events that the steps come to
-pub record IsOrdered (n : ℕ) (hands : Hands) (steps : List Step) (of : ℕ → Place) : Type 0 where
+pub record IsOrdered (n : ℕ) (hands : Hands) (s : State) (steps : List Step) (last : State) (run : AreSteps s steps last) (of : ℕ → Place) : Type 0 where
   pub order : List (RowView × Answer)
   pub events : List Event
   pub whole : AreWhole hands steps events
   pub named : AllByRecursion IsNamed events
   pub mild : AllByRecursion IsMild steps
+  pub sound : AreSound s steps last run
+  pub few : sum_by commands_in steps ≤ length order
+  pub small : sum_by bytes_in steps ≤ sum_by (λ p. length p.0.body) order
   pub each : (w : ℕ) → w < n → filter (λ p. is_own n w p.0) order ≡ (of w).rows
   pub told : Told n (λ w. (of w).held) order events
 
@@ -219,14 +245,18 @@ both_named (e ∷ first) later a b = (a.0, both_named first later a.1 b)
 
 -- a row of a worker, and then the others
 module _ (n w : ℕ) (lt : w < n) (of : ℕ → Place) (x : Place) (p : RowView × Answer) (next : (of w).rows ≡ p ∷ x.rows) (mine : p.0.lane % n ≡ w) (first : List Event) (does : IsRowOf (of w).held p.0 p.1 first x.held) where
-  with_row : (hands after : Hands) (steps later : List Step) → ((events : List Event) → AreWhole after later events → AreWhole hands steps (first ++ events)) → (AllByRecursion IsMild later → AllByRecursion IsMild steps) →
-      IsOrdered n after later (put w x of) → IsOrdered n hands steps of
-  with_row hands after steps later whole mild rest = record {
+  with_row : (hands after : Hands) (s t : State) (steps later : List Step) (last : State) (run : AreSteps s steps last) (goes_on : AreSteps t later last) → ((events : List Event) → AreWhole after later events → AreWhole hands steps (first ++ events)) →
+      (AllByRecursion IsMild later → AllByRecursion IsMild steps) → (AreSound t later last goes_on → AreSound s steps last run) → sum_by commands_in steps ≤ 1 + sum_by commands_in later →
+      sum_by bytes_in steps ≤ length p.0.body + sum_by bytes_in later → IsOrdered n after t later last goes_on (put w x of) → IsOrdered n hands s steps last run of
+  with_row hands after s t steps later last run goes_on whole mild sound few small rest = record {
     order = p ∷ rest.order;
     events = first ++ rest.events;
     whole = whole rest.events rest.whole;
     named = both_named first rest.events does.named rest.named;
     mild = mild rest.mild;
+    sound = sound rest.sound;
+    few = let less = rest.few in omega (arith, few, less);
+    small = let less = rest.small in let sum = sum_by-cons (λ (q : RowView × Answer). length q.0.body) p rest.order in omega (arith, small, less, sum);
     each = λ v below. elim (cases_eq v w) [
       | inl e ↦ subst (λ u. filter (λ q. is_own n u q.0) (p ∷ rest.order) ≡ (of u).rows) (sym e)
           (rw (eq-eqb (p.0.lane % n) w mine) (ap (λ ps. p ∷ ps) (rest.each w lt ∙ ap (λ (y : Place). y.rows) (put_at w x of)) ∙ sym next))
@@ -286,16 +316,54 @@ mild_return t d e r mild = elim r.is [
     finished h digest command (Ok n) mild = tt
     finished h digest command (Err f) mild = mild
 
+-- a step counts as one command at most, and brings no more bytes than the event that it is
+one_at_most : (d : Step) → commands_in d ≤ 1
+one_at_most (Performed command reply) = omega arith
+one_at_most (Cleaned swept) = omega arith
+one_at_most (Took repo number range len (Ok h)) = omega arith
+one_at_most (Took repo number range len (Err f)) = omega arith
+one_at_most (PutBack h reply) = omega arith
+one_at_most (Finished h digest reply) = omega arith
+
+-- the only event of a list is this one
+same_event : {d e : Event} → ◌≡◌ {A = List Event} (d ∷ []) (e ∷ []) → d ≡ e
+same_event h = cc
+
+upload_chunk : (repo : Text) (number : ℕ) (range : Option ByteRange) (bytes : Text) (command : runs.Command) → IsUpload repo number range bytes command → chunk_of command ≡ length bytes
+upload_chunk repo number range bytes command upload = elim upload [
+  | inl is ↦ ap chunk_of is
+  | inr x ↦ ap chunk_of x.1
+]
+
+bytes_whole : (d : Step) (e : Event) → IsWhole d e → bytes_in d ≤ chunk_in e
+bytes_whole (Performed command reply) e whole = let same : chunk_in e ≡ chunk_of command = ap chunk_in (same_event (whole empty).0) in omega (arith, same)
+bytes_whole (Cleaned swept) e whole = omega arith
+bytes_whole (Took repo number range len (Ok h)) e whole = omega arith
+bytes_whole (Took repo number range len (Err f)) e whole =
+    let u = (whole empty).0 in
+    let same : chunk_in e ≡ chunk_of u.0 = ap chunk_in (same_event u.4) in
+    let chunk : chunk_of u.0 ≡ length u.1 = upload_chunk repo number range u.1 u.0 u.3 in
+    let long = u.2 in
+    omega (arith, same, chunk, long)
+bytes_whole (PutBack h reply) e whole = absurd (let c = whole empty in let none : None ≡ Some c.0 = sym (get-empty number_cmp h.key) ∙ c.1 in cc)
+bytes_whole (Finished h digest reply) e whole = absurd (let c = whole empty in let none : None ≡ Some c.0 = sym (get-empty number_cmp h.key) ∙ c.1 in cc)
+
+bytes_return : (t : Taking) (d : Step) (e : Event) → IsReturn t d e → bytes_in d ≤ chunk_in e
+bytes_return t d e r = elim r.is [
+  | inl x ↦ let one : bytes_in d ≡ length r.bytes = ap bytes_in x.0 in let same : chunk_in e ≡ length r.bytes = ap chunk_in x.1 in omega (arith, one, same)
+  | inr x ↦ let one : bytes_in d ≡ length r.bytes = ap bytes_in x.1 in let same : chunk_in e ≡ length r.bytes = ap chunk_in x.2 in omega (arith, one, same)
+]
+
 -- ---- no entry is left
 
-module _ (n : ℕ) where
+module _ (n : ℕ) (s last : State) (run : AreSteps s [] last) where
   idle : (o : Option Taking) (held : Leases) (rows : List (RowView × Answer)) → Goes o held rows [] → (o ≡ None) × AreLeft held rows []
   idle None held rows left = (refl, left)
   idle (Some t) held rows mid = no_step mid.is
 
   -- the rows that are left to a worker make no step
   last_rows : (w : ℕ) → w < n → (rows : List (RowView × Answer)) (of : ℕ → Place) → (of w).rows ≡ rows → AreGoing n [] of →
-      ((new : ℕ → Place) → AreGoing n [] new → (new w).rows ≡ [] → ((v : ℕ) → v ≢ w → new v ≡ of v) → IsOrdered n empty [] new) → IsOrdered n empty [] of
+      ((new : ℕ → Place) → AreGoing n [] new → (new w).rows ≡ [] → ((v : ℕ) → v ≢ w → new v ≡ of v) → IsOrdered n empty s [] last run new) → IsOrdered n empty s [] last run of
   last_rows w lt [] of is going goes_on = goes_on of going is (λ v _. refl)
   last_rows w lt (p ∷ ps) of is going goes_on =
       let left : AreLeft (of w).held (p ∷ ps) [] = subst (λ rows. AreLeft (of w).held rows []) is (idle (of w).out (of w).held (of w).rows (going.each w lt)).1 in
@@ -303,15 +371,15 @@ module _ (n : ℕ) where
       elim (next_row (of w).held p ps [] left) [
         | inl h ↦
             let x : Place = record { out = None; held = h.0; rows = ps } in
-            with_row n w lt of x p is own.0.0 [] h.1 empty empty [] [] (λ events are. are) (λ mild. mild)
+            with_row n w lt of x p is own.0.0 [] h.1 empty empty s s [] [] last run run (λ events are. are) (λ mild. mild) (λ sound. sound) (omega arith) (omega arith)
             (last_rows w lt ps (put w x of) (ap (λ (y : Place). y.rows) (put_at w x of)) (goes n w lt of x [] [] going (λ v _. refl) h.2 own.1)
             (λ new going none same. goes_on new going none (λ v other. same v other ∙ put_other v w x of other)))
         | inr (inl h) ↦ no_step h.4
         | inr (inr h) ↦ no_step h.5
       ]
 
-  all_last_rows : (m : ℕ) → m ≤ n → (of : ℕ → Place) → AreGoing n [] of → ((v : ℕ) → m ≤ v → v < n → (of v).rows ≡ []) → IsOrdered n empty [] of
-  all_last_rows zero le of going done = record { order = []; events = []; whole = (refl, refl); named = tt; mild = tt; each = λ v below. sym (done v (omega arith) below); told = refl }
+  all_last_rows : (m : ℕ) → m ≤ n → (of : ℕ → Place) → AreGoing n [] of → ((v : ℕ) → m ≤ v → v < n → (of v).rows ≡ []) → IsOrdered n empty s [] last run of
+  all_last_rows zero le of going done = record { order = []; events = []; whole = (refl, refl); named = tt; mild = tt; sound = tt; few = omega arith; small = omega arith; each = λ v below. sym (done v (omega arith) below); told = refl }
   all_last_rows (suc m) le of going done = last_rows m (omega (arith, le)) (of m).rows of refl going (λ new going none same.
       all_last_rows m (omega (arith, le)) new going (λ v above below. elim (cases_eq v m) [
         | inl e ↦ ap (λ u. (new u).rows) e ∙ none
@@ -348,8 +416,11 @@ returned hands s X t d e r number reserve out kept =
       ))
     ]
 
-module _ (n : ℕ) (e : Entry Step) (es : List (Entry Step)) (s mid : State) (stepped : IsStep s e.event mid) (lt : e.writer < n)
-    (goes_on : (hands : Hands) (of : ℕ → Place) → IsKept hands mid.catalog → AreGoing n es of → AreOut n hands of → IsOrdered n hands (steps_of es) of) where
+module _ (n : ℕ) (e : Entry Step) (es : List (Entry Step)) (s mid last : State) (stepped : IsStep s e.event mid) (later : AreSteps mid (steps_of es) last) (lt : e.writer < n)
+    (goes_on : (hands : Hands) (of : ℕ → Place) → IsKept hands mid.catalog → AreGoing n es of → AreOut n hands of → IsOrdered n hands mid (steps_of es) last later of) where
+  abbrev run : AreSteps s (steps_of (e ∷ es)) last
+  run = (mid, stepped, later)
+
   abbrev w : ℕ
   w = e.writer
 
@@ -359,23 +430,30 @@ module _ (n : ℕ) (e : Entry Step) (es : List (Entry Step)) (s mid : State) (st
   elsewhere : (v : ℕ) → v ≢ w → events_by v es ≡ events_by v (e ∷ es)
   elsewhere v other = rw (ne_eqb e.writer v (λ x. other (sym x))) refl
 
+  one_command : sum_by commands_in (steps_of (e ∷ es)) ≤ 1 + sum_by commands_in (steps_of es)
+  one_command = let sum = sum_by-cons commands_in e.event (steps_of es) in let one = one_at_most e.event in omega (arith, sum, one)
+
+  within : {m k : ℕ} → bytes_in e.event ≤ m → m ≤ k → sum_by bytes_in (steps_of (e ∷ es)) ≤ k + sum_by bytes_in (steps_of es)
+  within {m} {k} here fits = let sum = sum_by-cons bytes_in e.event (steps_of es) in omega (arith, sum, here, fits)
+
   -- a hand is out by the next row
-  comes_back : (t : Taking) (of : ℕ → Place) (hands : Hands) → (of w).out ≡ Some t → IsKept hands s.catalog → AreGoing n (e ∷ es) of → AreOut n hands of → IsOrdered n hands (steps_of (e ∷ es)) of
+  comes_back : (t : Taking) (of : ℕ → Place) (hands : Hands) → (of w).out ≡ Some t → IsKept hands s.catalog → AreGoing n (e ∷ es) of → AreOut n hands of → IsOrdered n hands s (steps_of (e ∷ es)) last run of
   comes_back t of hands has kept going out =
       let m : IsMidway t (of w).held (of w).rows (e.event ∷ events_by w es) = subst (λ steps. IsMidway t (of w).held (of w).rows steps) mine (subst (λ o. Goes o (of w).held (of w).rows (events_by w (e ∷ es))) has (going.each w lt)) in
       let x : Place = record { out = None; held = m.left; rows = m.rest } in
       let same = same_step m.is in
       let own : AreOwn n w (m.row ∷ m.rest) = subst (λ rows. AreOwn n w rows) m.next (going.own w lt) in
       let back = returned hands s mid.catalog t m.step m.event m.returns m.its_number m.its_reserve (out.lent w t has) kept (subst (λ d. MayLeave s d mid.catalog) same.0 stepped.leaves) in
-      with_row n w lt of x m.row m.next own.0.0 (m.event ∷ []) m.does hands (remove hands t.hand.key) (steps_of (e ∷ es)) (steps_of es)
+      with_row n w lt of x m.row m.next own.0.0 (m.event ∷ []) m.does hands (remove hands t.hand.key) s mid (steps_of (e ∷ es)) (steps_of es) last run later
       (λ events are. (m.event ∷ [], events, remove hands t.hand.key, subst (λ d. ComesTo hands d (m.event ∷ []) (remove hands t.hand.key)) (sym same.0) back.0, refl, are))
       (λ mild. (subst (λ d. IsMild d) (sym same.0) (mild_return t m.step m.event m.returns (m.does.mild own.0.1).0), mild))
+      (λ sound. (kept.sound, sound)) one_command (within (subst (λ d. bytes_in d ≤ chunk_in m.event) (sym same.0) (bytes_return t m.step m.event m.returns)) m.does.small.0)
       (goes_on (remove hands t.hand.key) (put w x of) back.1 (goes n w lt of x (e ∷ es) es going elsewhere (subst (λ steps. AreLeft m.left m.rest steps) (sym same.1) m.goes_on) own.1) (one_back n w lt of x hands t has refl out))
 
   -- a take alone puts no row in the order
   takes : (p : RowView × Answer) (ps : List (RowView × Answer)) (of : ℕ → Place) (hands : Hands) → (of w).rows ≡ p ∷ ps → (of w).out ≡ None → IsKept hands s.catalog → AreGoing n (e ∷ es) of → AreOut n hands of → AreOwn n w (p ∷ ps) →
       (t : Taking) × (d : Step) × (f : Event) × (later : List Step) × (left : Leases) × (e.event ∷ events_by w es ≡ take_of t ∷ d ∷ later) × IsReturn t d f × IsRowOf (of w).held p.0 p.1 (f ∷ []) left × AreLeft left ps later →
-      IsOrdered n hands (steps_of (e ∷ es)) of
+      IsOrdered n hands s (steps_of (e ∷ es)) last run of
   takes p ps of hands is none kept going out own h =
       let t : Taking = h.0 in
       let x : Place = record { out = Some t; held = (of w).held; rows = p ∷ ps } in
@@ -405,12 +483,15 @@ module _ (n : ℕ) (e : Entry Step) (es : List (Entry Step)) (s mid : State) (st
         whole = ([], r.events, after, subst (λ d. ComesTo hands d [] after) (sym same.0) (refl, refl), refl, r.whole);
         named = r.named;
         mild = (subst (λ d. IsMild d) (sym same.0) tt, r.mild);
+        sound = (kept.sound, r.sound);
+        few = let sum = sum_by-cons commands_in e.event (steps_of es) in let none : commands_in e.event ≡ 0 = ap commands_in same.0 in let less = r.few in omega (arith, sum, none, less);
+        small = let sum = sum_by-cons bytes_in e.event (steps_of es) in let none : bytes_in e.event ≡ 0 = ap bytes_in same.0 in let less = r.small in omega (arith, sum, none, less);
         each = λ v below. r.each v below ∙ put_alike w x of (λ (y : Place). y.rows) (sym is) v;
         told = subst (λ (f : ℕ → Leases). Told n f r.order r.events) (λ i v. put_alike w x of (λ (y : Place). y.held) refl v i) r.told;
       }
 
   -- or a row begins, after those that make no step
-  begins : (rows : List (RowView × Answer)) (of : ℕ → Place) (hands : Hands) → (of w).rows ≡ rows → (of w).out ≡ None → IsKept hands s.catalog → AreGoing n (e ∷ es) of → AreOut n hands of → IsOrdered n hands (steps_of (e ∷ es)) of
+  begins : (rows : List (RowView × Answer)) (of : ℕ → Place) (hands : Hands) → (of w).rows ≡ rows → (of w).out ≡ None → IsKept hands s.catalog → AreGoing n (e ∷ es) of → AreOut n hands of → IsOrdered n hands s (steps_of (e ∷ es)) last run of
   begins [] of hands is none kept going out =
       let left : AreLeft (of w).held [] (e.event ∷ events_by w es) = subst (λ steps. AreLeft (of w).held [] steps) mine (subst (λ rows. AreLeft (of w).held rows (events_by w (e ∷ es))) is (subst (λ o. Goes o (of w).held (of w).rows (events_by w (e ∷ es))) none (going.each w lt))) in
       no_step (sym left)
@@ -420,16 +501,17 @@ module _ (n : ℕ) (e : Entry Step) (es : List (Entry Step)) (s mid : State) (st
       elim (next_row (of w).held p ps (e.event ∷ events_by w es) left) [
         | inl h ↦
             let x : Place = record { out = None; held = h.0; rows = ps } in
-            with_row n w lt of x p is own.0.0 [] h.1 hands hands (steps_of (e ∷ es)) (steps_of (e ∷ es)) (λ events are. are) (λ mild. mild)
+            with_row n w lt of x p is own.0.0 [] h.1 hands hands s s (steps_of (e ∷ es)) (steps_of (e ∷ es)) last run run (λ events are. are) (λ mild. mild) (λ sound. sound) (omega arith) (omega arith)
             (begins ps (put w x of) hands (ap (λ (y : Place). y.rows) (put_at w x of)) (ap (λ (y : Place). y.out) (put_at w x of)) kept
             (goes n w lt of x (e ∷ es) (e ∷ es) going (λ v _. refl) (subst (λ steps. AreLeft h.0 ps steps) (sym mine) h.2) own.1) (same_out n w lt of x hands none refl out))
         | inr (inl h) ↦
             let x : Place = record { out = None; held = h.3; rows = ps } in
             let same = same_step h.4 in
             let whole : IsWhole e.event h.1 = subst (λ d. IsWhole d h.1) (sym same.0) h.5 in
-            with_row n w lt of x p is own.0.0 (h.1 ∷ []) h.6 hands hands (steps_of (e ∷ es)) (steps_of es)
+            with_row n w lt of x p is own.0.0 (h.1 ∷ []) h.6 hands hands s mid (steps_of (e ∷ es)) (steps_of es) last run later
             (λ events are. (h.1 ∷ [], events, hands, whole hands, refl, are))
             (λ mild. (mild_whole e.event h.1 whole (h.6.mild own.0.1).0, mild))
+            (λ sound. (kept.sound, sound)) one_command (within (bytes_whole e.event h.1 whole) h.6.small.0)
             (goes_on hands (put w x of) (kept_whole hands s mid.catalog kept e.event h.1 whole h.6.named.0 stepped.leaves)
             (goes n w lt of x (e ∷ es) es going elsewhere (subst (λ steps. AreLeft h.3 ps steps) (sym same.1) h.7) own.1) (same_out n w lt of x hands none refl out))
         | inr (inr h) ↦ takes p ps of hands is none kept going out own h
@@ -437,21 +519,21 @@ module _ (n : ℕ) (e : Entry Step) (es : List (Entry Step)) (s mid : State) (st
 
 -- ---- all entries
 
-one_entry : (n : ℕ) (e : Entry Step) (es : List (Entry Step)) (s mid : State) (hands : Hands) (of : ℕ → Place) → IsKept hands s.catalog → AreGoing n (e ∷ es) of → AreOut n hands of → IsStep s e.event mid →
-    ((hands : Hands) (of : ℕ → Place) → IsKept hands mid.catalog → AreGoing n es of → AreOut n hands of → IsOrdered n hands (steps_of es) of) → IsOrdered n hands (steps_of (e ∷ es)) of
-one_entry n e es s mid hands of kept going out stepped goes_on = by (nat_lt e.writer n) refl
+one_entry : (n : ℕ) (e : Entry Step) (es : List (Entry Step)) (s last : State) (hands : Hands) (of : ℕ → Place) → IsKept hands s.catalog → AreGoing n (e ∷ es) of → AreOut n hands of → (run : AreSteps s (steps_of (e ∷ es)) last) →
+    ((hands : Hands) (of : ℕ → Place) → IsKept hands run.0.catalog → AreGoing n es of → AreOut n hands of → IsOrdered n hands run.0 (steps_of es) last run.2 of) → IsOrdered n hands s (steps_of (e ∷ es)) last run of
+one_entry n e es s last hands of kept going out run goes_on = by (nat_lt e.writer n) refl
   where
-    started : e.writer < n → (o : Option Taking) → (of e.writer).out ≡ o → IsOrdered n hands (steps_of (e ∷ es)) of
-    started lt None is = begins n e es s mid stepped lt goes_on (of e.writer).rows of hands refl is kept going out
-    started lt (Some t) is = comes_back n e es s mid stepped lt goes_on t of hands is kept going out
+    started : e.writer < n → (o : Option Taking) → (of e.writer).out ≡ o → IsOrdered n hands s (steps_of (e ∷ es)) last run of
+    started lt None is = begins n e es s run.0 last run.1 run.2 lt goes_on (of e.writer).rows of hands refl is kept going out
+    started lt (Some t) is = comes_back n e es s run.0 last run.1 run.2 lt goes_on t of hands is kept going out
 
-    by : (b : Bool) → nat_lt e.writer n ≡ b → IsOrdered n hands (steps_of (e ∷ es)) of
+    by : (b : Bool) → nat_lt e.writer n ≡ b → IsOrdered n hands s (steps_of (e ∷ es)) last run of
     by true is = started (ltb-true e.writer n is) (of e.writer).out refl
     by false is =
         let here : events_by e.writer (e ∷ es) ≡ e.event ∷ events_by e.writer es = rw (eq-eqb e.writer e.writer refl) refl in
         no_step (sym (going.others e.writer (ltb-false e.writer n is)) ∙ here)
 
-pub merged : (n : ℕ) (es : List (Entry Step)) (s last : State) (hands : Hands) (of : ℕ → Place) → IsKept hands s.catalog → AreGoing n es of → AreOut n hands of → AreSteps s (steps_of es) last → IsOrdered n hands (steps_of es) of
+pub merged : (n : ℕ) (es : List (Entry Step)) (s last : State) (hands : Hands) (of : ℕ → Place) → IsKept hands s.catalog → AreGoing n es of → AreOut n hands of → (run : AreSteps s (steps_of es) last) → IsOrdered n hands s (steps_of es) last run of
 merged n [] s last hands of kept going out run =
-    subst (λ hs. IsOrdered n hs [] of) (sym (all_home n hands of going out)) (all_last_rows n n (omega arith) of going (λ v above below. absurd (omega (arith, above, below))))
-merged n (e ∷ es) s last hands of kept going out run = one_entry n e es s run.0 hands of kept going out run.1 (λ hands of kept going out. merged n es run.0 last hands of kept going out run.2)
+    subst (λ hs. IsOrdered n hs s [] last run of) (sym (all_home n s last run hands of going out)) (all_last_rows n s last run n (omega arith) of going (λ v above below. absurd (omega (arith, above, below))))
+merged n (e ∷ es) s last hands of kept going out run = one_entry n e es s last hands of kept going out run (λ hands of kept going out. merged n es run.0 last hands of kept going out run.2)

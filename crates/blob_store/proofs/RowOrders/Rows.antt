@@ -1,9 +1,10 @@
 -- The steps of a row, and the event that they come to.
-use Rattle.std.proofs.Common.{◌≡◌, ◌≢◌, ◌⊎◌, ◌≤◌, ◌++◌, ◌∷◌, [], ℕ, Bool, true, false, List, length, map, Option, Some, None, Result, Ok, Err, refl, sym, ap, ◌∙◌, subst, inl, inr, append_assoc}
+use Rattle.std.proofs.Common.{◌≡◌, ◌≢◌, ◌⊎◌, ◌≤◌, ◌++◌, ◌∷◌, [], ℕ, Bool, true, false, List, length, map, Option, Some, None, Result, Ok, Err, refl, sym, ap, ◌∙◌, subst, inl, inr, append_assoc, arith}
 use Rattle.std.specs.List.{AllByRecursion}
 use Rattle.std.specs.Prelude.{nat_le}
 use Rattle.std.proofs.lemmas.Bool.{and_parts, leb-true}
 use Rattle.std.proofs.lemmas.List.{append-nil}
+use Rattle.std.proofs.lemmas.Option.{same_Some}
 use Rattle.blob_digest.specs.NameMachine.{is_repo_name}
 use Rattle.blob_digest.specs.declared.range.ByteRange.{ByteRange}
 use Rattle.blob_digest.specs.declared.refusal.Refusal.{Refusal}
@@ -17,10 +18,12 @@ use Rattle.store_model.specs.Sweep.{IsSweep}
 use Rattle.store_model.specs.WholeCommands.{ComesTo, Hands, IsCalm, IsUpload, Lent as Out, numbered}
 use Rattle.row_player.specs.Answers.{Answer, Bytes, Received, Refused, Stored}
 use Rattle.row_player.specs.CommandAnswers.{row_answer}
-use Rattle.row_player.specs.Commands.{Abandon, Append, Calls, Close, Command, Delete, DeleteManifest, GetManifest, Lease, Mount, PutManifest, Request, Start, Status, Sweeps, Verifies, command_of, repo_in}
+use Rattle.row_player.specs.Commands.{Abandon, Append, Calls, Close, Command, Delete, DeleteManifest, GetManifest, Lease, Mount, PutManifest, Request, Start, Status, Sweeps, Verifies, command as command_by, command_of, repo_in}
+use Rattle.row_player.specs.Counts.{chunk_of}
 use Rattle.row_player.specs.Leases.{Leases, Lent}
 use Rattle.row_player.specs.Plays.{LendsWhereFree, Plays, RowStep, State, StepOf, VerifiesLease, named}
-use Rattle.row_player.specs.Rows.{RowView}
+use Rattle.row_player.specs.Rows.{RowView, session_number}
+use Rattle.row_player.specs.declared.row.Verb.{Verb}
 use Rattle.row_player.specs.declared.row.Verb.TheVariants as verb
 use Rattle.row_player.proofs.Spellings.{names_repo, repo_spelled, spelled}
 use Rattle.locked_book.specs.History.{filled}
@@ -74,9 +77,21 @@ abbrev pub IsMildEvent : Event → Type 0
 IsMildEvent (Called command (Err e)) = IsCalm e
 IsMildEvent event = Unit {0}
 
--- the events have short names, are refused for what the request is, and a run of them is the request with this answer
-abbrev IsAsked : Request → Answer → List Event → Type 0
-IsAsked request answer events = AllByRecursion IsNamed events × (IsCalmAnswer answer → AllByRecursion IsMildEvent events) × ((C C' : Catalog) → IsRun C events C' → Leads C request answer C')
+-- the bytes of an event's chunk, and of a request's
+abbrev pub chunk_in : Event → ℕ
+chunk_in (Called command reply) = chunk_of command
+chunk_in (runs.Swept swept) = 0
+
+abbrev bytes_asked : Request → ℕ
+bytes_asked (Calls command) = chunk_of command
+bytes_asked request = 0
+
+-- the events have short names and no more bytes than were asked, are refused for what the request is, and a run of them is the request with this answer
+record IsAsked (request : Request) (answer : Answer) (events : List Event) : Type 0 where
+  named : AllByRecursion IsNamed events
+  small : AllByRecursion (λ e. chunk_in e ≤ bytes_asked request) events
+  mild : IsCalmAnswer answer → AllByRecursion IsMildEvent events
+  leads : (C C' : Catalog) → IsRun C events C' → Leads C request answer C'
 
 module _ (command : Command) (answer : Answer) (short : length (repo_of command) ≤ 255) where
   mild : (reply : Result runs.Answer Refusal) → answer ≡ as_answer (row_answer command) reply → IsCalmAnswer answer → IsMildEvent (Called command reply)
@@ -84,7 +99,12 @@ module _ (command : Command) (answer : Answer) (short : length (repo_of command)
   mild (Err e) is calm = subst (λ a. IsCalmAnswer a) is calm
 
   called : (reply : Result runs.Answer Refusal) → answer ≡ as_answer (row_answer command) reply → IsAsked (Calls command) answer (Called command reply ∷ [])
-  called reply is = ((short, tt), (λ calm. (mild reply is calm, tt)), λ C C' run. (reply, subst (λ (X : Catalog). IsCase C command reply X) (sym run.2) run.1, is))
+  called reply is = record {
+    named = (short, tt);
+    small = (omega arith, tt);
+    mild = λ calm. (mild reply is calm, tt);
+    leads = λ C C' run. (reply, subst (λ (X : Catalog). IsCase C command reply X) (sym run.2) run.1, is);
+  }
 
   performed : (steps : List Step) → (reply : Result runs.Answer Refusal) × (steps ≡ Performed command reply ∷ []) × (answer ≡ as_answer (row_answer command) reply) → ComeTo steps (IsAsked (Calls command) answer)
   performed steps x = inr (inl (Performed command x.0, Called command x.0, x.1, (λ hands. (refl, refl)), called x.0 x.2))
@@ -128,9 +148,20 @@ request_comes (Calls (PutManifest repo bytes)) answer steps short fine are = per
 request_comes (Calls (GetManifest repo digest)) answer steps short fine are = performed (GetManifest repo digest) answer short steps are
 request_comes (Calls (DeleteManifest repo digest)) answer steps short fine are = performed (DeleteManifest repo digest) answer short steps are
 request_comes (Calls (Lease repo digest)) answer steps short fine are = performed (Lease repo digest) answer short steps are
-request_comes (Verifies size) answer steps short fine are = inl (are.1, (tt, (λ calm. tt), λ C C' run. (are.0, run)))
+request_comes (Verifies size) answer steps short fine are = inl (are.1, record { named = tt; small = tt; mild = λ calm. tt; leads = λ C C' run. (are.0, run) })
 request_comes Sweeps answer steps short fine are =
-    inr (inl (Cleaned are.0, runs.Swept are.0, are.1, (λ hands. (refl, refl)), ((tt, tt), (λ calm. (tt, tt)), λ C C' run. (are.0, subst (λ (X : Catalog). IsSweep C are.0 X) (sym run.2) run.1, are.2))))
+    inr (inl (
+      Cleaned are.0,
+      runs.Swept are.0,
+      are.1,
+      (λ hands. (refl, refl)),
+      record {
+        named = (tt, tt);
+        small = (omega arith, tt);
+        mild = λ calm. (tt, tt);
+        leads = λ C C' run. (are.0, subst (λ (X : Catalog). IsSweep C are.0 X) (sym run.2) run.1, are.2);
+      },
+    ))
 
 -- ---- the steps of a row
 
@@ -144,12 +175,39 @@ short_name row command spells =
     by true is repo named = leb-true (length row.repo) 255 (and_parts _ (nat_le (length row.repo) 255) is).1
     by false is repo named = absurd (let h = rw is at named in cc)
 
+-- the chunk of a command is no longer than the body of its row
+module _ (row : RowView) (command : Command) where
+  as_long : (spelled : Command) → chunk_of spelled ≤ length row.body → Some spelled ≡ Some command → chunk_of command ≤ length row.body
+  as_long spelled le is = subst (λ (c : Command). chunk_of c ≤ length row.body) (same_Some spelled command is) le
+
+  chunk_fits : (v : Verb) (repo : Text) (from : Option Text) (digest : Text) (range : Option ByteRange) (number : Option ℕ) → command_by v repo from digest range number row.body ≡ Some command → chunk_of command ≤ length row.body
+  chunk_fits verb.Start repo from digest range number is = as_long (Start repo) (omega arith) is
+  chunk_fits verb.Status repo from digest range (Some n) is = as_long (Status repo n) (omega arith) is
+  chunk_fits verb.Append repo from digest range (Some n) is = as_long (Append repo n range row.body) (omega arith) is
+  chunk_fits verb.Close repo from digest range (Some n) is = as_long (Close repo n digest range row.body) (omega arith) is
+  chunk_fits verb.Abandon repo from digest range (Some n) is = as_long (Abandon repo n) (omega arith) is
+  chunk_fits verb.Mount repo from digest range number is = as_long (Mount repo digest from) (omega arith) is
+  chunk_fits verb.Delete repo from digest range number is = as_long (Delete repo digest) (omega arith) is
+  chunk_fits verb.PutManifest repo from digest range number is = as_long (PutManifest repo row.body) (omega arith) is
+  chunk_fits verb.GetManifest repo from digest range number is = as_long (GetManifest repo digest) (omega arith) is
+  chunk_fits verb.DeleteManifest repo from digest range number is = as_long (DeleteManifest repo digest) (omega arith) is
+  chunk_fits verb.Lease repo from digest range number is = as_long (Lease repo digest) (omega arith) is
+  chunk_fits _ repo from digest range number is = absurd (let h = is in cc)
+
+  short_chunk : command_of row ≡ Ok (Some command) → chunk_of command ≤ length row.body
+  short_chunk spells = let s = spelled row (Some command) spells in chunk_fits row.verb s.repo s.from s.digest s.range (session_number row.key) s.is
+
 -- A row and its answer, which isn't `Memory`, are these events: a run of them is the row.
 pub record IsRowOf (held : Leases) (row : RowView) (answer : Answer) (events : List Event) (left : Leases) : Type 0 where
   pub step : (C C' : Catalog) → IsRun C events C' → RowStep Leads (C, held) row answer (C', left)
   pub fine : answer ≢ Refused Memory
   pub named : AllByRecursion IsNamed events
+  pub small : AllByRecursion (λ e. chunk_in e ≤ length row.body) events
   pub mild : IsCalmAnswer answer → AllByRecursion IsMildEvent events
+
+no_longer : (a b : ℕ) (events : List Event) → a ≤ b → AllByRecursion (λ e. chunk_in e ≤ a) events → AllByRecursion (λ e. chunk_in e ≤ b) events
+no_longer a b [] le small = tt
+no_longer a b (e ∷ events) le small = (let here = small.0 in omega (arith, here, le), no_longer a b events le small.1)
 
 -- the steps of a row
 abbrev pub RowComes : State Work → RowView → Answer → State Work → Type 0
@@ -158,20 +216,26 @@ RowComes old row answer new = (steps : List Step) × (new.0.steps ≡ old.0.step
 module _ (old new : State Work) (row : RowView) (answer : Answer) (fine : answer ≢ Refused Memory) where
   -- a row that asks for nothing
   asks_nothing : new.0 ≡ old.0 → ((C C' : Catalog) → C' ≡ C → RowStep Leads (C, old.1) row answer (C', new.1)) → RowComes old row answer new
-  asks_nothing same step = ([], ap (λ (x : Work). x.steps) same ∙ sym (append-nil old.0.steps), inl (refl, record { step = step; fine = fine; named = tt; mild = λ calm. tt }))
+  asks_nothing same step = ([], ap (λ (x : Work). x.steps) same ∙ sym (append-nil old.0.steps), inl (refl, record { step = step; fine = fine; named = tt; small = tt; mild = λ calm. tt }))
 
   -- a row that asks for this
-  asks : (request : Request) (given : Answer) → IsShort request → given ≢ Refused Memory → (IsCalmAnswer answer → IsCalmAnswer given) → WorkActs old.0 request given new.0 → ((C C' : Catalog) → Leads C request given C' → RowStep Leads (C, old.1) row answer (C', new.1)) → RowComes old row answer new
-  asks request given short fine_given calm acts step =
+  asks : (request : Request) (given : Answer) → IsShort request → bytes_asked request ≤ length row.body → given ≢ Refused Memory → (IsCalmAnswer answer → IsCalmAnswer given) → WorkActs old.0 request given new.0 → ((C C' : Catalog) → Leads C request given C' → RowStep Leads (C, old.1) row answer (C', new.1)) → RowComes old row answer new
+  asks request given short small fine_given calm acts step =
       let made = acts.steps in (
         made.0,
         made.2,
-        come_to made.0 (IsAsked request given) (λ es. IsRowOf old.1 row answer es new.1) (λ es asked. record { step = λ C C' run. step C C' (asked.2 C C' run); fine = fine; named = asked.0; mild = λ c. asked.1 (calm c) })
+        come_to made.0 (IsAsked request given) (λ es. IsRowOf old.1 row answer es new.1) (λ es asked. record {
+          step = λ C C' run. step C C' (asked.leads C C' run);
+          fine = fine;
+          named = asked.named;
+          small = no_longer (bytes_asked request) (length row.body) es small asked.small;
+          mild = λ c. asked.mild (calm c);
+        })
             (request_comes request given made.0 short fine_given made.1),
       )
 
   store_comes : (o : Result (Option Command) Refusal) → command_of row ≡ o → StepOf WorkActs o old.0 answer new.0 → new.1 ≡ old.1 → RowComes old row answer new
-  store_comes (Ok (Some command)) is h same = asks (Calls command) answer (short_name row command is) fine (λ c. c) h.1 (λ C C' leads. inl (subst (λ o. StepOf Leads o C answer C') (sym is) (h.0, leads), same))
+  store_comes (Ok (Some command)) is h same = asks (Calls command) answer (short_name row command is) (short_chunk row command is) fine (λ c. c) h.1 (λ C C' leads. inl (subst (λ o. StepOf Leads o C answer C') (sym is) (h.0, leads), same))
   store_comes (Ok None) is h same = absurd h
   store_comes (Err refusal) is h same = asks_nothing h.1 (λ C C' stays. inl (subst (λ o. StepOf Leads o C answer C') (sym is) (h.0, stays), same))
 
@@ -180,15 +244,15 @@ module _ (old new : State Work) (row : RowView) (answer : Answer) (fine : answer
       asks_nothing (ap (λ (x : State Work). x.0) h.1)
       (λ C C' stays. inr (inl (is_verb, spells, subst (λ o. LendsWhereFree Leads o (C, old.1) row answer (C', new.1)) (sym is) (h.0, λ i. (stays i, (h.1 i).1)))))
   lease_comes None is is_verb spells h = elim h [
-    | inl l ↦ asks (Calls (Lease row.repo row.digest)) (Bytes l.0) (short_name row _ spells) (λ e. absurd (let k = e in cc)) (λ c. tt) l.1
+    | inl l ↦ asks (Calls (Lease row.repo row.digest)) (Bytes l.0) (short_name row _ spells) (omega arith) (λ e. absurd (let k = e in cc)) (λ c. tt) l.1
         (λ C C' leads. inr (inl (is_verb, spells, subst (λ o. LendsWhereFree Leads o (C, old.1) row answer (C', new.1)) (sym is) (inl (l.0, leads, l.2, l.3)))))
-    | inr r ↦ asks (Calls (Lease row.repo row.digest)) (Refused r.0) (short_name row _ spells) (λ e. fine (r.2 ∙ e)) (λ c. subst (λ a. IsCalmAnswer a) r.2 c) r.1
+    | inr r ↦ asks (Calls (Lease row.repo row.digest)) (Refused r.0) (short_name row _ spells) (omega arith) (λ e. fine (r.2 ∙ e)) (λ c. subst (λ a. IsCalmAnswer a) r.2 c) r.1
         (λ C C' leads. inr (inl (is_verb, spells, subst (λ o. LendsWhereFree Leads o (C, old.1) row answer (C', new.1)) (sym is) (inr (r.0, leads, r.2, r.3)))))
   ]
 
   verify_comes : (o : Option Lent) → named old.1 row ≡ o → row.verb ≡ verb.Verify → VerifiesLease WorkActs o old.0 answer new.0 → new.1 ≡ old.1 → RowComes old row answer new
   verify_comes None is is_verb h same = asks_nothing h.1 (λ C C' stays. inr (inr (inr (inr (inl (is_verb, subst (λ o. VerifiesLease Leads o C answer C') (sym is) (h.0, stays), same))))))
-  verify_comes (Some lease) is is_verb h same = asks (Verifies (length lease.bytes)) answer tt fine (λ c. c) h (λ C C' leads. inr (inr (inr (inr (inl (is_verb, subst (λ o. VerifiesLease Leads o C answer C') (sym is) leads, same))))))
+  verify_comes (Some lease) is is_verb h same = asks (Verifies (length lease.bytes)) answer tt (omega arith) fine (λ c. c) h (λ C C' leads. inr (inr (inr (inr (inl (is_verb, subst (λ o. VerifiesLease Leads o C answer C') (sym is) leads, same))))))
 
   row_comes : RowStep WorkActs old row answer new → RowComes old row answer new
   row_comes step = elim step [
@@ -198,7 +262,7 @@ module _ (old new : State Work) (row : RowView) (answer : Answer) (fine : answer
     | inr (inr (inr (inl shares))) ↦ asks_nothing shares.2 (λ C C' stays. inr (inr (inr (inl (shares.0, shares.1, stays)))))
     | inr (inr (inr (inr (inl looks)))) ↦ verify_comes (named old.1 row) refl looks.0 looks.1 looks.2
     | inr (inr (inr (inr (inr (inl returns))))) ↦ asks_nothing returns.2 (λ C C' stays. inr (inr (inr (inr (inr (inl (returns.0, returns.1, stays)))))))
-    | inr (inr (inr (inr (inr (inr sweeps))))) ↦ asks Sweeps answer tt fine (λ c. c) sweeps.1 (λ C C' leads. inr (inr (inr (inr (inr (inr (sweeps.0, leads, sweeps.2)))))))
+    | inr (inr (inr (inr (inr (inr sweeps))))) ↦ asks Sweeps answer tt (omega arith) fine (λ c. c) sweeps.1 (λ C C' leads. inr (inr (inr (inr (inr (inr (sweeps.0, leads, sweeps.2)))))))
   ]
 
 -- ---- the steps of rows

@@ -1,16 +1,19 @@
 -- What several workers do together has an order of their rows.
-use Rattle.std.proofs.Common.{◌≡◌, ◌<◌, ◌%◌, ◌==◌, ◌∷◌, [], ℕ, true, false, cond, List, length, map, Some, None, Ok, Err, refl, sym, ap, ◌∙◌, subst}
-use Rattle.std.specs.List.{AllByRecursion, filter, zip}
+use Rattle.std.proofs.Common.{◌≡◌, ◌<◌, ◌%◌, ◌==◌, ◌∷◌, [], ℕ, true, false, cond, List, length, map, Some, None, refl, sym, ap, ◌∙◌, subst, arith}
+use Rattle.std.specs.List.{AllByRecursion, filter, sum_by, zip}
+use Rattle.std.specs.List.Sorted.{IsPermutation}
 use Rattle.std.specs.FinMap.{empty, get-empty}
 use Rattle.std.proofs.lemmas.Bool.{eqb-true}
+use Rattle.std.proofs.lemmas.List.{length-map}
+use Rattle.std.proofs.lemmas.List.Sorted.{length_permutation, sum_by-IsPermutation}
 use Rattle.std.proofs.lemmas.Map.Made.{keys_of-zip}
 use Rattle.std.proofs.lemmas.Nat.{mod_below}
 use Rattle.finite_maps.proofs.Lists.{filter-map}
+use Rattle.finite_maps.proofs.Rows.{sum_by-map}
 use Rattle.shared_log.specs.Entries.{events_by}
 use Rattle.store_model.specs.Catalog.{Catalog, number_cmp, opening}
-use Rattle.store_model.specs.Histories.{AreSteps, Cleaned, Finished, Performed, PutBack, State, Step, Took, first_state}
+use Rattle.store_model.specs.Histories.{Step, first_state}
 use Rattle.store_model.specs.Invariant.{Sound}
-use Rattle.store_model.specs.WholeCommands.{AreCalm, IsCalmStep}
 use Rattle.store_model.proofs.WholeCommands.Histories.{histories_are_runs}
 use Rattle.row_player.specs.Answers.{Answer}
 use Rattle.row_player.specs.Leases.{none}
@@ -18,12 +21,13 @@ use Rattle.row_player.specs.Plays.{Plays}
 use Rattle.row_player.specs.Rows.{RowView}
 use Rattle.row_player.specs.Shares.{is_own, own_answers, own_rows}
 use Rattle.locked_book.specs.History.{steps_of}
-use Rattle.blob_store.specs.RowOrders.{AreCounted, IsCalmAnswer, IsCountedStep, Leads, RowsHaveOrders}
+use Rattle.blob_store.specs.RowOrders.{IsCalmAnswer, Leads, RowsHaveOrders}
 use Rattle.blob_store.specs.Seats.{WorkActs}
 use Rattle.blob_store.specs.Workers.{IsInterleaved, no_work}
+use Rattle.blob_store.proofs.RowOrders.Calm.{calm_steps}
 use Rattle.blob_store.proofs.RowOrders.Kept.{IsKept}
 use Rattle.blob_store.proofs.RowOrders.Leases.{told_plays}
-use Rattle.blob_store.proofs.RowOrders.Merging.{AreGoing, AreOut, AreOwn, IsMild, IsOrdered, Place, merged}
+use Rattle.blob_store.proofs.RowOrders.Merging.{AreGoing, AreOut, AreOwn, IsOrdered, Place, merged}
 use Rattle.blob_store.proofs.RowOrders.Orders.{permuted}
 use Rattle.blob_store.proofs.RowOrders.Rows.{AreLeft, rows_come}
 
@@ -74,33 +78,34 @@ module _ (C : Catalog) (n : ℕ) (rows : List RowView) (answers : List Answer) (
   kept : IsKept empty C
   kept = record { sound = sound; held = λ k out is. absurd (let h : None ≡ Some out = sym (get-empty number_cmp k) ∙ is in cc) }
 
-  pub ordered : IsOrdered n empty (steps_of together.order) first_places
+  pub ordered : IsOrdered n empty (first_state C) (steps_of together.order) together.state together.legal first_places
   ordered = merged n together.order (first_state C) together.state empty first_places kept going none_out together.legal
 
-calm_step : (s : State) (step : Step) → IsMild step → IsCountedStep s step → IsCalmStep s step
-calm_step s (Performed command (Ok a)) mild counted = tt
-calm_step s (Performed command (Err e)) mild counted = (mild, counted)
-calm_step s (Cleaned swept) mild counted = tt
-calm_step s (Took repo number range len (Ok h)) mild counted = tt
-calm_step s (Took repo number range len (Err e)) mild counted = (mild, counted)
-calm_step s (PutBack h reply) mild counted = tt
-calm_step s (Finished h digest (Ok n)) mild counted = tt
-calm_step s (Finished h digest (Err e)) mild counted = mild
+-- ---- the whole
 
-calm_steps : (s : State) (steps : List Step) (last : State) (run : AreSteps s steps last) → AllByRecursion IsMild steps → AreCounted s steps last run → AreCalm s steps last run
-calm_steps s [] last run mild counted = tt
-calm_steps s (step ∷ steps) last run mild counted = (calm_step s step mild.0 counted.0, calm_steps run.0 steps last run.2 mild.1 counted.1)
+module _ (rows : List RowView) (answers : List Answer) (size : length answers ≡ length rows) (order : List Pair) (same : IsPermutation (zip rows answers) order) where
+  as_many : length order ≡ length rows
+  as_many = length_permutation (zip rows answers) order same ∙ sym (length-map (zip rows answers) (λ (p : Pair). p.0)) ∙ ap length (keys_of-zip rows answers size)
+
+  as_long : sum_by (λ (p : Pair). length p.0.body) order ≡ sum_by (λ (row : RowView). length row.body) rows
+  as_long =
+      sum_by-IsPermutation (λ (p : Pair). length p.0.body) (zip rows answers) order same
+      ∙ sym (sum_by-map (λ (row : RowView). length row.body) (λ (p : Pair). p.0) (zip rows answers)) ∙ ap (sum_by (λ (row : RowView). length row.body)) (keys_of-zip rows answers size)
 
 pub rows_have_orders : RowsHaveOrders
-rows_have_orders tenants slots max_blob workers rows answers last sound some size together calm counted =
+rows_have_orders tenants slots max_blob workers rows answers last sound some size few calm together =
     let C : Catalog = opening tenants slots max_blob in
-    let one = ordered C workers rows answers last sound size calm together in
     let steps : List Step = steps_of together.order in
-    let run = histories_are_runs tenants slots max_blob steps together.state one.events sound together.legal (calm_steps (first_state C) steps together.state together.legal one.mild counted) one.whole one.named in
+    let one = ordered C workers rows answers last sound size calm together in
+    let same : IsPermutation (zip rows answers) one.order = permuted (λ (p : Pair). p.0.lane % workers) workers (λ p. mod_below p.0.lane workers some) (zip rows answers) one.order one.each in
+    let many = as_many rows answers size one.order same in
+    let long = as_long rows answers size one.order same in
+    let calm_all = calm_steps (first_state C) steps together.state together.legal one.mild one.sound (let a = one.few in let b = few.number in omega (arith, a, b, many)) (let a = one.small in let b = few.bytes in omega (arith, a, b, long)) in
+    let run = histories_are_runs tenants slots max_blob steps together.state one.events sound together.legal calm_all one.whole one.named in
     let plays = told_plays workers one.order one.events C together.state.catalog none (λ w. none) one.told run (λ name. refl) in
     record {
       order = one.order;
-      reordered = record { same = permuted (λ (p : Pair). p.0.lane % workers) workers (λ p. mod_below p.0.lane workers some) (zip rows answers) one.order one.each; each = one.each };
+      reordered = record { same = same; each = one.each };
       left = plays.0;
       run = subst (λ (X : Catalog). Plays Leads (C, none) (map (λ (p : Pair). p.0) one.order) (map (λ (p : Pair). p.1) one.order) (X, plays.0)) together.left plays.1;
     }

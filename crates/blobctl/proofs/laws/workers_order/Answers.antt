@@ -1,12 +1,9 @@
 use Rattle.std.proofs.Common.{◌≡◌, ◌∙◌, ap, subst, sym}
-use Rattle.std.specs.List.{AllByRecursion}
-use Rattle.locked_book.specs.History.{steps_of}
 use Rattle.locked_book.specs.Names.{Setting, setting_of}
 use Rattle.store_model.specs.Catalog.{Catalog, opening}
-use Rattle.store_model.specs.Histories.{first_state}
 use Rattle.store_model.specs.Invariant.{AreWithinLimits, FitSlots, Sound}
 use Rattle.store_model.proofs.Commands.Opening.{Sound-opening}
-use Rattle.blob_store.specs.RowOrders.{AreCounted, HasOrder, IsCalmAnswer}
+use Rattle.blob_store.specs.RowOrders.{HasOrder}
 use Rattle.blob_store.specs.Workers.{IsInterleaved}
 use Rattle.blobctl.proofs.laws.workers_order.Goals as goal
 
@@ -18,8 +15,11 @@ sound_opening first last same sound =
     Sound-opening first.tenants first.slots first.max_blob limits.tenants.0 limits.tenants.1 limits.names_rise limits.max_blob limits.quotas slots.some slots.few
 
 pub returns : goal.returns
-returns c = record { orders = λ workers tenants slots max_blob rows text one some calm counted. (
-  let C : Catalog = opening one.first.tenants slots max_blob in
-  let sound : Sound C = sound_opening C one.last (one.same ∙ ap setting_of one.opened.empty) one.sound in
-  subst (λ (X : Catalog). (run : IsInterleaved X workers rows one.answers one.last) → AreCounted (first_state X) (steps_of run.order) run.state run.legal → HasOrder X workers rows one.answers one.last) (sym one.opened.empty)
-  (λ run counted. c.orders_of_rows.ensures.orders one.first.tenants slots max_blob workers rows one.answers one.last sound some one.one_each run calm counted) one.run counted) }
+returns c = record {
+  orders = λ workers tenants slots max_blob rows text one some few calm. (
+      let C : Catalog = opening one.first.tenants slots max_blob in
+      let sound : Sound C = sound_opening C one.last (one.same ∙ ap setting_of one.opened.empty) one.sound in
+      let run : IsInterleaved C workers rows one.answers one.last = subst (λ (X : Catalog). IsInterleaved X workers rows one.answers one.last) one.opened.empty one.run in
+      subst (λ (X : Catalog). HasOrder X workers rows one.answers one.last) (sym one.opened.empty)
+      (c.orders_of_rows.ensures.orders one.first.tenants slots max_blob workers rows one.answers one.last sound some one.one_each few calm run));
+}
