@@ -6,5 +6,6 @@ pub mod Kept
 pub mod Leases
 pub mod Merging
 pub mod Orders
+pub mod Progress
 pub mod Rows
 pub mod Together

@@ -27,8 +27,9 @@ use Rattle.blob_store.specs.Workers.{IsInterleaved, no_work}
 use Rattle.blob_store.proofs.RowOrders.Calm.{calm_steps}
 use Rattle.blob_store.proofs.RowOrders.Kept.{IsKept}
 use Rattle.blob_store.proofs.RowOrders.Leases.{told_plays}
-use Rattle.blob_store.proofs.RowOrders.Merging.{AreGoing, AreOut, AreOwn, IsOrdered, Place, merged}
+use Rattle.blob_store.proofs.RowOrders.Merging.{IsOrdered, merged}
 use Rattle.blob_store.proofs.RowOrders.Orders.{permuted}
+use Rattle.blob_store.proofs.RowOrders.Progress.{AreGoing, AreOut, AreOwn, Place}
 use Rattle.blob_store.proofs.RowOrders.Rows.{AreLeft, rows_come}
 
 abbrev Pair : Type 0
