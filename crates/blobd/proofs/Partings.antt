@@ -1,5 +1,5 @@
 -- Words that are parted at the first one of a kind.
-use Rattle.std.proofs.Common.{◌≡◌, ◌∙◌, ◌+◌, ◌-◌, ◌≤◌, ◌∷◌, [], ℕ, List, Bool, true, false, Option, Some, None, ap, arith, cond, drop, get_or, length, map, not, refl, string_bytes, String, sym, take}
+use Rattle.std.proofs.Common.{◌≡◌, ◌∙◌, ◌+◌, ◌-◌, ◌≤◌, ◌∷◌, [], ℕ, List, Bool, true, false, Some, None, ap, arith, cond, drop, get_or, length, map, not, refl, string_bytes, String, sym, take}
 use Rattle.std.specs.declared.alloc.Global.{Global}
 use Rattle.std.specs.List.{after_first, before_first, position, position_or_len}
 use Rattle.std.proofs.lemmas.Bool.{ltb-false}

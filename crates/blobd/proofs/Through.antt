@@ -1,5 +1,5 @@
 -- A line that is served on something which may show less of itself, and of the leases that are out.
-use Rattle.std.proofs.Common.{◌≡◌, ◌⊎◌, ◌∷◌, [], ℕ, List, Option, Some, None, Result, Ok, Err, ap, inl, inr, subst}
+use Rattle.std.proofs.Common.{◌≡◌, ◌∷◌, [], ℕ, List, Option, Some, None, Result, Ok, Err, ap, inl, inr, subst}
 use Rattle.blob_digest.specs.declared.range.ByteRange.{ByteRange}
 use Rattle.blob_digest.specs.declared.refusal.Refusal.{Refusal}
 use Rattle.blob_frames.specs.Replies.{Reply}
@@ -13,9 +13,9 @@ use Rattle.row_player.specs.declared.row.Verb.{Verb}
 use Rattle.row_player.specs.declared.row.Verb.TheVariants as verb
 use Rattle.line_player.specs.Lendings.{Lending, Kept, NotKept, Read, NotRead, GivenBack, NotGivenBack}
 use Rattle.line_player.specs.Outcomes.{Outcome, Answered, Lent, Told, NoCommand}
-use Rattle.line_player.specs.Queries.{IsTold, NoVerbStep, QueryStep, SizeStep, UsageStep}
-use Rattle.line_player.specs.Requests.{ends_of, range_of, request_command}
-use Rattle.line_player.specs.Served.{Frame, FrameStep, IsLine, IsServed, Serves}
+use Rattle.line_player.specs.Queries.{IsTold, NoVerbStep, SizeStep, UsageStep}
+use Rattle.line_player.specs.Requests.{ends_of, request_command}
+use Rattle.line_player.specs.Served.{Frame, IsLine, IsServed, Serves}
 use Rattle.line_player.specs.Steps.{CommandStep, GiveBackStep, LeaseStep, Lends, ReadStep, RequestStep, VerbStep}
 use Rattle.locked_book.specs.History.{DeskView, IsPart}
 use Rattle.locked_book.specs.Names.{StoreNames}

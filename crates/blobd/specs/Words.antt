@@ -1,5 +1,5 @@
 -- What the words of the command line say.
-use Rattle.std.specs.Prelude.{⊤, ◌≡◌, ◌≢◌, ◌⊎◌, ◌≤◌, ◌<◌, ◌%◌, ℕ, List, [], ◌∷◌, Bool, Some, bytes_eq, codes, length, map, string_bytes}
+use Rattle.std.specs.Prelude.{⊤, ◌≡◌, ◌≢◌, ◌⊎◌, ◌%◌, ℕ, List, ◌∷◌, Bool, Some, bytes_eq, codes, length, map, string_bytes}
 use Rattle.std.specs.List.{after_first, before_first}
 use Rattle.finite_maps.specs.Texts.{Text}
 use Rattle.blob_digest.specs.Ranges.{number_of}
