@@ -5,11 +5,13 @@ use Rattle.blob_digest.specs.declared.refusal.Refusal.{Refusal}
 use Rattle.blob_digest.specs.declared.refusal.Refusal.TheVariants.{Memory}
 use Rattle.finite_maps.specs.Texts.{Text}
 use Rattle.store_model.specs.Amounts.{Amounts}
-use Rattle.store_model.specs.Catalog.{Taken}
+use Rattle.store_model.specs.Catalog.{Catalog, Taken}
 use Rattle.store_model.specs.Histories.{Step, Performed, Cleaned, Took, PutBack, Finished}
 use Rattle.store_model.specs.Runs as runs
 use Rattle.store_model.specs.declared.swept.Swept.{Swept as SweptCounts}
+use Rattle.locked_book.specs.Found.{InSomeBook}
 use Rattle.locked_book.specs.History.{DeskView, filled}
+use Rattle.locked_book.specs.Names.{StoreNames}
 use Rattle.row_player.specs.Answers.{Answer, Received, Stored, Swept, Refused, Verified}
 use Rattle.row_player.specs.CommandAnswers.{row_answer}
 use Rattle.row_player.specs.Commands.{Command, Append, Close, Request, Calls, Verifies, Sweeps}
@@ -74,3 +76,9 @@ pub record WorkActs (old : Work) (request : Request) (answer : Answer) (new : Wo
 pub record SeatActs (old : DeskView) (request : Request) (answer : Answer) (new : DeskView) : Type 0 where
   pub work : WorkActs (work_of old) request answer (work_of new)
   pub number : new.trace.number ≡ old.trace.number
+
+-- ---- queries
+
+-- the catalog of a book of the store, from which a query is told
+abbrev pub IsFound : StoreNames → Catalog → Type 0
+IsFound names catalog = InSomeBook names (λ book. catalog ≡ book.catalog)

@@ -135,11 +135,9 @@ impl<'s, W: Wait, S: Naming> Backend for Seat<'s, W, S> {
 }
 
 impl<'s, W: Wait, S: Naming> Queries for Seat<'s, W, S> {
-    ghost use Rattle.std.specs.Prelude.{◌≡◌};
-    ghost use Rattle.locked_book.specs.Found.{IsBookOf};
-    ghost use Rattle.store_book.specs.BookState.{BookState};
+    ghost use Rattle.blob_store.specs.Seats.{IsFound};
 
-    ghost finds = { λ _ catalog. (book : BookState) × IsBookOf S.names book × (catalog ≡ book.catalog) };
+    ghost finds = { λ _ catalog. IsFound S.names catalog };
 
     fn stat(&self, repo: &RepoName, digest: &Digest) -> Result<u64, Refusal> {
         self.store.stat(self.rt, repo, digest)

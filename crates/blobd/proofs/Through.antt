@@ -19,9 +19,9 @@ use Rattle.line_player.specs.Served.{Frame, IsLine, IsServed, Serves}
 use Rattle.line_player.specs.Steps.{CommandStep, GiveBackStep, LeaseStep, Lends, ReadStep, RequestStep, VerbStep}
 use Rattle.locked_book.specs.History.{DeskView, IsPart}
 use Rattle.locked_book.specs.Names.{StoreNames}
-use Rattle.blob_store.specs.Seats.{WorkActs, work_of}
+use Rattle.blob_store.specs.Seats.{IsFound, WorkActs, work_of}
 use Rattle.blob_store.specs.Workers.{no_work}
-use Rattle.blobd.specs.Served.{IsFound, IsLending, IsServedBy}
+use Rattle.blobd.specs.Served.{IsLending, IsServedBy}
 use Rattle.line_player.specs.declared.ending.Ending.{Ending}
 use Rattle.line_player.specs.declared.query.Query.{Query}
 use Rattle.line_player.specs.declared.query.Query.TheVariants as query

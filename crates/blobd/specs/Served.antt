@@ -4,13 +4,10 @@ use Rattle.blob_digest.specs.declared.refusal.Refusal.TheVariants.{LimitReached,
 use Rattle.line_player.specs.Lendings.{Lending, Kept, Read, IsPieceOf}
 use Rattle.line_player.specs.Served.{IsLine}
 use Rattle.line_player.specs.declared.ending.Ending.{Ending}
-use Rattle.locked_book.specs.Found.{IsBookOf}
 use Rattle.locked_book.specs.History.{DeskView, IsPart}
 use Rattle.locked_book.specs.Names.{StoreNames}
-use Rattle.blob_store.specs.Seats.{WorkActs, work_of}
+use Rattle.blob_store.specs.Seats.{IsFound, WorkActs, work_of}
 use Rattle.blob_store.specs.Workers.{no_work}
-use Rattle.store_book.specs.BookState.{BookState}
-use Rattle.store_model.specs.Catalog.{Catalog}
 use Rattle.blobd.specs.declared.serving.Line.{Line}
 
 -- what is so of an event of a table of leases whatever others do to it: a lease's number is not 0, and what is read is a piece of bytes that
@@ -19,10 +16,6 @@ abbrev pub IsLending : Lending → Type 0
 IsLending (Kept lent number) = number ≢ 0
 IsLending (Read number digest start end piece) = IsPieceOf digest start end piece
 IsLending lending = ⊤
-
--- the catalog of a book of the store
-abbrev pub IsFound : StoreNames → Catalog → Type 0
-IsFound names catalog = (book : BookState) × IsBookOf names book × (catalog ≡ book.catalog)
 
 -- A line is served: its requests were played in their order, from a desk on that had done nothing, and replied to; the steps of its desk are those
 -- of the requests, in their order and with their replies; and these are the desk's part in a legal history of the store.

@@ -1,5 +1,5 @@
-use Rattle.blob_store.specs.Seats.{SeatActs, WorkActs, work_of}
-use Rattle.blobd.specs.Served.{IsFound, IsLending}
+use Rattle.blob_store.specs.Seats.{IsFound, SeatActs, WorkActs, work_of}
+use Rattle.blobd.specs.Served.{IsLending}
 use Rattle.blobd.proofs.Through.{line_through, served_at}
 use Rattle.blobd.proofs.serving.serve_at.Goals as goal
 
