@@ -114,19 +114,19 @@ class Chart:
     def draw(self, lines):
         xs = sorted({x for points in lines.values() for x, _ in points})
         top = max(y for points in lines.values() for _, y in points) * 1.1
-        place_x = lambda x: self.left + 45 + 250 * (x - xs[0]) / (xs[-1] - xs[0])
+        place_x = lambda x: self.left + 55 + 250 * (x - xs[0]) / (xs[-1] - xs[0])
         place_y = lambda y: 255 - 220 * y / top
         for n in range(5):
             y = place_y(top * n / 4)
-            self.parts.append(f'<line x1="{self.left + 45}" x2="{self.left + 295}" y1="{y:.1f}" y2="{y:.1f}" class="grid"/>')
-            self.parts.append(f'<text x="{self.left + 41}" y="{y + 3:.1f}" class="tick">{top * n / 4:,.{0 if top > 20 else 1}f}</text>')
+            self.parts.append(f'<line x1="{self.left + 55}" x2="{self.left + 305}" y1="{y:.1f}" y2="{y:.1f}" class="grid"/>')
+            self.parts.append(f'<text x="{self.left + 51}" y="{y + 3:.1f}" class="tick">{top * n / 4:,.{0 if top > 20 else 1}f}</text>')
         for x in xs if len(xs) < 6 else (xs[0], xs[-1]):
             self.parts.append(f'<text x="{place_x(x):.1f}" y="270" class="under">{x:,}</text>')
         for n, (name, points) in enumerate(lines.items()):
             colour = self.COLOURS[n]
             path = " ".join(f"{place_x(x):.1f},{place_y(y):.1f}" for x, y in sorted(points))
             self.parts.append(f'<polyline points="{path}" fill="none" stroke="{colour}" stroke-width="2"/>')
-            self.parts.append(f'<text x="{self.left + 50}" y="{305 + 13 * n}" style="fill:{colour}">{name}</text>')
+            self.parts.append(f'<text x="{self.left + 60}" y="{305 + 13 * n}" style="fill:{colour}">{name}</text>')
 
 
 def picture(figures):
