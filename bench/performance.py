@@ -1,7 +1,8 @@
 #!/usr/bin/env python3
 """Measures what users of the store would ask for, prints each figure beside that of the last time, and writes
-docs/PERFORMANCE.md and docs/performance.svg. It wants a built blobctl, what bench/ordinary.py wants, and Debian's `time`;
-and, for the reads under leases, bench/reads.py. The figures are kept in bench/figures.json.
+docs/PERFORMANCE.md, up to what is written there by hand, and docs/performance.svg. It wants a built blobctl, what
+bench/ordinary.py wants, and Debian's `time`; and, for the reads under leases, bench/reads.py. The figures are kept in
+bench/figures.json.
 
     bench/performance.py [--runs N] [--without-reads]
 """
@@ -23,6 +24,7 @@ TOP = os.path.join(os.path.dirname(os.path.abspath(__file__)), "..")
 FIGURES = f"{TOP}/bench/figures.json"
 DOCUMENT = f"{TOP}/docs/PERFORMANCE.md"
 PICTURE = f"{TOP}/docs/performance.svg"
+BY_HAND = "\n## Measured apart\n"
 PARTS = (8, 4, 2, 1)
 WORKERS = (1, 2, 4, 8)
 
@@ -192,8 +194,10 @@ def main():
     figures["by_size"] = by_size(options.runs)
     figures["by_workers"] = by_workers(options.runs)
     figures["by_readers"] = before.get("by_readers") if options.without_reads else by_readers(options.runs)
+    with open(DOCUMENT) as file:
+        _, mark, rest = file.read().partition(BY_HAND)
     with open(DOCUMENT, "w") as file:
-        file.write(document(figures, before))
+        file.write(document(figures, before) + mark + rest)
     with open(PICTURE, "w") as file:
         file.write(picture(figures))
     with open(FIGURES, "w") as file:

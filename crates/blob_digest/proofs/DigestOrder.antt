@@ -1,5 +1,5 @@
 -- The texts of digests stand in the order of the digests' values.
-use Rattle.std.proofs.Common.{Ordering, Less, Equal, Greater, ◌≡◌, ℕ, zero, suc, ◌+◌, ◌/◌, ◌%◌, ◌<◌, ◌==◌, Bool, true, ◌&&◌, nat_le, if◌then◌else◌, inl, inr, List, [], ◌∷◌, slice_index, refl, sym, ap, ◌∙◌, arith, bytes_eq}
+use Rattle.std.proofs.Common.{Ordering, Equal, Greater, ◌≡◌, ℕ, zero, suc, ◌+◌, ◌/◌, ◌%◌, ◌<◌, ◌==◌, Bool, true, ◌&&◌, nat_le, if◌then◌else◌, inl, inr, List, [], ◌∷◌, slice_index, refl, sym, ap, ◌∙◌, arith, bytes_eq}
 use Rattle.std.proofs.lemmas.Bool.{and_parts, cases_lt, eqb-true}
 use Rattle.std.proofs.lemmas.Bool.Decides.{nat_tests}
 use Rattle.std.specs.Ordering.{nat_cmp, ordering_then, is_eq}
@@ -10,6 +10,7 @@ use Rattle.blob_digest.specs.declared.checksum.Checksum.{Checksum}
 use Rattle.blob_digest.specs.declared.checksum.Checksum.TheVariants.{Sha256, Sha512}
 use Rattle.blob_digest.specs.contracts.checksum.ChecksumOrd.TheImpl as checksum_ord
 use Rattle.blob_digest.specs.contracts.checksum.ChecksumPartialEq.TheImpl as checksum_eq
+use Rattle.finite_maps.proofs.Sorted.{nat_cmp-less}
 
 -- the digit of a value below sixteen
 abbrev char_of : ℕ → ℕ
@@ -39,9 +40,6 @@ char_cmp x y = grind (arith, nat_tests)
 digit_cmp : (x y : ℕ) → x < 16 → y < 16 → nat_cmp (slice_index lower_digits x) (slice_index lower_digits y) ≡ nat_cmp x y
 digit_cmp x y hx hy = rw (digit_is x hx, digit_is y hy) (char_cmp x y)
 
-less : (x y : ℕ) → x < y → nat_cmp x y ≡ Less
-less x y h = grind (arith, nat_tests)
-
 tied : (x y : ℕ) → x ≡ y → nat_cmp x y ≡ Equal
 tied x y h = grind (arith, nat_tests)
 
@@ -51,11 +49,11 @@ more x y h = grind (arith, nat_tests)
 -- a byte's digits decide as the byte does
 pair_cmp : (a b : ℕ) (o : Ordering) → ordering_then (nat_cmp (a / 16) (b / 16)) (ordering_then (nat_cmp (a % 16) (b % 16)) o) ≡ ordering_then (nat_cmp a b) o
 pair_cmp a b o = elim (cases_lt (a / 16) (b / 16)) [
-  | inl h ↦ rw (less (a / 16) (b / 16) h, less a b (omega arith)) refl
+  | inl h ↦ rw (nat_cmp-less (a / 16) (b / 16) h, nat_cmp-less a b (omega arith)) refl
   | inr ge ↦ elim (cases_lt (b / 16) (a / 16)) [
     | inl h ↦ rw (more (a / 16) (b / 16) h, more a b (omega arith)) refl
     | inr le ↦ elim (cases_lt (a % 16) (b % 16)) [
-      | inl h ↦ rw (tied (a / 16) (b / 16) (omega arith), less (a % 16) (b % 16) h, less a b (omega arith)) refl
+      | inl h ↦ rw (tied (a / 16) (b / 16) (omega arith), nat_cmp-less (a % 16) (b % 16) h, nat_cmp-less a b (omega arith)) refl
       | inr more_or_tied ↦ elim (cases_lt (b % 16) (a % 16)) [
         | inl h ↦ rw (tied (a / 16) (b / 16) (omega arith), more (a % 16) (b % 16) h, more a b (omega arith)) refl
         | inr same ↦ rw (tied (a / 16) (b / 16) (omega arith), tied (a % 16) (b % 16) (omega arith), tied a b (omega arith)) refl

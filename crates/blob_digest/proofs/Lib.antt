@@ -6,4 +6,5 @@ pub mod KeyOrders
 pub mod NameGrammar
 pub mod NameTexts
 pub mod RangeTexts
+pub mod Refusals
 pub mod Slices

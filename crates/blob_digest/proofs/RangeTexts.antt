@@ -1,5 +1,5 @@
 -- A range's text: the test for it and its grammar agree.
-use Rattle.std.proofs.Common.{◌≡◌, ◌<◌, ◌≤◌, ◌^◌, ◌+◌, ◌++◌, ◌∷◌, ◌==◌, ◌&&◌, [], ◌∙◌, ℕ, List, Bool, true, false, cond, Option, Some, None, not, ap, sym, refl, arith, length, take, drop, nat_lt, nat_le, option_and_then, get_or, length-append, append_assoc}
+use Rattle.std.proofs.Common.{◌≡◌, ◌<◌, ◌≤◌, ◌^◌, ◌+◌, ◌++◌, ◌∷◌, ◌==◌, ◌&&◌, [], ◌∙◌, ℕ, List, Bool, true, Option, Some, None, not, ap, sym, refl, arith, length, take, drop, nat_lt, nat_le, option_and_then, get_or, length-append, append_assoc}
 use Rattle.std.proofs.Math.Seq.{take-append_seam, drop-append_seam}
 use Rattle.std.proofs.lemmas.Bool.{and_parts, lt-ltb, ltb-true, leb-true, le-leb, eqb-true}
 use Rattle.std.proofs.lemmas.Bool.Decides.{nat_tests}
@@ -9,11 +9,7 @@ use Rattle.std.specs.List.{list_all, position, position_or_len}
 use Rattle.std.specs.Str.Parse.{digits_value}
 use Rattle.blob_digest.specs.Ranges.{IsNumber, IsRangeText, is_digits, number_of, ordered, range_at, range_of}
 use Rattle.blob_digest.proofs.NameTexts.{prefix_seam}
-
--- what a test lets through
-passed : {A : Type 0} (b : Bool) (x y : A) → cond b (Some x) None ≡ Some y → (b ≡ true) × (x ≡ y)
-passed true x y h = (refl, cc)
-passed false x y h = cc
+use Rattle.finite_maps.proofs.Options.{cond_some}
 
 -- what a chain of options gave
 chained : {A B : Type 0} (f : A → Option B) (o : Option A) (y : B) → option_and_then f o ≡ Some y → (x : A) × (o ≡ Some x) × (f x ≡ Some y)
@@ -23,7 +19,7 @@ chained f (Some x) y h = (x, refl, h)
 -- a number that the test finds is of the grammar
 pub number_found : (text : List ℕ) (n : ℕ) → number_of text ≡ Some n → IsNumber text n
 number_found text n h =
-    let test = passed (is_digits text && nat_lt (digits_value 10 text) (2 ^ 63)) (digits_value 10 text) n h in
+    let test = cond_some (is_digits text && nat_lt (digits_value 10 text) (2 ^ 63)) (digits_value 10 text) n h in
     let parts = and_parts (is_digits text) (nat_lt (digits_value 10 text) (2 ^ 63)) test.0 in
     let digits = and_parts (nat_lt 0 (length text)) (list_all is_ascii_digit text) parts.0 in
     let below = ltb-true (digits_value 10 text) (2 ^ 63) parts.1 in
@@ -45,13 +41,13 @@ pub range_found : (text : List ℕ) (start end : ℕ) → range_of text ≡ Some
 range_found text start end h =
     let dash = chained (range_at text) (position (λ c. c == 45) text) (start, end) h in
     let is_dash : ℕ → Bool = λ c. c == 45 in
-    let place = passed (nat_lt (position_or_len is_dash text) (length text)) (position_or_len is_dash text) dash.0 dash.1 in
+    let place = cond_some (nat_lt (position_or_len is_dash text) (length text)) (position_or_len is_dash text) dash.0 dash.1 in
     let within = ltb-true (position_or_len is_dash text) (length text) place.0 in
     let byte = eqb-true (get_or text (position_or_len is_dash text) 0) 45 (passes_at_first is_dash text 0 within) in
     let split = split_at_first is_dash text 0 within in
     let first = chained (λ s. option_and_then (ordered s) (number_of (drop (dash.0 + 1) text))) (number_of (take dash.0 text)) (start, end) dash.2 in
     let last = chained (ordered first.0) (number_of (drop (dash.0 + 1) text)) (start, end) first.2 in
-    let ends = passed (nat_le first.0 last.0) (first.0, last.0) (start, end) last.2 in
+    let ends = cond_some (nat_le first.0 last.0) (first.0, last.0) (start, end) last.2 in
     let s : first.0 ≡ start = ap (λ p. p.0) ends.1 in
     let e : last.0 ≡ end = ap (λ p. p.1) ends.1 in
     let in_order : first.0 ≤ last.0 = leb-true first.0 last.0 ends.0 in

@@ -1,3 +1,2 @@
 pub mod Apart
 pub mod Heads
-pub mod Writes

@@ -1,5 +1,5 @@
 -- A row that names a repository, and is not refused for a field, has a command.
-use Rattle.std.proofs.Common.{◌≡◌, ◌≢◌, ◌∙◌, ◌∷◌, [], ℕ, List, Bool, false, true, cond, Option, Some, None, Ok, refl, subst, sym}
+use Rattle.std.proofs.Common.{◌≡◌, ◌≢◌, ◌∙◌, ◌∷◌, [], ℕ, List, false, true, Option, Some, None, Ok, refl, subst, sym}
 use Rattle.std.specs.Prelude.{is_some, option_and_then, map}
 use Rattle.std.proofs.lemmas.Bool.{false≢true, and_parts}
 use Rattle.finite_maps.specs.Texts.{Text}
@@ -10,19 +10,16 @@ use Rattle.row_player.specs.declared.row.Verb.{Verb}
 use Rattle.row_player.specs.declared.row.Verb.TheVariants as verb
 use Rattle.row_player.proofs.Spellings.{lease_spelled, spelled}
 use Rattle.blobctl.specs.Records.{Record, head_of, row_of, row_with}
+use Rattle.finite_maps.proofs.Options.{cond_some}
 
 -- ---- a row fits its command
 
 abbrev pub Fits : RowView → Type 0
 Fits line = fits line.verb line.repo line.key line.digest line.range line.body ≡ true
 
-passed : {A : Type 0} (b : Bool) (x y : A) → cond b (Some x) None ≡ Some y → (b ≡ true) × (x ≡ y)
-passed true x y h = (refl, cc)
-passed false x y h = absurd (let e = h in cc)
-
 fits_with : (fields : Record) (head : Option (ℕ × Verb)) (line : RowView) → option_and_then (row_with fields) head ≡ Some line → Fits line
 fits_with fields None line h = absurd (let e = h in cc)
-fits_with fields (Some head) line h = let p = passed _ _ line h in subst Fits p.1 p.0
+fits_with fields (Some head) line h = let p = cond_some _ _ line h in subst Fits p.1 p.0
 
 abbrev pub AllFit : List RowView → Type 0
 AllFit [] = Unit {0}

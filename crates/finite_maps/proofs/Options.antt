@@ -1,5 +1,5 @@
 -- What is known of an optional value.
-use Rattle.std.proofs.Common.{◌≡◌, true, Option, Some, None, is_some, refl, ℕ, sym, ap, ◌∙◌, false}
+use Rattle.std.proofs.Common.{◌≡◌, Bool, true, false, cond, Option, Some, None, is_some, refl, ℕ, sym, ap, ◌∙◌}
 use Rattle.std.specs.Prelude.{nat_eq}
 use Rattle.std.specs.Option.{option_map, option_eq}
 use Rattle.std.proofs.lemmas.Bool.{true≢false, false≢true, eqb-true}
@@ -9,6 +9,11 @@ some_same e = cc
 
 pub some_none : {A B : Type 0} {x : A} → Some x ≡ None → B
 some_none e = cc
+
+-- what a test lets through
+pub cond_some : {A : Type 0} (b : Bool) (x y : A) → cond b (Some x) None ≡ Some y → (b ≡ true) × (x ≡ y)
+cond_some true x y h = (refl, cc)
+cond_some false x y h = absurd (some_none (sym h))
 
 pub not_some : {A : Type 0} (o : Option A) → ((x : A) → o ≡ Some x → ⊥) → o ≡ None
 not_some None none = refl

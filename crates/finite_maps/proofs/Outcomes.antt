@@ -3,6 +3,13 @@ use Rattle.std.proofs.Common.{◌≡◌, Bool, true, false, Option, Some, None, 
 use Rattle.std.specs.Option.{ok_or}
 use Rattle.finite_maps.specs.Outcomes.{◌>>=◌, refuse}
 
+-- nothing is accepted and refused
+pub ok_err : {A E B : Type 0} {x : A} {e : E} → ◌≡◌ {A = Result A E} (Ok x) (Err e) → B
+ok_err h = absurd cc
+
+pub ok_pair : {A B E : Type 0} {x y : A} {u v : B} → ◌≡◌ {A = Result (A × B) E} (Ok (x, u)) (Ok (y, v)) → (x ≡ y) × (u ≡ v)
+ok_pair {A} {B} {E} {x} {y} {u} {v} h = let p : ◌≡◌ {A = A × B} (x, u) (y, v) = cc in (λ i. (p i).0, λ i. (p i).1)
+
 -- a step that was accepted passed its first line
 pub bound_ok : {A B E : Type 0} (x : Result A E) (f : A → Result B E) (y : B) → (x >>= f) ≡ Ok y → (a : A) × (x ≡ Ok a) × (f a ≡ Ok y)
 bound_ok (Ok a) f y h = (a, refl, h)

@@ -4,14 +4,15 @@ use Prim.Native.Nat.{zero, suc}
 use Rattle.std.specs.Prelude.{T}
 use Rattle.std.specs.declared.cmp.Ordering.{Ordering}
 use Rattle.std.specs.declared.cmp.Ordering.TheVariants.{Less, Equal, Greater}
-use Rattle.std.specs.Ordering.{is_lt, is_eq, ordering_reverse, eq_by_cmp}
+use Rattle.std.specs.Ordering.{is_lt, is_eq, nat_cmp, ordering_reverse, eq_by_cmp}
 use Rattle.std.specs.Cmp.{IsTotalOrder, eq_by_cmp_equiv}
 use Rattle.std.specs.List.{insert, remove, HoldsAt}
 use Rattle.std.specs.List.Sorted.{IsSortedBy, IsBinarySearchResult, IsPartitionPoint}
-use Rattle.std.specs.FinMap.{find, put, is_sorted, entries, from_entries, from_sorted, get-from_entries, get-from_sorted, entries-from_sorted, get-insert, same_map, IsAntisymmetric, insert as finsert}
+use Rattle.std.specs.FinMap.{FinMap, find, put, entries_sorted, is_sorted, entries, from_entries, from_sorted, get-from_entries, get-from_sorted, entries-from_sorted, get-insert, same_map, IsAntisymmetric, insert as finsert}
 use Rattle.std.specs.FinMap.Entries.{below_all, find-put, is_sorted-put}
 use Rattle.std.proofs.lemmas.Bool.{and_parts, and_from, cases_lt}
 use Rattle.std.proofs.lemmas.List.Sorted.{searchable_from_sorted}
+use Rattle.std.proofs.lemmas.Bool.Decides.{nat_tests}
 use Rattle.std.proofs.lemmas.List.{length-map}
 use Rattle.finite_maps.specs.Rows.{IsApart}
 use Rattle.finite_maps.proofs.Rows.{found_value}
@@ -24,10 +25,17 @@ from_T : (b : Bool) → T b → b ≡ true
 from_T true h = refl
 from_T false h = absurd h
 
-is_less : (r : Ordering) → is_lt r ≡ true → r ≡ Less
+pub is_less : (r : Ordering) → is_lt r ≡ true → r ≡ Less
 is_less Less e = refl
 is_less Equal e = cc
 is_less Greater e = cc
+
+pub nat_cmp-less : (x y : ℕ) → x < y → nat_cmp x y ≡ Less
+nat_cmp-less x y h = grind (arith, nat_tests)
+
+-- the entries of a map rise by their keys
+pub rising : {K X : Type 0} {R : K → K → Ordering} (m : FinMap R X) → is_sorted R (entries m) ≡ true
+rising {R = R} m = from_T (is_sorted R (entries m)) (entries_sorted m)
 
 module _ {K X : Type 0} (R : K → K → Ordering) where
   -- a key below all others is not found

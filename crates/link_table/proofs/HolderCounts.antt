@@ -1,7 +1,7 @@
 -- What a link more or less does to the counts of those that hold a digest, each tenant's in a map of its own.
 use Rattle.std.proofs.Common.{◌≡◌, ℕ, ◌+◌, ◌<◌, ◌≤◌, Bool, true, false, cond, ◌&&◌, ◌||◌, ◌==◌, nat_lt, List, [], ◌∷◌, length, map, filter, get_or, set, Option, None, Some, is_some, refl, sym, ap, ◌∙◌, arith, subst, length-set}
 use Prim.Native.Nat.{zero, suc}
-use Rattle.std.specs.Prelude.{T, ◌≢◌, slice_get, count_by, unwrap_or, nat_eq}
+use Rattle.std.specs.Prelude.{◌≢◌, slice_get, count_by, unwrap_or, nat_eq}
 use Rattle.std.specs.Option.{option_eq, option_map_or}
 use Rattle.std.specs.List.{All, list_any, AllByRecursion, IsDistinct}
 use Rattle.std.specs.Set.{is_member}
@@ -23,7 +23,7 @@ use Rattle.finite_maps.specs.Sets as sets
 use Rattle.blob_digest.proofs.KeyOrders.{link_cmp_total, exact_link}
 use Rattle.finite_maps.proofs.Texts.{text_is_same, same_text_is, tied_text}
 use Rattle.finite_maps.proofs.Options.{some_none, some_same, option_eq_some}
-use Rattle.finite_maps.proofs.Sorted.{IsApart-sorted}
+use Rattle.finite_maps.proofs.Sorted.{IsApart-sorted, rising}
 use Rattle.finite_maps.proofs.Trees.{get_is}
 use Rattle.finite_maps.specs.Trees.{map_of}
 use Rattle.link_table.specs.Linked.{Tenant, tenant_of, is_tenants}
@@ -31,7 +31,7 @@ use Rattle.link_table.specs.Holders.{count_in, count_of, is_held, Counts, HasNoZ
 use Rattle.link_table.specs.TenantRepos.{Owned, IsOwned, links_shown, count}
 use Rattle.link_table.proofs.TenantRepos.{links-there}
 use Rattle.std.specs.FinMap as fmap
-use Rattle.std.specs.FinMap.{FinMap, find, get, get-empty, insert, remove, entries, get-entries, entries_sorted, is_sorted, contains_key-keys}
+use Rattle.std.specs.FinMap.{FinMap, find, get, get-empty, insert, remove, entries, get-entries, contains_key-keys}
 use Rattle.finite_maps.proofs.Sums.{sum_new, sum_split}
 
 -- ---- one count
@@ -304,14 +304,10 @@ module _ (tenants : List Tenant) (t : ℕ) (d : Text) where
       count_by (is_held tenants t d) (entries links) ≤ length (sets.items repos)
   held_within links repos known =
       let few : length (holding (entries links)) ≤ length (sets.items repos) = length-le_from_is_member (eq_by_cmp_equiv nat_list_cmp_total) (holding (entries links)) (sets.items repos)
-      (distinct (entries links) (IsApart-sorted link_cmp (entries links) (from_T (is_sorted link_cmp (entries links)) (entries_sorted links))))
+      (distinct (entries links) (IsApart-sorted link_cmp (entries links) (rising links)))
       (λ q h. (let f = found (entries links) q h in sym (contains_key-keys repos q) ∙ known q f.0 (ap is_some (get-entries links (q, d)) ∙ f.1))) in
       let many : length (holding (entries links)) ≡ count_by (is_held tenants t d) (entries links) = length-map (filter (is_held tenants t d) (entries links)) (λ (e : Link × ℕ). e.0.0) ∙ length-filter (is_held tenants t d) (entries links) in
       omega (arith, few, many)
-    where
-      from_T : (b : Bool) → T b → b ≡ true
-      from_T true h = refl
-      from_T false h = absurd h
 
 -- a tenant's count of a digest is at most the number of its repositories
 pub count_in-most : (tenants : List Tenant) (by_tenant : List Owned) → IsOwned tenants by_tenant → (holders : List (FinMap text_cmp ℕ)) → Counts tenants (links_shown by_tenant) holders → (t : ℕ) (s : Owned) → slice_get by_tenant t ≡ Some s → (m : FinMap text_cmp ℕ) → slice_get holders t ≡ Some m → (d : Text) → count_in m d ≤ count s

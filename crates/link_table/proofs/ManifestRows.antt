@@ -1,6 +1,6 @@
 -- The manifests of a repository in their tree, and the index of what they refer to.
 use Rattle.std.proofs.Common.{◌≡◌, ℕ, ◌+◌, ◌<◌, ◌≤◌, Bool, true, false, cond, not, List, [], ◌∷◌, length, map, take, get_or, Option, Some, None, is_some, Ok, Err, Bor, subst, refl, sym, ap, ◌∙◌}
-use Rattle.std.specs.Prelude.{T, ◌&&◌, ◌||◌, slice_get, IfSome}
+use Rattle.std.specs.Prelude.{◌&&◌, ◌||◌, slice_get, IfSome}
 use Rattle.std.specs.declared.alloc.Global.{Global}
 use Rattle.std.specs.declared.sync.Arc.{Arc}
 use Rattle.std.specs.declared.cmp.Ordering.TheVariants.{Less, Equal, Greater}
@@ -24,22 +24,19 @@ use Rattle.std.proofs.lemmas.List.{length-map}
 use Rattle.std.proofs.lemmas.List.Folds.{list_any_more}
 use Rattle.std.proofs.lemmas.Map.Lookups.{exact_bytes}
 use Rattle.finite_maps.specs.Texts.{Text, text_cmp, same_text}
-use Rattle.finite_maps.proofs.Texts.{text_is_same, tied_text}
+use Rattle.finite_maps.proofs.Texts.{text_is_same, tied_text, tied_to_itself}
 use Rattle.finite_maps.proofs.Options.{some_same, some_none}
-use Rattle.finite_maps.proofs.Sorted.{entries-sorted}
+use Rattle.finite_maps.proofs.Sorted.{entries-sorted, is_less, rising}
 use Rattle.finite_maps.proofs.Trees.{get_is}
 use Rattle.blob_digest.specs.Digests.{sha256_text}
 use Rattle.blob_digest.specs.declared.refusal.Refusal.TheVariants.{LimitReached}
 use Rattle.oci_manifest.specs.Manifests.{refs_of, refers}
 use Rattle.link_table.specs.Manifests.{Kept, kept, refer_cmp, is_pair, IsIndexed, put_in, referrer_in}
 use Rattle.finite_maps.proofs.Parts.{insert_by, remove_by}
+use Rattle.std.proofs.Math.Bool.{and-false, and-true, or-false}
 
 sym_text : (a b : Text) → same_text a b ≡ same_text b a
 sym_text a b = texts_ties a b ∙ (eq_by_cmp_equiv nat_list_cmp_total).symm a b ∙ sym (texts_ties b a)
-
-and_false : (b : Bool) → (b && false) ≡ false
-and_false true = refl
-and_false false = refl
 
 -- ---- one reference
 
@@ -49,7 +46,7 @@ at_pair r m d None = false
 at_pair r m d (Some k) = same_text r d && same_text m k
 
 pair_tie : (r m d : Text) (o : Option Text) → tree.is_at (refer_cmp (r, Some m)) (d, o) ≡ at_pair r m d o
-pair_tie r m d None = sym (tied_then (text_cmp r d) Greater) ∙ and_false (is_eq (text_cmp r d))
+pair_tie r m d None = sym (tied_then (text_cmp r d) Greater) ∙ and-false (is_eq (text_cmp r d))
 pair_tie r m d (Some k) = sym (tied_then (text_cmp r d) (text_cmp m k)) ∙ (λ i. sym (texts_ties r d) i && sym (texts_ties m k) i)
 
 less_step : (a b old p : Bool) → cond (a && b) false (old && not (b && p)) ≡ (old && not (b && (p || a)))
@@ -154,16 +151,8 @@ is_at_text m k = sym_text m k ∙ texts_ties k m
 
 put_step : (b p : Bool) (x : Option Text) (bytes d : Text) → refers bytes d ≡ p → (b ≡ true → x ≡ None) → (option_map_or (λ c. refers c d) x false || (b && p)) ≡ option_map_or (λ c. refers c d) (cond b (Some bytes) x) false
 put_step true p x bytes d is none = rw (none refl) (sym is)
-put_step false true x bytes d is none = or_false (option_map_or (λ c. refers c d) x false)
-  where
-    or_false : (c : Bool) → (c || false) ≡ c
-    or_false true = refl
-    or_false false = refl
-put_step false false x bytes d is none = or_false (option_map_or (λ c. refers c d) x false)
-  where
-    or_false : (c : Bool) → (c || false) ≡ c
-    or_false true = refl
-    or_false false = refl
+put_step false true x bytes d is none = or-false (option_map_or (λ c. refers c d) x false)
+put_step false false x bytes d is none = or-false (option_map_or (λ c. refers c d) x false)
 
 refers-refs : (bytes d : Text) (refs : List Text) → refs_of bytes ≡ Some refs → refers bytes d ≡ list_any (same_text d) refs
 refers-refs bytes d refs is = ap (λ o. option_map_or (list_any (same_text d)) o false) is
@@ -188,11 +177,7 @@ module _ (m : Kept) (k bytes : Text) (refs : List Text) (is : refs_of bytes ≡ 
       neither : (c : Bool) → (c && not c) ≡ false
       neither true = refl
       neither false = refl
-  drop_step false x d at = and_true (option_map_or (λ c. refers c d) x false)
-    where
-      and_true : (c : Bool) → (c && true) ≡ c
-      and_true true = refl
-      and_true false = refl
+  drop_step false x d at = and-true (option_map_or (λ c. refers c d) x false)
 
   pub IsIndexed-remove : get m k ≡ Some bytes → ((d : Text) (o : Option Text) → contains refer_cmp new (d, o) ≡ (contains refer_cmp old (d, o) && not (is_pair refs k d o))) → IsIndexed (remove m k) new
   IsIndexed-remove there less d None = less d None ∙ ap (λ b. b && true) (indexed d None)
@@ -251,9 +236,6 @@ IsIndexed-initial rows s none empty d (Some k) =
 
 -- ---- the least manifest that refers to a digest
 
-itself : (q : Text) → eq_by_cmp text_cmp q q ≡ true
-itself q = ap is_eq (tied_itself nat_list_cmp_total q)
-
 module _ (p : Text → Bool) where
   -- an entry of the rest is one of the whole, and its key is above the first
   above : (x : Text) (es : List (Text × Text)) (q v : Text) → below_all text_cmp x es ≡ true → find text_cmp q es ≡ Some v → text_cmp x q ≡ Less
@@ -264,11 +246,6 @@ module _ (p : Text → Bool) where
         | true ↦ λ tie h. ap (text_cmp x) (tied_text q e.0 tie) ∙ is_less (text_cmp x e.0) parts.0
         | false ↦ λ tie h. above x es q v parts.1 h
       ] refl at
-    where
-      is_less : (r : Ordering) → is_lt r ≡ true → r ≡ Less
-      is_less Less h = refl
-      is_less Equal h = cc
-      is_less Greater h = cc
 
   untied : (x q : Text) → text_cmp x q ≡ Less → eq_by_cmp text_cmp q x ≡ false
   untied x q less = (eq_by_cmp_equiv nat_list_cmp_total).symm q x ∙ ap is_eq less
@@ -277,7 +254,7 @@ module _ (p : Text → Bool) where
   kept_on e es q v below at = ap (λ b. cond b (Some e.1) (find text_cmp q es)) (untied e.0 q (above e.0 es q v below at)) ∙ at
 
   first_of : (e : Text × Text) (es : List (Text × Text)) → find text_cmp e.0 (e ∷ es) ≡ Some e.1
-  first_of e es = ap (λ b. cond b (Some e.1) (find text_cmp e.0 es)) (itself e.0)
+  first_of e es = ap (λ b. cond b (Some e.1) (find text_cmp e.0 es)) (tied_to_itself e.0)
 
   pub none_passes : (es : List (Text × Text)) → is_sorted text_cmp es ≡ true → ((q v : Text) → find text_cmp q es ≡ Some v → p v ≡ false) → option_map (λ (e : Text × Text). e.0) (first (λ e. p e.1) es) ≡ None
   none_passes [] up none = refl
@@ -306,11 +283,7 @@ module _ (p : Text → Bool) where
 
 module _ (m : Kept) (d : Text) (s : BTreeSet (Text × Option Text)) (indexed : IsIndexed m s) where
   up : is_sorted text_cmp (entries m) ≡ true
-  up = from_T (is_sorted text_cmp (entries m)) (fmap.entries_sorted m)
-    where
-      from_T : (b : Bool) → T b → b ≡ true
-      from_T true h = refl
-      from_T false h = absurd h
+  up = rising m
 
   there : (k v : Text) → find text_cmp k (entries m) ≡ Some v → contains refer_cmp s (d, Some k) ≡ refers v d
   there k v at = indexed d (Some k) ∙ ap (λ o. option_map_or (λ c. refers c d) o false) (fmap.get-entries m k ∙ at)

@@ -1,7 +1,6 @@
 -- The manifests of all repositories in their trees, as one map.
 use Rattle.std.proofs.Common.{◌≡◌, Bool, true, false, cond, List, [], ◌∷◌, length, map, filter, Option, Some, None, is_some, Result, Ok, Err, refl, sym, ap, ◌∙◌, subst}
-use Rattle.std.specs.Prelude.{T, ◌&&◌, nat_le, IsSome}
-use Rattle.std.specs.declared.cmp.Ordering.{Ordering}
+use Rattle.std.specs.Prelude.{◌&&◌, nat_le, IsSome}
 use Rattle.std.specs.Ordering.{eq_by_cmp, is_lt, ordering_then}
 use Rattle.std.specs.Cmp.{tied_itself, Equal-is}
 use Rattle.std.specs.Cmp.Lexicographic.{nat_list_cmp_total, texts_ties}
@@ -11,7 +10,7 @@ use Rattle.std.specs.BTreeMap as tree
 use Rattle.std.proofs.lemmas.Map.Lookups.{exact_bytes}
 use Rattle.finite_maps.specs.Trees.{map_of}
 use Rattle.finite_maps.proofs.Trees.{get_is, insert_is}
-use Rattle.std.specs.FinMap.{FinMap, find, get, entries, empty, insert, remove, len, contains_key, from_entries, is_sorted, get-empty, get-entries, get-from_entries, get-insert, get-remove, entries_sorted, len-entries, same_map}
+use Rattle.std.specs.FinMap.{FinMap, find, get, entries, empty, insert, remove, len, contains_key, from_entries, is_sorted, get-empty, get-entries, get-from_entries, get-insert, get-remove, len-entries, same_map}
 use Rattle.std.specs.FinMap.Entries.{below_all, find_tied}
 use Rattle.finite_maps.specs.Rows.{IsApart}
 use Rattle.blob_digest.specs.declared.refusal.Refusal.{Refusal}
@@ -26,16 +25,12 @@ use Rattle.blob_digest.proofs.KeyOrders.{link_cmp_total, exact_link}
 use Rattle.finite_maps.proofs.Texts.{tied_text}
 use Rattle.finite_maps.proofs.Options.{some_none}
 use Rattle.finite_maps.proofs.Rows.{entries-empty}
-use Rattle.finite_maps.proofs.Sorted.{entries-sorted, IsApart-sorted}
+use Rattle.finite_maps.proofs.Sorted.{entries-sorted, IsApart-sorted, rising}
 use Rattle.oci_manifest.specs.Manifests.{refers}
 use Rattle.link_table.specs.Manifests.{Kept, put_in, referrer_in}
 use Rattle.link_table.specs.ManifestTable.{ManifestBytes, Groups, group_rows, flat, manifest_bytes, manifests_in, manifests_on, referrer_on, put_on}
 use Rattle.finite_maps.proofs.Parts.{or_else, find-++, insert_by, remove_by, remove_absent, where_key-agree, where_key-all}
 use Rattle.link_table.proofs.LinkKeys.{link_tie, both_ties, none_anyway}
-
-from_T : (b : Bool) → T b → b ≡ true
-from_T true h = refl
-from_T false h = absurd h
 
 -- an outcome without an answer, and a refusal
 abbrev done : {S : Type 0} → S → OutcomeIn S (Unit {0})
@@ -109,9 +104,6 @@ find-flat (e ∷ es) all r d =
     find-++ link_cmp (r, d) (group_rows e) (flat_map group_rows es)
     ∙ (λ i. or_else (find-paired e.0 r d (entries e.1) i) (find-flat es all.1 r d i))
     ∙ find_given (eq_by_cmp text_cmp r e.0) e.1 (find text_cmp r es) d (λ tie. sym (find_tied text_cmp nat_list_cmp_total r e.0 ((Equal-is (text_cmp r e.0)).0 tie) es) ∙ all.0)
-
-rising : {K X : Type 0} {R : K → K → Ordering} (m : FinMap R X) → is_sorted R (entries m) ≡ true
-rising {R = R} m = from_T (is_sorted R (entries m)) (entries_sorted m)
 
 -- a look-up is one in the repository's manifests
 pub get-flat : (g : Groups) (r d : Text) → get (flat g) (r, d) ≡ get (group g r) d

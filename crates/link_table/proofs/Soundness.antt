@@ -21,6 +21,7 @@ use Rattle.link_table.specs.Usage.{KeepsUsage}
 use Rattle.link_table.specs.Holders.{is_held}
 use Rattle.finite_maps.proofs.Options.{option_eq_some}
 use Rattle.link_table.proofs.Weights.{HasOneSize-insert, HasOneSize-remove, total-insert, total-other, total-remove, total-remove_other}
+use Rattle.std.proofs.Math.Bool.{and-false, and-true}
 
 -- a repository has one tenant
 others : (tenants : List Tenant) (t u : ℕ) (repo : Text) → is_tenants tenants t repo ≡ true → (u ≡ t → ⊥) → is_tenants tenants u repo ≡ false
@@ -43,21 +44,13 @@ split false v x = refl
 text_tie : (q r : Text) → eq_by_cmp text_cmp q r ≡ same_text r q
 text_tie q r = (eq_by_cmp_equiv nat_list_cmp_total).symm q r ∙ sym (texts_ties r q)
 
-and_true : (b : Bool) → (b && true) ≡ b
-and_true true = refl
-and_true false = refl
-
-and_false : (b : Bool) → (b && false) ≡ false
-and_false true = refl
-and_false false = refl
-
 module _ (tenants : List Tenant) (t : ℕ) (d : Text) where
   found_size : (es : List (Link × ℕ)) → is_some (find text_cmp d (sizes (is_tenants tenants t) es)) ≡ list_any (is_held tenants t d) es
   found_size [] = refl
   found_size (e ∷ es) =
       elim (is_tenants tenants t e.0.0) as (λ b. is_some (find text_cmp d (cond b ((e.0.1, e.1) ∷ sizes (is_tenants tenants t) es) (sizes (is_tenants tenants t) es))) ≡ ((same_text e.0.1 d && b) || list_any (is_held tenants t d) es)) [
-        | true ↦ split (eq_by_cmp text_cmp d e.0.1) e.1 (find text_cmp d (sizes (is_tenants tenants t) es)) ∙ (λ i. (text_tie d e.0.1 ∙ sym (and_true (same_text e.0.1 d))) i || found_size es i)
-        | false ↦ found_size es ∙ (λ i. sym (and_false (same_text e.0.1 d)) i || list_any (is_held tenants t d) es)
+        | true ↦ split (eq_by_cmp text_cmp d e.0.1) e.1 (find text_cmp d (sizes (is_tenants tenants t) es)) ∙ (λ i. (text_tie d e.0.1 ∙ sym (and-true (same_text e.0.1 d))) i || found_size es i)
+        | false ↦ found_size es ∙ (λ i. sym (and-false (same_text e.0.1 d)) i || list_any (is_held tenants t d) es)
       ]
 
   -- a tenant holds a digest exactly where a link of its repositories has it

@@ -22,6 +22,7 @@ use Rattle.blob_digest.specs.Names.{tenant_name, IsComponent}
 use Rattle.blob_digest.specs.Tenants.{Tenant, tenant_of, is_tenants}
 use Rattle.finite_maps.proofs.Rows.{position-map, sum_by-map}
 use Rattle.link_table.specs.Tenancy.{HasNames, IsWithinLimits, AreTenants, tenant_shown, tenants_shown}
+use Rattle.finite_maps.proofs.Sorted.{is_less}
 
 -- ---- how many pass a test
 
@@ -140,10 +141,6 @@ some_row : (ts : List (String Global × ℕ)) → 0 < length ts → String Globa
 some_row [] some = absurd (omega arith)
 some_row (x ∷ ts) some = x
 
-is_less : (r : Ordering) → true ≡ is_lt r → r ≡ Less
-is_less Less e = refl
-is_less Equal e = cc
-is_less Greater e = cc
 
 -- two neighbours of one name
 abbrev pub HasNeighbours : List (String Global × ℕ) → Type 0
@@ -177,7 +174,7 @@ module _ (given ts : List (String Global × ℕ)) (moved : IsPermutation given t
     rises : IsStrictlySortedBy text_cmp (map (λ t. t.name) (tenants_shown ts))
     rises = rising_by text_cmp nat_list_cmp_total (λ t. t.name) tenant_shown ts (λ k d lt.
         let lt' : k + 1 < length ts = omega arith in
-        is_less (text_cmp (name_of (get_or ts k d)) (name_of (get_or ts (suc k) d))) (rw add-one at (next k d lt')))
+        is_less (text_cmp (name_of (get_or ts k d)) (name_of (get_or ts (suc k) d))) (sym (rw add-one at (next k d lt'))))
 
     shown_components : All (λ t. IsComponent t.name) (tenants_shown ts)
     shown_components = All-map (λ t. IsComponent t.name) tenant_shown ts components

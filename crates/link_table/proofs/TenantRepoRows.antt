@@ -3,7 +3,7 @@ use Rattle.std.proofs.Common.{◌≡◌, ℕ, ◌<◌, ◌≤◌, Bool, true, fa
 use Prim.Native.Nat.{zero, suc}
 use Rattle.std.specs.Prelude.{◌&&◌, slice_get}
 use Rattle.std.specs.declared.cmp.Ordering.TheVariants.{Less, Equal}
-use Rattle.std.specs.Ordering.{eq_by_cmp, is_eq, is_lt, ordering_then}
+use Rattle.std.specs.Ordering.{eq_by_cmp, is_lt, ordering_then}
 use Rattle.std.specs.Cmp.{tied_itself, eq_by_cmp_equiv}
 use Rattle.std.specs.Cmp.Lexicographic.{nat_list_cmp_total, texts_ties}
 use Rattle.std.specs.List.{flat_map, insert, remove, HoldsAt, AllByRecursion}
@@ -20,7 +20,7 @@ use Rattle.finite_maps.specs.Sets as sets
 use Rattle.finite_maps.specs.Texts.{Text, text_cmp, same_text}
 use Rattle.blob_digest.specs.Keys.{Link, link_cmp}
 use Rattle.blob_digest.proofs.KeyOrders.{link_cmp_total, exact_link}
-use Rattle.finite_maps.proofs.Texts.{tied_text}
+use Rattle.finite_maps.proofs.Texts.{tied_text, tied_to_itself}
 use Rattle.finite_maps.proofs.Lists.{map-remove}
 use Rattle.finite_maps.proofs.Options.{some_same, some_none}
 use Rattle.finite_maps.proofs.Rows.{from_entries-remove, entries-empty}
@@ -139,9 +139,6 @@ in_tree m q = sym (get-from_entries nat_list_cmp_total m.entries q) ∙ sym (get
 pub find-links_in : (row : Repo) (r d : Text) → find link_cmp (r, d) (links_in row) ≡ cond (eq_by_cmp text_cmp r row.name) (tree.get text_cmp row.blobs d) None
 find-links_in row r d = find-paired row.name r d row.blobs.entries ∙ ap (λ x. cond (eq_by_cmp text_cmp r row.name) x None) (in_tree row.blobs d)
 
-itself : (r : Text) → eq_by_cmp text_cmp r r ≡ true
-itself r = ap is_eq (tied_itself nat_list_cmp_total r)
-
 changed : {X : Type 0} (a b : Bool) (w x : Option X) → cond a (cond b w x) None ≡ cond (a && b) w (cond a x None)
 changed a b w x = sym (both_ties a b w x)
 
@@ -186,7 +183,7 @@ module _ (rows : List Repo) (order : IsInOrder rows) where
     links-there d =
         get-from_entries link_cmp_total (flat_map links_in rows) (row.name, d)
         ∙ find_in_part link_cmp links_in (row.name, d) rows i row at (others d)
-        ∙ find-links_in row row.name d ∙ ap (λ b. cond b (tree.get text_cmp row.blobs d) None) (itself row.name)
+        ∙ find-links_in row row.name d ∙ ap (λ b. cond b (tree.get text_cmp row.blobs d) None) (tied_to_itself row.name)
 
     -- one row has something else at one digest
     pub links-set : (new : Repo) (d : Text) (w : Option ℕ) → new.name ≡ row.name → ((q : Text) → tree.get text_cmp new.blobs q ≡ cond (tree.is_at (text_cmp d) q) w (tree.get text_cmp row.blobs q)) →
@@ -204,7 +201,7 @@ module _ (rows : List Repo) (order : IsInOrder rows) where
     -- without links there is nothing in the row
     no_entries : (es : List (Text × ℕ)) → ((d : Text) → find text_cmp d es ≡ None) → es ≡ []
     no_entries [] none = refl
-    no_entries (e ∷ es) none = some_none (sym (ap (λ b. cond b (Some e.1) (find text_cmp e.0 es)) (itself e.0)) ∙ none e.0)
+    no_entries (e ∷ es) none = some_none (sym (ap (λ b. cond b (Some e.1) (find text_cmp e.0 es)) (tied_to_itself e.0)) ∙ none e.0)
 
     pub unlinked : ((d : Text) → get (owned_shown rows).links (row.name, d) ≡ None) → links_in row ≡ []
     unlinked none = ap (map {B = Link × ℕ} (λ e. ((row.name, e.0), e.1))) (no_entries row.blobs.entries (λ d. in_tree row.blobs d ∙ sym (links-there d) ∙ none d))

@@ -6,9 +6,8 @@ use Rattle.blob_digest.specs.declared.refusal.Refusal.{Refusal}
 use Rattle.blob_digest.specs.declared.refusal.Refusal.TheVariants.{LimitReached, Memory, TooManyReaders}
 use Rattle.blob_digest.specs.Outcomes.{Does, DoesExactly, OutcomeIn}
 use Rattle.finite_maps.specs.Outcomes.{◌>>=◌, refuse}
-use Rattle.store_model.specs.Catalog.{Taken}
+use Rattle.store_model.specs.Catalog.{Taken, Catalog}
 use Rattle.finite_maps.specs.Texts.{Text}
-use Rattle.store_model.specs.Catalog.{Catalog}
 use Rattle.store_model.specs.declared.mount.Mount as mount
 use Rattle.store_model.specs.declared.swept.Swept.{Swept}
 use Rattle.store_model.specs.Sweep.{IsSweep}
@@ -23,10 +22,7 @@ use Rattle.store_model.specs.Hands.{filled_length}
 use Rattle.store_model.specs.Histories.{Performed, Took, PutBack, Finished, Cleaned, command_amounts, chunk_amounts, IsUncountable, MayLeave, IsStep}
 use Rattle.locked_book.specs.History.{state_of}
 use Rattle.locked_book.specs.Calls.{reply}
-
-is_memory : (e : Refusal) → (e ≡ Memory) ⊎ (e ≢ Memory)
-is_memory Memory = inl refl
-is_memory e = inr (λ h. absurd cc)
+use Rattle.blob_digest.proofs.Refusals.{is_memory}
 
 pub plus_nothing : (a : Amounts) → a ≡ plus a nothing
 plus_nothing a = λ i. record { commands = sym (add-zero a.commands) i; received = sym (add-zero a.received) i; closed = sym (add-zero a.closed) i; abandoned = sym (add-zero a.abandoned) i }

@@ -22,7 +22,7 @@ use Rattle.store_model.specs.Commands.{tenant, session, lacks_room_for, cannot_o
 use Rattle.store_model.proofs.Invariant.Sessions.{fresh}
 use Rattle.store_model.proofs.Commands.Hands.{home_chunks, received-with_chunk, taken_found, took, whole_long, IsProper}
 use Rattle.store_model.proofs.Commands.Accepted.{answer_by, left_by, session_found}
-use Rattle.finite_maps.proofs.Outcomes.{bound_ok}
+use Rattle.finite_maps.proofs.Outcomes.{bound_ok, ok_pair}
 use Rattle.locked_book.proofs.Answered.{lent}
 use Rattle.store_model.specs.Hands.{hand_of, in_hand, reserved, received_in_sessions, filled_length}
 use Rattle.locked_book.specs.Names.{setting_of}
@@ -225,14 +225,11 @@ pub put_back_sums : (C C' : Catalog) (h : Taken) (n : ℕ) → put_back C h ≡ 
 put_back_sums C C' h n stepped =
     let a = bound_ok (put_back_in C.sessions h) _ (n, C') stepped in
     let b = bound_ok (taken_session (get C.sessions h.key) h) _ a.0 a.1 in
-    let same : with_chunks C.sessions h.key b.0 (Home (chunks_of h)) ≡ a.0.1 = snd_of b.2 in
+    let same : with_chunks C.sessions h.key b.0 (Home (chunks_of h)) ≡ a.0.1 = (ok_pair b.2).1 in
     let change = home_sums C h b.0 b.1 (chunks_of h) in
     let all = chunks_long h in
     let z = change.bytes in
     subst (λ (D : Catalog). Sums C D 0 0 (filled_length h) 1 h.reserved 0) ((λ i. record C { sessions = same i }) ∙ left_by a.2) (record { hands = change.hands; reserve = change.reserve; bytes = omega arith; setting = refl })
-  where
-    snd_of : {A B : Type 0} {x y : A} {u v : B} → ◌≡◌ {A = Result (A × B) Refusal} (Ok (x, u)) (Ok (y, v)) → u ≡ v
-    snd_of {A} {B} {x} {y} {u} {v} e = let p : ◌≡◌ {A = A × B} (x, u) (y, v) = cc in λ i. (p i).1
 
 -- what was closed is what the session had received, and the last chunk
 pub record Finished (C C' : Catalog) (h : Taken) (n : ℕ) : Type 0 where

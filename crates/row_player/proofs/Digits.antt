@@ -1,23 +1,14 @@
 -- Bytes spelled in hexadecimal digits.
-use Rattle.std.proofs.Common.{arith, ◌≡◌, ◌/◌, ◌%◌, ◌++◌, ◌∷◌, [], ℕ, List, ap, refl}
-use Rattle.std.specs.Prelude.{slice_index}
+use Rattle.std.proofs.Common.{arith, ◌≡◌, ◌∷◌, [], ℕ, List, refl}
 use Rattle.std.specs.Str.{IsAscii, IsUtf8}
 use Rattle.std.proofs.lemmas.Str.{IsUtf8-from_ascii}
 use Rattle.std.proofs.lemmas.Str.Ascii.{IsAscii-nil, IsAscii-cons}
 use Rattle.hex.proofs.HexLemmas.{IsAscii-encode_with}
 use Rattle.hex.specs.Hex.{encode_lower, encode_with, lower_digits}
 
-encode-append : (t xs ys : List ℕ) → encode_with t (xs ++ ys) ≡ encode_with t xs ++ encode_with t ys
-unfolding encode_with
-encode-append t [] ys = refl
-encode-append t (x ∷ xs) ys = ap (λ (rest : List ℕ). slice_index t (x / 16) ∷ slice_index t (x % 16) ∷ rest) (encode-append t xs ys)
-
 pub digits_none : encode_lower [] ≡ []
 unfolding encode_with
 digits_none = refl
-
-pub digits-append : (xs ys : List ℕ) → encode_lower (xs ++ ys) ≡ encode_lower xs ++ encode_lower ys
-digits-append xs ys = encode-append lower_digits xs ys
 
 ascii_digits : IsAscii lower_digits
 ascii_digits = IsAscii-cons 48 (49 ∷ 50 ∷ 51 ∷ 52 ∷ 53 ∷ 54 ∷ 55 ∷ 56 ∷ 57 ∷ 97 ∷ 98 ∷ 99 ∷ 100 ∷ 101 ∷ 102 ∷ []) (omega arith) (IsAscii-cons 49 (50 ∷ 51 ∷ 52 ∷ 53 ∷ 54 ∷ 55 ∷ 56 ∷ 57 ∷ 97 ∷ 98 ∷ 99 ∷ 100 ∷ 101 ∷ 102 ∷ []) (omega arith) (IsAscii-cons 50 (51 ∷ 52 ∷ 53 ∷ 54 ∷ 55 ∷ 56 ∷ 57 ∷ 97 ∷ 98 ∷ 99 ∷ 100 ∷ 101 ∷ 102 ∷ []) (omega arith) (IsAscii-cons 51 (52 ∷ 53 ∷ 54 ∷ 55 ∷ 56 ∷ 57 ∷ 97 ∷ 98 ∷ 99 ∷ 100 ∷ 101 ∷ 102 ∷ []) (omega arith) (IsAscii-cons 52 (53 ∷ 54 ∷ 55 ∷ 56 ∷ 57 ∷ 97 ∷ 98 ∷ 99 ∷ 100 ∷ 101 ∷ 102 ∷ []) (omega arith) (IsAscii-cons 53 (54 ∷ 55 ∷ 56 ∷ 57 ∷ 97 ∷ 98 ∷ 99 ∷ 100 ∷ 101 ∷ 102 ∷ []) (omega arith) (IsAscii-cons 54 (55 ∷ 56 ∷ 57 ∷ 97 ∷ 98 ∷ 99 ∷ 100 ∷ 101 ∷ 102 ∷ []) (omega arith) (IsAscii-cons 55 (56 ∷ 57 ∷ 97 ∷ 98 ∷ 99 ∷ 100 ∷ 101 ∷ 102 ∷ []) (omega arith) (IsAscii-cons 56 (57 ∷ 97 ∷ 98 ∷ 99 ∷ 100 ∷ 101 ∷ 102 ∷ []) (omega arith) (IsAscii-cons 57 (97 ∷ 98 ∷ 99 ∷ 100 ∷ 101 ∷ 102 ∷ []) (omega arith) (IsAscii-cons 97 (98 ∷ 99 ∷ 100 ∷ 101 ∷ 102 ∷ []) (omega arith) (IsAscii-cons 98 (99 ∷ 100 ∷ 101 ∷ 102 ∷ []) (omega arith) (IsAscii-cons 99 (100 ∷ 101 ∷ 102 ∷ []) (omega arith) (IsAscii-cons 100 (101 ∷ 102 ∷ []) (omega arith) (IsAscii-cons 101 (102 ∷ []) (omega arith) (IsAscii-cons 102 [] (omega arith) IsAscii-nil)))))))))))))))

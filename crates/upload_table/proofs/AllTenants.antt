@@ -1,11 +1,11 @@
 -- The sessions of all tenants, from those of each.
 use Rattle.std.proofs.Common.{◌≡◌, ℕ, zero, suc, ◌+◌, ◌<◌, ◌≤◌, Bool, true, false, cond, List, [], ◌∷◌, ◌++◌, length, map, filter, set, get_or, Option, Some, None, is_some, Result, Ok, Err, refl, sym, ap, ◌∙◌, arith, inl, inr}
-use Rattle.std.specs.Prelude.{◌^◌, ◌==◌, ◌&&◌, ◌||◌, nat_le, replicate, T, slice_get, slice_index}
+use Rattle.std.specs.Prelude.{◌^◌, ◌==◌, ◌&&◌, ◌||◌, nat_le, replicate, slice_get, slice_index}
 use Rattle.std.specs.declared.cmp.Ordering.TheVariants.{Less, Equal}
 use Rattle.std.specs.Ordering.{eq_by_cmp, is_eq, is_lt, nat_cmp}
 use Rattle.std.specs.Option.{option_map_or}
 use Rattle.std.specs.List.{sum_by}
-use Rattle.std.specs.FinMap.{find, get, insert, remove, entries, entries_sorted, from_entries, get-entries, get-insert, get-remove, is_sorted, same_map}
+use Rattle.std.specs.FinMap.{find, get, insert, remove, entries, from_entries, get-entries, get-insert, get-remove, is_sorted, same_map}
 use Rattle.std.specs.FinMap.Entries.{below_all, find-where_key}
 use Rattle.std.specs.Cmp.{nat_cmp_total}
 use Rattle.std.proofs.lemmas.Bool.{and_from, and_parts, eq-eqb, cases_eq}
@@ -20,7 +20,7 @@ use Rattle.blob_digest.proofs.KeyOrders.{number_cmp_total, exact_number}
 use Rattle.finite_maps.proofs.Lists.{filter-map}
 use Rattle.finite_maps.proofs.Options.{some_none, some_same}
 use Rattle.finite_maps.proofs.Rows.{entries-empty, sum_by-map}
-use Rattle.finite_maps.proofs.Sorted.{entries-sorted}
+use Rattle.finite_maps.proofs.Sorted.{entries-sorted, rising}
 use Rattle.blob_digest.specs.Outcomes.{Does, OutcomeIn}
 use Rattle.blob_digest.specs.declared.refusal.Refusal.{Refusal}
 use Rattle.blob_digest.specs.declared.refusal.Refusal.TheVariants.{LimitReached}
@@ -58,14 +58,10 @@ sorted_part t (e ∷ es) rest own sorted below =
     let parts = and_parts (below_all nat_cmp e.0 es) (is_sorted nat_cmp es) own in
     and_from (below_all number_cmp (t, e.0) (map (of_tenant t) es ++ rest)) (is_sorted number_cmp (map (of_tenant t) es ++ rest)) (below_own t e.0 es rest parts.0 (below e.0)) (sorted_part t es rest parts.1 sorted below)
 
-from_T : (b : Bool) → T b → b ≡ true
-from_T true h = refl
-from_T false h = absurd h
-
 sorted_from : (t : ℕ) (tenants : List Numbered) → is_sorted number_cmp (entries_from t tenants) ≡ true
 sorted_from t [] = refl
 sorted_from t (s ∷ tenants) =
-    sorted_part t (entries s.sessions) (entries_from (t + 1) tenants) (from_T (is_sorted nat_cmp (entries s.sessions)) (entries_sorted s.sessions)) (sorted_from (t + 1) tenants)
+    sorted_part t (entries s.sessions) (entries_from (t + 1) tenants) (rising s.sessions) (sorted_from (t + 1) tenants)
     (λ n. below_later t (t + 1) n tenants (omega arith))
 
 abbrev pub all_of : List Numbered → Sessions

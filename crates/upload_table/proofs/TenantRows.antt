@@ -10,12 +10,11 @@ use Rattle.std.specs.FinMap.{FinMap, find, get, insert, entries, from_entries, f
 use Rattle.std.specs.Cmp.{eq_by_cmp_equiv, nat_cmp_total}
 use Rattle.std.specs.FinMap.Entries.{below_all}
 use Rattle.std.proofs.lemmas.Bool.{and_from, and_parts, false≢true, le-leb, lt-leb}
-use Rattle.std.proofs.lemmas.Bool.Decides.{nat_tests}
 use Rattle.std.proofs.lemmas.List.{length-map, map-set}
 use Rattle.std.proofs.lemmas.List.Sums.{sum_by-set, sum_by-remove, sum_by_push, get_or-le-sum_by}
 use Rattle.finite_maps.proofs.Lists.{map-remove, all-push, all-remove, all-set, all_at, all_weaker, map-push, sum_by-alike}
 use Rattle.finite_maps.proofs.Rows.{from_entries-remove, from_entries-set, sum_by-map}
-use Rattle.finite_maps.proofs.Sorted.{IsApart-sorted, entries-sorted, found_at, is_sorted-remove, map_at, missing}
+use Rattle.finite_maps.proofs.Sorted.{IsApart-sorted, entries-sorted, found_at, is_sorted-remove, map_at, missing, nat_cmp-less}
 use Rattle.finite_maps.specs.Texts.{Text}
 use Rattle.blob_digest.specs.declared.refusal.Refusal.TheVariants.{LimitReached}
 use Rattle.store_model.specs.Sessions.{Chunks, Session, charged, is_home, received, received_of, reserved_of}
@@ -53,9 +52,6 @@ module _ {K X : Type 0} (R : K → K → Ordering) where
   is_sorted-push (f ∷ es) e sorted less =
       let parts = and_parts (below_all R f.0 es) (is_sorted R es) sorted in
       and_from (below_all R f.0 (es ++ e ∷ [])) (is_sorted R (es ++ e ∷ [])) (below_all-push f.0 es e parts.0 less.0) (is_sorted-push es e parts.1 less.1)
-
-less_nat : (a b : ℕ) → a < b → nat_cmp a b ≡ Less
-less_nat a b lt = grind (arith, nat_tests)
 
 -- a number above all others isn't found
 above_none : {X : Type 0} (n : ℕ) (es : List (ℕ × X)) → AllByRecursion (λ e. nat_cmp e.0 n ≡ Less) es → find nat_cmp n es ≡ None
@@ -210,7 +206,7 @@ module _ (next sum_kept : ℕ) (rows : List Upload) (sound : IsSound next sum_ke
   module _ (u : Upload) (number : u.number ≡ next) where
     lesser : (rs : List Upload) → AllByRecursion (λ r. r.number < next) rs → AllByRecursion (λ (e : ℕ × Session). nat_cmp e.0 u.number ≡ Less) (map entry_of rs)
     lesser [] all = tt
-    lesser (r ∷ rs) all = (less_nat r.number u.number (omega (arith, all.0, number)), lesser rs all.1)
+    lesser (r ∷ rs) all = (nat_cmp-less r.number u.number (omega (arith, all.0, number)), lesser rs all.1)
 
     pub shown-push : map_of (rows ++ u ∷ []) ≡ insert (map_of rows) u.number (session_of u)
     shown-push =

@@ -1,5 +1,5 @@
 -- What the steps of a history tell, in which no reply is one that others can cause.
-use Rattle.std.proofs.Common.{◌≡◌, ℕ, Bool, false, List, [], ◌∷◌, Option, Some, None, Result, Ok, Err, refl, sym, ap, ◌∙◌, subst, inl, inr, ⊎_elim}
+use Rattle.std.proofs.Common.{◌≡◌, ℕ, Bool, false, List, [], ◌∷◌, Option, Some, None, Result, Ok, Err, refl, sym, ap, ◌∙◌, inl, inr}
 use Rattle.std.specs.List.{AllByRecursion}
 use Rattle.blob_digest.specs.declared.range.ByteRange.{ByteRange}
 use Rattle.blob_digest.specs.declared.refusal.Refusal.{Refusal}
@@ -7,14 +7,13 @@ use Rattle.blob_digest.specs.declared.refusal.Refusal.TheVariants.{NameUnknown}
 use Rattle.finite_maps.specs.Texts.{Text}
 use Rattle.store_model.specs.Catalog.{Catalog, Taken, Tenant, tenant_of}
 use Rattle.store_model.specs.Commands.{take}
-use Rattle.store_model.specs.Histories.{AreSteps, Cleaned, Finished, MayLeave, Performed, PutBack, State, Step, Took}
+use Rattle.store_model.specs.Histories.{AreSteps, MayLeave, Performed, State, Step, Took}
 use Rattle.store_model.specs.HistoryIsolation.{AreOwnReplies, IsOwnReply}
 use Rattle.store_model.specs.Runs as runs
 use Rattle.store_model.specs.Runs.{Answer, Command, outcome, repo_of}
 use Rattle.store_model.proofs.Commands.Hands.{took}
-use Rattle.store_model.proofs.Noninterference.Hands.{finish_leaves, put_back_leaves, take_leaves}
-use Rattle.store_model.proofs.Noninterference.LocalRespect.{Leaves, tenants_stay}
 use Rattle.blob_store.specs.OneText.{AreAllOwn}
+use Rattle.store_model.proofs.Noninterference.Histories.{tenants_left}
 
 -- a step was made in a state of these tenants, and its reply is none that others can cause
 pub record IsTold (tenants : List Tenant) (step : Step) : Type 0 where
@@ -24,28 +23,11 @@ pub record IsTold (tenants : List Tenant) (step : Step) : Type 0 where
   pub leaves : MayLeave state step after
   pub own : IsOwnReply state step
 
--- ---- the tenants stay as they are
-
-module _ (s : State) (C' : Catalog) where
-  abbrev Same : Catalog → Type 0
-  Same X = X.tenants ≡ s.catalog.tenants
-
-  stay : (step : Step) → MayLeave s step C' → Same C'
-  stay (Performed command (Ok a)) h = subst (λ x. Leaves Same x) h (tenants_stay s.catalog command)
-  stay (Performed command (Err e)) h = ⊎_elim (λ x. ap (λ (X : Catalog). X.tenants) x.1) (λ x. ap (λ (X : Catalog). X.tenants) x.1) h
-  stay (Cleaned swept) h = ap (λ (X : Catalog). X.tenants) h.rest
-  stay (Took r n g len (Ok hand)) h = subst (λ x. Leaves Same x) h (take_leaves Same s.catalog r n g len (λ t _. refl))
-  stay (Took r n g len (Err e)) h = ap (λ (X : Catalog). X.tenants) h.1
-  stay (PutBack hand (Ok n)) h = subst (λ x. Leaves Same x) h (put_back_leaves Same s.catalog hand (λ x _. refl))
-  stay (PutBack hand (Err e)) h = ap (λ (X : Catalog). X.tenants) h.1
-  stay (Finished hand d (Ok n)) h = subst (λ x. Leaves Same x) h (finish_leaves Same s.catalog hand d (λ x _ _. refl))
-  stay (Finished hand d (Err e)) h = ap (λ (X : Catalog). X.tenants) h.1
-
 pub all_told : (tenants : List Tenant) (steps : List Step) (s s' : State) → s.catalog.tenants ≡ tenants → (run : AreSteps s steps s') → AreAllOwn s steps s' run → AllByRecursion (IsTold tenants) steps
 all_told tenants [] s s' same run own = tt
 all_told tenants (step ∷ steps) s s' same run own = (
   record { state = s; after = run.0.catalog; same = same; leaves = run.1.leaves; own = own.0 },
-  all_told tenants steps run.0 s' (stay s run.0.catalog step run.1.leaves ∙ same) run.2 own.1,
+  all_told tenants steps run.0 s' (tenants_left s step run.0.catalog run.1.leaves ∙ same) run.2 own.1,
 )
 
 -- so a tenant's replies are its own

@@ -20,7 +20,7 @@ use Rattle.slot_table.specs.Slots.{Slot, Held, Content, Free, Used, Retired, hel
 use Rattle.link_table.specs.Linked.{Linked}
 use Rattle.finite_maps.specs.Texts.{Text, text_cmp}
 use Rattle.store_model.specs.Catalog.{Link, Resident, Catalog, link_cmp, holds, count}
-use Rattle.store_book.proofs.Slots.Writes.{with_slot-suc, length-with_slot, held_at-other, held_at-on, retired-with_slot}
+use Rattle.store_book.proofs.Slots.Writes.{with_slot-suc, length-with_slot, held_at-other, held_at-on, held_before, retired-with_slot}
 use Rattle.store_model.proofs.Invariant.Counts.{count-link, count_other-link}
 use Rattle.store_book.specs.Layers.{Layers, links_of, resident_of, with_resident, resident_rows, residents_of, catalog_from, IsTied}
 use Rattle.store_book.proofs.Layers.Sums.{get-links_of, mark, found_slot, IsApart-rows}
@@ -100,14 +100,8 @@ module _ (L : Layers) (links' : FinMap link_cmp ℕ) (marks : List Bool) (k : �
     retired = retired-with_slot g L.slots k i;
   }
 
-  abbrev Origin : ℕ → Held → Type 0
-  Origin m x = (y : Held) × (held_at L.slots m ≡ Some y) × (x.digest ≡ y.digest)
-
-  origin : (m : ℕ) (x : Held) → held_at slots' m ≡ Some x → Origin m x
-  origin m x here = elim (cases_eq m k) [
-    | inl e ↦ (h, ap (held_at L.slots) e ∙ at, ap (λ (y : Held). y.digest) (sym (some_same (sym (held_at-on g L.slots k h at) ∙ ap (held_at slots') (sym e) ∙ here))) ∙ keeps.digest h)
-    | inr other ↦ (x, sym (held_at-other L.slots k (on_held g) m other) ∙ here, refl)
-  ]
+  origin : (m : ℕ) (x : Held) → held_at slots' m ≡ Some x → (y : Held) × (held_at L.slots m ≡ Some y) × (x.digest ≡ y.digest)
+  origin = held_before g (λ x y. x.digest ≡ y.digest) keeps.digest (λ x. refl) L.slots k h at
 
   module _ (sizes : (key : Link) (n : ℕ) → get links' key ≡ Some n → (b : Resident) × (get before.residents key.1 ≡ Some b) × (n ≡ length b.bytes))
       (as_many_links : (g h).links ≡ count after h.digest) (others : (x : Text) → (x ≡ h.digest → ⊥) → count after x ≡ count before x) where

@@ -10,10 +10,7 @@ use Rattle.finite_maps.specs.Texts.{Text}
 use Rattle.finite_maps.specs.Outcomes.{refuse}
 use Rattle.store_book.specs.Events.{ChangesAreEvents, ExactChangesAreEvents, ReadsAreEvents, ExactReadsAreEvents, LeasesAreEvents}
 use Rattle.finite_maps.proofs.Outcomes.{bound_ok, not_refused}
-
-is_memory : (e : Refusal) → (e ≡ Memory) ⊎ (e ≢ Memory)
-is_memory Memory = inl refl
-is_memory e = inr (λ h. absurd cc)
+use Rattle.blob_digest.proofs.Refusals.{is_memory}
 
 -- why a command is refused
 abbrev Refused : Catalog → Command → Refusal → Type 0

@@ -1,9 +1,8 @@
 -- `Book::put_back`, and what a refused `Book::finish` leaves.
-use Rattle.std.proofs.Common.{◌≡◌, ◌≢◌, ℕ, ◌+◌, ◌-◌, ◌<◌, ◌≤◌, List, [], length, Some, Result, Ok, refl, sym, ap, ◌∙◌, subst, arith}
+use Rattle.std.proofs.Common.{◌≡◌, ◌≢◌, ℕ, ◌+◌, ◌-◌, ◌<◌, ◌≤◌, List, [], length, Some, Ok, refl, sym, ap, ◌∙◌, subst, arith}
 use Rattle.std.specs.Prelude.{slice_index}
 use Rattle.std.specs.List.{AllByRecursion, sum_by}
 use Rattle.std.specs.FinMap.{get}
-use Rattle.blob_digest.specs.declared.refusal.Refusal.{Refusal}
 use Rattle.link_table.specs.Linked.{Linked, discharge}
 use Rattle.store_model.specs.Sessions.{Home, InHand, Session, Taken, charged, chunks_of, put_back_in, taken_session, with_chunks}
 use Rattle.upload_table.specs.Uploaded.{Uploaded, put_back_upload, with_sessions}
@@ -12,12 +11,10 @@ use Rattle.store_model.specs.Catalog.{Catalog}
 use Rattle.store_book.specs.Layers.{Layers, book_catalog, IsBook}
 use Rattle.store_book.proofs.Layers.ChunkCharges.{IsBook-chunks}
 use Rattle.store_model.proofs.Commands.Hands.{all_chunks, spare, spare_is, taken_found, IsProper}
-use Rattle.finite_maps.proofs.Outcomes.{bound_ok}
+use Rattle.finite_maps.proofs.Outcomes.{bound_ok, ok_pair}
 use Rattle.store_book.proofs.Layers.SessionCharges.{session_charged}
 use Rattle.store_model.proofs.Invariant.SessionTenants.{session_tenant}
 
-snd_of : {A B : Type 0} {x y : A} {u v : B} → ◌≡◌ {A = Result (A × B) Refusal} (Ok (x, u)) (Ok (y, v)) → (x ≡ y) × (u ≡ v)
-snd_of {A} {B} {x} {y} {u} {v} e = let p : ◌≡◌ {A = A × B} (x, u) (y, v) = cc in (λ i. (p i).0, λ i. (p i).1)
 
 module _ (L : Layers) (h : Taken) where
   abbrev C : Catalog
@@ -53,7 +50,7 @@ module _ (L : Layers) (h : Taken) where
     met n u' back =
         let a = bound_ok (put_back_in L.uploads.sessions h) _ (n, u') back in
         let b = bound_ok (taken_session (get L.uploads.sessions h.key) h) _ a.0 a.1 in
-        (b.0, b.1, ap (with_sessions L.uploads) (snd_of b.2).1 ∙ (snd_of a.2).1)
+        (b.0, b.1, ap (with_sessions L.uploads) (ok_pair b.2).1 ∙ (ok_pair a.2).1)
 
     pub put_back_tenant : (n : ℕ) (u' : Uploaded) → put_back_upload L.uploads h ≡ Ok (n, u') → h.key.0 < length L.links.tenants
     put_back_tenant n u' back = let p = met n u' back in here_tenant book proper p.0 p.1

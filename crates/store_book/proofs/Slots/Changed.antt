@@ -6,7 +6,7 @@ use Rattle.std.specs.Ordering.{eq_by_cmp, is_eq}
 use Rattle.std.specs.Cmp.{tied_itself, Equal-is}
 use Rattle.std.specs.Cmp.Lexicographic.{nat_list_cmp_total}
 use Rattle.std.specs.FinMap.{find, get, insert, get-from_entries, get-insert, same_map}
-use Rattle.std.proofs.lemmas.Bool.{cases_eq, false_from_ne_true}
+use Rattle.std.proofs.lemmas.Bool.{false_from_ne_true}
 use Rattle.std.proofs.lemmas.Map.Lookups.{exact_bytes}
 use Rattle.slot_table.specs.Slots.{Slot, Held, Content, Free, Used, Retired, held_at, held_in, IsDistinct, with_slot, on_held, content_with, mark, lend}
 use Rattle.finite_maps.specs.Texts.{Text, text_cmp}
@@ -17,7 +17,7 @@ use Rattle.store_book.proofs.Slots.Filled.{swapped}
 use Rattle.store_book.proofs.Slots.Lent.{length-marks}
 use Rattle.finite_maps.proofs.Options.{some_same}
 use Rattle.finite_maps.proofs.Maps.{cases_key, get-insert_at, get-insert_other}
-use Rattle.store_book.proofs.Slots.Writes.{with_slot-suc, length-with_slot, held_at-other, held_at-on, retired-with_slot}
+use Rattle.store_book.proofs.Slots.Writes.{with_slot-suc, length-with_slot, held_before, retired-with_slot}
 
 abbrev rows_of : List Slot → List (Text × Resident)
 rows_of slots = resident_rows slots (lent_marks slots)
@@ -121,16 +121,8 @@ module _ (g : Held → Held) (keeps : KeepsTies g) where
       retired = retired-with_slot g L.slots k i;
     }
 
-    abbrev Origin : ℕ → Held → Type 0
-    Origin m x = (y : Held) × (held_at L.slots m ≡ Some y) × (x.digest ≡ y.digest) × (x.links ≡ y.links)
-
-    origin : (m : ℕ) (x : Held) → held_at slots' m ≡ Some x → Origin m x
-    origin m x here = elim (cases_eq m k) [
-      | inl e ↦
-          let is : g h ≡ x = some_same (sym (held_at-on g L.slots k h at) ∙ ap (held_at slots') (sym e) ∙ here) in
-          (h, ap (held_at L.slots) e ∙ at, ap (λ (y : Held). y.digest) (sym is) ∙ keeps.digest h, ap (λ (y : Held). y.links) (sym is) ∙ keeps.links h)
-      | inr other ↦ (x, sym (held_at-other L.slots k (on_held g) m other) ∙ here, refl, refl)
-    ]
+    origin : (m : ℕ) (x : Held) → held_at slots' m ≡ Some x → (y : Held) × (held_at L.slots m ≡ Some y) × (x.digest ≡ y.digest) × (x.links ≡ y.links)
+    origin m x here = let o = held_before g (λ x y. (x.digest ≡ y.digest) × (x.links ≡ y.links)) (λ x. (keeps.digest x, keeps.links x)) (λ x. (refl, refl)) L.slots k h at m x here in (o.0, o.1, o.2.0, o.2.1)
 
     sized : (key : Link) (n : ℕ) → get L.links.links key ≡ Some n → (b : Resident) × (get after.residents key.1 ≡ Some b) × (n ≡ length b.bytes)
     sized key n found =

@@ -1,5 +1,7 @@
 -- What a change of one slot does to the list of slots.
-use Rattle.std.proofs.Common.{◌≡◌, ℕ, ◌+◌, Bool, false, cond, List, [], ◌∷◌, length, map, set as write, Option, Some, None, refl, sym, ap, ◌∙◌}
+use Rattle.std.proofs.Common.{◌≡◌, ℕ, ◌+◌, Bool, false, cond, List, [], ◌∷◌, length, map, set as write, Option, Some, None, refl, sym, ap, ◌∙◌, subst, inl, inr}
+use Rattle.std.proofs.lemmas.Bool.{cases_eq}
+use Rattle.finite_maps.proofs.Options.{some_same}
 use Prim.Native.Nat.{zero, suc}
 use Rattle.std.specs.Prelude.{slice_get}
 use Rattle.std.specs.Option.{option_map, option_map_or}
@@ -102,3 +104,11 @@ module _ (g : Held → Held) where
   held_at-on slots k h at =
       let s = slot_of_held slots k h at in
       held_at-same slots k (on_held g) s.0 s.1 ∙ held_content s.0.content ∙ ap (option_map g) s.2
+
+  -- what a slot holds is what it held, or that changed
+  pub held_before : (P : Held → Held → Type 0) → ((h : Held) → P (g h) h) → ((h : Held) → P h h) → (slots : List Slot) (k : ℕ) (h : Held) → held_at slots k ≡ Some h
+      → (m : ℕ) (x : Held) → held_at (with_slot slots k (on_held g)) m ≡ Some x → (y : Held) × (held_at slots m ≡ Some y) × P x y
+  held_before P changed same slots k h at m x here = elim (cases_eq m k) [
+    | inl e ↦ (h, ap (held_at slots) e ∙ at, subst (λ (z : Held). P z h) (some_same (sym (held_at-on slots k h at) ∙ ap (held_at (with_slot slots k (on_held g))) (sym e) ∙ here)) (changed h))
+    | inr other ↦ (x, sym (held_at-other slots k (on_held g) m other) ∙ here, same x)
+  ]

@@ -18,7 +18,7 @@ use Rattle.finite_maps.specs.Outcomes.{◌>>=◌, refuse}
 use Rattle.store_model.specs.Commands.{Outcome, append, check, close, finish, after_cancel, has_slot, is_digest_accepted, put_back, stored, take, tenant, within_quota}
 use Rattle.store_model.proofs.Commands.Hands.{received-with_chunk, took, Checked, TookIn}
 use Rattle.finite_maps.proofs.Maps.{get-insert_at}
-use Rattle.finite_maps.proofs.Outcomes.{bound_ok}
+use Rattle.finite_maps.proofs.Outcomes.{bound_ok, ok_err}
 use Rattle.store_model.proofs.Commands.Accepted.{left_by, session_found}
 
 -- ---- maps
@@ -188,10 +188,7 @@ module _ (C C1 : Catalog) (repo : Text) (number : ℕ) (range : Option ByteRange
 
       by : (x : Result ℕ Refusal) → DoesExactly (λ (n : ℕ). n) x C1 D (put_back C1 h') → Does (λ (n : ℕ). n) x C D (append C repo number range b)
       by (Ok n) done = sym same ∙ done
-      by (Err e) done = absurd (clash (sym append_is ∙ sym same ∙ done.0))
-        where
-          clash : {A : Type 0} {x : A} → ◌≡◌ {A = Result A Refusal} (Ok x) (Err e) → ⊥
-          clash h = cc
+      by (Err e) done = ok_err (sym append_is ∙ sym same ∙ done.0)
 
   pub close_does : (r : Result ℕ Refusal) (D : Catalog) (h' : Taken) (digest : Text) → h' ≡ record hand { last = Some b } → Does (λ (n : ℕ). n) r (after_cancel C1 h') D (finish C1 h' digest) → Does (λ (n : ℕ). n) r C D (close C repo number digest range b)
   close_does r D h' digest is done =
@@ -206,7 +203,4 @@ module _ (C C1 : Catalog) (repo : Text) (number : ℕ) (range : Option ByteRange
 
       by : (x : Result ℕ Refusal) → DoesExactly (λ (n : ℕ). n) x C1 D (put_back C1 h') → D ≡ C
       by (Ok n) done = let p : ◌≡◌ {A = Result (ℕ × Catalog) Refusal} (Ok (n, D)) (Ok (received s, C)) = sym done ∙ same in left_by p
-      by (Err e) done = absurd (clash (sym same ∙ done.0))
-        where
-          clash : {A : Type 0} {x : A} → ◌≡◌ {A = Result A Refusal} (Ok x) (Err e) → ⊥
-          clash h = cc
+      by (Err e) done = ok_err (sym same ∙ done.0)

@@ -1,12 +1,11 @@
 -- Taking a session into a hand, putting it back and giving it up keep all that is kept.
-use Rattle.std.proofs.Common.{◌≡◌, ◌≢◌, ℕ, ◌+◌, ◌≤◌, Bool, true, false, List, [], ◌∷◌, length, Option, Some, None, is_some, Result, Ok, Err, refl, sym, ap, ◌∙◌, subst, arith, length-append}
+use Rattle.std.proofs.Common.{◌≡◌, ◌≢◌, ℕ, ◌+◌, ◌≤◌, Bool, true, false, List, [], ◌∷◌, length, Option, Some, None, is_some, Ok, Err, refl, sym, ap, ◌∙◌, subst, arith, length-append}
 use Rattle.std.specs.Prelude.{◌==◌, IfSome, if◌then◌else◌}
 use Rattle.std.specs.List.{AllByRecursion, concat, sum_by}
 use Rattle.std.specs.FinMap.{get}
 use Rattle.std.proofs.lemmas.Bool.{and_parts, eqb-true, false≢true, ltb-false}
 use Rattle.std.proofs.lemmas.List.Sums.{sum_by_push}
 use Rattle.blob_digest.specs.declared.range.ByteRange.{ByteRange}
-use Rattle.blob_digest.specs.declared.refusal.Refusal.{Refusal}
 use Rattle.blob_digest.specs.declared.refusal.Refusal.TheVariants.{NameUnknown, UploadUnknown}
 use Rattle.store_model.specs.Sessions.{are_taken, chunks_of, hand_in, not_busy, put_back_in, session_in, take_in, taken_session, whole_of, with_chunk, with_chunks, IsFull}
 use Rattle.finite_maps.specs.Texts.{Text}
@@ -15,7 +14,7 @@ use Rattle.store_model.specs.Commands.{check, put_back, take, tenant, within_quo
 use Rattle.store_model.specs.Invariant.{Sound}
 use Rattle.store_model.proofs.Invariant.Chunks.{Sound-chunks}
 use Rattle.store_model.proofs.Commands.Accepted.{answer_by, left_by, length-concat, length_fits, session_found}
-use Rattle.finite_maps.proofs.Outcomes.{bound_ok, not_refused, some_of_ok}
+use Rattle.finite_maps.proofs.Outcomes.{bound_ok, not_refused, some_of_ok, ok_pair}
 
 -- what a check of a chunk met: a session of this repository that is at home, with room for the bytes
 pub record Checked (C : Catalog) (t number : ℕ) (repo : Text) (n : ℕ) : Type 0 where
@@ -174,10 +173,7 @@ pub Sound-after_put_back : (C C' : Catalog) (h : Taken) (n : ℕ) → IsProper h
 Sound-after_put_back C C' h n proper stepped sound =
     let a = bound_ok (put_back_in C.sessions h) _ (n, C') stepped in
     let b = bound_ok (taken_session (get C.sessions h.key) h) _ a.0 a.1 in
-    let same : with_chunks C.sessions h.key b.0 (Home (chunks_of h)) ≡ a.0.1 = snd_of b.2 in
+    let same : with_chunks C.sessions h.key b.0 (Home (chunks_of h)) ≡ a.0.1 = (ok_pair b.2).1 in
     let sum = spare_is h proper in
     subst (λ (D : Catalog). Sound D) ((λ i. record C { sessions = same i }) ∙ left_by a.2)
     (Sound-home C h proper b.0 b.1 (chunks_of h) (all_chunks h proper) (omega arith) sound)
-  where
-    snd_of : {A B : Type 0} {x y : A} {u v : B} → ◌≡◌ {A = Result (A × B) Refusal} (Ok (x, u)) (Ok (y, v)) → u ≡ v
-    snd_of {A} {B} {x} {y} {u} {v} e = let p : ◌≡◌ {A = A × B} (x, u) (y, v) = cc in λ i. (p i).1

@@ -54,6 +54,9 @@ same_tenants C (Took r n g len reply) = (refl, take_leaves (λ X. X.tenants ≡ 
 same_tenants C (PutBack h reply) = (refl, put_back_leaves (λ X. X.tenants ≡ C.tenants) C h (λ s _. refl))
 same_tenants C (Finished h d reply) = (cancel_leaves (λ X. X.tenants ≡ C.tenants) C h refl (λ s _. refl), finish_leaves (λ X. X.tenants ≡ C.tenants) C h d (λ s _ _. refl))
 
+pub tenants_left : (s : State) (step : Step) (C' : Catalog) → MayLeave s step C' → C'.tenants ≡ s.catalog.tenants
+tenants_left s step C' leaves = leaves_of (λ X. X.tenants ≡ s.catalog.tenants) s step C' leaves (same_tenants s.catalog step)
+
 -- each session is for a repository of its tenant
 module _ (C : Catalog) (owned : Owned C) where
   owned_new : (r : Text) (t : ℕ) → tenant_of C.tenants r ≡ Some t → Owned (Commands.new_session C t r)
@@ -217,7 +220,7 @@ module _ (content : Text → Text) (tenants : List Tenant) (t : ℕ) where
       let both = fits_both content (brought_at s.catalog step) (brought_along mid steps s' run.2) fits in
       let next : Consistent content mid.catalog = leaves_of (Consistent content) s step mid.catalog leaves (consistent_step content s.catalog c step both.0) in
       let there : Owned mid.catalog = leaves_of Owned s step mid.catalog leaves (owned_step s.catalog owned step) in
-      let same : mid.catalog.tenants ≡ s.catalog.tenants = leaves_of (λ X. X.tenants ≡ s.catalog.tenants) s step mid.catalog leaves (same_tenants s.catalog step) in
+      let same : mid.catalog.tenants ≡ s.catalog.tenants = tenants_left s step mid.catalog leaves in
       and_any s D mid.catalog s'.catalog alike c d (steps_of tenants t steps) (λ E a e. follows steps mid s' E (same ∙ are) run.2 both.1 a next there e free.1)
       owned are step leaves free.0 both.0 (is_step_of tenants t step) refl
 

@@ -3,8 +3,8 @@ use Rattle.std.proofs.Common.{◌≡◌, ◌≢◌, ℕ, ◌<◌, Bool, true, fa
 use Prim.Native.Nat.{zero, suc}
 use Rattle.std.specs.Prelude.{◌⊎◌, ◌==◌, if◌then◌else◌}
 use Rattle.std.specs.Option.{option_map_or}
-use Rattle.std.specs.Ordering.{eq_by_cmp, is_eq}
-use Rattle.std.specs.Cmp.{IsTotalOrder, Equal-is, tied_itself}
+use Rattle.std.specs.Ordering.{eq_by_cmp}
+use Rattle.std.specs.Cmp.{IsTotalOrder, Equal-is}
 use Rattle.std.specs.declared.cmp.Ordering.{Ordering}
 use Rattle.std.specs.List.{AllByRecursion, Contains}
 use Rattle.std.specs.Cmp.Lexicographic.{nat_list_cmp_total}
@@ -31,6 +31,7 @@ use Rattle.store_model.proofs.Noninterference.SameFor.{Alike, Consistent, of_sam
 use Rattle.store_model.proofs.Noninterference.StepConsistency.{Fits, Matches, own_command, known}
 use Rattle.store_model.proofs.Noninterference.LocalRespect.{Leaves, unseen_command, tenants_stay, alike_itself, alike_through}
 use Rattle.store_model.proofs.Noninterference.Consistency.{consistent_command, consistent_sweep, unseen_sweep}
+use Rattle.finite_maps.proofs.Texts.{tied_to_itself}
 
 -- ---- one event
 
@@ -176,12 +177,9 @@ found_contains q (e ∷ es) w h =
       | false ↦ λ tie h. let rest = found_contains q es w h in (suc rest.0, omega arith, rest.2)
     ] refl h
 
-tied : (q : Text) → eq_by_cmp text_cmp q q ≡ true
-tied q = ap is_eq (tied_itself nat_list_cmp_total q)
-
 is_found : (es : List (Text × Text)) (i : ℕ) → i < length es → find_key text_cmp (get_or es i ([], [])).0 es ≡ None → ⊥
 is_found [] i lt none = absurd (omega arith)
-is_found (e ∷ es) zero lt none = let some : Some e.1 ≡ None = sym (ap (λ b. cond b (Some e.1) (find_key text_cmp e.0 es)) (tied e.0)) ∙ none in cc
+is_found (e ∷ es) zero lt none = let some : Some e.1 ≡ None = sym (ap (λ b. cond b (Some e.1) (find_key text_cmp e.0 es)) (tied_to_itself e.0)) ∙ none in cc
 is_found (e ∷ es) (suc i) lt none =
     elim (eq_by_cmp text_cmp (get_or es i ([], [])).0 e.0) as (λ b. cond b (Some e.1) (find_key text_cmp (get_or es i ([], [])).0 es) ≡ None → ⊥) [
       | true ↦ λ h. absurd cc

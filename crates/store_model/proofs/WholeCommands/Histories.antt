@@ -1,6 +1,6 @@
 -- A history is a run of whole commands: the induction over the steps.
 use Rattle.std.proofs.Common.{◌≡◌, ◌≢◌, ℕ, ◌+◌, Bool, true, false, List, [], ◌∷◌, ◌++◌, length, Option, Some, None, Result, Ok, Err, refl, sym, ap, ◌∙◌, subst, arith, inl, inr, ⊎_elim}
-use Rattle.std.specs.Prelude.{◌⊎◌, nat_lt}
+use Rattle.std.specs.Prelude.{nat_lt}
 use Rattle.std.specs.Option.{ok_or}
 use Rattle.std.specs.List.{AllByRecursion, sum_by}
 use Rattle.std.specs.FinMap.{empty, get, get-empty, insert, remove, same_map}
@@ -12,7 +12,7 @@ use Rattle.blob_digest.proofs.KeyOrders.{number_cmp_total, exact_number}
 use Rattle.finite_maps.specs.Outcomes.{refuse}
 use Rattle.finite_maps.specs.Texts.{Text, same_text}
 use Rattle.finite_maps.proofs.Maps.{get-insert_at}
-use Rattle.finite_maps.proofs.Outcomes.{bound_ok}
+use Rattle.finite_maps.proofs.Outcomes.{bound_ok, ok_err}
 use Rattle.finite_maps.proofs.Rows.{insert_same}
 use Rattle.finite_maps.proofs.Texts.{same_itself}
 use Rattle.store_model.specs.Catalog.{Catalog, Home, InHand, Number, Session, Taken, number_cmp, opening, quota_of, received, charged, used}
@@ -20,7 +20,7 @@ use Rattle.store_model.specs.Commands.{after_cancel, append, check, close, finis
 use Rattle.store_model.specs.Histories.{AreSteps, Cleaned, Finished, MayLeave, Performed, PutBack, State, Step, Took, first_state}
 use Rattle.store_model.specs.Invariant.{Sound}
 use Rattle.store_model.specs.Runs as runs
-use Rattle.store_model.specs.Runs.{Answer, Called, Command, Event, Happens, IsCase, IsNamed, IsRun, Swept, answered, outcome, takes_memory}
+use Rattle.store_model.specs.Runs.{Answer, Called, Command, Event, IsCase, IsNamed, IsRun, Swept, answered, outcome, takes_memory}
 use Rattle.store_model.specs.Sessions.{Sessions, at_home, chunks_in, length_after, take_in, with_chunks}
 use Rattle.store_model.specs.Sweep.{IsSweep}
 use Rattle.store_model.specs.declared.swept.Swept.{Swept as SweptCounts}
@@ -33,13 +33,7 @@ use Rattle.store_model.proofs.Commands.Sweep.{Sound-sweep}
 use Rattle.store_model.proofs.Invariant.Chunks.{Sound-chunks, used-chunks}
 use Rattle.store_model.proofs.WholeCommands.AtHome.{AreOne, AtHome, IsLent, as_found, bring, found_out, lend}
 use Rattle.store_model.proofs.WholeCommands.Commands.{SameAtHome, same_outcome}
-
-clash : {A B : Type 0} {x : A} {e : Refusal} → ◌≡◌ {A = Result A Refusal} (Ok x) (Err e) → B
-clash h = absurd cc
-
-is_memory : (e : Refusal) → (e ≡ Memory) ⊎ (e ≢ Memory)
-is_memory Memory = inl refl
-is_memory e = inr (λ h. absurd cc)
+use Rattle.blob_digest.proofs.Refusals.{is_memory}
 
 -- the reply isn't a refusal for a hand that is out
 abbrev CalmReply : Result Answer Refusal → Type 0
@@ -239,7 +233,7 @@ module _ (hands : Hands) (C : Catalog) (m : Sessions) (home : AtHome hands C m) 
           by_case (remove hands h.key) back m home_back sound_back (runs.Append out.repo h.key.1 out.range bytes) (Ok (runs.Number n)) X
           (ap (answered runs.Number) (sym same_append ∙ ap (λ Y. put_back Y h) (sym at) ∙ leaves)) named tt
       appended s at X (Err e) leaves named =
-          clash (sym (append_is back C out.repo h.key.1 out.range bytes out.hand takes) ∙ sym same_append ∙ ap (λ Y. put_back Y h) (sym at) ∙ leaves.0)
+          ok_err (sym (append_is back C out.repo h.key.1 out.range bytes out.hand takes) ∙ sym same_append ∙ ap (λ Y. put_back Y h) (sym at) ∙ leaves.0)
 
       -- and one that is finished is a close
       same_close : (digest : Text) → finish C h digest ≡ close back out.repo h.key.1 digest out.range bytes
@@ -264,7 +258,7 @@ module _ (hands : Hands) (C : Catalog) (m : Sessions) (home : AtHome hands C m) 
         by_case (remove hands h.key) back m home_back sound_back command (Err Memory) X (inr (refl, upload_takes_memory out.repo h.key.1 out.range bytes command upload), left_by (sym leaves ∙ (λ i. put_back (at i) (is i)) ∙ back_by_hand back C out.repo h.key.1 out.range bytes out.hand takes)) named
         ((λ e. absurd cc), (λ a b e. absurd cc))
     given_back is s at X (Err e) leaves command upload named =
-        clash (sym (back_by_hand back C out.repo h.key.1 out.range bytes out.hand takes) ∙ sym (λ i. put_back (at i) (is i)) ∙ leaves.0)
+        ok_err (sym (back_by_hand back C out.repo h.key.1 out.range bytes out.hand takes) ∙ sym (λ i. put_back (at i) (is i)) ∙ leaves.0)
 
 -- ---- any step
 

@@ -1,6 +1,6 @@
 use Rattle.std.proofs.KnownBytes.{Appends-trans}
 use Rattle.blob_frames.specs.Replies.{reply_bytes}
-use Rattle.blob_frames.proofs.Writes.{then_ok}
+use Rattle.finite_maps.proofs.Writing.{Appends-then}
 use Rattle.blob_frames.proofs.reply.write_reply.Goals as goal
 
 pub returns : goal.returns
@@ -16,4 +16,4 @@ returns g c =
     let two = Appends-trans _ _ _ _ _ one second in
     let head = Appends-trans _ _ _ _ _ two body_len in
     let text = Appends-trans _ _ _ _ _ head c.in_ok-write_all-6.ensures.bytes in
-    then_ok c.write_all-7.result _ _ _ _ _ text c.write_all-7.ensures.bytes
+    Appends-then c.write_all-7.result _ _ _ _ _ text c.write_all-7.ensures.bytes

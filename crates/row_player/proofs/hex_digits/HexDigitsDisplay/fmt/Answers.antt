@@ -3,7 +3,8 @@ use Rattle.std.proofs.lemmas.List.{append-nil, nil_from_length}
 use Rattle.std.proofs.Output.{has_written_append, has_written_of_eq}
 use Rattle.std.specs.Slice.Iter.{chunks_rest}
 use Rattle.hex.specs.Hex.{encode_lower}
-use Rattle.row_player.proofs.Digits.{digits_none, digits-append}
+use Rattle.row_player.proofs.Digits.{digits_none}
+use Rattle.blob_digest.proofs.HexText.{encoded-append}
 use Rattle.row_player.proofs.hex_digits.HexDigitsDisplay.fmt.Goals as goal
 
 pub loop-block-init : goal.loop-block-init
@@ -22,7 +23,7 @@ loop-block-preserved g c =
             has_written_append _ _ _ _ _ _ so_far.1 (search rules),
             append_assoc so_far.0 _ _
                 ∙ ap (λ (t : List ℕ). so_far.0 ++ t)
-                (rw c.spelled.ensures (sym (digits-append block (chunks_rest c.next.new.self)) ∙ ap encode_lower (sym steps.1.0)))
+                (rw c.spelled.ensures (sym (encoded-append block (chunks_rest c.next.new.self)) ∙ ap encode_lower (sym steps.1.0)))
                 ∙ so_far.2,
           ),
     )
