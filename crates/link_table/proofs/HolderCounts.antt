@@ -66,6 +66,10 @@ module _ (old new : FinMap text_cmp ℕ) (d : Text) (w : Option ℕ) (put : (q :
       ap (λ o. unwrap_or o 0) (put e) ∙ unwrapped (tree.is_at (text_cmp d) e) w (get old e)
       ∙ ap (λ b. cond b (unwrap_or w 0) (count_in old e)) (sym (texts_ties d e))
 
+  -- what the key has now
+  pub left_at : count_in new d ≡ unwrap_or w 0
+  left_at = count_in-update d ∙ ap (λ b. cond b (unwrap_or w 0) (count_in old d)) (same_text_is d d refl)
+
   -- no count is 0 where the new one isn't
   pub no_zero : w ≢ Some 0 → HasNoZero old → HasNoZero new
   no_zero other before e zero_at = by_key (tree.is_at (text_cmp d) e) (sym (put e) ∙ zero_at)
@@ -92,7 +96,7 @@ module _ (old new : FinMap text_cmp ℕ) (d : Text) (w : Option ℕ) (put : (q :
 
 -- ---- a list of which one element was put anew
 
-slice_get-set_same : {A : Type 0} (xs : List A) (t : ℕ) (old new : A) → slice_get xs t ≡ Some old → slice_get (set xs t new) t ≡ Some new
+pub slice_get-set_same : {A : Type 0} (xs : List A) (t : ℕ) (old new : A) → slice_get xs t ≡ Some old → slice_get (set xs t new) t ≡ Some new
 slice_get-set_same [] t old new at = some_none (sym at)
 slice_get-set_same (x ∷ xs) zero old new at = refl
 slice_get-set_same (x ∷ xs) (suc t) old new at = slice_get-set_same xs t old new at

@@ -1,6 +1,6 @@
 //! How many repositories of a tenant hold each digest.
 
-ghost use Rattle.std.specs.Prelude.{◌≡◌, ◌+◌, ◌-◌, ◌<◌, ◌^◌, OnOk, OnErr, IfOk, IfErr, length, if◌then◌else◌};
+ghost use Rattle.std.specs.Prelude.{◌≡◌, ◌+◌, ◌-◌, ◌<◌, ◌^◌, OnOk, OnErr, IfOk, IfErr, length, nat_lt, if◌then◌else◌};
 ghost use Rattle.std.specs.FinMap as fmap;
 ghost use Rattle.std.specs.List.{All};
 ghost use Rattle.finite_maps.specs.Texts.{Text, same_text};
@@ -10,6 +10,7 @@ ghost use Rattle.link_table.specs.Holders.{count_in};
 use blob_digest::{Digest, Refusal};
 use std::alloc::Global;
 use std::collections::BTreeMap;
+use std::collections::btree_map::Entry;
 use std::marker::Model;
 
 /// For each digest that some repositories of a tenant hold, how many do. A digest that none holds has no
@@ -75,23 +76,28 @@ pub fn increment(holders: &mut Holders, digest: &Digest) -> Result<u64, Refusal>
     ensures err { OnErr result ((d : Text) → count_in holders.new d ≡ count_in holders.old d) }
     ensures refused { IfErr result (λ e. e ≡ Memory) }
 {
-    let count = holders_of(holders, digest) + 1;
-    holders.counts.insert(*digest, count)?;
-    Ok(count)
+    let count = holders.counts.entry(*digest)?.or_insert(0);
+    *count += 1;
+    Ok(*count)
 }
 
-/// One repository of a tenant less holds a digest. It takes no memory.
-pub fn decrement(holders: &mut Holders, digest: &Digest)
+/// One repository of a tenant less holds a digest. Answers whether others still do. It takes no memory.
+pub fn decrement(holders: &mut Holders, digest: &Digest) -> bool
     requires { 0 < count_in holders.old digest.now }
-    ensures { (d : Text) → count_in holders.new d + (if same_text digest.now d then 1 else 0) ≡ count_in holders.old d }
+    ensures held { result ≡ nat_lt 0 (count_in holders.new digest.now) }
+    ensures count { (d : Text) → count_in holders.new d + (if same_text digest.now d then 1 else 0) ≡ count_in holders.old d }
 {
-    let count = holders_of(holders, digest);
-    if count == 1 {
-        holders.counts.remove(digest);
-        return;
-    }
-    match holders.counts.insert(*digest, count - 1) {
-        Ok(_) => {}
+    match holders.counts.entry(*digest) {
+        Ok(Entry::Occupied(mut entry)) => {
+            let others = *entry.get() - 1;
+            if others == 0 {
+                entry.remove();
+                return false;
+            }
+            entry.insert(others);
+            true
+        }
+        Ok(Entry::Vacant(_)) => unreachable!(),
         Err(_) => unreachable!(),
     }
 }

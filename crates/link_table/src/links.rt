@@ -231,36 +231,33 @@ impl Links {
         }
     }
 
-    /// Takes a link out of a repository of a tenant. It takes no memory, and as long as `link`.
-    pub fn unlink(&mut self, tenant: u16, repo: &RepoName, digest: &Digest)
+    /// Takes a link out of a repository of a tenant, and answers whether it was there. It takes no memory, and as
+    /// long as `link`.
+    pub fn unlink(&mut self, tenant: u16, repo: &RepoName, digest: &Digest) -> bool
         requires there { tenant < length self.old.tenants }
         requires own { is_tenants self.old.tenants tenant repo.now ≡ true }
-        requires linked { fmap.contains_key self.old.links (repo.now, digest.now) ≡ true }
-        ensures { self.new ≡ unlink self.old repo.now digest.now }
+        ensures was { result ≡ fmap.contains_key self.old.links (repo.now, digest.now) }
+        ensures gone { self.new ≡ unlink self.old repo.now digest.now }
     {
-        match self.repos[tenant as usize].unlink(repo, digest) {
+        let place = tenant as usize;
+        match self.repos[place].unlink(repo, digest) {
             Some(size) => {
-                decrement(&mut self.holders[tenant as usize], digest);
-                let held = holders_of(&self.holders[tenant as usize], digest) > 0;
-                self.blob_bytes[tenant as usize] = bytes_without(
-                    self.blob_bytes[tenant as usize],
-                    held,
-                    size,
-                );
+                let held = decrement(&mut self.holders[place], digest);
+                self.blob_bytes[place] = bytes_without(self.blob_bytes[place], held, size);
+                true
             }
-            None => unreachable!(),
+            None => false,
         }
     }
 
-    /// Whether a repository holds the blob of a digest. Beside finding the repository, it takes the
+    /// Whether a repository of a tenant holds the blob of a digest. Beside finding the repository, it takes the
     /// logarithm of the number of its blobs.
-    pub fn holds(&self, repo: &RepoName, digest: &Digest) -> bool
+    pub fn holds(&self, tenant: u16, repo: &RepoName, digest: &Digest) -> bool
+        requires there { tenant < length self.now.tenants }
+        requires own { is_tenants self.now.tenants tenant repo.now ≡ true }
         ensures { result ≡ fmap.contains_key self.now.links (repo.now, digest.now) }
     {
-        match tenant_at(self.tenants.as_slice(), repo.tenant()) {
-            Some(t) => self.repos[t].holds(repo, digest),
-            None => false,
-        }
+        self.repos[tenant as usize].holds(repo, digest)
     }
 
     /// The first of some digests whose blob a repository of a tenant doesn't hold. The repository is found

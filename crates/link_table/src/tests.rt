@@ -56,8 +56,8 @@ fn release(rt: &impl Abort, links: &mut Links, repo: &RepoName, digest: &Digest)
     ensures { (k : Link) (n : ℕ) → fmap.get links.new.links k ≡ Some n → fmap.get links.old.links k ≡ Some n }
 {
     let tenant = links.tenant(repo).expect(rt, "a tenant");
-    assert!(rt; links.holds(repo, digest));
-    links.unlink(tenant, repo, digest);
+    assert!(rt; links.holds(tenant, repo, digest));
+    assert!(rt; links.unlink(tenant, repo, digest));
 }
 
 /// What happens to a link: it is new, it is there already, or it goes.
@@ -77,7 +77,8 @@ fn goes(rt: &impl Abort, links: &mut Links, step: Step, repo: &RepoName, digest:
         Step::Again => assert!(rt; !hold(rt, links, repo, digest)),
         Step::Gone => release(rt, links, repo, digest),
     }
-    assert!(rt; links.holds(repo, digest) != matches!(step, Step::Gone));
+    let tenant = links.tenant(repo).expect(rt, "a tenant");
+    assert!(rt; links.holds(tenant, repo, digest) != matches!(step, Step::Gone));
 }
 
 /// The first of some digests that a repository doesn't hold.

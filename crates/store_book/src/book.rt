@@ -340,14 +340,16 @@ impl Book {
         ensures slots { (self.new.table ≡ self.old.table) × (self.new.slots ≡ self.old.slots) }
     {
         let tenant = self.links.tenant(repo)?;
-        let Some(slot) = find_linked(&self.links, self.slots.table(), repo, digest) else {
-            return Err(Refusal::BlobUnknown);
-        };
         if let Some(manifest) = self.links.referrer(repo, digest) {
             return Err(Refusal::Referenced { manifest });
         }
-        self.links.unlink(tenant, repo, digest);
-        self.slots.link_down(slot);
+        if !self.links.unlink(tenant, repo, digest) {
+            return Err(Refusal::BlobUnknown);
+        }
+        match self.slots.table().find(digest) {
+            Some(slot) => self.slots.link_down(slot),
+            None => unreachable!(),
+        }
         Ok(())
     }
 
@@ -372,8 +374,9 @@ impl Book {
         ensures slots { (self.new.table ≡ self.old.table) × EachSlot (IsLending digest.now) self.old.slots self.new.slots }
         ensures refused { OnErr result (EachSlot IsStill self.old.slots self.new.slots) }
     {
-        let _ = self.links.tenant(repo)?;
-        let Some(slot) = find_linked(&self.links, self.slots.table(), repo, digest) else {
+        let tenant = self.links.tenant(repo)?;
+        let slots = self.slots.table();
+        let Some(slot) = find_linked(&self.links, slots, tenant, repo, digest) else {
             return Err(Refusal::BlobUnknown);
         };
         let blob = self.slots.share(slot)?;

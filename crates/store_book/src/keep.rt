@@ -2,6 +2,7 @@
 
 ghost use Rattle.std.specs.Prelude.{◌≡◌, ◌≢◌, ◌<◌, length, true, false, Some, None, IfErr, OnOk, OnErr, bytes_eq};
 ghost use Rattle.std.specs.Option.{option_map_or};
+ghost use Rattle.link_table.specs.Linked.{is_tenants};
 ghost use Rattle.slot_table.specs.Slots.{held_at, phase_at, slot_of};
 ghost use Rattle.slot_table.specs.declared.phase.Phase.TheVariants as phase;
 ghost use Rattle.store_book.specs.Pinned.{shown, Quietly};
@@ -35,16 +36,19 @@ pub(crate) fn held_len(slots: &SlotTable, slot: u32) -> u64
     }
 }
 
-/// The slot of a blob that a repository holds.
+/// The slot of a blob that a repository of a tenant holds.
 pub(crate) fn find_linked(
     links: &Links,
     slots: &SlotTable,
+    tenant: u16,
     repo: &RepoName,
     digest: &Digest,
 ) -> Option<u32>
+    requires there { tenant < length links.now.tenants }
+    requires own { is_tenants links.now.tenants tenant repo.now ≡ true }
     ensures { result ≡ linked_slot links.now slots.now repo.now digest.now }
 {
-    if links.holds(repo, digest) {
+    if links.holds(tenant, repo, digest) {
         slots.find(digest)
     } else {
         None

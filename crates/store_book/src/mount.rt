@@ -23,7 +23,7 @@ pub(crate) fn find_source(
 {
     match from {
         Some(from) => match links.tenant(from) {
-            Ok(owner) if owner == tenant => find_linked(links, slots, from, digest),
+            Ok(owner) if owner == tenant => find_linked(links, slots, owner, from, digest),
             _ => None,
         },
         None if links.tenant_holds(tenant, digest) => slots.find(digest),

@@ -19,9 +19,9 @@ impl Book {
     pub fn stat(&self, repo: &RepoName, digest: &Digest) -> Result<u64, Refusal>
         ensures { result ≡ stat self.now.catalog repo.now digest.now }
     {
-        let _ = self.links.tenant(repo)?;
+        let tenant = self.links.tenant(repo)?;
         let slots = self.slots.table();
-        match find_linked(&self.links, slots, repo, digest) {
+        match find_linked(&self.links, slots, tenant, repo, digest) {
             Some(slot) => Ok(held_len(slots, slot)),
             None => Err(Refusal::BlobUnknown),
         }

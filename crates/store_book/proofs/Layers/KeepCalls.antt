@@ -15,7 +15,6 @@ use Rattle.slot_table.specs.declared.phase.Phase.TheVariants as phase
 use Rattle.slot_table.specs.Slots.{Slot, Held, slot_of, held_at, links_at, phase_at, with_slot, fill, on_held, link_up, mark}
 use Rattle.link_table.specs.Linked.{Linked, link, unlink}
 use Rattle.store_book.specs.Internal.Keeping.{revived, bytes_at, CanKeep, IsKept, IsUnkept, again, anew, differs}
-use Rattle.finite_maps.proofs.Maps.{get-insert_at}
 use Rattle.store_book.proofs.Slots.Writes.{phase_live, held_at-on}
 use Rattle.slot_table.proofs.Finding.{held_of}
 
@@ -27,10 +26,7 @@ module _ (l l' : Linked) (repo digest : Text) (n : ℕ) (b : Bool) (made : link 
   pub link_left : record l { links = insert l.links (repo, digest) n } ≡ l'
   link_left = let p : ◌≡◌ {A = Bool × Linked} (not (contains_key l.links (repo, digest)), record l { links = insert l.links (repo, digest) n }) (b, l') = cc in λ i. (p i).1
 
-  -- the link is there, and can be taken out again where it is new
-  pub link_there : contains_key l'.links (repo, digest) ≡ true
-  link_there = ap (λ (x : Linked). contains_key x.links (repo, digest)) (sym link_left) ∙ ap is_some (get-insert_at link_cmp_total exact_link l.links (repo, digest) n)
-
+  -- it can be taken out again where it is new
   absent_at : (q : Link) (t : Bool) → eq_by_cmp link_cmp q (repo, digest) ≡ t → get l.links (repo, digest) ≡ None → cond t None (cond t (Some n) (get l.links q)) ≡ get l.links q
   absent_at q true tie none = sym (sym (get_tied link_cmp_total l.links q (repo, digest) ((Equal-is (link_cmp q (repo, digest))).0 tie)) ∙ none)
   absent_at q false tie none = refl

@@ -43,7 +43,8 @@ module _ (L : Layers) (book : IsBook L) where
   pub holds_linked : (r d : Text) → holds C r d ≡ contains_key L.links.links (r, d)
   holds_linked r d = holds_is L (lent_marks L.slots) book.tied (λ k h. (book.sound.lawful.links k h).repo) r d
 
-  has_slot : (r d : Text) → contains_key L.links.links (r, d) ≡ true → slot_of L.slots d ≡ None → ⊥
+  -- which has a slot
+  pub has_slot : (r d : Text) → contains_key L.links.links (r, d) ≡ true → slot_of L.slots d ≡ None → ⊥
   has_slot r d linked none =
       let n = some_value (get L.links.links (r, d)) linked in
       nothing (not_resident L.slots (lent_marks L.slots) d none) (book.tied.sizes (r, d) n.0 n.1).1

@@ -1,9 +1,11 @@
 -- `Book::delete`, from what its calls of the layers did.
-use Rattle.std.proofs.Common.{◌≡◌, ℕ, ◌<◌, true, List, Some, None, Ok, Err, refl, sym, ap, ◌∙◌, subst, arith}
+use Rattle.std.proofs.Common.{◌≡◌, ℕ, ◌<◌, true, false, List, Some, None, Ok, Err, refl, sym, ap, ◌∙◌, subst, arith}
 use Rattle.std.specs.Option.{option_map_or}
 use Rattle.std.specs.FinMap.{get, remove, contains_key}
 use Rattle.blob_digest.specs.declared.refusal.Refusal.TheVariants.{BlobUnknown, Referenced}
-use Rattle.finite_maps.proofs.Options.{some_value}
+use Rattle.finite_maps.proofs.Options.{some_value, no_value}
+use Rattle.finite_maps.proofs.Parts.{remove_absent}
+use Rattle.blob_digest.proofs.KeyOrders.{link_cmp_total, exact_link}
 use Rattle.finite_maps.specs.Sets as set
 use Rattle.slot_table.specs.declared.phase.Phase.TheVariants as phase
 use Rattle.slot_table.specs.Slots.{Slot, Held, slot_of, held_at, phase_at, links_at, with_slot, on_held, link_down}
@@ -11,14 +13,14 @@ use Rattle.link_table.specs.Linked.{Linked, known_tenant, unlink}
 use Rattle.finite_maps.specs.Texts.{Text}
 use Rattle.store_model.specs.Catalog.{Catalog, count, holds}
 use Rattle.store_model.specs.Commands.{delete, referrer}
-use Rattle.store_book.specs.Internal.Keeping.{linked_slot}
 use Rattle.store_book.specs.Layers.{Layers, lent_marks, catalog_from, book_catalog, IsTied, IsBook}
 use Rattle.store_book.specs.Pinned.{Pinned, shown, slotted, with_looks}
 use Rattle.store_book.proofs.Slots.Pinned.{all_seen-with_slot, link_down-seen}
 use Rattle.store_model.proofs.Invariant.Counts.{count-unlink}
 use Rattle.store_book.proofs.Slots.Lent.{marks-on}
 use Rattle.store_model.proofs.Commands.Delete.{Sound-after_delete}
-use Rattle.store_book.proofs.Layers.LinkedSlots.{holds_linked, linked_live, linked_some, linked_none}
+use Rattle.store_model.proofs.Commands.Referrers.{held_if_referred}
+use Rattle.store_book.proofs.Layers.LinkedSlots.{holds_linked, linked_live}
 use Rattle.store_book.proofs.Slots.Writes.{phase_live}
 use Rattle.slot_table.proofs.Finding.{held_of}
 use Rattle.store_book.proofs.Layers.Ties.{links_of-remove, catalog-relink, IsTied-unlink, link_down-KeepsBlob}
@@ -32,18 +34,23 @@ module _ (L : Layers) (t : ℕ) (repo digest : Text) (book : IsBook L) (known : 
   C = book_catalog L
 
   -- a digest that the repository doesn't hold
-  pub delete_unknown : linked_slot L.links L.slots repo digest ≡ None → delete C repo digest ≡ Err BlobUnknown
-  delete_unknown none = rw (known, linked_none L book repo digest none) refl
+  pub delete_unknown : contains_key L.links.links (repo, digest) ≡ false → delete C repo digest ≡ Err BlobUnknown
+  delete_unknown none = rw (known, holds_linked L book repo digest ∙ none) refl
 
-  module _ (k : ℕ) (at_slot : linked_slot L.links L.slots repo digest ≡ Some k) where
-    abbrev found : (contains_key L.links.links (repo, digest) ≡ true) × (slot_of L.slots digest ≡ Some k)
-    found = linked_some L book repo digest k at_slot
+  -- nothing is taken out then
+  pub unlink_absent : contains_key L.links.links (repo, digest) ≡ false → unlink L.links repo digest ≡ L.links
+  unlink_absent none = (λ i. record L.links { links = remove_absent link_cmp_total exact_link L.links.links (repo, digest) (no_value (get L.links.links (repo, digest)) none) i })
 
+  -- one to which a manifest refers, which the repository holds
+  pub delete_referenced : (manifest : Text) → referrer C repo digest ≡ Some manifest → delete C repo digest ≡ Err (Referenced manifest)
+  delete_referenced manifest is = rw (known, held_if_referred C book.sound.lawful repo digest manifest is, is) refl
+
+  module _ (k : ℕ) (linked : contains_key L.links.links (repo, digest) ≡ true) (at_slot : slot_of L.slots digest ≡ Some k) where
     has : holds C repo digest ≡ true
-    has = holds_linked L book repo digest ∙ found.0
+    has = holds_linked L book repo digest ∙ linked
 
     abbrev held : (h : Held) × (held_at L.slots k ≡ Some h) × (h.digest ≡ digest)
-    held = held_of L.slots digest k found.1
+    held = held_of L.slots digest k at_slot
 
     -- its slot is live, and counts it
     pub live_there : phase_at L.slots k ≡ phase.Live
@@ -74,17 +81,13 @@ module _ (L : Layers) (t : ℕ) (repo digest : Text) (book : IsBook L) (known : 
         ∙ catalog-relink L (remove L.links.links (repo, digest)) (lent_marks L.slots) k held.0 held.1 link_down link_down-KeepsBlob book.tied
         ∙ (λ i. record C { links = links_of-remove L.links.links (repo, digest) i })
 
-    -- a manifest that refers to the digest
-    pub delete_referenced : (manifest : Text) → referrer C repo digest ≡ Some manifest → delete C repo digest ≡ Err (Referenced manifest)
-    delete_referenced manifest is = rw (known, has, is) refl
-
     module _ (free : referrer C repo digest ≡ None) where
       deleted : delete C repo digest ≡ Ok (tt, C')
       deleted = rw (known, has, free) (λ i. Ok (tt, sym left i))
 
       tied_after : IsTied l' slots' (lent_marks slots') C'
       tied_after =
-          let n = some_value (get L.links.links (repo, digest)) found.0 in
+          let n = some_value (get L.links.links (repo, digest)) linked in
           let at_digest = IsTied-unlink L (lent_marks L.slots) k held.0 held.1 book.tied repo (book.sound.lawful.links (repo, digest) has).repo n.0 (ap (λ (d : Text). get L.links.links (repo, d)) held.2 ∙ n.1) in
           subst (λ m. IsTied l' slots' m (catalog_from (record L { links = l'; slots = slots' }) m)) marks
           (subst (λ (d : Text). IsTied (unlink L.links repo d) slots' (lent_marks L.slots) (catalog_from (record L { links = unlink L.links repo d; slots = slots' }) (lent_marks L.slots))) held.2 at_digest)

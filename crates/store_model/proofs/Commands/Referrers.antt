@@ -15,12 +15,12 @@ use Rattle.blob_digest.specs.declared.refusal.Refusal.TheVariants.{NameUnknown, 
 use Rattle.finite_maps.specs.Sets as set
 use Rattle.blob_digest.proofs.KeyOrders.{link_cmp_total, exact_link}
 use Rattle.finite_maps.proofs.Texts.{same_itself, text_is_same}
-use Rattle.finite_maps.proofs.Options.{some_same, some_value}
+use Rattle.finite_maps.proofs.Options.{some_none, some_same, some_value}
 use Rattle.finite_maps.specs.Texts.{Text, text_cmp, same_text}
 use Rattle.store_model.specs.Catalog.{Link, Catalog, link_cmp, tenant_of, holds}
 use Rattle.finite_maps.specs.Outcomes.{◌>>=◌, refuse}
 use Rattle.store_model.specs.Commands.{linked, unreferenced, refers, referrer}
-use Rattle.store_model.specs.Invariant.{RefersTo, IsLeastReferrer, ReferencedStays}
+use Rattle.store_model.specs.Invariant.{Lawful, RefersTo, IsLeastReferrer, ReferencedStays}
 use Rattle.finite_maps.proofs.Lists.{is_true}
 use Rattle.store_model.proofs.Invariant.Links.{unreferred}
 
@@ -128,12 +128,25 @@ module _ (C : Catalog) (repo digest : Text) where
     | false ↦ λ _ any. holds_referred refs all.1 any
   ] refl any
 
+module _ (C : Catalog) (lawful : Lawful C) (repo digest : Text) where
+  -- what a manifest refers to is held where the manifest is
+  held_by : (name : Text) → RefersTo C repo name digest → holds C repo digest ≡ true
+  held_by name r =
+      let k = lawful.manifests (repo, name) r.0 r.1 in
+      holds_referred C repo digest k.refs.0 k.refs.2 (sym (ap (λ x. option_map_or (list_any (same_text digest)) x false) k.refs.1) ∙ r.2)
+
+  -- so what has a referrer is held
+  pub held_if_referred : (manifest : Text) → referrer C repo digest ≡ Some manifest → holds C repo digest ≡ true
+  held_if_referred manifest is =
+      let first = found_one C repo digest (find (is_referrer C repo digest) (entries C.manifests)) refl (λ none. some_none (sym is ∙ ap (option_map (λ e. e.0.1)) none)) in
+      held_by first.0.0.1 (least_of C repo digest first.0 first.1).refers
+
 pub referenced_stays : ReferencedStays
 referenced_stays C lawful repo digest name r =
     let k = lawful.manifests (repo, name) r.0 r.1 in
     let first = found_one C repo digest (find (is_referrer C repo digest) (entries C.manifests)) refl (none_found C repo digest name r) in
     let t = some_value (tenant_of C.tenants repo) (lawful.repositories.owned repo k.repo) in
-    let held : holds C repo digest ≡ true = holds_referred C repo digest k.refs.0 k.refs.2 (sym (ap (λ x. option_map_or (list_any (same_text digest)) x false) k.refs.1) ∙ r.2) in (
+    let held = held_by C lawful repo digest name r in (
       first.0.0.1,
       least_of C repo digest first.0 first.1,
       ap (λ o. ok_or o NameUnknown >>= λ _. linked C repo digest >>= λ _. unreferenced (referrer C repo digest) >>= λ _. Ok (tt, record C { links = set.remove C.links (repo, digest) })) t.1

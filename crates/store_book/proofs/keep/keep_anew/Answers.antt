@@ -2,11 +2,8 @@ use Rattle.std.proofs.Common.{◌∙◌, ap, refl, length}
 use Rattle.slot_table.specs.Slots.{on_held, link_up}
 use Rattle.store_book.specs.Pinned.{Pinned}
 use Rattle.store_book.proofs.Slots.Pinned.{Quietly-placed, Quietly-slotted}
-use Rattle.store_book.proofs.Layers.KeepCalls.{link_there, unlink-link, kept_anew}
+use Rattle.store_book.proofs.Layers.KeepCalls.{unlink-link, kept_anew}
 use Rattle.store_book.proofs.keep.keep_anew.Goals as goal
-
-pub unlink-requires-clause-linked : goal.unlink-requires-clause-linked
-unlink-requires-clause-linked c = link_there c.args.links.now c.link.new.self c.args.repo.now c.digest-digest.result (length c.bytes.result.now) c.in_default.field-0 c.in_default.ensures
 
 pub returns-in-Ok-clause-ok : goal.returns-in-Ok-clause-ok
 returns-in-Ok-clause-ok c =
@@ -19,6 +16,6 @@ returns-in-Ok-clause-quiet c =
 
 pub returns-in-Err-place-clause-err : goal.returns-in-Err-place-clause-err
 returns-in-Err-place-clause-err c = (
-  c.unlink.ensures ∙ unlink-link c.args.links.now c.link.new.self c.args.repo.now c.digest-digest.result (length c.bytes.result.now) c.in_default.field-0 c.in_default.ensures (rw c.digest-digest.ensures.value (c.requires.can.held c.args.blob.0 c.requires.absent c.args.repo.now)),
+  c.unlink.ensures.gone ∙ unlink-link c.args.links.now c.link.new.self c.args.repo.now c.digest-digest.result (length c.bytes.result.now) c.in_default.field-0 c.in_default.ensures (rw c.digest-digest.ensures.value (c.requires.can.held c.args.blob.0 c.requires.absent c.args.repo.now)),
   c.in-Err-place.ensures.err,
 )

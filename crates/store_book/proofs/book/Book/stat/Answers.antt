@@ -9,8 +9,8 @@ returns-in-Some c =
     rw (← c.self.view_is) (
     ap Ok c.held_len.ensures
     ∙ ap (λ slots. Ok (length (bytes_at slots c.in-Some.slot))) c.table-slots.ensures
-    ∙ sym (stat_is (layers c.self.inside) c.in_ok-tenant.field-0 c.args.repo.now c.self.invariant (sym c.in_ok-tenant.ensures.known) c.args.digest.now c.in-Some.slot (rw c.table-slots.ensures at (sym c.in-Some.ensures)))
+    ∙ sym (stat_is (layers c.self.inside) c.in_ok-tenant.tenant c.args.repo.now c.self.invariant (sym c.in_ok-tenant.ensures.known) c.args.digest.now c.in-Some.slot (rw c.table-slots.ensures at (sym c.in-Some.ensures)))
     )
 
 pub returns-in-None : goal.returns-in-None
-returns-in-None c = rw (← c.self.view_is) (sym (stat_unknown (layers c.self.inside) c.in_ok-tenant.field-0 c.args.repo.now c.self.invariant (sym c.in_ok-tenant.ensures.known) c.args.digest.now (rw c.table-slots.ensures at (sym c.in-None.ensures))))
+returns-in-None c = rw (← c.self.view_is) (sym (stat_unknown (layers c.self.inside) c.in_ok-tenant.tenant c.args.repo.now c.self.invariant (sym c.in_ok-tenant.ensures.known) c.args.digest.now (rw c.table-slots.ensures at (sym c.in-None.ensures))))
