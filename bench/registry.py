@@ -3,12 +3,12 @@
 in turn: bench/registry.py [--runs N] [--no-sweeps] [MEASURE..]. It wants a built blobd, and the packages skopeo and docker-registry. The
 collector sweeps all the time. For each measure: the wall time of the clients in seconds (median), the ratio of it to
 docker-registry's, and the processor time of each server's programs."""
-import argparse, http.client, json, os, random, shutil, signal, socket, statistics, subprocess, sys, tempfile, time
+import argparse, http.client, json, os, random, shutil, signal, statistics, subprocess, sys, tempfile, time
 
 TOP = os.path.dirname(os.path.dirname(os.path.abspath(__file__)))
 sys.path.insert(0, f"{TOP}/registry/tests")
 from images import image
-from server import Server, sha256
+from server import Server, free_port, sha256
 
 MIB = 1 << 20
 TICKS = os.sysconf("SC_CLK_TCK")
@@ -40,9 +40,7 @@ class Theirs:
     """docker-registry over files, fresh."""
 
     def __init__(self, folder):
-        with socket.socket() as free:
-            free.bind(("127.0.0.1", 0))
-            self.address = f"127.0.0.1:{free.getsockname()[1]}"
+        self.address = f"127.0.0.1:{free_port()}"
         with open(f"{folder}/config.yml", "w") as file:
             file.write(CONFIG % (f"{folder}/files", self.address))
         words = ["docker-registry", "serve", f"{folder}/config.yml"]

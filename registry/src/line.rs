@@ -41,6 +41,9 @@ fn without_waiting(file: File) -> io::Result<AsyncFd<File>> {
     }
 }
 
+/// What a request is answered.
+pub type Answer = Result<Reply, Refusal>;
+
 /// A line, this side's ends of its pipes.
 pub struct Line {
     to: AsyncFd<File>,
@@ -73,13 +76,23 @@ impl Line {
         Ok(())
     }
 
-    /// Sends a request and takes its reply. After an error, or where this is dropped before its end, the line is of no
-    /// further use.
-    pub async fn exchange(&mut self, request: &Request<'_>) -> io::Result<Result<Reply, Refusal>> {
-        self.write(&request.head()).await?;
-        for piece in request.body {
-            self.write(piece).await?;
+    /// Sends requests, and takes their replies. Those before the last are short, since no reply is taken before all are
+    /// sent. After an error, or where this is dropped before its end, the line is of no further use.
+    pub async fn exchange<const N: usize>(&mut self, requests: [Request<'_>; N]) -> io::Result<[Answer; N]> {
+        for request in &requests {
+            self.write(&request.head()).await?;
+            for piece in request.body {
+                self.write(piece).await?;
+            }
         }
+        let mut answers = Vec::with_capacity(N);
+        for _ in &requests {
+            answers.push(self.answer().await?);
+        }
+        Ok(answers.try_into().unwrap_or_else(|_| unreachable!("each request has an answer")))
+    }
+
+    async fn answer(&mut self) -> io::Result<Answer> {
         let mut head = [0; HEAD_LEN];
         self.read(&mut head).await?;
         let head = ReplyHead::parse(&head);

@@ -14,6 +14,10 @@ use hyper::{Body, Method, Request, Response, StatusCode};
 use std::sync::Arc;
 use std::time::{Duration, Instant};
 
+/// The least rest behind a sweep that freed nothing: one that follows at once frees nothing either, and takes a processor
+/// from the others.
+const NOTHING_FREED_REST: Duration = Duration::from_millis(1);
+
 /// The registry.
 pub struct Registry {
     pub store: Store,
@@ -132,11 +136,8 @@ impl Registry {
             if swept.freed > 0 {
                 tracing::info!(freed = swept.freed, held = swept.held, "swept");
             }
-            if rest == Duration::ZERO {
-                tokio::task::yield_now().await;
-            } else {
-                tokio::time::sleep(rest).await;
-            }
+            let least = if swept.freed == 0 { NOTHING_FREED_REST } else { Duration::ZERO };
+            tokio::time::sleep(rest.max(least)).await;
         }
     }
 

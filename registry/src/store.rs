@@ -1,6 +1,6 @@
 //! The store: a `blobd` process, and the lines to it.
 use crate::frames::{Command, Refusal, Reply, Request};
-use crate::line::{FarEnds, Line};
+use crate::line::{self, FarEnds, Line};
 use bytes::Bytes;
 use std::io;
 use std::os::unix::io::AsRawFd;
@@ -100,19 +100,20 @@ impl Store {
         self.lost.notified().await
     }
 
-    /// Makes a call. A line is put back once its reply is there; one whose call fails or is dropped is closed.
-    async fn ask(&self, request: Request<'_>) -> Answer<Reply> {
+    /// Makes calls on one line, the first ones short. It is put back once the replies are there; one whose calls fail or
+    /// are dropped is closed.
+    async fn ask_all<const N: usize>(&self, requests: [Request<'_>; N]) -> Result<[line::Answer; N], Lost> {
         let permit = self.count.acquire().await.map_err(|_| Lost)?;
         let idle = self.idle.lock().unwrap().pop();
         let mut line = match idle {
             Some(line) => line,
             None => return Err(Lost),
         };
-        match line.exchange(&request).await {
-            Ok(answer) => {
+        match line.exchange(requests).await {
+            Ok(answers) => {
                 self.idle.lock().unwrap().push(line);
                 drop(permit);
-                Ok(answer)
+                Ok(answers)
             }
             Err(error) => {
                 tracing::error!(%error, "the store is gone");
@@ -121,6 +122,12 @@ impl Store {
                 Err(Lost)
             }
         }
+    }
+
+    /// Makes a call.
+    async fn ask(&self, request: Request<'_>) -> Answer<Reply> {
+        let [answer] = self.ask_all([request]).await?;
+        Ok(answer)
     }
 
     /// Opens a session of an upload: its number.
@@ -211,6 +218,14 @@ impl Store {
         let range = Some((start, last));
         let answer = self.ask(Request { number: lease, digest, range, ..Request::new(Command::Read) }).await?;
         Ok(answer.map(|reply| reply.body))
+    }
+
+    /// Bytes of a leased blob as `read` has them, or none where it has none, and ends the lease.
+    pub async fn read_last(&self, lease: u32, digest: &str, range: Option<(u64, u64)>) -> Answer<Bytes> {
+        let read = Request { number: lease, digest, range, ..Request::new(Command::Read) };
+        let give_back = Request { number: lease, ..Request::new(Command::GiveBack) };
+        let [read, given_back] = self.ask_all([read, give_back]).await?;
+        Ok(given_back.and(read).map(|reply| reply.body))
     }
 
     /// Ends a lease.

@@ -1,17 +1,11 @@
 #!/usr/bin/env python3
 """Two registries behind HAProxy, by docs/haproxy.cfg: each tenant has one of them, and always the same."""
-import os, socket, subprocess, sys, tempfile, time
+import os, subprocess, tempfile, time
 
-from server import Client, TOP, serving, sha256
+from server import Client, TOP, free_port, serving, sha256
 
 PATCH = {"Content-Type": "application/octet-stream"}
 TENANTS = [f"tenant{n}" for n in range(8)]
-
-
-def free_port():
-    with socket.socket() as free:
-        free.bind(("127.0.0.1", 0))
-        return free.getsockname()[1]
 
 
 def main():

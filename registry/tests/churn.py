@@ -71,20 +71,10 @@ class Pusher(threading.Thread):
         self.images += 1
 
 
-def left(server, slots):
-    """What is left once all is deleted, after some sweeps."""
-    for _ in range(100):
-        used, free = server.metric('registryd_tenant_used_bytes{tenant="acme"}'), server.metric("registryd_free_slots")
-        if used == 0 and free == slots:
-            return None
-        time.sleep(0.05)
-    return f"{used:.0f} bytes in use, {slots - free:.0f} slots"
-
-
 def main():
     seconds = float(sys.argv[1]) if len(sys.argv) > 1 else 20
-    count, slots = int(sys.argv[2]) if len(sys.argv) > 2 else 8, 64
-    with serving("--slots", str(slots), "--sweep-ms", "0") as server:
+    count = int(sys.argv[2]) if len(sys.argv) > 2 else 8
+    with serving("--slots", "64", "--sweep-ms", "0") as server:
         end = time.time() + seconds
         pushers = [Pusher(server, number, end) for number in range(count)]
         for pusher in pushers:
@@ -93,7 +83,7 @@ def main():
             pusher.join()
         total = lambda name: sum(getattr(pusher, name) for pusher in pushers)
         faults = [pusher.fault for pusher in pushers if pusher.fault]
-        rest, sweeps = left(server, slots), server.metric("registryd_sweeps_total")
+        rest, sweeps = server.left(), server.metric("registryd_sweeps_total")
         ended = server.end()
     print(f"churn: {count} clients, {total('images')} images, {total('up') >> 20} MiB up, {total('down') >> 20} MiB down, "
           f"{total('images')} reads over a delete, {sweeps:.0f} sweeps, {total('retries')} retries, "

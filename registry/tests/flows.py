@@ -2,7 +2,7 @@
 """Every flow of the OCI Distribution Specification 1.1 that the registry knows, one request after the other, with the
 status, the headers and the code that the specification asks for. flows.py [HOST:PORT] plays them on a registry that is
 there, with tenants acme, other, and poor with 1,000,000 bytes; without, on one of its own."""
-import random, sys
+import random, sys, uuid
 
 from server import Client, MANIFEST, manifest_of, serving, sha256, sha512
 
@@ -36,7 +36,13 @@ class Flows:
         return self.play(name, "PATCH", at, status, data, {**PATCH, "Content-Range": f"{start}-{start + len(data) - 1}"}, **more)
 
     def opened(self, repo="acme/one"):
-        return self.play("an upload is opened", "POST", f"{repo}/blobs/uploads/", 202, wants={"Range": "0-0"})["Location"]
+        """Opens an upload, which has to be named by a UUID: where it is."""
+        at = self.play("an upload is opened", "POST", f"{repo}/blobs/uploads/", 202, wants={"Range": "0-0"})["Location"]
+        base, name = at.rsplit("/", 1)
+        if base != f"/v2/{repo}/blobs/uploads" or str(uuid.UUID(name)) != name:
+            self.wrong += 1
+            print(f"WRONG an upload is at {at}")
+        return at
 
 
 def blobs(flows):
@@ -45,14 +51,16 @@ def blobs(flows):
     third = len(big) // 3
     parts = [big[:third], big[third:2 * third], big[2 * third:]]
     play("end-1", "GET", "", 200)
-    play("a GET of a blob that isn't there", "GET", f"acme/one/blobs/{sha256(abc)}", 404, code="BLOB_UNKNOWN")
+    play("a GET of a blob that isn't there", "GET", f"acme/one/blobs/{sha256(abc)}", 404, code="BLOB_UNKNOWN",
+         wants={"Content-Type": "application/json"})
     play("a HEAD of a blob that isn't there", "HEAD", f"acme/one/blobs/{sha256(abc)}", 404)
     at = flows.opened()
     play("end-6: the whole", "PUT", f"{at}?digest={sha256(abc)}", 201, abc, PATCH,
          wants={"Docker-Content-Digest": sha256(abc), "Location": f"/v2/acme/one/blobs/{sha256(abc)}"})
     play("the upload is over", "GET", at, 404, code="BLOB_UPLOAD_UNKNOWN")
-    play("end-2", "GET", f"acme/one/blobs/{sha256(abc)}", 200, content=abc, wants={"Content-Length": "3"})
-    play("end-2: HEAD", "HEAD", f"acme/one/blobs/{sha256(abc)}", 200, content=b"", wants={"Content-Length": "3"})
+    told = {"Content-Length": "3", "Docker-Content-Digest": sha256(abc)}
+    play("end-2", "GET", f"acme/one/blobs/{sha256(abc)}", 200, content=abc, wants=told)
+    play("end-2: HEAD", "HEAD", f"acme/one/blobs/{sha256(abc)}", 200, content=b"", wants=told)
     play("a part", "GET", f"acme/one/blobs/{sha256(abc)}", 206, headers={"Range": "bytes=1-"}, content=b"bc",
          wants={"Content-Range": "bytes 1-2/3", "Content-Length": "2"})
     play("a part past the end", "GET", f"acme/one/blobs/{sha256(abc)}", 416, headers={"Range": "bytes=9-"},

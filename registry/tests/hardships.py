@@ -110,6 +110,27 @@ def who_asks_first_is_told_before_it_sends(server):
     line.close()
 
 
+def slow_senders_hold_nobody_up(server):
+    client, data = server.client(), random.Random(5).randbytes(2000)
+    at = [client.ask("POST", "/v2/acme/slow/blobs/uploads/")["Location"] for _ in range(20)]
+    slow = [server.socket() for _ in at]
+    for line, place in zip(slow, at):
+        line.sendall(head_of("PATCH", place[len("/v2/"):], Content_Length=len(data)) + data[:1])
+    begun = time.time()
+    for _ in range(20):
+        assert client.ask("GET", at[0]).status == 204
+    assert time.time() - begun < 20, time.time() - begun
+    for byte in range(1, 1000, 111):
+        for line in slow:
+            line.sendall(data[byte:byte + 111])
+    for line in slow:
+        line.sendall(data[1000:])
+        assert line.recv(1000).startswith(b"HTTP/1.1 202")
+        line.close()
+    for place in at:
+        assert client.ask("PUT", f"{place}?digest={sha256(data)}").status == 201
+
+
 def words_that_are_no_http_end_their_connection(server):
     for text in (b"\0\1\2\3\r\n\r\n", b"GET\r\n\r\n", b"GET / HTTP/9\r\n\r\n", b"POST /v2/ HTTP/1.1\r\nContent-Length: -1\r\n\r\n",
                  b"POST /v2/ HTTP/1.1\r\nContent-Length: 1\r\nContent-Length: 2\r\n\r\n"):
@@ -178,6 +199,37 @@ def a_signal_ends_it_once_open_requests_have():
         assert line.recv(1000).startswith(b"HTTP/1.1 201")
         assert server.end() == 0
         assert " bytes received, " in server.logged()
+    with serving() as server:
+        assert server.end(signal.SIGINT) == 0
+
+
+def limits_are_told():
+    with serving("--slots", "2", "--max-blob", "1000", "--sweep-ms", "1000000") as server:
+        client = server.client()
+        push = lambda data: client.ask("POST", f"/v2/acme/one/blobs/uploads/?digest={sha256(data)}", data, PATCH)
+        longer = push(b"x" * 1001)
+        assert (longer.status, longer.code()) == (413, "SIZE_INVALID"), longer.body
+        status = [push(data).status for data in (b"a" * 1000, b"b", b"c")]
+        assert status == [201, 201, 507], status
+        opened = [client.ask("POST", "/v2/other/one/blobs/uploads/") for _ in range(65)]
+        assert {answer.status for answer in opened[:64]} == {202} and opened[64].status == 429, opened[64].status
+        assert opened[64].code() == "TOOMANYREQUESTS"
+
+
+def metrics_count_what_was_done():
+    with serving("--slots", "8", "--sweep-ms", "20") as server:
+        client, blob = server.client(), f"/v2/acme/one/blobs/{sha256(b'abc')}"
+        assert client.ask("POST", f"/v2/acme/one/blobs/uploads/?digest={sha256(b'abc')}", b"abc", PATCH).status == 201
+        assert client.ask("GET", blob).body == b"abc"
+        used, quota = (f'registryd_tenant_{name}_bytes{{tenant="acme"}}' for name in ("used", "quota"))
+        wanted = {'registryd_requests_total{method="POST",status="201"}': 1, 'registryd_request_seconds_count{method="POST"}': 1,
+                  "registryd_received_bytes_total": 3, "registryd_sent_bytes_total": 3, "registryd_uploads": 0,
+                  "registryd_slots": 8, "registryd_free_slots": 7, "registryd_held_slots": 0, used: 3, quota: 1_000_000_000}
+        told = {name: server.metric(name) for name in wanted}
+        assert told == wanted, told
+        assert client.ask("DELETE", blob).status == 202
+        assert not server.left(), server.left()
+        assert server.metric("registryd_freed_slots_total") == 1 and server.metric("registryd_sweeps_total") > 1
 
 
 def killed_programs_take_one_another_along():
@@ -217,9 +269,9 @@ def what_cannot_be_started_says_so():
 
 WITH_ONE = [a_broken_off_upload_is_resumed, a_broken_off_post_leaves_nothing, slow_readers_hold_nobody_up,
             idle_connections_cost_little, a_long_upload_takes_its_own_memory_alone, who_asks_first_is_told_before_it_sends,
-            words_that_are_no_http_end_their_connection, two_chunks_at_once_do_not_mix]
+            slow_senders_hold_nobody_up, words_that_are_no_http_end_their_connection, two_chunks_at_once_do_not_mix]
 ALONE = [users_have_their_own_tenant, unused_uploads_are_given_up, a_signal_ends_it_once_open_requests_have,
-         killed_programs_take_one_another_along, what_cannot_be_started_says_so]
+         limits_are_told, metrics_count_what_was_done, killed_programs_take_one_another_along, what_cannot_be_started_says_so]
 
 
 def main():

@@ -1,7 +1,7 @@
 #!/usr/bin/env python3
 """skopeo pushes an image, pulls it by tag and by digest, copies it within the registry and deletes it; what comes back is
 what was pushed, and after a sweep nothing of it is left."""
-import filecmp, gzip, io, json, os, random, shutil, subprocess, sys, tarfile, tempfile, time
+import filecmp, gzip, io, json, os, random, shutil, subprocess, tarfile, tempfile
 
 from server import MANIFEST, serving, sha256
 
@@ -18,7 +18,7 @@ def layer(name, size, seed):
     return packed.getvalue(), sha256(plain.getvalue())
 
 
-def image(top, sizes, seed):
+def image(top, sizes, seed, tag="latest"):
     """Writes the OCI layout of an image with layers of these sizes, and answers its manifest's digest."""
     os.makedirs(f"{top}/blobs/sha256")
 
@@ -34,7 +34,7 @@ def image(top, sizes, seed):
     config = keep("application/vnd.oci.image.config.v1+json", json.dumps(config).encode())
     manifest = {"schemaVersion": 2, "mediaType": MANIFEST, "config": config, "layers": kept}
     manifest = keep(MANIFEST, json.dumps(manifest).encode())
-    index = {"schemaVersion": 2, "manifests": [{**manifest, "annotations": {"org.opencontainers.image.ref.name": "latest"}}]}
+    index = {"schemaVersion": 2, "manifests": [{**manifest, "annotations": {"org.opencontainers.image.ref.name": tag}}]}
     for name, value in (("index.json", index), ("oci-layout", {"imageLayoutVersion": "1.0.0"})):
         with open(f"{top}/{name}", "w") as file:
             json.dump(value, file)
@@ -83,12 +83,7 @@ def delete_blobs(server, folder):
         for blob in os.listdir(f"{folder}/{name}/blobs/sha256"):
             for repo in (name, f"copy-of-{name}"):
                 client.ask("DELETE", f"/v2/acme/{repo}/blobs/sha256:{blob}")
-    for _ in range(100):
-        if server.metric("registryd_free_slots") == 128:
-            break
-        time.sleep(0.05)
-    assert server.metric("registryd_free_slots") == 128
-    assert server.metric('registryd_tenant_used_bytes{tenant="acme"}') == 0
+    assert not server.left(), server.left()
 
 
 def main():

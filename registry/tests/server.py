@@ -24,6 +24,12 @@ def manifest_of(config, layers):
     return text.encode()
 
 
+def free_port():
+    with socket.socket() as free:
+        free.bind(("127.0.0.1", 0))
+        return free.getsockname()[1]
+
+
 class Answer:
     def __init__(self, response, body):
         self.status, self.headers, self.body = response.status, response.headers, body
@@ -101,6 +107,16 @@ class Server:
             if line.rsplit(" ", 1)[0] == name:
                 return float(line.rsplit(" ", 1)[1])
         raise AssertionError(f"no metric {name}")
+
+    def left(self):
+        """What is left once all is deleted, after some sweeps: nothing, or what it is."""
+        slots = self.metric("registryd_slots")
+        for _ in range(100):
+            used, free = self.metric('registryd_tenant_used_bytes{tenant="acme"}'), self.metric("registryd_free_slots")
+            if used == 0 and free == slots:
+                return None
+            time.sleep(0.05)
+        return f"{used:.0f} bytes in use, {slots - free:.0f} slots"
 
     def memory(self):
         """The most memory that both programs have had at once resident, in bytes."""
