@@ -5,7 +5,6 @@ ghost use Rattle.locked_book.specs.History.{AreFresh, DeskView};
 ghost use Rattle.blob_store.specs.Parts.{names_of};
 ghost use Rattle.blob_store.specs.Workers.{AllAt, ArePlayed, AreSettled, HasPlayed, HavePlayed, IsInterleaved, IsReady, IsWorkerAt};
 ghost use Rattle.row_player.specs.Answers.{answers_of};
-ghost use Rattle.row_player.specs.RowViews.{row_view};
 ghost use Rattle.row_player.specs.Shares.{own_answers, own_rows};
 
 use crate::parts::Parts;
@@ -13,7 +12,7 @@ use crate::store::Store;
 use crate::workers::{Job, Outcome, WorkersDone, play_all};
 use blob_digest::Refusal;
 use locked_book::{Desk, DroppableDesk, LockedBook, Naming, Settled};
-use row_player::{Gate, Reply, Row, Worker, in_row_order};
+use row_player::{Gate, Reply, RowList, Worker, in_row_order};
 use std::alloc::Global;
 use std::sync::Wait;
 use std::sync::atomic::AtomicBool;
@@ -50,10 +49,14 @@ struct Room<S: Naming> {
 }
 
 /// Room for the replies of each worker.
-fn lists_for(alloc: Global, rows: &[Row], workers: usize) -> Result<Vec<Vec<Reply>>, Refusal>
+fn lists_for<L: RowList>(
+    alloc: Global,
+    rows: &L,
+    workers: usize,
+) -> Result<Vec<Vec<Reply>>, Refusal>
     requires { 0 < workers }
     ensures len { IfOk result (λ v. (vec_len v ≡ workers) × (workers ≤ vec_capacity v)) }
-    ensures room { IfOk result (λ v. AllAt (λ w l. (l.items ≡ []) × (length (own_rows workers w (map row_view rows.now)) ≤ vec_capacity l)) v.items) }
+    ensures room { IfOk result (λ v. AllAt (λ w l. (l.items ≡ []) × (length (own_rows workers w (L.lines rows.now)) ≤ vec_capacity l)) v.items) }
     ensures refused { IfErr result (λ e. e ≡ Memory) }
 {
     let mut lists = Vec::with_capacity(alloc, workers)?;
@@ -65,10 +68,14 @@ fn lists_for(alloc: Global, rows: &[Row], workers: usize) -> Result<Vec<Vec<Repl
 }
 
 /// All room that workers need.
-fn room_for<S: Naming>(alloc: Global, rows: &[Row], workers: usize) -> Result<Room<S>, Refusal>
+fn room_for<S: Naming, L: RowList>(
+    alloc: Global,
+    rows: &L,
+    workers: usize,
+) -> Result<Room<S>, Refusal>
     requires { 0 < workers }
-    ensures lists { IfOk result (λ r. (vec_len r.lists ≡ workers) × (workers ≤ vec_capacity r.lists) × AllAt (λ w l. (l.items ≡ []) × (length (own_rows workers w (map row_view rows.now)) ≤ vec_capacity l)) r.lists.items) }
-    ensures merged { IfOk result (λ r. (vec_len r.merged ≡ 0) × (length rows.now ≤ vec_capacity r.merged)) }
+    ensures lists { IfOk result (λ r. (vec_len r.lists ≡ workers) × (workers ≤ vec_capacity r.lists) × AllAt (λ w l. (l.items ≡ []) × (length (own_rows workers w (L.lines rows.now)) ≤ vec_capacity l)) r.lists.items) }
+    ensures merged { IfOk result (λ r. (vec_len r.merged ≡ 0) × (length (L.lines rows.now) ≤ vec_capacity r.merged)) }
     ensures jobs { IfOk result (λ r. (vec_len r.jobs ≡ 0) × (workers ≤ vec_capacity r.jobs)) }
     ensures done { IfOk result (λ r. (vec_len r.done.outcomes ≡ 0) × (workers ≤ vec_capacity r.done.outcomes) × (vec_len r.done.unstarted ≡ 0) × (workers ≤ vec_capacity r.done.unstarted)) }
     ensures refused { IfErr result (λ e. e ≡ Memory) }
@@ -86,19 +93,19 @@ fn room_for<S: Naming>(alloc: Global, rows: &[Row], workers: usize) -> Result<Ro
 
 /// The jobs of all workers, the last one first: each has a desk and room for its replies. The two vectors that
 /// these come from are left empty, with the room that they had.
-fn jobs_of<S: Naming>(
-    rows: &[Row],
+fn jobs_of<S: Naming, L: RowList>(
+    rows: &L,
     desks: &mut Vec<Desk<S>>,
     lists: &mut Vec<Vec<Reply>>,
     mut jobs: Vec<Job<S>>,
 ) -> Vec<Job<S>>
     requires fresh { AreFresh desks.old.items }
-    requires lists { (vec_len lists.old ≡ vec_len desks.old) × AllAt (λ w l. (l.items ≡ []) × (length (own_rows (vec_len desks.old) w (map row_view rows.now)) ≤ vec_capacity l)) lists.old.items }
+    requires lists { (vec_len lists.old ≡ vec_len desks.old) × AllAt (λ w l. (l.items ≡ []) × (length (own_rows (vec_len desks.old) w (L.lines rows.now)) ≤ vec_capacity l)) lists.old.items }
     requires room { (vec_len jobs ≡ 0) × (vec_len desks.old ≤ vec_capacity jobs) }
     ensures len { vec_len result ≡ vec_len desks.old }
     ensures desks { (vec_len desks.new ≡ 0) × (vec_capacity desks.new ≡ vec_capacity desks.old) }
     ensures emptied { (vec_len lists.new ≡ 0) × (vec_capacity lists.new ≡ vec_capacity lists.old) }
-    ensures ready { AllAt (λ k j. IsWorkerAt (vec_len desks.old) k j.worker.workers j.worker.number × IsReady (vec_len desks.old) j.worker.number (map row_view rows.now) j.desk j.replies.items (vec_capacity j.replies)) result.items }
+    ensures ready { AllAt (λ k j. IsWorkerAt (vec_len desks.old) k j.worker.workers j.worker.number × IsReady (vec_len desks.old) j.worker.number (L.lines rows.now) j.desk j.replies.items (vec_capacity j.replies)) result.items }
 {
     let workers = desks.len();
     while let Some(desk) = desks.pop() {
@@ -117,18 +124,18 @@ fn jobs_of<S: Naming>(
 
 /// Takes the workers' desks and replies out of what they ended with, the first one first, and returns whether all
 /// played all of their rows.
-fn collect<S: Naming>(
-    rows: &[Row],
+fn collect<S: Naming, L: RowList>(
+    rows: &L,
     workers: usize,
     mut outcomes: Vec<Outcome<S>>,
     desks: &mut Vec<Desk<S>>,
     lists: &mut Vec<Vec<Reply>>,
 ) -> bool
-    requires each { AllAt (λ k o. (w : ℕ) → w + k + 1 ≡ vec_len outcomes → o.completed ≡ true → HasPlayed S.names.opening workers w (map row_view rows.now) o.desk (answers_of o.replies.items)) outcomes.items }
+    requires each { AllAt (λ k o. (w : ℕ) → w + k + 1 ≡ vec_len outcomes → o.completed ≡ true → HasPlayed S.names.opening workers w (L.lines rows.now) o.desk (answers_of o.replies.items)) outcomes.items }
     requires room { (vec_len desks.old ≡ 0) × (vec_len outcomes ≤ vec_capacity desks.old) × (vec_len lists.old ≡ 0) × (vec_len outcomes ≤ vec_capacity lists.old) }
     ensures len { (vec_len desks.new ≡ vec_len outcomes) × (vec_len lists.new ≡ vec_len outcomes) }
     ensures capacity { vec_capacity desks.new ≡ vec_capacity desks.old }
-    ensures played { result ≡ true → ArePlayed S.names.opening workers (map row_view rows.now) desks.new.items (map (λ v. answers_of v.items) lists.new.items) }
+    ensures played { result ≡ true → ArePlayed S.names.opening workers (L.lines rows.now) desks.new.items (map (λ v. answers_of v.items) lists.new.items) }
 {
     let mut completed = true;
     while let Some(outcome) = outcomes.pop() {
@@ -156,21 +163,26 @@ fn add_desks<S: Naming>(mut unstarted: Vec<DroppableDesk<S>>, desks: &mut Vec<De
 
 /// Plays a script by as many workers as there are desks, and puts the desks back in their order. No replies, where memory
 /// ran out for a row or for a thread.
-fn play_at<W: Threads + Wait + Sync, G: Gate + Send + Sync, S: Naming + Send + Sync>(
+fn play_at<
+    W: Threads + Wait + Sync,
+    G: Gate + Send + Sync,
+    S: Naming + Send + Sync,
+    L: RowList + Sync,
+>(
     rt: &W,
     alloc: Global,
     store: &Store<S>,
-    rows: &[Row],
+    rows: &L,
     gate: &G,
     room: Room<S>,
     desks: &mut Vec<Desk<S>>,
 ) -> Option<Vec<Reply>>
     requires fresh { (0 < vec_len desks.old) × AreFresh desks.old.items }
-    requires lists { (vec_len room.lists ≡ vec_len desks.old) × AllAt (λ w l. (l.items ≡ []) × (length (own_rows (vec_len desks.old) w (map row_view rows.now)) ≤ vec_capacity l)) room.lists.items }
-    requires merged { (vec_len room.merged ≡ 0) × (length rows.now ≤ vec_capacity room.merged) }
+    requires lists { (vec_len room.lists ≡ vec_len desks.old) × AllAt (λ w l. (l.items ≡ []) × (length (own_rows (vec_len desks.old) w (L.lines rows.now)) ≤ vec_capacity l)) room.lists.items }
+    requires merged { (vec_len room.merged ≡ 0) × (length (L.lines rows.now) ≤ vec_capacity room.merged) }
     requires jobs { (vec_len room.jobs ≡ 0) × (vec_len desks.old ≤ vec_capacity room.jobs) }
     requires done { (vec_len room.done.outcomes ≡ 0) × (vec_len desks.old ≤ vec_capacity room.done.outcomes) × (vec_len room.done.unstarted ≡ 0) × (vec_len desks.old ≤ vec_capacity room.done.unstarted) }
-    ensures { IfSome result (λ replies. HavePlayed S.names.opening (vec_len desks.old) (map row_view rows.now) desks.new.items (answers_of replies.items)) }
+    ensures { IfSome result (λ replies. HavePlayed S.names.opening (vec_len desks.old) (L.lines rows.now) desks.new.items (answers_of replies.items)) }
 {
     let Room {
         mut lists,
@@ -204,23 +216,28 @@ fn play_at<W: Threads + Wait + Sync, G: Gate + Send + Sync, S: Naming + Send + S
 /// All room for desks and replies is made before a worker is started. Refused, in this order: more than
 /// 1,024 desks that would be out (`LimitReached`); out of memory. Where memory runs out, for a row or for a
 /// thread, the rows that were accepted before it stand, all leases are given back, and all desks are settled.
-pub fn play<W: Threads + Wait + Sync, G: Gate + Send + Sync, S: Naming + Send + Sync>(
+pub fn play<
+    W: Threads + Wait + Sync,
+    G: Gate + Send + Sync,
+    S: Naming + Send + Sync,
+    L: RowList + Sync,
+>(
     rt: &W,
     alloc: Global,
     store: &Store<S>,
-    rows: &[Row],
+    rows: L,
     workers: usize,
     gate: &G,
 ) -> Result<Played, Refusal>
     requires { (0 < workers) × (workers ≤ MAX_WORKERS) }
-    ensures replies { IfOk result (λ p. length p.replies.items ≡ length rows.now) }
-    ensures each { IfOk result (λ p. (w : ℕ) → w < workers → (desk : DeskView) × HasPlayed S.names.opening workers w (map row_view rows.now) desk (own_answers workers w (map row_view rows.now) (answers_of p.replies.items))) }
-    ensures settled { IfOk result (λ p. AreSettled (map row_view rows.now) (answers_of p.replies.items) p.settled) }
+    ensures replies { IfOk result (λ p. length p.replies.items ≡ length (L.lines rows)) }
+    ensures each { IfOk result (λ p. (w : ℕ) → w < workers → (desk : DeskView) × HasPlayed S.names.opening workers w (L.lines rows) desk (own_answers workers w (L.lines rows) (answers_of p.replies.items))) }
+    ensures settled { IfOk result (λ p. AreSettled (L.lines rows) (answers_of p.replies.items) p.settled) }
     ensures refused { IfErr result (λ e. (e ≡ LimitReached) ⊎ (e ≡ Memory)) }
 {
-    let room = room_for(alloc, rows, workers)?;
+    let room = room_for(alloc, &rows, workers)?;
     let mut desks = store.desks(rt, workers as u64)?;
-    let played = play_at(rt, alloc, store, rows, gate, room, &mut desks);
+    let played = play_at(rt, alloc, store, &rows, gate, room, &mut desks);
     let settled = store.settle(rt, desks);
     match played {
         Some(replies) => Ok(Played { replies, settled }),
@@ -234,24 +251,29 @@ pub fn play<W: Threads + Wait + Sync, G: Gate + Send + Sync, S: Naming + Send + 
 ///
 /// Refused as `play` refuses. Out of memory is answered as well where the history has steps that are no worker's, of which there are
 /// none, since nobody else has the store.
-pub fn play_to_end<W: Threads + Wait + Sync, G: Gate + Send + Sync, S: Naming + Send + Sync>(
+pub fn play_to_end<
+    W: Threads + Wait + Sync,
+    G: Gate + Send + Sync,
+    S: Naming + Send + Sync,
+    L: RowList + Sync,
+>(
     rt: &W,
     alloc: Global,
     parts: Parts,
-    rows: &[Row],
+    rows: L,
     workers: usize,
     gate: &G,
 ) -> Result<PlayedToEnd<S>, Refusal>
     requires workers { (0 < workers) × (workers ≤ MAX_WORKERS) }
     requires named { names_of parts ≡ S.names }
-    ensures replies { IfOk result (λ p. length p.replies.items ≡ length rows.now) }
-    ensures together { IfOk result (λ p. IsInterleaved S.names.opening workers (map row_view rows.now) (answers_of p.replies.items) p.book.book.catalog) }
+    ensures replies { IfOk result (λ p. length p.replies.items ≡ length (L.lines rows)) }
+    ensures together { IfOk result (λ p. IsInterleaved S.names.opening workers (L.lines rows) (answers_of p.replies.items) p.book.book.catalog) }
     ensures refused { IfErr result (λ e. (e ≡ LimitReached) ⊎ (e ≡ Memory)) }
 {
-    let room = room_for(alloc, rows, workers)?;
+    let room = room_for(alloc, &rows, workers)?;
     let store = Store::<S>::new(parts);
     let mut desks = store.desks(rt, workers as u64)?;
-    let played = play_at(rt, alloc, &store, rows, gate, room, &mut desks);
+    let played = play_at(rt, alloc, &store, &rows, gate, room, &mut desks);
     let mut book = store.into_book();
     let is_whole = book.conclude(desks);
     match played {

@@ -5,5 +5,6 @@ pub mod LeaseTables
 pub mod Orders
 pub mod Partitions
 pub mod PlayedRows
+pub mod RowPlaces
 pub mod Spellings
 pub mod WorkerRows

@@ -8,10 +8,9 @@ use Rattle.std.specs.List.{filter, zip}
 use Rattle.row_player.specs.Answers.{Answer, answer_of, answers_of}
 use Rattle.row_player.specs.Rows.{RowView}
 use Rattle.row_player.specs.Shares.{AreTogether, TakesLast, is_own, own_rows, own_answers}
-use Rattle.row_player.specs.RowViews.{row_view}
+use Rattle.row_player.specs.RowViews.{IsRowAt}
 use Rattle.row_player.specs.declared.reply.Reply.{Reply}
-use Rattle.row_player.specs.declared.row.Row.{Row}
-use Rattle.row_player.proofs.PlayedRows.{lines_more}
+use Rattle.row_player.proofs.PlayedRows.{rows_more}
 
 own_rows-append : (n w : ℕ) (front : List RowView) (line : RowView) → length (own_rows n w (front ++ line ∷ [])) ≡ length (own_rows n w front) + cond (is_own n w line) 1 0
 own_rows-append n w [] line = elim (is_own n w line) as (λ b. length (cond {A = List RowView} b (line ∷ []) []) ≡ 0 + cond {A = ℕ} b 1 0) [ true ↦ refl | false ↦ refl ]
@@ -97,29 +96,29 @@ taken lists w old v (Some x) within at parts cases size = (
 )
 
 -- the row before a place
-module _ (n : ℕ) (first lists new : List (List Answer)) (rows : List Row) (place : ℕ) (row : Row) (answers : List Answer) (some : 0 < place) (within : place ≤ length rows) (at : row ≡ get_or rows (place - 1) row) where
-  before : map row_view (take place rows) ≡ map row_view (take (place - 1) rows) ++ row_view row ∷ []
+module _ (n : ℕ) (first lists new : List (List Answer)) (rows : List RowView) (place : ℕ) (row : RowView) (answers : List Answer) (some : 0 < place) (within : place ≤ length rows) (at : IsRowAt rows (place - 1) row) where
+  before : take place rows ≡ take (place - 1) rows ++ row ∷ []
   before =
       let e : (place - 1) + 1 ≡ place = omega (arith, some) in
       let lt : place - 1 < length rows = omega (arith, some, within) in
-      ap (λ k. map row_view (take k rows)) (sym e) ∙ lines_more rows (place - 1) row lt at
+      ap (λ k. take k rows) (sym e) ∙ rows_more rows (place - 1) row lt at
 
-  behind : map row_view (drop (place - 1) rows) ≡ row_view row ∷ map row_view (drop place rows)
+  behind : drop (place - 1) rows ≡ row ∷ drop place rows
   behind =
       let e : (place - 1) + 1 ≡ place = omega (arith, some) in
       let lt : place - 1 < length rows = omega (arith, some, within) in
-      ap (map row_view) (drop_more rows (place - 1) row lt) ∙ ap (λ k. row_view (get_or rows (place - 1) row) ∷ map row_view (drop k rows)) e ∙ ap (λ (r : Row). row_view r ∷ map row_view (drop place rows)) (sym at)
+      drop_more rows (place - 1) row lt ∙ ap (λ k. get_or rows (place - 1) row ∷ drop k rows) e ∙ ap (λ r. r ∷ drop place rows) (sym at)
 
   -- its reply is taken
-  pub row_taken : (answer : Answer) → AreSplit n first lists (map row_view (take place rows)) (map row_view (drop place rows)) (reverse answers) → row.lane % n < length lists → TakesLast lists new (row.lane % n) (Some answer)
-      → AreSplit n first new (map row_view (take (place - 1) rows)) (map row_view (drop (place - 1) rows)) (reverse (answers ++ answer ∷ []))
+  pub row_taken : (answer : Answer) → AreSplit n first lists (take place rows) (drop place rows) (reverse answers) → row.lane % n < length lists → TakesLast lists new (row.lane % n) (Some answer)
+      → AreSplit n first new (take (place - 1) rows) (drop (place - 1) rows) (reverse (answers ++ answer ∷ []))
   row_taken answer split fits takes =
-      let split' = split_more n first lists (map row_view (take (place - 1) rows)) (map row_view (drop place rows)) (row_view row) (reverse answers) answer takes.0 (rw before at split) fits takes.1 in
+      let split' = split_more n first lists (take (place - 1) rows) (drop place rows) row (reverse answers) answer takes.0 (rw before at split) fits takes.1 in
       rw (behind, reverse-append answers (answer ∷ []), takes.2) split'
 
   -- there is one
-  pub row_has_reply : AreSplit n first lists (map row_view (take place rows)) (map row_view (drop place rows)) (reverse answers) → row.lane % n < n → ¬ TakesLast lists new (row.lane % n) None
-  row_has_reply split fits none = some_left_of n first lists (map row_view (take (place - 1) rows)) (map row_view (drop place rows)) (row_view row) (reverse answers) (rw before at split) fits none
+  pub row_has_reply : AreSplit n first lists (take place rows) (drop place rows) (reverse answers) → row.lane % n < n → ¬ TakesLast lists new (row.lane % n) None
+  row_has_reply split fits none = some_left_of n first lists (take (place - 1) rows) (drop place rows) row (reverse answers) (rw before at split) fits none
 
 map-reverse : {A B : Type 0} (f : A → B) (xs : List A) → map f (reverse xs) ≡ reverse (map f xs)
 map-reverse f [] = refl
@@ -127,9 +126,9 @@ map-reverse f (x ∷ xs) =
     ap (map f) (reverse-append (x ∷ []) xs) ∙ map-append f (reverse xs) (x ∷ []) ∙ ap (λ ys. ys ++ f x ∷ []) (map-reverse f xs) ∙ sym (reverse-append (f x ∷ []) (map f xs))
 
 -- all rows have their replies
-pub all_together : (n : ℕ) (first lists : List (List Answer)) (rows : List Row) (replies : List Reply) → AreSplit n first lists (map row_view (take 0 rows)) (map row_view (drop 0 rows)) (reverse (answers_of replies)) → length replies ≡ length rows
-    → AreTogether n (map row_view rows) (λ w. get_or first w []) (answers_of (reverse replies))
+pub all_together : (n : ℕ) (first lists : List (List Answer)) (rows : List RowView) (replies : List Reply) → AreSplit n first lists (take 0 rows) (drop 0 rows) (reverse (answers_of replies)) → length replies ≡ length rows
+    → AreTogether n rows (λ w. get_or first w []) (answers_of (reverse replies))
 all_together n first lists rows replies split size = record {
-  one_each = length-map (reverse replies) answer_of ∙ length-reverse replies ∙ size ∙ sym (length-map rows row_view);
-  shares = λ w lt. split_end n first lists (map row_view rows) (reverse (answers_of replies)) split w lt ∙ ap (own_answers n w (map row_view rows)) (sym (map-reverse answer_of replies));
+  one_each = length-map (reverse replies) answer_of ∙ length-reverse replies ∙ size;
+  shares = λ w lt. split_end n first lists rows (reverse (answers_of replies)) split w lt ∙ ap (own_answers n w rows) (sym (map-reverse answer_of replies));
 }

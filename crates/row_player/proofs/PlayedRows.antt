@@ -1,15 +1,14 @@
 -- Rows that are played.
-use Rattle.std.proofs.Common.{◌≡◌, ◌≢◌, ◌⊎◌, ◌<◌, ◌+◌, ◌∙◌, ◌++◌, ◌∷◌, [], ℕ, List, ap, arith, get_or, inl, inr, length, map, IfOk, Option, Some, None, Result, Ok, Err, refl, sym, take}
-use Rattle.std.proofs.lemmas.List.{map-append, take_more}
+use Rattle.std.proofs.Common.{◌≡◌, ◌≢◌, ◌⊎◌, ◌<◌, ◌+◌, ◌∙◌, ◌++◌, ◌∷◌, [], ℕ, List, ap, arith, inl, inr, length, IfOk, Option, Some, None, Result, Ok, Err, refl, sym, take}
+use Rattle.std.proofs.lemmas.List.{take_more}
 use Rattle.blob_digest.specs.declared.refusal.Refusal.{Refusal}
 use Rattle.blob_digest.specs.declared.refusal.Refusal.TheVariants.{Memory}
 use Rattle.row_player.specs.Answers.{Answer, Bytes, Refused}
 use Rattle.row_player.specs.Commands.{Calls, Command, Request, Lease, Sweeps, Verifies, command_of}
 use Rattle.row_player.specs.Leases.{Leases, Lent}
-use Rattle.row_player.specs.RowViews.{row_view}
+use Rattle.row_player.specs.RowViews.{IsRowAt}
 use Rattle.row_player.specs.Plays.{LendsWhereFree, Plays, RowStep, State, StepOf, VerifiesLease, named}
 use Rattle.row_player.specs.Rows.{RowView}
-use Rattle.row_player.specs.declared.row.Row.{Row}
 use Rattle.row_player.specs.declared.row.Verb.TheVariants as verb
 
 -- a store refuses a lease, or memory runs out
@@ -42,12 +41,8 @@ one_each acts old new (l ∷ ls) [] h = absurd h
 one_each acts old new (l ∷ ls) (r ∷ rs) h = let rest = one_each acts h.0 new ls rs h.3 in omega (arith, rest)
 
 -- the rows so far, and one more
-pub lines_more : (rows : List Row) (i : ℕ) (row : Row) → i < length rows → row ≡ get_or rows i row
-    → map row_view (take (i + 1) rows) ≡ map row_view (take i rows) ++ row_view row ∷ []
-lines_more rows i row within is =
-    ap (map row_view) (take_more rows i row within)
-    ∙ map-append row_view (take i rows) (get_or rows i row ∷ [])
-    ∙ ap (λ r. map row_view (take i rows) ++ row_view r ∷ []) (sym is)
+pub rows_more : (rows : List RowView) (i : ℕ) (row : RowView) → i < length rows → IsRowAt rows i row → take (i + 1) rows ≡ take i rows ++ row ∷ []
+rows_more rows i row within is = take_more rows i row within ∙ ap (λ r. take i rows ++ r ∷ []) (sym is)
 
 -- ---- what is played on may show less of itself
 

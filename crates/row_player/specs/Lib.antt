@@ -5,6 +5,7 @@ pub mod Commands
 pub mod Counts
 pub mod LeaseTables
 pub mod Leases
+pub mod RowPlaces
 pub mod RowViews
 pub mod Plays
 pub mod Replies

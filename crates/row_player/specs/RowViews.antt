@@ -1,6 +1,15 @@
 -- A row as contracts see it, without where its bytes lie.
+use Rattle.std.specs.Prelude.{◌≡◌, ℕ, List, get_or}
 use Rattle.row_player.specs.Rows.{RowView}
 use Rattle.row_player.specs.declared.row.Row.{Row}
+use Rattle.row_player.specs.declared.row.BorrowedRow.{BorrowedRow}
 
 abbrev pub row_view : Row → RowView
 row_view r = record { lane = r.lane; verb = r.verb; repo = r.repo.items; key = r.key.items; digest = r.digest.items; range = r.range.items; body = r.body.items }
+
+abbrev pub borrowed_view : BorrowedRow → RowView
+borrowed_view r = record { lane = r.lane; verb = r.verb; repo = r.repo.now; key = r.key.now; digest = r.digest.now; range = r.range.now; body = r.body.now }
+
+-- a list has this row at this place, counted from 0
+abbrev pub IsRowAt : List RowView → ℕ → RowView → Type 0
+IsRowAt rows place row = row ≡ get_or rows place row

@@ -3,10 +3,10 @@ ghost use Rattle.std.specs.Prelude.{◌≡◌, true, IsSome, Some};
 ghost use Rattle.blob_digest.specs.Outcomes.{Answers};
 ghost use Rattle.row_player.specs.CommandViews.{command_view};
 ghost use Rattle.row_player.specs.Commands.{command_from, command_of, digest_in, is_command, range_in, repo_in, source_in, uses_session};
-ghost use Rattle.row_player.specs.RowViews.{row_view};
+ghost use Rattle.row_player.specs.RowViews.{borrowed_view};
 
 use crate::fields::session;
-use crate::row::{Row, Verb};
+use crate::row::{BorrowedRow, Verb};
 use blob_digest::{ByteRange, Digest, Refusal, RepoName};
 use std::alloc::Global;
 
@@ -205,20 +205,20 @@ pub fn command_from<'r>(
 
 /// The command that a row spells. Refused is the first of its fields, in the order repository, source,
 /// digest and range, that spells nothing.
-pub fn command_in<'r>(alloc: Global, row: &'r Row) -> Result<Command<'r>, Refusal>
+pub fn command_in<'r>(alloc: Global, row: &BorrowedRow<'r>) -> Result<Command<'r>, Refusal>
     requires { is_command row.now.verb ≡ true }
-    ensures { Answers (λ c. Some (command_view c)) result (command_of (row_view row.now)) }
+    ensures { Answers (λ c. Some (command_view c)) result (command_of (borrowed_view row.now)) }
 {
     command_from(
         alloc,
         row.verb,
         Fields {
-            repo: row.repo.as_slice(),
-            source: row.key.as_slice(),
-            digest: row.digest.as_slice(),
-            range: range_in(row.range.as_slice()),
-            number: session(row.key.as_slice()),
-            body: row.body.as_slice(),
+            repo: row.repo,
+            source: row.key,
+            digest: row.digest,
+            range: range_in(row.range),
+            number: session(row.key),
+            body: row.body,
         },
     )
 }

@@ -2,11 +2,10 @@
 ghost use Rattle.std.specs.Prelude.{ℕ, ◌<◌, ◌≤◌, ◌≡◌, [], get_or, length, map, vec_capacity};
 ghost use Rattle.std.specs.Option.{option_map};
 ghost use Rattle.row_player.specs.Answers.{answer_of, answers_of};
-ghost use Rattle.row_player.specs.RowViews.{row_view};
 ghost use Rattle.row_player.specs.Shares.{AreTogether, TakesLast, own_rows};
 
 use crate::reply::Reply;
-use crate::row::Row;
+use crate::row_list::RowList;
 
 /// The last reply of a worker that is not taken yet.
 fn take_last(lists: &mut Vec<Vec<Reply>>, worker: usize) -> Option<Reply>
@@ -19,18 +18,22 @@ fn take_last(lists: &mut Vec<Vec<Reply>>, worker: usize) -> Option<Reply>
 
 /// The replies of several workers, one list for each in the order of their numbers, as one list in the order of the
 /// rows. Each worker has one reply for each row of its lanes. It takes no memory: the list to fill has room.
-pub fn in_row_order(rows: &[Row], mut lists: Vec<Vec<Reply>>, mut merged: Vec<Reply>) -> Vec<Reply>
+pub fn in_row_order<L: RowList>(
+    rows: &L,
+    mut lists: Vec<Vec<Reply>>,
+    mut merged: Vec<Reply>,
+) -> Vec<Reply>
     requires some { 0 < length lists.items }
-    requires whole { (w : ℕ) → w < length lists.items → length (get_or (map (λ v. answers_of v.items) lists.items) w []) ≡ length (own_rows (length lists.items) w (map row_view rows.now)) }
+    requires whole { (w : ℕ) → w < length lists.items → length (get_or (map (λ v. answers_of v.items) lists.items) w []) ≡ length (own_rows (length lists.items) w (L.lines rows.now)) }
     requires empty { merged.items ≡ [] }
-    requires room { length rows.now ≤ vec_capacity merged }
-    ensures { AreTogether (length lists.items) (map row_view rows.now) (λ w. get_or (map (λ v. answers_of v.items) lists.items) w []) (answers_of result.items) }
+    requires room { length (L.lines rows.now) ≤ vec_capacity merged }
+    ensures { AreTogether (length lists.items) (L.lines rows.now) (λ w. get_or (map (λ v. answers_of v.items) lists.items) w []) (answers_of result.items) }
 {
     let workers = lists.len();
     let mut place = rows.len();
     while place > 0 {
         place -= 1;
-        let worker = rows[place].lane as usize % workers;
+        let worker = rows.row(place).lane as usize % workers;
         match take_last(&mut lists, worker) {
             Some(reply) => merged.push_reserved(reply),
             None => unreachable!(),

@@ -1,9 +1,9 @@
 //! Plays the rows of a script.
-ghost use Rattle.std.specs.Prelude.{◌≡◌, ◌≢◌, ◌⊎◌, ◌++◌, ◌∷◌, [], ◌≤◌, ◌<◌, ◌^◌, true, Some, None, IfOk, IfErr, OnOk, MatchResult, IsTrue, ◌↔◌, length, map, vec_capacity, vec_len};
+ghost use Rattle.std.specs.Prelude.{◌≡◌, ◌≢◌, ◌⊎◌, ◌++◌, ◌∷◌, [], ◌≤◌, ◌<◌, ◌^◌, true, Some, None, IfOk, IfErr, OnOk, MatchResult, IsTrue, ◌↔◌, length, vec_capacity, vec_len};
 ghost use Rattle.row_player.specs.Answers.{answer_of, answers_of, Refused};
 ghost use Rattle.row_player.specs.Commands.{is_command};
 ghost use Rattle.row_player.specs.Leases.{Leases as LeasesView, none};
-ghost use Rattle.row_player.specs.RowViews.{row_view};
+ghost use Rattle.row_player.specs.RowViews.{borrowed_view};
 ghost use Rattle.row_player.specs.Plays.{AnswersCall, AnswersRead, AnswersRow, Plays, RowStep, piece_of};
 ghost use Rattle.row_player.specs.Shares.{own_rows};
 ghost use Rattle.row_player.specs.declared.reply.Reply.{Reply};
@@ -13,16 +13,21 @@ use crate::command::{command_in, digest_in, repo_in};
 use crate::gate::{Gate, OpenGate};
 use crate::leases::{Leases, lend, verify};
 use crate::reply::Reply;
-use crate::row::{Row, Verb};
+use crate::row::{BorrowedRow, Verb};
+use crate::row_list::RowList;
 use crate::worker::Worker;
 use blob_digest::{ByteRange, Refusal};
 use std::alloc::Global;
 
 /// Plays a row that spells a command.
 #[tactic(auto, using(crate::proofs::Spellings::no_lease))]
-fn play_command<B: Backend>(alloc: Global, backend: &mut B, row: &Row) -> Result<Reply, Refusal>
+fn play_command<B: Backend>(
+    alloc: Global,
+    backend: &mut B,
+    row: &BorrowedRow<'_>,
+) -> Result<Reply, Refusal>
     requires { is_command row.now.verb ≡ true }
-    ensures { AnswersCall B.acts backend.old (row_view row.now) result backend.new }
+    ensures { AnswersCall B.acts backend.old (borrowed_view row.now) result backend.new }
 {
     let command = command_in(alloc, row)?;
     backend.call(&command)
@@ -34,14 +39,14 @@ fn play_lease<'r, B: Backend>(
     alloc: Global,
     backend: &mut B,
     leases: &mut Leases<'r, B>,
-    row: &'r Row,
+    row: &BorrowedRow<'r>,
 ) -> Result<Reply, Refusal>
     requires { row.now.verb ≡ Verb.Lease }
-    ensures { AnswersRow B.acts (backend.old, leases.old) (row_view row.now) result (backend.new, leases.new) }
+    ensures { AnswersRow B.acts (backend.old, leases.old) (borrowed_view row.now) result (backend.new, leases.new) }
 {
-    let repo = repo_in(alloc, row.repo.as_slice())?;
-    let digest = digest_in(row.digest.as_slice())?;
-    let name = (row.lane, row.key.as_slice());
+    let repo = repo_in(alloc, row.repo)?;
+    let digest = digest_in(row.digest)?;
+    let name = (row.lane, row.key);
     if leases.get(name).is_some() {
         return Ok(Reply::NameTaken);
     }
@@ -64,13 +69,16 @@ fn piece_in(text: &[u8]) -> Result<(u64, u64), Refusal>
 }
 
 /// Plays a row that reads a piece of a leased blob.
-fn play_read<'r, B: Backend>(leases: &Leases<'r, B>, row: &'r Row) -> Result<Reply, Refusal>
-    ensures { AnswersRead leases.now (row_view row.now) result }
+fn play_read<'r, B: Backend>(
+    leases: &Leases<'r, B>,
+    row: &BorrowedRow<'r>,
+) -> Result<Reply, Refusal>
+    ensures { AnswersRead leases.now (borrowed_view row.now) result }
 {
-    let Some(held) = leases.get((row.lane, row.key.as_slice())) else {
+    let Some(held) = leases.get((row.lane, row.key)) else {
         return Ok(Reply::NoLease);
     };
-    let (start, end) = piece_in(row.range.as_slice())?;
+    let (start, end) = piece_in(row.range)?;
     let piece = B::piece(held, start, end)?;
     Ok(Reply::Bytes(piece))
 }
@@ -80,15 +88,15 @@ fn play_row<'r, B: Backend>(
     alloc: Global,
     backend: &mut B,
     leases: &mut Leases<'r, B>,
-    row: &'r Row,
+    row: &BorrowedRow<'r>,
 ) -> Result<Reply, Refusal>
-    ensures { AnswersRow B.acts (backend.old, leases.old) (row_view row.now) result (backend.new, leases.new) }
+    ensures { AnswersRow B.acts (backend.old, leases.old) (borrowed_view row.now) result (backend.new, leases.new) }
 {
-    let name = (row.lane, row.key.as_slice());
+    let name = (row.lane, row.key);
     match row.verb {
         Verb::Lease => play_lease(alloc, backend, leases, row),
         Verb::Read => play_read(leases, row),
-        Verb::Share => leases.share(name, (row.lane, row.body.as_slice())),
+        Verb::Share => leases.share(name, (row.lane, row.body)),
         Verb::Verify => Ok(verify(backend, leases, name)),
         Verb::GiveBack => Ok(leases.give_back(name)),
         Verb::Sweep => Ok(Reply::Swept(backend.sweep())),
@@ -102,9 +110,9 @@ pub fn act<'r, B: Backend>(
     alloc: Global,
     backend: &mut B,
     leases: &mut Leases<'r, B>,
-    row: &'r Row,
+    row: &BorrowedRow<'r>,
 ) -> Reply
-    ensures { ((answer_of result ≡ Refused Refusal.Memory) × (backend.new ≡ backend.old) × (leases.new ≡ leases.old)) ⊎ RowStep B.acts (backend.old, leases.old) (row_view row.now) (answer_of result) (backend.new, leases.new) }
+    ensures { ((answer_of result ≡ Refused Refusal.Memory) × (backend.new ≡ backend.old) × (leases.new ≡ leases.old)) ⊎ RowStep B.acts (backend.old, leases.old) (borrowed_view row.now) (answer_of result) (backend.new, leases.new) }
 {
     match play_row(alloc, backend, leases, row) {
         Ok(reply) => reply,
@@ -126,11 +134,11 @@ fn play_next<'r, B: Backend, G: Gate>(
     leases: &mut Leases<'r, B>,
     gate: &G,
     place: usize,
-    row: &'r Row,
+    row: &BorrowedRow<'r>,
     replies: &mut Vec<Reply>,
 ) -> Result<(), Refusal>
     requires room { vec_len replies.old < vec_capacity replies.old }
-    ensures played { OnOk result ((reply : Reply) × (replies.new.items ≡ replies.old.items ++ reply ∷ []) × (answer_of reply ≢ Refused Refusal.Memory) × RowStep B.acts (backend.old, leases.old) (row_view row.now) (answer_of reply) (backend.new, leases.new)) }
+    ensures played { OnOk result ((reply : Reply) × (replies.new.items ≡ replies.old.items ++ reply ∷ []) × (answer_of reply ≢ Refused Refusal.Memory) × RowStep B.acts (backend.old, leases.old) (borrowed_view row.now) (answer_of reply) (backend.new, leases.new)) }
     ensures room { vec_capacity replies.new ≡ vec_capacity replies.old }
     ensures refused { IfErr result (λ e. e ≡ Refusal.Memory) }
 {
@@ -146,24 +154,24 @@ fn play_next<'r, B: Backend, G: Gate>(
 
 /// Plays a worker's rows in their order with the leases that its lanes hold, and answers one reply for each. It ends
 /// at the first out of memory.
-fn play_own<'r, B: Backend, G: Gate>(
+fn play_own<'r, B: Backend, G: Gate, L: RowList>(
     alloc: Global,
     backend: &mut B,
     leases: &mut Leases<'r, B>,
     gate: &G,
-    rows: &'r [Row],
+    rows: &'r L,
     worker: Worker,
     mut replies: Vec<Reply>,
 ) -> Result<Vec<Reply>, Refusal>
     requires empty { replies.items ≡ [] }
-    requires room { length (own_rows worker.workers worker.number (map row_view rows.now)) ≤ vec_capacity replies }
-    ensures played { IfOk result (λ v. Plays B.acts (backend.old, leases.old) (own_rows worker.workers worker.number (map row_view rows.now)) (answers_of v.items) (backend.new, leases.new)) }
+    requires room { length (own_rows worker.workers worker.number (L.lines rows.now)) ≤ vec_capacity replies }
+    ensures played { IfOk result (λ v. Plays B.acts (backend.old, leases.old) (own_rows worker.workers worker.number (L.lines rows.now)) (answers_of v.items) (backend.new, leases.new)) }
     ensures refused { IfErr result (λ e. e ≡ Refusal.Memory) }
 {
     for place in 0..rows.len() {
-        let row = &rows[place];
-        if worker.plays(row) {
-            play_next(alloc, backend, leases, gate, place, row, &mut replies)?;
+        let row = rows.row(place);
+        if worker.plays(&row) {
+            play_next(alloc, backend, leases, gate, place, &row, &mut replies)?;
         }
     }
     Ok(replies)
@@ -172,17 +180,17 @@ fn play_own<'r, B: Backend, G: Gate>(
 /// Plays a worker's rows in their order, and answers one reply for each, in the list that is given, which has room for
 /// them (`Worker::room`). The gate is asked before and after each row. It ends at the first out of memory; the rows
 /// that were accepted before it stand. The leases that the worker's lanes still hold at the end are given back.
-pub fn play_rows<B: Backend, G: Gate>(
+pub fn play_rows<B: Backend, G: Gate, L: RowList>(
     alloc: Global,
     backend: &mut B,
     gate: &G,
-    rows: &[Row],
+    rows: &L,
     worker: Worker,
     replies: Vec<Reply>,
 ) -> Result<Vec<Reply>, Refusal>
     requires empty { replies.items ≡ [] }
-    requires room { length (own_rows worker.workers worker.number (map row_view rows.now)) ≤ vec_capacity replies }
-    ensures played { IfOk result (λ v. (left : LeasesView) × Plays B.acts (backend.old, none) (own_rows worker.workers worker.number (map row_view rows.now)) (answers_of v.items) (backend.new, left)) }
+    requires room { length (own_rows worker.workers worker.number (L.lines rows.now)) ≤ vec_capacity replies }
+    ensures played { IfOk result (λ v. (left : LeasesView) × Plays B.acts (backend.old, none) (own_rows worker.workers worker.number (L.lines rows.now)) (answers_of v.items) (backend.new, left)) }
     ensures refused { IfErr result (λ e. e ≡ Refusal.Memory) }
 {
     let mut leases = Leases::new(alloc);
@@ -194,14 +202,18 @@ pub fn play_rows<B: Backend, G: Gate>(
 /// Plays all rows in their order, and answers one reply for each. It ends at the first out of
 /// memory; the rows that were accepted before it stand. The leases that the lanes still hold at the
 /// end are given back.
-pub fn play<B: Backend>(alloc: Global, backend: &mut B, rows: &[Row]) -> Result<Vec<Reply>, Refusal>
-    ensures played { IfOk result (λ replies. (left : LeasesView) × Plays B.acts (backend.old, none) (map row_view rows.now) (answers_of replies.items) (backend.new, left)) }
+pub fn play<B: Backend, L: RowList>(
+    alloc: Global,
+    backend: &mut B,
+    rows: L,
+) -> Result<Vec<Reply>, Refusal>
+    ensures played { IfOk result (λ replies. (left : LeasesView) × Plays B.acts (backend.old, none) (L.lines rows) (answers_of replies.items) (backend.new, left)) }
     ensures refused { IfErr result (λ e. e ≡ Refusal.Memory) }
 {
     let worker = Worker {
         workers: 1,
         number: 0,
     };
-    let replies = worker.room(alloc, rows)?;
-    play_rows(alloc, backend, &OpenGate, rows, worker, replies)
+    let replies = worker.room(alloc, &rows)?;
+    play_rows(alloc, backend, &OpenGate, &rows, worker, replies)
 }

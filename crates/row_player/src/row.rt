@@ -60,3 +60,23 @@ pub struct Row {
     pub body: Vec<u8>,
     pub ghost fit: { fits verb repo.items key.items digest.items range.items body.items ≡ true },
 }
+
+/// A row of a list that keeps its fields. They are those of `Row`.
+#[derive(Clone, Copy, Debug)]
+pub struct BorrowedRow<'r> {
+    /// The lane that plays the row.
+    pub lane: u8,
+    /// The command.
+    pub verb: Verb,
+    /// A repository's name.
+    pub repo: &'r [u8],
+    /// The number of a session, the source of a mount or the name of a lease.
+    pub key: &'r [u8],
+    /// A digest's text.
+    pub digest: &'r [u8],
+    /// The text of a byte range.
+    pub range: &'r [u8],
+    /// The bytes of a chunk or of a manifest; for a share the name of the second lease.
+    pub body: &'r [u8],
+    pub ghost fit: { fits verb repo.now key.now digest.now range.now body.now ≡ true },
+}

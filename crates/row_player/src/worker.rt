@@ -1,10 +1,11 @@
 //! Which rows a worker plays.
-ghost use Rattle.std.specs.Prelude.{◌≡◌, ◌≤◌, ◌<◌, [], IfErr, IfOk, length, map, vec_capacity};
-ghost use Rattle.row_player.specs.RowViews.{row_view};
+ghost use Rattle.std.specs.Prelude.{◌≡◌, ◌≤◌, ◌<◌, [], IfErr, IfOk, length, vec_capacity};
+ghost use Rattle.row_player.specs.RowViews.{borrowed_view};
 ghost use Rattle.row_player.specs.Shares.{is_own, own_rows};
 
 use crate::reply::Reply;
-use crate::row::Row;
+use crate::row::BorrowedRow;
+use crate::row_list::RowList;
 use blob_digest::Refusal;
 use std::alloc::Global;
 
@@ -21,23 +22,29 @@ pub struct Worker {
 
 impl Worker {
     /// Whether a row is this worker's.
-    pub fn plays(&self, row: &Row) -> bool
-        ensures { result ≡ is_own self.now.workers self.now.number (row_view row.now) }
+    pub fn plays(&self, row: &BorrowedRow<'_>) -> bool
+        ensures { result ≡ is_own self.now.workers self.now.number (borrowed_view row.now) }
     {
         row.lane as usize % self.workers == self.number
     }
 
     /// How many of the rows are this worker's.
-    pub fn count(&self, rows: &[Row]) -> usize
-        ensures { result ≡ length (own_rows self.now.workers self.now.number (map row_view rows.now)) }
+    pub fn count<L: RowList>(&self, rows: &L) -> usize
+        ensures { result ≡ length (own_rows self.now.workers self.now.number (L.lines rows.now)) }
     {
-        rows.iter().filter(|row| self.plays(row)).count()
+        let mut count = 0;
+        for place in 0..rows.len() {
+            if self.plays(&rows.row(place)) {
+                count += 1;
+            }
+        }
+        count
     }
 
     /// A list without replies that has room for those of this worker's rows. Refused with `Memory` alone.
-    pub fn room(&self, alloc: Global, rows: &[Row]) -> Result<Vec<Reply>, Refusal>
+    pub fn room<L: RowList>(&self, alloc: Global, rows: &L) -> Result<Vec<Reply>, Refusal>
         ensures empty { IfOk result (λ v. v.items ≡ []) }
-        ensures room { IfOk result (λ v. length (own_rows self.now.workers self.now.number (map row_view rows.now)) ≤ vec_capacity v) }
+        ensures room { IfOk result (λ v. length (own_rows self.now.workers self.now.number (L.lines rows.now)) ≤ vec_capacity v) }
         ensures refused { IfErr result (λ e. e ≡ Refusal.Memory) }
     {
         let replies = Vec::with_capacity(alloc, self.count(rows))?;

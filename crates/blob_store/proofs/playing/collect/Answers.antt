@@ -5,14 +5,13 @@ use Rattle.blob_store.specs.Workers.{AllAt, ArePlayed, HasPlayed}
 use Rattle.blob_store.proofs.Places.{at_first, at_last}
 use Rattle.blob_store.proofs.Settlings.{played_more}
 use Rattle.row_player.specs.Answers.{answers_of}
-use Rattle.row_player.specs.RowViews.{row_view}
 use Rattle.blob_store.proofs.playing.collect.Goals as goal
 
 pub loop-outcome-preserved : goal.loop-outcome-preserved
 loop-outcome-preserved g c =
     let was = c.loop-outcome.invariant in
     let n = c.args.workers in
-    let lines = map row_view c.args.rows.now in
+    let lines = g.L.RowList.lines c.args.rows.now in
     let all = vec_len c.args.outcomes in
     let each = subst (AllAt (λ k o. (w : ℕ) → w + k + 1 ≡ all → o.completed ≡ true → HasPlayed g.S.Naming.names.opening n w lines o.desk (answers_of o.replies.items))) c.in-Some.ensures.items was.each in
     let count = c.in-Some.ensures.len in

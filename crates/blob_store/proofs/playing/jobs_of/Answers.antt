@@ -1,11 +1,10 @@
-use Rattle.std.proofs.Common.{◌≡◌, ◌≤◌, ◌∙◌, [], ap, arith, length, map, refl, subst, sym, vec_capacity}
+use Rattle.std.proofs.Common.{◌≡◌, ◌≤◌, ◌∙◌, [], ap, arith, length, refl, subst, sym, vec_capacity}
 use Rattle.locked_book.specs.History.{AreFresh}
 use Rattle.blob_store.specs.Seats.{work_of}
 use Rattle.blob_store.specs.Workers.{AllAt, IsReady, IsWorkerAt}
 use Rattle.blob_store.proofs.Settlings.{fresh_work}
 use Rattle.blob_store.proofs.Places.{at_first, at_last, at_pushed}
 use Rattle.locked_book.proofs.Sums.{fresh_left}
-use Rattle.row_player.specs.RowViews.{row_view}
 use Rattle.row_player.specs.Shares.{own_rows}
 use Rattle.blob_store.proofs.playing.jobs_of.Goals as goal
 
@@ -13,7 +12,7 @@ pub loop-desk-preserved : goal.loop-desk-preserved
 loop-desk-preserved g c =
     let was = c.loop-desk.invariant in
     let n = c.len-workers.result in
-    let lines = map row_view c.args.rows.now in
+    let lines = g.L.RowList.lines c.args.rows.now in
     let left = fresh_left c.pop.new.self.items c.in-Some.desk (subst AreFresh c.in-Some.ensures.items was.fresh) in
     let lists = subst (AllAt (λ w v. (v.items ≡ []) × (length (own_rows n w lines) ≤ vec_capacity v))) c.in-Some-pop.ensures.items was.lists in
     let mine = at_last (λ w v. (v.items ≡ []) × (length (own_rows n w lines) ≤ vec_capacity v)) c.pop-in-Some.new.self.items c.in-Some-pop.replies lists in

@@ -1,13 +1,12 @@
-use Rattle.std.proofs.Common.{◌∙◌, map, subst, sym}
+use Rattle.std.proofs.Common.{◌∙◌, subst, sym}
 use Rattle.blob_store.specs.Workers.{HavePlayed}
 use Rattle.blob_store.proofs.Settlings.{are_settled, each_played}
 use Rattle.row_player.specs.Answers.{answers_of}
-use Rattle.row_player.specs.RowViews.{row_view}
 use Rattle.blob_store.proofs.playing.play.Goals as goal
 
 pub returns-in-Some-clause-each : goal.returns-in-Some-clause-each
 returns-in-Some-clause-each g c =
-    let lines = map row_view c.args.rows.now in
+    let lines = g.L.RowList.lines c.args.rows in
     let desks = c.play_at-played.new.desks.items in
     let answers = answers_of c.in-Some.replies.items in
     let have = subst (λ m. HavePlayed g.S.Naming.names.opening m lines desks answers) c.in_ok-desks.ensures.made.0 c.in-Some.ensures in
@@ -15,7 +14,7 @@ returns-in-Some-clause-each g c =
 
 pub returns-in-Some-clause-settled : goal.returns-in-Some-clause-settled
 returns-in-Some-clause-settled g c =
-    let lines = map row_view c.args.rows.now in
+    let lines = g.L.RowList.lines c.args.rows in
     let desks = c.play_at-played.new.desks.items in
     let answers = answers_of c.in-Some.replies.items in
     let have = subst (λ m. HavePlayed g.S.Naming.names.opening m lines desks answers) c.in_ok-desks.ensures.made.0 c.in-Some.ensures in

@@ -4,20 +4,19 @@ use Rattle.std.proofs.lemmas.List.{length-map}
 use Rattle.blob_store.specs.Workers.{AllAt, HasPlayed, HavePlayed}
 use Rattle.blob_store.proofs.Settlings.{whole_lists}
 use Rattle.row_player.specs.Answers.{answers_of}
-use Rattle.row_player.specs.RowViews.{row_view}
 use Rattle.row_player.specs.Shares.{AreTogether, own_rows}
 use Rattle.blob_store.proofs.playing.play_at.Goals as goal
 
 pub collect-ended-requires-clause-each : goal.collect-ended-requires-clause-each
 collect-ended-requires-clause-each g c =
     let jobs : vec_len c.jobs_of-jobs.result ≡ c.len-workers.result = c.jobs_of-jobs.ensures.len ∙ sym c.len-workers.ensures in
-    subst (λ m. AllAt (λ k o. (w : ℕ) → w + k + 1 ≡ vec_len c.play_all-outcomes.result.outcomes → o.completed ≡ true → HasPlayed g.S.Naming.names.opening m w (map row_view c.args.rows.now) o.desk (answers_of o.replies.items)) c.play_all-outcomes.result.outcomes.items) jobs c.play_all-outcomes.ensures.each
+    subst (λ m. AllAt (λ k o. (w : ℕ) → w + k + 1 ≡ vec_len c.play_all-outcomes.result.outcomes → o.completed ≡ true → HasPlayed g.S.Naming.names.opening m w (g.L.RowList.lines c.args.rows.now) o.desk (answers_of o.replies.items)) c.play_all-outcomes.result.outcomes.items) jobs c.play_all-outcomes.ensures.each
 
 pub in_row_order-requires-clause-whole : goal.in_row_order-requires-clause-whole
 in_row_order-requires-clause-whole g c =
     let n = c.len-workers.result in
     let lists = c.collect-ended.new.lists in
-    let lines = map row_view c.args.rows.now in
+    let lines = g.L.RowList.lines c.args.rows.now in
     let none = eqb-true (vec_len c.play_all-outcomes.result.unstarted) 0 (sym c.is_empty-started.ensures ∙ c.if-started.true) in
     let size : length lists.items ≡ n = omega (arith, none, lists.ok.0, c.collect-ended.ensures.len.1, c.play_all-outcomes.ensures.len, c.jobs_of-jobs.ensures.len, c.len-workers.ensures) in
     let shown = map (λ v. answers_of v.items) lists.items in
@@ -29,7 +28,7 @@ returns-then-ended g c =
     let n = c.len-workers.result in
     let lists = c.collect-ended.new.lists in
     let desks = c.collect-ended.new.desks in
-    let lines = map row_view c.args.rows.now in
+    let lines = g.L.RowList.lines c.args.rows.now in
     let answers = answers_of c.in_row_order.result.items in
     let none = eqb-true (vec_len c.play_all-outcomes.result.unstarted) 0 (sym c.is_empty-started.ensures ∙ c.if-started.true) in
     let size : length lists.items ≡ n = omega (arith, none, lists.ok.0, c.collect-ended.ensures.len.1, c.play_all-outcomes.ensures.len, c.jobs_of-jobs.ensures.len, c.len-workers.ensures) in

@@ -1,8 +1,7 @@
-use Rattle.std.proofs.Common.{◌≡◌, ◌+◌, ◌∙◌, ℕ, arith, length, map, rules, subst, sym, true, vec_len}
+use Rattle.std.proofs.Common.{◌≡◌, ◌+◌, ◌∙◌, ℕ, arith, length, rules, subst, sym, true, vec_len}
 use Rattle.blob_store.specs.Workers.{AllAt, HasPlayed}
 use Rattle.blob_store.proofs.Places.{at_first, at_last, at_pushed}
 use Rattle.row_player.specs.Answers.{answers_of}
-use Rattle.row_player.specs.RowViews.{row_view}
 use Rattle.blob_store.proofs.workers.join_all.Goals as goal
 
 pub loop-child-preserved : goal.loop-child-preserved
@@ -10,13 +9,13 @@ loop-child-preserved g c =
     let was = c.loop-child.invariant in
     let n = c.args.workers in
     let rows = c.args.rows.now in
-    let lines = map row_view rows in
+    let lines = g.L.RowList.lines rows in
     let left = c.pop.new.self in
     let done = c.join.result in
     let children = subst (AllAt (λ w h. (h.promise.rows.now ≡ rows) × (h.promise.worker.workers ≡ n) × (h.promise.worker.number ≡ w + 1))) c.in-Some.ensures.items was.children in
     let here = at_last (λ w h. (h.promise.rows.now ≡ rows) × (h.promise.worker.workers ≡ n) × (h.promise.worker.number ≡ w + 1)) left.items c.in-Some.child children in
     let kept = c.join.ensures in
-    let of_rows = subst (λ r. done.completed ≡ true → HasPlayed g.S.Naming.names.opening c.in-Some.child.promise.worker.workers c.in-Some.child.promise.worker.number (map row_view r) done.desk (answers_of done.replies.items)) here.0 kept in
+    let of_rows = subst (λ r. done.completed ≡ true → HasPlayed g.S.Naming.names.opening c.in-Some.child.promise.worker.workers c.in-Some.child.promise.worker.number (g.L.RowList.lines r) done.desk (answers_of done.replies.items)) here.0 kept in
     let of_all = subst (λ k. done.completed ≡ true → HasPlayed g.S.Naming.names.opening k c.in-Some.child.promise.worker.number lines done.desk (answers_of done.replies.items)) here.1 of_rows in
     let of_one = subst (λ k. done.completed ≡ true → HasPlayed g.S.Naming.names.opening n k lines done.desk (answers_of done.replies.items)) here.2 of_all in
     let count = c.in-Some.ensures.len in
@@ -36,7 +35,7 @@ loop-child-preserved g c =
 pub returns : goal.returns
 returns g c =
     let n = c.args.workers in
-    let lines = map row_view c.args.rows.now in
+    let lines = g.L.RowList.lines c.args.rows.now in
     let first = c.args.first in
     let was = c.loop-child.invariant in
     let none : vec_len c.loop-child.children ≡ 0 = search rules in

@@ -1,10 +1,9 @@
-use Rattle.std.proofs.Common.{◌∙◌, ap, map, sym, subst}
+use Rattle.std.proofs.Common.{◌∙◌, ap, sym, subst}
 use Rattle.blob_store.specs.Seats.{SeatActs, WorkActs, work_of}
 use Rattle.blob_store.specs.Workers.{no_work}
 use Rattle.locked_book.specs.History.{IsPart}
 use Rattle.row_player.specs.Answers.{answers_of}
 use Rattle.row_player.specs.Leases.{none}
-use Rattle.row_player.specs.RowViews.{row_view}
 use Rattle.row_player.specs.Plays.{Plays}
 use Rattle.row_player.specs.Shares.{own_rows}
 use Rattle.row_player.proofs.PlayedRows.{plays_through}
@@ -12,7 +11,7 @@ use Rattle.blob_store.proofs.workers.work.Goals as goal
 
 pub returns-in-Ok : goal.returns-in-Ok
 returns-in-Ok g c = λ _.
-    let lines = own_rows c.args.job.worker.workers c.args.job.worker.number (map row_view c.args.rows.now) in
+    let lines = own_rows c.args.job.worker.workers c.args.job.worker.number (g.L.RowList.lines c.args.rows.now) in
     let answers = answers_of c.in-Ok.replies.items in
     let played = c.in-Ok.ensures.played in
     let new = c.play_rows-played.new.backend in

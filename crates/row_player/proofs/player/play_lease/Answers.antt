@@ -3,7 +3,7 @@ use Rattle.std.proofs.lemmas.Result.{err_from_is_err_and}
 use Rattle.blob_digest.specs.declared.refusal.Refusal.TheVariants.{Memory}
 use Rattle.row_player.specs.Answers.{Refused}
 use Rattle.row_player.specs.Commands.{Calls, Lease, digest_in, repo_in}
-use Rattle.row_player.specs.RowViews.{row_view}
+use Rattle.row_player.specs.RowViews.{borrowed_view}
 use Rattle.row_player.specs.Plays.{named}
 use Rattle.row_player.specs.Rows.{RowView}
 use Rattle.row_player.proofs.PlayedRows.{lease_refused}
@@ -13,7 +13,7 @@ use Rattle.row_player.proofs.player.play_lease.Goals as goal
 pub returns-in_err-size : goal.returns-in_err-size
 returns-in_err-size g c =
     let p = err_from_is_err_and c.from_residual-in_err-size.result c.from_residual-in_err-size.ensures.1 in
-    let line : RowView = row_view c.args.row.now in
+    let line : RowView = borrowed_view c.args.row.now in
     let repo : repo_in line.repo ≡ Ok c.in_ok-repo.repo = search rules in
     let digest : digest_in line.digest ≡ Ok c.in_ok-digest.digest = search rules in
     let spells = lease_spelled line c.in_ok-repo.repo c.in_ok-digest.digest c.requires repo digest in

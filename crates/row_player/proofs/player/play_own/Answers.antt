@@ -1,7 +1,7 @@
-use Rattle.std.proofs.Common.{◌≡◌, ◌+◌, ◌∙◌, ◌∷◌, [], ap, arith, false, length, length-append, map, rules, sym, take, true, vec_len}
+use Rattle.std.proofs.Common.{◌≡◌, ◌+◌, ◌<◌, ◌∙◌, ◌∷◌, [], ap, arith, false, length, length-append, rules, sym, take, true, vec_len}
 use Rattle.std.proofs.lemmas.List.{length-map, map-append}
 use Rattle.row_player.specs.Answers.{answer_of, answers_of}
-use Rattle.row_player.specs.RowViews.{row_view}
+use Rattle.row_player.specs.RowViews.{borrowed_view}
 use Rattle.row_player.specs.Shares.{is_own, own_rows}
 use Rattle.row_player.proofs.PlayedRows.{one_each, one_played}
 use Rattle.row_player.proofs.WorkerRows.{own_less, own_more, own_within}
@@ -12,22 +12,26 @@ pub loop-place-preserved : goal.loop-place-preserved
 loop-place-preserved g c =
     let n = c.args.worker.workers in
     let k = c.args.worker.number in
-    let row = c.index-rows-place.result in
+    let row = borrowed_view c.row-row.result in
+    let rows = g.L.RowList.lines c.args.rows.now in
+    let place = c.loop-place.place in
     let inv = c.loop-place.invariant in
-    let so_far = own_rows n k (map row_view (take c.loop-place.place c.args.rows.now)) in
+    let within : place < length rows = rw (← c.len-place-end.ensures) c.loop-place-test.true in
+    let at = c.row-row.ensures in
+    let so_far = own_rows n k (take place rows) in
     elim c.if-plays.branch [
       | then-plays+in_ok-play_next w ↦
-          let own : is_own n k (row_view row) ≡ true = sym c.plays.ensures ∙ w.if-plays.true in
+          let own : is_own n k row ≡ true = sym c.plays.ensures ∙ w.if-plays.true in
           let next = w.in_ok-play_next.ensures.played in
-          let all = one_played g.B.Backend.acts (c.args.backend.now, c.args.leases.now) (c.loop-place.backend, c.loop-place.leases) (w.play_next.new.backend, w.play_next.new.leases) so_far (answers_of c.loop-place.replies.items) (row_view row) (answer_of next.0) inv.played next.3 next.2 in
+          let all = one_played g.B.Backend.acts (c.args.backend.now, c.args.leases.now) (c.loop-place.backend, c.loop-place.leases) (w.play_next.new.backend, w.play_next.new.leases) so_far (answers_of c.loop-place.replies.items) row (answer_of next.0) inv.played next.3 next.2 in
           record {
-            played = rw (w.backend-is, w.leases-is, w.replies-is, next.1, map-append answer_of c.loop-place.replies.items (next.0 ∷ []), own_more n k c.args.rows.now c.loop-place.place row c.loop-place-test.true c.index-rows-place.is own) all;
+            played = rw (w.backend-is, w.leases-is, w.replies-is, next.1, map-append answer_of c.loop-place.replies.items (next.0 ∷ []), own_more n k rows place row within at own) all;
             room = rw w.replies-is (w.play_next.ensures.room ∙ inv.room);
           }
       | else-plays w ↦
-          let other : is_own n k (row_view row) ≡ false = sym c.plays.ensures ∙ w.if-plays.false in
+          let other : is_own n k row ≡ false = sym c.plays.ensures ∙ w.if-plays.false in
           record {
-            played = rw (w.backend-is, w.leases-is, w.replies-is, own_less n k c.args.rows.now c.loop-place.place row c.loop-place-test.true c.index-rows-place.is other) inv.played;
+            played = rw (w.backend-is, w.leases-is, w.replies-is, own_less n k rows place row within at other) inv.played;
             room = rw w.replies-is inv.room;
           }
     ]
@@ -36,13 +40,14 @@ pub play_next-requires : goal.play_next-requires
 play_next-requires g c =
     let n = c.args.worker.workers in
     let k = c.args.worker.number in
-    let row = c.index-rows-place.result in
-    let rows = c.args.rows.now in
+    let row = borrowed_view c.row-row.result in
+    let rows = g.L.RowList.lines c.args.rows.now in
     let place = c.loop-place.place in
+    let fits : place < length rows = rw (← c.len-place-end.ensures) c.loop-place-test.true in
     let inv = c.loop-place.invariant in
-    let own : is_own n k (row_view row) ≡ true = sym c.plays.ensures ∙ c.if-plays.true in
-    let each = one_each g.B.Backend.acts _ _ (own_rows n k (map row_view (take place rows))) (answers_of c.loop-place.replies.items) inv.played in
-    let one = ap length (own_more n k rows place row c.loop-place-test.true c.index-rows-place.is own) ∙ length-append (own_rows n k (map row_view (take place rows))) (row_view row ∷ []) in
+    let own : is_own n k row ≡ true = sym c.plays.ensures ∙ c.if-plays.true in
+    let each = one_each g.B.Backend.acts _ _ (own_rows n k (take place rows)) (answers_of c.loop-place.replies.items) inv.played in
+    let one = ap length (own_more n k rows place row fits c.row-row.ensures own) ∙ length-append (own_rows n k (take place rows)) (row ∷ []) in
     let within = own_within n k rows (place + 1) in
     let size = length-map c.loop-place.replies.items answer_of in
     let len : length c.loop-place.replies.items ≡ vec_len c.loop-place.replies = search rules in

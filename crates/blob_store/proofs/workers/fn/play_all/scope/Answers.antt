@@ -1,14 +1,13 @@
-use Rattle.std.proofs.Common.{◌≡◌, ◌+◌, ◌∙◌, ℕ, ap, arith, length, map, rules, subst, sym, true, vec_capacity, vec_len}
+use Rattle.std.proofs.Common.{◌≡◌, ◌+◌, ◌∙◌, ℕ, ap, arith, length, rules, subst, sym, true, vec_capacity, vec_len}
 use Rattle.blob_store.specs.Workers.{AllAt, HasPlayed, IsReady, IsWorkerAt}
 use Rattle.blob_store.proofs.Places.{at_first, at_last, at_pushed}
 use Rattle.row_player.specs.Answers.{answers_of}
-use Rattle.row_player.specs.RowViews.{row_view}
 use Rattle.blob_store.proofs.workers.fn.play_all.scope.Goals as goal
 
 pub loop-job-init : goal.loop-job-init
 loop-job-init g c =
     let n = c.len-count.result in
-    let lines = map row_view c.captures.rows.now in
+    let lines = g.L.RowList.lines c.captures.rows.now in
     let given = subst (λ m. AllAt (λ k j. IsWorkerAt m k j.worker.workers j.worker.number × IsReady m j.worker.number lines j.desk j.replies.items (vec_capacity j.replies)) c.captures.jobs.items) (sym c.len-count.ensures) c.requires.ready in
     let jobs = subst (AllAt (λ k j. IsWorkerAt n k j.worker.workers j.worker.number × IsReady n j.worker.number lines j.desk j.replies.items (vec_capacity j.replies))) c.in-Some.ensures.items given in
     let none : vec_len c.in-Ok.children ≡ 0 = search rules in
@@ -26,7 +25,7 @@ pub loop-job-preserved : goal.loop-job-preserved
 loop-job-preserved g c =
     let was = c.loop-job.invariant in
     let n = c.len-count.result in
-    let lines = map row_view c.captures.rows.now in
+    let lines = g.L.RowList.lines c.captures.rows.now in
     let jobs = subst (AllAt (λ k j. IsWorkerAt n k j.worker.workers j.worker.number × IsReady n j.worker.number lines j.desk j.replies.items (vec_capacity j.replies))) c.in-Some-pop.ensures.items was.jobs in
     let mine = at_last (λ k j. IsWorkerAt n k j.worker.workers j.worker.number × IsReady n j.worker.number lines j.desk j.replies.items (vec_capacity j.replies)) c.pop-in-loop-job.new.self.items c.in-Some-pop.job jobs in
     let promised = c.in-Ok-spawn_with.ensures.ok in
@@ -48,7 +47,7 @@ loop-job-preserved g c =
 pub spawn_with-requires-clause-runs : goal.spawn_with-requires-clause-runs
 spawn_with-requires-clause-runs g c κs within =
     let n = c.len-count.result in
-    let lines = map row_view c.captures.rows.now in
+    let lines = g.L.RowList.lines c.captures.rows.now in
     let job = c.in-Some-pop.job in
     let jobs = subst (AllAt (λ k j. IsWorkerAt n k j.worker.workers j.worker.number × IsReady n j.worker.number lines j.desk j.replies.items (vec_capacity j.replies))) c.in-Some-pop.ensures.items c.loop-job.invariant.jobs in
     let mine = at_last (λ k j. IsWorkerAt n k j.worker.workers j.worker.number × IsReady n j.worker.number lines j.desk j.replies.items (vec_capacity j.replies)) c.pop-in-loop-job.new.self.items job jobs in
@@ -57,7 +56,7 @@ spawn_with-requires-clause-runs g c κs within =
 pub there-unplayed-requires : goal.there-unplayed-requires
 there-unplayed-requires g c κs within =
     let n = c.len-count.result in
-    let lines = map row_view c.captures.rows.now in
+    let lines = g.L.RowList.lines c.captures.rows.now in
     let jobs = subst (AllAt (λ k j. IsWorkerAt n k j.worker.workers j.worker.number × IsReady n j.worker.number lines j.desk j.replies.items (vec_capacity j.replies))) c.in-Some-pop.ensures.items c.loop-job.invariant.jobs in
     let mine = at_last (λ k j. IsWorkerAt n k j.worker.workers j.worker.number × IsReady n j.worker.number lines j.desk j.replies.items (vec_capacity j.replies)) c.pop-in-loop-job.new.self.items c.in-Some-pop.job jobs in
     let ready : IsReady c.in-Some-pop.job.worker.workers c.in-Some-pop.job.worker.number lines c.in-Some-pop.job.desk c.in-Some-pop.job.replies.items (vec_capacity c.in-Some-pop.job.replies) =
@@ -68,7 +67,7 @@ there-unplayed-requires g c κs within =
 pub work-first-requires : goal.work-first-requires
 work-first-requires g c =
     let n = c.len-count.result in
-    let lines = map row_view c.captures.rows.now in
+    let lines = g.L.RowList.lines c.captures.rows.now in
     let given = subst (λ m. AllAt (λ k j. IsWorkerAt m k j.worker.workers j.worker.number × IsReady m j.worker.number lines j.desk j.replies.items (vec_capacity j.replies)) c.captures.jobs.items) (sym c.len-count.ensures) c.requires.ready in
     let jobs = subst (AllAt (λ k j. IsWorkerAt n k j.worker.workers j.worker.number × IsReady n j.worker.number lines j.desk j.replies.items (vec_capacity j.replies))) c.in-Some.ensures.items given in
     let own = c.in-Some.own in
@@ -79,7 +78,7 @@ pub join_all-requires : goal.join_all-requires
 join_all-requires g c =
     let was = c.loop-job.invariant in
     let n = c.len-count.result in
-    let lines = map row_view c.captures.rows.now in
+    let lines = g.L.RowList.lines c.captures.rows.now in
     let given = subst (λ m. AllAt (λ k j. IsWorkerAt m k j.worker.workers j.worker.number × IsReady m j.worker.number lines j.desk j.replies.items (vec_capacity j.replies)) c.captures.jobs.items) (sym c.len-count.ensures) c.requires.ready in
     let jobs = subst (AllAt (λ k j. IsWorkerAt n k j.worker.workers j.worker.number × IsReady n j.worker.number lines j.desk j.replies.items (vec_capacity j.replies))) c.in-Some.ensures.items given in
     let own = c.in-Some.own in
@@ -99,5 +98,5 @@ join_all-requires g c =
 pub returns : goal.returns
 returns g c = record {
   len = search rules;
-  each = subst (λ m. AllAt (λ k o. (w : ℕ) → w + k + 1 ≡ vec_len c.join_all.result → o.completed ≡ true → HasPlayed g.S.Naming.names.opening m w (map row_view c.captures.rows.now) o.desk (answers_of o.replies.items)) c.join_all.result.items) c.len-count.ensures c.join_all.ensures.each;
+  each = subst (λ m. AllAt (λ k o. (w : ℕ) → w + k + 1 ≡ vec_len c.join_all.result → o.completed ≡ true → HasPlayed g.S.Naming.names.opening m w (g.L.RowList.lines c.captures.rows.now) o.desk (answers_of o.replies.items)) c.join_all.result.items) c.len-count.ensures c.join_all.ensures.each;
 }

@@ -1,0 +1,113 @@
+//! Rows whose fields lie in one text.
+ghost use Rattle.std.specs.Prelude.{[], ◌∷◌, ◌++◌, ◌≡◌, IfOk, OnErr, OnOk, length};
+ghost use Rattle.row_player.specs.RowPlaces.{Begins, IsWithin, row_in};
+ghost use Rattle.row_player.specs.RowViews.{borrowed_view};
+
+use crate::places::Places;
+use crate::row::BorrowedRow;
+use crate::row_list::RowList;
+use std::alloc::{AllocError, Global};
+use std::marker::Model;
+
+/// Rows whose fields' bytes lie in one text, one field behind the other. Contracts see the list of the rows.
+#[derive(Drop)]
+pub struct PackedRows {
+    text: Vec<u8>,
+    places: Vec<Places>,
+}
+
+impl Model for PackedRows {
+    ghost use Rattle.std.specs.Prelude.{List, map};
+    ghost use Rattle.std.specs.List.{All};
+    ghost use Rattle.row_player.specs.Rows.{RowView};
+    ghost use Rattle.row_player.specs.RowPlaces.{IsWithin, row_in};
+
+    ghost Value = { List RowView };
+
+    ghost view = { λ rows. map (row_in rows.text.items) rows.places.items };
+
+    ghost invariant = { λ rows. All (IsWithin rows.text.items) rows.places.items };
+}
+
+/// The place behind a text. Refused where the text is longer than 4,294,967,295 bytes.
+fn end_of(text: &Vec<u8>) -> Result<u32, AllocError>
+    ensures { IfOk result (λ end. end ≡ length text.now.items) }
+{
+    if text.len() > u32::MAX as usize {
+        return Err(AllocError);
+    }
+    Ok(text.len() as u32)
+}
+
+/// Adds the bytes of a field to a text, and answers where they end.
+fn add_field(text: &mut Vec<u8>, field: &[u8]) -> Result<u32, AllocError>
+    ensures kept { Begins text.old.items text.new.items }
+    ensures added { IfOk result (λ end. (text.new.items ≡ text.old.items ++ field.now) × (end ≡ length text.new.items)) }
+{
+    text.extend_from_slice(field)?;
+    end_of(text)
+}
+
+/// Adds the bytes of a row's fields to a text, and answers where they lie.
+fn add_fields(text: &mut Vec<u8>, row: &BorrowedRow<'_>) -> Result<Places, AllocError>
+    ensures kept { Begins text.old.items text.new.items }
+    ensures added { IfOk result (λ at. IsWithin text.new.items at × (row_in text.new.items at ≡ borrowed_view row.now)) }
+{
+    Ok(Places {
+        lane: row.lane,
+        verb: row.verb,
+        start: end_of(text)?,
+        repo: add_field(text, row.repo)?,
+        key: add_field(text, row.key)?,
+        digest: add_field(text, row.digest)?,
+        range: add_field(text, row.range)?,
+        body: add_field(text, row.body)?,
+    })
+}
+
+impl PackedRows {
+    /// No rows, with room for a text of so many bytes.
+    pub fn with_room(alloc: Global, bytes: usize) -> Result<PackedRows, AllocError>
+        ensures { IfOk result (λ rows. rows ≡ []) }
+    {
+        Ok(PackedRows {
+            text: Vec::with_capacity(alloc, bytes)?,
+            places: Vec::new(alloc),
+        })
+    }
+
+    /// Adds a row behind the others. Refused, with the rows as they were, where memory runs out or the fields of all rows
+    /// would be longer than 4,294,967,295 bytes together.
+    pub fn push(&mut self, row: &BorrowedRow<'_>) -> Result<(), AllocError>
+        ensures added { OnOk result (self.new ≡ self.old ++ borrowed_view row.now ∷ []) }
+        ensures same { OnErr result (self.new ≡ self.old) }
+    {
+        let places = add_fields(&mut self.text, row)?;
+        self.places.push(places)?;
+        Ok(())
+    }
+}
+
+impl<'a> RowList for &'a PackedRows {
+    ghost lines = { λ rows. rows.now };
+
+    fn len(&self) -> usize {
+        let rows = *self;
+        rows.places.len()
+    }
+
+    fn row(&self, place: usize) -> BorrowedRow<'_> {
+        let rows = *self;
+        let places = &rows.places[place];
+        let text = rows.text.as_slice();
+        BorrowedRow {
+            lane: places.lane,
+            verb: places.verb,
+            repo: &text[places.start as usize..places.repo as usize],
+            key: &text[places.repo as usize..places.key as usize],
+            digest: &text[places.key as usize..places.digest as usize],
+            range: &text[places.digest as usize..places.range as usize],
+            body: &text[places.range as usize..places.body as usize],
+        }
+    }
+}

@@ -1,0 +1,44 @@
+//! Lists of rows.
+ghost use Rattle.std.specs.Prelude.{◌<◌, ◌≡◌, List, length, map};
+ghost use Rattle.row_player.specs.RowViews.{IsRowAt, borrowed_view, row_view};
+ghost use Rattle.row_player.specs.Rows.{RowView};
+
+use crate::row::{BorrowedRow, Row};
+
+/// A list of rows that somebody else keeps, however their fields lie.
+pub trait RowList: Copy {
+    // The rows, as contracts see them.
+    ghost lines: { Self → List RowView };
+
+    /// How many rows there are.
+    fn len(&self) -> usize
+        ensures { result ≡ length (lines self.now) };
+
+    /// The row of a place, counted from 0.
+    fn row(&self, place: usize) -> BorrowedRow<'_>
+        requires { place < length (lines self.now) }
+        ensures { IsRowAt (lines self.now) place (borrowed_view result) };
+}
+
+impl<'a> RowList for &'a [Row] {
+    ghost lines = { λ rows. map row_view rows.now };
+
+    fn len(&self) -> usize {
+        let rows = *self;
+        rows.len()
+    }
+
+    fn row(&self, place: usize) -> BorrowedRow<'_> {
+        let rows = *self;
+        let row = &rows[place];
+        BorrowedRow {
+            lane: row.lane,
+            verb: row.verb,
+            repo: row.repo.as_slice(),
+            key: row.key.as_slice(),
+            digest: row.digest.as_slice(),
+            range: row.range.as_slice(),
+            body: row.body.as_slice(),
+        }
+    }
+}
