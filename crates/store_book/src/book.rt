@@ -340,6 +340,7 @@ impl Book {
         ensures slots { (self.new.table ≡ self.old.table) × (self.new.slots ≡ self.old.slots) }
     {
         let tenant = self.links.tenant(repo)?;
+        // What a manifest refers to is linked, so that this can be asked first, and the link found once.
         if let Some(manifest) = self.links.referrer(repo, digest) {
             return Err(Refusal::Referenced { manifest });
         }

@@ -1,5 +1,5 @@
 use Rattle.std.proofs.Common.{◌∙◌, ap, sym, set, is_some}
-use Rattle.std.specs.FinMap.{get, remove, contains_key}
+use Rattle.std.specs.FinMap.{remove, contains_key}
 use Rattle.blob_digest.proofs.KeyOrders.{link_cmp_total, exact_link}
 use Rattle.finite_maps.proofs.Parts.{remove_absent}
 use Rattle.link_table.specs.Linked.{Linked}
