@@ -141,7 +141,6 @@ some_row : (ts : List (String Global × ℕ)) → 0 < length ts → String Globa
 some_row [] some = absurd (omega arith)
 some_row (x ∷ ts) some = x
 
-
 -- two neighbours of one name
 abbrev pub HasNeighbours : List (String Global × ℕ) → Type 0
 HasNeighbours ts = (k : ℕ) × (k + 1 < length ts) × ((d : String Global × ℕ) → false ≡ is_lt (text_cmp (name_of (get_or ts k d)) (name_of (get_or ts (k + 1) d))))

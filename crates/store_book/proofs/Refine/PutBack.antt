@@ -15,7 +15,6 @@ use Rattle.finite_maps.proofs.Outcomes.{bound_ok, ok_pair}
 use Rattle.store_book.proofs.Layers.SessionCharges.{session_charged}
 use Rattle.store_model.proofs.Invariant.SessionTenants.{session_tenant}
 
-
 module _ (L : Layers) (h : Taken) where
   abbrev C : Catalog
   C = book_catalog L
