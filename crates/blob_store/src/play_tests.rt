@@ -335,9 +335,14 @@ pub fn plays_to_end<S: Naming + Send + Sync, W: Abort + AllocGlobal + Threads + 
     requires { names_of parts ≡ S.names }
 {
     let rows = rows_of(rt, LINES.as_slice());
-    let ended = play_to_end::<_, _, S>(rt, rt.alloc(), parts, rows.as_slice(), 2, &OpenGate).expect(
-        rt, "memory",
-    );
+    let ended = play_to_end::<_, _, S, _>(
+        rt,
+        rt.alloc(),
+        parts,
+        rows.as_slice(),
+        2,
+        &OpenGate,
+    ).expect(rt, "memory");
     let wanted = texts(rt, LINES.as_slice());
     expect_replies(rt, ended.replies.as_slice(), wanted.as_slice());
     let mut written: Vec<u8> = Vec::new(rt.alloc());

@@ -1,13 +1,12 @@
 //! The row that a record's fields spell.
-ghost use Rattle.std.specs.Prelude.{◌≡◌, IfOk, option_map};
+ghost use Rattle.std.specs.Prelude.{◌≡◌, option_map};
 ghost use Rattle.csv.specs.Records.{fields_of};
-ghost use Rattle.row_player.specs.RowViews.{row_view};
+ghost use Rattle.row_player.specs.RowViews.{borrowed_view};
 ghost use Rattle.blobctl.specs.Records.{field, head_of, lane_of, row_of, verb_of};
 
 use blob_digest::decimal;
 use csv::ByteRecord;
-use row_player::{Row, Verb, has_fields};
-use std::alloc::{AllocError, Global};
+use row_player::{BorrowedRow, Verb, has_fields};
 
 /// The command of a name.
 fn verb_named(name: &[u8]) -> Option<Verb>
@@ -82,26 +81,19 @@ fn head(fields: &ByteRecord) -> Option<(u8, Verb)>
 }
 
 /// The row of a record, or none where the record is bad.
-pub fn read_row(alloc: Global, fields: &ByteRecord) -> Result<Option<Row>, AllocError>
-    ensures { IfOk result (λ r. option_map row_view r ≡ row_of (fields_of fields.now)) }
+pub fn read_row(fields: &ByteRecord) -> Option<BorrowedRow<'_>>
+    ensures { option_map borrowed_view result ≡ row_of (fields_of fields.now) }
 {
-    let Some((lane, verb)) = head(fields) else {
-        return Ok(None);
-    };
+    let (lane, verb) = head(fields)?;
     let repo = field_at(fields, 2);
     let key = field_at(fields, 3);
     let digest = field_at(fields, 4);
     let range = field_at(fields, 5);
     let body = field_at(fields, 6);
     if !has_fields(verb, repo, key, digest, range, body) {
-        return Ok(None);
+        return None;
     }
-    let repo = Vec::from_slice(alloc, repo)?;
-    let key = Vec::from_slice(alloc, key)?;
-    let digest = Vec::from_slice(alloc, digest)?;
-    let range = Vec::from_slice(alloc, range)?;
-    let body = Vec::from_slice(alloc, body)?;
-    Ok(Some(Row {
+    Some(BorrowedRow {
         lane,
         verb,
         repo,
@@ -109,5 +101,5 @@ pub fn read_row(alloc: Global, fields: &ByteRecord) -> Result<Option<Row>, Alloc
         digest,
         range,
         body,
-    }))
+    })
 }

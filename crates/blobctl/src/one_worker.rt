@@ -1,8 +1,7 @@
 //! Rows played on a book that one thread has.
-ghost use Rattle.std.specs.Prelude.{◌≡◌, IfOk, IfErr, map};
+ghost use Rattle.std.specs.Prelude.{◌≡◌, IfOk, IfErr};
 ghost use Rattle.row_player.specs.Answers.{answers_of};
 ghost use Rattle.row_player.specs.Leases.{Leases as LeasesView, none};
-ghost use Rattle.row_player.specs.RowViews.{row_view};
 ghost use Rattle.blobctl.specs.Options.{IsWithin};
 ghost use Rattle.blobctl.specs.Played.{Acts, Leads};
 ghost use Rattle.row_player.specs.Plays.{Plays};
@@ -15,7 +14,7 @@ use crate::options::Options;
 use crate::pinned_book::PinnedBook;
 use blob_digest::Refusal;
 use pin_table::Pins;
-use row_player::{Reply, Row, play};
+use row_player::{PackedRows, Reply, play};
 use std::alloc::Global;
 use std::marker::{Brand, PhantomData};
 use store_book::{Book, PinsName};
@@ -25,11 +24,11 @@ fn play_on_book<N: PinsName>(
     alloc: Global,
     book: Book,
     pins: &Pins,
-    rows: &[Row],
+    rows: &PackedRows,
 ) -> Result<(Book, Vec<Reply>), Refusal>
     requires here { book.table ≡ N.table }
     requires there { pins.now ≡ N.table }
-    ensures played { IfOk result (λ p. (left : LeasesView) × Plays Acts (book, none) (map row_view rows.now) (answers_of p.1.items) (p.0, left)) }
+    ensures played { IfOk result (λ p. (left : LeasesView) × Plays Acts (book, none) rows.now (answers_of p.1.items) (p.0, left)) }
     ensures refused { IfErr result (λ e. e ≡ Refusal.Memory) }
 {
     let mut pinned: PinnedBook<'_, N> = PinnedBook {
@@ -51,11 +50,11 @@ fn play_on_book<N: PinsName>(
 pub fn play_by_one(
     alloc: Global,
     options: &Options,
-    rows: &[Row],
+    rows: &PackedRows,
 ) -> Result<(Book, Vec<Reply>), Refusal>
     requires within { IsWithin options.now }
     requires few { length rows.now ≤ max_rows }
-    ensures played { IfOk result (λ p. (first : Catalog) × (left : LeasesView) × OpensCatalog (tenants_shown options.now.store.tenants.items) options.now.store.slots options.now.store.max_blob first × Plays Leads (first, none) (map row_view rows.now) (answers_of p.1.items) (p.0.catalog, left)) }
+    ensures played { IfOk result (λ p. (first : Catalog) × (left : LeasesView) × OpensCatalog (tenants_shown options.now.store.tenants.items) options.now.store.slots options.now.store.max_blob first × Plays Leads (first, none) rows.now (answers_of p.1.items) (p.0.catalog, left)) }
     ensures refused { IfErr result (λ e. e ≡ Refusal.Memory) }
 {
     let (book, pins) = Book::new(alloc, &options.store)?;

@@ -1,9 +1,8 @@
 //! A run: reads a script, plays it, and writes the replies and the book.
-ghost use Rattle.std.specs.Prelude.{◌≡◌, ◌≢◌, ◌+◌, false, IfOk, IfErr, OnOk, map};
+ghost use Rattle.std.specs.Prelude.{◌≡◌, ◌≢◌, ◌+◌, false, IfOk, IfErr, OnOk};
 ghost use Rattle.finite_maps.specs.Texts.{Text};
 ghost use Rattle.blobctl.specs.Ending.{WorkersRunSucceeds, RunSucceeds, Explains, IsReadWhole};
 ghost use Rattle.blobctl.specs.Inputs.{TakesAtMost, max_script};
-ghost use Rattle.row_player.specs.RowViews.{row_view};
 ghost use Rattle.blobctl.specs.Options.{IsWithin};
 ghost use Rattle.blobctl.specs.Script.{AreRowsOf};
 ghost use Rattle.blobctl.specs.Watching.{has_failed, inner_of};
@@ -17,7 +16,7 @@ use crate::output::write_played;
 use crate::script::read_rows;
 use crate::watched::Watched;
 use crate::workers::play_by_workers;
-use row_player::Row;
+use row_player::PackedRows;
 use std::alloc::Global;
 use std::io::{Read, Write};
 use std::mem;
@@ -25,9 +24,9 @@ use std::sync::Wait;
 use std::thread::Threads;
 
 /// The rows of the script that a reader gives. The script is dropped with the last of them.
-fn read_all<R: Read>(alloc: Global, reader: &mut Watched<R>) -> Result<Vec<Row>, Fault>
+fn read_all<R: Read>(alloc: Global, reader: &mut Watched<R>) -> Result<PackedRows, Fault>
     requires { has_failed reader.old ≡ false }
-    ensures rows { IfOk result (λ v. (script : Text) × IsReadWhole R.remaining reader.old reader.new script × AreRowsOf script (map row_view v.items)) }
+    ensures rows { IfOk result (λ rows. (script : Text) × IsReadWhole R.remaining reader.old reader.new script × AreRowsOf script rows) }
     ensures most { TakesAtMost (R.remaining (inner_of reader.old)) (R.remaining (inner_of reader.new)) (max_script + 1) }
     ensures fault { IfErr result (λ e. (e ≢ Fault.Write) × Explains R.remaining reader.old reader.new e) }
 {
@@ -59,7 +58,7 @@ pub fn run_one<R: Read, W: Write>(
     ensures fault { IfErr result (λ e. Explains R.remaining reader.old reader.new e) }
 {
     let rows = read_all(alloc, reader)?;
-    let Ok((book, replies)) = play_by_one(alloc, options, rows.as_slice()) else {
+    let Ok((book, replies)) = play_by_one(alloc, options, &rows) else {
         return Err(Fault::Memory);
     };
     write_played(writer, replies.as_slice(), &book)?;
@@ -94,7 +93,7 @@ pub fn run<T: Threads + Wait + Sync, R: Read, W: Write>(
         return run_one(alloc, reader, writer, options);
     }
     let rows = read_all(alloc, reader)?;
-    play_by_workers(rt, alloc, writer, options, rows.as_slice())?;
+    play_by_workers(rt, alloc, writer, options, &rows)?;
     mem::forget(rows);
     Ok(())
 }

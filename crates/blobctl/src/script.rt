@@ -1,8 +1,7 @@
 //! Reads the rows of a script.
-ghost use Rattle.std.specs.Prelude.{◌≡◌, ◌⊎◌, ◌++◌, ◌∷◌, [], List, true, false, IfOk, IfErr, OnOk, Some, None, map};
+ghost use Rattle.std.specs.Prelude.{◌≡◌, ◌⊎◌, ◌++◌, ◌∷◌, [], List, true, false, IfOk, IfErr, OnOk, Some, None};
 ghost use Rattle.csv.specs.Records.{fields_of};
 ghost use Rattle.finite_maps.specs.Texts.{Text};
-ghost use Rattle.row_player.specs.RowViews.{row_view};
 ghost use Rattle.blobctl.specs.Reading.{IsAfter};
 ghost use Rattle.blobctl.specs.Records.{Record, row_of};
 ghost use Rattle.row_player.specs.Rows.{RowView};
@@ -11,7 +10,7 @@ ghost use Rattle.blobctl.specs.Script.{AreRecordsOf, AreRowsOf, ExplainsRows};
 use crate::fault::Fault;
 use crate::fields::read_row;
 use csv::{ByteRecord, Reader, ReaderBuilder};
-use row_player::Row;
+use row_player::PackedRows;
 use std::alloc::Global;
 
 /// The most rows that a script may have.
@@ -41,38 +40,31 @@ fn take_record(reader: &mut Reader<&[u8]>, fields: &mut ByteRecord) -> Result<bo
 }
 
 /// Adds the row of a record.
-fn add_row(
-    alloc: Global,
-    fields: &ByteRecord,
-    number: u32,
-    rows: &mut Vec<Row>,
-) -> Result<(), Fault>
-    ensures added { OnOk result ((line : RowView) × (row_of (fields_of fields.now) ≡ Some line) × (map row_view rows.new.items ≡ map row_view rows.old.items ++ line ∷ [])) }
+fn add_row(fields: &ByteRecord, number: u32, rows: &mut PackedRows) -> Result<(), Fault>
+    ensures added { OnOk result ((line : RowView) × (row_of (fields_of fields.now) ≡ Some line) × (rows.new ≡ rows.old ++ line ∷ [])) }
     ensures refused { IfErr result (λ e. (e ≡ Fault.Memory) ⊎ ((e ≡ Fault.BadRow number) × (row_of (fields_of fields.now) ≡ None))) }
 {
-    match read_row(alloc, fields)? {
-        Some(row) => {
-            rows.push(row)?;
-            Ok(())
-        }
-        None => Err(Fault::BadRow(number)),
-    }
+    let Some(row) = read_row(fields) else {
+        return Err(Fault::BadRow(number));
+    };
+    rows.push(&row)?;
+    Ok(())
 }
 
 /// The rows of a script, or its first bad row. Running out of memory is told apart from a bad row. The
 /// records are dropped one by one as their rows are made.
-pub fn read_rows(alloc: Global, script: &[u8]) -> Result<Vec<Row>, Fault>
-    ensures rows { IfOk result (λ v. AreRowsOf script.now (map row_view v.items)) }
+pub fn read_rows(alloc: Global, script: &[u8]) -> Result<PackedRows, Fault>
+    ensures rows { IfOk result (AreRowsOf script.now) }
     ensures fault { IfErr result (λ e. ExplainsRows script.now e) }
 {
     let mut reader = reader_of(alloc, script);
     let mut fields = ByteRecord::new(alloc);
-    let mut rows = Vec::new(alloc);
+    let mut rows = PackedRows::with_room(alloc, script.len())?;
     for place in 0..MAX_ROWS {
         if !take_record(&mut reader, &mut fields)? {
             return Ok(rows);
         }
-        add_row(alloc, &fields, place + 1, &mut rows)?;
+        add_row(&fields, place + 1, &mut rows)?;
     }
     if take_record(&mut reader, &mut fields)? {
         return Err(Fault::BadRow(MAX_ROWS + 1));

@@ -4,31 +4,53 @@ use crate::fault::Fault;
 use crate::script::read_rows;
 use crate::test_scripts::{filled, options_of};
 use blob_digest::{Digest, Refusal};
-use row_player::{Reply, Verb};
+use row_player::{PackedRows, Reply, RowList, Verb};
 use std::alloc::Global;
 use std::process::Abort;
 
+/// A list has a row of this lane, this command and these fields at this place.
+fn has_row(
+    rt: &impl Abort,
+    rows: &PackedRows,
+    place: usize,
+    (lane, verb, fields): (u8, Verb, [&str; 5]),
+) {
+    assert!(rt; place < rows.len(), "row {place}");
+    let row = rows.row(place);
+    assert_eq!(rt; (row.lane, row.verb), (lane, verb), "row {place}");
+    let found = [row.repo, row.key, row.digest, row.range, row.body];
+    for (found, wanted) in found.into_iter().zip(fields) {
+        assert_eq!(rt; found, wanted.as_bytes(), "row {place}");
+    }
+}
+
 #[test]
 fn rows_are_read(rt: HostRuntime) {
-    let alloc = rt.alloc();
     let script = r#"0,start,acme/one,,,,
 007,append,acme/one,1,,0-0,a
 
 255,close,acme/one,4294967295,d,,"x,""y"
+3,share,,left,,,right
+1,sweep,,,,,
 "#;
-    match read_rows(alloc, script.as_bytes()) {
-        Ok(rows) => {
-            assert_eq!(rt; rows.len(), 3);
-            assert_eq!(rt; rows[0].verb, Verb::Start);
-            assert_eq!(rt; rows[0].repo.as_slice(), b"acme/one".as_slice());
-            assert_eq!(rt; rows[1].lane, 7);
-            assert_eq!(rt; rows[1].range.as_slice(), b"0-0".as_slice());
-            assert_eq!(rt; rows[2].lane, 255);
-            assert_eq!(rt; rows[2].verb, Verb::Close);
-            assert_eq!(rt; rows[2].digest.as_slice(), b"d".as_slice());
-            assert_eq!(rt; rows[2].body.as_slice(), b"x,\"y".as_slice());
-        }
-        Err(fault) => panic!(rt; "found {fault:?}, and no rows"),
+    let rows = match read_rows(rt.alloc(), script.as_bytes()) {
+        Ok(rows) => rows,
+        Err(fault) => panic!(&rt; "found {fault:?}, and no rows"),
+    };
+    let wanted = [
+        (0, Verb::Start, ["acme/one", "", "", "", ""]),
+        (7, Verb::Append, ["acme/one", "1", "", "0-0", "a"]),
+        (
+            255,
+            Verb::Close,
+            ["acme/one", "4294967295", "d", "", "x,\"y"],
+        ),
+        (3, Verb::Share, ["", "left", "", "", "right"]),
+        (1, Verb::Sweep, ["", "", "", "", ""]),
+    ];
+    assert_eq!(&rt; (&rows).len(), wanted.len());
+    for (place, row) in wanted.into_iter().enumerate() {
+        has_row(&rt, &rows, place, row);
     }
 }
 

@@ -1,18 +1,17 @@
 //! Rows played by several workers on a store that they share.
-ghost use Rattle.std.specs.Prelude.{◌≡◌, ◌≢◌, ◌⊎◌, IfErr, OnOk, map};
+ghost use Rattle.std.specs.Prelude.{◌≡◌, ◌≢◌, ◌⊎◌, IfErr, OnOk};
 ghost use Rattle.std.specs.Io.KnownBytes.{Appends};
 ghost use Rattle.finite_maps.specs.Texts.{Text};
 ghost use Rattle.blobctl.specs.Ending.{PlayedByWorkers};
 ghost use Rattle.blobctl.specs.Options.{CanWork, IsWithin};
 ghost use Rattle.blob_store.specs.Parts.{names_of};
-ghost use Rattle.row_player.specs.RowViews.{row_view};
 ghost use Rattle.store_book.specs.Openings.{OpensBook, tenants_shown};
 
 use crate::fault::Fault;
 use crate::options::Options;
 use crate::output::write_replies;
 use blob_store::{Naming, Parts, PlayedToEnd, play_to_end};
-use row_player::{OpenGate, Row};
+use row_player::{OpenGate, PackedRows};
 use std::alloc::Global;
 use std::io::Write;
 use std::marker::Brand;
@@ -29,16 +28,16 @@ fn play_on_store<T: Threads + Wait + Sync, W: Write, S: Naming + Send + Sync>(
     writer: &mut W,
     parts: Parts,
     options: &Options,
-    rows: &[Row],
+    rows: &PackedRows,
 ) -> Result<(), Fault>
     requires workers { CanWork options.now.workers }
     requires opened { OpensBook (tenants_shown options.now.store.tenants.items) options.now.store.slots options.now.store.max_blob options.now.store.first_generation parts.book }
     requires named { names_of parts ≡ S.names }
-    ensures played { OnOk result ((text : Text) × Appends (W.contents writer.old) (W.contents writer.new) text × PlayedByWorkers options.now.workers (tenants_shown options.now.store.tenants.items) options.now.store.slots options.now.store.max_blob (map row_view rows.now) text) }
+    ensures played { OnOk result ((text : Text) × Appends (W.contents writer.old) (W.contents writer.new) text × PlayedByWorkers options.now.workers (tenants_shown options.now.store.tenants.items) options.now.store.slots options.now.store.max_blob rows.now text) }
     ensures silent { IfErr result (λ e. e ≢ Fault.Write → writer.new ≡ writer.old) }
     ensures refused { IfErr result (λ e. (e ≡ Fault.Memory) ⊎ (e ≡ Fault.Write)) }
 {
-    let Ok(played) = play_to_end::<_, _, S>(rt, alloc, parts, rows, options.workers, &OpenGate)
+    let Ok(played) = play_to_end::<_, _, S, _>(rt, alloc, parts, rows, options.workers, &OpenGate)
     else {
         return Err(Fault::Memory);
     };
@@ -62,10 +61,10 @@ pub fn play_by_workers<T: Threads + Wait + Sync, W: Write>(
     alloc: Global,
     writer: &mut W,
     options: &Options,
-    rows: &[Row],
+    rows: &PackedRows,
 ) -> Result<(), Fault>
     requires { IsWithin options.now }
-    ensures played { OnOk result ((text : Text) × Appends (W.contents writer.old) (W.contents writer.new) text × PlayedByWorkers options.now.workers (tenants_shown options.now.store.tenants.items) options.now.store.slots options.now.store.max_blob (map row_view rows.now) text) }
+    ensures played { OnOk result ((text : Text) × Appends (W.contents writer.old) (W.contents writer.new) text × PlayedByWorkers options.now.workers (tenants_shown options.now.store.tenants.items) options.now.store.slots options.now.store.max_blob rows.now text) }
     ensures silent { IfErr result (λ e. e ≢ Fault.Write → writer.new ≡ writer.old) }
     ensures refused { IfErr result (λ e. (e ≡ Fault.Memory) ⊎ (e ≡ Fault.Write)) }
 {

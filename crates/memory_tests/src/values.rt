@@ -9,6 +9,7 @@ use link_table::Links;
 use oci_manifest::read;
 use pin_core::{Event, PinState, run, step};
 use pin_table::Pins;
+use row_player::{BorrowedRow, PackedRows, RowList, Verb, has_fields};
 use slot_table::SlotTable;
 use std::alloc::{AllocGlobal, Global};
 use std::io::Print;
@@ -37,6 +38,8 @@ pub enum Make<'a> {
     Tenants,
     Book,
     Parts,
+    /// A row is packed, whose digest is this text.
+    Row(&'a [u8]),
 }
 
 /// What the calls are given.
@@ -69,6 +72,32 @@ fn came(found: Result<Option<PinState>, Refusal>, pins: u64) -> Answer {
         Ok(Some(world)) => whether(has_pins(&world, pins)),
         Ok(None) => Answer::Other,
         Err(refusal) => refused(refusal),
+    }
+}
+
+/// A row that leases a blob of this digest is the one of a list that had room for four bytes.
+fn packed(alloc: Global, digest: &[u8]) -> Answer {
+    let (verb, repo, key) = (Verb::Lease, b"acme/one".as_slice(), b"r".as_slice());
+    if !has_fields(verb, repo, key, digest, &[], &[]) {
+        return Answer::Other;
+    }
+    let Ok(mut rows) = PackedRows::with_room(alloc, 4) else {
+        return Answer::Memory;
+    };
+    let pushed = rows.push(&BorrowedRow {
+        lane: 1,
+        verb,
+        repo,
+        key,
+        digest,
+        range: &[],
+        body: &[],
+    });
+    let list = &rows;
+    match (pushed, list.len()) {
+        (Ok(()), 1) => whether(list.row(0).repo == repo && list.row(0).digest == digest),
+        (Err(_), 0) => Answer::Memory,
+        _ => Answer::Other,
     }
 }
 
@@ -145,6 +174,7 @@ impl<'a> Calls for Values<'a> {
             Make::WorldCopy => made(self.world.copy()),
             Make::Event(event, pins) => came(step(&self.world, event), *pins),
             Make::Events(events, pins) => came(run(&self.world, events), *pins),
+            Make::Row(digest) => packed(self.alloc, digest),
             other => self.table(other),
         }
     }
@@ -167,6 +197,7 @@ impl<'a> Make<'a> {
             Make::Tenants => "Links::new",
             Make::Book => "Book::new",
             Make::Parts => "Parts::new",
+            Make::Row(_) => "PackedRows::push",
         }
     }
 }
@@ -213,6 +244,7 @@ pub fn play_values<R: Print + AllocGlobal>(rt: &R) -> Result<(), Stopped> {
         Make::Tenants,
         Make::Book,
         Make::Parts,
+        Make::Row(b"sha256:ba7816bf8f01cfea414140de5dae2223b00361a396177a9cb410ff61f20015ad"),
     ];
     let mut values = Values {
         alloc,

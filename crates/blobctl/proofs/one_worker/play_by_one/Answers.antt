@@ -2,7 +2,6 @@ use Rattle.std.proofs.Common.{◌≤◌, length, map, refl}
 use Rattle.std.proofs.lemmas.List.{length-map}
 use Rattle.store_book.specs.Openings.{OpensCatalog, tenants_shown}
 use Rattle.row_player.specs.Answers.{answers_of}
-use Rattle.row_player.specs.RowViews.{row_view}
 use Rattle.blobctl.proofs.BookPlays.{AreLow, fresh_low, run_happens}
 use Rattle.blobctl.proofs.one_worker.play_by_one.Goals as goal
 
@@ -12,5 +11,5 @@ returns-clause-played c =
     let book = c.in_ok-book.book in
     let opened = c.in_ok-book.ensures.opened in
     let fresh : AreLow 0 book.slots = fresh_low book.slots store.slots _ opened.slots c.requires.within.first refl in
-    let few : length (map row_view c.args.rows.now) ≤ 65536 = rw (length-map c.args.rows.now row_view) c.requires.few in
-    run_happens (OpensCatalog (tenants_shown store.tenants.items) store.slots store.max_blob) c.play_on_book.result (λ p. p.0) (λ p. answers_of p.1.items) (map row_view c.args.rows.now) book opened.catalog fresh few c.play_on_book.ensures.played
+    let few : length c.args.rows.now ≤ 65536 = c.requires.few in
+    run_happens (OpensCatalog (tenants_shown store.tenants.items) store.slots store.max_blob) c.play_on_book.result (λ p. p.0) (λ p. answers_of p.1.items) c.args.rows.now book opened.catalog fresh few c.play_on_book.ensures.played

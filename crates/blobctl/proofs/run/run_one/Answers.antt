@@ -1,7 +1,6 @@
 use Rattle.std.proofs.Common.{◌++◌, map, refl}
 use Rattle.store_model.specs.BookText.{book_text}
 use Rattle.row_player.specs.Answers.{answers_of}
-use Rattle.row_player.specs.RowViews.{row_view}
 use Rattle.row_player.specs.Replies.{replies_text}
 use Rattle.blobctl.proofs.run.run_one.Goals as goal
 
@@ -13,16 +12,16 @@ returns-clause-played g c =
       script = rows.0;
       read = rows.1;
       text = replies_text (answers_of c.in-Ok.replies.items) ++ book_text c.in-Ok.book.catalog;
-      written = rw c.as_slice-2.ensures.value at c.in_ok-write_played.ensures.written;
+      written = rw c.as_slice.ensures.value at c.in_ok-write_played.ensures.written;
       played = record {
         first = played.0;
         opened = played.2;
-        rows = map row_view c.in_ok-rows.rows.items;
+        rows = c.in_ok-rows.rows;
         all = rows.2;
         answers = answers_of c.in-Ok.replies.items;
         last = c.in-Ok.book.catalog;
         left = played.1;
-        run = rw c.as_slice.ensures.value at played.3;
+        run = played.3;
         written = refl;
       };
     }

@@ -1,7 +1,6 @@
 use Rattle.std.proofs.Common.{◌≡◌, ◌≤◌, ◌+◌, ◌++◌, ◌∷◌, [], arith, inr, length, length-append, map, refl, rules, true}
 use Rattle.std.proofs.lemmas.Result.{err_from_is_err_and}
 use Rattle.csv.specs.Records.{fields_of}
-use Rattle.row_player.specs.RowViews.{row_view}
 use Rattle.blobctl.proofs.Records.{begins, explained, one_good}
 use Rattle.blobctl.proofs.script.read_rows.Goals as goal
 
@@ -14,7 +13,7 @@ returns-in_err-add_row-clause-fault c =
     let p = err_from_is_err_and c.from_residual-in_err-add_row.result c.from_residual-in_err-add_row.ensures.1 in
     let place : c.loop-place.place + 1 ≡ length inv.0 + 1 = omega (arith, inv.3) in
     let few : length inv.0 ≤ 65536 = omega (arith, inv.3, c.loop-place-test.true) in
-    rw (p.1, p.2) (explained c.args.script.now inv.0 (map row_view c.loop-place.rows.items) fields (c.loop-place.place + 1) c.in_err-add_row.field-0.0
+    rw (p.1, p.2) (explained c.args.script.now inv.0 c.loop-place.rows fields (c.loop-place.place + 1) c.in_err-add_row.field-0.0
     (begins c.take_record.new.reader c.args.script.now (inv.0 ++ fields ∷ []) after) inv.2 place few c.in_err-add_row.ensures.refused)
 
 pub loop-place-preserved : goal.loop-place-preserved
@@ -24,7 +23,7 @@ loop-place-preserved c =
     let after = c.in_ok-take_record.ensures.more c.args.script.now inv.0 inv.1 found in
     let fields = fields_of c.take_record.new.fields in
     let added = c.in_ok-add_row.ensures.added in
-    let good = one_good inv.0 (map row_view c.loop-place.rows.items) fields added.0 inv.2 added.1 in
+    let good = one_good inv.0 c.loop-place.rows fields added.0 inv.2 added.1 in
     (inv.0 ++ fields ∷ [], after, rw added.2 good, omega (arith, inv.3, length-append inv.0 (fields ∷ [])))
 
 pub returns-then-branch-clause-fault : goal.returns-then-branch-clause-fault
@@ -34,7 +33,7 @@ returns-then-branch-clause-fault c =
     let after = c.in_ok-take_record-2.ensures.more c.args.script.now inv.0 inv.1 c.if-branch.true in
     record {
       before = inv.0;
-      rows = map row_view c.loop-place.rows.items;
+      rows = c.loop-place.rows;
       bad = fields;
       begins = begins _ c.args.script.now (inv.0 ++ fields ∷ []) after;
       good = inv.2;

@@ -1,5 +1,4 @@
 use Rattle.std.proofs.Common.{◌≡◌, List, length, map}
-use Rattle.row_player.specs.RowViews.{row_view}
 use Rattle.blobctl.specs.Reading.{IsAfter}
 use Rattle.blobctl.specs.Records.{Record}
 use Rattle.blobctl.specs.Script.{AreGood}
@@ -7,4 +6,4 @@ use Rattle.blobctl.proofs.script.read_rows.Given as goal
 
 -- the records before this place are good, and their rows are kept
 abbrev pub invariant-loop-place : goal.invariant-loop-place
-invariant-loop-place l = (before : List Record) × IsAfter l.script before l.reader × AreGood before (map row_view l.rows.items) × (length before ≡ l.place)
+invariant-loop-place l = (before : List Record) × IsAfter l.script before l.reader × AreGood before l.rows × (length before ≡ l.place)

@@ -6,7 +6,6 @@ use Rattle.store_model.specs.Catalog.{Catalog}
 use Rattle.blob_store.specs.Workers.{IsInterleaved}
 use Rattle.locked_book.specs.Names.{StoreNames}
 use Rattle.row_player.specs.Answers.{answer_of, answers_of}
-use Rattle.row_player.specs.RowViews.{row_view}
 use Rattle.row_player.specs.Replies.{replies_text}
 use Rattle.blobctl.proofs.workers.play_on_store.Goals as goal
 
@@ -14,7 +13,7 @@ pub returns-clause-played : goal.returns-clause-played
 returns-clause-played g c =
     let replies = c.in-Ok.played.replies.items in
     let last = c.in-Ok.played.book.book.catalog in
-    let lines = map row_view c.args.rows.now in
+    let lines = c.args.rows.now in
     let wrote = rw c.as_slice.ensures.value at c.in-Ok-write_replies.ensures in
     let opening = ap (λ (n : StoreNames). n.opening) (sym c.requires.named) in
     let found = c.in-Ok-print.ensures.found in (
@@ -22,7 +21,7 @@ returns-clause-played g c =
       appends-more _ _ _ _ _ wrote c.in-Ok-print.ensures.text,
       record {
         answers = answers_of replies;
-        one_each = length-map replies answer_of ∙ c.in-Ok.ensures.replies ∙ sym (length-map c.args.rows.now row_view);
+        one_each = length-map replies answer_of ∙ c.in-Ok.ensures.replies;
         first = c.args.parts.book.catalog;
         opened = c.requires.opened.catalog;
         last = last;
