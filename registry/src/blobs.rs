@@ -1,6 +1,7 @@
 //! Reading and deleting blobs.
 use crate::fault::Fault;
 use crate::frames::Refusal;
+use crate::line::WHOLE_LEN;
 use crate::range::{wanted_part, Part};
 use crate::registry::{empty, with_body, Call, Registry, Served};
 use crate::store::{Leased, Lost};
@@ -10,7 +11,7 @@ use std::sync::Arc;
 use std::time::Duration;
 
 /// The most bytes that are read at once.
-const PIECE_LEN: u64 = 1 << 20;
+const PIECE_LEN: u64 = WHOLE_LEN as u64;
 
 /// How long a client may take none of a piece.
 const IDLE_TIME: Duration = Duration::from_secs(300);

@@ -5,10 +5,11 @@ use hyper::{Body, Response, StatusCode};
 use std::time::Duration;
 
 use crate::fault::Fault;
+use crate::line::WHOLE_LEN;
 use crate::metrics::Metrics;
 
 /// The most bytes of a request that are held at once while they go to the store, and again while the next come.
-pub const PIECE_LEN: usize = 1 << 20;
+pub const PIECE_LEN: usize = WHOLE_LEN;
 
 /// The longest manifest, in bytes (the specification asks for at least 4 MiB).
 pub const MAX_MANIFEST: usize = 4_194_304;

@@ -2,12 +2,15 @@
 use crate::frames::{Reason, Refusal, Reply, ReplyHead, Request, GREETING, HEAD_LEN};
 use bytes::Bytes;
 use std::fs::File;
-use std::io::{self, Read, Write};
+use std::io::{self, IoSlice, Read, Write};
 use std::os::unix::io::{AsRawFd, FromRawFd};
 use tokio::io::unix::AsyncFd;
 
-/// How many bytes a pipe holds, where the system lets it: as many as are sent at once.
-const PIPE_LEN: libc::c_int = 1 << 20;
+/// How many bytes a pipe holds, where the system lets it.
+const PIPE_LEN: usize = 1 << 20;
+
+/// The longest body that a pipe takes whole, behind the pages of its head, so that nobody waits for the rest of it.
+pub const WHOLE_LEN: usize = PIPE_LEN - (8 << 10);
 
 /// The longest text of a digest that `blobd` sends, in bytes.
 const MAX_DIGEST: u32 = 256;
@@ -23,7 +26,7 @@ fn pipe() -> io::Result<(File, File)> {
     let (reader, writer) = unsafe { (File::from_raw_fd(ends[0]), File::from_raw_fd(ends[1])) };
     // A pipe that stays short is slower and as good.
     // SAFETY: the call takes no pointer.
-    unsafe { libc::fcntl(writer.as_raw_fd(), libc::F_SETPIPE_SZ, PIPE_LEN) };
+    unsafe { libc::fcntl(writer.as_raw_fd(), libc::F_SETPIPE_SZ, PIPE_LEN as libc::c_int) };
     Ok((reader, writer))
 }
 
@@ -67,7 +70,7 @@ impl Line {
 
     /// Greets the other side, and takes its greeting.
     pub async fn greet(&mut self) -> io::Result<()> {
-        self.write(&GREETING).await?;
+        self.write(vec![&GREETING]).await?;
         let mut greeting = [0; GREETING.len()];
         self.read(&mut greeting).await?;
         if greeting != GREETING {
@@ -79,12 +82,13 @@ impl Line {
     /// Sends requests, and takes their replies. Those before the last are short, since no reply is taken before all are
     /// sent. After an error, or where this is dropped before its end, the line is of no further use.
     pub async fn exchange<const N: usize>(&mut self, requests: [Request<'_>; N]) -> io::Result<[Answer; N]> {
-        for request in &requests {
-            self.write(&request.head()).await?;
-            for piece in request.body {
-                self.write(piece).await?;
-            }
+        let heads: Vec<Vec<u8>> = requests.iter().map(Request::head).collect();
+        let mut slices: Vec<&[u8]> = Vec::new();
+        for (head, request) in heads.iter().zip(&requests) {
+            slices.push(head);
+            slices.extend(request.body.iter().map(|piece| &piece[..]));
         }
+        self.write(slices).await?;
         let mut answers = Vec::with_capacity(N);
         for _ in &requests {
             answers.push(self.answer().await?);
@@ -109,34 +113,72 @@ impl Line {
         })
     }
 
-    async fn write(&self, mut bytes: &[u8]) -> io::Result<()> {
-        while !bytes.is_empty() {
+    /// Writes slices, one behind the other, as many at once as the pipe takes.
+    async fn write(&self, mut slices: Vec<&[u8]>) -> io::Result<()> {
+        let mut first = 0;
+        while first < slices.len() {
             let mut ready = self.to.writable().await?;
-            match ready.try_io(|to| to.get_ref().write(bytes)) {
-                Ok(Err(error)) if error.kind() == io::ErrorKind::Interrupted => {}
-                Ok(written) => bytes = &bytes[written?..],
-                Err(_not_ready) => {}
+            let left: Vec<IoSlice> = slices[first..].iter().map(|slice| IoSlice::new(slice)).collect();
+            let mut count = match ready.try_io(|to| to.get_ref().write_vectored(&left)) {
+                Ok(Err(error)) if error.kind() == io::ErrorKind::Interrupted => 0,
+                Ok(written) => written?,
+                Err(_not_ready) => 0,
+            };
+            while first < slices.len() && count >= slices[first].len() {
+                count -= slices[first].len();
+                first += 1;
+            }
+            if count > 0 {
+                slices[first] = &slices[first][count..];
             }
         }
         Ok(())
+    }
+
+    /// What a read comes to once there is something to read.
+    async fn await_read(&self, mut read: impl FnMut(&File) -> io::Result<usize>) -> io::Result<usize> {
+        loop {
+            let mut ready = self.from.readable().await?;
+            match ready.try_io(|from| read(from.get_ref())) {
+                Ok(Err(error)) if error.kind() == io::ErrorKind::Interrupted => {}
+                Ok(Ok(0)) => return Err(io::ErrorKind::UnexpectedEof.into()),
+                Ok(count) => return count,
+                Err(_not_ready) => {}
+            }
+        }
     }
 
     async fn read(&self, mut bytes: &mut [u8]) -> io::Result<()> {
         while !bytes.is_empty() {
-            let mut ready = self.from.readable().await?;
-            match ready.try_io(|from| from.get_ref().read(bytes)) {
-                Ok(Err(error)) if error.kind() == io::ErrorKind::Interrupted => {}
-                Ok(Ok(0)) => return Err(io::ErrorKind::UnexpectedEof.into()),
-                Ok(count) => bytes = &mut bytes[count?..],
-                Err(_not_ready) => {}
-            }
+            let count = self.await_read(|mut from| from.read(bytes)).await?;
+            bytes = &mut bytes[count..];
         }
         Ok(())
     }
 
+    /// So many bytes. The room for them isn't written before they come.
     async fn take(&self, len: u64) -> io::Result<Vec<u8>> {
-        let mut bytes = vec![0; len as usize];
-        self.read(&mut bytes).await?;
+        let len = len as usize;
+        let mut bytes = Vec::with_capacity(len);
+        while bytes.len() < len {
+            let left = len - bytes.len();
+            self.await_read(|from| read_on(from, &mut bytes, left)).await?;
+        }
         Ok(bytes)
     }
+}
+
+/// Reads at most so many bytes behind those that are there: how many came.
+fn read_on(file: &File, bytes: &mut Vec<u8>, most: usize) -> io::Result<usize> {
+    let room = bytes.spare_capacity_mut();
+    let len = room.len().min(most);
+    // SAFETY: `room` has room for as many bytes as the call may write.
+    let count = unsafe { libc::read(file.as_raw_fd(), room.as_mut_ptr().cast(), len) };
+    if count < 0 {
+        return Err(io::Error::last_os_error());
+    }
+    let count = count as usize;
+    // SAFETY: so many bytes of the room were written.
+    unsafe { bytes.set_len(bytes.len() + count) };
+    Ok(count)
 }
