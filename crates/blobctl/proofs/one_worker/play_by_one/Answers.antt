@@ -1,5 +1,4 @@
-use Rattle.std.proofs.Common.{◌≤◌, length, map, refl}
-use Rattle.std.proofs.lemmas.List.{length-map}
+use Rattle.std.proofs.Common.{◌≤◌, length, refl}
 use Rattle.store_book.specs.Openings.{OpensCatalog, tenants_shown}
 use Rattle.row_player.specs.Answers.{answers_of}
 use Rattle.blobctl.proofs.BookPlays.{AreLow, fresh_low, run_happens}

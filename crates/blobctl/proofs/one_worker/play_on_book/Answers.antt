@@ -1,4 +1,3 @@
-use Rattle.std.proofs.Common.{map}
 use Rattle.row_player.specs.Answers.{answers_of}
 use Rattle.row_player.specs.Leases.{none}
 use Rattle.blobctl.specs.Played.{Acts}

@@ -1,4 +1,4 @@
-use Rattle.std.proofs.Common.{◌++◌, map, refl}
+use Rattle.std.proofs.Common.{◌++◌, refl}
 use Rattle.store_model.specs.BookText.{book_text}
 use Rattle.row_player.specs.Answers.{answers_of}
 use Rattle.row_player.specs.Replies.{replies_text}

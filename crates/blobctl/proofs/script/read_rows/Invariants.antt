@@ -1,4 +1,4 @@
-use Rattle.std.proofs.Common.{◌≡◌, List, length, map}
+use Rattle.std.proofs.Common.{◌≡◌, List, length}
 use Rattle.blobctl.specs.Reading.{IsAfter}
 use Rattle.blobctl.specs.Records.{Record}
 use Rattle.blobctl.specs.Script.{AreGood}

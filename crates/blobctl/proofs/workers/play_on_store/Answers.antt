@@ -1,4 +1,4 @@
-use Rattle.std.proofs.Common.{◌++◌, ◌∙◌, ap, map, refl, subst, sym}
+use Rattle.std.proofs.Common.{◌++◌, ◌∙◌, ap, refl, subst, sym}
 use Rattle.std.proofs.lemmas.List.{length-map}
 use Rattle.csv.proofs.WriteFacts.{appends-more}
 use Rattle.store_model.specs.BookText.{book_text}
