@@ -1,8 +1,9 @@
 #!/usr/bin/env python3
 """What pushes, pulls and small requests take of registryd, and of Debian's docker-registry beside it, by the same clients
-in turn: bench/registry.py [--runs N] [--no-sweeps] [MEASURE..]. It wants a built blobd, and the packages skopeo and docker-registry. The
-collector sweeps all the time. For each measure: the wall time of the clients in seconds (median), the ratio of it to
-docker-registry's, and the processor time of each server's programs."""
+in turn: bench/registry.py [--runs N] [--beside-unswept] [MEASURE..]. It wants a built blobd, and the packages skopeo and
+docker-registry. The collector sweeps all the time. For each measure: the wall time of the clients in seconds (median), the
+ratio of it to docker-registry's, and the processor time of each server's programs. With --beside-unswept the other is a
+registryd that doesn't sweep."""
 import argparse, http.client, json, os, random, shutil, signal, statistics, subprocess, sys, tempfile, time
 
 TOP = os.path.dirname(os.path.dirname(os.path.abspath(__file__)))
@@ -24,16 +25,20 @@ http: {addr: "%s"}
 
 class Ours:
     """registryd over blobd, fresh."""
-    sweeps = True
+    rest = "0"
 
     def __init__(self, folder):
-        words = ["--sweep-ms", "0"] if self.sweeps else ["--sweep-ms", "1000000"]
-        self.server = Server("--slots", "65536", *words, tenants=["acme=100000000000"])
+        self.server = Server("--slots", "65536", "--sweep-ms", self.rest, tenants=["acme=100000000000"])
         self.address = self.server.address
         self.pids = [self.server.process.pid, self.server.child()]
 
     def end(self):
         assert self.server.end() == 0
+
+
+class Unswept(Ours):
+    """registryd over blobd, fresh, whose collector rests."""
+    rest = "1000000"
 
 
 class Theirs:
@@ -168,16 +173,16 @@ def measured(make, play):
 def main():
     options = argparse.ArgumentParser(description=__doc__)
     options.add_argument("--runs", type=int, default=3)
-    options.add_argument("--no-sweeps", action="store_true")
+    options.add_argument("--beside-unswept", action="store_true")
     options.add_argument("measures", nargs="*", metavar="MEASURE", help=" | ".join(MEASURES))
     options = options.parse_args()
-    Ours.sweeps = not options.no_sweeps
+    other = Unswept if options.beside_unswept else Theirs
     for program in ("skopeo", "docker-registry"):
         if not shutil.which(program):
             sys.exit(f"there is no {program}: apt-get install {program}")
     print(f"{'':44} {'ours':>8} {'theirs':>8} {'ratio':>6}   {'processor time':>16}   memory, MiB")
     for name in options.measures or MEASURES:
-        runs = [(measured(Ours, MEASURES[name]), measured(Theirs, MEASURES[name])) for _ in range(options.runs)]
+        runs = [(measured(Ours, MEASURES[name]), measured(other, MEASURES[name])) for _ in range(options.runs)]
         for part in runs[0][0][0]:
             wall = [statistics.median(run[side][0][part][0] for run in runs) for side in (0, 1)]
             cpu = [statistics.median(run[side][0][part][1] for run in runs) for side in (0, 1)]
