@@ -75,6 +75,11 @@ fn came(found: Result<Option<PinState>, Refusal>, pins: u64) -> Answer {
     }
 }
 
+/// Whether a list has one row, with this digest.
+fn has_one(rows: &PackedRows, digest: &[u8]) -> bool {
+    rows.len() == 1 && rows.row(0).digest == digest
+}
+
 /// A row that leases a blob of this digest is the one of a list that had room for four bytes.
 fn packed(alloc: Global, digest: &[u8]) -> Answer {
     let (verb, repo, key) = (Verb::Lease, b"acme/one".as_slice(), b"r".as_slice());
@@ -93,11 +98,10 @@ fn packed(alloc: Global, digest: &[u8]) -> Answer {
         range: &[],
         body: &[],
     });
-    let list = &rows;
-    match (pushed, list.len()) {
-        (Ok(()), 1) => whether(list.row(0).repo == repo && list.row(0).digest == digest),
-        (Err(_), 0) => Answer::Memory,
-        _ => Answer::Other,
+    match pushed {
+        Ok(()) => whether(has_one(&rows, digest)),
+        Err(_) if (&rows).len() == 0 => Answer::Memory,
+        Err(_) => Answer::Other,
     }
 }
 
