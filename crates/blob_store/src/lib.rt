@@ -12,6 +12,8 @@ mod desk_tests;
 pub mod laws;
 mod lease;
 #[cfg(test)]
+mod lease_tests;
+#[cfg(test)]
 mod lend_tests;
 #[cfg(test)]
 mod load_tests;

@@ -13,6 +13,7 @@ mod call;
 mod counter;
 mod counters;
 mod desk;
+mod desks;
 mod droppable_desk;
 mod history;
 mod kept;
