@@ -1,5 +1,5 @@
 -- The texts of digests stand in the order of the digests' values.
-use Rattle.std.proofs.Common.{Ordering, Equal, Greater, ◌≡◌, ℕ, zero, suc, ◌+◌, ◌/◌, ◌%◌, ◌<◌, ◌==◌, Bool, true, ◌&&◌, nat_le, if◌then◌else◌, inl, inr, List, [], ◌∷◌, slice_index, refl, sym, ap, ◌∙◌, arith, bytes_eq}
+use Rattle.std.proofs.Common.{Ordering, ◌≡◌, ℕ, zero, suc, ◌+◌, ◌/◌, ◌%◌, ◌<◌, ◌==◌, Bool, true, ◌&&◌, nat_le, if◌then◌else◌, inl, inr, List, [], ◌∷◌, slice_index, refl, sym, ap, ◌∙◌, arith, bytes_eq}
 use Rattle.std.proofs.lemmas.Bool.{and_parts, cases_lt, eqb-true}
 use Rattle.std.proofs.lemmas.Bool.Decides.{nat_tests}
 use Rattle.std.specs.Ordering.{nat_cmp, ordering_then, is_eq}
@@ -8,8 +8,8 @@ use Rattle.hex.specs.Hex.{IsBytes, encode_lower, encode_with, lower_digits}
 use Rattle.blob_digest.specs.Checksums.{IsChecksum, text_of}
 use Rattle.blob_digest.specs.declared.checksum.Checksum.{Checksum}
 use Rattle.blob_digest.specs.declared.checksum.Checksum.TheVariants.{Sha256, Sha512}
-use Rattle.blob_digest.specs.contracts.checksum.ChecksumOrd.TheImpl as checksum_ord
 use Rattle.blob_digest.specs.contracts.checksum.ChecksumPartialEq.TheImpl as checksum_eq
+use Rattle.blob_digest.proofs.WordOrder.{more, tied}
 use Rattle.finite_maps.proofs.Sorted.{nat_cmp-less}
 
 -- the digit of a value below sixteen
@@ -40,12 +40,6 @@ char_cmp x y = grind (arith, nat_tests)
 digit_cmp : (x y : ℕ) → x < 16 → y < 16 → nat_cmp (slice_index lower_digits x) (slice_index lower_digits y) ≡ nat_cmp x y
 digit_cmp x y hx hy = rw (digit_is x hx, digit_is y hy) (char_cmp x y)
 
-tied : (x y : ℕ) → x ≡ y → nat_cmp x y ≡ Equal
-tied x y h = grind (arith, nat_tests)
-
-more : (x y : ℕ) → y < x → nat_cmp x y ≡ Greater
-more x y h = grind (arith, nat_tests)
-
 -- a byte's digits decide as the byte does
 pair_cmp : (a b : ℕ) (o : Ordering) → ordering_then (nat_cmp (a / 16) (b / 16)) (ordering_then (nat_cmp (a % 16) (b % 16)) o) ≡ ordering_then (nat_cmp a b) o
 pair_cmp a b o = elim (cases_lt (a / 16) (b / 16)) [
@@ -75,13 +69,6 @@ encoded_cmp (x ∷ xs) (y ∷ ys) hx hy =
     let high = digit_cmp (x / 16) (y / 16) (omega arith) (omega arith) in
     let low = digit_cmp (x % 16) (y % 16) (omega arith) (omega arith) in
     rw (high, low, ih) (pair_cmp x y (slice_cmp nat_cmp xs ys))
-
--- texts stand in the order of what they are the texts of
-pub text_cmp : (a b : Checksum) → IsChecksum a → IsChecksum b → slice_cmp nat_cmp (text_of a) (text_of b) ≡ checksum_ord.cmp-value.it a b
-text_cmp (Sha256 a) (Sha256 b) ha hb = encoded_cmp a b ha.1 hb.1
-text_cmp (Sha256 a) (Sha512 b) ha hb = refl
-text_cmp (Sha512 a) (Sha256 b) ha hb = refl
-text_cmp (Sha512 a) (Sha512 b) ha hb = encoded_cmp a b ha.1 hb.1
 
 -- hex texts are equal where their bytes are
 same_digits : (a b : List ℕ) → IsBytes a → IsBytes b → bytes_eq (encode_lower a) (encode_lower b) ≡ bytes_eq a b

@@ -8,3 +8,4 @@ pub mod NameTexts
 pub mod RangeTexts
 pub mod Refusals
 pub mod Slices
+pub mod WordOrder

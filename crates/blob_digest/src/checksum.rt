@@ -6,7 +6,7 @@ ghost use Rattle.blob_digest.specs.Checksums.{kind_of, prefix_of, value_of};
 use crate::algorithm::Algorithm;
 
 /// A digest function with its value.
-#[derive(Clone, Copy, Debug, PartialEq, Eq, PartialOrd, Ord, Hash)]
+#[derive(Clone, Copy, Debug, PartialEq, Eq, Hash)]
 pub enum Checksum {
     /// SHA-256 (FIPS 180-4, section 6.2).
     Sha256([u8; 32]),

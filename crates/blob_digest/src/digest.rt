@@ -6,6 +6,7 @@ ghost use Rattle.std.specs.Ordering.{nat_cmp};
 ghost use Rattle.std.specs.Cmp.{partial_equiv_from_equiv};
 ghost use Rattle.std.specs.Cmp.Lexicographic.{slice_cmp, bytes_decides, nat_list_eq_equiv, nat_list_cmp_total, texts_ties, texts_po};
 ghost use Rattle.std.specs.Hash.{same_Alike};
+ghost use Rattle.std.specs.Slice.Scan.{big_endian};
 ghost use Rattle.blob_digest.specs.Checksums.{checksum_of, text_of, value_of};
 ghost use Rattle.blob_digest.specs.Digests.{IsDigestText, algorithm_of, digit_of, hash_text, is_digest_text, is_lower_hex, is_spelled};
 
@@ -96,6 +97,27 @@ fn decode(encoded: &[u8], value: &mut [u8])
         let high = digit_value(encoded[2 * i]);
         let low = digit_value(encoded[2 * i + 1]);
         value[i] = high * 16 + low;
+    }
+}
+
+/// The number that the first eight bytes are, the first of them the highest.
+fn first_word(value: &[u8]) -> u64
+    requires { 8 ≤ length value.now }
+    ensures { result ≡ big_endian 0 (take 8 value.now) }
+{
+    u64::from_be_bytes([
+        value[0], value[1], value[2], value[3], value[4], value[5], value[6], value[7],
+    ])
+}
+
+/// The order of two values, by bytes. Their first eight, as one number each, nearly always decide it.
+fn value_cmp(first: &[u8], second: &[u8]) -> Ordering
+    requires { (8 ≤ length first.now) × (8 ≤ length second.now) }
+    ensures { result ≡ slice_cmp nat_cmp first.now second.now }
+{
+    match first_word(first).cmp(&first_word(second)) {
+        Ordering::Equal => first[8..].cmp(&second[8..]),
+        order => order,
     }
 }
 
@@ -215,7 +237,13 @@ impl Ord for Digest {
     ghost matches_eq = { texts_ties };
 
     fn cmp(&self, other: &Digest) -> Ordering {
-        self.checksum.cmp(&other.checksum)
+        // The algorithm's name stands first in a text.
+        match (&self.checksum, &other.checksum) {
+            (Checksum::Sha256(first), Checksum::Sha256(second)) => value_cmp(first, second),
+            (Checksum::Sha512(first), Checksum::Sha512(second)) => value_cmp(first, second),
+            (Checksum::Sha256(_), Checksum::Sha512(_)) => Ordering::Less,
+            (Checksum::Sha512(_), Checksum::Sha256(_)) => Ordering::Greater,
+        }
     }
 }
 
