@@ -9,8 +9,7 @@ use Rattle.blob_digest.specs.Checksums.{IsChecksum, text_of}
 use Rattle.blob_digest.specs.declared.checksum.Checksum.{Checksum}
 use Rattle.blob_digest.specs.declared.checksum.Checksum.TheVariants.{Sha256, Sha512}
 use Rattle.blob_digest.specs.contracts.checksum.ChecksumPartialEq.TheImpl as checksum_eq
-use Rattle.blob_digest.proofs.WordOrder.{more, tied}
-use Rattle.finite_maps.proofs.Sorted.{nat_cmp-less}
+use Rattle.finite_maps.proofs.Sorted.{nat_cmp-equal, nat_cmp-greater, nat_cmp-less}
 
 -- the digit of a value below sixteen
 abbrev char_of : ℕ → ℕ
@@ -45,12 +44,12 @@ pair_cmp : (a b : ℕ) (o : Ordering) → ordering_then (nat_cmp (a / 16) (b / 1
 pair_cmp a b o = elim (cases_lt (a / 16) (b / 16)) [
   | inl h ↦ rw (nat_cmp-less (a / 16) (b / 16) h, nat_cmp-less a b (omega arith)) refl
   | inr ge ↦ elim (cases_lt (b / 16) (a / 16)) [
-    | inl h ↦ rw (more (a / 16) (b / 16) h, more a b (omega arith)) refl
+    | inl h ↦ rw (nat_cmp-greater (a / 16) (b / 16) h, nat_cmp-greater a b (omega arith)) refl
     | inr le ↦ elim (cases_lt (a % 16) (b % 16)) [
-      | inl h ↦ rw (tied (a / 16) (b / 16) (omega arith), nat_cmp-less (a % 16) (b % 16) h, nat_cmp-less a b (omega arith)) refl
+      | inl h ↦ rw (nat_cmp-equal (a / 16) (b / 16) (omega arith), nat_cmp-less (a % 16) (b % 16) h, nat_cmp-less a b (omega arith)) refl
       | inr more_or_tied ↦ elim (cases_lt (b % 16) (a % 16)) [
-        | inl h ↦ rw (tied (a / 16) (b / 16) (omega arith), more (a % 16) (b % 16) h, more a b (omega arith)) refl
-        | inr same ↦ rw (tied (a / 16) (b / 16) (omega arith), tied (a % 16) (b % 16) (omega arith), tied a b (omega arith)) refl
+        | inl h ↦ rw (nat_cmp-equal (a / 16) (b / 16) (omega arith), nat_cmp-greater (a % 16) (b % 16) h, nat_cmp-greater a b (omega arith)) refl
+        | inr same ↦ rw (nat_cmp-equal (a / 16) (b / 16) (omega arith), nat_cmp-equal (a % 16) (b % 16) (omega arith), nat_cmp-equal a b (omega arith)) refl
       ]
     ]
   ]

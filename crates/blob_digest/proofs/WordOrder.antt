@@ -1,19 +1,12 @@
 -- Bytes stand in the order of the numbers that they are, the first byte the highest.
 use Rattle.std.proofs.Common.{Ordering, Less, Equal, Greater, ◌≡◌, ℕ, zero, suc, ◌+◌, ◌*◌, ◌<◌, ◌≤◌, ◌++◌, inl, inr, List, [], ◌∷◌, length, take, drop, refl, sym, ap, ◌∙◌, arith}
 use Rattle.std.proofs.lemmas.Bool.{cases_lt}
-use Rattle.std.proofs.lemmas.Bool.Decides.{nat_tests}
 use Rattle.std.specs.Ordering.{nat_cmp, ordering_then}
 use Rattle.std.specs.Cmp.Lexicographic.{slice_cmp}
 use Rattle.std.specs.Slice.Scan.{big_endian}
 use Rattle.hex.specs.Hex.{IsBytes}
 use Rattle.std.proofs.lemmas.List.{length-take-le, take-append-drop}
-use Rattle.finite_maps.proofs.Sorted.{nat_cmp-less}
-
-pub more : (x y : ℕ) → y < x → nat_cmp x y ≡ Greater
-more x y h = grind (arith, nat_tests)
-
-pub tied : (x y : ℕ) → x ≡ y → nat_cmp x y ≡ Equal
-tied x y h = grind (arith, nat_tests)
+use Rattle.finite_maps.proofs.Sorted.{nat_cmp-equal, nat_cmp-greater, nat_cmp-less}
 
 -- what stands behind a lower number stays below
 below : (xs ys : List ℕ) (a b : ℕ) → length xs ≡ length ys → IsBytes xs → a < b → big_endian a xs < big_endian b ys
@@ -25,20 +18,20 @@ below (x ∷ xs) (y ∷ ys) a b same small lt =
     below xs ys (a * 256 + x) (b * 256 + y) (omega arith) (λ i. small (suc i)) (omega arith)
 
 -- the numbers behind one number stand as the bytes do
-number_cmp : (xs ys : List ℕ) (a : ℕ) → length xs ≡ length ys → IsBytes xs → IsBytes ys → nat_cmp (big_endian a xs) (big_endian a ys) ≡ slice_cmp nat_cmp xs ys
-number_cmp [] [] a same hx hy = tied a a refl
-number_cmp [] (y ∷ ys) a same hx hy = absurd (omega arith)
-number_cmp (x ∷ xs) [] a same hx hy = absurd (omega arith)
-number_cmp (x ∷ xs) (y ∷ ys) a same hx hy =
+big_endian_cmp : (xs ys : List ℕ) (a : ℕ) → length xs ≡ length ys → IsBytes xs → IsBytes ys → nat_cmp (big_endian a xs) (big_endian a ys) ≡ slice_cmp nat_cmp xs ys
+big_endian_cmp [] [] a same hx hy = nat_cmp-equal a a refl
+big_endian_cmp [] (y ∷ ys) a same hx hy = absurd (omega arith)
+big_endian_cmp (x ∷ xs) [] a same hx hy = absurd (omega arith)
+big_endian_cmp (x ∷ xs) (y ∷ ys) a same hx hy =
     let sx : IsBytes xs = λ i. hx (suc i) in
     let sy : IsBytes ys = λ i. hy (suc i) in
     elim (cases_lt x y) [
       | inl lt ↦ rw (nat_cmp-less x y lt) (nat_cmp-less _ _ (below xs ys (a * 256 + x) (a * 256 + y) (omega arith) sx (omega arith)))
       | inr ge ↦ elim (cases_lt y x) [
-        | inl gt ↦ rw (more x y gt) (more _ _ (below ys xs (a * 256 + y) (a * 256 + x) (omega arith) sy (omega arith)))
+        | inl gt ↦ rw (nat_cmp-greater x y gt) (nat_cmp-greater _ _ (below ys xs (a * 256 + y) (a * 256 + x) (omega arith) sy (omega arith)))
         | inr le ↦
             let e : x ≡ y = omega arith in
-            rw (tied x y e, e) (number_cmp xs ys (a * 256 + y) (omega arith) sx sy)
+            rw (nat_cmp-equal x y e, e) (big_endian_cmp xs ys (a * 256 + y) (omega arith) sx sy)
       ]
     ]
 
@@ -50,8 +43,8 @@ parts_cmp (x ∷ xs) [] us vs same = absurd (omega arith)
 parts_cmp (x ∷ xs) (y ∷ ys) us vs same = elim (cases_lt x y) [
   | inl lt ↦ rw (nat_cmp-less x y lt) refl
   | inr ge ↦ elim (cases_lt y x) [
-    | inl gt ↦ rw (more x y gt) refl
-    | inr le ↦ rw (tied x y (omega arith)) (parts_cmp xs ys us vs (omega arith))
+    | inl gt ↦ rw (nat_cmp-greater x y gt) refl
+    | inr le ↦ rw (nat_cmp-equal x y (omega arith)) (parts_cmp xs ys us vs (omega arith))
   ]
 ]
 
@@ -67,7 +60,7 @@ pub words_cmp : (n : ℕ) (xs ys : List ℕ) (x y : ℕ) (r : Ordering) → n �
     → slice_cmp nat_cmp xs ys ≡ ordering_then r (slice_cmp nat_cmp (drop n xs) (drop n ys))
 words_cmp n xs ys x y r long_x long_y small_x small_y ex ey er =
     let size : length (take n xs) ≡ length (take n ys) = length-take-le n xs long_x ∙ sym (length-take-le n ys long_y) in
-    let front = number_cmp (take n xs) (take n ys) 0 size (IsBytes-take n xs small_x) (IsBytes-take n ys small_y) in
+    let front = big_endian_cmp (take n xs) (take n ys) 0 size (IsBytes-take n xs small_x) (IsBytes-take n ys small_y) in
     (λ i. slice_cmp nat_cmp (sym (take-append-drop n xs) i) (sym (take-append-drop n ys) i))
     ∙ parts_cmp (take n xs) (take n ys) (drop n xs) (drop n ys) size
     ∙ ap (λ o. ordering_then o (slice_cmp nat_cmp (drop n xs) (drop n ys))) (sym (er ∙ (λ i. nat_cmp (ex i) (ey i)) ∙ front))

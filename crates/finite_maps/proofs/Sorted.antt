@@ -33,6 +33,12 @@ is_less Greater e = cc
 pub nat_cmp-less : (x y : ℕ) → x < y → nat_cmp x y ≡ Less
 nat_cmp-less x y h = grind (arith, nat_tests)
 
+pub nat_cmp-equal : (x y : ℕ) → x ≡ y → nat_cmp x y ≡ Equal
+nat_cmp-equal x y h = grind (arith, nat_tests)
+
+pub nat_cmp-greater : (x y : ℕ) → y < x → nat_cmp x y ≡ Greater
+nat_cmp-greater x y h = grind (arith, nat_tests)
+
 -- the entries of a map rise by their keys
 pub rising : {K X : Type 0} {R : K → K → Ordering} (m : FinMap R X) → is_sorted R (entries m) ≡ true
 rising {R = R} m = from_T (is_sorted R (entries m)) (entries_sorted m)
