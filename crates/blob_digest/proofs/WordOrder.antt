@@ -1,5 +1,5 @@
 -- Bytes stand in the order of the numbers that they are, the first byte the highest.
-use Rattle.std.proofs.Common.{Ordering, Less, Equal, Greater, ◌≡◌, ℕ, zero, suc, ◌+◌, ◌*◌, ◌<◌, ◌≤◌, ◌++◌, inl, inr, List, [], ◌∷◌, length, take, drop, refl, sym, ap, ◌∙◌, arith}
+use Rattle.std.proofs.Common.{Ordering, ◌≡◌, ℕ, zero, suc, ◌+◌, ◌*◌, ◌<◌, ◌≤◌, ◌++◌, inl, inr, List, [], ◌∷◌, length, take, drop, refl, sym, ap, ◌∙◌, arith}
 use Rattle.std.proofs.lemmas.Bool.{cases_lt}
 use Rattle.std.specs.Ordering.{nat_cmp, ordering_then}
 use Rattle.std.specs.Cmp.Lexicographic.{slice_cmp}
@@ -55,18 +55,12 @@ IsBytes-take (suc n) (x ∷ xs) h zero = h 0
 IsBytes-take (suc n) (x ∷ xs) h (suc i) = IsBytes-take n xs (λ j. h (suc j)) i
 
 -- the numbers that the first n bytes are decide before the bytes behind them
-pub words_cmp : (n : ℕ) (xs ys : List ℕ) (x y : ℕ) (r : Ordering) → n ≤ length xs → n ≤ length ys → IsBytes xs → IsBytes ys
-    → x ≡ big_endian 0 (take n xs) → y ≡ big_endian 0 (take n ys) → r ≡ nat_cmp x y
+pub words_cmp : (n : ℕ) (xs ys : List ℕ) (x y : ℕ) → n ≤ length xs → n ≤ length ys → IsBytes xs → IsBytes ys
+    → x ≡ big_endian 0 (take n xs) → y ≡ big_endian 0 (take n ys) → (r : Ordering) → nat_cmp x y ≡ r
     → slice_cmp nat_cmp xs ys ≡ ordering_then r (slice_cmp nat_cmp (drop n xs) (drop n ys))
-words_cmp n xs ys x y r long_x long_y small_x small_y ex ey er =
+words_cmp n xs ys x y long_x long_y small_x small_y ex ey r er =
     let size : length (take n xs) ≡ length (take n ys) = length-take-le n xs long_x ∙ sym (length-take-le n ys long_y) in
     let front = big_endian_cmp (take n xs) (take n ys) 0 size (IsBytes-take n xs small_x) (IsBytes-take n ys small_y) in
     (λ i. slice_cmp nat_cmp (sym (take-append-drop n xs) i) (sym (take-append-drop n ys) i))
     ∙ parts_cmp (take n xs) (take n ys) (drop n xs) (drop n ys) size
-    ∙ ap (λ o. ordering_then o (slice_cmp nat_cmp (drop n xs) (drop n ys))) (sym (er ∙ (λ i. nat_cmp (ex i) (ey i)) ∙ front))
-
--- an order that is no tie decides
-pub decided : (r o : Ordering) → (r ≡ Equal → ⊥) → ordering_then r o ≡ r
-decided Less o h = refl
-decided Equal o h = absurd (h refl)
-decided Greater o h = refl
+    ∙ ap (λ o. ordering_then o (slice_cmp nat_cmp (drop n xs) (drop n ys))) (sym (sym er ∙ (λ i. nat_cmp (ex i) (ey i)) ∙ front))

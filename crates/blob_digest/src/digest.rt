@@ -115,9 +115,13 @@ fn value_cmp(first: &[u8], second: &[u8]) -> Ordering
     requires { (8 ≤ length first.now) × (8 ≤ length second.now) }
     ensures { result ≡ slice_cmp nat_cmp first.now second.now }
 {
-    match first_word(first).cmp(&first_word(second)) {
-        Ordering::Equal => first[8..].cmp(&second[8..]),
-        order => order,
+    let (x, y) = (first_word(first), first_word(second));
+    if x < y {
+        Ordering::Less
+    } else if y < x {
+        Ordering::Greater
+    } else {
+        first[8..].cmp(&second[8..])
     }
 }
 

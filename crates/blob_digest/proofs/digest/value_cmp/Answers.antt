@@ -1,19 +1,23 @@
-use Rattle.std.proofs.Common.{◌∙◌, ap, drop, sym}
+use Rattle.std.proofs.Common.{Equal, Greater, Less, ◌∙◌, arith, sym}
 use Rattle.std.proofs.lemmas.List.{take_rest}
-use Rattle.std.specs.Ordering.{nat_cmp, ordering_then}
+use Rattle.std.specs.Ordering.{nat_cmp}
 use Rattle.std.specs.Cmp.Lexicographic.{slice_cmp}
-use Rattle.blob_digest.proofs.WordOrder.{decided, words_cmp}
+use Rattle.finite_maps.proofs.Sorted.{nat_cmp-equal, nat_cmp-greater, nat_cmp-less}
+use Rattle.blob_digest.proofs.WordOrder.{words_cmp}
 use Rattle.blob_digest.proofs.digest.value_cmp.Goals as goal
 
-pub returns-in-Equal : goal.returns-in-Equal
-returns-in-Equal c =
-    let first = c.args.first.now in
-    let second = c.args.second.now in
-    let words = words_cmp 8 first second _ _ _ c.requires.0 c.requires.1 (λ i. (c.type_inv.first i).fits) (λ i. (c.type_inv.second i).fits) c.first_word.ensures c.first_word-2.ensures c.cmp.ensures in
-    c.cmp-in-Equal.ensures ∙ (λ i. slice_cmp nat_cmp (take_rest first 8 i) (take_rest second 8 i))
-    ∙ sym (words ∙ ap (λ o. ordering_then o (slice_cmp nat_cmp (drop 8 first) (drop 8 second))) c.in-Equal.is)
+pub returns-then-x-y : goal.returns-then-x-y
+returns-then-x-y c =
+    let by_words = words_cmp 8 _ _ _ _ c.requires.0 c.requires.1 (λ i. (c.type_inv.first i).fits) (λ i. (c.type_inv.second i).fits) c.first_word-x.ensures c.first_word-y.ensures in
+    sym (by_words Less (nat_cmp-less _ _ c.if-x-y.true))
 
-pub returns-in_default : goal.returns-in_default
-returns-in_default c =
-    let words = words_cmp 8 c.args.first.now c.args.second.now _ _ _ c.requires.0 c.requires.1 (λ i. (c.type_inv.first i).fits) (λ i. (c.type_inv.second i).fits) c.first_word.ensures c.first_word-2.ensures c.cmp.ensures in
-    sym (words ∙ decided c.cmp.result _ c.in_default.not-Equal)
+pub returns-then-y-x : goal.returns-then-y-x
+returns-then-y-x c =
+    let by_words = words_cmp 8 _ _ _ _ c.requires.0 c.requires.1 (λ i. (c.type_inv.first i).fits) (λ i. (c.type_inv.second i).fits) c.first_word-x.ensures c.first_word-y.ensures in
+    sym (by_words Greater (nat_cmp-greater _ _ c.if-y-x.true))
+
+pub returns-else-y-x : goal.returns-else-y-x
+returns-else-y-x c =
+    let by_words = words_cmp 8 _ _ _ _ c.requires.0 c.requires.1 (λ i. (c.type_inv.first i).fits) (λ i. (c.type_inv.second i).fits) c.first_word-x.ensures c.first_word-y.ensures in
+    c.cmp.ensures ∙ (λ i. slice_cmp nat_cmp (take_rest c.args.first.now 8 i) (take_rest c.args.second.now 8 i))
+    ∙ sym (by_words Equal (nat_cmp-equal c.first_word-x.result c.first_word-y.result (omega arith)))

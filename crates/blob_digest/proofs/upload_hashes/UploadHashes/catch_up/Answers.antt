@@ -1,4 +1,4 @@
-use Rattle.std.proofs.Common.{◌≤◌, ◌∙◌, arith, length, subst, sym, take}
+use Rattle.std.proofs.Common.{◌∙◌, arith, subst, sym, take}
 use Rattle.std.proofs.Math.Seq.{take-length}
 use Rattle.sha2.specs.Hashers.{Holds512}
 use Rattle.blob_digest.specs.Hashing.{HashesUpload}

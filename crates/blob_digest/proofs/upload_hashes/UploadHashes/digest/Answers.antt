@@ -1,4 +1,4 @@
-use Rattle.std.proofs.Common.{rules, ◌≡◌, ◌++◌, ◌∙◌, ap, subst, take}
+use Rattle.std.proofs.Common.{rules, ◌++◌, ◌∙◌, ap, subst, take}
 use Rattle.std.specs.Prelude.{codes}
 use Rattle.hex.specs.Hex.{encode_lower}
 use Rattle.sha2.specs.Hashers.{Holds256, Holds512}

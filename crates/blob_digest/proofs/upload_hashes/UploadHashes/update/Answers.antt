@@ -1,4 +1,4 @@
-use Rattle.std.proofs.Common.{◌++◌, ap, arith, length, subst, sym, take}
+use Rattle.std.proofs.Common.{arith, subst, sym}
 use Rattle.std.proofs.lemmas.List.{length-append, take-append-le}
 use Rattle.sha2.specs.Hashers.{Holds512}
 use Rattle.blob_digest.specs.Hashing.{HashesUpload}
