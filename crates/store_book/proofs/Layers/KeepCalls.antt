@@ -1,5 +1,5 @@
 -- Linking a sealed blob, from what the calls of the links and the slots did.
-use Rattle.std.proofs.Common.{◌≡◌, ◌≢◌, ℕ, ◌+◌, ◌<◌, ◌^◌, arith, Bool, true, false, cond, not, List, [], length, Some, None, Ok, is_some, refl, sym, ap, ◌∙◌, bytes_eq}
+use Rattle.std.proofs.Common.{◌≡◌, ◌≢◌, ℕ, ◌+◌, ◌<◌, ◌^◌, arith, Bool, true, false, cond, not, List, [], length, Some, None, Ok, refl, sym, ap, ◌∙◌, bytes_eq}
 use Rattle.std.specs.Prelude.{if◌then◌else◌}
 use Rattle.std.specs.Option.{option_map_or}
 use Rattle.std.specs.Ordering.{eq_by_cmp}

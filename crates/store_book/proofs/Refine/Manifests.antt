@@ -1,8 +1,7 @@
 -- The calls of the book on manifests, from what their calls of the layers did.
-use Rattle.std.proofs.Common.{◌≡◌, ℕ, ◌+◌, ◌≤◌, Bool, true, false, cond, List, [], ◌∷◌, length, drop, not, Option, Some, None, Result, Ok, Err, is_some, refl, sym, ap, ◌∙◌, subst, arith}
+use Rattle.std.proofs.Common.{◌≡◌, ℕ, ◌≤◌, Bool, true, false, cond, List, [], ◌∷◌, length, not, Option, Some, None, Result, Ok, Err, is_some, refl, sym, ap, ◌∙◌, subst, arith}
 use Prim.Native.Nat.{zero, suc}
-use native.Mathlib.Numerals.{unary_clauses}
-use Rattle.std.specs.Prelude.{slice_get, nat_le, nat_lt}
+use Rattle.std.specs.Prelude.{nat_le, nat_lt}
 use Rattle.std.specs.Option.{option_map, option_map_or}
 use Rattle.std.specs.FinMap.{get, insert, contains_key}
 use Rattle.std.proofs.lemmas.Bool.{le-ltb}
@@ -11,7 +10,7 @@ use Rattle.blob_digest.specs.Outcomes.{OutcomeIn}
 use Rattle.finite_maps.specs.Sets as set
 use Rattle.blob_digest.specs.declared.refusal.Refusal.{Refusal}
 use Rattle.blob_digest.specs.declared.refusal.Refusal.TheVariants.{LimitReached, ManifestBlobUnknown}
-use Rattle.finite_maps.proofs.Options.{some_same, some_none, no_value}
+use Rattle.finite_maps.proofs.Options.{no_value}
 use Rattle.oci_manifest.specs.Manifests.{IsManifest, refs_of, max_manifest}
 use Rattle.link_table.specs.ManifestTable.{manifests_in}
 use Rattle.link_table.specs.Linked.{Linked, known_tenant, appear, cannot_appear, first_unlinked, drop_manifest, put_manifest as put_manifest_on}

@@ -1,6 +1,6 @@
 use Rattle.std.proofs.Common.{◌∙◌, ap, arith, is_some, sym}
 use Rattle.std.specs.Option.{option_map_or}
-use Rattle.finite_maps.proofs.Options.{some_same, some_value}
+use Rattle.finite_maps.proofs.Options.{some_value}
 use Rattle.store_model.specs.Sessions.{Home, Session, with_chunks}
 use Rattle.upload_table.specs.Uploaded.{cut, with_sessions}
 use Rattle.upload_table.proofs.TableCalls.{after-chunks, found_here, within}
