@@ -2,7 +2,7 @@ use Rattle.std.proofs.Common.{◌+◌, ◌∙◌, ap, arith, subst, sym}
 use Rattle.locked_book.specs.Counting.{Content}
 use Rattle.locked_book.specs.History.{AreFresh}
 use Rattle.locked_book.proofs.Sums.{fresh_pushed}
-use Rattle.locked_book.proofs.desks.LockedBook.issue_all.Goals as goal
+use Rattle.locked_book.proofs.locked.LockedBook.issue_all.Goals as goal
 
 pub loop-i-preserved : goal.loop-i-preserved
 loop-i-preserved g c =

@@ -1,6 +1,6 @@
 use Rattle.std.proofs.Common.{◌≡◌, ◌+◌, ◌≤◌, vec_len, vec_capacity}
 use Rattle.locked_book.specs.History.{AreFresh}
-use Rattle.locked_book.proofs.desks.LockedBook.issue_all.Given as goal
+use Rattle.locked_book.proofs.locked.LockedBook.issue_all.Given as goal
 
 abbrev pub invariant-loop-i : goal.invariant-loop-i
 invariant-loop-i g l =

@@ -1,6 +1,6 @@
 use Rattle.std.proofs.Common.{ap, sym, subst}
 use Rattle.locked_book.specs.History.{Leaves, state_of}
-use Rattle.locked_book.proofs.desks.LockedBook.issue.Goals as goal
+use Rattle.locked_book.proofs.locked.LockedBook.issue.Goals as goal
 
 pub invariant_of-self : goal.invariant_of-self
 invariant_of-self g c =
