@@ -1,6 +1,6 @@
 -- The chunks of a hand: their lengths, and its bytes cut at the last one.
 use Rattle.std.proofs.Common.{◌≡◌, ◌≢◌, ℕ, ◌+◌, ◌≤◌, ◌<◌, Bool, true, false, List, [], ◌∷◌, ◌++◌, length, take, drop, Option, Some, None, refl, sym, ap, ◌∙◌, arith, length-drop}
-use Rattle.std.specs.Prelude.{sum, IfSome, nat_lt}
+use Rattle.std.specs.Prelude.{sum, IfSome, if◌then◌else◌, is_some, nat_lt}
 use Rattle.std.specs.Option.{option_map, option_map_or}
 use Rattle.std.specs.List.{AllByRecursion, concat, sum_by}
 use Rattle.std.proofs.lemmas.Bool.Decides.{nat_tests}
@@ -80,13 +80,13 @@ module _ (received reserved : ℕ) (p : ChunkBuffer) (room : ℕ) (whole : Optio
       at (Some w) filled = ap (λ front. front ++ drop received p.bytes.items) (concat-cut-front p.lens.items p.bytes.items chunks_within)
           ∙ ap (λ k. take k p.bytes.items ++ drop received p.bytes.items) hand.lengths ∙ take-append-drop received p.bytes.items
 
-  -- with the length of the last one, its bytes are cut into all its chunks
-  pub hand_chunks : (t n : ℕ) (w : Hashed) → whole ≡ Some w → cut (with_length p.lens.items reserved) p.bytes.items ≡ chunks_of (taken t n received reserved p whole)
-  hand_chunks t n w is = at whole is hand.filled
+  -- with the length of the last one, where there is one, its bytes are cut into all its chunks
+  pub hand_chunks : (t n : ℕ) → cut (if is_some whole then with_length p.lens.items reserved else p.lens.items) p.bytes.items ≡ chunks_of (taken t n received reserved p whole)
+  hand_chunks t n = at whole hand.filled
     where
-      at : (v : Option Hashed) → v ≡ Some w → IsFilled received reserved p room v → cut (with_length p.lens.items reserved) p.bytes.items ≡ chunks_of (taken t n received reserved p v)
-      at None none filled = absurd cc
-      at (Some v) some filled =
+      at : (v : Option Hashed) → IsFilled received reserved p room v → cut (if is_some v then with_length p.lens.items reserved else p.lens.items) p.bytes.items ≡ chunks_of (taken t n received reserved p v)
+      at None filled = refl
+      at (Some v) filled =
           let len : length p.bytes.items ≡ sum p.lens.items + reserved = omega (arith, filled.0, hand.lengths) in
           cut-last p.lens.items p.bytes.items reserved len ∙ ap (λ k. with_chunk (cut p.lens.items p.bytes.items) (drop k p.bytes.items)) hand.lengths
 

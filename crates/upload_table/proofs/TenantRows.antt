@@ -1,6 +1,6 @@
 -- The rows of one tenant, in the order of their numbers, as a map: a row found, added, changed and taken out.
 use Rattle.std.proofs.Common.{◌≡◌, ℕ, zero, suc, ◌+◌, ◌<◌, ◌≤◌, true, false, List, [], ◌∷◌, ◌++◌, length, map, set, get_or, Some, None, Ok, Err, refl, sym, ap, ◌∙◌, subst, arith}
-use Rattle.std.specs.Prelude.{◌^◌, ◌&&◌, nat_le, sum}
+use Rattle.std.specs.Prelude.{◌^◌, ◌&&◌, nat_le}
 use Rattle.std.specs.declared.cmp.Ordering.{Ordering}
 use Rattle.std.specs.declared.cmp.Ordering.TheVariants.{Less, Equal}
 use Rattle.std.specs.Ordering.{eq_by_cmp, is_eq, is_lt, nat_cmp}
@@ -24,7 +24,7 @@ use Rattle.upload_table.specs.Rows.{chunks_shown, content_charge, content_receiv
 use Rattle.upload_table.specs.declared.upload.Content.{Content}
 use Rattle.upload_table.specs.declared.upload.Content.TheVariants.{Home, InHand}
 use Rattle.upload_table.specs.declared.upload.Upload.{Upload}
-use Rattle.upload_table.proofs.Cuts.{sum_by-cut}
+use Rattle.upload_table.proofs.HandCalls.{whole_length}
 
 -- ---- lists
 
@@ -82,7 +82,7 @@ pub received_is : (u : Upload) → AreWhole u.content → received (session_of u
 received_is u = at u.content
   where
     at : (c : Content) → AreWhole c → received_of (chunks_shown c) ≡ content_received c
-    at (Home p) whole = let le : sum p.lens.items ≤ length p.bytes.items = omega (arith, whole.lengths) in sum_by-cut p.lens.items p.bytes.items le ∙ whole.lengths
+    at (Home p) whole = whole_length p.value whole
     at (InHand n m) whole = refl
 
 pub charged_is : (u : Upload) → AreWhole u.content → charged (session_of u) ≡ content_charge u.content
@@ -90,8 +90,7 @@ charged_is u = at u.content
   where
     at : (c : Content) → AreWhole c → received_of (chunks_shown c) + reserved_of (chunks_shown c) ≡ content_charge c
     at (Home p) whole =
-        let le : sum p.lens.items ≤ length p.bytes.items = omega (arith, whole.lengths) in
-        let len : received_of (chunks_shown (Home p)) ≡ length p.bytes.items = sum_by-cut p.lens.items p.bytes.items le ∙ whole.lengths in
+        let len : received_of (chunks_shown (Home p)) ≡ length p.value.bytes.items = whole_length p.value whole in
         omega (arith, len)
     at (InHand n m) whole = refl
 

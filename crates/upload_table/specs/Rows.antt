@@ -20,7 +20,7 @@ use Rattle.upload_table.specs.declared.upload.Upload.{Upload}
 
 -- the chunks that a row stands for
 abbrev pub chunks_shown : Content → Chunks
-chunks_shown (Home p) = shown.Home (cut p.lens.items p.bytes.items)
+chunks_shown (Home p) = shown.Home (cut p.value.lens.items p.value.bytes.items)
 chunks_shown (InHand received reserved) = shown.InHand received reserved
 
 abbrev pub session_of : Upload → Session
@@ -34,24 +34,25 @@ entry_of u = (u.number, session_of u)
 abbrev pub shown_by : ℕ → List Upload → Numbered
 shown_by next rows = record { next = next; sessions = fmap.from_entries (map entry_of rows) }
 
--- the lengths are those of chunks with bytes, and the hashes are those of the bytes
+-- the lengths are those of chunks with bytes, the hashes are those of the bytes, and no last chunk is to come to them
 pub record IsWhole (p : ChunkBuffer) : Type 0 where
   pub lengths : sum p.lens.items ≡ length p.bytes.items
   pub positive : AllByRecursion (λ n. 0 < n) p.lens.items
   pub hash : HashesUpload p.hashes p.bytes.items
+  pub none : p.whole ≡ None
 
 -- a row at home has whole chunks
 abbrev pub AreWhole : Content → Type 0
-AreWhole (Home p) = IsWhole p
+AreWhole (Home p) = IsWhole p.value
 AreWhole (InHand received reserved) = Unit {0}
 
 -- how many bytes a row has received, and how many it counts in its tenant's use
 abbrev pub content_received : Content → ℕ
-content_received (Home p) = length p.bytes.items
+content_received (Home p) = length p.value.bytes.items
 content_received (InHand received reserved) = received
 
 abbrev pub content_charge : Content → ℕ
-content_charge (Home p) = length p.bytes.items
+content_charge (Home p) = length p.value.bytes.items
 content_charge (InHand received reserved) = received + reserved
 
 -- whether a row is at home

@@ -1,19 +1,19 @@
 //! What is in hand of a session: its chunks, outside the table.
 
-ghost use Rattle.std.specs.Prelude.{◌≡◌, ◌≢◌, ◌+◌, ◌<◌, ◌≤◌, ◌^◌, [], Some, None, IfSome, IfOk, IfErr, OnErr, true, false, is_some, length, sum_by, take};
+ghost use Rattle.std.specs.Prelude.{◌≡◌, ◌≢◌, ◌+◌, ◌<◌, ◌≤◌, ◌^◌, [], Some, None, IfSome, IfOk, IfErr, OnErr, true, false, if◌then◌else◌, is_some, length, sum_by, take};
 ghost use Rattle.std.specs.List.{AllByRecursion};
-ghost use Rattle.blob_digest.specs.Digests.{is_digest_of};
+ghost use Rattle.blob_digest.specs.Digests.{hash_text, is_digest_of};
 ghost use Rattle.blob_digest.specs.Hashing.{HashesUpload};
 ghost use Rattle.store_model.specs.Sessions.{chunks_of, whole_of};
 ghost use Rattle.upload_table.specs.Uploaded.{cut, BeginsWith};
 ghost use Rattle.store_model.specs.Sessions.{IsFull};
-ghost use Rattle.upload_table.specs.Rows.{with_length, IsHashOf, IsWhole};
+ghost use Rattle.upload_table.specs.Rows.{with_length, IsFilled, IsHashOf, IsWhole};
 ghost use Rattle.std.specs.Vec.{vec_capacity};
 
-use crate::hashed::Hashed;
 use crate::upload::{ChunkBuffer, extend, sum_of};
-use blob_digest::{Algorithm, Blob, Digest, UploadHashes};
+use blob_digest::{Algorithm, Blob, Digest};
 use std::marker::Model;
+use std::mem;
 
 /// The chunks of a session in hand, with room reserved for one more. Its bytes are copied and hashed by
 /// `fill` or `fill_last`, which look at no table, so that a table need not be locked for them.
@@ -24,8 +24,7 @@ pub struct Hand {
     number: u32,
     received: u64,
     reserved: u64,
-    pieces: ChunkBuffer,
-    whole: Option<Hashed>,
+    pieces: Box<ChunkBuffer>,
 }
 
 impl Model for Hand {
@@ -38,9 +37,9 @@ impl Model for Hand {
 
     ghost use Rattle.upload_table.specs.Rows.{taken, IsHand};
 
-    ghost view = { λ h. taken h.tenant h.number h.received h.reserved h.pieces h.whole };
+    ghost view = { λ h. taken h.tenant h.number h.received h.reserved h.pieces.value h.pieces.value.whole };
 
-    ghost invariant = { λ h. IsHand h.received h.reserved h.pieces (vec_capacity h.pieces.lens) h.whole };
+    ghost invariant = { λ h. IsHand h.received h.reserved h.pieces.value (vec_capacity h.pieces.value.lens) h.pieces.value.whole };
 }
 
 /// What is left of a hand whose bytes have moved into a blob. `Uploads::forget` or `Uploads::reopen`
@@ -48,12 +47,11 @@ impl Model for Hand {
 pub struct PendingClose {
     pub(crate) tenant: u16,
     pub(crate) number: u32,
-    pub(crate) lens: Vec<u64>,
-    pub(crate) hashes: UploadHashes,
+    pub(crate) pieces: Box<ChunkBuffer>,
 }
 
 impl Model for PendingClose {
-    ghost use Rattle.std.specs.Prelude.{◌<◌};
+    ghost use Rattle.std.specs.Prelude.{◌≡◌, ◌<◌, None};
     ghost use Rattle.std.specs.List.{AllByRecursion};
     ghost use Rattle.upload_table.specs.Uploaded.{Rest, coded_rest};
 
@@ -61,17 +59,17 @@ impl Model for PendingClose {
 
     ghost coded = { coded_rest };
 
-    ghost view = { λ s. record { key = (s.tenant, s.number); lens = s.lens.items; hashes = s.hashes } };
+    ghost view = { λ s. record { key = (s.tenant, s.number); lens = s.pieces.value.lens.items; hashes = s.pieces.value.hashes } };
 
-    ghost invariant = { λ s. AllByRecursion (λ n. 0 < n) s.lens.items };
+    ghost invariant = { λ s. AllByRecursion (λ n. 0 < n) s.pieces.value.lens.items × (s.pieces.value.whole ≡ None) };
 }
 
 impl Hand {
     /// The hand of a session's chunks, not filled.
-    pub(crate) fn new(tenant: u16, number: u32, reserved: u64, pieces: ChunkBuffer) -> Hand
-        requires whole { IsWhole pieces }
-        requires fits { length pieces.bytes.items + reserved < 2 ^ 64 }
-        ensures { result ≡ record { key = (tenant, number); chunks = cut pieces.lens.items pieces.bytes.items; reserved = reserved; last = None } }
+    pub(crate) fn new(tenant: u16, number: u32, reserved: u64, pieces: Box<ChunkBuffer>) -> Hand
+        requires whole { IsWhole pieces.value }
+        requires fits { length pieces.value.bytes.items + reserved < 2 ^ 64 }
+        ensures { result ≡ record { key = (tenant, number); chunks = cut pieces.value.lens.items pieces.value.bytes.items; reserved = reserved; last = None } }
     {
         let received = pieces.bytes.as_slice().len() as u64;
         Hand {
@@ -80,7 +78,6 @@ impl Hand {
             received,
             reserved,
             pieces,
-            whole: None,
         }
     }
 
@@ -119,7 +116,7 @@ impl Hand {
     pub fn filled(&self) -> bool
         ensures { result ≡ is_some self.now.last }
     {
-        self.whole.is_some()
+        self.pieces.whole.is_some()
     }
 
     /// Fills in the chunk, of the reserved length: copies and hashes its bytes, and makes the room that
@@ -158,32 +155,25 @@ impl Hand {
             received,
             reserved,
             mut pieces,
-            whole: _,
         } = self;
-        match extend(&mut pieces, bytes, algorithm) {
-            Ok(all) => Ok(Hand {
-                tenant,
-                number,
-                received,
-                reserved,
-                pieces,
-                whole: Some(all),
-            }),
-            Err(_) => Err(Hand {
-                tenant,
-                number,
-                received,
-                reserved,
-                pieces,
-                whole: None,
-            }),
+        let filled = extend(&mut pieces, bytes, algorithm);
+        let hand = Hand {
+            tenant,
+            number,
+            received,
+            reserved,
+            pieces,
+        };
+        match filled {
+            Ok(()) => Ok(hand),
+            Err(_) => Err(hand),
         }
     }
 
     /// The chunks, and then the one that was filled in, where it has bytes. It takes no memory.
-    pub(crate) fn into_pieces(self) -> ChunkBuffer
-        ensures whole { IsWhole result }
-        ensures chunks { cut result.lens.items result.bytes.items ≡ chunks_of self }
+    pub(crate) fn into_pieces(self) -> Box<ChunkBuffer>
+        ensures whole { IsWhole result.value }
+        ensures chunks { cut result.value.lens.items result.value.bytes.items ≡ chunks_of self }
         ensures fits { sum_by length (chunks_of self) ≤ sum_by length self.chunks + self.reserved }
     {
         let Hand {
@@ -191,61 +181,46 @@ impl Hand {
             number: _,
             received,
             reserved,
-            pieces,
-            whole,
+            mut pieces,
         } = self;
-        match whole {
-            Some(hashed) => with_last(pieces, received as usize, reserved, hashed),
-            None => pieces,
-        }
+        add_last(&mut pieces, received as usize, reserved);
+        pieces
     }
 
     /// Moves the bytes into a blob of this digest. Where they have another, the chunks come back
     /// without the one that was filled in.
-    pub(crate) fn seal(self, digest: &Digest) -> Result<(Blob, PendingClose), ChunkBuffer>
+    pub(crate) fn seal(self, digest: &Digest) -> Result<(Blob, PendingClose), Box<ChunkBuffer>>
         requires full { IsFull self }
         ensures blob { IfOk result (λ r. r.0 ≡ (digest.now, whole_of self)) }
         ensures agrees { IfOk result (λ r. is_digest_of digest.now (whole_of self) ≡ true) }
         ensures rest { IfOk result (λ r. BeginsWith r.1 r.0.1 × (r.1.key ≡ self.key) × (cut r.1.lens r.0.1 ≡ self.chunks)) }
         ensures other { OnErr result (is_digest_of digest.now (whole_of self) ≡ false) }
-        ensures whole { IfErr result (λ p. IsWhole p) }
-        ensures chunks { IfErr result (λ p. cut p.lens.items p.bytes.items ≡ self.chunks) }
+        ensures whole { IfErr result (λ p. IsWhole p.value) }
+        ensures chunks { IfErr result (λ p. cut p.value.lens.items p.value.bytes.items ≡ self.chunks) }
     {
         let Hand {
             tenant,
             number,
             received,
             reserved: _,
-            pieces,
-            whole,
+            mut pieces,
         } = self;
-        let ChunkBuffer {
-            bytes,
-            lens,
-            mut hashes,
-        } = pieces;
-        let all = bytes.as_slice();
-        let found = match whole {
-            Some(hashed) => hashed.digest(&mut hashes, all, received as usize, digest.algorithm()),
-            None => hashes.digest(all, received as usize, digest.algorithm()),
-        };
+        let found = whole_digest(&mut pieces, received as usize, digest.algorithm());
+        let none = Vec::new(*pieces.bytes.allocator());
+        let bytes = mem::replace(&mut pieces.bytes, none);
         match Blob::seal_found(bytes, found, digest) {
             Ok(blob) => Ok((
                 blob,
                 PendingClose {
                     tenant,
                     number,
-                    lens,
-                    hashes,
+                    pieces,
                 },
             )),
             Err(mut refused) => {
                 refused.truncate(received as usize);
-                Err(ChunkBuffer {
-                    bytes: refused,
-                    lens,
-                    hashes,
-                })
+                pieces.bytes = refused;
+                Err(pieces)
             }
         }
     }
@@ -258,60 +233,66 @@ impl Hand {
             received: _,
             reserved: _,
             pieces: _,
-            whole: _,
         } = self;
     }
 }
 
-/// The chunks with the last one, whose bytes are there and for whose length there is room.
-fn with_last(pieces: ChunkBuffer, received: usize, len: u64, hashed: Hashed) -> ChunkBuffer
-    requires room { length pieces.lens.items < vec_capacity pieces.lens }
-    requires within { received ≤ length pieces.bytes.items }
-    requires front { HashesUpload pieces.hashes (take received pieces.bytes.items) }
-    requires all { IsHashOf hashed pieces.bytes.items }
-    ensures bytes { result.bytes.items ≡ pieces.bytes.items }
-    ensures lens { result.lens.items ≡ with_length pieces.lens.items len }
-    ensures hash { HashesUpload result.hashes pieces.bytes.items }
+/// Takes the last chunk, where one was filled in, among the lengths and the hashes: its bytes are there, and so is the
+/// room for its length.
+fn add_last(pieces: &mut ChunkBuffer, received: usize, len: u64)
+    requires last { IsFilled received len pieces.old (vec_capacity pieces.old.lens) pieces.old.whole }
+    requires front { HashesUpload pieces.old.hashes (take received pieces.old.bytes.items) }
+    ensures none { pieces.new.whole ≡ None }
+    ensures bytes { pieces.new.bytes.items ≡ pieces.old.bytes.items }
+    ensures lens { pieces.new.lens.items ≡ if is_some pieces.old.whole then with_length pieces.old.lens.items len else pieces.old.lens.items }
+    ensures hash { HashesUpload pieces.new.hashes pieces.old.bytes.items }
 {
-    let ChunkBuffer {
-        bytes,
-        mut lens,
-        hashes,
-    } = pieces;
-    let hashes = hashed.into_hashes(hashes, &bytes[received..]);
+    let Some(hashed) = mem::replace(&mut pieces.whole, None) else {
+        return;
+    };
+    hashed.move_into(&mut pieces.hashes, &pieces.bytes[received..]);
     if len > 0 {
-        match lens.push(len) {
+        match pieces.lens.push(len) {
             Ok(()) => {}
             Err(_) => unreachable!(),
         }
     }
-    ChunkBuffer {
-        bytes,
-        lens,
-        hashes,
+}
+
+/// The digest by an algorithm of all bytes, of which so many first ones are those of the chunks. What hashing all of
+/// them gave is used up.
+fn whole_digest(pieces: &mut ChunkBuffer, received: usize, algorithm: Algorithm) -> Digest
+    requires within { received ≤ length pieces.old.bytes.items }
+    requires front { HashesUpload pieces.old.hashes (take received pieces.old.bytes.items) }
+    requires all { IfSome pieces.old.whole (λ w. IsHashOf w pieces.old.bytes.items) }
+    ensures value { result ≡ hash_text algorithm pieces.old.bytes.items }
+    ensures kept { (pieces.new.bytes ≡ pieces.old.bytes) × (pieces.new.lens ≡ pieces.old.lens) × (pieces.new.whole ≡ None) }
+    ensures same { HashesUpload pieces.new.hashes (take received pieces.old.bytes.items) }
+{
+    let whole = mem::replace(&mut pieces.whole, None);
+    let bytes = pieces.bytes.as_slice();
+    match whole {
+        Some(hashed) => hashed.digest(&mut pieces.hashes, bytes, received, algorithm),
+        None => pieces.hashes.digest(bytes, received, algorithm),
     }
 }
 
 impl PendingClose {
     /// The chunks again, their bytes moved back out of a blob that begins with them.
-    pub(crate) fn into_pieces(self, blob: Blob) -> ChunkBuffer
+    pub(crate) fn into_pieces(self, blob: Blob) -> Box<ChunkBuffer>
         requires { BeginsWith self blob.1 }
-        ensures whole { IsWhole result }
-        ensures chunks { cut result.lens.items result.bytes.items ≡ cut self.lens blob.1 }
+        ensures whole { IsWhole result.value }
+        ensures chunks { cut result.value.lens.items result.value.bytes.items ≡ cut self.lens blob.1 }
     {
         let PendingClose {
             tenant: _,
             number: _,
-            lens,
-            hashes,
+            mut pieces,
         } = self;
-        let received = sum_of(lens.as_slice());
+        let received = sum_of(pieces.lens.as_slice());
         let mut bytes = blob.into_bytes();
         bytes.truncate(received as usize);
-        ChunkBuffer {
-            bytes,
-            lens,
-            hashes,
-        }
+        pieces.bytes = bytes;
+        pieces
     }
 }

@@ -36,17 +36,14 @@ impl Hashed {
         }
     }
 
-    /// The hashes of all bytes. Where a digest alone was made, the chunk is hashed again, behind the bytes
-    /// before it.
-    pub(crate) fn into_hashes(self, mut front: UploadHashes, chunk: &[u8]) -> UploadHashes
-        ensures { (before : List ℕ) → HashesUpload front before → IsHashOf self (before ++ chunk.now) → HashesUpload result (before ++ chunk.now) }
+    /// Makes the hashes of the bytes before the last chunk those of all bytes. Where a digest alone was made, the chunk is
+    /// hashed again, behind the bytes before it.
+    pub(crate) fn move_into(self, front: &mut UploadHashes, chunk: &[u8])
+        ensures { (before : List ℕ) → HashesUpload front.old before → IsHashOf self (before ++ chunk.now) → HashesUpload front.new (before ++ chunk.now) }
     {
         match self {
-            Hashed::All(all) => all,
-            Hashed::One(_) => {
-                front.update(chunk);
-                front
-            }
+            Hashed::All(all) => *front = all,
+            Hashed::One(_) => front.update(chunk),
         }
     }
 

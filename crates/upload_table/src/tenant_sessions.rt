@@ -87,7 +87,7 @@ impl TenantSessions {
         let row = Upload {
             number,
             repo: repo.clone()?,
-            content: Content::Home(ChunkBuffer::new(alloc)),
+            content: Content::Home(Box::new(alloc, ChunkBuffer::new(alloc))?),
         };
         self.rows.push(row)?;
         self.next += 1;
@@ -115,13 +115,13 @@ impl TenantSessions {
 
     /// Takes the chunks of a session that is at home, and reserves so many bytes for a chunk more. It
     /// takes no memory.
-    pub(crate) fn take(&mut self, number: u32, len: u64) -> ChunkBuffer
+    pub(crate) fn take(&mut self, number: u32, len: u64) -> Box<ChunkBuffer>
         requires home { is_home (fmap.get self.old.sessions number) ≡ true }
         requires room { charged_in self.old + len < 2 ^ 64 }
-        ensures whole { IsWhole result }
-        ensures fits { length result.bytes.items + len < 2 ^ 64 }
-        ensures chunks { option_map (λ s. s.chunks) (fmap.get self.old.sessions number) ≡ Some (Home (cut result.lens.items result.bytes.items)) }
-        ensures taken { self.new ≡ with_chunks_here self.old number (InHand (length result.bytes.items) len) }
+        ensures whole { IsWhole result.value }
+        ensures fits { length result.value.bytes.items + len < 2 ^ 64 }
+        ensures chunks { option_map (λ s. s.chunks) (fmap.get self.old.sessions number) ≡ Some (Home (cut result.value.lens.items result.value.bytes.items)) }
+        ensures taken { self.new ≡ with_chunks_here self.old number (InHand (length result.value.bytes.items) len) }
     {
         match place_of(self.rows.as_slice(), number) {
             Ok(i) => {
@@ -134,12 +134,12 @@ impl TenantSessions {
 
     /// Puts chunks home into a session, which counts no more with them than before, and answers their
     /// length. It takes no memory.
-    pub(crate) fn put_home(&mut self, number: u32, pieces: ChunkBuffer) -> u64
+    pub(crate) fn put_home(&mut self, number: u32, pieces: Box<ChunkBuffer>) -> u64
         requires there { IsSome (fmap.get self.old.sessions number) }
-        requires less { (s : Session) → fmap.get self.old.sessions number ≡ Some s → length pieces.bytes.items ≤ charged s }
-        requires whole { IsWhole pieces }
-        ensures len { result ≡ length pieces.bytes.items }
-        ensures home { self.new ≡ with_chunks_here self.old number (Home (cut pieces.lens.items pieces.bytes.items)) }
+        requires less { (s : Session) → fmap.get self.old.sessions number ≡ Some s → length pieces.value.bytes.items ≤ charged s }
+        requires whole { IsWhole pieces.value }
+        ensures len { result ≡ length pieces.value.bytes.items }
+        ensures home { self.new ≡ with_chunks_here self.old number (Home (cut pieces.value.lens.items pieces.value.bytes.items)) }
     {
         match place_of(self.rows.as_slice(), number) {
             Ok(i) => {

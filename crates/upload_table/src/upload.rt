@@ -1,11 +1,12 @@
 //! An open session, and its chunks.
 
-ghost use Rattle.std.specs.Prelude.{◌≡◌, ◌+◌, ◌<◌, ◌^◌, ◌++◌, [], IfOk, OnOk, OnErr, length, sum, true};
+ghost use Rattle.std.specs.Prelude.{◌≡◌, ◌+◌, ◌<◌, ◌^◌, ◌++◌, [], OnOk, OnErr, Some, length, sum, true};
 ghost use Rattle.std.specs.Vec.{vec_capacity};
 ghost use Rattle.blob_digest.specs.Hashing.{HashesUpload};
 ghost use Rattle.store_model.specs.Sessions.{length_after as length_after_chunk};
 ghost use Rattle.upload_table.specs.Rows.{content_charge, content_received, is_at_home, is_out, IsHashOf, IsWhole};
 ghost use Rattle.upload_table.specs.Uploaded.{cut};
+ghost use Rattle.upload_table.specs.declared.hashed.Hashed.{Hashed};
 ghost use Rattle.upload_table.specs.declared.upload.Content.TheVariants.{Home, InHand};
 
 use crate::hashed::Hashed;
@@ -19,12 +20,16 @@ pub(crate) struct ChunkBuffer {
     pub(crate) bytes: Vec<u8>,
     pub(crate) lens: Vec<u64>,
     pub(crate) hashes: UploadHashes,
+    /// What hashing all bytes gave, where the last of them are a chunk of a hand, which is neither among the lengths
+    /// nor among the hashes yet.
+    pub(crate) whole: Option<Hashed>,
 }
 
-/// What the table has of a session: its chunks, or only their length while they are in hand.
+/// What the table has of a session: its chunks, or only their length while they are in hand. The chunks lie in a box, so
+/// that they go into a hand and back without a copy of the hashes' state.
 #[derive(Drop)]
 pub(crate) enum Content {
-    Home(ChunkBuffer),
+    Home(Box<ChunkBuffer>),
     InHand { received: u64, reserved: u64 },
 }
 
@@ -47,6 +52,7 @@ impl ChunkBuffer {
             bytes: Vec::new(alloc),
             lens: Vec::new(alloc),
             hashes: UploadHashes::new(),
+            whole: None,
         }
     }
 }
@@ -89,7 +95,7 @@ pub(crate) fn is_in_hand(content: &Content, received: u64, reserved: u64) -> boo
 }
 
 /// Takes the chunks out of a session that is at home, and reserves so many bytes.
-pub(crate) fn take_chunks(upload: &mut Upload, len: u64) -> ChunkBuffer
+pub(crate) fn take_chunks(upload: &mut Upload, len: u64) -> Box<ChunkBuffer>
     requires { is_at_home upload.old.content ≡ true }
     ensures pieces { upload.old.content ≡ Home result }
     ensures row { upload.new ≡ record upload.old { content = InHand (content_received upload.old.content) len } }
@@ -130,19 +136,19 @@ pub(crate) fn length_after(
     }
 }
 
-/// Adds the bytes of a chunk at the end, makes room for its length, and answers what hashing all bytes gave: their
+/// Adds the bytes of a chunk at the end, makes room for its length, and keeps what hashing all bytes gives: their
 /// digest by the one algorithm that is named, or else their hashes, behind which more chunks may follow. The chunks' own
 /// hashes stay theirs, so that they need not be hashed again where the last one goes.
 pub(crate) fn extend(
     pieces: &mut ChunkBuffer,
     chunk: &[u8],
     algorithm: Option<Algorithm>,
-) -> Result<Hashed, AllocError>
+) -> Result<(), AllocError>
     requires { HashesUpload pieces.old.hashes pieces.old.bytes.items }
-    ensures hash { IfOk result (λ w. IsHashOf w pieces.new.bytes.items) }
+    ensures hash { OnOk result ((w : Hashed) × (pieces.new.whole ≡ Some w) × IsHashOf w pieces.new.bytes.items) }
     ensures bytes { OnOk result (pieces.new.bytes.items ≡ pieces.old.bytes.items ++ chunk.now) }
     ensures room { OnOk result (length pieces.new.lens.items < vec_capacity pieces.new.lens) }
-    ensures err { OnErr result (pieces.new.bytes.items ≡ pieces.old.bytes.items) }
+    ensures err { OnErr result ((pieces.new.bytes.items ≡ pieces.old.bytes.items) × (pieces.new.whole ≡ pieces.old.whole)) }
     ensures lens { pieces.new.lens.items ≡ pieces.old.lens.items }
     ensures front { HashesUpload pieces.new.hashes pieces.old.bytes.items }
 {
@@ -150,7 +156,9 @@ pub(crate) fn extend(
     pieces.lens.reserve(1)?;
     pieces.bytes.extend_from_slice(chunk)?;
     let bytes = pieces.bytes.as_slice();
-    Ok(Hashed::of(&mut pieces.hashes, bytes, received, algorithm))
+    let whole = Hashed::of(&mut pieces.hashes, bytes, received, algorithm);
+    pieces.whole = Some(whole);
+    Ok(())
 }
 
 /// The sum of the lengths of some chunks.

@@ -242,12 +242,12 @@ impl Uploads {
 
     /// Brings chunks home into a session, which counts no more with them than before, and answers their
     /// length. It takes no memory.
-    fn bring_home(&mut self, tenant: u16, number: u32, pieces: ChunkBuffer) -> u64
+    fn bring_home(&mut self, tenant: u16, number: u32, pieces: Box<ChunkBuffer>) -> u64
         requires there { IsSome (fmap.get self.old.sessions (tenant, number)) }
-        requires less { (s : Session) → fmap.get self.old.sessions (tenant, number) ≡ Some s → length pieces.bytes.items ≤ charged s }
-        requires whole { IsWhole pieces }
-        ensures len { result ≡ length pieces.bytes.items }
-        ensures home { self.new ≡ brought_with self.old (tenant, number) (cut pieces.lens.items pieces.bytes.items) }
+        requires less { (s : Session) → fmap.get self.old.sessions (tenant, number) ≡ Some s → length pieces.value.bytes.items ≤ charged s }
+        requires whole { IsWhole pieces.value }
+        ensures len { result ≡ length pieces.value.bytes.items }
+        ensures home { self.new ≡ brought_with self.old (tenant, number) (cut pieces.value.lens.items pieces.value.bytes.items) }
     {
         self.tenants[tenant as usize].put_home(number, pieces)
     }
@@ -260,8 +260,7 @@ impl Uploads {
         let PendingClose {
             tenant,
             number,
-            lens: _,
-            hashes: _,
+            pieces: _,
         } = sealed;
         self.tenants[tenant as usize].remove(number);
     }

@@ -7,5 +7,5 @@ use Rattle.upload_table.proofs.hand.Hand.received.Goals as goal
 
 pub returns : goal.returns
 returns c =
-    hand_received c.self.inside.received c.self.inside.reserved c.self.inside.pieces (vec_capacity c.self.inside.pieces.lens) c.self.inside.whole c.self.invariant
+    hand_received c.self.inside.received c.self.inside.reserved c.self.inside.pieces.value (vec_capacity c.self.inside.pieces.value.lens) c.self.inside.pieces.value.whole c.self.invariant
     ∙ ap (λ (h : Taken). sum_by length h.chunks) c.self.view_is

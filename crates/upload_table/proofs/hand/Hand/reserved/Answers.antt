@@ -8,4 +8,4 @@ use Rattle.upload_table.proofs.hand.Hand.reserved.Goals as goal
 pub returns-clause-pieces : goal.returns-clause-pieces
 returns-clause-pieces c =
     subst (λ (h : Taken). AllByRecursion (λ b. b ≢ []) h.chunks) c.self.view_is
-    (hand_nonempty c.self.inside.received c.self.inside.reserved c.self.inside.pieces (vec_capacity c.self.inside.pieces.lens) c.self.inside.whole c.self.invariant)
+    (hand_nonempty c.self.inside.received c.self.inside.reserved c.self.inside.pieces.value (vec_capacity c.self.inside.pieces.value.lens) c.self.inside.pieces.value.whole c.self.invariant)

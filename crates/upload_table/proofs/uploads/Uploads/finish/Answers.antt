@@ -21,7 +21,7 @@ bring_home-requires-clause-less c = λ y is.
     let h = c.args.hand in
     let x = taken_value (get v.sessions h.key) h (sym c.if-not-has_taken.ensures) in
     let key : (c.tenant-tenant.result, c.number-number.result) ≡ h.key = (λ j. (c.tenant-tenant.ensures j, c.number-number.ensures j)) in
-    put_fits v h x.0 x.1 c.in-Err.pieces c.in-Err.ensures.whole (omega (arith, ap (sum_by length) c.in-Err.ensures.chunks)) y (some_same (sym is ∙ found_as v h x.0 x.1 _ key))
+    put_fits v h x.0 x.1 c.in-Err.pieces.value c.in-Err.ensures.whole (omega (arith, ap (sum_by length) c.in-Err.ensures.chunks)) y (some_same (sym is ∙ found_as v h x.0 x.1 _ key))
 
 pub returns-in-Ok-clause-restores : goal.returns-in-Ok-clause-restores
 returns-in-Ok-clause-restores c =

@@ -22,7 +22,7 @@ bring_home-requires-clause-less c = λ y is.
     let x = taken_value (get v.sessions h.key) h (sym c.if-not-has_taken.ensures) in
     let key : (c.tenant-tenant.result, c.number-number.result) ≡ h.key = (λ j. (c.tenant-tenant.ensures j, c.number-number.ensures j)) in
     let p = c.into_pieces-pieces.ensures in
-    put_fits v h x.0 x.1 c.into_pieces-pieces.result p.whole (omega (arith, ap (sum_by length) p.chunks, p.fits)) y (some_same (sym is ∙ found_as v h x.0 x.1 _ key))
+    put_fits v h x.0 x.1 c.into_pieces-pieces.result.value p.whole (omega (arith, ap (sum_by length) p.chunks, p.fits)) y (some_same (sym is ∙ found_as v h x.0 x.1 _ key))
 
 pub returns : goal.returns
 returns c =
@@ -32,4 +32,4 @@ returns c =
     let key : (c.tenant-tenant.result, c.number-number.result) ≡ h.key = (λ j. (c.tenant-tenant.ensures j, c.number-number.ensures j)) in
     let p = c.into_pieces-pieces.ensures in
     let after = c.bring_home.ensures.home ∙ brought v h x.0 x.1 _ _ key ∙ (λ j. with_sessions v (with_chunks v.sessions h.key x.0 (Home (p.chunks j)))) in
-    put_back_known v h x.0 x.1 c.bring_home.result (c.bring_home.ensures.len ∙ sym (whole_length c.into_pieces-pieces.result p.whole) ∙ ap (sum_by length) p.chunks) ∙ (λ j. Ok (c.bring_home.result, sym after j))
+    put_back_known v h x.0 x.1 c.bring_home.result (c.bring_home.ensures.len ∙ sym (whole_length c.into_pieces-pieces.result.value p.whole) ∙ ap (sum_by length) p.chunks) ∙ (λ j. Ok (c.bring_home.result, sym after j))

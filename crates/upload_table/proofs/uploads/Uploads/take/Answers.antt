@@ -33,7 +33,7 @@ returns-clause-hand c =
     let v = c.args.self.now in
     let x = home_value (get v.sessions (c.args.tenant, c.args.number)) c.requires.home in
     let home = ap (option_map (λ (s : Session). s.chunks)) (sym (found_here tenants v c.self.view_is c.args.tenant c.args.number x.0 x.1 c.index_mut.result.now c.index_mut.ensures.value)) ∙ c.take-pieces.ensures.chunks in
-    c.new.ensures ∙ hand_is v (c.args.tenant, c.args.number) c.args.len x.0 x.1 c.take-pieces.result c.take-pieces.ensures.whole home
+    c.new.ensures ∙ hand_is v (c.args.tenant, c.args.number) c.args.len x.0 x.1 c.take-pieces.result.value c.take-pieces.ensures.whole home
 
 pub returns-clause-taken : goal.returns-clause-taken
 returns-clause-taken c =
@@ -42,4 +42,4 @@ returns-clause-taken c =
     let x = home_value (get v.sessions (c.args.tenant, c.args.number)) c.requires.home in
     let home = ap (option_map (λ (s : Session). s.chunks)) (sym (found_here tenants v c.self.view_is c.args.tenant c.args.number x.0 x.1 c.index_mut.result.now c.index_mut.ensures.value)) ∙ c.take-pieces.ensures.chunks in
     after-chunks tenants v c.self.view_is c.args.tenant c.args.number x.0 x.1 c.index_mut.result.now c.index_mut.ensures.value c.take-pieces.new.self _ c.take-pieces.ensures.taken
-    ∙ take_is v (c.args.tenant, c.args.number) c.args.len x.0 x.1 c.take-pieces.result c.take-pieces.ensures.whole home
+    ∙ take_is v (c.args.tenant, c.args.number) c.args.len x.0 x.1 c.take-pieces.result.value c.take-pieces.ensures.whole home
