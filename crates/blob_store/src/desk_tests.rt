@@ -29,7 +29,7 @@ impl<'s, S: Naming + Send + Sync, W: Abort + AllocGlobal + Threads + Wait + Sync
     fn plays_nothing(&self) {
         let rt = self.rt;
         let rows = rows_of(rt, LINES.as_slice());
-        let played = play(rt, rt.alloc(), self.store, rows.as_slice(), 2, &OpenGate);
+        let played = play(rt, rt.alloc(), self.store, &rows, 2, &OpenGate);
         assert!(rt; played.err() == Some(Refusal::LimitReached));
         assert_eq!(rt; self.store.totals(rt).commands, 0);
     }

@@ -1,7 +1,7 @@
 //! Great chunks are copied and hashed, and great manifests read, without the lock: another thread uses the store
 //! meanwhile, over and over.
 
-use crate::test_steps::{ABC, ONE, TestStore};
+use crate::test_steps::{ABC, ONE, TestStore, filler};
 use crate::thread_tests::{MAX_TURNS, awaits};
 use crate::{Desk, Naming};
 use blob_digest::Refusal;
@@ -49,8 +49,7 @@ fn great_manifest(rt: &(impl Abort + AllocGlobal)) -> Vec<u8> {
     let head = "{\"schemaVersion\":2,\"manifests\":[],\"annotations\":{\"a\":\"";
     let tail = "\"}}";
     let mut text = Vec::from_slice(alloc, head.as_bytes()).expect(rt, "memory");
-    let filler = Vec::from_elem(alloc, b'a', 4_194_200).expect(rt, "memory");
-    text.extend_from_slice(filler.as_slice())
+    text.extend_from_slice(filler(rt, 4_194_200).as_slice())
         .expect(rt, "memory");
     text.extend_from_slice(tail.as_bytes()).expect(rt, "memory");
     text
@@ -129,7 +128,7 @@ impl<'s, S: Naming + Send + Sync, W: Abort + AllocGlobal + Threads + Wait + Sync
         let rt = self.rt;
         let mut desks = self.store.desks(rt, 1).expect(rt, "a desk");
         assert!(rt; self.start(&mut desks[0], ONE) == Ok(1));
-        let chunk = Vec::from_elem(rt.alloc(), b'a', GREAT).expect(rt, "memory");
+        let chunk = filler(rt, GREAT);
         let manifest = great_manifest(rt);
         for call in [
             Great::Append(chunk.as_slice()),

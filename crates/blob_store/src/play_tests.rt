@@ -6,7 +6,7 @@ ghost use Rattle.blob_store.specs.Parts.{names_of};
 use crate::test_steps::{ABC, TestStore};
 use crate::thread_tests::awaits;
 use crate::{Naming, Parts, Settled, play, play_to_end};
-use row_player::{Gate, OpenGate, Reply, Row, Verb, has_fields};
+use row_player::{BorrowedRow, Gate, OpenGate, PackedRows, Reply, Verb, has_fields};
 use std::alloc::AllocGlobal;
 use std::process::Abort;
 use std::sync::Wait;
@@ -24,15 +24,15 @@ struct Asked {
 /// before it was asked before it.
 #[derive(Drop)]
 struct CounterView<'r> {
-    rows: &'r [Row],
+    lines: &'r [Line],
     asked: Vec<Asked>,
     wrong: AtomicBool,
 }
 
 impl<'r> CounterView<'r> {
-    fn new(rt: &(impl Abort + AllocGlobal), rows: &'r [Row]) -> CounterView<'r> {
+    fn new(rt: &(impl Abort + AllocGlobal), lines: &'r [Line]) -> CounterView<'r> {
         let mut asked = Vec::new(rt.alloc());
-        for _ in rows {
+        for _ in lines {
             let none = Asked {
                 before: AtomicU32::new(0),
                 after: AtomicU32::new(0),
@@ -40,7 +40,7 @@ impl<'r> CounterView<'r> {
             asked.push(none).expect(rt, "memory");
         }
         CounterView {
-            rows,
+            lines,
             asked,
             wrong: AtomicBool::new(false),
         }
@@ -48,7 +48,7 @@ impl<'r> CounterView<'r> {
 
     /// What was asked about a row of this lane.
     fn of(&self, lane: u8, row: usize) -> Option<&Asked> {
-        if self.rows.get(row)?.lane != lane {
+        if self.lines.get(row)?.0 != lane {
             return None;
         }
         self.asked.as_slice().get(row)
@@ -196,26 +196,27 @@ const COUNTED: [Line; 7] = [
 const BOOK: &str =
     "book\ntenant acme used 3 quota 1099511627776 next 2\nrepository acme/one\nblob sha256:ba7816bf8f01cfea414140de5dae2223b00361a396177a9cb410ff61f20015ad size 3 links 2\ntenant other used 3 quota 1099511627776 next 2\nrepository other/one\nblob sha256:ba7816bf8f01cfea414140de5dae2223b00361a396177a9cb410ff61f20015ad size 3 links 2\nend\n";
 
-fn bytes(rt: &(impl Abort + AllocGlobal), text: &[u8]) -> Vec<u8> {
-    Vec::from_slice(rt.alloc(), text).expect(rt, "memory")
+/// No rows.
+pub fn no_rows(rt: &(impl Abort + AllocGlobal)) -> PackedRows {
+    PackedRows::with_room(rt.alloc(), 0).expect(rt, "memory")
 }
 
-/// A row of a repository, of these fields, which are key, digest and range, and of the body.
-pub fn row_of(
+/// Adds a row of a repository, of these fields, which are key, digest and range, and of the body.
+pub fn add_row(
     rt: &(impl Abort + AllocGlobal),
+    rows: &mut PackedRows,
     lane: u8,
     verb: Verb,
     repo: &str,
     fields: [&'static str; 3],
     body: &[u8],
-) -> Row {
-    let repo = bytes(rt, repo.as_bytes());
-    let key = bytes(rt, fields[0].as_bytes());
-    let digest = bytes(rt, fields[1].as_bytes());
-    let range = bytes(rt, fields[2].as_bytes());
-    let body = bytes(rt, body);
-    assert!(rt; has_fields(verb, &repo, &key, &digest, &range, &body));
-    Row {
+) {
+    let repo = repo.as_bytes();
+    let key = fields[0].as_bytes();
+    let digest = fields[1].as_bytes();
+    let range = fields[2].as_bytes();
+    assert!(rt; has_fields(verb, repo, key, digest, range, body));
+    let row = BorrowedRow {
         lane,
         verb,
         repo,
@@ -223,22 +224,23 @@ pub fn row_of(
         digest,
         range,
         body,
-    }
+    };
+    rows.push(&row).expect(rt, "memory");
 }
 
 /// The rows of lines.
-pub fn rows_of(rt: &(impl Abort + AllocGlobal), lines: &[Line]) -> Vec<Row> {
-    let mut rows = Vec::new(rt.alloc());
+pub fn rows_of(rt: &(impl Abort + AllocGlobal), lines: &[Line]) -> PackedRows {
+    let mut rows = no_rows(rt);
     for (lane, verb, [repo, key, digest, range, body], _) in lines {
-        let row = row_of(
+        add_row(
             rt,
+            &mut rows,
             *lane,
             *verb,
             repo,
             [*key, *digest, *range],
             body.as_bytes(),
         );
-        rows.push(row).expect(rt, "memory");
     }
     rows
 }
@@ -271,14 +273,14 @@ impl<'s, S: Naming + Send + Sync, W: Abort + AllocGlobal + Threads + Wait + Sync
     fn plays_lines<G: Gate + Send + Sync>(
         &self,
         lines: &[Line],
-        rows: &[Row],
         workers: usize,
         gate: &G,
     ) -> Settled
         requires { (0 < workers) × (workers ≤ 64) }
     {
         let rt = self.rt;
-        let played = play(rt, rt.alloc(), self.store, rows, workers, gate).expect(rt, "memory");
+        let rows = rows_of(rt, lines);
+        let played = play(rt, rt.alloc(), self.store, &rows, workers, gate).expect(rt, "memory");
         let wanted = texts(rt, lines);
         expect_replies(rt, played.replies.as_slice(), wanted.as_slice());
         played.settled
@@ -288,14 +290,13 @@ impl<'s, S: Naming + Send + Sync, W: Abort + AllocGlobal + Threads + Wait + Sync
     /// once before and once after each row.
     pub fn two_workers(&self) {
         let rt = self.rt;
-        let rows = rows_of(rt, LINES.as_slice());
         let gate = Meeting {
-            tally: CounterView::new(rt, rows.as_slice()),
+            tally: CounterView::new(rt, LINES.as_slice()),
             zero: AtomicBool::new(false),
             one: AtomicBool::new(false),
             missed: AtomicBool::new(false),
         };
-        let settled = self.plays_lines(LINES.as_slice(), rows.as_slice(), 2, &gate);
+        let settled = self.plays_lines(LINES.as_slice(), 2, &gate);
         assert!(rt; !gate.missed.load(Ordering::SeqCst));
         assert!(rt; gate.tally.is_whole());
         let sums = Settled {
@@ -312,9 +313,8 @@ impl<'s, S: Naming + Send + Sync, W: Abort + AllocGlobal + Threads + Wait + Sync
     /// The gate is asked once before and once after each row, with the row's lane, by one worker of several lanes.
     pub fn one_worker(&self) {
         let rt = self.rt;
-        let rows = rows_of(rt, COUNTED.as_slice());
-        let gate = CounterView::new(rt, rows.as_slice());
-        let settled = self.plays_lines(COUNTED.as_slice(), rows.as_slice(), 1, &gate);
+        let gate = CounterView::new(rt, COUNTED.as_slice());
+        let settled = self.plays_lines(COUNTED.as_slice(), 1, &gate);
         assert!(rt; gate.is_whole());
         let sums = Settled {
             commands: 7,
@@ -335,14 +335,9 @@ pub fn plays_to_end<S: Naming + Send + Sync, W: Abort + AllocGlobal + Threads + 
     requires { names_of parts ≡ S.names }
 {
     let rows = rows_of(rt, LINES.as_slice());
-    let ended = play_to_end::<_, _, S, _>(
-        rt,
-        rt.alloc(),
-        parts,
-        rows.as_slice(),
-        2,
-        &OpenGate,
-    ).expect(rt, "memory");
+    let ended = play_to_end::<_, _, S, _>(rt, rt.alloc(), parts, &rows, 2, &OpenGate).expect(
+        rt, "memory",
+    );
     let wanted = texts(rt, LINES.as_slice());
     expect_replies(rt, ended.replies.as_slice(), wanted.as_slice());
     let mut written: Vec<u8> = Vec::new(rt.alloc());

@@ -1,14 +1,17 @@
 //! What each command is refused for through the lock, in a script that two workers play.
 
-use crate::play_tests::{expect_replies, row_of};
-use crate::test_steps::{ABC, OBJ, ONE, TestStore};
+use crate::play_tests::{add_row, expect_replies, no_rows};
+use crate::test_steps::{ABC, OBJ, ONE, TestStore, filler};
 use crate::{Naming, play};
 use blob_digest::Refusal;
-use row_player::{OpenGate, Row, Verb};
+use row_player::{OpenGate, PackedRows, Verb};
 use std::alloc::AllocGlobal;
 use std::process::Abort;
 use std::sync::Wait;
 use std::thread::Threads;
+
+/// As many bytes as a manifest may have.
+const MOST: usize = 4_194_304;
 
 /// One byte more than a manifest may have.
 const TOO_MANY: usize = 4_194_305;
@@ -133,7 +136,7 @@ const OF_ONE_TOO_MANY: [Case; 3] = [
 /// Rows with the texts of their replies.
 #[derive(Drop)]
 struct Script {
-    rows: Vec<Row>,
+    rows: PackedRows,
     replies: Vec<&'static str>,
 }
 
@@ -147,8 +150,8 @@ impl Script {
         body: &[u8],
     ) {
         let (verb, [key, digest, range, _], reply) = case;
-        let row = row_of(rt, lane, verb, repo, [key, digest, range], body);
-        self.rows.push(row).expect(rt, "memory");
+        let fields = [key, digest, range];
+        add_row(rt, &mut self.rows, lane, verb, repo, fields, body);
         self.replies.push(reply).expect(rt, "memory");
     }
 
@@ -159,28 +162,38 @@ impl Script {
         }
     }
 
-    /// All cases of a lane, whose tenant has 1,024 repositories in the end.
-    fn add_lane(&mut self, rt: &(impl Abort + AllocGlobal), lane: u8, tenant: &str) {
-        let alloc = rt.alloc();
-        let one = format!(in alloc; "{tenant}/one").expect(rt, "memory");
-        let last = format!(in alloc; "{tenant}/last").expect(rt, "memory");
+    /// A put of so many bytes, which are no manifest.
+    fn add_long(
+        &mut self,
+        rt: &(impl Abort + AllocGlobal),
+        lane: u8,
+        repo: &str,
+        count: usize,
+        reply: &'static str,
+    ) {
+        let body = filler(rt, count);
+        let case = (Verb::PutManifest, ["", "", "", ""], reply);
+        self.add(rt, lane, repo, case, body.as_slice());
+    }
+
+    /// A put into each of 1,023 repositories of a tenant.
+    fn add_repositories(&mut self, rt: &(impl Abort + AllocGlobal), lane: u8, tenant: &str) {
         let put = (Verb::PutManifest, ["", "", "", INDEX], INDEX_KEPT);
-        let long = (Verb::PutManifest, ["", "", "", ""], "refused SizeInvalid");
-        let invalid = (
-            Verb::PutManifest,
-            ["", "", "", ""],
-            "refused ManifestInvalid",
-        );
-        let too_many = Vec::from_elem(alloc, b'a', TOO_MANY).expect(rt, "memory");
-        let most = Vec::from_elem(alloc, b'a', 4_194_304).expect(rt, "memory");
-        self.add_all(rt, lane, "nobody/x", OF_NOBODY.as_slice());
-        self.add_all(rt, lane, one.as_str(), OF_ONE.as_slice());
-        self.add(rt, lane, one.as_str(), long, too_many.as_slice());
-        self.add(rt, lane, one.as_str(), invalid, most.as_slice());
         for number in 1..1024_u32 {
-            let repo = format!(in alloc; "{tenant}/r{number}").expect(rt, "memory");
+            let repo = format!(in rt.alloc(); "{tenant}/r{number}").expect(rt, "memory");
             self.add(rt, lane, repo.as_str(), put, INDEX.as_bytes());
         }
+    }
+
+    /// All cases of a lane, whose tenant has 1,024 repositories in the end.
+    fn add_lane(&mut self, rt: &(impl Abort + AllocGlobal), lane: u8, tenant: &str) {
+        let one = format!(in rt.alloc(); "{tenant}/one").expect(rt, "memory");
+        let last = format!(in rt.alloc(); "{tenant}/last").expect(rt, "memory");
+        self.add_all(rt, lane, "nobody/x", OF_NOBODY.as_slice());
+        self.add_all(rt, lane, one.as_str(), OF_ONE.as_slice());
+        self.add_long(rt, lane, one.as_str(), TOO_MANY, "refused SizeInvalid");
+        self.add_long(rt, lane, one.as_str(), MOST, "refused ManifestInvalid");
+        self.add_repositories(rt, lane, tenant);
         self.add_all(rt, lane, last.as_str(), OF_ONE_TOO_MANY.as_slice());
     }
 }
@@ -193,7 +206,7 @@ impl<'s, S: Naming + Send + Sync, W: Abort + AllocGlobal + Threads + Wait + Sync
     /// A manifest of one byte too many is refused at a desk.
     fn refuses_a_long_manifest(&self) {
         let rt = self.rt;
-        let long = Vec::from_elem(rt.alloc(), b'a', TOO_MANY).expect(rt, "memory");
+        let long = filler(rt, TOO_MANY);
         let mut desks = self.store.desks(rt, 1).expect(rt, "a desk");
         let refused = self.put_manifest(&mut desks[0], ONE, long.as_slice());
         assert!(rt; refused == Err(Refusal::SizeInvalid));
@@ -205,20 +218,14 @@ impl<'s, S: Naming + Send + Sync, W: Abort + AllocGlobal + Threads + Wait + Sync
         let rt = self.rt;
         self.refuses_a_long_manifest();
         let mut script = Script {
-            rows: Vec::new(rt.alloc()),
+            rows: no_rows(rt),
             replies: Vec::new(rt.alloc()),
         };
         script.add_lane(rt, 0, "acme");
         script.add_lane(rt, 1, "other");
-        let played = play(
-            rt,
-            rt.alloc(),
-            self.store,
-            script.rows.as_slice(),
-            2,
-            &OpenGate,
-        )
-        .expect(rt, "memory");
+        let played = play(rt, rt.alloc(), self.store, &script.rows, 2, &OpenGate).expect(
+            rt, "memory",
+        );
         expect_replies(rt, played.replies.as_slice(), script.replies.as_slice());
     }
 }

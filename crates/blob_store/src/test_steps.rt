@@ -28,6 +28,11 @@ pub fn name(rt: &(impl Abort + AllocGlobal), text: &str) -> RepoName {
     RepoName::parse(rt.alloc(), text.as_bytes()).expect(rt, "a name")
 }
 
+/// So many bytes `a`.
+pub fn filler(rt: &(impl Abort + AllocGlobal), count: usize) -> Vec<u8> {
+    Vec::from_elem(rt.alloc(), b'a', count).expect(rt, "memory")
+}
+
 /// The range of a text; none where it is empty.
 fn range(rt: &(impl Abort + AllocGlobal), text: &str) -> Option<ByteRange> {
     if text.is_empty() {
