@@ -14,9 +14,9 @@ use hyper::{Body, Method, Request, Response, StatusCode};
 use std::sync::Arc;
 use std::time::{Duration, Instant};
 
-/// The least rest behind a sweep that freed nothing: one that follows at once frees nothing either, and takes a processor
-/// from the others.
-const NOTHING_FREED_REST: Duration = Duration::from_millis(1);
+/// The least rest behind a sweep that freed nothing: one that follows at once frees nothing either, and takes a processor and
+/// the store's lock from the others.
+const NOTHING_FREED_REST: Duration = Duration::from_millis(10);
 
 /// The registry.
 pub struct Registry {
