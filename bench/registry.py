@@ -122,7 +122,10 @@ def of_one_put(size):
         at = at if at.startswith("http") else f"http://{server.address}{at}"
         at += ("&" if "?" in at else "?") + f"digest={sha256(data)}"
         timed("PUT", lambda: together(["curl", "-sSf", "-H", "Content-Type: application/octet-stream", "-H", "Expect:", "-X", "PUT", "-T", path, at]))
-        timed("GET", lambda: together(["curl", "-sSf", "-o", "/dev/null", f"http://{server.address}/v2/acme/a/blobs/{sha256(data)}"]))
+        get = ["curl", "-sSf", "-o", "/dev/null", f"http://{server.address}/v2/acme/a/blobs/{sha256(data)}"]
+        # (the first takes either server a second, of which its own programs have less than a third)
+        together(get)
+        timed("GET", lambda: together(get))
     return play
 
 
@@ -159,6 +162,8 @@ def measured(make, play):
         server = make(folder)
 
         def timed(name, part):
+            # (the disk is done with what came before, on whose account no part is to wait)
+            os.sync()
             before, begun = processor_time(server.pids), time.time()
             part()
             parts[name] = (time.time() - begun, processor_time(server.pids) - before)
