@@ -20,7 +20,7 @@ pub struct Options {
     /// How many calls can be on their way to the store at once.
     #[arg(long, value_name = "N", default_value_t = 32, value_parser = clap::value_parser!(u16).range(1..=1024))]
     pub lines: u16,
-    /// How long the collector rests between sweeps, in milliseconds.
+    /// How long the collector rests between sweeps, in milliseconds; behind one that freed nothing at least ten.
     #[arg(long, value_name = "N", default_value_t = 1000)]
     pub sweep_ms: u64,
     /// After how many seconds an upload that isn't used is given up.
