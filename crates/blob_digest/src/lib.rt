@@ -32,6 +32,3 @@ pub use refusal::Refusal;
 pub use repo_name::RepoName;
 pub use running::Running;
 pub use upload_hashes::UploadHashes;
-
-#[cfg(test)]
-mod tests;

@@ -12,6 +12,3 @@ pub use fault::FrameFault;
 pub use greeting::{read_greeting, write_greeting};
 pub use reply::{write_digest, write_refusal, write_reply};
 pub use request::{Head, Incoming, MAX_BODY, Request, read_request};
-
-#[cfg(test)]
-mod tests;

@@ -7,35 +7,13 @@
 //! shared and given back without the lock. Workers answer each row of a script once, in the order of the rows.
 #![tactic(auto)]
 
-#[cfg(test)]
-mod desk_tests;
 pub mod laws;
 mod lease;
-#[cfg(test)]
-mod lease_tests;
-#[cfg(test)]
-mod lend_tests;
-#[cfg(test)]
-mod load_tests;
-#[cfg(test)]
-mod lock_tests;
 mod parts;
-#[cfg(test)]
-mod play_tests;
 mod playing;
 mod queries;
-#[cfg(test)]
-mod refusal_tests;
 mod seat;
 mod store;
-#[cfg(test)]
-mod test_load_steps;
-#[cfg(test)]
-mod test_steps;
-#[cfg(test)]
-mod tests;
-#[cfg(test)]
-mod thread_tests;
 mod workers;
 
 pub use lease::Lease;

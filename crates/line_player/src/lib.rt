@@ -26,6 +26,3 @@ pub use line::serve;
 pub use outcome::{Outcome, write_outcome};
 pub use query::{Query, query_of};
 pub use step::play_request;
-
-#[cfg(test)]
-mod tests;

@@ -23,8 +23,3 @@ pub use blobs::Blobs;
 pub use links::Links;
 pub use manifests::Manifests;
 pub use tenants::{MAX_QUOTA, MAX_TENANTS};
-
-#[cfg(test)]
-mod manifest_tests;
-#[cfg(test)]
-mod tests;

@@ -11,6 +11,3 @@ mod manifest;
 mod references;
 
 pub use manifest::{MAX_MANIFEST, Manifest, read};
-
-#[cfg(test)]
-mod tests;

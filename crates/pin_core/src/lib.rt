@@ -23,8 +23,3 @@ pub use state::PinState;
 pub use steps::{run, step};
 pub use word::{CONDEMNED, LAST_GENERATION, MAX_WEIGHT, NEW_WEIGHT, USED, WordRow, pack, unpack};
 pub use world::{Phase, PinEntry, PinRecord, PinRow};
-
-#[cfg(test)]
-mod recount_tests;
-#[cfg(test)]
-mod tests;

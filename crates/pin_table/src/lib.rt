@@ -23,10 +23,3 @@ pub use keeper::Keeper;
 pub use pin::{Left, Pin};
 pub use pins::Pins;
 pub use reclaim::Reclaim;
-
-#[cfg(test)]
-mod test_keeper;
-#[cfg(test)]
-mod tests;
-#[cfg(test)]
-mod thread_tests;

@@ -22,6 +22,3 @@ mod view;
 pub use log::{SharedLog, Writer};
 pub use rule::Event;
 pub use view::{Entry, Known};
-
-#[cfg(test)]
-mod tests;

@@ -13,6 +13,3 @@ mod table;
 pub use blob_digest::MAX_SLOTS;
 pub use phase::Phase;
 pub use table::SlotTable;
-
-#[cfg(test)]
-mod tests;

@@ -13,37 +13,17 @@
 //! as running numbers are those that the definitions count.
 #![tactic(auto)]
 
-#[cfg(test)]
-mod algorithm_tests;
 mod book;
 mod config;
-#[cfg(test)]
-mod hand_tests;
 mod keep;
 pub mod laws;
 mod lease;
-#[cfg(test)]
-mod lease_tests;
-#[cfg(test)]
-mod manifest_tests;
 mod manifests;
 mod mount;
-#[cfg(test)]
-mod mount_tests;
 mod pinned_slots;
 mod print;
 mod queries;
-#[cfg(test)]
-mod query_tests;
-#[cfg(test)]
-mod reader_tests;
-#[cfg(test)]
-mod refusal_tests;
 mod sweep;
-#[cfg(test)]
-mod test_steps;
-#[cfg(test)]
-mod tests;
 
 pub use book::{Book, MAX_BLOB};
 pub use config::Config;

@@ -10,6 +10,3 @@ mod tenants;
 
 pub use fault::TenantFault;
 pub use tenants::read_tenants;
-
-#[cfg(test)]
-mod tests;

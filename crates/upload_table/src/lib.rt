@@ -25,6 +25,3 @@ mod uploads;
 pub use hand::{Hand, PendingClose};
 pub use repo_sessions::RepoSessions;
 pub use uploads::Uploads;
-
-#[cfg(test)]
-mod tests;
