@@ -1,8 +1,8 @@
 //! Worked examples of the same bytes under the digests of both algorithms.
 
-use store_book::Mount;
 use crate::test_steps::{ABC, ABC_512, Step, book, plays_on, small};
 use blob_digest::Refusal;
+use store_book::Mount;
 
 #[test]
 fn the_same_bytes_under_two_digests_are_two_blobs(rt: HostRuntime) {

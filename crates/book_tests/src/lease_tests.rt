@@ -2,7 +2,6 @@
 
 ghost use Rattle.std.specs.Prelude.{◌≡◌};
 
-use store_book::Mount;
 use crate::test_steps::{
     ABC, ABC_512, OBJ, Step, Store, book, digest, digest_of, fill, name, opened_at, play, plays,
     plays_on, small,
@@ -12,6 +11,7 @@ use pin_table::Pin;
 use std::alloc::{AllocGlobal, Global};
 use std::process::Abort;
 use std::sync::Arc;
+use store_book::Mount;
 
 /// A pin, and a share of its blob.
 struct Lease {

@@ -1,12 +1,12 @@
 //! Worked examples of mounts and deletes, of a store that is full, and of the limit on repositories.
 
-use store_book::Mount;
 use crate::test_steps::{
     ABC, OBJ, Step, Store, book, fill, mount, play, plays, plays_on, says, small,
 };
 use blob_digest::Refusal;
 use std::alloc::AllocGlobal;
 use std::process::Abort;
+use store_book::Mount;
 
 const OVER: Refusal = Refusal::Quota { used: 3, quota: 3 };
 

@@ -1,8 +1,8 @@
 //! What is told beside the commands.
 
-use store_book::Usage;
 use crate::test_steps::{ABC, Step, plays_on, small};
 use blob_digest::Refusal;
+use store_book::Usage;
 
 /// A manifest that refers to nothing, of 34 bytes, and its digest, as `wc -c` and `sha256sum` tell.
 const INDEX: &str = r#"{"schemaVersion":2,"manifests":[]}"#;

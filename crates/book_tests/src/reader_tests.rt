@@ -2,12 +2,12 @@
 
 ghost use Rattle.std.specs.Prelude.{◌≡◌, ◌<◌, length, vec_len};
 
-use store_book::Book;
 use crate::test_steps::{ABC, Step, Store, digest, name, play, small};
 use blob_digest::{Digest, Refusal, RepoName};
 use pin_table::{Pin, Pins};
 use std::alloc::{AllocFailed, AllocGlobal};
 use std::process::Abort;
+use store_book::Book;
 
 /// The most leases of one slot: each weighs 1,024, and all together less than 2^30.
 const MOST: usize = 1_048_575;

@@ -2,12 +2,12 @@
 
 ghost use Rattle.std.specs.Prelude.{◌≡◌, ◌<◌, length};
 
-use store_book::{Book, Config, Mount, Swept, Usage};
 use blob_digest::{Algorithm, ByteRange, Digest, Refusal, RepoName};
 use pin_table::Pins;
 use std::alloc::AllocGlobal;
 use std::fmt::Debug;
 use std::process::Abort;
+use store_book::{Book, Config, Mount, Swept, Usage};
 
 pub const ABC: &str = "sha256:ba7816bf8f01cfea414140de5dae2223b00361a396177a9cb410ff61f20015ad";
 

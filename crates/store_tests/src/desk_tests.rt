@@ -2,8 +2,8 @@
 
 use crate::play_tests::{LINES, rows_of};
 use crate::test_steps::TestStore;
-use blob_store::{Desk, DroppableDesk, Naming, Settled, play};
 use blob_digest::Refusal;
+use blob_store::{Desk, DroppableDesk, Naming, Settled, play};
 use row_player::OpenGate;
 use std::alloc::AllocGlobal;
 use std::process::Abort;

@@ -1,8 +1,8 @@
 //! Leases of a store are read, verified, shared and given back.
 
 use crate::test_steps::{ABC, OBJ, ONE, Step, TestStore, digest};
-use blob_store::{Lease, Naming};
 use blob_digest::Refusal;
+use blob_store::{Lease, Naming};
 use std::alloc::AllocGlobal;
 use std::process::Abort;
 use std::sync::Wait;

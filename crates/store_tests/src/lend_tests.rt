@@ -3,8 +3,8 @@
 ghost use Rattle.std.specs.Prelude.{◌≡◌, vec_len};
 
 use crate::test_steps::{ABC, ONE, Step, TestStore, digest, name};
-use blob_store::{Desk, Lease, Naming};
 use blob_digest::Refusal;
+use blob_store::{Desk, Lease, Naming};
 use std::alloc::{AllocFailed, AllocGlobal};
 use std::process::Abort;
 use std::sync::Wait;

@@ -1,5 +1,5 @@
-use line_player::{Ending, Lending, serve};
 use blob_digest::{Digest, Refusal, RepoName};
+use line_player::{Ending, Lending, serve};
 use row_player::{Backend, Command, Piece, Queries, Reply};
 use std::alloc::AllocGlobal;
 use std::io::{self, ErrorKind, Read, Write};

@@ -6,8 +6,8 @@ use crate::test_load_steps::{
 };
 use crate::test_steps::TestStore;
 use crate::thread_tests::MAX_TURNS;
-use blob_store::{Desk, Lease, Naming, Totals};
 use blob_digest::{Algorithm, Digest, Refusal};
+use blob_store::{Desk, Lease, Naming, Totals};
 use std::alloc::AllocGlobal;
 use std::process::Abort;
 use std::sync::Wait;

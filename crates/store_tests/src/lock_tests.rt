@@ -3,8 +3,8 @@
 
 use crate::test_steps::{ABC, ONE, TestStore, filler};
 use crate::thread_tests::{MAX_TURNS, awaits};
-use blob_store::{Desk, Naming};
 use blob_digest::Refusal;
+use blob_store::{Desk, Naming};
 use std::alloc::AllocGlobal;
 use std::process::Abort;
 use std::sync::Wait;

@@ -2,8 +2,8 @@
 
 use crate::play_tests::{add_row, expect_replies, no_rows};
 use crate::test_steps::{ABC, OBJ, ONE, TestStore, filler};
-use blob_store::{Naming, play};
 use blob_digest::Refusal;
+use blob_store::{Naming, play};
 use row_player::{OpenGate, PackedRows, Verb};
 use std::alloc::AllocGlobal;
 use std::process::Abort;

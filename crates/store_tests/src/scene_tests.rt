@@ -5,8 +5,8 @@ ghost use Rattle.blob_store.specs.Parts.{names_of};
 
 use crate::play_tests::plays_to_end;
 use crate::test_steps::{ABC, OBJ, ONE, Step, TWO, TestStore, config};
-use blob_store::{Desk, Naming, Parts, Settled, Store, Totals};
 use blob_digest::Refusal;
+use blob_store::{Desk, Naming, Parts, Settled, Store, Totals};
 use std::alloc::AllocGlobal;
 use std::marker::Brand;
 use std::process::Abort;

@@ -1,7 +1,7 @@
 //! What the threads of a load play: their repositories, what they upload, and what they count and tell.
 
-use blob_store::Settled;
 use blob_digest::{Algorithm, Digest};
+use blob_store::Settled;
 use std::alloc::AllocGlobal;
 use std::process::Abort;
 use std::sync::atomic::{AtomicBool, AtomicU32, Ordering};

@@ -2,8 +2,8 @@
 
 ghost use Rattle.std.specs.Prelude.{◌<◌, ◌≤◌};
 
-use blob_store::{Desk, Lease, Naming, Store};
 use blob_digest::{Algorithm, ByteRange, Digest, Refusal, RepoName};
+use blob_store::{Desk, Lease, Naming, Store};
 use std::alloc::AllocGlobal;
 use std::fmt::Debug;
 use std::marker::Model;

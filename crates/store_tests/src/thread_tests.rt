@@ -1,8 +1,8 @@
 //! What two threads do with a store at the same time.
 
 use crate::test_steps::{ABC, ONE, TestStore};
-use blob_store::{Desk, Naming, Settled};
 use blob_digest::Refusal;
+use blob_store::{Desk, Naming, Settled};
 use std::alloc::AllocGlobal;
 use std::io::Write;
 use std::process::Abort;

@@ -2,8 +2,8 @@ ghost use Rattle.std.specs.Prelude.{◌≡◌, ℕ, Some};
 ghost use Rattle.std.specs.FinMap as fmap;
 ghost use Rattle.blob_digest.specs.Keys.{Link};
 
-use link_table::Links;
 use blob_digest::{Digest, Refusal, RepoName};
+use link_table::Links;
 use std::alloc::Global;
 use std::process::Abort;
 

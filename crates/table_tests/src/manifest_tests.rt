@@ -1,6 +1,6 @@
-use link_table::Links;
 use crate::link_tests::{ABC, EMPTY, digest, name, opened};
 use blob_digest::{Digest, Refusal, RepoName};
+use link_table::Links;
 use oci_manifest::{Manifest, read};
 use std::alloc::Global;
 use std::process::Abort;

@@ -1,5 +1,5 @@
-use pin_core::{Event, Phase, PinRecord, PinState, WordRow, laws, pack, run, step, unpack};
 use blob_digest::{Algorithm, Digest, Refusal};
+use pin_core::{Event, Phase, PinRecord, PinState, WordRow, laws, pack, run, step, unpack};
 use std::alloc::Global;
 use std::process::Abort;
 

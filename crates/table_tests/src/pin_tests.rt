@@ -1,9 +1,9 @@
 ghost use Rattle.std.specs.Prelude.{◌<◌, length};
 
 use crate::test_keeper::{Lease, TestKeeper, digest_of, end, make, open};
-use pin_table::{Keeper, Pin, Pins, Reclaim, laws};
 use blob_digest::{Digest, Refusal};
 use pin_core::{Event, Phase};
+use pin_table::{Keeper, Pin, Pins, Reclaim, laws};
 use std::alloc::{AllocFailed, Global};
 use std::process::Abort;
 

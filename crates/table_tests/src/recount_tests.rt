@@ -1,8 +1,8 @@
 //! A long run of random events beside a plain recount of slots and pins.
 
 use crate::pin_state_tests::digest_of;
-use pin_core::{Event, Phase, PinState, step};
 use blob_digest::Digest;
+use pin_core::{Event, Phase, PinState, step};
 use std::process::Abort;
 
 /// A slot as the recount has it. A digest is its number.

@@ -1,5 +1,5 @@
-use slot_table::{Phase, SlotTable};
 use blob_digest::{Algorithm, Blob, Digest, Refusal, Running};
+use slot_table::{Phase, SlotTable};
 use std::alloc::{AllocGlobal, Global};
 use std::process::Abort;
 

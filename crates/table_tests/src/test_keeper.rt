@@ -2,9 +2,9 @@
 
 ghost use Rattle.std.specs.Prelude.{◌≡◌, length, vec_len};
 
-use pin_table::{Keeper, Pin, Pins, Reclaim};
 use blob_digest::{Algorithm, Digest, Refusal};
 use pin_core::{Event, Phase};
+use pin_table::{Keeper, Pin, Pins, Reclaim};
 use std::alloc::{AllocFailed, Global};
 
 /// A pin with its table.

@@ -1,9 +1,9 @@
 //! Leases that other threads give back while the keeper works.
 
-use crate::test_keeper::{Lease, TestKeeper, end, give_all, open};
 use crate::pin_tests::share_all;
-use pin_table::{Pins, Reclaim};
+use crate::test_keeper::{Lease, TestKeeper, end, give_all, open};
 use pin_core::{Phase, unpack};
+use pin_table::{Pins, Reclaim};
 use std::alloc::{AllocFailed, Global};
 use std::sync::atomic::{AtomicBool, Ordering};
 use std::thread;

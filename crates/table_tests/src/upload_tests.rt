@@ -1,10 +1,10 @@
 //! Worked sequences of calls, each call on its happy path, and each refusal.
 
-use upload_table::{Hand, Uploads};
 use blob_digest::{Algorithm, ByteRange, Digest, Refusal, RepoName};
 use std::alloc::Global;
 use std::marker::Model;
 use std::process::Abort;
+use upload_table::{Hand, Uploads};
 
 const ABC: &str = "sha256:ba7816bf8f01cfea414140de5dae2223b00361a396177a9cb410ff61f20015ad";
 

@@ -1,8 +1,8 @@
+use blob_digest::{Digest, Refusal};
 use blob_frames::{
     FrameFault, Head, Incoming, MAX_BODY, Request, read_greeting, read_request, write_greeting,
     write_refusal, write_reply,
 };
-use blob_digest::{Digest, Refusal};
 use std::alloc::AllocGlobal;
 use std::io;
 use std::io::{ErrorKind, Read};

@@ -1,5 +1,5 @@
-use oci_manifest::{MAX_MANIFEST, read};
 use blob_digest::{Digest, Refusal};
+use oci_manifest::{MAX_MANIFEST, read};
 use std::alloc::{AllocError, AllocGlobal, Global};
 use std::process::Abort;
 use std::test::Fail;
