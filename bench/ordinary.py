@@ -7,7 +7,10 @@ script that both play in turn, so many times, after one run in which their outpu
 tells the medians of the processor times in milliseconds, their ratio, and the ratio of the least ones. Where the
 processor has instructions for SHA-256 the ordinary program hashes by them, which the kit's `sha2` doesn't.
 
-    bench/ordinary.py [--runs N] [WORKLOAD..]
+With --both-hashes the ordinary program hashes each chunk by both algorithms as it comes, as a program does that has no
+other way to let a close ask for either.
+
+    bench/ordinary.py [--runs N] [--both-hashes] [WORKLOAD..]
 """
 import argparse
 import filecmp
@@ -111,17 +114,18 @@ WORKLOADS = {
 
 
 class Figures:
-    """What the runs of a workload took, of blobctl and of the ordinary program."""
+    """What the runs of a workload took, of blobctl and of the ordinary program, which may have words of its own."""
 
-    def __init__(self, words, script, runs):
+    def __init__(self, words, script, runs, its_words=()):
         self.times = [], []
         with tempfile.TemporaryDirectory() as room:
             path, outs = f"{room}/script.csv", (f"{room}/blobctl", f"{room}/ordinary")
             with open(path, "wb") as file:
                 file.write(script)
+            commands = (PROGRAM, words), (ORDINARY, [*its_words, *words])
             for turn in range(runs + 1):
-                for program, times, out in zip((PROGRAM, ORDINARY), self.times, outs):
-                    _, usage = measured(program, words, path, os.devnull if turn else out)
+                for (program, given), times, out in zip(commands, self.times, outs):
+                    _, usage = measured(program, given, path, os.devnull if turn else out)
                     if turn:
                         times.append((usage.ru_utime + usage.ru_stime) * 1000)
                 if not turn and not filecmp.cmp(*outs, shallow=False):
@@ -137,12 +141,13 @@ class Figures:
 def main():
     words = argparse.ArgumentParser(description=__doc__, formatter_class=argparse.RawDescriptionHelpFormatter)
     words.add_argument("--runs", type=int, default=9, help="how many runs of each (9)")
+    words.add_argument("--both-hashes", action="store_true", help="the ordinary program hashes chunks by both algorithms")
     words.add_argument("workload", nargs="*", help="all, if none is named")
     options = words.parse_args()
     build()
     print(f"{'workload':<24}{'blobctl':>9}{'ordinary':>10}{'ratio':>7}{'least':>7}")
     for name in options.workload or WORKLOADS:
-        found = Figures(*WORKLOADS[name](), options.runs)
+        found = Figures(*WORKLOADS[name](), options.runs, ["--both-hashes"] * options.both_hashes)
         ours, theirs = found.medians()
         print(f"{name:<24}{ours:9.1f}{theirs:10.1f}{ours / theirs:7.2f}{found.least():7.2f}", flush=True)
 

@@ -42,7 +42,16 @@ impl fmt::Display for Digest {
     }
 }
 
-/// The hash of a session's bytes: by SHA-256 of all as they come, by SHA-512 of as many as a close asked for.
+/// Which algorithms hash a chunk as it comes.
+#[derive(Clone, Copy, PartialEq)]
+pub enum Hashing {
+    /// Both, so that a close by either has nothing left to hash.
+    Both,
+    /// SHA-256 alone; SHA-512 where a close asks for it.
+    Late,
+}
+
+/// The hash of a session's bytes: by SHA-256 of all as they come, by SHA-512 of all or of as many as a close asked for.
 #[derive(Clone, Default)]
 pub struct Hashes {
     sha256: Sha256,
@@ -51,12 +60,24 @@ pub struct Hashes {
 }
 
 impl Hashes {
-    pub fn update(&mut self, bytes: &[u8]) {
+    pub fn update(&mut self, bytes: &[u8], hashing: Hashing) {
         self.sha256.update(bytes);
+        if hashing == Hashing::Both {
+            self.sha512.update(bytes);
+            self.through_sha512 += bytes.len();
+        }
     }
 
     /// The digest, of the algorithm of the wanted one, of the session's bytes and a last chunk.
-    pub fn digest(&mut self, session: &[u8], last: &[u8], wanted: &Digest) -> Digest {
+    pub fn digest(&mut self, session: &[u8], last: &[u8], wanted: &Digest, hashing: Hashing) -> Digest {
+        if hashing == Hashing::Both {
+            let mut whole = self.clone();
+            whole.update(last, hashing);
+            return match wanted {
+                Digest::Sha256(_) => Digest::Sha256(whole.sha256.finalize().into()),
+                Digest::Sha512(_) => Digest::Sha512(whole.sha512.finalize().into()),
+            };
+        }
         match wanted {
             Digest::Sha256(_) => Digest::Sha256(self.sha256.clone().chain_update(last).finalize().into()),
             Digest::Sha512(_) => {

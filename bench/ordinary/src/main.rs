@@ -1,6 +1,8 @@
 //! The program of `docs/FORMATS.md` as one would write it in ordinary Rust: `HashMap`s and `BTreeMap`s, one `Mutex`
 //! around the book, an atomic word for each slot, and no use in giving memory back at the end. Nothing of it is proved.
-//! It is what `bench/ordinary.py` compares the processor time of `blobctl` with.
+//! It is what `bench/ordinary.py` compares the processor time of `blobctl` with. With `--both-hashes` it hashes each chunk
+//! by SHA-256 and by SHA-512 as it comes, since a close may ask for either; else by SHA-512 only where a close does, as
+//! `blobctl` does.
 
 mod book;
 mod digest;
@@ -9,6 +11,7 @@ mod name;
 mod player;
 mod script;
 
+use digest::Hashing;
 use std::io::{self, Read, Write};
 use std::process::exit;
 
@@ -17,6 +20,7 @@ pub struct Options {
     pub slots: usize,
     pub max_blob: u64,
     pub workers: usize,
+    pub hashing: Hashing,
     pub tenants: Vec<(String, u64)>,
 }
 
@@ -25,6 +29,7 @@ fn options() -> Option<Options> {
         slots: 64,
         max_blob: 1 << 20,
         workers: 1,
+        hashing: Hashing::Late,
         tenants: Vec::new(),
     };
     let mut words = std::env::args().skip(1);
@@ -32,6 +37,7 @@ fn options() -> Option<Options> {
         match word.as_str() {
             "--slots" => options.slots = words.next()?.parse().ok()?,
             "--max-blob" => options.max_blob = words.next()?.parse().ok()?,
+            "--both-hashes" => options.hashing = Hashing::Both,
             "--workers" => options.workers = words.next()?.parse().ok()?,
             _ => {
                 let (name, quota) = word.split_once('=')?;
@@ -60,7 +66,7 @@ fn main() {
     };
     drop(script);
     let book = book::Book::new(&options);
-    let (replies, book) = player::play(&rows, book, options.workers);
+    let (replies, book) = player::play(&rows, book, options.workers, options.hashing);
     let mut out = io::BufWriter::with_capacity(1 << 16, io::stdout().lock());
     let written = replies
         .iter()

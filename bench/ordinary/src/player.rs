@@ -1,7 +1,7 @@
 //! Plays rows, by one worker or by several.
 
 use crate::book::{Book, Lease, Mount, Refusal, Swept};
-use crate::digest::Digest;
+use crate::digest::{Digest, Hashing};
 use crate::manifest::{self, Manifest, MAX_MANIFEST};
 use crate::name::is_repo;
 use crate::script::{Row, Verb};
@@ -84,6 +84,7 @@ fn digest(text: &str) -> Result<Digest, Refusal> {
 /// A worker: the book that all share, and the leases of its lanes.
 struct Worker<'a> {
     book: &'a Mutex<Book>,
+    hashing: Hashing,
     leases: HashMap<(u8, String), Lease>,
 }
 
@@ -96,7 +97,7 @@ impl Worker<'_> {
         let range = range(&row.range)?;
         let mut upload = self.book().take(&row.repo, row.session, range, row.body.len() as u64)?;
         upload.bytes.extend_from_slice(&row.body);
-        upload.hashes.update(&row.body);
+        upload.hashes.update(&row.body, self.hashing);
         Ok(Reply::Received(self.book().put_back(&row.repo, row.session, upload)))
     }
 
@@ -104,7 +105,7 @@ impl Worker<'_> {
         let digest = digest(&row.digest)?;
         let range = range(&row.range)?;
         let mut upload = self.book().take(&row.repo, row.session, range, row.body.len() as u64)?;
-        if upload.hashes.digest(&upload.bytes, &row.body, &digest) != digest {
+        if upload.hashes.digest(&upload.bytes, &row.body, &digest, self.hashing) != digest {
             self.book().put_back(&row.repo, row.session, upload);
             return Err(Refusal::DigestInvalid);
         }
@@ -243,10 +244,11 @@ impl Worker<'_> {
 }
 
 /// The replies to all rows, in their order, and the book after them.
-pub fn play(rows: &[Row], book: Book, workers: usize) -> (Vec<Reply>, Book) {
+pub fn play(rows: &[Row], book: Book, workers: usize, hashing: Hashing) -> (Vec<Reply>, Book) {
     let book = Mutex::new(book);
     let worker = || Worker {
         book: &book,
+        hashing,
         leases: HashMap::new(),
     };
     let mut replies: Vec<Option<Reply>> = rows.iter().map(|_| None).collect();
