@@ -1,5 +1,5 @@
 //! A script played by workers.
-ghost use Rattle.std.specs.Prelude.{ℕ, ◌≡◌, ◌⊎◌, ◌+◌, ◌<◌, ◌≤◌, [], IfOk, IfErr, IfSome, true, length, map, vec_len, vec_capacity};
+ghost use Rattle.std.specs.Prelude.{ℕ, ◌≡◌, ◌⊎◌, ◌+◌, ◌<◌, ◌≤◌, [], IfOk, IfErr, IfSome, MatchResult, Some, true, length, map, vec_len, vec_capacity};
 ghost use Rattle.blob_digest.specs.declared.refusal.Refusal.TheVariants.{LimitReached, Memory};
 ghost use Rattle.locked_book.specs.History.{AreFresh, DeskView};
 ghost use Rattle.blob_store.specs.Parts.{names_of};
@@ -245,6 +245,51 @@ pub fn play<
     }
 }
 
+/// The replies with the book that is left, where all rows were played and the history has no steps but the workers'.
+fn to_end<S: Naming>(
+    played: Option<Vec<Reply>>,
+    book: LockedBook<S>,
+    is_whole: bool,
+) -> Result<PlayedToEnd<S>, Refusal>
+    ensures { MatchResult result (λ p. (is_whole ≡ true) × (played ≡ Some p.replies) × (p.book ≡ book)) (λ e. e ≡ Memory) }
+{
+    match played {
+        Some(replies) if is_whole => Ok(PlayedToEnd { replies, book }),
+        _ => Err(Refusal::Memory),
+    }
+}
+
+/// Plays a script by workers on a store that nobody else uses, in this room, and answers the replies with the book that is left.
+fn play_alone<
+    W: Threads + Wait + Sync,
+    G: Gate + Send + Sync,
+    S: Naming + Send + Sync,
+    L: RowList + Sync,
+>(
+    rt: &W,
+    alloc: Global,
+    store: Store<S>,
+    rows: &L,
+    workers: usize,
+    gate: &G,
+    room: Room<S>,
+) -> Result<PlayedToEnd<S>, Refusal>
+    requires workers { (0 < workers) × (workers ≤ MAX_WORKERS) }
+    requires lists { (vec_len room.lists ≡ workers) × AllAt (λ w l. (l.items ≡ []) × (length (own_rows workers w (L.lines rows.now)) ≤ vec_capacity l)) room.lists.items }
+    requires merged { (vec_len room.merged ≡ 0) × (length (L.lines rows.now) ≤ vec_capacity room.merged) }
+    requires jobs { (vec_len room.jobs ≡ 0) × (workers ≤ vec_capacity room.jobs) }
+    requires done { (vec_len room.done.outcomes ≡ 0) × (workers ≤ vec_capacity room.done.outcomes) × (vec_len room.done.unstarted ≡ 0) × (workers ≤ vec_capacity room.done.unstarted) }
+    ensures replies { IfOk result (λ p. length p.replies.items ≡ length (L.lines rows.now)) }
+    ensures together { IfOk result (λ p. IsInterleaved S.names.opening workers (L.lines rows.now) (answers_of p.replies.items) p.book.book.catalog) }
+    ensures refused { IfErr result (λ e. (e ≡ LimitReached) ⊎ (e ≡ Memory)) }
+{
+    let mut desks = store.desks(rt, workers as u64)?;
+    let played = play_at(rt, alloc, &store, rows, gate, room, &mut desks);
+    let mut book = store.into_book();
+    let is_whole = book.conclude(desks);
+    to_end(played, book, is_whole)
+}
+
 /// Plays a script by workers as `play` does, on a new store of these parts that nobody else uses, and answers the replies
 /// with the book that is left. The steps of all workers are one legal history, which has no others and leaves this book. The
 /// names of the parts are those that the type parameter says.
@@ -271,13 +316,5 @@ pub fn play_to_end<
     ensures refused { IfErr result (λ e. (e ≡ LimitReached) ⊎ (e ≡ Memory)) }
 {
     let room = room_for(alloc, &rows, workers)?;
-    let store = Store::<S>::new(parts);
-    let mut desks = store.desks(rt, workers as u64)?;
-    let played = play_at(rt, alloc, &store, &rows, gate, room, &mut desks);
-    let mut book = store.into_book();
-    let is_whole = book.conclude(desks);
-    match played {
-        Some(replies) if is_whole => Ok(PlayedToEnd { replies, book }),
-        _ => Err(Refusal::Memory),
-    }
+    play_alone(rt, alloc, Store::new(parts), &rows, workers, gate, room)
 }

@@ -1,13 +1,15 @@
 -- Rows that are played.
 use Rattle.std.proofs.Common.{◌≡◌, ◌≢◌, ◌⊎◌, ◌<◌, ◌+◌, ◌∙◌, ◌++◌, ◌∷◌, [], ℕ, List, ap, arith, inl, inr, length, IfOk, Option, Some, None, Result, Ok, Err, refl, sym, take}
 use Rattle.std.proofs.lemmas.List.{take_more}
+use Rattle.std.specs.FinMap as fmap
+use Rattle.finite_maps.specs.Texts.{Text}
 use Rattle.blob_digest.specs.declared.refusal.Refusal.{Refusal}
 use Rattle.blob_digest.specs.declared.refusal.Refusal.TheVariants.{Memory}
-use Rattle.row_player.specs.Answers.{Answer, Bytes, Refused}
+use Rattle.row_player.specs.Answers.{Answer, Bytes, Leased, Refused}
 use Rattle.row_player.specs.Commands.{Calls, Command, Request, Lease, Sweeps, Verifies, command_of}
-use Rattle.row_player.specs.Leases.{Leases, Lent}
+use Rattle.row_player.specs.Leases.{Leases, Lent, new_lease}
 use Rattle.row_player.specs.RowViews.{IsRowAt}
-use Rattle.row_player.specs.Plays.{LendsWhereFree, Plays, RowStep, State, StepOf, VerifiesLease, named}
+use Rattle.row_player.specs.Plays.{LendsWhereFree, Plays, RowStep, State, StepOf, VerifiesLease, name_of, named}
 use Rattle.row_player.specs.Rows.{RowView}
 use Rattle.row_player.specs.declared.row.Verb.TheVariants as verb
 
@@ -18,6 +20,11 @@ lease_refused acts s t L M line refusal is spells free same why = elim why [
   | inl memory ↦ inl (memory.0, λ i. (memory.1 i, same i))
   | inr does ↦ inr (inr (inl (is, spells, rw free (inr (refusal, does, refl, same)))))
 ]
+
+-- a store lends a blob, and the lane keeps its lease
+pub lease_lent : {S : Type 0} (acts : S → Request → Answer → S → Type 0) (s t : S) (L M : Leases) (line : RowView) (bytes : Text) (n : ℕ) → line.verb ≡ verb.Lease → command_of line ≡ Ok (Some (Lease line.repo line.digest)) → named L line ≡ None
+    → acts s (Calls (Lease line.repo line.digest)) (Bytes bytes) t → n ≡ length bytes → M ≡ fmap.insert L (name_of line) (new_lease bytes) → RowStep acts (s, L) line (Leased n) (t, M)
+lease_lent acts s t L M line bytes n is spells free does size kept = inr (inl (is, spells, rw free (inl (bytes, does, ap Leased size, kept))))
 
 -- what is left of a run that went well
 pub some_left : {A E B : Type 0} (P : A → B → Type 0) (r : Result A E) (b : B) → IfOk r (λ x. P x b) → IfOk r (λ x. (y : B) × P x y)
