@@ -112,6 +112,12 @@ fn uses(rt: &impl Abort, alloc: Global, links: &Links, repo: &str, wanted: u64) 
     assert_eq!(rt; links.used(tenant), wanted);
 }
 
+/// Makes a repository known.
+fn appear(rt: &impl Abort, links: &mut Links, repo: &RepoName) -> Result<bool, Refusal> {
+    let tenant = links.tenant(repo).expect(rt, "a tenant");
+    links.appear(tenant, repo)
+}
+
 /// To make a repository known ends so.
 fn appears(
     rt: &impl Abort,
@@ -120,9 +126,13 @@ fn appears(
     repo: &str,
     wanted: Result<bool, Refusal>,
 ) {
-    let repo = name(rt, alloc, repo);
-    let tenant = links.tenant(&repo).expect(rt, "a tenant");
-    assert_eq!(rt; links.appear(tenant, &repo), wanted);
+    assert_eq!(rt; appear(rt, links, &name(rt, alloc, repo)), wanted);
+}
+
+/// Charges the tenant of a repository.
+fn charge(rt: &impl Abort, links: &mut Links, repo: &RepoName, n: u64) -> Result<(), Refusal> {
+    let tenant = links.tenant(repo).expect(rt, "a tenant");
+    links.charge(tenant, n)
 }
 
 /// To charge the tenant of a repository ends so.
@@ -133,8 +143,7 @@ fn charges(
     n: u64,
     wanted: Result<(), Refusal>,
 ) {
-    let tenant = links.tenant(repo).expect(rt, "a tenant");
-    assert_eq!(rt; links.charge(tenant, n), wanted);
+    assert_eq!(rt; charge(rt, links, repo, n), wanted);
 }
 
 /// Makes a repository known, and takes that back.
@@ -271,13 +280,19 @@ fn reads_blobs(rt: &impl Abort, alloc: Global, links: &Links, repo: &str, wanted
     assert_eq!(rt; links.blob_at(&repo, wanted.len()), None);
 }
 
+/// The repository of a tenant at a place.
+fn repo_at<'l>(rt: &impl Abort, links: &'l Links, tenant: u16, i: usize) -> Option<&'l RepoName> {
+    assert!(rt; tenant < links.tenants());
+    links.repo_at(tenant, i)
+}
+
 /// A tenant has these repositories.
 fn reads_repos(rt: &impl Abort, alloc: Global, links: &Links, tenant: u16, wanted: &[&str]) {
-    assert!(rt; tenant < links.tenants());
     for i in 0..wanted.len() {
-        assert!(rt; links.repo_at(tenant, i) == Some(&name(rt, alloc, wanted[i])));
+        let wanted = name(rt, alloc, wanted[i]);
+        assert!(rt; repo_at(rt, links, tenant, i) == Some(&wanted));
     }
-    assert!(rt; links.repo_at(tenant, wanted.len()) == None);
+    assert!(rt; repo_at(rt, links, tenant, wanted.len()).is_none());
 }
 
 #[test]
@@ -302,21 +317,36 @@ fn repositories_and_blobs_are_read_in_order(rt: HostRuntime) {
     reads_blobs(&rt, alloc, &links, "nobody", &[]);
 }
 
+/// Whether a repository of the tenant of this one holds a blob.
+fn tenant_holds(rt: &impl Abort, links: &Links, repo: &RepoName, blob: &Digest) -> bool {
+    let tenant = links.tenant(repo).expect(rt, "a tenant");
+    links.tenant_holds(tenant, blob)
+}
+
 /// A tenant's repositories hold a blob, or none of them does.
 fn held(rt: &impl Abort, alloc: Global, links: &Links, repo: &str, blob: &str, wanted: bool) {
-    let tenant = links.tenant(&name(rt, alloc, repo)).expect(rt, "a tenant");
-    assert_eq!(rt; links.tenant_holds(tenant, &digest(rt, blob)), wanted);
+    let found = tenant_holds(rt, links, &name(rt, alloc, repo), &digest(rt, blob));
+    assert_eq!(rt; found, wanted);
+}
+
+/// A table of two tenants, in which one repository holds one blob.
+fn holding(rt: &impl Abort, alloc: Global, repo: &str, blob: &str) -> Links {
+    let mut links = opened(rt, alloc, &[("acme", 1000), ("other", 1000)]);
+    assert!(rt; hold(rt, &mut links, &name(rt, alloc, repo), &digest(rt, blob)));
+    links
 }
 
 #[test]
 fn a_blob_is_held_by_its_tenant_alone(rt: HostRuntime) {
     let alloc = rt.alloc();
-    let mut links = opened(&rt, alloc, &[("acme", 1000), ("other", 1000)]);
-    let one = name(&rt, alloc, "acme/one");
-    assert!(rt; hold(&rt, &mut links, &one, &digest(&rt, ABC)));
-    held(&rt, alloc, &links, "acme/two", ABC, true);
-    held(&rt, alloc, &links, "acme/one", EMPTY, false);
-    held(&rt, alloc, &links, "other/x", ABC, false);
+    let links = holding(&rt, alloc, "acme/one", ABC);
+    for (repo, blob, wanted) in [
+        ("acme/two", ABC, true),
+        ("acme/one", EMPTY, false),
+        ("other/x", ABC, false),
+    ] {
+        held(&rt, alloc, &links, repo, blob, wanted);
+    }
 }
 
 #[test]
@@ -336,11 +366,17 @@ fn a_tenant_has_at_most_1024_repositories(rt: HostRuntime) {
     }
 }
 
+/// A table of one tenant, in which a repository has come and gone.
+fn left(rt: &impl Abort, alloc: Global, repo: &str) -> Links {
+    let mut links = opened(rt, alloc, &[("acme", 1000)]);
+    come_and_go(rt, &mut links, &name(rt, alloc, repo));
+    links
+}
+
 #[test]
 fn a_repository_comes_and_goes(rt: HostRuntime) {
     let alloc = rt.alloc();
-    let mut links = opened(&rt, alloc, &[("acme", 1000)]);
-    come_and_go(&rt, &mut links, &name(&rt, alloc, "acme/one"));
+    let mut links = left(&rt, alloc, "acme/one");
     reads_repos(&rt, alloc, &links, 0, &[]);
     appears(&rt, alloc, &mut links, "acme/one", Ok(true));
 }

@@ -47,29 +47,37 @@ fn drops(rt: &impl Abort, alloc: Global, links: &mut Links, repo: &str, manifest
     links.drop_manifest(&name(rt, alloc, repo), &digest(rt, manifest));
 }
 
+fn referrer(links: &Links, repo: &RepoName, blob: &Digest) -> Option<Digest> {
+    links.referrer(repo, blob)
+}
+
 /// The least manifest of a repository that refers to a blob.
 fn refers(rt: &impl Abort, alloc: Global, links: &Links, repo: &str, blob: &str, wanted: &str) {
-    let found = links.referrer(&name(rt, alloc, repo), &digest(rt, blob));
+    let found = referrer(links, &name(rt, alloc, repo), &digest(rt, blob));
     assert_eq!(rt; found, Some(digest(rt, wanted)));
 }
 
 /// No manifest of a repository refers to a blob.
 fn is_free(rt: &impl Abort, alloc: Global, links: &Links, repo: &str, blob: &str) {
-    let found = links.referrer(&name(rt, alloc, repo), &digest(rt, blob));
+    let found = referrer(links, &name(rt, alloc, repo), &digest(rt, blob));
     assert_eq!(rt; found, None);
+}
+
+/// The bytes of a repository's manifest; none where it hasn't one of this digest.
+fn bytes_of<'l>(links: &'l Links, repo: &RepoName, manifest: &Digest) -> Option<&'l [u8]> {
+    let manifest = links.manifest(repo, manifest)?;
+    Some(manifest.bytes())
 }
 
 /// A repository has the manifest of a digest, with these bytes.
 fn has(rt: &impl Abort, alloc: Global, links: &Links, repo: &str, manifest: &str, text: &str) {
-    match links.manifest(&name(rt, alloc, repo), &digest(rt, manifest)) {
-        Some(found) => assert_eq!(rt; found.bytes(), text.as_bytes()),
-        None => panic!(rt; "{repo} has no manifest {manifest}"),
-    }
+    let found = bytes_of(links, &name(rt, alloc, repo), &digest(rt, manifest));
+    assert_eq!(rt; found, Some(text.as_bytes()));
 }
 
 /// A repository hasn't the manifest of a digest.
 fn lacks(rt: &impl Abort, alloc: Global, links: &Links, repo: &str, manifest: &str) {
-    let found = links.manifest(&name(rt, alloc, repo), &digest(rt, manifest));
+    let found = bytes_of(links, &name(rt, alloc, repo), &digest(rt, manifest));
     assert!(rt; found.is_none());
 }
 

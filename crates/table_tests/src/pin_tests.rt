@@ -50,7 +50,7 @@ fn words_follow(
     let mut leases = Vec::new(alloc);
     for (event, word) in rows {
         assert!(rt; make(keeper, &mut leases, *event));
-        assert_eq!(rt; keeper.word(), *word);
+        word_is(rt, keeper, *word);
     }
     end(leases);
 }

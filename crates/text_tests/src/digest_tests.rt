@@ -4,8 +4,9 @@ use blob_digest::{
     Algorithm, Blob, ByteRange, Digest, Refusal, RepoName, Running, UploadHashes, decimal,
     is_component,
 };
-use std::alloc::Global;
+use std::alloc::{AllocError, AllocGlobal, Global};
 use std::cmp::Ordering;
+use std::process::Abort;
 use std::test::Fail;
 
 /// The digest of no bytes.
@@ -46,24 +47,41 @@ fn digest(text: &str) -> Result<Digest, Refusal> {
     Digest::parse(text.as_bytes())
 }
 
+/// What is written of a digest behind other text.
+fn written(alloc: Global, found: &Digest) -> Result<String, Refusal> {
+    let mut text = String::from_str(alloc, "before ")?;
+    found.write(&mut text)?;
+    Ok(text)
+}
+
+/// What is printed of a digest.
+fn printed(alloc: Global, found: &Digest) -> Result<String, AllocError> {
+    format!(in alloc; "{found}")
+}
+
+/// Finds that a text is a digest by this algorithm, which is written and printed as the text, and read again.
+fn is_read_and_written(rt: &(impl Abort + AllocGlobal), text: &str, algorithm: Algorithm) {
+    let found = digest(text).expect(rt, "a digest");
+    assert!(rt; found.algorithm() == algorithm, "{text}");
+    let printed = printed(rt.alloc(), &found).expect(rt, "memory");
+    assert_eq!(rt; printed.as_str(), text);
+    let written = written(rt.alloc(), &found).expect(rt, "memory");
+    let behind = written.as_str().strip_prefix("before ");
+    assert_eq!(rt; behind, Some(text));
+    assert!(rt; digest(behind.unwrap_or("")) == Ok(found), "{text}");
+}
+
 #[test]
-fn digests_are_read_and_written(rt: HostRuntime) -> Result<(), Fail> {
-    let alloc = rt.alloc();
-    for text in [NIL, ABC, OBJ, ABC_512] {
-        let found = digest(text)?;
-        let mut written = String::from_str(alloc, "before ")?;
-        found.write(&mut written)?;
-        assert_eq!(rt;
-            written.as_str(),
-            format!(in alloc; "before {text}")?.as_str()
-        );
-        assert_eq!(rt; format!(in alloc; "{found}")?.as_str(), text);
-        assert!(rt; Digest::parse(&written.as_bytes()[7..])? == found);
+fn digests_are_read_and_written(rt: HostRuntime) {
+    for (text, algorithm) in [
+        (NIL, Algorithm::Sha256),
+        (ABC, Algorithm::Sha256),
+        (OBJ, Algorithm::Sha256),
+        (ABC_512, Algorithm::Sha512),
+    ] {
+        is_read_and_written(&rt, text, algorithm);
     }
     assert_eq!(rt; size_of::<Digest>(), 65);
-    assert!(rt; digest(ABC)?.algorithm() == Algorithm::Sha256);
-    assert!(rt; digest(ABC_512)?.algorithm() == Algorithm::Sha512);
-    Ok(())
 }
 
 #[test]
@@ -153,6 +171,19 @@ fn by_upload(algorithm: Algorithm, before: &[u8], rest: &[u8], bytes: &[u8]) -> 
     [once, again, all.digest(bytes, bytes.len(), algorithm)]
 }
 
+/// Finds that bytes have this digest, however they come.
+fn is_digest_of(rt: &impl Abort, algorithm: Algorithm, bytes: &[u8], wanted: Digest) {
+    assert!(rt; Digest::of(algorithm, bytes) == wanted);
+    assert!(rt; by_bytes(algorithm, bytes) == wanted);
+    assert!(rt; by_upload(algorithm, b"", bytes, bytes) == [wanted; 3]);
+}
+
+/// Finds that `abc` has this digest where it comes to an upload in two parts.
+fn is_digest_in_parts(rt: &impl Abort, algorithm: Algorithm, wanted: Digest) {
+    assert!(rt; by_upload(algorithm, b"ab", b"c", b"abc") == [wanted; 3]);
+    assert!(rt; by_upload(algorithm, b"abc", b"", b"abc") == [wanted; 3]);
+}
+
 #[test]
 fn hashes_go_piece_by_piece(rt: HostRuntime) -> Result<(), Fail> {
     for (algorithm, text, wanted) in [
@@ -162,22 +193,36 @@ fn hashes_go_piece_by_piece(rt: HostRuntime) -> Result<(), Fail> {
         (Algorithm::Sha256, TWO_BLOCKS, TWO_BLOCKS_DIGEST),
         (Algorithm::Sha512, TWO_LONG_BLOCKS, TWO_LONG_BLOCKS_DIGEST),
     ] {
-        let wanted = digest(wanted)?;
-        assert!(rt; Digest::of(algorithm, text.as_bytes()) == wanted);
-        assert!(rt; by_bytes(algorithm, text.as_bytes()) == wanted);
-        assert!(rt; by_upload(algorithm, b"", text.as_bytes(), text.as_bytes()) == [wanted; 3]);
+        is_digest_of(&rt, algorithm, text.as_bytes(), digest(wanted)?);
     }
     for (algorithm, wanted) in [(Algorithm::Sha256, ABC), (Algorithm::Sha512, ABC_512)] {
-        let wanted = digest(wanted)?;
-        assert!(rt; by_upload(algorithm, b"ab", b"c", b"abc") == [wanted; 3]);
-        assert!(rt; by_upload(algorithm, b"abc", b"", b"abc") == [wanted; 3]);
+        is_digest_in_parts(&rt, algorithm, digest(wanted)?);
     }
     Ok(())
 }
 
+/// What is printed of a name.
+fn printed_name(alloc: Global, name: &RepoName) -> Result<String, AllocError> {
+    format!(in alloc; "{name}")
+}
+
+/// A name that is read of a text.
+fn name(rt: &(impl Abort + AllocGlobal), text: &[u8]) -> RepoName {
+    RepoName::parse(rt.alloc(), text).expect(rt, "a name")
+}
+
+/// Finds that a name has this text and this tenant, is printed as its text, and equals its clone.
+fn is_name(rt: &(impl Abort + AllocGlobal), name: &RepoName, text: &str, tenant: &str) {
+    assert_eq!(rt; name.text(), text);
+    assert_eq!(rt; name.tenant(), tenant);
+    let printed = printed_name(rt.alloc(), name).expect(rt, "memory");
+    assert_eq!(rt; printed.as_str(), text);
+    let clone = name.clone().expect(rt, "memory");
+    assert!(rt; clone == *name, "{text}");
+}
+
 #[test]
-fn names_are_read(rt: HostRuntime) -> Result<(), Fail> {
-    let alloc = rt.alloc();
+fn names_are_read(rt: HostRuntime) {
     for (text, tenant) in [
         ("a", "a"),
         ("a__b", "a__b"),
@@ -186,60 +231,47 @@ fn names_are_read(rt: HostRuntime) -> Result<(), Fail> {
         ("acme/one/2", "acme"),
         ("0_0/x", "0_0"),
     ] {
-        let name = RepoName::parse(alloc, text.as_bytes())?;
-        assert_eq!(rt; name.text(), text);
-        assert_eq!(rt; name.tenant(), tenant);
-        assert_eq!(rt; format!(in alloc; "{name}")?.as_str(), text);
-        assert!(rt; name.clone()? == name);
+        is_name(&rt, &name(&rt, text.as_bytes()), text, tenant);
     }
-    Ok(())
+}
+
+/// Finds that a text is no name.
+fn is_no_name(rt: &(impl Abort + AllocGlobal), text: &str) {
+    match RepoName::parse(rt.alloc(), text.as_bytes()) {
+        Ok(_) => panic!(rt; "{text} is a name"),
+        Err(refusal) => assert_eq!(rt; refusal, Refusal::NameInvalid, "{text}"),
+    }
 }
 
 #[test]
 fn texts_that_are_no_names(rt: HostRuntime) {
-    let alloc = rt.alloc();
     for text in [
         "", "a___b", "a._b", "a/", "/a", "A", "a//b", "-a", "a-", "a b", "a..b", "\u{e9}",
     ] {
-        assert!(rt;
-            matches!(
-                RepoName::parse(alloc, text.as_bytes()),
-                Err(Refusal::NameInvalid)
-            ),
-            "{text}"
-        );
+        is_no_name(&rt, text);
     }
 }
 
 #[test]
 fn names_have_a_greatest_length(rt: HostRuntime) -> Result<(), Fail> {
-    let alloc = rt.alloc();
-    let mut text = String::new(alloc);
+    let mut text = String::new(rt.alloc());
     for _ in 0..255 {
         text.push_str("a")?;
     }
-    let name = RepoName::parse(alloc, text.as_bytes())?;
-    assert_eq!(rt; name.text().len(), 255);
+    assert_eq!(rt; name(&rt, text.as_bytes()).text().len(), 255);
     text.push_str("a")?;
-    assert!(rt;
-        matches!(
-            RepoName::parse(alloc, text.as_bytes()),
-            Err(Refusal::NameInvalid)
-        )
-    );
+    is_no_name(&rt, &text);
     assert!(rt; is_component(text.as_bytes()));
     Ok(())
 }
 
 #[test]
-fn names_are_ordered_by_their_texts(rt: HostRuntime) -> Result<(), Fail> {
-    let alloc = rt.alloc();
-    let first = RepoName::parse(alloc, b"a-b/c")?;
-    let second = RepoName::parse(alloc, b"a/b")?;
+fn names_are_ordered_by_their_texts(rt: HostRuntime) {
+    let first = name(&rt, b"a-b/c");
+    let second = name(&rt, b"a/b");
     assert_eq!(rt; first.cmp(&second), Ordering::Less);
     assert!(rt; second > first);
     assert!(rt; first != second);
-    Ok(())
 }
 
 #[test]
@@ -268,8 +300,16 @@ fn numbers_are_read(rt: HostRuntime) {
     }
 }
 
+/// Finds that a text is a range with these ends, of so many bytes.
+fn is_range(rt: &impl Abort, text: &str, start: u64, end: u64, len: u64) {
+    let range = ByteRange::parse(text.as_bytes()).expect(rt, "a range");
+    assert_eq!(rt; range.start, start, "{text}");
+    assert_eq!(rt; range.end, end, "{text}");
+    assert_eq!(rt; range.len(), len, "{text}");
+}
+
 #[test]
-fn ranges_are_read(rt: HostRuntime) -> Result<(), Fail> {
+fn ranges_are_read(rt: HostRuntime) {
     for (text, start, end, len) in [
         ("0-9", 0, 9, 10),
         ("5-5", 5, 5, 1),
@@ -287,12 +327,8 @@ fn ranges_are_read(rt: HostRuntime) -> Result<(), Fail> {
             1,
         ),
     ] {
-        let range = ByteRange::parse(text.as_bytes())?;
-        assert_eq!(rt; range.start, start, "{text}");
-        assert_eq!(rt; range.end, end, "{text}");
-        assert_eq!(rt; range.len(), len, "{text}");
+        is_range(&rt, text, start, end, len);
     }
-    Ok(())
 }
 
 #[test]

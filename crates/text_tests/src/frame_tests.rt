@@ -140,17 +140,22 @@ fn a_body_over_the_limit_is_malformed(rt: HostRuntime) -> Result<(), Fail> {
 }
 
 /// Whether a line begins with a greeting.
-fn greets(bytes: &[u8]) -> Result<bool, FrameFault> {
-    read_greeting(&mut line(bytes))
+fn greets(line: &mut Pieces<'_>) -> Result<bool, FrameFault> {
+    read_greeting(line)
 }
 
 #[test]
 fn a_line_begins_with_a_greeting(rt: HostRuntime) -> Result<(), Fail> {
-    assert_eq!(rt; greets(b"blobd\x00\x01\x00"), Ok(true));
-    assert_eq!(rt; greets(b""), Ok(false));
-    assert_eq!(rt; greets(b"blobd\x00\x01"), Err(FrameFault::CutOff));
-    assert_eq!(rt; greets(b"blobd\x00\x02\x00"), Err(FrameFault::Malformed));
-    assert_eq!(rt; greets(b"GET /v2/ HTTP/1.1"), Err(FrameFault::Malformed));
+    let rows: [(&[u8], Result<bool, FrameFault>); 5] = [
+        (b"blobd\x00\x01\x00", Ok(true)),
+        (b"", Ok(false)),
+        (b"blobd\x00\x01", Err(FrameFault::CutOff)),
+        (b"blobd\x00\x02\x00", Err(FrameFault::Malformed)),
+        (b"GET /v2/ HTTP/1.1", Err(FrameFault::Malformed)),
+    ];
+    for (bytes, wanted) in rows {
+        assert_eq!(rt; greets(&mut line(bytes)), wanted);
+    }
     let mut written = Vec::new(rt.alloc());
     write_greeting(&mut written)?;
     assert!(rt; written.as_slice() == b"blobd\x00\x01\x00".as_slice());
@@ -170,10 +175,9 @@ fn a_reply_goes_out_in_one_frame(rt: HostRuntime) -> Result<(), Fail> {
 /// The frame of a refusal.
 fn refused(rt: &(impl Abort + AllocGlobal), refusal: &Refusal) -> Vec<u8> {
     let mut written = Vec::new(rt.alloc());
-    match write_refusal(rt.alloc(), &mut written, refusal) {
-        Ok(()) => written,
-        Err(_) => panic!(rt; "not written"),
-    }
+    let outcome = write_refusal(rt.alloc(), &mut written, refusal);
+    assert!(rt; outcome.is_ok());
+    written
 }
 
 #[test]

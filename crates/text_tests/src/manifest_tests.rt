@@ -1,5 +1,5 @@
 use blob_digest::{Digest, Refusal};
-use oci_manifest::{MAX_MANIFEST, read};
+use oci_manifest::{MAX_MANIFEST, Manifest, read};
 use std::alloc::{AllocError, AllocGlobal, Global};
 use std::process::Abort;
 use std::test::Fail;
@@ -20,14 +20,29 @@ const EMPTY_INDEX: &str = r#"{"schemaVersion":2,"manifests":[]}"#;
 const EMPTY_INDEX_DIGEST: &str =
     "sha256:bc5857ac9458293d5111ab85c952172cd7f56bceb4e3014ddc4cafac8927b313";
 
+/// A text that is read as a manifest.
+fn manifest(rt: &(impl Abort + AllocGlobal), text: &str) -> Manifest {
+    read(rt.alloc(), text.as_bytes()).expect(rt, "a manifest")
+}
+
+/// Finds that digests have these texts, in order.
+fn are_digests(rt: &impl Abort, found: &[Digest], wanted: &[&str]) {
+    assert_eq!(rt; found.len(), wanted.len());
+    for i in 0..wanted.len() {
+        assert_eq!(rt; found.get(i), digest(wanted[i]).as_ref());
+    }
+}
+
+/// The digest of a text; none where it is none.
+fn digest(text: &str) -> Option<Digest> {
+    Digest::parse(text.as_bytes()).ok()
+}
+
 /// Finds that a text is read as a manifest, which keeps its bytes and refers to these digests in order.
 fn refers(rt: &(impl Abort + AllocGlobal), text: &str, refs: &[&str]) {
-    let manifest = read(rt.alloc(), text.as_bytes()).expect(rt, "a manifest");
+    let manifest = manifest(rt, text);
     assert!(rt; manifest.bytes() == text.as_bytes());
-    assert_eq!(rt; manifest.refs().len(), refs.len(), "{text}");
-    for (found, wanted) in manifest.refs().iter().zip(refs) {
-        assert!(rt; Digest::parse(wanted.as_bytes()) == Ok(*found), "{text}");
-    }
+    are_digests(rt, manifest.refs(), refs);
 }
 
 /// Finds that bytes are refused.
@@ -46,6 +61,20 @@ fn is_refused(rt: &(impl Abort + AllocGlobal), text: &str) {
 /// An image manifest with this config and these layers, each as JSON.
 fn image(alloc: Global, config: &str, layers: &str) -> Result<String, AllocError> {
     format!(in alloc; "{{\"schemaVersion\":2,\"config\":{config},\"layers\":{layers}}}")
+}
+
+/// Finds that an image with the config `{}` and these layers refers to these digests in order.
+fn image_refers(rt: &(impl Abort + AllocGlobal), layers: &str, refs: &[&str]) {
+    let config = descriptor(rt.alloc(), OBJ).expect(rt, "memory");
+    let text = image(rt.alloc(), &config, layers).expect(rt, "memory");
+    refers(rt, &text, refs);
+}
+
+/// Finds that an image with the config `{}` and these layers is no manifest.
+fn image_is_refused(rt: &(impl Abort + AllocGlobal), layers: &str) {
+    let config = descriptor(rt.alloc(), OBJ).expect(rt, "memory");
+    let text = image(rt.alloc(), &config, layers).expect(rt, "memory");
+    is_refused(rt, &text);
 }
 
 /// The descriptor of a digest.
@@ -70,9 +99,9 @@ fn nested(alloc: Global, depth: usize) -> Result<String, AllocError> {
 }
 
 #[test]
-fn an_index_refers_to_no_blob(rt: HostRuntime) -> Result<(), Fail> {
-    let index = read(rt.alloc(), EMPTY_INDEX.as_bytes())?;
-    assert!(rt; index.digest() == Digest::parse(EMPTY_INDEX_DIGEST.as_bytes())?);
+fn an_index_refers_to_no_blob(rt: HostRuntime) {
+    let index = manifest(&rt, EMPTY_INDEX);
+    assert_eq!(rt; Some(index.digest()), digest(EMPTY_INDEX_DIGEST));
     for text in [
         EMPTY_INDEX,
         r#"{"schemaVersion":2,"manifests":null}"#,
@@ -81,47 +110,37 @@ fn an_index_refers_to_no_blob(rt: HostRuntime) -> Result<(), Fail> {
     ] {
         refers(&rt, text, &[]);
     }
-    Ok(())
 }
 
 #[test]
 fn an_image_refers_to_its_config_and_layers(rt: HostRuntime) -> Result<(), Fail> {
-    let alloc = rt.alloc();
-    let config = descriptor(alloc, OBJ)?;
-    let layer = descriptor(alloc, ABC)?;
-    let both = format!(in alloc; "[{layer},{layer}]")?;
-    refers(&rt, &image(alloc, &config, &both)?, &[OBJ, ABC]);
+    let layer = descriptor(rt.alloc(), ABC)?;
+    let both = format!(in rt.alloc(); "[{layer},{layer}]")?;
+    image_refers(&rt, &both, &[OBJ, ABC]);
     Ok(())
 }
 
 #[test]
-fn layers_with_urls_are_skipped(rt: HostRuntime) -> Result<(), Fail> {
-    let alloc = rt.alloc();
-    let config = descriptor(alloc, OBJ)?;
-    let layer = descriptor(alloc, ABC)?;
-    let skipped = format!(in alloc; "[{{\"urls\":[\"x\"]}},{layer}]")?;
-    let empty_urls = format!(in alloc; "[{{\"urls\":[],\"digest\":\"{ABC}\"}}]")?;
-    for layers in [skipped.as_str(), empty_urls.as_str()] {
-        refers(&rt, &image(alloc, &config, layers)?, &[OBJ, ABC]);
+fn layers_with_urls_are_skipped(rt: HostRuntime) {
+    for layers in [
+        r#"[{"urls":["x"]},{"mediaType":"x/y","size":7,"digest":"sha256:ba7816bf8f01cfea414140de5dae2223b00361a396177a9cb410ff61f20015ad"}]"#,
+        r#"[{"urls":[],"digest":"sha256:ba7816bf8f01cfea414140de5dae2223b00361a396177a9cb410ff61f20015ad"}]"#,
+    ] {
+        image_refers(&rt, layers, &[OBJ, ABC]);
     }
     for layers in ["[]", "null"] {
-        refers(&rt, &image(alloc, &config, layers)?, &[OBJ]);
+        image_refers(&rt, layers, &[OBJ]);
     }
-    for layers in ["[{\"urls\":[]}]", "[{\"urls\":7}]", "{}"] {
-        is_refused(&rt, &image(alloc, &config, layers)?);
+    for layers in [r#"[{"urls":[]}]"#, r#"[{"urls":7}]"#, "{}"] {
+        image_is_refused(&rt, layers);
     }
-    Ok(())
 }
 
 #[test]
-fn members_that_are_not_looked_at(rt: HostRuntime) -> Result<(), Fail> {
-    let alloc = rt.alloc();
-    let config = descriptor(alloc, OBJ)?;
-    let text = format!(in alloc;
-        "{{\"subject\":{{\"digest\":\"gone\"}},\"mediaType\":[],\"schemaVersion\":2,\"config\":{config},\"x\":1}}"
-    )?;
-    refers(&rt, &text, &[OBJ]);
-    Ok(())
+fn members_that_are_not_looked_at(rt: HostRuntime) {
+    let text =
+        r#"{"subject":{"digest":"gone"},"mediaType":[],"schemaVersion":2,"config":{"mediaType":"x/y","size":7,"digest":"sha256:44136fa355b3678a1146ad16f7e8649e94fb4fc21fe77e8310c060f61caaff8a"},"x":1}"#;
+    refers(&rt, text, &[OBJ]);
 }
 
 #[test]
@@ -150,11 +169,18 @@ fn what_is_no_manifest(rt: HostRuntime) {
     }
 }
 
+/// Bytes between two texts.
+fn between(alloc: Global, before: &str, bytes: &[u8], after: &str) -> Result<Vec<u8>, AllocError> {
+    let mut text = before.as_bytes().to_vec(alloc)?;
+    text.extend_from_slice(bytes)?;
+    text.extend_from_slice(after.as_bytes())?;
+    Ok(text)
+}
+
 /// Bytes that are no UTF-8 (RFC 3629, section 3): what begins no character, one that is not the shortest, a
 /// surrogate, one past the last, and what is cut off. They stand in a text, in a name, and by themselves.
 #[test]
 fn bytes_that_are_no_utf8(rt: HostRuntime) -> Result<(), Fail> {
-    let alloc = rt.alloc();
     for bytes in [
         b"\xFF".as_slice(),
         b"\x80".as_slice(),
@@ -168,9 +194,7 @@ fn bytes_that_are_no_utf8(rt: HostRuntime) -> Result<(), Fail> {
             (r#"{"schemaVersion":2,"manifests":[],""#, r#"":1}"#),
             (r#"{"schemaVersion":2,"manifests":[]}"#, ""),
         ] {
-            let mut text = before.as_bytes().to_vec(alloc)?;
-            text.extend_from_slice(bytes)?;
-            text.extend_from_slice(after.as_bytes())?;
+            let text = between(rt.alloc(), before, bytes, after)?;
             refuses(&rt, text.as_slice(), Refusal::ManifestInvalid);
         }
     }
@@ -215,15 +239,9 @@ fn the_size_has_a_limit(rt: HostRuntime) -> Result<(), Fail> {
 
 #[test]
 fn references_are_of_both_kinds(rt: HostRuntime) -> Result<(), Fail> {
-    let alloc = rt.alloc();
-    let config = descriptor(alloc, OBJ)?;
-    let layers = format!(in alloc;
-        "[{},{},{}]",
-        descriptor(alloc, ABC_512)?,
-        descriptor(alloc, ABC)?,
-        descriptor(alloc, ABC_512)?
-    )?;
-    let text = image(alloc, &config, &layers)?;
-    refers(&rt, &text, &[OBJ, ABC_512, ABC]);
+    let long = descriptor(rt.alloc(), ABC_512)?;
+    let short = descriptor(rt.alloc(), ABC)?;
+    let layers = format!(in rt.alloc(); "[{long},{short},{long}]")?;
+    image_refers(&rt, &layers, &[OBJ, ABC_512, ABC]);
     Ok(())
 }
