@@ -1,6 +1,6 @@
 //! Worked examples, by values that stand outside the program.
 
-use crate::test_steps::{ABC, EMPTY, OBJ, Step, Store, book, opened, play, plays_on, small};
+use crate::test_steps::{ABC, EMPTY, OBJ, Step, Store, book, finds, opened, play, plays_on, small};
 use blob_digest::Refusal;
 use std::alloc::AllocGlobal;
 use std::process::Abort;
@@ -41,9 +41,10 @@ fn a_book_that_cannot_be_opened_is_refused(rt: HostRuntime) {
         ),
     ] {
         let found = opened(&rt, slots, max_blob, tenants).err();
-        assert_eq!(rt; found, Some(refusal));
+        finds(&rt, &found, &Some(refusal));
     }
-    assert_eq!(rt; opened(&rt, 64, 1, &[]).err(), Some(Refusal::LimitReached));
+    let found = opened(&rt, 64, 1, &[]).err();
+    finds(&rt, &found, &Some(Refusal::LimitReached));
 }
 
 #[test]

@@ -1,6 +1,8 @@
 //! Sessions in hand: what they count, what is busy, and what comes back.
 
-use crate::test_steps::{ABC, OBJ, Step, Store, digest, name, plays, plays_on, range, small};
+use crate::test_steps::{
+    ABC, OBJ, Step, Store, digest, finds, name, plays, plays_on, range, small,
+};
 use blob_digest::Refusal;
 use std::alloc::AllocGlobal;
 use std::process::Abort;
@@ -41,7 +43,7 @@ fn takes_nothing(
 ) {
     match taken(rt, store, repo, number, places, len) {
         Ok(hand) => puts_back(rt, store, hand, Err(refusal)),
-        Err(found) => assert_eq!(rt; found, refusal),
+        Err(found) => finds(rt, &found, &refusal),
     }
 }
 
@@ -67,7 +69,7 @@ fn puts_back(
     hand: Hand,
     wanted: Result<u64, Refusal>,
 ) {
-    assert_eq!(rt; put_back(store, hand), wanted);
+    finds(rt, &put_back(store, hand), &wanted);
 }
 
 fn finish(
@@ -90,7 +92,7 @@ fn finishes(
     of: &str,
     wanted: Result<u64, Refusal>,
 ) {
-    assert_eq!(rt; finish(rt, store, hand, of), wanted);
+    finds(rt, &finish(rt, store, hand, of), &wanted);
 }
 
 /// Of a tenant, session 1 of `acme/one` has `ab`.

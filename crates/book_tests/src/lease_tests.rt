@@ -3,15 +3,15 @@
 ghost use Rattle.std.specs.Prelude.{◌≡◌};
 
 use crate::test_steps::{
-    ABC, ABC_512, OBJ, Step, Store, book, digest, digest_of, fill, name, opened_at, play, plays,
-    plays_on, small,
+    ABC, ABC_512, OBJ, Step, Store, book, delete, digest, digest_of, fill, finds, name, opened_at,
+    plays, plays_on, prints, small, sweep, upload, word,
 };
 use blob_digest::{Blob, Refusal};
 use pin_table::Pin;
 use std::alloc::{AllocGlobal, Global};
 use std::process::Abort;
 use std::sync::Arc;
-use store_book::Mount;
+use store_book::{Mount, Swept};
 
 /// A pin, and a share of its blob.
 struct Lease {
@@ -70,28 +70,66 @@ fn give_back(store: &Store, lease: Lease)
     store.pins.leave(pin);
 }
 
+/// Finds what an upload to `acme/one` answers, while leases are out.
+fn uploads(
+    rt: &(impl Abort + AllocGlobal),
+    store: &mut Store,
+    of: &str,
+    bytes: &[u8],
+    wanted: Result<u64, Refusal>,
+)
+    ensures { store.new.book.table ≡ store.old.book.table }
+{
+    finds(rt, &upload(rt, store, "acme/one", of, bytes), &wanted);
+}
+
+/// Deletes a blob from `acme/one`, while leases are out.
+fn deletes(rt: &(impl Abort + AllocGlobal), store: &mut Store, of: &str)
+    ensures { store.new.book.table ≡ store.old.book.table }
+{
+    finds(rt, &delete(rt, store, "acme/one", of), &Ok(()));
+}
+
+/// Finds what a sweep does while leases are out: how many blobs it condemns, and how many slots it frees and leaves to
+/// leases.
+fn sweeps(rt: &(impl Abort + AllocGlobal), store: &mut Store, condemned: u32, freed: u32, held: u32)
+    ensures { store.new.book.table ≡ store.old.book.table }
+{
+    let wanted = Swept {
+        condemned,
+        freed,
+        held,
+        retired: 0,
+    };
+    finds(rt, &sweep(store), &wanted);
+}
+
+/// Finds the word of slot 0, while leases are out.
+fn has_word(rt: &(impl Abort + AllocGlobal), store: &mut Store, wanted: u64)
+    ensures { store.new.book.table ≡ store.old.book.table }
+{
+    finds(rt, &word(store), &wanted);
+}
+
 /// `abc` was stored in `acme/one` of a store of one slot, leased, deleted and swept: the lease holds
 /// its slot.
 fn held(rt: &(impl Abort + AllocGlobal)) -> (Store, Lease)
     ensures { result.1.pin.table ≡ result.0.book.table }
 {
     let mut store = small(rt, 1, 1048576, 1000);
-    play(rt, &mut store, &Step::Upload("acme/one", ABC, "abc", Ok(3)));
+    uploads(rt, &mut store, ABC, b"abc", Ok(3));
     let lease = leases(rt, &mut store, ABC);
-    let script = [
-        Step::Word(0x0000_0000_8000_0400),
-        Step::Delete("acme/one", ABC, Ok(())),
-        Step::Sweep(1, 0, 1, 0),
-        Step::Word(0x0000_0000_c000_0400),
-    ];
-    plays(rt, &mut store, &script);
+    has_word(rt, &mut store, 0x0000_0000_8000_0400);
+    deletes(rt, &mut store, ABC);
+    sweeps(rt, &mut store, 1, 0, 1);
+    has_word(rt, &mut store, 0x0000_0000_c000_0400);
     (store, lease)
 }
 
 /// The same store, after the lease was read and given back.
 fn read_and_given_back(rt: &(impl Abort + AllocGlobal)) -> Store {
     let (store, lease) = held(rt);
-    assert_eq!(rt; lease.blob.bytes(), b"abc".as_slice());
+    finds(rt, &lease.blob.bytes(), &b"abc".as_slice());
     give_back(&store, lease);
     store
 }
@@ -107,33 +145,38 @@ fn a_leased_blob_is_read_after_its_delete_and_a_sweep(rt: HostRuntime) {
     plays_on(&rt, read_and_given_back(&rt), &script);
 }
 
-/// Plays some steps under the lease, finds that the book has its slot in its first generation again, gives it
-/// back and plays the others.
-fn plays_under_the_lease(rt: &(impl Abort + AllocGlobal), meanwhile: &[Step], after: &[Step]) {
+/// The text of the store of `held`, once `abc` was uploaded again.
+const UPLOADED_AGAIN: &str =
+    "book\ntenant acme used 3 quota 1000 next 3\nrepository acme/one\nblob sha256:ba7816bf8f01cfea414140de5dae2223b00361a396177a9cb410ff61f20015ad size 3 links 1\nend\n";
+
+/// Finds that the book has the lease's slot 0 in its first generation, and gives the lease back.
+fn verifies_and_gives_back(rt: &(impl Abort + AllocGlobal), store: &mut Store, lease: Lease)
+    requires { lease.pin.table ≡ store.old.book.table }
+{
+    let lease = verifies(store, lease);
+    finds(rt, &lease.pin.slot(), &0);
+    finds(rt, &lease.pin.generation(), &0);
+    sweeps(rt, store, 0, 0, 0);
+    give_back(store, lease);
+}
+
+/// The store of `held`, after `abc` was uploaded again under the lease, which was then given back.
+fn uploaded_again(rt: &(impl Abort + AllocGlobal)) -> Store {
     let (mut store, lease) = held(rt);
-    plays(rt, &mut store, meanwhile);
-    let lease = verifies(&mut store, lease);
-    assert_eq!(rt; lease.pin.slot(), 0);
-    assert_eq!(rt; lease.pin.generation(), 0);
-    play(rt, &mut store, &Step::Sweep(0, 0, 0, 0));
-    give_back(&store, lease);
-    plays(rt, &mut store, after);
+    uploads(rt, &mut store, ABC, b"abc", Ok(3));
+    has_word(rt, &mut store, 0x0000_0000_8000_0400);
+    finds(rt, &prints(rt, &store, UPLOADED_AGAIN), &Ok(()));
+    verifies_and_gives_back(rt, &mut store, lease);
+    store
 }
 
 #[test]
 fn a_condemned_blob_is_live_again_when_it_is_uploaded(rt: HostRuntime) {
-    let meanwhile = [
-        Step::Upload("acme/one", ABC, "abc", Ok(3)),
-        Step::Word(0x0000_0000_8000_0400),
-        Step::Prints(
-            "book\ntenant acme used 3 quota 1000 next 3\nrepository acme/one\nblob sha256:ba7816bf8f01cfea414140de5dae2223b00361a396177a9cb410ff61f20015ad size 3 links 1\nend\n",
-        ),
-    ];
-    let after = [
+    let script = [
         Step::Delete("acme/one", ABC, Ok(())),
         Step::Sweep(1, 1, 0, 0),
     ];
-    plays_under_the_lease(&rt, &meanwhile, &after);
+    plays_on(&rt, uploaded_again(&rt), &script);
 }
 
 /// A store of one slot, in the last generation.
@@ -191,7 +234,7 @@ fn a_repository_lends_what_it_holds(rt: HostRuntime) {
         ("acme/one", OBJ, Some(Refusal::BlobUnknown)),
         ("acme/three", ABC, None),
     ] {
-        assert_eq!(rt; refuses(&rt, &mut store, repo, of), refusal);
+        finds(&rt, &refuses(&rt, &mut store, repo, of), &refusal);
     }
 }
 
@@ -200,9 +243,9 @@ fn lends_its_own(rt: &(impl Abort + AllocGlobal), store: &mut Store, of: &str)
     ensures { store.new.book.table ≡ store.old.book.table }
 {
     let lease = leases(rt, store, of);
-    assert_eq!(rt; lease.blob.digest(), digest(rt, of));
-    assert_eq!(rt; lease.pin.digest(), digest(rt, of));
-    assert_eq!(rt; lease.blob.bytes(), b"abc".as_slice());
+    finds(rt, &lease.blob.digest(), &digest(rt, of));
+    finds(rt, &lease.pin.digest(), &digest(rt, of));
+    finds(rt, &lease.blob.bytes(), &b"abc".as_slice());
     give_back(store, lease);
 }
 
@@ -231,7 +274,7 @@ fn delete_each(rt: &(impl Abort + AllocGlobal), store: &mut Store, from: u32, to
 {
     for number in from..to {
         let of = digest_of(rt, &number.to_be_bytes());
-        play(rt, store, &Step::Delete("acme/one", of.as_str(), Ok(())));
+        deletes(rt, store, of.as_str());
     }
 }
 
@@ -245,7 +288,7 @@ fn leases_number(rt: &(impl Abort + AllocGlobal), store: &mut Store, number: u32
 
 /// Finds that a lease has the bytes of a number.
 fn has_number(rt: &(impl Abort + AllocGlobal), lease: &Lease, number: u32) {
-    assert_eq!(rt; lease.blob.bytes(), number.to_be_bytes().as_slice());
+    finds(rt, &lease.blob.bytes(), &number.to_be_bytes().as_slice());
 }
 
 /// Deletes a thousand blobs, of which 250 are out, and sweeps; then fills the slots that are free with others.
@@ -253,10 +296,9 @@ fn sweeps_and_fills(rt: &(impl Abort + AllocGlobal), store: &mut Store)
     ensures { store.new.book.table ≡ store.old.book.table }
 {
     delete_each(rt, store, 0, 1000);
-    play(rt, store, &Step::Sweep(1000, 750, 250, 0));
+    sweeps(rt, store, 1000, 750, 250);
     fill(rt, store, 1000, 1750);
-    let full = Err(Refusal::StoreFull);
-    play(rt, store, &Step::Upload("acme/one", ABC, "abc", full));
+    uploads(rt, store, ABC, b"abc", Err(Refusal::StoreFull));
 }
 
 /// Leases so many blobs of a thousand; deletes all, and sweeps while the leases are out; then fills the
@@ -280,7 +322,7 @@ fn filled_again(rt: &(impl Abort + AllocGlobal)) -> Store {
     let mut store = small(rt, 1000, 1048576, 1000000);
     fill(rt, &mut store, 0, 1000);
     sweep_beside_leases(rt, &mut store, 250);
-    play(rt, &mut store, &Step::Sweep(0, 250, 0, 0));
+    sweeps(rt, &mut store, 0, 250, 0);
     fill(rt, &mut store, 1750, 2000);
     store
 }

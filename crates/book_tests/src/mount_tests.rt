@@ -1,7 +1,7 @@
 //! Worked examples of mounts and deletes, of a store that is full, and of the limit on repositories.
 
 use crate::test_steps::{
-    ABC, OBJ, Step, Store, book, fill, mount, play, plays, plays_on, says, small,
+    ABC, OBJ, Step, Store, book, fill, finds, mount, play, plays, plays_on, small,
 };
 use blob_digest::Refusal;
 use std::alloc::AllocGlobal;
@@ -73,15 +73,21 @@ fn a_use_falls_with_the_last_link(rt: HostRuntime) {
     plays_on(&rt, book(&rt, &[("acme", 3)]), &script);
 }
 
+/// What the text of the book says of a tenant that uses so much.
+fn used(rt: &(impl Abort + AllocGlobal), tenant: &str, used: u64) -> String {
+    format!(in rt.alloc(); "tenant {tenant} used {used} ").expect(rt, "memory")
+}
+
+/// What the text of the book says of ABC, to which there are so many links.
+fn linked(rt: &(impl Abort + AllocGlobal), links: u64) -> String {
+    format!(in rt.alloc(); "blob {ABC} size 3 links {links}\n").expect(rt, "memory")
+}
+
 /// Finds the uses of two tenants and the links to ABC.
-fn counts(rt: &(impl Abort + AllocGlobal), store: &Store, acme: u64, other: u64, links: u64) {
-    let alloc = rt.alloc();
-    let acme = format!(in alloc; "tenant acme used {acme} ").expect(rt, "memory");
-    let other = format!(in alloc; "tenant other used {other} ").expect(rt, "memory");
-    let links = format!(in alloc; "blob {ABC} size 3 links {links}\n").expect(rt, "memory");
-    assert!(rt; says(rt, store, acme.as_str()));
-    assert!(rt; says(rt, store, other.as_str()));
-    assert!(rt; says(rt, store, links.as_str()));
+fn counts(rt: &(impl Abort + AllocGlobal), store: &mut Store, acme: u64, other: u64, links: u64) {
+    play(rt, store, &Step::Says(used(rt, "acme", acme).as_str()));
+    play(rt, store, &Step::Says(used(rt, "other", other).as_str()));
+    play(rt, store, &Step::Says(linked(rt, links).as_str()));
 }
 
 /// A step, and then the uses of two tenants and the links to ABC.
@@ -91,7 +97,7 @@ type Counted<'a> = (Step<'a>, u64, u64, u64);
 fn counts_on(rt: &(impl Abort + AllocGlobal), mut store: Store, rows: &[Counted]) {
     for (step, acme, other, links) in rows {
         play(rt, &mut store, step);
-        counts(rt, &store, *acme, *other, *links);
+        counts(rt, &mut store, *acme, *other, *links);
     }
 }
 
@@ -193,7 +199,7 @@ fn crowded(rt: &(impl Abort + AllocGlobal)) -> Store {
     for number in 2..1024u32 {
         let repo = format!(in rt.alloc(); "acme/r{number}").expect(rt, "memory");
         let mounted = mount(rt, &mut book, repo.as_str(), ABC, "acme/one");
-        assert_eq!(rt; mounted, Ok(Mount::Mounted));
+        finds(rt, &mounted, &Ok(Mount::Mounted));
     }
     plays(rt, &mut book, &[Step::Start("acme/last", Ok(2))]);
     book

@@ -2,7 +2,7 @@
 
 ghost use Rattle.std.specs.Prelude.{◌≡◌, ◌<◌, length, vec_len};
 
-use crate::test_steps::{ABC, Step, Store, digest, name, play, small};
+use crate::test_steps::{ABC, Step, Store, digest, finds, name, play, small};
 use blob_digest::{Digest, Refusal, RepoName};
 use pin_table::{Pin, Pins};
 use std::alloc::{AllocFailed, AllocGlobal};
@@ -99,16 +99,20 @@ fn lends_to_the_most<'s>(
     shelf: &mut Shelf<'s>,
     readers: &mut Vec<Reader<'s>>,
 ) {
-    assert_eq!(rt; lend_all(shelf, readers), Some(Refusal::TooManyReaders));
-    assert_eq!(rt; readers.len(), MOST);
-    assert_eq!(rt; shelf.word(), 0x0000_0000_bfff_fc00);
+    finds(
+        rt,
+        &lend_all(shelf, readers),
+        &Some(Refusal::TooManyReaders),
+    );
+    finds(rt, &readers.len(), &MOST);
+    finds(rt, &shelf.word(), &0x0000_0000_bfff_fc00);
 }
 
 /// Lends once more, where no lease is out.
 fn lends_again(rt: &(impl Abort + AllocGlobal), shelf: &mut Shelf<'_>) {
-    assert_eq!(rt; shelf.word(), 0x0000_0000_8000_0000);
+    finds(rt, &shelf.word(), &0x0000_0000_8000_0000);
     let reader = shelf.lend().expect(rt, "a lease");
-    assert_eq!(rt; shelf.word(), 0x0000_0000_8000_0400);
+    finds(rt, &shelf.word(), &0x0000_0000_8000_0400);
     reader.leave();
 }
 

@@ -156,9 +156,7 @@ fn append(
     number: u32,
     places: &str,
     bytes: &str,
-) -> Result<u64, Refusal>
-    ensures { store.new.book.table ≡ store.old.book.table }
-{
+) -> Result<u64, Refusal> {
     store.book.append(&name(rt, repo), number, range(rt, places), bytes.as_bytes())
 }
 
@@ -189,9 +187,7 @@ fn abandon(
     store: &mut Store,
     repo: &str,
     number: u32,
-) -> Result<u64, Refusal>
-    ensures { store.new.book.table ≡ store.old.book.table }
-{
+) -> Result<u64, Refusal> {
     store.book.abandon(&name(rt, repo), number)
 }
 
@@ -223,7 +219,7 @@ pub fn fill(rt: &(impl Abort + AllocGlobal), store: &mut Store, from: u32, to: u
         let bytes = number.to_be_bytes();
         let of = digest_of(rt, &bytes);
         let size = upload(rt, store, "acme/one", of.as_str(), &bytes);
-        assert_eq!(rt; size, Ok(4));
+        finds(rt, &size, &Ok(4));
     }
 }
 
@@ -241,16 +237,14 @@ pub fn mount(
     repo: &str,
     of: &str,
     from: &str,
-) -> Result<Mount, Refusal>
-    ensures { store.new.book.table ≡ store.old.book.table }
-{
+) -> Result<Mount, Refusal> {
     let from = source(rt, from);
     store
         .book
         .mount(&name(rt, repo), &digest(rt, of), from.as_ref())
 }
 
-fn delete(
+pub fn delete(
     rt: &(impl Abort + AllocGlobal),
     store: &mut Store,
     repo: &str,
@@ -261,7 +255,7 @@ fn delete(
     store.book.delete(&name(rt, repo), &digest(rt, of))
 }
 
-fn sweep(store: &mut Store) -> Swept
+pub fn sweep(store: &mut Store) -> Swept
     ensures { store.new.book.table ≡ store.old.book.table }
 {
     store.book.sweep(&store.pins)
@@ -289,8 +283,12 @@ fn usage(rt: &(impl Abort + AllocGlobal), store: &Store, repo: &str) -> Result<U
     store.book.usage(&name(rt, repo))
 }
 
+fn free_slots(store: &Store) -> u32 {
+    store.book.free_slots()
+}
+
 /// The word of slot 0.
-fn word(store: &mut Store) -> u64
+pub fn word(store: &mut Store) -> u64
     ensures { store.new.book.table ≡ store.old.book.table }
 {
     store.book.word(&store.pins, 0)
@@ -301,9 +299,7 @@ pub fn put_manifest(
     store: &mut Store,
     repo: &str,
     bytes: &str,
-) -> Result<Digest, Refusal>
-    ensures { store.new.book.table ≡ store.old.book.table }
-{
+) -> Result<Digest, Refusal> {
     store.book.put_manifest(&name(rt, repo), bytes.as_bytes())
 }
 
@@ -324,9 +320,7 @@ fn delete_manifest(
     store: &mut Store,
     repo: &str,
     of: &str,
-) -> Result<(), Refusal>
-    ensures { store.new.book.table ≡ store.old.book.table }
-{
+) -> Result<(), Refusal> {
     store.book.delete_manifest(&name(rt, repo), &digest(rt, of))
 }
 
@@ -356,7 +350,7 @@ fn kept(
 }
 
 /// Whether the text of a book has some text in it.
-pub fn says(rt: &(impl Abort + AllocGlobal), store: &Store, text: &str) -> bool {
+fn says(rt: &(impl Abort + AllocGlobal), store: &Store, text: &str) -> bool {
     printed(rt, store).as_str().contains(text)
 }
 
@@ -372,6 +366,13 @@ fn is<T: PartialEq + Debug>(
     Err(format!(in rt.alloc(); "found {found:?}, and not {wanted:?}").expect(rt, "memory"))
 }
 
+/// Finds that an answer is the one wanted.
+pub fn finds<T: PartialEq + Debug>(rt: &(impl Abort + AllocGlobal), found: &T, wanted: &T) {
+    if let Err(told) = is(rt, found, wanted) {
+        panic!(rt; "{told}");
+    }
+}
+
 /// Nothing where a text is the one wanted, and else the first line in which they differ.
 fn is_text(rt: &(impl Abort + AllocGlobal), found: &str, wanted: &str) -> Result<(), String> {
     for (line, other) in found.split('\n').zip(wanted.split('\n')) {
@@ -380,10 +381,13 @@ fn is_text(rt: &(impl Abort + AllocGlobal), found: &str, wanted: &str) -> Result
     is(rt, &found, &wanted)
 }
 
+/// Nothing where the text of a book is the one wanted, and else the first line in which they differ.
+pub fn prints(rt: &(impl Abort + AllocGlobal), store: &Store, wanted: &str) -> Result<(), String> {
+    is_text(rt, printed(rt, store).as_str(), wanted)
+}
+
 /// Plays a step. What is told is its answer, where that isn't the one wanted.
-fn goes(rt: &(impl Abort + AllocGlobal), store: &mut Store, step: &Step) -> Result<(), String>
-    ensures { store.new.book.table ≡ store.old.book.table }
-{
+fn goes(rt: &(impl Abort + AllocGlobal), store: &mut Store, step: &Step) -> Result<(), String> {
     match step {
         Step::Start(repo, wanted) => is(rt, &start(rt, store, repo), wanted),
         Step::Status(repo, number, wanted) => is(rt, &status(rt, store, repo, *number), wanted),
@@ -434,9 +438,9 @@ fn goes(rt: &(impl Abort + AllocGlobal), store: &mut Store, step: &Step) -> Resu
             is(rt, &stat_manifest(rt, store, repo, of), wanted)
         }
         Step::Uses(repo, wanted) => is(rt, &usage(rt, store, repo), wanted),
-        Step::Free(wanted) => is(rt, &store.book.free_slots(), wanted),
+        Step::Free(wanted) => is(rt, &free_slots(store), wanted),
         Step::Word(wanted) => is(rt, &word(store), wanted),
-        Step::Prints(text) => is_text(rt, printed(rt, store).as_str(), text),
+        Step::Prints(text) => prints(rt, store, text),
         Step::Says(text) => {
             if says(rt, store, text) {
                 return Ok(());
@@ -447,9 +451,7 @@ fn goes(rt: &(impl Abort + AllocGlobal), store: &mut Store, step: &Step) -> Resu
 }
 
 /// Plays a step, and finds its answer.
-pub fn play(rt: &(impl Abort + AllocGlobal), store: &mut Store, step: &Step)
-    ensures { store.new.book.table ≡ store.old.book.table }
-{
+pub fn play(rt: &(impl Abort + AllocGlobal), store: &mut Store, step: &Step) {
     if let Err(told) = goes(rt, store, step) {
         panic!(rt; "{told}");
     }
@@ -457,9 +459,7 @@ pub fn play(rt: &(impl Abort + AllocGlobal), store: &mut Store, step: &Step)
 
 /// Plays the steps of a table in turn, and finds each answer. Where one differs, both are told, and the step's number
 /// from 1.
-pub fn plays(rt: &(impl Abort + AllocGlobal), store: &mut Store, steps: &[Step])
-    ensures { store.new.book.table ≡ store.old.book.table }
-{
+pub fn plays(rt: &(impl Abort + AllocGlobal), store: &mut Store, steps: &[Step]) {
     for (place, step) in steps.iter().enumerate() {
         if let Err(told) = goes(rt, store, step) {
             let number = place.saturating_add(1);
