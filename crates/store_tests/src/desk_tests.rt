@@ -1,9 +1,9 @@
 //! As many desks as may be out, a script that finds none, and a desk that is sent to a thread.
 
-use crate::play_tests::{LINES, rows_of};
+use crate::play_tests::lines;
 use crate::test_steps::TestStore;
 use blob_digest::Refusal;
-use blob_store::{Desk, DroppableDesk, Naming, Settled, play};
+use blob_store::{Desk, DroppableDesk, Naming, Settled};
 use row_player::OpenGate;
 use std::alloc::AllocGlobal;
 use std::process::Abort;
@@ -16,39 +16,48 @@ impl<'s, S: Naming + Send + Sync, W: Abort + AllocGlobal + Threads + Wait + Sync
     S,
     W,
 > {
-    fn makes_desks(&self, count: u64) -> Vec<Desk<S>> {
-        self.store.desks(self.rt, count).expect(self.rt, "desks")
+    /// So many desks are refused.
+    pub fn refuses_desks(&self, count: u64) {
+        let rt = self.rt;
+        match self.store.desks(rt, count) {
+            Ok(desks) => {
+                self.settle(desks);
+                panic!(rt; "{count} desks are made");
+            }
+            Err(refusal) => assert_eq!(rt; refusal, Refusal::LimitReached),
+        }
     }
 
-    /// Settles desks, beside which so many stay out.
-    fn settles(&self, desks: Vec<Desk<S>>, left: u64) {
-        assert_eq!(self.rt; self.store.settle(self.rt, desks).left, left);
+    /// Beside the desks that are settled so many stay out.
+    fn leaves(&self, desks: Vec<Desk<S>>, left: u64) {
+        assert_eq!(self.rt; self.settle(desks).left, left);
     }
 
     /// A script finds no desk for each of its two workers, and none of its rows is played.
     fn plays_nothing(&self) {
         let rt = self.rt;
-        let rows = rows_of(rt, LINES.as_slice());
-        let played = play(rt, rt.alloc(), self.store, &rows, 2, &OpenGate);
-        assert!(rt; played.err() == Some(Refusal::LimitReached));
-        assert_eq!(rt; self.store.totals(rt).commands, 0);
+        match self.plays_by_two(&lines(rt), &OpenGate) {
+            Ok(_) => panic!(rt; "there are desks for two workers"),
+            Err(refusal) => assert_eq!(rt; refusal, Refusal::LimitReached),
+        }
+        assert_eq!(rt; self.totals().commands, 0);
     }
 
     /// 65 desks are made at once, and 1,024 in all. Two workers find no desks beside them, nor beside 1,023.
     pub fn all_desks(&self) {
-        let some = self.makes_desks(65);
+        let some = self.desks(65);
         self.refuses_desks(960);
-        let more = self.makes_desks(958);
+        let more = self.desks(958);
         self.plays_nothing();
-        let last = self.makes_desks(1);
+        let last = self.desks(1);
         self.plays_nothing();
         self.refuses_desks(1);
-        self.settles(some, 959);
-        self.settles(more, 1);
-        self.settles(last, 0);
-        let all = self.makes_desks(1024);
+        self.leaves(some, 959);
+        self.leaves(more, 1);
+        self.leaves(last, 0);
+        let all = self.desks(1024);
         self.refuses_desks(1);
-        self.settles(all, 0);
+        self.leaves(all, 0);
     }
 
     /// Uploads `abc` with a desk that was sent here, and sends the desk back.
@@ -70,7 +79,7 @@ impl<'s, S: Naming + Send + Sync, W: Abort + AllocGlobal + Threads + Wait + Sync
 
     /// A desk is sent to a thread and back, and settles what it got there.
     pub fn sends_a_desk(&self) {
-        let mut desks = self.makes_desks(1);
+        let mut desks = self.desks(1);
         let desk = desks.pop().expect(self.rt, "a desk");
         let returned = self.uploads_in_a_thread(desk.into_droppable());
         desks.push_reserved(returned.into_desk());
@@ -81,6 +90,6 @@ impl<'s, S: Naming + Send + Sync, W: Abort + AllocGlobal + Threads + Wait + Sync
             abandoned: 0,
             left: 0,
         };
-        assert_eq!(self.rt; self.store.settle(self.rt, desks), wanted);
+        self.settles(desks, wanted);
     }
 }

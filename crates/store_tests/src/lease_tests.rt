@@ -13,6 +13,10 @@ impl<'s, S: Naming + Send + Sync, W: Abort + AllocGlobal + Threads + Wait + Sync
     S,
     W,
 > {
+    pub fn verified(&self, lease: Lease<'s, S>) -> Lease<'s, S> {
+        self.store.verify(self.rt, lease)
+    }
+
     /// Finds what a lease of `abc` in slot 0 tells.
     fn tells(&self, lease: &Lease<'s, S>) {
         let rt = self.rt;
@@ -45,21 +49,20 @@ impl<'s, S: Naming + Send + Sync, W: Abort + AllocGlobal + Threads + Wait + Sync
 
     /// Finds that the book still has a lease's slot with its blob, reads the lease and gives it back.
     fn verifies_and_reads(&self, lease: Lease<'s, S>) {
-        let lease = self.store.verify(self.rt, lease);
+        let lease = self.verified(lease);
         self.reads(&lease);
         lease.give_back();
     }
 
     /// Stores and leases `abc` at one desk, and plays a table before the lease is given back, and another after.
     fn plays_around_a_lease(&self, meanwhile: &[Step], after: &[Step]) {
-        let rt = self.rt;
-        let mut desks = self.store.desks(rt, 1).expect(rt, "a desk");
+        let mut desks = self.desks(1);
         self.stores_abc(&mut desks[0]);
         let lease = self.leases(&mut desks[0], ABC);
         self.plays(&mut desks[0], meanwhile);
         self.verifies_and_reads(lease);
         self.plays(&mut desks[0], after);
-        self.store.settle(rt, desks);
+        self.settle(desks);
     }
 
     /// A lease keeps the slot of a deleted blob until it is given back.
@@ -130,12 +133,11 @@ impl<'s, S: Naming + Send + Sync, W: Abort + AllocGlobal + Threads + Wait + Sync
 
     /// A lease is shared ten times, and no more.
     pub fn shared(&self) {
-        let rt = self.rt;
-        let mut desks = self.store.desks(rt, 1).expect(rt, "a desk");
+        let mut desks = self.desks(1);
         self.stores_abc(&mut desks[0]);
         let lease = self.leases(&mut desks[0], ABC);
         self.shares_ten_times(lease);
         self.plays(&mut desks[0], &[Step::Word(0, 0x0000_0000_8000_0000)]);
-        self.store.settle(rt, desks);
+        self.settle(desks);
     }
 }

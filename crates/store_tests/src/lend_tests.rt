@@ -3,7 +3,7 @@
 ghost use Rattle.std.specs.Prelude.{◌≡◌, vec_len};
 
 use crate::test_steps::{ABC, ONE, Step, TestStore, digest, name};
-use blob_digest::Refusal;
+use blob_digest::{Digest, Refusal, RepoName};
 use blob_store::{Desk, Lease, Naming};
 use std::alloc::{AllocFailed, AllocGlobal};
 use std::process::Abort;
@@ -33,20 +33,29 @@ impl<'s, S: Naming + Send + Sync, W: Abort + AllocGlobal + Threads + Wait + Sync
     S,
     W,
 > {
+    /// Leases a blob and puts the lease into the list, or gives it back where there is no memory for that.
+    fn lends(
+        &self,
+        desk: &mut Desk<S>,
+        repo: &RepoName,
+        of: &Digest,
+        leases: &mut Vec<Lease<'s, S>>,
+    ) -> Result<(), Refusal> {
+        if let Err(failed) = leases.push(self.store.lease(self.rt, desk, repo, of)?) {
+            let AllocFailed { value } = failed;
+            value.give_back();
+        }
+        Ok(())
+    }
+
     /// Lends `abc` again and again, and puts the leases into the list. What the first refused one was refused for, of
     /// one more than there can be.
     fn lends_on(&self, desk: &mut Desk<S>, leases: &mut Vec<Lease<'s, S>>) -> Option<Refusal> {
         let repo = name(self.rt, ONE);
         let of = digest(self.rt, ABC);
         for _ in 0..MOST + 1 {
-            match self.store.lease(self.rt, desk, &repo, &of) {
-                Ok(lease) => {
-                    if let Err(failed) = leases.push(lease) {
-                        let AllocFailed { value } = failed;
-                        value.give_back();
-                    }
-                }
-                Err(refusal) => return Some(refusal),
+            if let Err(refusal) = self.lends(desk, &repo, &of, leases) {
+                return Some(refusal);
             }
         }
         None
@@ -74,11 +83,10 @@ impl<'s, S: Naming + Send + Sync, W: Abort + AllocGlobal + Threads + Wait + Sync
 
     /// A blob is lent as often as it can be, all leases are given back, and it is lent again.
     pub fn lends_the_most(&self) {
-        let rt = self.rt;
-        let mut desks = self.store.desks(rt, 1).expect(rt, "a desk");
+        let mut desks = self.desks(1);
         self.stores_abc(&mut desks[0]);
         self.lends_all(&mut desks[0]);
         self.lends_again(&mut desks[0]);
-        self.store.settle(rt, desks);
+        self.settle(desks);
     }
 }

@@ -105,7 +105,7 @@ impl<'s, S: Naming + Send + Sync, W: Abort + AllocGlobal + Threads + Wait + Sync
     fn reads_halves(&self, upload: &Upload<'_>, lease: Lease<'s, S>) {
         match lease.share() {
             Ok((left, right)) => {
-                self.reads_it(upload, self.store.verify(self.rt, left));
+                self.reads_it(upload, self.verified(left));
                 self.reads_it(upload, right);
             }
             Err((refusal, lease)) => {
@@ -195,14 +195,14 @@ impl<'s, S: Naming + Send + Sync, W: Abort + AllocGlobal + Threads + Wait + Sync
     /// All rounds of a thread, at a desk of its own, whose shares are what the thread counted.
     fn plays_rounds(&self, player: &mut Player, load: &Load, place: usize) {
         let rt = self.rt;
-        let mut desks = self.store.desks(rt, 1).expect(rt, "a desk");
+        let mut desks = self.desks(1);
         for round in 0..ROUNDS {
             if let Some(desk) = desks.first_mut() {
                 self.plays_round(desk, &player.names, &mut player.own, load, place, round);
             }
             load.count();
         }
-        let settled = self.store.settle(rt, desks);
+        let settled = self.settle(desks);
         assert_eq!(rt; Own::settled(settled), player.own);
     }
 
@@ -260,8 +260,8 @@ impl<'s, S: Naming + Send + Sync, W: Abort + AllocGlobal + Threads + Wait + Sync
             abandoned: own.abandoned,
             desks: 0,
         };
-        assert_eq!(rt; self.store.totals(rt), totals);
-        assert_eq!(rt; self.printed().as_str(), text);
+        self.finds(totals);
+        self.prints(text);
     }
 
     /// A blob that is uploaded at once.
@@ -276,7 +276,7 @@ impl<'s, S: Naming + Send + Sync, W: Abort + AllocGlobal + Threads + Wait + Sync
     /// All 64 slots are free: they take 64 blobs, and no more.
     fn all_slots_are_free(&self) {
         let rt = self.rt;
-        let mut desks = self.store.desks(rt, 1).expect(rt, "a desk");
+        let mut desks = self.desks(1);
         let mut filled: u32 = 0;
         for number in 0..65_u32 {
             if let Some(desk) = desks.first_mut() {
@@ -286,7 +286,7 @@ impl<'s, S: Naming + Send + Sync, W: Abort + AllocGlobal + Threads + Wait + Sync
                 }
             }
         }
-        self.store.settle(rt, desks);
+        self.settle(desks);
         assert_eq!(rt; filled, 64);
     }
 

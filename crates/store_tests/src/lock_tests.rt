@@ -97,7 +97,7 @@ impl<'s, S: Naming + Send + Sync, W: Abort + AllocGlobal + Threads + Wait + Sync
             if progress.ended.load(Ordering::SeqCst) {
                 return count;
             }
-            let _ = self.store.totals(self.rt);
+            self.totals();
             count = count.saturating_add(1);
         }
         count
@@ -126,7 +126,7 @@ impl<'s, S: Naming + Send + Sync, W: Abort + AllocGlobal + Threads + Wait + Sync
     /// Another thread gets through while a chunk is appended, while a session is closed, and while manifests are put.
     pub fn fills_without_the_lock(&self) {
         let rt = self.rt;
-        let mut desks = self.store.desks(rt, 1).expect(rt, "a desk");
+        let mut desks = self.desks(1);
         assert!(rt; self.start(&mut desks[0], ONE) == Ok(1));
         let chunk = filler(rt, GREAT);
         let manifest = great_manifest(rt);
@@ -137,6 +137,6 @@ impl<'s, S: Naming + Send + Sync, W: Abort + AllocGlobal + Threads + Wait + Sync
         ] {
             assert!(rt; self.lets_others_through(&mut desks, call));
         }
-        self.store.settle(rt, desks);
+        self.settle(desks);
     }
 }

@@ -1,11 +1,13 @@
 //! Scripts that one worker and two workers play, and what a gate is asked.
 
-ghost use Rattle.std.specs.Prelude.{◌≡◌, ◌<◌, ◌≤◌};
+ghost use Rattle.std.specs.Prelude.{◌≡◌};
 ghost use Rattle.blob_store.specs.Parts.{names_of};
 
-use crate::test_steps::{ABC, TestStore};
+use crate::test_steps::{ABC, TestStore, is_settled};
 use crate::thread_tests::awaits;
-use blob_store::{Naming, Parts, Settled, play, play_to_end};
+use blob_digest::Refusal;
+use blob_store::{Naming, Parts, Played, PlayedToEnd, Settled, play, play_to_end};
+use locked_book::LockedBook;
 use row_player::{BorrowedRow, Gate, OpenGate, PackedRows, Reply, Verb, has_fields};
 use std::alloc::AllocGlobal;
 use std::process::Abort;
@@ -103,12 +105,27 @@ struct Meeting<'r> {
 }
 
 impl<'r> Meeting<'r> {
+    fn new(rt: &(impl Abort + AllocGlobal), lines: &'r [Line]) -> Meeting<'r> {
+        Meeting {
+            tally: CounterView::new(rt, lines),
+            zero: AtomicBool::new(false),
+            one: AtomicBool::new(false),
+            missed: AtomicBool::new(false),
+        }
+    }
+
     /// Tells that one lane has come, and waits for the other.
     fn meet(&self, own: &AtomicBool, other: &AtomicBool) {
         own.store(true, Ordering::SeqCst);
         if !awaits(other) {
             self.missed.store(true, Ordering::SeqCst);
         }
+    }
+
+    /// The lanes met, and the gate was asked about each row.
+    fn expect_met(&self, rt: &impl Abort) {
+        assert!(rt; !self.missed.load(Ordering::SeqCst));
+        assert!(rt; self.tally.is_whole());
     }
 }
 
@@ -128,12 +145,12 @@ impl<'r> Gate for Meeting<'r> {
 }
 
 /// A lane, a command with its fields repository, key, digest, range and body, and the text of its reply.
-pub type Line = (u8, Verb, [&'static str; 5], &'static str);
+type Line = (u8, Verb, [&'static str; 5], &'static str);
 
 const NOTHING_SWEPT: &str = "swept condemned 0 freed 0 held 0 retired 0";
 
 /// Two lanes upload the same blob into repositories of two tenants, while a third sweeps.
-pub const LINES: [Line; 11] = [
+const LINES: [Line; 11] = [
     (0, Verb::Start, ["acme/one", "", "", "", ""], "session 1"),
     (1, Verb::Start, ["other/one", "", "", "", ""], "session 1"),
     (2, Verb::Sweep, ["", "", "", "", ""], NOTHING_SWEPT),
@@ -167,6 +184,15 @@ pub const LINES: [Line; 11] = [
     (1, Verb::Close, ["other/one", "1", ABC, "", ""], "stored 3"),
 ];
 
+/// What the workers of `LINES` settle.
+const LINES_SETTLED: Settled = Settled {
+    commands: 8,
+    received: 6,
+    closed: 6,
+    abandoned: 0,
+    left: 0,
+};
+
 /// Rows of three lanes, each of them a command that is accepted.
 const COUNTED: [Line; 7] = [
     (3, Verb::Start, ["acme/one", "", "", "", ""], "session 1"),
@@ -192,6 +218,15 @@ const COUNTED: [Line; 7] = [
         "abandoned",
     ),
 ];
+
+/// What the worker of `COUNTED` settles.
+const COUNTED_SETTLED: Settled = Settled {
+    commands: 7,
+    received: 5,
+    closed: 3,
+    abandoned: 2,
+    left: 0,
+};
 
 const BOOK: &str =
     "book\ntenant acme used 3 quota 1099511627776 next 2\nrepository acme/one\nblob sha256:ba7816bf8f01cfea414140de5dae2223b00361a396177a9cb410ff61f20015ad size 3 links 2\ntenant other used 3 quota 1099511627776 next 2\nrepository other/one\nblob sha256:ba7816bf8f01cfea414140de5dae2223b00361a396177a9cb410ff61f20015ad size 3 links 2\nend\n";
@@ -229,7 +264,7 @@ pub fn add_row(
 }
 
 /// The rows of lines.
-pub fn rows_of(rt: &(impl Abort + AllocGlobal), lines: &[Line]) -> PackedRows {
+fn rows_of(rt: &(impl Abort + AllocGlobal), lines: &[Line]) -> PackedRows {
     let mut rows = no_rows(rt);
     for (lane, verb, [repo, key, digest, range, body], _) in lines {
         add_row(
@@ -255,6 +290,11 @@ pub fn expect_replies(rt: &(impl Abort + AllocGlobal), replies: &[Reply], wanted
     }
 }
 
+/// The rows of `LINES`.
+pub fn lines(rt: &(impl Abort + AllocGlobal)) -> PackedRows {
+    rows_of(rt, LINES.as_slice())
+}
+
 /// The texts of the replies to lines.
 fn texts(rt: &(impl Abort + AllocGlobal), lines: &[Line]) -> Vec<&'static str> {
     let mut texts = Vec::new(rt.alloc());
@@ -264,83 +304,119 @@ fn texts(rt: &(impl Abort + AllocGlobal), lines: &[Line]) -> Vec<&'static str> {
     texts
 }
 
+/// The replies to lines are those that the lines have.
+fn expect_replies_to(rt: &(impl Abort + AllocGlobal), replies: &[Reply], lines: &[Line]) {
+    expect_replies(rt, replies, texts(rt, lines).as_slice());
+}
+
+/// Lines were played, with the replies that they have, and this was settled.
+fn expect_played(
+    rt: &(impl Abort + AllocGlobal),
+    played: Result<Played, Refusal>,
+    lines: &[Line],
+    sums: Settled,
+) {
+    match played {
+        Ok(played) => {
+            expect_replies_to(rt, played.replies.as_slice(), lines);
+            is_settled(rt, played.settled, sums);
+        }
+        Err(refusal) => panic!(rt; "the rows aren't played: {refusal}"),
+    }
+}
+
 impl<'s, S: Naming + Send + Sync, W: Abort + AllocGlobal + Threads + Wait + Sync> TestStore<
     's,
     S,
     W,
 > {
-    /// Plays lines by so many workers, and finds the replies that they have to give. What was settled.
-    fn plays_lines<G: Gate + Send + Sync>(
+    /// Plays rows by one worker.
+    fn plays_by_one<G: Gate + Send + Sync>(
         &self,
-        lines: &[Line],
-        workers: usize,
+        rows: &PackedRows,
         gate: &G,
-    ) -> Settled
-        requires { (0 < workers) × (workers ≤ 64) }
-    {
+    ) -> Result<Played, Refusal> {
+        play(self.rt, self.rt.alloc(), self.store, rows, 1, gate)
+    }
+
+    /// Plays rows by two workers.
+    pub fn plays_by_two<G: Gate + Send + Sync>(
+        &self,
+        rows: &PackedRows,
+        gate: &G,
+    ) -> Result<Played, Refusal> {
+        play(self.rt, self.rt.alloc(), self.store, rows, 2, gate)
+    }
+
+    /// Two workers are in the rows of lines at the same time, and a gate is asked once before and once after each row.
+    /// The replies are those that the lines have, and this is settled.
+    fn plays_and_meets(&self, lines: &[Line], sums: Settled) {
         let rt = self.rt;
-        let rows = rows_of(rt, lines);
-        let played = play(rt, rt.alloc(), self.store, &rows, workers, gate).expect(rt, "memory");
-        let wanted = texts(rt, lines);
-        expect_replies(rt, played.replies.as_slice(), wanted.as_slice());
-        played.settled
+        let gate = Meeting::new(rt, lines);
+        let played = self.plays_by_two(&rows_of(rt, lines), &gate);
+        gate.expect_met(rt);
+        expect_played(rt, played, lines, sums);
+    }
+
+    /// The same, but with one worker.
+    fn plays_in_turn(&self, lines: &[Line], sums: Settled) {
+        let rt = self.rt;
+        let gate = CounterView::new(rt, lines);
+        let played = self.plays_by_one(&rows_of(rt, lines), &gate);
+        assert!(rt; gate.is_whole());
+        expect_played(rt, played, lines, sums);
     }
 
     /// Two workers are in their rows at the same time, what they settle is what was accepted, and the gate is asked
     /// once before and once after each row.
     pub fn two_workers(&self) {
-        let rt = self.rt;
-        let gate = Meeting {
-            tally: CounterView::new(rt, LINES.as_slice()),
-            zero: AtomicBool::new(false),
-            one: AtomicBool::new(false),
-            missed: AtomicBool::new(false),
-        };
-        let settled = self.plays_lines(LINES.as_slice(), 2, &gate);
-        assert!(rt; !gate.missed.load(Ordering::SeqCst));
-        assert!(rt; gate.tally.is_whole());
-        let sums = Settled {
-            commands: 8,
-            received: 6,
-            closed: 6,
-            abandoned: 0,
-            left: 0,
-        };
-        assert_eq!(rt; settled, sums);
-        assert_eq!(rt; self.printed().as_str(), BOOK);
+        self.plays_and_meets(LINES.as_slice(), LINES_SETTLED);
+        self.prints(BOOK);
     }
 
     /// The gate is asked once before and once after each row, with the row's lane, by one worker of several lanes.
     pub fn one_worker(&self) {
-        let rt = self.rt;
-        let gate = CounterView::new(rt, COUNTED.as_slice());
-        let settled = self.plays_lines(COUNTED.as_slice(), 1, &gate);
-        assert!(rt; gate.is_whole());
-        let sums = Settled {
-            commands: 7,
-            received: 5,
-            closed: 3,
-            abandoned: 2,
-            left: 0,
-        };
-        assert_eq!(rt; settled, sums);
+        self.plays_in_turn(COUNTED.as_slice(), COUNTED_SETTLED);
     }
 }
 
-/// Two workers play on a store of their own to its end: these are the replies, and this is the book that is left.
+/// The book that is left, and the replies, where two workers play rows to the end of the store of these parts.
+fn played_to_end<S: Naming + Send + Sync, W: Abort + AllocGlobal + Threads + Wait + Sync>(
+    rt: &W,
+    parts: Parts,
+    rows: &PackedRows,
+) -> PlayedToEnd<S>
+    requires { names_of parts ≡ S.names }
+{
+    play_to_end::<_, _, S, _>(rt, rt.alloc(), parts, rows, 2, &OpenGate).expect(rt, "memory")
+}
+
+/// The text of a book that is left.
+fn printed<S: Naming>(rt: &(impl Abort + AllocGlobal), book: &LockedBook<S>) -> Vec<u8> {
+    let mut written: Vec<u8> = Vec::new(rt.alloc());
+    book.print(&mut written).expect(rt, "memory");
+    written
+}
+
+/// Two workers play lines on a store of their own to its end: these are the replies, and this is the book that is left.
+fn plays_lines_to_end<S: Naming + Send + Sync, W: Abort + AllocGlobal + Threads + Wait + Sync>(
+    rt: &W,
+    parts: Parts,
+    lines: &[Line],
+)
+    requires { names_of parts ≡ S.names }
+{
+    let ended = played_to_end::<S, W>(rt, parts, &rows_of(rt, lines));
+    expect_replies_to(rt, ended.replies.as_slice(), lines);
+    assert!(rt; printed(rt, &ended.book).as_slice() == BOOK.as_bytes());
+}
+
+/// Two workers play to the end of the store of these parts.
 pub fn plays_to_end<S: Naming + Send + Sync, W: Abort + AllocGlobal + Threads + Wait + Sync>(
     rt: &W,
     parts: Parts,
 )
     requires { names_of parts ≡ S.names }
 {
-    let rows = rows_of(rt, LINES.as_slice());
-    let ended = play_to_end::<_, _, S, _>(rt, rt.alloc(), parts, &rows, 2, &OpenGate).expect(
-        rt, "memory",
-    );
-    let wanted = texts(rt, LINES.as_slice());
-    expect_replies(rt, ended.replies.as_slice(), wanted.as_slice());
-    let mut written: Vec<u8> = Vec::new(rt.alloc());
-    ended.book.print(&mut written).expect(rt, "memory");
-    assert!(rt; written.as_slice() == BOOK.as_bytes());
+    plays_lines_to_end::<S, W>(rt, parts, LINES.as_slice());
 }

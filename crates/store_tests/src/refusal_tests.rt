@@ -3,7 +3,7 @@
 use crate::play_tests::{add_row, expect_replies, no_rows};
 use crate::test_steps::{ABC, OBJ, ONE, TestStore, filler};
 use blob_digest::Refusal;
-use blob_store::{Naming, play};
+use blob_store::Naming;
 use row_player::{OpenGate, PackedRows, Verb};
 use std::alloc::AllocGlobal;
 use std::process::Abort;
@@ -133,6 +133,11 @@ const OF_ONE_TOO_MANY: [Case; 3] = [
     ),
 ];
 
+/// The name of a repository of a tenant.
+fn in_tenant(rt: &(impl Abort + AllocGlobal), tenant: &str, last: &str) -> String {
+    format!(in rt.alloc(); "{tenant}/{last}").expect(rt, "memory")
+}
+
 /// Rows with the texts of their replies.
 #[derive(Drop)]
 struct Script {
@@ -185,17 +190,40 @@ impl Script {
         }
     }
 
+    fn add_of_nobody(&mut self, rt: &(impl Abort + AllocGlobal), lane: u8) {
+        self.add_all(rt, lane, "nobody/x", OF_NOBODY.as_slice());
+    }
+
+    fn add_of_one(&mut self, rt: &(impl Abort + AllocGlobal), lane: u8, repo: &str) {
+        self.add_all(rt, lane, repo, OF_ONE.as_slice());
+    }
+
+    fn add_of_one_too_many(&mut self, rt: &(impl Abort + AllocGlobal), lane: u8, repo: &str) {
+        self.add_all(rt, lane, repo, OF_ONE_TOO_MANY.as_slice());
+    }
+
     /// All cases of a lane, whose tenant has 1,024 repositories in the end.
     fn add_lane(&mut self, rt: &(impl Abort + AllocGlobal), lane: u8, tenant: &str) {
-        let one = format!(in rt.alloc(); "{tenant}/one").expect(rt, "memory");
-        let last = format!(in rt.alloc(); "{tenant}/last").expect(rt, "memory");
-        self.add_all(rt, lane, "nobody/x", OF_NOBODY.as_slice());
-        self.add_all(rt, lane, one.as_str(), OF_ONE.as_slice());
+        let one = in_tenant(rt, tenant, "one");
+        let last = in_tenant(rt, tenant, "last");
+        self.add_of_nobody(rt, lane);
+        self.add_of_one(rt, lane, one.as_str());
         self.add_long(rt, lane, one.as_str(), TOO_MANY, "refused SizeInvalid");
         self.add_long(rt, lane, one.as_str(), MOST, "refused ManifestInvalid");
         self.add_repositories(rt, lane, tenant);
-        self.add_all(rt, lane, last.as_str(), OF_ONE_TOO_MANY.as_slice());
+        self.add_of_one_too_many(rt, lane, last.as_str());
     }
+}
+
+/// The cases of both lanes.
+fn both_lanes(rt: &(impl Abort + AllocGlobal)) -> Script {
+    let mut script = Script {
+        rows: no_rows(rt),
+        replies: Vec::new(rt.alloc()),
+    };
+    script.add_lane(rt, 0, "acme");
+    script.add_lane(rt, 1, "other");
+    script
 }
 
 impl<'s, S: Naming + Send + Sync, W: Abort + AllocGlobal + Threads + Wait + Sync> TestStore<
@@ -205,27 +233,21 @@ impl<'s, S: Naming + Send + Sync, W: Abort + AllocGlobal + Threads + Wait + Sync
 > {
     /// A manifest of one byte too many is refused at a desk.
     fn refuses_a_long_manifest(&self) {
-        let rt = self.rt;
-        let long = filler(rt, TOO_MANY);
-        let mut desks = self.store.desks(rt, 1).expect(rt, "a desk");
+        let long = filler(self.rt, TOO_MANY);
+        let mut desks = self.desks(1);
         let refused = self.put_manifest(&mut desks[0], ONE, long.as_slice());
-        assert!(rt; refused == Err(Refusal::SizeInvalid));
-        self.store.settle(rt, desks);
+        self.settle(desks);
+        assert!(self.rt; refused == Err(Refusal::SizeInvalid));
     }
 
     /// Two workers, each for a tenant of its own, are refused as each command says.
     pub fn refusals(&self) {
         let rt = self.rt;
         self.refuses_a_long_manifest();
-        let mut script = Script {
-            rows: no_rows(rt),
-            replies: Vec::new(rt.alloc()),
-        };
-        script.add_lane(rt, 0, "acme");
-        script.add_lane(rt, 1, "other");
-        let played = play(rt, rt.alloc(), self.store, &script.rows, 2, &OpenGate).expect(
-            rt, "memory",
-        );
+        let script = both_lanes(rt);
+        let played = self
+            .plays_by_two(&script.rows, &OpenGate)
+            .expect(rt, "memory");
         expect_replies(rt, played.replies.as_slice(), script.replies.as_slice());
     }
 }

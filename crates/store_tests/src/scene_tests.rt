@@ -4,7 +4,7 @@ ghost use Rattle.std.specs.Prelude.{◌≡◌, ◌≤◌, length};
 ghost use Rattle.blob_store.specs.Parts.{names_of};
 
 use crate::play_tests::plays_to_end;
-use crate::test_steps::{ABC, OBJ, ONE, Step, TWO, TestStore, config};
+use crate::test_steps::{ABC, OBJ, ONE, Step, TWO, TestStore, config, is_settled};
 use blob_digest::Refusal;
 use blob_store::{Desk, Naming, Parts, Settled, Store, Totals};
 use std::alloc::AllocGlobal;
@@ -38,7 +38,6 @@ enum Scene {
     LoadedWithAll,
     TwoWorkers,
     OneWorker,
-    ToEnd,
     AllDesks,
     SentDesk,
     MostLeases,
@@ -63,30 +62,12 @@ impl<'s, S: Naming + Send + Sync, W: Abort + AllocGlobal + Threads + Wait + Sync
     S,
     W,
 > {
-    /// So many desks are refused.
-    pub fn refuses_desks(&self, count: u64) {
-        let rt = self.rt;
-        match self.store.desks(rt, count) {
-            Ok(desks) => {
-                self.store.settle(rt, desks);
-                panic!(rt; "{count} desks are made");
-            }
-            Err(refusal) => assert_eq!(rt; refusal, Refusal::LimitReached),
-        }
-    }
-
-    /// The totals are these.
-    pub fn finds(&self, totals: Totals) {
-        assert_eq!(self.rt; self.store.totals(self.rt), totals);
-    }
-
-    /// Plays a table at each of two desks. What they settle.
-    fn plays_at_two(&self, first: &[Step], second: &[Step]) -> Settled {
-        let rt = self.rt;
-        let mut desks = self.store.desks(rt, 2).expect(rt, "desks");
+    /// Plays a table at each of two desks, which settle this.
+    fn plays_at_two(&self, first: &[Step], second: &[Step], sums: Settled) {
+        let mut desks = self.desks(2);
         self.plays(&mut desks[0], first);
         self.plays(&mut desks[1], second);
-        self.store.settle(rt, desks)
+        self.settles(desks, sums);
     }
 
     /// Two desks get their shares, and settle.
@@ -111,7 +92,7 @@ impl<'s, S: Naming + Send + Sync, W: Abort + AllocGlobal + Threads + Wait + Sync
             abandoned: 2,
             left: 0,
         };
-        assert_eq!(self.rt; self.plays_at_two(&first, &second), sums);
+        self.plays_at_two(&first, &second, sums);
         self.finds(Totals {
             commands: 6,
             received: 5,
@@ -122,15 +103,12 @@ impl<'s, S: Naming + Send + Sync, W: Abort + AllocGlobal + Threads + Wait + Sync
         });
     }
 
-    /// Plays a table at one desk, which has counted what it settles. What that is.
-    fn plays_alone(&self, steps: &[Step]) -> Settled {
-        let rt = self.rt;
-        let mut desks = self.store.desks(rt, 1).expect(rt, "a desk");
+    /// Plays a table at one desk, which has counted this, and settles it.
+    fn plays_alone(&self, steps: &[Step], sums: Settled) {
+        let mut desks = self.desks(1);
         self.plays(&mut desks[0], steps);
-        let counted = counts(&desks[0]);
-        let settled = self.store.settle(rt, desks);
-        assert_eq!(rt; settled, counted);
-        settled
+        is_settled(self.rt, counts(&desks[0]), sums);
+        self.settles(desks, sums);
     }
 
     /// Each command that needs no lease, and queries, which count nothing.
@@ -178,7 +156,7 @@ impl<'s, S: Naming + Send + Sync, W: Abort + AllocGlobal + Threads + Wait + Sync
             abandoned: 0,
             left: 0,
         };
-        assert_eq!(self.rt; self.plays_alone(&steps), sums);
+        self.plays_alone(&steps, sums);
     }
 
     /// The slot of the last generation is retired, and takes no other blob.
@@ -195,7 +173,35 @@ impl<'s, S: Naming + Send + Sync, W: Abort + AllocGlobal + Threads + Wait + Sync
             Step::Sweep(0, 0, 0),
             Step::Word(0, 0xffff_ffff_4000_0000),
         ];
-        self.plays_alone(&steps);
+        let sums = Settled {
+            commands: 4,
+            received: 3,
+            closed: 3,
+            abandoned: 0,
+            left: 0,
+        };
+        self.plays_alone(&steps, sums);
+    }
+
+    fn plays_scene(&self, scene: Scene) {
+        match scene {
+            Scene::TwoDesks => self.two_desks(),
+            Scene::Commands => self.commands(),
+            Scene::Leases => self.leased(),
+            Scene::Shares => self.shared(),
+            Scene::Busy => self.met(),
+            Scene::Reading => self.reading(),
+            Scene::LastGeneration => self.last_generation(),
+            Scene::Loaded => self.loaded(false, LOADED),
+            Scene::LoadedWithAll => self.loaded(true, LOADED_WITH_ALL),
+            Scene::TwoWorkers => self.two_workers(),
+            Scene::OneWorker => self.one_worker(),
+            Scene::AllDesks => self.all_desks(),
+            Scene::SentDesk => self.sends_a_desk(),
+            Scene::MostLeases => self.lends_the_most(),
+            Scene::GreatChunks => self.fills_without_the_lock(),
+            Scene::Refusals => self.refusals(),
+        }
     }
 
     /// Two threads meet at a session, and nothing else is in the totals.
@@ -233,34 +239,24 @@ fn play<S: Naming + Send + Sync, W: Abort + AllocGlobal + Threads + Wait + Sync>
     requires named { names_of parts ≡ S.names }
     requires there { slots ≤ length parts.book.slots }
 {
-    if let Scene::ToEnd = scene {
-        return plays_to_end::<S, W>(rt, parts);
-    }
     let store = Store::<S>::new(parts);
     let test = TestStore {
         rt,
         store: &store,
         slots,
     };
-    match scene {
-        Scene::TwoDesks => test.two_desks(),
-        Scene::Commands => test.commands(),
-        Scene::Leases => test.leased(),
-        Scene::Shares => test.shared(),
-        Scene::Busy => test.met(),
-        Scene::Reading => test.reading(),
-        Scene::LastGeneration => test.last_generation(),
-        Scene::Loaded => test.loaded(false, LOADED),
-        Scene::LoadedWithAll => test.loaded(true, LOADED_WITH_ALL),
-        Scene::TwoWorkers => test.two_workers(),
-        Scene::OneWorker => test.one_worker(),
-        Scene::ToEnd => {}
-        Scene::AllDesks => test.all_desks(),
-        Scene::SentDesk => test.sends_a_desk(),
-        Scene::MostLeases => test.lends_the_most(),
-        Scene::GreatChunks => test.fills_without_the_lock(),
-        Scene::Refusals => test.refusals(),
+    test.plays_scene(scene);
+}
+
+/// What the store of a scene is made with.
+fn config_for(rt: &(impl Abort + AllocGlobal), names: &[&str], scene: Scene) -> Config {
+    let (slots, first_generation) = scene.slots();
+    let mut config = config(rt, slots, names);
+    config.first_generation = first_generation;
+    if let Scene::Refusals = scene {
+        limit(&mut config, 8, 10);
     }
+    config
 }
 
 /// A scene on a store of its own, with these tenants.
@@ -269,14 +265,16 @@ fn play_on_a_store<W: Abort + AllocGlobal + Threads + Wait + Sync>(
     names: &[&str],
     scene: Scene,
 ) {
-    let (slots, first_generation) = scene.slots();
-    let mut config = config(rt, slots, names);
-    config.first_generation = first_generation;
-    if let Scene::Refusals = scene {
-        limit(&mut config, 8, 10);
-    }
+    let config = config_for(rt, names, scene);
     let parts = Parts::new(rt.alloc(), &config).expect(rt, "parts");
     play::<Brand, W>(rt, parts, config.slots, scene);
+}
+
+/// Two workers play to the end of a store of their own.
+fn play_to_the_end<W: Abort + AllocGlobal + Threads + Wait + Sync>(rt: &W) {
+    let config = config(rt, 2, &["acme", "other"]);
+    let parts = Parts::new(rt.alloc(), &config).expect(rt, "parts");
+    plays_to_end::<Brand, W>(rt, parts);
 }
 
 #[test]
@@ -316,7 +314,7 @@ fn a_gate_is_asked_before_and_after_each_row(rt: HostRuntime) {
 
 #[test]
 fn two_workers_play_to_the_end_of_their_store(rt: HostRuntime) {
-    play_on_a_store(&rt, &["acme", "other"], Scene::ToEnd);
+    play_to_the_end(&rt);
 }
 
 #[test]

@@ -1,11 +1,10 @@
 //! What the tests are written with: a store under names, and the commands of a table, each with its answer.
 
-ghost use Rattle.std.specs.Prelude.{◌<◌, ◌≤◌};
+ghost use Rattle.std.specs.Prelude.{◌≡◌, ◌<◌, ◌≤◌, vec_len};
 
 use blob_digest::{Algorithm, ByteRange, Digest, Refusal, RepoName};
-use blob_store::{Desk, Lease, Naming, Store};
+use blob_store::{Desk, Lease, Naming, Settled, Store, Totals};
 use std::alloc::AllocGlobal;
-use std::fmt::Debug;
 use std::marker::Model;
 use std::process::Abort;
 use std::sync::Wait;
@@ -99,24 +98,163 @@ pub enum Step<'a> {
     Prints(&'a str),
 }
 
-/// Nothing where an answer is the one wanted, and else both.
-fn is<T: PartialEq + Debug>(
-    rt: &(impl Abort + AllocGlobal),
-    found: &T,
-    wanted: &T,
-) -> Result<(), String> {
-    if found == wanted {
-        return Ok(());
+/// What a call answers, whatever the type of its answer.
+#[derive(PartialEq, Debug, Drop)]
+pub enum Answer {
+    /// A number: of a session, of bytes or of slots, or a slot's word.
+    Number(u64),
+    Mounted,
+    Done,
+    Kept(Digest),
+    /// The text of the book, or a manifest.
+    Text(String),
+    Swept(Swept),
+    Uses(Usage),
+    NoSlot,
+    Refused(Refusal),
+}
+
+fn session(answer: Result<u32, Refusal>) -> Answer {
+    match answer {
+        Ok(number) => Answer::Number(u64::from(number)),
+        Err(refusal) => Answer::Refused(refusal),
     }
-    Err(format!(in rt.alloc(); "found {found:?}, and not {wanted:?}").expect(rt, "memory"))
+}
+
+fn number(answer: Result<u64, Refusal>) -> Answer {
+    match answer {
+        Ok(number) => Answer::Number(number),
+        Err(refusal) => Answer::Refused(refusal),
+    }
+}
+
+fn mounting(answer: Result<Mount, Refusal>) -> Answer {
+    match answer {
+        Ok(Mount::Mounted) => Answer::Mounted,
+        Ok(Mount::Session(number)) => Answer::Number(u64::from(number)),
+        Err(refusal) => Answer::Refused(refusal),
+    }
+}
+
+fn done(answer: Result<(), Refusal>) -> Answer {
+    match answer {
+        Ok(()) => Answer::Done,
+        Err(refusal) => Answer::Refused(refusal),
+    }
+}
+
+fn kept(answer: Result<Digest, Refusal>) -> Answer {
+    match answer {
+        Ok(digest) => Answer::Kept(digest),
+        Err(refusal) => Answer::Refused(refusal),
+    }
+}
+
+fn uses(answer: Result<Usage, Refusal>) -> Answer {
+    match answer {
+        Ok(usage) => Answer::Uses(usage),
+        Err(refusal) => Answer::Refused(refusal),
+    }
+}
+
+fn body(answer: Result<String, Refusal>) -> Answer {
+    match answer {
+        Ok(text) => Answer::Text(text),
+        Err(refusal) => Answer::Refused(refusal),
+    }
+}
+
+fn word(answer: Option<u64>) -> Answer {
+    match answer {
+        Some(word) => Answer::Number(word),
+        None => Answer::NoSlot,
+    }
+}
+
+fn text(rt: &(impl Abort + AllocGlobal), text: &str) -> Answer {
+    Answer::Text(String::from_str(rt.alloc(), text).expect(rt, "memory"))
+}
+
+/// What a put of these bytes has to answer: their digest, or the refusal.
+fn kept_of(bytes: &str, answer: Result<(), Refusal>) -> Answer {
+    match answer {
+        Ok(()) => Answer::Kept(Digest::of(Algorithm::Sha256, bytes.as_bytes())),
+        Err(refusal) => Answer::Refused(refusal),
+    }
+}
+
+/// The counts of a sweep.
+fn swept(condemned: u32, freed: u32, held: u32, retired: u32) -> Answer {
+    Answer::Swept(Swept {
+        condemned,
+        freed,
+        held,
+        retired,
+    })
+}
+
+/// What a step has to answer.
+fn wanted(rt: &(impl Abort + AllocGlobal), step: &Step) -> Answer {
+    match step {
+        Step::Start(_, wanted) => session(*wanted),
+        Step::Status(_, _, wanted) => number(*wanted),
+        Step::Append(_, _, _, _, wanted) => number(*wanted),
+        Step::Close(_, _, _, _, _, wanted) => number(*wanted),
+        Step::Abandon(_, _, wanted) => number(*wanted),
+        Step::Mount(_, _, _, wanted) => mounting(*wanted),
+        Step::Delete(_, _, wanted) => done(*wanted),
+        Step::PutManifest(_, bytes, wanted) => kept_of(bytes, *wanted),
+        Step::GetManifest(_, bytes) => text(rt, bytes),
+        Step::DeleteManifest(_, _, wanted) => done(*wanted),
+        Step::Sweep(condemned, freed, held) => swept(*condemned, *freed, *held, 0),
+        Step::Retire(count) => swept(*count, 0, 0, *count),
+        Step::Stat(_, _, wanted) => number(*wanted),
+        Step::StatManifest(_, _, wanted) => number(*wanted),
+        Step::Uses(_, wanted) => uses(*wanted),
+        Step::Free(wanted) => Answer::Number(u64::from(*wanted)),
+        Step::Word(_, wanted) => Answer::Number(*wanted),
+        Step::Prints(wanted) => text(rt, wanted),
+    }
+}
+
+/// The text of some bytes.
+fn text_of(rt: &(impl Abort + AllocGlobal), bytes: &[u8]) -> String {
+    let text = str::from_utf8(bytes).expect(rt, "UTF-8");
+    String::from_str(rt.alloc(), text).expect(rt, "memory")
+}
+
+/// Both texts.
+fn unlike(rt: &(impl Abort + AllocGlobal), found: &str, wanted: &str) -> String {
+    format!(in rt.alloc(); "found {found:?}, and not {wanted:?}").expect(rt, "memory")
 }
 
 /// Nothing where a text is the one wanted, and else the first line in which they differ.
 fn is_text(rt: &(impl Abort + AllocGlobal), found: &str, wanted: &str) -> Result<(), String> {
-    for (line, other) in found.split('\n').zip(wanted.split('\n')) {
-        is(rt, &line, &other)?;
+    if found == wanted {
+        return Ok(());
     }
-    is(rt, &found, &wanted)
+    for (line, other) in found.split('\n').zip(wanted.split('\n')) {
+        if line != other {
+            return Err(unlike(rt, line, other));
+        }
+    }
+    Err(unlike(rt, found, wanted))
+}
+
+/// Nothing where an answer is the one wanted, and else both.
+fn is(rt: &(impl Abort + AllocGlobal), found: &Answer, wanted: &Answer) -> Result<(), String> {
+    if found == wanted {
+        return Ok(());
+    }
+    if let (Answer::Text(text), Answer::Text(other)) = (found, wanted) {
+        return is_text(rt, text.as_str(), other.as_str());
+    }
+    Err(format!(in rt.alloc(); "found {found:?}, and not {wanted:?}").expect(rt, "memory"))
+}
+
+/// What was settled is this.
+pub fn is_settled(rt: &impl Abort, found: Settled, wanted: Settled) {
+    assert_eq!(rt; found, wanted);
 }
 
 /// A store of so many slots, with what runs the test.
@@ -143,6 +281,30 @@ impl<'s, S: Naming + Send + Sync, W: Abort + AllocGlobal + Threads + Wait + Sync
     S,
     W,
 > {
+    pub fn desks(&self, count: u64) -> Vec<Desk<S>>
+        ensures { vec_len result ≡ count }
+    {
+        self.store.desks(self.rt, count).expect(self.rt, "desks")
+    }
+
+    pub fn settle(&self, desks: Vec<Desk<S>>) -> Settled {
+        self.store.settle(self.rt, desks)
+    }
+
+    /// What desks settle is this.
+    pub fn settles(&self, desks: Vec<Desk<S>>, wanted: Settled) {
+        is_settled(self.rt, self.settle(desks), wanted);
+    }
+
+    pub fn totals(&self) -> Totals {
+        self.store.totals(self.rt)
+    }
+
+    /// The totals are these.
+    pub fn finds(&self, wanted: Totals) {
+        assert_eq!(self.rt; self.totals(), wanted);
+    }
+
     pub fn start(&self, desk: &mut Desk<S>, repo: &str) -> Result<u32, Refusal> {
         self.store.start(self.rt, desk, &name(self.rt, repo))
     }
@@ -226,8 +388,7 @@ impl<'s, S: Naming + Send + Sync, W: Abort + AllocGlobal + Threads + Wait + Sync
         let manifest = self
             .store
             .get_manifest(self.rt, desk, &name(self.rt, repo), &of)?;
-        let text = str::from_utf8(manifest.bytes()).expect(self.rt, "UTF-8");
-        Ok(String::from_str(self.rt.alloc(), text).expect(self.rt, "memory"))
+        Ok(text_of(self.rt, manifest.bytes()))
     }
 
     pub fn delete_manifest(
@@ -259,6 +420,10 @@ impl<'s, S: Naming + Send + Sync, W: Abort + AllocGlobal + Threads + Wait + Sync
         self.store.usage(self.rt, &name(self.rt, repo))
     }
 
+    fn free_slots(&self) -> u64 {
+        u64::from(self.store.free_slots(self.rt))
+    }
+
     /// The word of a slot, where the store has that slot.
     fn word(&self, slot: u32) -> Option<u64> {
         if slot < self.slots {
@@ -267,88 +432,64 @@ impl<'s, S: Naming + Send + Sync, W: Abort + AllocGlobal + Threads + Wait + Sync
         None
     }
 
-    pub fn printed(&self) -> String {
+    fn written(&self) -> Vec<u8> {
         let mut written: Vec<u8> = Vec::new(self.rt.alloc());
         self.store
             .print(self.rt, &mut written)
             .expect(self.rt, "memory");
-        String::from_utf8(written).expect(self.rt, "UTF-8")
+        written
+    }
+
+    fn printed(&self) -> String {
+        String::from_utf8(self.written()).expect(self.rt, "UTF-8")
+    }
+
+    /// What a step answers.
+    fn answer(&self, desk: &mut Desk<S>, step: &Step) -> Answer {
+        match step {
+            Step::Start(repo, _) => session(self.start(desk, repo)),
+            Step::Status(repo, of, _) => number(self.status(desk, repo, *of)),
+            Step::Append(repo, of, places, bytes, _) => {
+                number(self.append(desk, repo, *of, places, bytes.as_bytes()))
+            }
+            Step::Close(repo, of, digest, places, bytes, _) => {
+                number(self.close(desk, repo, *of, digest, places, bytes.as_bytes()))
+            }
+            Step::Abandon(repo, of, _) => number(self.abandon(desk, repo, *of)),
+            Step::Mount(repo, of, from, _) => mounting(self.mount(desk, repo, of, from)),
+            Step::Delete(repo, of, _) => done(self.delete(desk, repo, of)),
+            Step::PutManifest(repo, bytes, _) => {
+                kept(self.put_manifest(desk, repo, bytes.as_bytes()))
+            }
+            Step::GetManifest(repo, bytes) => {
+                body(self.get_manifest(desk, repo, bytes.as_bytes()))
+            }
+            Step::DeleteManifest(repo, bytes, _) => {
+                done(self.delete_manifest(desk, repo, bytes.as_bytes()))
+            }
+            Step::Sweep(_, _, _) => Answer::Swept(self.sweep()),
+            Step::Retire(_) => Answer::Swept(self.sweep()),
+            Step::Stat(repo, of, _) => number(self.stat(repo, of)),
+            Step::StatManifest(repo, bytes, _) => {
+                number(self.stat_manifest(repo, bytes.as_bytes()))
+            }
+            Step::Uses(repo, _) => uses(self.usage(repo)),
+            Step::Free(_) => Answer::Number(self.free_slots()),
+            Step::Word(slot, _) => word(self.word(*slot)),
+            Step::Prints(_) => Answer::Text(self.printed()),
+        }
+    }
+
+    /// The text of the book is this.
+    pub fn prints(&self, wanted: &str) {
+        if let Err(told) = is_text(self.rt, self.printed().as_str(), wanted) {
+            panic!(self.rt; "{told}");
+        }
     }
 
     /// Plays a step. What is told is its answer, where that isn't the one wanted.
     fn goes(&self, desk: &mut Desk<S>, step: &Step) -> Result<(), String> {
-        let rt = self.rt;
-        match step {
-            Step::Start(repo, wanted) => is(rt, &self.start(desk, repo), wanted),
-            Step::Status(repo, number, wanted) => {
-                is(rt, &self.status(desk, repo, *number), wanted)
-            }
-            Step::Append(repo, number, places, bytes, wanted) => {
-                let found = self.append(desk, repo, *number, places, bytes.as_bytes());
-                is(rt, &found, wanted)
-            }
-            Step::Close(repo, number, of, places, bytes, wanted) => {
-                let found = self.close(desk, repo, *number, of, places, bytes.as_bytes());
-                is(rt, &found, wanted)
-            }
-            Step::Abandon(repo, number, wanted) => {
-                is(rt, &self.abandon(desk, repo, *number), wanted)
-            }
-            Step::Mount(repo, of, from, wanted) => {
-                is(rt, &self.mount(desk, repo, of, from), wanted)
-            }
-            Step::Delete(repo, of, wanted) => is(rt, &self.delete(desk, repo, of), wanted),
-            Step::PutManifest(repo, bytes, wanted) => {
-                let wanted = match wanted {
-                    Ok(()) => Ok(Digest::of(Algorithm::Sha256, bytes.as_bytes())),
-                    Err(refusal) => Err(*refusal),
-                };
-                is(
-                    rt,
-                    &self.put_manifest(desk, repo, bytes.as_bytes()),
-                    &wanted,
-                )
-            }
-            Step::GetManifest(repo, bytes) => {
-                match self.get_manifest(desk, repo, bytes.as_bytes()) {
-                    Ok(text) => is_text(rt, text.as_str(), bytes),
-                    Err(refusal) => is(rt, &Err(refusal), &Ok(*bytes)),
-                }
-            }
-            Step::DeleteManifest(repo, bytes, wanted) => {
-                is(
-                    rt,
-                    &self.delete_manifest(desk, repo, bytes.as_bytes()),
-                    wanted,
-                )
-            }
-            Step::Sweep(condemned, freed, held) => {
-                let wanted = Swept {
-                    condemned: *condemned,
-                    freed: *freed,
-                    held: *held,
-                    retired: 0,
-                };
-                is(rt, &self.sweep(), &wanted)
-            }
-            Step::Retire(count) => {
-                let wanted = Swept {
-                    condemned: *count,
-                    freed: 0,
-                    held: 0,
-                    retired: *count,
-                };
-                is(rt, &self.sweep(), &wanted)
-            }
-            Step::Stat(repo, of, wanted) => is(rt, &self.stat(repo, of), wanted),
-            Step::StatManifest(repo, bytes, wanted) => {
-                is(rt, &self.stat_manifest(repo, bytes.as_bytes()), wanted)
-            }
-            Step::Uses(repo, wanted) => is(rt, &self.usage(repo), wanted),
-            Step::Free(wanted) => is(rt, &self.store.free_slots(rt), wanted),
-            Step::Word(slot, wanted) => is(rt, &self.word(*slot), &Some(*wanted)),
-            Step::Prints(wanted) => is_text(rt, self.printed().as_str(), wanted),
-        }
+        is(self.rt, &self.answer(desk, step), &wanted(self.rt, step))
     }
 
     /// Plays a table of commands on one desk. Where an answer isn't the one wanted, both are told, and the step's

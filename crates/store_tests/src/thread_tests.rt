@@ -1,6 +1,6 @@
 //! What two threads do with a store at the same time.
 
-use crate::test_steps::{ABC, ONE, TestStore};
+use crate::test_steps::{ABC, ONE, TestStore, is_settled};
 use blob_digest::Refusal;
 use blob_store::{Desk, Naming, Settled};
 use std::alloc::AllocGlobal;
@@ -141,19 +141,23 @@ impl<'s, S: Naming + Send + Sync, W: Abort + AllocGlobal + Threads + Wait + Sync
         (chunks, empty.expect(self.rt, "a chunk on its way"))
     }
 
-    /// Two threads meet at a new session of `acme/one`, which is then abandoned. What both counted.
-    pub fn busy(&self) -> Settled {
+    /// Gives up the session, of so many bytes.
+    fn gives_up(&self, desk: &mut Desk<S>, number: u32, received: u64) {
         let rt = self.rt;
-        let mut one = self.store.desks(rt, 1).expect(rt, "a desk");
-        let mut two = self.store.desks(rt, 1).expect(rt, "a desk");
-        let number = self.start(&mut one[0], ONE).expect(rt, "a session");
-        let (chunks, empty) = self.meets(&mut one, &mut two, number);
+        assert_eq!(rt; self.abandon(desk, ONE, number), Ok(received));
+    }
+
+    /// Two desks settle what they counted where so many chunks and so often no bytes were accepted. The sums.
+    fn settles_both(
+        &self,
+        one: Vec<Desk<S>>,
+        two: Vec<Desk<S>>,
+        chunks: u64,
+        empty: u64,
+    ) -> Settled {
         let received = chunks.saturating_mul(262_144);
-        if let Some(desk) = one.first_mut() {
-            assert_eq!(rt; self.abandon(desk, ONE, number), Ok(received));
-        }
-        let first = self.store.settle(rt, one);
-        let second = self.store.settle(rt, two);
+        let first = self.settle(one);
+        let second = self.settle(two);
         let counted = Settled {
             commands: chunks.saturating_add(2),
             received,
@@ -161,12 +165,24 @@ impl<'s, S: Naming + Send + Sync, W: Abort + AllocGlobal + Threads + Wait + Sync
             abandoned: received,
             left: first.left,
         };
-        assert_eq!(rt; first, counted);
-        assert_eq!(rt; (second.commands, second.received), (empty, 0));
+        is_settled(self.rt, first, counted);
+        assert_eq!(self.rt; (second.commands, second.received), (empty, 0));
         Settled {
             commands: counted.commands.saturating_add(empty),
             ..counted
         }
+    }
+
+    /// Two threads meet at a new session of `acme/one`, which is then abandoned. What both counted.
+    pub fn busy(&self) -> Settled {
+        let mut one = self.desks(1);
+        let mut two = self.desks(1);
+        let number = self.start(&mut one[0], ONE).expect(self.rt, "a session");
+        let (chunks, empty) = self.meets(&mut one, &mut two, number);
+        if let Some(desk) = one.first_mut() {
+            self.gives_up(desk, number, chunks.saturating_mul(262_144));
+        }
+        self.settles_both(one, two, chunks, empty)
     }
 
     /// Leases the blob, reads it and gives it back while the text is being written. Whether it could.
@@ -198,7 +214,7 @@ impl<'s, S: Naming + Send + Sync, W: Abort + AllocGlobal + Threads + Wait + Sync
     /// A lease is read and given back while another thread has the lock.
     pub fn reading(&self) {
         let rt = self.rt;
-        let mut desks = self.store.desks(rt, 1).expect(rt, "a desk");
+        let mut desks = self.desks(1);
         self.stores_abc(&mut desks[0]);
         let flags = Flags {
             leased: AtomicBool::new(false),
@@ -212,6 +228,6 @@ impl<'s, S: Naming + Send + Sync, W: Abort + AllocGlobal + Threads + Wait + Sync
         );
         assert!(rt; read);
         assert!(rt; printed);
-        self.store.settle(rt, desks);
+        self.settle(desks);
     }
 }
