@@ -1,10 +1,12 @@
 #!/usr/bin/env python3
 """What pushes, pulls and small requests take of registryd, and of Debian's docker-registry beside it, by the same clients
-in turn: bench/registry.py [--runs N] [--beside-unswept] [MEASURE..]. It wants a built blobd, and the packages skopeo and
+in turn: bench/registry.py [--runs N] [--beside-unswept | --beside-least] [MEASURE..]. It wants a built blobd, and the packages skopeo and
 docker-registry. The collector sweeps all the time. For each measure: the wall time of the clients in seconds (median), the
 ratio of it to docker-registry's, and the processor time of each server's programs. With --beside-unswept the other is a
-registryd that doesn't sweep."""
-import argparse, http.client, json, os, random, shutil, signal, statistics, subprocess, sys, tempfile, time
+registryd that doesn't sweep; with --beside-least, of one blob alone, a program that does the least with it: what no server that
+hashes a blob and keeps it in memory falls below, with these clients."""
+import argparse, hashlib, http.client, json, os, random, shutil, signal, socket, statistics, subprocess, sys, tempfile, time
+from concurrent.futures import ThreadPoolExecutor
 
 TOP = os.path.dirname(os.path.dirname(os.path.abspath(__file__)))
 sys.path.insert(0, f"{TOP}/registry/tests")
@@ -63,6 +65,53 @@ class Theirs:
     def end(self):
         self.process.send_signal(signal.SIGTERM)
         self.process.wait()
+
+
+class Least:
+    """A process that takes a PUT's bytes into memory and hashes them by OpenSSL meanwhile, and sends them to a GET."""
+
+    def __init__(self, folder):
+        listener = socket.create_server(("127.0.0.1", 0))
+        self.address = f"127.0.0.1:{listener.getsockname()[1]}"
+        self.pids = [os.fork()]
+        if self.pids == [0]:
+            self.serve(listener)
+        listener.close()
+
+    def serve(self, listener):
+        blob, hasher = bytearray(), ThreadPoolExecutor(1)
+        while True:
+            connection, _ = listener.accept()
+            head = b""
+            while b"\r\n\r\n" not in head:
+                head += connection.recv(65536)
+            head, _, first = head.partition(b"\r\n\r\n")
+            length = next((int(line[15:]) for line in head.lower().split(b"\r\n") if line.startswith(b"content-length:")), 0)
+            if head.startswith(b"GET"):
+                connection.sendall(b"HTTP/1.1 200 OK\r\nContent-Length: %d\r\n\r\n" % len(blob))
+                connection.sendall(blob)
+            else:
+                if head.startswith(b"PUT"):
+                    blob = self.take(connection, first, length, hasher)
+                connection.sendall(b"HTTP/1.1 202 Accepted\r\nLocation: /blob\r\nContent-Length: 0\r\n\r\n")
+            connection.close()
+
+    def take(self, connection, first, length, hasher):
+        blob, at, hashed = bytearray(length), len(first), hashlib.sha256(first)
+        blob[:at] = first
+        view, parts = memoryview(blob), []
+        while at < length:
+            end = min(at + MIB, length)
+            while at < end and (count := connection.recv_into(view[at:end])):
+                parts.append(hasher.submit(hashed.update, view[at:at + count]))
+                at += count
+        for part in parts:
+            part.result()
+        return blob
+
+    def end(self):
+        os.kill(self.pids[0], signal.SIGKILL)
+        os.waitpid(self.pids[0], 0)
 
 
 def processor_time(pids):
@@ -178,10 +227,14 @@ def measured(make, play):
 def main():
     options = argparse.ArgumentParser(description=__doc__)
     options.add_argument("--runs", type=int, default=3)
-    options.add_argument("--beside-unswept", action="store_true")
+    besides = options.add_mutually_exclusive_group()
+    besides.add_argument("--beside-unswept", action="store_true")
+    besides.add_argument("--beside-least", action="store_true")
     options.add_argument("measures", nargs="*", metavar="MEASURE", help=" | ".join(MEASURES))
     options = options.parse_args()
-    other = Unswept if options.beside_unswept else Theirs
+    other = Unswept if options.beside_unswept else Least if options.beside_least else Theirs
+    if options.beside_least:
+        options.measures = ["a blob of 200 MiB"]
     for program in ("skopeo", "docker-registry"):
         if not shutil.which(program):
             sys.exit(f"there is no {program}: apt-get install {program}")

@@ -4,14 +4,21 @@ use crate::frames::Refusal;
 use crate::line::WHOLE_LEN;
 use crate::range::{wanted_part, Part};
 use crate::registry::{empty, with_body, Call, Registry, Served};
-use crate::store::{Leased, Lost};
+use crate::store::{Answer, Leased, Lost};
+use bytes::Bytes;
 use hyper::body::Sender;
 use hyper::{Body, StatusCode};
+use std::collections::VecDeque;
 use std::sync::Arc;
 use std::time::Duration;
+use tokio::task::JoinHandle;
 
 /// The most bytes that are read at once.
 const PIECE_LEN: u64 = WHOLE_LEN as u64;
+
+/// How many pieces are read at once, each on a line of its own: one is taken out of its pipe while the next comes into
+/// another.
+const READS_AT_ONCE: usize = 2;
 
 /// How long a client may take none of a piece.
 const IDLE_TIME: Duration = Duration::from_secs(300);
@@ -43,8 +50,8 @@ pub async fn get(call: &Call, digest: &str) -> Served {
         0..=PIECE_LEN => short_body(call, leased, digest, start, end).await?,
         _ => {
             let (sender, body) = Body::channel();
-            let reading = Reading { registry: call.registry.clone(), leased, digest: digest.to_string(), start, end };
-            tokio::spawn(reading.send(sender));
+            let (registry, digest) = (call.registry.clone(), digest.to_string());
+            tokio::spawn(Reading { registry, leased, digest, start, end, reads: VecDeque::new() }.send(sender));
             body
         }
     };
@@ -79,8 +86,11 @@ struct Reading {
     registry: Arc<Registry>,
     leased: Leased,
     digest: String,
+    /// Where the next read begins, and where the last ends.
     start: u64,
     end: u64,
+    /// The reads that were begun, in their order.
+    reads: VecDeque<JoinHandle<Answer<Bytes>>>,
 }
 
 /// Why not all bytes were sent.
@@ -98,8 +108,8 @@ impl From<Lost> for Stopped {
 }
 
 impl Reading {
-    /// Sends the bytes, and gives the lease back.
-    async fn send(self, mut sender: Sender) {
+    /// Sends the bytes, and gives the lease back once no read of it is left.
+    async fn send(mut self, mut sender: Sender) {
         match self.send_pieces(&mut sender).await {
             Ok(()) => {}
             Err(stopped) => {
@@ -109,6 +119,9 @@ impl Reading {
                 sender.abort();
             }
         }
+        for read in self.reads.drain(..) {
+            let _ = read.await;
+        }
         let number = self.leased.number;
         match self.registry.store.give_back(number).await {
             Ok(Err(refusal)) => tracing::error!(reason = ?refusal.reason, "a lease can't be given back"),
@@ -116,19 +129,29 @@ impl Reading {
         }
     }
 
+    /// Begins to read the next piece, if there is one.
+    fn read_next(&mut self) {
+        if self.start < self.end {
+            let (start, last) = (self.start, self.end.min(self.start + PIECE_LEN) - 1);
+            let (registry, digest, number) = (self.registry.clone(), self.digest.clone(), self.leased.number);
+            self.reads.push_back(tokio::spawn(async move { registry.store.read(number, &digest, start, last).await }));
+            self.start = last + 1;
+        }
+    }
+
     /// Sends the bytes piece by piece. No line is held while the client is waited for.
-    async fn send_pieces(&self, sender: &mut Sender) -> Result<(), Stopped> {
-        let mut start = self.start;
-        while start < self.end {
-            let last = self.end.min(start + PIECE_LEN) - 1;
-            let read = self.registry.store.read(self.leased.number, &self.digest, start, last).await?;
-            let bytes = read.map_err(Stopped::Refused)?;
+    async fn send_pieces(&mut self, sender: &mut Sender) -> Result<(), Stopped> {
+        for _ in 0..READS_AT_ONCE {
+            self.read_next();
+        }
+        while let Some(read) = self.reads.pop_front() {
+            let bytes = read.await.map_err(|_| Lost)??.map_err(Stopped::Refused)?;
+            self.read_next();
             let count = bytes.len();
             match tokio::time::timeout(IDLE_TIME, sender.send_data(bytes)).await {
                 Ok(Ok(())) => self.registry.metrics.sent(count),
                 Ok(Err(_)) | Err(_) => return Err(Stopped::Left),
             }
-            start = last + 1;
         }
         Ok(())
     }

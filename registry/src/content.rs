@@ -8,7 +8,8 @@ use crate::fault::Fault;
 use crate::line::WHOLE_LEN;
 use crate::metrics::Metrics;
 
-/// The most bytes of a request that are held at once while they go to the store, and again while the next come.
+/// The most bytes of a request that are held at once while they go to the store, again while they wait for that, and again
+/// while the next come.
 pub const PIECE_LEN: usize = WHOLE_LEN;
 
 /// The longest manifest, in bytes (the specification asks for at least 4 MiB).

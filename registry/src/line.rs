@@ -1,4 +1,4 @@
-//! A line to `blobd`: a pair of pipes, which takes one request at a time.
+//! A line to `blobd`: a pair of pipes, whose requests are answered in their order.
 use crate::frames::{Reason, Refusal, Reply, ReplyHead, Request, GREETING, HEAD_LEN};
 use bytes::Bytes;
 use std::fs::File;
@@ -82,13 +82,7 @@ impl Line {
     /// Sends requests, and takes their replies. Those before the last are short, since no reply is taken before all are
     /// sent. After an error, or where this is dropped before its end, the line is of no further use.
     pub async fn exchange<const N: usize>(&mut self, requests: [Request<'_>; N]) -> io::Result<[Answer; N]> {
-        let heads: Vec<Vec<u8>> = requests.iter().map(Request::head).collect();
-        let mut slices: Vec<&[u8]> = Vec::new();
-        for (head, request) in heads.iter().zip(&requests) {
-            slices.push(head);
-            slices.extend(request.body.iter().map(|piece| &piece[..]));
-        }
-        self.write(slices).await?;
+        self.send(&requests).await?;
         let mut answers = Vec::with_capacity(N);
         for _ in &requests {
             answers.push(self.answer().await?);
@@ -96,7 +90,19 @@ impl Line {
         Ok(answers.try_into().unwrap_or_else(|_| unreachable!("each request has an answer")))
     }
 
-    async fn answer(&mut self) -> io::Result<Answer> {
+    /// Sends requests, whose replies are taken by `answer`, in their order.
+    pub async fn send(&self, requests: &[Request<'_>]) -> io::Result<()> {
+        let heads: Vec<Vec<u8>> = requests.iter().map(Request::head).collect();
+        let mut slices: Vec<&[u8]> = Vec::new();
+        for (head, request) in heads.iter().zip(requests) {
+            slices.push(head);
+            slices.extend(request.body.iter().map(|piece| &piece[..]));
+        }
+        self.write(slices).await
+    }
+
+    /// Takes the next reply. Where this is dropped before its end, the line is of no further use.
+    pub async fn answer(&self) -> io::Result<Answer> {
         let mut head = [0; HEAD_LEN];
         self.read(&mut head).await?;
         let head = ReplyHead::parse(&head);

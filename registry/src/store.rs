@@ -8,7 +8,8 @@ use std::path::Path;
 use std::sync::Mutex;
 use std::time::Duration;
 use tokio::process::Child;
-use tokio::sync::{Notify, Semaphore};
+use tokio::sync::mpsc::Receiver;
+use tokio::sync::{Notify, Semaphore, SemaphorePermit};
 
 /// How long `blobd` may take to end once its lines have.
 const END_TIME: Duration = Duration::from_secs(10);
@@ -49,6 +50,12 @@ pub struct Store {
     idle: Mutex<Vec<Line>>,
     count: Semaphore,
     lost: Notify,
+}
+
+/// A line that a call has.
+struct Taken<'s> {
+    line: Line,
+    permit: SemaphorePermit<'s>,
 }
 
 /// A call to the store could not be made, since the store is gone.
@@ -100,28 +107,33 @@ impl Store {
         self.lost.notified().await
     }
 
-    /// Makes calls on one line, the first ones short. It is put back once the replies are there; one whose calls fail or
-    /// are dropped is closed.
-    async fn ask_all<const N: usize>(&self, requests: [Request<'_>; N]) -> Result<[line::Answer; N], Lost> {
+    /// Takes a line, once one is idle. Who is done with it puts it back; one whose calls fail or are dropped is closed.
+    async fn take_line(&self) -> Result<Taken<'_>, Lost> {
         let permit = self.count.acquire().await.map_err(|_| Lost)?;
         let idle = self.idle.lock().unwrap().pop();
-        let mut line = match idle {
-            Some(line) => line,
-            None => return Err(Lost),
-        };
-        match line.exchange(requests).await {
-            Ok(answers) => {
-                self.idle.lock().unwrap().push(line);
-                drop(permit);
-                Ok(answers)
-            }
-            Err(error) => {
-                tracing::error!(%error, "the store is gone");
-                self.count.close();
-                self.lost.notify_one();
-                Err(Lost)
-            }
-        }
+        idle.map(|line| Taken { line, permit }).ok_or(Lost)
+    }
+
+    fn put_back(&self, taken: Taken<'_>) {
+        let Taken { line, permit } = taken;
+        self.idle.lock().unwrap().push(line);
+        drop(permit);
+    }
+
+    /// A line broke, so the store is gone.
+    fn broken(&self, error: io::Error) -> Lost {
+        tracing::error!(%error, "the store is gone");
+        self.count.close();
+        self.lost.notify_one();
+        Lost
+    }
+
+    /// Makes calls on one line, the first ones short.
+    async fn ask_all<const N: usize>(&self, requests: [Request<'_>; N]) -> Result<[line::Answer; N], Lost> {
+        let mut taken = self.take_line().await?;
+        let answers = taken.line.exchange(requests).await.map_err(|error| self.broken(error))?;
+        self.put_back(taken);
+        Ok(answers)
     }
 
     /// Makes a call.
@@ -144,9 +156,35 @@ impl Store {
 
     /// Adds bytes to a session at a place, which has to be its end: how many it has received then.
     pub async fn append(&self, repo: &str, number: u32, start: u64, body: &[Bytes]) -> Answer<u64> {
-        let range = range_of(start, body);
-        let answer = self.ask(Request { repo, number, range, body, ..Request::new(Command::Append) }).await?;
+        let answer = self.ask(append_request(repo, number, start, body)).await?;
         Ok(answer.map(|reply| reply.first))
+    }
+
+    /// Adds pieces to a session as they come, from a place on, which has to be its end, until none comes or one is refused:
+    /// how many bytes it has received then. The next piece is sent while the store hashes the last, but behind the first
+    /// none is before it was accepted: who comes while another adds to the session adds nothing. No line is held while a
+    /// piece is waited for.
+    pub async fn append_all(&self, repo: &str, number: u32, start: u64, pieces: &mut Receiver<Vec<Bytes>>) -> Answer<u64> {
+        let mut received = start;
+        if let Some(first) = pieces.recv().await {
+            match self.append(repo, number, start, &first).await? {
+                Ok(count) => received = count,
+                Err(refusal) => return Ok(Err(refusal)),
+            }
+        }
+        while let Some(piece) = pieces.recv().await {
+            let taken = self.take_line().await?;
+            let appended = append_on(&taken.line, repo, number, received, piece, pieces).await;
+            match appended.map_err(|error| self.broken(error))? {
+                Ok(reply) => received = reply.first,
+                Err(refusal) => {
+                    self.put_back(taken);
+                    return Ok(Err(refusal));
+                }
+            }
+            self.put_back(taken);
+        }
+        Ok(Ok(received))
     }
 
     /// Adds the last bytes to a session and makes it a blob: the blob's size.
@@ -270,8 +308,48 @@ impl Store {
     }
 }
 
+/// Adds a piece to a session at a place, and behind it those that come while one is on its way: the reply to the last, or to
+/// the first that is refused.
+async fn append_on(
+    line: &Line,
+    repo: &str,
+    number: u32,
+    mut start: u64,
+    mut body: Vec<Bytes>,
+    pieces: &mut Receiver<Vec<Bytes>>,
+) -> io::Result<line::Answer> {
+    line.send(&[append_request(repo, number, start, &body)]).await?;
+    loop {
+        start += len_of(&body);
+        let answer = line.answer();
+        tokio::pin!(answer);
+        body = tokio::select! {
+            biased;
+            answer = &mut answer => return answer,
+            next = pieces.recv() => match next {
+                Some(next) => next,
+                None => return answer.await,
+            },
+        };
+        line.send(&[append_request(repo, number, start, &body)]).await?;
+        if let Err(refusal) = answer.await? {
+            // The piece behind it has no longer the session's end for its place.
+            let _ = line.answer().await?;
+            return Ok(Err(refusal));
+        }
+    }
+}
+
+fn append_request<'a>(repo: &'a str, number: u32, start: u64, body: &'a [Bytes]) -> Request<'a> {
+    Request { repo, number, range: range_of(start, body), body, ..Request::new(Command::Append) }
+}
+
 /// The range of a body that begins at a place. An empty one has none.
 fn range_of(start: u64, body: &[Bytes]) -> Option<(u64, u64)> {
-    let len: u64 = body.iter().map(|piece| piece.len() as u64).sum();
+    let len = len_of(body);
     (len > 0).then(|| (start, start + len - 1))
+}
+
+fn len_of(body: &[Bytes]) -> u64 {
+    body.iter().map(|part| part.len() as u64).sum()
 }

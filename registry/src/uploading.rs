@@ -1,11 +1,12 @@
 //! Uploads: opened, filled by chunks, closed or given up.
-use crate::content::{Content, Piece, Then};
+use crate::content::{Content, Then};
 use crate::fault::{range_text, Fault};
 use crate::range::content_range;
 use crate::registry::{empty, Call, Served};
 use crate::store::{Answer, Lost, Mounted};
 use bytes::Bytes;
 use hyper::StatusCode;
+use tokio::sync::mpsc;
 use tokio::task::JoinHandle;
 use uuid::Uuid;
 
@@ -132,44 +133,65 @@ async fn take_and_close(
     Ok(())
 }
 
-/// A piece on its way to the store, which tells how much the session has received by it.
-struct Sending(JoinHandle<Answer<u64>>);
+/// Pieces on their way to the store.
+struct Sending {
+    pieces: mpsc::Sender<Vec<Bytes>>,
+    appended: JoinHandle<Answer<u64>>,
+}
 
 impl Sending {
-    fn begin(call: &Call, session: u32, start: u64, parts: Vec<Bytes>) -> Sending {
+    /// Begins to append what is sent to a session, from a place on.
+    fn begin(call: &Call, session: u32, start: u64) -> Sending {
+        let (pieces, mut coming) = mpsc::channel(1);
         let (registry, repo) = (call.registry.clone(), call.repo.clone());
-        Sending(tokio::spawn(async move { registry.store.append(&repo, session, start, &parts).await }))
+        let appended =
+            tokio::spawn(async move { registry.store.append_all(&repo, session, start, &mut coming).await });
+        Sending { pieces, appended }
     }
 
+    /// Sends a piece, once there is room for it. Answers whether more are taken: none is where one was refused.
+    async fn send(&self, piece: Vec<Bytes>) -> bool {
+        self.pieces.send(piece).await.is_ok()
+    }
+
+    /// How much the session has received once all were appended.
     async fn end(self) -> Result<u64, Fault> {
-        Ok(self.0.await.map_err(|_| Lost)???)
+        drop(self.pieces);
+        Ok(self.appended.await.map_err(|_| Lost)???)
     }
 }
 
 /// Appends the content to a session but for its last piece, which is given back with the place where it belongs. Each
-/// piece names its place, so that two requests can't mix in one session, and the next is read while one is hashed. Where
-/// the client breaks off, what came of it is kept, and the upload can go on from there.
+/// piece names its place, so that it is refused where another request has added to the session, and the next are read and
+/// sent while one is hashed. Where the client breaks off, what came of it is kept, and the upload can go on from there.
 async fn take_all_but_last(
     call: &Call,
     session: u32,
-    mut start: u64,
+    start: u64,
     content: &mut Content,
 ) -> Result<(u64, Vec<Bytes>), Fault> {
-    let mut sending: Option<Sending> = None;
+    let mut piece = content.next().await;
+    if piece.then == Then::End {
+        return Ok((start, piece.parts));
+    }
+    let sending = Sending::begin(call, session, start);
     loop {
-        let Piece { parts, then } = content.next().await;
-        if let Some(sending) = sending.take() {
-            start = sending.end().await?;
-        }
-        match then {
-            Then::End => return Ok((start, parts)),
-            Then::More => sending = Some(Sending::begin(call, session, start, parts)),
-            Then::CutOff => {
-                if !parts.is_empty() {
-                    Sending::begin(call, session, start, parts).end().await?;
+        match piece.then {
+            Then::End => return Ok((sending.end().await?, piece.parts)),
+            Then::More => {
+                if !sending.send(piece.parts).await {
+                    sending.end().await?;
+                    return Err(Lost.into());
                 }
+            }
+            Then::CutOff => {
+                if !piece.parts.is_empty() {
+                    sending.send(piece.parts).await;
+                }
+                sending.end().await?;
                 return Err(Fault::cut_off());
             }
         }
+        piece = content.next().await;
     }
 }

@@ -216,6 +216,20 @@ def limits_are_told():
         assert opened[64].code() == "TOOMANYREQUESTS"
 
 
+def a_piece_is_refused_while_the_next_is_on_its_way():
+    with serving("--lines", "1", tenants=["acme=3000000"]) as server:
+        client, data = server.client(), random.Random(5).randbytes(12 * MIB)
+        at = client.ask("POST", "/v2/acme/one/blobs/uploads/")["Location"]
+        answer = client.ask("PATCH", at, data, PATCH)
+        assert (answer.status, answer.code()) == (403, "DENIED"), answer.body
+        # What fits the quota was taken, and the upload goes on from there, on the same line.
+        received = int(client.ask("GET", at)["Range"].split("-")[1]) + 1
+        assert MIB < received < 3_000_000, received
+        answer = client.ask("PATCH", at, data[received:2_999_000], PATCH)
+        assert answer.status == 202 and answer["Range"] == "0-2998999", answer.status
+        assert client.ask("PUT", f"{at}?digest={sha256(data[:2_999_000])}").status == 201
+
+
 def metrics_count_what_was_done():
     with serving("--slots", "8", "--sweep-ms", "20") as server:
         client, blob = server.client(), f"/v2/acme/one/blobs/{sha256(b'abc')}"
@@ -271,7 +285,7 @@ WITH_ONE = [a_broken_off_upload_is_resumed, a_broken_off_post_leaves_nothing, sl
             idle_connections_cost_little, a_long_upload_takes_its_own_memory_alone, who_asks_first_is_told_before_it_sends,
             slow_senders_hold_nobody_up, words_that_are_no_http_end_their_connection, two_chunks_at_once_do_not_mix]
 ALONE = [users_have_their_own_tenant, unused_uploads_are_given_up, a_signal_ends_it_once_open_requests_have,
-         limits_are_told, metrics_count_what_was_done, killed_programs_take_one_another_along, what_cannot_be_started_says_so]
+         limits_are_told, a_piece_is_refused_while_the_next_is_on_its_way, metrics_count_what_was_done, killed_programs_take_one_another_along, what_cannot_be_started_says_so]
 
 
 def main():
