@@ -20,6 +20,8 @@ mod refusal_tests;
 #[cfg(test)]
 mod scene_tests;
 #[cfg(test)]
+mod test_answers;
+#[cfg(test)]
 mod test_load_steps;
 #[cfg(test)]
 mod test_steps;
