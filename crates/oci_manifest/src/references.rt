@@ -110,13 +110,14 @@ fn named(alloc: Global, root: &Value) -> Result<Option<Vec<Digest>>, AllocError>
 }
 
 /// Each digest once, at its first place. Doubles are found among those that came before in the order of
-/// their texts, so that each digest takes the logarithm of their number, whichever digests a client picks.
+/// their texts, so that each digest takes the logarithm of their number, whichever digests a client picks. The
+/// list has room for all digests, which a manifest's bytes outweigh, and mostly no more than it needs.
 fn once(alloc: Global, digests: &[Digest]) -> Result<Vec<Digest>, Refusal>
     ensures value { IfOk result (λ kept. kept.items ≡ once digests.now) }
     ensures refused { IfErr result (λ e. e ≡ Refusal.Memory) }
 {
     let mut seen = BTreeSet::new(alloc);
-    let mut kept = Vec::new(alloc);
+    let mut kept = Vec::with_capacity(alloc, digests.len())?;
     for digest in digests {
         if seen.insert(*digest)? {
             kept.push(*digest)?;
