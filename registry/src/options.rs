@@ -17,7 +17,7 @@ pub struct Options {
     /// The longest blob, in bytes.
     #[arg(long, value_name = "N", default_value_t = 1 << 32)]
     pub max_blob: u64,
-    /// How many calls can be on their way to the store at once.
+    /// How many calls can be on their way to the store at once. A long blob that is read takes two.
     #[arg(long, value_name = "N", default_value_t = 32, value_parser = clap::value_parser!(u16).range(1..=1024))]
     pub lines: u16,
     /// How long the collector rests between sweeps, in milliseconds; behind one that freed nothing at least ten.
