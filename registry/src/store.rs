@@ -162,8 +162,8 @@ impl Store {
 
     /// Adds pieces to a session as they come, from a place on, which has to be its end, until none comes or one is refused:
     /// how many bytes it has received then. The next piece is sent while the store hashes the last, but behind the first
-    /// none is before it was accepted: who comes while another adds to the session adds nothing. No line is held while a
-    /// piece is waited for.
+    /// none is before it was accepted: where that one is refused, nothing is added. No line is held while a piece is waited
+    /// for.
     pub async fn append_all(&self, repo: &str, number: u32, start: u64, pieces: &mut Receiver<Vec<Bytes>>) -> Answer<u64> {
         let mut received = start;
         if let Some(first) = pieces.recv().await {
