@@ -333,7 +333,7 @@ async fn append_on(
         };
         line.send(&[append_request(repo, number, start, &body)]).await?;
         if let Err(refusal) = answer.await? {
-            // The piece behind it has no longer the session's end for its place.
+            // The piece behind it was sent already, so its answer is taken off the line.
             let _ = line.answer().await?;
             return Ok(Err(refusal));
         }
