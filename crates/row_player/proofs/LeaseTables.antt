@@ -2,8 +2,7 @@
 use Rattle.std.proofs.Common.{◌≡◌, ◌≢◌, ◌⊎◌, ◌==◌, inl, inr, ℕ, Bool, true, false, cond, List, [], ◌∷◌, Option, Some, None, refl, sym, ap, ◌∙◌}
 use Rattle.std.specs.BTreeMap as tree
 use Rattle.std.specs.BTreeMap.{is_at}
-use Rattle.std.specs.Cmp.{IsTotalOrder, nat_cmp_total, eq_by_cmp_equiv, Equal-is}
-use Rattle.std.specs.Cmp.Lexicographic.{nat_list_cmp_total}
+use Rattle.std.specs.Cmp.{eq_by_cmp_equiv, Equal-is}
 use Rattle.std.specs.FinMap as fmap
 use Rattle.std.specs.FinMap.{find, get-from_entries, get-insert, get-remove, get_tied, same_map, IsAntisymmetric}
 use Rattle.std.specs.List.Sorted.{IsStrictlySortedBy}
@@ -11,7 +10,6 @@ use Rattle.std.specs.Map.{keys_of, lookup}
 use Rattle.std.specs.Option.{option_map, unwrap_or}
 use Rattle.std.specs.Ordering.{eq_by_cmp, nat_cmp}
 use Rattle.std.proofs.lemmas.Bool.{eqb-true, eq-eqb}
-use Rattle.std.proofs.lemmas.Cmp.{on_total, then_total}
 use Rattle.std.proofs.lemmas.Map.{lookup-none}
 use Rattle.std.proofs.lemmas.Map.Entries.{none_past_head}
 use Rattle.std.proofs.lemmas.Map.Keys.{IsDistinct-from_sorted, sorted_tail}
@@ -23,20 +21,11 @@ use Rattle.blob_digest.specs.declared.refusal.Refusal.TheVariants.{Memory, Weigh
 use Rattle.row_player.specs.Answers.{Shared, Refused}
 use Rattle.row_player.specs.Leases.{Lent, Leases, Name, halved, name_cmp}
 use Rattle.row_player.specs.Plays.{shared_in}
-use Rattle.row_player.specs.LeaseTables.{Key, key_cmp, name_at, held_rows, leases_in, with_lease}
-
-pub name_cmp_total : IsTotalOrder name_cmp
-name_cmp_total = then_total (on_total (λ p. p.0) nat_cmp_total) (on_total (λ p. p.1) nat_list_cmp_total)
+use Rattle.row_player.specs.LeaseNames.{name_cmp_total}
+use Rattle.row_player.specs.LeaseTables.{held_rows, leases_in, with_lease}
 
 pub exact_name : IsAntisymmetric name_cmp
 exact_name = exact_pairs nat_cmp text_cmp exact_unsigned exact_bytes
-
-pub key_cmp_total : IsTotalOrder key_cmp
-key_cmp_total = on_total name_at name_cmp_total
-
--- where a name stands does not matter
-abbrev key_of : Name → Key
-key_of n = (n.0, record { ref_ptr = (0, 0); now = n.1 })
 
 -- ---- finite maps of leases
 
@@ -88,63 +77,63 @@ held_of lent None = None
 held_of lent (Some room) = option_map lent room
 
 module _ {L : Type 0} (lent : L → Lent) where
-  find_held : (p : Key) (es : List (Key × Option L)) → IsStrictlySortedBy key_cmp (keys_of es) → find name_cmp (name_at p) (held_rows lent es) ≡ held_of lent (lookup (is_at (key_cmp p)) es)
+  find_held : (p : Name) (es : List (Name × Option L)) → IsStrictlySortedBy name_cmp (keys_of es) → find name_cmp p (held_rows lent es) ≡ held_of lent (lookup (is_at (name_cmp p)) es)
   find_held p [] sorted = refl
   find_held p ((k, None) ∷ es) sorted =
-      let rest = find_held p es (sorted_tail key_cmp k (keys_of es) sorted) in
-      elim (is_at (key_cmp p) k) as (λ b. is_at (key_cmp p) k ≡ b → find name_cmp (name_at p) (held_rows lent es) ≡ held_of lent (cond b (Some None) (lookup (is_at (key_cmp p)) es))) [
+      let rest = find_held p es (sorted_tail name_cmp k (keys_of es) sorted) in
+      elim (is_at (name_cmp p) k) as (λ b. is_at (name_cmp p) k ≡ b → find name_cmp p (held_rows lent es) ≡ held_of lent (cond b (Some None) (lookup (is_at (name_cmp p)) es))) [
         | true ↦ λ tie.
-            let e : Key × Option L = (k, None) in
-            let past = none_past_head (eq_by_cmp_equiv key_cmp_total) p e es (IsDistinct-from_sorted key_cmp (keys_of (e ∷ es)) sorted) tie in
-            rest ∙ ap (held_of lent) (lookup-none (is_at (key_cmp p)) es past)
+            let e : Name × Option L = (k, None) in
+            let past = none_past_head (eq_by_cmp_equiv name_cmp_total) p e es (IsDistinct-from_sorted name_cmp (keys_of (e ∷ es)) sorted) tie in
+            rest ∙ ap (held_of lent) (lookup-none (is_at (name_cmp p)) es past)
         | false ↦ λ _. rest
       ] refl
   find_held p ((k, Some l) ∷ es) sorted =
-      let rest = find_held p es (sorted_tail key_cmp k (keys_of es) sorted) in
-      elim (is_at (key_cmp p) k) as (λ b. cond b (Some (lent l)) (find name_cmp (name_at p) (held_rows lent es)) ≡ held_of lent (cond b (Some (Some l)) (lookup (is_at (key_cmp p)) es))) [
+      let rest = find_held p es (sorted_tail name_cmp k (keys_of es) sorted) in
+      elim (is_at (name_cmp p) k) as (λ b. cond b (Some (lent l)) (find name_cmp p (held_rows lent es)) ≡ held_of lent (cond b (Some (Some l)) (lookup (is_at (name_cmp p)) es))) [
         | true ↦ refl
         | false ↦ rest
       ]
 
   -- what is held under a name
-  pub get-leases_in : (m : tree.BTreeMap Key (Option L)) (p : Key) → tree.IsOrdered key_cmp m → fmap.get (leases_in lent m) (name_at p) ≡ held_of lent (tree.get key_cmp m p)
-  get-leases_in m p ordered = get-from_entries name_cmp_total (held_rows lent m.entries) (name_at p) ∙ find_held p m.entries ordered
+  pub get-leases_in : (m : tree.BTreeMap Name (Option L)) (p : Name) → tree.IsOrdered name_cmp m → fmap.get (leases_in lent m) p ≡ held_of lent (tree.get name_cmp m p)
+  get-leases_in m p ordered = get-from_entries name_cmp_total (held_rows lent m.entries) p ∙ find_held p m.entries ordered
 
   -- the same, by a row that is known
-  pub held_at : (m : tree.BTreeMap Key (Option L)) (p : Key) → tree.IsOrdered key_cmp m → (row : Option (Option L)) → row ≡ tree.get key_cmp m p → held_of lent row ≡ fmap.get (leases_in lent m) (name_at p)
+  pub held_at : (m : tree.BTreeMap Name (Option L)) (p : Name) → tree.IsOrdered name_cmp m → (row : Option (Option L)) → row ≡ tree.get name_cmp m p → held_of lent row ≡ fmap.get (leases_in lent m) p
   held_at m p ordered row is = ap (held_of lent) is ∙ sym (get-leases_in m p ordered)
 
   by_test : (b : Bool) (row old : Option (Option L)) → held_of lent (cond b row old) ≡ cond b (held_of lent row) (held_of lent old)
   by_test true row old = refl
   by_test false row old = refl
 
-  module _ (m n : tree.BTreeMap Key (Option L)) (p : Key) (before : tree.IsOrdered key_cmp m) (after : tree.IsOrdered key_cmp n) where
-    put_at : (row : Option (Option L)) → tree.Updates key_cmp m n p row → (x : Name) → fmap.get (leases_in lent n) x ≡ cond (eq_by_cmp name_cmp x (name_at p)) (held_of lent row) (fmap.get (leases_in lent m) x)
+  module _ (m n : tree.BTreeMap Name (Option L)) (p : Name) (before : tree.IsOrdered name_cmp m) (after : tree.IsOrdered name_cmp n) where
+    put_at : (row : Option (Option L)) → tree.Updates name_cmp m n p row → (x : Name) → fmap.get (leases_in lent n) x ≡ cond (eq_by_cmp name_cmp x p) (held_of lent row) (fmap.get (leases_in lent m) x)
     put_at row puts x =
-        get-leases_in n (key_of x) after
-        ∙ ap (held_of lent) (puts.0 (key_of x))
-        ∙ by_test (is_at (key_cmp p) (key_of x)) row (tree.get key_cmp m (key_of x))
-        ∙ ap (λ b. cond b (held_of lent row) (held_of lent (tree.get key_cmp m (key_of x)))) ((eq_by_cmp_equiv name_cmp_total).symm (name_at p) x)
-        ∙ ap (cond (eq_by_cmp name_cmp x (name_at p)) (held_of lent row)) (sym (get-leases_in m (key_of x) before))
+        get-leases_in n x after
+        ∙ ap (held_of lent) (puts.0 x)
+        ∙ by_test (is_at (name_cmp p) x) row (tree.get name_cmp m x)
+        ∙ ap (λ b. cond b (held_of lent row) (held_of lent (tree.get name_cmp m x))) ((eq_by_cmp_equiv name_cmp_total).symm p x)
+        ∙ ap (cond (eq_by_cmp name_cmp x p) (held_of lent row)) (sym (get-leases_in m x before))
 
     -- a lease goes under the name
-    pub put_lease : (l : L) → tree.Updates key_cmp m n p (Some (Some l)) → leases_in lent n ≡ fmap.insert (leases_in lent m) (name_at p) (lent l)
-    put_lease l puts = same_map name_cmp_total exact_name _ _ (λ x. put_at (Some (Some l)) puts x ∙ sym (get-insert name_cmp_total (leases_in lent m) (name_at p) (lent l) x))
+    pub put_lease : (l : L) → tree.Updates name_cmp m n p (Some (Some l)) → leases_in lent n ≡ fmap.insert (leases_in lent m) p (lent l)
+    put_lease l puts = same_map name_cmp_total exact_name _ _ (λ x. put_at (Some (Some l)) puts x ∙ sym (get-insert name_cmp_total (leases_in lent m) p (lent l) x))
 
     -- none is there any more
-    pub put_none : tree.Updates key_cmp m n p (Some None) → leases_in lent n ≡ fmap.remove (leases_in lent m) (name_at p)
-    put_none puts = same_map name_cmp_total exact_name _ _ (λ x. put_at (Some None) puts x ∙ sym (get-remove name_cmp_total (leases_in lent m) (name_at p) x))
+    pub put_none : tree.Updates name_cmp m n p (Some None) → leases_in lent n ≡ fmap.remove (leases_in lent m) p
+    put_none puts = same_map name_cmp_total exact_name _ _ (λ x. put_at (Some None) puts x ∙ sym (get-remove name_cmp_total (leases_in lent m) p x))
 
     -- a row is taken out
-    pub take_row : tree.Updates key_cmp m n p None → leases_in lent n ≡ fmap.remove (leases_in lent m) (name_at p)
-    take_row takes = same_map name_cmp_total exact_name _ _ (λ x. put_at None takes x ∙ sym (get-remove name_cmp_total (leases_in lent m) (name_at p) x))
+    pub take_row : tree.Updates name_cmp m n p None → leases_in lent n ≡ fmap.remove (leases_in lent m) p
+    take_row takes = same_map name_cmp_total exact_name _ _ (λ x. put_at None takes x ∙ sym (get-remove name_cmp_total (leases_in lent m) p x))
 
     -- none was there
-    pub put_room : fmap.get (leases_in lent m) (name_at p) ≡ None → tree.Updates key_cmp m n p (Some None) → leases_in lent n ≡ leases_in lent m
-    put_room free puts = put_none puts ∙ remove_free (leases_in lent m) (name_at p) free
+    pub put_room : fmap.get (leases_in lent m) p ≡ None → tree.Updates name_cmp m n p (Some None) → leases_in lent n ≡ leases_in lent m
+    put_room free puts = put_none puts ∙ remove_free (leases_in lent m) p free
 
     -- what was put is there
-    pub put_any : (room : Option L) → tree.Updates key_cmp m n p (Some room) → leases_in lent n ≡ with_lease (leases_in lent m) (name_at p) (option_map lent room)
+    pub put_any : (room : Option L) → tree.Updates name_cmp m n p (Some room) → leases_in lent n ≡ with_lease (leases_in lent m) p (option_map lent room)
     put_any None puts = put_none puts
     put_any (Some l) puts = put_lease l puts
 

@@ -1,10 +1,12 @@
 pub mod Counting
 pub mod Digits
 pub mod FieldTexts
+pub mod LeaseRows
 pub mod LeaseTables
 pub mod Orders
 pub mod Partitions
 pub mod PlayedRows
 pub mod RowPlaces
+pub mod JoinedRows
 pub mod Spellings
 pub mod WorkerRows

@@ -1,6 +1,6 @@
 -- Rows that are played.
-use Rattle.std.proofs.Common.{◌≡◌, ◌≢◌, ◌⊎◌, ◌<◌, ◌+◌, ◌∙◌, ◌++◌, ◌∷◌, [], ℕ, List, ap, arith, inl, inr, length, IfOk, Option, Some, None, Result, Ok, Err, refl, sym, take}
-use Rattle.std.proofs.lemmas.List.{take_more}
+use Rattle.std.proofs.Common.{◌≡◌, ◌≢◌, ◌⊎◌, ◌<◌, ◌+◌, ◌∙◌, ◌++◌, ◌∷◌, [], ℕ, List, ap, append_assoc, arith, inl, inr, length, IfOk, Option, Some, None, Result, Ok, Err, refl, sym, take}
+use Rattle.std.proofs.lemmas.List.{append-nil, take_more}
 use Rattle.std.specs.FinMap as fmap
 use Rattle.finite_maps.specs.Texts.{Text}
 use Rattle.blob_digest.specs.declared.refusal.Refusal.{Refusal}
@@ -9,7 +9,7 @@ use Rattle.row_player.specs.Answers.{Answer, Bytes, Leased, Refused}
 use Rattle.row_player.specs.Commands.{Calls, Command, Request, Lease, Sweeps, Verifies, command_of}
 use Rattle.row_player.specs.Leases.{Leases, Lent, new_lease}
 use Rattle.row_player.specs.RowViews.{IsRowAt}
-use Rattle.row_player.specs.Plays.{LendsWhereFree, Plays, RowStep, State, StepOf, VerifiesLease, name_of, named}
+use Rattle.row_player.specs.Plays.{LendsWhereFree, Plays, PlaysOn, RowStep, State, StepOf, VerifiesLease, name_of, named}
 use Rattle.row_player.specs.Rows.{RowView}
 use Rattle.row_player.specs.declared.row.Verb.TheVariants as verb
 
@@ -39,6 +39,25 @@ one_played acts old mid new [] (r ∷ rs) line answer before here not_memory = a
 one_played acts old mid new (l ∷ ls) [] line answer before here not_memory = absurd before
 one_played acts old mid new (l ∷ ls) (r ∷ rs) line answer before here not_memory =
     (before.0, before.1, before.2, one_played acts before.0 mid new ls rs line answer before.3 here not_memory)
+
+-- rows were played, and one more
+pub one_more : {S : Type 0} (acts : S → Request → Answer → S → Type 0) (old mid new : State S) (before answers : List Answer) (rows : List RowView) (row : RowView) (answer : Answer)
+    → PlaysOn acts old before rows mid answers → RowStep acts mid row answer new → answer ≢ Refused Memory → PlaysOn acts old before (rows ++ row ∷ []) new (answers ++ answer ∷ [])
+one_more acts old mid new before answers rows row answer so_far here not_memory first earlier played =
+    rw (← append_assoc earlier rows (row ∷ [])) (one_played acts first mid new (earlier ++ rows) answers row answer (so_far first earlier played) here not_memory)
+
+-- no row was played yet
+pub none_more : {S : Type 0} (acts : S → Request → Answer → S → Type 0) (old : State S) (before : List Answer) → PlaysOn acts old before [] old before
+none_more acts old before first earlier played = rw (append-nil earlier) played
+
+-- rows were played, and others behind them
+pub more_on : {S : Type 0} (acts : S → Request → Answer → S → Type 0) (old mid new : State S) (before so_far answers : List Answer) (rows next : List RowView) → PlaysOn acts old before rows mid so_far → PlaysOn acts mid so_far next new answers → PlaysOn acts old before (rows ++ next) new answers
+more_on acts old mid new before so_far answers rows next first_played then_played first earlier played =
+    rw (← append_assoc earlier rows next) (then_played first (earlier ++ rows) (first_played first earlier played))
+
+-- nothing was played before
+pub from_start : {S : Type 0} (acts : S → Request → Answer → S → Type 0) (old new : State S) (before answers : List Answer) (rows : List RowView) → before ≡ [] → PlaysOn acts old before rows new answers → Plays acts old rows answers new
+from_start acts old new before answers rows none played = played old [] (rw none refl)
 
 -- each row has one answer
 pub one_each : {S : Type 0} (acts : S → Request → Answer → S → Type 0) (old new : State S) (lines : List RowView) (answers : List Answer) → Plays acts old lines answers new → length answers ≡ length lines

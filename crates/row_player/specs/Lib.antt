@@ -3,6 +3,7 @@ pub mod CommandAnswers
 pub mod CommandViews
 pub mod Commands
 pub mod Counts
+pub mod LeaseNames
 pub mod LeaseTables
 pub mod Leases
 pub mod RowPlaces
@@ -10,4 +11,5 @@ pub mod RowViews
 pub mod Plays
 pub mod Replies
 pub mod Rows
+pub mod JoinedRows
 pub mod Shares

@@ -1,5 +1,5 @@
 -- What the rows of a script do to what they are played on, by what a store may do.
-use Rattle.std.specs.Prelude.{◌≡◌, ◌≢◌, ◌⊎◌, ℕ, ◌+◌, ◌-◌, ◌==◌, if◌then◌else◌, nat_le, false, List, [], ◌∷◌, length, Option, Some, None, option_and_then, Result, Ok, Err}
+use Rattle.std.specs.Prelude.{◌≡◌, ◌≢◌, ◌⊎◌, ℕ, ◌+◌, ◌-◌, ◌==◌, if◌then◌else◌, nat_le, false, List, [], ◌∷◌, ◌++◌, length, Option, Some, None, option_and_then, Result, Ok, Err}
 use Rattle.std.specs.FinMap as fmap
 use Rattle.finite_maps.specs.Texts.{Text}
 use Rattle.blob_digest.specs.Ranges.{range_of}
@@ -136,3 +136,8 @@ abbrev pub Plays : {S : Type 0} → (S → Request → Answer → S → Type 0) 
 Plays acts old [] [] new = new ≡ old
 Plays {S} acts old (row ∷ rows) (answer ∷ answers) new = (mid : State S) × RowStep acts old row answer mid × (answer ≢ Refused Memory) × Plays acts mid rows answers new
 Plays acts old rows answers new = ⊥
+
+-- rows were played behind those that had these answers before, whatever rows these were
+abbrev pub PlaysOn : {S : Type 0} → (S → Request → Answer → S → Type 0) → State S → List Answer → List RowView → State S → List Answer → Type 0
+PlaysOn {S} acts old before rows new answers =
+    (first : State S) → (earlier : List RowView) → Plays acts first earlier before old → Plays acts first (earlier ++ rows) answers new

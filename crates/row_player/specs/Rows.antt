@@ -1,5 +1,5 @@
 -- The row of a script, and the fields that a command needs.
-use Rattle.std.specs.Prelude.{ℕ, ◌==◌, ◌&&◌, length, Bool, nat_le, if◌then◌else◌, Option, Some, None, option_and_then, is_some}
+use Rattle.std.specs.Prelude.{ℕ, ◌==◌, ◌&&◌, length, Bool, true, false, nat_le, if◌then◌else◌, Option, Some, None, option_and_then, is_some}
 use Rattle.std.specs.List.{list_all}
 use Rattle.finite_maps.specs.Texts.{Text}
 use Rattle.blob_digest.specs.Names.{is_alnum}
@@ -24,6 +24,15 @@ session_number text = option_and_then (λ n. if nat_le (length text) 10 && (nat_
 -- a lease's name: 1 to 32 small letters and digits
 abbrev pub is_lease_name : Text → Bool
 is_lease_name text = nat_le 1 (length text) && nat_le (length text) 32 && list_all is_alnum text
+
+-- whether a command is about a lease, which its row names by the key
+abbrev pub names_lease : Verb → Bool
+names_lease Lease = true
+names_lease Read = true
+names_lease Share = true
+names_lease Verify = true
+names_lease GiveBack = true
+names_lease _ = false
 
 abbrev pub is_empty : Text → Bool
 is_empty text = length text == 0

@@ -6,33 +6,31 @@ ghost use Rattle.std.specs.BTreeMap as tree;
 ghost use Rattle.finite_maps.specs.Texts.{Text};
 ghost use Rattle.row_player.specs.Answers.{answer_of, Bytes, Refused};
 ghost use Rattle.row_player.specs.Commands.{Calls, Lease as LeaseCommand};
-ghost use Rattle.row_player.specs.Leases.{new_lease, none};
-ghost use Rattle.row_player.specs.LeaseTables.{HasRow, KeepsRows, key_cmp, name_at, leases_in, with_lease};
+ghost use Rattle.row_player.specs.Leases.{name_cmp, new_lease, none};
+ghost use Rattle.row_player.specs.LeaseTables.{HasRow, KeepsRows, leases_in, with_lease};
 ghost use Rattle.row_player.specs.Plays.{VerifiesLease, shared_in, give_back_of};
 
 use crate::backend::Backend;
+use crate::lease_name::LeaseName;
 use crate::reply::Reply;
 use blob_digest::{Digest, Refusal, RepoName};
 use std::alloc::{AllocFailed, Global};
 use std::collections::BTreeMap;
 use std::marker::Model;
 
-/// A lane, and the name that it has for a lease, as it stands in the script.
-pub type LeaseName<'r> = (u8, &'r [u8]);
-
 /// What is kept under each name: a lease, or room for one.
-type Table<'r, L> = BTreeMap<LeaseName<'r>, Option<L>>;
+type Table<L> = BTreeMap<LeaseName, Option<L>>;
 
 /// The leases that the lanes hold, by their names. They must be given back before the table goes.
 /// Contracts see a finite map from lane and name to the leases' bytes and weights.
-pub struct Leases<'r, B: Backend> {
-    table: Table<'r, B::Lease>,
+pub struct Leases<B: Backend> {
+    table: Table<B::Lease>,
 }
 
-impl<'r, B: Backend> Model for Leases<'r, B> {
+impl<B: Backend> Model for Leases<B> {
     ghost use Rattle.std.specs.BTreeMap as tree;
-    ghost use Rattle.row_player.specs.Leases.{Leases as LeasesView, coded_leases};
-    ghost use Rattle.row_player.specs.LeaseTables.{leases_in, key_cmp};
+    ghost use Rattle.row_player.specs.Leases.{Leases as LeasesView, coded_leases, name_cmp};
+    ghost use Rattle.row_player.specs.LeaseTables.{leases_in};
 
     ghost Value = { LeasesView };
 
@@ -40,7 +38,7 @@ impl<'r, B: Backend> Model for Leases<'r, B> {
 
     ghost view = { λ a. leases_in B.lent a.table };
 
-    ghost invariant = { λ a. tree.IsOrdered key_cmp a.table };
+    ghost invariant = { λ a. tree.IsOrdered name_cmp a.table };
 }
 
 /// Gives back what stands in a row, if it is a lease.
@@ -53,18 +51,14 @@ fn release<B: Backend>(room: Option<B::Lease>) {
 
 /// Puts a lease, or room for one, under a name, and answers what was there. What is put comes back
 /// where memory runs out, which it is not at a name that has a row.
-fn put<'r, L>(
-    table: &mut Table<'r, L>,
-    name: LeaseName<'r>,
-    room: Option<L>,
-) -> Result<Option<L>, Option<L>>
-    ensures was { IfOk result (λ old. old ≡ unwrap_or (tree.get key_cmp table.old name.entry) None) }
-    ensures puts { OnOk result (tree.Updates key_cmp table.old table.new name.entry (Some room)) }
+fn put<L>(table: &mut Table<L>, name: LeaseName, room: Option<L>) -> Result<Option<L>, Option<L>>
+    ensures was { IfOk result (λ old. old ≡ unwrap_or (tree.get name_cmp table.old name) None) }
+    ensures puts { OnOk result (tree.Updates name_cmp table.old table.new name (Some room)) }
     ensures back { IfErr result (λ v. v ≡ room) }
-    ensures absent { OnErr result (tree.get key_cmp table.old name.entry ≡ None) }
+    ensures absent { OnErr result (tree.get name_cmp table.old name ≡ None) }
     ensures same { OnErr result (table.new.entries ≡ table.old.entries) }
-    ensures ordered { tree.IsOrdered key_cmp table.new }
-    ensures was_ordered { tree.IsOrdered key_cmp table.old }
+    ensures ordered { tree.IsOrdered name_cmp table.new }
+    ensures was_ordered { tree.IsOrdered name_cmp table.old }
 {
     match table.insert(name, room) {
         Ok(Some(old)) => Ok(old),
@@ -78,15 +72,12 @@ fn put<'r, L>(
 }
 
 /// Makes room under a name that has no lease. Refused with `Memory` alone.
-fn reserve<'r, B: Backend>(
-    table: &mut Table<'r, B::Lease>,
-    name: LeaseName<'r>,
-) -> Result<(), Refusal>
-    requires free { fmap.get (leases_in B.lent table.old) (name_at name) ≡ None }
+fn reserve<B: Backend>(table: &mut Table<B::Lease>, name: LeaseName) -> Result<(), Refusal>
+    requires free { fmap.get (leases_in B.lent table.old) name ≡ None }
     ensures same { leases_in B.lent table.new ≡ leases_in B.lent table.old }
-    ensures there { OnOk result (HasRow table.new name.entry) }
+    ensures there { OnOk result (HasRow table.new name) }
     ensures rows { KeepsRows table.old table.new }
-    ensures ordered { tree.IsOrdered key_cmp table.new }
+    ensures ordered { tree.IsOrdered name_cmp table.new }
     ensures refused { IfErr result (λ e. e ≡ Refusal.Memory) }
 {
     match put(table, name, None) {
@@ -102,16 +93,16 @@ fn reserve<'r, B: Backend>(
 }
 
 /// Puts a lease, or room for one, under a name that has a row, and answers what was there.
-fn exchange<'r, B: Backend>(
-    table: &mut Table<'r, B::Lease>,
-    name: LeaseName<'r>,
+fn exchange<B: Backend>(
+    table: &mut Table<B::Lease>,
+    name: LeaseName,
     room: Option<B::Lease>,
 ) -> Option<B::Lease>
     requires there { HasRow table.old name }
-    ensures was { option_map B.lent result ≡ fmap.get (leases_in B.lent table.old) (name_at name.entry) }
-    ensures puts { leases_in B.lent table.new ≡ with_lease (leases_in B.lent table.old) (name_at name.entry) (option_map B.lent room) }
+    ensures was { option_map B.lent result ≡ fmap.get (leases_in B.lent table.old) name }
+    ensures puts { leases_in B.lent table.new ≡ with_lease (leases_in B.lent table.old) name (option_map B.lent room) }
     ensures rows { KeepsRows table.old table.new }
-    ensures ordered { tree.IsOrdered key_cmp table.new }
+    ensures ordered { tree.IsOrdered name_cmp table.new }
 {
     match put(table, name, room) {
         Ok(old) => old,
@@ -123,13 +114,10 @@ fn exchange<'r, B: Backend>(
 }
 
 /// The lease of a name.
-fn held_in<'t, 'r, B: Backend>(
-    table: &'t Table<'r, B::Lease>,
-    name: LeaseName<'r>,
-) -> Option<&'t B::Lease>
-    requires ordered { tree.IsOrdered key_cmp table.now }
-    ensures lease { option_map (λ l. B.lent l.now) result ≡ fmap.get (leases_in B.lent table.now) (name_at name.entry) }
-    ensures row { IsSome result → HasRow table.now name.entry }
+fn held_in<B: Backend>(table: &Table<B::Lease>, name: LeaseName) -> Option<&B::Lease>
+    requires ordered { tree.IsOrdered name_cmp table.now }
+    ensures lease { option_map (λ l. B.lent l.now) result ≡ fmap.get (leases_in B.lent table.now) name }
+    ensures row { IsSome result → HasRow table.now name }
 {
     match table.get(&name) {
         Some(Some(held)) => Some(held),
@@ -139,12 +127,12 @@ fn held_in<'t, 'r, B: Backend>(
 }
 
 /// Takes a name's row out, and answers the lease that it held.
-fn take<'r, B: Backend>(table: &mut Table<'r, B::Lease>, name: LeaseName<'r>) -> Option<B::Lease>
-    requires ordered { tree.IsOrdered key_cmp table.old }
-    ensures was { option_map B.lent result ≡ fmap.get (leases_in B.lent table.old) (name_at name.entry) }
-    ensures takes { leases_in B.lent table.new ≡ fmap.remove (leases_in B.lent table.old) (name_at name.entry) }
-    ensures gone { ¬ (HasRow table.new name.entry) }
-    ensures ordered { tree.IsOrdered key_cmp table.new }
+fn take<B: Backend>(table: &mut Table<B::Lease>, name: LeaseName) -> Option<B::Lease>
+    requires ordered { tree.IsOrdered name_cmp table.old }
+    ensures was { option_map B.lent result ≡ fmap.get (leases_in B.lent table.old) name }
+    ensures takes { leases_in B.lent table.new ≡ fmap.remove (leases_in B.lent table.old) name }
+    ensures gone { ¬ (HasRow table.new name) }
+    ensures ordered { tree.IsOrdered name_cmp table.new }
 {
     match table.remove(&name) {
         Some(room) => room,
@@ -154,16 +142,16 @@ fn take<'r, B: Backend>(table: &mut Table<'r, B::Lease>, name: LeaseName<'r>) ->
 
 /// Asks a backend for a lease, which the table keeps under a name that has none. Room is made first, so
 /// that out of memory changes nothing.
-fn lend_in<'r, B: Backend>(
+fn lend_in<B: Backend>(
     backend: &mut B,
-    table: &mut Table<'r, B::Lease>,
-    name: LeaseName<'r>,
+    table: &mut Table<B::Lease>,
+    name: LeaseName,
     repo: &RepoName,
     digest: &Digest,
 ) -> Result<u64, Refusal>
-    requires free { fmap.get (leases_in B.lent table.old) (name_at name) ≡ None }
-    ensures lends { MatchResult result (λ n. (bytes : Text) × B.acts backend.old (Calls (LeaseCommand repo.now digest.now)) (Bytes bytes) backend.new × (n ≡ length bytes) × (leases_in B.lent table.new ≡ fmap.insert (leases_in B.lent table.old) (name_at name.entry) (new_lease bytes))) (λ e. (leases_in B.lent table.new ≡ leases_in B.lent table.old) × (((e ≡ Refusal.Memory) × (backend.new ≡ backend.old)) ⊎ B.acts backend.old (Calls (LeaseCommand repo.now digest.now)) (Refused e) backend.new)) }
-    ensures ordered { tree.IsOrdered key_cmp table.new }
+    requires free { fmap.get (leases_in B.lent table.old) name ≡ None }
+    ensures lends { MatchResult result (λ n. (bytes : Text) × B.acts backend.old (Calls (LeaseCommand repo.now digest.now)) (Bytes bytes) backend.new × (n ≡ length bytes) × (leases_in B.lent table.new ≡ fmap.insert (leases_in B.lent table.old) name (new_lease bytes))) (λ e. (leases_in B.lent table.new ≡ leases_in B.lent table.old) × (((e ≡ Refusal.Memory) × (backend.new ≡ backend.old)) ⊎ B.acts backend.old (Calls (LeaseCommand repo.now digest.now)) (Refused e) backend.new)) }
+    ensures ordered { tree.IsOrdered name_cmp table.new }
 {
     reserve::<B>(table, name)?;
     match backend.lease(repo, digest) {
@@ -180,14 +168,14 @@ fn lend_in<'r, B: Backend>(
 }
 
 /// Makes two leases of one. Room for the second is made first, so that out of memory changes nothing.
-fn share_in<'r, B: Backend>(
-    table: &mut Table<'r, B::Lease>,
-    name: LeaseName<'r>,
-    second: LeaseName<'r>,
+fn share_in<B: Backend>(
+    table: &mut Table<B::Lease>,
+    name: LeaseName,
+    second: LeaseName,
 ) -> Result<Reply, Refusal>
-    requires ordered { tree.IsOrdered key_cmp table.old }
-    ensures shares { MatchResult result (λ r. (answer_of r, leases_in B.lent table.new) ≡ shared_in (leases_in B.lent table.old) (name_at name.entry) (name_at second.entry)) (λ e. ((e ≡ Refusal.Memory) × (leases_in B.lent table.new ≡ leases_in B.lent table.old)) ⊎ ((Refused e, leases_in B.lent table.new) ≡ shared_in (leases_in B.lent table.old) (name_at name.entry) (name_at second.entry))) }
-    ensures ordered { tree.IsOrdered key_cmp table.new }
+    requires ordered { tree.IsOrdered name_cmp table.old }
+    ensures shares { MatchResult result (λ r. (answer_of r, leases_in B.lent table.new) ≡ shared_in (leases_in B.lent table.old) name second) (λ e. ((e ≡ Refusal.Memory) × (leases_in B.lent table.new ≡ leases_in B.lent table.old)) ⊎ ((Refused e, leases_in B.lent table.new) ≡ shared_in (leases_in B.lent table.old) name second)) }
+    ensures ordered { tree.IsOrdered name_cmp table.new }
 {
     if held_in::<B>(table, name).is_none() {
         return Ok(Reply::NoLease);
@@ -214,15 +202,11 @@ fn share_in<'r, B: Backend>(
 }
 
 /// Has a backend look at the slot of a lease.
-fn verify_in<'r, B: Backend>(
-    backend: &mut B,
-    table: &mut Table<'r, B::Lease>,
-    name: LeaseName<'r>,
-) -> Reply
-    requires ordered { tree.IsOrdered key_cmp table.old }
-    ensures looks { VerifiesLease B.acts (fmap.get (leases_in B.lent table.old) (name_at name.entry)) backend.old (answer_of result) backend.new }
+fn verify_in<B: Backend>(backend: &mut B, table: &mut Table<B::Lease>, name: LeaseName) -> Reply
+    requires ordered { tree.IsOrdered name_cmp table.old }
+    ensures looks { VerifiesLease B.acts (fmap.get (leases_in B.lent table.old) name) backend.old (answer_of result) backend.new }
     ensures same { leases_in B.lent table.new ≡ leases_in B.lent table.old }
-    ensures ordered { tree.IsOrdered key_cmp table.new }
+    ensures ordered { tree.IsOrdered name_cmp table.new }
 {
     if held_in::<B>(table, name).is_none() {
         return Reply::NoLease;
@@ -237,10 +221,10 @@ fn verify_in<'r, B: Backend>(
 }
 
 /// Gives a lease back.
-fn return_in<'r, B: Backend>(table: &mut Table<'r, B::Lease>, name: LeaseName<'r>) -> Reply
-    requires ordered { tree.IsOrdered key_cmp table.old }
-    ensures returns { (answer_of result, leases_in B.lent table.new) ≡ give_back_of (leases_in B.lent table.old) (name_at name.entry) (fmap.get (leases_in B.lent table.old) (name_at name.entry)) }
-    ensures ordered { tree.IsOrdered key_cmp table.new }
+fn return_in<B: Backend>(table: &mut Table<B::Lease>, name: LeaseName) -> Reply
+    requires ordered { tree.IsOrdered name_cmp table.old }
+    ensures returns { (answer_of result, leases_in B.lent table.new) ≡ give_back_of (leases_in B.lent table.old) name (fmap.get (leases_in B.lent table.old) name) }
+    ensures ordered { tree.IsOrdered name_cmp table.new }
 {
     match take::<B>(table, name) {
         Some(held) => {
@@ -253,34 +237,30 @@ fn return_in<'r, B: Backend>(table: &mut Table<'r, B::Lease>, name: LeaseName<'r
 
 /// Asks a backend for a lease, which is kept under a name that has none, and answers the blob's size in
 /// bytes. Running out of memory changes nothing.
-pub fn lend<'r, B: Backend>(
+pub fn lend<B: Backend>(
     backend: &mut B,
-    leases: &mut Leases<'r, B>,
-    name: LeaseName<'r>,
+    leases: &mut Leases<B>,
+    name: LeaseName,
     repo: &RepoName,
     digest: &Digest,
 ) -> Result<u64, Refusal>
-    requires free { fmap.get leases.old (name_at name) ≡ None }
-    ensures { MatchResult result (λ n. (bytes : Text) × B.acts backend.old (Calls (LeaseCommand repo.now digest.now)) (Bytes bytes) backend.new × (n ≡ length bytes) × (leases.new ≡ fmap.insert leases.old (name_at name.entry) (new_lease bytes))) (λ e. (leases.new ≡ leases.old) × (((e ≡ Refusal.Memory) × (backend.new ≡ backend.old)) ⊎ B.acts backend.old (Calls (LeaseCommand repo.now digest.now)) (Refused e) backend.new)) }
+    requires free { fmap.get leases.old name ≡ None }
+    ensures { MatchResult result (λ n. (bytes : Text) × B.acts backend.old (Calls (LeaseCommand repo.now digest.now)) (Bytes bytes) backend.new × (n ≡ length bytes) × (leases.new ≡ fmap.insert leases.old name (new_lease bytes))) (λ e. (leases.new ≡ leases.old) × (((e ≡ Refusal.Memory) × (backend.new ≡ backend.old)) ⊎ B.acts backend.old (Calls (LeaseCommand repo.now digest.now)) (Refused e) backend.new)) }
 {
     lend_in(backend, &mut leases.table, name, repo, digest)
 }
 
 /// Has a backend look at the slot of a lease.
-pub fn verify<'r, B: Backend>(
-    backend: &mut B,
-    leases: &mut Leases<'r, B>,
-    name: LeaseName<'r>,
-) -> Reply
-    ensures looks { VerifiesLease B.acts (fmap.get leases.old (name_at name.entry)) backend.old (answer_of result) backend.new }
+pub fn verify<B: Backend>(backend: &mut B, leases: &mut Leases<B>, name: LeaseName) -> Reply
+    ensures looks { VerifiesLease B.acts (fmap.get leases.old name) backend.old (answer_of result) backend.new }
     ensures same { leases.new ≡ leases.old }
 {
     verify_in(backend, &mut leases.table, name)
 }
 
-impl<'r, B: Backend> Leases<'r, B> {
+impl<B: Backend> Leases<B> {
     /// No leases.
-    pub fn new(alloc: Global) -> Leases<'r, B>
+    pub fn new(alloc: Global) -> Leases<B>
         ensures { result ≡ none }
     {
         Leases {
@@ -289,23 +269,23 @@ impl<'r, B: Backend> Leases<'r, B> {
     }
 
     /// The lease of a name.
-    pub fn get(&self, name: LeaseName<'r>) -> Option<&B::Lease>
-        ensures { option_map (λ l. B.lent l.now) result ≡ fmap.get self.now (name_at name.entry) }
+    pub fn get(&self, name: LeaseName) -> Option<&B::Lease>
+        ensures { option_map (λ l. B.lent l.now) result ≡ fmap.get self.now name }
     {
         held_in::<B>(&self.table, name)
     }
 
     /// Makes two leases of one: the first name keeps half of the weight, the second gets the other half.
     /// Running out of memory changes nothing.
-    pub fn share(&mut self, name: LeaseName<'r>, second: LeaseName<'r>) -> Result<Reply, Refusal>
-        ensures { MatchResult result (λ r. (answer_of r, self.new) ≡ shared_in self.old (name_at name.entry) (name_at second.entry)) (λ e. ((e ≡ Refusal.Memory) × (self.new ≡ self.old)) ⊎ ((Refused e, self.new) ≡ shared_in self.old (name_at name.entry) (name_at second.entry))) }
+    pub fn share(&mut self, name: LeaseName, second: LeaseName) -> Result<Reply, Refusal>
+        ensures { MatchResult result (λ r. (answer_of r, self.new) ≡ shared_in self.old name second) (λ e. ((e ≡ Refusal.Memory) × (self.new ≡ self.old)) ⊎ ((Refused e, self.new) ≡ shared_in self.old name second)) }
     {
         share_in::<B>(&mut self.table, name, second)
     }
 
     /// Gives a lease back.
-    pub fn give_back(&mut self, name: LeaseName<'r>) -> Reply
-        ensures { (answer_of result, self.new) ≡ give_back_of self.old (name_at name.entry) (fmap.get self.old (name_at name.entry)) }
+    pub fn give_back(&mut self, name: LeaseName) -> Reply
+        ensures { (answer_of result, self.new) ≡ give_back_of self.old name (fmap.get self.old name) }
     {
         return_in::<B>(&mut self.table, name)
     }

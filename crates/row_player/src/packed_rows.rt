@@ -1,7 +1,7 @@
 //! Rows whose fields lie in one text.
-ghost use Rattle.std.specs.Prelude.{[], ◌∷◌, ◌++◌, ◌≡◌, IfOk, OnErr, OnOk, length};
+ghost use Rattle.std.specs.Prelude.{[], ◌∷◌, ◌++◌, ◌<◌, ◌≡◌, IfOk, OnErr, OnOk, length};
 ghost use Rattle.row_player.specs.RowPlaces.{Begins, IsWithin, row_in};
-ghost use Rattle.row_player.specs.RowViews.{borrowed_view};
+ghost use Rattle.row_player.specs.RowViews.{IsRowAt, borrowed_view};
 
 use crate::places::Places;
 use crate::row::BorrowedRow;
@@ -86,6 +86,29 @@ impl PackedRows {
         self.places.push(places)?;
         Ok(())
     }
+
+    /// Whether the text has room for a row's fields, so that adding the row moves none of the others.
+    pub fn has_room(&self, row: &BorrowedRow<'_>) -> bool {
+        row.text_len() <= self.text.capacity() - self.text.len()
+    }
+
+    /// The row of a place, counted from 0.
+    pub fn row(&self, place: usize) -> BorrowedRow<'_>
+        requires { place < length self.now }
+        ensures { IsRowAt self.now place (borrowed_view result) }
+    {
+        let places = &self.places[place];
+        let text = self.text.as_slice();
+        BorrowedRow {
+            lane: places.lane,
+            verb: places.verb,
+            repo: &text[places.start as usize..places.repo as usize],
+            key: &text[places.repo as usize..places.key as usize],
+            digest: &text[places.key as usize..places.digest as usize],
+            range: &text[places.digest as usize..places.range as usize],
+            body: &text[places.range as usize..places.body as usize],
+        }
+    }
 }
 
 impl<'a> RowList for &'a PackedRows {
@@ -98,16 +121,6 @@ impl<'a> RowList for &'a PackedRows {
 
     fn row(&self, place: usize) -> BorrowedRow<'_> {
         let rows = *self;
-        let places = &rows.places[place];
-        let text = rows.text.as_slice();
-        BorrowedRow {
-            lane: places.lane,
-            verb: places.verb,
-            repo: &text[places.start as usize..places.repo as usize],
-            key: &text[places.repo as usize..places.key as usize],
-            digest: &text[places.key as usize..places.digest as usize],
-            range: &text[places.digest as usize..places.range as usize],
-            body: &text[places.range as usize..places.body as usize],
-        }
+        rows.row(place)
     }
 }

@@ -80,3 +80,15 @@ pub struct BorrowedRow<'r> {
     pub body: &'r [u8],
     pub ghost fit: { fits verb repo.now key.now digest.now range.now body.now ≡ true },
 }
+
+impl<'r> BorrowedRow<'r> {
+    /// How many bytes the fields have together.
+    pub fn text_len(&self) -> usize {
+        self.repo
+            .len()
+            .saturating_add(self.key.len())
+            .saturating_add(self.digest.len())
+            .saturating_add(self.range.len())
+            .saturating_add(self.body.len())
+    }
+}

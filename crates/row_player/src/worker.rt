@@ -21,6 +21,17 @@ pub struct Worker {
 }
 
 impl Worker {
+    /// The worker that plays all rows.
+    pub fn alone() -> Worker
+        ensures workers { result.workers ≡ 1 }
+        ensures number { result.number ≡ 0 }
+    {
+        Worker {
+            workers: 1,
+            number: 0,
+        }
+    }
+
     /// Whether a row is this worker's.
     pub fn plays(&self, row: &BorrowedRow<'_>) -> bool
         ensures { result ≡ is_own self.now.workers self.now.number (borrowed_view row.now) }

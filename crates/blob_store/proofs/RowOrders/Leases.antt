@@ -14,7 +14,8 @@ use Rattle.row_player.specs.Commands.{Request}
 use Rattle.row_player.specs.Leases.{Leases, Lent, Name, halved, name_cmp, new_lease}
 use Rattle.row_player.specs.Plays.{LendsWhereFree, Plays, RowStep, State, VerifiesLease, give_back_of, name_of, named, piece_of, read_of, second_of, share_of}
 use Rattle.row_player.specs.Rows.{RowView}
-use Rattle.row_player.proofs.LeaseTables.{exact_name, name_cmp_total}
+use Rattle.row_player.specs.LeaseNames.{name_cmp_total}
+use Rattle.row_player.proofs.LeaseTables.{exact_name}
 use Rattle.blob_store.specs.RowOrders.{Leads}
 use Rattle.blob_store.proofs.RowOrders.Merging.{Told}
 

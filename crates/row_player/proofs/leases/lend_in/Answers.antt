@@ -1,14 +1,13 @@
 use Rattle.std.proofs.Common.{ap, inr, ◌∙◌}
 use Rattle.std.specs.FinMap as fmap
 use Rattle.row_player.specs.Leases.{Leases}
-use Rattle.row_player.specs.LeaseTables.{leases_in, name_at}
+use Rattle.row_player.specs.LeaseTables.{leases_in}
 use Rattle.row_player.proofs.LeaseTables.{remove_free}
 use Rattle.row_player.proofs.leases.lend_in.Goals as goal
 
 -- the room that was made goes
 pub returns-in-Err-clause-lends : goal.returns-in-Err-clause-lends
-returns-in-Err-clause-lends g c =
-    let name = name_at c.args.name in (
-      c.take.ensures.takes ∙ ap (λ (m : Leases). fmap.remove m name) c.in_ok-reserve.ensures.same ∙ remove_free (leases_in g.B.Backend.lent c.args.table.now) name c.requires.free,
-      inr c.in-Err.ensures,
-    )
+returns-in-Err-clause-lends g c = (
+  c.take.ensures.takes ∙ ap (λ (m : Leases). fmap.remove m c.args.name) c.in_ok-reserve.ensures.same ∙ remove_free (leases_in g.B.Backend.lent c.args.table.now) c.args.name c.requires.free,
+  inr c.in-Err.ensures,
+)

@@ -2,12 +2,12 @@ use Rattle.std.proofs.Common.{◌≡◌, None, ap, sym, ◌∙◌}
 use Rattle.std.specs.FinMap as fmap
 use Rattle.row_player.specs.Answers.{NoLease}
 use Rattle.row_player.specs.Leases.{Leases}
-use Rattle.row_player.specs.LeaseTables.{leases_in, name_at}
+use Rattle.row_player.specs.LeaseTables.{leases_in}
 use Rattle.row_player.proofs.LeaseTables.{remove_free}
 use Rattle.row_player.proofs.leases.return_in.Goals as goal
 
 pub returns-in-None-clause-returns : goal.returns-in-None-clause-returns
 returns-in-None-clause-returns g c =
     let leases : Leases = leases_in g.B.Backend.lent c.args.table.now in
-    let free : fmap.get leases (name_at c.args.name) ≡ None = sym c.in-None.ensures.was in
-    rw free (ap (λ (m : Leases). (NoLease, m)) (c.take.ensures.takes ∙ remove_free leases (name_at c.args.name) free))
+    let free : fmap.get leases c.args.name ≡ None = sym c.in-None.ensures.was in
+    rw free (ap (λ (m : Leases). (NoLease, m)) (c.take.ensures.takes ∙ remove_free leases c.args.name free))

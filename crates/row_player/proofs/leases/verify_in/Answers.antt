@@ -1,7 +1,7 @@
 use Rattle.std.proofs.Common.{◌∙◌, sym}
 use Rattle.std.specs.FinMap as fmap
 use Rattle.row_player.specs.Leases.{Leases}
-use Rattle.row_player.specs.LeaseTables.{leases_in, name_at}
+use Rattle.row_player.specs.LeaseTables.{leases_in}
 use Rattle.row_player.proofs.LeaseTables.{put_back}
 use Rattle.row_player.proofs.leases.verify_in.Goals as goal
 
@@ -10,5 +10,5 @@ returns-clause-same g c =
     let lent = g.B.Backend.lent in
     let before : Leases = leases_in lent c.args.table.now in
     c.exchange-2.ensures.puts
-    ∙ (λ i. fmap.insert (c.exchange.ensures.puts i) (name_at c.args.name) (c.verify-held.ensures.same i))
-    ∙ put_back before (name_at c.args.name) (lent c.in-Some.held) (sym c.in-Some.ensures.was)
+    ∙ (λ i. fmap.insert (c.exchange.ensures.puts i) c.args.name (c.verify-held.ensures.same i))
+    ∙ put_back before c.args.name (lent c.in-Some.held) (sym c.in-Some.ensures.was)

@@ -31,4 +31,5 @@ returns g c =
     let free : named c.args.leases.now line ≡ None = search rules in
     let lent = c.in_ok-size.ensures in
     let does : g.B.Backend.acts c.args.backend.now (Calls (Lease line.repo line.digest)) (Bytes lent.0) c.lend.new.backend = search rules in
-    lease_lent g.B.Backend.acts c.args.backend.now c.lend.new.backend c.args.leases.now c.lend.new.leases line lent.0 c.in_ok-size.size c.requires spells free does lent.2 lent.3
+    let kept = rw c.name_of-name.ensures at lent.3 in
+    lease_lent g.B.Backend.acts c.args.backend.now c.lend.new.backend c.args.leases.now c.lend.new.leases line lent.0 c.in_ok-size.size c.requires spells free does lent.2 kept

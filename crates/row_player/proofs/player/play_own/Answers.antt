@@ -1,9 +1,9 @@
-use Rattle.std.proofs.Common.{◌≡◌, ◌+◌, ◌<◌, ◌∙◌, ◌∷◌, [], ap, arith, false, length, length-append, rules, sym, take, true, vec_len}
-use Rattle.std.proofs.lemmas.List.{length-map, map-append}
+use Rattle.std.proofs.Common.{◌≡◌, ◌+◌, ◌<◌, ◌∙◌, ◌∷◌, [], ap, arith, false, length, length-append, sym, take, true}
+use Rattle.std.proofs.lemmas.List.{map-append}
 use Rattle.row_player.specs.Answers.{answer_of, answers_of}
 use Rattle.row_player.specs.RowViews.{borrowed_view}
 use Rattle.row_player.specs.Shares.{is_own, own_rows}
-use Rattle.row_player.proofs.PlayedRows.{one_each, one_played}
+use Rattle.row_player.proofs.PlayedRows.{one_more}
 use Rattle.row_player.proofs.WorkerRows.{own_less, own_more, own_within}
 use Rattle.row_player.proofs.player.play_own.Goals as goal
 use Rattle.row_player.proofs.player.play_own.Goals.{then-plays+in_ok-play_next, else-plays}
@@ -19,19 +19,26 @@ loop-place-preserved g c =
     let within : place < length rows = rw (← c.len-place-end.ensures) c.loop-place-test.true in
     let at = c.row-row.ensures in
     let so_far = own_rows n k (take place rows) in
+    let before = answers_of c.args.replies.now.items in
     elim c.if-plays.branch [
       | then-plays+in_ok-play_next w ↦
           let own : is_own n k row ≡ true = sym c.plays.ensures ∙ w.if-plays.true in
           let next = w.in_ok-play_next.ensures.played in
-          let all = one_played g.B.Backend.acts (c.args.backend.now, c.args.leases.now) (c.loop-place.backend, c.loop-place.leases) (w.play_next.new.backend, w.play_next.new.leases) so_far (answers_of c.loop-place.replies.items) row (answer_of next.0) inv.played next.3 next.2 in
+          let more = own_more n k rows place row within at own in
+          let all = one_more g.B.Backend.acts (c.args.backend.now, c.args.leases.now) (c.loop-place.backend, c.loop-place.leases) (w.play_next.new.backend, w.play_next.new.leases) before (answers_of c.loop-place.replies.items) so_far row (answer_of next.0) inv.played next.3 next.2 in
+          let size = ap length next.1 ∙ length-append c.loop-place.replies.items (next.0 ∷ []) in
+          let own_size = ap length more ∙ length-append so_far (row ∷ []) in
+          let count = inv.count in
           record {
-            played = rw (w.backend-is, w.leases-is, w.replies-is, next.1, map-append answer_of c.loop-place.replies.items (next.0 ∷ []), own_more n k rows place row within at own) all;
+            played = rw (w.backend-is, w.leases-is, w.replies-is, next.1, map-append answer_of c.loop-place.replies.items (next.0 ∷ []), more) all;
+            count = rw w.replies-is (omega (arith, size, own_size, count));
             room = rw w.replies-is (w.play_next.ensures.room ∙ inv.room);
           }
       | else-plays w ↦
           let other : is_own n k row ≡ false = sym c.plays.ensures ∙ w.if-plays.false in
           record {
             played = rw (w.backend-is, w.leases-is, w.replies-is, own_less n k rows place row within at other) inv.played;
+            count = rw (w.replies-is, own_less n k rows place row within at other) inv.count;
             room = rw w.replies-is inv.room;
           }
     ]
@@ -46,11 +53,9 @@ play_next-requires g c =
     let fits : place < length rows = rw (← c.len-place-end.ensures) c.loop-place-test.true in
     let inv = c.loop-place.invariant in
     let own : is_own n k row ≡ true = sym c.plays.ensures ∙ c.if-plays.true in
-    let each = one_each g.B.Backend.acts _ _ (own_rows n k (take place rows)) (answers_of c.loop-place.replies.items) inv.played in
+    let count = inv.count in
     let one = ap length (own_more n k rows place row fits c.row-row.ensures own) ∙ length-append (own_rows n k (take place rows)) (row ∷ []) in
     let within = own_within n k rows (place + 1) in
-    let size = length-map c.loop-place.replies.items answer_of in
-    let len : length c.loop-place.replies.items ≡ vec_len c.loop-place.replies = search rules in
     let room = inv.room in
     let most = c.requires.room in
-    record { room = omega (arith, each, one, within, size, len, room, most) }
+    record { room = omega (arith, count, one, within, room, most) }

@@ -1,0 +1,37 @@
+-- The rows of several lists.
+use Rattle.std.proofs.Common.{◌≡◌, ◌<◌, ◌+◌, ◌∙◌, ◌++◌, ◌∷◌, [], ℕ, List, ap, append_assoc, arith, length, suc, sym, take, zero}
+use Rattle.std.specs.Prelude.{get_or, set, OnOk, Result, Ok, Err}
+use Rattle.std.proofs.lemmas.List.{append-nil, take_more}
+use Rattle.std.proofs.lemmas.List.Concat.{get_or-flat_map}
+use Rattle.row_player.specs.Rows.{RowView}
+use Rattle.row_player.specs.JoinedRows.{joined}
+
+-- one list more
+pub joined-push : (lists : List (List RowView)) (rows : List RowView) → joined (lists ++ rows ∷ []) ≡ joined lists ++ rows
+joined-push [] rows = append-nil rows
+joined-push (l ∷ ls) rows = ap (λ r. l ++ r) (joined-push ls rows) ∙ sym (append_assoc l (joined ls) rows)
+
+-- a row more in the last list
+pub joined-last : (lists : List (List RowView)) (n : ℕ) (last : List RowView) (row : RowView) → n + 1 ≡ length lists → get_or lists n last ≡ last → joined (set lists n (last ++ row ∷ [])) ≡ joined lists ++ row ∷ []
+joined-last [] n last row is_last at = absurd (omega (arith, is_last))
+joined-last (l ∷ []) zero last row is_last at = append-nil (last ++ row ∷ []) ∙ ap (λ r. r ++ row ∷ []) (sym at ∙ sym (append-nil l))
+joined-last (l ∷ []) (suc n) last row is_last at = absurd (omega (arith, is_last))
+joined-last (l ∷ m ∷ ls) zero last row is_last at = absurd (omega (arith, is_last))
+joined-last (l ∷ m ∷ ls) (suc n) last row is_last at =
+    ap (λ r. l ++ r) (joined-last (m ∷ ls) n last row (omega (arith, is_last)) at) ∙ sym (append_assoc l (joined (m ∷ ls)) (row ∷ []))
+
+-- the rows of the lists so far, and those of one more
+pub joined-take : (lists : List (List RowView)) (n : ℕ) (rows : List RowView) → n < length lists → get_or lists n rows ≡ rows → joined (take (n + 1) lists) ≡ joined (take n lists) ++ rows
+joined-take lists n rows within at =
+    ap joined (take_more lists n rows within) ∙ ap (λ r. joined (take n lists ++ r ∷ [])) at ∙ joined-push (take n lists) rows
+
+-- a row of a list stands behind those of the lists before
+pub row_in_list : (lists : List (List RowView)) (n place : ℕ) (rows : List RowView) (row : RowView) → n < length lists → get_or lists n rows ≡ rows → place < length rows → row ≡ get_or rows place row → row ≡ get_or (joined lists) (length (joined (take n lists)) + place) row
+row_in_list lists n place rows row within at here is =
+    let there = get_or-flat_map (λ (l : List RowView). l) lists n place rows row within (rw at here) in
+    rw there (rw at is)
+
+-- a row that is added to the last list, where that goes well
+pub added_last : {A E : Type 0} (r : Result A E) (lists : List (List RowView)) (n : ℕ) (last new : List RowView) (row : RowView) → n + 1 ≡ length lists → get_or lists n last ≡ last → OnOk r (new ≡ last ++ row ∷ []) → OnOk r (joined (set lists n new) ≡ joined lists ++ row ∷ [])
+added_last (Ok x) lists n last new row is_last at added = rw added (joined-last lists n last row is_last at)
+added_last (Err e) lists n last new row is_last at added = tt

@@ -1,0 +1,30 @@
+use Rattle.std.proofs.Common.{◌≡◌, ◌<◌, ◌∙◌, ap, arith, length, length-append, rules, take}
+use Rattle.std.specs.Prelude.{get_or}
+use Rattle.row_player.specs.JoinedRows.{joined}
+use Rattle.row_player.specs.RowViews.{borrowed_view}
+use Rattle.row_player.proofs.JoinedRows.{joined-take, row_in_list}
+use Rattle.row_player.proofs.script_rows.row_in.Goals as goal
+
+pub returns-then-rest-len : goal.returns-then-rest-len
+returns-then-rest-len c =
+    let lists = c.args.lists.now.items in
+    let n = c.loop-number.number in
+    let list = c.index.result.now in
+    let within : n < length lists = search rules in
+    let at : get_or lists n list ≡ list = search rules in
+    let here : c.loop-number.rest < length list = search rules in
+    rw c.loop-number.invariant (row_in_list lists n c.loop-number.rest list (borrowed_view c.row.result) within at here c.row.ensures)
+
+pub loop-number-preserved : goal.loop-number-preserved
+loop-number-preserved c =
+    let lists = c.args.lists.now.items in
+    let n = c.loop-number.number in
+    let list = c.index.result.now in
+    let within : n < length lists = search rules in
+    let at : get_or lists n list ≡ list = search rules in
+    let more = ap length (joined-take lists n list within at) ∙ length-append (joined (take n lists)) list in
+    let place = c.loop-number.invariant in
+    let behind = c.if-rest-len.false in
+    let len = c.len.ensures in
+    let less = c.len-rest.ensures in
+    omega (arith, more, place, behind, len, less)
