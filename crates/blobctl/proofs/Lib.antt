@@ -5,6 +5,7 @@ pub mod Leasing
 pub mod OneHistory
 pub mod OneOpening
 pub mod OneRun
+pub mod Pieces
 pub mod Records
 pub mod Replies
 pub mod ScriptRuns

@@ -1,7 +1,6 @@
 -- Records taken one by one from a reader.
 use Rattle.std.proofs.Common.{◌≡◌, ◌⊎◌, ◌≤◌, ◌+◌, ◌++◌, ◌∷◌, [], ◌∙◌, ℕ, List, Some, None, true, map, length, inl, inr, ap, sym}
 use Rattle.std.proofs.lemmas.List.{map-append}
-use Rattle.std.specs.Borrow.{Bor}
 use Rattle.csv.specs.Reading.{ReadRecord, default_config, strip_bom, took_first}
 use Rattle.csv.specs.declared.parser.State.TheVariants as st
 use Rattle.csv.specs.declared.reader.Reader.{Reader}
@@ -15,10 +14,10 @@ use Rattle.blobctl.specs.declared.fault.Fault.{Fault}
 use Rattle.blobctl.specs.declared.fault.Fault.TheVariants.{BadRow, Memory}
 
 -- a record more was taken
-pub one_taken : (old new : Reader (Bor Text)) (fields : Record) (script : Text) (before : List Record) → IsAfter script before old
-    → ReadRecord (λ s. Some s.now) old new true fields → took_first new ≡ true → IsAfter script (before ++ fields ∷ []) new
+pub one_taken : (old new : Reader Text) (fields : Record) (script : Text) (before : List Record) → IsAfter script before old
+    → ReadRecord (λ s. Some s) old new true fields → took_first new ≡ true → IsAfter script (before ++ fields ∷ []) new
 one_taken old new fields script before h read first =
-    let more = rows-more (λ (s : Bor Text). Some s.now) old new fields default_config st.StartRecord (strip_bom script) h.rest before h.config h.source h.reached read in
+    let more = rows-more (λ (s : Text). Some s) old new fields default_config st.StartRecord (strip_bom script) h.rest before h.config h.source h.reached read in
     record {
       untrimmed = read.3 ∙ h.untrimmed;
       ready = inl first;
@@ -29,7 +28,7 @@ one_taken old new fields script before h read first =
     }
 
 -- records that were taken are the script's first
-pub begins : (reader : Reader (Bor Text)) (script : Text) (before : List Record) → IsAfter script before reader → BeginsWith script before
+pub begins : (reader : Reader Text) (script : Text) (before : List Record) → IsAfter script before reader → BeginsWith script before
 begins reader script before h = (reader.state, h.rest, h.reached)
 
 -- a good record after good ones

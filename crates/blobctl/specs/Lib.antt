@@ -3,6 +3,7 @@ pub mod Ending
 pub mod Inputs
 pub mod OneText
 pub mod Options
+pub mod Pieces
 pub mod Played
 pub mod Reading
 pub mod Records

@@ -6,6 +6,7 @@ ghost use Rattle.blobctl.specs.Inputs.{IsTooLong, TakesAtMost, max_script};
 ghost use Rattle.blobctl.specs.Watching.{has_failed, inner_of};
 
 use crate::fault::Fault;
+use crate::script_text::ScriptText;
 use crate::watched::Watched;
 use std::alloc::Global;
 use std::io::Read;
@@ -14,16 +15,17 @@ use std::io::Read;
 const MAX_SCRIPT: usize = 268_435_456;
 
 /// The most bytes that are read at a time.
-const PIECE: usize = 65_536;
+const MAX_READ: usize = 65_536;
 
 /// Adds the bytes of one read, as many as fit the buffer, and says how many there were.
-fn add_piece<R: Read>(
+fn add_one_read<R: Read>(
+    alloc: Global,
     reader: &mut Watched<R>,
     buffer: &mut [u8],
-    bytes: &mut Vec<u8>,
+    script: &mut ScriptText,
 ) -> Result<usize, Fault>
     requires { 0 < length buffer.old }
-    ensures added { IfOk result (λ n. (bytes.new.items ≡ bytes.old.items ++ take n buffer.new) × Consumes (R.remaining (inner_of reader.old)) (R.remaining (inner_of reader.new)) (take n buffer.new) × (n ≤ length buffer.new)) }
+    ensures added { IfOk result (λ n. (script.new ≡ script.old ++ take n buffer.new) × Consumes (R.remaining (inner_of reader.old)) (R.remaining (inner_of reader.new)) (take n buffer.new) × (n ≤ length buffer.new)) }
     ensures end { IfOk result (λ n. n ≡ 0 → IsAtEnd (R.remaining (inner_of reader.new))) }
     ensures unfailed { OnOk result (HasNotFailed reader.old reader.new) }
     ensures refused { IfErr result (λ e. ((e ≡ Fault.Memory) × HasNotFailed reader.old reader.new) ⊎ ((e ≡ Fault.Read) × (has_failed reader.new ≡ true))) }
@@ -32,30 +34,32 @@ fn add_piece<R: Read>(
     let Ok(count) = reader.read(buffer) else {
         return Err(Fault::Read);
     };
-    bytes.extend_from_slice(&buffer[..count])?;
+    script.add(alloc, &buffer[..count])?;
     Ok(count)
 }
 
-/// The bytes of a reader up to its end, of which no read has failed before. Any failure of a read ends the reading, an interrupted read
-/// too, so that where bytes are answered no read failed. No more than one byte past the longest
+/// The text that a reader gives up to its end, of which no read has failed before. Any failure of a read ends the reading, an interrupted read
+/// too, so that where a text is answered no read failed. No more than one byte past the longest
 /// script is taken. `Read` comes only where a read failed or the script is too long, and a failed read
 /// is never told as `Memory`, nor that as `Read`.
-pub fn read_script<R: Read>(alloc: Global, reader: &mut Watched<R>) -> Result<Vec<u8>, Fault>
+pub fn read_script<R: Read>(alloc: Global, reader: &mut Watched<R>) -> Result<ScriptText, Fault>
     requires { has_failed reader.old ≡ false }
-    ensures whole { IfOk result (λ v. IsReadWhole R.remaining reader.old reader.new v.items) }
+    ensures whole { IfOk result (IsReadWhole R.remaining reader.old reader.new) }
     ensures most { TakesAtMost (R.remaining (inner_of reader.old)) (R.remaining (inner_of reader.new)) (max_script + 1) }
     ensures refused { IfErr result (λ e. ((e ≡ Fault.Memory) × HasNotFailed reader.old reader.new) ⊎ ((e ≡ Fault.Read) × ((has_failed reader.new ≡ true) ⊎ IsTooLong (R.remaining (inner_of reader.old)) (R.remaining (inner_of reader.new))))) }
 {
-    let mut bytes = Vec::new(alloc);
-    let mut buffer = [0u8; PIECE];
+    let mut script = ScriptText::new(alloc);
+    let mut len = 0;
+    let mut buffer = [0u8; MAX_READ];
     for _turn in 0..MAX_SCRIPT + 1 {
-        let room = MAX_SCRIPT + 1 - bytes.len();
-        let wanted = room.min(PIECE);
-        let count = add_piece(reader, &mut buffer[..wanted], &mut bytes)?;
+        let room = MAX_SCRIPT + 1 - len;
+        let wanted = room.min(MAX_READ);
+        let count = add_one_read(alloc, reader, &mut buffer[..wanted], &mut script)?;
         if count == 0 {
-            return Ok(bytes);
+            return Ok(script);
         }
-        if bytes.len() > MAX_SCRIPT {
+        len += count;
+        if len > MAX_SCRIPT {
             return Err(Fault::Read);
         }
     }

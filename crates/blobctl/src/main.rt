@@ -50,6 +50,7 @@ mod run;
 mod script;
 #[cfg(test)]
 mod script_tests;
+mod script_text;
 #[cfg(test)]
 mod test_scripts;
 #[cfg(test)]

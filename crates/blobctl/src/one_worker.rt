@@ -14,21 +14,21 @@ use crate::options::Options;
 use crate::pinned_book::PinnedBook;
 use blob_digest::Refusal;
 use pin_table::Pins;
-use row_player::{PackedRows, Reply, play};
+use row_player::{Reply, ScriptRows, play_script};
 use std::alloc::Global;
 use std::marker::{Brand, PhantomData};
 use store_book::{Book, PinsName};
 
-/// Plays all rows on a book with the words of its slots, which one pin table names.
+/// Plays all rows on a book with the words of its slots, which one pin table names. The rows are dropped as they are played.
 fn play_on_book<N: PinsName>(
     alloc: Global,
     book: Book,
     pins: &Pins,
-    rows: &PackedRows,
+    rows: ScriptRows,
 ) -> Result<(Book, Vec<Reply>), Refusal>
     requires here { book.table ≡ N.table }
     requires there { pins.now ≡ N.table }
-    ensures played { IfOk result (λ p. (left : LeasesView) × Plays Acts (book, none) rows.now (answers_of p.1.items) (p.0, left)) }
+    ensures played { IfOk result (λ p. (left : LeasesView) × Plays Acts (book, none) rows (answers_of p.1.items) (p.0, left)) }
     ensures refused { IfErr result (λ e. e ≡ Refusal.Memory) }
 {
     let mut pinned: PinnedBook<'_, N> = PinnedBook {
@@ -36,7 +36,7 @@ fn play_on_book<N: PinsName>(
         pins,
         table: PhantomData,
     };
-    let replies = play(alloc, &mut pinned, rows)?;
+    let replies = play_script(alloc, &mut pinned, rows)?;
     let PinnedBook {
         book,
         pins: _,
@@ -45,16 +45,16 @@ fn play_on_book<N: PinsName>(
     Ok((book, replies))
 }
 
-/// Plays all rows on a new book, and answers the book and one reply for each row. Refused with
-/// `Memory` alone.
+/// Plays all rows on a new book, and answers the book and one reply for each row. The rows are dropped as they are
+/// played. Refused with `Memory` alone.
 pub fn play_by_one(
     alloc: Global,
     options: &Options,
-    rows: &PackedRows,
+    rows: ScriptRows,
 ) -> Result<(Book, Vec<Reply>), Refusal>
     requires within { IsWithin options.now }
-    requires few { length rows.now ≤ max_rows }
-    ensures played { IfOk result (λ p. (first : Catalog) × (left : LeasesView) × OpensCatalog (tenants_shown options.now.store.tenants.items) options.now.store.slots options.now.store.max_blob first × Plays Leads (first, none) rows.now (answers_of p.1.items) (p.0.catalog, left)) }
+    requires few { length rows ≤ max_rows }
+    ensures played { IfOk result (λ p. (first : Catalog) × (left : LeasesView) × OpensCatalog (tenants_shown options.now.store.tenants.items) options.now.store.slots options.now.store.max_blob first × Plays Leads (first, none) rows (answers_of p.1.items) (p.0.catalog, left)) }
     ensures refused { IfErr result (λ e. e ≡ Refusal.Memory) }
 {
     let (book, pins) = Book::new(alloc, &options.store)?;

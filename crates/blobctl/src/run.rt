@@ -16,22 +16,23 @@ use crate::output::write_played;
 use crate::script::read_rows;
 use crate::watched::Watched;
 use crate::workers::play_by_workers;
-use row_player::PackedRows;
+use row_player::ScriptRows;
 use std::alloc::Global;
 use std::io::{Read, Write};
 use std::mem;
 use std::sync::Wait;
 use std::thread::Threads;
 
-/// The rows of the script that a reader gives. The script is dropped with the last of them.
-fn read_all<R: Read>(alloc: Global, reader: &mut Watched<R>) -> Result<PackedRows, Fault>
+/// The rows of the script that a reader gives. Its text is held whole until it is read, and then goes
+/// piece by piece as the rows are made.
+fn read_all<R: Read>(alloc: Global, reader: &mut Watched<R>) -> Result<ScriptRows, Fault>
     requires { has_failed reader.old ≡ false }
     ensures rows { IfOk result (λ rows. (script : Text) × IsReadWhole R.remaining reader.old reader.new script × AreRowsOf script rows) }
     ensures most { TakesAtMost (R.remaining (inner_of reader.old)) (R.remaining (inner_of reader.new)) (max_script + 1) }
     ensures fault { IfErr result (λ e. (e ≢ Fault.Write) × Explains R.remaining reader.old reader.new e) }
 {
     let script = read_script(alloc, reader)?;
-    read_rows(alloc, script.as_slice())
+    read_rows(alloc, script)
 }
 
 /// Reads a script to its end, checks all of it, plays it row after row on a new book, whatever `workers`
@@ -41,9 +42,10 @@ fn read_all<R: Read>(alloc: Global, reader: &mut Watched<R>) -> Result<PackedRow
 /// No read of the reader has failed before. A bad row, a read fault and running out of memory write nothing. A bad row is the script's first one, and
 /// a read fault comes only where a read failed or the script is longer than 268,435,456 bytes; where
 /// the run ends in another way, no read failed and the script was no longer. One byte more than that
-/// is read at most. After a write fault nothing is known of what was written. Writing takes no memory. While it plays, the
-/// run holds the rows, the replies and the book; the script's text is held only until its rows are
-/// made. Where it ends well it gives none of this back: the program ends then, and its memory with it.
+/// is read at most. After a write fault nothing is known of what was written. Writing takes no memory. The
+/// script's text goes piece by piece as its rows are made. While it plays, the run holds the rows that are left, the
+/// replies and the book. Where it ends well it doesn't give the last two back: the program ends then, and its memory
+/// with it.
 pub fn run_one<R: Read, W: Write>(
     alloc: Global,
     reader: &mut Watched<R>,
@@ -58,13 +60,12 @@ pub fn run_one<R: Read, W: Write>(
     ensures fault { IfErr result (λ e. Explains R.remaining reader.old reader.new e) }
 {
     let rows = read_all(alloc, reader)?;
-    let Ok((book, replies)) = play_by_one(alloc, options, &rows) else {
+    let Ok((book, replies)) = play_by_one(alloc, options, rows) else {
         return Err(Fault::Memory);
     };
     write_played(writer, replies.as_slice(), &book)?;
     mem::forget(book);
     mem::forget(replies);
-    mem::forget(rows);
     Ok(())
 }
 

@@ -9,8 +9,9 @@ ghost use Rattle.blobctl.specs.Script.{AreRecordsOf, AreRowsOf, ExplainsRows};
 
 use crate::fault::Fault;
 use crate::fields::read_row;
+use crate::script_text::ScriptText;
 use csv::{ByteRecord, Reader, ReaderBuilder};
-use row_player::PackedRows;
+use row_player::ScriptRows;
 use std::alloc::Global;
 
 /// The most rows that a script may have.
@@ -18,8 +19,8 @@ const MAX_ROWS: u32 = 65536;
 
 /// A reader of the script's records. It takes no header row, and leaves it to the caller how many
 /// fields a record has.
-fn reader_of(alloc: Global, script: &[u8]) -> Reader<&[u8]>
-    ensures { IsAfter script.now [] result }
+fn reader_of(alloc: Global, script: ScriptText) -> Reader<ScriptText>
+    ensures { IsAfter script [] result }
 {
     ReaderBuilder::new()
         .has_headers(false)
@@ -28,7 +29,7 @@ fn reader_of(alloc: Global, script: &[u8]) -> Reader<&[u8]>
 }
 
 /// Takes the next record, and says whether there was one.
-fn take_record(reader: &mut Reader<&[u8]>, fields: &mut ByteRecord) -> Result<bool, Fault>
+fn take_record(reader: &mut Reader<ScriptText>, fields: &mut ByteRecord) -> Result<bool, Fault>
     ensures more { IfOk result (λ found. (script : Text) → (before : List Record) → IsAfter script before reader.old → found ≡ true → IsAfter script (before ++ fields_of fields.new ∷ []) reader.new) }
     ensures end { IfOk result (λ found. (script : Text) → (before : List Record) → IsAfter script before reader.old → found ≡ false → AreRecordsOf script before) }
     ensures refused { IfErr result (λ e. e ≡ Fault.Memory) }
@@ -40,31 +41,37 @@ fn take_record(reader: &mut Reader<&[u8]>, fields: &mut ByteRecord) -> Result<bo
 }
 
 /// Adds the row of a record.
-fn add_row(fields: &ByteRecord, number: u32, rows: &mut PackedRows) -> Result<(), Fault>
+fn add_row(
+    alloc: Global,
+    fields: &ByteRecord,
+    number: u32,
+    rows: &mut ScriptRows,
+) -> Result<(), Fault>
     ensures added { OnOk result ((line : RowView) × (row_of (fields_of fields.now) ≡ Some line) × (rows.new ≡ rows.old ++ line ∷ [])) }
     ensures refused { IfErr result (λ e. (e ≡ Fault.Memory) ⊎ ((e ≡ Fault.BadRow number) × (row_of (fields_of fields.now) ≡ None))) }
 {
     let Some(row) = read_row(fields) else {
         return Err(Fault::BadRow(number));
     };
-    rows.push(&row)?;
+    rows.push(alloc, &row)?;
     Ok(())
 }
 
 /// The rows of a script, or its first bad row. Running out of memory is told apart from a bad row. The
-/// records are dropped one by one as their rows are made.
-pub fn read_rows(alloc: Global, script: &[u8]) -> Result<PackedRows, Fault>
-    ensures rows { IfOk result (AreRowsOf script.now) }
-    ensures fault { IfErr result (λ e. ExplainsRows script.now e) }
+/// records are dropped one by one as their rows are made, and the script's text piece by piece as it is
+/// read, so that at the end only the rows are held.
+pub fn read_rows(alloc: Global, script: ScriptText) -> Result<ScriptRows, Fault>
+    ensures rows { IfOk result (AreRowsOf script) }
+    ensures fault { IfErr result (λ e. ExplainsRows script e) }
 {
     let mut reader = reader_of(alloc, script);
     let mut fields = ByteRecord::new(alloc);
-    let mut rows = PackedRows::with_room(alloc, script.len())?;
+    let mut rows = ScriptRows::new(alloc);
     for place in 0..MAX_ROWS {
         if !take_record(&mut reader, &mut fields)? {
             return Ok(rows);
         }
-        add_row(&fields, place + 1, &mut rows)?;
+        add_row(alloc, &fields, place + 1, &mut rows)?;
     }
     if take_record(&mut reader, &mut fields)? {
         return Err(Fault::BadRow(MAX_ROWS + 1));

@@ -2,10 +2,11 @@
 
 use crate::fault::Fault;
 use crate::script::read_rows;
+use crate::script_text::ScriptText;
 use crate::test_scripts::{filled, options_of};
 use blob_digest::{Digest, Refusal};
-use row_player::{PackedRows, Reply, RowList, Verb};
-use std::alloc::Global;
+use row_player::{Reply, RowList, ScriptRows, Verb};
+use std::alloc::{AllocError, Global};
 use std::process::Abort;
 
 /// Whether a field has the bytes of a text.
@@ -16,7 +17,7 @@ fn is_text(field: &[u8], text: &str) -> bool {
 /// A list has a row of this lane, this command and these fields at this place.
 fn has_row(
     rt: &impl Abort,
-    rows: &PackedRows,
+    rows: &ScriptRows,
     place: usize,
     (lane, verb, fields): (u8, Verb, [&str; 5]),
 ) {
@@ -35,6 +36,18 @@ fn has_row(
     assert!(rt; is_text(row.body, body), "row {place}");
 }
 
+/// The rows of a script, whose text is added a thousand bytes at a time.
+fn rows_of(rt: &impl Abort, alloc: Global, script: &str) -> ScriptRows {
+    let mut text = ScriptText::new(alloc);
+    for bytes in script.as_bytes().chunks(1000) {
+        text.add(alloc, bytes).expect(rt, "memory");
+    }
+    match read_rows(alloc, text) {
+        Ok(rows) => rows,
+        Err(fault) => panic!(rt; "found {fault:?}, and no rows"),
+    }
+}
+
 #[test]
 fn rows_are_read(rt: HostRuntime) {
     let script = r#"0,start,acme/one,,,,
@@ -44,10 +57,7 @@ fn rows_are_read(rt: HostRuntime) {
 3,share,,left,,,right
 1,sweep,,,,,
 "#;
-    let rows = match read_rows(rt.alloc(), script.as_bytes()) {
-        Ok(rows) => rows,
-        Err(fault) => panic!(&rt; "found {fault:?}, and no rows"),
-    };
+    let rows = rows_of(&rt, rt.alloc(), script);
     let wanted = [
         (0, Verb::Start, ["acme/one", "", "", "", ""]),
         (7, Verb::Append, ["acme/one", "1", "", "0-0", "a"]),
@@ -63,6 +73,35 @@ fn rows_are_read(rt: HostRuntime) {
     for (place, row) in wanted.into_iter().enumerate() {
         has_row(&rt, &rows, place, row);
     }
+}
+
+/// A script of so many rows, each with its place as its body.
+fn numbered_rows(alloc: Global, count: u32) -> Result<String, AllocError> {
+    let mut script = String::new(alloc);
+    for place in 0..count {
+        write!(script, "0,append,acme/one,1,,,{place}\n")?;
+    }
+    Ok(script)
+}
+
+/// Each row of a list has its place as its body.
+fn are_numbered(rt: &impl Abort, alloc: Global, rows: &ScriptRows) {
+    for place in 0..rows.len() {
+        let body = format!(in alloc; "{place}").expect(rt, "memory");
+        let fields = ["acme/one", "1", "", "", body.as_str()];
+        has_row(rt, rows, place, (0, Verb::Append, fields));
+    }
+}
+
+#[test]
+fn rows_are_read_across_pieces(rt: HostRuntime) {
+    let alloc = rt.alloc();
+    let script = numbered_rows(alloc, 60_000).expect(&rt, "memory");
+    // a piece has room for 1,048,576 of these: the first ends in the body 37845
+    assert_eq!(&rt; script.len(), 1_668_890);
+    let rows = rows_of(&rt, alloc, script.as_str());
+    assert_eq!(&rt; (&rows).len(), 60_000);
+    are_numbered(&rt, alloc, &rows);
 }
 
 /// A command line gives these numbers and tenants.

@@ -11,7 +11,7 @@ use crate::fault::Fault;
 use crate::options::Options;
 use crate::output::write_replies;
 use blob_store::{Naming, Parts, PlayedToEnd, play_to_end};
-use row_player::{OpenGate, PackedRows};
+use row_player::{OpenGate, ScriptRows};
 use std::alloc::Global;
 use std::io::Write;
 use std::marker::Brand;
@@ -28,7 +28,7 @@ fn play_on_store<T: Threads + Wait + Sync, W: Write, S: Naming + Send + Sync>(
     writer: &mut W,
     parts: Parts,
     options: &Options,
-    rows: &PackedRows,
+    rows: &ScriptRows,
 ) -> Result<(), Fault>
     requires workers { CanWork options.now.workers }
     requires opened { OpensBook (tenants_shown options.now.store.tenants.items) options.now.store.slots options.now.store.max_blob options.now.store.first_generation parts.book }
@@ -61,7 +61,7 @@ pub fn play_by_workers<T: Threads + Wait + Sync, W: Write>(
     alloc: Global,
     writer: &mut W,
     options: &Options,
-    rows: &PackedRows,
+    rows: &ScriptRows,
 ) -> Result<(), Fault>
     requires { IsWithin options.now }
     ensures played { OnOk result ((text : Text) × Appends (W.contents writer.old) (W.contents writer.new) text × PlayedByWorkers options.now.workers (tenants_shown options.now.store.tenants.items) options.now.store.slots options.now.store.max_blob rows.now text) }

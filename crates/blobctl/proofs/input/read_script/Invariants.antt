@@ -1,4 +1,4 @@
-use Rattle.std.proofs.Common.{◌≤◌, length}
+use Rattle.std.proofs.Common.{◌≡◌, ◌≤◌, length}
 use Rattle.std.specs.Io.KnownBytes.{Consumes}
 use Rattle.blobctl.specs.Ending.{HasNotFailed}
 use Rattle.blobctl.specs.Watching.{inner_of}
@@ -7,8 +7,9 @@ use Rattle.blobctl.proofs.input.read_script.Given as goal
 -- what was read so far is the front of what the reader had, no read failed, and each turn took a byte at least
 abbrev pub invariant-loop-turn : goal.invariant-loop-turn
 invariant-loop-turn g l = record {
-  taken : Consumes (g.R.Read.remaining (inner_of l.fn.reader)) (g.R.Read.remaining (inner_of l.reader)) l.bytes.items;
-  fits : length l.bytes.items ≤ 268435456;
+  taken : Consumes (g.R.Read.remaining (inner_of l.fn.reader)) (g.R.Read.remaining (inner_of l.reader)) l.script;
+  size : l.len ≡ length l.script;
+  fits : length l.script ≤ 268435456;
   unfailed : HasNotFailed l.fn.reader l.reader;
-  more : l._turn ≤ length l.bytes.items;
+  more : l._turn ≤ length l.script;
 }

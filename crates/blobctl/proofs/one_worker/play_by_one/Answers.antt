@@ -10,5 +10,5 @@ returns-clause-played c =
     let book = c.in_ok-book.book in
     let opened = c.in_ok-book.ensures.opened in
     let fresh : AreLow 0 book.slots = fresh_low book.slots store.slots _ opened.slots c.requires.within.first refl in
-    let few : length c.args.rows.now ≤ 65536 = c.requires.few in
-    run_happens (OpensCatalog (tenants_shown store.tenants.items) store.slots store.max_blob) c.play_on_book.result (λ p. p.0) (λ p. answers_of p.1.items) c.args.rows.now book opened.catalog fresh few c.play_on_book.ensures.played
+    let few : length c.args.rows ≤ 65536 = c.requires.few in
+    run_happens (OpensCatalog (tenants_shown store.tenants.items) store.slots store.max_blob) c.play_on_book.result (λ p. p.0) (λ p. answers_of p.1.items) c.args.rows book opened.catalog fresh few c.play_on_book.ensures.played

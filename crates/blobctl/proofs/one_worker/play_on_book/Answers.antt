@@ -7,4 +7,4 @@ use Rattle.blobctl.proofs.one_worker.play_on_book.Goals as goal
 pub returns-clause-played : goal.returns-clause-played
 returns-clause-played g c =
     let played = c.in_ok-replies.ensures.played in
-    (played.0, plays_through (λ pinned. pinned.book) (λ old request answer new. Acts old.book request answer new.book) Acts (λ old request answer new acts. acts) (_, none) (c.play.new.backend, played.0) c.args.rows.now (answers_of c.in_ok-replies.replies.items) played.1)
+    (played.0, plays_through (λ pinned. pinned.book) (λ old request answer new. Acts old.book request answer new.book) Acts (λ old request answer new acts. acts) (_, none) (c.play_script.new.backend, played.0) c.args.rows (answers_of c.in_ok-replies.replies.items) played.1)

@@ -6,4 +6,4 @@ use Rattle.blobctl.proofs.script.read_rows.Given as goal
 
 -- the records before this place are good, and their rows are kept
 abbrev pub invariant-loop-place : goal.invariant-loop-place
-invariant-loop-place l = (before : List Record) × IsAfter l.script before l.reader × AreGood before l.rows × (length before ≡ l.place)
+invariant-loop-place l = (before : List Record) × IsAfter l.fn.script before l.reader × AreGood before l.rows × (length before ≡ l.place)

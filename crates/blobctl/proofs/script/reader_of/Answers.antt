@@ -12,7 +12,7 @@ returns c =
       untrimmed = rw (f, e) at fr.trim ∙ c.new.ensures.trim;
       ready = inr (inr (rw (f, e) at fr.has_headers, fr.headers));
       config = rw (f, e) at fr.config ∙ c.new.ensures.config;
-      rest = strip_bom c.args.script.now;
+      rest = strip_bom c.args.script;
       source = fr.source;
       reached = (sym fr.state, refl);
     }
