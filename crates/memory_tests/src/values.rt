@@ -9,9 +9,9 @@ use link_table::Links;
 use oci_manifest::read;
 use pin_core::{Event, PinState, run, step};
 use pin_table::Pins;
-use row_player::{BorrowedRow, PackedRows, RowList, Verb, has_fields};
+use row_player::{BorrowedRow, PackedRows, RowList, ScriptRows, Verb, has_fields};
 use slot_table::SlotTable;
-use std::alloc::{AllocGlobal, Global};
+use std::alloc::{AllocError, AllocGlobal, Global};
 use std::io::Print;
 use store_book::{Book, Config};
 use upload_table::Uploads;
@@ -38,8 +38,9 @@ pub enum Make<'a> {
     Tenants,
     Book,
     Parts,
-    /// A row is packed, whose digest is this text.
+    /// A row is packed, whose digest is this text; and is added to a script's.
     Row(&'a [u8]),
+    ScriptRow(&'a [u8]),
 }
 
 /// What the calls are given.
@@ -75,21 +76,13 @@ fn came(found: Result<Option<PinState>, Refusal>, pins: u64) -> Answer {
     }
 }
 
-/// Whether a list has one row, with this digest.
-fn has_one(rows: &PackedRows, digest: &[u8]) -> bool {
-    rows.len() == 1 && rows.row(0).digest == digest
-}
-
-/// A row that leases a blob of this digest is the one of a list that had room for four bytes.
-fn packed(alloc: Global, digest: &[u8]) -> Answer {
+/// A row that leases a blob of this digest.
+fn lease_row(digest: &[u8]) -> Option<BorrowedRow<'_>> {
     let (verb, repo, key) = (Verb::Lease, b"acme/one".as_slice(), b"r".as_slice());
     if !has_fields(verb, repo, key, digest, &[], &[]) {
-        return Answer::Other;
+        return None;
     }
-    let Ok(mut rows) = PackedRows::with_room(alloc, 4) else {
-        return Answer::Memory;
-    };
-    let pushed = rows.push(&BorrowedRow {
+    Some(BorrowedRow {
         lane: 1,
         verb,
         repo,
@@ -97,12 +90,38 @@ fn packed(alloc: Global, digest: &[u8]) -> Answer {
         digest,
         range: &[],
         body: &[],
-    });
+    })
+}
+
+/// What adding a row of this digest to a list without rows came to.
+fn added<L: RowList>(pushed: Result<(), AllocError>, rows: &L, digest: &[u8]) -> Answer {
     match pushed {
-        Ok(()) => whether(has_one(&rows, digest)),
-        Err(_) if (&rows).len() == 0 => Answer::Memory,
+        Ok(()) => whether(rows.len() == 1 && rows.row(0).digest == digest),
+        Err(_) if rows.len() == 0 => Answer::Memory,
         Err(_) => Answer::Other,
     }
+}
+
+/// A row is the one of a list that had room for four bytes.
+fn packed(alloc: Global, digest: &[u8]) -> Answer {
+    let Some(row) = lease_row(digest) else {
+        return Answer::Other;
+    };
+    let Ok(mut rows) = PackedRows::with_room(alloc, 4) else {
+        return Answer::Memory;
+    };
+    let pushed = rows.push(&row);
+    added(pushed, &&rows, digest)
+}
+
+/// A row is the one of a script.
+fn in_script(alloc: Global, digest: &[u8]) -> Answer {
+    let Some(row) = lease_row(digest) else {
+        return Answer::Other;
+    };
+    let mut rows = ScriptRows::new(alloc);
+    let pushed = rows.push(alloc, &row);
+    added(pushed, &&rows, digest)
 }
 
 /// Whether something was made.
@@ -179,6 +198,7 @@ impl<'a> Calls for Values<'a> {
             Make::Event(event, pins) => came(step(&self.world, event), *pins),
             Make::Events(events, pins) => came(run(&self.world, events), *pins),
             Make::Row(digest) => packed(self.alloc, digest),
+            Make::ScriptRow(digest) => in_script(self.alloc, digest),
             other => self.table(other),
         }
     }
@@ -202,6 +222,7 @@ impl<'a> Make<'a> {
             Make::Book => "Book::new",
             Make::Parts => "Parts::new",
             Make::Row(_) => "PackedRows::push",
+            Make::ScriptRow(_) => "ScriptRows::push",
         }
     }
 }
@@ -249,6 +270,7 @@ pub fn play_values<R: Print + AllocGlobal>(rt: &R) -> Result<(), Stopped> {
         Make::Book,
         Make::Parts,
         Make::Row(b"sha256:ba7816bf8f01cfea414140de5dae2223b00361a396177a9cb410ff61f20015ad"),
+        Make::ScriptRow(b"sha256:ba7816bf8f01cfea414140de5dae2223b00361a396177a9cb410ff61f20015ad"),
     ];
     let mut values = Values {
         alloc,
