@@ -33,10 +33,16 @@ fn given(rt: &impl Abort, alloc: Global, tenants: &[(&str, u64)]) -> Vec<(String
     rows
 }
 
-pub fn opened(rt: &impl Abort, alloc: Global, tenants: &[(&str, u64)]) -> Links
+/// A table of these tenants, which has no links.
+fn unlinked(rt: &impl Abort, alloc: Global, tenants: &[(&str, u64)]) -> Links
     ensures sizes { (k : Link) (n : ℕ) → fmap.get result.links k ≡ Some n → n ≡ 3 }
     ensures empty { result.links ≡ fmap.empty }
 {
+    Links::new(alloc, given(rt, alloc, tenants)).expect(rt, "tenants")
+}
+
+/// A table of these tenants.
+pub fn opened(rt: &impl Abort, alloc: Global, tenants: &[(&str, u64)]) -> Links {
     Links::new(alloc, given(rt, alloc, tenants)).expect(rt, "tenants")
 }
 
@@ -51,7 +57,7 @@ fn hold(rt: &impl Abort, links: &mut Links, repo: &RepoName, digest: &Digest) ->
     links.link(tenant, repo, digest, SIZE).expect(rt, "memory")
 }
 
-/// Takes out a link that is there.
+/// Takes out a link that is there, and adds none.
 fn release(rt: &impl Abort, links: &mut Links, repo: &RepoName, digest: &Digest)
     ensures { (k : Link) (n : ℕ) → fmap.get links.new.links k ≡ Some n → fmap.get links.old.links k ≡ Some n }
 {
@@ -96,7 +102,7 @@ fn misses(
 #[test]
 fn the_first_unlinked_digest_is_named(rt: HostRuntime) {
     let alloc = rt.alloc();
-    let mut links = opened(&rt, alloc, &[("acme", 1000)]);
+    let mut links = unlinked(&rt, alloc, &[("acme", 1000)]);
     let one = name(&rt, alloc, "acme/one");
     let (abc, empty) = (digest(&rt, ABC), digest(&rt, EMPTY));
     misses(&rt, &links, &one, &[empty, abc], Some(empty));
@@ -138,12 +144,13 @@ fn charge(rt: &impl Abort, links: &mut Links, repo: &RepoName, n: u64) -> Result
 /// To charge the tenant of a repository ends so.
 fn charges(
     rt: &impl Abort,
+    alloc: Global,
     links: &mut Links,
-    repo: &RepoName,
+    repo: &str,
     n: u64,
     wanted: Result<(), Refusal>,
 ) {
-    assert_eq!(rt; charge(rt, links, repo, n), wanted);
+    assert_eq!(rt; charge(rt, links, &name(rt, alloc, repo), n), wanted);
 }
 
 /// Makes a repository known, and takes that back.
@@ -193,18 +200,21 @@ fn ends(rt: &impl Abort, alloc: Global, tenants: &[(&str, u64)], wanted: Option<
 #[test]
 fn lists_of_tenants_are_refused(rt: HostRuntime) {
     let alloc = rt.alloc();
-    for (name, quota, refusal) in [
-        ("acme", 1 << 50, None),
-        ("acme", (1 << 50) + 1, Some(Refusal::LimitReached)),
-        ("Acme", 1, Some(Refusal::NameInvalid)),
-        ("acme/one", 1, Some(Refusal::NameInvalid)),
-        ("Acme", (1 << 50) + 1, Some(Refusal::NameInvalid)),
-    ] {
-        ends(&rt, alloc, &[(name, quota)], refusal);
+    let rows: [(&[(&str, u64)], Option<Refusal>); 7] = [
+        (&[("acme", 1 << 50)], None),
+        (&[("acme", (1 << 50) + 1)], Some(Refusal::LimitReached)),
+        (&[("Acme", 1)], Some(Refusal::NameInvalid)),
+        (&[("acme/one", 1)], Some(Refusal::NameInvalid)),
+        (&[("Acme", (1 << 50) + 1)], Some(Refusal::NameInvalid)),
+        (&[], Some(Refusal::LimitReached)),
+        (
+            &[("acme", 1), ("zeta", 1), ("acme", 2)],
+            Some(Refusal::NameInvalid),
+        ),
+    ];
+    for (tenants, refusal) in rows {
+        ends(&rt, alloc, tenants, refusal);
     }
-    ends(&rt, alloc, &[], Some(Refusal::LimitReached));
-    let twice = [("acme", 1), ("zeta", 1), ("acme", 2)];
-    ends(&rt, alloc, &twice, Some(Refusal::NameInvalid));
 }
 
 /// So many tenants make a table, or are refused.
@@ -228,7 +238,7 @@ fn there_are_at_most_256_tenants(rt: HostRuntime) {
 #[test]
 fn a_blob_counts_once_for_each_tenant(rt: HostRuntime) {
     let alloc = rt.alloc();
-    let mut links = opened(&rt, alloc, &[("acme", 1000), ("other", 1000)]);
+    let mut links = unlinked(&rt, alloc, &[("acme", 1000), ("other", 1000)]);
     let abc = digest(&rt, ABC);
     for (step, repo, acme, other) in [
         (Step::New, "acme/one", 3, 0),
@@ -245,16 +255,31 @@ fn a_blob_counts_once_for_each_tenant(rt: HostRuntime) {
     }
 }
 
+/// A table of these tenants, in which one repository holds one blob.
+fn holding(
+    rt: &impl Abort,
+    alloc: Global,
+    tenants: &[(&str, u64)],
+    repo: &str,
+    blob: &str,
+) -> Links {
+    let mut links = unlinked(rt, alloc, tenants);
+    assert!(rt; hold(rt, &mut links, &name(rt, alloc, repo), &digest(rt, blob)));
+    links
+}
+
+/// Takes out a link that is there.
+fn releases(rt: &impl Abort, alloc: Global, links: &mut Links, repo: &str, blob: &str) {
+    release(rt, links, &name(rt, alloc, repo), &digest(rt, blob));
+}
+
 #[test]
 fn a_charge_stays_within_the_quota(rt: HostRuntime) {
     let alloc = rt.alloc();
-    let mut links = opened(&rt, alloc, &[("acme", 3)]);
-    let abc = digest(&rt, ABC);
-    let one = name(&rt, alloc, "acme/one");
-    assert!(rt; hold(&rt, &mut links, &one, &abc));
-    let full = Refusal::Quota { used: 3, quota: 3 };
-    charges(&rt, &mut links, &one, 1, Err(full));
-    release(&rt, &mut links, &one, &abc);
+    let mut links = holding(&rt, alloc, &[("acme", 3)], "acme/one", ABC);
+    let full = Err(Refusal::Quota { used: 3, quota: 3 });
+    charges(&rt, alloc, &mut links, "acme/one", 1, full);
+    releases(&rt, alloc, &mut links, "acme/one", ABC);
     for (n, wanted) in [
         (1, Ok(())),
         (3, Err(Refusal::Quota { used: 1, quota: 3 })),
@@ -262,7 +287,7 @@ fn a_charge_stays_within_the_quota(rt: HostRuntime) {
         (0, Ok(())),
         (1, Err(Refusal::Quota { used: 3, quota: 3 })),
     ] {
-        charges(&rt, &mut links, &one, n, wanted);
+        charges(&rt, alloc, &mut links, "acme/one", n, wanted);
     }
     uses(&rt, alloc, &links, "acme/one", 3);
 }
@@ -298,7 +323,7 @@ fn reads_repos(rt: &impl Abort, alloc: Global, links: &Links, tenant: u16, wante
 #[test]
 fn repositories_and_blobs_are_read_in_order(rt: HostRuntime) {
     let alloc = rt.alloc();
-    let mut links = opened(&rt, alloc, &[("acme", 1000), ("acme-x", 1000)]);
+    let mut links = unlinked(&rt, alloc, &[("acme", 1000), ("acme-x", 1000)]);
     for (repo, blob) in [
         ("acme/two", EMPTY),
         ("acme/two", ABC),
@@ -329,17 +354,11 @@ fn held(rt: &impl Abort, alloc: Global, links: &Links, repo: &str, blob: &str, w
     assert_eq!(rt; found, wanted);
 }
 
-/// A table of two tenants, in which one repository holds one blob.
-fn holding(rt: &impl Abort, alloc: Global, repo: &str, blob: &str) -> Links {
-    let mut links = opened(rt, alloc, &[("acme", 1000), ("other", 1000)]);
-    assert!(rt; hold(rt, &mut links, &name(rt, alloc, repo), &digest(rt, blob)));
-    links
-}
-
 #[test]
 fn a_blob_is_held_by_its_tenant_alone(rt: HostRuntime) {
     let alloc = rt.alloc();
-    let links = holding(&rt, alloc, "acme/one", ABC);
+    let tenants = [("acme", 1000), ("other", 1000)];
+    let links = holding(&rt, alloc, &tenants, "acme/one", ABC);
     for (repo, blob, wanted) in [
         ("acme/two", ABC, true),
         ("acme/one", EMPTY, false),
@@ -349,14 +368,19 @@ fn a_blob_is_held_by_its_tenant_alone(rt: HostRuntime) {
     }
 }
 
+/// Makes so many repositories of `acme` known, each named by its number.
+fn appear_numbered(rt: &impl Abort, alloc: Global, links: &mut Links, count: u32) {
+    for i in 0..count {
+        let text = format!(in alloc; "acme/{i}").expect(rt, "memory");
+        appears(rt, alloc, links, text.as_str(), Ok(true));
+    }
+}
+
 #[test]
 fn a_tenant_has_at_most_1024_repositories(rt: HostRuntime) {
     let alloc = rt.alloc();
     let mut links = opened(&rt, alloc, &[("acme", 1000), ("other", 1000)]);
-    for i in 0..1024u32 {
-        let text = format!(in alloc; "acme/{i}").expect(&rt, "memory");
-        appears(&rt, alloc, &mut links, text.as_str(), Ok(true));
-    }
+    appear_numbered(&rt, alloc, &mut links, 1024);
     for (repo, wanted) in [
         ("acme/5", Ok(false)),
         ("acme/x", Err(Refusal::LimitReached)),
@@ -368,7 +392,7 @@ fn a_tenant_has_at_most_1024_repositories(rt: HostRuntime) {
 
 /// A table of one tenant, in which a repository has come and gone.
 fn left(rt: &impl Abort, alloc: Global, repo: &str) -> Links {
-    let mut links = opened(rt, alloc, &[("acme", 1000)]);
+    let mut links = unlinked(rt, alloc, &[("acme", 1000)]);
     come_and_go(rt, &mut links, &name(rt, alloc, repo));
     links
 }

@@ -1,15 +1,13 @@
 ghost use Rattle.std.specs.Prelude.{◌<◌, length};
 
-use crate::test_keeper::{Lease, TestKeeper, digest_of, end, make, open};
+use crate::test_keeper::{Lease, TestKeeper, digest_of, end, give_all, leave_last, lend_to, open};
 use blob_digest::{Digest, Refusal};
-use pin_core::{Event, Phase};
+use pin_core::Phase;
 use pin_table::{Keeper, Pin, Pins, Reclaim, laws};
 use std::alloc::{AllocFailed, Global};
 use std::process::Abort;
 
 const ABC: &[u8] = b"abc";
-
-const OBJ: &[u8] = b"{}";
 
 /// What the making of so many slots is refused with.
 fn refusal_of_making(alloc: Global, slots: u32) -> Option<Refusal> {
@@ -40,26 +38,30 @@ fn the_number_of_slots_has_limits(rt: HostRuntime) {
     assert_eq!(rt; pins.look(&mut keeper, 65_535), 0x0000_0009_0000_0000);
 }
 
-/// These events happen in turn, and after each the slot's word is the one beside it.
-fn words_follow(
-    rt: &impl Abort,
-    alloc: Global,
-    keeper: &mut TestKeeper<'_>,
-    rows: &[(Event, u64)],
-) {
-    let mut leases = Vec::new(alloc);
-    for (event, word) in rows {
-        assert!(rt; make(keeper, &mut leases, *event));
-        word_is(rt, keeper, *word);
-    }
-    end(leases);
-}
-
-fn give(bytes: &[u8]) -> Event {
-    Event::Give {
-        slot: 0,
-        digest: digest_of(bytes),
-    }
+/// A call on a table of one slot, with what it has to answer, or a look at the slot. The leases are in a list.
+#[derive(Clone, Copy)]
+enum Step<'a> {
+    /// A free slot gets the digest of this text.
+    Give(&'a str),
+    /// A lend, whose lease goes to the list.
+    Lend,
+    LendMany(u32),
+    /// A lend that is refused so, or whose lease is given back at once.
+    TryLend(Option<Refusal>),
+    /// The last lease of the list is given back.
+    Leave,
+    LeaveAll,
+    Condemn,
+    Revive,
+    Reclaim(Reclaim),
+    /// The slot's word is this.
+    Word(u64),
+    /// The keeper's bound is this.
+    Bound(u32),
+    /// The list has so many leases.
+    Leases(usize),
+    /// The slot is in this phase and generation, and has the digest of this text.
+    Is(Phase, u32, Option<&'a str>),
 }
 
 fn slot_is(
@@ -67,60 +69,125 @@ fn slot_is(
     keeper: &TestKeeper<'_>,
     phase: Phase,
     generation: u32,
-    digest: Option<Digest>,
+    text: Option<&str>,
 ) {
     assert_eq!(rt; keeper.phase(), phase);
     assert_eq!(rt; keeper.generation(), generation);
-    assert_eq!(rt; keeper.digest(), digest);
+    match text {
+        Some(text) => assert_eq!(rt; keeper.digest(), Some(digest_of(text.as_bytes()))),
+        None => assert_eq!(rt; keeper.digest(), None),
+    }
 }
 
 fn word_is(rt: &impl Abort, keeper: &mut TestKeeper<'_>, wanted: u64) {
     assert_eq!(rt; keeper.word(), wanted);
 }
 
-#[test]
-fn the_words_of_one_slot(rt: HostRuntime) {
-    let alloc = rt.alloc();
-    let (pins, keeper) = Pins::new(alloc, 1, 0).expect(&rt, "memory");
-    let mut keeper = TestKeeper::new(&pins, keeper);
-    let rows = [
-        (Event::Look { slot: 0 }, 0x0000_0000_0000_0000),
-        (give(ABC), 0x0000_0000_8000_0000),
-        (Event::Lend { slot: 0, pin: 1 }, 0x0000_0000_8000_0400),
-        (Event::Lend { slot: 0, pin: 2 }, 0x0000_0000_8000_0800),
-        (Event::Leave { pin: 2 }, 0x0000_0000_8000_0400),
-        (Event::Condemn { slot: 0 }, 0x0000_0000_c000_0400),
-        (Event::Revive { slot: 0 }, 0x0000_0000_8000_0400),
-        (Event::Condemn { slot: 0 }, 0x0000_0000_c000_0400),
-        (Event::Leave { pin: 1 }, 0x0000_0000_c000_0000),
-        (Event::Reclaim { slot: 0 }, 0x0000_0001_0000_0000),
-        (give(OBJ), 0x0000_0001_8000_0000),
-    ];
-    words_follow(&rt, alloc, &mut keeper, &rows);
-    slot_is(&rt, &keeper, Phase::Live, 1, Some(digest_of(OBJ)));
-}
-
 fn reclaim_is(rt: &impl Abort, keeper: &mut TestKeeper<'_>, wanted: Reclaim) {
     assert_eq!(rt; keeper.reclaim(), Some(wanted));
 }
 
+/// What a lend of a live slot was refused with; a lease is given back.
+fn refusal_of(keeper: &mut TestKeeper<'_>) -> Option<Refusal> {
+    match keeper.lend()? {
+        Ok(lease) => {
+            lease.give_back();
+            None
+        }
+        Err(refusal) => Some(refusal),
+    }
+}
+
+fn refusal_is(rt: &impl Abort, keeper: &mut TestKeeper<'_>, wanted: &Option<Refusal>) {
+    assert_eq!(rt; refusal_of(keeper), *wanted);
+}
+
+fn goes<'s>(
+    rt: &impl Abort,
+    keeper: &mut TestKeeper<'s>,
+    leases: &mut Vec<Lease<'s>>,
+    step: &Step<'_>,
+) {
+    match step {
+        Step::Give(text) => assert!(rt; keeper.give(digest_of(text.as_bytes()))),
+        Step::Lend => assert!(rt; lend_to(keeper, leases)),
+        Step::LendMany(count) => {
+            for _ in 0..*count {
+                assert!(rt; lend_to(keeper, leases));
+            }
+        }
+        Step::TryLend(wanted) => refusal_is(rt, keeper, wanted),
+        Step::Leave => assert!(rt; leave_last(leases)),
+        Step::LeaveAll => give_all(leases),
+        Step::Condemn => assert!(rt; keeper.condemn()),
+        Step::Revive => assert!(rt; keeper.revive()),
+        Step::Reclaim(wanted) => reclaim_is(rt, keeper, *wanted),
+        Step::Word(wanted) => word_is(rt, keeper, *wanted),
+        Step::Bound(wanted) => assert_eq!(rt; keeper.bound(), *wanted),
+        Step::Leases(wanted) => assert_eq!(rt; leases.len(), *wanted),
+        Step::Is(phase, generation, text) => slot_is(rt, keeper, *phase, *generation, *text),
+    }
+}
+
+/// A table of one slot goes through these steps, from a free slot in this generation on.
+fn plays(rt: &impl Abort, alloc: Global, first_generation: u32, steps: &[Step<'_>]) {
+    let (pins, keeper) = Pins::new(alloc, 1, first_generation).expect(rt, "memory");
+    let mut keeper = TestKeeper::new(&pins, keeper);
+    let mut leases = Vec::new(alloc);
+    for step in steps {
+        goes(rt, &mut keeper, &mut leases, step);
+    }
+    end(leases);
+}
+
+#[test]
+fn the_words_of_one_slot(rt: HostRuntime) {
+    let steps = [
+        Step::Word(0x0000_0000_0000_0000),
+        Step::Give("abc"),
+        Step::Word(0x0000_0000_8000_0000),
+        Step::Lend,
+        Step::Word(0x0000_0000_8000_0400),
+        Step::Lend,
+        Step::Word(0x0000_0000_8000_0800),
+        Step::Leave,
+        Step::Word(0x0000_0000_8000_0400),
+        Step::Condemn,
+        Step::Word(0x0000_0000_c000_0400),
+        Step::Revive,
+        Step::Word(0x0000_0000_8000_0400),
+        Step::Condemn,
+        Step::Word(0x0000_0000_c000_0400),
+        Step::Leave,
+        Step::Word(0x0000_0000_c000_0000),
+        Step::Reclaim(Reclaim::Freed),
+        Step::Word(0x0000_0001_0000_0000),
+        Step::Give("{}"),
+        Step::Word(0x0000_0001_8000_0000),
+        Step::Is(Phase::Live, 1, Some("{}")),
+    ];
+    plays(&rt, rt.alloc(), 0, &steps);
+}
+
 #[test]
 fn a_held_slot_is_reclaimed_once_its_pin_has_left(rt: HostRuntime) {
-    let (pins, keeper) = Pins::new(rt.alloc(), 1, 0).expect(&rt, "memory");
-    let mut keeper = open(&pins, keeper);
-    word_is(&rt, &mut keeper, 0x0000_0000_8000_0000);
-    let lease = keeper.lend().expect(&rt, "a live slot").expect(&rt, "room");
-    word_is(&rt, &mut keeper, 0x0000_0000_8000_0400);
-    assert!(rt; keeper.condemn());
-    word_is(&rt, &mut keeper, 0x0000_0000_c000_0400);
-    reclaim_is(&rt, &mut keeper, Reclaim::Held { weight: 1024 });
-    word_is(&rt, &mut keeper, 0x0000_0000_c000_0400);
-    lease.give_back();
-    word_is(&rt, &mut keeper, 0x0000_0000_c000_0000);
-    reclaim_is(&rt, &mut keeper, Reclaim::Freed);
-    word_is(&rt, &mut keeper, 0x0000_0001_0000_0000);
-    assert!(rt; keeper.give(digest_of(OBJ)));
-    word_is(&rt, &mut keeper, 0x0000_0001_8000_0000);
+    let steps = [
+        Step::Give("abc"),
+        Step::Word(0x0000_0000_8000_0000),
+        Step::Lend,
+        Step::Word(0x0000_0000_8000_0400),
+        Step::Condemn,
+        Step::Word(0x0000_0000_c000_0400),
+        Step::Reclaim(Reclaim::Held { weight: 1024 }),
+        Step::Word(0x0000_0000_c000_0400),
+        Step::Leave,
+        Step::Word(0x0000_0000_c000_0000),
+        Step::Reclaim(Reclaim::Freed),
+        Step::Word(0x0000_0001_0000_0000),
+        Step::Give("{}"),
+        Step::Word(0x0000_0001_8000_0000),
+    ];
+    plays(&rt, rt.alloc(), 0, &steps);
 }
 
 #[test]
@@ -160,12 +227,14 @@ fn a_condemned_slot_is_revived_under_its_pin(rt: HostRuntime) {
 
 #[test]
 fn a_slot_that_was_never_lent_is_never_held(rt: HostRuntime) {
-    let (pins, keeper) = Pins::new(rt.alloc(), 1, u32::MAX).expect(&rt, "memory");
-    let mut keeper = open(&pins, keeper);
-    assert!(rt; keeper.condemn());
-    assert_eq!(rt; keeper.reclaim(), Some(Reclaim::Retired));
-    slot_is(&rt, &keeper, Phase::Retired, u32::MAX, None);
-    word_is(&rt, &mut keeper, 0xffff_ffff_4000_0000);
+    let steps = [
+        Step::Give("abc"),
+        Step::Condemn,
+        Step::Reclaim(Reclaim::Retired),
+        Step::Is(Phase::Retired, u32::MAX, None),
+        Step::Word(0xffff_ffff_4000_0000),
+    ];
+    plays(&rt, rt.alloc(), u32::MAX, &steps);
     laws::steps();
     laws::histories();
     laws::running_words();
@@ -173,36 +242,20 @@ fn a_slot_that_was_never_lent_is_never_held(rt: HostRuntime) {
 
 #[test]
 fn the_most_pins_of_a_slot(rt: HostRuntime) {
-    let alloc = rt.alloc();
-    let (pins, keeper) = Pins::new(alloc, 1, 0).expect(&rt, "memory");
-    let mut keeper = open(&pins, keeper);
-    let mut leases = keeper.lend_many(alloc, 1_048_575);
-    assert_eq!(rt; leases.len(), 1_048_575);
-    word_is(&rt, &mut keeper, 0x0000_0000_bfff_fc00);
-    refusal_is(&rt, &mut keeper, Some(Refusal::TooManyReaders));
-    assert_eq!(rt; keeper.bound(), 0x3fff_fc00);
-    if let Some(lease) = leases.pop() {
-        lease.give_back();
-    }
-    refusal_is(&rt, &mut keeper, None);
-    word_is(&rt, &mut keeper, 0x0000_0000_bfff_f800);
-    end(leases);
-    word_is(&rt, &mut keeper, 0x0000_0000_8000_0000);
-}
-
-/// What a lend of a live slot was refused with; a lease is given back.
-fn refusal_of(keeper: &mut TestKeeper<'_>) -> Option<Refusal> {
-    match keeper.lend()? {
-        Ok(lease) => {
-            lease.give_back();
-            None
-        }
-        Err(refusal) => Some(refusal),
-    }
-}
-
-fn refusal_is(rt: &impl Abort, keeper: &mut TestKeeper<'_>, wanted: Option<Refusal>) {
-    assert_eq!(rt; refusal_of(keeper), wanted);
+    let steps = [
+        Step::Give("abc"),
+        Step::LendMany(1_048_575),
+        Step::Leases(1_048_575),
+        Step::Word(0x0000_0000_bfff_fc00),
+        Step::TryLend(Some(Refusal::TooManyReaders)),
+        Step::Bound(0x3fff_fc00),
+        Step::Leave,
+        Step::TryLend(None),
+        Step::Word(0x0000_0000_bfff_f800),
+        Step::LeaveAll,
+        Step::Word(0x0000_0000_8000_0000),
+    ];
+    plays(&rt, rt.alloc(), 0, &steps);
 }
 
 /// The first of the pair is shared on, as often as may be; the others go to the list. How often,

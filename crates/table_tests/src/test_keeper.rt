@@ -3,7 +3,7 @@
 ghost use Rattle.std.specs.Prelude.{◌≡◌, length, vec_len};
 
 use blob_digest::{Algorithm, Digest, Refusal};
-use pin_core::{Event, Phase};
+use pin_core::Phase;
 use pin_table::{Keeper, Pin, Pins, Reclaim};
 use std::alloc::{AllocFailed, Global};
 
@@ -165,7 +165,7 @@ impl<'s> TestKeeper<'s> {
 }
 
 /// Whether the slot was lent; the lease goes to the list.
-fn lend_to<'s>(keeper: &mut TestKeeper<'s>, leases: &mut Vec<Lease<'s>>) -> bool {
+pub fn lend_to<'s>(keeper: &mut TestKeeper<'s>, leases: &mut Vec<Lease<'s>>) -> bool {
     let Some(Ok(lease)) = keeper.lend() else {
         return false;
     };
@@ -178,26 +178,12 @@ fn lend_to<'s>(keeper: &mut TestKeeper<'s>, leases: &mut Vec<Lease<'s>>) -> bool
 }
 
 /// Whether there was a lease, of which the last is given back.
-fn leave_last(leases: &mut Vec<Lease<'_>>) -> bool {
+pub fn leave_last(leases: &mut Vec<Lease<'_>>) -> bool {
     let Some(lease) = leases.pop() else {
         return false;
     };
     lease.give_back();
     true
-}
-
-/// Whether the event of the slot was made; a lend and a leave are of the list's last lease.
-pub fn make<'s>(keeper: &mut TestKeeper<'s>, leases: &mut Vec<Lease<'s>>, event: Event) -> bool {
-    match event {
-        Event::Give { slot: _, digest } => keeper.give(digest),
-        Event::Lend { slot: _, pin: _ } => lend_to(keeper, leases),
-        Event::Leave { pin: _ } => leave_last(leases),
-        Event::Condemn { slot: _ } => keeper.condemn(),
-        Event::Revive { slot: _ } => keeper.revive(),
-        Event::Reclaim { slot: _ } => keeper.reclaim() == Some(Reclaim::Freed),
-        Event::Look { slot: _ } => true,
-        Event::Share { pin: _, second: _ } | Event::Verify { pin: _ } => false,
-    }
 }
 
 /// The digest of some bytes.

@@ -31,7 +31,7 @@ impl Model for Table {
 }
 
 /// What follows once a session has been sealed.
-#[derive(Drop)]
+#[derive(Clone, Copy)]
 enum Then {
     Forget,
     Reopen,
@@ -87,6 +87,19 @@ impl Table {
         let _ = self.uploads.received_home(0, repo, number)?;
         self.uploads.remove(0, number);
         Ok(())
+    }
+
+    /// What session 1 of a tenant has received for a repository, if it is at home.
+    fn received(&self, tenant: u16, repo: &RepoName) -> Result<u64, Refusal> {
+        self.uploads.received_home(tenant, repo, 1)
+    }
+
+    /// What a tenant's sessions count, and its next number; none where there is no such tenant.
+    fn counts(&self, tenant: u16) -> Option<(u64, u64)> {
+        if tenant > 1 {
+            return None;
+        }
+        Some((self.uploads.total(tenant), self.uploads.next(tenant)))
     }
 
     fn next(&self) -> u64 {
@@ -269,10 +282,8 @@ fn comes_to(
     total: u64,
     next: u64,
 ) {
-    assert!(rt; tenant < 2);
-    assert_eq!(rt; table.uploads.received_home(tenant, repo, 1), received);
-    assert_eq!(rt; table.uploads.total(tenant), total);
-    assert_eq!(rt; table.uploads.next(tenant), next);
+    assert_eq!(rt; table.received(tenant, repo), received);
+    assert_eq!(rt; table.counts(tenant), Some((total, next)));
 }
 
 #[test]
@@ -360,13 +371,19 @@ fn chunks_come_in_order(rt: HostRuntime) {
     is_gone(&rt, &table, &repo, 0);
 }
 
+/// A table whose session 1, of this repository, has received `ab`.
+fn with_ab(rt: &impl Abort, alloc: Global, repo: &RepoName) -> Table {
+    let mut table = opened(rt, alloc, 1);
+    starts(rt, &mut table, repo, Ok(1));
+    appends(rt, &mut table, repo, 1, b"ab");
+    table
+}
+
 #[test]
 fn a_session_in_hand_is_busy(rt: HostRuntime) {
     let alloc = rt.alloc();
     let repo = name(&rt, alloc, b"acme/one");
-    let mut table = opened(&rt, alloc, 1);
-    starts(&rt, &mut table, &repo, Ok(1));
-    appends(&rt, &mut table, &repo, 1, b"ab");
+    let mut table = with_ab(&rt, alloc, &repo);
     let hand = takes(&rt, &mut table, &repo, 1, 2);
     assert_eq!(rt; (hand.tenant(), hand.number()), (0, 1));
     assert_eq!(rt;
@@ -386,9 +403,7 @@ fn a_session_in_hand_is_busy(rt: HostRuntime) {
 fn a_hand_that_is_not_filled_leaves_no_reserve(rt: HostRuntime) {
     let alloc = rt.alloc();
     let repo = name(&rt, alloc, b"acme/one");
-    let mut table = opened(&rt, alloc, 1);
-    starts(&rt, &mut table, &repo, Ok(1));
-    appends(&rt, &mut table, &repo, 1, b"ab");
+    let mut table = with_ab(&rt, alloc, &repo);
     let hand = takes(&rt, &mut table, &repo, 1, 3);
     shows(&rt, &table, &repo, Ok(2), Err(Refusal::Busy), 5);
     puts_back(&rt, &mut table, hand, Ok(2));
@@ -419,9 +434,7 @@ fn an_unknown_hand_changes_nothing(rt: HostRuntime) {
 fn a_session_is_sealed_opened_again_and_forgotten(rt: HostRuntime) {
     let alloc = rt.alloc();
     let repo = name(&rt, alloc, b"acme/one");
-    let mut table = opened(&rt, alloc, 1);
-    starts(&rt, &mut table, &repo, Ok(1));
-    appends(&rt, &mut table, &repo, 1, b"ab");
+    let mut table = with_ab(&rt, alloc, &repo);
     let other = Err(Refusal::DigestInvalid);
     closes(&rt, &mut table, &repo, OBJ, Then::Forget, other);
     shows(&rt, &table, &repo, Ok(2), Ok(2), 2);
@@ -435,9 +448,7 @@ fn a_session_is_sealed_opened_again_and_forgotten(rt: HostRuntime) {
 fn a_last_chunk_is_hashed_by_one_algorithm(rt: HostRuntime) {
     let alloc = rt.alloc();
     let repo = name(&rt, alloc, b"acme/one");
-    let mut table = opened(&rt, alloc, 1);
-    starts(&rt, &mut table, &repo, Ok(1));
-    appends(&rt, &mut table, &repo, 1, b"ab");
+    let mut table = with_ab(&rt, alloc, &repo);
     for (algorithm, text, wanted) in [
         (Algorithm::Sha256, ABC, Ok(3)),
         (Algorithm::Sha512, ABC_512, Ok(3)),
