@@ -12,7 +12,7 @@ use crate::store::Store;
 use crate::workers::{Job, Outcome, WorkersDone, play_all};
 use blob_digest::Refusal;
 use locked_book::{Desk, DroppableDesk, LockedBook, Naming, Settled};
-use row_player::{Gate, Reply, RowList, Worker, in_row_order};
+use row_player::{Gate, Reply, RowList, Worker, count_by_worker, in_row_order};
 use std::alloc::Global;
 use std::sync::Wait;
 use std::sync::atomic::AtomicBool;
@@ -59,10 +59,10 @@ fn lists_for<L: RowList>(
     ensures room { IfOk result (λ v. AllAt (λ w l. (l.items ≡ []) × (length (own_rows workers w (L.lines rows.now)) ≤ vec_capacity l)) v.items) }
     ensures refused { IfErr result (λ e. e ≡ Memory) }
 {
+    let counts = count_by_worker(alloc, rows, workers)?;
     let mut lists = Vec::with_capacity(alloc, workers)?;
     for number in 0..workers {
-        let worker = Worker { workers, number };
-        lists.push_reserved(worker.room(alloc, rows)?);
+        lists.push_reserved(Vec::with_capacity(alloc, counts[number])?);
     }
     Ok(lists)
 }

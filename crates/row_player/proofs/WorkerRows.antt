@@ -1,8 +1,11 @@
 -- The rows of a worker.
-use Rattle.std.proofs.Common.{◌≡◌, ◌<◌, ◌≤◌, ◌+◌, ◌%◌, ◌∙◌, ◌++◌, ◌∷◌, [], ℕ, List, true, false, cond, ap, arith, drop, length, length-append, refl, sym, take}
+use Rattle.std.proofs.Common.{◌≡◌, ◌<◌, ◌≤◌, ◌+◌, ◌%◌, ◌∙◌, ◌++◌, ◌∷◌, [], ℕ, List, true, false, cond, ap, arith, drop, get_or, inl, inr, length, length-append, not, refl, set, sym, take}
 use Rattle.std.proofs.lemmas.Bool.{eq-eqb}
-use Rattle.std.proofs.lemmas.List.{append-nil, take-append-drop}
+use Rattle.std.proofs.lemmas.Bool.Decides.{eqb_tells}
+use Rattle.std.proofs.lemmas.Grind.{get_or-set_at}
+use Rattle.std.proofs.lemmas.List.{append-nil, get_or-set_other, get_or_default, take-append-drop}
 use Rattle.std.proofs.lemmas.List.Elements.{filter-append}
+use Rattle.std.proofs.lemmas.List.Filters.{length-filter_both}
 use Rattle.std.proofs.lemmas.Nat.{mod_below}
 use Rattle.row_player.specs.RowViews.{IsRowAt}
 use Rattle.row_player.specs.Rows.{RowView}
@@ -37,3 +40,24 @@ own_within n w rows i =
     let back = drop i rows in
     let both : length (own_rows n w rows) ≡ length (own_rows n w front) + length (own_rows n w back) = ap (λ ls. length (own_rows n w ls)) (sym (take-append-drop i rows)) ∙ ap length (filter-append (is_own n w) front back) ∙ length-append (own_rows n w front) (own_rows n w back) in
     omega (arith, both)
+
+-- a worker has no more rows than there are
+pub own_few : (n w : ℕ) (rows : List RowView) → length (own_rows n w rows) ≤ length rows
+own_few n w rows = let both = length-filter_both (is_own n w) (λ row. not (is_own n w row)) (λ row. refl) rows in omega (arith, both)
+
+-- a list has one row at a place
+pub same_row : (rows : List RowView) (i : ℕ) (a b : RowView) → i < length rows → IsRowAt rows i a → IsRowAt rows i b → a ≡ b
+same_row rows i a b within at_a at_b = at_a ∙ get_or_default rows i a b within ∙ sym at_b
+
+-- the counts of the workers' rows so far, and of one more, which its lane's worker has
+pub counts_more : (n : ℕ) (counts : List ℕ) (rows : List RowView) (i : ℕ) (row : RowView) → i < length rows → IsRowAt rows i row → row.lane % n < length counts → ((w : ℕ) → w < n → get_or counts w 0 ≡ length (own_rows n w (take i rows)))
+    → (w : ℕ) → w < n → get_or (set counts (row.lane % n) (get_or counts (row.lane % n) 0 + 1)) w 0 ≡ length (own_rows n w (take (i + 1) rows))
+counts_more n counts rows i row within is there counted w less =
+    let k = row.lane % n in
+    let more = get_or counts k 0 + 1 in
+    elim (eqb_tells k w) [
+      | inl own ↦
+          let size = ap length (own_more n w rows i row within is own.0) ∙ length-append (own_rows n w (take i rows)) (row ∷ []) in
+          get_or-set_at counts k w more 0 (sym own.1) there ∙ ap (λ j. get_or counts j 0 + 1) own.1 ∙ ap (λ m. m + 1) (counted w less) ∙ sym size
+      | inr other ↦ get_or-set_other counts k w more 0 (λ e. other.1 (sym e)) ∙ counted w less ∙ ap length (sym (own_less n w rows i row within is other.0))
+    ]

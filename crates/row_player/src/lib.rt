@@ -44,4 +44,4 @@ pub use reply::{Reply, mount_reply};
 pub use row::{BorrowedRow, Row, Verb};
 pub use row_list::RowList;
 pub use script_rows::ScriptRows;
-pub use worker::Worker;
+pub use worker::{Worker, count_by_worker};

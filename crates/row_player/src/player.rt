@@ -174,7 +174,8 @@ fn play_next<B: Backend, G: Gate>(
 }
 
 /// Plays a worker's rows in their order with the leases that its lanes hold, and adds one reply for each to those
-/// before. It ends at the first out of memory.
+/// before. It ends at the first out of memory. A row is asked for again where it is played: of another worker's row no
+/// field is looked up.
 fn play_own<B: Backend, G: Gate, L: RowList>(
     alloc: Global,
     backend: &mut B,
@@ -191,16 +192,23 @@ fn play_own<B: Backend, G: Gate, L: RowList>(
     ensures refused { IfErr result (λ e. e ≡ Refusal.Memory) }
 {
     for place in 0..rows.len() {
-        let row = rows.row(place);
-        if worker.plays(&row) {
-            play_next(alloc, backend, leases, gate, place, &row, replies)?;
+        if worker.plays(&rows.row(place)) {
+            play_next(
+                alloc,
+                backend,
+                leases,
+                gate,
+                place,
+                &rows.row(place),
+                replies,
+            )?;
         }
     }
     Ok(())
 }
 
 /// Plays a worker's rows in their order, and answers one reply for each, in the list that is given, which has room for
-/// them (`Worker::room`). The gate is asked before and after each row. It ends at the first out of memory; the rows
+/// them. The gate is asked before and after each row. It ends at the first out of memory; the rows
 /// that were accepted before it stand. The leases that the worker's lanes still hold at the end are given back.
 pub fn play_rows<B: Backend, G: Gate, L: RowList>(
     alloc: Global,
@@ -242,7 +250,7 @@ pub fn play<B: Backend, L: RowList>(
     ensures refused { IfErr result (λ e. e ≡ Refusal.Memory) }
 {
     let worker = Worker::alone();
-    let replies = worker.room(alloc, &rows)?;
+    let replies = Vec::with_capacity(alloc, rows.len())?;
     play_rows(alloc, backend, &OpenGate, &rows, worker, replies)
 }
 
@@ -283,7 +291,7 @@ pub fn play_script<B: Backend>(
     ensures played { IfOk result (λ replies. (left : LeasesView) × Plays B.acts (backend.old, none) rows (answers_of replies.items) (backend.new, left)) }
     ensures refused { IfErr result (λ e. e ≡ Refusal.Memory) }
 {
-    let mut replies = Worker::alone().room(alloc, &&rows)?;
+    let mut replies = Vec::with_capacity(alloc, (&rows).len())?;
     let mut leases = Leases::new(alloc);
     let played = play_lists(alloc, backend, &mut leases, rows.into_lists(), &mut replies);
     leases.end();

@@ -1,9 +1,8 @@
 //! Which rows a worker plays.
-ghost use Rattle.std.specs.Prelude.{◌≡◌, ◌≤◌, ◌<◌, [], IfErr, IfOk, length, vec_capacity};
+ghost use Rattle.std.specs.Prelude.{ℕ, ◌≡◌, ◌<◌, IfErr, IfOk, get_or, length, vec_len};
 ghost use Rattle.row_player.specs.RowViews.{borrowed_view};
 ghost use Rattle.row_player.specs.Shares.{is_own, own_rows};
 
-use crate::reply::Reply;
 use crate::row::BorrowedRow;
 use crate::row_list::RowList;
 use blob_digest::Refusal;
@@ -38,27 +37,24 @@ impl Worker {
     {
         row.lane as usize % self.workers == self.number
     }
+}
 
-    /// How many of the rows are this worker's.
-    pub fn count<L: RowList>(&self, rows: &L) -> usize
-        ensures { result ≡ length (own_rows self.now.workers self.now.number (L.lines rows.now)) }
-    {
-        let mut count = 0;
-        for place in 0..rows.len() {
-            if self.plays(&rows.row(place)) {
-                count += 1;
-            }
-        }
-        count
+/// How many of the rows are each worker's, in the order of the workers' numbers. It goes over the rows once. Refused with
+/// `Memory` alone.
+pub fn count_by_worker<L: RowList>(
+    alloc: Global,
+    rows: &L,
+    workers: usize,
+) -> Result<Vec<usize>, Refusal>
+    requires { 0 < workers }
+    ensures len { IfOk result (λ v. vec_len v ≡ workers) }
+    ensures counts { IfOk result (λ v. (w : ℕ) → w < workers → get_or v.items w 0 ≡ length (own_rows workers w (L.lines rows.now))) }
+    ensures refused { IfErr result (λ e. e ≡ Refusal.Memory) }
+{
+    let mut counts = Vec::from_elem(alloc, 0usize, workers)?;
+    for place in 0..rows.len() {
+        let worker = rows.row(place).lane as usize % workers;
+        counts[worker] += 1;
     }
-
-    /// A list without replies that has room for those of this worker's rows. Refused with `Memory` alone.
-    pub fn room<L: RowList>(&self, alloc: Global, rows: &L) -> Result<Vec<Reply>, Refusal>
-        ensures empty { IfOk result (λ v. v.items ≡ []) }
-        ensures room { IfOk result (λ v. length (own_rows self.now.workers self.now.number (L.lines rows.now)) ≤ vec_capacity v) }
-        ensures refused { IfErr result (λ e. e ≡ Refusal.Memory) }
-    {
-        let replies = Vec::with_capacity(alloc, self.count(rows))?;
-        Ok(replies)
-    }
+    Ok(counts)
 }

@@ -4,7 +4,7 @@ use Rattle.row_player.specs.Answers.{answer_of, answers_of}
 use Rattle.row_player.specs.RowViews.{borrowed_view}
 use Rattle.row_player.specs.Shares.{is_own, own_rows}
 use Rattle.row_player.proofs.PlayedRows.{one_more}
-use Rattle.row_player.proofs.WorkerRows.{own_less, own_more, own_within}
+use Rattle.row_player.proofs.WorkerRows.{own_less, own_more, own_within, same_row}
 use Rattle.row_player.proofs.player.play_own.Goals as goal
 use Rattle.row_player.proofs.player.play_own.Goals.{then-plays+in_ok-play_next, else-plays}
 
@@ -12,22 +12,24 @@ pub loop-place-preserved : goal.loop-place-preserved
 loop-place-preserved g c =
     let n = c.args.worker.workers in
     let k = c.args.worker.number in
-    let row = borrowed_view c.row-row.result in
+    let row = borrowed_view c.row.result in
     let rows = g.L.RowList.lines c.args.rows.now in
     let place = c.loop-place.place in
     let inv = c.loop-place.invariant in
     let within : place < length rows = rw (← c.len-place-end.ensures) c.loop-place-test.true in
-    let at = c.row-row.ensures in
+    let at = c.row.ensures in
     let so_far = own_rows n k (take place rows) in
     let before = answers_of c.args.replies.now.items in
     elim c.if-plays.branch [
       | then-plays+in_ok-play_next w ↦
-          let own : is_own n k row ≡ true = sym c.plays.ensures ∙ w.if-plays.true in
+          let played = borrowed_view w.row-then-plays.result in
+          let same = same_row rows place row played within at w.row-then-plays.ensures in
+          let own : is_own n k played ≡ true = ap (is_own n k) (sym same) ∙ sym c.plays.ensures ∙ w.if-plays.true in
           let next = w.in_ok-play_next.ensures.played in
-          let more = own_more n k rows place row within at own in
-          let all = one_more g.B.Backend.acts (c.args.backend.now, c.args.leases.now) (c.loop-place.backend, c.loop-place.leases) (w.play_next.new.backend, w.play_next.new.leases) before (answers_of c.loop-place.replies.items) so_far row (answer_of next.0) inv.played next.3 next.2 in
+          let more = own_more n k rows place played within w.row-then-plays.ensures own in
+          let all = one_more g.B.Backend.acts (c.args.backend.now, c.args.leases.now) (c.loop-place.backend, c.loop-place.leases) (w.play_next.new.backend, w.play_next.new.leases) before (answers_of c.loop-place.replies.items) so_far played (answer_of next.0) inv.played next.3 next.2 in
           let size = ap length next.1 ∙ length-append c.loop-place.replies.items (next.0 ∷ []) in
-          let own_size = ap length more ∙ length-append so_far (row ∷ []) in
+          let own_size = ap length more ∙ length-append so_far (played ∷ []) in
           let count = inv.count in
           record {
             played = rw (w.backend-is, w.leases-is, w.replies-is, next.1, map-append answer_of c.loop-place.replies.items (next.0 ∷ []), more) all;
@@ -47,14 +49,14 @@ pub play_next-requires : goal.play_next-requires
 play_next-requires g c =
     let n = c.args.worker.workers in
     let k = c.args.worker.number in
-    let row = borrowed_view c.row-row.result in
+    let row = borrowed_view c.row.result in
     let rows = g.L.RowList.lines c.args.rows.now in
     let place = c.loop-place.place in
     let fits : place < length rows = rw (← c.len-place-end.ensures) c.loop-place-test.true in
     let inv = c.loop-place.invariant in
     let own : is_own n k row ≡ true = sym c.plays.ensures ∙ c.if-plays.true in
     let count = inv.count in
-    let one = ap length (own_more n k rows place row fits c.row-row.ensures own) ∙ length-append (own_rows n k (take place rows)) (row ∷ []) in
+    let one = ap length (own_more n k rows place row fits c.row.ensures own) ∙ length-append (own_rows n k (take place rows)) (row ∷ []) in
     let within = own_within n k rows (place + 1) in
     let room = inv.room in
     let most = c.requires.room in
