@@ -12,8 +12,9 @@ use crate::store::Store;
 use crate::workers::{Job, Outcome, WorkersDone, play_all};
 use blob_digest::Refusal;
 use locked_book::{Desk, DroppableDesk, LockedBook, Naming, Settled};
-use row_player::{Gate, Reply, RowList, Worker, count_by_worker, in_row_order};
+use row_player::{Gate, RepliesByRow, Reply, RowList, Worker, count_by_worker};
 use std::alloc::Global;
+use std::collections::VecDeque;
 use std::sync::Wait;
 use std::sync::atomic::AtomicBool;
 use std::thread::Threads;
@@ -32,18 +33,18 @@ pub struct Played {
 
 /// What playing a script to the end of its store answers.
 #[derive(Drop)]
-pub struct PlayedToEnd<S: Naming> {
+pub struct PlayedToEnd<S: Naming, L: RowList> {
     /// One reply for each row, in the order of the rows.
-    pub replies: Vec<Reply>,
+    pub replies: RepliesByRow<L>,
     /// The book that is left.
     pub book: LockedBook<S>,
 }
 
-/// Room for what workers begin and end with, and for all replies.
+/// Room for what workers begin and end with.
 #[derive(Drop)]
 struct Room<S: Naming> {
     lists: Vec<Vec<Reply>>,
-    merged: Vec<Reply>,
+    queues: Vec<VecDeque<Reply>>,
     jobs: Vec<Job<S>>,
     done: WorkersDone<S>,
 }
@@ -55,7 +56,7 @@ fn lists_for<L: RowList>(
     workers: usize,
 ) -> Result<Vec<Vec<Reply>>, Refusal>
     requires { 0 < workers }
-    ensures len { IfOk result (λ v. (vec_len v ≡ workers) × (workers ≤ vec_capacity v)) }
+    ensures len { IfOk result (λ v. vec_len v ≡ workers) }
     ensures room { IfOk result (λ v. AllAt (λ w l. (l.items ≡ []) × (length (own_rows workers w (L.lines rows.now)) ≤ vec_capacity l)) v.items) }
     ensures refused { IfErr result (λ e. e ≡ Memory) }
 {
@@ -74,15 +75,15 @@ fn room_for<S: Naming, L: RowList>(
     workers: usize,
 ) -> Result<Room<S>, Refusal>
     requires { 0 < workers }
-    ensures lists { IfOk result (λ r. (vec_len r.lists ≡ workers) × (workers ≤ vec_capacity r.lists) × AllAt (λ w l. (l.items ≡ []) × (length (own_rows workers w (L.lines rows.now)) ≤ vec_capacity l)) r.lists.items) }
-    ensures merged { IfOk result (λ r. (vec_len r.merged ≡ 0) × (length (L.lines rows.now) ≤ vec_capacity r.merged)) }
+    ensures lists { IfOk result (λ r. (vec_len r.lists ≡ workers) × AllAt (λ w l. (l.items ≡ []) × (length (own_rows workers w (L.lines rows.now)) ≤ vec_capacity l)) r.lists.items) }
+    ensures queues { IfOk result (λ r. (vec_len r.queues ≡ 0) × (workers ≤ vec_capacity r.queues)) }
     ensures jobs { IfOk result (λ r. (vec_len r.jobs ≡ 0) × (workers ≤ vec_capacity r.jobs)) }
     ensures done { IfOk result (λ r. (vec_len r.done.outcomes ≡ 0) × (workers ≤ vec_capacity r.done.outcomes) × (vec_len r.done.unstarted ≡ 0) × (workers ≤ vec_capacity r.done.unstarted)) }
     ensures refused { IfErr result (λ e. e ≡ Memory) }
 {
     Ok(Room {
         lists: lists_for(alloc, rows, workers)?,
-        merged: Vec::with_capacity(alloc, rows.len())?,
+        queues: Vec::with_capacity(alloc, workers)?,
         jobs: Vec::with_capacity(alloc, workers)?,
         done: WorkersDone {
             outcomes: Vec::with_capacity(alloc, workers)?,
@@ -91,20 +92,19 @@ fn room_for<S: Naming, L: RowList>(
     })
 }
 
-/// The jobs of all workers, the last one first: each has a desk and room for its replies. The two vectors that
-/// these come from are left empty, with the room that they had.
+/// The jobs of all workers, the last one first: each has a desk and room for its replies. The desks' vector is left
+/// empty, with the room that it had.
 fn jobs_of<S: Naming, L: RowList>(
     rows: &L,
     desks: &mut Vec<Desk<S>>,
-    lists: &mut Vec<Vec<Reply>>,
+    mut lists: Vec<Vec<Reply>>,
     mut jobs: Vec<Job<S>>,
 ) -> Vec<Job<S>>
     requires fresh { AreFresh desks.old.items }
-    requires lists { (vec_len lists.old ≡ vec_len desks.old) × AllAt (λ w l. (l.items ≡ []) × (length (own_rows (vec_len desks.old) w (L.lines rows.now)) ≤ vec_capacity l)) lists.old.items }
+    requires lists { (vec_len lists ≡ vec_len desks.old) × AllAt (λ w l. (l.items ≡ []) × (length (own_rows (vec_len desks.old) w (L.lines rows.now)) ≤ vec_capacity l)) lists.items }
     requires room { (vec_len jobs ≡ 0) × (vec_len desks.old ≤ vec_capacity jobs) }
     ensures len { vec_len result ≡ vec_len desks.old }
     ensures desks { (vec_len desks.new ≡ 0) × (vec_capacity desks.new ≡ vec_capacity desks.old) }
-    ensures emptied { (vec_len lists.new ≡ 0) × (vec_capacity lists.new ≡ vec_capacity lists.old) }
     ensures ready { AllAt (λ k j. IsWorkerAt (vec_len desks.old) k j.worker.workers j.worker.number × IsReady (vec_len desks.old) j.worker.number (L.lines rows.now) j.desk j.replies.items (vec_capacity j.replies)) result.items }
 {
     let workers = desks.len();
@@ -129,13 +129,13 @@ fn collect<S: Naming, L: RowList>(
     workers: usize,
     mut outcomes: Vec<Outcome<S>>,
     desks: &mut Vec<Desk<S>>,
-    lists: &mut Vec<Vec<Reply>>,
+    queues: &mut Vec<VecDeque<Reply>>,
 ) -> bool
     requires each { AllAt (λ k o. (w : ℕ) → w + k + 1 ≡ vec_len outcomes → o.completed ≡ true → HasPlayed S.names.opening workers w (L.lines rows.now) o.desk (answers_of o.replies.items)) outcomes.items }
-    requires room { (vec_len desks.old ≡ 0) × (vec_len outcomes ≤ vec_capacity desks.old) × (vec_len lists.old ≡ 0) × (vec_len outcomes ≤ vec_capacity lists.old) }
-    ensures len { (vec_len desks.new ≡ vec_len outcomes) × (vec_len lists.new ≡ vec_len outcomes) }
+    requires room { (vec_len desks.old ≡ 0) × (vec_len outcomes ≤ vec_capacity desks.old) × (vec_len queues.old ≡ 0) × (vec_len outcomes ≤ vec_capacity queues.old) }
+    ensures len { (vec_len desks.new ≡ vec_len outcomes) × (vec_len queues.new ≡ vec_len outcomes) }
     ensures capacity { vec_capacity desks.new ≡ vec_capacity desks.old }
-    ensures played { result ≡ true → ArePlayed S.names.opening workers (L.lines rows.now) desks.new.items (map (λ v. answers_of v.items) lists.new.items) }
+    ensures played { result ≡ true → ArePlayed S.names.opening workers (L.lines rows.now) desks.new.items (map (λ q. answers_of q.items) queues.new.items) }
 {
     let mut completed = true;
     while let Some(outcome) = outcomes.pop() {
@@ -145,7 +145,7 @@ fn collect<S: Naming, L: RowList>(
             completed: ended,
         } = outcome;
         desks.push_reserved(desk.into_desk());
-        lists.push_reserved(replies);
+        queues.push_reserved(VecDeque::from(replies));
         completed &= ended;
     }
     completed
@@ -176,32 +176,32 @@ fn play_at<
     gate: &G,
     room: Room<S>,
     desks: &mut Vec<Desk<S>>,
-) -> Option<Vec<Reply>>
+) -> Option<RepliesByRow<L>>
     requires fresh { (0 < vec_len desks.old) × AreFresh desks.old.items }
     requires lists { (vec_len room.lists ≡ vec_len desks.old) × AllAt (λ w l. (l.items ≡ []) × (length (own_rows (vec_len desks.old) w (L.lines rows.now)) ≤ vec_capacity l)) room.lists.items }
-    requires merged { (vec_len room.merged ≡ 0) × (length (L.lines rows.now) ≤ vec_capacity room.merged) }
+    requires queues { (vec_len room.queues ≡ 0) × (vec_len desks.old ≤ vec_capacity room.queues) }
     requires jobs { (vec_len room.jobs ≡ 0) × (vec_len desks.old ≤ vec_capacity room.jobs) }
     requires done { (vec_len room.done.outcomes ≡ 0) × (vec_len desks.old ≤ vec_capacity room.done.outcomes) × (vec_len room.done.unstarted ≡ 0) × (vec_len desks.old ≤ vec_capacity room.done.unstarted) }
-    ensures { IfSome result (λ replies. HavePlayed S.names.opening (vec_len desks.old) (L.lines rows.now) desks.new.items (answers_of replies.items)) }
+    ensures { IfSome result (λ replies. HavePlayed S.names.opening (vec_len desks.old) (L.lines rows.now) desks.new.items replies) }
 {
     let Room {
-        mut lists,
-        merged,
+        lists,
+        mut queues,
         jobs,
         done,
     } = room;
     let workers = desks.len();
-    let jobs = jobs_of(rows, desks, &mut lists, jobs);
+    let jobs = jobs_of(rows, desks, lists, jobs);
     let halt = AtomicBool::new(false);
     let WorkersDone {
         outcomes,
         unstarted,
     } = play_all(rt, alloc, store, gate, rows, &halt, jobs, done);
     let started = unstarted.is_empty();
-    let ended = collect(rows, workers, outcomes, desks, &mut lists);
+    let ended = collect(rows, workers, outcomes, desks, &mut queues);
     add_desks(unstarted, desks);
     if started && ended {
-        Some(in_row_order(rows, lists, merged))
+        Some(RepliesByRow::new(*rows, queues))
     } else {
         None
     }
@@ -236,21 +236,25 @@ pub fn play<
     ensures refused { IfErr result (λ e. (e ≡ LimitReached) ⊎ (e ≡ Memory)) }
 {
     let room = room_for(alloc, &rows, workers)?;
+    let list = Vec::with_capacity(alloc, rows.len())?;
     let mut desks = store.desks(rt, workers as u64)?;
     let played = play_at(rt, alloc, store, &rows, gate, room, &mut desks);
     let settled = store.settle(rt, desks);
     match played {
-        Some(replies) => Ok(Played { replies, settled }),
+        Some(replies) => Ok(Played {
+            replies: replies.into_list(list),
+            settled,
+        }),
         None => Err(Refusal::Memory),
     }
 }
 
 /// The replies with the book that is left, where all rows were played and the history has no steps but the workers'.
-fn to_end<S: Naming>(
-    played: Option<Vec<Reply>>,
+fn to_end<S: Naming, L: RowList>(
+    played: Option<RepliesByRow<L>>,
     book: LockedBook<S>,
     is_whole: bool,
-) -> Result<PlayedToEnd<S>, Refusal>
+) -> Result<PlayedToEnd<S, L>, Refusal>
     ensures { MatchResult result (λ p. (is_whole ≡ true) × (played ≡ Some p.replies) × (p.book ≡ book)) (λ e. e ≡ Memory) }
 {
     match played {
@@ -273,14 +277,14 @@ fn play_alone<
     workers: usize,
     gate: &G,
     room: Room<S>,
-) -> Result<PlayedToEnd<S>, Refusal>
+) -> Result<PlayedToEnd<S, L>, Refusal>
     requires workers { (0 < workers) × (workers ≤ MAX_WORKERS) }
     requires lists { (vec_len room.lists ≡ workers) × AllAt (λ w l. (l.items ≡ []) × (length (own_rows workers w (L.lines rows.now)) ≤ vec_capacity l)) room.lists.items }
-    requires merged { (vec_len room.merged ≡ 0) × (length (L.lines rows.now) ≤ vec_capacity room.merged) }
+    requires queues { (vec_len room.queues ≡ 0) × (workers ≤ vec_capacity room.queues) }
     requires jobs { (vec_len room.jobs ≡ 0) × (workers ≤ vec_capacity room.jobs) }
     requires done { (vec_len room.done.outcomes ≡ 0) × (workers ≤ vec_capacity room.done.outcomes) × (vec_len room.done.unstarted ≡ 0) × (workers ≤ vec_capacity room.done.unstarted) }
-    ensures replies { IfOk result (λ p. length p.replies.items ≡ length (L.lines rows.now)) }
-    ensures together { IfOk result (λ p. IsInterleaved S.names.opening workers (L.lines rows.now) (answers_of p.replies.items) p.book.book.catalog) }
+    ensures replies { IfOk result (λ p. length p.replies ≡ length (L.lines rows.now)) }
+    ensures together { IfOk result (λ p. IsInterleaved S.names.opening workers (L.lines rows.now) p.replies p.book.book.catalog) }
     ensures refused { IfErr result (λ e. (e ≡ LimitReached) ⊎ (e ≡ Memory)) }
 {
     let mut desks = store.desks(rt, workers as u64)?;
@@ -308,11 +312,11 @@ pub fn play_to_end<
     rows: L,
     workers: usize,
     gate: &G,
-) -> Result<PlayedToEnd<S>, Refusal>
+) -> Result<PlayedToEnd<S, L>, Refusal>
     requires workers { (0 < workers) × (workers ≤ MAX_WORKERS) }
     requires named { names_of parts ≡ S.names }
-    ensures replies { IfOk result (λ p. length p.replies.items ≡ length (L.lines rows)) }
-    ensures together { IfOk result (λ p. IsInterleaved S.names.opening workers (L.lines rows) (answers_of p.replies.items) p.book.book.catalog) }
+    ensures replies { IfOk result (λ p. length p.replies ≡ length (L.lines rows)) }
+    ensures together { IfOk result (λ p. IsInterleaved S.names.opening workers (L.lines rows) p.replies p.book.book.catalog) }
     ensures refused { IfErr result (λ e. (e ≡ LimitReached) ⊎ (e ≡ Memory)) }
 {
     let room = room_for(alloc, &rows, workers)?;

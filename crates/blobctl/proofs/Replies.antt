@@ -1,7 +1,7 @@
 -- The lines of replies that grow.
-use Rattle.std.proofs.Common.{◌≡◌, ◌<◌, ◌+◌, ◌∙◌, ◌++◌, ◌∷◌, [], ℕ, List, add-zero, ap, arith, get_or, length, length-take, sym, take}
+use Rattle.std.proofs.Common.{◌≡◌, ◌<◌, ◌+◌, ◌∙◌, ◌++◌, ◌∷◌, [], ℕ, List, add-zero, ap, arith, drop, get_or, length, length-take, sym, take}
 use Rattle.std.proofs.lemmas.Grind.{flat_map-append}
-use Rattle.std.proofs.lemmas.List.{append-nil, length-map, map_more}
+use Rattle.std.proofs.lemmas.List.{append-nil, drop_more, length-map, map_more, take_more}
 use Rattle.std.specs.List.{enumerate_from, flat_map}
 use Rattle.row_player.specs.Replies.{replies_text, reply_line}
 use Rattle.row_player.specs.Answers.{Answer, answer_of, answers_of}
@@ -27,3 +27,14 @@ pub replies_more : (replies : List Reply) (i : ℕ) (d : Reply) → i < length r
 replies_more replies i d within =
     let size : length (answers_of (take i replies)) ≡ i = omega (arith, length-map (take i replies) answer_of, length-take i replies, within) in
     ap replies_text (map_more answer_of replies i d within) ∙ replies_push (answers_of (take i replies)) (answer_of (get_or replies i d)) i size
+
+-- The answer that is left first, where the replies before it were written.
+pub next_left : (answers : List Answer) (i : ℕ) (answer : Answer) (rest : List Answer) → i < length answers → drop i answers ≡ answer ∷ rest
+    → (rest ≡ drop (i + 1) answers) × (replies_text (take (i + 1) answers) ≡ replies_text (take i answers) ++ reply_line (i + 1, answer))
+next_left answers i answer rest within left =
+    let both : answer ∷ rest ≡ get_or answers i answer ∷ drop (i + 1) answers = sym left ∙ drop_more answers i answer within in
+    let first : answer ≡ get_or answers i answer = ap (λ xs. get_or xs 0 answer) both in
+    let size : length (take i answers) ≡ i = omega (arith, length-take i answers, within) in (
+      ap (drop 1) both,
+      ap replies_text (take_more answers i answer within ∙ ap (λ a. take i answers ++ a ∷ []) (sym first)) ∙ replies_push (take i answers) answer i size,
+    )

@@ -1,12 +1,12 @@
 //! Writes the replies and the book.
-ghost use Rattle.std.specs.Prelude.{◌≡◌, ◌++◌, IfErr, OnOk};
+ghost use Rattle.std.specs.Prelude.{◌≡◌, ◌++◌, IfErr, OnOk, length};
 ghost use Rattle.std.specs.Io.KnownBytes.{Appends};
 ghost use Rattle.store_model.specs.BookText.{book_text};
 ghost use Rattle.row_player.specs.Answers.{answer_of, answers_of};
 ghost use Rattle.row_player.specs.Replies.{replies_text, reply_line};
 
 use crate::fault::Fault;
-use row_player::Reply;
+use row_player::{RepliesByRow, Reply, RowList};
 use std::io;
 use std::io::Write;
 use store_book::Book;
@@ -24,6 +24,24 @@ pub fn write_replies<W: Write>(writer: &mut W, replies: &[Reply]) -> io::Result<
 {
     for (place, reply) in replies.iter().enumerate() {
         write_reply(writer, place + 1, reply)?;
+    }
+    Ok(())
+}
+
+/// Writes the lines of all replies of workers to these rows, numbered from 1, and takes no memory.
+pub fn write_by_row<W: Write, L: RowList>(
+    writer: &mut W,
+    rows: &L,
+    replies: &mut RepliesByRow<L>,
+) -> io::Result<()>
+    requires { length replies.old ≡ length (L.lines rows.now) }
+    ensures { OnOk result (Appends (W.contents writer.old) (W.contents writer.new) (replies_text replies.old)) }
+{
+    for place in 0..rows.len() {
+        let Some(reply) = replies.next_reply() else {
+            unreachable!()
+        };
+        write_reply(writer, place + 1, &reply)?;
     }
     Ok(())
 }

@@ -9,7 +9,7 @@ ghost use Rattle.store_book.specs.Openings.{OpensBook, tenants_shown};
 
 use crate::fault::Fault;
 use crate::options::Options;
-use crate::output::write_replies;
+use crate::output::write_by_row;
 use blob_store::{Naming, Parts, PlayedToEnd, play_to_end};
 use row_player::{OpenGate, ScriptRows};
 use std::alloc::Global;
@@ -41,8 +41,8 @@ fn play_on_store<T: Threads + Wait + Sync, W: Write, S: Naming + Send + Sync>(
     else {
         return Err(Fault::Memory);
     };
-    let PlayedToEnd { replies, book } = played;
-    let Ok(()) = write_replies(writer, replies.as_slice()) else {
+    let PlayedToEnd { mut replies, book } = played;
+    let Ok(()) = write_by_row(writer, &rows, &mut replies) else {
         return Err(Fault::Write);
     };
     let Ok(()) = book.print(writer) else {

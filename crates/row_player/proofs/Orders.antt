@@ -1,25 +1,17 @@
--- Replies of several workers that are taken from their ends, row after row from the last.
-use Rattle.std.proofs.Common.{◌≡◌, ◌≢◌, ◌<◌, ◌≤◌, ◌+◌, ◌-◌, ◌%◌, ◌++◌, ◌∷◌, ◌==◌, [], ◌∙◌, ℕ, Bool, true, false, cond, List, drop, take, ap, append_assoc, arith, get_or, length, length-append, map, refl, set, sym, Option, Some, None, Vec, Global, vec_len}
+-- Replies of several workers that are taken from the fronts of their queues, row after row.
+use Rattle.std.proofs.Common.{◌≡◌, ◌<◌, ◌≤◌, ◌+◌, ◌%◌, ◌++◌, ◌∷◌, [], ◌∙◌, ℕ, Bool, true, false, cond, List, drop, ap, arith, get_or, length, map, refl, set, sym, Option, Some, None, Global, deque_len}
 use Rattle.std.proofs.lemmas.Bool.{eqb-true, eq-eqb, true≢false}
-use Rattle.std.proofs.lemmas.List.{drop_more, length-map, length-reverse, reverse-append, get_or-set_same, get_or-set_other, get_or-map, map-append, map-set, nil_from_length}
-use Rattle.std.specs.Prelude.{MatchOption, reverse, slice_set}
+use Rattle.std.proofs.lemmas.List.{drop_all, drop_more, length-set, get_or-set_same, get_or-set_other, get_or-map, map-set, nil_from_length}
+use Rattle.std.proofs.lemmas.Nat.{mod_below}
+use Rattle.std.specs.Prelude.{MatchOption, slice_set}
 use Rattle.std.specs.Option.{option_map, option_to_list}
 use Rattle.std.specs.List.{filter, zip}
+use Rattle.std.specs.declared.collections.VecDeque.{VecDeque}
 use Rattle.row_player.specs.Answers.{Answer, answer_of, answers_of}
 use Rattle.row_player.specs.Rows.{RowView}
-use Rattle.row_player.specs.Shares.{AreTogether, TakesLast, is_own, own_rows, own_answers}
+use Rattle.row_player.specs.Shares.{AreTogether, TakesFirst, by_row, then_next, is_own, own_rows, own_answers}
 use Rattle.row_player.specs.RowViews.{IsRowAt}
 use Rattle.row_player.specs.declared.reply.Reply.{Reply}
-use Rattle.row_player.proofs.PlayedRows.{rows_more}
-
-own_rows-append : (n w : ℕ) (front : List RowView) (line : RowView) → length (own_rows n w (front ++ line ∷ [])) ≡ length (own_rows n w front) + cond (is_own n w line) 1 0
-own_rows-append n w [] line = elim (is_own n w line) as (λ b. length (cond {A = List RowView} b (line ∷ []) []) ≡ 0 + cond {A = ℕ} b 1 0) [ true ↦ refl | false ↦ refl ]
-own_rows-append n w (x ∷ front) line =
-    let rest = own_rows-append n w front line in
-    elim (is_own n w x) as (λ b. length (cond b (x ∷ own_rows n w (front ++ line ∷ [])) (own_rows n w (front ++ line ∷ []))) ≡ length (cond b (x ∷ own_rows n w front) (own_rows n w front)) + cond (is_own n w line) 1 0) [
-      | true ↦ omega (arith, rest)
-      | false ↦ rest
-    ]
 
 -- the answers at a worker's rows, the first one apart
 own_answers-cons : (n w : ℕ) (line : RowView) (lines : List RowView) (answer : Answer) (answers : List Answer)
@@ -31,104 +23,107 @@ own_answers-cons n w line lines answer answers =
       | false ↦ refl
     ]
 
--- What is left in the lists, and what stands behind it in the order of the rows, are the lists as they were.
-pub record AreSplit (n : ℕ) (first lists : List (List Answer)) (front back : List RowView) (answers : List Answer) : Type 0 where
-  pub whole : (w : ℕ) → w < n → get_or first w [] ≡ get_or lists w [] ++ own_answers n w back answers
-  pub left : (w : ℕ) → w < n → length (get_or lists w []) ≡ length (own_rows n w front)
+-- each worker has an answer for each of its rows
+abbrev AreWhole : ℕ → List RowView → List (List Answer) → Type 0
+AreWhole n rows lists = (w : ℕ) → w < n → length (get_or lists w []) ≡ length (own_rows n w rows)
 
--- a row's worker has a reply left
-pub some_left_of : (n : ℕ) (first lists : List (List Answer)) (front back : List RowView) (line : RowView) (answers : List Answer) → AreSplit n first lists (front ++ line ∷ []) back answers → line.lane % n < n → get_or lists (line.lane % n) [] ≢ []
-some_left_of n first lists front back line answers split within none =
-    let own : is_own n (line.lane % n) line ≡ true = eq-eqb (line.lane % n) (line.lane % n) refl in
-    let size = own_rows-append n (line.lane % n) front line in
-    let left = split.left (line.lane % n) within in
-    let more : length (own_rows n (line.lane % n) (front ++ line ∷ [])) ≡ length (own_rows n (line.lane % n) front) + 1 = rw own at size in
-    let zero : length (get_or lists (line.lane % n) []) ≡ 0 = ap length none in
-    absurd (omega (arith, left, more, zero))
+-- a row more of a worker, or of another
+own_size : (n w : ℕ) (row : RowView) (rows : List RowView) (b : Bool) → is_own n w row ≡ b → length (own_rows n w (row ∷ rows)) ≡ cond b 1 0 + length (own_rows n w rows)
+own_size n w row rows true is = rw is omega arith
+own_size n w row rows false is = rw is omega arith
 
--- a reply is taken
-pub split_more : (n : ℕ) (first lists : List (List Answer)) (front back : List RowView) (line : RowView) (answers : List Answer) (answer : Answer) (rest : List Answer) → AreSplit n first lists (front ++ line ∷ []) back answers
-    → line.lane % n < length lists → get_or lists (line.lane % n) [] ≡ rest ++ answer ∷ [] → AreSplit n first (set lists (line.lane % n) rest) front (line ∷ back) (answer ∷ answers)
-split_more n first lists front back line answers answer rest split within last = record {
-  whole = λ w lt. by_worker w lt (line.lane % n == w) refl ∙ ap (λ xs. get_or (set lists (line.lane % n) rest) w [] ++ xs) (sym (own_answers-cons n w line back answer answers));
-  left = λ w lt. by_left w lt (line.lane % n == w) refl;
+-- a row's worker has its next answer taken
+module _ (n : ℕ) (row : RowView) (rows : List RowView) (lists : List (List Answer)) (size : length lists ≡ n) (some : 0 < n) (whole : AreWhole n (row ∷ rows) lists) where
+  abbrev own : ℕ
+  own = row.lane % n
+
+  abbrev left : List Answer → List (List Answer)
+  left rest = set lists own rest
+
+  within : own < n
+  within = mod_below row.lane n some
+
+  here : (w : ℕ) (rest : List Answer) → is_own n w row ≡ true → get_or (left rest) w [] ≡ rest
+  here w rest is =
+      let e : own ≡ w = eqb-true own w is in
+      ap (λ x. get_or (left rest) x []) (sym e) ∙ get_or-set_same lists own rest [] (omega (arith, within, size))
+
+  elsewhere : (w : ℕ) (rest : List Answer) → is_own n w row ≡ false → get_or (left rest) w [] ≡ get_or lists w []
+  elsewhere w rest is = get_or-set_other lists own w rest [] (λ e. true≢false (sym (eq-eqb own w (sym e)) ∙ is))
+
+  first : (w : ℕ) (answer : Answer) (rest : List Answer) → get_or lists own [] ≡ answer ∷ rest → is_own n w row ≡ true → get_or lists w [] ≡ answer ∷ rest
+  first w answer rest is own_is =
+      let e : own ≡ w = eqb-true own w own_is in
+      ap (λ x. get_or lists x []) (sym e) ∙ is
+
+  left_whole : (answer : Answer) (rest : List Answer) → get_or lists own [] ≡ answer ∷ rest → AreWhole n rows (left rest)
+  left_whole answer rest is w lt = by_case (is_own n w row) refl
+    where
+      by_case : (b : Bool) → is_own n w row ≡ b → length (get_or (left rest) w []) ≡ length (own_rows n w rows)
+      by_case true own_is =
+          let was = ap length (first w answer rest is own_is) in
+          let more = own_size n w row rows true own_is in
+          ap length (here w rest own_is) ∙ omega (arith, whole w lt, was, more)
+      by_case false own_is =
+          let same = own_size n w row rows false own_is in
+          ap length (elsewhere w rest own_is) ∙ omega (arith, whole w lt, same)
+
+  step : ((rest : List Answer) → AreWhole n rows (left rest) → AreTogether n rows (λ w. get_or (left rest) w []) (by_row n rows (left rest)))
+      → (answers : List Answer) → get_or lists own [] ≡ answers → AreTogether n (row ∷ rows) (λ w. get_or lists w []) (then_next answers (λ rest. by_row n rows (left rest)))
+  step follows [] is =
+      let mine : is_own n own row ≡ true = eq-eqb own own refl in
+      let more = own_size n own row rows true mine in
+      absurd (omega (arith, whole own within, ap length is, more))
+  step follows (answer ∷ rest) is =
+      let after = follows rest (left_whole answer rest is) in
+      record {
+        one_each = omega (arith, after.one_each);
+        shares = λ w lt. by_worker after w lt (is_own n w row) refl ∙ sym (own_answers-cons n w row rows answer (by_row n rows (left rest)));
+      }
+    where
+      by_worker : AreTogether n rows (λ w. get_or (left rest) w []) (by_row n rows (left rest)) → (w : ℕ) → w < n → (b : Bool) → is_own n w row ≡ b
+          → get_or lists w [] ≡ cond (is_own n w row) (answer ∷ own_answers n w rows (by_row n rows (left rest))) (own_answers n w rows (by_row n rows (left rest)))
+      by_worker after w lt true own_is = rw own_is (first w answer rest is own_is ∙ ap (λ xs. answer ∷ xs) (sym (here w rest own_is) ∙ after.shares w lt))
+      by_worker after w lt false own_is = rw own_is (sym (elsewhere w rest own_is) ∙ after.shares w lt)
+
+-- Where each worker has an answer for each of its rows, the answers by row are those of all rows.
+pub all_by_row : (n : ℕ) (rows : List RowView) (lists : List (List Answer)) → length lists ≡ n → 0 < n → AreWhole n rows lists → AreTogether n rows (λ w. get_or lists w []) (by_row n rows lists)
+all_by_row n [] lists size some whole = record {
+  one_each = refl;
+  shares = λ w lt. nil_from_length (get_or lists w []) (whole w lt);
 }
-  where
-    by_worker : (w : ℕ) → w < n → (b : Bool) → (line.lane % n == w) ≡ b → get_or first w [] ≡ get_or (set lists (line.lane % n) rest) w [] ++ cond b (answer ∷ own_answers n w back answers) (own_answers n w back answers)
-    by_worker w lt true is =
-        let e : line.lane % n ≡ w = eqb-true (line.lane % n) w is in
-        let here : get_or (set lists (line.lane % n) rest) w [] ≡ rest = ap (λ x. get_or (set lists (line.lane % n) rest) x []) (sym e) ∙ get_or-set_same lists (line.lane % n) rest [] within in
-        let was : get_or lists w [] ≡ rest ++ answer ∷ [] = ap (λ x. get_or lists x []) (sym e) ∙ last in
-        split.whole w lt ∙ ap (λ xs. xs ++ own_answers n w back answers) was ∙ append_assoc rest (answer ∷ []) (own_answers n w back answers) ∙ ap (λ xs. xs ++ answer ∷ own_answers n w back answers) (sym here)
-    by_worker w lt false is =
-        let here : get_or (set lists (line.lane % n) rest) w [] ≡ get_or lists w [] = get_or-set_other lists (line.lane % n) w rest [] (λ e. true≢false (sym (eq-eqb (line.lane % n) w (sym e)) ∙ is)) in
-        split.whole w lt ∙ ap (λ xs. xs ++ own_answers n w back answers) (sym here)
+all_by_row n (row ∷ rows) lists size some whole =
+    step n row rows lists size some whole
+    (λ rest left. all_by_row n rows (set lists (row.lane % n) rest) (length-set lists (row.lane % n) rest ∙ size) some left)
+    (get_or lists (row.lane % n) []) refl
 
-    by_left : (w : ℕ) → w < n → (b : Bool) → (line.lane % n == w) ≡ b → length (get_or (set lists (line.lane % n) rest) w []) ≡ length (own_rows n w front)
-    by_left w lt true is =
-        let e : line.lane % n ≡ w = eqb-true (line.lane % n) w is in
-        let here : get_or (set lists (line.lane % n) rest) w [] ≡ rest = ap (λ x. get_or (set lists (line.lane % n) rest) x []) (sym e) ∙ get_or-set_same lists (line.lane % n) rest [] within in
-        let was : get_or lists w [] ≡ rest ++ answer ∷ [] = ap (λ x. get_or lists x []) (sym e) ∙ last in
-        let size = own_rows-append n w front line in
-        let more : length (own_rows n w (front ++ line ∷ [])) ≡ length (own_rows n w front) + 1 = rw is at size in
-        let all : length (rest ++ answer ∷ []) ≡ length (own_rows n w (front ++ line ∷ [])) = ap length (sym was) ∙ split.left w lt in
-        ap length here ∙ omega (arith, all, more, length-append rest (answer ∷ []))
-    by_left w lt false is =
-        let here : get_or (set lists (line.lane % n) rest) w [] ≡ get_or lists w [] = get_or-set_other lists (line.lane % n) w rest [] (λ e. true≢false (sym (eq-eqb (line.lane % n) w (sym e)) ∙ is)) in
-        let size = own_rows-append n w front line in
-        let same : length (own_rows n w (front ++ line ∷ [])) ≡ length (own_rows n w front) + 0 = rw is at size in
-        ap length here ∙ split.left w lt ∙ omega (arith, same)
-
--- nothing is left where no row is
-pub split_end : (n : ℕ) (first lists : List (List Answer)) (back : List RowView) (answers : List Answer) → AreSplit n first lists [] back answers → (w : ℕ) → w < n → get_or first w [] ≡ own_answers n w back answers
-split_end n first lists back answers split w lt = split.whole w lt ∙ ap (λ xs. xs ++ own_answers n w back answers) (nil_from_length (get_or lists w []) (split.left w lt))
-
--- a worker's last reply is taken out of its list
-pub taken : (lists : List (Vec Reply Global)) (w : ℕ) (old v : Vec Reply Global) (r : Option Reply) → w < length lists → old ≡ get_or lists w old → old.items ≡ v.items ++ option_to_list r
-    → MatchOption r ((vec_len old ≡ 0) × (vec_len v ≡ 0)) (λ _. vec_len v + 1 ≡ vec_len old) → length old.items ≡ vec_len old
-    → TakesLast (map (λ (x : Vec Reply Global). answers_of x.items) lists) (map (λ (x : Vec Reply Global). answers_of x.items) (slice_set lists w v)) w (option_map answer_of r)
-taken lists w old v None within at parts empty size =
-    get_or-map (λ (x : Vec Reply Global). answers_of x.items) lists w old [] within ∙ ap (λ (x : Vec Reply Global). answers_of x.items) (sym at) ∙ ap answers_of (nil_from_length old.items (size ∙ empty.0))
-taken lists w old v (Some x) within at parts cases size = (
+-- a worker's first reply is taken out of its queue
+pub taken : (queues : List (VecDeque Reply Global)) (w : ℕ) (old v : VecDeque Reply Global) (r : Option Reply) → w < length queues → old ≡ get_or queues w old → old.items ≡ option_to_list r ++ v.items
+    → MatchOption r ((deque_len old ≡ 0) × (deque_len v ≡ 0)) (λ _. deque_len v + 1 ≡ deque_len old) → length old.items ≡ deque_len old
+    → TakesFirst (map (λ (q : VecDeque Reply Global). answers_of q.items) queues) (map (λ (q : VecDeque Reply Global). answers_of q.items) (slice_set queues w v)) w (option_map answer_of r)
+taken queues w old v None within at parts empty size =
+    get_or-map (λ (q : VecDeque Reply Global). answers_of q.items) queues w old [] within ∙ ap (λ (q : VecDeque Reply Global). answers_of q.items) (sym at) ∙ ap answers_of (nil_from_length old.items (size ∙ empty.0))
+taken queues w old v (Some reply) within at parts cases size = (
   answers_of v.items,
-  get_or-map (λ (y : Vec Reply Global). answers_of y.items) lists w old [] within ∙ ap (λ (y : Vec Reply Global). answers_of y.items) (sym at) ∙ ap answers_of parts ∙ map-append answer_of v.items (x ∷ []),
-  map-set (λ (y : Vec Reply Global). answers_of y.items) lists w v,
+  get_or-map (λ (q : VecDeque Reply Global). answers_of q.items) queues w old [] within ∙ ap (λ (q : VecDeque Reply Global). answers_of q.items) (sym at) ∙ ap answers_of parts,
+  map-set (λ (q : VecDeque Reply Global). answers_of q.items) queues w v,
 )
 
--- the row before a place
-module _ (n : ℕ) (first lists new : List (List Answer)) (rows : List RowView) (place : ℕ) (row : RowView) (answers : List Answer) (some : 0 < place) (within : place ≤ length rows) (at : IsRowAt rows (place - 1) row) where
-  before : take place rows ≡ take (place - 1) rows ++ row ∷ []
-  before =
-      let e : (place - 1) + 1 ≡ place = omega (arith, some) in
-      let lt : place - 1 < length rows = omega (arith, some, within) in
-      ap (λ k. take k rows) (sym e) ∙ rows_more rows (place - 1) row lt at
+-- no row is left
+pub none_left : (n place : ℕ) (rows : List RowView) (lists : List (List Answer)) → length rows ≤ place → by_row n (drop place rows) lists ≡ []
+none_left n place rows lists behind = ap (λ rs. by_row n rs lists) (drop_all place rows behind)
 
-  behind : drop (place - 1) rows ≡ row ∷ drop place rows
-  behind =
-      let e : (place - 1) + 1 ≡ place = omega (arith, some) in
-      let lt : place - 1 < length rows = omega (arith, some, within) in
-      drop_more rows (place - 1) row lt ∙ ap (λ k. get_or rows (place - 1) row ∷ drop k rows) e ∙ ap (λ r. r ∷ drop place rows) (sym at)
+-- the next row takes the next answer of its worker
+pub next_taken : (n place : ℕ) (rows : List RowView) (row : RowView) (lists new : List (List Answer)) (reply : Option Reply) → place < length rows → IsRowAt rows place row → TakesFirst lists new (row.lane % n) (option_map answer_of reply)
+    → MatchOption reply (by_row n (drop place rows) lists ≡ []) (λ reply. by_row n (drop place rows) lists ≡ answer_of reply ∷ by_row n (drop (place + 1) rows) new)
+next_taken n place rows row lists new reply within at takes = by_reply reply takes
+  where
+    next : by_row n (drop place rows) lists ≡ by_row n (row ∷ drop (place + 1) rows) lists
+    next = ap (λ rs. by_row n rs lists) (drop_more rows place row within ∙ ap (λ x. x ∷ drop (place + 1) rows) (sym at))
 
-  -- its reply is taken
-  pub row_taken : (answer : Answer) → AreSplit n first lists (take place rows) (drop place rows) (reverse answers) → row.lane % n < length lists → TakesLast lists new (row.lane % n) (Some answer)
-      → AreSplit n first new (take (place - 1) rows) (drop (place - 1) rows) (reverse (answers ++ answer ∷ []))
-  row_taken answer split fits takes =
-      let split' = split_more n first lists (take (place - 1) rows) (drop place rows) row (reverse answers) answer takes.0 (rw before at split) fits takes.1 in
-      rw (behind, reverse-append answers (answer ∷ []), takes.2) split'
+    follow : List Answer → List Answer
+    follow answers = then_next answers (λ rest. by_row n (drop (place + 1) rows) (set lists (row.lane % n) rest))
 
-  -- there is one
-  pub row_has_reply : AreSplit n first lists (take place rows) (drop place rows) (reverse answers) → row.lane % n < n → ¬ TakesLast lists new (row.lane % n) None
-  row_has_reply split fits none = some_left_of n first lists (take (place - 1) rows) (drop place rows) row (reverse answers) (rw before at split) fits none
-
-map-reverse : {A B : Type 0} (f : A → B) (xs : List A) → map f (reverse xs) ≡ reverse (map f xs)
-map-reverse f [] = refl
-map-reverse f (x ∷ xs) =
-    ap (map f) (reverse-append (x ∷ []) xs) ∙ map-append f (reverse xs) (x ∷ []) ∙ ap (λ ys. ys ++ f x ∷ []) (map-reverse f xs) ∙ sym (reverse-append (f x ∷ []) (map f xs))
-
--- all rows have their replies
-pub all_together : (n : ℕ) (first lists : List (List Answer)) (rows : List RowView) (replies : List Reply) → AreSplit n first lists (take 0 rows) (drop 0 rows) (reverse (answers_of replies)) → length replies ≡ length rows
-    → AreTogether n rows (λ w. get_or first w []) (answers_of (reverse replies))
-all_together n first lists rows replies split size = record {
-  one_each = length-map (reverse replies) answer_of ∙ length-reverse replies ∙ size;
-  shares = λ w lt. split_end n first lists rows (reverse (answers_of replies)) split w lt ∙ ap (own_answers n w rows) (sym (map-reverse answer_of replies));
-}
+    by_reply : (reply : Option Reply) → TakesFirst lists new (row.lane % n) (option_map answer_of reply) → MatchOption reply (by_row n (drop place rows) lists ≡ []) (λ reply. by_row n (drop place rows) lists ≡ answer_of reply ∷ by_row n (drop (place + 1) rows) new)
+    by_reply None none = next ∙ ap follow none
+    by_reply (Some reply) takes = next ∙ ap follow takes.1 ∙ ap (λ xs. answer_of reply ∷ by_row n (drop (place + 1) rows) xs) (sym takes.2)

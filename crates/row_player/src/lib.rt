@@ -35,7 +35,7 @@ pub use backend::Backend;
 pub use command::{Command, Fields, command_from, digest_in, repo_in};
 pub use fields::has_fields;
 pub use gate::{Gate, OpenGate};
-pub use order::in_row_order;
+pub use order::RepliesByRow;
 pub use packed_rows::PackedRows;
 pub use piece::Piece;
 pub use player::{play, play_rows, play_script};

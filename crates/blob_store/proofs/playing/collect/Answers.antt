@@ -15,14 +15,14 @@ loop-outcome-preserved g c =
     let all = vec_len c.args.outcomes in
     let each = subst (AllAt (λ k o. (w : ℕ) → w + k + 1 ≡ all → o.completed ≡ true → HasPlayed g.S.Naming.names.opening n w lines o.desk (answers_of o.replies.items))) c.in-Some.ensures.items was.each in
     let count = c.in-Some.ensures.len in
-    let shown = map (λ v. answers_of v.items) c.loop-outcome.lists.items in
-    let place : length shown + length c.pop.new.self.items + 1 ≡ all = omega (arith, length-map c.loop-outcome.lists.items (λ v. answers_of v.items), was.lists, count, c.loop-outcome.lists.ok.0, c.pop.new.self.ok.0) in
+    let shown = map (λ q. answers_of q.items) c.loop-outcome.queues.items in
+    let place : length shown + length c.pop.new.self.items + 1 ≡ all = omega (arith, length-map c.loop-outcome.queues.items (λ q. answers_of q.items), was.queues, count, c.loop-outcome.queues.ok.0, c.pop.new.self.ok.0) in
     record {
       each = at_first (λ k o. (w : ℕ) → w + k + 1 ≡ all → o.completed ≡ true → HasPlayed g.S.Naming.names.opening n w lines o.desk (answers_of o.replies.items)) c.pop.new.self.items c.in-Some.outcome each;
       desks = omega (arith, was.desks, count, c.push_reserved.ensures.len);
-      lists = omega (arith, was.lists, count, c.push_reserved-in-Some.ensures.len);
+      queues = omega (arith, was.queues, count, c.push_reserved-in-Some.ensures.len);
       desk_room = omega (arith, was.desk_room, c.push_reserved.ensures.capacity);
-      list_room = omega (arith, was.list_room, c.push_reserved-in-Some.ensures.capacity);
+      queue_room = omega (arith, was.queue_room, c.push_reserved-in-Some.ensures.capacity);
       capacity = c.push_reserved.ensures.capacity ∙ was.capacity;
       played = λ both.
           let parts = and_parts c.loop-outcome.completed c.in-Some.outcome.completed both in
@@ -30,5 +30,6 @@ loop-outcome-preserved g c =
           let desk = subst (λ d. HasPlayed g.S.Naming.names.opening n (length shown) lines d (answers_of c.in-Some.outcome.replies.items)) (sym c.into_desk.ensures) mine in
           let more = played_more g.S.Naming.names.opening n lines c.loop-outcome.desks.items shown c.into_desk.result (answers_of c.in-Some.outcome.replies.items) (was.played parts.0) desk in
           let desks = subst (λ ds. ArePlayed g.S.Naming.names.opening n lines ds (shown ++ answers_of c.in-Some.outcome.replies.items ∷ [])) (sym c.push_reserved.ensures.items) more in
-          subst (ArePlayed g.S.Naming.names.opening n lines c.push_reserved.new.self.items) (sym (ap (map (λ v. answers_of v.items)) c.push_reserved-in-Some.ensures.items ∙ map-append (λ v. answers_of v.items) c.loop-outcome.lists.items (c.in-Some.outcome.replies ∷ []))) desks;
+          let queue = ap (λ xs. shown ++ answers_of xs ∷ []) (sym c.from.ensures.0) in
+          subst (ArePlayed g.S.Naming.names.opening n lines c.push_reserved.new.self.items) (queue ∙ sym (ap (map (λ q. answers_of q.items)) c.push_reserved-in-Some.ensures.items ∙ map-append (λ q. answers_of q.items) c.loop-outcome.queues.items (c.from.result ∷ []))) desks;
     }

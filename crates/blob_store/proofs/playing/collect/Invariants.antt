@@ -7,11 +7,11 @@ abbrev pub invariant-loop-outcome : goal.invariant-loop-outcome
 invariant-loop-outcome g l = record {
   each : AllAt (λ k o. (w : ℕ) → w + k + 1 ≡ vec_len l.fn.outcomes → o.completed ≡ true → HasPlayed g.S.Naming.names.opening l.workers w (g.L.RowList.lines l.rows) o.desk (answers_of o.replies.items)) l.outcomes.items;
   desks : vec_len l.desks + vec_len l.outcomes ≡ vec_len l.fn.outcomes;
-  lists : vec_len l.lists + vec_len l.outcomes ≡ vec_len l.fn.outcomes;
+  queues : vec_len l.queues + vec_len l.outcomes ≡ vec_len l.fn.outcomes;
   desk_room : vec_len l.fn.outcomes ≤ vec_capacity l.desks;
-  list_room : vec_len l.fn.outcomes ≤ vec_capacity l.lists;
+  queue_room : vec_len l.fn.outcomes ≤ vec_capacity l.queues;
   capacity : vec_capacity l.desks ≡ vec_capacity l.fn.desks;
-  played : l.completed ≡ true → ArePlayed g.S.Naming.names.opening l.workers (g.L.RowList.lines l.rows) l.desks.items (map (λ v. answers_of v.items) l.lists.items);
+  played : l.completed ≡ true → ArePlayed g.S.Naming.names.opening l.workers (g.L.RowList.lines l.rows) l.desks.items (map (λ q. answers_of q.items) l.queues.items);
 }
 
 abbrev pub decreases-loop-outcome : goal.decreases-loop-outcome

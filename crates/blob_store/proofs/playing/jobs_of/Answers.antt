@@ -37,5 +37,4 @@ loop-desk-preserved g c =
       all = omega (arith, was.all, desk_count, c.push_reserved.ensures.len);
       room = omega (arith, was.room, c.push_reserved.ensures.capacity);
       desks = c.in-Some.ensures.capacity ∙ was.desks;
-      kept = c.in-Some-pop.ensures.capacity ∙ was.kept;
     }

@@ -14,7 +14,6 @@ invariant-loop-desk g l = record {
   all : vec_len l.jobs + vec_len l.desks ≡ l.workers;
   room : l.workers ≤ vec_capacity l.jobs;
   desks : vec_capacity l.desks ≡ vec_capacity l.fn.desks;
-  kept : vec_capacity l.lists ≡ vec_capacity l.fn.lists;
 }
 
 abbrev pub decreases-loop-desk : goal.decreases-loop-desk

@@ -1,24 +1,22 @@
-use Rattle.std.proofs.Common.{◌∙◌, inr, subst, sym}
-use Rattle.std.proofs.lemmas.List.{length-map}
+use Rattle.std.proofs.Common.{inr, subst}
 use Rattle.std.proofs.lemmas.Result.{MatchResult-weaker}
 use Rattle.locked_book.specs.History.{state_of}
 use Rattle.blob_store.specs.Workers.{HavePlayed}
 use Rattle.blob_store.proofs.Interleavings.{interleaved}
-use Rattle.row_player.specs.Answers.{answer_of, answers_of}
 use Rattle.blob_store.proofs.playing.play_alone.Goals as goal
 
 pub returns-clause-replies : goal.returns-clause-replies
 returns-clause-replies g c =
     MatchResult-weaker c.to_end.result c.to_end.ensures (λ p h.
     let have = rw h.1 at c.play_at-played.ensures in
-    sym (length-map p.replies.items answer_of) ∙ have.together.one_each) (λ e h. tt)
+    have.together.one_each) (λ e h. tt)
 
 pub returns-clause-together : goal.returns-clause-together
 returns-clause-together g c =
     let lines = g.L.RowList.lines c.args.rows.now in
     let desks = c.play_at-played.new.desks.items in
     MatchResult-weaker c.to_end.result c.to_end.ensures (λ p h.
-    let answers = answers_of p.replies.items in
+    let answers = p.replies in
     let played = rw h.1 at c.play_at-played.ensures in
     let have = subst (λ m. HavePlayed g.S.Naming.names.opening m lines desks answers) c.in_ok-desks.ensures.made.0 played in
     rw h.2 (interleaved g.S.Naming.names.opening c.args.workers lines desks answers (state_of c.conclude-is_whole.new.self) have (c.conclude-is_whole.ensures.whole h.0))) (λ e h. tt)

@@ -1,31 +1,29 @@
 use Rattle.std.proofs.Common.{◌++◌, ◌∙◌, ap, refl, subst, sym}
-use Rattle.std.proofs.lemmas.List.{length-map}
 use Rattle.csv.proofs.WriteFacts.{appends-more}
 use Rattle.store_model.specs.BookText.{book_text}
 use Rattle.store_model.specs.Catalog.{Catalog}
 use Rattle.blob_store.specs.Workers.{IsInterleaved}
 use Rattle.locked_book.specs.Names.{StoreNames}
-use Rattle.row_player.specs.Answers.{answer_of, answers_of}
 use Rattle.row_player.specs.Replies.{replies_text}
 use Rattle.blobctl.proofs.workers.play_on_store.Goals as goal
 
 pub returns-clause-played : goal.returns-clause-played
 returns-clause-played g c =
-    let replies = c.in-Ok.played.replies.items in
+    let answers = c.in-Ok.played.replies in
     let last = c.in-Ok.played.book.book.catalog in
     let lines = c.args.rows.now in
-    let wrote = rw c.as_slice.ensures.value at c.in-Ok-write_replies.ensures in
+    let wrote = c.in-Ok-write_by_row.ensures in
     let opening = ap (λ (n : StoreNames). n.opening) (sym c.requires.named) in
     let found = c.in-Ok-print.ensures.found in (
-      replies_text (answers_of replies) ++ book_text last,
+      replies_text answers ++ book_text last,
       appends-more _ _ _ _ _ wrote c.in-Ok-print.ensures.text,
       record {
-        answers = answers_of replies;
-        one_each = length-map replies answer_of ∙ c.in-Ok.ensures.replies;
+        answers = answers;
+        one_each = c.in-Ok.ensures.replies;
         first = c.args.parts.book.catalog;
         opened = c.requires.opened.catalog;
         last = last;
-        run = subst (λ (C : Catalog). IsInterleaved C c.args.options.now.workers lines (answers_of replies) last) opening c.in-Ok.ensures.together;
+        run = subst (λ (C : Catalog). IsInterleaved C c.args.options.now.workers lines answers last) opening c.in-Ok.ensures.together;
         sound = found.sound;
         same = found.made ∙ sym (ap (λ (n : StoreNames). n.setting) c.requires.named);
         written = refl;

@@ -1,0 +1,13 @@
+use Rattle.std.proofs.Common.{◌≡◌, ◌+◌, ◌++◌, ◌≤◌, length, vec_capacity}
+use Rattle.row_player.specs.Answers.{answers_of}
+use Rattle.row_player.proofs.order.RepliesByRow.into_list.Given as goal
+
+-- those in the list and those that are left are all
+abbrev pub invariant-loop-reply : goal.invariant-loop-reply
+invariant-loop-reply g l = record {
+  all : answers_of l.list.items ++ l.self ≡ l.fn.self;
+  room : length l.list.items + length l.self ≤ vec_capacity l.list;
+}
+
+abbrev pub decreases-loop-reply : goal.decreases-loop-reply
+decreases-loop-reply g l = length l.self
