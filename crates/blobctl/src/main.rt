@@ -27,37 +27,19 @@ ghost use Rattle.blobctl.specs.Stops.{stop_status};
 ghost use Rattle.blobctl.specs.Texts.{fault_status};
 ghost use Rattle.blobctl.specs.declared.fault.Fault.TheVariants.{Write};
 
-#[cfg(test)]
-mod algorithm_tests;
 mod arguments;
 mod fault;
-#[cfg(test)]
-mod fault_tests;
 mod fields;
 mod input;
 mod laws;
-#[cfg(test)]
-mod lease_tests;
-#[cfg(test)]
-mod manifest_tests;
-#[cfg(test)]
-mod mount_tests;
 mod one_worker;
 mod options;
 mod output;
 mod pinned_book;
 mod run;
 mod script;
-#[cfg(test)]
-mod script_tests;
 mod script_text;
-#[cfg(test)]
-mod test_scripts;
-#[cfg(test)]
-mod tests;
 mod watched;
-#[cfg(test)]
-mod worker_tests;
 mod workers;
 
 use crate::arguments::read_options;

@@ -21,8 +21,6 @@ mod lent;
 mod serving;
 mod shared;
 mod stop;
-#[cfg(test)]
-mod tests;
 mod totals;
 mod words;
 
