@@ -8,7 +8,7 @@ ghost use Rattle.blobctl.specs.Watching.{has_failed, inner_of};
 use crate::fault::Fault;
 use crate::script_text::ScriptText;
 use crate::watched::Watched;
-use std::alloc::Global;
+use std::alloc::{AllocError, Global};
 use std::io::Read;
 
 /// The longest script, in bytes.
@@ -16,6 +16,20 @@ const MAX_SCRIPT: usize = 268_435_456;
 
 /// The most bytes that are read at a time.
 const MAX_READ: usize = 65_536;
+
+/// The longest block of memory that is used again once it was dropped, in bytes: any piece of a script's text, and any
+/// list of its rows but one whose only row is longer.
+const REUSED: usize = 4_259_840;
+
+/// Has the C library use dropped blocks again. It maps a block of 128 KiB or more by itself, and unmaps it when it is
+/// dropped, so that each page of the next one is cleared anew; but where a longer one was dropped before, the bound is that
+/// one's length (glibc, mallopt(3), `M_MMAP_THRESHOLD`). A script's rows then lie where its text lay, and the blobs where
+/// the rows did. The block is dropped untouched, and takes no memory.
+fn reuse_blocks(alloc: Global) -> Result<(), AllocError> {
+    let block: Vec<u8> = Vec::with_capacity(alloc, REUSED)?;
+    drop(block);
+    Ok(())
+}
 
 /// Adds the bytes of one read, as many as fit the buffer, and says how many there were.
 fn add_one_read<R: Read>(
@@ -48,6 +62,7 @@ pub fn read_script<R: Read>(alloc: Global, reader: &mut Watched<R>) -> Result<Sc
     ensures most { TakesAtMost (R.remaining (inner_of reader.old)) (R.remaining (inner_of reader.new)) (max_script + 1) }
     ensures refused { IfErr result (λ e. ((e ≡ Fault.Memory) × HasNotFailed reader.old reader.new) ⊎ ((e ≡ Fault.Read) × ((has_failed reader.new ≡ true) ⊎ IsTooLong (R.remaining (inner_of reader.old)) (R.remaining (inner_of reader.new))))) }
 {
+    reuse_blocks(alloc)?;
     let mut script = ScriptText::new(alloc);
     let mut len = 0;
     let mut buffer = [0u8; MAX_READ];

@@ -92,6 +92,14 @@ impl PackedRows {
         row.text_len() <= self.text.capacity() - self.text.len()
     }
 
+    /// Gives back the room for more rows.
+    pub(crate) fn shrink(&mut self)
+        ensures { self.new ≡ self.old }
+    {
+        self.text.shrink_to_fit();
+        self.places.shrink_to_fit();
+    }
+
     /// The row of a place, counted from 0.
     pub fn row(&self, place: usize) -> BorrowedRow<'_>
         requires { place < length self.now }

@@ -42,7 +42,8 @@ fn list_of(alloc: Global, row: &BorrowedRow<'_>) -> Result<PackedRows, AllocErro
     Ok(list)
 }
 
-/// Adds a row to the last list, where that has room for it, and else in a list of its own.
+/// Adds a row to the last list, where that has room for it. Else that gives back what room it has, and the row begins a list
+/// of its own.
 fn add_row(
     alloc: Global,
     lists: &mut Vec<PackedRows>,
@@ -52,8 +53,11 @@ fn add_row(
     ensures same { OnErr result (joined lists.new.items ≡ joined lists.old.items) }
 {
     let count = lists.len();
-    if count > 0 && lists[count - 1].has_room(row) {
-        return lists[count - 1].push(row);
+    if count > 0 {
+        if lists[count - 1].has_room(row) {
+            return lists[count - 1].push(row);
+        }
+        lists[count - 1].shrink();
     }
     lists.push(list_of(alloc, row)?)?;
     Ok(())
