@@ -8,7 +8,7 @@ use crate::thread_tests::awaits;
 use blob_digest::Refusal;
 use blob_store::{Naming, Parts, Played, PlayedToEnd, Settled, play, play_to_end};
 use locked_book::LockedBook;
-use row_player::{BorrowedRow, Gate, OpenGate, PackedRows, Reply, Verb, has_fields};
+use row_player::{BorrowedRow, Gate, OpenGate, PackedRows, RepliesByRow, Reply, Verb, has_fields};
 use std::alloc::AllocGlobal;
 use std::process::Abort;
 use std::sync::Wait;
@@ -381,14 +381,29 @@ impl<'s, S: Naming + Send + Sync, W: Abort + AllocGlobal + Threads + Wait + Sync
 }
 
 /// The book that is left, and the replies, where two workers play rows to the end of the store of these parts.
-fn played_to_end<S: Naming + Send + Sync, W: Abort + AllocGlobal + Threads + Wait + Sync>(
+fn played_to_end<'r, S: Naming + Send + Sync, W: Abort + AllocGlobal + Threads + Wait + Sync>(
     rt: &W,
     parts: Parts,
-    rows: &PackedRows,
-) -> PlayedToEnd<S>
+    rows: &'r PackedRows,
+) -> PlayedToEnd<S, &'r PackedRows>
     requires { names_of parts ≡ S.names }
 {
     play_to_end::<_, _, S, _>(rt, rt.alloc(), parts, rows, 2, &OpenGate).expect(rt, "memory")
+}
+
+/// The replies to so many rows, of which there are no more.
+fn taken_out(
+    rt: &(impl Abort + AllocGlobal),
+    replies: &mut RepliesByRow<&PackedRows>,
+    count: usize,
+) -> Vec<Reply> {
+    let mut list = Vec::new(rt.alloc());
+    for _ in 0..count {
+        let reply = replies.next_reply().expect(rt, "a reply");
+        list.push(reply).expect(rt, "memory");
+    }
+    assert!(rt; replies.next_reply().is_none());
+    list
 }
 
 /// The text of a book that is left.
@@ -406,8 +421,10 @@ fn plays_lines_to_end<S: Naming + Send + Sync, W: Abort + AllocGlobal + Threads 
 )
     requires { names_of parts ≡ S.names }
 {
-    let ended = played_to_end::<S, W>(rt, parts, &rows_of(rt, lines));
-    expect_replies_to(rt, ended.replies.as_slice(), lines);
+    let rows = rows_of(rt, lines);
+    let mut ended = played_to_end::<S, W>(rt, parts, &rows);
+    let replies = taken_out(rt, &mut ended.replies, lines.len());
+    expect_replies_to(rt, replies.as_slice(), lines);
     assert!(rt; printed(rt, &ended.book).as_slice() == BOOK.as_bytes());
 }
 
