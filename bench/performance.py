@@ -153,8 +153,8 @@ def document(figures, before):
              "before, where they are others. Each is a median, of runs taken in turn.", "", "![Time by size, workers and readers](performance.svg)", "",
              "## Beside an ordinary program", "",
              "`bench/ordinary` is a program in ordinary Rust that keeps the same rules with maps, a mutex and atomics, and whose output is the",
-             "same byte for byte. Processor time in milliseconds, with the ratio of the medians and that of the least times, which differs",
-             "less from run to run where others use the machine, and the most memory in MiB:", "",
+             "same byte for byte. Processor time in milliseconds, with the ratio of the medians and that of the least times, and the most",
+             "memory in MiB:", "",
              "| Script | blobctl | ordinary | ratio | of the least | memory | ordinary | ratio |", "|---|---|---|---|---|---|---|---|"]
     for name, found in figures["beside_ordinary"].items():
         (ours, theirs), (mine, its) = found["ms"], found["mib"]
