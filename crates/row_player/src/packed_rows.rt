@@ -39,12 +39,15 @@ fn end_of(text: &Vec<u8>) -> Result<u32, AllocError>
     Ok(text.len() as u32)
 }
 
-/// Adds the bytes of a field to a text, and answers where they end.
+/// Adds the bytes of a field to a text, and answers where they end. Most fields of a row are empty, and cost no call of the
+/// list.
 fn add_field(text: &mut Vec<u8>, field: &[u8]) -> Result<u32, AllocError>
     ensures kept { Begins text.old.items text.new.items }
     ensures added { IfOk result (λ end. (text.new.items ≡ text.old.items ++ field.now) × (end ≡ length text.new.items)) }
 {
-    text.extend_from_slice(field)?;
+    if !field.is_empty() {
+        text.extend_from_slice(field)?;
+    }
     end_of(text)
 }
 

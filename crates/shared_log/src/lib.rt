@@ -16,6 +16,8 @@
 
 pub mod laws;
 mod log;
+#[cfg(test)]
+mod log_tests;
 mod rule;
 mod view;
 
