@@ -4,7 +4,9 @@ use Rattle.std.specs.Prelude.{get_or, set, OnOk, Result, Ok, Err}
 use Rattle.std.proofs.lemmas.List.{append-nil, take_more}
 use Rattle.std.proofs.lemmas.List.Concat.{get_or-flat_map}
 use Rattle.row_player.specs.Rows.{RowView}
-use Rattle.row_player.specs.JoinedRows.{joined}
+use Rattle.row_player.specs.JoinedRows.{IsInList, joined}
+use Rattle.row_player.specs.RowViews.{IsRowAt}
+use Rattle.row_player.proofs.WorkerRows.{row_there, same_row}
 
 -- one list more
 pub joined-push : (lists : List (List RowView)) (rows : List RowView) → joined (lists ++ rows ∷ []) ≡ joined lists ++ rows
@@ -30,6 +32,17 @@ pub row_in_list : (lists : List (List RowView)) (n place : ℕ) (rows : List Row
 row_in_list lists n place rows row within at here is =
     let there = get_or-flat_map (λ (l : List RowView). l) lists n place rows row within (rw at here) in
     rw there (rw at is)
+
+-- where the row of a place lies, that is behind the lists before its own
+pub in_list : (lists : List (List RowView)) (n rest place : ℕ) (rows : List RowView) → n < length lists → get_or lists n rows ≡ rows → rest < length rows → place ≡ length (joined (take n lists)) + rest → place < length (joined lists) → IsInList (joined lists) place rows rest
+in_list lists n rest place rows within at here behind inside =
+    let row_of : (row : RowView) → IsRowAt rows rest row → IsRowAt (joined lists) place row = λ row is. rw behind (row_in_list lists n rest rows row within at here is) in
+    let there = row_there rows rest here in
+    record {
+      within = here;
+      row_of = row_of;
+      lane_of = λ lane is row is_at. is there.0 there.1 ∙ ap (λ (r : RowView). r.lane) (same_row (joined lists) place there.0 row inside (row_of there.0 there.1) is_at);
+    }
 
 -- a row that is added to the last list, where that goes well
 pub added_last : {A E : Type 0} (r : Result A E) (lists : List (List RowView)) (n : ℕ) (last new : List RowView) (row : RowView) → n + 1 ≡ length lists → get_or lists n last ≡ last → OnOk r (new ≡ last ++ row ∷ []) → OnOk r (joined (set lists n new) ≡ joined lists ++ row ∷ [])

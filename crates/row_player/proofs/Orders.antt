@@ -10,8 +10,9 @@ use Rattle.std.specs.declared.collections.VecDeque.{VecDeque}
 use Rattle.row_player.specs.Answers.{Answer, answer_of, answers_of}
 use Rattle.row_player.specs.Rows.{RowView}
 use Rattle.row_player.specs.Shares.{AreTogether, TakesFirst, by_row, then_next, is_own, own_rows, own_answers}
-use Rattle.row_player.specs.RowViews.{IsRowAt}
+use Rattle.row_player.specs.RowViews.{IsLaneAt, IsRowAt}
 use Rattle.row_player.specs.declared.reply.Reply.{Reply}
+use Rattle.row_player.proofs.WorkerRows.{row_there}
 
 -- the answers at a worker's rows, the first one apart
 own_answers-cons : (n w : ℕ) (line : RowView) (lines : List RowView) (answer : Answer) (answers : List Answer)
@@ -114,9 +115,9 @@ pub none_left : (n place : ℕ) (rows : List RowView) (lists : List (List Answer
 none_left n place rows lists behind = ap (λ rs. by_row n rs lists) (drop_all place rows behind)
 
 -- the next row takes the next answer of its worker
-pub next_taken : (n place : ℕ) (rows : List RowView) (row : RowView) (lists new : List (List Answer)) (reply : Option Reply) → place < length rows → IsRowAt rows place row → TakesFirst lists new (row.lane % n) (option_map answer_of reply)
+row_taken : (n place : ℕ) (rows : List RowView) (row : RowView) (lists new : List (List Answer)) (reply : Option Reply) → place < length rows → IsRowAt rows place row → TakesFirst lists new (row.lane % n) (option_map answer_of reply)
     → MatchOption reply (by_row n (drop place rows) lists ≡ []) (λ reply. by_row n (drop place rows) lists ≡ answer_of reply ∷ by_row n (drop (place + 1) rows) new)
-next_taken n place rows row lists new reply within at takes = by_reply reply takes
+row_taken n place rows row lists new reply within at takes = by_reply reply takes
   where
     next : by_row n (drop place rows) lists ≡ by_row n (row ∷ drop (place + 1) rows) lists
     next = ap (λ rs. by_row n rs lists) (drop_more rows place row within ∙ ap (λ x. x ∷ drop (place + 1) rows) (sym at))
@@ -127,3 +128,10 @@ next_taken n place rows row lists new reply within at takes = by_reply reply tak
     by_reply : (reply : Option Reply) → TakesFirst lists new (row.lane % n) (option_map answer_of reply) → MatchOption reply (by_row n (drop place rows) lists ≡ []) (λ reply. by_row n (drop place rows) lists ≡ answer_of reply ∷ by_row n (drop (place + 1) rows) new)
     by_reply None none = next ∙ ap follow none
     by_reply (Some reply) takes = next ∙ ap follow takes.1 ∙ ap (λ xs. answer_of reply ∷ by_row n (drop (place + 1) rows) xs) (sym takes.2)
+
+-- the same, by the lane of the row
+pub next_taken : (n place : ℕ) (rows : List RowView) (lane : ℕ) (lists new : List (List Answer)) (reply : Option Reply) → place < length rows → IsLaneAt rows place lane → TakesFirst lists new (lane % n) (option_map answer_of reply)
+    → MatchOption reply (by_row n (drop place rows) lists ≡ []) (λ reply. by_row n (drop place rows) lists ≡ answer_of reply ∷ by_row n (drop (place + 1) rows) new)
+next_taken n place rows lane lists new reply within at takes =
+    let row = row_there rows place within in
+    row_taken n place rows row.0 lists new reply within row.1 (rw (← at row.0 row.1) takes)

@@ -1,5 +1,5 @@
 -- The rows of a worker.
-use Rattle.std.proofs.Common.{◌≡◌, ◌<◌, ◌≤◌, ◌+◌, ◌%◌, ◌∙◌, ◌++◌, ◌∷◌, [], ℕ, List, true, false, cond, ap, arith, drop, get_or, inl, inr, length, length-append, not, refl, set, sym, take}
+use Rattle.std.proofs.Common.{◌≡◌, ◌<◌, ◌≤◌, ◌+◌, ◌%◌, ◌==◌, ◌∙◌, ◌++◌, ◌∷◌, [], ℕ, List, true, false, cond, ap, arith, drop, get_or, inl, inr, length, length-append, not, refl, set, sym, take}
 use Rattle.std.proofs.lemmas.Bool.{eq-eqb}
 use Rattle.std.proofs.lemmas.Bool.Decides.{eqb_tells}
 use Rattle.std.proofs.lemmas.Grind.{get_or-set_at}
@@ -7,7 +7,7 @@ use Rattle.std.proofs.lemmas.List.{append-nil, get_or-set_other, get_or_default,
 use Rattle.std.proofs.lemmas.List.Elements.{filter-append}
 use Rattle.std.proofs.lemmas.List.Filters.{length-filter_both}
 use Rattle.std.proofs.lemmas.Nat.{mod_below}
-use Rattle.row_player.specs.RowViews.{IsRowAt}
+use Rattle.row_player.specs.RowViews.{IsLaneAt, IsRowAt}
 use Rattle.row_player.specs.Rows.{RowView}
 use Rattle.row_player.specs.Shares.{is_own, own_rows}
 use Rattle.row_player.proofs.PlayedRows.{rows_more}
@@ -48,6 +48,15 @@ own_few n w rows = let both = length-filter_both (is_own n w) (λ row. not (is_o
 -- a list has one row at a place
 pub same_row : (rows : List RowView) (i : ℕ) (a b : RowView) → i < length rows → IsRowAt rows i a → IsRowAt rows i b → a ≡ b
 same_row rows i a b within at_a at_b = at_a ∙ get_or_default rows i a b within ∙ sym at_b
+
+-- and has one at each place within it
+pub row_there : (rows : List RowView) (i : ℕ) → i < length rows → (row : RowView) × IsRowAt rows i row
+row_there [] i within = absurd (omega (arith, within))
+row_there (r ∷ rows) i within = let row = get_or (r ∷ rows) i r in (row, get_or_default (r ∷ rows) i r row within)
+
+-- whose a row is, its lane tells
+pub own_by_lane : (n w : ℕ) (rows : List RowView) (i lane : ℕ) (row : RowView) → IsLaneAt rows i lane → IsRowAt rows i row → is_own n w row ≡ (lane % n == w)
+own_by_lane n w rows i lane row is at = ap (λ l. l % n == w) (sym (is row at))
 
 -- the counts of the workers' rows so far, and of one more, which its lane's worker has
 pub counts_more : (n : ℕ) (counts : List ℕ) (rows : List RowView) (i : ℕ) (row : RowView) → i < length rows → IsRowAt rows i row → row.lane % n < length counts → ((w : ℕ) → w < n → get_or counts w 0 ≡ length (own_rows n w (take i rows)))

@@ -13,3 +13,7 @@ borrowed_view r = record { lane = r.lane; verb = r.verb; repo = r.repo.now; key 
 -- a list has this row at this place, counted from 0
 abbrev pub IsRowAt : List RowView → ℕ → RowView → Type 0
 IsRowAt rows place row = row ≡ get_or rows place row
+
+-- the row at this place has this lane
+abbrev pub IsLaneAt : List RowView → ℕ → ℕ → Type 0
+IsLaneAt rows place lane = (row : RowView) → IsRowAt rows place row → lane ≡ row.lane

@@ -61,7 +61,7 @@ impl<L: RowList> RepliesByRow<L> {
         if self.place >= self.rows.len() {
             return None;
         }
-        let worker = self.rows.row(self.place).lane as usize % self.queues.len();
+        let worker = self.rows.lane(self.place) as usize % self.queues.len();
         self.place += 1;
         take_first(&mut self.queues, worker)
     }

@@ -1,7 +1,7 @@
 //! Rows whose fields lie in one text.
 ghost use Rattle.std.specs.Prelude.{[], ◌∷◌, ◌++◌, ◌<◌, ◌≡◌, IfOk, OnErr, OnOk, length};
 ghost use Rattle.row_player.specs.RowPlaces.{Begins, IsWithin, row_in};
-ghost use Rattle.row_player.specs.RowViews.{IsRowAt, borrowed_view};
+ghost use Rattle.row_player.specs.RowViews.{IsLaneAt, IsRowAt, borrowed_view};
 
 use crate::places::Places;
 use crate::row::BorrowedRow;
@@ -120,6 +120,14 @@ impl PackedRows {
             body: &text[places.range as usize..places.body as usize],
         }
     }
+
+    /// The lane of the row of a place, counted from 0.
+    pub fn lane(&self, place: usize) -> u8
+        requires { place < length self.now }
+        ensures { IsLaneAt self.now place result }
+    {
+        self.places[place].lane
+    }
 }
 
 impl<'a> RowList for &'a PackedRows {
@@ -133,5 +141,10 @@ impl<'a> RowList for &'a PackedRows {
     fn row(&self, place: usize) -> BorrowedRow<'_> {
         let rows = *self;
         rows.row(place)
+    }
+
+    fn lane(&self, place: usize) -> u8 {
+        let rows = *self;
+        rows.lane(place)
     }
 }

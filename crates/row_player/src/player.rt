@@ -174,8 +174,7 @@ fn play_next<B: Backend, G: Gate>(
 }
 
 /// Plays a worker's rows in their order with the leases that its lanes hold, and adds one reply for each to those
-/// before. It ends at the first out of memory. A row is asked for again where it is played: of another worker's row no
-/// field is looked up.
+/// before. It ends at the first out of memory. Of another worker's row no field is looked up.
 fn play_own<B: Backend, G: Gate, L: RowList>(
     alloc: Global,
     backend: &mut B,
@@ -192,7 +191,7 @@ fn play_own<B: Backend, G: Gate, L: RowList>(
     ensures refused { IfErr result (λ e. e ≡ Refusal.Memory) }
 {
     for place in 0..rows.len() {
-        if worker.plays(&rows.row(place)) {
+        if worker.plays(rows.lane(place)) {
             play_next(
                 alloc,
                 backend,

@@ -1,6 +1,6 @@
 //! Lists of rows.
 ghost use Rattle.std.specs.Prelude.{◌<◌, ◌≡◌, List, length, map};
-ghost use Rattle.row_player.specs.RowViews.{IsRowAt, borrowed_view, row_view};
+ghost use Rattle.row_player.specs.RowViews.{IsLaneAt, IsRowAt, borrowed_view, row_view};
 ghost use Rattle.row_player.specs.Rows.{RowView};
 
 use crate::row::{BorrowedRow, Row};
@@ -18,6 +18,11 @@ pub trait RowList: Copy {
     fn row(&self, place: usize) -> BorrowedRow<'_>
         requires { place < length (lines self.now) }
         ensures { IsRowAt (lines self.now) place (borrowed_view result) };
+
+    /// The lane of the row of a place. No field of the row is looked up.
+    fn lane(&self, place: usize) -> u8
+        requires { place < length (lines self.now) }
+        ensures { IsLaneAt (lines self.now) place result };
 }
 
 impl<'a> RowList for &'a [Row] {
@@ -40,5 +45,10 @@ impl<'a> RowList for &'a [Row] {
             range: row.range.as_slice(),
             body: row.body.as_slice(),
         }
+    }
+
+    fn lane(&self, place: usize) -> u8 {
+        let rows = *self;
+        rows[place].lane
     }
 }

@@ -1,7 +1,7 @@
 //! The rows of a script, in lists that can be dropped one by one.
 ghost use Rattle.std.specs.Prelude.{[], ◌∷◌, ◌++◌, ◌<◌, ◌≡◌, IfOk, OnErr, OnOk, length};
-ghost use Rattle.row_player.specs.RowViews.{IsRowAt, borrowed_view};
-ghost use Rattle.row_player.specs.JoinedRows.{joined};
+ghost use Rattle.row_player.specs.RowViews.{borrowed_view};
+ghost use Rattle.row_player.specs.JoinedRows.{IsInList, joined};
 
 use crate::packed_rows::PackedRows;
 use crate::row::BorrowedRow;
@@ -63,16 +63,16 @@ fn add_row(
     Ok(())
 }
 
-/// The row of a place in lists that stand one behind the other.
-fn row_in(lists: &Vec<PackedRows>, place: usize) -> BorrowedRow<'_>
+/// Where the row of a place lies in lists that stand one behind the other: in which list, and at which place in it.
+fn find(lists: &Vec<PackedRows>, place: usize) -> (&PackedRows, usize)
     requires { place < length (joined lists.now.items) }
-    ensures { IsRowAt (joined lists.now.items) place (borrowed_view result) }
+    ensures { IsInList (joined lists.now.items) place (result.0).now result.1 }
 {
     let mut rest = place;
     for number in 0..lists.len() {
         let list = &lists[number];
         if rest < list.len() {
-            return list.row(rest);
+            return (list, rest);
         }
         rest -= list.len();
     }
@@ -123,6 +123,13 @@ impl<'a> RowList for &'a ScriptRows {
 
     fn row(&self, place: usize) -> BorrowedRow<'_> {
         let rows = *self;
-        row_in(&rows.lists, place)
+        let (list, rest) = find(&rows.lists, place);
+        list.row(rest)
+    }
+
+    fn lane(&self, place: usize) -> u8 {
+        let rows = *self;
+        let (list, rest) = find(&rows.lists, place);
+        list.lane(rest)
     }
 }

@@ -1,9 +1,7 @@
 //! Which rows a worker plays.
-ghost use Rattle.std.specs.Prelude.{ℕ, ◌≡◌, ◌<◌, IfErr, IfOk, get_or, length, vec_len};
-ghost use Rattle.row_player.specs.RowViews.{borrowed_view};
-ghost use Rattle.row_player.specs.Shares.{is_own, own_rows};
+ghost use Rattle.std.specs.Prelude.{ℕ, ◌≡◌, ◌==◌, ◌%◌, ◌<◌, IfErr, IfOk, get_or, length, vec_len};
+ghost use Rattle.row_player.specs.Shares.{own_rows};
 
-use crate::row::BorrowedRow;
 use crate::row_list::RowList;
 use blob_digest::Refusal;
 use std::alloc::Global;
@@ -31,11 +29,11 @@ impl Worker {
         }
     }
 
-    /// Whether a row is this worker's.
-    pub fn plays(&self, row: &BorrowedRow<'_>) -> bool
-        ensures { result ≡ is_own self.now.workers self.now.number (borrowed_view row.now) }
+    /// Whether a lane is this worker's.
+    pub fn plays(&self, lane: u8) -> bool
+        ensures { result ≡ (lane % self.now.workers == self.now.number) }
     {
-        row.lane as usize % self.workers == self.number
+        lane as usize % self.workers == self.number
     }
 }
 
@@ -53,7 +51,7 @@ pub fn count_by_worker<L: RowList>(
 {
     let mut counts = Vec::from_elem(alloc, 0usize, workers)?;
     for place in 0..rows.len() {
-        let worker = rows.row(place).lane as usize % workers;
+        let worker = rows.lane(place) as usize % workers;
         counts[worker] += 1;
     }
     Ok(counts)

@@ -1,9 +1,8 @@
 use Rattle.std.proofs.Common.{◌≡◌, ◌<◌, ◌∙◌, ap, arith, length, length-append, rules, take}
 use Rattle.std.specs.Prelude.{get_or}
 use Rattle.row_player.specs.JoinedRows.{joined}
-use Rattle.row_player.specs.RowViews.{borrowed_view}
-use Rattle.row_player.proofs.JoinedRows.{joined-take, row_in_list}
-use Rattle.row_player.proofs.script_rows.row_in.Goals as goal
+use Rattle.row_player.proofs.JoinedRows.{in_list, joined-take}
+use Rattle.row_player.proofs.script_rows.find.Goals as goal
 
 pub returns-then-rest-len : goal.returns-then-rest-len
 returns-then-rest-len c =
@@ -13,7 +12,7 @@ returns-then-rest-len c =
     let within : n < length lists = search rules in
     let at : get_or lists n list ≡ list = search rules in
     let here : c.loop-number.rest < length list = search rules in
-    rw c.loop-number.invariant (row_in_list lists n c.loop-number.rest list (borrowed_view c.row.result) within at here c.row.ensures)
+    in_list lists n c.loop-number.rest c.args.place list within at here c.loop-number.invariant c.requires
 
 pub loop-number-preserved : goal.loop-number-preserved
 loop-number-preserved c =
