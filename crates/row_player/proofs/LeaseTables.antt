@@ -7,7 +7,7 @@ use Rattle.std.specs.FinMap as fmap
 use Rattle.std.specs.FinMap.{find, get-from_entries, get-insert, get-remove, get_tied, same_map, IsAntisymmetric}
 use Rattle.std.specs.List.Sorted.{IsStrictlySortedBy}
 use Rattle.std.specs.Map.{keys_of, lookup}
-use Rattle.std.specs.Option.{option_map, unwrap_or}
+use Rattle.std.specs.Option.{option_map}
 use Rattle.std.specs.Ordering.{eq_by_cmp, nat_cmp}
 use Rattle.std.proofs.lemmas.Bool.{eqb-true, eq-eqb}
 use Rattle.std.proofs.lemmas.Map.{lookup-none}
@@ -136,8 +136,3 @@ module _ {L : Type 0} (lent : L → Lent) where
     pub put_any : (room : Option L) → tree.Updates name_cmp m n p (Some room) → leases_in lent n ≡ with_lease (leases_in lent m) p (option_map lent room)
     put_any None puts = put_none puts
     put_any (Some l) puts = put_lease l puts
-
-  -- what was there is what was held
-  pub was_held : (o : Option (Option L)) (old : Option L) → old ≡ unwrap_or o None → option_map lent old ≡ held_of lent o
-  was_held None old e = ap (option_map lent) e
-  was_held (Some room) old e = ap (option_map lent) e

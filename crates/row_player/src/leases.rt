@@ -1,5 +1,5 @@
 //! The leases that the lanes of a script hold.
-ghost use Rattle.std.specs.Prelude.{◌≡◌, ◌≢◌, ◌⊎◌, ℕ, Some, None, [], length, IsSome, IfOk, IfErr, OnOk, OnErr, MatchResult, unwrap_or};
+ghost use Rattle.std.specs.Prelude.{◌≡◌, ◌≢◌, ◌⊎◌, ℕ, Some, None, [], length, IsSome, IfOk, IfErr, OnOk, MatchResult};
 ghost use Rattle.std.specs.Option.{option_map};
 ghost use Rattle.std.specs.FinMap as fmap;
 ghost use Rattle.std.specs.BTreeMap as tree;
@@ -17,6 +17,7 @@ use blob_digest::{Digest, Refusal, RepoName};
 use std::alloc::{AllocFailed, Global};
 use std::collections::BTreeMap;
 use std::marker::Model;
+use std::mem;
 
 /// What is kept under each name: a lease, or room for one.
 type Table<L> = BTreeMap<LeaseName, Option<L>>;
@@ -49,28 +50,6 @@ fn release<B: Backend>(room: Option<B::Lease>) {
     }
 }
 
-/// Puts a lease, or room for one, under a name, and answers what was there. What is put comes back
-/// where memory runs out, which it is not at a name that has a row.
-fn put<L>(table: &mut Table<L>, name: LeaseName, room: Option<L>) -> Result<Option<L>, Option<L>>
-    ensures was { IfOk result (λ old. old ≡ unwrap_or (tree.get name_cmp table.old name) None) }
-    ensures puts { OnOk result (tree.Updates name_cmp table.old table.new name (Some room)) }
-    ensures back { IfErr result (λ v. v ≡ room) }
-    ensures absent { OnErr result (tree.get name_cmp table.old name ≡ None) }
-    ensures same { OnErr result (table.new.entries ≡ table.old.entries) }
-    ensures ordered { tree.IsOrdered name_cmp table.new }
-    ensures was_ordered { tree.IsOrdered name_cmp table.old }
-{
-    match table.insert(name, room) {
-        Ok(Some(old)) => Ok(old),
-        Ok(None) => Ok(None),
-        Err(failed) => {
-            let AllocFailed { value } = failed;
-            let (_, room) = value;
-            Err(room)
-        }
-    }
-}
-
 /// Makes room under a name that has no lease. Refused with `Memory` alone.
 fn reserve<B: Backend>(table: &mut Table<B::Lease>, name: LeaseName) -> Result<(), Refusal>
     requires free { fmap.get (leases_in B.lent table.old) name ≡ None }
@@ -80,12 +59,15 @@ fn reserve<B: Backend>(table: &mut Table<B::Lease>, name: LeaseName) -> Result<(
     ensures ordered { tree.IsOrdered name_cmp table.new }
     ensures refused { IfErr result (λ e. e ≡ Refusal.Memory) }
 {
-    match put(table, name, None) {
-        Ok(old) => {
+    match table.insert(name, None) {
+        Ok(Some(old)) => {
             release::<B>(old);
             Ok(())
         }
-        Err(room) => {
+        Ok(None) => Ok(()),
+        Err(failed) => {
+            let AllocFailed { value } = failed;
+            let (_, room) = value;
             release::<B>(room);
             Err(Refusal::Memory)
         }
@@ -104,9 +86,9 @@ fn exchange<B: Backend>(
     ensures rows { KeepsRows table.old table.new }
     ensures ordered { tree.IsOrdered name_cmp table.new }
 {
-    match put(table, name, room) {
-        Ok(old) => old,
-        Err(room) => {
+    match table.get_mut(&name) {
+        Some(row) => mem::replace(row, room),
+        None => {
             release::<B>(room);
             unreachable!()
         }

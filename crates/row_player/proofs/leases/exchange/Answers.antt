@@ -1,13 +1,21 @@
-use Rattle.std.proofs.Common.{◌∙◌, sym}
+use Rattle.std.proofs.Common.{ap, rules, Some, ◌∙◌}
 use Rattle.std.specs.BTreeMap as tree
+use Rattle.std.specs.Option.{option_map}
 use Rattle.row_player.specs.Leases.{name_cmp}
-use Rattle.row_player.proofs.LeaseTables.{get-leases_in, put_any, was_held}
+use Rattle.row_player.specs.LeaseTables.{leases_in, with_lease}
+use Rattle.row_player.proofs.LeaseTables.{held_at, put_any}
 use Rattle.row_player.proofs.leases.exchange.Goals as goal
 
 pub returns-clause-was : goal.returns-clause-was
 returns-clause-was g c =
-    was_held g.B.Backend.lent (tree.get name_cmp c.args.table.now c.args.name) c.in-Ok.old c.in-Ok.ensures.was
-    ∙ sym (get-leases_in g.B.Backend.lent c.args.table.now c.args.name c.put.ensures.was_ordered)
+    let lent = g.B.Backend.lent in
+    ap (option_map lent) c.replace.ensures.value ∙ held_at lent c.args.table.now c.args.name c.get_mut.ensures.ordered (Some c.in-Some.row.now) c.in-Some.ensures.value
 
 pub returns-clause-puts : goal.returns-clause-puts
-returns-clause-puts g c = put_any g.B.Backend.lent c.args.table.now c.put.new.table c.args.name c.put.ensures.was_ordered c.put.ensures.ordered c.args.room c.in-Ok.ensures.puts
+returns-clause-puts g c =
+    let lent = g.B.Backend.lent in
+    let put = c.replace.new.dest in
+    let table = c.get_mut.follows.lender put in
+    let ordered : tree.IsOrdered name_cmp table = search rules in
+    put_any lent c.args.table.now table c.args.name c.get_mut.ensures.ordered ordered put ((c.get_mut.follows.holds put).3 c.requires.there)
+    ∙ ap (λ room. with_lease (leases_in lent c.args.table.now) c.args.name (option_map lent room)) c.replace.ensures.after
