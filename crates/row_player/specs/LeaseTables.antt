@@ -1,7 +1,8 @@
 -- What a table of leases stands for. A row without a lease is room for one that is to come in the same call.
-use Rattle.std.specs.Prelude.{List, [], ◌∷◌, Option, Some, None, IsSome}
+use Rattle.std.specs.Prelude.{◌≡◌, ◌⊎◌, true, List, [], ◌∷◌, Option, Some, None, IsSome}
 use Rattle.std.specs.FinMap as fmap
 use Rattle.std.specs.BTreeMap as tree
+use Rattle.std.specs.BTreeMap.{is_at}
 use Rattle.row_player.specs.Leases.{Lent, Leases, Name, name_cmp}
 
 -- the rows of a table that hold a lease
@@ -21,6 +22,19 @@ HasRow m k = IsSome (tree.get name_cmp m k)
 -- each row stays
 abbrev pub KeepsRows : {L : Type 0} → tree.BTreeMap Name (Option L) → tree.BTreeMap Name (Option L) → Type 0
 KeepsRows m n = (k : Name) → HasRow m k → HasRow n k
+
+-- a name is one of these
+abbrev pub IsAmong : Name → List Name → Type 0
+IsAmong k [] = ⊥
+IsAmong k (name ∷ names) = (is_at (name_cmp name) k ≡ true) ⊎ IsAmong k names
+
+-- each row holds a lease, but for those of these names
+abbrev pub HoldsBut : {L : Type 0} → List Name → tree.BTreeMap Name (Option L) → Type 0
+HoldsBut names m = (k : Name) → tree.get name_cmp m k ≡ Some None → IsAmong k names
+
+-- each row holds a lease
+abbrev pub HoldsEach : {L : Type 0} → tree.BTreeMap Name (Option L) → Type 0
+HoldsEach m = HoldsBut [] m
 
 -- the leases with this one, or none, under a name
 abbrev pub with_lease : Leases → Name → Option Lent → Leases

@@ -1,5 +1,5 @@
 //! The leases that the lanes of a script hold.
-ghost use Rattle.std.specs.Prelude.{◌≡◌, ◌≢◌, ◌⊎◌, ℕ, Some, None, [], length, IsSome, IfOk, IfErr, OnOk, MatchResult};
+ghost use Rattle.std.specs.Prelude.{◌≡◌, ◌≢◌, ◌⊎◌, ◌∷◌, ℕ, Some, None, [], length, IsSome, IfOk, IfErr, OnOk, MatchResult};
 ghost use Rattle.std.specs.Option.{option_map};
 ghost use Rattle.std.specs.FinMap as fmap;
 ghost use Rattle.std.specs.BTreeMap as tree;
@@ -7,7 +7,7 @@ ghost use Rattle.finite_maps.specs.Texts.{Text};
 ghost use Rattle.row_player.specs.Answers.{answer_of, Bytes, Refused};
 ghost use Rattle.row_player.specs.Commands.{Calls, Lease as LeaseCommand};
 ghost use Rattle.row_player.specs.Leases.{name_cmp, new_lease, none};
-ghost use Rattle.row_player.specs.LeaseTables.{HasRow, KeepsRows, leases_in, with_lease};
+ghost use Rattle.row_player.specs.LeaseTables.{HasRow, HoldsBut, HoldsEach, KeepsRows, leases_in, with_lease};
 ghost use Rattle.row_player.specs.Plays.{VerifiesLease, shared_in, give_back_of};
 
 use crate::backend::Backend;
@@ -22,7 +22,8 @@ use std::mem;
 /// What is kept under each name: a lease, or room for one.
 type Table<L> = BTreeMap<LeaseName, Option<L>>;
 
-/// The leases that the lanes hold, by their names. They must be given back before the table goes.
+/// The leases that the lanes hold, by their names. They must be given back before the table goes. No row is without a
+/// lease, so that a call that is refused leaves none.
 /// Contracts see a finite map from lane and name to the leases' bytes and weights.
 pub struct Leases<B: Backend> {
     table: Table<B::Lease>,
@@ -31,7 +32,7 @@ pub struct Leases<B: Backend> {
 impl<B: Backend> Model for Leases<B> {
     ghost use Rattle.std.specs.BTreeMap as tree;
     ghost use Rattle.row_player.specs.Leases.{Leases as LeasesView, coded_leases, name_cmp};
-    ghost use Rattle.row_player.specs.LeaseTables.{leases_in};
+    ghost use Rattle.row_player.specs.LeaseTables.{HoldsEach, leases_in};
 
     ghost Value = { LeasesView };
 
@@ -39,7 +40,7 @@ impl<B: Backend> Model for Leases<B> {
 
     ghost view = { λ a. leases_in B.lent a.table };
 
-    ghost invariant = { λ a. tree.IsOrdered name_cmp a.table };
+    ghost invariant = { λ a. tree.IsOrdered name_cmp a.table × HoldsEach a.table };
 }
 
 /// Gives back what stands in a row, if it is a lease.
@@ -53,8 +54,10 @@ fn release<B: Backend>(room: Option<B::Lease>) {
 /// Makes room under a name that has no lease. Refused with `Memory` alone.
 fn reserve<B: Backend>(table: &mut Table<B::Lease>, name: LeaseName) -> Result<(), Refusal>
     requires free { fmap.get (leases_in B.lent table.old) name ≡ None }
+    requires held { HoldsEach table.old }
     ensures same { leases_in B.lent table.new ≡ leases_in B.lent table.old }
     ensures there { OnOk result (HasRow table.new name) }
+    ensures held { MatchResult result (λ _. HoldsBut (name ∷ []) table.new) (λ _. HoldsEach table.new) }
     ensures rows { KeepsRows table.old table.new }
     ensures ordered { tree.IsOrdered name_cmp table.new }
     ensures refused { IfErr result (λ e. e ≡ Refusal.Memory) }
@@ -83,6 +86,7 @@ fn exchange<B: Backend>(
     requires there { HasRow table.old name }
     ensures was { option_map B.lent result ≡ fmap.get (leases_in B.lent table.old) name }
     ensures puts { leases_in B.lent table.new ≡ with_lease (leases_in B.lent table.old) name (option_map B.lent room) }
+    ensures updates { tree.Updates name_cmp table.old table.new name (Some room) }
     ensures rows { KeepsRows table.old table.new }
     ensures ordered { tree.IsOrdered name_cmp table.new }
 {
@@ -114,6 +118,7 @@ fn take<B: Backend>(table: &mut Table<B::Lease>, name: LeaseName) -> Option<B::L
     ensures was { option_map B.lent result ≡ fmap.get (leases_in B.lent table.old) name }
     ensures takes { leases_in B.lent table.new ≡ fmap.remove (leases_in B.lent table.old) name }
     ensures gone { ¬ (HasRow table.new name) }
+    ensures updates { tree.Updates name_cmp table.old table.new name None }
     ensures ordered { tree.IsOrdered name_cmp table.new }
 {
     match table.remove(&name) {
@@ -132,8 +137,10 @@ fn lend_in<B: Backend>(
     digest: &Digest,
 ) -> Result<u64, Refusal>
     requires free { fmap.get (leases_in B.lent table.old) name ≡ None }
+    requires held { HoldsEach table.old }
     ensures lends { MatchResult result (λ n. (bytes : Text) × B.acts backend.old (Calls (LeaseCommand repo.now digest.now)) (Bytes bytes) backend.new × (n ≡ length bytes) × (leases_in B.lent table.new ≡ fmap.insert (leases_in B.lent table.old) name (new_lease bytes))) (λ e. (leases_in B.lent table.new ≡ leases_in B.lent table.old) × (((e ≡ Refusal.Memory) × (backend.new ≡ backend.old)) ⊎ B.acts backend.old (Calls (LeaseCommand repo.now digest.now)) (Refused e) backend.new)) }
     ensures ordered { tree.IsOrdered name_cmp table.new }
+    ensures held { HoldsEach table.new }
 {
     reserve::<B>(table, name)?;
     match backend.lease(repo, digest) {
@@ -156,8 +163,10 @@ fn share_in<B: Backend>(
     second: LeaseName,
 ) -> Result<Reply, Refusal>
     requires ordered { tree.IsOrdered name_cmp table.old }
+    requires held { HoldsEach table.old }
     ensures shares { MatchResult result (λ r. (answer_of r, leases_in B.lent table.new) ≡ shared_in (leases_in B.lent table.old) name second) (λ e. ((e ≡ Refusal.Memory) × (leases_in B.lent table.new ≡ leases_in B.lent table.old)) ⊎ ((Refused e, leases_in B.lent table.new) ≡ shared_in (leases_in B.lent table.old) name second)) }
     ensures ordered { tree.IsOrdered name_cmp table.new }
+    ensures held { HoldsEach table.new }
 {
     if held_in::<B>(table, name).is_none() {
         return Ok(Reply::NoLease);
@@ -186,9 +195,11 @@ fn share_in<B: Backend>(
 /// Has a backend look at the slot of a lease.
 fn verify_in<B: Backend>(backend: &mut B, table: &mut Table<B::Lease>, name: LeaseName) -> Reply
     requires ordered { tree.IsOrdered name_cmp table.old }
+    requires held { HoldsEach table.old }
     ensures looks { VerifiesLease B.acts (fmap.get (leases_in B.lent table.old) name) backend.old (answer_of result) backend.new }
     ensures same { leases_in B.lent table.new ≡ leases_in B.lent table.old }
     ensures ordered { tree.IsOrdered name_cmp table.new }
+    ensures held { HoldsEach table.new }
 {
     if held_in::<B>(table, name).is_none() {
         return Reply::NoLease;
@@ -205,8 +216,10 @@ fn verify_in<B: Backend>(backend: &mut B, table: &mut Table<B::Lease>, name: Lea
 /// Gives a lease back.
 fn return_in<B: Backend>(table: &mut Table<B::Lease>, name: LeaseName) -> Reply
     requires ordered { tree.IsOrdered name_cmp table.old }
+    requires held { HoldsEach table.old }
     ensures returns { (answer_of result, leases_in B.lent table.new) ≡ give_back_of (leases_in B.lent table.old) name (fmap.get (leases_in B.lent table.old) name) }
     ensures ordered { tree.IsOrdered name_cmp table.new }
+    ensures held { HoldsEach table.new }
 {
     match take::<B>(table, name) {
         Some(held) => {

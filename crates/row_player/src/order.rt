@@ -66,11 +66,12 @@ impl<L: RowList> RepliesByRow<L> {
         take_first(&mut self.queues, worker)
     }
 
-    /// Puts all replies into a list, which has room for them.
+    /// Puts all replies into a list, which has room for them, and keeps that room.
     pub fn into_list(mut self, mut list: Vec<Reply>) -> Vec<Reply>
         requires empty { list.items ≡ [] }
         requires room { length self ≤ vec_capacity list }
-        ensures { answers_of result.items ≡ self }
+        ensures all { answers_of result.items ≡ self }
+        ensures same { vec_capacity result ≡ vec_capacity list }
     {
         while let Some(reply) = self.next_reply() {
             list.push_reserved(reply);

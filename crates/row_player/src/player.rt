@@ -220,6 +220,7 @@ pub fn play_rows<B: Backend, G: Gate, L: RowList>(
     requires empty { replies.items ≡ [] }
     requires room { length (own_rows worker.workers worker.number (L.lines rows.now)) ≤ vec_capacity replies }
     ensures played { IfOk result (λ v. (left : LeasesView) × Plays B.acts (backend.old, none) (own_rows worker.workers worker.number (L.lines rows.now)) (answers_of v.items) (backend.new, left)) }
+    ensures room { IfOk result (λ v. vec_capacity v ≡ vec_capacity replies) }
     ensures refused { IfErr result (λ e. e ≡ Refusal.Memory) }
 {
     let mut leases = Leases::new(alloc);
@@ -237,7 +238,7 @@ pub fn play_rows<B: Backend, G: Gate, L: RowList>(
     Ok(replies)
 }
 
-/// Plays all rows in their order, and answers one reply for each. It ends at the first out of
+/// Plays all rows in their order, and answers one reply for each, in room for just these. It ends at the first out of
 /// memory; the rows that were accepted before it stand. The leases that the lanes still hold at the
 /// end are given back.
 pub fn play<B: Backend, L: RowList>(
@@ -246,6 +247,7 @@ pub fn play<B: Backend, L: RowList>(
     rows: L,
 ) -> Result<Vec<Reply>, Refusal>
     ensures played { IfOk result (λ replies. (left : LeasesView) × Plays B.acts (backend.old, none) (L.lines rows) (answers_of replies.items) (backend.new, left)) }
+    ensures room { IfOk result (λ replies. vec_capacity replies ≡ length (L.lines rows)) }
     ensures refused { IfErr result (λ e. e ≡ Refusal.Memory) }
 {
     let worker = Worker::alone();
@@ -264,6 +266,7 @@ fn play_lists<B: Backend>(
 ) -> Result<(), Refusal>
     requires room { vec_len replies.old + length (joined lists.items) ≤ vec_capacity replies.old }
     ensures played { OnOk result (PlaysOn B.acts (backend.old, leases.old) (answers_of replies.old.items) (joined lists.items) (backend.new, leases.new) (answers_of replies.new.items)) }
+    ensures room { vec_capacity replies.new ≡ vec_capacity replies.old }
     ensures refused { IfErr result (λ e. e ≡ Refusal.Memory) }
 {
     while let Some(list) = lists.pop_front() {
@@ -288,6 +291,7 @@ pub fn play_script<B: Backend>(
     rows: ScriptRows,
 ) -> Result<Vec<Reply>, Refusal>
     ensures played { IfOk result (λ replies. (left : LeasesView) × Plays B.acts (backend.old, none) rows (answers_of replies.items) (backend.new, left)) }
+    ensures room { IfOk result (λ replies. vec_capacity replies ≡ length rows) }
     ensures refused { IfErr result (λ e. e ≡ Refusal.Memory) }
 {
     let mut replies = Vec::with_capacity(alloc, (&rows).len())?;

@@ -7,6 +7,7 @@ abbrev pub invariant-loop-reply : goal.invariant-loop-reply
 invariant-loop-reply g l = record {
   all : answers_of l.list.items ++ l.self ≡ l.fn.self;
   room : length l.list.items + length l.self ≤ vec_capacity l.list;
+  same : vec_capacity l.list ≡ vec_capacity l.fn.list;
 }
 
 abbrev pub decreases-loop-reply : goal.decreases-loop-reply
