@@ -14,6 +14,7 @@ mod range;
 mod registry;
 mod store;
 mod tags;
+mod turns;
 mod uploading;
 mod uploads;
 
@@ -87,6 +88,7 @@ async fn run(options: Options) -> Result<(), Failure> {
         access,
         uploads: Default::default(),
         tags: Default::default(),
+        turns: Default::default(),
         metrics: Metrics::new(),
         tenants: options.tenant_names(),
         slots: options.slots,

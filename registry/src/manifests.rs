@@ -1,32 +1,39 @@
 //! Manifests and tags.
 use crate::content::Content;
 use crate::fault::Fault;
+use crate::frames::{Reason, Refusal};
 use crate::registry::{empty, with_body, Call, Served};
-use crate::tags::{is_tag, Page, MANIFEST_TYPE};
+use crate::tags::{is_tag, Named, Page, MAX_PAGE};
 use bytes::Bytes;
 use hyper::{Body, StatusCode};
 use serde_json::json;
 use sha2::{Digest, Sha256};
+
+/// The media type of a manifest of which none is known.
+const MANIFEST_TYPE: &str = "application/vnd.oci.image.manifest.v1+json";
 
 /// Whether a reference is a digest's text, and not a tag.
 fn is_digest(reference: &str) -> bool {
     reference.contains(':')
 }
 
-/// The digest of the manifest that a reference names, and its media type.
-async fn resolve(call: &Call, reference: &str) -> Result<(String, String), Fault> {
-    let tags = call.registry.tags.lock().await;
-    let digest = match is_digest(reference) {
-        true => reference.to_string(),
-        false => tags.digest(&call.repo, reference).ok_or_else(Fault::manifest_unknown)?.clone(),
-    };
-    let media_type = tags.media_type(&call.repo, &digest).to_string();
-    Ok((digest, media_type))
+/// The manifest that a reference names.
+async fn look_up(call: &Call, reference: &str) -> Result<Named, Fault> {
+    let tags = &call.registry.tags;
+    if !is_digest(reference) {
+        return tags.by_tag(&call.repo, reference).ok_or_else(Fault::manifest_unknown);
+    }
+    if let Some(named) = tags.by_digest(&call.repo, reference) {
+        return Ok(named);
+    }
+    // The store tells whether the name and the digest are valid. A manifest that it has is being put, or deleted.
+    call.registry.store.stat_manifest(&call.repo, reference).await??;
+    Err(Fault::manifest_unknown())
 }
 
 /// end-3: a manifest.
 pub async fn get(call: &Call, reference: &str) -> Served {
-    let (digest, media_type) = resolve(call, reference).await?;
+    let Named { digest, media_type } = look_up(call, reference).await?;
     let bytes = call.registry.store.get_manifest(&call.repo, &digest).await??;
     let headers = [("Content-Type", &*media_type), ("Docker-Content-Digest", &*digest)];
     with_body(StatusCode::OK, &headers, Body::from(bytes))
@@ -34,7 +41,7 @@ pub async fn get(call: &Call, reference: &str) -> Served {
 
 /// end-3: that a manifest is there, and how long it is.
 pub async fn head(call: &Call, reference: &str) -> Served {
-    let (digest, media_type) = resolve(call, reference).await?;
+    let Named { digest, media_type } = look_up(call, reference).await?;
     let size = call.registry.store.stat_manifest(&call.repo, &digest).await??.to_string();
     let headers = [("Content-Type", &*media_type), ("Docker-Content-Digest", &*digest), ("Content-Length", &*size)];
     empty(StatusCode::OK, &headers)
@@ -46,30 +53,36 @@ pub async fn put(call: &Call, reference: &str, content: &mut Content) -> Served 
         return Err(Fault::new(StatusCode::BAD_REQUEST, "MANIFEST_INVALID", "the reference is no tag and no digest"));
     }
     let bytes = content.manifest().await?;
+    let digest = digest_of(&bytes);
     if is_digest(reference) {
-        check_digest(&bytes, reference)?;
+        check_digest(&digest, reference)?;
     }
     let media_type = call.header("content-type").unwrap_or(MANIFEST_TYPE);
     let tag = Some(reference).filter(|reference| !is_digest(reference));
-    let mut tags = call.registry.tags.lock().await;
-    let digest = call.registry.store.put_manifest(&call.repo, &bytes).await??;
-    tags.put(&call.repo, &digest, media_type, tag);
-    drop(tags);
+    let turn = call.registry.turns.take(&call.repo, &digest).await;
+    call.registry.store.put_manifest(&call.repo, &bytes).await??;
+    call.registry.tags.put(&call.repo, &digest, media_type, tag);
+    drop(turn);
     let location = format!("/v2/{}/manifests/{digest}", call.repo);
     empty(StatusCode::CREATED, &[("Location", &location), ("Docker-Content-Digest", &digest)])
 }
 
-/// Refuses bytes that don't have a digest. The store keeps manifests by SHA-256 alone.
-fn check_digest(parts: &[Bytes], digest: &str) -> Result<(), Fault> {
-    let fault = |message| Err(Fault::new(StatusCode::BAD_REQUEST, "DIGEST_INVALID", message));
-    if !digest.starts_with("sha256:") {
-        return fault("manifests are kept by sha256 alone");
-    }
+/// The digest by which the store keeps a manifest.
+fn digest_of(parts: &[Bytes]) -> String {
     let mut hash = Sha256::new();
     for part in parts {
         hash.update(part);
     }
-    if format!("sha256:{:x}", hash.finalize()) != digest {
+    format!("sha256:{:x}", hash.finalize())
+}
+
+/// Fails if a manifest is put under another digest than its own. The store keeps manifests by SHA-256 alone.
+fn check_digest(digest: &str, reference: &str) -> Result<(), Fault> {
+    let fault = |message| Err(Fault::new(StatusCode::BAD_REQUEST, "DIGEST_INVALID", message));
+    if !reference.starts_with("sha256:") {
+        return fault("manifests are kept by sha256 alone");
+    }
+    if digest != reference {
         return fault("the manifest has another digest");
     }
     Ok(())
@@ -77,26 +90,44 @@ fn check_digest(parts: &[Bytes], digest: &str) -> Result<(), Fault> {
 
 /// end-9: takes a manifest away with its tags, or a tag alone.
 pub async fn delete(call: &Call, reference: &str) -> Served {
-    let mut tags = call.registry.tags.lock().await;
     if is_digest(reference) {
-        call.registry.store.delete_manifest(&call.repo, reference).await??;
-        tags.remove_manifest(&call.repo, reference);
-    } else if !tags.remove_tag(&call.repo, reference) {
+        delete_manifest(call, reference).await?;
+    } else if !call.registry.tags.remove_tag(&call.repo, reference) {
         return Err(Fault::manifest_unknown());
     }
     empty(StatusCode::ACCEPTED, &[])
 }
 
+/// Deletes a manifest and its tags. They aren't seen from here on; if the store keeps the manifest, they are seen again.
+async fn delete_manifest(call: &Call, digest: &str) -> Result<(), Fault> {
+    let (store, tags) = (&call.registry.store, &call.registry.tags);
+    let _turn = call.registry.turns.take(&call.repo, digest).await;
+    tags.mark(&call.repo, digest, true);
+    match store.delete_manifest(&call.repo, digest).await? {
+        Ok(()) => tags.remove_manifest(&call.repo, digest),
+        Err(refusal @ Refusal { reason: Reason::ManifestUnknown, .. }) => {
+            tags.remove_manifest(&call.repo, digest);
+            return Err(refusal.into());
+        }
+        Err(refusal) => {
+            tags.mark(&call.repo, digest, false);
+            return Err(refusal.into());
+        }
+    }
+    Ok(())
+}
+
 /// end-8: a page of the tags.
 pub async fn tags(call: &Call) -> Served {
     let last = call.query("last").unwrap_or_default();
-    let most = match call.query("n") {
-        None => usize::MAX,
+    let most: usize = match call.query("n") {
+        None => MAX_PAGE,
         Some(text) => text.parse().map_err(|_| {
             Fault::new(StatusCode::BAD_REQUEST, "UNSUPPORTED", "n has to be a number")
         })?,
     };
-    let page = call.registry.tags.lock().await.page(&call.repo, &last, most);
+    let most = most.min(MAX_PAGE);
+    let page = call.registry.tags.page(&call.repo, &last, most);
     let Page { tags, more } = page.ok_or_else(|| {
         Fault::new(StatusCode::NOT_FOUND, "NAME_UNKNOWN", "the repository has no manifests")
     })?;

@@ -6,6 +6,7 @@ use crate::metrics::Metrics;
 use crate::path::{query_value, Target};
 use crate::store::{Lost, Store};
 use crate::tags::Tags;
+use crate::turns::Turns;
 use crate::uploads::Uploads;
 use crate::{blobs, manifests, uploading};
 use hyper::header::{CONTENT_TYPE, EXPECT};
@@ -23,8 +24,9 @@ pub struct Registry {
     pub store: Store,
     pub access: Access,
     pub uploads: Uploads,
-    /// Held over a call of the store that puts or deletes a manifest, never while a client is waited for.
-    pub tags: tokio::sync::Mutex<Tags>,
+    pub tags: Tags,
+    /// A writer of a manifest has its turn over its call to the store. Readers take none.
+    pub turns: Turns,
     pub metrics: Metrics,
     pub tenants: Vec<String>,
     pub slots: u32,

@@ -1,22 +1,42 @@
-//! What the store doesn't keep of a manifest: its tags, and the media type that it was sent with.
+//! What the store doesn't keep of a manifest: its tags, and its media type.
+//!
+//! A manifest is entered here after the store accepted it, and is marked as leaving before the store is asked to delete it.
+//! One that is marked isn't seen, nor are its tags. So a tag that is seen names a manifest that the store has, unless the
+//! manifest was marked after the look-up. No lock is held over a call to the store.
 use std::collections::{BTreeMap, HashMap};
+use std::ops::Bound;
+use std::sync::{Arc, Mutex, RwLock};
 
-/// The media type of a manifest of which none is known.
-pub const MANIFEST_TYPE: &str = "application/vnd.oci.image.manifest.v1+json";
+/// The most tags of a page.
+pub const MAX_PAGE: usize = 1000;
 
-/// A repository's tags, and its manifests' media types.
+/// A manifest that the store has.
+struct Manifest {
+    media_type: String,
+    /// Whether the store is being asked to delete it.
+    is_leaving: bool,
+}
+
+/// A repository's tags and manifests.
 #[derive(Default)]
 struct Repository {
     /// The digest of each tag's manifest.
     tags: BTreeMap<String, String>,
     /// By digest.
-    types: HashMap<String, String>,
+    manifests: HashMap<String, Manifest>,
 }
 
-/// The tags and media types of all repositories.
+/// The tags and media types of all repositories, each repository with a lock of its own. The store bounds how many there are.
 #[derive(Default)]
 pub struct Tags {
-    repos: HashMap<String, Repository>,
+    repos: RwLock<HashMap<String, Arc<Mutex<Repository>>>>,
+}
+
+/// What a reference names.
+#[derive(Debug, PartialEq, Eq)]
+pub struct Named {
+    pub digest: String,
+    pub media_type: String,
 }
 
 /// A page of tags.
@@ -36,55 +56,95 @@ pub fn is_tag(text: &str) -> bool {
         && bytes.iter().all(|byte| is_word(*byte) || *byte == b'.' || *byte == b'-')
 }
 
+impl Repository {
+    /// The manifest of a digest, unless it is leaving.
+    fn manifest(&self, digest: &str) -> Option<&Manifest> {
+        self.manifests.get(digest).filter(|manifest| !manifest.is_leaving)
+    }
+
+    fn named(&self, digest: &str) -> Option<Named> {
+        let manifest = self.manifest(digest)?;
+        Some(Named { digest: digest.to_string(), media_type: manifest.media_type.clone() })
+    }
+}
+
 impl Tags {
-    /// The digest of a tag's manifest.
-    pub fn digest(&self, repo: &str, tag: &str) -> Option<&String> {
-        self.repos.get(repo)?.tags.get(tag)
+    /// Looks at a repository, or changes it. None: it has had no manifest.
+    fn with<T>(&self, repo: &str, look: impl FnOnce(&mut Repository) -> T) -> Option<T> {
+        let found = self.repos.read().unwrap().get(repo)?.clone();
+        let mut found = found.lock().unwrap();
+        Some(look(&mut found))
     }
 
-    /// The media type of a manifest.
-    pub fn media_type(&self, repo: &str, digest: &str) -> &str {
-        let kept = self.repos.get(repo).and_then(|repo| repo.types.get(digest));
-        kept.map_or(MANIFEST_TYPE, String::as_str)
+    /// Returns the manifest of a digest.
+    pub fn by_digest(&self, repo: &str, digest: &str) -> Option<Named> {
+        self.with(repo, |repo| repo.named(digest)).flatten()
     }
 
-    /// A manifest was put, under a tag or by its digest alone.
-    pub fn put(&mut self, repo: &str, digest: &str, media_type: &str, tag: Option<&str>) {
-        let repo = self.repos.entry(repo.to_string()).or_default();
-        repo.types.insert(digest.to_string(), media_type.to_string());
+    /// Returns the manifest of a tag.
+    pub fn by_tag(&self, repo: &str, tag: &str) -> Option<Named> {
+        self.with(repo, |repo| repo.named(repo.tags.get(tag)?)).flatten()
+    }
+
+    /// Enters a manifest that the store accepted, and its tag if it was put under one.
+    pub fn put(&self, repo: &str, digest: &str, media_type: &str, tag: Option<&str>) {
+        let found = self.repos.write().unwrap().entry(repo.to_string()).or_default().clone();
+        let mut found = found.lock().unwrap();
+        let manifest = Manifest { media_type: media_type.to_string(), is_leaving: false };
+        found.manifests.insert(digest.to_string(), manifest);
         if let Some(tag) = tag {
-            repo.tags.insert(tag.to_string(), digest.to_string());
+            found.tags.insert(tag.to_string(), digest.to_string());
         }
     }
 
-    /// A tag is taken away: whether it was there.
-    pub fn remove_tag(&mut self, repo: &str, tag: &str) -> bool {
-        self.repos.get_mut(repo).map_or(false, |repo| repo.tags.remove(tag).is_some())
+    /// Removes a tag. Returns whether it was there.
+    pub fn remove_tag(&self, repo: &str, tag: &str) -> bool {
+        let remove = |repo: &mut Repository| {
+            let is_there = repo.tags.get(tag).map_or(false, |digest| repo.manifest(digest).is_some());
+            is_there && repo.tags.remove(tag).is_some()
+        };
+        self.with(repo, remove).unwrap_or(false)
     }
 
-    /// A manifest was deleted, and its tags go with it.
-    pub fn remove_manifest(&mut self, repo: &str, digest: &str) {
-        if let Some(kept) = self.repos.get_mut(repo) {
-            kept.types.remove(digest);
-            kept.tags.retain(|_, kept| kept != digest);
-            if kept.types.is_empty() && kept.tags.is_empty() {
-                self.repos.remove(repo);
+    /// Marks a manifest, or takes the mark off: whether the store is being asked to delete it.
+    pub fn mark(&self, repo: &str, digest: &str, is_leaving: bool) {
+        self.with(repo, |repo| {
+            if let Some(manifest) = repo.manifests.get_mut(digest) {
+                manifest.is_leaving = is_leaving;
             }
-        }
+        });
     }
 
-    /// The first tags behind another, in order, at most so many. None: no manifest of the repository is known.
+    /// Removes a manifest that the store hasn't any more, with its tags.
+    pub fn remove_manifest(&self, repo: &str, digest: &str) {
+        self.with(repo, |repo| {
+            if repo.manifests.remove(digest).is_some() {
+                repo.tags.retain(|_, named| named != digest);
+            }
+        });
+    }
+
+    /// Returns the first tags after another, in order, at most `most` and at most `MAX_PAGE`. None: the repository has no
+    /// manifest.
     pub fn page(&self, repo: &str, last: &str, most: usize) -> Option<Page> {
-        let tags = &self.repos.get(repo)?.tags;
-        let mut behind = tags.keys().filter(|tag| tag.as_str() > last);
-        let tags = behind.by_ref().take(most).cloned().collect();
-        Some(Page { tags, more: behind.next().is_some() })
+        let page = |repo: &mut Repository| {
+            if !repo.manifests.values().any(|manifest| !manifest.is_leaving) {
+                return None;
+            }
+            let after = repo.tags.range::<str, _>((Bound::Excluded(last), Bound::Unbounded));
+            let mut seen = after.filter(|(_, digest)| repo.manifest(digest).is_some());
+            let tags = seen.by_ref().take(most.min(MAX_PAGE)).map(|(tag, _)| tag.clone()).collect();
+            Some(Page { tags, more: seen.next().is_some() })
+        };
+        self.with(repo, page).flatten()
     }
 }
 
 #[cfg(test)]
 mod tests {
     use super::*;
+
+    const TYPE: &str = "application/vnd.oci.image.manifest.v1+json";
 
     #[test]
     fn tags_are_words_of_the_specification() {
@@ -98,33 +158,68 @@ mod tests {
 
     #[test]
     fn pages_follow_one_another() {
-        let mut tags = Tags::default();
+        let tags = Tags::default();
         for tag in ["v3", "v1", "v2"] {
-            tags.put("acme/web", "sha256:a", MANIFEST_TYPE, Some(tag));
+            tags.put("acme/web", "sha256:a", TYPE, Some(tag));
         }
         let page = |last, most| tags.page("acme/web", last, most).unwrap();
         let texts = |words: &[&str]| words.iter().map(|word| word.to_string()).collect::<Vec<_>>();
         assert_eq!(page("", 2), Page { tags: texts(&["v1", "v2"]), more: true });
         assert_eq!(page("v2", 2), Page { tags: texts(&["v3"]), more: false });
+        assert_eq!(page("v1x", 2), Page { tags: texts(&["v2", "v3"]), more: false });
         assert_eq!(page("", 3), Page { tags: texts(&["v1", "v2", "v3"]), more: false });
         assert_eq!(page("", 0), Page { tags: vec![], more: true });
         assert_eq!(tags.page("acme/other", "", 2), None);
     }
 
     #[test]
+    fn a_page_has_a_bound() {
+        let tags = Tags::default();
+        for number in 0..=MAX_PAGE {
+            tags.put("acme/web", "sha256:a", TYPE, Some(&format!("v{number:05}")));
+        }
+        let first = tags.page("acme/web", "", usize::MAX).unwrap();
+        assert_eq!((first.tags.len(), first.more), (MAX_PAGE, true));
+        let second = tags.page("acme/web", first.tags.last().unwrap(), usize::MAX).unwrap();
+        assert_eq!((second.tags.len(), second.more), (1, false));
+    }
+
+    #[test]
     fn a_manifests_tags_go_with_it() {
-        let mut tags = Tags::default();
+        let tags = Tags::default();
         tags.put("acme/web", "sha256:a", "text/a", Some("v1"));
         tags.put("acme/web", "sha256:b", "text/b", Some("v2"));
         tags.put("acme/web", "sha256:a", "text/a", Some("v3"));
-        assert_eq!(tags.media_type("acme/web", "sha256:a"), "text/a");
+        let named = Named { digest: "sha256:a".to_string(), media_type: "text/a".to_string() };
+        assert_eq!(tags.by_tag("acme/web", "v1"), Some(named));
         tags.remove_manifest("acme/web", "sha256:a");
-        assert_eq!(tags.digest("acme/web", "v1"), None);
-        assert_eq!(tags.digest("acme/web", "v2"), Some(&"sha256:b".to_string()));
-        assert_eq!(tags.media_type("acme/web", "sha256:a"), MANIFEST_TYPE);
+        assert_eq!(tags.by_tag("acme/web", "v1"), None);
+        assert_eq!(tags.by_digest("acme/web", "sha256:a"), None);
+        assert_eq!(tags.by_tag("acme/web", "v2").unwrap().digest, "sha256:b");
         assert!(tags.remove_tag("acme/web", "v2"));
         assert!(!tags.remove_tag("acme/web", "v2"));
+        assert!(tags.page("acme/web", "", 1).unwrap().tags.is_empty());
         tags.remove_manifest("acme/web", "sha256:b");
-        assert!(tags.repos.is_empty());
+        assert_eq!(tags.page("acme/web", "", 1), None);
+    }
+
+    #[test]
+    fn a_manifest_that_is_leaving_is_not_seen() {
+        let tags = Tags::default();
+        tags.put("acme/web", "sha256:a", TYPE, Some("v1"));
+        tags.put("acme/web", "sha256:b", TYPE, Some("v2"));
+        tags.mark("acme/web", "sha256:a", true);
+        assert_eq!(tags.by_tag("acme/web", "v1"), None);
+        assert_eq!(tags.by_digest("acme/web", "sha256:a"), None);
+        assert_eq!(tags.page("acme/web", "", 9).unwrap().tags, ["v2"]);
+        assert!(!tags.remove_tag("acme/web", "v1"));
+        // Its tag may be given to another meanwhile, and is that one's then.
+        tags.put("acme/web", "sha256:b", TYPE, Some("v1"));
+        tags.remove_manifest("acme/web", "sha256:a");
+        assert_eq!(tags.by_tag("acme/web", "v1").unwrap().digest, "sha256:b");
+        tags.mark("acme/web", "sha256:b", true);
+        assert_eq!(tags.page("acme/web", "", 9), None);
+        tags.mark("acme/web", "sha256:b", false);
+        assert_eq!(tags.page("acme/web", "", 9).unwrap().tags, ["v1", "v2"]);
     }
 }

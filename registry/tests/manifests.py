@@ -1,0 +1,127 @@
+#!/usr/bin/env python3
+"""Manifests and tags while the store is slow, while others write, and in every form that a client may give them."""
+import json, random, threading, time
+
+from playing import Asking, play, serving_stub, took, until
+from server import MANIFEST, serving, sha256
+
+PATCH = {"Content-Type": "application/octet-stream"}
+KIND = {"Content-Type": MANIFEST}
+PUT_MANIFEST, GET_MANIFEST, DELETE_MANIFEST, STAT_MANIFEST = "8", "9", "10", "18"
+
+
+def image(number, **more):
+    """A manifest that differs by its number, over no blob that the stub would look for."""
+    config = {"mediaType": "application/vnd.oci.image.config.v1+json", "digest": sha256(b"{}"), "size": 2}
+    return json.dumps({"schemaVersion": 2, "mediaType": MANIFEST, "config": config, "layers": [], "annotations": {"n": str(number)}, **more}).encode()
+
+
+def a_slow_call_for_one_tenant_holds_no_other_up():
+    with serving_stub({f"{PUT_MANIFEST} acme/slow": {"slow": 2}, f"{DELETE_MANIFEST} acme/slow": {"slow": 2}}) as server:
+        client = server.client()
+        for repo in ("acme/one", "other/one"):
+            assert client.ask("PUT", f"/v2/{repo}/manifests/v1", image(1), KIND).status == 201
+        def others(busy):
+            for repo in ("other/one", "acme/one"):
+                for path in ("manifests/v1", "tags/list"):
+                    answer, seconds = took(lambda: client.ask("GET", f"/v2/{repo}/{path}"))
+                    assert answer.status == 200 and seconds < 0.8, (repo, path, answer.status, seconds)
+                answer, seconds = took(lambda: client.ask("PUT", f"/v2/{repo}/manifests/v2", image(2), KIND))
+                assert answer.status == 201 and seconds < 0.8, (repo, answer.status, seconds)
+            assert busy.answer is None, "the slow call ended before it was measured"
+        for busy in (lambda: Asking(server, "PUT", "/v2/acme/slow/manifests/v1", image(3), KIND),
+                     lambda: Asking(server, "DELETE", f"/v2/acme/slow/manifests/{sha256(image(3))}")):
+            asking = busy()
+            time.sleep(0.2)
+            others(asking)
+            assert asking.answered().status in (201, 202), asking.answer.status
+
+
+def a_repository_is_read_while_it_is_written():
+    with serving_stub({PUT_MANIFEST + " acme/one": {"slow": 1}}) as server:
+        client = server.client()
+        assert client.ask("PUT", "/v2/acme/one/manifests/v1", image(1), KIND).status == 201
+        asking = Asking(server, "PUT", "/v2/acme/one/manifests/v2", image(2), KIND)
+        time.sleep(0.2)
+        for path in ("manifests/v1", "tags/list"):
+            answer, seconds = took(lambda: client.ask("GET", f"/v2/acme/one/{path}"))
+            assert answer.status == 200 and seconds < 0.5, (path, answer.status, seconds)
+        assert asking.answer is None and asking.answered().status == 201
+
+
+def a_put_and_a_delete_of_one_manifest_take_turns():
+    """The store has made a put before its delete begins, or the tag would name a manifest that is gone."""
+    with serving_stub({PUT_MANIFEST: {"late": 0.6}}) as server:
+        client = server.client()
+        asking = Asking(server, "PUT", "/v2/acme/one/manifests/v1", image(1), KIND)
+        time.sleep(0.2)
+        deleted = client.ask("DELETE", f"/v2/acme/one/manifests/{sha256(image(1))}")
+        assert (asking.answered().status, deleted.status) == (201, 202), (asking.answer.status, deleted.status)
+        assert client.ask("GET", "/v2/acme/one/tags/list").status == 404
+        assert client.ask("GET", "/v2/acme/one/manifests/v1").status == 404
+
+
+def a_delete_that_the_store_refuses_leaves_the_tags():
+    memory = 17
+    with serving_stub({DELETE_MANIFEST: {"status": memory}}) as server:
+        client = server.client()
+        assert client.ask("PUT", "/v2/acme/one/manifests/v1", image(1), KIND).status == 201
+        assert client.ask("DELETE", f"/v2/acme/one/manifests/{sha256(image(1))}").status == 503
+        assert json.loads(client.ask("GET", "/v2/acme/one/tags/list").body)["tags"] == ["v1"]
+
+
+def writers_at_once_leave_no_tag_without_its_manifest(server):
+    """Clients put the same few manifests under the same few tags and delete them, all at once."""
+    config = b"{}"
+    assert server.client().ask("POST", f"/v2/acme/many/blobs/uploads/?digest={sha256(config)}", config, PATCH).status == 201
+    bodies, faults = [image(number) for number in range(3)], []
+    def write(seed):
+        client, choice = server.client(), random.Random(seed)
+        for _ in range(150):
+            body, tag = choice.choice(bodies), f"v{choice.randrange(4)}"
+            if choice.random() < 0.6:
+                wanted, answer = (201,), client.ask("PUT", f"/v2/acme/many/manifests/{tag}", body, KIND)
+            elif choice.random() < 0.8:
+                wanted, answer = (202, 404), client.ask("DELETE", f"/v2/acme/many/manifests/{sha256(body)}")
+            else:
+                wanted, answer = (202, 404), client.ask("DELETE", f"/v2/acme/many/manifests/{tag}")
+            if answer.status not in wanted:
+                faults.append((answer.status, answer.body[:100]))
+    for turn in range(3):
+        writers = [threading.Thread(target=write, args=(100 * turn + number,)) for number in range(6)]
+        for writer in writers:
+            writer.start()
+        for writer in writers:
+            writer.join()
+        assert not faults, faults[:3]
+        client = server.client()
+        listed = client.ask("GET", "/v2/acme/many/tags/list")
+        for tag in json.loads(listed.body)["tags"] if listed.status == 200 else []:
+            answer = client.ask("GET", f"/v2/acme/many/manifests/{tag}")
+            assert answer.status == 200 and sha256(answer.body) == answer["Docker-Content-Digest"], (tag, answer.status)
+
+
+def lists_of_tags_have_a_bound(server):
+    client, body = server.client(), image(1)
+    assert client.ask("POST", f"/v2/acme/tags/blobs/uploads/?digest={sha256(b'{}')}", b"{}", PATCH).status == 201
+    tags = [f"v{number:04}" for number in range(1001)]
+    for tag in tags:
+        assert client.ask("PUT", f"/v2/acme/tags/manifests/{tag}", body, KIND).status == 201
+    for query in ("", "?n=5000", "?n=1000"):
+        page = client.ask("GET", f"/v2/acme/tags/tags/list{query}")
+        assert json.loads(page.body)["tags"] == tags[:1000], (query, len(page.body))
+        assert page["Link"] == '</v2/acme/tags/tags/list?n=1000&last=v0999>; rel="next"', (query, page["Link"])
+    rest = client.ask("GET", page["Link"].split(">")[0][1:])
+    assert json.loads(rest.body)["tags"] == tags[1000:] and rest["Link"] is None, rest.body[:100]
+
+
+def main():
+    with serving("--slots", "16") as server:
+        play("manifests", [
+            a_slow_call_for_one_tenant_holds_no_other_up, a_repository_is_read_while_it_is_written,
+            a_put_and_a_delete_of_one_manifest_take_turns, a_delete_that_the_store_refuses_leaves_the_tags,
+            (writers_at_once_leave_no_tag_without_its_manifest, server), (lists_of_tags_have_a_bound, server)])
+
+
+if __name__ == "__main__":
+    main()

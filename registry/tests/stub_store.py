@@ -1,0 +1,83 @@
+#!/usr/bin/env python3
+"""A store in place of blobd that is as slow, or as forgetful, as a test wants: it speaks the frames of docs/FRAMES.md, keeps
+manifests, and counts the bytes of uploads. STUB_RULES is a JSON object: under `COMMAND REPOSITORY`, or `COMMAND` alone, the
+seconds that a call takes after it was made (`late`) or before it is made (`slow`), and the status that it is answered with
+in its place (`status`)."""
+import hashlib, json, os, struct, sys, threading, time
+
+GREETING = b"blobd\0\1\0"
+HEAD = struct.Struct("<BBHHHIIQQ")
+START, STATUS, APPEND, CLOSE, ABANDON, MOUNT, DELETE, PUT_MANIFEST, GET_MANIFEST, DELETE_MANIFEST = range(1, 11)
+SWEEP, STAT_MANIFEST, FREE_SLOTS, USAGE = 14, 18, 19, 20
+UPLOAD_UNKNOWN, BLOB_UNKNOWN, MANIFEST_UNKNOWN, NO_COMMAND = 4, 7, 9, 255
+
+
+class Stub:
+    def __init__(self):
+        self.rules = json.loads(os.environ.get("STUB_RULES", "{}"))
+        self.lock, self.manifests, self.uploads, self.count = threading.Lock(), {}, {}, 0
+
+    def reply(self, command, repo, digest, number, body):
+        """What a call is answered: status, first, second, digest, body."""
+        kept = self.manifests.get((repo, digest))
+        if command in (START, MOUNT):
+            self.count += 1
+            self.uploads[self.count] = 0
+            return 0, self.count, 0, "", b""
+        if command in (STATUS, APPEND, CLOSE, ABANDON):
+            if number not in self.uploads:
+                return UPLOAD_UNKNOWN, 0, 0, "", b""
+            self.uploads[number] += len(body)
+            received = self.uploads[number]
+            if command in (CLOSE, ABANDON):
+                del self.uploads[number]
+            return 0, received if command != ABANDON else 0, 0, "", b""
+        if command == PUT_MANIFEST:
+            digest = "sha256:" + hashlib.sha256(body).hexdigest()
+            self.manifests[repo, digest] = body
+            return 0, 0, 0, digest, b""
+        if command in (GET_MANIFEST, STAT_MANIFEST, DELETE_MANIFEST):
+            if kept is None:
+                return MANIFEST_UNKNOWN, 0, 0, "", b""
+            if command == DELETE_MANIFEST:
+                del self.manifests[repo, digest]
+            return 0, len(kept) if command == STAT_MANIFEST else 0, 0, "", kept if command == GET_MANIFEST else b""
+        if command in (SWEEP, FREE_SLOTS, USAGE):
+            return 0, 0, 0, "", b""
+        return (BLOB_UNKNOWN if command in (DELETE, 11, 12, 17) else NO_COMMAND), 0, 0, "", b""
+
+    def serve(self, requests, replies):
+        """One line, until it is closed."""
+        with open(requests, "rb") as source, open(replies, "wb", buffering=0) as sink:
+            if source.read(len(GREETING)) != GREETING:
+                return
+            sink.write(GREETING)
+            while True:
+                head = source.read(HEAD.size)
+                if len(head) < HEAD.size:
+                    return
+                command, _, repo, digest, other, number, body, _, _ = HEAD.unpack(head)
+                repo, digest, other, body = (source.read(count) for count in (repo, digest, other, body))
+                repo = repo.decode()
+                rule = {**self.rules.get(str(command), {}), **self.rules.get(f"{command} {repo}", {})}
+                time.sleep(rule.get("slow", 0))
+                with self.lock:
+                    told = self.reply(command, repo, digest.decode(), number, body)
+                time.sleep(rule.get("late", 0))
+                status, first, second, text, content = (rule["status"], 0, 0, "", b"") if "status" in rule else told
+                head = struct.pack("<IIQQQ", status, len(text), first, second, len(content))
+                sink.write(head + text.encode() + content)
+
+
+def main():
+    paths = sys.argv[sys.argv.index("--") + 1:]
+    stub = Stub()
+    lines = [threading.Thread(target=stub.serve, args=pair) for pair in zip(paths[::2], paths[1::2])]
+    for line in lines:
+        line.start()
+    for line in lines:
+        line.join()
+
+
+if __name__ == "__main__":
+    main()
