@@ -96,7 +96,8 @@ async fn run(options: Options) -> Result<(), Failure> {
     let sweeper = registry.clone();
     tokio::spawn(async move { sweeper.sweep(Duration::from_millis(options.sweep_ms)).await });
     let expirer = registry.clone();
-    tokio::spawn(async move { expirer.expire(Duration::from_secs(options.session_s)).await });
+    let patience = options.patience();
+    tokio::spawn(async move { expirer.expire(patience).await });
     tracing::info!(address = %listener.local_addr()?, "listening");
     serve(&registry, listener, child).await
 }

@@ -1,7 +1,9 @@
 //! The words of the command line.
+use crate::uploads::Patience;
 use clap::Parser;
 use std::net::SocketAddr;
 use std::path::PathBuf;
+use std::time::Duration;
 
 /// A container registry, by the OCI Distribution Specification 1.1. It keeps everything in memory: what was pushed is gone
 /// when it ends.
@@ -26,6 +28,9 @@ pub struct Options {
     /// After how many seconds an upload that isn't used is given up.
     #[arg(long, value_name = "N", default_value_t = 3600)]
     pub session_s: u64,
+    /// Abandon an upload without bytes after this time.
+    #[arg(long, value_name = "SECONDS", default_value_t = 60)]
+    pub empty_session_s: u64,
     /// A file of users and passwords by `htpasswd`: each user may use the tenant of his name, and nobody else.
     #[arg(long, value_name = "FILE")]
     pub htpasswd: Option<PathBuf>,
@@ -53,6 +58,12 @@ impl Options {
     pub fn conflict(&self) -> Option<&'static str> {
         let open = self.htpasswd.is_none() && !self.listen.ip().is_loopback() && !self.let_anybody_in;
         open.then(|| "without --htpasswd it listens on this machine alone, unless --let-anybody-in is given")
+    }
+
+    /// How long uploads may be unused.
+    pub fn patience(&self) -> Patience {
+        let (begun, empty) = (Duration::from_secs(self.session_s), Duration::from_secs(self.empty_session_s));
+        Patience { begun, empty }
     }
 
     /// The tenants' names.

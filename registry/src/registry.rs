@@ -2,18 +2,20 @@
 use crate::access::Access;
 use crate::content::Content;
 use crate::fault::Fault;
+use crate::frames::{Reason, Refusal};
 use crate::metrics::Metrics;
 use crate::path::{query_value, Target};
 use crate::store::{Lost, Store};
 use crate::tags::Tags;
 use crate::turns::Turns;
-use crate::uploads::Uploads;
+use crate::uploads::{Patience, Upload, Uploads};
 use crate::{blobs, manifests, uploading};
 use hyper::header::{CONTENT_TYPE, EXPECT};
 use hyper::http::request::Parts;
 use hyper::{Body, Method, Request, Response, StatusCode};
 use std::sync::Arc;
 use std::time::{Duration, Instant};
+use uuid::Uuid;
 
 /// The least rest behind a sweep that freed nothing: one that follows at once frees nothing either, and takes a processor and
 /// the store's lock from the others.
@@ -144,19 +146,34 @@ impl Registry {
     }
 
     /// Gives up the uploads that aren't used for some time, again and again, until the store is gone.
-    pub async fn expire(&self, time: Duration) {
-        let rest = (time / 10).clamp(Duration::from_millis(100), Duration::from_secs(60));
-        while self.expire_once(time).await.is_ok() {
+    pub async fn expire(&self, patience: Patience) {
+        let rest = (patience.least() / 10).clamp(Duration::from_millis(100), Duration::from_secs(60));
+        while self.expire_once(patience).await.is_ok() {
             tokio::time::sleep(rest).await;
         }
     }
 
-    async fn expire_once(&self, time: Duration) -> Result<(), Lost> {
-        for (name, repo, session) in self.uploads.unused_for(time) {
-            // One that a chunk is on its way to is tried again later.
-            if self.store.abandon(&repo, session).await?.is_ok() {
-                self.uploads.remove(&name);
-                tracing::info!(repo, "an unused upload is given up");
+    async fn expire_once(&self, patience: Patience) -> Result<(), Lost> {
+        for name in self.uploads.unused(patience) {
+            if let Some(upload) = self.uploads.take_unused(&name, patience) {
+                self.give_up(name, upload).await?;
+            }
+        }
+        Ok(())
+    }
+
+    /// Gives up an upload. If the store keeps it, it is tried again later.
+    async fn give_up(&self, name: Uuid, upload: Upload) -> Result<(), Lost> {
+        let repo = &upload.repo;
+        match self.store.abandon(repo, upload.session).await {
+            Ok(Ok(())) => tracing::info!(repo, "an unused upload is given up"),
+            Ok(Err(Refusal { reason: Reason::UploadUnknown, .. })) => {
+                tracing::warn!(repo, "an upload is dropped that the store doesn't know");
+            }
+            Ok(Err(_)) => self.uploads.put_back(name, upload),
+            Err(lost) => {
+                self.uploads.put_back(name, upload);
+                return Err(lost);
             }
         }
         Ok(())

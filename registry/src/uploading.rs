@@ -4,6 +4,7 @@ use crate::fault::{range_text, Fault};
 use crate::range::content_range;
 use crate::registry::{empty, Call, Served};
 use crate::store::{Answer, Lost, Mounted};
+use crate::uploads::InUse;
 use bytes::Bytes;
 use hyper::StatusCode;
 use tokio::sync::mpsc;
@@ -26,10 +27,12 @@ pub async fn open(call: &Call, content: &mut Content) -> Served {
         Some(digest) => digest,
         None => return opened(call, session),
     };
-    // Nobody else knows of this session, so it is given up where it comes to no blob.
-    let closed = take_and_close(call, session, 0, &digest, content).await;
-    if closed.is_err() {
-        let _ = store.abandon(&call.repo, session).await;
+    // Nobody else knows of this upload, so it is given up if it becomes no blob, and later if the store can't do so now.
+    let uploads = &call.registry.uploads;
+    let upload = uploads.enter(&call.repo, uploads.add(&call.repo, session))?;
+    let closed = take_and_close(call, &upload, 0, &digest, content).await;
+    if closed.is_ok() || store.abandon(&call.repo, session).await?.is_ok() {
+        uploads.remove(&upload.name);
     }
     closed?;
     stored(call, &digest)
@@ -37,50 +40,48 @@ pub async fn open(call: &Call, content: &mut Content) -> Served {
 
 /// end-13: how much of an upload was received.
 pub async fn status(call: &Call, name: &str) -> Served {
-    let (name, session) = find(call, name)?;
-    let received = call.registry.store.status(&call.repo, session).await??;
-    progress(call, StatusCode::NO_CONTENT, &name, received)
+    let upload = find(call, name)?;
+    let received = call.registry.store.status(&call.repo, upload.session).await??;
+    progress(call, StatusCode::NO_CONTENT, &upload.name, received)
 }
 
 /// end-5: takes a chunk.
 pub async fn append(call: &Call, name: &str, content: &mut Content) -> Served {
-    let (name, session) = find(call, name)?;
-    let start = place(call, session, content).await?;
-    let (start, rest) = take_all_but_last(call, session, start, content).await?;
+    let upload = find(call, name)?;
+    let start = place(call, upload.session, content).await?;
+    let (start, rest) = take_all_but_last(call, &upload, start, content).await?;
     let received = match rest.is_empty() {
         true => start,
-        false => call.registry.store.append(&call.repo, session, start, &rest).await??,
+        false => call.registry.store.append(&call.repo, upload.session, start, &rest).await??,
     };
-    // The chunk may have taken long.
-    let _ = call.registry.uploads.session(&call.repo, &name);
-    progress(call, StatusCode::ACCEPTED, &name, received)
+    progress(call, StatusCode::ACCEPTED, &upload.name, received)
 }
 
 /// end-6: takes the last chunk, if any, and makes the upload a blob. Where it is refused the upload stays, with the bytes
 /// that were taken.
 pub async fn close(call: &Call, name: &str, content: &mut Content) -> Served {
-    let (name, session) = find(call, name)?;
+    let upload = find(call, name)?;
     let digest = call.query("digest").ok_or_else(|| {
         Fault::new(StatusCode::BAD_REQUEST, "DIGEST_INVALID", "the query names no digest")
     })?;
-    let start = place(call, session, content).await?;
-    take_and_close(call, session, start, &digest, content).await?;
-    call.registry.uploads.remove(&name);
+    let start = place(call, upload.session, content).await?;
+    take_and_close(call, &upload, start, &digest, content).await?;
+    call.registry.uploads.remove(&upload.name);
     stored(call, &digest)
 }
 
 /// end-14: gives an upload up.
 pub async fn abandon(call: &Call, name: &str) -> Served {
-    let (name, session) = find(call, name)?;
-    call.registry.store.abandon(&call.repo, session).await??;
-    call.registry.uploads.remove(&name);
+    let upload = find(call, name)?;
+    call.registry.store.abandon(&call.repo, upload.session).await??;
+    call.registry.uploads.remove(&upload.name);
     empty(StatusCode::NO_CONTENT, &[])
 }
 
-/// An upload's name, and its session.
-fn find(call: &Call, name: &str) -> Result<(Uuid, u32), Fault> {
+/// Begins to use the upload of a name.
+fn find<'c>(call: &'c Call, name: &str) -> Result<InUse<'c>, Fault> {
     let name = Uuid::parse_str(name).map_err(|_| Fault::upload_unknown())?;
-    Ok((name, call.registry.uploads.session(&call.repo, &name)?))
+    call.registry.uploads.enter(&call.repo, name)
 }
 
 /// The answer to an upload that is open.
@@ -123,13 +124,13 @@ async fn place(call: &Call, session: u32, content: &Content) -> Result<u64, Faul
 /// Takes the content, and closes the session with its last piece.
 async fn take_and_close(
     call: &Call,
-    session: u32,
+    upload: &InUse<'_>,
     start: u64,
     digest: &str,
     content: &mut Content,
 ) -> Result<(), Fault> {
-    let (start, rest) = take_all_but_last(call, session, start, content).await?;
-    call.registry.store.close(&call.repo, session, digest, start, &rest).await??;
+    let (start, rest) = take_all_but_last(call, upload, start, content).await?;
+    call.registry.store.close(&call.repo, upload.session, digest, start, &rest).await??;
     Ok(())
 }
 
@@ -166,15 +167,18 @@ impl Sending {
 /// sent while one is hashed. Where the client breaks off, what came of it is kept, and the upload can go on from there.
 async fn take_all_but_last(
     call: &Call,
-    session: u32,
+    upload: &InUse<'_>,
     start: u64,
     content: &mut Content,
 ) -> Result<(u64, Vec<Bytes>), Fault> {
     let mut piece = content.next().await;
+    if !piece.parts.is_empty() {
+        upload.begin();
+    }
     if piece.then == Then::End {
         return Ok((start, piece.parts));
     }
-    let sending = Sending::begin(call, session, start);
+    let sending = Sending::begin(call, upload.session, start);
     loop {
         match piece.then {
             Then::End => return Ok((sending.end().await?, piece.parts)),

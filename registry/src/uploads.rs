@@ -5,12 +5,33 @@ use std::sync::Mutex;
 use std::time::{Duration, Instant};
 use uuid::Uuid;
 
-/// An upload: its repository, its session, and when it was last used.
+/// An upload: its repository, its session, and who uses it.
 #[derive(Clone, Debug, PartialEq, Eq)]
-struct Upload {
-    repo: String,
-    session: u32,
+pub struct Upload {
+    pub repo: String,
+    pub session: u32,
+    /// When the last request of it ended, or it was opened.
     used: Instant,
+    /// How many requests are using it.
+    requests: u32,
+    /// Whether a client sent a byte of it.
+    is_begun: bool,
+}
+
+/// How long an upload may be unused before it is given up.
+#[derive(Clone, Copy, Debug)]
+pub struct Patience {
+    /// One that a client sent bytes of.
+    pub begun: Duration,
+    /// One without bytes.
+    pub empty: Duration,
+}
+
+impl Patience {
+    /// The shorter of both times.
+    pub fn least(&self) -> Duration {
+        self.begun.min(self.empty)
+    }
 }
 
 /// The open uploads.
@@ -19,21 +40,35 @@ pub struct Uploads {
     by_name: Mutex<HashMap<Uuid, Upload>>,
 }
 
+/// An upload that a request is using. It isn't given up before this is dropped.
+pub struct InUse<'u> {
+    uploads: &'u Uploads,
+    pub name: Uuid,
+    pub session: u32,
+}
+
+impl Upload {
+    fn is_unused(&self, patience: Patience) -> bool {
+        let time = if self.is_begun { patience.begun } else { patience.least() };
+        self.requests == 0 && self.used.elapsed() >= time
+    }
+}
+
 impl Uploads {
     /// Gives a session a name, a random UUID (RFC 4122, version 4).
     pub fn add(&self, repo: &str, session: u32) -> Uuid {
         let name = Uuid::new_v4();
-        let upload = Upload { repo: repo.to_string(), session, used: Instant::now() };
+        let upload = Upload { repo: repo.to_string(), session, used: Instant::now(), requests: 0, is_begun: false };
         self.by_name.lock().unwrap().insert(name, upload);
         name
     }
 
-    /// The session of an upload in a repository, which counts as used now.
-    pub fn session(&self, repo: &str, name: &Uuid) -> Result<u32, Fault> {
-        match self.by_name.lock().unwrap().get_mut(name) {
+    /// Begins to use an upload of a repository.
+    pub fn enter(&self, repo: &str, name: Uuid) -> Result<InUse<'_>, Fault> {
+        match self.by_name.lock().unwrap().get_mut(&name) {
             Some(upload) if upload.repo == repo => {
-                upload.used = Instant::now();
-                Ok(upload.session)
+                upload.requests += 1;
+                Ok(InUse { uploads: self, name, session: upload.session })
             }
             _ => Err(Fault::upload_unknown()),
         }
@@ -48,11 +83,41 @@ impl Uploads {
         self.by_name.lock().unwrap().len()
     }
 
-    /// The uploads that weren't used for so long: name, repository and session of each.
-    pub fn unused_for(&self, time: Duration) -> Vec<(Uuid, String, u32)> {
+    /// The names of the uploads that are to be given up.
+    pub fn unused(&self, patience: Patience) -> Vec<Uuid> {
         let uploads = self.by_name.lock().unwrap();
-        let old = uploads.iter().filter(|(_, upload)| upload.used.elapsed() >= time);
-        old.map(|(name, upload)| (*name, upload.repo.clone(), upload.session)).collect()
+        let unused = uploads.iter().filter(|(_, upload)| upload.is_unused(patience));
+        unused.map(|(name, _)| *name).collect()
+    }
+
+    /// Removes an upload, if it is still unused.
+    pub fn take_unused(&self, name: &Uuid, patience: Patience) -> Option<Upload> {
+        let mut uploads = self.by_name.lock().unwrap();
+        uploads.get(name).filter(|upload| upload.is_unused(patience))?;
+        uploads.remove(name)
+    }
+
+    /// Puts back an upload that the store keeps. It counts as used now.
+    pub fn put_back(&self, name: Uuid, upload: Upload) {
+        self.by_name.lock().unwrap().insert(name, Upload { used: Instant::now(), ..upload });
+    }
+}
+
+impl InUse<'_> {
+    /// A client sent a byte of it.
+    pub fn begin(&self) {
+        if let Some(upload) = self.uploads.by_name.lock().unwrap().get_mut(&self.name) {
+            upload.is_begun = true;
+        }
+    }
+}
+
+impl Drop for InUse<'_> {
+    fn drop(&mut self) {
+        if let Some(upload) = self.uploads.by_name.lock().unwrap().get_mut(&self.name) {
+            upload.requests -= 1;
+            upload.used = Instant::now();
+        }
     }
 }
 
@@ -60,17 +125,45 @@ impl Uploads {
 mod tests {
     use super::*;
 
+    const NOW: Patience = Patience { begun: Duration::ZERO, empty: Duration::ZERO };
+
     #[test]
     fn an_upload_is_known_in_its_repository_until_it_is_over() {
         let uploads = Uploads::default();
         let name = uploads.add("acme/web", 7);
-        assert_eq!(uploads.session("acme/web", &name).unwrap(), 7);
-        assert!(uploads.session("acme/other", &name).is_err());
-        assert!(uploads.session("acme/web", &Uuid::new_v4()).is_err());
-        assert!(uploads.unused_for(Duration::from_secs(60)).is_empty());
-        assert_eq!(uploads.unused_for(Duration::ZERO), [(name, "acme/web".to_string(), 7)]);
+        assert_eq!(uploads.enter("acme/web", name).unwrap().session, 7);
+        assert!(uploads.enter("acme/other", name).is_err());
+        assert!(uploads.enter("acme/web", Uuid::new_v4()).is_err());
         uploads.remove(&name);
-        assert!(uploads.session("acme/web", &name).is_err());
+        assert!(uploads.enter("acme/web", name).is_err());
         assert_eq!(uploads.len(), 0);
+    }
+
+    #[test]
+    fn an_upload_in_use_is_not_given_up() {
+        let uploads = Uploads::default();
+        let name = uploads.add("acme/web", 7);
+        let (first, second) = (uploads.enter("acme/web", name).unwrap(), uploads.enter("acme/web", name).unwrap());
+        assert!(uploads.unused(NOW).is_empty());
+        drop(first);
+        assert!(uploads.take_unused(&name, NOW).is_none());
+        drop(second);
+        assert_eq!(uploads.unused(NOW), [name]);
+        let upload = uploads.take_unused(&name, NOW).unwrap();
+        assert_eq!((&*upload.repo, upload.session), ("acme/web", 7));
+        assert_eq!(uploads.len(), 0);
+        uploads.put_back(name, upload);
+        assert_eq!(uploads.unused(NOW), [name]);
+    }
+
+    #[test]
+    fn an_upload_without_bytes_is_given_up_earlier() {
+        let uploads = Uploads::default();
+        let (empty, begun) = (uploads.add("acme/web", 7), uploads.add("acme/web", 8));
+        uploads.enter("acme/web", begun).unwrap().begin();
+        let hour = Duration::from_secs(3600);
+        assert_eq!(uploads.unused(Patience { begun: hour, empty: Duration::ZERO }), [empty]);
+        assert_eq!(uploads.unused(Patience { begun: Duration::ZERO, empty: hour }).len(), 2);
+        assert!(uploads.unused(Patience { begun: hour, empty: hour }).is_empty());
     }
 }

@@ -1,8 +1,8 @@
 #!/usr/bin/env python3
 """A store in place of blobd that is as slow, or as forgetful, as a test wants: it speaks the frames of docs/FRAMES.md, keeps
 manifests, and counts the bytes of uploads. STUB_RULES is a JSON object: under `COMMAND REPOSITORY`, or `COMMAND` alone, the
-seconds that a call takes after it was made (`late`) or before it is made (`slow`), and the status that it is answered with
-in its place (`status`)."""
+seconds that a call takes before it is made (`slow`) or after (`late`), and the status that it is answered with instead of
+being made (`status`)."""
 import hashlib, json, os, struct, sys, threading, time
 
 GREETING = b"blobd\0\1\0"
@@ -61,10 +61,11 @@ class Stub:
                 repo = repo.decode()
                 rule = {**self.rules.get(str(command), {}), **self.rules.get(f"{command} {repo}", {})}
                 time.sleep(rule.get("slow", 0))
-                with self.lock:
-                    told = self.reply(command, repo, digest.decode(), number, body)
+                status, first, second, text, content = rule.get("status", 0), 0, 0, "", b""
+                if status == 0:
+                    with self.lock:
+                        status, first, second, text, content = self.reply(command, repo, digest.decode(), number, body)
                 time.sleep(rule.get("late", 0))
-                status, first, second, text, content = (rule["status"], 0, 0, "", b"") if "status" in rule else told
                 head = struct.pack("<IIQQQ", status, len(text), first, second, len(content))
                 sink.write(head + text.encode() + content)
 
