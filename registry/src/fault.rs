@@ -47,6 +47,11 @@ impl Fault {
         Fault::new(StatusCode::NOT_FOUND, "MANIFEST_UNKNOWN", "the repository has no such manifest")
     }
 
+    /// The content is no manifest, or another than it says.
+    pub fn manifest_invalid(message: impl Into<String>) -> Fault {
+        Fault::new(StatusCode::BAD_REQUEST, "MANIFEST_INVALID", message)
+    }
+
     /// The range of a chunk isn't that of its bytes.
     pub fn content_range() -> Fault {
         Fault::new(StatusCode::BAD_REQUEST, "SIZE_INVALID", "Content-Range isn't `<start>-<end>` of the content")
@@ -121,9 +126,7 @@ impl From<Refusal> for Fault {
             }
             Reason::RangeInvalid => Fault::out_of_order(first),
             Reason::BlobUnknown => Fault::new(StatusCode::NOT_FOUND, "BLOB_UNKNOWN", "the repository has no such blob"),
-            Reason::ManifestInvalid => {
-                Fault::new(StatusCode::BAD_REQUEST, "MANIFEST_INVALID", "the content is no manifest")
-            }
+            Reason::ManifestInvalid => Fault::manifest_invalid("the content is no manifest"),
             Reason::ManifestUnknown => Fault::manifest_unknown(),
             Reason::ManifestBlobUnknown => {
                 Fault::new(StatusCode::NOT_FOUND, "MANIFEST_BLOB_UNKNOWN", "the repository lacks a blob of the manifest")

@@ -7,6 +7,7 @@ mod fault;
 mod frames;
 mod line;
 mod manifests;
+mod media_type;
 mod metrics;
 mod options;
 mod path;

@@ -2,15 +2,13 @@
 use crate::content::Content;
 use crate::fault::Fault;
 use crate::frames::{Reason, Refusal};
+use crate::media_type::{media_type_of, MediaType};
 use crate::registry::{empty, with_body, Call, Served};
 use crate::tags::{is_tag, Named, Page, MAX_PAGE};
 use bytes::Bytes;
 use hyper::{Body, StatusCode};
 use serde_json::json;
 use sha2::{Digest, Sha256};
-
-/// The media type of a manifest of which none is known.
-const MANIFEST_TYPE: &str = "application/vnd.oci.image.manifest.v1+json";
 
 /// Whether a reference is a digest's text, and not a tag.
 fn is_digest(reference: &str) -> bool {
@@ -50,18 +48,21 @@ pub async fn head(call: &Call, reference: &str) -> Served {
 /// end-7: puts a manifest, under a tag or by its digest.
 pub async fn put(call: &Call, reference: &str, content: &mut Content) -> Served {
     if !is_digest(reference) && !is_tag(reference) {
-        return Err(Fault::new(StatusCode::BAD_REQUEST, "MANIFEST_INVALID", "the reference is no tag and no digest"));
+        return Err(Fault::manifest_invalid("the reference is no tag and no digest"));
     }
     let bytes = content.manifest().await?;
-    let digest = digest_of(&bytes);
+    // A long manifest takes long to look at, and other requests go on meanwhile.
+    let header = call.header("content-type");
+    let (digest, media_type) = tokio::task::block_in_place(|| (digest_of(&bytes), media_type_of(header, &bytes)));
     if is_digest(reference) {
         check_digest(&digest, reference)?;
     }
-    let media_type = call.header("content-type").unwrap_or(MANIFEST_TYPE);
+    let given = media_type?;
     let tag = Some(reference).filter(|reference| !is_digest(reference));
     let turn = call.registry.turns.take(&call.repo, &digest).await;
+    let media_type = kept_media_type(call, &digest, given)?;
     call.registry.store.put_manifest(&call.repo, &bytes).await??;
-    call.registry.tags.put(&call.repo, &digest, media_type, tag);
+    call.registry.tags.put(&call.repo, &digest, &media_type, tag);
     drop(turn);
     let location = format!("/v2/{}/manifests/{digest}", call.repo);
     empty(StatusCode::CREATED, &[("Location", &location), ("Docker-Content-Digest", &digest)])
@@ -86,6 +87,19 @@ fn check_digest(digest: &str, reference: &str) -> Result<(), Fault> {
         return fault("the manifest has another digest");
     }
     Ok(())
+}
+
+/// The media type by which a manifest is served: the one that the repository has it with, if it has it. Fails if another is
+/// given.
+fn kept_media_type(call: &Call, digest: &str, given: MediaType) -> Result<String, Fault> {
+    match call.registry.tags.by_digest(&call.repo, digest) {
+        Some(kept) if given.is_given && !kept.media_type.eq_ignore_ascii_case(&given.text) => {
+            let message = format!("the repository has the manifest as {}, and this one is {}", kept.media_type, given.text);
+            Err(Fault::manifest_invalid(message))
+        }
+        Some(kept) => Ok(kept.media_type),
+        None => Ok(given.text),
+    }
 }
 
 /// end-9: takes a manifest away with its tags, or a tag alone.

@@ -115,11 +115,53 @@ def lists_of_tags_have_a_bound(server):
     assert json.loads(rest.body)["tags"] == tags[1000:] and rest["Link"] is None, rest.body[:100]
 
 
+def a_media_type_belongs_to_the_content():
+    docker = "application/vnd.docker.distribution.manifest.v2+json"
+    index = "application/vnd.oci.image.index.v1+json"
+    listing = b'{"schemaVersion":2,"manifests":[]}'
+    plain = image(1).replace(f'"mediaType": "{MANIFEST}", '.encode(), b"", 1)
+    assert b"config" in plain and len(plain) < len(image(1)) - len(MANIFEST)
+    with serving_stub({}) as server:
+        client = server.client()
+        def put(tag, body, kind, status):
+            answer = client.ask("PUT", f"/v2/acme/one/manifests/{tag}", body, {"Content-Type": kind} if kind else {})
+            assert answer.status == status, (tag, answer.status, answer.body[:200])
+            if status == 400:
+                assert answer.code() == "MANIFEST_INVALID", (tag, answer.body[:200])
+        def served(tag, kind):
+            for method in ("GET", "HEAD"):
+                answer = client.ask(method, f"/v2/acme/one/manifests/{tag}")
+                assert (answer.status, answer["Content-Type"]) == (200, kind), (tag, answer.status, answer["Content-Type"])
+        put("own", image(2), None, 201)
+        served("own", MANIFEST)
+        put("parameters", image(3), MANIFEST + "; charset=utf-8", 201)
+        served("parameters", MANIFEST)
+        put("other", image(4), docker, 400)
+        put("other", image(4), "application/octet-stream", 400)
+        put("index", listing, None, 201)
+        served("index", index)
+        put("index", listing, MANIFEST, 400)
+        put("index", listing, docker, 400)
+        put("image", plain, index, 400)
+        put("long", plain, "application/" + "x" * 256, 400)
+        put("broken", image(5, mediaType="a\nb/c"), None, 400)
+        # Once the repository has it, its type stays, whatever tag it is put under, until it is deleted.
+        put("v1", plain, docker, 201)
+        put("v2", plain, MANIFEST, 400)
+        put("v3", plain, None, 201)
+        served("v1", docker)
+        served("v3", docker)
+        assert client.ask("DELETE", f"/v2/acme/one/manifests/{sha256(plain)}").status == 202
+        put("v2", plain, MANIFEST, 201)
+        served("v2", MANIFEST)
+
+
 def main():
     with serving("--slots", "16") as server:
         play("manifests", [
             a_slow_call_for_one_tenant_holds_no_other_up, a_repository_is_read_while_it_is_written,
             a_put_and_a_delete_of_one_manifest_take_turns, a_delete_that_the_store_refuses_leaves_the_tags,
+            a_media_type_belongs_to_the_content,
             (writers_at_once_leave_no_tag_without_its_manifest, server), (lists_of_tags_have_a_bound, server)])
 
 
