@@ -47,6 +47,12 @@ impl Fault {
         Fault::new(StatusCode::NOT_FOUND, "MANIFEST_UNKNOWN", "the repository has no such manifest")
     }
 
+    /// The manifest of a tag was deleted after each look-up.
+    pub fn moving() -> Fault {
+        Fault::new(StatusCode::SERVICE_UNAVAILABLE, "MANIFEST_UNKNOWN", "the tag moves faster than it can be read")
+            .with_header(RETRY_AFTER, "1")
+    }
+
     /// The content is no manifest, or another than it says.
     pub fn manifest_invalid(message: impl Into<String>) -> Fault {
         Fault::new(StatusCode::BAD_REQUEST, "MANIFEST_INVALID", message)

@@ -4,11 +4,16 @@ use crate::fault::Fault;
 use crate::frames::{Reason, Refusal};
 use crate::media_type::{media_type_of, MediaType};
 use crate::registry::{empty, with_body, Call, Served};
+use crate::store::Answer;
 use crate::tags::{is_tag, Named, Page, MAX_PAGE};
 use bytes::Bytes;
 use hyper::{Body, StatusCode};
 use serde_json::json;
 use sha2::{Digest, Sha256};
+use std::future::Future;
+
+/// How often a reference is looked up before its reader is asked to come again.
+const LOOK_UPS: usize = 8;
 
 /// Whether a reference is a digest's text, and not a tag.
 fn is_digest(reference: &str) -> bool {
@@ -29,18 +34,35 @@ async fn look_up(call: &Call, reference: &str) -> Result<Named, Fault> {
     Err(Fault::manifest_unknown())
 }
 
+/// What a reference names, and what the store answers of it. The manifest may be deleted after the look-up, while its tag goes
+/// on to another: then the reference is looked up again.
+async fn read<T, A>(call: &Call, reference: &str, ask: impl Fn(String) -> A) -> Result<(Named, T), Fault>
+where
+    A: Future<Output = Answer<T>>,
+{
+    for _ in 0..LOOK_UPS {
+        let named = look_up(call, reference).await?;
+        match ask(named.digest.clone()).await? {
+            Err(Refusal { reason: Reason::ManifestUnknown, .. }) => {}
+            answer => return Ok((named, answer?)),
+        }
+    }
+    Err(Fault::moving())
+}
+
 /// end-3: a manifest.
 pub async fn get(call: &Call, reference: &str) -> Served {
-    let Named { digest, media_type } = look_up(call, reference).await?;
-    let bytes = call.registry.store.get_manifest(&call.repo, &digest).await??;
+    let ask = |digest: String| async move { call.registry.store.get_manifest(&call.repo, &digest).await };
+    let (Named { digest, media_type }, bytes) = read(call, reference, ask).await?;
     let headers = [("Content-Type", &*media_type), ("Docker-Content-Digest", &*digest)];
     with_body(StatusCode::OK, &headers, Body::from(bytes))
 }
 
 /// end-3: that a manifest is there, and how long it is.
 pub async fn head(call: &Call, reference: &str) -> Served {
-    let Named { digest, media_type } = look_up(call, reference).await?;
-    let size = call.registry.store.stat_manifest(&call.repo, &digest).await??.to_string();
+    let ask = |digest: String| async move { call.registry.store.stat_manifest(&call.repo, &digest).await };
+    let (Named { digest, media_type }, size) = read(call, reference, ask).await?;
+    let size = size.to_string();
     let headers = [("Content-Type", &*media_type), ("Docker-Content-Digest", &*digest), ("Content-Length", &*size)];
     empty(StatusCode::OK, &headers)
 }

@@ -115,6 +115,26 @@ def lists_of_tags_have_a_bound(server):
     assert json.loads(rest.body)["tags"] == tags[1000:] and rest["Link"] is None, rest.body[:100]
 
 
+def a_tag_that_always_exists_is_always_found():
+    """Its manifest is deleted between the look-up of the tag and the read of the manifest, when the tag names another."""
+    slow = {"slow": 0.8}
+    with serving_stub({GET_MANIFEST: slow, STAT_MANIFEST: slow}) as server:
+        client = server.client()
+        assert client.ask("PUT", "/v2/acme/one/manifests/v1", image(1), KIND).status == 201
+        for number, method in ((2, "GET"), (3, "HEAD")):
+            asking = Asking(server, method, "/v2/acme/one/manifests/v1")
+            time.sleep(0.2)
+            assert client.ask("PUT", "/v2/acme/one/manifests/v1", image(number), KIND).status == 201
+            assert client.ask("DELETE", f"/v2/acme/one/manifests/{sha256(image(number - 1))}").status == 202
+            answer = asking.answered()
+            assert (answer.status, answer["Docker-Content-Digest"]) == (200, sha256(image(number))), (method, answer.status)
+        # A tag that is gone with its manifest is not found.
+        asking = Asking(server, "GET", "/v2/acme/one/manifests/v1")
+        time.sleep(0.2)
+        assert client.ask("DELETE", f"/v2/acme/one/manifests/{sha256(image(3))}").status == 202
+        assert asking.answered().status == 404, asking.answer.status
+
+
 def a_media_type_belongs_to_the_content():
     docker = "application/vnd.docker.distribution.manifest.v2+json"
     index = "application/vnd.oci.image.index.v1+json"
@@ -161,7 +181,7 @@ def main():
         play("manifests", [
             a_slow_call_for_one_tenant_holds_no_other_up, a_repository_is_read_while_it_is_written,
             a_put_and_a_delete_of_one_manifest_take_turns, a_delete_that_the_store_refuses_leaves_the_tags,
-            a_media_type_belongs_to_the_content,
+            a_media_type_belongs_to_the_content, a_tag_that_always_exists_is_always_found,
             (writers_at_once_leave_no_tag_without_its_manifest, server), (lists_of_tags_have_a_bound, server)])
 
 
