@@ -1,4 +1,5 @@
 //! What a path and its query name (OCI Distribution Specification 1.1, "Endpoints").
+use std::borrow::Cow;
 
 /// What a path names.
 #[derive(Debug, PartialEq, Eq)]
@@ -17,8 +18,14 @@ pub enum Target<'p> {
     Blob { repo: &'p str, digest: &'p str },
 }
 
+/// Decodes the percent-encoding of a path, once (RFC 3986, 2.4). None: it is no text in UTF-8 then.
+pub fn decoded(path: &str) -> Option<Cow<'_, str>> {
+    percent_encoding::percent_decode_str(path).decode_utf8().ok()
+}
+
 impl<'p> Target<'p> {
-    /// What a path names, if anything.
+    /// Returns what a path names, if anything. It is read from its end, since `manifests`, `blobs`, `uploads`, `tags` and
+    /// `list` may be parts of a repository's name too, but no tag, digest or upload's name has a `/`.
     pub fn of(path: &'p str) -> Option<Target<'p>> {
         if path == "/v2" || path == "/v2/" {
             return Some(Target::Base);
@@ -27,19 +34,17 @@ impl<'p> Target<'p> {
         if let Some(repo) = rest.strip_suffix("/tags/list") {
             return Some(Target::Tags { repo });
         }
-        if let Some((repo, reference)) = rest.rsplit_once("/manifests/") {
-            return Some(Target::Manifest { repo, reference });
+        if let Some(repo) = rest.strip_suffix("/blobs/uploads/").or_else(|| rest.strip_suffix("/blobs/uploads")) {
+            return Some(Target::Uploads { repo });
         }
-        if let Some((repo, name)) = rest.rsplit_once("/blobs/uploads") {
-            return match name.strip_prefix('/') {
-                None if name.is_empty() => Some(Target::Uploads { repo }),
-                Some("") => Some(Target::Uploads { repo }),
-                Some(name) => Some(Target::Upload { repo, name }),
-                None => None,
-            };
+        let (before, name) = rest.rsplit_once('/')?;
+        if let Some(repo) = before.strip_suffix("/manifests") {
+            return Some(Target::Manifest { repo, reference: name });
         }
-        let (repo, digest) = rest.rsplit_once("/blobs/")?;
-        Some(Target::Blob { repo, digest })
+        if let Some(repo) = before.strip_suffix("/blobs/uploads") {
+            return Some(Target::Upload { repo, name });
+        }
+        before.strip_suffix("/blobs").map(|repo| Target::Blob { repo, digest: name })
     }
 
     /// The repository that is named.
@@ -78,13 +83,33 @@ mod tests {
             ("/v2/a/b/blobs/uploads/x", Some(Target::Upload { repo: "a/b", name: "x" })),
             ("/v2/a/b/blobs/sha256:0", Some(Target::Blob { repo: "a/b", digest: "sha256:0" })),
             ("/v2/a/blobs/blobs/sha256:0", Some(Target::Blob { repo: "a/blobs", digest: "sha256:0" })),
-            ("/v2/a/b/blobs/uploadsx", None),
+            ("/v2/a/manifests/blobs/sha256:0", Some(Target::Blob { repo: "a/manifests", digest: "sha256:0" })),
+            ("/v2/a/manifests/blobs/uploads/", Some(Target::Uploads { repo: "a/manifests" })),
+            ("/v2/a/manifests/blobs/uploads/x", Some(Target::Upload { repo: "a/manifests", name: "x" })),
+            ("/v2/a/manifests/tags/list", Some(Target::Tags { repo: "a/manifests" })),
+            ("/v2/a/blobs/uploads/manifests/v1", Some(Target::Manifest { repo: "a/blobs/uploads", reference: "v1" })),
+            ("/v2/a/blobs/uploads/blobs/sha256:0", Some(Target::Blob { repo: "a/blobs/uploads", digest: "sha256:0" })),
+            ("/v2/a/blobs/uploads/blobs/uploads/", Some(Target::Uploads { repo: "a/blobs/uploads" })),
+            ("/v2/a/blobs/uploads/blobs/uploads/x", Some(Target::Upload { repo: "a/blobs/uploads", name: "x" })),
+            ("/v2/a/blobs/uploads/tags/list", Some(Target::Tags { repo: "a/blobs/uploads" })),
+            ("/v2/a/tags/list/manifests/list", Some(Target::Manifest { repo: "a/tags/list", reference: "list" })),
+            ("/v2/a/manifests/b/c", None),
+            ("/v2/manifests/v1", None),
+            ("/v2/a/b/blobs/uploadsx", Some(Target::Blob { repo: "a/b", digest: "uploadsx" })),
             ("/v2/a/b", None),
             ("/v1/", None),
         ];
         for (path, target) in cases {
             assert_eq!(Target::of(path), target, "{path}");
         }
+    }
+
+    #[test]
+    fn paths_are_decoded_once() {
+        assert_eq!(decoded("/v2/a%2Fb/blobs/sha256%3a0").as_deref(), Some("/v2/a/b/blobs/sha256:0"));
+        assert_eq!(decoded("/v2/a%252Fb/tags/list").as_deref(), Some("/v2/a%2Fb/tags/list"));
+        assert_eq!(decoded("/v2/a%zz/b%").as_deref(), Some("/v2/a%zz/b%"));
+        assert_eq!(decoded("/v2/a%ff/tags/list"), None);
     }
 
     #[test]

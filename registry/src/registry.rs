@@ -4,7 +4,7 @@ use crate::content::Content;
 use crate::fault::Fault;
 use crate::frames::{Reason, Refusal};
 use crate::metrics::Metrics;
-use crate::path::{query_value, Target};
+use crate::path::{decoded, query_value, Target};
 use crate::store::{Lost, Store};
 use crate::tags::Tags;
 use crate::turns::Turns;
@@ -107,6 +107,7 @@ impl Registry {
             let text = self.metrics.text(&self.store, &self.tenants, self.slots, self.uploads.len()).await?;
             return with_body(StatusCode::OK, &[(CONTENT_TYPE.as_str(), "text/plain; version=0.0.4")], text.into());
         }
+        let path = decoded(&path).ok_or_else(Fault::path)?;
         let target = Target::of(&path).ok_or_else(Fault::path)?;
         let repo = match target.repo() {
             Some(repo) => repo.to_string(),
