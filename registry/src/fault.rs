@@ -1,6 +1,7 @@
 //! Why a request isn't served, as the specification has it: a status, a code, and what is told in its JSON
 //! (OCI Distribution Specification 1.1, "Error Codes").
 use crate::frames::{Reason, Refusal};
+use crate::limits::{tenant_of, Limit, MAX_MANIFESTS, MAX_REPOSITORIES, MAX_UPLOADS};
 use crate::store::Lost;
 use hyper::header::{HeaderName, HeaderValue, CONTENT_TYPE, RANGE, RETRY_AFTER, WWW_AUTHENTICATE};
 use hyper::{Body, Response, StatusCode};
@@ -86,6 +87,29 @@ impl Fault {
         Fault::new(StatusCode::FORBIDDEN, "DENIED", format!("{user} may use repositories of tenant {user} alone"))
     }
 
+    /// A call on a repository has reached a limit.
+    pub fn limit(limit: Limit, repo: &str) -> Fault {
+        let tenant = tenant_of(repo);
+        let denied = |message: String| Fault::new(StatusCode::FORBIDDEN, "DENIED", message);
+        match limit {
+            Limit::Uploads => Fault::new(
+                StatusCode::INSUFFICIENT_STORAGE,
+                "TOOMANYREQUESTS",
+                format!("tenant {tenant} has {MAX_UPLOADS} open uploads, the most it may have: one that ends or is deleted makes room"),
+            )
+            .with_header(RETRY_AFTER, "1")
+            .with_detail(json!({ "limit": "uploads", "most": MAX_UPLOADS })),
+            Limit::Repositories => denied(format!(
+                "tenant {tenant} has {MAX_REPOSITORIES} repositories, the most it may have: none goes away before the registry ends"
+            ))
+            .with_detail(json!({ "limit": "repositories", "most": MAX_REPOSITORIES })),
+            Limit::Manifests => denied(format!(
+                "repository {repo} has {MAX_MANIFESTS} manifests, the most it may have: one that is deleted makes room"
+            ))
+            .with_detail(json!({ "limit": "manifests", "most": MAX_MANIFESTS })),
+        }
+    }
+
     /// The response, with the fault in its JSON.
     pub fn into_response(self) -> Response<Body> {
         let Fault { status, code, message, detail, header } = self;
@@ -147,9 +171,7 @@ impl From<Refusal> for Fault {
                     .with_header(RETRY_AFTER, "1")
             }
             Reason::TooManyReaders => soon("TOOMANYREQUESTS", "the blob has too many readers"),
-            Reason::LimitReached => {
-                Fault::new(StatusCode::TOO_MANY_REQUESTS, "TOOMANYREQUESTS", "the tenant has too many of these")
-            }
+            Reason::LimitReached => Fault::new(StatusCode::FORBIDDEN, "DENIED", "a count of the store has reached its limit"),
             Reason::Memory => Fault::new(StatusCode::SERVICE_UNAVAILABLE, "UNSUPPORTED", "out of memory")
                 .with_header(RETRY_AFTER, "1"),
             Reason::Busy => soon("TOOMANYREQUESTS", "a chunk of the upload is on its way"),

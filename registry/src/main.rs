@@ -5,6 +5,7 @@ mod blobs;
 mod content;
 mod fault;
 mod frames;
+mod limits;
 mod line;
 mod manifests;
 mod media_type;
@@ -88,6 +89,7 @@ async fn run(options: Options) -> Result<(), Failure> {
         store,
         access,
         uploads: Default::default(),
+        repositories: Default::default(),
         tags: Default::default(),
         turns: Default::default(),
         metrics: Metrics::new(),

@@ -2,6 +2,7 @@
 use crate::content::Content;
 use crate::fault::Fault;
 use crate::frames::{Reason, Refusal};
+use crate::limits::Limit;
 use crate::media_type::{media_type_of, MediaType};
 use crate::registry::{empty, with_body, Call, Served};
 use crate::store::Answer;
@@ -83,7 +84,7 @@ pub async fn put(call: &Call, reference: &str, content: &mut Content) -> Served 
     let tag = Some(reference).filter(|reference| !is_digest(reference));
     let turn = call.registry.turns.take(&call.repo, &digest).await;
     let media_type = kept_media_type(call, &digest, given)?;
-    call.registry.store.put_manifest(&call.repo, &bytes).await??;
+    call.accepted(call.registry.store.put_manifest(&call.repo, &bytes).await?, Limit::Manifests)?;
     call.registry.tags.put(&call.repo, &digest, &media_type, tag);
     drop(turn);
     let location = format!("/v2/{}/manifests/{digest}", call.repo);

@@ -3,6 +3,7 @@ use crate::access::Access;
 use crate::content::Content;
 use crate::fault::Fault;
 use crate::frames::{Reason, Refusal};
+use crate::limits::{Limit, Repositories};
 use crate::metrics::Metrics;
 use crate::path::{decoded, query_value, Target};
 use crate::store::{Lost, Store};
@@ -26,6 +27,7 @@ pub struct Registry {
     pub store: Store,
     pub access: Access,
     pub uploads: Uploads,
+    pub repositories: Repositories,
     pub tags: Tags,
     /// A writer of a manifest has its turn over its call to the store. Readers take none.
     pub turns: Turns,
@@ -48,6 +50,21 @@ impl Call {
     /// The value that the query gives a name.
     pub fn query(&self, name: &str) -> Option<String> {
         query_value(self.head.uri.query(), name)
+    }
+
+    /// Returns what the store answered to a call by which the repository may appear. A limit that it has reached is named.
+    pub fn accepted<T>(&self, answer: Result<T, Refusal>, own: Limit) -> Result<T, Fault> {
+        let repositories = &self.registry.repositories;
+        match answer {
+            Ok(answer) => {
+                repositories.add(&self.repo);
+                Ok(answer)
+            }
+            Err(Refusal { reason: Reason::LimitReached, .. }) => {
+                Err(Fault::limit(repositories.reached(&self.repo, own), &self.repo))
+            }
+            Err(refusal) => Err(refusal.into()),
+        }
     }
 
     /// The text of a header.

@@ -1,6 +1,7 @@
 //! Uploads: opened, filled by chunks, closed or given up.
 use crate::content::{Content, Then};
 use crate::fault::{range_text, Fault};
+use crate::limits::Limit;
 use crate::range::content_range;
 use crate::registry::{empty, Call, Served};
 use crate::store::{Answer, Lost, Mounted};
@@ -16,13 +17,14 @@ pub async fn open(call: &Call, content: &mut Content) -> Served {
     let store = &call.registry.store;
     if let Some(digest) = call.query("mount") {
         let source = call.query("from").unwrap_or_default();
-        return match store.mount(&call.repo, &digest, &source).await?? {
+        let mounted = store.mount(&call.repo, &digest, &source).await?;
+        return match call.accepted(mounted, Limit::Uploads)? {
             Mounted::Linked => stored(call, &digest),
             Mounted::Session(session) => opened(call, session),
         };
     }
     let digest = call.query("digest");
-    let session = store.start_upload(&call.repo).await??;
+    let session = call.accepted(store.start_upload(&call.repo).await?, Limit::Uploads)?;
     let digest = match digest {
         Some(digest) => digest,
         None => return opened(call, session),

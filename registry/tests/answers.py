@@ -44,9 +44,41 @@ def paths_are_decoded_once(server):
     assert client.ask("GET", f"/v2/acme/%ff/blobs/{sha256(b'abc')}").status == 404
 
 
+def limits_are_told_apart():
+    """Each limit of docs/PROFILE.md that a tenant can reach is named, with what makes room."""
+    with serving("--slots", "8", "--sweep-ms", "1000000", tenants=["acme=1000000", "other=1000000"]) as server:
+        client = server.client()
+        def refused(answer, status, code, limit, most, word):
+            told = json.loads(answer.body)["errors"][0]
+            assert (answer.status, told["code"], told["detail"]) == (status, code, {"limit": limit, "most": most}), (answer.status, told)
+            assert word in told["message"] and str(most) in told["message"], told
+            assert answer.status != 429 or answer["Retry-After"], answer.status
+        opened = [client.ask("POST", "/v2/acme/one/blobs/uploads/") for _ in range(64)]
+        assert {answer.status for answer in opened} == {202}
+        refused(client.ask("POST", "/v2/acme/one/blobs/uploads/"), 507, "TOOMANYREQUESTS", "uploads", 64, "acme")
+        refused(client.ask("POST", f"/v2/acme/one/blobs/uploads/?mount={sha256(b'no')}"), 507, "TOOMANYREQUESTS", "uploads", 64, "acme")
+        assert client.ask("DELETE", opened[0]["Location"]).status == 204
+        assert client.ask("POST", f"/v2/acme/one/blobs/uploads/?digest={sha256(b'{}')}", b"{}", PATCH).status == 201
+        for number in range(1023):
+            answer = client.ask("POST", f"/v2/acme/r{number}/blobs/uploads/?mount={sha256(b'{}')}")
+            assert answer.status == 201, (number, answer.status)
+        denied = (403, "DENIED", "repositories", 1024, "acme")
+        refused(client.ask("POST", f"/v2/acme/more/blobs/uploads/?mount={sha256(b'{}')}"), *denied)
+        refused(client.ask("POST", "/v2/acme/more/blobs/uploads/"), *denied)
+        index = lambda number: b'{"schemaVersion":2,"manifests":[],"annotations":{"n":"%d"}}' % number
+        refused(client.ask("PUT", "/v2/acme/more/manifests/v1", index(0)), *denied)
+        assert client.ask("POST", "/v2/acme/one/blobs/uploads/").status == 202
+        for number in range(1024):
+            answer = client.ask("PUT", f"/v2/other/one/manifests/{sha256(index(number))}", index(number))
+            assert answer.status == 201, (number, answer.status, answer.body[:200])
+        refused(client.ask("PUT", "/v2/other/one/manifests/v1", index(1024)), 403, "DENIED", "manifests", 1024, "other/one")
+        assert client.ask("DELETE", f"/v2/other/one/manifests/{sha256(index(0))}").status == 202
+        assert client.ask("PUT", "/v2/other/one/manifests/v1", index(1024)).status == 201
+
+
 def main():
     with serving("--slots", "64") as server:
-        play("answers", [(every_valid_name_can_be_used, server), (paths_are_decoded_once, server)])
+        play("answers", [(every_valid_name_can_be_used, server), (paths_are_decoded_once, server), limits_are_told_apart])
 
 
 if __name__ == "__main__":
