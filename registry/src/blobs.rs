@@ -123,9 +123,8 @@ impl Reading {
             let _ = read.await;
         }
         let number = self.leased.number;
-        match self.registry.store.give_back(number).await {
-            Ok(Err(refusal)) => tracing::error!(reason = ?refusal.reason, "a lease can't be given back"),
-            Ok(Ok(())) | Err(Lost) => {}
+        if let Ok(Err(refusal)) = self.registry.store.give_back(number).await {
+            tracing::error!(reason = ?refusal.reason, "a lease can't be given back");
         }
     }
 

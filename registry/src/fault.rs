@@ -3,7 +3,7 @@
 use crate::frames::{Reason, Refusal};
 use crate::limits::{tenant_of, Limit, MAX_MANIFESTS, MAX_REPOSITORIES, MAX_UPLOADS};
 use crate::store::Lost;
-use hyper::header::{HeaderName, HeaderValue, CONTENT_TYPE, RANGE, RETRY_AFTER, WWW_AUTHENTICATE};
+use hyper::header::{HeaderValue, CONTENT_TYPE};
 use hyper::{Body, Response, StatusCode};
 use serde_json::{json, Value};
 
@@ -14,7 +14,7 @@ pub struct Fault {
     code: &'static str,
     message: String,
     detail: Value,
-    header: Option<(HeaderName, String)>,
+    header: Option<(&'static str, String)>,
 }
 
 impl Fault {
@@ -22,7 +22,7 @@ impl Fault {
         Fault { status, code, message: message.into(), detail: Value::Null, header: None }
     }
 
-    fn with_header(self, name: HeaderName, value: impl Into<String>) -> Fault {
+    fn with_header(self, name: &'static str, value: impl Into<String>) -> Fault {
         Fault { header: Some((name, value.into())), ..self }
     }
 
@@ -51,7 +51,7 @@ impl Fault {
     /// The manifest of a tag was deleted after each look-up.
     pub fn moving() -> Fault {
         Fault::new(StatusCode::SERVICE_UNAVAILABLE, "MANIFEST_UNKNOWN", "the tag moves faster than it can be read")
-            .with_header(RETRY_AFTER, "1")
+            .with_header("Retry-After", "1")
     }
 
     /// The content is no manifest, or another than it says.
@@ -67,7 +67,7 @@ impl Fault {
     /// A chunk doesn't begin where the upload ends.
     pub fn out_of_order(received: u64) -> Fault {
         Fault::new(StatusCode::RANGE_NOT_SATISFIABLE, "BLOB_UPLOAD_INVALID", format!("{received} bytes were received"))
-            .with_header(RANGE, range_text(received))
+            .with_header("Range", range_text(received))
             .with_detail(json!({ "received": received }))
     }
 
@@ -79,7 +79,7 @@ impl Fault {
     /// No user is named, or the password is another.
     pub fn unauthorized() -> Fault {
         Fault::new(StatusCode::UNAUTHORIZED, "UNAUTHORIZED", "a user and a password are wanted")
-            .with_header(WWW_AUTHENTICATE, "Basic realm=\"registry\", charset=\"UTF-8\"")
+            .with_header("WWW-Authenticate", "Basic realm=\"registry\", charset=\"UTF-8\"")
     }
 
     /// The user isn't the repository's tenant.
@@ -97,7 +97,7 @@ impl Fault {
                 "TOOMANYREQUESTS",
                 format!("tenant {tenant} has {MAX_UPLOADS} open uploads, the most it may have: one that ends or is deleted makes room"),
             )
-            .with_header(RETRY_AFTER, "1")
+            .with_header("Retry-After", "1")
             .with_detail(json!({ "limit": "uploads", "most": MAX_UPLOADS })),
             Limit::Repositories => denied(format!(
                 "tenant {tenant} has {MAX_REPOSITORIES} repositories, the most it may have: none goes away before the registry ends"
@@ -142,7 +142,7 @@ impl From<Refusal> for Fault {
     fn from(refusal: Refusal) -> Fault {
         let Refusal { reason, first, second, digest } = refusal;
         let soon = |code, message: &str| {
-            Fault::new(StatusCode::TOO_MANY_REQUESTS, code, message).with_header(RETRY_AFTER, "1")
+            Fault::new(StatusCode::TOO_MANY_REQUESTS, code, message).with_header("Retry-After", "1")
         };
         match reason {
             Reason::NameInvalid => Fault::new(StatusCode::BAD_REQUEST, "NAME_INVALID", "the name is no repository's"),
@@ -168,12 +168,12 @@ impl From<Refusal> for Fault {
                 .with_detail(json!({ "manifest": digest })),
             Reason::StoreFull => {
                 Fault::new(StatusCode::INSUFFICIENT_STORAGE, "UNSUPPORTED", "the store has no free slot")
-                    .with_header(RETRY_AFTER, "1")
+                    .with_header("Retry-After", "1")
             }
             Reason::TooManyReaders => soon("TOOMANYREQUESTS", "the blob has too many readers"),
             Reason::LimitReached => Fault::new(StatusCode::FORBIDDEN, "DENIED", "a count of the store has reached its limit"),
             Reason::Memory => Fault::new(StatusCode::SERVICE_UNAVAILABLE, "UNSUPPORTED", "out of memory")
-                .with_header(RETRY_AFTER, "1"),
+                .with_header("Retry-After", "1"),
             Reason::Busy => soon("TOOMANYREQUESTS", "a chunk of the upload is on its way"),
             Reason::WeightSpent | Reason::Other(_) => {
                 Fault::new(StatusCode::INTERNAL_SERVER_ERROR, "UNSUPPORTED", "the store answered what it can't have")

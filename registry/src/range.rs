@@ -6,7 +6,7 @@ pub fn content_range(text: &str) -> Option<(u64, u64)> {
     let text = text.strip_prefix("bytes").map_or(text, |text| text.trim_start_matches(&[' ', '='][..]));
     let (start, end) = text.split('/').next()?.split_once('-')?;
     let (start, end) = (number(start)?, number(end)?);
-    (start <= end).then(|| (start, end))
+    (start <= end).then_some((start, end))
 }
 
 /// What part of a blob is wanted.
