@@ -35,6 +35,11 @@ impl Fault {
         Fault::new(StatusCode::METHOD_NOT_ALLOWED, "UNSUPPORTED", "the method is not one of this path")
     }
 
+    /// The blob would be longer than it may be.
+    pub fn too_long(most: u64) -> Fault {
+        Fault::new(StatusCode::PAYLOAD_TOO_LARGE, "SIZE_INVALID", format!("a blob may have at most {most} bytes"))
+    }
+
     /// The path is none of the specification's.
     pub fn path() -> Fault {
         Fault::new(StatusCode::NOT_FOUND, "NAME_UNKNOWN", "the path is none of this registry's")

@@ -95,6 +95,7 @@ async fn run(options: Options) -> Result<(), Failure> {
         metrics: Metrics::new(),
         tenants: options.tenant_names(),
         slots: options.slots,
+        max_blob: options.max_blob,
     });
     let sweeper = registry.clone();
     tokio::spawn(async move { sweeper.sweep(Duration::from_millis(options.sweep_ms)).await });

@@ -1,12 +1,15 @@
 //! The ranges that headers spell.
 
+/// The last place that a byte of an upload can have (docs/PROFILE.md, "Ranges").
+const MAX_PLACE: u64 = i64::MAX as u64;
+
 /// The first place and the last of a chunk: `<start>-<end>` (OCI Distribution Specification 1.1, "Pushing a blob in
 /// chunks"). Older clients write `bytes ` or `bytes=` before it, or `/<whole>` behind it.
 pub fn content_range(text: &str) -> Option<(u64, u64)> {
     let text = text.strip_prefix("bytes").map_or(text, |text| text.trim_start_matches(&[' ', '='][..]));
     let (start, end) = text.split('/').next()?.split_once('-')?;
     let (start, end) = (number(start)?, number(end)?);
-    (start <= end).then_some((start, end))
+    (start <= end && end <= MAX_PLACE).then_some((start, end))
 }
 
 /// What part of a blob is wanted.
@@ -55,7 +58,8 @@ mod tests {
             assert_eq!(content_range(text), Some((3, 7)), "{text}");
         }
         assert_eq!(content_range("0-0"), Some((0, 0)));
-        for text in ["", "3", "-3", "3-", "7-3", "+3-7", "a-b", "0-18446744073709551616"] {
+        assert_eq!(content_range("0-9223372036854775807"), Some((0, MAX_PLACE)));
+        for text in ["", "3", "-3", "3-", "7-3", "+3-7", "a-b", "0-9223372036854775808", "0-18446744073709551615"] {
             assert_eq!(content_range(text), None, "{text}");
         }
     }

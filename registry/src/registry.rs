@@ -34,6 +34,8 @@ pub struct Registry {
     pub metrics: Metrics,
     pub tenants: Vec<String>,
     pub slots: u32,
+    /// The longest blob, in bytes.
+    pub max_blob: u64,
 }
 
 /// A request without its content, and its repository.

@@ -1,5 +1,5 @@
 //! Uploads: opened, filled by chunks, closed or given up.
-use crate::content::{Content, Then};
+use crate::content::{Content, Piece, Then};
 use crate::fault::{range_text, Fault};
 use crate::limits::Limit;
 use crate::range::content_range;
@@ -24,6 +24,9 @@ pub async fn open(call: &Call, content: &mut Content) -> Served {
         };
     }
     let digest = call.query("digest");
+    if digest.is_some() {
+        check_len(call, 0, content.len)?;
+    }
     let session = call.accepted(store.start_upload(&call.repo).await?, Limit::Uploads)?;
     let digest = match digest {
         Some(digest) => digest,
@@ -32,7 +35,7 @@ pub async fn open(call: &Call, content: &mut Content) -> Served {
     // Nobody else knows of this upload, so it is given up if it becomes no blob, and later if the store can't do so now.
     let uploads = &call.registry.uploads;
     let upload = uploads.enter(&call.repo, uploads.add(&call.repo, session))?;
-    let closed = take_and_close(call, &upload, 0, &digest, content).await;
+    let closed = take_and_close(call, &upload, Place { start: 0, len: content.len }, &digest, content).await;
     if closed.is_ok() || store.abandon(&call.repo, session).await?.is_ok() {
         uploads.remove(&upload.name);
     }
@@ -50,8 +53,8 @@ pub async fn status(call: &Call, name: &str) -> Served {
 /// end-5: takes a chunk.
 pub async fn append(call: &Call, name: &str, content: &mut Content) -> Served {
     let upload = find(call, name)?;
-    let start = place(call, upload.session, content).await?;
-    let (start, rest) = take_all_but_last(call, &upload, start, content).await?;
+    let place = place(call, upload.session, content).await?;
+    let (start, rest) = take_all_but_last(call, &upload, place, content).await?;
     let received = match rest.is_empty() {
         true => start,
         false => call.registry.store.append(&call.repo, upload.session, start, &rest).await??,
@@ -66,8 +69,8 @@ pub async fn close(call: &Call, name: &str, content: &mut Content) -> Served {
     let digest = call.query("digest").ok_or_else(|| {
         Fault::new(StatusCode::BAD_REQUEST, "DIGEST_INVALID", "the query names no digest")
     })?;
-    let start = place(call, upload.session, content).await?;
-    take_and_close(call, &upload, start, &digest, content).await?;
+    let place = place(call, upload.session, content).await?;
+    take_and_close(call, &upload, place, &digest, content).await?;
     call.registry.uploads.remove(&upload.name);
     stored(call, &digest)
 }
@@ -106,32 +109,50 @@ fn stored(call: &Call, digest: &str) -> Served {
     empty(StatusCode::CREATED, &[("Location", &location), ("Docker-Content-Digest", digest)])
 }
 
-/// The place at which a chunk begins: the upload's end, which its range has to name if there is one.
-async fn place(call: &Call, session: u32, content: &Content) -> Result<u64, Fault> {
-    let received = call.registry.store.status(&call.repo, session).await??;
-    let text = match call.header("content-range") {
-        Some(text) => text,
-        None => return Ok(received),
-    };
-    let (start, last) = content_range(text).ok_or_else(Fault::content_range)?;
-    if content.len.map_or(false, |len| len != last - start + 1) {
-        return Err(Fault::content_range());
+/// Where a chunk begins, and how long it is, if its client says so.
+struct Place {
+    start: u64,
+    len: Option<u64>,
+}
+
+/// The place of a chunk: it begins at the upload's end, which its range has to name if there is one. A chunk that would make the
+/// blob too long is refused before a byte of it is read.
+async fn place(call: &Call, session: u32, content: &Content) -> Result<Place, Fault> {
+    let start = call.registry.store.status(&call.repo, session).await??;
+    let mut len = content.len;
+    if let Some(text) = call.header("content-range") {
+        let (first, last) = content_range(text).ok_or_else(Fault::content_range)?;
+        let named = last - first + 1;
+        if len.map_or(false, |len| len != named) {
+            return Err(Fault::content_range());
+        }
+        if first != start {
+            return Err(Fault::out_of_order(start));
+        }
+        len = Some(named);
     }
-    if start != received {
-        return Err(Fault::out_of_order(received));
+    check_len(call, start, len)?;
+    Ok(Place { start, len })
+}
+
+/// Fails if a chunk at a place would make the blob too long.
+fn check_len(call: &Call, start: u64, len: Option<u64>) -> Result<(), Fault> {
+    let most = call.registry.max_blob;
+    match start.checked_add(len.unwrap_or(0)) {
+        Some(end) if end <= most => Ok(()),
+        _ => Err(Fault::too_long(most)),
     }
-    Ok(received)
 }
 
 /// Takes the content, and closes the session with its last piece.
 async fn take_and_close(
     call: &Call,
     upload: &InUse<'_>,
-    start: u64,
+    place: Place,
     digest: &str,
     content: &mut Content,
 ) -> Result<(), Fault> {
-    let (start, rest) = take_all_but_last(call, upload, start, content).await?;
+    let (start, rest) = take_all_but_last(call, upload, place, content).await?;
     call.registry.store.close(&call.repo, upload.session, digest, start, &rest).await??;
     Ok(())
 }
@@ -164,40 +185,59 @@ impl Sending {
     }
 }
 
+impl Place {
+    /// Subtracts a piece from what is to come. Fails if it is longer than that, or if it is the last and shorter.
+    fn count(&mut self, piece: &Piece) -> Result<(), Fault> {
+        let count = piece.parts.iter().map(|part| part.len() as u64).sum();
+        if let Some(left) = self.len {
+            self.len = Some(left.checked_sub(count).ok_or_else(Fault::content_range)?);
+        }
+        match (self.len, piece.then) {
+            (Some(1..), Then::End) => Err(Fault::content_range()),
+            _ => Ok(()),
+        }
+    }
+}
+
 /// Appends the content to a session but for its last piece, which is given back with the place where it belongs. Each
 /// piece names its place, so that it is refused where another request has added to the session, and the next are read and
-/// sent while one is hashed. Where the client breaks off, what came of it is kept, and the upload can go on from there.
+/// sent while one is hashed. Where the client breaks off, or the content is longer or shorter than its range, what came of
+/// it is kept but for the last piece of such a range, and the upload can go on from there.
 async fn take_all_but_last(
     call: &Call,
     upload: &InUse<'_>,
-    start: u64,
+    mut place: Place,
     content: &mut Content,
 ) -> Result<(u64, Vec<Bytes>), Fault> {
-    let mut piece = content.next().await;
-    if !piece.parts.is_empty() {
-        upload.begin();
-    }
-    if piece.then == Then::End {
-        return Ok((start, piece.parts));
-    }
-    let sending = Sending::begin(call, upload.session, start);
+    let mut sending: Option<Sending> = None;
     loop {
-        match piece.then {
-            Then::End => return Ok((sending.end().await?, piece.parts)),
-            Then::More => {
-                if !sending.send(piece.parts).await {
-                    sending.end().await?;
-                    return Err(Lost.into());
-                }
-            }
-            Then::CutOff => {
-                if !piece.parts.is_empty() {
-                    sending.send(piece.parts).await;
-                }
-                sending.end().await?;
-                return Err(Fault::cut_off());
-            }
+        let piece = content.next().await;
+        if !piece.parts.is_empty() {
+            upload.begin();
         }
-        piece = content.next().await;
+        let counted = place.count(&piece);
+        if counted.is_err() || piece.then == Then::End {
+            let received = received(sending, &place).await?;
+            return counted.map(|()| (received, piece.parts));
+        }
+        let is_taken = match piece.parts.is_empty() {
+            true => true,
+            false => {
+                let sending = sending.get_or_insert_with(|| Sending::begin(call, upload.session, place.start));
+                sending.send(piece.parts).await
+            }
+        };
+        if !is_taken || piece.then == Then::CutOff {
+            received(sending, &place).await?;
+            return Err(if is_taken { Fault::cut_off() } else { Lost.into() });
+        }
+    }
+}
+
+/// How much the session has received once all pieces were appended that were sent, if any was.
+async fn received(sending: Option<Sending>, place: &Place) -> Result<u64, Fault> {
+    match sending {
+        Some(sending) => sending.end().await,
+        None => Ok(place.start),
     }
 }

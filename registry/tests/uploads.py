@@ -2,8 +2,8 @@
 """Uploads that take long, that nobody goes on with, and whose chunks say other than what they are."""
 import threading, time
 
-from playing import Asking, play, serving_stub, until
-from server import serving, sha256
+from playing import play, serving_stub, until
+from server import sha256
 
 PATCH = {"Content-Type": "application/octet-stream"}
 ABANDON = "5"
@@ -72,10 +72,68 @@ def an_upload_that_the_store_keeps_is_tried_again():
         assert is_there(client, at) and server.metric("registryd_uploads") == 1
 
 
+def a_range_is_that_of_the_content_in_chunked_coding():
+    with serving_stub({}) as server:
+        client = server.client()
+        at = opened(client)
+        chunked = {**PATCH, "Transfer-Encoding": "chunked", "Content-Range": "0-9"}
+        for method, path in (("PATCH", at), ("PUT", f"{at}?digest={sha256(b'')}")):
+            for data in (b"", b"123456789", b"12345678901"):
+                answer = client.ask(method, path, iter([data] if data else []), chunked)
+                assert (answer.status, answer.code()) == (400, "SIZE_INVALID"), (method, data, answer.status)
+            assert client.ask("GET", at)["Range"] == "0-0"
+        assert client.ask("PATCH", at, iter([b"12345", b"67890"]), chunked)["Range"] == "0-9"
+        # Of a long one that turns out to be longer or shorter, what was taken before that is kept, and can be gone on from.
+        for claimed, sent in ((2 * MIB, 3 * MIB), (3 * MIB, 2 * MIB + 5)):
+            at = opened(client)
+            long = {**chunked, "Content-Range": f"0-{claimed - 1}"}
+            answer = client.ask("PATCH", at, iter([b"x" * MIB] * (sent // MIB) + [b"x" * (sent % MIB)] * (sent % MIB > 0)), long)
+            received = int(client.ask("GET", at)["Range"].split("-")[1]) + 1
+            assert answer.status == 400 and 0 < received <= min(claimed, sent), (claimed, sent, answer.status, received)
+            rest = {**PATCH, "Content-Range": f"{received}-{received + 2}"}
+            assert client.ask("PATCH", at, b"abc", rest)["Range"] == f"0-{received + 2}"
+
+
+def a_range_that_no_content_has_is_refused():
+    with serving_stub({}) as server:
+        client = server.client()
+        at = opened(client)
+        for last in (2 ** 64 - 1, 2 ** 63, 2 ** 64, 0):
+            for length in ({}, {"Transfer-Encoding": "chunked"}):
+                answer = client.ask("PATCH", at, iter([]) if length else b"", {**PATCH, **length, "Content-Range": f"0-{last}"})
+                assert answer.status in (400, 416), (last, length, answer.status)
+        assert is_there(client, at)
+
+
+def a_blob_that_is_too_long_is_refused_before_it_is_sent():
+    with serving_stub({}, "--max-blob", "1000") as server:
+        client = server.client()
+        filled, empty = opened(client), opened(client)
+        assert client.ask("PATCH", filled, b"x" * 600, PATCH).status == 202
+        def refused(request, *headers):
+            line = server.socket()
+            line.settimeout(5)
+            line.sendall("\r\n".join([f"{request} HTTP/1.1", "Host: x", *headers, "\r\n"]).encode())
+            answer = line.recv(1000)
+            assert answer.startswith(b"HTTP/1.1 413") and b"SIZE_INVALID" in answer, (request, headers, answer)
+            line.close()
+        for expect in ([], ["Expect: 100-continue"]):
+            refused(f"PATCH {empty}", "Content-Length: 1001", *expect)
+            refused(f"PATCH {filled}", "Content-Length: 401", *expect)
+            refused(f"PUT {filled}?digest={sha256(b'')}", "Content-Length: 401", *expect)
+            refused(f"PATCH {empty}", "Transfer-Encoding: chunked", "Content-Range: 0-1000", *expect)
+            refused(f"POST /v2/acme/one/blobs/uploads/?digest={sha256(b'')}", "Content-Length: 4611686018427387904", *expect)
+        assert client.ask("PATCH", empty, b"x" * 1000, PATCH).status == 202
+        assert client.ask("PATCH", filled, b"x" * 400, PATCH).status == 202
+        assert server.metric("registryd_uploads") == 2
+
+
 def main():
     play("uploads", [
         an_upload_that_is_being_sent_is_not_given_up, an_upload_without_bytes_is_given_up_early,
-        an_upload_that_the_store_does_not_know_is_dropped, an_upload_that_the_store_keeps_is_tried_again])
+        an_upload_that_the_store_does_not_know_is_dropped, an_upload_that_the_store_keeps_is_tried_again,
+        a_range_is_that_of_the_content_in_chunked_coding, a_range_that_no_content_has_is_refused,
+        a_blob_that_is_too_long_is_refused_before_it_is_sent])
 
 
 if __name__ == "__main__":
