@@ -1,4 +1,5 @@
 //! Reading and deleting blobs.
+use crate::conditional::{entity_tag, has_content, is_range_wanted, not_modified};
 use crate::fault::Fault;
 use crate::frames::Refusal;
 use crate::line::WHOLE_LEN;
@@ -25,18 +26,30 @@ const IDLE_TIME: Duration = Duration::from_secs(300);
 
 const OCTETS: (&str, &str) = ("Content-Type", "application/octet-stream");
 
+/// The headers of a blob, or of a part of it, of some length.
+fn headers_of<'h>(digest: &'h str, tag: &'h str, len: &'h str) -> [(&'static str, &'h str); 5] {
+    [OCTETS, ("Docker-Content-Digest", digest), ("ETag", tag), ("Accept-Ranges", "bytes"), ("Content-Length", len)]
+}
+
 /// end-2: that a blob is there, and how long it is.
 pub async fn head(call: &Call, digest: &str) -> Served {
     let size = call.registry.store.stat(&call.repo, digest).await??.to_string();
-    let headers = [OCTETS, ("Docker-Content-Digest", digest), ("Accept-Ranges", "bytes"), ("Content-Length", &size)];
-    empty(StatusCode::OK, &headers)
+    if has_content(call, digest) {
+        return not_modified(digest);
+    }
+    empty(StatusCode::OK, &headers_of(digest, &entity_tag(digest), &size))
 }
 
 /// end-2: a blob, or a part of it. A client who leaves gives the lease back.
 pub async fn get(call: &Call, digest: &str) -> Served {
+    if has_content(call, digest) {
+        call.registry.store.stat(&call.repo, digest).await??;
+        return not_modified(digest);
+    }
     let leased = call.registry.store.lease(&call.repo, digest).await??;
     let size = leased.size;
-    let part = call.header("range").map_or(Part::Whole, |text| wanted_part(text, size));
+    let range = call.header("range").filter(|_| is_range_wanted(call, digest));
+    let part = range.map_or(Part::Whole, |text| wanted_part(text, size));
     let (status, start, end) = match part {
         Part::Whole => (StatusCode::OK, 0, size),
         Part::Some(start, last) => (StatusCode::PARTIAL_CONTENT, start, last + 1),
@@ -56,8 +69,7 @@ pub async fn get(call: &Call, digest: &str) -> Served {
         }
     };
     let len = (end - start).to_string();
-    let headers = [OCTETS, ("Docker-Content-Digest", digest), ("Accept-Ranges", "bytes"), ("Content-Length", &len)];
-    let mut response = with_body(status, &headers, body)?;
+    let mut response = with_body(status, &headers_of(digest, &entity_tag(digest), &len), body)?;
     if status == StatusCode::PARTIAL_CONTENT {
         let range = format!("bytes {start}-{}/{size}", end - 1);
         if let Ok(value) = range.parse() {

@@ -31,8 +31,9 @@ impl Fault {
     }
 
     /// The method isn't one of this path's.
-    pub fn method() -> Fault {
+    pub fn method(allowed: &'static str) -> Fault {
         Fault::new(StatusCode::METHOD_NOT_ALLOWED, "UNSUPPORTED", "the method is not one of this path")
+            .with_header("Allow", allowed)
     }
 
     /// The blob would be longer than it may be.

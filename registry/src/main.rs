@@ -2,6 +2,7 @@
 //! types and the names of uploads stand beside it, in memory as all does.
 mod access;
 mod blobs;
+mod conditional;
 mod content;
 mod fault;
 mod frames;

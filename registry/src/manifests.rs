@@ -1,4 +1,5 @@
 //! Manifests and tags.
+use crate::conditional::{entity_tag, has_content, not_modified};
 use crate::content::Content;
 use crate::fault::Fault;
 use crate::frames::{Reason, Refusal};
@@ -55,7 +56,11 @@ where
 pub async fn get(call: &Call, reference: &str) -> Served {
     let ask = |digest: String| async move { call.registry.store.get_manifest(&call.repo, &digest).await };
     let (Named { digest, media_type }, bytes) = read(call, reference, ask).await?;
-    let headers = [("Content-Type", &*media_type), ("Docker-Content-Digest", &*digest)];
+    if has_content(call, &digest) {
+        return not_modified(&digest);
+    }
+    let headers =
+        [("Content-Type", &*media_type), ("Docker-Content-Digest", &*digest), ("ETag", &*entity_tag(&digest))];
     with_body(StatusCode::OK, &headers, Body::from(bytes))
 }
 
@@ -63,8 +68,16 @@ pub async fn get(call: &Call, reference: &str) -> Served {
 pub async fn head(call: &Call, reference: &str) -> Served {
     let ask = |digest: String| async move { call.registry.store.stat_manifest(&call.repo, &digest).await };
     let (Named { digest, media_type }, size) = read(call, reference, ask).await?;
-    let size = size.to_string();
-    let headers = [("Content-Type", &*media_type), ("Docker-Content-Digest", &*digest), ("Content-Length", &*size)];
+    if has_content(call, &digest) {
+        return not_modified(&digest);
+    }
+    let (size, tag) = (size.to_string(), entity_tag(&digest));
+    let headers = [
+        ("Content-Type", &*media_type),
+        ("Docker-Content-Digest", &*digest),
+        ("ETag", &*tag),
+        ("Content-Length", &*size),
+    ];
     empty(StatusCode::OK, &headers)
 }
 

@@ -47,6 +47,18 @@ impl<'p> Target<'p> {
         before.strip_suffix("/blobs").map(|repo| Target::Blob { repo, digest: name })
     }
 
+    /// The methods that the path has, as a header `Allow` lists them.
+    pub fn methods(&self) -> &'static str {
+        match self {
+            Target::Base => "GET, HEAD",
+            Target::Tags { .. } => "GET",
+            Target::Manifest { .. } => "GET, HEAD, PUT, DELETE",
+            Target::Uploads { .. } => "POST",
+            Target::Upload { .. } => "GET, PATCH, PUT, DELETE",
+            Target::Blob { .. } => "GET, HEAD, DELETE",
+        }
+    }
+
     /// The repository that is named.
     pub fn repo(&self) -> Option<&'p str> {
         match *self {

@@ -128,6 +128,10 @@ impl Registry {
         }
         let path = decoded(&path).ok_or_else(Fault::path)?;
         let target = Target::of(&path).ok_or_else(Fault::path)?;
+        let allowed = target.methods();
+        if !allowed.split(", ").any(|method| method == head.method.as_str()) {
+            return Err(Fault::method(allowed));
+        }
         let repo = match target.repo() {
             Some(repo) => repo.to_string(),
             None => return empty(StatusCode::OK, &[("Docker-Distribution-API-Version", "registry/2.0")]),
@@ -149,7 +153,7 @@ impl Registry {
             (&Method::GET, Target::Blob { digest, .. }) => blobs::get(&call, digest).await,
             (&Method::HEAD, Target::Blob { digest, .. }) => blobs::head(&call, digest).await,
             (&Method::DELETE, Target::Blob { digest, .. }) => blobs::delete(&call, digest).await,
-            _ => Err(Fault::method()),
+            _ => Err(Fault::method(allowed)),
         }
     }
 

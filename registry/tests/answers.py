@@ -2,7 +2,7 @@
 """What the registry answers to names, limits, methods and conditions that clients seldom use."""
 import json
 
-from playing import play
+from playing import play, serving_stub
 from server import MANIFEST, manifest_of, serving, sha256
 
 PATCH = {"Content-Type": "application/octet-stream"}
@@ -76,9 +76,48 @@ def limits_are_told_apart():
         assert client.ask("PUT", "/v2/other/one/manifests/v1", index(1024)).status == 201
 
 
+def methods_that_a_path_lacks_are_told():
+    """RFC 9110, 15.5.6: a 405 lists in Allow what the path has."""
+    some = "5bd5e3a4-0c7b-4a79-b7a6-d5ae4cd1b3a5"
+    cases = {"/v2/": "GET, HEAD", "/v2/acme/one/tags/list": "GET", "/v2/acme/one/manifests/v1": "GET, HEAD, PUT, DELETE",
+             f"/v2/acme/one/blobs/{sha256(b'')}": "GET, HEAD, DELETE", "/v2/acme/one/blobs/uploads/": "POST",
+             f"/v2/acme/one/blobs/uploads/{some}": "GET, PATCH, PUT, DELETE"}
+    with serving_stub({}) as server:
+        client = server.client()
+        for path, methods in cases.items():
+            for method in ("GET", "HEAD", "POST", "PUT", "PATCH", "DELETE", "OPTIONS", "LINK"):
+                answer = client.ask(method, path)
+                if method in methods.split(", "):
+                    assert answer.status != 405, (method, path)
+                else:
+                    assert (answer.status, answer["Allow"]) == (405, methods), (method, path, answer.status, answer["Allow"])
+
+
+def content_that_a_client_has_is_not_sent_again(server):
+    """RFC 9110, 13.1.2 and 13.1.5."""
+    client, body = server.client(), manifest_of(b"{}", [])
+    for data in (b"{}", b"abcdef"):
+        assert client.ask("POST", f"/v2/acme/etags/blobs/uploads/?digest={sha256(data)}", data, PATCH).status == 201
+    assert client.ask("PUT", "/v2/acme/etags/manifests/v1", body, KIND).status == 201
+    for path, data in ((f"blobs/{sha256(b'abcdef')}", b"abcdef"), ("manifests/v1", body), (f"manifests/{sha256(body)}", body)):
+        tag, path = f'"{sha256(data)}"', f"/v2/acme/etags/{path}"
+        for method in ("GET", "HEAD"):
+            ask = lambda condition, **more: client.ask(method, path, None, {"If-None-Match": condition, **more})
+            for condition in (tag, f"W/{tag}", f'"x", {tag}', "*"):
+                answer = ask(condition)
+                assert (answer.status, answer.body, answer["ETag"]) == (304, b"", tag), (method, path, condition, answer.status)
+            answer = ask(f'"{sha256(b"other")}"')
+            assert (answer.status, answer["ETag"], answer["Content-Length"]) == (200, tag, str(len(data))), (method, path, answer.status)
+    missing = client.ask("GET", f"/v2/acme/etags/blobs/{sha256(b'none')}", None, {"If-None-Match": "*"})
+    assert missing.status == 404, missing.status
+    blob, part = f"/v2/acme/etags/blobs/{sha256(b'abcdef')}", {"Range": "bytes=1-2"}
+    assert client.ask("GET", blob, None, {**part, "If-Range": f'"{sha256(b"abcdef")}"'}).body == b"bc"
+    assert client.ask("GET", blob, None, {**part, "If-Range": f'"{sha256(b"other")}"'}).body == b"abcdef"
+
+
 def main():
     with serving("--slots", "64") as server:
-        play("answers", [(every_valid_name_can_be_used, server), (paths_are_decoded_once, server), limits_are_told_apart])
+        play("answers", [(every_valid_name_can_be_used, server), (paths_are_decoded_once, server), limits_are_told_apart, methods_that_a_path_lacks_are_told, (content_that_a_client_has_is_not_sent_again, server)])
 
 
 if __name__ == "__main__":
