@@ -17,6 +17,7 @@ mod range;
 mod registry;
 mod store;
 mod tags;
+mod tenants;
 mod turns;
 mod uploading;
 mod uploads;

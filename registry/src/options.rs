@@ -1,4 +1,5 @@
 //! The words of the command line.
+use crate::tenants::{self, tenant_word};
 use crate::uploads::Patience;
 use clap::Parser;
 use std::net::SocketAddr;
@@ -41,23 +42,16 @@ pub struct Options {
     #[arg(long, value_name = "PATH", default_value = "blobd")]
     pub blobd: PathBuf,
     /// A tenant, the first part of its repositories' names, and how many bytes it may use.
-    #[arg(value_name = "TENANT=QUOTA", required = true, value_parser = tenant)]
+    #[arg(value_name = "TENANT=QUOTA", required = true, value_parser = tenant_word)]
     pub tenants: Vec<String>,
-}
-
-/// A word of the form `TENANT=QUOTA`. What a name may be is for the store to say.
-fn tenant(word: &str) -> Result<String, String> {
-    match word.split_once('=') {
-        Some((name, quota)) if !name.is_empty() && quota.parse::<u64>().is_ok() => Ok(word.to_string()),
-        _ => Err("it has to be TENANT=QUOTA, the quota in bytes".to_string()),
-    }
 }
 
 impl Options {
     /// Why the options can't stand together, if they can't.
-    pub fn conflict(&self) -> Option<&'static str> {
+    pub fn conflict(&self) -> Option<String> {
         let open = self.htpasswd.is_none() && !self.listen.ip().is_loopback() && !self.let_anybody_in;
-        open.then(|| "without --htpasswd it listens on this machine alone, unless --let-anybody-in is given")
+        let text = "without --htpasswd it listens on this machine alone, unless --let-anybody-in is given";
+        open.then(|| text.to_string()).or_else(|| tenants::conflict(&self.tenants))
     }
 
     /// How long uploads may be unused.

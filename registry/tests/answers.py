@@ -1,6 +1,6 @@
 #!/usr/bin/env python3
 """What the registry answers to names, limits, methods and conditions that clients seldom use."""
-import json
+import json, subprocess
 
 from playing import play, serving_stub
 from server import MANIFEST, manifest_of, serving, sha256
@@ -115,9 +115,19 @@ def content_that_a_client_has_is_not_sent_again(server):
     assert client.ask("GET", blob, None, {**part, "If-Range": f'"{sha256(b"other")}"'}).body == b"abcdef"
 
 
+def bad_tenants_are_named():
+    from server import BLOBD, REGISTRYD
+    for words, named in ((["acme=1", "Acme=1"], "Acme=1"), (["acme=1", "b=1125899906842625"], "b=1125899906842625"),
+                         (["a=1", "b"], "b"), (["a=1", "b=x"], "b=x"), (["a=1", "b=2", "a=3"], "a=3")):
+        ended = subprocess.run([REGISTRYD, "--listen", "127.0.0.1:0", "--blobd", BLOBD, *words], stderr=subprocess.PIPE, text=True, timeout=20)
+        assert ended.returncode == 2 and f"`{named}`" in ended.stderr, (words, ended)
+
+
 def main():
     with serving("--slots", "64") as server:
-        play("answers", [(every_valid_name_can_be_used, server), (paths_are_decoded_once, server), limits_are_told_apart, methods_that_a_path_lacks_are_told, (content_that_a_client_has_is_not_sent_again, server)])
+        play("answers", [
+            (every_valid_name_can_be_used, server), (paths_are_decoded_once, server), limits_are_told_apart,
+            methods_that_a_path_lacks_are_told, (content_that_a_client_has_is_not_sent_again, server), bad_tenants_are_named])
 
 
 if __name__ == "__main__":

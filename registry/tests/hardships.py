@@ -271,7 +271,8 @@ def killed_programs_take_one_another_along():
 def what_cannot_be_started_says_so():
     from server import BLOBD, REGISTRYD
     cases = [(["--blobd", "/no/such/program", "a=1"], 1, "/no/such/program"),
-             (["--blobd", BLOBD, "A=1"], 1, "blobd ended"),
+             (["--blobd", "/bin/false", "a=1"], 1, "blobd ended"),
+             (["--blobd", BLOBD, "A=1"], 2, "`A=1`"),
              (["--blobd", BLOBD, "--listen", "0.0.0.0:0", "a=1"], 2, "--htpasswd"),
              (["--blobd", BLOBD, "--htpasswd", "/no/such/file", "a=1"], 1, "/no/such/file"),
              (["--blobd", BLOBD], 2, "TENANT=QUOTA")]
