@@ -2,7 +2,7 @@
 """Manifests and tags while the store is slow, while others write, and in every form that a client may give them."""
 import json, random, threading, time
 
-from playing import Asking, play, serving_stub, took, until
+from playing import Asking, play, serving_stub, took
 from server import MANIFEST, serving, sha256
 
 PATCH = {"Content-Type": "application/octet-stream"}
@@ -17,7 +17,7 @@ def image(number, **more):
 
 
 def a_slow_call_for_one_tenant_holds_no_other_up():
-    with serving_stub({f"{PUT_MANIFEST} acme/slow": {"slow": 2}, f"{DELETE_MANIFEST} acme/slow": {"slow": 2}}) as server:
+    with serving_stub({f"{PUT_MANIFEST} acme/slow": {"slow": 3}, f"{DELETE_MANIFEST} acme/slow": {"slow": 3}}) as server:
         client = server.client()
         for repo in ("acme/one", "other/one"):
             assert client.ask("PUT", f"/v2/{repo}/manifests/v1", image(1), KIND).status == 201
@@ -25,9 +25,9 @@ def a_slow_call_for_one_tenant_holds_no_other_up():
             for repo in ("other/one", "acme/one"):
                 for path in ("manifests/v1", "tags/list"):
                     answer, seconds = took(lambda: client.ask("GET", f"/v2/{repo}/{path}"))
-                    assert answer.status == 200 and seconds < 0.8, (repo, path, answer.status, seconds)
+                    assert answer.status == 200 and seconds < 1, (repo, path, answer.status, seconds)
                 answer, seconds = took(lambda: client.ask("PUT", f"/v2/{repo}/manifests/v2", image(2), KIND))
-                assert answer.status == 201 and seconds < 0.8, (repo, answer.status, seconds)
+                assert answer.status == 201 and seconds < 1, (repo, answer.status, seconds)
             assert busy.answer is None, "the slow call ended before it was measured"
         for busy in (lambda: Asking(server, "PUT", "/v2/acme/slow/manifests/v1", image(3), KIND),
                      lambda: Asking(server, "DELETE", f"/v2/acme/slow/manifests/{sha256(image(3))}")):
@@ -38,14 +38,14 @@ def a_slow_call_for_one_tenant_holds_no_other_up():
 
 
 def a_repository_is_read_while_it_is_written():
-    with serving_stub({PUT_MANIFEST + " acme/one": {"slow": 1}}) as server:
+    with serving_stub({f"{PUT_MANIFEST} acme/one": {"slow": 2}}) as server:
         client = server.client()
         assert client.ask("PUT", "/v2/acme/one/manifests/v1", image(1), KIND).status == 201
         asking = Asking(server, "PUT", "/v2/acme/one/manifests/v2", image(2), KIND)
         time.sleep(0.2)
         for path in ("manifests/v1", "tags/list"):
             answer, seconds = took(lambda: client.ask("GET", f"/v2/acme/one/{path}"))
-            assert answer.status == 200 and seconds < 0.5, (path, answer.status, seconds)
+            assert answer.status == 200 and seconds < 1, (path, answer.status, seconds)
         assert asking.answer is None and asking.answered().status == 201
 
 
@@ -77,7 +77,7 @@ def writers_at_once_leave_no_tag_without_its_manifest(server):
     bodies, faults = [image(number) for number in range(3)], []
     def write(seed):
         client, choice = server.client(), random.Random(seed)
-        for _ in range(150):
+        for _ in range(100):
             body, tag = choice.choice(bodies), f"v{choice.randrange(4)}"
             if choice.random() < 0.6:
                 wanted, answer = (201,), client.ask("PUT", f"/v2/acme/many/manifests/{tag}", body, KIND)
@@ -87,7 +87,7 @@ def writers_at_once_leave_no_tag_without_its_manifest(server):
                 wanted, answer = (202, 404), client.ask("DELETE", f"/v2/acme/many/manifests/{tag}")
             if answer.status not in wanted:
                 faults.append((answer.status, answer.body[:100]))
-    for turn in range(3):
+    for turn in range(2):
         writers = [threading.Thread(target=write, args=(100 * turn + number,)) for number in range(6)]
         for writer in writers:
             writer.start()
@@ -117,7 +117,7 @@ def lists_of_tags_have_a_bound(server):
 
 def a_tag_that_always_exists_is_always_found():
     """Its manifest is deleted between the look-up of the tag and the read of the manifest, when the tag names another."""
-    slow = {"slow": 0.8}
+    slow = {"slow": 1.5}
     with serving_stub({GET_MANIFEST: slow, STAT_MANIFEST: slow}) as server:
         client = server.client()
         assert client.ask("PUT", "/v2/acme/one/manifests/v1", image(1), KIND).status == 201

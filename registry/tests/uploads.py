@@ -43,7 +43,7 @@ def an_upload_that_is_being_sent_is_not_given_up():
 
 
 def an_upload_without_bytes_is_given_up_early():
-    with serving_stub({}, "--empty-session-s", "1", "--session-s", "60") as server:
+    with serving_stub({}, "--empty-session-s", "2", "--session-s", "60") as server:
         client = server.client()
         never, cut_off, begun = (opened(client) for _ in range(3))
         line = server.socket()
@@ -57,7 +57,7 @@ def an_upload_without_bytes_is_given_up_early():
 
 def an_upload_that_the_store_does_not_know_is_dropped():
     upload_unknown = 4
-    with serving_stub({ABANDON: {"status": upload_unknown}}, "--session-s", "1") as server:
+    with serving_stub({ABANDON: {"status": upload_unknown}}, "--session-s", "2") as server:
         opened(server.client())
         assert server.metric("registryd_uploads") == 1
         assert until(lambda: server.metric("registryd_uploads") == 0, 5), server.metric("registryd_uploads")
