@@ -93,27 +93,26 @@ impl Fault {
         Fault::new(StatusCode::FORBIDDEN, "DENIED", format!("{user} may use repositories of tenant {user} alone"))
     }
 
-    /// A call on a repository has reached a limit.
+    /// A call on a repository has reached a limit. Clients show the message of a 403, and not that of a 507.
     pub fn limit(limit: Limit, repo: &str) -> Fault {
         let tenant = tenant_of(repo);
-        let denied = |message: String| Fault::new(StatusCode::FORBIDDEN, "DENIED", message);
-        match limit {
-            Limit::Uploads => Fault::new(
-                StatusCode::INSUFFICIENT_STORAGE,
-                "TOOMANYREQUESTS",
-                format!("tenant {tenant} has {MAX_UPLOADS} open uploads, the most it may have: one that ends or is deleted makes room"),
-            )
-            .with_header("Retry-After", "1")
-            .with_detail(json!({ "limit": "uploads", "most": MAX_UPLOADS })),
-            Limit::Repositories => denied(format!(
-                "tenant {tenant} has {MAX_REPOSITORIES} repositories, the most it may have: none goes away before the registry ends"
-            ))
-            .with_detail(json!({ "limit": "repositories", "most": MAX_REPOSITORIES })),
-            Limit::Manifests => denied(format!(
-                "repository {repo} has {MAX_MANIFESTS} manifests, the most it may have: one that is deleted makes room"
-            ))
-            .with_detail(json!({ "limit": "manifests", "most": MAX_MANIFESTS })),
-        }
+        let (code, name, most) = match limit {
+            Limit::Uploads => ("TOOMANYREQUESTS", "uploads", MAX_UPLOADS),
+            Limit::Repositories => ("DENIED", "repositories", MAX_REPOSITORIES),
+            Limit::Manifests => ("DENIED", "manifests", MAX_MANIFESTS),
+        };
+        let message = match limit {
+            Limit::Uploads => {
+                format!("tenant {tenant} has {most} open uploads, the most it may: one that ends or is deleted makes room")
+            }
+            Limit::Repositories => {
+                format!("tenant {tenant} has {most} repositories, the most it may: none goes away before the registry ends")
+            }
+            Limit::Manifests => {
+                format!("repository {repo} has {most} manifests, the most it may: one that is deleted makes room")
+            }
+        };
+        Fault::new(StatusCode::FORBIDDEN, code, message).with_detail(json!({ "limit": name, "most": most }))
     }
 
     /// The response, with the fault in its JSON.

@@ -115,8 +115,8 @@ struct Place {
     len: Option<u64>,
 }
 
-/// The place of a chunk: it begins at the upload's end, which its range has to name if there is one. A chunk that would make the
-/// blob too long is refused before a byte of it is read.
+/// The place of a chunk: it begins at the upload's end, which its range has to name if there is one. A chunk that would make
+/// the blob too long is refused before a byte of it is read.
 async fn place(call: &Call, session: u32, content: &Content) -> Result<Place, Fault> {
     let start = call.registry.store.status(&call.repo, session).await??;
     let mut len = content.len;

@@ -52,11 +52,10 @@ def limits_are_told_apart():
             told = json.loads(answer.body)["errors"][0]
             assert (answer.status, told["code"], told["detail"]) == (status, code, {"limit": limit, "most": most}), (answer.status, told)
             assert word in told["message"] and str(most) in told["message"], told
-            assert answer.status != 429 or answer["Retry-After"], answer.status
         opened = [client.ask("POST", "/v2/acme/one/blobs/uploads/") for _ in range(64)]
         assert {answer.status for answer in opened} == {202}
-        refused(client.ask("POST", "/v2/acme/one/blobs/uploads/"), 507, "TOOMANYREQUESTS", "uploads", 64, "acme")
-        refused(client.ask("POST", f"/v2/acme/one/blobs/uploads/?mount={sha256(b'no')}"), 507, "TOOMANYREQUESTS", "uploads", 64, "acme")
+        refused(client.ask("POST", "/v2/acme/one/blobs/uploads/"), 403, "TOOMANYREQUESTS", "uploads", 64, "acme")
+        refused(client.ask("POST", f"/v2/acme/one/blobs/uploads/?mount={sha256(b'no')}"), 403, "TOOMANYREQUESTS", "uploads", 64, "acme")
         assert client.ask("DELETE", opened[0]["Location"]).status == 204
         assert client.ask("POST", f"/v2/acme/one/blobs/uploads/?digest={sha256(b'{}')}", b"{}", PATCH).status == 201
         for number in range(1023):
