@@ -1,6 +1,6 @@
 #!/usr/bin/env python3
 """Clients that break off, go slowly, send too much or nothing, or are nobody's; and programs that are killed."""
-import base64, os, random, signal, subprocess, sys, tempfile, time
+import base64, os, random, signal, subprocess, sys, tempfile, time, traceback
 
 from server import serving, sha256
 
@@ -289,15 +289,20 @@ ALONE = [users_have_their_own_tenant, unused_uploads_are_given_up, a_signal_ends
          limits_are_told, a_piece_is_refused_while_the_next_is_on_its_way, metrics_count_what_was_done, killed_programs_take_one_another_along, what_cannot_be_started_says_so]
 
 
+def played(test, *words):
+    """Plays a test, and names the step at which it fails: 1 then, else 0."""
+    try:
+        test(*words)
+        return 0
+    except Exception as error:
+        steps = [step for step in traceback.extract_tb(error.__traceback__) if step.filename == sys.modules[test.__module__].__file__]
+        step = steps[-1]
+        print(f"WRONG {test.__name__}: line {step.lineno}: {step.line}: {type(error).__name__}: {error}")
+        return 1
+
+
 def main():
     wrong = 0
-    def played(test, *server):
-        try:
-            test(*server)
-            return 0
-        except AssertionError as error:
-            print(f"WRONG {test.__name__}: {error}")
-            return 1
     with serving("--slots", "64", "--sweep-ms", "50", "--lines", "4") as server:
         wrong += sum(played(test, server) for test in WITH_ONE)
     wrong += sum(played(test) for test in ALONE)
