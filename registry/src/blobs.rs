@@ -122,14 +122,11 @@ impl From<Lost> for Stopped {
 impl Reading {
     /// Sends the bytes, and gives the lease back once no read of it is left.
     async fn send(mut self, mut sender: Sender) {
-        match self.send_pieces(&mut sender).await {
-            Ok(()) => {}
-            Err(stopped) => {
-                if let Stopped::Refused(refusal) = stopped {
-                    tracing::error!(reason = ?refusal.reason, "a leased blob is refused");
-                }
-                sender.abort();
+        if let Err(stopped) = self.send_pieces(&mut sender).await {
+            if let Stopped::Refused(refusal) = stopped {
+                tracing::error!(reason = ?refusal.reason, "a leased blob is refused");
             }
+            sender.abort();
         }
         for read in self.reads.drain(..) {
             let _ = read.await;
