@@ -3,13 +3,18 @@ use crate::fault::Fault;
 use hyper::header::AUTHORIZATION;
 use hyper::HeaderMap;
 use sha2::{Digest, Sha256};
-use std::collections::HashMap;
+use std::collections::{HashMap, HashSet};
 use std::ffi::{CStr, CString};
 use std::io;
 use std::path::Path;
-use std::sync::{Arc, Mutex};
+use std::sync::atomic::{AtomicUsize, Ordering};
+use std::sync::{Arc, Mutex, MutexGuard};
+use tokio::sync::Semaphore;
 
-/// The hash of no password, by which an unknown user takes as long as a known one.
+/// The most requests that wait for their password to be compared.
+const MOST_WAITING: usize = 256;
+
+/// The hash of no password, for where the file has none.
 const NO_HASH: &str = "$2y$05$nqFXJkfECeUKpyE2Lb3PCOSiG.rBTWlZboZ5DnVm.UMOo.e76iQgC";
 
 /// What `crypt_rn` works in, in bytes: more than the 32,768 of its `struct crypt_data`.
@@ -36,40 +41,140 @@ pub enum Access {
 /// Users, each with his password's hash, and passwords that were found right.
 pub struct Users {
     hashes: HashMap<String, String>,
+    /// The hashes that a password can have. An unknown user's password is compared with one of them.
+    usable: Vec<String>,
     /// By user, a hash of the password that was right last. Each request brings one, and the system's are slow on purpose.
     right: Mutex<HashMap<String, [u8; 32]>>,
     salt: [u8; 16],
+    /// The turns of hashing, and how many requests wait for one.
+    turns: Arc<Semaphore>,
+    waiting: AtomicUsize,
+}
+
+/// The format of a hash, if the system's `crypt` has it: what it begins with, and the length of what its last `$` precedes
+/// (crypt(5)).
+fn format_of(hash: &str) -> Option<&'static str> {
+    const FORMATS: [(&str, usize); 9] =
+        [("$2a$", 53), ("$2b$", 53), ("$2y$", 53), ("$1$", 22), ("$5$", 43), ("$6$", 86), ("$y$", 43), ("$gy$", 43), ("$7$", 43)];
+    let last = hash.rsplit('$').next()?;
+    let is_of = |&&(start, len): &&(&str, usize)| hash.starts_with(start) && last.len() == len;
+    FORMATS.iter().find(is_of).map(|(start, _)| *start)
+}
+
+/// Whether a hash lets nobody in (shadow(5)).
+fn is_locked(hash: &str) -> bool {
+    hash.starts_with(&['!', '*'][..])
+}
+
+/// A line `USER:HASH`, whose hash can be checked here. `tried` has the formats that the system is known to have.
+fn parsed<'l>(line: &'l str, tried: &mut HashSet<&'static str>) -> Result<(&'l str, &'l str), &'static str> {
+    let (user, hash) = match line.split_once(':') {
+        Some((user, hash)) if !user.is_empty() => (user, hash),
+        _ => return Err("it isn't USER:HASH"),
+    };
+    if is_locked(hash) {
+        return Ok((user, hash));
+    }
+    let format = format_of(hash).ok_or("its hash is of no supported format: make one by `htpasswd -nB`")?;
+    if tried.insert(format) && crypted("", hash).is_none() {
+        return Err("the system's crypt(3) refuses its hash: make one by `htpasswd -nB`");
+    }
+    Ok((user, hash))
 }
 
 impl Users {
     /// Reads the lines `USER:HASH` of a file that `htpasswd` wrote.
+    ///
+    /// # Errors
+    ///
+    /// The first line that is of another form, or whose hash no password can be compared with.
     pub fn read(path: &Path) -> io::Result<Users> {
         let text = std::fs::read_to_string(path)?;
-        let mut hashes = HashMap::new();
-        for line in text.lines().map(str::trim).filter(|line| !line.is_empty() && !line.starts_with('#')) {
-            match line.split_once(':') {
-                Some((user, hash)) if !user.is_empty() => hashes.insert(user.to_string(), hash.to_string()),
-                _ => return Err(io::Error::new(io::ErrorKind::InvalidData, "a line isn't USER:HASH")),
-            };
+        let (mut hashes, mut tried) = (HashMap::new(), HashSet::new());
+        for (at, line) in text.lines().map(str::trim).enumerate() {
+            if line.is_empty() || line.starts_with('#') {
+                continue;
+            }
+            let (user, hash) = parsed(line, &mut tried).map_err(|why| {
+                io::Error::new(io::ErrorKind::InvalidData, format!("line {}: {why}", at + 1))
+            })?;
+            hashes.insert(user.to_string(), hash.to_string());
         }
+        Ok(Users::of(hashes))
+    }
+
+    fn of(hashes: HashMap<String, String>) -> Users {
+        let mut usable: Vec<String> = hashes.values().filter(|hash| !is_locked(hash)).cloned().collect();
+        usable.sort();
+        let processors = std::thread::available_parallelism().map_or(1, usize::from);
+        let turns = Arc::new(Semaphore::new((processors / 2).max(1)));
         let salt = *uuid::Uuid::new_v4().as_bytes();
-        Ok(Users { hashes, right: Mutex::new(HashMap::new()), salt })
+        Users { hashes, usable, right: Mutex::default(), salt, turns, waiting: AtomicUsize::new(0) }
+    }
+
+    fn right(&self) -> MutexGuard<'_, HashMap<String, [u8; 32]>> {
+        self.right.lock().unwrap_or_else(|poisoned| poisoned.into_inner())
+    }
+
+    fn salted(&self, text: &str) -> [u8; 32] {
+        Sha256::new().chain_update(self.salt).chain_update(text).finalize().into()
+    }
+
+    /// Whether a password is the one that was the user's last.
+    fn was_right(&self, user: &str, password: &str) -> bool {
+        let seen = self.salted(password);
+        self.right().get(user).map_or(false, |right| is_same(right, &seen))
+    }
+
+    /// A hash that is nobody's, for a user whom the file doesn't let in: it takes as long as one of the file's, for each
+    /// name always the same, so that the time doesn't tell who is in the file.
+    fn decoy(&self, user: &str) -> &str {
+        let name = self.salted(user);
+        let at = u32::from_le_bytes([name[0], name[1], name[2], name[3]]) as usize;
+        self.usable.get(at % self.usable.len().max(1)).map_or(NO_HASH, String::as_str)
     }
 
     /// Whether a password is the user's.
     fn is_right(&self, user: &str, password: &str) -> bool {
-        let seen: [u8; 32] = Sha256::new().chain_update(self.salt).chain_update(password).finalize().into();
-        if let Some(right) = self.right.lock().unwrap().get(user) {
-            if is_same(right, &seen) {
-                return true;
-            }
-        }
-        let known = self.hashes.get(user);
-        let right = matches_hash(password, known.map_or(NO_HASH, String::as_str)) && known.is_some();
+        let known = self.hashes.get(user).filter(|hash| !is_locked(hash));
+        let right = matches_hash(password, known.map_or_else(|| self.decoy(user), String::as_str)) && known.is_some();
         if right {
-            self.right.lock().unwrap().insert(user.to_string(), seen);
+            let seen = self.salted(password);
+            self.right().insert(user.to_string(), seen);
         }
         right
+    }
+
+    /// Compares a password in a thread of its own, when it is its turn. Other requests go on meanwhile.
+    async fn compare(self: &Arc<Self>, user: &str, password: String) -> Result<bool, Fault> {
+        let waiting = Waiting::begin(&self.waiting).ok_or_else(|| Fault::unavailable("too many passwords are compared"))?;
+        let turn = self.turns.clone().acquire_owned().await;
+        drop(waiting);
+        let (users, name) = (self.clone(), user.to_string());
+        let compared = tokio::task::spawn_blocking(move || {
+            let right = users.was_right(&name, &password) || users.is_right(&name, &password);
+            drop(turn);
+            right
+        });
+        Ok(compared.await.unwrap_or(false))
+    }
+}
+
+/// A request that waits for its turn.
+struct Waiting<'c>(&'c AtomicUsize);
+
+impl<'c> Waiting<'c> {
+    /// Counts a request in, unless too many wait.
+    fn begin(count: &'c AtomicUsize) -> Option<Waiting<'c>> {
+        let is_one_more = |count| (count < MOST_WAITING).then(|| count + 1);
+        count.fetch_update(Ordering::Relaxed, Ordering::Relaxed, is_one_more).ok()?;
+        Some(Waiting(count))
+    }
+}
+
+impl Drop for Waiting<'_> {
+    fn drop(&mut self) {
+        self.0.fetch_sub(1, Ordering::Relaxed);
     }
 }
 
@@ -78,23 +183,25 @@ fn is_same(a: &[u8], b: &[u8]) -> bool {
     a.len() == b.len() && a.iter().zip(b).fold(0, |other, (a, b)| other | (a ^ b)) == 0
 }
 
-/// Whether a password has a hash, by the system's `crypt`.
+/// Whether a password has a hash.
 fn matches_hash(password: &str, hash: &str) -> bool {
-    let (phrase, setting) = match (CString::new(password), CString::new(hash)) {
-        (Ok(phrase), Ok(setting)) => (phrase, setting),
-        _ => return false,
-    };
+    crypted(password, hash).map_or(false, |found| is_same(&found, hash.as_bytes()))
+}
+
+/// What the system's `crypt` makes of a password by the setting that a hash begins with, if it knows it.
+fn crypted(password: &str, hash: &str) -> Option<Vec<u8>> {
+    let (phrase, setting) = (CString::new(password).ok()?, CString::new(hash).ok()?);
     let mut data = vec![0u64; CRYPT_LEN / 8];
     // SAFETY: both texts end with a zero, and `data` has as many zero bytes as it is said to have.
     let found = unsafe {
         crypt_rn(phrase.as_ptr(), setting.as_ptr(), data.as_mut_ptr().cast(), CRYPT_LEN as libc::c_int)
     };
     if found.is_null() {
-        return false;
+        return None;
     }
     // SAFETY: what isn't null points to a text in `data`, which ends with a zero.
     let found = unsafe { CStr::from_ptr(found) };
-    is_same(found.to_bytes(), setting.as_bytes())
+    Some(found.to_bytes().to_vec())
 }
 
 /// The user and the password that a request's head names.
@@ -117,10 +224,8 @@ impl Access {
             Access::Users(users) => users.clone(),
         };
         let (user, password) = credentials(headers).ok_or_else(Fault::unauthorized)?;
-        let name = user.clone();
-        // A hash takes long on purpose, and other requests go on meanwhile.
-        let right = tokio::task::spawn_blocking(move || users.is_right(&name, &password)).await;
-        if right.unwrap_or(false) {
+        // A hash takes long on purpose.
+        if users.was_right(&user, &password) || users.compare(&user, password).await? {
             Ok(Some(user))
         } else {
             Err(Fault::unauthorized())
@@ -167,13 +272,45 @@ mod tests {
 
     #[test]
     fn a_right_password_is_known_again_and_another_is_not() {
-        let hashes = [("acme".to_string(), BCRYPT.to_string())].into();
-        let users = Users { hashes, right: Mutex::default(), salt: [7; 16] };
+        let users = Users::of([("acme".to_string(), BCRYPT.to_string())].into());
+        assert!(!users.was_right("acme", "secret"));
         assert!(users.is_right("acme", "secret"));
-        assert_eq!(users.right.lock().unwrap().len(), 1);
-        assert!(users.is_right("acme", "secret"));
+        assert_eq!(users.right().len(), 1);
+        assert!(users.was_right("acme", "secret"));
+        assert!(!users.was_right("acme", "other"));
         assert!(!users.is_right("acme", "other"));
         assert!(!users.is_right("nobody", "secret"));
+    }
+
+    #[test]
+    fn hashes_that_no_password_can_have_are_refused() {
+        let formats = [("acme", BCRYPT), ("other", SHA512), ("locked", "!"), ("locked", "*0")];
+        for (user, hash) in formats {
+            assert_eq!(parsed(&format!("{user}:{hash}"), &mut HashSet::new()), Ok((user, hash)));
+        }
+        let apr1 = "acme:$apr1$Zk7Yq2xT$DZ7UqqZQZkSc1.xlOGv7u.";
+        let short = &format!("acme:{}", &BCRYPT[..40]);
+        for line in [apr1, short, "acme:{SHA}qUqP5cyxm6YcTAhz05Hph5gvu9M=", "acme:secret", "acme", ":x", "acme:"] {
+            assert!(parsed(line, &mut HashSet::new()).is_err(), "{line}");
+        }
+    }
+
+    #[test]
+    fn an_unknown_user_is_compared_with_a_hash_of_the_file() {
+        let hashes = [("acme".to_string(), SHA512.to_string()), ("locked".to_string(), "!".to_string())];
+        let users = Users::of(hashes.into());
+        assert_eq!(users.decoy("nobody"), SHA512);
+        assert!(!users.is_right("nobody", "secret") && !users.is_right("locked", "secret"));
+        assert_eq!(Users::of(HashMap::new()).decoy("nobody"), NO_HASH);
+    }
+
+    #[test]
+    fn few_requests_wait() {
+        let count = AtomicUsize::new(MOST_WAITING - 1);
+        let last = Waiting::begin(&count);
+        assert!(last.is_some() && Waiting::begin(&count).is_none());
+        drop(last);
+        assert!(Waiting::begin(&count).is_some());
     }
 
     #[test]

@@ -82,6 +82,11 @@ impl Fault {
         Fault::new(StatusCode::REQUEST_TIMEOUT, "SIZE_INVALID", "the content came to no end")
     }
 
+    /// The request can be made again soon, when less is to be done.
+    pub fn unavailable(message: &str) -> Fault {
+        Fault::new(StatusCode::SERVICE_UNAVAILABLE, "TOOMANYREQUESTS", message).with_header(RETRY_AFTER, "1")
+    }
+
     /// No user is named, or the password is another.
     pub fn unauthorized() -> Fault {
         Fault::new(StatusCode::UNAUTHORIZED, "UNAUTHORIZED", "a user and a password are wanted")

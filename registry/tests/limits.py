@@ -1,0 +1,141 @@
+#!/usr/bin/env python3
+"""What one client can take from the others, and what a signal or a store that hangs ends: connections, memory, lines to the
+store, passwords, metrics."""
+import base64, contextlib, os, random, resource, shutil, signal, subprocess, sys, tempfile, threading, time
+
+import server as servers
+from hardships import MIB, PATCH, head_of, played
+from server import REGISTRYD, serving, sha256, sha512
+
+SLOW_STORE = f"{os.path.dirname(os.path.abspath(__file__))}/slow_store.py"
+# Of `htpasswd -nbB -C 12`, of the password `secret`: some 0.2 s of work.
+COSTLY = "$2b$12$kIV1QY2QhHXZLy/oKAmtZerVboJWvuY2fpXYnW4Edy.gcb87au26i"
+# Of `htpasswd -nbB`, of the same.
+CHEAP = "$2y$05$WPSbK2DIsoFcNmh8.ZRjyenCTz99CZnzjMErrXyIjCuKJLFJA1d1S"
+SMALL_FILES = 256
+
+
+@contextlib.contextmanager
+def file_limit(soft):
+    """Programs that are started here may open so many files."""
+    old, hard = resource.getrlimit(resource.RLIMIT_NOFILE)
+    resource.setrlimit(resource.RLIMIT_NOFILE, (soft, hard))
+    try:
+        yield
+    finally:
+        resource.setrlimit(resource.RLIMIT_NOFILE, (max(old, min(hard, 4096)), hard))
+
+
+@contextlib.contextmanager
+def store(path):
+    """Another program keeps the store."""
+    old, servers.BLOBD = servers.BLOBD, path
+    try:
+        yield
+    finally:
+        servers.BLOBD = old
+
+
+@contextlib.contextmanager
+def stopped(pid):
+    """A program hangs."""
+    os.kill(pid, signal.SIGSTOP)
+    try:
+        yield
+    finally:
+        os.kill(pid, signal.SIGCONT)
+
+
+@contextlib.contextmanager
+def users(*lines):
+    with tempfile.NamedTemporaryFile("w") as file:
+        file.write("".join(line + "\n" for line in lines))
+        file.flush()
+        yield file.name
+
+
+def basic(words):
+    return {"Authorization": "Basic " + base64.b64encode(words.encode()).decode()}
+
+
+def is_closed(line, seconds):
+    """Whether the server closes a connection within some time."""
+    line.settimeout(seconds)
+    try:
+        return line.recv(1000) == b""
+    except ConnectionResetError:
+        return True
+    except TimeoutError:
+        return False
+
+
+def took(call):
+    begun = time.time()
+    result = call()
+    return time.time() - begun, result
+
+
+def until(condition, what, seconds=10):
+    end = time.time() + seconds
+    while not condition():
+        assert time.time() < end, what
+        time.sleep(0.05)
+
+
+def an_unknown_user_takes_as_long_as_a_known_one():
+    with users(f"acme:{COSTLY}", "locked:!") as file, serving("--htpasswd", file) as server:
+        def least(name):
+            asked = [took(lambda: server.client(basic(f"{name}:wrong")).ask("GET", "/v2/")) for _ in range(2)]
+            assert {answer.status for _, answer in asked} == {401}
+            return min(seconds for seconds, _ in asked)
+        known, unknown, locked = least("acme"), least("nobody"), least("locked")
+        assert min(unknown, locked) > known / 3, f"{known:.3f} s, unknown: {unknown:.3f} s, locked: {locked:.3f} s"
+
+
+def known_passwords_wait_for_no_unknown_ones():
+    with users(f"acme:{COSTLY}") as file, serving("--htpasswd", file) as server:
+        known = server.client(basic("acme:secret"))
+        assert known.ask("GET", "/v2/").status == 200
+        lines = [server.socket() for _ in range(600)]
+        for number, line in enumerate(lines):
+            words = basic(f"acme:{number}")["Authorization"]
+            line.sendall(head_of("GET", "", Authorization=words))
+        time.sleep(0.5)
+        seconds, answer = took(lambda: known.ask("GET", "/v2/"))
+        assert answer.status == 200 and seconds < 1, f"a known password waits for {seconds:.2f} s"
+        lines[-1].settimeout(2)
+        answer = lines[-1].recv(1000)
+        assert answer.startswith(b"HTTP/1.1 503") and b"retry-after" in answer.lower(), answer
+        for line in lines:
+            line.close()
+
+
+def hashes_that_cannot_be_checked_are_told():
+    for line in ("other:$apr1$Zk7Yq2xT$DZ7UqqZQZkSc1.xlOGv7u.", "other:{SHA}qUqP5cyxm6YcTAhz05Hph5gvu9M=", "other:secret"):
+        with users("# users", f"acme:{CHEAP}", line) as file:
+            words = [REGISTRYD, "--listen", "127.0.0.1:0", "--blobd", servers.BLOBD, "--htpasswd", file, "acme=1"]
+            process = subprocess.Popen(words, stderr=subprocess.PIPE, text=True)
+            try:
+                text = process.communicate(timeout=5)[1]
+            except subprocess.TimeoutExpired:
+                raise AssertionError(f"it starts with {line}")
+            finally:
+                process.kill()
+                process.wait()
+            assert process.returncode == 1 and file in text and "line 3" in text, text
+
+
+TESTS = [an_unknown_user_takes_as_long_as_a_known_one, known_passwords_wait_for_no_unknown_ones,
+         hashes_that_cannot_be_checked_are_told]
+
+
+def main():
+    names = sys.argv[1:]
+    tests = [test for test in TESTS if not names or test.__name__ in names]
+    wrong = sum(played(test) for test in tests)
+    print(f"limits: {len(tests) - wrong} as wanted, {wrong} otherwise")
+    sys.exit(wrong > 0)
+
+
+if __name__ == "__main__":
+    main()
