@@ -82,6 +82,17 @@ def until(condition, what, seconds=10):
         time.sleep(0.05)
 
 
+def a_media_type_has_a_limit():
+    with serving() as server:
+        client, config = server.client(), b"{}"
+        assert client.ask("POST", f"/v2/acme/one/blobs/uploads/?digest={sha256(config)}", config, PATCH).status == 201
+        for length, status in ((255, 201), (256, 400)):
+            kind = "application/" + "x" * (length - len("application/"))
+            text = '{"schemaVersion":2,"config":{"mediaType":"a/b","digest":"%s","size":2},"layers":[]}' % sha256(config)
+            answer = client.ask("PUT", "/v2/acme/one/manifests/v1", text.encode(), {"Content-Type": kind})
+            assert answer.status == status, (length, answer.status, answer.body)
+
+
 def an_unknown_user_takes_as_long_as_a_known_one():
     with users(f"acme:{COSTLY}", "locked:!") as file, serving("--htpasswd", file) as server:
         def least(name):
@@ -125,8 +136,8 @@ def hashes_that_cannot_be_checked_are_told():
             assert process.returncode == 1 and file in text and "line 3" in text, text
 
 
-TESTS = [an_unknown_user_takes_as_long_as_a_known_one, known_passwords_wait_for_no_unknown_ones,
-         hashes_that_cannot_be_checked_are_told]
+TESTS = [a_media_type_has_a_limit, an_unknown_user_takes_as_long_as_a_known_one,
+         known_passwords_wait_for_no_unknown_ones, hashes_that_cannot_be_checked_are_told]
 
 
 def main():
