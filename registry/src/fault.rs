@@ -144,7 +144,8 @@ pub fn range_text(received: u64) -> String {
 
 impl From<Lost> for Fault {
     fn from(_: Lost) -> Fault {
-        Fault::new(StatusCode::SERVICE_UNAVAILABLE, "UNSUPPORTED", "the store is gone")
+        Fault::new(StatusCode::SERVICE_UNAVAILABLE, "UNSUPPORTED", "the store is gone, or does not reply in time")
+            .with_header(RETRY_AFTER, "1")
     }
 }
 

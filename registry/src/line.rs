@@ -47,6 +47,18 @@ fn without_waiting(file: File) -> io::Result<AsyncFd<File>> {
 /// What a request is answered.
 pub type Answer = Result<Reply, Refusal>;
 
+/// A request that can be sent: its head, and its body's pieces.
+pub struct Frame {
+    head: Vec<u8>,
+    body: Vec<Bytes>,
+}
+
+impl From<&Request<'_>> for Frame {
+    fn from(request: &Request<'_>) -> Frame {
+        Frame { head: request.head(), body: request.body.to_vec() }
+    }
+}
+
 /// A line, this side's ends of its pipes.
 pub struct Line {
     to: AsyncFd<File>,
@@ -81,22 +93,21 @@ impl Line {
 
     /// Sends requests, and takes their replies. Those before the last are short, since no reply is taken before all are
     /// sent. After an error, or where this is dropped before its end, the line is of no further use.
-    pub async fn exchange<const N: usize>(&mut self, requests: [Request<'_>; N]) -> io::Result<[Answer; N]> {
-        self.send(&requests).await?;
-        let mut answers = Vec::with_capacity(N);
-        for _ in &requests {
+    pub async fn exchange(&self, frames: &[Frame]) -> io::Result<Vec<Answer>> {
+        self.send(frames).await?;
+        let mut answers = Vec::with_capacity(frames.len());
+        for _ in frames {
             answers.push(self.answer().await?);
         }
-        Ok(answers.try_into().unwrap_or_else(|_| unreachable!("each request has an answer")))
+        Ok(answers)
     }
 
     /// Sends requests, whose replies are taken by `answer`, in their order.
-    pub async fn send(&self, requests: &[Request<'_>]) -> io::Result<()> {
-        let heads: Vec<Vec<u8>> = requests.iter().map(Request::head).collect();
+    pub async fn send(&self, frames: &[Frame]) -> io::Result<()> {
         let mut slices: Vec<&[u8]> = Vec::new();
-        for (head, request) in heads.iter().zip(requests) {
+        for Frame { head, body } in frames {
             slices.push(head);
-            slices.extend(request.body.iter().map(|piece| &piece[..]));
+            slices.extend(body.iter().map(|piece| &piece[..]));
         }
         self.write(slices).await
     }

@@ -13,6 +13,8 @@ mod media_type;
 mod metrics;
 mod options;
 mod path;
+mod pool;
+mod process;
 mod range;
 mod registry;
 mod store;
@@ -83,7 +85,9 @@ async fn run(options: Options) -> Result<(), Failure> {
         slots: options.slots,
         max_blob: options.max_blob,
         tenants: &options.tenants,
+        names: options.tenant_names(),
         lines: options.lines.into(),
+        call: Duration::from_secs(options.call_s),
     };
     let (store, child) =
         Store::start(setup).await.map_err(|error| format!("{}: {error}", options.blobd.display()))?;

@@ -23,6 +23,9 @@ pub struct Options {
     /// How many calls can be on their way to the store at once. A long blob that is read takes two.
     #[arg(long, value_name = "N", default_value_t = 32, value_parser = clap::value_parser!(u16).range(1..=1024))]
     pub lines: u16,
+    /// Bound the time of a call to the store.
+    #[arg(long, value_name = "S", default_value_t = 60, value_parser = clap::value_parser!(u64).range(1..=86400))]
+    pub call_s: u64,
     /// How long the collector rests between sweeps, in milliseconds; behind one that freed nothing at least ten.
     #[arg(long, value_name = "N", default_value_t = 1000)]
     pub sweep_ms: u64,

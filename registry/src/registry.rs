@@ -119,7 +119,7 @@ impl Registry {
     async fn route(self: Arc<Self>, head: Parts, content: &mut Content) -> Served {
         let path = head.uri.path().to_string();
         if path == "/healthz" {
-            return empty(StatusCode::OK, &[]);
+            return self.probe(&[]).await;
         }
         let user = self.access.user(&head.headers).await?;
         if path == "/metrics" {
@@ -134,7 +134,7 @@ impl Registry {
         }
         let repo = match target.repo() {
             Some(repo) => repo.to_string(),
-            None => return empty(StatusCode::OK, &[("Docker-Distribution-API-Version", "registry/2.0")]),
+            None => return self.probe(&[("Docker-Distribution-API-Version", "registry/2.0")]).await,
         };
         Access::check(&user, &repo)?;
         let method = head.method.clone();
@@ -157,14 +157,25 @@ impl Registry {
         }
     }
 
+    /// An answer without content, if the store replies.
+    async fn probe(&self, headers: &[(&str, &str)]) -> Served {
+        match self.store.replies().await {
+            true => empty(StatusCode::OK, headers),
+            false => Err(Lost.into()),
+        }
+    }
+
     /// Frees slots again and again, with a rest between, until the store is gone.
     pub async fn sweep(&self, rest: Duration) {
-        while let Ok(Ok(swept)) = self.store.sweep().await {
-            self.metrics.swept(&swept);
-            if swept.freed > 0 {
-                tracing::info!(freed = swept.freed, held = swept.held, "swept");
+        while !self.store.is_gone() {
+            let mut least = NOTHING_FREED_REST;
+            if let Ok(Ok(swept)) = self.store.sweep().await {
+                self.metrics.swept(&swept);
+                if swept.freed > 0 {
+                    tracing::info!(freed = swept.freed, held = swept.held, "swept");
+                    least = Duration::ZERO;
+                }
             }
-            let least = if swept.freed == 0 { NOTHING_FREED_REST } else { Duration::ZERO };
             tokio::time::sleep(rest.max(least)).await;
         }
     }
@@ -172,7 +183,8 @@ impl Registry {
     /// Gives up the uploads that aren't used for some time, again and again, until the store is gone.
     pub async fn expire(&self, patience: Patience) {
         let rest = (patience.least() / 10).clamp(Duration::from_millis(100), Duration::from_secs(60));
-        while self.expire_once(patience).await.is_ok() {
+        while !self.store.is_gone() {
+            let _ = self.expire_once(patience).await;
             tokio::time::sleep(rest).await;
         }
     }

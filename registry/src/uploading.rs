@@ -8,8 +8,10 @@ use crate::store::{Answer, Lost, Mounted};
 use crate::uploads::InUse;
 use bytes::Bytes;
 use hyper::StatusCode;
+use std::time::Duration;
 use tokio::sync::mpsc;
 use tokio::task::JoinHandle;
+use tokio::time::timeout;
 use uuid::Uuid;
 
 /// end-4, end-11: opens an upload, takes a blob whole, or mounts one.
@@ -159,6 +161,7 @@ async fn take_and_close(
 
 /// Pieces on their way to the store.
 struct Sending {
+    limit: Duration,
     pieces: mpsc::Sender<Vec<Bytes>>,
     appended: JoinHandle<Answer<u64>>,
 }
@@ -170,18 +173,21 @@ impl Sending {
         let (registry, repo) = (call.registry.clone(), call.repo.clone());
         let appended =
             tokio::spawn(async move { registry.store.append_all(&repo, session, start, &mut coming).await });
-        Sending { pieces, appended }
+        Sending { limit: call.registry.store.limit, pieces, appended }
     }
 
-    /// Sends a piece, once there is room for it. Answers whether more are taken: none is where one was refused.
-    async fn send(&self, piece: Vec<Bytes>) -> bool {
-        self.pieces.send(piece).await.is_ok()
+    /// Sends a piece, once there is room for it. Answers whether more are taken: none is where one was refused. The store
+    /// has to make room in time. If it hangs, what was sent is appended when it goes on.
+    async fn send(&self, piece: Vec<Bytes>) -> Result<bool, Lost> {
+        let sent = timeout(self.limit, self.pieces.send(piece)).await;
+        Ok(sent.map_err(|_| Lost)?.is_ok())
     }
 
     /// How much the session has received once all were appended.
     async fn end(self) -> Result<u64, Fault> {
         drop(self.pieces);
-        Ok(self.appended.await.map_err(|_| Lost)???)
+        let appended = timeout(self.limit, self.appended).await.map_err(|_| Lost)?;
+        Ok(appended.map_err(|_| Lost)???)
     }
 }
 
@@ -224,7 +230,7 @@ async fn take_all_but_last(
             true => true,
             false => {
                 let sending = sending.get_or_insert_with(|| Sending::begin(call, upload.session, place.start));
-                sending.send(piece.parts).await
+                sending.send(piece.parts).await?
             }
         };
         if !is_taken || piece.then == Then::CutOff {

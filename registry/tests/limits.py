@@ -82,6 +82,48 @@ def until(condition, what, seconds=10):
         time.sleep(0.05)
 
 
+def a_tenants_slow_calls_hold_no_other_up():
+    with store(SLOW_STORE), serving("--lines", "4") as server:
+        blob = f"blobs/{sha256(b'')}"
+        slow = [server.socket() for _ in range(20)]
+        for line in slow:
+            line.sendall(head_of("HEAD", f"acme/one/{blob}"))
+        time.sleep(0.3)
+        other = server.client()
+        for _ in range(5):
+            seconds, answer = took(lambda: other.ask("HEAD", f"/v2/other/one/{blob}"))
+            assert answer.status == 404 and seconds < 0.5, seconds
+        assert slow[0].recv(1000).startswith(b"HTTP/1.1 404")
+        for line in slow:
+            line.close()
+
+
+def a_store_that_hangs_is_told():
+    with serving("--call-s", "1", "--lines", "4") as server:
+        blob = f"/v2/acme/one/blobs/{sha256(b'abc')}"
+        assert server.client().ask("POST", f"/v2/acme/one/blobs/uploads/?digest={sha256(b'abc')}", b"abc", PATCH).status == 201
+        asked = [("GET", "/healthz"), ("GET", "/v2/"), ("HEAD", blob), ("GET", blob)] + [("POST", "/v2/acme/one/blobs/uploads/")] * 12
+        answers = [None] * len(asked)
+        def ask(at):
+            answers[at] = took(lambda: server.client().ask(*asked[at]))
+        with stopped(server.child()):
+            threads = [threading.Thread(target=ask, args=[at]) for at in range(len(asked))]
+            for thread in threads:
+                thread.start()
+            for thread in threads:
+                thread.join()
+        for words, (seconds, answer) in zip(asked, answers):
+            assert answer.status == 503 and answer["Retry-After"] and seconds < 3, (words, seconds, answer.status)
+        client = server.client()
+        until(lambda: client.ask("GET", "/healthz").status == 200, "it doesn't go on")
+        # All lines are there, and no session and no lease is left over.
+        assert [client.ask("GET", blob).body for _ in range(10)] == [b"abc"] * 10
+        opened = [client.ask("POST", "/v2/acme/one/blobs/uploads/").status for _ in range(64)]
+        assert set(opened) == {202}, opened
+        assert client.ask("DELETE", blob).status == 202
+        until(lambda: server.metric("registryd_free_slots") == 4096, "a lease is left over")
+
+
 def a_media_type_has_a_limit():
     with serving() as server:
         client, config = server.client(), b"{}"
@@ -136,8 +178,9 @@ def hashes_that_cannot_be_checked_are_told():
             assert process.returncode == 1 and file in text and "line 3" in text, text
 
 
-TESTS = [a_media_type_has_a_limit, an_unknown_user_takes_as_long_as_a_known_one,
-         known_passwords_wait_for_no_unknown_ones, hashes_that_cannot_be_checked_are_told]
+TESTS = [a_tenants_slow_calls_hold_no_other_up, a_store_that_hangs_is_told, a_media_type_has_a_limit,
+         an_unknown_user_takes_as_long_as_a_known_one, known_passwords_wait_for_no_unknown_ones,
+         hashes_that_cannot_be_checked_are_told]
 
 
 def main():
