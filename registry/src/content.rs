@@ -2,8 +2,10 @@
 use bytes::Bytes;
 use hyper::body::HttpBody;
 use hyper::{Body, Response, StatusCode};
+use std::sync::Arc;
 use std::time::Duration;
 
+use crate::exchange::Exchange;
 use crate::fault::Fault;
 use crate::line::WHOLE_LEN;
 use crate::metrics::Metrics;
@@ -15,7 +17,7 @@ pub const PIECE_LEN: usize = WHOLE_LEN;
 /// The longest manifest, in bytes (the specification asks for at least 4 MiB).
 pub const MAX_MANIFEST: usize = 4_194_304;
 
-/// How long a client may send nothing.
+/// How long a client may send nothing, where its connection doesn't say.
 const IDLE_TIME: Duration = Duration::from_secs(60);
 
 /// How much is taken off a client whose request was refused, so that it comes to read why.
@@ -50,21 +52,40 @@ pub struct Content {
     is_awaited: bool,
     is_begun: bool,
     metrics: Metrics,
+    pub exchange: Option<Arc<Exchange>>,
 }
 
 impl Content {
     /// The content of a request. Whether it is awaited: the client sends nothing before it is asked to (RFC 9110, 10.1.1).
     pub fn new(body: Body, is_awaited: bool, metrics: Metrics) -> Content {
         let len = body.size_hint().exact();
-        Content { body, len, rest: Bytes::new(), is_awaited, is_begun: false, metrics }
+        Content { body, len, rest: Bytes::new(), is_awaited, is_begun: false, metrics, exchange: None }
+    }
+
+    /// The content of an exchange, whose connection sees what is waited for.
+    pub fn of(self, exchange: Option<Arc<Exchange>>) -> Content {
+        Content { exchange, ..self }
+    }
+
+    fn await_body(&self, is_awaited: bool) {
+        if let Some(exchange) = &self.exchange {
+            exchange.await_body(is_awaited);
+        }
     }
 
     /// The next bytes that came, or what follows in their place.
     async fn fill(&mut self) -> Option<Then> {
         self.is_begun = true;
-        match tokio::time::timeout(IDLE_TIME, self.body.data()).await {
+        let idle = self.exchange.as_ref().map_or(IDLE_TIME, |exchange| exchange.idle());
+        self.await_body(true);
+        let came = tokio::time::timeout(idle, self.body.data()).await;
+        self.await_body(false);
+        match came {
             Ok(Some(Ok(bytes))) => {
                 self.metrics.received(bytes.len());
+                if let Some(exchange) = &self.exchange {
+                    exchange.received(bytes.len());
+                }
                 self.rest = bytes;
                 None
             }

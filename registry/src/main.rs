@@ -3,7 +3,9 @@
 mod access;
 mod blobs;
 mod conditional;
+mod connections;
 mod content;
+mod exchange;
 mod fault;
 mod frames;
 mod limits;
@@ -17,6 +19,7 @@ mod pool;
 mod process;
 mod range;
 mod registry;
+mod server;
 mod store;
 mod tags;
 mod tenants;
@@ -25,32 +28,35 @@ mod uploading;
 mod uploads;
 
 use crate::access::{Access, Users};
+use crate::connections::{Connections, Limits};
 use crate::metrics::Metrics;
 use crate::options::Options;
 use crate::registry::Registry;
 use crate::store::{Setup, Store};
 use clap::Parser;
-use hyper::server::conn::AddrIncoming;
-use hyper::service::{make_service_fn, service_fn};
-use hyper::Server;
-use std::convert::Infallible;
+use std::io;
+use std::net::SocketAddr;
 use std::process::ExitCode;
 use std::sync::Arc;
 use std::time::Duration;
 use tokio::net::TcpListener;
 use tokio::process::Child;
-use tokio::signal::unix::{signal, SignalKind};
+use tokio::signal::unix::{signal, Signal, SignalKind};
+use tokio::sync::watch;
 
 type Failure = Box<dyn std::error::Error + Send + Sync>;
 
-/// The longest head of a request, in bytes.
-const MAX_HEAD: usize = 64 << 10;
+/// The files that the program opens besides those of connections and lines: a bound.
+const OTHER_FILES: u64 = 64;
 
-/// How long a client may take to send a request's head.
-const HEAD_TIME: Duration = Duration::from_secs(30);
+/// The files of a line, at the start: both ends of two pipes.
+const LINE_FILES: u64 = 4;
 
-/// How long open requests may take to end, once the program has to.
-const END_TIME: Duration = Duration::from_secs(30);
+/// How long open requests may take to end, once the program has to. With the time of the store it is less than 30 s.
+const END_TIME: Duration = Duration::from_secs(20);
+
+/// How long work that can't be broken off may take at the very end.
+const REST_TIME: Duration = Duration::from_secs(1);
 
 fn main() -> ExitCode {
     let options = Options::parse();
@@ -60,7 +66,11 @@ fn main() -> ExitCode {
         return ExitCode::from(2);
     }
     let runtime = tokio::runtime::Builder::new_multi_thread().enable_all().build();
-    let ended = runtime.map_err(Failure::from).and_then(|runtime| runtime.block_on(run(options)));
+    let ended = runtime.map_err(Failure::from).and_then(|runtime| {
+        let ended = runtime.block_on(run(options));
+        runtime.shutdown_timeout(REST_TIME);
+        ended
+    });
     match ended {
         Ok(()) => ExitCode::SUCCESS,
         Err(error) => {
@@ -70,16 +80,63 @@ fn main() -> ExitCode {
     }
 }
 
-/// Starts the store, serves until a signal comes or the store is gone, and ends.
+/// The signals that end the program.
+struct Signals {
+    interrupt: Signal,
+    terminate: Signal,
+}
+
+impl Signals {
+    /// Takes the signals from now on, in place of the system's.
+    fn new() -> io::Result<Signals> {
+        Ok(Signals { interrupt: signal(SignalKind::interrupt())?, terminate: signal(SignalKind::terminate())? })
+    }
+
+    /// Waits for either.
+    async fn come(&mut self) {
+        tokio::select! {
+            _ = self.interrupt.recv() => {}
+            _ = self.terminate.recv() => {}
+        }
+    }
+}
+
+/// Serves until a signal comes or the store is gone, and ends.
 async fn run(options: Options) -> Result<(), Failure> {
-    let access = match &options.htpasswd {
+    let mut signals = Signals::new()?;
+    let connections = Connections::new(limits(&options)?);
+    let access = access(&options)?;
+    let listener = bind(options.listen).await?;
+    let started = tokio::select! {
+        started = start_store(&options) => started?,
+        () = signals.come() => {
+            tracing::info!("ended before it began");
+            return Ok(());
+        }
+    };
+    let (registry, child) = registry(&options, access, started);
+    tracing::info!(address = %listener.local_addr()?, "listening");
+    serve(&registry, listener, connections, child, signals).await
+}
+
+/// Listens on an address.
+async fn bind(address: SocketAddr) -> Result<TcpListener, Failure> {
+    Ok(TcpListener::bind(address).await.map_err(|error| format!("{address}: {error}"))?)
+}
+
+/// Who is let in.
+fn access(options: &Options) -> Result<Access, Failure> {
+    match &options.htpasswd {
         Some(path) => {
             let users = Users::read(path).map_err(|error| format!("{}: {error}", path.display()))?;
-            Access::Users(Arc::new(users))
+            Ok(Access::Users(Arc::new(users)))
         }
-        None => Access::Anybody,
-    };
-    let listener = TcpListener::bind(options.listen).await.map_err(|error| format!("{}: {error}", options.listen))?;
+        None => Ok(Access::Anybody),
+    }
+}
+
+/// Starts the store.
+async fn start_store(options: &Options) -> Result<(Store, Child), Failure> {
     let setup = Setup {
         blobd: &options.blobd,
         slots: options.slots,
@@ -89,8 +146,13 @@ async fn run(options: Options) -> Result<(), Failure> {
         lines: options.lines.into(),
         call: Duration::from_secs(options.call_s),
     };
-    let (store, child) =
-        Store::start(setup).await.map_err(|error| format!("{}: {error}", options.blobd.display()))?;
+    let started = Store::start(setup).await;
+    Ok(started.map_err(|error| format!("{}: {error}", options.blobd.display()))?)
+}
+
+/// The registry over a store, with its collector and the end of unused uploads.
+fn registry(options: &Options, access: Access, started: (Store, Child)) -> (Arc<Registry>, Child) {
+    let (store, child) = started;
     let registry = Arc::new(Registry {
         store,
         access,
@@ -103,51 +165,60 @@ async fn run(options: Options) -> Result<(), Failure> {
         slots: options.slots,
         max_blob: options.max_blob,
     });
+    let rest = Duration::from_millis(options.sweep_ms);
     let sweeper = registry.clone();
-    tokio::spawn(async move { sweeper.sweep(Duration::from_millis(options.sweep_ms)).await });
+    tokio::spawn(async move { sweeper.sweep(rest).await });
     let expirer = registry.clone();
     let patience = options.patience();
     tokio::spawn(async move { expirer.expire(patience).await });
-    tracing::info!(address = %listener.local_addr()?, "listening");
-    serve(&registry, listener, child).await
+    (registry, child)
+}
+
+/// The bounds on connections, whose number the files that may be opened bound too.
+fn limits(options: &Options) -> Result<Limits, Failure> {
+    let files = server::raise_file_limit()?;
+    let room = files.saturating_sub(OTHER_FILES + LINE_FILES * u64::from(options.lines));
+    if room == 0 {
+        return Err(format!("{files} open files don't suffice for {} lines: see RLIMIT_NOFILE", options.lines).into());
+    }
+    let most = room.min(u64::from(options.connections));
+    if most < u64::from(options.connections) {
+        tracing::warn!(files, connections = most, "the limit on open files bounds the connections");
+    }
+    let (head, idle) = (Duration::from_secs(options.head_s), Duration::from_secs(options.idle_s));
+    Ok(Limits { most: most as usize, head, idle })
 }
 
 /// Answers requests until a signal comes, and lets those that are open end.
-async fn serve(registry: &Arc<Registry>, listener: TcpListener, mut child: Child) -> Result<(), Failure> {
-    let mut incoming = AddrIncoming::from_listener(listener)?;
-    incoming.set_nodelay(true);
-    let service = make_service_fn(|_| {
-        let registry = registry.clone();
-        async move {
-            let answer = move |request| {
-                let registry = registry.clone();
-                async move { Ok::<_, Infallible>(registry.serve(request).await) }
-            };
-            Ok::<_, Infallible>(service_fn(answer))
-        }
-    });
-    let (stop, stopped) = tokio::sync::oneshot::channel::<()>();
-    let server = Server::builder(incoming)
-        .http1_only(true)
-        .http1_max_buf_size(MAX_HEAD)
-        .http1_header_read_timeout(HEAD_TIME)
-        .serve(service)
-        .with_graceful_shutdown(async {
-            let _ = stopped.await;
-        });
-    let mut server = Box::pin(server);
-    let (mut interrupt, mut terminate) = (signal(SignalKind::interrupt())?, signal(SignalKind::terminate())?);
+async fn serve(
+    registry: &Arc<Registry>,
+    listener: TcpListener,
+    connections: Arc<Connections>,
+    mut child: Child,
+    mut signals: Signals,
+) -> Result<(), Failure> {
+    let (stop, stopped) = watch::channel(());
+    let answering = registry.clone();
+    let answer = move |request| answering.clone().serve(request);
+    let server = tokio::spawn(server::serve(listener, connections.clone(), stopped, answer));
+    let watched = connections.clone();
+    tokio::spawn(async move { watched.watch().await });
     tokio::select! {
-        ended = &mut server => ended?,
+        ended = server => return Err(format!("no more connections are accepted: {ended:?}").into()),
         () = registry.store.lost() => return Err("the store is gone".into()),
         status = child.wait() => return Err(format!("the store is gone: blobd ended: {}", status?).into()),
-        _ = interrupt.recv() => {}
-        _ = terminate.recv() => {}
+        () = signals.come() => {}
     }
     tracing::info!("ending");
-    let _ = stop.send(());
-    if tokio::time::timeout(END_TIME, server).await.is_err() {
-        tracing::warn!("requests that were open after {} s are broken off", END_TIME.as_secs());
+    drop(stop);
+    let is_ended = tokio::select! {
+        () = connections.emptied() => true,
+        () = tokio::time::sleep(END_TIME) => false,
+        () = signals.come() => false,
+    };
+    if !is_ended {
+        tracing::warn!(connections = connections.len(), "open requests are broken off");
+        connections.close_all();
     }
     registry.store.end(child).await?;
     tracing::info!("ended");

@@ -26,6 +26,15 @@ pub struct Options {
     /// Bound the time of a call to the store.
     #[arg(long, value_name = "S", default_value_t = 60, value_parser = clap::value_parser!(u64).range(1..=86400))]
     pub call_s: u64,
+    /// Bound the connections of clients at once.
+    #[arg(long, value_name = "N", default_value_t = 2048, value_parser = clap::value_parser!(u32).range(1..=1 << 20))]
+    pub connections: u32,
+    /// Close a connection whose request's head takes longer.
+    #[arg(long, value_name = "S", default_value_t = 30, value_parser = clap::value_parser!(u64).range(1..=86400))]
+    pub head_s: u64,
+    /// Close a connection on which nothing moves for this time.
+    #[arg(long, value_name = "S", default_value_t = 120, value_parser = clap::value_parser!(u64).range(1..=86400))]
+    pub idle_s: u64,
     /// How long the collector rests between sweeps, in milliseconds; behind one that freed nothing at least ten.
     #[arg(long, value_name = "N", default_value_t = 1000)]
     pub sweep_ms: u64,

@@ -1,6 +1,7 @@
 //! The registry: the store, and what stands beside it.
 use crate::access::Access;
 use crate::content::Content;
+use crate::exchange::Exchange;
 use crate::fault::Fault;
 use crate::frames::{Reason, Refusal};
 use crate::limits::{Limit, Repositories};
@@ -94,21 +95,20 @@ impl Registry {
     /// Answers a request. It is answered in a task of its own, so that a client who leaves breaks off no call to the store.
     pub async fn serve(self: Arc<Self>, request: Request<Body>) -> Response<Body> {
         let begun = Instant::now();
-        let (method, path) = (request.method().clone(), request.uri().path().to_string());
+        let method = request.method().clone();
         let metrics = self.metrics.clone();
         let response = tokio::spawn(self.answer(request)).await.unwrap_or_else(|_| {
             Fault::new(StatusCode::INTERNAL_SERVER_ERROR, "UNSUPPORTED", "the request broke").into_response()
         });
-        let took = begun.elapsed();
-        metrics.answered(&method, response.status(), took);
-        tracing::info!(%method, path, status = response.status().as_u16(), micros = took.as_micros() as u64);
+        metrics.answered(&method, response.status(), begun.elapsed());
         response
     }
 
     async fn answer(self: Arc<Self>, request: Request<Body>) -> Response<Body> {
         let (head, body) = request.into_parts();
         let is_awaited = head.headers.contains_key(EXPECT);
-        let mut content = Content::new(body, is_awaited, self.metrics.clone());
+        let exchange = head.extensions.get::<Arc<Exchange>>().cloned();
+        let mut content = Content::new(body, is_awaited, self.metrics.clone()).of(exchange);
         self.route(head, &mut content).await.unwrap_or_else(|fault| {
             let mut answer = fault.into_response();
             content.drain(&mut answer);
@@ -122,6 +122,9 @@ impl Registry {
             return self.probe(&[]).await;
         }
         let user = self.access.user(&head.headers).await?;
+        if let (Some(exchange), Some(user)) = (&content.exchange, &user) {
+            exchange.is_of(user);
+        }
         if path == "/metrics" {
             let text = self.metrics.text(&self.store, &self.tenants, self.slots, self.uploads.len()).await?;
             return with_body(StatusCode::OK, &[(CONTENT_TYPE.as_str(), "text/plain; version=0.0.4")], text.into());

@@ -82,6 +82,128 @@ def until(condition, what, seconds=10):
         time.sleep(0.05)
 
 
+def idle_connections_lock_nobody_out():
+    with file_limit(SMALL_FILES):
+        server = servers.Server()
+    try:
+        idle = [server.socket() for _ in range(3 * SMALL_FILES // 2)]
+        for line in idle[::2]:
+            line.sendall(b"GET /v2/ HT")
+        line = server.socket()
+        line.sendall(head_of("GET", ""))
+        line.settimeout(5)
+        assert line.recv(1000).startswith(b"HTTP/1.1 200")
+    finally:
+        server.process.kill()
+        server.process.wait()
+
+
+def the_oldest_idle_connection_makes_room():
+    with serving("--connections", "20") as server:
+        busy, data = server.socket(), b"x" * 1000
+        busy.sendall(head_of("POST", f"acme/one/blobs/uploads/?digest={sha256(data)}", Content_Length=len(data)) + data[:1])
+        time.sleep(0.2)
+        idle = [server.socket() for _ in range(19)]
+        time.sleep(0.2)
+        took_, answer = took(lambda: server.client().ask("GET", "/v2/"))
+        assert answer.status == 200 and took_ < 2, took_
+        assert is_closed(idle[0], 2), "the oldest is open"
+        assert not is_closed(idle[-1], 0.2), "the newest is closed"
+        busy.sendall(data[1:])
+        assert busy.recv(1000).startswith(b"HTTP/1.1 201"), "a request that is being answered is broken off"
+
+
+def clients_that_stall_are_given_up():
+    with serving("--head-s", "1", "--idle-s", "2") as server:
+        client, data = server.client(), random.Random(1).randbytes(30 * MIB)
+        assert client.ask("POST", f"/v2/acme/one/blobs/uploads/?digest={sha256(data)}", data, PATCH).status == 201
+        at = client.ask("POST", "/v2/acme/one/blobs/uploads/")["Location"]
+        half, slow, idle, body, reader = (server.socket() for _ in range(5))
+        half.sendall(b"GET /v2/ HT")
+        reader.sendall(head_of("GET", f"acme/one/blobs/{sha256(data)}"))
+        body.sendall(head_of("PATCH", at[len("/v2/"):], Content_Length=1000) + b"x" * 10)
+        idle.sendall(head_of("GET", ""))
+        assert idle.recv(1000).startswith(b"HTTP/1.1 200")
+        assert is_closed(half, 1.9), "half a head"
+        begun = time.time()
+        with contextlib.suppress(BrokenPipeError, ConnectionResetError):
+            for byte in head_of("GET", "", X_Long="x" * 100):
+                slow.sendall(bytes([byte]))
+                time.sleep(0.1)
+        assert time.time() - begun < 2.5, "a head that never ends"
+        assert is_closed(idle, 3), "a connection without a request"
+        body.settimeout(3)
+        assert body.recv(1000).startswith(b"HTTP/1.1 408"), "a body that stalls"
+        client = server.client()
+        assert client.ask("GET", at)["Range"] == "0-9"
+        assert client.ask("DELETE", f"/v2/acme/one/blobs/{sha256(data)}").status == 202
+        until(lambda: server.metric("registryd_held_slots") == 0, "a reader who takes nothing keeps its lease")
+
+
+def no_files_left_is_no_end():
+    with serving() as server:
+        pid = server.process.pid
+        client = server.client()
+        assert client.ask("GET", "/v2/").status == 200
+        limits = resource.prlimit(pid, resource.RLIMIT_NOFILE)
+        files = {int(name) for name in os.listdir(f"/proc/{pid}/fd")}
+        lowest = min(set(range(len(files) + 1)) - files)
+        resource.prlimit(pid, resource.RLIMIT_NOFILE, (lowest, limits[1]))
+        waiting = server.socket()
+        waiting.sendall(head_of("GET", ""))
+        server.wait_for("no connection can be accepted", 5)
+        assert client.ask("GET", "/v2/").status == 200
+        resource.prlimit(pid, resource.RLIMIT_NOFILE, limits)
+        waiting.settimeout(3)
+        assert waiting.recv(1000).startswith(b"HTTP/1.1 200")
+
+
+def signals_to_all_processes_end_the_requests_first():
+    for number in (signal.SIGINT, signal.SIGTERM):
+        with serving() as server:
+            line, data, child = server.socket(), b"x" * 100_000, server.child()
+            assert os.getpgid(child) != os.getpgid(server.process.pid)
+            line.sendall(head_of("POST", f"acme/one/blobs/uploads/?digest={sha256(data)}", Content_Length=len(data)) + data[:1000])
+            time.sleep(0.2)
+            idle = server.socket()
+            idle.sendall(b"GET /v2/ HT")
+            for pid in (child, server.process.pid):
+                os.kill(pid, number)
+            server.wait_for(" ending")
+            line.sendall(data[1000:])
+            answer = line.recv(1000)
+            assert answer.startswith(b"HTTP/1.1 201"), answer
+            assert server.process.wait(timeout=10) == 0
+            assert " bytes received, " in server.logged()
+
+
+def a_signal_ends_it_while_the_store_hangs():
+    with serving("--call-s", "1") as server:
+        child = server.child()
+        os.kill(child, signal.SIGSTOP)
+        line = server.socket()
+        line.sendall(head_of("HEAD", f"acme/one/blobs/{sha256(b'')}"))
+        time.sleep(0.2)
+        server.process.send_signal(signal.SIGTERM)
+        line.settimeout(5)
+        assert line.recv(1000).startswith(b"HTTP/1.1 503")
+        assert server.process.wait(timeout=25) == 1
+        assert not os.path.exists(f"/proc/{child}"), "blobd is left"
+        assert "was killed" in server.logged()
+
+
+def a_signal_ends_it_before_the_store_is_there():
+    words = [REGISTRYD, "--listen", "127.0.0.1:0", "--blobd", SLOW_STORE, "mute=1"]
+    process = subprocess.Popen(words, stderr=subprocess.DEVNULL)
+    time.sleep(0.5)
+    process.send_signal(signal.SIGTERM)
+    try:
+        assert process.wait(timeout=5) == 0
+    finally:
+        process.kill()
+        process.wait()
+
+
 def a_tenants_slow_calls_hold_no_other_up():
     with store(SLOW_STORE), serving("--lines", "4") as server:
         blob = f"blobs/{sha256(b'')}"
@@ -178,9 +300,24 @@ def hashes_that_cannot_be_checked_are_told():
             assert process.returncode == 1 and file in text and "line 3" in text, text
 
 
-TESTS = [a_tenants_slow_calls_hold_no_other_up, a_store_that_hangs_is_told, a_media_type_has_a_limit,
+def the_log_tells_who_moved_what():
+    with users(f"acme:{CHEAP}") as file, serving("--htpasswd", file) as server:
+        client = server.client(basic("acme:secret"))
+        assert client.ask("POST", f"/v2/acme/one/blobs/uploads/?digest={sha256(b'abc')}", b"abc", PATCH).status == 201
+        assert client.ask("GET", f"/v2/acme/one/blobs/{sha256(b'abc')}").body == b"abc"
+        pushed = server.wait_for("method=POST .*")
+        pulled = server.wait_for("method=GET .*")
+        for line, words in ((pushed, ("status=201", "received=3")), (pulled, ("status=200", "sent=3"))):
+            for word in (*words, "client=127.0.0.1:", 'user="acme"', f'digest="{sha256(b"abc")}"'):
+                assert word in line, (word, line)
+
+
+TESTS = [idle_connections_lock_nobody_out, the_oldest_idle_connection_makes_room, clients_that_stall_are_given_up,
+         no_files_left_is_no_end, signals_to_all_processes_end_the_requests_first,
+         a_signal_ends_it_while_the_store_hangs, a_signal_ends_it_before_the_store_is_there,
+         a_tenants_slow_calls_hold_no_other_up, a_store_that_hangs_is_told, a_media_type_has_a_limit,
          an_unknown_user_takes_as_long_as_a_known_one, known_passwords_wait_for_no_unknown_ones,
-         hashes_that_cannot_be_checked_are_told]
+         hashes_that_cannot_be_checked_are_told, the_log_tells_who_moved_what]
 
 
 def main():
