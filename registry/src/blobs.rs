@@ -1,5 +1,6 @@
 //! Reading and deleting blobs.
 use crate::conditional::{entity_tag, has_content, is_range_wanted, not_modified};
+use crate::content::HELD_LEN;
 use crate::fault::Fault;
 use crate::frames::Refusal;
 use crate::line::WHOLE_LEN;
@@ -59,6 +60,13 @@ pub async fn get(call: &Call, digest: &str) -> Served {
             return empty(StatusCode::RANGE_NOT_SATISFIABLE, &[("Content-Range", &range)]);
         }
     };
+    let reserved = match call.reserve((end - start).min(HELD_LEN)) {
+        Ok(reserved) => reserved,
+        Err(fault) => {
+            call.registry.store.give_back(leased.number).await??;
+            return Err(fault);
+        }
+    };
     let body = match end - start {
         0..=PIECE_LEN => short_body(call, leased, digest, start, end).await?,
         _ => {
@@ -70,6 +78,7 @@ pub async fn get(call: &Call, digest: &str) -> Served {
     };
     let len = (end - start).to_string();
     let mut response = with_body(status, &headers_of(digest, &entity_tag(digest), &len), body)?;
+    response.extensions_mut().insert(reserved);
     if status == StatusCode::PARTIAL_CONTENT {
         let range = format!("bytes {start}-{}/{size}", end - 1);
         if let Ok(value) = range.parse() {

@@ -8,11 +8,15 @@ use std::time::Duration;
 use crate::exchange::Exchange;
 use crate::fault::Fault;
 use crate::line::WHOLE_LEN;
+use crate::memory::{self, Memory, Reserved};
 use crate::metrics::Metrics;
 
 /// The most bytes of a request that are held at once while they go to the store, again while they wait for that, and again
 /// while the next come.
 pub const PIECE_LEN: usize = WHOLE_LEN;
+
+/// The most bytes of a request that are held in all.
+pub const HELD_LEN: u64 = 4 * PIECE_LEN as u64;
 
 /// The longest manifest, in bytes (the specification asks for at least 4 MiB).
 pub const MAX_MANIFEST: usize = 4_194_304;
@@ -53,18 +57,34 @@ pub struct Content {
     is_begun: bool,
     metrics: Metrics,
     pub exchange: Option<Arc<Exchange>>,
+    reserved: Option<Reserved>,
+    /// Whether it was broken off for want of memory.
+    pub is_short: bool,
 }
 
 impl Content {
     /// The content of a request. Whether it is awaited: the client sends nothing before it is asked to (RFC 9110, 10.1.1).
     pub fn new(body: Body, is_awaited: bool, metrics: Metrics) -> Content {
         let len = body.size_hint().exact();
-        Content { body, len, rest: Bytes::new(), is_awaited, is_begun: false, metrics, exchange: None }
+        let (rest, exchange, reserved) = (Bytes::new(), None, None);
+        Content { body, len, rest, is_awaited, is_begun: false, metrics, exchange, reserved, is_short: false }
     }
 
     /// The content of an exchange, whose connection sees what is waited for.
     pub fn of(self, exchange: Option<Arc<Exchange>>) -> Content {
         Content { exchange, ..self }
+    }
+
+    /// Whether there is any.
+    pub fn is_any(&self) -> bool {
+        self.len != Some(0)
+    }
+
+    /// Reserves the memory that its pieces take.
+    pub fn reserve(&mut self, memory: &Arc<Memory>, sharer: usize) -> Result<(), Fault> {
+        let bytes = self.len.unwrap_or(u64::MAX).min(HELD_LEN);
+        self.reserved = Some(memory.reserve(sharer, bytes)?);
+        Ok(())
     }
 
     fn await_body(&self, is_awaited: bool) {
@@ -75,6 +95,10 @@ impl Content {
 
     /// The next bytes that came, or what follows in their place.
     async fn fill(&mut self) -> Option<Then> {
+        if memory::is_short() {
+            self.is_short = true;
+            return Some(Then::CutOff);
+        }
         self.is_begun = true;
         let idle = self.exchange.as_ref().map_or(IDLE_TIME, |exchange| exchange.idle());
         self.await_body(true);
@@ -148,6 +172,7 @@ impl Content {
             answer.extensions_mut().insert(self.body);
             return;
         }
+        self.reserved = None;
         tokio::spawn(tokio::time::timeout(DRAIN_TIME, async move {
             let mut left = DRAIN_LEN;
             while left > 0 && self.fill().await.is_none() {

@@ -122,8 +122,17 @@ impl Line {
         }
         let digest = self.take(u64::from(head.digest_len)).await?;
         let digest = String::from_utf8_lossy(&digest).into_owned();
-        let body = Bytes::from(self.take(head.body_len).await?);
-        let ReplyHead { status, first, second, .. } = head;
+        let ReplyHead { status, first, second, body_len, .. } = head;
+        let body = match room_for(body_len) {
+            Some(mut body) => {
+                self.read_into(&mut body, body_len as usize).await?;
+                Bytes::from(body)
+            }
+            None => {
+                self.skip(body_len).await?;
+                return Ok(Err(Refusal { reason: Reason::Memory, first: 0, second: 0, digest }));
+            }
+        };
         Ok(match status {
             0 => Ok(Reply { first, second, digest, body }),
             _ => Err(Refusal { reason: Reason::of_status(status), first, second, digest }),
@@ -173,16 +182,38 @@ impl Line {
         Ok(())
     }
 
-    /// So many bytes. The room for them isn't written before they come.
+    /// A number of bytes, which is small.
     async fn take(&self, len: u64) -> io::Result<Vec<u8>> {
-        let len = len as usize;
-        let mut bytes = Vec::with_capacity(len);
-        while bytes.len() < len {
-            let left = len - bytes.len();
-            self.await_read(|from| read_on(from, &mut bytes, left)).await?;
-        }
+        let mut bytes = Vec::with_capacity(len as usize);
+        self.read_into(&mut bytes, len as usize).await?;
         Ok(bytes)
     }
+
+    /// Reads bytes into a vector that has room for them. The room isn't written before they come.
+    async fn read_into(&self, bytes: &mut Vec<u8>, len: usize) -> io::Result<()> {
+        while bytes.len() < len {
+            let left = len - bytes.len();
+            self.await_read(|from| read_on(from, bytes, left)).await?;
+        }
+        Ok(())
+    }
+
+    /// Takes bytes off the line for which there is no memory.
+    async fn skip(&self, mut len: u64) -> io::Result<()> {
+        let mut bytes = [0; 4096];
+        while len > 0 {
+            let most = len.min(bytes.len() as u64) as usize;
+            len -= self.await_read(|mut from| from.read(&mut bytes[..most])).await? as u64;
+        }
+        Ok(())
+    }
+}
+
+/// An empty vector with room for a number of bytes, if there is memory for it.
+fn room_for(len: u64) -> Option<Vec<u8>> {
+    let mut room = Vec::new();
+    room.try_reserve_exact(usize::try_from(len).ok()?).ok()?;
+    Some(room)
 }
 
 /// Reads at most so many bytes behind those that are there: how many came.

@@ -12,6 +12,7 @@ mod limits;
 mod line;
 mod manifests;
 mod media_type;
+mod memory;
 mod metrics;
 mod options;
 mod path;
@@ -29,6 +30,7 @@ mod uploads;
 
 use crate::access::{Access, Users};
 use crate::connections::{Connections, Limits};
+use crate::memory::Memory;
 use crate::metrics::Metrics;
 use crate::options::Options;
 use crate::registry::Registry;
@@ -43,6 +45,9 @@ use tokio::net::TcpListener;
 use tokio::process::Child;
 use tokio::signal::unix::{signal, Signal, SignalKind};
 use tokio::sync::watch;
+
+#[global_allocator]
+static ALLOCATOR: memory::Reserving = memory::Reserving;
 
 type Failure = Box<dyn std::error::Error + Send + Sync>;
 
@@ -153,8 +158,10 @@ async fn start_store(options: &Options) -> Result<(Store, Child), Failure> {
 /// The registry over a store, with its collector and the end of unused uploads.
 fn registry(options: &Options, access: Access, started: (Store, Child)) -> (Arc<Registry>, Child) {
     let (store, child) = started;
+    let memory = Memory::new(options.memory_in_flight, store.sharers());
     let registry = Arc::new(Registry {
         store,
+        memory,
         access,
         uploads: Default::default(),
         repositories: Default::default(),
@@ -171,6 +178,7 @@ fn registry(options: &Options, access: Access, started: (Store, Child)) -> (Arc<
     let expirer = registry.clone();
     let patience = options.patience();
     tokio::spawn(async move { expirer.expire(patience).await });
+    tokio::spawn(memory::keep_reserve());
     (registry, child)
 }
 

@@ -26,6 +26,9 @@ pub struct Options {
     /// Bound the time of a call to the store.
     #[arg(long, value_name = "S", default_value_t = 60, value_parser = clap::value_parser!(u64).range(1..=86400))]
     pub call_s: u64,
+    /// Bound the memory of requests and answers on their way.
+    #[arg(long, value_name = "BYTES", default_value_t = 1 << 29, value_parser = clap::value_parser!(u64).range(8 << 20..))]
+    pub memory_in_flight: u64,
     /// Bound the connections of clients at once.
     #[arg(long, value_name = "N", default_value_t = 2048, value_parser = clap::value_parser!(u32).range(1..=1 << 20))]
     pub connections: u32,

@@ -1,10 +1,11 @@
 //! The registry: the store, and what stands beside it.
 use crate::access::Access;
-use crate::content::Content;
+use crate::content::{Content, MAX_MANIFEST};
 use crate::exchange::Exchange;
 use crate::fault::Fault;
 use crate::frames::{Reason, Refusal};
 use crate::limits::{Limit, Repositories};
+use crate::memory::{Memory, Reserved};
 use crate::metrics::Metrics;
 use crate::path::{decoded, query_value, Target};
 use crate::store::{Lost, Store};
@@ -12,6 +13,7 @@ use crate::tags::Tags;
 use crate::turns::Turns;
 use crate::uploads::{Patience, Upload, Uploads};
 use crate::{blobs, manifests, uploading};
+use hyper::body::HttpBody;
 use hyper::header::{CONTENT_TYPE, EXPECT};
 use hyper::http::request::Parts;
 use hyper::{Body, Method, Request, Response, StatusCode};
@@ -33,6 +35,7 @@ pub struct Registry {
     /// A writer of a manifest has its turn over its call to the store. Readers take none.
     pub turns: Turns,
     pub metrics: Metrics,
+    pub memory: Arc<Memory>,
     pub tenants: Vec<String>,
     pub slots: u32,
     /// The longest blob, in bytes.
@@ -68,6 +71,22 @@ impl Call {
             }
             Err(refusal) => Err(refusal.into()),
         }
+    }
+
+    /// Lets content be read: the tenant is known, its quota has room for what is charged, and memory has room.
+    async fn admit(&self, content: &mut Content, is_charged: bool) -> Result<(), Fault> {
+        let (used, quota) = self.registry.store.usage(&self.repo).await??;
+        // An upload may be closed in chunked coding without a byte.
+        let least = content.len.unwrap_or(u64::from(self.head.method != Method::PUT));
+        if is_charged && least > quota.saturating_sub(used) {
+            return Err(Refusal { reason: Reason::Quota, first: used, second: quota, digest: String::new() }.into());
+        }
+        content.reserve(&self.registry.memory, self.registry.store.sharer(&self.repo))
+    }
+
+    /// Reserves memory for the answer.
+    pub fn reserve(&self, bytes: u64) -> Result<Reserved, Fault> {
+        self.registry.memory.reserve(self.registry.store.sharer(&self.repo), bytes)
     }
 
     /// The text of a header.
@@ -110,6 +129,7 @@ impl Registry {
         let exchange = head.extensions.get::<Arc<Exchange>>().cloned();
         let mut content = Content::new(body, is_awaited, self.metrics.clone()).of(exchange);
         self.route(head, &mut content).await.unwrap_or_else(|fault| {
+            let fault = if content.is_short { Fault::unavailable("out of memory") } else { fault };
             let mut answer = fault.into_response();
             content.drain(&mut answer);
             answer
@@ -142,9 +162,19 @@ impl Registry {
         Access::check(&user, &repo)?;
         let method = head.method.clone();
         let call = Call { registry: self, head, repo };
+        if content.is_any() {
+            let is_charged = matches!(target, Target::Uploads { .. } | Target::Upload { .. });
+            call.admit(content, is_charged).await?;
+        }
         match (&method, target) {
             (&Method::GET, Target::Tags { .. }) => manifests::tags(&call).await,
-            (&Method::GET, Target::Manifest { reference, .. }) => manifests::get(&call, reference).await,
+            (&Method::GET, Target::Manifest { reference, .. }) => {
+                let mut reserved = call.reserve(MAX_MANIFEST as u64)?;
+                let mut answer = manifests::get(&call, reference).await?;
+                reserved.shrink(answer.size_hint().lower());
+                answer.extensions_mut().insert(reserved);
+                Ok(answer)
+            }
             (&Method::HEAD, Target::Manifest { reference, .. }) => manifests::head(&call, reference).await,
             (&Method::PUT, Target::Manifest { reference, .. }) => manifests::put(&call, reference, content).await,
             (&Method::DELETE, Target::Manifest { reference, .. }) => manifests::delete(&call, reference).await,

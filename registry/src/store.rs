@@ -169,8 +169,13 @@ impl Store {
         self.is_gone.load(Ordering::Relaxed)
     }
 
+    /// The number of those that share the lines.
+    pub fn sharers(&self) -> usize {
+        self.sharers.len() + 2
+    }
+
     /// The place of a repository's tenant among those that share the lines.
-    fn sharer(&self, repo: &str) -> usize {
+    pub fn sharer(&self, repo: &str) -> usize {
         let tenant = repo.split('/').next().unwrap_or_default();
         self.sharers.get(tenant).copied().unwrap_or(self.sharers.len())
     }

@@ -220,7 +220,8 @@ def a_piece_is_refused_while_the_next_is_on_its_way():
     with serving("--lines", "1", tenants=["acme=3000000"]) as server:
         client, data = server.client(), random.Random(5).randbytes(12 * MIB)
         at = client.ask("POST", "/v2/acme/one/blobs/uploads/")["Location"]
-        answer = client.ask("PATCH", at, data, PATCH)
+        # Its length isn't told, so its first pieces are taken.
+        answer = client.ask("PATCH", at, iter([data]), {**PATCH, "Transfer-Encoding": "chunked"})
         assert (answer.status, answer.code()) == (403, "DENIED"), answer.body
         # What fits the quota was taken, and the upload goes on from there, on the same line.
         received = int(client.ask("GET", at)["Range"].split("-")[1]) + 1

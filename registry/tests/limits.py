@@ -246,6 +246,70 @@ def a_store_that_hangs_is_told():
         until(lambda: server.metric("registryd_free_slots") == 4096, "a lease is left over")
 
 
+def content_is_read_once_it_may_come():
+    with serving() as server:
+        cases = [("POST", f"nobody/x/blobs/uploads/?digest={sha256(b'')}", b"404"), ("PUT", "nobody/x/manifests/v1", b"404"),
+                 ("POST", f"poor/x/blobs/uploads/?digest={sha256(b'')}", b"403")]
+        for method, path, status in cases:
+            line = server.socket()
+            line.sendall(head_of(method, path, Content_Length=2 * MIB))
+            line.settimeout(5)
+            answer = line.recv(1000)
+            assert answer.split()[1] == status, (path, answer)
+            line.close()
+
+
+def bytes_in_flight_are_bounded():
+    with serving("--memory-in-flight", str(8 * MIB)) as server:
+        def begin(tenant):
+            line, data = server.socket(), b"x" * (6 * MIB)
+            at = f"{tenant}/one/blobs/uploads/?digest={sha256(data)}"
+            line.sendall(head_of("POST", at, Content_Length=len(data)) + data[:100])
+            return line, data[100:]
+        first, rest = begin("acme")
+        time.sleep(0.3)
+        second, _ = begin("acme")
+        answer = second.recv(1000)
+        assert answer.startswith(b"HTTP/1.1 503") and b"retry-after: 1" in answer.lower(), answer
+        other, others_rest = begin("other")
+        for line, data in ((first, rest), (other, others_rest)):
+            line.sendall(data)
+            assert line.recv(1000).startswith(b"HTTP/1.1 201")
+        again, rest = begin("acme")
+        again.sendall(rest)
+        assert again.recv(1000).startswith(b"HTTP/1.1 201"), "what was held is held for ever"
+
+
+def a_failed_allocation_ends_requests_alone():
+    with serving("--memory-in-flight", str(1 << 30)) as server:
+        client, data = server.client(), random.Random(3).randbytes(4 * MIB)
+        assert client.ask("GET", "/v2/").status == 200
+        with open(f"/proc/{server.process.pid}/status") as file:
+            size = [int(line.split()[1]) * 1024 for line in file if line.startswith("VmData")][0]
+        lines = [server.socket() for _ in range(60)]
+        head = head_of("POST", f"acme/one/blobs/uploads/?digest={sha256(data)}", Content_Length=len(data))
+        for line in lines:
+            line.sendall(head + data[:1000])
+        until(lambda: server.metric("registryd_received_bytes_total") == 1000 * len(lines), "an upload doesn't begin", 20)
+        old = resource.prlimit(server.process.pid, resource.RLIMIT_DATA, (size + 16 * MIB, resource.RLIM_INFINITY))
+        def send(line):
+            with contextlib.suppress(OSError):
+                line.sendall(data[1000:])
+        with stopped(server.child()):
+            threads = [threading.Thread(target=send, args=[line], daemon=True) for line in lines]
+            for thread in threads:
+                thread.start()
+            server.wait_for("the system gives no memory", 10)
+        answers = {line.recv(1000)[9:12] for line in lines}
+        assert b"503" in answers and answers <= {b"503", b"201"}, answers
+        assert server.process.poll() is None, server.logged()[-500:]
+        for line in lines:
+            line.close()
+        resource.prlimit(server.process.pid, resource.RLIMIT_DATA, old)
+        push = lambda: server.client().ask("POST", f"/v2/acme/one/blobs/uploads/?digest={sha256(data)}", data, PATCH).status
+        until(lambda: push() == 201, "no upload goes on", 20)
+
+
 def a_media_type_has_a_limit():
     with serving() as server:
         client, config = server.client(), b"{}"
@@ -315,7 +379,8 @@ def the_log_tells_who_moved_what():
 TESTS = [idle_connections_lock_nobody_out, the_oldest_idle_connection_makes_room, clients_that_stall_are_given_up,
          no_files_left_is_no_end, signals_to_all_processes_end_the_requests_first,
          a_signal_ends_it_while_the_store_hangs, a_signal_ends_it_before_the_store_is_there,
-         a_tenants_slow_calls_hold_no_other_up, a_store_that_hangs_is_told, a_media_type_has_a_limit,
+         a_tenants_slow_calls_hold_no_other_up, a_store_that_hangs_is_told, content_is_read_once_it_may_come,
+         bytes_in_flight_are_bounded, a_failed_allocation_ends_requests_alone, a_media_type_has_a_limit,
          an_unknown_user_takes_as_long_as_a_known_one, known_passwords_wait_for_no_unknown_ones,
          hashes_that_cannot_be_checked_are_told, the_log_tells_who_moved_what]
 
