@@ -112,6 +112,11 @@ impl Users {
         Users { hashes, usable, right: Mutex::default(), salt, turns, waiting: AtomicUsize::new(0) }
     }
 
+    /// Whether a user is in the file.
+    pub fn has(&self, user: &str) -> bool {
+        self.hashes.contains_key(user)
+    }
+
     fn right(&self) -> MutexGuard<'_, HashMap<String, [u8; 32]>> {
         self.right.lock().unwrap_or_else(|poisoned| poisoned.into_inner())
     }

@@ -82,6 +82,11 @@ impl Fault {
         Fault::new(StatusCode::REQUEST_TIMEOUT, "SIZE_INVALID", "the content came to no end")
     }
 
+    /// The program has a fault.
+    pub fn broken() -> Fault {
+        Fault::new(StatusCode::INTERNAL_SERVER_ERROR, "UNSUPPORTED", "the request broke")
+    }
+
     /// The request can be made again soon, when less is to be done.
     pub fn unavailable(message: &str) -> Fault {
         Fault::new(StatusCode::SERVICE_UNAVAILABLE, "TOOMANYREQUESTS", message).with_header(RETRY_AFTER, "1")

@@ -7,7 +7,10 @@ use std::os::unix::io::{AsRawFd, FromRawFd};
 use tokio::io::unix::AsyncFd;
 
 /// How many bytes a pipe holds, where the system lets it.
-const PIPE_LEN: usize = 1 << 20;
+pub const PIPE_LEN: usize = 1 << 20;
+
+/// The shortest pipe that is asked for, in bytes.
+const LEAST_PIPE_LEN: usize = 64 << 10;
 
 /// The longest body that a pipe takes whole, behind the pages of its head, so that nobody waits for the rest of it.
 pub const WHOLE_LEN: usize = PIPE_LEN - (8 << 10);
@@ -15,8 +18,8 @@ pub const WHOLE_LEN: usize = PIPE_LEN - (8 << 10);
 /// The longest text of a digest that `blobd` sends, in bytes.
 const MAX_DIGEST: u32 = 256;
 
-/// A pipe's reading end and its writing end. Neither is inherited by a program that is started.
-fn pipe() -> io::Result<(File, File)> {
+/// A pipe's reading end, its writing end, and how many bytes it holds. Neither end is inherited by a program that is started.
+fn pipe() -> io::Result<(File, File, usize)> {
     let mut ends = [0; 2];
     // SAFETY: `ends` has room for the two numbers that the call writes.
     if unsafe { libc::pipe2(ends.as_mut_ptr(), libc::O_CLOEXEC) } != 0 {
@@ -24,10 +27,24 @@ fn pipe() -> io::Result<(File, File)> {
     }
     // SAFETY: both numbers are new, and nobody else's.
     let (reader, writer) = unsafe { (File::from_raw_fd(ends[0]), File::from_raw_fd(ends[1])) };
-    // A pipe that stays short is slower and as good.
+    let len = lengthen(&writer);
+    Ok((reader, writer, len))
+}
+
+/// Lengthens a pipe as far as the system lets it, which bounds the pipes of a user (pipe(7), "/proc files"): how many bytes
+/// it holds. A shorter pipe is slower and as good.
+fn lengthen(pipe: &File) -> usize {
+    let mut len = PIPE_LEN;
+    while len >= LEAST_PIPE_LEN {
+        // SAFETY: the call takes no pointer.
+        if unsafe { libc::fcntl(pipe.as_raw_fd(), libc::F_SETPIPE_SZ, len as libc::c_int) } >= 0 {
+            return len;
+        }
+        len /= 2;
+    }
     // SAFETY: the call takes no pointer.
-    unsafe { libc::fcntl(writer.as_raw_fd(), libc::F_SETPIPE_SZ, PIPE_LEN as libc::c_int) };
-    Ok((reader, writer))
+    let len = unsafe { libc::fcntl(pipe.as_raw_fd(), libc::F_GETPIPE_SZ) };
+    len.max(0) as usize
 }
 
 /// The file, whose reads and writes no longer wait.
@@ -63,6 +80,8 @@ impl From<&Request<'_>> for Frame {
 pub struct Line {
     to: AsyncFd<File>,
     from: AsyncFd<File>,
+    /// How many bytes the shorter of its pipes holds.
+    pub room: usize,
 }
 
 /// The other side's ends of a line's pipes: where requests come out, and where replies go in.
@@ -74,9 +93,9 @@ pub struct FarEnds {
 impl Line {
     /// A new line and its other side's ends.
     pub fn new() -> io::Result<(Line, FarEnds)> {
-        let (requests, to) = pipe()?;
-        let (from, replies) = pipe()?;
-        let line = Line { to: without_waiting(to)?, from: without_waiting(from)? };
+        let (requests, to, room) = pipe()?;
+        let (from, replies, back) = pipe()?;
+        let line = Line { to: without_waiting(to)?, from: without_waiting(from)?, room: room.min(back) };
         Ok((line, FarEnds { requests, replies }))
     }
 

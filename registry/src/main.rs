@@ -51,6 +51,9 @@ static ALLOCATOR: memory::Reserving = memory::Reserving;
 
 type Failure = Box<dyn std::error::Error + Send + Sync>;
 
+/// The connections to the address of the metrics.
+const WATCHERS: usize = 16;
+
 /// The files that the program opens besides those of connections and lines: a bound.
 const OTHER_FILES: u64 = 64;
 
@@ -112,6 +115,10 @@ async fn run(options: Options) -> Result<(), Failure> {
     let connections = Connections::new(limits(&options)?);
     let access = access(&options)?;
     let listener = bind(options.listen).await?;
+    let watched = match options.metrics_listen {
+        Some(address) => Some(bind(address).await?),
+        None => None,
+    };
     let started = tokio::select! {
         started = start_store(&options) => started?,
         () = signals.come() => {
@@ -121,6 +128,10 @@ async fn run(options: Options) -> Result<(), Failure> {
     };
     let (registry, child) = registry(&options, access, started);
     tracing::info!(address = %listener.local_addr()?, "listening");
+    if let Some(listener) = watched {
+        tracing::info!(address = %listener.local_addr()?, "showing metrics");
+        show_metrics(&registry, listener, &options);
+    }
     serve(&registry, listener, connections, child, signals).await
 }
 
@@ -129,11 +140,26 @@ async fn bind(address: SocketAddr) -> Result<TcpListener, Failure> {
     Ok(TcpListener::bind(address).await.map_err(|error| format!("{address}: {error}"))?)
 }
 
+/// Shows the metrics on an address of their own, with connections of its own, until the program ends.
+fn show_metrics(registry: &Arc<Registry>, listener: TcpListener, options: &Options) {
+    let (head, idle) = (Duration::from_secs(options.head_s), Duration::from_secs(options.idle_s));
+    let connections = Connections::new(Limits { most: WATCHERS, head, idle });
+    let (watched, registry) = (connections.clone(), registry.clone());
+    tokio::spawn(async move { watched.watch().await });
+    tokio::spawn(async move {
+        let (_stop, stopped) = watch::channel(());
+        server::serve(listener, connections, stopped, move |request| registry.clone().watch(request)).await
+    });
+}
+
 /// Who is let in.
 fn access(options: &Options) -> Result<Access, Failure> {
     match &options.htpasswd {
         Some(path) => {
             let users = Users::read(path).map_err(|error| format!("{}: {error}", path.display()))?;
+            if let Some(user) = options.metrics_user.as_ref().filter(|user| !users.has(user)) {
+                return Err(format!("{}: no user {user}, whom --metrics-user names", path.display()).into());
+            }
             Ok(Access::Users(Arc::new(users)))
         }
         None => Ok(Access::Anybody),
@@ -168,6 +194,7 @@ fn registry(options: &Options, access: Access, started: (Store, Child)) -> (Arc<
         tags: Default::default(),
         turns: Default::default(),
         metrics: Metrics::new(),
+        watcher: options.watcher(),
         tenants: options.tenant_names(),
         slots: options.slots,
         max_blob: options.max_blob,

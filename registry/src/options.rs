@@ -1,4 +1,5 @@
 //! The words of the command line.
+use crate::registry::Watcher;
 use crate::tenants::{self, tenant_word};
 use crate::uploads::Patience;
 use clap::Parser;
@@ -53,6 +54,12 @@ pub struct Options {
     /// Lets anybody in, on other addresses than this machine's too, where there is no file of users.
     #[arg(long)]
     pub let_anybody_in: bool,
+    /// Show the metrics to this user alone.
+    #[arg(long, value_name = "USER", requires = "htpasswd")]
+    pub metrics_user: Option<String>,
+    /// Show the metrics on this address alone, to anybody.
+    #[arg(long, value_name = "ADDR:PORT", conflicts_with = "metrics_user")]
+    pub metrics_listen: Option<SocketAddr>,
     /// The program that keeps the store.
     #[arg(long, value_name = "PATH", default_value = "blobd")]
     pub blobd: PathBuf,
@@ -73,6 +80,16 @@ impl Options {
     pub fn patience(&self) -> Patience {
         let (begun, empty) = (Duration::from_secs(self.session_s), Duration::from_secs(self.empty_session_s));
         Patience { begun, empty }
+    }
+
+    /// Who sees the metrics.
+    pub fn watcher(&self) -> Watcher {
+        match (&self.metrics_listen, &self.metrics_user, &self.htpasswd) {
+            (Some(_), _, _) => Watcher::Elsewhere,
+            (None, Some(user), _) => Watcher::User(user.clone()),
+            (None, None, Some(_)) => Watcher::Nobody,
+            (None, None, None) => Watcher::Anybody,
+        }
     }
 
     /// The tenants' names.
@@ -103,6 +120,16 @@ mod tests {
         assert!(parsed(&["--listen", "0.0.0.0:80", "a=1"]).conflict().is_some());
         assert!(parsed(&["--listen", "0.0.0.0:80", "--htpasswd", "users", "a=1"]).conflict().is_none());
         assert!(parsed(&["--listen", "0.0.0.0:80", "--let-anybody-in", "a=1"]).conflict().is_none());
+    }
+
+    #[test]
+    fn the_metrics_have_one_place() {
+        assert_eq!(parsed(&["a=1"]).watcher(), Watcher::Anybody);
+        assert_eq!(parsed(&["--htpasswd", "users", "a=1"]).watcher(), Watcher::Nobody);
+        let named = parsed(&["--htpasswd", "users", "--metrics-user", "prometheus", "a=1"]);
+        assert_eq!(named.watcher(), Watcher::User("prometheus".to_string()));
+        assert_eq!(parsed(&["--metrics-listen", "127.0.0.1:1", "a=1"]).watcher(), Watcher::Elsewhere);
+        assert!(Options::try_parse_from(["registryd", "--metrics-user", "prometheus", "a=1"]).is_err());
     }
 
     #[test]

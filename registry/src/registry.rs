@@ -14,9 +14,10 @@ use crate::turns::Turns;
 use crate::uploads::{Patience, Upload, Uploads};
 use crate::{blobs, manifests, uploading};
 use hyper::body::HttpBody;
-use hyper::header::{CONTENT_TYPE, EXPECT};
+use hyper::header::{CONTENT_TYPE, EXPECT, HOST};
 use hyper::http::request::Parts;
-use hyper::{Body, Method, Request, Response, StatusCode};
+use hyper::http::uri::Authority;
+use hyper::{Body, Method, Request, Response, StatusCode, Version};
 use std::sync::Arc;
 use std::time::{Duration, Instant};
 use uuid::Uuid;
@@ -36,10 +37,54 @@ pub struct Registry {
     pub turns: Turns,
     pub metrics: Metrics,
     pub memory: Arc<Memory>,
+    pub watcher: Watcher,
     pub tenants: Vec<String>,
     pub slots: u32,
     /// The longest blob, in bytes.
     pub max_blob: u64,
+}
+
+/// Who sees the metrics of all tenants.
+#[derive(Clone, Debug, PartialEq, Eq)]
+pub enum Watcher {
+    /// Anybody, as everything else.
+    Anybody,
+    /// A user alone.
+    User(String),
+    /// No user.
+    Nobody,
+    /// Whoever reaches another address.
+    Elsewhere,
+}
+
+impl Watcher {
+    /// Refuses a user who may not see the metrics.
+    fn check(&self, user: &Option<String>) -> Result<(), Fault> {
+        match self {
+            Watcher::Anybody => Ok(()),
+            Watcher::User(watcher) if user.as_ref() == Some(watcher) => Ok(()),
+            _ => Err(Fault::new(StatusCode::FORBIDDEN, "DENIED", "the metrics are for the user of --metrics-user alone")),
+        }
+    }
+}
+
+/// Whether a text is a host, with or without a port (RFC 9110, 7.2).
+fn is_host(text: &[u8]) -> bool {
+    !text.contains(&b'@') && Authority::try_from(text).is_ok()
+}
+
+/// Refuses a request without a host, or with several (RFC 9112, 3.2).
+fn check_host(head: &Parts) -> Result<(), Fault> {
+    let mut hosts = head.headers.get_all(HOST).iter();
+    let is_good = match (hosts.next(), hosts.next()) {
+        (Some(host), None) => host.is_empty() || is_host(host.as_bytes()),
+        (None, _) => head.version < Version::HTTP_11,
+        (Some(_), Some(_)) => false,
+    };
+    match is_good {
+        true => Ok(()),
+        false => Err(Fault::new(StatusCode::BAD_REQUEST, "UNSUPPORTED", "a request names one host, by one header Host")),
+    }
 }
 
 /// A request without its content, and its repository.
@@ -117,7 +162,7 @@ impl Registry {
         let method = request.method().clone();
         let metrics = self.metrics.clone();
         let response = tokio::spawn(self.answer(request)).await.unwrap_or_else(|_| {
-            Fault::new(StatusCode::INTERNAL_SERVER_ERROR, "UNSUPPORTED", "the request broke").into_response()
+            Fault::broken().into_response()
         });
         metrics.answered(&method, response.status(), begun.elapsed());
         response
@@ -138,6 +183,7 @@ impl Registry {
 
     async fn route(self: Arc<Self>, head: Parts, content: &mut Content) -> Served {
         let path = head.uri.path().to_string();
+        check_host(&head)?;
         if path == "/healthz" {
             return self.probe(&[]).await;
         }
@@ -145,9 +191,9 @@ impl Registry {
         if let (Some(exchange), Some(user)) = (&content.exchange, &user) {
             exchange.is_of(user);
         }
-        if path == "/metrics" {
-            let text = self.metrics.text(&self.store, &self.tenants, self.slots, self.uploads.len()).await?;
-            return with_body(StatusCode::OK, &[(CONTENT_TYPE.as_str(), "text/plain; version=0.0.4")], text.into());
+        if path == "/metrics" && self.watcher != Watcher::Elsewhere {
+            self.watcher.check(&user)?;
+            return self.metrics().await;
         }
         let path = decoded(&path).ok_or_else(Fault::path)?;
         let target = Target::of(&path).ok_or_else(Fault::path)?;
@@ -188,6 +234,24 @@ impl Registry {
             (&Method::DELETE, Target::Blob { digest, .. }) => blobs::delete(&call, digest).await,
             _ => Err(Fault::method(allowed)),
         }
+    }
+
+    /// Answers a request on the address of the metrics.
+    pub async fn watch(self: Arc<Self>, request: Request<Body>) -> Response<Body> {
+        let answered = tokio::spawn(async move {
+            match (request.method(), request.uri().path()) {
+                (&Method::GET, "/metrics") => self.metrics().await,
+                (&Method::GET, "/healthz") => self.probe(&[]).await,
+                _ => Err(Fault::path()),
+            }
+        });
+        answered.await.unwrap_or_else(|_| Err(Fault::broken())).unwrap_or_else(Fault::into_response)
+    }
+
+    /// The metrics of all tenants.
+    async fn metrics(&self) -> Served {
+        let text = self.metrics.text(&self.store, &self.tenants, self.slots, self.uploads.len()).await?;
+        with_body(StatusCode::OK, &[(CONTENT_TYPE.as_str(), "text/plain; version=0.0.4")], text.into())
     }
 
     /// An answer without content, if the store replies.

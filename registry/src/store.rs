@@ -1,6 +1,6 @@
 //! The store: a `blobd` process, and the lines to it.
 use crate::frames::{Command, Refusal, Reply, Request};
-use crate::line::{self, FarEnds, Frame, Line};
+use crate::line::{self, FarEnds, Frame, Line, PIPE_LEN};
 use crate::pool::{Lines, NoLine, Taken};
 use crate::process;
 use bytes::Bytes;
@@ -136,6 +136,10 @@ impl Store {
             command.arg(format!("/proc/{own}/fd/{}", replies.as_raw_fd()));
             lines.push(line);
             far_ends.push(far);
+        }
+        let shortest = lines.iter().map(|line| line.room).min().unwrap_or(PIPE_LEN);
+        if shortest < PIPE_LEN {
+            tracing::warn!(bytes = shortest, wanted = PIPE_LEN, "pipes to the store are short: see pipe-user-pages-soft, --lines");
         }
         let mut child = process::spawn(command)?;
         let greeted = async {

@@ -364,6 +364,63 @@ def hashes_that_cannot_be_checked_are_told():
             assert process.returncode == 1 and file in text and "line 3" in text, text
 
 
+def metrics_are_for_one_user():
+    with users(f"acme:{CHEAP}", f"prometheus:{CHEAP}") as file:
+        def status(server, name):
+            return server.client(basic(f"{name}:secret")).ask("GET", "/metrics").status
+        with serving("--htpasswd", file) as server:
+            assert status(server, "acme") == 403
+        with serving("--htpasswd", file, "--metrics-user", "prometheus") as server:
+            assert (status(server, "acme"), status(server, "prometheus")) == (403, 200)
+            assert server.client().ask("GET", "/metrics").status == 401
+        with serving("--htpasswd", file, "--metrics-listen", "127.0.0.1:0") as server:
+            assert status(server, "acme") == 404
+            watcher = servers.Client(server.wait_for(r"showing metrics address=(\S+)"))
+            assert "registryd_tenant_quota_bytes" in watcher.ask("GET", "/metrics").body.decode()
+            assert watcher.ask("GET", "/healthz").status == 200 and watcher.ask("GET", "/v2/").status == 404
+
+
+def a_request_names_one_host():
+    with serving() as server:
+        cases = [("HTTP/1.1", [], b"400"), ("HTTP/1.1", ["a", "b"], b"400"), ("HTTP/1.1", ["a b"], b"400"),
+                 ("HTTP/1.1", ["a:5000"], b"200"), ("HTTP/1.0", [], b"200"), ("HTTP/1.0", ["a", "a"], b"400")]
+        for version, hosts, status in cases:
+            line = server.socket()
+            lines = [f"GET /v2/ {version}", *(f"Host: {host}" for host in hosts), "Connection: close"]
+            line.sendall(("\r\n".join(lines) + "\r\n\r\n").encode())
+            answer = line.recv(1000)
+            assert answer.split()[1] == status, (version, hosts, answer)
+            line.close()
+
+
+def short_pipes_are_told():
+    with open("/proc/sys/fs/pipe-user-pages-soft") as file:
+        pages = int(file.read())
+    # Two pipes a line, of 256 pages each: with these lines they are more than the user may have.
+    lines = pages // 512 + 8
+    if not 8 < lines <= 1024:
+        print(f"limits: left out: short pipes (a user may have {pages} pages of them)")
+        return
+    with tempfile.TemporaryDirectory() as folder:
+        os.chmod(folder, 0o755)
+        copies = [shutil.copy(path, folder) for path in (REGISTRYD, servers.BLOBD)]
+        words = [copies[0], "--listen", "127.0.0.1:0", "--lines", str(lines), "--blobd", copies[1], "acme=1"]
+        # The bound is not for root.
+        user = {"user": 65534} if os.geteuid() == 0 else {}
+        with open(f"{folder}/log", "w+") as log:
+            process = subprocess.Popen(words, stderr=log, **user)
+            try:
+                with open(f"{folder}/log") as text:
+                    told = lambda: (text.seek(0), text.read())[1]
+                    until(lambda: "listening" in told() or process.poll() is not None, "it doesn't listen")
+                    assert "pipes to the store are short" in told(), told()
+                process.send_signal(signal.SIGTERM)
+                assert process.wait(timeout=10) == 0
+            finally:
+                process.kill()
+                process.wait()
+
+
 def the_log_tells_who_moved_what():
     with users(f"acme:{CHEAP}") as file, serving("--htpasswd", file) as server:
         client = server.client(basic("acme:secret"))
@@ -377,12 +434,11 @@ def the_log_tells_who_moved_what():
 
 
 TESTS = [idle_connections_lock_nobody_out, the_oldest_idle_connection_makes_room, clients_that_stall_are_given_up,
-         no_files_left_is_no_end, signals_to_all_processes_end_the_requests_first,
-         a_signal_ends_it_while_the_store_hangs, a_signal_ends_it_before_the_store_is_there,
-         a_tenants_slow_calls_hold_no_other_up, a_store_that_hangs_is_told, content_is_read_once_it_may_come,
-         bytes_in_flight_are_bounded, a_failed_allocation_ends_requests_alone, a_media_type_has_a_limit,
-         an_unknown_user_takes_as_long_as_a_known_one, known_passwords_wait_for_no_unknown_ones,
-         hashes_that_cannot_be_checked_are_told, the_log_tells_who_moved_what]
+         no_files_left_is_no_end, signals_to_all_processes_end_the_requests_first, a_signal_ends_it_while_the_store_hangs,
+         a_signal_ends_it_before_the_store_is_there, a_tenants_slow_calls_hold_no_other_up, a_store_that_hangs_is_told,
+         content_is_read_once_it_may_come, bytes_in_flight_are_bounded, a_failed_allocation_ends_requests_alone,
+         a_media_type_has_a_limit, an_unknown_user_takes_as_long_as_a_known_one, known_passwords_wait_for_no_unknown_ones, hashes_that_cannot_be_checked_are_told,
+         metrics_are_for_one_user, a_request_names_one_host, short_pipes_are_told, the_log_tells_who_moved_what]
 
 
 def main():
