@@ -89,7 +89,7 @@ impl Fault {
 
     /// The request can be made again soon, when less is to be done.
     pub fn unavailable(message: &str) -> Fault {
-        Fault::new(StatusCode::SERVICE_UNAVAILABLE, "TOOMANYREQUESTS", message).with_header(RETRY_AFTER, "1")
+        Fault::new(StatusCode::SERVICE_UNAVAILABLE, "TOOMANYREQUESTS", message).with_header("Retry-After", "1")
     }
 
     /// No user is named, or the password is another.
@@ -150,7 +150,7 @@ pub fn range_text(received: u64) -> String {
 impl From<Lost> for Fault {
     fn from(_: Lost) -> Fault {
         Fault::new(StatusCode::SERVICE_UNAVAILABLE, "UNSUPPORTED", "the store is gone, or does not reply in time")
-            .with_header(RETRY_AFTER, "1")
+            .with_header("Retry-After", "1")
     }
 }
 
