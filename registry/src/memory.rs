@@ -15,7 +15,7 @@ const SMALL_LEN: usize = 256 << 10;
 /// How often a small block is asked for once more, and the pause before each time.
 const RETRIES: (usize, Duration) = (400, Duration::from_millis(5));
 
-/// How long requests are refused after the system gave no memory.
+/// How long requests are refused at least after the system gave no memory.
 const SHORT_TIME: Duration = Duration::from_secs(1);
 
 /// Bytes in flight: all, and by sharer.
@@ -89,24 +89,39 @@ pub fn is_short() -> bool {
     IS_SHORT.load(Ordering::Relaxed)
 }
 
-/// Puts the reserve aside, if the system gives it, and does so again whenever it was used.
+/// Puts the reserve aside, if the system gives it, and does so again whenever it was used. Requests go on once it is there
+/// again, or as many bytes are free in this program.
 pub async fn keep_reserve() {
     loop {
-        if RESERVE.load(Ordering::Relaxed).is_null() {
-            put_reserve_aside();
-        }
         if is_short() {
-            tracing::error!("the system gives no memory: requests with content are refused for a while");
-            tokio::time::sleep(SHORT_TIME).await;
-            // SAFETY: the call takes no pointer.
-            unsafe { libc::malloc_trim(0) };
-            IS_SHORT.store(false, Ordering::Relaxed);
+            tracing::error!("the system gives no memory: requests with content are refused for now");
+            while is_short() {
+                tokio::time::sleep(SHORT_TIME).await;
+                put_reserve_aside();
+                if !RESERVE.load(Ordering::Relaxed).is_null() || free_bytes() >= RESERVE_LEN {
+                    IS_SHORT.store(false, Ordering::Relaxed);
+                }
+            }
         }
+        put_reserve_aside();
         tokio::time::sleep(SHORT_TIME / 10).await;
     }
 }
 
+/// How many bytes the allocator has that nobody uses.
+fn free_bytes() -> usize {
+    // SAFETY: the calls take no pointer.
+    unsafe {
+        libc::malloc_trim(0);
+        libc::mallinfo2().fordblks
+    }
+}
+
+/// Puts the reserve aside, if it isn't.
 fn put_reserve_aside() {
+    if !RESERVE.load(Ordering::Relaxed).is_null() {
+        return;
+    }
     let (access, kind) = (libc::PROT_READ | libc::PROT_WRITE, libc::MAP_PRIVATE | libc::MAP_ANONYMOUS);
     // SAFETY: the call makes a new mapping, wherever there is room.
     let reserve = unsafe { libc::mmap(null_mut(), RESERVE_LEN, access, kind, -1, 0) };
@@ -144,21 +159,21 @@ fn ask_again(size: usize, ask: impl Fn() -> *mut u8) -> *mut u8 {
 unsafe impl GlobalAlloc for Reserving {
     unsafe fn alloc(&self, layout: Layout) -> *mut u8 {
         match System.alloc(layout) {
-            block if block.is_null() => ask_again(layout.size(), || unsafe { System.alloc(layout) }),
+            block if block.is_null() => ask_again(layout.size(), || System.alloc(layout)),
             block => block,
         }
     }
 
     unsafe fn alloc_zeroed(&self, layout: Layout) -> *mut u8 {
         match System.alloc_zeroed(layout) {
-            block if block.is_null() => ask_again(layout.size(), || unsafe { System.alloc_zeroed(layout) }),
+            block if block.is_null() => ask_again(layout.size(), || System.alloc_zeroed(layout)),
             block => block,
         }
     }
 
     unsafe fn realloc(&self, old: *mut u8, layout: Layout, size: usize) -> *mut u8 {
         match System.realloc(old, layout, size) {
-            block if block.is_null() => ask_again(size, || unsafe { System.realloc(old, layout, size) }),
+            block if block.is_null() => ask_again(size, || System.realloc(old, layout, size)),
             block => block,
         }
     }

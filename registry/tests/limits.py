@@ -1,7 +1,7 @@
 #!/usr/bin/env python3
 """What one client can take from the others, and what a signal or a store that hangs ends: connections, memory, lines to the
 store, passwords, metrics."""
-import base64, contextlib, os, random, resource, shutil, signal, subprocess, sys, tempfile, threading, time
+import base64, contextlib, os, random, resource, select, shutil, signal, subprocess, sys, tempfile, threading, time
 
 import server as servers
 from hardships import MIB, PATCH, head_of, played
@@ -69,6 +69,14 @@ def is_closed(line, seconds):
         return False
 
 
+def end_of(line):
+    """The status of an answer, or nothing."""
+    try:
+        return line.recv(1000)[9:12]
+    except ConnectionResetError:
+        return b""
+
+
 def took(call):
     begun = time.time()
     result = call()
@@ -115,7 +123,7 @@ def the_oldest_idle_connection_makes_room():
 
 def clients_that_stall_are_given_up():
     with serving("--head-s", "1", "--idle-s", "2") as server:
-        client, data = server.client(), random.Random(1).randbytes(30 * MIB)
+        client, data = server.client(), random.Random(1).randbytes(12 * MIB)
         assert client.ask("POST", f"/v2/acme/one/blobs/uploads/?digest={sha256(data)}", data, PATCH).status == 201
         at = client.ask("POST", "/v2/acme/one/blobs/uploads/")["Location"]
         half, slow, idle, body, reader = (server.socket() for _ in range(5))
@@ -300,14 +308,19 @@ def a_failed_allocation_ends_requests_alone():
             for thread in threads:
                 thread.start()
             server.wait_for("the system gives no memory", 10)
-        answers = {line.recv(1000)[9:12] for line in lines}
-        assert b"503" in answers and answers <= {b"503", b"201"}, answers
+        # What is left of a request isn't read, so its connection may end before its answer is.
+        ends = {end_of(line) for line in lines}
+        assert ends <= {b"503", b"201", b""}, ends
+        server.wait_for("status=503", 5)
         assert server.process.poll() is None, server.logged()[-500:]
         for line in lines:
             line.close()
         resource.prlimit(server.process.pid, resource.RLIMIT_DATA, old)
-        push = lambda: server.client().ask("POST", f"/v2/acme/one/blobs/uploads/?digest={sha256(data)}", data, PATCH).status
-        until(lambda: push() == 201, "no upload goes on", 20)
+        def is_pushed():
+            with contextlib.suppress(OSError):
+                return server.client().ask("POST", f"/v2/acme/one/blobs/uploads/?digest={sha256(data)}", data, PATCH).status == 201
+        until(is_pushed, "no upload goes on", 20)
+        assert server.process.poll() is None, server.logged()[-500:]
 
 
 def a_media_type_has_a_limit():
@@ -342,9 +355,10 @@ def known_passwords_wait_for_no_unknown_ones():
         time.sleep(0.5)
         seconds, answer = took(lambda: known.ask("GET", "/v2/"))
         assert answer.status == 200 and seconds < 1, f"a known password waits for {seconds:.2f} s"
-        lines[-1].settimeout(2)
-        answer = lines[-1].recv(1000)
-        assert answer.startswith(b"HTTP/1.1 503") and b"retry-after" in answer.lower(), answer
+        server.wait_for("status=503", 10)
+        answers = [line.recv(1000).lower() for line in select.select(lines, [], [], 1)[0]]
+        refused = [answer for answer in answers if answer.startswith(b"http/1.1 503")]
+        assert refused and all(b"retry-after" in answer for answer in refused), answers[:3]
         for line in lines:
             line.close()
 
