@@ -1,5 +1,6 @@
 -- Which steps a call of the store is to the rows of a worker.
-use Rattle.std.proofs.Common.{◌≡◌, ◌⊎◌, ℕ, List, [], ◌∷◌, ◌++◌, Option, Result, Ok, Err, arith, refl, ap, ◌∙◌, inl, inr, append_assoc}
+use Rattle.std.proofs.Common.{◌≡◌, ◌⊎◌, ℕ, List, [], ◌∷◌, ◌++◌, Option, Result, Ok, Err, add-zero, arith, refl, ap, sym, ◌∙◌, inl, inr, append_assoc}
+use Rattle.std.proofs.lemmas.List.{append-nil}
 use Rattle.std.specs.Prelude.{length}
 use Rattle.blob_digest.specs.declared.range.ByteRange.{ByteRange}
 use Rattle.blob_digest.specs.declared.refusal.Refusal.{Refusal}
@@ -9,9 +10,10 @@ use Rattle.store_model.specs.Amounts.{Amounts}
 use Rattle.store_model.specs.Catalog.{Catalog, Taken}
 use Rattle.store_model.specs.Histories.{Step, Took, PutBack}
 use Rattle.locked_book.specs.History.{Adds, Cancels, DeskView, Trace, filled}
-use Rattle.row_player.specs.Answers.{Answer, Refused}
-use Rattle.row_player.specs.Commands.{Calls, Command, Request}
-use Rattle.blob_store.specs.Seats.{AmountActs, AreRequestSteps, AreUploadSteps, SeatActs, as_answer}
+use Rattle.locked_book.specs.Names.{StoreNames}
+use Rattle.row_player.specs.Answers.{Answer, Refused, Verified}
+use Rattle.row_player.specs.Commands.{Calls, Command, Verifies}
+use Rattle.blob_store.specs.Seats.{AmountActs, AreRequestSteps, AreUploadSteps, FindsBlob, SeatActs, as_answer}
 
 -- two steps, one after the other
 two_own : (C : Catalog) (old mid new : Trace) (d e : Step) → Adds C old d mid → Adds C mid e new → new.own ≡ old.own ++ d ∷ e ∷ []
@@ -35,8 +37,8 @@ uploaded C old new repo number range bytes last f result (inr (inr x)) =
     (x.1.put_back.number ∙ x.1.take.number, (d ∷ e ∷ [], inr (inr (x.1.hand, x.1.back, refl, ap (as_answer f) x.0)), two_own C old x.1.mid new d e x.1.take x.1.put_back))
 
 -- an upload's amounts with its steps
-pub both : (old new : DeskView) (request : Request) (answer : Answer) (steps : (new.trace.number ≡ old.trace.number) × ((steps : List Step) × AreRequestSteps request answer steps × (new.trace.own ≡ old.trace.own ++ steps))) → AmountActs old.amounts request answer new.amounts → SeatActs old request answer new
-both old new request answer steps amounts = record { work = record { amounts = amounts; steps = steps.1 }; number = steps.0 }
+pub both : (names : StoreNames) (old new : DeskView) (command : Command) (answer : Answer) (steps : (new.trace.number ≡ old.trace.number) × ((steps : List Step) × AreRequestSteps (Calls command) answer steps × (new.trace.own ≡ old.trace.own ++ steps))) → AmountActs old.amounts (Calls command) answer new.amounts → SeatActs names old (Calls command) answer new
+both names old new command answer steps amounts = record { work = record { amounts = amounts; steps = steps.1 }; number = steps.0; finds = tt }
 
 -- what is refused adds nothing
 pub adds_nothing : (old new : Amounts) (command : Command) (e : Refusal) → new ≡ old → AmountActs old (Calls command) (Refused e) new
@@ -50,3 +52,19 @@ adds_nothing old new command e same =
       closed = omega (arith, closed);
       abandoned = λ _. ap (λ a. a.abandoned) same;
     }
+
+-- a look at a lease's slot adds nothing
+pub looked : (names : StoreNames) (desk : DeskView) (size : ℕ) → FindsBlob names size → SeatActs names desk (Verifies size) (Verified size) desk
+looked names desk size found = record {
+  work = record {
+    amounts = record {
+      commands = sym (add-zero desk.amounts.commands);
+      received = sym (add-zero desk.amounts.received);
+      closed = sym (add-zero desk.amounts.closed);
+      abandoned = λ _. refl;
+    };
+    steps = ([], (refl, refl), sym (append-nil desk.trace.own));
+  };
+  number = refl;
+  finds = found;
+}

@@ -1,9 +1,12 @@
 -- What a desk gets by the requests of a worker's rows, and which steps of the store's history they are.
-use Rattle.std.specs.Prelude.{◌≡◌, ◌⊎◌, ◌+◌, ℕ, List, [], ◌∷◌, ◌++◌, Option, Result, Ok, Err, length}
+use Rattle.std.specs.Prelude.{◌≡◌, ◌⊎◌, ◌+◌, ℕ, true, List, [], ◌∷◌, ◌++◌, Option, Result, Ok, Err, length}
+use Rattle.blob_digest.specs.Digests.{is_digest_of}
 use Rattle.blob_digest.specs.declared.range.ByteRange.{ByteRange}
 use Rattle.blob_digest.specs.declared.refusal.Refusal.{Refusal}
 use Rattle.blob_digest.specs.declared.refusal.Refusal.TheVariants.{Memory}
 use Rattle.finite_maps.specs.Texts.{Text}
+use Rattle.pin_core.specs.declared.world.PinRecord.{PinRecord}
+use Rattle.store_book.specs.SlotSteps.{HasPin}
 use Rattle.store_model.specs.Amounts.{Amounts}
 use Rattle.store_model.specs.Catalog.{Catalog, Taken}
 use Rattle.store_model.specs.Histories.{Step, Performed, Cleaned, Took, PutBack, Finished}
@@ -58,7 +61,22 @@ AreRequestSteps Sweeps answer steps = (swept : SweptCounts) × (steps ≡ Cleane
 abbrev pub StepActs : List Step → Request → Answer → List Step → Type 0
 StepActs old request answer new = (steps : List Step) × AreRequestSteps request answer steps × (new ≡ old ++ steps)
 
--- ---- both
+-- ---- looks
+
+-- a pin on a blob of this size, whose slot some book of the store has in use, in the pin's generation and with its digest
+pub record FindsBlob (names : StoreNames) (size : ℕ) : Type 0 where
+  pub hold : PinRecord
+  pub bytes : Text
+  pub kept : InSomeBook names (HasPin hold)
+  pub content : is_digest_of hold.digest bytes ≡ true
+  pub length : length bytes ≡ size
+
+-- what a request finds: a lease that is verified has such a pin
+abbrev pub Finds : StoreNames → Request → Type 0
+Finds names (Verifies size) = FindsBlob names size
+Finds names _ = Unit {0}
+
+-- ---- all of it
 
 -- what a desk got, and the steps that it made
 pub record Work : Type 0 where
@@ -72,10 +90,11 @@ pub record WorkActs (old : Work) (request : Request) (answer : Answer) (new : Wo
   pub amounts : AmountActs old.amounts request answer new.amounts
   pub steps : StepActs old.steps request answer new.steps
 
--- a desk gets this and makes these steps, and keeps its number
-pub record SeatActs (old : DeskView) (request : Request) (answer : Answer) (new : DeskView) : Type 0 where
+-- a desk gets this and makes these steps, and keeps its number; and a look at a lease's slot finds its blob
+pub record SeatActs (names : StoreNames) (old : DeskView) (request : Request) (answer : Answer) (new : DeskView) : Type 0 where
   pub work : WorkActs (work_of old) request answer (work_of new)
   pub number : new.trace.number ≡ old.trace.number
+  pub finds : Finds names request
 
 -- ---- queries
 

@@ -49,7 +49,7 @@ struct Room<S: Naming> {
     done: WorkersDone<S>,
 }
 
-/// Room for the replies of each worker.
+/// Room for the replies of each worker, and for no more.
 fn lists_for<L: RowList>(
     alloc: Global,
     rows: &L,
@@ -58,6 +58,7 @@ fn lists_for<L: RowList>(
     requires { 0 < workers }
     ensures len { IfOk result (λ v. vec_len v ≡ workers) }
     ensures room { IfOk result (λ v. AllAt (λ w l. (l.items ≡ []) × (length (own_rows workers w (L.lines rows.now)) ≤ vec_capacity l)) v.items) }
+    ensures exact { IfOk result (λ v. AllAt (λ w l. vec_capacity l ≡ length (own_rows workers w (L.lines rows.now))) v.items) }
     ensures refused { IfErr result (λ e. e ≡ Memory) }
 {
     let counts = count_by_worker(alloc, rows, workers)?;
@@ -232,6 +233,7 @@ pub fn play<
     requires { (0 < workers) × (workers ≤ MAX_WORKERS) }
     ensures replies { IfOk result (λ p. length p.replies.items ≡ length (L.lines rows)) }
     ensures each { IfOk result (λ p. (w : ℕ) → w < workers → (desk : DeskView) × HasPlayed S.names.opening workers w (L.lines rows) desk (own_answers workers w (L.lines rows) (answers_of p.replies.items))) }
+    ensures room { IfOk result (λ p. vec_capacity p.replies ≡ length (L.lines rows)) }
     ensures settled { IfOk result (λ p. AreSettled (L.lines rows) (answers_of p.replies.items) p.settled) }
     ensures refused { IfErr result (λ e. (e ≡ LimitReached) ⊎ (e ≡ Memory)) }
 {

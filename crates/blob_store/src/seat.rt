@@ -26,7 +26,7 @@ impl<'s, W: Wait, S: Naming> Backend for Seat<'s, W, S> {
     ghost use Rattle.blob_store.specs.Seats.{SeatActs};
     ghost use Rattle.row_player.specs.Leases.{Lent};
 
-    ghost acts = { λ old request answer new. SeatActs old.desk request answer new.desk };
+    ghost acts = { λ old request answer new. SeatActs S.names old.desk request answer new.desk };
 
     ghost lent = { λ l. record { bytes = l.bytes; weight = l.hold.weight } };
 

@@ -1,20 +1,18 @@
 //! The store that threads share.
 
-ghost use Rattle.std.specs.Prelude.{◌≡◌, ◌⊎◌, ◌+◌, ◌<◌, ◌≤◌, IfErr, IfOk, IfSome, MatchResult, None, OnErr, OnOk, Some, length, sum_by, vec_len};
+ghost use Rattle.std.specs.Prelude.{◌≡◌, ◌⊎◌, ◌+◌, ◌<◌, ◌≤◌, IfErr, IfOk, IfSome, MatchResult, None, OnErr, OnOk, Some, length, sum_by, true, vec_len};
 ghost use Rattle.std.specs.Arc.{arc_value};
 ghost use Rattle.std.specs.Io.KnownBytes.{Appends as Writes};
-ghost use Rattle.blob_digest.specs.Digests.{sha256_text};
+ghost use Rattle.blob_digest.specs.Digests.{is_digest_of, sha256_text};
 ghost use Rattle.oci_manifest.specs.Manifests.{max_manifest, refs_of};
-ghost use Rattle.store_model.specs.Catalog.{Catalog};
 ghost use Rattle.store_model.specs.BookText.{book_text};
 ghost use Rattle.store_book.specs.SlotSteps.{HasPin};
-ghost use Rattle.store_model.specs.Sweep.{IsSweep};
 ghost use Rattle.std.specs.Option.{option_copied};
 ghost use Rattle.store_model.specs.Histories.{Performed, Cleaned};
 ghost use Rattle.store_model.specs.Runs.{Start, Status, Abandon, Mount as MountCommand, Delete, PutManifest, GetManifest, DeleteManifest, Lease as LeaseCommand, Number, Mounting, Bytes, Done};
 ghost use Rattle.locked_book.specs.Calls.{reply};
-ghost use Rattle.locked_book.specs.History.{Adds, AddsByNobody, Appends, AreFresh, Closes, amounts_of};
-ghost use Rattle.locked_book.specs.Found.{InSomeBook};
+ghost use Rattle.locked_book.specs.History.{Adds, Appends, AreFresh, AreInOneHistory, Closes, OneBegins, amounts_of};
+ghost use Rattle.locked_book.specs.Found.{AreTotalsOfSome, InSomeBook, IsSweepOfSome};
 ghost use Rattle.blob_store.specs.Parts.{names_of};
 ghost use Rattle.store_model.specs.Amounts.{nothing, plus, one, sum_of};
 ghost use Rattle.blob_digest.specs.declared.refusal.Refusal.TheVariants.{LimitReached, ManifestInvalid, Memory, NameUnknown, SizeInvalid};
@@ -156,11 +154,22 @@ impl<S: Naming> Store<S> {
         self.locked(rt).settle(desks)
     }
 
-    /// The totals.
+    /// The totals. A legal history of this store leads to them, with a book that has as many bytes in its sessions.
     pub fn totals(&self, rt: &impl Wait) -> Totals
-        ensures { result.received ≡ result.in_sessions + result.closed + result.abandoned }
+        ensures balanced { result.received ≡ result.in_sessions + result.closed + result.abandoned }
+        ensures found { AreTotalsOfSome S.names result }
     {
         self.locked(rt).totals()
+    }
+
+    /// Lets two desks see all of the store's history. Each had seen a beginning of it, so that what one of them had seen begins
+    /// what the other had. No step is made, and nothing is counted. It takes no memory.
+    pub fn compare(&self, rt: &impl Wait, one: &mut Desk<S>, other: &mut Desk<S>)
+        ensures same { (one.new.amounts ≡ one.old.amounts) × (other.new.amounts ≡ other.old.amounts) }
+        ensures one_history { AreInOneHistory S.names.opening one.old.trace one.new.trace other.old.trace other.new.trace }
+        ensures begins { OneBegins one.old.trace.seen other.old.trace.seen }
+    {
+        self.locked(rt).compare(one, other);
     }
 
     /// Opens a session in a repository, and answers its number (OCI Distribution Specification 1.1,
@@ -422,11 +431,10 @@ impl<S: Naming> Store<S> {
     }
 
     /// Condemns each live blob that no repository links, and frees or retires the slot of each condemned one
-    /// that no lease holds, at the cost of `Book::sweep`. It takes no memory. What it answers is the count of a
-    /// sweep of a book that a legal history of this store leaves, and some such history ends with this sweep.
+    /// that no lease holds, at the cost of `Book::sweep`. It takes no memory. What it answers are the counts of a sweep that
+    /// leads from one book of this store to another, and is the last step of a legal history, by a writer of its own.
     pub fn sweep(&self, rt: &impl Wait) -> Swept
-        ensures sweeps { InSomeBook S.names (λ b. (C : Catalog) × IsSweep b.catalog result C) }
-        ensures history { AddsByNobody S.names.opening (Cleaned result) }
+        ensures { IsSweepOfSome S.names result }
     {
         self.locked(rt).sweep(&self.pins)
     }
@@ -440,11 +448,13 @@ impl<S: Naming> Store<S> {
     }
 
     /// The lease with all that it had. Under the lock its slot is found used, in its generation, with its
-    /// digest. It takes no memory.
+    /// digest, which its bytes have. It takes no memory.
     pub fn verify<'s>(&'s self, rt: &impl Wait, lease: Lease<'s, S>) -> Lease<'s, S>
         ensures same { result ≡ lease.entry }
         ensures kept { InSomeBook S.names (HasPin lease.entry.hold) }
+        ensures content { is_digest_of lease.entry.hold.digest lease.entry.bytes ≡ true }
     {
+        let _ = lease.digest();
         let (pin, blob) = lease.into_parts();
         let pin = self.locked(rt).verify(&self.pins, pin);
         Lease::new(&self.pins, pin, blob)

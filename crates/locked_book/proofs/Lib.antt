@@ -7,3 +7,4 @@ pub mod Additions
 pub mod Counted
 pub mod Unread
 pub mod Wholes
+pub mod Views

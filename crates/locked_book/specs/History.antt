@@ -6,7 +6,7 @@ use Rattle.blob_digest.specs.declared.refusal.Refusal.TheVariants.{Memory, SizeI
 use Rattle.finite_maps.specs.Texts.{Text}
 use Rattle.oci_manifest.specs.Manifests.{refs_of, max_manifest}
 use Rattle.shared_log.specs.declared.view.Entry.{Entry}
-use Rattle.shared_log.specs.Entries.{entry, events_by}
+use Rattle.shared_log.specs.Entries.{IsPrefix, entry, events_by}
 use Rattle.store_model.specs.Amounts.{Amounts, nothing}
 use Rattle.store_model.specs.Catalog.{Catalog, Taken}
 use Rattle.store_model.specs.Histories.{Step, Took, PutBack, Finished, State, LeadsTo, IsLegal}
@@ -71,9 +71,36 @@ pub record Adds (C : Catalog) (old : Trace) (step : Step) (new : Trace) : Type 0
   pub agrees : events_by new.number new.seen ≡ new.own
   pub legal : IsLegal C (steps_of new.seen)
 
--- the same of a step that no desk made, but a writer of its own
-abbrev pub AddsByNobody : Catalog → Step → Type 0
-AddsByNobody C step = (old new : Trace) × Adds C old step new
+-- Just this step was added by a writer that had made none before, at the end of a history that leads to one state, and with the step to another.
+pub record AddsByNobody (C : Catalog) (before : State) (step : Step) (after : State) : Type 0 where
+  pub nobody : Trace
+  pub fresh : nobody.own ≡ []
+  pub found : Leaves C nobody.seen before
+  pub wrote : Trace
+  pub adds : Adds C nobody step wrote
+  pub leads : Leaves C wrote.seen after
+
+-- ---- two desks
+
+-- one of two views of a history begins the other
+abbrev pub OneBegins : List (Entry Step) → List (Entry Step) → Type 0
+OneBegins one other = IsPrefix one other ⊎ IsPrefix other one
+
+-- A desk has seen all of a history, which begins with what it had seen before, and has under the desk's number just the desk's own steps, each once
+-- and in order.
+pub record SeesAll (whole : List (Entry Step)) (old new : Trace) : Type 0 where
+  pub began : IsPrefix old.seen whole
+  pub seen : new.seen ≡ whole
+  pub agrees : events_by old.number whole ≡ old.own
+  pub number : new.number ≡ old.number
+  pub own : new.own ≡ old.own
+
+-- two desks have seen all of one legal history
+pub record AreInOneHistory (C : Catalog) (one one_new other other_new : Trace) : Type 0 where
+  pub whole : List (Entry Step)
+  pub legal : IsLegal C (steps_of whole)
+  pub sees_one : SeesAll whole one one_new
+  pub sees_other : SeesAll whole other other_new
 
 -- the hand with its chunk
 abbrev pub filled : Taken → Text → Taken

@@ -6,6 +6,7 @@ ghost use Rattle.blob_digest.specs.declared.refusal.Refusal.TheVariants.{LimitRe
 ghost use Rattle.store_model.specs.Amounts.{nothing, plus, sum_of};
 ghost use Rattle.store_model.specs.Hands.{received_in_sessions};
 ghost use Rattle.locked_book.specs.Counting.{cannot_hand_out, handing_out};
+ghost use Rattle.locked_book.specs.Found.{IsContentOf};
 ghost use Rattle.locked_book.specs.History.{AreFresh, IsWhole, amounts_of, state_of, steps_of_each};
 
 use crate::desk::{Desk, Settled};
@@ -91,13 +92,15 @@ impl<S: Naming> LockedBook<S> {
         }
     }
 
-    /// The totals.
+    /// The totals, to which, with the book, a legal history of the store leads.
     pub fn totals(&self) -> Totals
         ensures amounts { (result.commands ≡ self.now.counts.totals.commands) × (result.received ≡ self.now.counts.totals.received) × (result.closed ≡ self.now.counts.totals.closed) × (result.abandoned ≡ self.now.counts.totals.abandoned) }
         ensures in_sessions { result.in_sessions ≡ received_in_sessions self.now.book.catalog }
         ensures balanced { result.received ≡ result.in_sessions + result.closed + result.abandoned }
         ensures desks { result.desks ≡ self.now.counts.desks }
+        ensures found { IsContentOf S.names self.now }
     {
+        self.audit();
         self.kept.totals()
     }
 }

@@ -4,7 +4,7 @@ ghost use Rattle.std.specs.Prelude.{◌≡◌, ◌+◌, ◌≤◌, ℕ, [], IfSo
 ghost use Rattle.shared_log.specs.Entries.{events_by};
 ghost use Rattle.store_model.specs.Histories.{State, IsLegal, IsStep};
 ghost use Rattle.locked_book.specs.Calls.{step_of};
-ghost use Rattle.locked_book.specs.History.{Adds, IsPart, Leaves, steps_of};
+ghost use Rattle.locked_book.specs.History.{Adds, IsPart, Leaves, SeesAll, steps_of};
 
 use crate::call::Call;
 use crate::names::Naming;
@@ -107,9 +107,19 @@ impl<S: Naming> History<S> {
     pub fn add(&mut self, writer: &mut HistoryWriter<S>, call: Call<'_>)
         requires { (s : State) × (s' : State) × Leaves S.names.opening self.old s × IsStep s (step_of call) s' }
         ensures adds { Adds S.names.opening writer.old (step_of call.entry) writer.new }
+        ensures all { writer.new.seen ≡ self.new }
         ensures leads { (s s' : State) → Leaves S.names.opening self.old s → IsStep s (step_of call.entry) s' → Leaves S.names.opening self.new s' }
     {
         append(&mut self.log, &mut writer.writer, call);
+    }
+
+    /// Lets a writer see all of the history, of which it had seen a beginning.
+    pub fn catch_up(&mut self, writer: &mut HistoryWriter<S>)
+        requires { IsLegal S.names.opening (steps_of self.old) }
+        ensures same { self.new ≡ self.old }
+        ensures sees { SeesAll self.old writer.old writer.new }
+    {
+        self.log.catch_up(&mut writer.writer);
     }
 
     /// Takes a writer back, and tells whether it had this number and there are just so many writers. Then its own steps are all

@@ -20,8 +20,8 @@ ghost use Rattle.store_book.specs.Pinned.{blob_bytes, blob_digest};
 ghost use Rattle.store_book.specs.SlotSteps.{EachSlot, HasPin, IsStill, ReadsWord};
 ghost use Rattle.locked_book.specs.Calls.{reply};
 ghost use Rattle.locked_book.specs.Counting.{IsBalanced, Lends, has_room, with_catalog, with_slots, uncounted, accepted, counted, reserving, unchanged};
-ghost use Rattle.locked_book.specs.Found.{IsBookOf};
-ghost use Rattle.locked_book.specs.History.{Adds, AddsByNobody, IsUnread, state_of};
+ghost use Rattle.locked_book.specs.Found.{IsBookOf, IsContentOf, IsSweepOf};
+ghost use Rattle.locked_book.specs.History.{Adds, AreInOneHistory, IsUnread, Leaves, OneBegins, state_of};
 ghost use Rattle.locked_book.specs.Names.{setting_of};
 
 use crate::call::Call;
@@ -86,6 +86,7 @@ impl<S: Naming> LockedBook<S> {
     pub fn audit(&self)
         ensures found { IsBookOf S.names self.now.book }
         ensures balanced { IsBalanced self.now }
+        ensures content { IsContentOf S.names self.now }
     {
         self.kept.audit();
     }
@@ -372,15 +373,13 @@ impl<S: Naming> LockedBook<S> {
     /// Sweeps as `Kept::sweep` does. Its step has a writer of its own, that no desk has.
     pub fn sweep(&mut self, pins: &Pins) -> Swept
         requires table { pins.now ≡ S.names.table }
-        ensures found { IsBookOf S.names self.old.book }
-        ensures sweeps { IsSweep self.old.book.catalog result self.new.book.catalog }
-        ensures counts { self.new.counts ≡ self.old.counts }
-        ensures history { AddsByNobody S.names.opening (Cleaned result) }
+        ensures sweeps { IsSweepOf S.names self.old result self.new }
     {
         self.audit();
         let result = self.kept.sweep(pins);
         let mut nobody = self.history.writer();
         self.history.add(&mut nobody, Call::Sweep(&result));
+        self.audit();
         result
     }
 
@@ -395,6 +394,18 @@ impl<S: Naming> LockedBook<S> {
         let result = self.kept.sweep(pins);
         self.history.add(&mut desk.writer, Call::Sweep(&result));
         result
+    }
+
+    /// Lets two desks see all of the history, of which each had seen a beginning. No step is made, and nothing is counted.
+    pub fn compare(&mut self, one: &mut Desk<S>, other: &mut Desk<S>)
+        ensures content { self.new ≡ self.old }
+        ensures same { (one.new.amounts ≡ one.old.amounts) × (other.new.amounts ≡ other.old.amounts) }
+        ensures one_history { AreInOneHistory S.names.opening one.old.trace one.new.trace other.old.trace other.new.trace }
+        ensures begins { OneBegins one.old.trace.seen other.old.trace.seen }
+        ensures leads { Leaves S.names.opening one.new.trace.seen (state_of self.new) }
+    {
+        self.history.catch_up(&mut one.writer);
+        self.history.catch_up(&mut other.writer);
     }
 
     /// The pin with all that it had, as `Kept::verify` tells of it. No step is made.

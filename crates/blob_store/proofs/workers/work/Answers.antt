@@ -15,7 +15,7 @@ returns-in-Ok g c = λ _.
     let answers = answers_of c.in-Ok.replies.items in
     let played = c.in-Ok.ensures.played in
     let new = c.play_rows-played.new.backend in
-    let shown = plays_through (λ seat. work_of seat.desk) (λ old request answer new. SeatActs old.desk request answer new.desk) WorkActs (λ old request answer new acts. acts.work) (_, none) (new, played.0) lines answers played.1 in
+    let shown = plays_through (λ seat. work_of seat.desk) (λ old request answer new. SeatActs g.S.Naming.names old.desk request answer new.desk) WorkActs (λ old request answer new acts. acts.work) (_, none) (new, played.0) lines answers played.1 in
     let begun = subst (λ d. Plays WorkActs (d, none) lines answers (work_of new.desk, played.0)) (ap work_of c.into_desk.ensures ∙ c.requires.ready.fresh) shown in
     record {
       played = (played.0, subst (λ d. Plays WorkActs (no_work, none) lines answers (d, played.0)) (ap work_of (sym c.into_droppable.ensures)) begun);

@@ -1,0 +1,58 @@
+-- What desks have seen of a history.
+use Rattle.std.proofs.Common.{◌≡◌, ◌⊎◌, ap, List, [], ◌∷◌, refl, sym, subst, inl, inr, ◌∙◌}
+use Rattle.shared_log.specs.declared.view.Entry.{Entry}
+use Rattle.shared_log.specs.Entries.{IsPrefix}
+use Rattle.shared_log.specs.Calls as shared
+use Rattle.store_model.specs.Catalog.{Catalog}
+use Rattle.store_model.specs.Histories.{IsLegal, Step}
+use Rattle.locked_book.specs.History.{AreInOneHistory, OneBegins, SeesAll, Trace, steps_of}
+use Rattle.locked_book.proofs.Additions.{trace_of}
+
+-- a writer of a log sees all of it
+pub sees_all : (l : shared.Log Step) (w : shared.Writer Step) (entries : List (Entry Step)) (was : Trace) → shared.Agrees l w → l.entries ≡ entries → trace_of w ≡ was → SeesAll entries was (trace_of (shared.has_seen l.entries w))
+sees_all l w entries was agrees all same =
+    subst (λ (es : List (Entry Step)). SeesAll es was (trace_of (shared.has_seen l.entries w))) all
+    (subst (λ (t : Trace). SeesAll l.entries t (trace_of (shared.has_seen l.entries w))) same (record {
+      began = agrees.seen;
+      seen = refl;
+      agrees = agrees.own;
+      number = refl;
+      own = refl;
+    }))
+
+module _ {A : Type 0} where
+  abbrev tail : List A → List A
+  tail [] = []
+  tail (x ∷ xs) = xs
+
+  abbrev head_or : A → List A → A
+  head_or a [] = a
+  head_or a (x ∷ xs) = x
+
+  -- of two beginnings of a list, one begins the other
+  pub beginnings : (xs ys zs : List A) → IsPrefix xs zs → IsPrefix ys zs → IsPrefix xs ys ⊎ IsPrefix ys xs
+  beginnings [] ys zs p q = inl (ys, refl)
+  beginnings (x ∷ xs) [] zs p q = inr (x ∷ xs, refl)
+  beginnings (x ∷ xs) (y ∷ ys) [] p q = absurd (let e = p.1 in cc)
+  beginnings (x ∷ xs) (y ∷ ys) (z ∷ zs) p q =
+      let same : y ≡ x = ap (head_or y) (q.1 ∙ sym p.1) in
+      elim (beginnings xs ys zs (p.0, ap tail p.1) (q.0, ap tail q.1)) [
+        | inl h ↦ inl (h.0, λ i. (sym same) i ∷ h.1 i)
+        | inr h ↦ inr (h.0, λ i. same i ∷ h.1 i)
+      ]
+
+-- two desks, whose traces these writers are, have seen all of a history
+pub in_one_history : (C : Catalog) (whole : List (Entry Step)) (one was_one one_new other was_other other_new : Trace) → IsLegal C (steps_of whole) → one ≡ was_one → other ≡ was_other → SeesAll whole one one_new → SeesAll whole other other_new
+    → AreInOneHistory C was_one one_new was_other other_new
+in_one_history C whole one was_one one_new other was_other other_new legal is_one is_other a b = record {
+  whole = whole;
+  legal = legal;
+  sees_one = subst (λ (t : Trace). SeesAll whole t one_new) is_one a;
+  sees_other = subst (λ (t : Trace). SeesAll whole t other_new) is_other b;
+}
+
+pub one_begins : (whole : List (Entry Step)) (one was_one one_new other was_other other_new : Trace) → one ≡ was_one → other ≡ was_other → SeesAll whole one one_new → SeesAll whole other other_new → OneBegins was_one.seen was_other.seen
+one_begins whole one was_one one_new other was_other other_new is_one is_other a b =
+    let first = subst (λ (t : Trace). SeesAll whole t one_new) is_one a in
+    let second = subst (λ (t : Trace). SeesAll whole t other_new) is_other b in
+    beginnings was_one.seen was_other.seen whole first.began second.began
