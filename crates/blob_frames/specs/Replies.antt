@@ -1,5 +1,5 @@
 -- The replies of a line, byte by byte.
-use Rattle.std.specs.Prelude.{ℕ, List, [], ◌++◌, length}
+use Rattle.std.specs.Prelude.{◌≡◌, ◌⊎◌, ℕ, List, [], ◌++◌, length}
 use Rattle.std.specs.Int.{w32, w64, to_le_bytes}
 use Rattle.blob_digest.specs.declared.refusal.Refusal.{Refusal}
 use Rattle.blob_digest.specs.declared.refusal.Refusal.TheVariants.{NameInvalid, DigestInvalid, NameUnknown, UploadUnknown, SizeInvalid, RangeInvalid, BlobUnknown, ManifestInvalid, ManifestUnknown, ManifestBlobUnknown, Quota, Referenced, StoreFull, TooManyReaders, LimitReached, WeightSpent, Memory, Busy}
@@ -44,3 +44,13 @@ refusal_reply LimitReached = numbers_reply 15 0 0
 refusal_reply WeightSpent = numbers_reply 16 0 0
 refusal_reply Memory = numbers_reply 17 0 0
 refusal_reply Busy = numbers_reply 18 0 0
+
+-- out of memory
+abbrev pub memory_reply : Reply
+memory_reply = refusal_reply Memory
+
+-- A reply tells a refusal. If the refusal has a digest, whose text takes memory, the reply may be `Memory` instead.
+abbrev pub TellsRefusal : Refusal → Reply → Type 0
+TellsRefusal (ManifestBlobUnknown digest) reply = (reply ≡ digest_reply 10 digest) ⊎ (reply ≡ memory_reply)
+TellsRefusal (Referenced manifest) reply = (reply ≡ digest_reply 12 manifest) ⊎ (reply ≡ memory_reply)
+TellsRefusal refusal reply = reply ≡ refusal_reply refusal

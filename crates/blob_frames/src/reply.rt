@@ -1,8 +1,7 @@
 //! Replies.
 ghost use Rattle.std.specs.Prelude.{◌≡◌, ◌⊎◌, ◌<◌, ◌^◌, OnOk, length};
 ghost use Rattle.std.specs.Io.KnownBytes.{Appends};
-ghost use Rattle.blob_digest.specs.declared.refusal.Refusal.TheVariants.{Memory};
-ghost use Rattle.blob_frames.specs.Replies.{digest_reply, numbers_reply, refusal_reply, reply_bytes};
+ghost use Rattle.blob_frames.specs.Replies.{Reply, TellsRefusal, digest_reply, memory_reply, numbers_reply, reply_bytes};
 
 use blob_digest::{Digest, Refusal};
 use std::alloc::Global;
@@ -38,10 +37,10 @@ fn write_numbers<W: Write>(output: &mut W, status: u32, first: u64, second: u64)
     write_reply(output, status, first, second, b"", b"")
 }
 
-/// Writes a refusal's frame: its number as the status, and what it tells besides. Where it names a digest
-/// and there is no memory for the text, `Memory` is written in its place.
+/// Writes a refusal's frame: its number as the status, and its numbers or its digest. If it has a digest and
+/// allocation of the digest's text fails, `Memory` is written instead. No other refusal takes memory.
 pub fn write_refusal<W: Write>(alloc: Global, output: &mut W, refusal: &Refusal) -> io::Result<()>
-    ensures { OnOk result (Appends (W.contents output.old) (W.contents output.new) (reply_bytes (refusal_reply refusal.now)) ⊎ Appends (W.contents output.old) (W.contents output.new) (reply_bytes (refusal_reply Memory))) }
+    ensures { OnOk result ((reply : Reply) × TellsRefusal refusal.now reply × Appends (W.contents output.old) (W.contents output.new) (reply_bytes reply)) }
 {
     match refusal {
         Refusal::NameInvalid => write_numbers(output, 1, 0, 0),
@@ -65,14 +64,14 @@ pub fn write_refusal<W: Write>(alloc: Global, output: &mut W, refusal: &Refusal)
     }
 }
 
-/// Writes a status and a digest's text, or `Memory` where there is none for the text.
+/// Writes a status and a digest's text, or `Memory` if allocation of the text fails.
 pub fn write_digest<W: Write>(
     alloc: Global,
     output: &mut W,
     status: u32,
     digest: &Digest,
 ) -> io::Result<()>
-    ensures { OnOk result (Appends (W.contents output.old) (W.contents output.new) (reply_bytes (digest_reply status digest.now)) ⊎ Appends (W.contents output.old) (W.contents output.new) (reply_bytes (refusal_reply Memory))) }
+    ensures { OnOk result (Appends (W.contents output.old) (W.contents output.new) (reply_bytes (digest_reply status digest.now)) ⊎ Appends (W.contents output.old) (W.contents output.new) (reply_bytes memory_reply)) }
 {
     let mut text = String::new(alloc);
     match digest.write(&mut text) {

@@ -1,16 +1,18 @@
 //! Requests.
-ghost use Rattle.std.specs.Prelude.{ℕ, List, ◌≡◌, ◌⊎◌, ◌≤◌, ◌<◌, ◌+◌, ◌++◌, ◌∷◌, IfOk, IfErr, IfSome, IsNone, IsErrOf, length, take, drop, true, vec_len};
+ghost use Rattle.std.specs.Prelude.{ℕ, List, ◌≡◌, ◌⊎◌, ◌≤◌, ◌<◌, ◌+◌, ◌++◌, ◌∷◌, IfOk, IfErr, IfSome, IsNone, IsErrOf, length, take, drop, false, true, vec_len};
 ghost use Rattle.std.specs.Int.{w16, w32, w64, to_le_bytes};
 ghost use Rattle.std.specs.Io.KnownBytes.{Consumes, IsAtEnd};
 ghost use Rattle.blob_frames.specs.Frames.{body_of, digest_of, head_bytes, max_body, payload_len, repo_of, request_bytes, source_of};
-ghost use Rattle.blob_frames.specs.Lines.{IsCutOff, IsPartial};
+ghost use Rattle.blob_frames.specs.Lines.{FailsByRead, IsCutOff, IsPartial};
 ghost use Rattle.blob_frames.specs.declared.fault.FrameFault.TheVariants.{CutOff, Malformed};
 ghost use Rattle.blob_frames.specs.declared.request.Head.{Head};
 ghost use Rattle.blob_frames.specs.declared.request.Incoming.TheVariants as incoming;
+ghost use Rattle.watched_reader.specs.Watching.{inner_of};
 
 use crate::fault::FrameFault;
 use crate::fill::{fill, fill_front, skip};
 use std::io::Read;
+use watched_reader::Watched;
 
 /// The bytes of a head.
 const HEAD_LEN: usize = 32;
@@ -177,11 +179,12 @@ fn head_of(bytes: &[u8; HEAD_LEN]) -> Head
 
 /// Reads a request's head: none where the line is at its end. `CutOff` comes where the line ends within
 /// the head, and `Malformed` where a body over the limit is announced.
-fn read_head<R: Read>(input: &mut R) -> Result<Option<Head>, FrameFault>
-    ensures head { IfOk result (λ o. IfSome o (λ h. Consumes (R.remaining input.old) (R.remaining input.new) (head_bytes h) × (h.body_len ≤ max_body))) }
-    ensures ended { IfOk result (λ o. IsNone o → IsAtEnd (R.remaining input.old)) }
-    ensures cut_off { IsErrOf result CutOff → IsCutOff (R.remaining input.old) 32 }
-    ensures malformed { IsErrOf result Malformed → (h : Head) × Consumes (R.remaining input.old) (R.remaining input.new) (head_bytes h) × (max_body < h.body_len) }
+fn read_head<R: Read>(input: &mut Watched<R>) -> Result<Option<Head>, FrameFault>
+    ensures head { IfOk result (λ o. IfSome o (λ h. Consumes (R.remaining (inner_of input.old)) (R.remaining (inner_of input.new)) (head_bytes h) × (h.body_len ≤ max_body))) }
+    ensures ended { IfOk result (λ o. IsNone o → IsAtEnd (R.remaining (inner_of input.old))) }
+    ensures cut_off { IsErrOf result CutOff → IsCutOff (R.remaining (inner_of input.old)) 32 }
+    ensures malformed { IsErrOf result Malformed → (h : Head) × Consumes (R.remaining (inner_of input.old)) (R.remaining (inner_of input.new)) (head_bytes h) × (max_body < h.body_len) }
+    ensures failed { FailsByRead result input.old input.new }
 {
     let mut bytes = [0u8; HEAD_LEN];
     if !fill(input, &mut bytes)? {
@@ -196,7 +199,8 @@ fn read_head<R: Read>(input: &mut R) -> Result<Option<Head>, FrameFault>
 
 /// Makes a buffer at least so long, and answers whether memory allowed it.
 fn lengthen(buffer: &mut Vec<u8>, len: usize) -> bool
-    ensures { result ≡ true → len ≤ vec_len buffer.new }
+    ensures long { result ≡ true → len ≤ vec_len buffer.new }
+    ensures short { result ≡ false → 0 < len }
 {
     buffer.len() >= len || buffer.resize(len, 0).is_ok()
 }
@@ -204,12 +208,16 @@ fn lengthen(buffer: &mut Vec<u8>, len: usize) -> bool
 /// Takes the next request off a line. Its texts and its body go into the buffer, which grows as it has to,
 /// to 4,390,910 bytes at most, and never shrinks: one buffer serves a line to its end. `CutOff` comes where
 /// the line ends within a frame, and `Malformed` where a body over the limit is announced.
-pub fn read_request<R: Read>(input: &mut R, buffer: &mut Vec<u8>) -> Result<Incoming, FrameFault>
-    ensures request { IfOk result (λ i. (h : Head) → i ≡ incoming.Request h → (payload_len h ≤ vec_len buffer.new) × (h.body_len ≤ max_body) × Consumes (R.remaining input.old) (R.remaining input.new) (request_bytes h (take (payload_len h) buffer.new.items))) }
-    ensures dropped { IfOk result (λ i. i ≡ incoming.OutOfMemory → (h : Head) × (payload : List ℕ) × (length payload ≡ payload_len h) × Consumes (R.remaining input.old) (R.remaining input.new) (request_bytes h payload)) }
-    ensures ended { IfOk result (λ i. i ≡ incoming.End → IsAtEnd (R.remaining input.old)) }
-    ensures cut_off { IsErrOf result CutOff → IfSome (R.remaining input.old) IsPartial }
-    ensures malformed { IsErrOf result Malformed → (h : Head) × Consumes (R.remaining input.old) (R.remaining input.new) (head_bytes h) × (max_body < h.body_len) }
+pub fn read_request<R: Read>(
+    input: &mut Watched<R>,
+    buffer: &mut Vec<u8>,
+) -> Result<Incoming, FrameFault>
+    ensures request { IfOk result (λ i. (h : Head) → i ≡ incoming.Request h → (payload_len h ≤ vec_len buffer.new) × (h.body_len ≤ max_body) × Consumes (R.remaining (inner_of input.old)) (R.remaining (inner_of input.new)) (request_bytes h (take (payload_len h) buffer.new.items))) }
+    ensures dropped { IfOk result (λ i. i ≡ incoming.OutOfMemory → (h : Head) × (payload : List ℕ) × (length payload ≡ payload_len h) × (0 < payload_len h) × Consumes (R.remaining (inner_of input.old)) (R.remaining (inner_of input.new)) (request_bytes h payload)) }
+    ensures ended { IfOk result (λ i. i ≡ incoming.End → IsAtEnd (R.remaining (inner_of input.old))) }
+    ensures cut_off { IsErrOf result CutOff → IfSome (R.remaining (inner_of input.old)) IsPartial }
+    ensures malformed { IsErrOf result Malformed → (h : Head) × Consumes (R.remaining (inner_of input.old)) (R.remaining (inner_of input.new)) (head_bytes h) × (max_body < h.body_len) }
+    ensures failed { FailsByRead result input.old input.new }
 {
     let Some(head) = read_head(input)? else {
         return Ok(Incoming::End);

@@ -15,14 +15,10 @@ use Rattle.store_model.specs.Invariant.{Sound}
 use Rattle.store_book.specs.Openings.{OpensCatalog}
 use Rattle.store_model.specs.BookText.{book_text}
 use Rattle.blobctl.specs.Script.{AreRowsOf, IsFirstBad}
-use Rattle.blobctl.specs.Watching.{has_failed, inner_of}
+use Rattle.watched_reader.specs.Watching.{HasNotFailed, has_failed, inner_of}
 use Rattle.blobctl.specs.declared.fault.Fault.{Fault}
 use Rattle.blobctl.specs.declared.fault.Fault.TheVariants.{BadRow, Read, Write, Memory}
-use Rattle.blobctl.specs.declared.watched.Watched.{Watched}
-
--- no read of the reader failed in between
-abbrev pub HasNotFailed : {R : Type 0} → Watched R → Watched R → Type 0
-HasNotFailed old new = has_failed new ≡ has_failed old
+use Rattle.watched_reader.specs.declared.watched.Watched.{Watched}
 
 -- the reader was read to its end, no read failed, and it gave these bytes, which are no more than a script may have
 pub record IsReadWhole {R : Type 0} (remaining : R → Option (List ℕ)) (old new : Watched R) (script : Text) : Type 0 where

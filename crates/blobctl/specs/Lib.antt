@@ -11,6 +11,5 @@ pub mod Script
 pub mod ScriptRuns
 pub mod Stops
 pub mod Texts
-pub mod Watching
 pub mod WorkersOrder
 pub mod WorkersText

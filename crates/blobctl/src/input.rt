@@ -3,13 +3,13 @@ ghost use Rattle.std.specs.Prelude.{◌≡◌, ◌⊎◌, ◌+◌, ◌<◌, ◌�
 ghost use Rattle.std.specs.Io.KnownBytes.{Consumes, IsAtEnd};
 ghost use Rattle.blobctl.specs.Ending.{HasNotFailed, IsReadWhole};
 ghost use Rattle.blobctl.specs.Inputs.{IsTooLong, TakesAtMost, max_script};
-ghost use Rattle.blobctl.specs.Watching.{has_failed, inner_of};
+ghost use Rattle.watched_reader.specs.Watching.{has_failed, inner_of};
 
 use crate::fault::Fault;
 use crate::script_text::ScriptText;
-use crate::watched::Watched;
 use std::alloc::{AllocError, Global};
 use std::io::Read;
+use watched_reader::Watched;
 
 /// The longest script, in bytes.
 const MAX_SCRIPT: usize = 268_435_456;

@@ -39,18 +39,17 @@ mod pinned_book;
 mod run;
 mod script;
 mod script_text;
-mod watched;
 mod workers;
 
 use crate::arguments::read_options;
 use crate::fault::Fault;
 use crate::options::{Options, Stop};
-use crate::watched::Watched;
 use std::io::{BufWriter, ErrorKind, Write};
 use std::process::ExitCode;
 use std::sync::Wait;
 use std::thread::Threads;
 use std::{env, io};
+use watched_reader::Watched;
 
 /// How many bytes of the output are collected for one write.
 const WRITE_BUFFER: usize = 65_536;

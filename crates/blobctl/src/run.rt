@@ -5,7 +5,7 @@ ghost use Rattle.blobctl.specs.Ending.{WorkersRunSucceeds, RunSucceeds, Explains
 ghost use Rattle.blobctl.specs.Inputs.{TakesAtMost, max_script};
 ghost use Rattle.blobctl.specs.Options.{IsWithin};
 ghost use Rattle.blobctl.specs.Script.{AreRowsOf};
-ghost use Rattle.blobctl.specs.Watching.{has_failed, inner_of};
+ghost use Rattle.watched_reader.specs.Watching.{has_failed, inner_of};
 ghost use Rattle.store_book.specs.Openings.{tenants_shown};
 
 use crate::fault::Fault;
@@ -14,7 +14,6 @@ use crate::one_worker::play_by_one;
 use crate::options::Options;
 use crate::output::write_played;
 use crate::script::read_rows;
-use crate::watched::Watched;
 use crate::workers::play_by_workers;
 use row_player::ScriptRows;
 use std::alloc::Global;
@@ -22,6 +21,7 @@ use std::io::{Read, Write};
 use std::mem;
 use std::sync::Wait;
 use std::thread::Threads;
+use watched_reader::Watched;
 
 /// The rows of the script that a reader gives. Its text is held whole until it is read, and then goes
 /// piece by piece as the rows are made.

@@ -13,7 +13,7 @@ use Rattle.row_player.specs.declared.row.Verb.{Verb}
 use Rattle.row_player.specs.declared.row.Verb.TheVariants as verb
 use Rattle.line_player.specs.Lendings.{Lending, Kept, NotKept, Read, NotRead, GivenBack, NotGivenBack}
 use Rattle.line_player.specs.Outcomes.{Outcome, Answered, Lent, Told, NoCommand}
-use Rattle.line_player.specs.Queries.{IsTold, NoVerbStep, SizeStep, UsageStep}
+use Rattle.line_player.specs.Queries.{NoVerbStep, SpelledStep, spelled_query}
 use Rattle.line_player.specs.Requests.{ends_of, request_command}
 use Rattle.line_player.specs.Served.{Frame, IsLine, IsServed, Serves}
 use Rattle.line_player.specs.Steps.{CommandStep, GiveBackStep, LeaseStep, Lends, ReadStep, RequestStep, VerbStep}
@@ -24,7 +24,7 @@ use Rattle.blob_store.specs.Workers.{no_work}
 use Rattle.blobd.specs.Served.{IsLending, IsServedBy}
 use Rattle.line_player.specs.declared.ending.Ending.{Ending}
 use Rattle.line_player.specs.declared.query.Query.{Query}
-use Rattle.line_player.specs.declared.query.Query.TheVariants as query
+use Rattle.line_player.specs.declared.query.SpelledQuery.{SpelledQuery}
 
 module _ {S T U V : Type 0} (shown : S → U) (lent : T → V)
     (acts : S → Request → Answer → S → Type 0) (finds : S → Catalog → Type 0) (does : T → Lending → T → Type 0)
@@ -70,24 +70,13 @@ module _ {S T U V : Type 0} (shown : S → U) (lent : T → V)
   give_back_through number old new outcome (inl h) = inl (h.0, lends old (GivenBack number) new h.1)
   give_back_through number old new outcome (inr h) = inr (h.0, lends old (NotGivenBack number) new h.1)
 
-  told_through : (store : S) (told : Catalog → Outcome) (outcome : Outcome) → IsTold finds store told outcome → IsTold to_find (shown store) told outcome
-  told_through store told outcome h = (h.0, shows store h.0 h.1, h.2)
-
-  size_through : (size : Catalog → Text → Text → Result ℕ Refusal) (store : S) (repo digest : Result Text Refusal) (outcome : Outcome) → SizeStep finds size store repo digest outcome → SizeStep to_find size (shown store) repo digest outcome
-  size_through size store (Ok repo) (Ok digest) outcome h = told_through store _ outcome h
-  size_through size store (Ok repo) (Err refusal) outcome h = h
-  size_through size store (Err refusal) digest outcome h = h
-
-  usage_through : (store : S) (repo : Result Text Refusal) (outcome : Outcome) → UsageStep finds store repo outcome → UsageStep to_find (shown store) repo outcome
-  usage_through store (Ok repo) outcome h = told_through store _ outcome h
-  usage_through store (Err refusal) outcome h = h
+  spelled_through : (store : S) (spelled : Result SpelledQuery Refusal) (outcome : Outcome) → SpelledStep finds store spelled outcome → SpelledStep to_find (shown store) spelled outcome
+  spelled_through store (Ok query) outcome h = (h.0, shows store h.0 h.1, h.2)
+  spelled_through store (Err refusal) outcome h = h
 
   query_through : (asked : Option Query) (store : S) (head : Head) (payload : Text) (outcome : Outcome) → NoVerbStep finds asked store head payload outcome → NoVerbStep to_find asked (shown store) head payload outcome
   query_through None store head payload outcome h = h
-  query_through (Some query.Stat) store head payload outcome h = size_through _ store _ _ outcome h
-  query_through (Some query.StatManifest) store head payload outcome h = size_through _ store _ _ outcome h
-  query_through (Some query.FreeSlots) store head payload outcome h = told_through store _ outcome h
-  query_through (Some query.Usage) store head payload outcome h = usage_through store _ outcome h
+  query_through (Some query) store head payload outcome h = spelled_through store (spelled_query query head payload) outcome h
 
   verb_through : (asked : Option Verb) (old new : S × T) (head : Head) (payload : Text) (outcome : Outcome) → VerbStep acts finds does asked old head payload outcome new → VerbStep to_act to_find to_do asked (both old) head payload outcome (both new)
   verb_through None old new head payload outcome h = (query_through _ old.0 head payload outcome h.0, ap both h.1)
@@ -109,7 +98,7 @@ module _ {S T U V : Type 0} (shown : S → U) (lent : T → V)
   verb_through (Some verb.Verify) old new head payload outcome h = command_through (request_command verb.Verify head payload) old new outcome h
 
   request_through : (old new : S × T) (head : Head) (payload : Text) (outcome : Outcome) → RequestStep acts finds does old head payload outcome new → RequestStep to_act to_find to_do (both old) head payload outcome (both new)
-  request_through old new head payload outcome (inl h) = inl (h.0, ap both h.1)
+  request_through old new head payload outcome (inl h) = inl (h.0, h.1, ap both h.2)
   request_through old new head payload outcome (inr h) = inr (verb_through _ old new head payload outcome h)
 
   serves_through : (old new : S × T) (frames : List Frame) (replies : List Reply) → Serves acts finds does old frames replies new → Serves to_act to_find to_do (both old) frames replies (both new)

@@ -2,13 +2,16 @@
 use Rattle.std.specs.Prelude.{⊤, ◌≡◌, ◌≢◌, ◌⊎◌, ◌<◌, ℕ, List, Option, None, IfSome, IsSomeAnd, MatchResult, length, slice_index_or}
 use Rattle.blob_digest.specs.declared.refusal.Refusal.TheVariants.{LimitReached, Memory}
 use Rattle.line_player.specs.Lendings.{Lending, Kept, Read, IsPieceOf}
-use Rattle.line_player.specs.Served.{IsLine}
+use Rattle.line_player.specs.Served.{EndsByRead, IsLine}
 use Rattle.line_player.specs.declared.ending.Ending.{Ending}
 use Rattle.locked_book.specs.History.{DeskView, IsPart}
 use Rattle.locked_book.specs.Names.{StoreNames}
 use Rattle.blob_store.specs.Seats.{IsFound, WorkActs, work_of}
 use Rattle.blob_store.specs.Workers.{no_work}
-use Rattle.blobd.specs.declared.serving.Line.{Line}
+use Rattle.watched_reader.specs.Watching.{inner_of}
+use Rattle.watched_reader.specs.declared.watched.Watched.{Watched}
+use Rattle.blobd.specs.declared.line.Ended.{Ended}
+use Rattle.blobd.specs.declared.line.Line.{Line}
 
 -- what is so of an event of a table of leases whatever others do to it: a lease's number is not 0, and what is read is a piece of bytes that
 -- have the digest
@@ -24,12 +27,17 @@ pub record IsServedBy (names : StoreNames) (line held holds : Option (List ℕ))
   pub served : IsLine WorkActs (λ _ catalog. IsFound names catalog) (λ _ lending _. IsLending lending) (no_work, tt {0}) (work_of desk, tt {0}) line held holds ending
   pub part : IsPart names.opening desk.trace
 
--- An open line was served until it ended, or there was no desk for it; and it is closed.
+-- A line with these ends was served until it ended, and nothing was written after its last reply; or there was no desk for it, and nothing was read
+-- or written.
+abbrev pub HasEnded : {I O : Type 0} → StoreNames → (I → Option (List ℕ)) → (O → Option (List ℕ)) → Watched I × O → Ended I O → Type 0
+HasEnded names remaining contents ends ended = MatchResult ended.result
+    (λ ending. IsServedBy names (remaining (inner_of ends.0)) (contents ends.1) (contents ended.output.value) ending × EndsByRead ending ends.0 ended.input.value)
+    (λ refusal. ((refusal ≡ LimitReached) ⊎ (refusal ≡ Memory)) × (ended.input.value ≡ ends.0) × (ended.output.value ≡ ends.1))
+
+-- an open line was served until it ended, and it is closed
 pub record IsLineServed {I O : Type 0} (names : StoreNames) (remaining : I → Option (List ℕ)) (contents : O → Option (List ℕ)) (old new : Line I O) : Type 0 where
   pub closed : new.ends ≡ None
-  pub line : IfSome old.ends (λ ends. IsSomeAnd new.served (λ served. MatchResult served
-      (λ ending. (holds : Option (List ℕ)) × IsServedBy names (remaining ends.0) (contents ends.1) holds ending)
-      (λ refusal. (refusal ≡ LimitReached) ⊎ (refusal ≡ Memory))))
+  pub line : IfSome old.ends (λ ends. IsSomeAnd new.ended (HasEnded names remaining contents ends))
 
 -- each of some lines
 abbrev pub AreServed : {I O : Type 0} → StoreNames → (I → Option (List ℕ)) → (O → Option (List ℕ)) → List (Line I O) → List (Line I O) → Type 0

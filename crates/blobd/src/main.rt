@@ -7,9 +7,10 @@
 //! a thread and a desk of its own. It ends where its input does, and the program where all its lines have ended. The
 //! program stands on `line_player` for a line, on `blob_store` for the store, and on `tenant_words` for the tenants.
 //!
-//! It promises, of the function `serve_new`: of each line, what was written is the replies of playing the requests that
-//! were read from it, in their order, and the steps of these requests are part of a legal history of the store, with
-//! these replies. What a read of a lease answers are bytes of the blob that has the digest which the request names, and
+//! It promises, of the function `serve_new`: of each line that ended, what was written is the greeting and the replies of
+//! playing the requests that were read from it, in their order, and nothing else, unless a write failed; the steps of
+//! these requests are part of a legal history of the store, with these replies; and it ended as a failed read only if a
+//! read failed. What a read of a lease answers are bytes of the blob that has the digest which the request names, and
 //! a new lease has a number that no other has which is out (`Lent::keep`).
 #![tactic(auto)]
 
@@ -18,13 +19,15 @@ ghost use Rattle.blobd.specs.Stops.{stop_status};
 ghost use Rattle.blobd.specs.Words.{IsWithin};
 
 mod lent;
+mod line;
 mod serving;
 mod shared;
 mod stop;
 mod totals;
 mod words;
 
-use crate::serving::{Line, serve_new};
+use crate::line::Line;
+use crate::serving::serve_new;
 use crate::stop::Stop;
 use crate::totals::TotalsLine;
 use crate::words::{Options, read_words};

@@ -1,12 +1,15 @@
 //! Serves lines on a store.
-ghost use Rattle.std.specs.Prelude.{◌≡◌, ◌⊎◌, ◌+◌, None, Some, IfErr, IfOk, OnErr};
+ghost use Rattle.std.specs.Prelude.{◌≡◌, ◌⊎◌, ◌+◌, IfErr, IfOk, OnErr};
 ghost use Rattle.blob_digest.specs.declared.refusal.Refusal.TheVariants.{LimitReached, Memory};
 ghost use Rattle.blob_store.specs.Parts.{names_of};
 ghost use Rattle.blob_store.specs.Seats.{work_of};
 ghost use Rattle.blob_store.specs.Workers.{no_work};
 ghost use Rattle.blobd.specs.Served.{AreServed, IsLineServed, IsServedBy};
+ghost use Rattle.line_player.specs.Served.{EndsByRead};
+ghost use Rattle.watched_reader.specs.Watching.{inner_of};
 
 use crate::lent::Lent;
+use crate::line::{Ended, Line};
 use crate::shared::SharedLeases;
 use blob_digest::Refusal;
 use blob_store::{Desk, MAX_DESKS, Naming, Parts, Seat, Store, Totals};
@@ -16,34 +19,7 @@ use std::io::{Read, Write};
 use std::marker::Brand;
 use std::sync::{Mutex, Wait};
 use std::thread::{self, Threads};
-
-/// A line: where its requests come from, and where its replies go.
-#[derive(Drop)]
-pub struct Line<I: Read + Drop, O: Write + Drop> {
-    /// Both, as long as the line is open.
-    ends: Option<(I, O)>,
-    /// Why it ended, or wasn't served; none before.
-    served: Option<Result<Ending, Refusal>>,
-}
-
-impl<I: Read + Drop, O: Write + Drop> Line<I, O> {
-    /// A line that is to be served.
-    pub fn new(input: I, output: O) -> Line<I, O>
-        ensures { (result.ends ≡ Some (input, output)) × (result.served ≡ None) }
-    {
-        Line {
-            ends: Some((input, output)),
-            served: None,
-        }
-    }
-
-    /// Why the line ended; or why it wasn't served, which is for want of memory for its desk. None before.
-    pub fn served(&self) -> Option<Result<Ending, Refusal>>
-        ensures { result ≡ self.now.served }
-    {
-        self.served
-    }
-}
+use watched_reader::Watched;
 
 /// Serves requests at a desk that has done nothing, and answers it with why the line ended.
 fn serve_at<'s, W: Wait, S: Naming, I: Read, O: Write>(
@@ -52,11 +28,12 @@ fn serve_at<'s, W: Wait, S: Naming, I: Read, O: Write>(
     store: &'s Store<S>,
     lent: &Mutex<Lent<'s, S>>,
     desk: Desk<S>,
-    input: &mut I,
+    input: &mut Watched<I>,
     output: &mut O,
 ) -> (Ending, Desk<S>)
     requires fresh { work_of desk ≡ no_work }
-    ensures { IsServedBy S.names (I.remaining input.old) (O.contents output.old) (O.contents output.new) result.0 }
+    ensures served { IsServedBy S.names (I.remaining (inner_of input.old)) (O.contents output.old) (O.contents output.new) result.0 }
+    ensures failed { EndsByRead result.0 input.old input.new }
 {
     let mut seat = Seat { rt, store, desk };
     let mut leases = SharedLeases { rt, lent };
@@ -78,10 +55,11 @@ pub fn serve_ends<'s, W: Wait, S: Naming, I: Read, O: Write>(
     alloc: Global,
     store: &'s Store<S>,
     lent: &Mutex<Lent<'s, S>>,
-    input: &mut I,
+    input: &mut Watched<I>,
     output: &mut O,
 ) -> Result<Ending, Refusal>
-    ensures served { IfOk result (IsServedBy S.names (I.remaining input.old) (O.contents output.old) (O.contents output.new)) }
+    ensures served { IfOk result (IsServedBy S.names (I.remaining (inner_of input.old)) (O.contents output.old) (O.contents output.new)) }
+    ensures failed { IfOk result (λ e. EndsByRead e input.old input.new) }
     ensures same { OnErr result ((input.new ≡ input.old) × (output.new ≡ output.old)) }
     ensures refused { IfErr result (λ e. (e ≡ LimitReached) ⊎ (e ≡ Memory)) }
 {
@@ -106,7 +84,8 @@ fn serve_line<'s, W: Wait, S: Naming, I: Read + Drop, O: Write + Drop>(
     ensures { IsLineServed S.names I.remaining O.contents line.old line.new }
 {
     if let Some((mut input, mut output)) = line.ends.take() {
-        line.served = Some(serve_ends(rt, alloc, store, lent, &mut input, &mut output));
+        let served = serve_ends(rt, alloc, store, lent, &mut input, &mut output);
+        line.ended = Some(Ended::new(input, output, served));
     }
 }
 

@@ -1,3 +1,2 @@
-pub mod Asked
 pub mod Ranges
 pub mod Serving

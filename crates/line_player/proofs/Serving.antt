@@ -5,14 +5,18 @@ use Rattle.std.proofs.lemmas.List.Concat.{flat_map-cons}
 use Rattle.std.proofs.KnownBytes.{Appends-nil, Appends-trans, Consumes-nil, Consumes-trans}
 use Rattle.std.specs.Io.KnownBytes.{Appends, Consumes}
 use Rattle.blob_frames.specs.Frames.{request_bytes}
-use Rattle.blob_frames.specs.Replies.{Reply, reply_bytes}
-use Rattle.row_player.specs.Answers.{Answer, Manifest, Refused}
+use Rattle.blob_digest.specs.declared.refusal.Refusal.{Refusal}
+use Rattle.blob_digest.specs.declared.refusal.Refusal.TheVariants.{NameInvalid, DigestInvalid, NameUnknown, UploadUnknown, SizeInvalid, RangeInvalid, BlobUnknown, ManifestInvalid, ManifestUnknown, ManifestBlobUnknown, Quota, Referenced, StoreFull, TooManyReaders, LimitReached, WeightSpent, Memory, Busy}
+use Rattle.blob_frames.specs.Replies.{Reply, TellsRefusal, refusal_reply, reply_bytes}
+use Rattle.row_player.specs.Answers.{Answer}
 use Rattle.row_player.specs.Answers as answers
 use Rattle.row_player.specs.Commands.{Request}
 use Rattle.store_model.specs.Catalog.{Catalog}
+use Rattle.watched_reader.specs.Watching.{HasNotFailed}
+use Rattle.watched_reader.specs.declared.watched.Watched.{Watched}
 use Rattle.line_player.specs.Lendings.{Lending}
 use Rattle.line_player.specs.Outcomes.{Outcome, Answered, Lent, Told, NoCommand, Tells, TellsAnswer, answer_reply}
-use Rattle.line_player.specs.Served.{Ends, Frame, FrameStep, IsServed, Serves, frames_bytes, replies_bytes}
+use Rattle.line_player.specs.Served.{Ends, EndsByRead, Frame, FrameStep, IsServed, Serves, frames_bytes, replies_bytes}
 use Rattle.line_player.specs.declared.ending.Ending.{Ending}
 use Rattle.line_player.specs.declared.ending.Ending.TheVariants.{Closed, CutOff, ReadFailed, Malformed, WriteFailed, Spent}
 
@@ -37,10 +41,40 @@ ends_later Malformed m n rest h = h
 ends_later WriteFailed m n rest h = omega (arith, h)
 ends_later Spent m n rest h = omega (arith, h)
 
+-- a line whose reader failed in its last part failed in all of it, and one whose reader did not, did not
+pub ends_by_read_later : {R : Type 0} (ending : Ending) (old mid new : Watched R) → HasNotFailed old mid → EndsByRead ending mid new → EndsByRead ending old new
+ends_by_read_later Closed old mid new kept h = h ∙ kept
+ends_by_read_later CutOff old mid new kept h = h ∙ kept
+ends_by_read_later ReadFailed old mid new kept h = h
+ends_by_read_later Malformed old mid new kept h = h ∙ kept
+ends_by_read_later WriteFailed old mid new kept h = h ∙ kept
+ends_by_read_later Spent old mid new kept h = h ∙ kept
+
+-- each refusal has a reply
+tells_refusal : (refusal : Refusal) → TellsRefusal refusal (refusal_reply refusal)
+tells_refusal NameInvalid = refl
+tells_refusal DigestInvalid = refl
+tells_refusal NameUnknown = refl
+tells_refusal UploadUnknown = refl
+tells_refusal SizeInvalid = refl
+tells_refusal (RangeInvalid received) = refl
+tells_refusal BlobUnknown = refl
+tells_refusal ManifestInvalid = refl
+tells_refusal ManifestUnknown = refl
+tells_refusal (ManifestBlobUnknown digest) = inl refl
+tells_refusal (Quota used quota) = refl
+tells_refusal (Referenced manifest) = inl refl
+tells_refusal StoreFull = refl
+tells_refusal TooManyReaders = refl
+tells_refusal LimitReached = refl
+tells_refusal WeightSpent = refl
+tells_refusal Memory = refl
+tells_refusal Busy = refl
+
 -- some reply tells what a request came to
 tells_answer : (answer : Answer) → TellsAnswer answer (answer_reply answer)
 tells_answer (answers.Manifest digest) = inl refl
-tells_answer (answers.Refused refusal) = inl refl
+tells_answer (answers.Refused refusal) = tells_refusal refusal
 tells_answer (answers.Session n) = refl
 tells_answer (answers.Received n) = refl
 tells_answer (answers.Stored n) = refl

@@ -1,7 +1,6 @@
 -- What a request comes to, and the replies that tell it.
 use Rattle.std.specs.Prelude.{◌≡◌, ◌⊎◌, ℕ, []}
-use Rattle.blob_digest.specs.declared.refusal.Refusal.TheVariants.{Memory}
-use Rattle.blob_frames.specs.Replies.{Reply, digest_reply, numbers_reply, refusal_reply}
+use Rattle.blob_frames.specs.Replies.{Reply, TellsRefusal, digest_reply, memory_reply, numbers_reply, refusal_reply}
 use Rattle.finite_maps.specs.Texts.{Text}
 use Rattle.row_player.specs.Answers.{Answer, Session, Received, Stored, Manifest, Body, Leased, Bytes, Verified, Swept, NoLease, NameTaken, Refused, answer_of}
 use Rattle.line_player.specs.declared.outcome.Outcome.{Outcome as Code}
@@ -40,14 +39,10 @@ answer_reply NameTaken = numbers_reply 254 0 0
 answer_reply (Refused refusal) = refusal_reply refusal
 answer_reply answer = numbers_reply 0 0 0
 
--- out of memory
-abbrev pub memory_reply : Reply
-memory_reply = refusal_reply Memory
-
--- A reply tells an answer. Where the answer has a digest, whose text may find no memory, `Memory` may be told in its place.
+-- A reply tells an answer. If the answer has a digest, whose text takes memory, the reply may be `Memory` instead.
 abbrev pub TellsAnswer : Answer → Reply → Type 0
 TellsAnswer (Manifest digest) reply = (reply ≡ answer_reply (Manifest digest)) ⊎ (reply ≡ memory_reply)
-TellsAnswer (Refused refusal) reply = (reply ≡ answer_reply (Refused refusal)) ⊎ (reply ≡ memory_reply)
+TellsAnswer (Refused refusal) reply = TellsRefusal refusal reply
 TellsAnswer answer reply = reply ≡ answer_reply answer
 
 -- a reply tells what a request came to

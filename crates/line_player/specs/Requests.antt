@@ -1,5 +1,5 @@
 -- What the requests of a line ask for.
-use Rattle.std.specs.Prelude.{ℕ, ◌%◌, ◌==◌, ◌^◌, ◌-◌, if◌then◌else◌, Option, Some, None, Result, Ok}
+use Rattle.std.specs.Prelude.{ℕ, ◌%◌, ◌==◌, ◌^◌, ◌-◌, if◌then◌else◌, Bool, true, false, Option, Some, None, Result, Ok}
 use Rattle.blob_digest.specs.declared.range.ByteRange.{ByteRange}
 use Rattle.blob_digest.specs.declared.refusal.Refusal.{Refusal}
 use Rattle.blob_frames.specs.Frames.{body_of, digest_of, repo_of, source_of}
@@ -27,6 +27,13 @@ verb_of n =
     else if n == 13 then Some verb.GiveBack
     else if n == 14 then Some verb.Sweep
     else None
+
+-- whether what a request asks for has a field to spell
+abbrev pub verb_has_fields : Option Verb → Bool
+verb_has_fields None = false
+verb_has_fields (Some verb.GiveBack) = false
+verb_has_fields (Some verb.Sweep) = false
+verb_has_fields (Some verb) = true
 
 -- the range that a head names: none where its flag isn't set
 abbrev pub range_of : Head → Result (Option ByteRange) Refusal

@@ -1,5 +1,5 @@
 -- What a line that is served comes to.
-use Rattle.std.specs.Prelude.{◌≡◌, ◌≢◌, ◌⊎◌, ◌<◌, ◌≤◌, ◌^◌, ◌-◌, ℕ, ⊤, List, [], ◌∷◌, Option, IfSome, length}
+use Rattle.std.specs.Prelude.{true, ◌≡◌, ◌≢◌, ◌⊎◌, ◌<◌, ◌≤◌, ◌^◌, ◌-◌, ℕ, ⊤, List, [], ◌∷◌, Option, IfSome, length}
 use Rattle.std.specs.List.{flat_map}
 use Rattle.std.specs.Io.KnownBytes.{Appends, Consumes, IsAtEnd}
 use Rattle.blob_frames.specs.Frames.{greeting, head_bytes, max_body, request_bytes}
@@ -10,6 +10,8 @@ use Rattle.finite_maps.specs.Texts.{Text}
 use Rattle.row_player.specs.Answers.{Answer}
 use Rattle.row_player.specs.Commands.{Request}
 use Rattle.store_model.specs.Catalog.{Catalog}
+use Rattle.watched_reader.specs.Watching.{HasNotFailed, has_failed}
+use Rattle.watched_reader.specs.declared.watched.Watched.{Watched}
 use Rattle.line_player.specs.Lendings.{Lending}
 use Rattle.line_player.specs.Outcomes.{Outcome, Tells}
 use Rattle.line_player.specs.Steps.{RequestStep}
@@ -38,7 +40,12 @@ Serves acts finds does old [] [] new = new ≡ old
 Serves {S} {T} acts finds does old (frame ∷ frames) (reply ∷ replies) new = (mid : S × T) × FrameStep acts finds does old frame reply mid × Serves acts finds does mid frames replies new
 Serves acts finds does old frames replies new = ⊥
 
--- why a line ends after so many requests, with this left to read
+-- a line ends with `ReadFailed` if a read of it failed, and only then
+abbrev pub EndsByRead : {R : Type 0} → Ending → Watched R → Watched R → Type 0
+EndsByRead ReadFailed old new = has_failed new ≡ true
+EndsByRead ending old new = HasNotFailed old new
+
+-- why a line ends after so many requests, with this left to read (a failed read: `EndsByRead`)
 abbrev pub Ends : Ending → ℕ → Option (List ℕ) → Type 0
 Ends Closed count rest = IsAtEnd rest
 Ends CutOff count rest = IfSome rest IsPartial
@@ -58,7 +65,7 @@ pub record IsServed {S T : Type 0} (acts : S → Request → Answer → S → Ty
   pub written : ending ≢ WriteFailed → Appends held holds (replies_bytes replies)
   pub ends : Ends ending (length frames) rest
 
--- why a line has no greeting, or its greeting is not answered
+-- why a line has no greeting, or its greeting is not answered (a failed read: `EndsByRead`)
 abbrev pub EndsUngreeted : Ending → Option (List ℕ) → Type 0
 EndsUngreeted Closed line = IsAtEnd line
 EndsUngreeted CutOff line = IsCutOff line 8

@@ -1,9 +1,9 @@
 -- What a request of a line does to the store and to the table of leases, by what these may do.
-use Rattle.std.specs.Prelude.{◌≡◌, ◌⊎◌, ℕ, length, Option, Some, None, Result, Ok, Err}
+use Rattle.std.specs.Prelude.{◌≡◌, ◌⊎◌, ◌<◌, ℕ, length, true, Option, Some, None, Result, Ok, Err}
 use Rattle.blob_digest.specs.declared.range.ByteRange.{ByteRange}
 use Rattle.blob_digest.specs.declared.refusal.Refusal.{Refusal}
 use Rattle.blob_digest.specs.declared.refusal.Refusal.TheVariants.{Memory}
-use Rattle.blob_frames.specs.Frames.{digest_of}
+use Rattle.blob_frames.specs.Frames.{digest_of, payload_len}
 use Rattle.blob_frames.specs.declared.request.Head.{Head}
 use Rattle.finite_maps.specs.Texts.{Text}
 use Rattle.row_player.specs.Answers.{Answer, Bytes, GivenBack, NoLease, Refused, Swept as SweptAnswer, answer_of}
@@ -17,8 +17,8 @@ use Rattle.store_model.specs.Catalog.{Catalog}
 use Rattle.store_model.specs.declared.swept.Swept.{Swept as SweptCounts}
 use Rattle.line_player.specs.Lendings.{Lending, Kept, NotKept, Read, NotRead, GivenBack as GaveBack, NotGivenBack, IsPieceOf}
 use Rattle.line_player.specs.Outcomes.{Outcome, Answered, Lent, NoCommand}
-use Rattle.line_player.specs.Queries.{NoVerbStep, query_of}
-use Rattle.line_player.specs.Requests.{ends_of, range_of, request_command, verb_of}
+use Rattle.line_player.specs.Queries.{NoVerbStep, query_has_fields, query_of}
+use Rattle.line_player.specs.Requests.{ends_of, range_of, request_command, verb_has_fields, verb_of}
 
 -- ---- commands that are answered with a reply
 
@@ -77,7 +77,11 @@ VerbStep acts finds does (Some verb.GiveBack) old h payload outcome new = GiveBa
 VerbStep acts finds does (Some verb.Sweep) old h payload outcome new = SweepStep acts old.0 outcome new.0 × (new.1 ≡ old.1)
 VerbStep acts finds does (Some verb) old h payload outcome new = CommandStep acts (request_command verb h payload) old outcome new
 
--- a request is played, or memory runs out and nothing is changed
+-- a request can fail for lack of memory before anything is asked: it has bytes behind its head, or its command or query has fields
+abbrev pub TakesMemory : Head → Type 0
+TakesMemory h = (0 < payload_len h) ⊎ (verb_has_fields (verb_of h.command) ≡ true) ⊎ (query_has_fields (query_of h.command) ≡ true)
+
+-- a request is played; or it takes memory, there is none, and nothing is changed
 abbrev pub RequestStep : {S T : Type 0} → (S → Request → Answer → S → Type 0) → (S → Catalog → Type 0) → (T → Lending → T → Type 0) → S × T → Head → Text → Outcome → S × T → Type 0
 RequestStep acts finds does old h payload outcome new =
-    ((outcome ≡ Answered (Refused Memory)) × (new ≡ old)) ⊎ VerbStep acts finds does (verb_of h.command) old h payload outcome new
+    (TakesMemory h × (outcome ≡ Answered (Refused Memory)) × (new ≡ old)) ⊎ VerbStep acts finds does (verb_of h.command) old h payload outcome new

@@ -24,5 +24,5 @@ pub use ending::Ending;
 pub use lending::Lending;
 pub use line::serve;
 pub use outcome::{Outcome, write_outcome};
-pub use query::{Query, query_of};
+pub use query::{Query, SpelledQuery, query_of};
 pub use step::play_request;

@@ -1,11 +1,12 @@
 //! Serves a line.
-ghost use Rattle.std.specs.Prelude.{◌≡◌, ◌⊎◌, IfErr, IfOk, IfSome, IsNone, OnErr, OnOk};
+ghost use Rattle.std.specs.Prelude.{◌≡◌, ◌⊎◌, IfErr, IfOk, IfSome, IsNone, MatchOption, MatchResult, OnErr, OnOk};
 ghost use Rattle.std.specs.Io.KnownBytes.{Appends, Consumes};
 ghost use Rattle.blob_frames.specs.Frames.{greeting, request_bytes};
 ghost use Rattle.blob_frames.specs.Replies.{Reply as ReplyFrame, reply_bytes};
 ghost use Rattle.line_player.specs.Outcomes.{Tells, outcome_of};
 ghost use Rattle.line_player.specs.Steps.{RequestStep};
-ghost use Rattle.line_player.specs.Served.{Ends, EndsUngreeted, Frame, FrameStep, IsLine, IsServed};
+ghost use Rattle.line_player.specs.Served.{Ends, EndsByRead, EndsUngreeted, Frame, FrameStep, IsLine, IsServed};
+ghost use Rattle.watched_reader.specs.Watching.{HasNotFailed, inner_of};
 
 use crate::ending::Ending;
 use crate::lending::Lending;
@@ -16,6 +17,7 @@ use blob_frames::{FrameFault, Incoming, Request, read_greeting, read_request, wr
 use row_player::{Backend, Queries, Reply};
 use std::alloc::Global;
 use std::io::{self, Read, Write};
+use watched_reader::Watched;
 
 /// Sends the greeting.
 fn send_greeting<O: Write>(output: &mut O) -> io::Result<()>
@@ -26,9 +28,10 @@ fn send_greeting<O: Write>(output: &mut O) -> io::Result<()>
 }
 
 /// Exchanges the greetings. None where the line goes on.
-fn greet<I: Read, O: Write>(input: &mut I, output: &mut O) -> Option<Ending>
-    ensures greeted { IsNone result → Consumes (I.remaining input.old) (I.remaining input.new) greeting × Appends (O.contents output.old) (O.contents output.new) greeting }
-    ensures ended { IfSome result (λ e. EndsUngreeted e (I.remaining input.old)) }
+fn greet<I: Read, O: Write>(input: &mut Watched<I>, output: &mut O) -> Option<Ending>
+    ensures greeted { IsNone result → Consumes (I.remaining (inner_of input.old)) (I.remaining (inner_of input.new)) greeting × Appends (O.contents output.old) (O.contents output.new) greeting }
+    ensures ended { IfSome result (λ e. EndsUngreeted e (I.remaining (inner_of input.old))) }
+    ensures failed { MatchOption result (HasNotFailed input.old input.new) (λ e. EndsByRead e input.old input.new) }
 {
     match read_greeting(input) {
         Ok(true) => {}
@@ -56,12 +59,13 @@ fn play_next<B: Backend + Queries, L: Lending<B>, I: Read>(
     alloc: Global,
     backend: &mut B,
     leases: &mut L,
-    input: &mut I,
+    input: &mut Watched<I>,
     buffer: &mut Vec<u8>,
 ) -> Result<Outcome, Ending>
-    ensures played { IfOk result (λ o. (frame : Frame) × RequestStep B.acts B.finds L.does (backend.old, leases.old) frame.head frame.payload (outcome_of o) (backend.new, leases.new) × Consumes (I.remaining input.old) (I.remaining input.new) (request_bytes frame.head frame.payload)) }
+    ensures played { IfOk result (λ o. (frame : Frame) × RequestStep B.acts B.finds L.does (backend.old, leases.old) frame.head frame.payload (outcome_of o) (backend.new, leases.new) × Consumes (I.remaining (inner_of input.old)) (I.remaining (inner_of input.new)) (request_bytes frame.head frame.payload)) }
     ensures same { OnErr result ((backend.new ≡ backend.old) × (leases.new ≡ leases.old)) }
-    ensures ended { IfErr result (λ e. Ends e 0 (I.remaining input.old)) }
+    ensures ended { IfErr result (λ e. Ends e 0 (I.remaining (inner_of input.old))) }
+    ensures failed { MatchResult result (λ _. HasNotFailed input.old input.new) (λ e. EndsByRead e input.old input.new) }
 {
     match read_request(input, buffer) {
         Ok(Incoming::Request(head)) => {
@@ -81,12 +85,13 @@ fn serve_next<B: Backend + Queries, L: Lending<B>, I: Read, O: Write>(
     alloc: Global,
     backend: &mut B,
     leases: &mut L,
-    input: &mut I,
+    input: &mut Watched<I>,
     output: &mut O,
     buffer: &mut Vec<u8>,
 ) -> Option<Ending>
-    ensures served { IsNone result → (frame : Frame) × (reply : ReplyFrame) × FrameStep B.acts B.finds L.does (backend.old, leases.old) frame reply (backend.new, leases.new) × Consumes (I.remaining input.old) (I.remaining input.new) (request_bytes frame.head frame.payload) × Appends (O.contents output.old) (O.contents output.new) (reply_bytes reply) }
-    ensures ended { IfSome result (λ e. IsServed B.acts B.finds L.does (backend.old, leases.old) (backend.new, leases.new) (I.remaining input.old) (O.contents output.old) (O.contents output.new) e) }
+    ensures served { IsNone result → (frame : Frame) × (reply : ReplyFrame) × FrameStep B.acts B.finds L.does (backend.old, leases.old) frame reply (backend.new, leases.new) × Consumes (I.remaining (inner_of input.old)) (I.remaining (inner_of input.new)) (request_bytes frame.head frame.payload) × Appends (O.contents output.old) (O.contents output.new) (reply_bytes reply) }
+    ensures ended { IfSome result (λ e. IsServed B.acts B.finds L.does (backend.old, leases.old) (backend.new, leases.new) (I.remaining (inner_of input.old)) (O.contents output.old) (O.contents output.new) e) }
+    ensures failed { MatchOption result (HasNotFailed input.old input.new) (λ e. EndsByRead e input.old input.new) }
 {
     let outcome = match play_next(alloc, backend, leases, input, buffer) {
         Ok(outcome) => outcome,
@@ -103,10 +108,11 @@ fn serve_requests<B: Backend + Queries, L: Lending<B>, I: Read, O: Write>(
     alloc: Global,
     backend: &mut B,
     leases: &mut L,
-    input: &mut I,
+    input: &mut Watched<I>,
     output: &mut O,
 ) -> Ending
-    ensures { IsServed B.acts B.finds L.does (backend.old, leases.old) (backend.new, leases.new) (I.remaining input.old) (O.contents output.old) (O.contents output.new) result }
+    ensures served { IsServed B.acts B.finds L.does (backend.old, leases.old) (backend.new, leases.new) (I.remaining (inner_of input.old)) (O.contents output.old) (O.contents output.new) result }
+    ensures failed { EndsByRead result input.old input.new }
 {
     let mut buffer = Vec::new(alloc);
     for _turn in 0..u64::MAX {
@@ -127,10 +133,11 @@ pub fn serve<B: Backend + Queries, L: Lending<B>, I: Read, O: Write>(
     alloc: Global,
     backend: &mut B,
     leases: &mut L,
-    input: &mut I,
+    input: &mut Watched<I>,
     output: &mut O,
 ) -> Ending
-    ensures { IsLine B.acts B.finds L.does (backend.old, leases.old) (backend.new, leases.new) (I.remaining input.old) (O.contents output.old) (O.contents output.new) result }
+    ensures served { IsLine B.acts B.finds L.does (backend.old, leases.old) (backend.new, leases.new) (I.remaining (inner_of input.old)) (O.contents output.old) (O.contents output.new) result }
+    ensures failed { EndsByRead result input.old input.new }
 {
     match greet(input, output) {
         Some(ending) => ending,

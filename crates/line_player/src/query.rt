@@ -1,14 +1,16 @@
-//! Plays the requests of a line that ask for no command.
-ghost use Rattle.std.specs.Prelude.{◌≡◌, ◌⊎◌, MatchResult};
+//! Queries: requests that ask for no command.
+ghost use Rattle.std.specs.Prelude.{◌≡◌, true, IsErrOf, Some};
+ghost use Rattle.blob_digest.specs.Outcomes.{Answers};
 ghost use Rattle.blob_digest.specs.declared.refusal.Refusal.TheVariants.{Memory};
-ghost use Rattle.line_player.specs.Outcomes.{Answered, Told};
-ghost use Rattle.line_player.specs.Queries.{QueryStep, query_of};
-ghost use Rattle.row_player.specs.Answers.{Refused};
+ghost use Rattle.line_player.specs.Outcomes.{outcome_of};
+ghost use Rattle.line_player.specs.Queries.{IsTold, query_has_fields, query_of, spelled_query, told_size, told_usage};
 
-use blob_digest::Refusal;
+use crate::outcome::Outcome;
+use blob_digest::{Digest, Refusal, RepoName};
 use blob_frames::Request;
-use row_player::{Queries, digest_in, repo_in};
+use row_player::{Queries, Reply, digest_in, repo_in};
 use std::alloc::Global;
+use store_model::Usage;
 
 /// What a line may ask for beside commands.
 #[derive(Clone, Copy, Drop)]
@@ -36,34 +38,100 @@ pub fn query_of(byte: u8) -> Option<Query>
     }
 }
 
-/// Asks a store, and answers the two numbers that are told. Fields are refused in the order repository, digest, and then
-/// what is asked for may be; or memory runs out.
-pub fn ask<B: Queries>(
+/// A query with its fields.
+#[derive(Drop)]
+pub enum SpelledQuery {
+    /// The size of a blob that is linked in a repository.
+    Stat {
+        /// The repository.
+        repo: RepoName,
+        /// The blob's digest.
+        digest: Digest,
+    },
+    /// The size of a repository's manifest.
+    StatManifest {
+        /// The repository.
+        repo: RepoName,
+        /// The manifest's digest.
+        digest: Digest,
+    },
+    /// The number of free slots.
+    FreeSlots,
+    /// The use and the quota of a repository's tenant.
+    Usage {
+        /// The repository.
+        repo: RepoName,
+    },
+}
+
+/// Returns the query that a request spells. It fails with the refusal of the first field that spells nothing, in the
+/// order repository, digest, or with `Memory`; a query without fields does not fail.
+pub(crate) fn spell_query(
     alloc: Global,
-    store: &B,
     query: Query,
     request: &Request<'_>,
-) -> Result<(u64, u64), Refusal>
-    ensures { MatchResult result (λ n. QueryStep B.finds query store.now request.now.head request.now.payload.now (Told n.0 n.1)) (λ e. (e ≡ Memory) ⊎ QueryStep B.finds query store.now request.now.head request.now.payload.now (Answered (Refused e))) }
+) -> Result<SpelledQuery, Refusal>
+    ensures spelled { Answers (λ q. q) result (spelled_query query request.now.head request.now.payload.now) }
+    ensures fields { IsErrOf result Memory → query_has_fields (Some query) ≡ true }
 {
     match query {
         Query::Stat => {
             let repo = repo_in(alloc, request.repo())?;
             let digest = digest_in(request.digest())?;
-            let size = store.stat(&repo, &digest)?;
-            Ok((size, 0))
+            Ok(SpelledQuery::Stat { repo, digest })
         }
         Query::StatManifest => {
             let repo = repo_in(alloc, request.repo())?;
             let digest = digest_in(request.digest())?;
-            let size = store.stat_manifest(&repo, &digest)?;
-            Ok((size, 0))
+            Ok(SpelledQuery::StatManifest { repo, digest })
         }
-        Query::FreeSlots => Ok((u64::from(store.free_slots()), 0)),
+        Query::FreeSlots => Ok(SpelledQuery::FreeSlots),
         Query::Usage => {
             let repo = repo_in(alloc, request.repo())?;
-            let usage = store.usage(&repo)?;
-            Ok((usage.used, usage.quota))
+            Ok(SpelledQuery::Usage { repo })
         }
+    }
+}
+
+/// The outcome that reports a size.
+fn size_outcome(size: Result<u64, Refusal>) -> Outcome
+    ensures { outcome_of result ≡ told_size size }
+{
+    match size {
+        Ok(size) => Outcome::Told {
+            first: size,
+            second: 0,
+        },
+        Err(refusal) => Outcome::Answered(Reply::Refused(refusal)),
+    }
+}
+
+/// The outcome that reports a use and its quota.
+fn usage_outcome(usage: Result<Usage, Refusal>) -> Outcome
+    ensures { outcome_of result ≡ told_usage usage }
+{
+    match usage {
+        Ok(usage) => Outcome::Told {
+            first: usage.used,
+            second: usage.quota,
+        },
+        Err(refusal) => Outcome::Answered(Reply::Refused(refusal)),
+    }
+}
+
+/// Asks a store. It takes no memory.
+pub(crate) fn ask<B: Queries>(store: &B, query: &SpelledQuery) -> Outcome
+    ensures { IsTold B.finds store.now query.now (outcome_of result) }
+{
+    match query {
+        SpelledQuery::Stat { repo, digest } => size_outcome(store.stat(repo, digest)),
+        SpelledQuery::StatManifest { repo, digest } => {
+            size_outcome(store.stat_manifest(repo, digest))
+        }
+        SpelledQuery::FreeSlots => Outcome::Told {
+            first: u64::from(store.free_slots()),
+            second: 0,
+        },
+        SpelledQuery::Usage { repo } => usage_outcome(store.usage(repo)),
     }
 }

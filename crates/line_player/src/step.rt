@@ -5,14 +5,14 @@ ghost use Rattle.blob_frames.specs.Frames.{digest_of};
 ghost use Rattle.line_player.specs.Outcomes.{Answered, outcome_of};
 ghost use Rattle.line_player.specs.Queries.{NoVerbStep, query_of};
 ghost use Rattle.line_player.specs.Requests.{range_of, request_command};
-ghost use Rattle.line_player.specs.Steps.{AnswersCommand, GiveBackStep, LeaseStep, ReadStep, RequestStep, VerbStep};
+ghost use Rattle.line_player.specs.Steps.{AnswersCommand, GiveBackStep, LeaseStep, ReadStep, RequestStep, TakesMemory, VerbStep};
 ghost use Rattle.row_player.specs.Answers.{Refused, answer_of};
 ghost use Rattle.row_player.specs.Commands.{digest_in, is_command};
 
 use crate::command::{blob_named, ends_of, range_of, request_command, verb_of};
 use crate::lending::Lending;
 use crate::outcome::Outcome;
-use crate::query::{ask, query_of};
+use crate::query::{ask, query_of, spell_query};
 use blob_digest::Refusal;
 use blob_frames::Request;
 use row_player::{Backend, Queries, Reply, Verb, digest_in};
@@ -86,15 +86,15 @@ fn answered(played: Result<Reply, Refusal>) -> Outcome
     }
 }
 
-/// Plays a request that asks for no command: it is told what it asks for, if anything.
+/// Plays a request that asks for no command: its query is spelled, and then asked.
 fn play_query<B: Queries>(alloc: Global, store: &B, request: &Request<'_>) -> Outcome
-    ensures { (outcome_of result ≡ Answered (Refused Memory)) ⊎ NoVerbStep B.finds (query_of request.now.head.command) store.now request.now.head request.now.payload.now (outcome_of result) }
+    ensures { (TakesMemory request.now.head × (outcome_of result ≡ Answered (Refused Memory))) ⊎ NoVerbStep B.finds (query_of request.now.head.command) store.now request.now.head request.now.payload.now (outcome_of result) }
 {
     let Some(query) = query_of(request.head.command) else {
         return Outcome::NoCommand;
     };
-    match ask(alloc, store, query, request) {
-        Ok((first, second)) => Outcome::Told { first, second },
+    match spell_query(alloc, query, request) {
+        Ok(query) => ask(store, &query),
         Err(refusal) => Outcome::Answered(Reply::Refused(refusal)),
     }
 }

@@ -25,4 +25,4 @@ loop-at-preserved g c =
     let given = c.in-Ok.ensures in
     let part = slice_range-put_mid from room c.in-Ok.count c.loop-at.buffer c.read.new.buf within given.bound.0 in
     let joined = take_split from (from + c.in-Ok.count) c.loop-at.buffer (put_mid from room c.loop-at.buffer c.read.new.buf) (omega arith) (take-put_mid_below _ _ _ _ _ (le_refl _) within) in
-    (search rules, search rules, subst (Consumes _ _) (ap (λ l. take from c.loop-at.buffer ++ l) (sym part) ∙ joined) (Consumes-trans _ _ _ _ _ c.loop-at.invariant.2 given.bytes.0))
+    (search rules, search rules, subst (Consumes _ _) (ap (λ l. take from c.loop-at.buffer ++ l) (sym part) ∙ joined) (Consumes-trans _ _ _ _ _ c.loop-at.invariant.2 given.bytes.0), given.failed ∙ c.loop-at.invariant.3)

@@ -11,4 +11,4 @@ returns-in-Ok-Request-clause-played g c =
 pub returns-in-Ok-OutOfMemory-clause-played : goal.returns-in-Ok-OutOfMemory-clause-played
 returns-in-Ok-OutOfMemory-clause-played g c =
     let read = c.in-Ok-OutOfMemory.ensures.dropped c.in-Ok-OutOfMemory.field-0-is in
-    (record { head = read.0; payload = read.1 }, inl (refl, refl), read.3)
+    (record { head = read.0; payload = read.1 }, inl (inl read.3, refl, refl), read.4)

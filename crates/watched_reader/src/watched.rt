@@ -2,7 +2,7 @@
 ghost use Rattle.std.specs.Prelude.{◌≡◌, true, false, MatchResult};
 ghost use Rattle.std.specs.Io.{ReadsAtMost};
 ghost use Rattle.std.specs.Io.KnownBytes.{ReadConsumes};
-ghost use Rattle.blobctl.specs.Watching.{has_failed, inner_of};
+ghost use Rattle.watched_reader.specs.Watching.{HasNotFailed, has_failed, inner_of};
 
 use std::io;
 use std::io::Read;
@@ -34,7 +34,7 @@ impl<R: Read> Read for Watched<R> {
     fn read(&mut self, buf: &mut [u8]) -> io::Result<usize>
         ensures bound { ReadsAtMost result buf.new }
         ensures bytes { ReadConsumes (R.remaining (inner_of self.old)) (R.remaining (inner_of self.new)) result buf.new }
-        ensures failed { MatchResult result (λ _. has_failed self.new ≡ has_failed self.old) (λ _. has_failed self.new ≡ true) }
+        ensures failed { MatchResult result (λ _. HasNotFailed self.old self.new) (λ _. has_failed self.new ≡ true) }
     {
         match self.inner.read(buf) {
             Ok(count) => Ok(count),
