@@ -1,0 +1,16 @@
+//! The name of a table's history.
+
+ghost use Rattle.std.specs.Prelude.{[]};
+ghost use Rattle.atomic_table.specs.Seated.{TableId};
+
+use std::marker::Brand;
+
+/// Which history. It has no values, and no code: a table that carries such a parameter has the log of that name, and
+/// each writer of such a parameter writes to that log.
+pub trait LeaseNaming {
+    ghost log: { TableId };
+}
+
+impl LeaseNaming for Brand {
+    ghost log = { record { words = 0; slots = 0; views_name = 0; atom = 0; block = 0; offset = 0; slot_names = [] } };
+}
