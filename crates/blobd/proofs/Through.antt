@@ -19,9 +19,12 @@ use Rattle.line_player.specs.Served.{Frame, IsLine, IsServed, Serves}
 use Rattle.line_player.specs.Steps.{CommandStep, GiveBackStep, LeaseStep, Lends, ReadStep, RequestStep, VerbStep}
 use Rattle.locked_book.specs.History.{DeskView, IsPart}
 use Rattle.locked_book.specs.Names.{StoreNames}
-use Rattle.blob_store.specs.Seats.{IsFound, WorkActs, work_of}
+use Rattle.atomic_table.specs.Seated.{TableId}
+use Rattle.lease_table.specs.Histories.{Trace}
+use Rattle.lease_table.specs.Histories as leased
+use Rattle.blob_store.specs.Seats.{IsFound, Work, WorkActs, work_of}
 use Rattle.blob_store.specs.Workers.{no_work}
-use Rattle.blobd.specs.Served.{IsLending, IsServedBy}
+use Rattle.blobd.specs.Served.{IsServedBy, LendingActs}
 use Rattle.line_player.specs.declared.ending.Ending.{Ending}
 use Rattle.line_player.specs.declared.query.Query.{Query}
 use Rattle.line_player.specs.declared.query.SpelledQuery.{SpelledQuery}
@@ -122,12 +125,14 @@ module _ {S T U V : Type 0} (shown : S → U) (lent : T → V)
   line_through old new line held holds ending (inl h) = inl (ap both h.0, h.1)
   line_through old new line held holds ending (inr h) = inr (h.0, h.1, h.2, h.3, served_through old new h.0 h.1 holds ending h.4)
 
--- a line that is served at a desk which had done nothing
-pub served_at : (names : StoreNames) (old new : DeskView) (line held holds : Option (List ℕ)) (ending : Ending) → work_of old ≡ no_work
-    → IsLine WorkActs (λ _ catalog. IsFound names catalog) (λ _ lending _. IsLending lending) (work_of old, tt {0}) (work_of new, tt {0}) line held holds ending
-    → IsPart names.opening new.trace → IsServedBy names line held holds ending
-served_at names old new line held holds ending fresh served part = record {
+-- a line that is served at a desk which had done nothing, by a writer that had added nothing
+pub served_at : (names : StoreNames) (log : TableId) (old new : DeskView) (was is : Trace) (line held holds : Option (List ℕ)) (ending : Ending) → work_of old ≡ no_work → was.own ≡ []
+    → IsLine WorkActs (λ _ catalog. IsFound names catalog) LendingActs (work_of old, was.own) (work_of new, is.own) line held holds ending
+    → IsPart names.opening new.trace → leased.IsPart log is → IsServedBy names log line held holds ending
+served_at names log old new was is line held holds ending fresh unwritten served part leases_part = record {
   desk = new;
-  served = subst (λ work. IsLine WorkActs (λ _ catalog. IsFound names catalog) (λ _ lending _. IsLending lending) (work, tt {0}) (work_of new, tt {0}) line held holds ending) fresh served;
+  leases = is;
+  served = subst (λ (from : Work × List Lending). IsLine WorkActs (λ _ catalog. IsFound names catalog) LendingActs from (work_of new, is.own) line held holds ending) (λ i. (fresh i, unwritten i)) served;
   part = part;
+  leases_part = leases_part;
 }

@@ -1,4 +1,3 @@
-pub mod Lent
 pub mod Served
 pub mod Stops
 pub mod Totals

@@ -5,20 +5,21 @@
 //! A line is a pair of files, as the ends of two pipes: requests are read from the one, and replies written to the
 //! other, in the frames of `docs/FRAMES.md`. Without files there is one line: standard input and output. Each line has
 //! a thread and a desk of its own. It ends where its input does, and the program where all its lines have ended. The
-//! program stands on `line_player` for a line, on `blob_store` for the store, and on `tenant_words` for the tenants.
+//! program stands on `line_player` for a line, on `blob_store` for the store, on `lease_table` for the leases that lines
+//! take, and on `tenant_words` for the tenants.
 //!
 //! It promises, of the function `serve_new`: of each line that ended, what was written is the greeting and the replies of
 //! playing the requests that were read from it, in their order, and nothing else, unless a write failed; the steps of
 //! these requests are part of a legal history of the store, with these replies; and it ended as a failed read only if a
-//! read failed. What a read of a lease answers are bytes of the blob that has the digest which the request names, and
-//! a new lease has a number that no other has which is out (`Lent::keep`).
+//! read failed. What a read of a lease answers are bytes of the blob that has the digest which the request names. What
+//! the requests do to leases is part of a legal history of one table of leases: a lease is read, and given back, by its
+//! number.
 #![tactic(auto)]
 
 ghost use Rattle.std.specs.Prelude.{◌≡◌, IfErr, IfOk};
 ghost use Rattle.blobd.specs.Stops.{stop_status};
 ghost use Rattle.blobd.specs.Words.{IsWithin};
 
-mod lent;
 mod line;
 mod serving;
 mod shared;
@@ -85,7 +86,7 @@ fn serve_all<I: Read + Send + Drop, O: Write + Send + Drop>(
     parts: Parts,
     lines: &mut [Line<I, O>],
 ) -> Result<(), Stop> {
-    let totals = serve_new(threads, rt.alloc(), parts, lines);
+    let totals = serve_new(threads, rt.alloc(), parts, lines)?;
     let _ = eprint!(rt; "{}", TotalsLine { totals });
     if lines.iter().all(|l| matches!(l.served(), Some(Ok(_)))) {
         Ok(())

@@ -1,5 +1,6 @@
 //! Serves lines on a store.
-ghost use Rattle.std.specs.Prelude.{◌≡◌, ◌⊎◌, ◌+◌, IfErr, IfOk, OnErr};
+ghost use Rattle.std.specs.Prelude.{◌≡◌, ◌⊎◌, ◌+◌, [], IfErr, IfOk, OnErr, OnOk};
+ghost use Rattle.atomic_table.specs.Seated.{TableId};
 ghost use Rattle.blob_digest.specs.declared.refusal.Refusal.TheVariants.{LimitReached, Memory};
 ghost use Rattle.blob_store.specs.Parts.{names_of};
 ghost use Rattle.blob_store.specs.Seats.{work_of};
@@ -8,35 +9,40 @@ ghost use Rattle.blobd.specs.Served.{AreServed, IsLineServed, IsServedBy};
 ghost use Rattle.line_player.specs.Served.{EndsByRead};
 ghost use Rattle.watched_reader.specs.Watching.{inner_of};
 
-use crate::lent::Lent;
 use crate::line::{Ended, Line};
 use crate::shared::SharedLeases;
 use blob_digest::Refusal;
 use blob_store::{Desk, MAX_DESKS, Naming, Parts, Seat, Store, Totals};
+use lease_table::{LeaseEvent, LeaseNaming, LeaseWriter, LockedLeaseTable};
 use line_player::{Ending, serve};
-use std::alloc::Global;
+use locked_book::StorePins;
+use shared_log::SharedLog;
+use std::alloc::{AllocError, Global};
 use std::io::{Read, Write};
 use std::marker::Brand;
 use std::sync::{Mutex, Wait};
 use std::thread::{self, Threads};
 use watched_reader::Watched;
 
-/// Serves requests at a desk that has done nothing, and answers it with why the line ended.
-fn serve_at<'s, W: Wait, S: Naming, I: Read, O: Write>(
+/// Serves requests at a desk that has done nothing, by a writer that has added nothing, and answers the desk with why
+/// the line ended.
+fn serve_at<'s, W: Wait, S: Naming, L: LeaseNaming, I: Read, O: Write>(
     rt: &'s W,
     alloc: Global,
     store: &'s Store<S>,
-    lent: &Mutex<Lent<'s, S>>,
+    table: &Mutex<LockedLeaseTable<'s, StorePins<S>, L>>,
     desk: Desk<S>,
+    writer: LeaseWriter<L>,
     input: &mut Watched<I>,
     output: &mut O,
 ) -> (Ending, Desk<S>)
     requires fresh { work_of desk ≡ no_work }
-    ensures served { IsServedBy S.names (I.remaining (inner_of input.old)) (O.contents output.old) (O.contents output.new) result.0 }
+    requires unwritten { writer.own ≡ [] }
+    ensures served { IsServedBy S.names L.log (I.remaining (inner_of input.old)) (O.contents output.old) (O.contents output.new) result.0 }
     ensures failed { EndsByRead result.0 input.old input.new }
 {
     let mut seat = Seat { rt, store, desk };
-    let mut leases = SharedLeases { rt, lent };
+    let mut leases = SharedLeases { rt, table, writer };
     let ending = serve(alloc, &mut seat, &mut leases, input, output);
     let Seat {
         rt: _,
@@ -44,21 +50,22 @@ fn serve_at<'s, W: Wait, S: Naming, I: Read, O: Write>(
         desk,
     } = seat;
     desk.audit();
+    leases.writer.reveal_invariant();
     (ending, desk)
 }
 
 /// Serves requests at a desk of their own, which is settled at the end, and answers why the line ended.
 ///
 /// Refused, in this order: 1,024 desks that are out (`LimitReached`); out of memory. Then nothing is read or written.
-pub fn serve_ends<'s, W: Wait, S: Naming, I: Read, O: Write>(
+pub fn serve_ends<'s, W: Wait, S: Naming, L: LeaseNaming, I: Read, O: Write>(
     rt: &'s W,
     alloc: Global,
     store: &'s Store<S>,
-    lent: &Mutex<Lent<'s, S>>,
+    table: &Mutex<LockedLeaseTable<'s, StorePins<S>, L>>,
     input: &mut Watched<I>,
     output: &mut O,
 ) -> Result<Ending, Refusal>
-    ensures served { IfOk result (IsServedBy S.names (I.remaining (inner_of input.old)) (O.contents output.old) (O.contents output.new)) }
+    ensures served { IfOk result (IsServedBy S.names L.log (I.remaining (inner_of input.old)) (O.contents output.old) (O.contents output.new)) }
     ensures failed { IfOk result (λ e. EndsByRead e input.old input.new) }
     ensures same { OnErr result ((input.new ≡ input.old) × (output.new ≡ output.old)) }
     ensures refused { IfErr result (λ e. (e ≡ LimitReached) ⊎ (e ≡ Memory)) }
@@ -67,24 +74,25 @@ pub fn serve_ends<'s, W: Wait, S: Naming, I: Read, O: Write>(
     let Some(desk) = desks.pop() else {
         unreachable!()
     };
-    let (ending, desk) = serve_at(rt, alloc, store, lent, desk, input, output);
+    let writer = table.lock(rt).writer();
+    let (ending, desk) = serve_at(rt, alloc, store, table, desk, writer, input, output);
     desks.push_reserved(desk);
     store.settle(rt, desks);
     Ok(ending)
 }
 
 /// Serves a line until it ends, and drops its two ends then.
-fn serve_line<'s, W: Wait, S: Naming, I: Read + Drop, O: Write + Drop>(
+fn serve_line<'s, W: Wait, S: Naming, L: LeaseNaming, I: Read + Drop, O: Write + Drop>(
     rt: &'s W,
     alloc: Global,
     store: &'s Store<S>,
-    lent: &Mutex<Lent<'s, S>>,
+    table: &Mutex<LockedLeaseTable<'s, StorePins<S>, L>>,
     line: &mut Line<I, O>,
 )
-    ensures { IsLineServed S.names I.remaining O.contents line.old line.new }
+    ensures { IsLineServed S.names L.log I.remaining O.contents line.old line.new }
 {
     if let Some((mut input, mut output)) = line.ends.take() {
-        let served = serve_ends(rt, alloc, store, lent, &mut input, &mut output);
+        let served = serve_ends(rt, alloc, store, table, &mut input, &mut output);
         line.ended = Some(Ended::new(input, output, served));
     }
 }
@@ -96,22 +104,23 @@ fn serve_lines<
     'l,
     W: Threads + Wait + Sync,
     S: Naming + Send + Sync,
+    L: LeaseNaming + Send + Sync,
     I: Read + Send + Drop,
     O: Write + Send + Drop,
 >(
     rt: &'s W,
     alloc: Global,
     store: &'s Store<S>,
-    lent: &'l Mutex<Lent<'s, S>>,
+    table: &'l Mutex<LockedLeaseTable<'s, StorePins<S>, L>>,
     lines: &mut [Line<I, O>],
 )
-    ensures { AreServed S.names I.remaining O.contents lines.old lines.new }
+    ensures { AreServed S.names L.log I.remaining O.contents lines.old lines.new }
 {
     thread::for_each_mut(
         rt,
         lines,
         MAX_DESKS as usize,
-        &|_, line| serve_line(rt, alloc, store, lent, line),
+        &|_, line| serve_line(rt, alloc, store, table, line),
     );
 }
 
@@ -121,45 +130,68 @@ fn serve_on<
     's,
     W: Threads + Wait + Sync,
     S: Naming + Send + Sync,
+    L: LeaseNaming + Send + Sync,
     I: Read + Send + Drop,
     O: Write + Send + Drop,
->(rt: &'s W, alloc: Global, store: &'s Store<S>, lines: &mut [Line<I, O>]) -> Totals
-    ensures served { AreServed S.names I.remaining O.contents lines.old lines.new }
+>(
+    rt: &'s W,
+    alloc: Global,
+    store: &'s Store<S>,
+    log: SharedLog<LeaseEvent>,
+    lines: &mut [Line<I, O>],
+) -> Totals
+    requires log { (log.name ≡ L.log) × (log.entries ≡ []) }
+    ensures served { AreServed S.names L.log I.remaining O.contents lines.old lines.new }
     ensures totals { result.received ≡ result.in_sessions + result.closed + result.abandoned }
 {
-    let lent = Mutex::new(Lent::<'s, S>::new(alloc));
-    serve_lines(rt, alloc, store, &lent, lines);
-    lent.into_inner().end();
+    let table = Mutex::new(LockedLeaseTable::<'s, StorePins<S>, L>::new(alloc, log));
+    serve_lines(rt, alloc, store, &table, lines);
+    table.into_inner().end();
     store.totals(rt)
 }
 
-/// Serves all lines on the store of these parts, whose names are those that the type parameter says.
+/// Serves all lines on the store of these parts, with a table of leases that has this log. Their names are those that the
+/// type parameters say.
 fn serve_parts<
     W: Threads + Wait + Sync,
     S: Naming + Send + Sync,
+    L: LeaseNaming + Send + Sync,
     I: Read + Send + Drop,
     O: Write + Send + Drop,
->(rt: &W, alloc: Global, parts: Parts, lines: &mut [Line<I, O>]) -> Totals
+>(
+    rt: &W,
+    alloc: Global,
+    parts: Parts,
+    log: SharedLog<LeaseEvent>,
+    lines: &mut [Line<I, O>],
+) -> Totals
     requires named { names_of parts ≡ S.names }
-    ensures served { AreServed S.names I.remaining O.contents lines.old lines.new }
+    requires log { (log.name ≡ L.log) × (log.entries ≡ []) }
+    ensures served { AreServed S.names L.log I.remaining O.contents lines.old lines.new }
     ensures totals { result.received ≡ result.in_sessions + result.closed + result.abandoned }
 {
     let store = Store::<S>::new(parts);
-    serve_on(rt, alloc, &store, lines)
+    serve_on::<W, S, L, I, O>(rt, alloc, &store, log, lines)
 }
 
 /// Serves all lines on a new store of these parts, each in a thread of its own, until they end, and answers the store's
 /// totals. A lease that one line has taken the others may read and give back; those that are left at the end are given
 /// back then. At most 1,024 lines are served at once; where no thread can be started, they are served one behind the
 /// other. A line whose desk finds no memory is not served, and closed all the same.
+///
+/// # Errors
+///
+/// Allocation fails before any line is served.
 pub fn serve_new<W: Threads + Wait + Sync, I: Read + Send + Drop, O: Write + Send + Drop>(
     rt: &W,
     alloc: Global,
     parts: Parts,
     lines: &mut [Line<I, O>],
-) -> Totals
-    ensures served { AreServed (names_of parts) I.remaining O.contents lines.old lines.new }
-    ensures totals { result.received ≡ result.in_sessions + result.closed + result.abandoned }
+) -> Result<Totals, AllocError>
+    ensures served { OnOk result ((log : TableId) × AreServed (names_of parts) log I.remaining O.contents lines.old lines.new) }
+    ensures totals { IfOk result (λ t. t.received ≡ t.in_sessions + t.closed + t.abandoned) }
+    ensures same { OnErr result (lines.new ≡ lines.old) }
 {
-    serve_parts::<W, Brand, I, O>(rt, alloc, parts, lines)
+    let log = SharedLog::new(alloc)?;
+    Ok(serve_parts::<W, Brand, Brand, I, O>(rt, alloc, parts, log, lines))
 }

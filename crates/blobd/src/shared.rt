@@ -1,30 +1,34 @@
 //! The table of leases that all lines share.
 ghost use Rattle.std.specs.Prelude.{◌≡◌};
 
-use crate::lent::Lent;
 use blob_digest::{Digest, Refusal};
 use blob_store::{Lease, Naming, Seat};
+use lease_table::{LeaseNaming, LeaseWriter, LockedLeaseTable};
 use line_player::Lending;
+use locked_book::StorePins;
 use row_player::Piece;
 use std::sync::{Mutex, Wait};
 
-/// The table of leases that all lines share, under its lock. What another line does to the table meanwhile no contract
-/// says: only what is so of each lease that is kept, and of each piece that is read.
+/// The table of leases that all lines share, under its lock, and a line's right to add to the table's history. Contracts
+/// see which events a line adds.
 #[derive(Drop)]
-pub struct SharedLeases<'l, 's, W: Wait, S: Naming> {
+pub struct SharedLeases<'l, 's, W: Wait, S: Naming, L: LeaseNaming> {
     /// What the calls wait by.
     pub rt: &'l W,
     /// The table.
-    pub lent: &'l Mutex<Lent<'s, S>>,
+    pub table: &'l Mutex<LockedLeaseTable<'s, StorePins<S>, L>>,
+    /// The line's writer.
+    pub writer: LeaseWriter<L>,
 }
 
-impl<'l, 's, W: Wait, S: Naming> Lending<Seat<'s, W, S>> for SharedLeases<'l, 's, W, S> {
-    ghost use Rattle.blobd.specs.Served.{IsLending};
+impl<'l, 's, W: Wait, S: Naming, L: LeaseNaming> Lending<Seat<'s, W, S>>
+    for SharedLeases<'l, 's, W, S, L> {
+    ghost use Rattle.lease_table.specs.Histories.{Adds};
 
-    ghost does = { λ _ lending _. IsLending lending };
+    ghost does = { λ old event new. Adds old.writer event new.writer };
 
     fn keep(&mut self, lease: Lease<'s, S>) -> Option<u32> {
-        self.lent.lock(self.rt).keep(lease)
+        self.table.lock(self.rt).keep(&mut self.writer, lease)
     }
 
     fn piece(
@@ -34,10 +38,12 @@ impl<'l, 's, W: Wait, S: Naming> Lending<Seat<'s, W, S>> for SharedLeases<'l, 's
         start: u64,
         end: u64,
     ) -> Result<Option<Piece>, Refusal> {
-        self.lent.lock(self.rt).piece(number, digest, start, end)
+        self.table
+            .lock(self.rt)
+            .piece(&mut self.writer, number, digest, start, end)
     }
 
     fn give_back(&mut self, number: u32) -> bool {
-        self.lent.lock(self.rt).give_back(number)
+        self.table.lock(self.rt).give_back(&mut self.writer, number)
     }
 }

@@ -1,5 +1,0 @@
-use Rattle.std.specs.BTreeMap.{btree_map_len}
-use Rattle.blobd.proofs.lent.Lent.end.Given as goal
-
-abbrev pub decreases-loop-lease : goal.decreases-loop-lease
-decreases-loop-lease g l = btree_map_len l.leases
