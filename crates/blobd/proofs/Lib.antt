@@ -1,2 +1,3 @@
 pub mod Partings
+pub mod Sending
 pub mod Through

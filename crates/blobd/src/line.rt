@@ -34,7 +34,7 @@ impl<I: Drop, O: Drop> Ended<I, O> {
 
 /// A line: where its requests come from, and where its replies go.
 #[derive(Drop)]
-pub struct Line<I: Read + Drop, O: Write + Drop> {
+pub struct Line<I, O> {
     /// Both, as long as the line is open.
     pub(crate) ends: Option<(Watched<I>, O)>,
     /// How it ended; none before.
