@@ -118,8 +118,12 @@ impl Call {
         }
     }
 
-    /// Lets content be read: the tenant is known, its quota has room for what is charged, and memory has room.
+    /// Lets content be read: it is no longer than a blob may be, the tenant is known, its quota has room for what is charged,
+    /// and memory has room.
     async fn admit(&self, content: &mut Content, is_charged: bool) -> Result<(), Fault> {
+        if is_charged {
+            uploading::check_len(self, 0, content.len)?;
+        }
         let (used, quota) = self.registry.store.usage(&self.repo).await??;
         // An upload may be closed in chunked coding without a byte.
         let least = content.len.unwrap_or(u64::from(self.head.method != Method::PUT));

@@ -26,9 +26,6 @@ pub async fn open(call: &Call, content: &mut Content) -> Served {
         };
     }
     let digest = call.query("digest");
-    if digest.is_some() {
-        check_len(call, 0, content.len)?;
-    }
     let session = call.accepted(store.start_upload(&call.repo).await?, Limit::Uploads)?;
     let digest = match digest {
         Some(digest) => digest,
@@ -138,7 +135,7 @@ async fn place(call: &Call, session: u32, content: &Content) -> Result<Place, Fa
 }
 
 /// Fails if a chunk at a place would make the blob too long.
-fn check_len(call: &Call, start: u64, len: Option<u64>) -> Result<(), Fault> {
+pub fn check_len(call: &Call, start: u64, len: Option<u64>) -> Result<(), Fault> {
     let most = call.registry.max_blob;
     match start.checked_add(len.unwrap_or(0)) {
         Some(end) if end <= most => Ok(()),

@@ -9,6 +9,8 @@ GREETING = b"blobd\0\1\0"
 HEAD = struct.Struct("<BBHHHIIQQ")
 START, STATUS, APPEND, CLOSE, ABANDON, MOUNT, DELETE, PUT_MANIFEST, GET_MANIFEST, DELETE_MANIFEST = range(1, 11)
 SWEEP, STAT_MANIFEST, FREE_SLOTS, USAGE = 14, 18, 19, 20
+# The quota of each tenant, in bytes.
+QUOTA = 1 << 50
 UPLOAD_UNKNOWN, BLOB_UNKNOWN, MANIFEST_UNKNOWN, NO_COMMAND = 4, 7, 9, 255
 
 
@@ -42,7 +44,9 @@ class Stub:
             if command == DELETE_MANIFEST:
                 del self.manifests[repo, digest]
             return 0, len(kept) if command == STAT_MANIFEST else 0, 0, "", kept if command == GET_MANIFEST else b""
-        if command in (SWEEP, FREE_SLOTS, USAGE):
+        if command == USAGE:
+            return 0, 0, QUOTA, "", b""
+        if command in (SWEEP, FREE_SLOTS):
             return 0, 0, 0, "", b""
         return (BLOB_UNKNOWN if command in (DELETE, 11, 12, 17) else NO_COMMAND), 0, 0, "", b""
 
