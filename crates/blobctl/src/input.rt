@@ -1,9 +1,9 @@
 //! Reads a script to its end.
 ghost use Rattle.std.specs.Prelude.{◌≡◌, ◌⊎◌, ◌+◌, ◌<◌, ◌≤◌, ◌++◌, true, false, IfOk, IfErr, OnErr, OnOk, length, take};
 ghost use Rattle.std.specs.Io.KnownBytes.{Consumes, IsAtEnd};
-ghost use Rattle.blobctl.specs.Ending.{HasNotFailed, IsReadWhole};
+ghost use Rattle.blobctl.specs.Ending.{IsReadWhole};
 ghost use Rattle.blobctl.specs.Inputs.{IsTooLong, TakesAtMost, max_script};
-ghost use Rattle.watched_reader.specs.Watching.{has_failed, inner_of};
+ghost use Rattle.watched_reader.specs.Watching.{HasNotFailed, has_failed, inner_of};
 
 use crate::fault::Fault;
 use crate::script_text::ScriptText;

@@ -1,7 +1,6 @@
 use Rattle.std.proofs.Common.{◌≡◌, ◌≤◌, length}
 use Rattle.std.specs.Io.KnownBytes.{Consumes}
-use Rattle.blobctl.specs.Ending.{HasNotFailed}
-use Rattle.watched_reader.specs.Watching.{inner_of}
+use Rattle.watched_reader.specs.Watching.{HasNotFailed, inner_of}
 use Rattle.blobctl.proofs.input.read_script.Given as goal
 
 -- what was read so far is the front of what the reader had, no read failed, and each turn took a byte at least
