@@ -8,7 +8,7 @@ use Rattle.locked_book.specs.History.{DeskView, IsWhole, steps_of, steps_of_each
 use Rattle.locked_book.proofs.Wholes.{steps_beyond}
 use Rattle.store_model.specs.Catalog.{Catalog}
 use Rattle.store_model.specs.Histories.{LeadsTo, State, Step}
-use Rattle.row_player.specs.Answers.{Answer}
+use Rattle.store_api.specs.Answers.{Answer}
 use Rattle.row_player.specs.Leases.{Leases, none}
 use Rattle.row_player.specs.Plays.{Plays}
 use Rattle.row_player.specs.Rows.{RowView}

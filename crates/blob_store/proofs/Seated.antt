@@ -11,8 +11,8 @@ use Rattle.store_model.specs.Catalog.{Catalog, Taken}
 use Rattle.store_model.specs.Histories.{Step, Took, PutBack}
 use Rattle.locked_book.specs.History.{Adds, Cancels, DeskView, Trace, filled}
 use Rattle.locked_book.specs.Names.{StoreNames}
-use Rattle.row_player.specs.Answers.{Answer, Refused, Verified}
-use Rattle.row_player.specs.Commands.{Calls, Command, Verifies}
+use Rattle.store_api.specs.Answers.{Answer, Refused, Verified}
+use Rattle.store_api.specs.Commands.{Calls, Command, Verifies}
 use Rattle.blob_store.specs.Seats.{AmountActs, AreRequestSteps, AreUploadSteps, FindsBlob, SeatActs, as_answer}
 
 -- two steps, one after the other

@@ -11,8 +11,8 @@ use Rattle.store_model.specs.Amounts.{Amounts, nothing, plus, sum_of}
 use Rattle.blob_store.specs.Workers.{ArePlayed, AreSettled, HasPlayed, no_desk, no_work}
 use Rattle.locked_book.specs.declared.desk.Settled.{Settled}
 use Rattle.blob_store.proofs.Places.{at_pushed}
-use Rattle.row_player.specs.Answers.{Answer}
-use Rattle.row_player.specs.Commands.{Command}
+use Rattle.store_api.specs.Answers.{Answer}
+use Rattle.store_api.specs.Commands.{Command}
 use Rattle.row_player.specs.Counts.{abandoned_of, chunk_of, closed_of, rows_amount, row_amount}
 use Rattle.row_player.specs.Leases as leases
 use Rattle.row_player.specs.Plays.{Plays, State}

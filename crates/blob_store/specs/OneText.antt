@@ -6,8 +6,8 @@ use Rattle.store_model.specs.BookText.{book_text}
 use Rattle.store_model.specs.Catalog.{Catalog, Tenant, is_tenants, opening}
 use Rattle.store_model.specs.Histories.{AreSteps, State, Step, first_state}
 use Rattle.store_model.specs.HistoryIsolation.{IsFairHistory, IsOwnReply}
-use Rattle.row_player.specs.Answers.{Answer}
-use Rattle.row_player.specs.Commands.{is_command}
+use Rattle.store_api.specs.Answers.{Answer}
+use Rattle.store_api.specs.Commands.{is_command}
 use Rattle.row_player.specs.Rows.{RowView}
 use Rattle.blob_store.specs.Workers.{IsInterleaved}
 

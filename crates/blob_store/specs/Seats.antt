@@ -15,9 +15,9 @@ use Rattle.store_model.specs.declared.swept.Swept.{Swept as SweptCounts}
 use Rattle.locked_book.specs.Found.{InSomeBook}
 use Rattle.locked_book.specs.History.{DeskView, filled}
 use Rattle.locked_book.specs.Names.{StoreNames}
-use Rattle.row_player.specs.Answers.{Answer, Received, Stored, Swept, Refused, Verified}
-use Rattle.row_player.specs.CommandAnswers.{row_answer}
-use Rattle.row_player.specs.Commands.{Command, Append, Close, Request, Calls, Verifies, Sweeps}
+use Rattle.store_api.specs.Answers.{Answer, Received, Stored, Swept, Refused, Verified}
+use Rattle.store_api.specs.CommandAnswers.{command_answer}
+use Rattle.store_api.specs.Commands.{Command, Append, Close, Request, Calls, Verifies, Sweeps}
 use Rattle.row_player.specs.Counts.{abandoned_of, chunk_of, closed_of, request_amount}
 
 -- ---- amounts
@@ -49,7 +49,7 @@ AreUploadSteps repo number range bytes last f answer steps =
 abbrev pub AreCommandSteps : Command → Answer → List Step → Type 0
 AreCommandSteps (Append repo number range bytes) answer steps = AreUploadSteps repo number range bytes PutBack Received answer steps
 AreCommandSteps (Close repo number digest range bytes) answer steps = AreUploadSteps repo number range bytes (λ hand result. Finished hand digest result) Stored answer steps
-AreCommandSteps command answer steps = (result : Result runs.Answer Refusal) × (steps ≡ Performed command result ∷ []) × (answer ≡ as_answer (row_answer command) result)
+AreCommandSteps command answer steps = (result : Result runs.Answer Refusal) × (steps ≡ Performed command result ∷ []) × (answer ≡ as_answer (command_answer command) result)
 
 -- the steps of a request: looking at a lease's slot is none, and answers the size of its blob; a sweep is one
 abbrev pub AreRequestSteps : Request → Answer → List Step → Type 0

@@ -8,13 +8,13 @@ use Rattle.shared_log.specs.Entries.{events_by}
 use Rattle.locked_book.specs.History.{DeskView, IsPart, steps_of}
 use Rattle.blob_store.specs.Seats.{Work, WorkActs, work_of}
 use Rattle.locked_book.specs.declared.desk.Settled.{Settled}
-use Rattle.row_player.specs.Answers.{Answer}
+use Rattle.store_api.specs.Answers.{Answer}
 use Rattle.row_player.specs.Counts.{counted_abandons, counted_bytes, counted_closed, counted_commands}
 use Rattle.row_player.specs.Leases.{Leases, none}
 use Rattle.row_player.specs.Plays.{Plays}
 use Rattle.row_player.specs.Rows.{RowView}
 use Rattle.row_player.specs.Shares.{AreTogether, own_answers, own_rows}
-use Rattle.row_player.specs.declared.reply.Reply.{Reply}
+use Rattle.store_api.specs.declared.reply.Reply.{Reply}
 
 -- a claim on each place of a list and on what stands there
 abbrev pub AllAt : {X : Type 0} → (ℕ → X → Type 0) → List X → Type 0

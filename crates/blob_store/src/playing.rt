@@ -4,7 +4,7 @@ ghost use Rattle.blob_digest.specs.declared.refusal.Refusal.TheVariants.{LimitRe
 ghost use Rattle.locked_book.specs.History.{AreFresh, DeskView};
 ghost use Rattle.blob_store.specs.Parts.{names_of};
 ghost use Rattle.blob_store.specs.Workers.{AllAt, ArePlayed, AreSettled, HasPlayed, HavePlayed, IsInterleaved, IsReady, IsWorkerAt};
-ghost use Rattle.row_player.specs.Answers.{answers_of};
+ghost use Rattle.store_api.specs.Answers.{answers_of};
 ghost use Rattle.row_player.specs.Shares.{own_answers, own_rows};
 
 use crate::parts::Parts;
@@ -12,7 +12,8 @@ use crate::store::Store;
 use crate::workers::{Job, Outcome, WorkersDone, play_all};
 use blob_digest::Refusal;
 use locked_book::{Desk, DroppableDesk, LockedBook, Naming, Settled};
-use row_player::{Gate, RepliesByRow, Reply, RowList, Worker, count_by_worker};
+use row_player::{Gate, RepliesByRow, RowList, Worker, count_by_worker};
+use store_api::Reply;
 use std::alloc::Global;
 use std::collections::VecDeque;
 use std::sync::Wait;

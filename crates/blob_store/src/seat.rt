@@ -5,7 +5,7 @@ use crate::lease::Lease;
 use crate::store::Store;
 use blob_digest::{Digest, Refusal, RepoName};
 use locked_book::{Desk, Naming};
-use row_player::{Backend, Command, Piece, Queries, Reply, mount_reply};
+use store_api::{Backend, Command, Piece, Queries, Reply, mount_reply};
 use std::sync::Wait;
 use store_book::{Swept, Usage};
 
@@ -24,7 +24,7 @@ impl<'s, W: Wait, S: Naming> Backend for Seat<'s, W, S> {
     type Lease = Lease<'s, S>;
 
     ghost use Rattle.blob_store.specs.Seats.{SeatActs};
-    ghost use Rattle.row_player.specs.Leases.{Lent};
+    ghost use Rattle.store_api.specs.Lent.{Lent};
 
     ghost acts = { λ old request answer new. SeatActs S.names old.desk request answer new.desk };
 

@@ -1,12 +1,13 @@
 //! Workers that play the rows of a script on one store, each in a thread of its own.
 ghost use Rattle.std.specs.Prelude.{ℕ, ◌≡◌, ◌+◌, ◌<◌, ◌≤◌, true, vec_len, vec_capacity};
 ghost use Rattle.blob_store.specs.Workers.{AllAt, HasPlayed, IsReady, IsWorkerAt};
-ghost use Rattle.row_player.specs.Answers.{answers_of};
+ghost use Rattle.store_api.specs.Answers.{answers_of};
 
 use crate::seat::Seat;
 use crate::store::Store;
 use locked_book::{DroppableDesk, Naming};
-use row_player::{Gate, Reply, RowList, Worker, play_rows};
+use row_player::{Gate, RowList, Worker, play_rows};
+use store_api::Reply;
 use std::alloc::Global;
 use std::sync::Wait;
 use std::sync::atomic::{AtomicBool, Ordering};

@@ -9,11 +9,14 @@ use Rattle.blob_digest.specs.declared.refusal.Refusal.TheVariants.{Memory}
 use Rattle.store_model.specs.Catalog.{Catalog}
 use Rattle.store_book.specs.BookState.{BookState, SlotSeen}
 use Rattle.store_book.specs.SlotSteps.{EachSlot, HasLast}
-use Rattle.row_player.specs.Answers.{Answer, Session, Received, Stored, Abandoned, Mounted, Deleted, Manifest, Body, Leased, Bytes, Shared, Verified, GivenBack, Swept, NoLease, NameTaken, Refused}
-use Rattle.row_player.specs.Commands.{Command, Start, Status, Append, Close, Abandon, Mount, Delete, PutManifest, GetManifest, DeleteManifest, Lease, Request, Calls, Verifies, Sweeps, command_of}
-use Rattle.row_player.specs.Leases.{Lent, Leases, none}
+use Rattle.store_api.specs.Answers.{Answer, Session, Received, Stored, Abandoned, Mounted, Deleted, Manifest, Body, Leased, Bytes, Shared, Verified, GivenBack, Swept, NoLease, NameTaken, Refused}
+use Rattle.store_api.specs.Commands.{Command, Start, Status, Append, Close, Abandon, Mount, Delete, PutManifest, GetManifest, DeleteManifest, Lease, Request, Calls, Verifies, Sweeps}
+use Rattle.row_player.specs.RowCommands.{command_of}
+use Rattle.store_api.specs.Lent.{Lent}
+use Rattle.row_player.specs.Leases.{Leases, none}
 use Rattle.blobctl.specs.Played.{Acts, ActsCall, IsCrowdedOut, result_of, outcome, Leads, LeadsCall, RisesByOne}
-use Rattle.row_player.specs.Plays.{Plays, RowStep, StepOf, State, LendsWhereFree, VerifiesLease, named}
+use Rattle.row_player.specs.Plays.{Plays, RowStep, State, LendsWhereFree, VerifiesLease, named}
+use Rattle.store_api.specs.Steps.{StepOf}
 use Rattle.row_player.specs.Rows.{RowView}
 
 -- a slot's generation is n at most, and its bound that of n readers

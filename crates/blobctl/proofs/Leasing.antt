@@ -13,10 +13,10 @@ use Rattle.store_model.specs.Runs as runs
 use Rattle.store_model.specs.Commands.{Outcome, lease, with_lent}
 use Rattle.store_book.specs.BookState.{SlotSeen}
 use Rattle.store_book.specs.SlotSteps as slots
-use Rattle.row_player.specs.Answers.{Answer, Bytes, Refused}
-use Rattle.row_player.specs.Commands.{Lease}
+use Rattle.store_api.specs.Answers.{Answer, Bytes, Refused}
+use Rattle.store_api.specs.Commands.{Lease}
 use Rattle.blobctl.specs.Played.{ActsCall, RisesByOne}
-use Rattle.row_player.specs.CommandAnswers.{row_answer}
+use Rattle.store_api.specs.CommandAnswers.{command_answer}
 
 -- ---- slots
 
@@ -61,7 +61,7 @@ module _ (C : Catalog) (repo digest : Text) where
 
   -- what a lease's row is answered
   abbrev row_of : Outcome Text → Outcome Answer
-  row_of o = runs.answered (row_answer (Lease repo digest)) (runs.answered runs.Bytes o)
+  row_of o = runs.answered (command_answer (Lease repo digest)) (runs.answered runs.Bytes o)
 
   leased_alike : (crowded : Bool) (x : Text × Catalog) → look_at crowded ≡ Ok x → row_of (lease false C repo digest) ≡ Ok (Bytes x.0, x.1)
   leased_alike true x e = absurd (none_where_crowded C digest (tenant_of C.tenants repo) (not (holds C repo digest)) (fmap.get C.residents digest) x e)

@@ -12,13 +12,15 @@ use Rattle.store_model.specs.Commands.{Outcome, take}
 use Rattle.store_model.specs.Histories.{AreSteps, Finished, MayLeave, Performed, PutBack, State, Step, Took, first_state, step_amounts}
 use Rattle.store_model.specs.Runs as runs
 use Rattle.store_model.proofs.Commands.ByHand.{append_by_hand, append_is, append_refused, close_by_hand, close_refused, refused_by_hand}
-use Rattle.row_player.specs.Answers.{Answer}
-use Rattle.row_player.specs.CommandAnswers.{row_answer}
-use Rattle.row_player.specs.Commands.{Append, Calls, Close, Command, Request, command_of, is_command}
+use Rattle.store_api.specs.Answers.{Answer}
+use Rattle.store_api.specs.CommandAnswers.{command_answer}
+use Rattle.store_api.specs.Commands.{Append, Calls, Close, Command, Request, is_command}
+use Rattle.row_player.specs.RowCommands.{command_of}
 use Rattle.row_player.specs.Counts.{chunk_of, closed_of, request_amount}
 use Rattle.row_player.specs.Leases.{Leases, none}
 use Rattle.row_player.specs.Plays as plays
-use Rattle.row_player.specs.Plays.{Plays, StepOf}
+use Rattle.row_player.specs.Plays.{Plays}
+use Rattle.store_api.specs.Steps.{StepOf}
 use Rattle.row_player.specs.Rows.{RowView}
 use Rattle.row_player.proofs.PlayedRows.{one_each}
 use Rattle.locked_book.specs.History.{filled}
@@ -65,7 +67,7 @@ module _ (s : State) (answer : Answer) (C' : Catalog) where
 
   -- what it answers and leaves, by its outcome
   abbrev Comes : Command → Outcome runs.Answer → Type 0
-  Comes command o = (answer, C') ≡ result_of C (runs.answered (row_answer command) o)
+  Comes command o = (answer, C') ≡ result_of C (runs.answered (command_answer command) o)
 
   may : (command : Command) (r : Result runs.Answer Refusal) → runs.IsCase C command r C' → MayLeave s (Performed command r) C'
   may command (Ok a) h = h

@@ -20,23 +20,25 @@ use Rattle.store_model.specs.Runs as runs
 use Rattle.store_model.specs.Commands.{Outcome, tenant, start, append, close, abandon, mount, delete, put_manifest, delete_manifest, stored, was_lent, has_source, link_held, start_instead, has_manifest, add_manifest, check, session, not_busy, unreferenced, referrer, all_linked, manifest, linked, is_digest_accepted, has_slot, within_quota, whole_in, lacks_room_for, cannot_open, is_full_of_manifests}
 use Rattle.store_model.specs.Sweep.{IsLeft, IsSweep, is_orphan}
 use Rattle.store_model.specs.declared.swept.Swept.{Swept as SweptCounts}
-use Rattle.row_player.specs.Answers.{Answer, Swept}
-use Rattle.row_player.specs.Commands.{Command, Start, Status, Append, Close, Abandon, Mount, Delete, PutManifest, GetManifest, DeleteManifest, Lease, Sweeps, command_of, is_lease, uses_repo}
+use Rattle.store_api.specs.Answers.{Answer, Swept}
+use Rattle.store_api.specs.Commands.{Command, Start, Status, Append, Close, Abandon, Mount, Delete, PutManifest, GetManifest, DeleteManifest, Lease, Sweeps, is_lease, uses_repo}
+use Rattle.row_player.specs.RowCommands.{command_of}
 use Rattle.blobctl.specs.Played.{Leads, outcome, result_of}
-use Rattle.row_player.specs.CommandAnswers.{row_answer}
-use Rattle.row_player.specs.Plays.{Plays, RowStep, State, StepOf, StoreRow, VerifiesLease, give_back_of, name_of, named, piece_of, read_of, second_of, shared_in}
+use Rattle.store_api.specs.CommandAnswers.{command_answer}
+use Rattle.row_player.specs.Plays.{Plays, RowStep, State, StoreRow, VerifiesLease, give_back_of, name_of, named, piece_of, read_of, second_of, shared_in}
+use Rattle.store_api.specs.Steps.{StepOf}
 use Rattle.csv.specs.Machine.{next_record}
 use Rattle.csv.specs.Reading.{AreRecords, Reached}
 use Rattle.csv.specs.declared.parser.Config.{Config}
 use Rattle.csv.specs.declared.parser.State.{State as CsvState}
 use Rattle.blob_digest.specs.Tenants.{Tenant}
-use Rattle.row_player.specs.Leases.{Lent}
+use Rattle.store_api.specs.Lent.{Lent}
 use Rattle.blobctl.specs.OneText.{LeaseNothing}
 use Rattle.blobctl.specs.Script.{AreRowsOf}
 use Rattle.blobctl.specs.Records.{Record, row_of as row_of_record}
 use Rattle.row_player.specs.Rows.{RowView}
-use Rattle.row_player.specs.declared.row.Verb.{Verb}
-use Rattle.row_player.specs.declared.row.Verb.TheVariants as verb
+use Rattle.store_api.specs.declared.verb.Verb.{Verb}
+use Rattle.store_api.specs.declared.verb.Verb.TheVariants as verb
 use Rattle.row_player.proofs.Spellings.{spells_none}
 
 -- no blob was lent
@@ -157,7 +159,7 @@ module _ (C : Catalog) (none : LentNone C) where
   run_keeps (Lease repo digest) no_lease = absurd (false≢true (sym no_lease))
 
   outcome_keeps : (c : Command) → is_lease c ≡ false → Keeps (outcome C c)
-  outcome_keeps c no_lease = answered_keeps (row_answer c) (runs.outcome false C c) (run_keeps c no_lease)
+  outcome_keeps c no_lease = answered_keeps (command_answer c) (runs.outcome false C c) (run_keeps c no_lease)
 
   result_none : (o : Outcome Answer) → Keeps o → LentNone (result_of C o).1
   unfolding Keeps

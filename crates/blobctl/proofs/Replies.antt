@@ -4,8 +4,8 @@ use Rattle.std.proofs.lemmas.Grind.{flat_map-append}
 use Rattle.std.proofs.lemmas.List.{append-nil, drop_more, length-map, map_more, take_more}
 use Rattle.std.specs.List.{enumerate_from, flat_map}
 use Rattle.row_player.specs.Replies.{replies_text, reply_line}
-use Rattle.row_player.specs.Answers.{Answer, answer_of, answers_of}
-use Rattle.row_player.specs.declared.reply.Reply.{Reply}
+use Rattle.store_api.specs.Answers.{Answer, answer_of, answers_of}
+use Rattle.store_api.specs.declared.reply.Reply.{Reply}
 
 -- an element more is numbered after the others
 numbered_more : {A : Type 0} (n : ℕ) (xs : List A) (y : A) → enumerate_from n (xs ++ y ∷ []) ≡ enumerate_from n xs ++ (n + length xs, y) ∷ []

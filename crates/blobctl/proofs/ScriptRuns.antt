@@ -11,26 +11,28 @@ use Rattle.store_model.specs.Noninterference.{IsFair, NoCollision, brought_in, c
 use Rattle.store_model.specs.Runs as runs
 use Rattle.store_model.specs.Commands.{Outcome}
 use Rattle.store_model.specs.declared.mount.Mount.TheVariants as mounting
-use Rattle.row_player.specs.Answers.{Answer, Bytes, Leased, NameTaken, Refused}
-use Rattle.row_player.specs.Commands.{Command, Start, Status, Append, Close, Abandon, Mount, Delete, PutManifest, GetManifest, DeleteManifest, Lease, command_of, is_lease, uses_repo}
-use Rattle.row_player.specs.Leases.{Lent}
-use Rattle.row_player.specs.Plays.{LendsWhereFree, Plays, RowStep, State, StepOf, VerifiesLease, named as lease_named}
+use Rattle.store_api.specs.Answers.{Answer, Bytes, Leased, NameTaken, Refused}
+use Rattle.store_api.specs.Commands.{Command, Start, Status, Append, Close, Abandon, Mount, Delete, PutManifest, GetManifest, DeleteManifest, Lease, is_lease, uses_repo}
+use Rattle.row_player.specs.RowCommands.{command_of}
+use Rattle.store_api.specs.Lent.{Lent}
+use Rattle.row_player.specs.Plays.{LendsWhereFree, Plays, RowStep, State, VerifiesLease, named as lease_named}
+use Rattle.store_api.specs.Steps.{StepOf}
 use Rattle.row_player.specs.Rows.{RowView}
-use Rattle.row_player.specs.declared.row.Verb.{Verb}
-use Rattle.row_player.specs.declared.row.Verb.TheVariants as verb
+use Rattle.store_api.specs.declared.verb.Verb.{Verb}
+use Rattle.store_api.specs.declared.verb.Verb.TheVariants as verb
 use Rattle.row_player.proofs.Spellings.{names_repo, repo_spelled}
 use Rattle.blob_store.specs.Seats.{as_answer}
 use Rattle.blobctl.specs.Played.{Leads, result_of}
-use Rattle.row_player.specs.CommandAnswers.{row_answer}
+use Rattle.store_api.specs.CommandAnswers.{command_answer}
 use Rattle.blobctl.specs.ScriptRuns.{AreEventsOf, IsEvent, IsNoEvent, rows_of, shown_reply}
 
 -- ---- one row
 
 -- what a row's command answers
 abbrev pub plain : Command → Result runs.Answer Refusal → Answer
-plain c r = as_answer (row_answer c) r
+plain c r = as_answer (command_answer c) r
 
-pub asked : (C C' : Catalog) (c : Command) (answer : Answer) (o : Outcome runs.Answer) → runs.outcome false C c ≡ o → ◌≡◌ {A = Answer × Catalog} (answer, C') (result_of C (runs.answered (row_answer c) o))
+pub asked : (C C' : Catalog) (c : Command) (answer : Answer) (o : Outcome runs.Answer) → runs.outcome false C c ≡ o → ◌≡◌ {A = Answer × Catalog} (answer, C') (result_of C (runs.answered (command_answer c) o))
     → (r : Result runs.Answer Refusal) × runs.IsCase C c r C' × (answer ≡ plain c r)
 asked C C' c answer (Ok x) is h = (Ok x.0, is ∙ (λ i. Ok (x.0, sym (ap (λ (p : Answer × Catalog). p.1) h) i)), ap (λ (p : Answer × Catalog). p.0) h)
 asked C C' c answer (Err e) is h = (Err e, (inl (false, is), ap (λ (p : Answer × Catalog). p.1) h), ap (λ (p : Answer × Catalog). p.0) h)

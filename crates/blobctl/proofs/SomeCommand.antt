@@ -4,10 +4,11 @@ use Rattle.std.specs.Prelude.{is_some, option_and_then, map}
 use Rattle.std.proofs.lemmas.Bool.{false≢true, and_parts}
 use Rattle.finite_maps.specs.Texts.{Text}
 use Rattle.blob_digest.specs.declared.range.ByteRange.{ByteRange}
-use Rattle.row_player.specs.Commands.{Command, Start, Status, Append, Close, Abandon, Mount, Delete, PutManifest, GetManifest, DeleteManifest, Lease, command, command_of, digest_in, is_lease, repo_in, uses_digest, uses_repo, uses_session, where_used}
+use Rattle.store_api.specs.Commands.{Command, Start, Status, Append, Close, Abandon, Mount, Delete, PutManifest, GetManifest, DeleteManifest, Lease, command, digest_in, is_lease, repo_in, uses_digest, uses_repo, uses_session, where_used}
+use Rattle.row_player.specs.RowCommands.{command_of}
 use Rattle.row_player.specs.Rows.{RowView, fits, session_number}
-use Rattle.row_player.specs.declared.row.Verb.{Verb}
-use Rattle.row_player.specs.declared.row.Verb.TheVariants as verb
+use Rattle.store_api.specs.declared.verb.Verb.{Verb}
+use Rattle.store_api.specs.declared.verb.Verb.TheVariants as verb
 use Rattle.row_player.proofs.Spellings.{lease_spelled, spelled}
 use Rattle.blobctl.specs.Records.{Record, head_of, row_of, row_with}
 use Rattle.finite_maps.proofs.Options.{cond_some}

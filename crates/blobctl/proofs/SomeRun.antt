@@ -20,15 +20,18 @@ use Rattle.store_model.specs.Commands.{length_after, not_busy, session_in, whole
 use Rattle.store_model.specs.declared.mount.Mount.{Mount as Mounting}
 use Rattle.store_model.specs.declared.mount.Mount.TheVariants as mounting
 use Rattle.store_model.proofs.Commands.SomeSweep.{after, some_sweep, swept}
-use Rattle.row_player.specs.Answers.{Answer, Leased, Shared, Verified, NoLease, NameTaken, Swept, Refused, mount_answer}
-use Rattle.row_player.specs.Commands.{Command, Start, Status, Append, Close, Abandon, Mount, Delete, PutManifest, GetManifest, DeleteManifest, Lease, command_of, digest_in, range_by, range_in, range_with, repo_in, source_in, uses_digest, uses_range, uses_repo, uses_source, where_used}
-use Rattle.row_player.specs.Leases.{Leases, Lent, Name, halved, new_lease}
+use Rattle.store_api.specs.Answers.{Answer, Leased, Shared, Verified, NoLease, NameTaken, Swept, Refused, mount_answer}
+use Rattle.store_api.specs.Commands.{Command, Start, Status, Append, Close, Abandon, Mount, Delete, PutManifest, GetManifest, DeleteManifest, Lease, digest_in, range_by, range_with, repo_in, source_in, uses_digest, uses_range, uses_repo, uses_source, where_used}
+use Rattle.row_player.specs.RowCommands.{command_of, range_in}
+use Rattle.store_api.specs.Lent.{Lent, halved, new_lease}
+use Rattle.row_player.specs.Leases.{Leases, Name}
 use Rattle.blobctl.specs.Played.{Leads, outcome, result_of}
-use Rattle.row_player.specs.CommandAnswers.{row_answer}
-use Rattle.row_player.specs.Plays.{Plays, RowStep, State, StepOf, VerifiesLease, LendsWhereFree, give_back_of, name_of, named, piece_of, read_of, second_of, share_of, shared_in}
+use Rattle.store_api.specs.CommandAnswers.{command_answer}
+use Rattle.row_player.specs.Plays.{Plays, RowStep, State, VerifiesLease, LendsWhereFree, give_back_of, name_of, named, piece_of, read_of, second_of, share_of, shared_in}
+use Rattle.store_api.specs.Steps.{StepOf}
 use Rattle.row_player.specs.Rows.{RowView}
-use Rattle.row_player.specs.declared.row.Verb.{Verb}
-use Rattle.row_player.specs.declared.row.Verb.TheVariants as verb
+use Rattle.store_api.specs.declared.verb.Verb.{Verb}
+use Rattle.store_api.specs.declared.verb.Verb.TheVariants as verb
 use Rattle.blobctl.proofs.SomeCommand.{AllFit, Fits, has_command, has_lease}
 
 -- ---- no outcome is `Memory`
@@ -194,17 +197,17 @@ module _ (C : Catalog) where
   read_good inner answer good (Err e) fine = fine
 
   outcome_good : (c : Command) → Told (outcome C c)
-  outcome_good (Start repo) = told_good runs.Number (row_answer (Start repo)) (λ _. tt) (steps.start C repo) (start_fine C repo)
-  outcome_good (Status repo n) = read_good runs.Number (row_answer (Status repo n)) (λ _. tt) (steps.status C repo n) (status_fine C repo n)
-  outcome_good (Append repo n range bytes) = told_good runs.Number (row_answer (Append repo n range bytes)) (λ _. tt) (steps.append C repo n range bytes) (append_fine C repo n range bytes)
-  outcome_good (Close repo n digest range bytes) = told_good runs.Number (row_answer (Close repo n digest range bytes)) (λ _. tt) (steps.close C repo n digest range bytes) (close_fine C repo n digest range bytes)
-  outcome_good (Abandon repo n) = told_good runs.Number (row_answer (Abandon repo n)) (λ _. tt) (steps.abandon C repo n) (abandon_fine C repo n)
-  outcome_good (Mount repo digest from) = told_good runs.Mounting (row_answer (Mount repo digest from)) mount_good (steps.mount C repo digest from) (mount_fine C repo digest from)
-  outcome_good (Delete repo digest) = told_good (λ _. runs.Done) (row_answer (Delete repo digest)) (λ _. tt) (steps.delete C repo digest) (delete_fine C repo digest)
-  outcome_good (PutManifest repo bytes) = told_good runs.Bytes (row_answer (PutManifest repo bytes)) (λ _. tt) (steps.put_manifest C repo bytes) (put_fine C repo bytes)
-  outcome_good (GetManifest repo digest) = read_good runs.Bytes (row_answer (GetManifest repo digest)) (λ _. tt) (steps.get_manifest C repo digest) (get_fine C repo digest)
-  outcome_good (DeleteManifest repo digest) = told_good (λ _. runs.Done) (row_answer (DeleteManifest repo digest)) (λ _. tt) (steps.delete_manifest C repo digest) (drop_fine C repo digest)
-  outcome_good (Lease repo digest) = told_good runs.Bytes (row_answer (Lease repo digest)) (λ _. tt) (steps.lease false C repo digest) (lease_fine C repo digest)
+  outcome_good (Start repo) = told_good runs.Number (command_answer (Start repo)) (λ _. tt) (steps.start C repo) (start_fine C repo)
+  outcome_good (Status repo n) = read_good runs.Number (command_answer (Status repo n)) (λ _. tt) (steps.status C repo n) (status_fine C repo n)
+  outcome_good (Append repo n range bytes) = told_good runs.Number (command_answer (Append repo n range bytes)) (λ _. tt) (steps.append C repo n range bytes) (append_fine C repo n range bytes)
+  outcome_good (Close repo n digest range bytes) = told_good runs.Number (command_answer (Close repo n digest range bytes)) (λ _. tt) (steps.close C repo n digest range bytes) (close_fine C repo n digest range bytes)
+  outcome_good (Abandon repo n) = told_good runs.Number (command_answer (Abandon repo n)) (λ _. tt) (steps.abandon C repo n) (abandon_fine C repo n)
+  outcome_good (Mount repo digest from) = told_good runs.Mounting (command_answer (Mount repo digest from)) mount_good (steps.mount C repo digest from) (mount_fine C repo digest from)
+  outcome_good (Delete repo digest) = told_good (λ _. runs.Done) (command_answer (Delete repo digest)) (λ _. tt) (steps.delete C repo digest) (delete_fine C repo digest)
+  outcome_good (PutManifest repo bytes) = told_good runs.Bytes (command_answer (PutManifest repo bytes)) (λ _. tt) (steps.put_manifest C repo bytes) (put_fine C repo bytes)
+  outcome_good (GetManifest repo digest) = read_good runs.Bytes (command_answer (GetManifest repo digest)) (λ _. tt) (steps.get_manifest C repo digest) (get_fine C repo digest)
+  outcome_good (DeleteManifest repo digest) = told_good (λ _. runs.Done) (command_answer (DeleteManifest repo digest)) (λ _. tt) (steps.delete_manifest C repo digest) (drop_fine C repo digest)
+  outcome_good (Lease repo digest) = told_good runs.Bytes (command_answer (Lease repo digest)) (λ _. tt) (steps.lease false C repo digest) (lease_fine C repo digest)
 
   result_good : (o : steps.Outcome Answer) → Told o → Good (result_of C o).0
   result_good (Ok x) good = good
@@ -250,8 +253,8 @@ module _ (s : State Catalog) (line : RowView) where
   Lending o = (a : Answer) × (t : State Catalog) × LendsWhereFree Leads o s line a t × Good a
 
   lends : (o : steps.Outcome Text) → steps.lease false s.0 line.repo line.digest ≡ o → Fine o → Lending None
-  lends (Ok x) is fine = (Leased (length x.0), (x.1, fmap.insert s.1 (name_of line) (new_lease x.0)), inl (x.0, ap (λ (o : steps.Outcome Text). result_of s.0 (runs.answered (row_answer (Lease line.repo line.digest)) (runs.answered runs.Bytes o))) (sym is), refl, refl), tt)
-  lends (Err e) is fine = (Refused e, s, inr (e, ap (λ (o : steps.Outcome Text). result_of s.0 (runs.answered (row_answer (Lease line.repo line.digest)) (runs.answered runs.Bytes o))) (sym is), refl, refl), fine)
+  lends (Ok x) is fine = (Leased (length x.0), (x.1, fmap.insert s.1 (name_of line) (new_lease x.0)), inl (x.0, ap (λ (o : steps.Outcome Text). result_of s.0 (runs.answered (command_answer (Lease line.repo line.digest)) (runs.answered runs.Bytes o))) (sym is), refl, refl), tt)
+  lends (Err e) is fine = (Refused e, s, inr (e, ap (λ (o : steps.Outcome Text). result_of s.0 (runs.answered (command_answer (Lease line.repo line.digest)) (runs.answered runs.Bytes o))) (sym is), refl, refl), fine)
 
   lending : (o : Option Lent) → Lending o
   lending (Some lease) = (NameTaken, s, (refl, refl), tt)

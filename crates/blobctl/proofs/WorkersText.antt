@@ -8,7 +8,7 @@ use Rattle.store_book.specs.Openings.{OpensCatalog}
 use Rattle.locked_book.specs.History.{steps_of}
 use Rattle.blob_store.specs.OneText.{MeetsNoLimit, PlayedWithinLimits, WorkersWriteTheSame}
 use Rattle.blob_store.specs.Workers.{IsInterleaved}
-use Rattle.row_player.specs.Answers.{Answer}
+use Rattle.store_api.specs.Answers.{Answer}
 use Rattle.row_player.specs.Replies.{replies_text}
 use Rattle.row_player.specs.Rows.{RowView}
 use Rattle.blobctl.specs.WorkersText.{AreApart, MeetNoLimit}

@@ -7,7 +7,7 @@ use Rattle.locked_book.specs.Names.{setting_of}
 use Rattle.blob_store.specs.Workers.{IsInterleaved}
 use Rattle.blobctl.specs.Inputs.{IsTooLong, max_script}
 use Rattle.blobctl.specs.Played.{Played}
-use Rattle.row_player.specs.Answers.{Answer}
+use Rattle.store_api.specs.Answers.{Answer}
 use Rattle.row_player.specs.Replies.{replies_text}
 use Rattle.row_player.specs.Rows.{RowView}
 use Rattle.store_model.specs.Catalog.{Catalog}

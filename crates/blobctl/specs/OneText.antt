@@ -7,7 +7,7 @@ use Rattle.store_book.specs.Openings.{OpensCatalog}
 use Rattle.blobctl.specs.Played.{Played}
 use Rattle.row_player.specs.Rows.{RowView}
 use Rattle.blobctl.specs.Script.{AreRowsOf}
-use Rattle.row_player.specs.declared.row.Verb.TheVariants as verb
+use Rattle.store_api.specs.declared.verb.Verb.TheVariants as verb
 
 -- no row leases a blob
 abbrev pub LeaseNothing : List RowView → Type 0

@@ -13,9 +13,9 @@ use Rattle.store_book.specs.BookState.{BookState, SlotSeen}
 use Rattle.store_book.specs.SlotSteps.{EachSlot, HasLast, IsCrowded}
 use Rattle.store_model.specs.Sweep.{IsSweep}
 use Rattle.store_model.specs.declared.swept.Swept.{Swept as SweptCounts}
-use Rattle.row_player.specs.Answers.{Answer, Verified, Swept, Refused}
-use Rattle.row_player.specs.CommandAnswers.{row_answer}
-use Rattle.row_player.specs.Commands.{Command, Lease, Request, Calls, Verifies, Sweeps}
+use Rattle.store_api.specs.Answers.{Answer, Verified, Swept, Refused}
+use Rattle.store_api.specs.CommandAnswers.{command_answer}
+use Rattle.store_api.specs.Commands.{Command, Lease, Request, Calls, Verifies, Sweeps}
 use Rattle.row_player.specs.Leases as leases
 use Rattle.row_player.specs.Plays.{Plays}
 use Rattle.row_player.specs.Replies.{replies_text}
@@ -24,7 +24,7 @@ use Rattle.blobctl.specs.Script.{AreRowsOf}
 
 -- what a command answers and leaves, where no slot has too many readers
 abbrev pub outcome : Catalog → Command → steps.Outcome Answer
-outcome C command = runs.answered (row_answer command) (runs.outcome false C command)
+outcome C command = runs.answered (command_answer command) (runs.outcome false C command)
 
 -- what an outcome answers and leaves: a refusal changes nothing
 abbrev pub result_of : Catalog → steps.Outcome Answer → Answer × Catalog

@@ -7,19 +7,20 @@ use Rattle.blob_digest.specs.declared.refusal.Refusal.{Refusal}
 use Rattle.store_model.specs.Noninterference.{IsUncrowded, NoCollision, brought_in}
 use Rattle.store_model.specs.BookText.{book_text}
 use Rattle.store_model.specs.Runs as runs
-use Rattle.row_player.specs.Answers.{Answer, Leased, NameTaken, Swept, Refused}
-use Rattle.row_player.specs.Commands.{Command, Lease, command_of, uses_repo}
+use Rattle.store_api.specs.Answers.{Answer, Leased, NameTaken, Swept, Refused}
+use Rattle.store_api.specs.Commands.{Command, Lease, uses_repo}
+use Rattle.row_player.specs.RowCommands.{command_of}
 use Rattle.row_player.specs.Rows.{RowView}
-use Rattle.row_player.specs.declared.row.Verb.TheVariants as verb
+use Rattle.store_api.specs.declared.verb.Verb.TheVariants as verb
 use Rattle.blobctl.specs.Played.{Played}
-use Rattle.row_player.specs.CommandAnswers.{row_answer}
+use Rattle.store_api.specs.CommandAnswers.{command_answer}
 
 -- ---- the events of rows
 
 -- what a row shows where its command is answered so: of a lease the size of its blob
 abbrev pub shown_answer : Command → runs.Answer → Answer
 shown_answer (Lease repo digest) (runs.Bytes bytes) = Leased (length bytes)
-shown_answer command answer = row_answer command answer
+shown_answer command answer = command_answer command answer
 
 abbrev pub shown_reply : Command → Result runs.Answer Refusal → Answer
 shown_reply command (Ok answer) = shown_answer command answer

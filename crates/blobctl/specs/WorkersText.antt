@@ -6,7 +6,7 @@ use Rattle.store_model.specs.Catalog.{Catalog}
 use Rattle.locked_book.specs.History.{steps_of}
 use Rattle.blob_store.specs.OneText.{MeetsNoLimit, NeitherLeaseNorSweep, ShareNoTenant}
 use Rattle.blob_store.specs.Workers.{IsInterleaved}
-use Rattle.row_player.specs.Answers.{Answer}
+use Rattle.store_api.specs.Answers.{Answer}
 use Rattle.row_player.specs.Rows.{RowView}
 use Rattle.blobctl.specs.Ending.{PlayedByWorkers}
 use Rattle.blobctl.specs.Played.{Played}

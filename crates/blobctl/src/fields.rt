@@ -6,7 +6,8 @@ ghost use Rattle.blobctl.specs.Records.{field, head_of, lane_of, row_of, verb_of
 
 use blob_digest::decimal;
 use csv::ByteRecord;
-use row_player::{BorrowedRow, Verb, has_fields};
+use row_player::{BorrowedRow, has_fields};
+use store_api::Verb;
 
 /// The command of a name.
 fn verb_named(name: &[u8]) -> Option<Verb>

@@ -1,6 +1,6 @@
 //! Rows played on a book that one thread has.
 ghost use Rattle.std.specs.Prelude.{◌≡◌, IfOk, IfErr};
-ghost use Rattle.row_player.specs.Answers.{answers_of};
+ghost use Rattle.store_api.specs.Answers.{answers_of};
 ghost use Rattle.row_player.specs.Leases.{Leases as LeasesView, none};
 ghost use Rattle.blobctl.specs.Options.{IsWithin};
 ghost use Rattle.blobctl.specs.Played.{Acts, Leads};
@@ -14,7 +14,8 @@ use crate::options::Options;
 use crate::pinned_book::PinnedBook;
 use blob_digest::Refusal;
 use pin_table::Pins;
-use row_player::{Reply, ScriptRows, play_script};
+use row_player::{ScriptRows, play_script};
+use store_api::Reply;
 use std::alloc::Global;
 use std::marker::{Brand, PhantomData};
 use store_book::{Book, PinsName};

@@ -2,11 +2,12 @@
 ghost use Rattle.std.specs.Prelude.{◌≡◌, ◌++◌, IfErr, OnOk, length};
 ghost use Rattle.std.specs.Io.KnownBytes.{Appends};
 ghost use Rattle.store_model.specs.BookText.{book_text};
-ghost use Rattle.row_player.specs.Answers.{answer_of, answers_of};
+ghost use Rattle.store_api.specs.Answers.{answer_of, answers_of};
 ghost use Rattle.row_player.specs.Replies.{replies_text, reply_line};
 
 use crate::fault::Fault;
-use row_player::{RepliesByRow, Reply, RowList};
+use row_player::{RepliesByRow, RowList};
+use store_api::Reply;
 use std::io;
 use std::io::Write;
 use store_book::Book;

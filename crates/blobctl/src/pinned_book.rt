@@ -3,7 +3,7 @@ ghost use Rattle.std.specs.Prelude.{◌≡◌};
 
 use blob_digest::{Digest, Refusal, RepoName};
 use pin_table::Pins;
-use row_player::{Backend, Command, Piece, Reply, mount_reply};
+use store_api::{Backend, Command, Piece, Reply, mount_reply};
 use std::marker::PhantomData;
 use store_book::{Book, Lease, PinsName, Swept};
 
@@ -21,7 +21,7 @@ impl<'p, N: PinsName> Backend for PinnedBook<'p, N> {
     type Lease = Lease<'p, N>;
 
     ghost use Rattle.blobctl.specs.Played.{Acts};
-    ghost use Rattle.row_player.specs.Leases.{Lent};
+    ghost use Rattle.store_api.specs.Lent.{Lent};
 
     ghost acts = { λ old request answer new. Acts old.book request answer new.book };
 

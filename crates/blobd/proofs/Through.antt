@@ -6,11 +6,11 @@ use Rattle.blob_frames.specs.Replies.{Reply}
 use Rattle.blob_frames.specs.declared.request.Head.{Head}
 use Rattle.finite_maps.specs.Texts.{Text}
 use Rattle.store_model.specs.Catalog.{Catalog}
-use Rattle.row_player.specs.Answers.{Answer, Bytes, Refused, Swept}
-use Rattle.row_player.specs.Commands.{Calls, Command, Request, Sweeps}
-use Rattle.row_player.specs.Plays.{StepOf}
-use Rattle.row_player.specs.declared.row.Verb.{Verb}
-use Rattle.row_player.specs.declared.row.Verb.TheVariants as verb
+use Rattle.store_api.specs.Answers.{Answer, Bytes, Refused, Swept}
+use Rattle.store_api.specs.Commands.{Calls, Command, Request, Sweeps}
+use Rattle.store_api.specs.Steps.{StepOf}
+use Rattle.store_api.specs.declared.verb.Verb.{Verb}
+use Rattle.store_api.specs.declared.verb.Verb.TheVariants as verb
 use Rattle.line_player.specs.Lendings.{Lending, Kept, NotKept, Read, NotRead, GivenBack, NotGivenBack}
 use Rattle.line_player.specs.Outcomes.{Outcome, Answered, Lent, Told, NoCommand}
 use Rattle.line_player.specs.Queries.{NoVerbStep, SpelledStep, spelled_query}

@@ -6,7 +6,7 @@ use blob_store::{Lease, Naming, Seat};
 use lease_table::{LeaseNaming, LeaseWriter, LockedLeaseTable};
 use line_player::Lending;
 use locked_book::StorePins;
-use row_player::Piece;
+use store_api::Piece;
 use std::sync::{Mutex, Wait};
 
 /// The table of leases that all lines share, under its lock, and a line's right to add to the table's history. Contracts

@@ -6,7 +6,7 @@ use Rattle.std.specs.Coded.{Coded, code_by, coded×, coded_ℕ}
 use Rattle.std.specs.FinMap as fmap
 use Rattle.std.proofs.Common.{refl}
 use Rattle.finite_maps.specs.Texts.{Text, coded_text}
-use Rattle.row_player.specs.Leases.{Lent, between}
+use Rattle.store_api.specs.Lent.{Lent, between}
 use Rattle.store_book.specs.Leased.{Leased}
 use Rattle.line_player.specs.Lendings.{Lending, Kept, NotKept, Read, NotRead, GivenBack, NotGivenBack}
 

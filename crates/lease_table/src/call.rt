@@ -1,7 +1,7 @@
 //! A call that was made under the lock.
 
 use blob_digest::Digest;
-use row_player::Piece;
+use store_api::Piece;
 use std::snapshot::Snapshot;
 use store_book::{Lease, PinsName};
 

@@ -13,7 +13,7 @@ use crate::history::{LeaseHistory, LeaseWriter};
 use crate::naming::LeaseNaming;
 use crate::table::LeaseTable;
 use blob_digest::{Digest, Refusal};
-use row_player::Piece;
+use store_api::Piece;
 use shared_log::SharedLog;
 use std::alloc::Global;
 use std::marker::Model;

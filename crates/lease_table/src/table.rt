@@ -9,7 +9,7 @@ ghost use Rattle.line_player.specs.Lendings.{IsPieceOf};
 ghost use Rattle.lease_table.specs.Tables.{GivesBack, Keeps, Reads, numbered_in};
 
 use blob_digest::{Digest, Refusal};
-use row_player::Piece;
+use store_api::Piece;
 use std::alloc::{AllocFailed, Global};
 use std::collections::BTreeMap;
 use std::marker::Model;

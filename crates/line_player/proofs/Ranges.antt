@@ -3,7 +3,7 @@ use Rattle.std.proofs.Common.{◌≡◌, ◌^◌, ◌<◌, ◌≤◌, ℕ, Bool,
 use Rattle.std.specs.Prelude.{nat_le, nat_lt}
 use Rattle.std.proofs.lemmas.Bool.{leb-true, ltb-true}
 use Rattle.blob_digest.specs.declared.refusal.Refusal.TheVariants.{SizeInvalid}
-use Rattle.row_player.specs.Commands.{range_by, range_with}
+use Rattle.store_api.specs.Commands.{range_by, range_with}
 
 pub range_misses : (s e : ℕ) → (s ≤ e → e < 2 ^ 63 → ⊥) → range_with (Some (s, e)) ≡ Err SizeInvalid
 range_misses s e apart = go (nat_le s e) (nat_lt e (2 ^ 63)) refl refl

@@ -8,9 +8,9 @@ use Rattle.blob_frames.specs.Frames.{request_bytes}
 use Rattle.blob_digest.specs.declared.refusal.Refusal.{Refusal}
 use Rattle.blob_digest.specs.declared.refusal.Refusal.TheVariants.{NameInvalid, DigestInvalid, NameUnknown, UploadUnknown, SizeInvalid, RangeInvalid, BlobUnknown, ManifestInvalid, ManifestUnknown, ManifestBlobUnknown, Quota, Referenced, StoreFull, TooManyReaders, LimitReached, WeightSpent, Memory, Busy}
 use Rattle.blob_frames.specs.Replies.{Reply, TellsRefusal, refusal_reply, reply_bytes}
-use Rattle.row_player.specs.Answers.{Answer}
-use Rattle.row_player.specs.Answers as answers
-use Rattle.row_player.specs.Commands.{Request}
+use Rattle.store_api.specs.Answers.{Answer}
+use Rattle.store_api.specs.Answers as answers
+use Rattle.store_api.specs.Commands.{Request}
 use Rattle.store_model.specs.Catalog.{Catalog}
 use Rattle.watched_reader.specs.Watching.{HasNotFailed}
 use Rattle.watched_reader.specs.declared.watched.Watched.{Watched}

@@ -2,7 +2,7 @@
 use Rattle.std.specs.Prelude.{◌≡◌, ℕ, true}
 use Rattle.blob_digest.specs.Digests.{is_digest_of}
 use Rattle.finite_maps.specs.Texts.{Text}
-use Rattle.row_player.specs.Leases.{Lent, between}
+use Rattle.store_api.specs.Lent.{Lent, between}
 
 -- a lease is kept under a number, or there is no memory for it; of the lease of a number and a digest the bytes from a start to an end
 -- are read, or there is no such lease; the lease of a number is given back, or there is none

@@ -2,7 +2,7 @@
 use Rattle.std.specs.Prelude.{◌≡◌, ◌⊎◌, ℕ, []}
 use Rattle.blob_frames.specs.Replies.{Reply, TellsRefusal, digest_reply, memory_reply, numbers_reply, refusal_reply}
 use Rattle.finite_maps.specs.Texts.{Text}
-use Rattle.row_player.specs.Answers.{Answer, Session, Received, Stored, Manifest, Body, Leased, Bytes, Verified, Swept, NoLease, NameTaken, Refused, answer_of}
+use Rattle.store_api.specs.Answers.{Answer, Session, Received, Stored, Manifest, Body, Leased, Bytes, Verified, Swept, NoLease, NameTaken, Refused, answer_of}
 use Rattle.line_player.specs.declared.outcome.Outcome.{Outcome as Code}
 use Rattle.line_player.specs.declared.outcome.Outcome.TheVariants as code
 

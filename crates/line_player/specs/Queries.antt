@@ -4,8 +4,8 @@ use Rattle.blob_digest.specs.declared.refusal.Refusal.{Refusal}
 use Rattle.blob_frames.specs.Frames.{digest_of, repo_of}
 use Rattle.blob_frames.specs.declared.request.Head.{Head}
 use Rattle.finite_maps.specs.Texts.{Text}
-use Rattle.row_player.specs.Answers.{Refused}
-use Rattle.row_player.specs.Commands.{digest_in, repo_in}
+use Rattle.store_api.specs.Answers.{Refused}
+use Rattle.store_api.specs.Commands.{digest_in, repo_in}
 use Rattle.store_model.specs.Catalog.{Catalog}
 use Rattle.store_model.specs.Queries as queries
 use Rattle.store_model.specs.declared.usage.Usage.{Usage as UsageView}

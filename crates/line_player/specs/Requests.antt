@@ -5,9 +5,9 @@ use Rattle.blob_digest.specs.declared.refusal.Refusal.{Refusal}
 use Rattle.blob_frames.specs.Frames.{body_of, digest_of, repo_of, source_of}
 use Rattle.blob_frames.specs.declared.request.Head.{Head}
 use Rattle.finite_maps.specs.Texts.{Text}
-use Rattle.row_player.specs.Commands.{Command, command_from, range_with}
-use Rattle.row_player.specs.declared.row.Verb.{Verb}
-use Rattle.row_player.specs.declared.row.Verb.TheVariants as verb
+use Rattle.store_api.specs.Commands.{Command, command_from, range_with}
+use Rattle.store_api.specs.declared.verb.Verb.{Verb}
+use Rattle.store_api.specs.declared.verb.Verb.TheVariants as verb
 
 -- what a request's first byte asks for, if anything
 abbrev pub verb_of : ℕ → Option Verb

@@ -7,8 +7,8 @@ use Rattle.blob_frames.specs.Lines.{IsCutOff, IsPartial}
 use Rattle.blob_frames.specs.Replies.{Reply, reply_bytes}
 use Rattle.blob_frames.specs.declared.request.Head.{Head}
 use Rattle.finite_maps.specs.Texts.{Text}
-use Rattle.row_player.specs.Answers.{Answer}
-use Rattle.row_player.specs.Commands.{Request}
+use Rattle.store_api.specs.Answers.{Answer}
+use Rattle.store_api.specs.Commands.{Request}
 use Rattle.store_model.specs.Catalog.{Catalog}
 use Rattle.watched_reader.specs.Watching.{HasNotFailed, has_failed}
 use Rattle.watched_reader.specs.declared.watched.Watched.{Watched}

@@ -6,13 +6,13 @@ use Rattle.blob_digest.specs.declared.refusal.Refusal.TheVariants.{Memory}
 use Rattle.blob_frames.specs.Frames.{digest_of, payload_len}
 use Rattle.blob_frames.specs.declared.request.Head.{Head}
 use Rattle.finite_maps.specs.Texts.{Text}
-use Rattle.row_player.specs.Answers.{Answer, Bytes, GivenBack, NoLease, Refused, Swept as SweptAnswer, answer_of}
-use Rattle.row_player.specs.Commands.{Command, Request, Calls, Sweeps, digest_in}
-use Rattle.row_player.specs.Leases.{Lent as LentView}
-use Rattle.row_player.specs.Plays.{StepOf}
-use Rattle.row_player.specs.declared.reply.Reply.{Reply}
-use Rattle.row_player.specs.declared.row.Verb.{Verb}
-use Rattle.row_player.specs.declared.row.Verb.TheVariants as verb
+use Rattle.store_api.specs.Answers.{Answer, Bytes, GivenBack, NoLease, Refused, Swept as SweptAnswer, answer_of}
+use Rattle.store_api.specs.Commands.{Command, Request, Calls, Sweeps, digest_in}
+use Rattle.store_api.specs.Lent.{Lent as LentView}
+use Rattle.store_api.specs.Steps.{StepOf}
+use Rattle.store_api.specs.declared.reply.Reply.{Reply}
+use Rattle.store_api.specs.declared.verb.Verb.{Verb}
+use Rattle.store_api.specs.declared.verb.Verb.TheVariants as verb
 use Rattle.store_model.specs.Catalog.{Catalog}
 use Rattle.store_model.specs.declared.swept.Swept.{Swept as SweptCounts}
 use Rattle.line_player.specs.Lendings.{Lending, Kept, NotKept, Read, NotRead, GivenBack as GaveBack, NotGivenBack, IsPieceOf}

@@ -2,12 +2,12 @@
 ghost use Rattle.std.specs.Prelude.{◌≡◌, ◌≢◌, ◌^◌, ◌<◌, ◌≤◌, IfSome, Some, true};
 ghost use Rattle.blob_digest.specs.Outcomes.{Answers};
 ghost use Rattle.line_player.specs.Requests.{ends_of, range_of, request_command, verb_of};
-ghost use Rattle.row_player.specs.CommandViews.{command_view};
-ghost use Rattle.row_player.specs.Commands.{Lease, is_command, range_with};
+ghost use Rattle.store_api.specs.CommandViews.{command_view};
+ghost use Rattle.store_api.specs.Commands.{Lease, is_command, range_with};
 
 use blob_digest::{ByteRange, Digest, Refusal, RepoName};
 use blob_frames::{Head, Request};
-use row_player::{Command, Fields, Verb, command_from, digest_in, repo_in};
+use store_api::{Command, Fields, Verb, command_from, digest_in, repo_in};
 use std::alloc::Global;
 
 /// What a request's first byte asks for: nothing where no command has the number.

@@ -3,7 +3,7 @@ ghost use Rattle.std.specs.Prelude.{◌≡◌, ◌⊎◌, ◌^◌, ◌<◌, ◌�
 ghost use Rattle.line_player.specs.Lendings.{Lending as Event, GivenBack, IsPieceOf, Kept, NotGivenBack, NotKept, NotRead, Read};
 
 use blob_digest::{Digest, Refusal};
-use row_player::{Backend, Piece};
+use store_api::{Backend, Piece};
 
 /// The leases that are out, by their numbers. They are no line's: any line may read, and give back, what another one
 /// has leased.

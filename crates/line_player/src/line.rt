@@ -14,7 +14,7 @@ use crate::outcome::{Outcome, write_outcome};
 use crate::step::play_request;
 use blob_digest::Refusal;
 use blob_frames::{FrameFault, Incoming, Request, read_greeting, read_request, write_greeting};
-use row_player::{Backend, Queries, Reply};
+use store_api::{Backend, Queries, Reply};
 use std::alloc::Global;
 use std::io::{self, Read, Write};
 use watched_reader::Watched;

@@ -3,10 +3,10 @@ ghost use Rattle.std.specs.Prelude.{◌≡◌, ◌⊎◌, OnOk, ◌<◌, ◌^◌
 ghost use Rattle.std.specs.Io.KnownBytes.{Appends};
 ghost use Rattle.blob_frames.specs.Replies.{Reply as Frame, numbers_reply, reply_bytes};
 ghost use Rattle.line_player.specs.Outcomes.{Tells, TellsAnswer, body_reply, outcome_of};
-ghost use Rattle.row_player.specs.Answers.{answer_of};
+ghost use Rattle.store_api.specs.Answers.{answer_of};
 
 use blob_frames::{write_digest, write_refusal, write_reply};
-use row_player::Reply;
+use store_api::Reply;
 use std::alloc::Global;
 use std::io::{self, Write};
 

@@ -6,8 +6,8 @@ ghost use Rattle.line_player.specs.Outcomes.{Answered, outcome_of};
 ghost use Rattle.line_player.specs.Queries.{NoVerbStep, query_of};
 ghost use Rattle.line_player.specs.Requests.{range_of, request_command};
 ghost use Rattle.line_player.specs.Steps.{AnswersCommand, GiveBackStep, LeaseStep, ReadStep, RequestStep, TakesMemory, VerbStep};
-ghost use Rattle.row_player.specs.Answers.{Refused, answer_of};
-ghost use Rattle.row_player.specs.Commands.{digest_in, is_command};
+ghost use Rattle.store_api.specs.Answers.{Refused, answer_of};
+ghost use Rattle.store_api.specs.Commands.{digest_in, is_command};
 
 use crate::command::{blob_named, ends_of, range_of, request_command, verb_of};
 use crate::lending::Lending;
@@ -15,7 +15,7 @@ use crate::outcome::Outcome;
 use crate::query::{ask, query_of, spell_query};
 use blob_digest::Refusal;
 use blob_frames::Request;
-use row_player::{Backend, Queries, Reply, Verb, digest_in};
+use store_api::{Backend, Queries, Reply, Verb, digest_in};
 use std::alloc::Global;
 
 /// Plays a request for a command that is answered with a reply.

@@ -4,11 +4,13 @@ use Rattle.std.specs.List.{zip}
 use Rattle.std.proofs.lemmas.List.Sums.{sum_by-cons}
 use Rattle.finite_maps.specs.Texts.{Text}
 use Rattle.blob_digest.specs.declared.refusal.Refusal.{Refusal}
-use Rattle.row_player.specs.Answers.{Answer, Bytes, Leased, Refused}
-use Rattle.row_player.specs.Commands.{Command, Lease, Request, Calls, Verifies, Sweeps, command_of}
+use Rattle.store_api.specs.Answers.{Answer, Bytes, Leased, Refused}
+use Rattle.store_api.specs.Commands.{Command, Lease, Request, Calls, Verifies, Sweeps}
+use Rattle.row_player.specs.RowCommands.{command_of}
 use Rattle.row_player.specs.Counts.{abandoned_of, chunk_of, closed_of, rows_amount, counted_abandons, counted_bytes, counted_closed, counted_commands, is_accepted, request_amount, row_amount, spelled_amount}
-use Rattle.row_player.specs.Leases.{Lent}
-use Rattle.row_player.specs.Plays.{LendsWhereFree, Plays, RowStep, State, StepOf, VerifiesLease, named}
+use Rattle.store_api.specs.Lent.{Lent}
+use Rattle.row_player.specs.Plays.{LendsWhereFree, Plays, RowStep, State, VerifiesLease, named}
+use Rattle.store_api.specs.Steps.{StepOf}
 use Rattle.row_player.specs.Rows.{RowView}
 
 -- What a store counts goes from one number to another by an amount: `Goes` has it so for no amount, and for the sum of two.

@@ -7,8 +7,8 @@ use Rattle.finite_maps.specs.Texts.{Text}
 use Rattle.blob_digest.specs.Names.{is_alnum}
 use Rattle.row_player.specs.Rows.{fits, is_empty, is_lease_name, names_lease}
 use Rattle.row_player.specs.declared.row.BorrowedRow.{BorrowedRow}
-use Rattle.row_player.specs.declared.row.Verb.{Verb}
-use Rattle.row_player.specs.declared.row.Verb.TheVariants as verb
+use Rattle.store_api.specs.declared.verb.Verb.{Verb}
+use Rattle.store_api.specs.declared.verb.Verb.TheVariants as verb
 
 name_within : (text : Text) → is_lease_name text ≡ true → length text ≤ 32
 name_within text h =

@@ -18,8 +18,9 @@ use Rattle.finite_maps.specs.Texts.{text_cmp}
 use Rattle.finite_maps.proofs.Sums.{insert-remove, insert_back}
 use Rattle.blob_digest.specs.declared.refusal.Refusal.{Refusal}
 use Rattle.blob_digest.specs.declared.refusal.Refusal.TheVariants.{Memory, WeightSpent}
-use Rattle.row_player.specs.Answers.{Shared, Refused}
-use Rattle.row_player.specs.Leases.{Lent, Leases, Name, halved, name_cmp}
+use Rattle.store_api.specs.Answers.{Shared, Refused}
+use Rattle.store_api.specs.Lent.{Lent, halved}
+use Rattle.row_player.specs.Leases.{Leases, Name, name_cmp}
 use Rattle.row_player.specs.Plays.{shared_in}
 use Rattle.row_player.specs.LeaseNames.{name_cmp_total}
 use Rattle.row_player.specs.LeaseTables.{held_rows, leases_in, with_lease}

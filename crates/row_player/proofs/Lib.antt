@@ -1,5 +1,4 @@
 pub mod Counting
-pub mod Digits
 pub mod FieldTexts
 pub mod LeaseRows
 pub mod LeaseTables

@@ -7,11 +7,11 @@ use Rattle.std.specs.Prelude.{MatchOption, slice_set}
 use Rattle.std.specs.Option.{option_map, option_to_list}
 use Rattle.std.specs.List.{filter, zip}
 use Rattle.std.specs.declared.collections.VecDeque.{VecDeque}
-use Rattle.row_player.specs.Answers.{Answer, answer_of, answers_of}
+use Rattle.store_api.specs.Answers.{Answer, answer_of, answers_of}
 use Rattle.row_player.specs.Rows.{RowView}
 use Rattle.row_player.specs.Shares.{AreTogether, TakesFirst, by_row, then_next, is_own, own_rows, own_answers}
 use Rattle.row_player.specs.RowViews.{IsLaneAt, IsRowAt}
-use Rattle.row_player.specs.declared.reply.Reply.{Reply}
+use Rattle.store_api.specs.declared.reply.Reply.{Reply}
 use Rattle.row_player.proofs.WorkerRows.{row_there}
 
 -- the answers at a worker's rows, the first one apart

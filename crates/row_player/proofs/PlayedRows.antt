@@ -5,13 +5,16 @@ use Rattle.std.specs.FinMap as fmap
 use Rattle.finite_maps.specs.Texts.{Text}
 use Rattle.blob_digest.specs.declared.refusal.Refusal.{Refusal}
 use Rattle.blob_digest.specs.declared.refusal.Refusal.TheVariants.{Memory}
-use Rattle.row_player.specs.Answers.{Answer, Bytes, Leased, Refused}
-use Rattle.row_player.specs.Commands.{Calls, Command, Request, Lease, Sweeps, Verifies, command_of}
-use Rattle.row_player.specs.Leases.{Leases, Lent, new_lease}
+use Rattle.store_api.specs.Answers.{Answer, Bytes, Leased, Refused}
+use Rattle.store_api.specs.Commands.{Calls, Command, Request, Lease, Sweeps, Verifies}
+use Rattle.row_player.specs.RowCommands.{command_of}
+use Rattle.store_api.specs.Lent.{Lent, new_lease}
+use Rattle.row_player.specs.Leases.{Leases}
 use Rattle.row_player.specs.RowViews.{IsRowAt}
-use Rattle.row_player.specs.Plays.{LendsWhereFree, Plays, PlaysOn, RowStep, State, StepOf, VerifiesLease, name_of, named}
+use Rattle.row_player.specs.Plays.{LendsWhereFree, Plays, PlaysOn, RowStep, State, VerifiesLease, name_of, named}
+use Rattle.store_api.specs.Steps.{StepOf}
 use Rattle.row_player.specs.Rows.{RowView}
-use Rattle.row_player.specs.declared.row.Verb.TheVariants as verb
+use Rattle.store_api.specs.declared.verb.Verb.TheVariants as verb
 
 -- a store refuses a lease, or memory runs out
 pub lease_refused : {S : Type 0} (acts : S → Request → Answer → S → Type 0) (s t : S) (L M : Leases) (line : RowView) (refusal : Refusal) → line.verb ≡ verb.Lease → command_of line ≡ Ok (Some (Lease line.repo line.digest)) → named L line ≡ None

@@ -10,13 +10,14 @@ use Rattle.finite_maps.specs.Outcomes.{◌>>=◌}
 use Rattle.blob_digest.specs.declared.range.ByteRange.{ByteRange}
 use Rattle.blob_digest.specs.declared.refusal.Refusal.{Refusal}
 use Rattle.store_model.specs.Runs.{repo_of}
-use Rattle.row_player.specs.Commands.{Command, Lease, command, command_of, digest_in, is_lease, range_in, repo_in, source_in, uses_digest, uses_range, uses_repo, uses_source, where_used}
-use Rattle.row_player.specs.CommandViews.{command_view}
-use Rattle.row_player.specs.declared.command.Command.{Command as Called}
-use Rattle.row_player.specs.declared.command.Command.TheVariants as called
+use Rattle.store_api.specs.Commands.{Command, Lease, command, digest_in, is_lease, repo_in, source_in, uses_digest, uses_range, uses_repo, uses_source, where_used}
+use Rattle.row_player.specs.RowCommands.{command_of, range_in}
+use Rattle.store_api.specs.CommandViews.{command_view}
+use Rattle.store_api.specs.declared.command.Command.{Command as Called}
+use Rattle.store_api.specs.declared.command.Command.TheVariants as called
 use Rattle.row_player.specs.Rows.{RowView, session_number}
-use Rattle.row_player.specs.declared.row.Verb.{Verb}
-use Rattle.row_player.specs.declared.row.Verb.TheVariants as verb
+use Rattle.store_api.specs.declared.verb.Verb.{Verb}
+use Rattle.store_api.specs.declared.verb.Verb.TheVariants as verb
 
 -- a row of a lease that its lane has, and a sweep, spell no command
 pub spells_none : (row : RowView) (v : Verb) → row.verb ≡ v → uses_repo v ≡ false → command_of row ≡ Ok None
@@ -96,16 +97,3 @@ repo_spelled row c h =
     let s = spelled row (Some c) h in
     let named = rw (names_repo row c h) at s.named in
     named_by s.repo s.digest row.body s.from s.range c row.verb (session_number row.key) s.is ∙ name_read row.repo s.repo named
-
--- a command that is answered with a reply is no lease
-pub no_lease : (c : Called) → is_lease (command_view c) ≡ false
-no_lease (called.Start repo) = refl
-no_lease (called.Status repo number) = refl
-no_lease (called.Append repo number range bytes) = refl
-no_lease (called.Close repo number digest range bytes) = refl
-no_lease (called.Abandon repo number) = refl
-no_lease (called.Mount repo digest from) = refl
-no_lease (called.Delete repo digest) = refl
-no_lease (called.PutManifest repo bytes) = refl
-no_lease (called.GetManifest repo digest) = refl
-no_lease (called.DeleteManifest repo digest) = refl

@@ -2,8 +2,9 @@
 use Rattle.std.specs.Prelude.{ℕ, List, Bool, true, false, if◌then◌else◌, length, Option, Some, None, Result, Ok, Err}
 use Rattle.std.specs.List.{sum_by, zip}
 use Rattle.blob_digest.specs.declared.refusal.Refusal.{Refusal}
-use Rattle.row_player.specs.Answers.{Answer, NoLease, NameTaken, Refused, Stored}
-use Rattle.row_player.specs.Commands.{Command, Abandon, Append, Close, Request, Calls, command_of}
+use Rattle.store_api.specs.Answers.{Answer, NoLease, NameTaken, Refused, Stored}
+use Rattle.store_api.specs.Commands.{Command, Abandon, Append, Close, Request, Calls}
+use Rattle.row_player.specs.RowCommands.{command_of}
 use Rattle.row_player.specs.Rows.{RowView}
 
 -- whether this answer accepts what was asked

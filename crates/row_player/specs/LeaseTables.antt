@@ -3,7 +3,8 @@ use Rattle.std.specs.Prelude.{◌≡◌, ◌⊎◌, true, List, [], ◌∷◌, O
 use Rattle.std.specs.FinMap as fmap
 use Rattle.std.specs.BTreeMap as tree
 use Rattle.std.specs.BTreeMap.{is_at}
-use Rattle.row_player.specs.Leases.{Lent, Leases, Name, name_cmp}
+use Rattle.store_api.specs.Lent.{Lent}
+use Rattle.row_player.specs.Leases.{Leases, Name, name_cmp}
 
 -- the rows of a table that hold a lease
 abbrev pub held_rows : {L : Type 0} → (L → Lent) → List (Name × Option L) → List (Name × Lent)

@@ -1,7 +1,3 @@
-pub mod Answers
-pub mod CommandAnswers
-pub mod CommandViews
-pub mod Commands
 pub mod Counts
 pub mod LeaseNames
 pub mod LeaseTables
@@ -10,6 +6,7 @@ pub mod RowPlaces
 pub mod RowViews
 pub mod Plays
 pub mod Replies
+pub mod RowCommands
 pub mod Rows
 pub mod JoinedRows
 pub mod Shares

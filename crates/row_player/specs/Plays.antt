@@ -5,12 +5,15 @@ use Rattle.finite_maps.specs.Texts.{Text}
 use Rattle.blob_digest.specs.Ranges.{range_of}
 use Rattle.blob_digest.specs.declared.refusal.Refusal.{Refusal}
 use Rattle.blob_digest.specs.declared.refusal.Refusal.TheVariants.{Memory, SizeInvalid, WeightSpent}
-use Rattle.row_player.specs.Answers.{Answer, answer_of, Leased, Bytes, Shared, GivenBack, NoLease, NameTaken, Refused}
-use Rattle.row_player.specs.Commands.{Command, Request, Calls, Verifies, Sweeps, command_of, is_lease, Lease}
-use Rattle.row_player.specs.Leases.{Lent, Leases, Name, between, halved, new_lease}
+use Rattle.store_api.specs.Answers.{Answer, answer_of, Leased, Bytes, Shared, GivenBack, NoLease, NameTaken, Refused}
+use Rattle.store_api.specs.Steps.{StepOf}
+use Rattle.store_api.specs.Commands.{Command, Request, Calls, Verifies, Sweeps, is_lease, Lease}
+use Rattle.row_player.specs.RowCommands.{command_of}
+use Rattle.store_api.specs.Lent.{Lent, between, halved, new_lease}
+use Rattle.row_player.specs.Leases.{Leases, Name}
 use Rattle.row_player.specs.Rows.{RowView}
-use Rattle.row_player.specs.declared.reply.Reply.{Reply}
-use Rattle.row_player.specs.declared.row.Verb.TheVariants as verb
+use Rattle.store_api.specs.declared.reply.Reply.{Reply}
+use Rattle.store_api.specs.declared.verb.Verb.TheVariants as verb
 
 -- what rows are played on, and the leases that the lanes hold
 abbrev pub State : Type 0 → Type 0
@@ -28,12 +31,6 @@ abbrev pub named : Leases → RowView → Option Lent
 named leases row = fmap.get leases (name_of row)
 
 -- ---- rows of the store
-
--- what a row does by the command that it spells: a refusal changes nothing, and a command that lends is a row's that lends
-abbrev pub StepOf : {S : Type 0} → (S → Request → Answer → S → Type 0) → Result (Option Command) Refusal → S → Answer → S → Type 0
-StepOf acts (Ok (Some command)) old answer new = (is_lease command ≡ false) × acts old (Calls command) answer new
-StepOf acts (Ok None) old answer new = ⊥
-StepOf acts (Err refusal) old answer new = (answer ≡ Refused refusal) × (new ≡ old)
 
 abbrev pub StoreStep : {S : Type 0} → (S → Request → Answer → S → Type 0) → S → RowView → Answer → S → Type 0
 StoreStep acts old row answer new = StepOf acts (command_of row) old answer new

@@ -1,36 +1,10 @@
--- The texts of replies.
+-- The lines of replies.
 use Rattle.std.specs.Prelude.{ℕ, List, ◌++◌, codes}
 use Rattle.std.specs.Fmt.{decimal}
 use Rattle.std.specs.List.{enumerate_from, flat_map}
-use Rattle.hex.specs.Hex.{encode_lower}
 use Rattle.finite_maps.specs.Texts.{Text}
-use Rattle.blob_digest.specs.Refusals.{refusal_text}
-use Rattle.store_model.specs.declared.swept.Swept.{Swept as SweptCounts}
-use Rattle.row_player.specs.Answers.{Answer, Session, Received, Stored, Abandoned, Mounted, Deleted, Manifest, Body, Leased, Bytes, Shared, Verified, GivenBack, Swept, NoLease, NameTaken, Refused}
-
--- what a sweep did
-abbrev pub swept_text : SweptCounts → Text
-swept_text swept = codes "swept condemned " ++ decimal swept.condemned ++ codes " freed " ++ decimal swept.freed ++ codes " held " ++ decimal swept.held ++ codes " retired " ++ decimal swept.retired
-
--- what a reply says
-abbrev pub reply_text : Answer → Text
-reply_text (Session number) = codes "session " ++ decimal number
-reply_text (Received length) = codes "received " ++ decimal length
-reply_text (Stored size) = codes "stored " ++ decimal size
-reply_text Abandoned = codes "abandoned"
-reply_text Mounted = codes "mounted"
-reply_text Deleted = codes "deleted"
-reply_text (Manifest digest) = codes "manifest " ++ digest
-reply_text (Body bytes) = codes "body " ++ encode_lower bytes
-reply_text (Leased size) = codes "leased " ++ decimal size
-reply_text (Bytes bytes) = codes "bytes " ++ encode_lower bytes
-reply_text Shared = codes "shared"
-reply_text (Verified size) = codes "verified " ++ decimal size
-reply_text GivenBack = codes "given back"
-reply_text (Swept swept) = swept_text swept
-reply_text NoLease = codes "no lease"
-reply_text NameTaken = codes "name taken"
-reply_text (Refused refusal) = codes "refused " ++ refusal_text refusal
+use Rattle.store_api.specs.Answers.{Answer}
+use Rattle.store_api.specs.Replies.{reply_text}
 
 -- a row's number, a space, the reply, and a line feed
 abbrev pub reply_line : ℕ × Answer → Text

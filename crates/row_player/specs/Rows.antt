@@ -4,8 +4,8 @@ use Rattle.std.specs.List.{list_all}
 use Rattle.finite_maps.specs.Texts.{Text}
 use Rattle.blob_digest.specs.Names.{is_alnum}
 use Rattle.blob_digest.specs.Ranges.{number_of}
-use Rattle.row_player.specs.declared.row.Verb.{Verb}
-use Rattle.row_player.specs.declared.row.Verb.TheVariants.{Start, Status, Append, Close, Abandon, Mount, Delete, PutManifest, GetManifest, DeleteManifest, Lease, Read, Share, Verify, GiveBack, Sweep}
+use Rattle.store_api.specs.declared.verb.Verb.{Verb}
+use Rattle.store_api.specs.declared.verb.Verb.TheVariants.{Start, Status, Append, Close, Abandon, Mount, Delete, PutManifest, GetManifest, DeleteManifest, Lease, Read, Share, Verify, GiveBack, Sweep}
 
 -- a row: lane, command, repository, the key (a session's number, a source or the name of a lease), digest, range and body
 pub record RowView : Type 0 where

@@ -1,7 +1,7 @@
 -- Which worker plays a row, and how the replies of several workers stand together.
 use Rattle.std.specs.Prelude.{◌≡◌, ℕ, ◌%◌, ◌==◌, ◌<◌, Bool, List, [], ◌∷◌, length, map, get_or, set, Option, Some, None}
 use Rattle.std.specs.List.{filter, zip}
-use Rattle.row_player.specs.Answers.{Answer}
+use Rattle.store_api.specs.Answers.{Answer}
 use Rattle.row_player.specs.Rows.{RowView}
 
 -- whether a row is this worker's: that of its lane

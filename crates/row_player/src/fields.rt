@@ -4,8 +4,8 @@ ghost use Rattle.std.specs.List.{list_all};
 ghost use Rattle.blob_digest.specs.Names.{is_alnum};
 ghost use Rattle.row_player.specs.Rows.{fits, is_lease_name, session_number};
 
-use crate::row::Verb;
 use blob_digest::decimal;
+use store_api::Verb;
 
 /// The number of a session that a field names.
 pub fn session(text: &[u8]) -> Option<u32>

@@ -4,20 +4,20 @@ ghost use Rattle.std.specs.Option.{option_map};
 ghost use Rattle.std.specs.FinMap as fmap;
 ghost use Rattle.std.specs.BTreeMap as tree;
 ghost use Rattle.finite_maps.specs.Texts.{Text};
-ghost use Rattle.row_player.specs.Answers.{answer_of, Bytes, Refused};
-ghost use Rattle.row_player.specs.Commands.{Calls, Lease as LeaseCommand};
-ghost use Rattle.row_player.specs.Leases.{name_cmp, new_lease, none};
+ghost use Rattle.store_api.specs.Answers.{answer_of, Bytes, Refused};
+ghost use Rattle.store_api.specs.Commands.{Calls, Lease as LeaseCommand};
+ghost use Rattle.store_api.specs.Lent.{new_lease};
+ghost use Rattle.row_player.specs.Leases.{name_cmp, none};
 ghost use Rattle.row_player.specs.LeaseTables.{HasRow, HoldsBut, HoldsEach, KeepsRows, leases_in, with_lease};
 ghost use Rattle.row_player.specs.Plays.{VerifiesLease, shared_in, give_back_of};
 
-use crate::backend::Backend;
 use crate::lease_name::LeaseName;
-use crate::reply::Reply;
 use blob_digest::{Digest, Refusal, RepoName};
 use std::alloc::{AllocFailed, Global};
 use std::collections::BTreeMap;
 use std::marker::Model;
 use std::mem;
+use store_api::{Backend, Reply};
 
 /// What is kept under each name: a lease, or room for one.
 type Table<L> = BTreeMap<LeaseName, Option<L>>;

@@ -1,13 +1,13 @@
 //! The replies of several workers in the order of the rows.
 ghost use Rattle.std.specs.Prelude.{◌<◌, ◌≤◌, ◌≡◌, ◌∷◌, [], MatchOption, length, map, vec_capacity};
 ghost use Rattle.std.specs.Option.{option_map};
-ghost use Rattle.row_player.specs.Answers.{answer_of, answers_of};
+ghost use Rattle.store_api.specs.Answers.{answer_of, answers_of};
 ghost use Rattle.row_player.specs.Shares.{TakesFirst, by_row};
 
-use crate::reply::Reply;
 use crate::row_list::RowList;
 use std::collections::VecDeque;
 use std::marker::Model;
+use store_api::Reply;
 
 /// The first reply that waits in a worker's queue.
 fn take_first(queues: &mut Vec<VecDeque<Reply>>, worker: usize) -> Option<Reply>
@@ -30,7 +30,7 @@ pub struct RepliesByRow<L: RowList> {
 
 impl<L: RowList> Model for RepliesByRow<L> {
     ghost use Rattle.std.specs.Prelude.{◌<◌, List, drop, length, map};
-    ghost use Rattle.row_player.specs.Answers.{Answer, answers_of};
+    ghost use Rattle.store_api.specs.Answers.{Answer, answers_of};
     ghost use Rattle.row_player.specs.Shares.{by_row};
 
     ghost Value = { List Answer };

@@ -1,5 +1,6 @@
 //! Where the fields of a row lie in a text.
-use crate::row::Verb;
+
+use store_api::Verb;
 
 /// A row whose fields lie in a text, one behind the other: the place where the first begins, and those where each ends.
 #[derive(Clone, Copy, Debug)]

@@ -1,32 +1,31 @@
 //! Plays the rows of a script.
 ghost use Rattle.std.specs.Prelude.{◌≡◌, ◌≢◌, ◌⊎◌, ◌+◌, ◌++◌, ◌∷◌, [], ◌≤◌, ◌<◌, ◌^◌, true, Some, None, IfOk, IfErr, OnOk, MatchResult, IsTrue, ◌↔◌, length, vec_capacity, vec_len};
-ghost use Rattle.row_player.specs.Answers.{answer_of, answers_of, Refused};
-ghost use Rattle.row_player.specs.Commands.{is_command};
+ghost use Rattle.store_api.specs.Answers.{answer_of, answers_of, Refused};
+ghost use Rattle.store_api.specs.Commands.{is_command};
 ghost use Rattle.row_player.specs.JoinedRows.{joined};
 ghost use Rattle.row_player.specs.Leases.{Leases as LeasesView, none};
 ghost use Rattle.row_player.specs.RowViews.{borrowed_view};
 ghost use Rattle.row_player.specs.Plays.{AnswersCall, AnswersRead, AnswersRow, Plays, PlaysOn, RowStep, name_of, piece_of, second_of};
 ghost use Rattle.row_player.specs.Rows.{names_lease};
 ghost use Rattle.row_player.specs.Shares.{own_rows};
-ghost use Rattle.row_player.specs.declared.reply.Reply.{Reply};
+ghost use Rattle.store_api.specs.declared.reply.Reply.{Reply};
 
-use crate::backend::Backend;
-use crate::command::{command_in, digest_in, repo_in};
+use crate::command::command_in;
 use crate::gate::{Gate, OpenGate};
 use crate::lease_name::LeaseName;
 use crate::leases::{Leases, lend, verify};
 use crate::packed_rows::PackedRows;
-use crate::reply::Reply;
-use crate::row::{BorrowedRow, Verb};
+use crate::row::BorrowedRow;
 use crate::row_list::RowList;
 use crate::script_rows::ScriptRows;
 use crate::worker::Worker;
 use blob_digest::{ByteRange, Refusal};
 use std::alloc::Global;
 use std::collections::VecDeque;
+use store_api::{Backend, Reply, Verb, digest_in, repo_in};
 
 /// Plays a row that spells a command.
-#[tactic(auto, using(crate::proofs::Spellings::no_lease))]
+#[tactic(auto, using(store_api::proofs::Commands::no_lease))]
 fn play_command<B: Backend>(
     alloc: Global,
     backend: &mut B,

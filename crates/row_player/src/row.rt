@@ -2,42 +2,7 @@
 ghost use Rattle.std.specs.Prelude.{◌≡◌, true};
 ghost use Rattle.row_player.specs.Rows.{fits};
 
-/// A command of the script.
-#[derive(Clone, Copy, Debug, PartialEq, Eq)]
-pub enum Verb {
-    /// Opens an upload session.
-    Start,
-    /// Asks how many bytes a session has received.
-    Status,
-    /// Adds a chunk to a session.
-    Append,
-    /// Ends a session and links its blob.
-    Close,
-    /// Gives a session up.
-    Abandon,
-    /// Links a blob of another repository of the tenant.
-    Mount,
-    /// Takes a blob's link out of a repository.
-    Delete,
-    /// Keeps a manifest in a repository.
-    PutManifest,
-    /// Asks for the bytes of a manifest.
-    GetManifest,
-    /// Takes a manifest out of a repository.
-    DeleteManifest,
-    /// Leases a blob under a name.
-    Lease,
-    /// Reads a piece of a leased blob.
-    Read,
-    /// Makes two leases of one.
-    Share,
-    /// Has the store look at a lease's slot.
-    Verify,
-    /// Gives a lease back.
-    GiveBack,
-    /// Frees the slots of blobs without links.
-    Sweep,
-}
+use store_api::Verb;
 
 /// A row of the script, which is no bad one by its type. The last five fields are the bytes of the
 /// record's fields; those that the command doesn't use are empty.

@@ -10,9 +10,10 @@ use Rattle.store_model.specs.Commands.{finish, put_back, take}
 use Rattle.store_model.specs.Histories.{Finished, Performed, PutBack, Step, Took}
 use Rattle.store_model.specs.HistoryIsolation.{Take, after_alone, catalog_alone, requests, steps_alone, told, with_slot}
 use Rattle.store_model.specs.Noninterference.{outcome_alone, reply}
-use Rattle.row_player.specs.Answers.{Answer, NoLease, Received, Refused, Stored}
-use Rattle.row_player.specs.CommandAnswers.{row_answer}
-use Rattle.row_player.specs.Commands.{Append, Close, Command, command_of}
+use Rattle.store_api.specs.Answers.{Answer, NoLease, Received, Refused, Stored}
+use Rattle.store_api.specs.CommandAnswers.{command_answer}
+use Rattle.store_api.specs.Commands.{Append, Close, Command}
+use Rattle.row_player.specs.RowCommands.{command_of}
 use Rattle.row_player.specs.Rows.{RowView}
 use Rattle.locked_book.specs.History.{filled}
 use Rattle.blob_store.specs.Seats.{AreCommandSteps, AreUploadSteps, as_answer}
@@ -36,7 +37,7 @@ in_hand D r n g b = after_alone D (Take r n g (length b))
 abbrev command_alone : Catalog → Command → List Step × Answer
 command_alone D (Append r n g b) = upload_alone D r n g b PutBack (λ h. told (put_back (in_hand D r n g b) h)) Received (told (take D r n g (length b)))
 command_alone D (Close r n d g b) = upload_alone D r n g b (λ h x. Finished h d x) (λ h. told (finish (with_slot (in_hand D r n g b)) h d)) Stored (told (take D r n g (length b)))
-command_alone D command = (Performed command (reply (outcome_alone D command)) ∷ [], as_answer (row_answer command) (reply (outcome_alone D command)))
+command_alone D command = (Performed command (reply (outcome_alone D command)) ∷ [], as_answer (command_answer command) (reply (outcome_alone D command)))
 
 -- a row that is no command's is not of these
 abbrev spelled_alone : Catalog → Result (Option Command) Refusal → List Step × Answer
@@ -98,7 +99,7 @@ module _ (D : Catalog) (answer : Answer) (first rest : List Step) (answered : an
       let same : reply (outcome_alone D command) ≡ are.0 = cc in
       record {
         steps = are.1 ∙ ap (λ y. Performed command y ∷ []) (sym same);
-        answer_is = are.2 ∙ ap (as_answer (row_answer command)) (sym same);
+        answer_is = are.2 ∙ ap (as_answer (command_answer command)) (sym same);
         after = subst (λ xs. AreAlone (catalog_alone D (requests xs)) rest) (sym are.1) (let k = e in cc);
       }
 

@@ -16,13 +16,14 @@ use Rattle.store_model.specs.Catalog.{Catalog, Session, Tenant, is_tenants, open
 use Rattle.store_model.specs.Commands.{new_session, start}
 use Rattle.store_model.specs.Histories.{LeadsTo, Performed, State, Step}
 use Rattle.store_model.specs.Runs.{Number as Numbered}
-use Rattle.row_player.specs.Answers.{Answer, Session as Opened}
-use Rattle.row_player.specs.Commands.{Calls, Start, command_of}
+use Rattle.store_api.specs.Answers.{Answer, Session as Opened}
+use Rattle.store_api.specs.Commands.{Calls, Start}
+use Rattle.row_player.specs.RowCommands.{command_of}
 use Rattle.row_player.specs.Leases.{none}
 use Rattle.row_player.specs.Plays.{Plays}
 use Rattle.row_player.specs.Rows.{RowView}
 use Rattle.row_player.specs.Shares.{own_answers}
-use Rattle.row_player.specs.declared.row.Verb.TheVariants as verb
+use Rattle.store_api.specs.declared.verb.Verb.TheVariants as verb
 use Rattle.locked_book.specs.History.{steps_of}
 use Rattle.blob_store.specs.OneText.{NeitherLeaseNorSweep, PlayedWithinLimits, ShareNoTenant, WriteTheSame}
 use Rattle.blob_store.specs.Seats.{Work, WorkActs}

@@ -14,12 +14,14 @@ use Rattle.store_model.specs.Catalog.{Taken, Tenant, is_tenants}
 use Rattle.store_model.specs.Histories.{Finished, PutBack, Step, Took}
 use Rattle.store_model.specs.HistoryIsolation.{is_step_of}
 use Rattle.store_model.specs.Runs.{repo_of}
-use Rattle.row_player.specs.Answers.{Answer, Received, Refused, Stored}
-use Rattle.row_player.specs.Commands.{Append, Close, Command, Request, command_of, is_command}
-use Rattle.row_player.specs.Plays.{Plays, RowStep, State, StepOf, StoreRow}
+use Rattle.store_api.specs.Answers.{Answer, Received, Refused, Stored}
+use Rattle.store_api.specs.Commands.{Append, Close, Command, Request, is_command}
+use Rattle.row_player.specs.RowCommands.{command_of}
+use Rattle.row_player.specs.Plays.{Plays, RowStep, State, StoreRow}
+use Rattle.store_api.specs.Steps.{StepOf}
 use Rattle.row_player.specs.Rows.{RowView}
-use Rattle.row_player.specs.declared.row.Verb.{Verb}
-use Rattle.row_player.specs.declared.row.Verb.TheVariants as verb
+use Rattle.store_api.specs.declared.verb.Verb.{Verb}
+use Rattle.store_api.specs.declared.verb.Verb.TheVariants as verb
 use Rattle.row_player.proofs.Spellings.{repo_spelled}
 use Rattle.locked_book.specs.History.{filled}
 use Rattle.blob_store.specs.Seats.{AreCommandSteps, AreUploadSteps, Work, WorkActs}

@@ -14,8 +14,8 @@ use Rattle.store_model.specs.Histories.{first_state}
 use Rattle.store_model.specs.HistoryIsolation.{is_step_of, requests}
 use Rattle.store_model.specs.HistoryIsolation as model
 use Rattle.store_model.proofs.Noninterference.Histories.{alone_in_histories, same_text_after}
-use Rattle.row_player.specs.Answers.{Answer}
-use Rattle.row_player.specs.Commands.{is_command}
+use Rattle.store_api.specs.Answers.{Answer}
+use Rattle.store_api.specs.Commands.{is_command}
 use Rattle.row_player.specs.Leases.{none}
 use Rattle.row_player.specs.Plays.{Plays}
 use Rattle.row_player.specs.Rows.{RowView}

@@ -9,9 +9,10 @@ use Rattle.finite_maps.specs.Texts.{Text}
 use Rattle.store_model.specs.Catalog.{Taken, Tenant, tenant_of}
 use Rattle.store_model.specs.Histories.{Finished, PutBack, Step, Took}
 use Rattle.store_model.specs.Runs.{repo_of}
-use Rattle.row_player.specs.Answers.{Answer, Received, Refused, Stored}
-use Rattle.row_player.specs.CommandAnswers.{row_answer}
-use Rattle.row_player.specs.Commands.{Append, Close, Command, command_of}
+use Rattle.store_api.specs.Answers.{Answer, Received, Refused, Stored}
+use Rattle.store_api.specs.CommandAnswers.{command_answer}
+use Rattle.store_api.specs.Commands.{Append, Close, Command}
+use Rattle.row_player.specs.RowCommands.{command_of}
 use Rattle.row_player.specs.Rows.{RowView}
 use Rattle.row_player.proofs.Spellings.{repo_spelled}
 use Rattle.blob_store.specs.Seats.{AreCommandSteps, AreUploadSteps, as_answer}
@@ -41,7 +42,7 @@ module _ (tenants : List Tenant) (answer : Answer) (steps : List Step) (answered
   command_unknown : (command : Command) → tenant_of tenants (repo_of command) ≡ None → AreCommandSteps command answer steps → answer ≡ Refused NameUnknown
   command_unknown (Append r n g b) none are = upload_unknown r n g b PutBack Received none are
   command_unknown (Close r n d g b) none are = upload_unknown r n g b (λ h x. Finished h d x) Stored none are
-  command_unknown command none are = are.2 ∙ ap (as_answer (row_answer command)) (performed_unowned tenants command are.0 none (subst (AllByRecursion (IsTold tenants)) are.1 told).0)
+  command_unknown command none are = are.2 ∙ ap (as_answer (command_answer command)) (performed_unowned tenants command are.0 none (subst (AllByRecursion (IsTold tenants)) are.1 told).0)
 
   spelled_unknown : (row : RowView) (o : Result (Option Command) Refusal) → command_of row ≡ o → tenant_of tenants row.repo ≡ None → AreRowSteps o answer steps → answer ≡ unknown_answer o
   spelled_unknown row (Ok (Some command)) spells none are = command_unknown command (ap (tenant_of tenants) (repo_spelled row command spells) ∙ none) are

@@ -9,9 +9,10 @@ use Rattle.finite_maps.specs.Texts.{Text}
 use Rattle.finite_maps.proofs.Maps.{get-insert_other, get-remove_other}
 use Rattle.store_model.specs.Catalog.{Catalog}
 use Rattle.store_model.specs.Runs.{Event, IsRun}
-use Rattle.row_player.specs.Answers.{Answer, Refused, Shared}
-use Rattle.row_player.specs.Commands.{Request}
-use Rattle.row_player.specs.Leases.{Leases, Lent, Name, halved, name_cmp, new_lease}
+use Rattle.store_api.specs.Answers.{Answer, Refused, Shared}
+use Rattle.store_api.specs.Commands.{Request}
+use Rattle.store_api.specs.Lent.{Lent, halved, new_lease}
+use Rattle.row_player.specs.Leases.{Leases, Name, name_cmp}
 use Rattle.row_player.specs.Plays.{LendsWhereFree, Plays, RowStep, State, VerifiesLease, give_back_of, name_of, named, piece_of, read_of, second_of, share_of}
 use Rattle.row_player.specs.Rows.{RowView}
 use Rattle.row_player.specs.LeaseNames.{name_cmp_total}

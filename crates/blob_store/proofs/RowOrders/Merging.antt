@@ -20,7 +20,7 @@ use Rattle.store_model.specs.Invariant.{Sound}
 use Rattle.store_model.specs.Runs as runs
 use Rattle.store_model.specs.Runs.{Called, Event, IsNamed}
 use Rattle.store_model.specs.WholeCommands.{AreWhole, ComesTo, Hands, IsCalm, IsUpload, Lent, numbered}
-use Rattle.row_player.specs.Answers.{Answer}
+use Rattle.store_api.specs.Answers.{Answer}
 use Rattle.row_player.specs.Counts.{chunk_of}
 use Rattle.row_player.specs.Leases.{Leases}
 use Rattle.row_player.specs.Rows.{RowView}

@@ -13,7 +13,7 @@ use Rattle.store_model.specs.Catalog.{Number}
 use Rattle.store_model.specs.Histories.{Step}
 use Rattle.store_model.specs.Runs.{Event}
 use Rattle.store_model.specs.WholeCommands.{Hands, Lent}
-use Rattle.row_player.specs.Answers.{Answer}
+use Rattle.store_api.specs.Answers.{Answer}
 use Rattle.row_player.specs.Leases.{Leases}
 use Rattle.row_player.specs.Rows.{RowView}
 use Rattle.blob_store.specs.RowOrders.{IsCalmAnswer}

@@ -15,7 +15,7 @@ use Rattle.store_model.specs.Catalog.{Catalog, number_cmp, opening}
 use Rattle.store_model.specs.Histories.{Step, first_state}
 use Rattle.store_model.specs.Invariant.{Sound}
 use Rattle.store_model.proofs.WholeCommands.Histories.{histories_are_runs}
-use Rattle.row_player.specs.Answers.{Answer}
+use Rattle.store_api.specs.Answers.{Answer}
 use Rattle.row_player.specs.Leases.{none}
 use Rattle.row_player.specs.Plays.{Plays}
 use Rattle.row_player.specs.Rows.{RowView}

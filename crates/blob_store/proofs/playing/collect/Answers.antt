@@ -4,7 +4,7 @@ use Rattle.std.proofs.lemmas.List.{length-map, map-append}
 use Rattle.blob_store.specs.Workers.{AllAt, ArePlayed, HasPlayed}
 use Rattle.blob_store.proofs.Places.{at_first, at_last}
 use Rattle.blob_store.proofs.Settlings.{played_more}
-use Rattle.row_player.specs.Answers.{answers_of}
+use Rattle.store_api.specs.Answers.{answers_of}
 use Rattle.blob_store.proofs.playing.collect.Goals as goal
 
 pub loop-outcome-preserved : goal.loop-outcome-preserved

@@ -1,6 +1,6 @@
 use Rattle.std.proofs.Common.{◌≡◌, ◌+◌, ◌≤◌, ℕ, map, true, vec_len, vec_capacity}
 use Rattle.blob_store.specs.Workers.{AllAt, ArePlayed, HasPlayed}
-use Rattle.row_player.specs.Answers.{answers_of}
+use Rattle.store_api.specs.Answers.{answers_of}
 use Rattle.blob_store.proofs.playing.collect.Given as goal
 
 abbrev pub invariant-loop-outcome : goal.invariant-loop-outcome

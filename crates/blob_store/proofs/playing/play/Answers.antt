@@ -1,7 +1,7 @@
 use Rattle.std.proofs.Common.{◌∙◌, subst, sym, vec_len}
 use Rattle.blob_store.specs.Workers.{HavePlayed}
 use Rattle.blob_store.proofs.Settlings.{are_settled, each_played}
-use Rattle.row_player.specs.Answers.{answers_of}
+use Rattle.store_api.specs.Answers.{answers_of}
 use Rattle.blob_store.proofs.playing.play.Goals as goal
 
 pub returns-in-Some-clause-each : goal.returns-in-Some-clause-each

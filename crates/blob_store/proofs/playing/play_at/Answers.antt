@@ -3,7 +3,7 @@ use Rattle.std.proofs.lemmas.Bool.{eqb-true}
 use Rattle.std.proofs.lemmas.List.{length-map}
 use Rattle.blob_store.specs.Workers.{AllAt, HasPlayed, HavePlayed}
 use Rattle.blob_store.proofs.Settlings.{whole_lists}
-use Rattle.row_player.specs.Answers.{answers_of}
+use Rattle.store_api.specs.Answers.{answers_of}
 use Rattle.row_player.specs.Shares.{by_row}
 use Rattle.row_player.proofs.Orders.{all_by_row}
 use Rattle.blob_store.proofs.playing.play_at.Goals as goal

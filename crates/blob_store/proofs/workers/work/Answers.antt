@@ -2,7 +2,7 @@ use Rattle.std.proofs.Common.{◌∙◌, ap, sym, subst}
 use Rattle.blob_store.specs.Seats.{SeatActs, WorkActs, work_of}
 use Rattle.blob_store.specs.Workers.{no_work}
 use Rattle.locked_book.specs.History.{IsPart}
-use Rattle.row_player.specs.Answers.{answers_of}
+use Rattle.store_api.specs.Answers.{answers_of}
 use Rattle.row_player.specs.Leases.{none}
 use Rattle.row_player.specs.Plays.{Plays}
 use Rattle.row_player.specs.Shares.{own_rows}

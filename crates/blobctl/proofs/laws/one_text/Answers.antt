@@ -1,7 +1,7 @@
 use Rattle.std.proofs.Common.{◌∙◌, ◌++◌, List, ap, refl, subst, sym}
 use Rattle.store_model.specs.Catalog.{Catalog}
 use Rattle.store_model.specs.BookText.{book_text}
-use Rattle.row_player.specs.Answers.{Answer}
+use Rattle.store_api.specs.Answers.{Answer}
 use Rattle.row_player.specs.Leases.{none}
 use Rattle.blobctl.specs.Played.{Leads}
 use Rattle.row_player.specs.Plays.{Plays, State}

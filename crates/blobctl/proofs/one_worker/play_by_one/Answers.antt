@@ -1,6 +1,6 @@
 use Rattle.std.proofs.Common.{◌≤◌, length, refl}
 use Rattle.store_book.specs.Openings.{OpensCatalog, tenants_shown}
-use Rattle.row_player.specs.Answers.{answers_of}
+use Rattle.store_api.specs.Answers.{answers_of}
 use Rattle.blobctl.proofs.BookPlays.{AreLow, fresh_low, run_happens}
 use Rattle.blobctl.proofs.one_worker.play_by_one.Goals as goal
 

@@ -1,4 +1,4 @@
-use Rattle.row_player.specs.Answers.{answers_of}
+use Rattle.store_api.specs.Answers.{answers_of}
 use Rattle.row_player.specs.Leases.{none}
 use Rattle.blobctl.specs.Played.{Acts}
 use Rattle.row_player.proofs.PlayedRows.{plays_through}

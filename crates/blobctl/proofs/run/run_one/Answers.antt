@@ -1,6 +1,6 @@
 use Rattle.std.proofs.Common.{◌++◌, refl}
 use Rattle.store_model.specs.BookText.{book_text}
-use Rattle.row_player.specs.Answers.{answers_of}
+use Rattle.store_api.specs.Answers.{answers_of}
 use Rattle.row_player.specs.Replies.{replies_text}
 use Rattle.blobctl.proofs.run.run_one.Goals as goal
 

@@ -1,7 +1,7 @@
 use Rattle.std.proofs.Common.{◌≡◌, ◌≢◌, ◌∙◌, Some, refl, rules, sym}
 use Rattle.std.specs.BTreeMap as tree
 use Rattle.std.specs.Ordering.{nat_cmp}
-use Rattle.row_player.specs.Leases.{between}
+use Rattle.store_api.specs.Lent.{between}
 use Rattle.store_book.specs.Leased.{Leased}
 use Rattle.lease_table.proofs.Tables.{get_is}
 use Rattle.lease_table.proofs.table.piece_in.Goals as goal

@@ -1,5 +1,5 @@
 use Rattle.std.proofs.Common.{arith, sym}
-use Rattle.row_player.proofs.FieldTexts.{range_holds}
+use Rattle.store_api.proofs.FieldTexts.{range_holds}
 use Rattle.line_player.proofs.Ranges.{range_misses}
 use Rattle.line_player.proofs.command.range_between.Goals as goal
 use Rattle.line_player.proofs.command.range_between.Goals.{else-start-end-via-then-start-end+else-end-lt9223372036854775808, else-start-end-via-else-start-end}

@@ -1,6 +1,6 @@
 use Rattle.std.proofs.Common.{◌≡◌, None, ap, sym, ◌∙◌}
 use Rattle.std.specs.FinMap as fmap
-use Rattle.row_player.specs.Answers.{NoLease}
+use Rattle.store_api.specs.Answers.{NoLease}
 use Rattle.row_player.specs.Leases.{Leases}
 use Rattle.row_player.specs.LeaseTables.{leases_in}
 use Rattle.row_player.proofs.LeaseTables.{remove_free}

@@ -1,8 +1,8 @@
 use Rattle.std.proofs.Common.{◌≡◌, ◌⊎◌, None, Ok, rules}
 use Rattle.std.proofs.lemmas.Result.{err_from_is_err_and}
 use Rattle.blob_digest.specs.declared.refusal.Refusal.TheVariants.{Memory}
-use Rattle.row_player.specs.Answers.{Bytes, Refused}
-use Rattle.row_player.specs.Commands.{Calls, Lease, digest_in, repo_in}
+use Rattle.store_api.specs.Answers.{Bytes, Refused}
+use Rattle.store_api.specs.Commands.{Calls, Lease, digest_in, repo_in}
 use Rattle.row_player.specs.RowViews.{borrowed_view}
 use Rattle.row_player.specs.Plays.{named}
 use Rattle.row_player.specs.Rows.{RowView}

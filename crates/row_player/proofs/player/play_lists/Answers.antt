@@ -1,6 +1,6 @@
 use Rattle.std.proofs.Common.{◌≡◌, ◌∙◌, ◌++◌, [], ap, append_assoc, arith, length, length-append, rules, sym}
 use Rattle.std.proofs.lemmas.List.{append-nil}
-use Rattle.row_player.specs.Answers.{answers_of}
+use Rattle.store_api.specs.Answers.{answers_of}
 use Rattle.row_player.specs.JoinedRows.{joined}
 use Rattle.row_player.specs.Shares.{own_rows}
 use Rattle.row_player.proofs.PlayedRows.{more_on}

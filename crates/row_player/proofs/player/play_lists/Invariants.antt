@@ -1,5 +1,5 @@
 use Rattle.std.proofs.Common.{◌≡◌, ◌+◌, ◌++◌, List, deque_len, length, vec_capacity, vec_len}
-use Rattle.row_player.specs.Answers.{answers_of}
+use Rattle.store_api.specs.Answers.{answers_of}
 use Rattle.row_player.specs.JoinedRows.{joined}
 use Rattle.row_player.specs.Plays.{PlaysOn}
 use Rattle.row_player.specs.Rows.{RowView}

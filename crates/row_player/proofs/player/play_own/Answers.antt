@@ -1,6 +1,6 @@
 use Rattle.std.proofs.Common.{◌≡◌, ◌+◌, ◌<◌, ◌∙◌, ◌∷◌, [], ap, arith, false, length, length-append, sym, take, true}
 use Rattle.std.proofs.lemmas.List.{map-append}
-use Rattle.row_player.specs.Answers.{answer_of, answers_of}
+use Rattle.store_api.specs.Answers.{answer_of, answers_of}
 use Rattle.row_player.specs.RowViews.{borrowed_view}
 use Rattle.row_player.specs.Shares.{is_own, own_rows}
 use Rattle.row_player.proofs.PlayedRows.{one_more}

@@ -1,5 +1,5 @@
 use Rattle.std.proofs.Common.{◌≡◌, ◌+◌, length, take, vec_capacity, vec_len}
-use Rattle.row_player.specs.Answers.{answers_of}
+use Rattle.store_api.specs.Answers.{answers_of}
 use Rattle.row_player.specs.Plays.{PlaysOn}
 use Rattle.row_player.specs.Shares.{own_rows}
 use Rattle.row_player.proofs.player.play_own.Given as goal

@@ -1,5 +1,5 @@
 use Rattle.std.proofs.Common.{ap, arith, length}
-use Rattle.row_player.specs.Answers.{answers_of}
+use Rattle.store_api.specs.Answers.{answers_of}
 use Rattle.row_player.specs.Leases.{none}
 use Rattle.row_player.proofs.PlayedRows.{from_start}
 use Rattle.row_player.proofs.player.play_script.Goals as goal

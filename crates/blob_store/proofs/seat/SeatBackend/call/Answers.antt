@@ -1,8 +1,8 @@
 use Rattle.std.proofs.Common.{Err}
 use Rattle.std.proofs.lemmas.Result.{err_from_is_err_and}
 use Rattle.store_model.specs.Histories.{Finished, PutBack}
-use Rattle.row_player.specs.Answers.{Received, Refused, Stored}
-use Rattle.row_player.specs.Commands.{Append, Close}
+use Rattle.store_api.specs.Answers.{Received, Refused, Stored}
+use Rattle.store_api.specs.Commands.{Append, Close}
 use Rattle.blob_store.proofs.Seated.{adds_nothing, both, uploaded}
 use Rattle.blob_store.proofs.seat.SeatBackend.call.Goals as goal
 

@@ -1,5 +1,5 @@
 use Rattle.std.proofs.Common.{◌≡◌, ◌+◌, ◌++◌, ◌≤◌, length, vec_capacity}
-use Rattle.row_player.specs.Answers.{answers_of}
+use Rattle.store_api.specs.Answers.{answers_of}
 use Rattle.row_player.proofs.order.RepliesByRow.into_list.Given as goal
 
 -- those in the list and those that are left are all

@@ -1,5 +1,5 @@
 use Rattle.std.proofs.Common.{◌<◌, length, map, rules}
-use Rattle.row_player.specs.Answers.{answers_of}
+use Rattle.store_api.specs.Answers.{answers_of}
 use Rattle.row_player.proofs.Orders.{next_taken}
 use Rattle.row_player.proofs.order.RepliesByRow.next_reply.Goals as goal
 

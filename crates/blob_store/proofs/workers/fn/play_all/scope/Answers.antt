@@ -1,7 +1,7 @@
 use Rattle.std.proofs.Common.{◌≡◌, ◌+◌, ◌∙◌, ℕ, ap, arith, length, rules, subst, sym, true, vec_capacity, vec_len}
 use Rattle.blob_store.specs.Workers.{AllAt, HasPlayed, IsReady, IsWorkerAt}
 use Rattle.blob_store.proofs.Places.{at_first, at_last, at_pushed}
-use Rattle.row_player.specs.Answers.{answers_of}
+use Rattle.store_api.specs.Answers.{answers_of}
 use Rattle.blob_store.proofs.workers.fn.play_all.scope.Goals as goal
 
 pub loop-job-init : goal.loop-job-init

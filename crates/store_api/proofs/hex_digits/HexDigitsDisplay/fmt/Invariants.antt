@@ -2,7 +2,7 @@ use Rattle.std.proofs.Common.{◌≡◌, ℕ, List, ◌++◌}
 use Rattle.std.specs.Fmt.{HasWritten, IsPlainFormatter}
 use Rattle.std.specs.Slice.Iter.{chunks_rest, chunks_size}
 use Rattle.hex.specs.Hex.{encode_lower}
-use Rattle.row_player.proofs.hex_digits.HexDigitsDisplay.fmt.Given as goal
+use Rattle.store_api.proofs.hex_digits.HexDigitsDisplay.fmt.Given as goal
 
 -- the digits of the blocks so far were written, and those of the blocks that are left are to come
 abbrev pub invariant-loop-block : goal.invariant-loop-block

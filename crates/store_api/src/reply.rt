@@ -1,7 +1,7 @@
 //! Replies, and their texts.
 ghost use Rattle.std.specs.Prelude.{◌≡◌, ◌++◌, Some, IfErr, OnErr, OnOk, string_bytes};
-ghost use Rattle.row_player.specs.Answers.{answer_of, mount_answer};
-ghost use Rattle.row_player.specs.Replies.{reply_text};
+ghost use Rattle.store_api.specs.Answers.{answer_of, mount_answer};
+ghost use Rattle.store_api.specs.Replies.{reply_text};
 
 use crate::hex_digits::HexDigits;
 use crate::piece::Piece;
@@ -12,7 +12,7 @@ use std::fmt;
 use std::sync::Arc;
 use store_model::{Mount, Swept};
 
-/// The reply to a row. Manifests and blobs are shared with the book and not copied. Contracts see what is
+/// What is asked for is answered with this. Manifests and blobs are shared with the book and not copied. Contracts see what is
 /// answered (`answer_of`).
 #[derive(Drop)]
 pub enum Reply {
@@ -44,11 +44,11 @@ pub enum Reply {
     GivenBack,
     /// What a sweep did.
     Swept(Swept),
-    /// The lane has no lease of this name.
+    /// Whoever asks has no such lease.
     NoLease,
-    /// The lane has a lease of this name already.
+    /// Whoever asks has a lease of this name already.
     NameTaken,
-    /// The row was refused.
+    /// It was refused.
     Refused(Refusal),
 }
 
@@ -110,8 +110,7 @@ impl fmt::Display for Reply {
 }
 
 impl Reply {
-    /// Appends the text of the reply, without the row's number and without a line feed. Refused is
-    /// out of memory alone, and then the text is as it was.
+    /// Appends the text of the reply, without a line feed. Refused is out of memory alone, and then the text is as it was.
     pub fn write(&self, out: &mut String) -> Result<(), Refusal>
         ensures ok { OnOk result (string_bytes out.new ≡ string_bytes out.old ++ reply_text (answer_of self.now)) }
         ensures err { OnErr result (string_bytes out.new ≡ string_bytes out.old) }

@@ -1,7 +1,7 @@
 -- A command as contracts see it, without where its bytes lie.
-use Rattle.row_player.specs.Commands as commands
-use Rattle.row_player.specs.declared.command.Command.{Command}
-use Rattle.row_player.specs.declared.command.Command.TheVariants.{Start, Status, Append, Close, Abandon, Mount, Delete, PutManifest, GetManifest, DeleteManifest}
+use Rattle.store_api.specs.Commands as commands
+use Rattle.store_api.specs.declared.command.Command.{Command}
+use Rattle.store_api.specs.declared.command.Command.TheVariants.{Start, Status, Append, Close, Abandon, Mount, Delete, PutManifest, GetManifest, DeleteManifest}
 
 abbrev pub command_view : Command → commands.Command
 command_view (Start repo) = commands.Start repo

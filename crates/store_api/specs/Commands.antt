@@ -1,4 +1,4 @@
--- The command that a row spells.
+-- What a store is asked for, and how fields spell it.
 use Rattle.std.specs.Prelude.{◌≡◌, ◌^◌, ℕ, Bool, true, false, Option, Some, None, [], ◌∷◌, Result, Ok, Err, if◌then◌else◌, nat_le, nat_lt}
 use Rattle.std.specs.Option.{option_map}
 use Rattle.std.proofs.Common.{refl}
@@ -7,14 +7,12 @@ use Rattle.blob_digest.specs.Digests.{is_digest_text}
 use Rattle.finite_maps.specs.Texts.{Text}
 use Rattle.blob_digest.specs.NameMachine.{is_repo_name}
 use Rattle.finite_maps.specs.Outcomes.{◌>>=◌}
-use Rattle.blob_digest.specs.Ranges.{range_of}
 use Rattle.blob_digest.specs.declared.range.ByteRange.{ByteRange}
 use Rattle.blob_digest.specs.declared.refusal.Refusal.{Refusal}
 use Rattle.blob_digest.specs.declared.refusal.Refusal.TheVariants.{NameInvalid, DigestInvalid, SizeInvalid}
 pub use Rattle.store_model.specs.Runs.{Command, Start, Status, Append, Close, Abandon, Mount, Delete, PutManifest, GetManifest, DeleteManifest, Lease}
-use Rattle.row_player.specs.Rows.{RowView, session_number}
-use Rattle.row_player.specs.declared.row.Verb.{Verb}
-use Rattle.row_player.specs.declared.row.Verb.TheVariants as verb
+use Rattle.store_api.specs.declared.verb.Verb.{Verb}
+use Rattle.store_api.specs.declared.verb.Verb.TheVariants as verb
 
 -- what a store is asked for: a command, that a lease of a blob of this size be verified, or a sweep
 pub data Request : Type 0 where
@@ -97,11 +95,6 @@ abbrev pub range_with : Option (ℕ × ℕ) → Result (Option ByteRange) Refusa
 range_with None = Err SizeInvalid
 range_with (Some r) = range_by r.0 r.1 (nat_le r.0 r.1) (nat_lt r.1 (2 ^ 63)) refl refl
 
--- the range of a chunk: none where the field is empty
-abbrev pub range_in : Text → Result (Option ByteRange) Refusal
-range_in [] = Ok None
-range_in (c ∷ cs) = range_with (range_of (c ∷ cs))
-
 -- a field is read where it is used
 abbrev pub where_used : {A : Type 0} → Bool → A → Result A Refusal → Result A Refusal
 where_used true other field = field
@@ -125,7 +118,7 @@ command verb.Lease repo from digest range number body = Some (Lease repo digest)
 command _ repo from digest range number body = None
 
 -- The command of a verb whose fields these are, or the refusal of the first of them, in this order, that spells nothing. What asks for
--- something else than a command spells none, and is not refused here. So rows of a script and frames of a line spell their commands.
+-- something else than a command spells none, and is not refused here.
 abbrev pub command_from : Verb → (repo source digest : Text) → Result (Option ByteRange) Refusal → Option ℕ → Text → Result (Option Command) Refusal
 command_from verb repo source digest range number body = do
   repo ← where_used (uses_repo verb) [] (repo_in repo)
@@ -133,7 +126,3 @@ command_from verb repo source digest range number body = do
   digest ← where_used (uses_digest verb) [] (digest_in digest)
   range ← where_used (uses_range verb) None range
   Ok (command verb repo from digest range number body)
-
--- The command that a row spells. A row of a lease that its lane has, and a sweep, spell none.
-abbrev pub command_of : RowView → Result (Option Command) Refusal
-command_of row = command_from row.verb row.repo row.key row.digest (range_in row.range) (session_number row.key) row.body

@@ -1,7 +1,7 @@
 //! Parts of blobs.
 ghost use Rattle.std.specs.Prelude.{◌≡◌, ◌^◌, ◌<◌, ◌≤◌};
 ghost use Rattle.std.specs.Arc.{arc_value};
-ghost use Rattle.row_player.specs.Leases.{between};
+ghost use Rattle.store_api.specs.Lent.{between};
 
 use blob_digest::Blob;
 use std::alloc::Global;

@@ -1,7 +1,7 @@
 use Rattle.std.proofs.Common.{◌≡◌, rules}
 use Rattle.hex.specs.Hex.{encode_lower}
-use Rattle.row_player.proofs.Digits.{digits_text}
-use Rattle.row_player.proofs.hex_digits.spelled.Goals as goal
+use Rattle.store_api.proofs.Digits.{digits_text}
+use Rattle.store_api.proofs.hex_digits.spelled.Goals as goal
 
 pub unreachable-requires-in-Err-from_utf8 : goal.unreachable-requires-in-Err-from_utf8
 unreachable-requires-in-Err-from_utf8 c =

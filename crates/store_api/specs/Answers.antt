@@ -1,4 +1,4 @@
--- What a row is answered, as contracts see a reply: its numbers and texts, and not where they are kept.
+-- What is answered, as contracts see a reply: its numbers and texts, and not where they are kept.
 use Rattle.std.specs.Prelude.{ℕ, List, map}
 use Rattle.std.specs.Arc.{arc_value}
 use Rattle.finite_maps.specs.Texts.{Text}
@@ -6,8 +6,8 @@ use Rattle.blob_digest.specs.declared.refusal.Refusal.{Refusal}
 use Rattle.store_model.specs.declared.swept.Swept.{Swept as SweptCounts}
 use Rattle.store_model.specs.declared.mount.Mount.{Mount}
 use Rattle.store_model.specs.declared.mount.Mount.TheVariants as mounting
-use Rattle.row_player.specs.declared.reply.Reply.{Reply}
-use Rattle.row_player.specs.declared.reply.Reply.TheVariants as reply
+use Rattle.store_api.specs.declared.reply.Reply.{Reply}
+use Rattle.store_api.specs.declared.reply.Reply.TheVariants as reply
 
 pub data Answer : Type 0 where
   Session : ℕ → Answer

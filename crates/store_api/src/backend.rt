@@ -1,9 +1,9 @@
-//! What the rows of a script are played on.
+//! What keeps a store.
 ghost use Rattle.std.specs.Prelude.{◌≡◌, ◌≢◌, ◌⊎◌, ◌^◌, ◌<◌, ◌≤◌, length, MatchResult};
-ghost use Rattle.row_player.specs.Answers.{Answer, Bytes, Verified, Swept as SweptAnswer, Refused, answer_of};
-ghost use Rattle.row_player.specs.CommandViews.{command_view};
-ghost use Rattle.row_player.specs.Commands.{Request, Calls, Verifies, Sweeps, Lease as LeaseCommand};
-ghost use Rattle.row_player.specs.Leases.{Lent, between, halved};
+ghost use Rattle.store_api.specs.Answers.{Answer, Bytes, Verified, Swept as SweptAnswer, Refused, answer_of};
+ghost use Rattle.store_api.specs.CommandViews.{command_view};
+ghost use Rattle.store_api.specs.Commands.{Request, Calls, Verifies, Sweeps, Lease as LeaseCommand};
+ghost use Rattle.store_api.specs.Lent.{Lent, between, halved};
 
 use crate::command::Command;
 use crate::piece::Piece;
@@ -11,7 +11,7 @@ use crate::reply::Reply;
 use blob_digest::{Digest, Refusal, RepoName};
 use store_model::Swept;
 
-/// What the rows of a script are played on: a book alone, or a place at a store that others use too.
+/// What keeps a store: a book alone, or a place at a store that others use too.
 pub trait Backend {
     /// A lease of a blob that this backend keeps. It must be spent, by `share` or `give_back`.
     type Lease;

@@ -3,9 +3,9 @@ use Rattle.std.proofs.lemmas.List.{append-nil, nil_from_length}
 use Rattle.std.proofs.Output.{has_written_append, has_written_of_eq}
 use Rattle.std.specs.Slice.Iter.{chunks_rest}
 use Rattle.hex.specs.Hex.{encode_lower}
-use Rattle.row_player.proofs.Digits.{digits_none}
+use Rattle.store_api.proofs.Digits.{digits_none}
 use Rattle.blob_digest.proofs.HexText.{encoded-append}
-use Rattle.row_player.proofs.hex_digits.HexDigitsDisplay.fmt.Goals as goal
+use Rattle.store_api.proofs.hex_digits.HexDigitsDisplay.fmt.Goals as goal
 
 pub loop-block-init : goal.loop-block-init
 loop-block-init g c = (search rules, tt, search rules, λ plain. ([], search rules, search rules))

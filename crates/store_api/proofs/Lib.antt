@@ -1,0 +1,3 @@
+pub mod Commands
+pub mod Digits
+pub mod FieldTexts
