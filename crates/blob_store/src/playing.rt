@@ -13,12 +13,12 @@ use crate::workers::{Job, Outcome, WorkersDone, play_all};
 use blob_digest::Refusal;
 use locked_book::{Desk, DroppableDesk, LockedBook, Naming, Settled};
 use row_player::{Gate, RepliesByRow, RowList, Worker, count_by_worker};
-use store_api::Reply;
 use std::alloc::Global;
 use std::collections::VecDeque;
 use std::sync::Wait;
 use std::sync::atomic::AtomicBool;
 use std::thread::Threads;
+use store_api::Reply;
 
 /// The most workers that play a script.
 pub const MAX_WORKERS: usize = 64;

@@ -3,11 +3,13 @@ ghost use Rattle.std.specs.Prelude.{◌≡◌};
 
 use crate::lease::Lease;
 use crate::store::Store;
-use blob_digest::{Digest, Refusal, RepoName};
+use blob_digest::{ByteRange, Digest, Refusal, RepoName};
 use locked_book::{Desk, Naming};
-use store_api::{Backend, Command, Piece, Queries, Reply, mount_reply};
-use std::sync::Wait;
-use store_book::{Swept, Usage};
+use oci_manifest::Manifest;
+use std::alloc::Global;
+use std::sync::{Arc, Wait};
+use store_api::{Backend, Piece, Queries};
+use store_book::{Mount, Swept, Usage};
 
 /// A store with a worker's desk, on which rows are played. Each request is the store's call of its name;
 /// contracts see what the desk gets by it, and the steps that it is.
@@ -30,77 +32,71 @@ impl<'s, W: Wait, S: Naming> Backend for Seat<'s, W, S> {
 
     ghost lent = { λ l. record { bytes = l.bytes; weight = l.hold.weight } };
 
-    fn call(&mut self, command: &Command) -> Result<Reply, Refusal> {
-        match command {
-            Command::Start { repo } => {
-                let number = self.store.start(self.rt, &mut self.desk, repo)?;
-                Ok(Reply::Session(number))
-            }
-            Command::Status { repo, number } => {
-                let length = self.store.status(self.rt, &mut self.desk, repo, *number)?;
-                Ok(Reply::Received(length))
-            }
-            Command::Append {
-                repo,
-                number,
-                range,
-                bytes,
-            } => {
-                let length = self
-                    .store
-                    .append(self.rt, &mut self.desk, repo, *number, *range, bytes)?;
-                Ok(Reply::Received(length))
-            }
-            Command::Close {
-                repo,
-                number,
-                digest,
-                range,
-                bytes,
-            } => {
-                let size = self.store.close(
-                    self.rt,
-                    &mut self.desk,
-                    repo,
-                    *number,
-                    digest,
-                    *range,
-                    bytes,
-                )?;
-                Ok(Reply::Stored(size))
-            }
-            Command::Abandon { repo, number } => {
-                self.store.abandon(self.rt, &mut self.desk, repo, *number)?;
-                Ok(Reply::Abandoned)
-            }
-            Command::Mount { repo, digest, from } => {
-                let mount = self
-                    .store
-                    .mount(self.rt, &mut self.desk, repo, digest, from.as_ref())?;
-                Ok(mount_reply(mount))
-            }
-            Command::Delete { repo, digest } => {
-                self.store.delete(self.rt, &mut self.desk, repo, digest)?;
-                Ok(Reply::Deleted)
-            }
-            Command::PutManifest { repo, bytes } => {
-                let digest = self
-                    .store
-                    .put_manifest(self.rt, &mut self.desk, repo, bytes)?;
-                Ok(Reply::Manifest(digest))
-            }
-            Command::GetManifest { repo, digest } => {
-                let manifest = self
-                    .store
-                    .get_manifest(self.rt, &mut self.desk, repo, digest)?;
-                Ok(Reply::Body(manifest))
-            }
-            Command::DeleteManifest { repo, digest } => {
-                self.store
-                    .delete_manifest(self.rt, &mut self.desk, repo, digest)?;
-                Ok(Reply::Deleted)
-            }
-        }
+    fn start(&mut self, repo: &RepoName) -> Result<u32, Refusal> {
+        self.store.start(self.rt, &mut self.desk, repo)
+    }
+
+    fn status(&mut self, repo: &RepoName, number: u32) -> Result<u64, Refusal> {
+        self.store.status(self.rt, &mut self.desk, repo, number)
+    }
+
+    fn append(
+        &mut self,
+        repo: &RepoName,
+        number: u32,
+        range: Option<ByteRange>,
+        bytes: &[u8],
+    ) -> Result<u64, Refusal> {
+        self.store
+            .append(self.rt, &mut self.desk, repo, number, range, bytes)
+    }
+
+    fn close(
+        &mut self,
+        repo: &RepoName,
+        number: u32,
+        digest: &Digest,
+        range: Option<ByteRange>,
+        bytes: &[u8],
+    ) -> Result<u64, Refusal> {
+        self.store.close(self.rt, &mut self.desk, repo, number, digest, range, bytes)
+    }
+
+    fn abandon(&mut self, repo: &RepoName, number: u32) -> Result<u64, Refusal> {
+        self.store.abandon(self.rt, &mut self.desk, repo, number)
+    }
+
+    fn mount(
+        &mut self,
+        repo: &RepoName,
+        digest: &Digest,
+        from: Option<&RepoName>,
+    ) -> Result<Mount, Refusal> {
+        self.store
+            .mount(self.rt, &mut self.desk, repo, digest, from)
+    }
+
+    fn delete(&mut self, repo: &RepoName, digest: &Digest) -> Result<(), Refusal> {
+        self.store.delete(self.rt, &mut self.desk, repo, digest)
+    }
+
+    fn put_manifest(&mut self, repo: &RepoName, bytes: &[u8]) -> Result<Digest, Refusal> {
+        self.store
+            .put_manifest(self.rt, &mut self.desk, repo, bytes)
+    }
+
+    fn get_manifest(
+        &mut self,
+        repo: &RepoName,
+        digest: &Digest,
+    ) -> Result<Arc<Manifest, Global>, Refusal> {
+        self.store
+            .get_manifest(self.rt, &mut self.desk, repo, digest)
+    }
+
+    fn delete_manifest(&mut self, repo: &RepoName, digest: &Digest) -> Result<(), Refusal> {
+        self.store
+            .delete_manifest(self.rt, &mut self.desk, repo, digest)
     }
 
     fn lease(&mut self, repo: &RepoName, digest: &Digest) -> Result<Lease<'s, S>, Refusal> {

@@ -7,12 +7,12 @@ use crate::seat::Seat;
 use crate::store::Store;
 use locked_book::{DroppableDesk, Naming};
 use row_player::{Gate, RowList, Worker, play_rows};
-use store_api::Reply;
 use std::alloc::Global;
 use std::sync::Wait;
 use std::sync::atomic::{AtomicBool, Ordering};
 use std::thread;
 use std::thread::{Promise, PromisedHandle, Threads};
+use store_api::Reply;
 
 /// What a worker begins with: its desk, and room for its replies.
 #[derive(Drop)]

@@ -15,9 +15,9 @@ use crate::pinned_book::PinnedBook;
 use blob_digest::Refusal;
 use pin_table::Pins;
 use row_player::{ScriptRows, play_script};
-use store_api::Reply;
 use std::alloc::Global;
 use std::marker::{Brand, PhantomData};
+use store_api::Reply;
 use store_book::{Book, PinsName};
 
 /// Plays all rows on a book with the words of its slots, which one pin table names. The rows are dropped as they are played.

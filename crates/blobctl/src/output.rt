@@ -7,9 +7,9 @@ ghost use Rattle.row_player.specs.Replies.{replies_text, reply_line};
 
 use crate::fault::Fault;
 use row_player::{RepliesByRow, RowList};
-use store_api::Reply;
 use std::io;
 use std::io::Write;
+use store_api::Reply;
 use store_book::Book;
 
 /// Writes a row's number and its reply, and takes no memory.

@@ -1,11 +1,14 @@
 //! A book with its pins as what rows are played on.
 ghost use Rattle.std.specs.Prelude.{◌≡◌};
 
-use blob_digest::{Digest, Refusal, RepoName};
+use blob_digest::{ByteRange, Digest, Refusal, RepoName};
+use oci_manifest::Manifest;
 use pin_table::Pins;
-use store_api::{Backend, Command, Piece, Reply, mount_reply};
+use std::alloc::Global;
 use std::marker::PhantomData;
-use store_book::{Book, Lease, PinsName, Swept};
+use std::sync::Arc;
+use store_api::{Backend, Piece};
+use store_book::{Book, Lease, Mount, PinsName, Swept};
 
 /// A book with the words of its slots.
 #[derive(Drop)]
@@ -27,62 +30,67 @@ impl<'p, N: PinsName> Backend for PinnedBook<'p, N> {
 
     ghost lent = { λ l. record { bytes = l.bytes; weight = l.hold.weight } };
 
-    fn call(&mut self, command: &Command) -> Result<Reply, Refusal> {
-        match command {
-            Command::Start { repo } => {
-                let number = self.book.start(repo)?;
-                Ok(Reply::Session(number))
-            }
-            Command::Status { repo, number } => {
-                let length = self.book.status(repo, *number)?;
-                Ok(Reply::Received(length))
-            }
-            Command::Append {
-                repo,
-                number,
-                range,
-                bytes,
-            } => {
-                let length = self.book.append(repo, *number, *range, bytes)?;
-                Ok(Reply::Received(length))
-            }
-            Command::Close {
-                repo,
-                number,
-                digest,
-                range,
-                bytes,
-            } => {
-                let size = self
-                    .book
-                    .close(self.pins, repo, *number, digest, *range, bytes)?;
-                Ok(Reply::Stored(size))
-            }
-            Command::Abandon { repo, number } => {
-                self.book.abandon(repo, *number)?;
-                Ok(Reply::Abandoned)
-            }
-            Command::Mount { repo, digest, from } => {
-                let mount = self.book.mount(repo, digest, from.as_ref())?;
-                Ok(mount_reply(mount))
-            }
-            Command::Delete { repo, digest } => {
-                self.book.delete(repo, digest)?;
-                Ok(Reply::Deleted)
-            }
-            Command::PutManifest { repo, bytes } => {
-                let digest = self.book.put_manifest(repo, bytes)?;
-                Ok(Reply::Manifest(digest))
-            }
-            Command::GetManifest { repo, digest } => {
-                let manifest = self.book.get_manifest(repo, digest)?;
-                Ok(Reply::Body(manifest))
-            }
-            Command::DeleteManifest { repo, digest } => {
-                self.book.delete_manifest(repo, digest)?;
-                Ok(Reply::Deleted)
-            }
-        }
+    fn start(&mut self, repo: &RepoName) -> Result<u32, Refusal> {
+        self.book.start(repo)
+    }
+
+    fn status(&mut self, repo: &RepoName, number: u32) -> Result<u64, Refusal> {
+        self.book.status(repo, number)
+    }
+
+    fn append(
+        &mut self,
+        repo: &RepoName,
+        number: u32,
+        range: Option<ByteRange>,
+        bytes: &[u8],
+    ) -> Result<u64, Refusal> {
+        self.book.append(repo, number, range, bytes)
+    }
+
+    fn close(
+        &mut self,
+        repo: &RepoName,
+        number: u32,
+        digest: &Digest,
+        range: Option<ByteRange>,
+        bytes: &[u8],
+    ) -> Result<u64, Refusal> {
+        self.book
+            .close(self.pins, repo, number, digest, range, bytes)
+    }
+
+    fn abandon(&mut self, repo: &RepoName, number: u32) -> Result<u64, Refusal> {
+        self.book.abandon(repo, number)
+    }
+
+    fn mount(
+        &mut self,
+        repo: &RepoName,
+        digest: &Digest,
+        from: Option<&RepoName>,
+    ) -> Result<Mount, Refusal> {
+        self.book.mount(repo, digest, from)
+    }
+
+    fn delete(&mut self, repo: &RepoName, digest: &Digest) -> Result<(), Refusal> {
+        self.book.delete(repo, digest)
+    }
+
+    fn put_manifest(&mut self, repo: &RepoName, bytes: &[u8]) -> Result<Digest, Refusal> {
+        self.book.put_manifest(repo, bytes)
+    }
+
+    fn get_manifest(
+        &mut self,
+        repo: &RepoName,
+        digest: &Digest,
+    ) -> Result<Arc<Manifest, Global>, Refusal> {
+        self.book.get_manifest(repo, digest)
+    }
+
+    fn delete_manifest(&mut self, repo: &RepoName, digest: &Digest) -> Result<(), Refusal> {
+        self.book.delete_manifest(repo, digest)
     }
 
     fn lease(&mut self, repo: &RepoName, digest: &Digest) -> Result<Lease<'p, N>, Refusal> {

@@ -15,7 +15,7 @@ use crate::outcome::Outcome;
 use crate::query::{ask, query_of, spell_query};
 use blob_digest::Refusal;
 use blob_frames::Request;
-use store_api::{Backend, Queries, Reply, Verb, digest_in};
+use store_api::{Backend, Queries, Reply, Verb, digest_in, perform};
 use std::alloc::Global;
 
 /// Plays a request for a command that is answered with a reply.
@@ -29,7 +29,7 @@ fn play_command<B: Backend>(
     ensures { AnswersCommand B.acts (request_command verb request.now.head request.now.payload.now) backend.old result backend.new }
 {
     let command = request_command(alloc, verb, request)?;
-    backend.call(&command)
+    perform(backend, &command)
 }
 
 /// Leases a blob, and has the lease kept.

@@ -22,7 +22,7 @@ use crate::worker::Worker;
 use blob_digest::{ByteRange, Refusal};
 use std::alloc::Global;
 use std::collections::VecDeque;
-use store_api::{Backend, Reply, Verb, digest_in, repo_in};
+use store_api::{Backend, Reply, Verb, digest_in, perform, repo_in};
 
 /// Plays a row that spells a command.
 #[tactic(auto, using(store_api::proofs::Commands::no_lease))]
@@ -35,7 +35,7 @@ fn play_command<B: Backend>(
     ensures { AnswersCall B.acts backend.old (borrowed_view row.now) result backend.new }
 {
     let command = command_in(alloc, row)?;
-    backend.call(&command)
+    perform(backend, &command)
 }
 
 /// The name of the lease that a row is about.

@@ -1,5 +1,5 @@
 -- What is answered, as contracts see a reply: its numbers and texts, and not where they are kept.
-use Rattle.std.specs.Prelude.{ℕ, List, map}
+use Rattle.std.specs.Prelude.{ℕ, List, Result, Ok, Err, map}
 use Rattle.std.specs.Arc.{arc_value}
 use Rattle.finite_maps.specs.Texts.{Text}
 use Rattle.blob_digest.specs.declared.refusal.Refusal.{Refusal}
@@ -56,3 +56,8 @@ answers_of replies = map answer_of replies
 abbrev pub mount_answer : Mount → Answer
 mount_answer mounting.Mounted = Mounted
 mount_answer (mounting.Session number) = Session number
+
+-- the answer that a result is
+abbrev pub answered : {A : Type 0} → (A → Answer) → Result A Refusal → Answer
+answered f (Ok a) = f a
+answered f (Err e) = Refused e

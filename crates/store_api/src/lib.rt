@@ -16,7 +16,7 @@ mod queries;
 mod reply;
 mod verb;
 
-pub use backend::Backend;
+pub use backend::{Backend, perform};
 pub use command::{Command, Fields, command_from, digest_in, repo_in};
 pub use piece::Piece;
 pub use queries::Queries;
