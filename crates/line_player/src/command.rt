@@ -7,8 +7,8 @@ ghost use Rattle.store_api.specs.Commands.{Lease, is_command, range_with};
 
 use blob_digest::{ByteRange, Digest, Refusal, RepoName};
 use blob_frames::{Head, Request};
-use store_api::{Command, Fields, Verb, command_from, digest_in, repo_in};
 use std::alloc::Global;
+use store_api::{Command, Fields, Verb, command_from, digest_in, repo_in};
 
 /// What a request's first byte asks for: nothing where no command has the number.
 pub fn verb_of(byte: u8) -> Option<Verb>

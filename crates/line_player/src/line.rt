@@ -14,9 +14,9 @@ use crate::outcome::{Outcome, write_outcome};
 use crate::step::play_request;
 use blob_digest::Refusal;
 use blob_frames::{FrameFault, Incoming, Request, read_greeting, read_request, write_greeting};
-use store_api::{Backend, Queries, Reply};
 use std::alloc::Global;
 use std::io::{self, Read, Write};
+use store_api::{Backend, Queries, Reply};
 use watched_reader::Watched;
 
 /// Sends the greeting.

@@ -6,9 +6,9 @@ ghost use Rattle.line_player.specs.Outcomes.{Tells, TellsAnswer, body_reply, out
 ghost use Rattle.store_api.specs.Answers.{answer_of};
 
 use blob_frames::{write_digest, write_refusal, write_reply};
-use store_api::Reply;
 use std::alloc::Global;
 use std::io::{self, Write};
+use store_api::Reply;
 
 /// What a request comes to.
 #[derive(Drop)]

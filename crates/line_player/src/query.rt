@@ -8,8 +8,8 @@ ghost use Rattle.line_player.specs.Queries.{IsTold, query_has_fields, query_of, 
 use crate::outcome::Outcome;
 use blob_digest::{Digest, Refusal, RepoName};
 use blob_frames::Request;
-use store_api::{Queries, Reply, digest_in, repo_in};
 use std::alloc::Global;
+use store_api::{Queries, Reply, digest_in, repo_in};
 use store_model::Usage;
 
 /// What a line may ask for beside commands.

@@ -15,8 +15,8 @@ use crate::outcome::Outcome;
 use crate::query::{ask, query_of, spell_query};
 use blob_digest::Refusal;
 use blob_frames::Request;
-use store_api::{Backend, Queries, Reply, Verb, digest_in, perform};
 use std::alloc::Global;
+use store_api::{Backend, Queries, Reply, Verb, digest_in, perform};
 
 /// Plays a request for a command that is answered with a reply.
 fn play_command<B: Backend>(

@@ -5,6 +5,7 @@ use Rattle.std.specs.Ordering.{nat_cmp, ordering_then}
 use Rattle.std.specs.Coded.{Coded, code_by, coded×, coded_ℕ}
 use Rattle.std.specs.FinMap as fmap
 use Rattle.std.proofs.Common.{refl}
+use Rattle.store_api.specs.Lent.{Lent, coded_lent}
 use Rattle.finite_maps.specs.Texts.{Text, text_cmp, coded_text}
 
 -- a lease's name, with its lane
