@@ -1,19 +1,26 @@
 -- Which steps a call of the store is to the rows of a worker.
-use Rattle.std.proofs.Common.{◌≡◌, ◌⊎◌, ℕ, List, [], ◌∷◌, ◌++◌, Option, Result, Ok, Err, add-zero, arith, refl, ap, sym, ◌∙◌, inl, inr, append_assoc}
+use Rattle.std.proofs.Common.{◌≡◌, ◌⊎◌, ℕ, List, [], ◌∷◌, ◌++◌, Option, Result, Ok, Err, add-zero, arith, refl, ap, sym, ◌∙◌, inl, inr, append_assoc, subst}
 use Rattle.std.proofs.lemmas.List.{append-nil}
 use Rattle.std.specs.Prelude.{length}
 use Rattle.blob_digest.specs.declared.range.ByteRange.{ByteRange}
 use Rattle.blob_digest.specs.declared.refusal.Refusal.{Refusal}
 use Rattle.blob_digest.specs.declared.refusal.Refusal.TheVariants.{Memory}
 use Rattle.finite_maps.specs.Texts.{Text}
-use Rattle.store_model.specs.Amounts.{Amounts}
+use Rattle.store_model.specs.Amounts.{Amounts, nothing, plus}
 use Rattle.store_model.specs.Catalog.{Catalog, Taken}
-use Rattle.store_model.specs.Histories.{Step, Took, PutBack}
+use Rattle.store_model.specs.Histories.{Performed, Step, Took, PutBack, command_amounts, step_amounts}
+use Rattle.store_model.specs.Runs as runs
+use Rattle.store_model.specs.Runs.{Mounting}
+use Rattle.store_model.specs.declared.mount.Mount.TheVariants as mounting
 use Rattle.locked_book.specs.History.{Adds, Cancels, DeskView, Trace, filled}
+use Rattle.locked_book.specs.Calls.{reply}
 use Rattle.locked_book.specs.Names.{StoreNames}
-use Rattle.store_api.specs.Answers.{Answer, Refused, Verified}
-use Rattle.store_api.specs.Commands.{Calls, Command, Verifies}
-use Rattle.blob_store.specs.Seats.{AmountActs, AreRequestSteps, AreUploadSteps, FindsBlob, SeatActs, as_answer}
+use Rattle.locked_book.specs.Performing.{Makes}
+use Rattle.locked_book.proofs.Counted.{plus_nothing}
+use Rattle.store_api.specs.Answers.{Answer, Refused, Verified, answered, mount_answer}
+use Rattle.store_api.specs.CommandAnswers.{command_answer}
+use Rattle.store_api.specs.Commands.{Calls, Command, Mount, Verifies}
+use Rattle.blob_store.specs.Seats.{AmountActs, AreCommandSteps, AreRequestSteps, AreUploadSteps, FindsBlob, SeatActs}
 
 -- two steps, one after the other
 two_own : (C : Catalog) (old mid new : Trace) (d e : Step) → Adds C old d mid → Adds C mid e new → new.own ≡ old.own ++ d ∷ e ∷ []
@@ -24,9 +31,9 @@ pub uploaded : (C : Catalog) (old new : Trace) (repo : Text) (number : ℕ) (ran
     → ((e : Refusal) × (result ≡ Err e) × Adds C old (Took repo number range (length bytes) (Err e)) new)
     ⊎ ((hand : Taken) × (mid : Trace) × Adds C old (Took repo number range (length bytes) (Ok hand)) mid × Adds C mid (last (filled hand bytes) result) new)
     ⊎ ((result ≡ Err Memory) × Cancels C old repo number range bytes new)
-    → (new.number ≡ old.number) × ((steps : List Step) × AreUploadSteps repo number range bytes last f (as_answer f result) steps × (new.own ≡ old.own ++ steps))
+    → (new.number ≡ old.number) × ((steps : List Step) × AreUploadSteps repo number range bytes last f (answered f result) steps × (new.own ≡ old.own ++ steps))
 uploaded C old new repo number range bytes last f result (inl x) =
-    (x.2.number, (Took repo number range (length bytes) (Err x.0) ∷ [], inl (x.0, refl, ap (as_answer f) x.1), x.2.own))
+    (x.2.number, (Took repo number range (length bytes) (Err x.0) ∷ [], inl (x.0, refl, ap (answered f) x.1), x.2.own))
 uploaded C old new repo number range bytes last f result (inr (inl x)) =
     let d = Took repo number range (length bytes) (Ok x.0) in
     let e = last (filled x.0 bytes) result in
@@ -34,7 +41,7 @@ uploaded C old new repo number range bytes last f result (inr (inl x)) =
 uploaded C old new repo number range bytes last f result (inr (inr x)) =
     let d = Took repo number range (length bytes) (Ok x.1.hand) in
     let e = PutBack x.1.hand x.1.back in
-    (x.1.put_back.number ∙ x.1.take.number, (d ∷ e ∷ [], inr (inr (x.1.hand, x.1.back, refl, ap (as_answer f) x.0)), two_own C old x.1.mid new d e x.1.take x.1.put_back))
+    (x.1.put_back.number ∙ x.1.take.number, (d ∷ e ∷ [], inr (inr (x.1.hand, x.1.back, refl, ap (answered f) x.0)), two_own C old x.1.mid new d e x.1.take x.1.put_back))
 
 -- an upload's amounts with its steps
 pub both : (names : StoreNames) (old new : DeskView) (command : Command) (answer : Answer) (steps : (new.trace.number ≡ old.trace.number) × ((steps : List Step) × AreRequestSteps (Calls command) answer steps × (new.trace.own ≡ old.trace.own ++ steps))) → AmountActs old.amounts (Calls command) answer new.amounts → SeatActs names old (Calls command) answer new
@@ -52,6 +59,40 @@ adds_nothing old new command e same =
       closed = omega (arith, closed);
       abandoned = λ _. ap (λ a. a.abandoned) same;
     }
+
+-- ---- a command that is one step
+
+-- what it adds, once it is accepted
+abbrev pub CountsAs : {A : Type 0} → Amounts → Command → (A → runs.Answer) → (A → Answer) → Type 0
+CountsAs {A} old command f g = (a : A) → AmountActs old (Calls command) (g a) (plus old (command_amounts command (f a)))
+
+amounts_acts : {A : Type 0} (old new : Amounts) (command : Command) (f : A → runs.Answer) (g : A → Answer) (result : Result A Refusal) → CountsAs old command f g → new ≡ plus old (step_amounts (Performed command (reply f result))) → AmountActs old (Calls command) (answered g result) new
+amounts_acts old new command f g (Ok a) counts h = rw h (counts a)
+amounts_acts old new command f g (Err e) counts h = adds_nothing old new command e (h ∙ plus_nothing old)
+
+answers_so : {A : Type 0} (command : Command) (f : A → runs.Answer) (g : A → Answer) (result : Result A Refusal) → ((a : A) → command_answer command (f a) ≡ g a) → answered (command_answer command) (reply f result) ≡ answered g result
+answers_so command f g (Ok a) each = each a
+answers_so command f g (Err e) each = refl
+
+pub made : {A : Type 0} (names : StoreNames) (old new : DeskView) (command : Command) (f : A → runs.Answer) (g : A → Answer) (result : Result A Refusal)
+    → ((r : Result runs.Answer Refusal) → AreCommandSteps command (answered (command_answer command) r) (Performed command r ∷ []))
+    → ((a : A) → command_answer command (f a) ≡ g a) → CountsAs old.amounts command f g
+    → Makes names.opening (Performed command (reply f result)) old new → SeatActs names old (Calls command) (answered g result) new
+made names old new command f g result steps each counts makes =
+    let step = Performed command (reply f result) in
+    let is : AreCommandSteps command (answered g result) (step ∷ []) = subst (λ (a : Answer). AreCommandSteps command a (step ∷ [])) (answers_so command f g result each) (steps (reply f result)) in
+    record {
+      work = record {
+        amounts = amounts_acts old.amounts new.amounts command f g result counts makes.amounts;
+        steps = (step ∷ [], is, makes.adds.own);
+      };
+      number = makes.adds.number;
+      finds = tt;
+    }
+
+pub mount_counts : (old : Amounts) (repo digest : Text) (from : Option Text) → CountsAs old (Mount repo digest from) Mounting mount_answer
+mount_counts old repo digest from mounting.Mounted = record { commands = refl; received = refl; closed = refl; abandoned = λ _. add-zero old.abandoned }
+mount_counts old repo digest from (mounting.Session number) = record { commands = refl; received = refl; closed = refl; abandoned = λ _. add-zero old.abandoned }
 
 -- a look at a lease's slot adds nothing
 pub looked : (names : StoreNames) (desk : DeskView) (size : ℕ) → FindsBlob names size → SeatActs names desk (Verifies size) (Verified size) desk

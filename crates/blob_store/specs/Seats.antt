@@ -15,7 +15,7 @@ use Rattle.store_model.specs.declared.swept.Swept.{Swept as SweptCounts}
 use Rattle.locked_book.specs.Found.{InSomeBook}
 use Rattle.locked_book.specs.History.{DeskView, filled}
 use Rattle.locked_book.specs.Names.{StoreNames}
-use Rattle.store_api.specs.Answers.{Answer, Received, Stored, Swept, Refused, Verified}
+use Rattle.store_api.specs.Answers.{Answer, Received, Stored, Swept, Refused, Verified, answered}
 use Rattle.store_api.specs.CommandAnswers.{command_answer}
 use Rattle.store_api.specs.Commands.{Command, Append, Close, Request, Calls, Verifies, Sweeps}
 use Rattle.row_player.specs.Counts.{abandoned_of, chunk_of, closed_of, request_amount}
@@ -32,24 +32,19 @@ pub record AmountActs (old : Amounts) (request : Request) (answer : Answer) (new
 
 -- ---- steps
 
--- a result as a row's answer
-abbrev pub as_answer : {A : Type 0} → (A → Answer) → Result A Refusal → Answer
-as_answer f (Ok a) = f a
-as_answer f (Err e) = Refused e
-
 -- The steps of an append or a close. Taking its session in hand is refused, which is one step; or the session is taken, and put back or finished
 -- with the chunk, by the step that is given; or it is put back as it was, since the chunk found no memory.
 abbrev pub AreUploadSteps : Text → ℕ → Option ByteRange → Text → (Taken → Result ℕ Refusal → Step) → (ℕ → Answer) → Answer → List Step → Type 0
 AreUploadSteps repo number range bytes last f answer steps =
     ((e : Refusal) × (steps ≡ Took repo number range (length bytes) (Err e) ∷ []) × (answer ≡ Refused e))
-    ⊎ ((hand : Taken) × (result : Result ℕ Refusal) × (steps ≡ Took repo number range (length bytes) (Ok hand) ∷ last (filled hand bytes) result ∷ []) × (answer ≡ as_answer f result))
+    ⊎ ((hand : Taken) × (result : Result ℕ Refusal) × (steps ≡ Took repo number range (length bytes) (Ok hand) ∷ last (filled hand bytes) result ∷ []) × (answer ≡ answered f result))
     ⊎ ((hand : Taken) × (back : Result ℕ Refusal) × (steps ≡ Took repo number range (length bytes) (Ok hand) ∷ PutBack hand back ∷ []) × (answer ≡ Refused Memory))
 
 -- the steps of a command that is answered so: each other command is one step, with its reply
 abbrev pub AreCommandSteps : Command → Answer → List Step → Type 0
 AreCommandSteps (Append repo number range bytes) answer steps = AreUploadSteps repo number range bytes PutBack Received answer steps
 AreCommandSteps (Close repo number digest range bytes) answer steps = AreUploadSteps repo number range bytes (λ hand result. Finished hand digest result) Stored answer steps
-AreCommandSteps command answer steps = (result : Result runs.Answer Refusal) × (steps ≡ Performed command result ∷ []) × (answer ≡ as_answer (command_answer command) result)
+AreCommandSteps command answer steps = (result : Result runs.Answer Refusal) × (steps ≡ Performed command result ∷ []) × (answer ≡ answered (command_answer command) result)
 
 -- the steps of a request: looking at a lease's slot is none, and answers the size of its blob; a sweep is one
 abbrev pub AreRequestSteps : Request → Answer → List Step → Type 0

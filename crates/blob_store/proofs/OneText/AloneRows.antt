@@ -10,13 +10,13 @@ use Rattle.store_model.specs.Commands.{finish, put_back, take}
 use Rattle.store_model.specs.Histories.{Finished, Performed, PutBack, Step, Took}
 use Rattle.store_model.specs.HistoryIsolation.{Take, after_alone, catalog_alone, requests, steps_alone, told, with_slot}
 use Rattle.store_model.specs.Noninterference.{outcome_alone, reply}
-use Rattle.store_api.specs.Answers.{Answer, NoLease, Received, Refused, Stored}
+use Rattle.store_api.specs.Answers.{Answer, NoLease, Received, Refused, Stored, answered}
 use Rattle.store_api.specs.CommandAnswers.{command_answer}
 use Rattle.store_api.specs.Commands.{Append, Close, Command}
 use Rattle.row_player.specs.RowCommands.{command_of}
 use Rattle.row_player.specs.Rows.{RowView}
 use Rattle.locked_book.specs.History.{filled}
-use Rattle.blob_store.specs.Seats.{AreCommandSteps, AreUploadSteps, as_answer}
+use Rattle.blob_store.specs.Seats.{AreCommandSteps, AreUploadSteps}
 use Rattle.blob_store.proofs.OneText.RowSteps.{AreLineSteps, AreRowSteps, Line, answers_of, rows_of}
 
 -- steps are those that come of what they ask for, from a catalog on
@@ -28,7 +28,7 @@ AreAlone D steps = steps_alone D (requests steps) ≡ steps
 -- what an upload comes to, by what taking its session in hand comes to; `last` is its last step, whose reply is what ends it
 abbrev upload_alone : Catalog → Text → ℕ → Option ByteRange → Text → (Taken → Result ℕ Refusal → Step) → (Taken → Result ℕ Refusal) → (ℕ → Answer) → Result Taken Refusal → List Step × Answer
 upload_alone D r n g b last ends f (Err e) = (Took r n g (length b) (Err e) ∷ [], Refused e)
-upload_alone D r n g b last ends f (Ok hand) = (Took r n g (length b) (Ok hand) ∷ last (filled hand b) (ends (filled hand b)) ∷ [], as_answer f (ends (filled hand b)))
+upload_alone D r n g b last ends f (Ok hand) = (Took r n g (length b) (Ok hand) ∷ last (filled hand b) (ends (filled hand b)) ∷ [], answered f (ends (filled hand b)))
 
 -- the catalog in which an upload ends
 abbrev in_hand : Catalog → Text → ℕ → Option ByteRange → Text → Catalog
@@ -37,7 +37,7 @@ in_hand D r n g b = after_alone D (Take r n g (length b))
 abbrev command_alone : Catalog → Command → List Step × Answer
 command_alone D (Append r n g b) = upload_alone D r n g b PutBack (λ h. told (put_back (in_hand D r n g b) h)) Received (told (take D r n g (length b)))
 command_alone D (Close r n d g b) = upload_alone D r n g b (λ h x. Finished h d x) (λ h. told (finish (with_slot (in_hand D r n g b)) h d)) Stored (told (take D r n g (length b)))
-command_alone D command = (Performed command (reply (outcome_alone D command)) ∷ [], as_answer (command_answer command) (reply (outcome_alone D command)))
+command_alone D command = (Performed command (reply (outcome_alone D command)) ∷ [], answered (command_answer command) (reply (outcome_alone D command)))
 
 -- a row that is no command's is not of these
 abbrev spelled_alone : Catalog → Result (Option Command) Refusal → List Step × Answer
@@ -65,7 +65,7 @@ record Follows (D : Catalog) (first rest : List Step) (answer : Answer) (alone :
 abbrev Ends : Catalog → (Taken → Result ℕ Refusal → Step) → (Taken → Result ℕ Refusal) → Type 0
 Ends D last ends = (h : Taken) (x : Result ℕ Refusal) (rest : List Step) → AreAlone D (last h x ∷ rest) → (ends h ≡ x) × AreAlone (catalog_alone D (requests (last h x ∷ []))) rest
 
-module _ (D : Catalog) (answer : Answer) (first rest : List Step) (answered : answer ≢ Refused Memory) (alone : AreAlone D (first ++ rest)) where
+module _ (D : Catalog) (answer : Answer) (first rest : List Step) (not_memory : answer ≢ Refused Memory) (alone : AreAlone D (first ++ rest)) where
   module _ (r : Text) (n : ℕ) (g : Option ByteRange) (b : Text) where
     -- what taking the session told
     taken : (x : Result Taken Refusal) (more : List Step) → AreAlone D (Took r n g (length b) x ∷ more) → (told (take D r n g (length b)) ≡ x) × AreAlone (in_hand D r n g b) more
@@ -86,10 +86,10 @@ module _ (D : Catalog) (answer : Answer) (first rest : List Step) (answered : an
         let l = ended h x.1 rest t.1 in
         record {
           steps = x.2 ∙ ap (λ y. Took r n g (length b) (Ok x.0) ∷ last h y ∷ []) (sym l.0) ∙ ap (λ o. (upload_alone D r n g b last ends f o).0) (sym t.0);
-          answer_is = x.3 ∙ ap (as_answer f) (sym l.0) ∙ ap (λ o. (upload_alone D r n g b last ends f o).1) (sym t.0);
+          answer_is = x.3 ∙ ap (answered f) (sym l.0) ∙ ap (λ o. (upload_alone D r n g b last ends f o).1) (sym t.0);
           after = subst (λ xs. AreAlone (catalog_alone D (requests xs)) rest) (sym x.2) l.1;
         }
-    upload_follows last ends f ended (inr (inr x)) = absurd (answered x.3)
+    upload_follows last ends f ended (inr (inr x)) = absurd (not_memory x.3)
 
   command_follows : (command : Command) → AreCommandSteps command answer first → Follows D first rest answer (command_alone D command)
   command_follows (Append r n g b) are = upload_follows r n g b PutBack (λ h. told (put_back (in_hand D r n g b) h)) Received (λ h x more e. (let k = e in cc, let k = e in cc)) are
@@ -99,7 +99,7 @@ module _ (D : Catalog) (answer : Answer) (first rest : List Step) (answered : an
       let same : reply (outcome_alone D command) ≡ are.0 = cc in
       record {
         steps = are.1 ∙ ap (λ y. Performed command y ∷ []) (sym same);
-        answer_is = are.2 ∙ ap (as_answer (command_answer command)) (sym same);
+        answer_is = are.2 ∙ ap (answered (command_answer command)) (sym same);
         after = subst (λ xs. AreAlone (catalog_alone D (requests xs)) rest) (sym are.1) (let k = e in cc);
       }
 

@@ -9,13 +9,13 @@ use Rattle.finite_maps.specs.Texts.{Text}
 use Rattle.store_model.specs.Catalog.{Taken, Tenant, tenant_of}
 use Rattle.store_model.specs.Histories.{Finished, PutBack, Step, Took}
 use Rattle.store_model.specs.Runs.{repo_of}
-use Rattle.store_api.specs.Answers.{Answer, Received, Refused, Stored}
+use Rattle.store_api.specs.Answers.{Answer, Received, Refused, Stored, answered}
 use Rattle.store_api.specs.CommandAnswers.{command_answer}
 use Rattle.store_api.specs.Commands.{Append, Close, Command}
 use Rattle.row_player.specs.RowCommands.{command_of}
 use Rattle.row_player.specs.Rows.{RowView}
 use Rattle.row_player.proofs.Spellings.{repo_spelled}
-use Rattle.blob_store.specs.Seats.{AreCommandSteps, AreUploadSteps, as_answer}
+use Rattle.blob_store.specs.Seats.{AreCommandSteps, AreUploadSteps}
 use Rattle.blob_store.proofs.OneText.RowSteps.{AreLineSteps, AreRowSteps, Line, all_both}
 use Rattle.blob_store.proofs.OneText.Told.{IsTold, performed_unowned, took_unowned}
 
@@ -28,12 +28,12 @@ unknown_answer (Err e) = Refused e
 abbrev pub IsUnknown : List Tenant → Line → Type 0
 IsUnknown tenants l = tenant_of tenants l.0.repo ≡ None → l.1 ≡ unknown_answer (command_of l.0)
 
-module _ (tenants : List Tenant) (answer : Answer) (steps : List Step) (answered : answer ≢ Refused Memory) (told : AllByRecursion (IsTold tenants) steps) where
+module _ (tenants : List Tenant) (answer : Answer) (steps : List Step) (not_memory : answer ≢ Refused Memory) (told : AllByRecursion (IsTold tenants) steps) where
   upload_unknown : (r : Text) (n : ℕ) (g : Option ByteRange) (b : Text) (last : Taken → Result ℕ Refusal → Step) (f : ℕ → Answer) → tenant_of tenants r ≡ None → AreUploadSteps r n g b last f answer steps → answer ≡ Refused NameUnknown
   upload_unknown r n g b last f none are = elim are [
     | inl x ↦ let same : x.0 ≡ NameUnknown = (let e = first (Err x.0) [] x.1 in cc) in x.2 ∙ ap (λ e. Refused e) same
     | inr (inl x) ↦ absurd (let e = first (Ok x.0) _ x.2 in cc)
-    | inr (inr x) ↦ absurd (answered x.3)
+    | inr (inr x) ↦ absurd (not_memory x.3)
   ]
     where
       first : (reply : Result Taken Refusal) (rest : List Step) → steps ≡ Took r n g (length b) reply ∷ rest → reply ≡ Err NameUnknown
@@ -42,7 +42,7 @@ module _ (tenants : List Tenant) (answer : Answer) (steps : List Step) (answered
   command_unknown : (command : Command) → tenant_of tenants (repo_of command) ≡ None → AreCommandSteps command answer steps → answer ≡ Refused NameUnknown
   command_unknown (Append r n g b) none are = upload_unknown r n g b PutBack Received none are
   command_unknown (Close r n d g b) none are = upload_unknown r n g b (λ h x. Finished h d x) Stored none are
-  command_unknown command none are = are.2 ∙ ap (as_answer (command_answer command)) (performed_unowned tenants command are.0 none (subst (AllByRecursion (IsTold tenants)) are.1 told).0)
+  command_unknown command none are = are.2 ∙ ap (answered (command_answer command)) (performed_unowned tenants command are.0 none (subst (AllByRecursion (IsTold tenants)) are.1 told).0)
 
   spelled_unknown : (row : RowView) (o : Result (Option Command) Refusal) → command_of row ≡ o → tenant_of tenants row.repo ≡ None → AreRowSteps o answer steps → answer ≡ unknown_answer o
   spelled_unknown row (Ok (Some command)) spells none are = command_unknown command (ap (tenant_of tenants) (repo_spelled row command spells) ∙ none) are

@@ -16,7 +16,7 @@ use Rattle.store_model.specs.Runs as runs
 use Rattle.store_model.specs.Runs.{Called, Event, IsCase, IsNamed, IsRun, repo_of}
 use Rattle.store_model.specs.Sweep.{IsSweep}
 use Rattle.store_model.specs.WholeCommands.{ComesTo, Hands, IsCalm, IsUpload, Lent as Out, numbered}
-use Rattle.store_api.specs.Answers.{Answer, Bytes, Received, Refused, Stored}
+use Rattle.store_api.specs.Answers.{Answer, Bytes, Received, Refused, Stored, answered}
 use Rattle.store_api.specs.CommandAnswers.{command_answer}
 use Rattle.store_api.specs.Commands.{Abandon, Append, Calls, Close, Command, Delete, DeleteManifest, GetManifest, Lease, Mount, PutManifest, Request, Start, Status, Sweeps, Verifies, command as command_by, repo_in}
 use Rattle.row_player.specs.RowCommands.{command_of}
@@ -31,7 +31,7 @@ use Rattle.store_api.specs.declared.verb.Verb.TheVariants as verb
 use Rattle.row_player.proofs.Spellings.{names_repo, repo_spelled, spelled}
 use Rattle.locked_book.specs.History.{filled}
 use Rattle.blob_store.specs.RowOrders.{IsCalmAnswer, Leads}
-use Rattle.blob_store.specs.Seats.{AreRequestSteps, AreUploadSteps, Work, WorkActs, as_answer}
+use Rattle.blob_store.specs.Seats.{AreRequestSteps, AreUploadSteps, Work, WorkActs}
 
 -- ---- the steps of a request
 
@@ -97,11 +97,11 @@ record IsAsked (request : Request) (answer : Answer) (events : List Event) : Typ
   leads : (C C' : Catalog) → IsRun C events C' → Leads C request answer C'
 
 module _ (command : Command) (answer : Answer) (short : length (repo_of command) ≤ 255) where
-  mild : (reply : Result runs.Answer Refusal) → answer ≡ as_answer (command_answer command) reply → IsCalmAnswer answer → IsMildEvent (Called command reply)
+  mild : (reply : Result runs.Answer Refusal) → answer ≡ answered (command_answer command) reply → IsCalmAnswer answer → IsMildEvent (Called command reply)
   mild (Ok a) is calm = tt
   mild (Err e) is calm = subst (λ a. IsCalmAnswer a) is calm
 
-  called : (reply : Result runs.Answer Refusal) → answer ≡ as_answer (command_answer command) reply → IsAsked (Calls command) answer (Called command reply ∷ [])
+  called : (reply : Result runs.Answer Refusal) → answer ≡ answered (command_answer command) reply → IsAsked (Calls command) answer (Called command reply ∷ [])
   called reply is = record {
     named = (short, tt);
     small = (omega arith, tt);
@@ -109,11 +109,11 @@ module _ (command : Command) (answer : Answer) (short : length (repo_of command)
     leads = λ C C' run. (reply, subst (λ (X : Catalog). IsCase C command reply X) (sym run.2) run.1, is);
   }
 
-  performed : (steps : List Step) → (reply : Result runs.Answer Refusal) × (steps ≡ Performed command reply ∷ []) × (answer ≡ as_answer (command_answer command) reply) → ComeTo steps (IsAsked (Calls command) answer)
+  performed : (steps : List Step) → (reply : Result runs.Answer Refusal) × (steps ≡ Performed command reply ∷ []) × (answer ≡ answered (command_answer command) reply) → ComeTo steps (IsAsked (Calls command) answer)
   performed steps x = inr (inl (Performed command x.0, Called command x.0, x.1, (λ hands. (refl, refl)), called x.0 x.2))
 
   module _ (repo : Text) (number : ℕ) (range : Option ByteRange) (bytes : Text) (upload : IsUpload repo number range bytes command) (not_memory : answer ≢ Refused Memory) (last : Taken → Result ℕ Refusal → Step) (f : ℕ → Answer)
-      (told : (reply : Result ℕ Refusal) → as_answer f reply ≡ as_answer (command_answer command) (numbered reply))
+      (told : (reply : Result ℕ Refusal) → answered f reply ≡ answered (command_answer command) (numbered reply))
       (returns : (hand : Taken) (reply : Result ℕ Refusal) → IsReturn (record { repo = repo; number = number; range = range; len = length bytes; hand = hand }) (last (filled hand bytes) reply) (Called command (numbered reply))) where
     uploaded : (steps : List Step) → AreUploadSteps repo number range bytes last f answer steps → ComeTo steps (IsAsked (Calls command) answer)
     uploaded steps are = elim are [
@@ -122,11 +122,11 @@ module _ (command : Command) (answer : Answer) (short : length (repo_of command)
       | inr (inr x) ↦ absurd (not_memory x.3)
     ]
 
-received : (repo : Text) (number : ℕ) (range : Option ByteRange) (bytes : Text) (reply : Result ℕ Refusal) → as_answer Received reply ≡ as_answer (command_answer (Append repo number range bytes)) (numbered reply)
+received : (repo : Text) (number : ℕ) (range : Option ByteRange) (bytes : Text) (reply : Result ℕ Refusal) → answered Received reply ≡ answered (command_answer (Append repo number range bytes)) (numbered reply)
 received repo number range bytes (Ok n) = refl
 received repo number range bytes (Err e) = refl
 
-stored : (repo : Text) (number : ℕ) (digest : Text) (range : Option ByteRange) (bytes : Text) (reply : Result ℕ Refusal) → as_answer Stored reply ≡ as_answer (command_answer (Close repo number digest range bytes)) (numbered reply)
+stored : (repo : Text) (number : ℕ) (digest : Text) (range : Option ByteRange) (bytes : Text) (reply : Result ℕ Refusal) → answered Stored reply ≡ answered (command_answer (Close repo number digest range bytes)) (numbered reply)
 stored repo number digest range bytes (Ok n) = refl
 stored repo number digest range bytes (Err e) = refl
 
