@@ -1,25 +1,24 @@
 -- Which steps a call of the store is to the rows of a worker.
 use Rattle.std.proofs.Common.{◌≡◌, ◌⊎◌, ℕ, List, [], ◌∷◌, ◌++◌, Option, Result, Ok, Err, add-zero, arith, refl, ap, sym, ◌∙◌, inl, inr, append_assoc, subst}
 use Rattle.std.proofs.lemmas.List.{append-nil}
-use Rattle.std.specs.Prelude.{length}
+use Rattle.std.specs.Prelude.{IfOk, OnErr, OnOk, length}
 use Rattle.blob_digest.specs.declared.range.ByteRange.{ByteRange}
 use Rattle.blob_digest.specs.declared.refusal.Refusal.{Refusal}
 use Rattle.blob_digest.specs.declared.refusal.Refusal.TheVariants.{Memory}
 use Rattle.finite_maps.specs.Texts.{Text}
-use Rattle.store_model.specs.Amounts.{Amounts, nothing, plus}
+use Rattle.store_model.specs.Amounts.{Amounts, one, plus}
 use Rattle.store_model.specs.Catalog.{Catalog, Taken}
-use Rattle.store_model.specs.Histories.{Performed, Step, Took, PutBack, command_amounts, step_amounts}
+use Rattle.store_model.specs.Histories.{Finished, Performed, Step, Took, PutBack, command_amounts, step_amounts}
 use Rattle.store_model.specs.Runs as runs
 use Rattle.store_model.specs.Runs.{Mounting}
 use Rattle.store_model.specs.declared.mount.Mount.TheVariants as mounting
-use Rattle.locked_book.specs.History.{Adds, Cancels, DeskView, Trace, filled}
+use Rattle.locked_book.specs.History.{Adds, Appends, Cancels, Closes, DeskView, Makes, Trace, filled}
 use Rattle.locked_book.specs.Calls.{reply}
 use Rattle.locked_book.specs.Names.{StoreNames}
-use Rattle.locked_book.specs.Performing.{Makes}
 use Rattle.locked_book.proofs.Counted.{plus_nothing}
-use Rattle.store_api.specs.Answers.{Answer, Refused, Verified, answered, mount_answer}
+use Rattle.store_api.specs.Answers.{Answer, Received, Refused, Stored, Verified, answered, mount_answer}
 use Rattle.store_api.specs.CommandAnswers.{command_answer}
-use Rattle.store_api.specs.Commands.{Calls, Command, Mount, Verifies}
+use Rattle.store_api.specs.Commands.{Append, Calls, Close, Command, Mount, Verifies}
 use Rattle.blob_store.specs.Seats.{AmountActs, AreCommandSteps, AreRequestSteps, AreUploadSteps, FindsBlob, SeatActs}
 
 -- two steps, one after the other
@@ -59,6 +58,34 @@ adds_nothing old new command e same =
       closed = omega (arith, closed);
       abandoned = λ _. ap (λ a. a.abandoned) same;
     }
+
+pub appended : (names : StoreNames) (old new : DeskView) (repo : Text) (number : ℕ) (range : Option ByteRange) (bytes : Text) (result : Result ℕ Refusal)
+    → OnOk result (new.amounts ≡ plus old.amounts (one (length bytes) 0 0)) → OnErr result (new.amounts ≡ old.amounts) → Appends names.opening old.trace repo number range bytes result new.trace
+    → SeatActs names old (Calls (Append repo number range bytes)) (answered Received result) new
+appended names old new repo number range bytes (Ok n) ok err history =
+    both names old new (Append repo number range bytes) (Received n) (uploaded names.opening old.trace new.trace repo number range bytes PutBack Received (Ok n) history) (record {
+      commands = ap (λ (a : Amounts). a.commands) ok;
+      received = ap (λ (a : Amounts). a.received) ok;
+      closed = ap (λ (a : Amounts). a.closed) ok;
+      abandoned = λ _. ap (λ (a : Amounts). a.abandoned) ok ∙ add-zero old.amounts.abandoned;
+    })
+appended names old new repo number range bytes (Err e) ok err history =
+    let command = Append repo number range bytes in
+    both names old new command (Refused e) (uploaded names.opening old.trace new.trace repo number range bytes PutBack Received (Err e) history) (adds_nothing old.amounts new.amounts command e err)
+
+pub closed : (names : StoreNames) (old new : DeskView) (repo : Text) (number : ℕ) (digest : Text) (range : Option ByteRange) (bytes : Text) (result : Result ℕ Refusal)
+    → IfOk result (λ n. new.amounts ≡ plus old.amounts (one (length bytes) n 0)) → OnErr result (new.amounts ≡ old.amounts) → Closes names.opening old.trace repo number digest range bytes result new.trace
+    → SeatActs names old (Calls (Close repo number digest range bytes)) (answered Stored result) new
+closed names old new repo number digest range bytes (Ok n) ok err history =
+    both names old new (Close repo number digest range bytes) (Stored n) (uploaded names.opening old.trace new.trace repo number range bytes (λ hand r. Finished hand digest r) Stored (Ok n) history) (record {
+      commands = ap (λ (a : Amounts). a.commands) ok;
+      received = ap (λ (a : Amounts). a.received) ok;
+      closed = ap (λ (a : Amounts). a.closed) ok;
+      abandoned = λ _. ap (λ (a : Amounts). a.abandoned) ok ∙ add-zero old.amounts.abandoned;
+    })
+closed names old new repo number digest range bytes (Err e) ok err history =
+    let command = Close repo number digest range bytes in
+    both names old new command (Refused e) (uploaded names.opening old.trace new.trace repo number range bytes (λ hand r. Finished hand digest r) Stored (Err e) history) (adds_nothing old.amounts new.amounts command e err)
 
 -- ---- a command that is one step
 

@@ -1,9 +1,10 @@
 -- What a book's calls say of its slots and its leases, as rows are played on it.
-use Rattle.std.proofs.Common.{◌≡◌, ◌≢◌, ◌⊎◌, ℕ, Bool, List, true, false, Option, Some, None, Result, Ok, Err, ap, arith, inl, inr, refl}
-use Rattle.std.specs.Prelude.{MatchResult, not}
+use Rattle.std.proofs.Common.{◌≡◌, ◌≢◌, ◌⊎◌, ℕ, Bool, List, true, false, Option, Some, None, Result, Ok, Err, ap, arith, inl, inr, length, refl, sym, ◌∙◌}
+use Rattle.std.specs.Prelude.{MatchResult, not, slice_get}
 use Rattle.std.specs.Option.{ok_or}
 use Rattle.std.specs.FinMap as fmap
 use Rattle.std.proofs.lemmas.Bool.{cases_lt}
+use Rattle.std.proofs.lemmas.Option.{same_Some}
 use Rattle.finite_maps.specs.Texts.{Text}
 use Rattle.finite_maps.specs.Outcomes.{◌>>=◌, refuse}
 use Rattle.blob_digest.specs.declared.refusal.Refusal.{Refusal}
@@ -34,6 +35,15 @@ lending_rises digest a b lending = (
 
 pub lending_rise : (digest : Text) (old new : List SlotSeen) → slots.EachSlot (slots.IsLending digest) old new → slots.EachSlot RisesByOne old new
 lending_rise digest old new h = each old new (lending_rises digest) h
+
+pub same_rise : (old new : List SlotSeen) → new ≡ old → slots.EachSlot RisesByOne old new
+same_rise old new is = (ap length is, λ k a b was at. let same : a ≡ b = same_Some a b (sym was ∙ sym (ap (λ (s : List SlotSeen). slice_get s k) is) ∙ at) in (omega (arith, ap (λ (s : SlotSeen). s.generation) same), omega (arith, ap (λ (s : SlotSeen). s.bound) same)))
+
+quiet_rises : (a b : SlotSeen) → slots.IsQuiet a b → RisesByOne a b
+quiet_rises a b quiet = (omega (arith, quiet.0), omega (arith, quiet.1))
+
+pub quiet_rise : (old new : List SlotSeen) → slots.EachSlot slots.IsQuiet old new → slots.EachSlot RisesByOne old new
+quiet_rise old new h = each old new quiet_rises h
 
 -- ---- leases
 

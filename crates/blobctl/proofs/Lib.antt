@@ -1,3 +1,4 @@
+pub mod BookCalls
 pub mod BookPlays
 pub mod CommandLines
 pub mod Inputs
