@@ -23,6 +23,7 @@ pub use locked_book::{
 };
 pub use parts::Parts;
 pub use playing::{MAX_WORKERS, Played, PlayedToEnd, play, play_to_end};
-pub use row_player::{Gate, OpenGate, Reply, Row, Verb};
+pub use row_player::{Gate, OpenGate, Row};
 pub use seat::Seat;
 pub use store::Store;
+pub use store_api::{Reply, Verb};
