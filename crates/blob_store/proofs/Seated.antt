@@ -95,7 +95,7 @@ CountsAs {A} old command f g = (a : A) → AmountActs old (Calls command) (g a) 
 
 amounts_acts : {A : Type 0} (old new : Amounts) (command : Command) (f : A → runs.Answer) (g : A → Answer) (result : Result A Refusal) → CountsAs old command f g → new ≡ plus old (step_amounts (Performed command (reply f result))) → AmountActs old (Calls command) (answered g result) new
 amounts_acts old new command f g (Ok a) counts h = rw h (counts a)
-amounts_acts old new command f g (Err e) counts h = adds_nothing old new command e (h ∙ plus_nothing old)
+amounts_acts old new command f g (Err e) counts h = adds_nothing old new command e (h ∙ sym (plus_nothing old))
 
 answers_so : {A : Type 0} (command : Command) (f : A → runs.Answer) (g : A → Answer) (result : Result A Refusal) → ((a : A) → command_answer command (f a) ≡ g a) → answered (command_answer command) (reply f result) ≡ answered g result
 answers_so command f g (Ok a) each = each a
