@@ -10,20 +10,19 @@ use Rattle.store_model.specs.Runs as runs
 use Rattle.store_model.specs.Sweep.{IsSweep}
 use Rattle.store_model.specs.WholeCommands.{IsCalm}
 use Rattle.store_model.specs.declared.swept.Swept.{Swept as SweptCounts}
-use Rattle.store_api.specs.Answers.{Answer, Refused, Swept, Verified}
+use Rattle.store_api.specs.Answers.{Answer, Refused, Swept, Verified, answered}
 use Rattle.store_api.specs.CommandAnswers.{command_answer}
 use Rattle.store_api.specs.Commands.{Request, Calls, Verifies, Sweeps}
 use Rattle.row_player.specs.Leases.{Leases, none}
 use Rattle.row_player.specs.Plays.{Plays}
 use Rattle.row_player.specs.Rows.{RowView}
 use Rattle.row_player.specs.Shares.{is_own}
-use Rattle.blob_store.specs.Seats.{as_answer}
 use Rattle.blob_store.specs.Workers.{IsInterleaved}
 
 -- What a store is asked for leads from one catalog to another as a whole, with nothing in between: a case of the command, a look at a lease's slot,
 -- or a sweep.
 abbrev pub Leads : Catalog → Request → Answer → Catalog → Type 0
-Leads C (Calls command) answer C' = (reply : Result runs.Answer Refusal) × runs.IsCase C command reply C' × (answer ≡ as_answer (command_answer command) reply)
+Leads C (Calls command) answer C' = (reply : Result runs.Answer Refusal) × runs.IsCase C command reply C' × (answer ≡ answered (command_answer command) reply)
 Leads C (Verifies size) answer C' = (answer ≡ Verified size) × (C' ≡ C)
 Leads C Sweeps answer C' = (swept : SweptCounts) × IsSweep C swept C' × (answer ≡ Swept swept)
 

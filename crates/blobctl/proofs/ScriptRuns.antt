@@ -11,7 +11,7 @@ use Rattle.store_model.specs.Noninterference.{IsFair, NoCollision, brought_in, c
 use Rattle.store_model.specs.Runs as runs
 use Rattle.store_model.specs.Commands.{Outcome}
 use Rattle.store_model.specs.declared.mount.Mount.TheVariants as mounting
-use Rattle.store_api.specs.Answers.{Answer, Bytes, Leased, NameTaken, Refused}
+use Rattle.store_api.specs.Answers.{Answer, Bytes, Leased, NameTaken, Refused, answered}
 use Rattle.store_api.specs.Commands.{Command, Start, Status, Append, Close, Abandon, Mount, Delete, PutManifest, GetManifest, DeleteManifest, Lease, is_lease, uses_repo}
 use Rattle.row_player.specs.RowCommands.{command_of}
 use Rattle.store_api.specs.Lent.{Lent}
@@ -21,7 +21,6 @@ use Rattle.row_player.specs.Rows.{RowView}
 use Rattle.store_api.specs.declared.verb.Verb.{Verb}
 use Rattle.store_api.specs.declared.verb.Verb.TheVariants as verb
 use Rattle.row_player.proofs.Spellings.{names_repo, repo_spelled}
-use Rattle.blob_store.specs.Seats.{as_answer}
 use Rattle.blobctl.specs.Played.{Leads, result_of}
 use Rattle.store_api.specs.CommandAnswers.{command_answer}
 use Rattle.blobctl.specs.ScriptRuns.{AreEventsOf, IsEvent, IsNoEvent, rows_of, shown_reply}
@@ -30,7 +29,7 @@ use Rattle.blobctl.specs.ScriptRuns.{AreEventsOf, IsEvent, IsNoEvent, rows_of, s
 
 -- what a row's command answers
 abbrev pub plain : Command → Result runs.Answer Refusal → Answer
-plain c r = as_answer (command_answer c) r
+plain c r = answered (command_answer c) r
 
 pub asked : (C C' : Catalog) (c : Command) (answer : Answer) (o : Outcome runs.Answer) → runs.outcome false C c ≡ o → ◌≡◌ {A = Answer × Catalog} (answer, C') (result_of C (runs.answered (command_answer c) o))
     → (r : Result runs.Answer Refusal) × runs.IsCase C c r C' × (answer ≡ plain c r)
