@@ -12,7 +12,7 @@ GREETING = b"blobd\0\1\0"
 # The commands by their numbers.
 START, STATUS, APPEND, CLOSE, ABANDON, MOUNT, DELETE, PUT_MANIFEST, GET_MANIFEST, DELETE_MANIFEST = range(1, 11)
 LEASE, READ, GIVE_BACK, SWEEP = range(11, 15)
-STAT, STAT_MANIFEST, FREE_SLOTS, USAGE = range(17, 21)
+STAT, STAT_MANIFEST, FREE_SLOTS, USAGE, FETCH = range(17, 22)
 
 # Refusals, and what else a status may say.
 NAME_INVALID, DIGEST_INVALID, NAME_UNKNOWN, UPLOAD_UNKNOWN, SIZE_INVALID, RANGE_INVALID, BLOB_UNKNOWN = range(1, 8)
@@ -77,6 +77,16 @@ CALLS = [
     (request(READ, digest=ABC, number=3), reply(NO_LEASE)),
     (request(GIVE_BACK, number=2), reply()),
     (request(GIVE_BACK, number=2), reply(NO_LEASE)),
+    # fetches, which leave no lease
+    (request(FETCH, ONE, ABC), reply(first=3, body=b"abc")),
+    (request(FETCH, ONE, ABC, span=(1, 1)), reply(first=3, body=b"b")),
+    (request(FETCH, ONE, ABC, span=(1, 99)), reply(first=3, body=b"bc")),
+    (request(FETCH, ONE, ABC, span=(3, 99)), reply(first=3)),
+    (request(FETCH, ONE, ABC, span=(2, 1)), reply(SIZE_INVALID)),
+    (request(FETCH, ONE, ABC, span=(0, 1 << 63)), reply(SIZE_INVALID)),
+    (request(FETCH, ONE, "sha256:abc", span=(2, 1)), reply(DIGEST_INVALID)),
+    (request(FETCH, "Acme/one", "sha256:abc"), reply(NAME_INVALID)),
+    (request(FETCH, ONE, NOTHING), reply(BLOB_UNKNOWN)),
     # a manifest keeps its blobs
     (request(PUT_MANIFEST, ONE, body=b"no manifest"), reply(MANIFEST_INVALID)),
     (request(PUT_MANIFEST, ONE, body=MANIFEST), reply(MANIFEST_BLOB_UNKNOWN, digest=sha256(CONFIG))),

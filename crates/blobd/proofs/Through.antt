@@ -1,5 +1,5 @@
 -- A line that is served on something which may show less of itself, and of the leases that are out.
-use Rattle.std.proofs.Common.{◌≡◌, ◌∷◌, [], ℕ, List, Option, Some, None, Result, Ok, Err, ap, inl, inr, subst}
+use Rattle.std.proofs.Common.{◌≡◌, ◌∷◌, [], ℕ, Bool, true, false, List, Option, Some, None, Result, Ok, Err, ap, inl, inr, subst}
 use Rattle.blob_digest.specs.declared.range.ByteRange.{ByteRange}
 use Rattle.blob_digest.specs.declared.refusal.Refusal.{Refusal}
 use Rattle.blob_frames.specs.Replies.{Reply}
@@ -12,11 +12,11 @@ use Rattle.store_api.specs.Steps.{StepOf}
 use Rattle.store_api.specs.declared.verb.Verb.{Verb}
 use Rattle.store_api.specs.declared.verb.Verb.TheVariants as verb
 use Rattle.line_player.specs.Lendings.{Lending, Kept, NotKept, Read, NotRead, GivenBack, NotGivenBack}
-use Rattle.line_player.specs.Outcomes.{Outcome, Answered, Lent, Told, NoCommand}
-use Rattle.line_player.specs.Queries.{NoVerbStep, SpelledStep, spelled_query}
+use Rattle.line_player.specs.Outcomes.{Outcome, Answered, Lent, Fetched, Told, NoCommand}
+use Rattle.line_player.specs.Queries.{QueryStep, SpelledStep, spelled_query}
 use Rattle.line_player.specs.Requests.{ends_of, request_command}
 use Rattle.line_player.specs.Served.{Frame, IsLine, IsServed, Serves}
-use Rattle.line_player.specs.Steps.{CommandStep, GiveBackStep, LeaseStep, Lends, ReadStep, RequestStep, VerbStep}
+use Rattle.line_player.specs.Steps.{CommandStep, Fetches, FetchStep, GiveBackStep, LeaseStep, Lends, NoVerbStep, ReadStep, RequestStep, VerbStep}
 use Rattle.locked_book.specs.History.{DeskView, IsPart}
 use Rattle.locked_book.specs.Names.{StoreNames}
 use Rattle.atomic_table.specs.Seated.{TableId}
@@ -46,6 +46,7 @@ module _ {S T U V : Type 0} (shown : S → U) (lent : T → V)
   command_through : (spelled : Result (Option Command) Refusal) (old new : S × T) (outcome : Outcome) → CommandStep acts spelled old outcome new → CommandStep to_act spelled (both old) outcome (both new)
   command_through spelled old new (Answered answer) h = (call_through spelled old.0 new.0 answer h.0, ap lent h.1)
   command_through spelled old new (Lent size number) h = absurd h
+  command_through spelled old new (Fetched size piece) h = absurd h
   command_through spelled old new (Told first second) h = absurd h
   command_through spelled old new NoCommand h = absurd h
 
@@ -53,6 +54,7 @@ module _ {S T U V : Type 0} (shown : S → U) (lent : T → V)
   lends_through command old new (Lent size number) h = (h.0, h.1, tells old.0 (Calls command) (Bytes h.0.bytes) new.0 h.2, lends old.1 (Kept h.0 number) new.1 h.3)
   lends_through command old new (Answered answer) (inl h) = inl (h.0, h.1, tells old.0 (Calls command) (Refused h.0) new.0 h.2, ap lent h.3)
   lends_through command old new (Answered answer) (inr h) = inr (h.0, h.1, tells old.0 (Calls command) (Bytes h.0.bytes) new.0 h.2, lends old.1 (NotKept h.0) new.1 h.3)
+  lends_through command old new (Fetched size piece) h = absurd h
   lends_through command old new (Told first second) h = absurd h
   lends_through command old new NoCommand h = absurd h
 
@@ -60,6 +62,20 @@ module _ {S T U V : Type 0} (shown : S → U) (lent : T → V)
   lease_through (Ok (Some command)) old new outcome h = lends_through command old new outcome h
   lease_through (Ok None) old new outcome h = absurd h
   lease_through (Err refusal) old new outcome h = (h.0, ap both h.1)
+
+  fetches_through : (command : Command) (ends : ℕ × ℕ) (old new : S × T) (outcome : Outcome) → Fetches acts does command ends old outcome new → Fetches to_act to_do command ends (both old) outcome (both new)
+  fetches_through command ends old new (Fetched size piece) h = (h.0, h.1, h.2, h.3, tells old.0 (Calls command) (Bytes h.0.bytes) new.0 h.4, ap lent h.5)
+  fetches_through command ends old new (Lent size number) h = (h.0, h.1, h.2, tells old.0 (Calls command) (Bytes h.0.bytes) new.0 h.3, lends old.1 (Kept h.0 number) new.1 h.4)
+  fetches_through command ends old new (Answered answer) (inl h) = inl (lends_through command old new (Answered answer) h)
+  fetches_through command ends old new (Answered answer) (inr h) = inr (h.0, h.1, tells old.0 (Calls command) (Bytes h.0.bytes) new.0 h.2, ap lent h.3)
+  fetches_through command ends old new (Told first second) h = absurd h
+  fetches_through command ends old new NoCommand h = absurd h
+
+  fetch_through : (spelled : Result (Option Command) Refusal) (range : Result (Option ByteRange) Refusal) (old new : S × T) (outcome : Outcome) → FetchStep acts does spelled range old outcome new → FetchStep to_act to_do spelled range (both old) outcome (both new)
+  fetch_through (Ok (Some command)) (Ok range) old new outcome h = fetches_through command (ends_of range) old new outcome h
+  fetch_through (Ok (Some command)) (Err refusal) old new outcome h = (h.0, ap both h.1)
+  fetch_through (Ok None) range old new outcome h = absurd h
+  fetch_through (Err refusal) range old new outcome h = (h.0, ap both h.1)
 
   read_through : (number : ℕ) (digest : Result Text Refusal) (range : Result (Option ByteRange) Refusal) (old new : T) (outcome : Outcome) → ReadStep does number digest range old outcome new → ReadStep to_do number digest range (lent old) outcome (lent new)
   read_through number (Ok digest) (Ok range) old new outcome (inl h) =
@@ -77,12 +93,16 @@ module _ {S T U V : Type 0} (shown : S → U) (lent : T → V)
   spelled_through store (Ok query) outcome h = (h.0, shows store h.0 h.1, h.2)
   spelled_through store (Err refusal) outcome h = h
 
-  query_through : (asked : Option Query) (store : S) (head : Head) (payload : Text) (outcome : Outcome) → NoVerbStep finds asked store head payload outcome → NoVerbStep to_find asked (shown store) head payload outcome
+  query_through : (asked : Option Query) (store : S) (head : Head) (payload : Text) (outcome : Outcome) → QueryStep finds asked store head payload outcome → QueryStep to_find asked (shown store) head payload outcome
   query_through None store head payload outcome h = h
   query_through (Some query) store head payload outcome h = spelled_through store (spelled_query query head payload) outcome h
 
+  no_verb_through : (fetch : Bool) (old new : S × T) (head : Head) (payload : Text) (outcome : Outcome) → NoVerbStep acts finds does fetch old head payload outcome new → NoVerbStep to_act to_find to_do fetch (both old) head payload outcome (both new)
+  no_verb_through true old new head payload outcome h = fetch_through _ _ old new outcome h
+  no_verb_through false old new head payload outcome h = (query_through _ old.0 head payload outcome h.0, ap both h.1)
+
   verb_through : (asked : Option Verb) (old new : S × T) (head : Head) (payload : Text) (outcome : Outcome) → VerbStep acts finds does asked old head payload outcome new → VerbStep to_act to_find to_do asked (both old) head payload outcome (both new)
-  verb_through None old new head payload outcome h = (query_through _ old.0 head payload outcome h.0, ap both h.1)
+  verb_through None old new head payload outcome h = no_verb_through _ old new head payload outcome h
   verb_through (Some verb.Lease) old new head payload outcome h = lease_through _ old new outcome h
   verb_through (Some verb.Read) old new head payload outcome h = (read_through head.number _ _ old.1 new.1 outcome h.0, ap shown h.1)
   verb_through (Some verb.GiveBack) old new head payload outcome h = (give_back_through head.number old.1 new.1 outcome h.0, ap shown h.1)

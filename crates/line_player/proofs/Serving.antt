@@ -15,7 +15,7 @@ use Rattle.store_model.specs.Catalog.{Catalog}
 use Rattle.watched_reader.specs.Watching.{HasNotFailed}
 use Rattle.watched_reader.specs.declared.watched.Watched.{Watched}
 use Rattle.line_player.specs.Lendings.{Lending}
-use Rattle.line_player.specs.Outcomes.{Outcome, Answered, Lent, Told, NoCommand, Tells, TellsAnswer, answer_reply}
+use Rattle.line_player.specs.Outcomes.{Outcome, Answered, Lent, Fetched, Told, NoCommand, Tells, TellsAnswer, answer_reply}
 use Rattle.line_player.specs.Served.{Ends, EndsByRead, Frame, FrameStep, IsServed, Serves, frames_bytes, replies_bytes}
 use Rattle.line_player.specs.declared.ending.Ending.{Ending}
 use Rattle.line_player.specs.declared.ending.Ending.TheVariants.{Closed, CutOff, ReadFailed, Malformed, WriteFailed, Spent}
@@ -94,6 +94,7 @@ tells_answer answers.NameTaken = refl
 pub some_reply : (outcome : Outcome) → (reply : Reply) × Tells outcome reply
 some_reply (Answered answer) = (answer_reply answer, tells_answer answer)
 some_reply (Lent size number) = (_, refl)
+some_reply (Fetched size piece) = (_, refl)
 some_reply (Told first second) = (_, refl)
 some_reply NoCommand = (_, refl)
 

@@ -78,7 +78,7 @@ abbrev pub SpelledStep : {S : Type 0} → (S → Catalog → Type 0) → S → R
 SpelledStep finds store (Ok query) outcome = IsTold finds store query outcome
 SpelledStep finds store (Err refusal) outcome = outcome ≡ Answered (Refused refusal)
 
--- a request for no command is answered: by the query that its byte asks for, if any
-abbrev pub NoVerbStep : {S : Type 0} → (S → Catalog → Type 0) → Option Query → S → Head → Text → Outcome → Type 0
-NoVerbStep finds None store h payload outcome = outcome ≡ NoCommand
-NoVerbStep finds (Some query) store h payload outcome = SpelledStep finds store (spelled_query query h payload) outcome
+-- a request is answered by the query that its byte asks for, if any
+abbrev pub QueryStep : {S : Type 0} → (S → Catalog → Type 0) → Option Query → S → Head → Text → Outcome → Type 0
+QueryStep finds None store h payload outcome = outcome ≡ NoCommand
+QueryStep finds (Some query) store h payload outcome = SpelledStep finds store (spelled_query query h payload) outcome

@@ -43,6 +43,13 @@ range_of h = if h.flags % 2 == 1 then range_with (Some (h.start, h.end)) else Ok
 abbrev pub request_command : Verb → Head → Text → Result (Option Command) Refusal
 request_command verb h payload = command_from verb (repo_of h payload) (source_of h payload) (digest_of h payload) (range_of h) (Some h.number) (body_of h payload)
 
+-- the number of a fetch, and the length of the longest piece that it hands over
+abbrev pub fetch_number : ℕ
+fetch_number = 21
+
+abbrev pub max_fetched : ℕ
+max_fetched = 2 ^ 20
+
 -- the ends of what is read of a blob: those of the range, or those of all
 abbrev pub ends_of : Option ByteRange → ℕ × ℕ
 ends_of None = (0, 2 ^ 63 - 1)

@@ -8,7 +8,7 @@ ghost use Rattle.store_api.specs.Answers.{answer_of};
 use blob_frames::{write_digest, write_refusal, write_reply};
 use std::alloc::Global;
 use std::io::{self, Write};
-use store_api::Reply;
+use store_api::{Piece, Reply};
 
 /// What a request comes to.
 #[derive(Drop)]
@@ -21,6 +21,13 @@ pub enum Outcome {
         size: u64,
         /// The number of the lease.
         number: u32,
+    },
+    /// A short piece of a blob is handed over, and no lease is left.
+    Fetched {
+        /// The size of the blob in bytes.
+        size: u64,
+        /// The piece.
+        piece: Piece,
     },
     /// What a query is told.
     Told {
@@ -46,11 +53,11 @@ fn write_numbers<W: Write>(output: &mut W, status: u32, first: u64, second: u64)
     write_reply(output, status, first, second, b"", b"")
 }
 
-/// Writes bytes, from where they lie.
-fn write_body<W: Write>(output: &mut W, body: &[u8]) -> io::Result<()>
-    ensures { OnOk result (Appends (W.contents output.old) (W.contents output.new) (reply_bytes (body_reply body.now))) }
+/// Writes a number and bytes, the bytes from where they lie.
+fn write_body<W: Write>(output: &mut W, first: u64, body: &[u8]) -> io::Result<()>
+    ensures { OnOk result (Appends (W.contents output.old) (W.contents output.new) (reply_bytes (body_reply first body.now))) }
 {
-    write_reply(output, 0, 0, 0, b"", body)
+    write_reply(output, 0, first, 0, b"", body)
 }
 
 /// Writes the reply that tells an answer.
@@ -66,8 +73,8 @@ fn write_answer<W: Write>(alloc: Global, output: &mut W, reply: &Reply) -> io::R
         Reply::Abandoned | Reply::Mounted | Reply::Deleted | Reply::Shared | Reply::GivenBack =>
             write_numbers(output, 0, 0, 0),
         Reply::Manifest(digest) => write_digest(alloc, output, 0, digest),
-        Reply::Body(manifest) => write_body(output, manifest.bytes()),
-        Reply::Bytes(piece) => write_body(output, piece.bytes()),
+        Reply::Body(manifest) => write_body(output, 0, manifest.bytes()),
+        Reply::Bytes(piece) => write_body(output, 0, piece.bytes()),
         Reply::Swept(swept) => write_numbers(
             output,
             0,
@@ -87,6 +94,7 @@ pub fn write_outcome<W: Write>(alloc: Global, output: &mut W, outcome: &Outcome)
     match outcome {
         Outcome::Answered(reply) => write_answer(alloc, output, reply),
         Outcome::Lent { size, number } => write_numbers(output, 0, *size, u64::from(*number)),
+        Outcome::Fetched { size, piece } => write_body(output, *size, piece.bytes()),
         Outcome::Told { first, second } => write_numbers(output, 0, *first, *second),
         Outcome::NoCommand => write_numbers(output, NO_COMMAND, 0, 0),
     }

@@ -1,13 +1,16 @@
 //! Plays a request of a line.
-ghost use Rattle.std.specs.Prelude.{◌≡◌, ◌⊎◌, true, Some, MatchResult};
+ghost use Rattle.std.specs.Prelude.{◌≡◌, ◌⊎◌, ◌^◌, ◌<◌, ◌≤◌, true, length, IfErr, IfOk, None, Some, MatchResult};
 ghost use Rattle.blob_digest.specs.declared.refusal.Refusal.TheVariants.{Memory};
 ghost use Rattle.blob_frames.specs.Frames.{digest_of};
-ghost use Rattle.line_player.specs.Outcomes.{Answered, outcome_of};
-ghost use Rattle.line_player.specs.Queries.{NoVerbStep, query_of};
-ghost use Rattle.line_player.specs.Requests.{range_of, request_command};
-ghost use Rattle.line_player.specs.Steps.{AnswersCommand, GiveBackStep, LeaseStep, ReadStep, RequestStep, TakesMemory, VerbStep};
+ghost use Rattle.finite_maps.specs.Texts.{Text};
+ghost use Rattle.line_player.specs.Outcomes.{Answered, Fetched, outcome_of};
+ghost use Rattle.line_player.specs.Lendings.{NotKept};
+ghost use Rattle.line_player.specs.Queries.{QueryStep, query_of};
+ghost use Rattle.line_player.specs.Requests.{range_of, request_command, verb_of};
+ghost use Rattle.line_player.specs.Steps.{AnswersCommand, AnswersFetch, GiveBackStep, IsKept, LeaseStep, ReadStep, RequestStep, TakesMemory, VerbStep};
 ghost use Rattle.store_api.specs.Answers.{Refused, answer_of};
 ghost use Rattle.store_api.specs.Commands.{digest_in, is_command};
+ghost use Rattle.store_api.specs.Lent.{between};
 
 use crate::command::{blob_named, ends_of, range_of, request_command, verb_of};
 use crate::lending::Lending;
@@ -32,6 +35,48 @@ fn play_command<B: Backend>(
     perform(backend, &command)
 }
 
+/// The number of a fetch.
+const FETCH: u8 = 21;
+
+/// The length of the longest piece that a fetch hands over.
+const MAX_FETCHED: u64 = 1_048_576;
+
+/// Returns how many bytes a blob of a size has from a start to an end, both included.
+fn piece_len(size: u64, start: u64, end: u64) -> u64
+    requires ordered { start ≤ end }
+    requires small { end < 2 ^ 63 }
+    ensures { (bytes : Text) → length bytes ≡ size → result ≡ length (between bytes start end) }
+{
+    (end - start + 1).min(size.saturating_sub(start))
+}
+
+/// Has a lease kept. It fails with `Memory` alone, and the lease is given back then.
+fn keep<B: Backend, L: Lending<B>>(leases: &mut L, lease: B::Lease) -> Result<Outcome, Refusal>
+    ensures kept { IfOk result (λ o. IsKept L.does (B.lent lease) leases.old (outcome_of o) leases.new) }
+    ensures failed { IfErr result (λ e. (e ≡ Memory) × L.does leases.old (NotKept (B.lent lease)) leases.new) }
+{
+    let size = B::size(&lease);
+    match leases.keep(lease) {
+        Some(number) => Ok(Outcome::Lent { size, number }),
+        None => Err(Refusal::Memory),
+    }
+}
+
+/// Ends a lease with a piece of its blob. It fails with `Memory` alone.
+fn hand_over<B: Backend>(lease: B::Lease, start: u64, end: u64) -> Result<Outcome, Refusal>
+    requires ordered { start ≤ end }
+    requires small { end < 2 ^ 63 }
+    ensures { MatchResult result (λ o. outcome_of o ≡ Fetched (length (B.lent lease).bytes) (between (B.lent lease).bytes start end)) (λ e. e ≡ Memory) }
+{
+    let size = B::size(&lease);
+    let piece = B::piece(&lease, start, end);
+    B::give_back(lease);
+    Ok(Outcome::Fetched {
+        size,
+        piece: piece?,
+    })
+}
+
 /// Leases a blob, and has the lease kept.
 fn play_lease<B: Backend, L: Lending<B>>(
     alloc: Global,
@@ -43,10 +88,25 @@ fn play_lease<B: Backend, L: Lending<B>>(
 {
     let (repo, digest) = blob_named(alloc, request)?;
     let lease = backend.lease(&repo, &digest)?;
-    let size = B::size(&lease);
-    match leases.keep(lease) {
-        Some(number) => Ok(Outcome::Lent { size, number }),
-        None => Err(Refusal::Memory),
+    keep::<B, L>(leases, lease)
+}
+
+/// Fetches a piece of a blob: leases the blob, and hands over a short piece or has the lease kept.
+fn play_fetch<B: Backend, L: Lending<B>>(
+    alloc: Global,
+    backend: &mut B,
+    leases: &mut L,
+    request: &Request<'_>,
+) -> Result<Outcome, Refusal>
+    ensures { AnswersFetch B.acts L.does request.now.head request.now.payload.now (backend.old, leases.old) result (backend.new, leases.new) }
+{
+    let (repo, digest) = blob_named(alloc, request)?;
+    let (start, end) = ends_of(range_of(&request.head)?);
+    let lease = backend.lease(&repo, &digest)?;
+    if piece_len(B::size(&lease), start, end) > MAX_FETCHED {
+        keep::<B, L>(leases, lease)
+    } else {
+        hand_over::<B>(lease, start, end)
     }
 }
 
@@ -86,15 +146,34 @@ fn answered(played: Result<Reply, Refusal>) -> Outcome
     }
 }
 
-/// Plays a request that asks for no command: its query is spelled, and then asked.
+/// Plays a request for a query, if its byte asks for one: the query is spelled, and then asked.
 fn play_query<B: Queries>(alloc: Global, store: &B, request: &Request<'_>) -> Outcome
-    ensures { (TakesMemory request.now.head × (outcome_of result ≡ Answered (Refused Memory))) ⊎ NoVerbStep B.finds (query_of request.now.head.command) store.now request.now.head request.now.payload.now (outcome_of result) }
+    ensures { (TakesMemory request.now.head × (outcome_of result ≡ Answered (Refused Memory))) ⊎ QueryStep B.finds (query_of request.now.head.command) store.now request.now.head request.now.payload.now (outcome_of result) }
 {
     let Some(query) = query_of(request.head.command) else {
         return Outcome::NoCommand;
     };
     match spell_query(alloc, query, request) {
         Ok(query) => ask(store, &query),
+        Err(refusal) => Outcome::Answered(Reply::Refused(refusal)),
+    }
+}
+
+/// Plays a request whose byte names no verb: a fetch, or a query.
+fn play_other<B: Backend + Queries, L: Lending<B>>(
+    alloc: Global,
+    backend: &mut B,
+    leases: &mut L,
+    request: &Request<'_>,
+) -> Outcome
+    requires { verb_of request.now.head.command ≡ None }
+    ensures { RequestStep B.acts B.finds L.does (backend.old, leases.old) request.now.head request.now.payload.now (outcome_of result) (backend.new, leases.new) }
+{
+    if request.head.command != FETCH {
+        return play_query(alloc, backend, request);
+    }
+    match play_fetch(alloc, backend, leases, request) {
+        Ok(outcome) => outcome,
         Err(refusal) => Outcome::Answered(Reply::Refused(refusal)),
     }
 }
@@ -110,7 +189,7 @@ pub fn play_request<B: Backend + Queries, L: Lending<B>>(
     ensures { RequestStep B.acts B.finds L.does (backend.old, leases.old) request.now.head request.now.payload.now (outcome_of result) (backend.new, leases.new) }
 {
     let Some(verb) = verb_of(request.head.command) else {
-        return play_query(alloc, backend, request);
+        return play_other(alloc, backend, leases, request);
     };
     match verb {
         Verb::Lease => match play_lease(alloc, backend, leases, request) {
