@@ -9,11 +9,12 @@ use Rattle.store_model.specs.Catalog.{Catalog}
 use Rattle.store_api.specs.Answers.{Answer, Bytes, Refused, Swept}
 use Rattle.store_api.specs.Commands.{Calls, Command, Request, Sweeps}
 use Rattle.store_api.specs.Steps.{StepOf}
+use Rattle.store_api.specs.declared.query.Query.{Query}
 use Rattle.store_api.specs.declared.verb.Verb.{Verb}
 use Rattle.store_api.specs.declared.verb.Verb.TheVariants as verb
 use Rattle.line_player.specs.Lendings.{Lending, Kept, NotKept, Read, NotRead, GivenBack, NotGivenBack}
 use Rattle.line_player.specs.Outcomes.{Outcome, Answered, Lent, Fetched, Told, NoCommand}
-use Rattle.line_player.specs.Queries.{QueryStep, SpelledStep, spelled_query}
+use Rattle.line_player.specs.Queries.{QueryStep}
 use Rattle.line_player.specs.Requests.{ends_of, request_command}
 use Rattle.line_player.specs.Served.{Frame, IsLine, IsServed, Serves}
 use Rattle.line_player.specs.Steps.{CommandStep, Fetches, FetchStep, GiveBackStep, LeaseStep, Lends, NoVerbStep, ReadStep, RequestStep, VerbStep}
@@ -26,8 +27,6 @@ use Rattle.blob_store.specs.Seats.{IsFound, Work, WorkActs, work_of}
 use Rattle.blob_store.specs.Workers.{no_work}
 use Rattle.blobd.specs.Served.{IsServedBy, LendingActs}
 use Rattle.line_player.specs.declared.ending.Ending.{Ending}
-use Rattle.line_player.specs.declared.query.Query.{Query}
-use Rattle.line_player.specs.declared.query.SpelledQuery.{SpelledQuery}
 
 module _ {S T U V : Type 0} (shown : S → U) (lent : T → V)
     (acts : S → Request → Answer → S → Type 0) (finds : S → Catalog → Type 0) (does : T → Lending → T → Type 0)
@@ -89,17 +88,14 @@ module _ {S T U V : Type 0} (shown : S → U) (lent : T → V)
   give_back_through number old new outcome (inl h) = inl (h.0, lends old (GivenBack number) new h.1)
   give_back_through number old new outcome (inr h) = inr (h.0, lends old (NotGivenBack number) new h.1)
 
-  spelled_through : (store : S) (spelled : Result SpelledQuery Refusal) (outcome : Outcome) → SpelledStep finds store spelled outcome → SpelledStep to_find (shown store) spelled outcome
-  spelled_through store (Ok query) outcome h = (h.0, shows store h.0 h.1, h.2)
-  spelled_through store (Err refusal) outcome h = h
-
-  query_through : (asked : Option Query) (store : S) (head : Head) (payload : Text) (outcome : Outcome) → QueryStep finds asked store head payload outcome → QueryStep to_find asked (shown store) head payload outcome
-  query_through None store head payload outcome h = h
-  query_through (Some query) store head payload outcome h = spelled_through store (spelled_query query head payload) outcome h
+  query_through : (store : S) (spelled : Result (Option Query) Refusal) (outcome : Outcome) → QueryStep finds store spelled outcome → QueryStep to_find (shown store) spelled outcome
+  query_through store (Ok (Some query)) outcome h = (h.0, shows store h.0 h.1, h.2)
+  query_through store (Ok None) outcome h = h
+  query_through store (Err refusal) outcome h = h
 
   no_verb_through : (fetch : Bool) (old new : S × T) (head : Head) (payload : Text) (outcome : Outcome) → NoVerbStep acts finds does fetch old head payload outcome new → NoVerbStep to_act to_find to_do fetch (both old) head payload outcome (both new)
   no_verb_through true old new head payload outcome h = fetch_through _ _ old new outcome h
-  no_verb_through false old new head payload outcome h = (query_through _ old.0 head payload outcome h.0, ap both h.1)
+  no_verb_through false old new head payload outcome h = (query_through old.0 _ outcome h.0, ap both h.1)
 
   verb_through : (asked : Option Verb) (old new : S × T) (head : Head) (payload : Text) (outcome : Outcome) → VerbStep acts finds does asked old head payload outcome new → VerbStep to_act to_find to_do asked (both old) head payload outcome (both new)
   verb_through None old new head payload outcome h = no_verb_through _ old new head payload outcome h

@@ -17,7 +17,7 @@ use Rattle.store_model.specs.Catalog.{Catalog}
 use Rattle.store_model.specs.declared.swept.Swept.{Swept as SweptCounts}
 use Rattle.line_player.specs.Lendings.{Lending, Kept, NotKept, Read, NotRead, GivenBack as GaveBack, NotGivenBack, IsPieceOf}
 use Rattle.line_player.specs.Outcomes.{Outcome, Answered, Lent, Fetched, outcome_of}
-use Rattle.line_player.specs.Queries.{QueryStep, query_has_fields, query_of}
+use Rattle.line_player.specs.Queries.{QueryStep, query_has_fields, request_query}
 use Rattle.line_player.specs.Requests.{ends_of, fetch_number, max_fetched, range_of, request_command, verb_has_fields, verb_of}
 use Rattle.line_player.specs.declared.outcome.Outcome.{Outcome as Code}
 
@@ -107,7 +107,7 @@ SweepStep acts old outcome new = (swept : SweptCounts) × (outcome ≡ Answered 
 -- what a request does whose byte names no verb: it is a fetch, or a query, if any, which changes nothing
 abbrev pub NoVerbStep : {S T : Type 0} → (S → Request → Answer → S → Type 0) → (S → Catalog → Type 0) → (T → Lending → T → Type 0) → (fetch : Bool) → S × T → Head → Text → Outcome → S × T → Type 0
 NoVerbStep acts finds does true old h payload outcome new = FetchStep acts does (request_command verb.Lease h payload) (range_of h) old outcome new
-NoVerbStep acts finds does false old h payload outcome new = QueryStep finds (query_of h.command) old.0 h payload outcome × (new ≡ old)
+NoVerbStep acts finds does false old h payload outcome new = QueryStep finds old.0 (request_query h payload) outcome × (new ≡ old)
 
 -- what a request does, by what its byte asks for
 abbrev pub VerbStep : {S T : Type 0} → (S → Request → Answer → S → Type 0) → (S → Catalog → Type 0) → (T → Lending → T → Type 0) → Option Verb → S × T → Head → Text → Outcome → S × T → Type 0
@@ -120,7 +120,7 @@ VerbStep acts finds does (Some verb) old h payload outcome new = CommandStep act
 
 -- a request can fail for lack of memory before anything is asked: it has bytes behind its head, or its command, query or fetch has fields
 abbrev pub TakesMemory : Head → Type 0
-TakesMemory h = (0 < payload_len h) ⊎ (verb_has_fields (verb_of h.command) ≡ true) ⊎ (query_has_fields (query_of h.command) ≡ true) ⊎ (h.command ≡ fetch_number)
+TakesMemory h = (0 < payload_len h) ⊎ (verb_has_fields (verb_of h.command) ≡ true) ⊎ (query_has_fields h.command ≡ true) ⊎ (h.command ≡ fetch_number)
 
 -- a request is played; or it takes memory, there is none, and nothing is changed
 abbrev pub RequestStep : {S T : Type 0} → (S → Request → Answer → S → Type 0) → (S → Catalog → Type 0) → (T → Lending → T → Type 0) → S × T → Head → Text → Outcome → S × T → Type 0

@@ -25,5 +25,5 @@ pub use ending::Ending;
 pub use lending::Lending;
 pub use line::serve;
 pub use outcome::{Outcome, write_outcome};
-pub use query::{Query, SpelledQuery, query_of};
+pub use query::request_query;
 pub use step::play_request;

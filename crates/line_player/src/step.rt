@@ -5,7 +5,7 @@ ghost use Rattle.blob_frames.specs.Frames.{digest_of};
 ghost use Rattle.finite_maps.specs.Texts.{Text};
 ghost use Rattle.line_player.specs.Outcomes.{Answered, Fetched, outcome_of};
 ghost use Rattle.line_player.specs.Lendings.{NotKept};
-ghost use Rattle.line_player.specs.Queries.{QueryStep, query_of};
+ghost use Rattle.line_player.specs.Queries.{QueryStep, request_query};
 ghost use Rattle.line_player.specs.Requests.{range_of, request_command, verb_of};
 ghost use Rattle.line_player.specs.Steps.{AnswersCommand, AnswersFetch, GiveBackStep, IsKept, LeaseStep, ReadStep, RequestStep, TakesMemory, VerbStep};
 ghost use Rattle.store_api.specs.Answers.{Refused, answer_of};
@@ -15,7 +15,7 @@ ghost use Rattle.store_api.specs.Lent.{between};
 use crate::command::{blob_named, ends_of, range_of, request_command, verb_of};
 use crate::lending::Lending;
 use crate::outcome::Outcome;
-use crate::query::{ask, query_of, spell_query};
+use crate::query::{ask, request_query};
 use blob_digest::Refusal;
 use blob_frames::Request;
 use std::alloc::Global;
@@ -148,13 +148,11 @@ fn answered(played: Result<Reply, Refusal>) -> Outcome
 
 /// Plays a request for a query, if its byte asks for one: the query is spelled, and then asked.
 fn play_query<B: Queries>(alloc: Global, store: &B, request: &Request<'_>) -> Outcome
-    ensures { (TakesMemory request.now.head × (outcome_of result ≡ Answered (Refused Memory))) ⊎ QueryStep B.finds (query_of request.now.head.command) store.now request.now.head request.now.payload.now (outcome_of result) }
+    ensures { (TakesMemory request.now.head × (outcome_of result ≡ Answered (Refused Memory))) ⊎ QueryStep B.finds store.now (request_query request.now.head request.now.payload.now) (outcome_of result) }
 {
-    let Some(query) = query_of(request.head.command) else {
-        return Outcome::NoCommand;
-    };
-    match spell_query(alloc, query, request) {
-        Ok(query) => ask(store, &query),
+    match request_query(alloc, request) {
+        Ok(Some(query)) => ask(store, &query),
+        Ok(None) => Outcome::NoCommand,
         Err(refusal) => Outcome::Answered(Reply::Refused(refusal)),
     }
 }

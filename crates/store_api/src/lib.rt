@@ -13,6 +13,7 @@ mod command;
 mod hex_digits;
 mod piece;
 mod queries;
+mod query;
 mod reply;
 mod verb;
 
@@ -20,5 +21,6 @@ pub use backend::{Backend, perform};
 pub use command::{Command, Fields, command_from, digest_in, repo_in};
 pub use piece::Piece;
 pub use queries::Queries;
+pub use query::Query;
 pub use reply::{Reply, mount_reply};
 pub use verb::Verb;
