@@ -43,7 +43,7 @@ fn serve_at<'s, W: Wait, S: Naming, L: LeaseNaming, I: Read, O: Write>(
 {
     let mut seat = Seat { rt, store, desk };
     let mut leases = SharedLeases { rt, table, writer };
-    let ending = serve(alloc, &mut seat, &mut leases, input, output);
+    let ending = serve(rt, alloc, &mut seat, &mut leases, input, output);
     let Seat {
         rt: _,
         store: _,

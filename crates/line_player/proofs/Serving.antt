@@ -18,7 +18,7 @@ use Rattle.line_player.specs.Lendings.{Lending}
 use Rattle.line_player.specs.Outcomes.{Outcome, Answered, Lent, Fetched, Told, NoCommand, Tells, TellsAnswer, answer_reply}
 use Rattle.line_player.specs.Served.{Ends, EndsByRead, Frame, FrameStep, IsServed, Serves, frames_bytes, replies_bytes}
 use Rattle.line_player.specs.declared.ending.Ending.{Ending}
-use Rattle.line_player.specs.declared.ending.Ending.TheVariants.{Closed, CutOff, ReadFailed, Malformed, WriteFailed, Spent}
+use Rattle.line_player.specs.declared.ending.Ending.TheVariants.{Closed, CutOff, ReadFailed, Malformed, WriteFailed}
 
 module _ {S T : Type 0} (acts : S → Request → Answer → S → Type 0) (finds : S → Catalog → Type 0) (does : T → Lending → T → Type 0) where
   -- some requests, and then others
@@ -39,7 +39,6 @@ ends_later CutOff m n rest h = h
 ends_later ReadFailed m n rest h = h
 ends_later Malformed m n rest h = h
 ends_later WriteFailed m n rest h = omega (arith, h)
-ends_later Spent m n rest h = omega (arith, h)
 
 -- a line whose reader failed in its last part failed in all of it, and one whose reader did not, did not
 pub ends_by_read_later : {R : Type 0} (ending : Ending) (old mid new : Watched R) → HasNotFailed old mid → EndsByRead ending mid new → EndsByRead ending old new
@@ -48,7 +47,6 @@ ends_by_read_later CutOff old mid new kept h = h ∙ kept
 ends_by_read_later ReadFailed old mid new kept h = h
 ends_by_read_later Malformed old mid new kept h = h ∙ kept
 ends_by_read_later WriteFailed old mid new kept h = h ∙ kept
-ends_by_read_later Spent old mid new kept h = h ∙ kept
 
 -- each refusal has a reply
 tells_refusal : (refusal : Refusal) → TellsRefusal refusal (refusal_reply refusal)

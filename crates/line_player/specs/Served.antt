@@ -1,5 +1,5 @@
 -- What a line that is served comes to.
-use Rattle.std.specs.Prelude.{true, ◌≡◌, ◌≢◌, ◌⊎◌, ◌<◌, ◌≤◌, ◌^◌, ◌-◌, ℕ, ⊤, List, [], ◌∷◌, Option, IfSome, length}
+use Rattle.std.specs.Prelude.{true, ◌≡◌, ◌≢◌, ◌⊎◌, ◌<◌, ℕ, ⊤, List, [], ◌∷◌, Option, IfSome, length}
 use Rattle.std.specs.List.{flat_map}
 use Rattle.std.specs.Io.KnownBytes.{Appends, Consumes, IsAtEnd}
 use Rattle.blob_frames.specs.Frames.{greeting, head_bytes, max_body, request_bytes}
@@ -16,7 +16,7 @@ use Rattle.line_player.specs.Lendings.{Lending}
 use Rattle.line_player.specs.Outcomes.{Outcome, Tells}
 use Rattle.line_player.specs.Steps.{RequestStep}
 use Rattle.line_player.specs.declared.ending.Ending.{Ending}
-use Rattle.line_player.specs.declared.ending.Ending.TheVariants.{Closed, CutOff, ReadFailed, Malformed, WriteFailed, Spent}
+use Rattle.line_player.specs.declared.ending.Ending.TheVariants.{Closed, CutOff, ReadFailed, Malformed, WriteFailed}
 
 -- a request that was read
 pub record Frame : Type 0 where
@@ -52,7 +52,6 @@ Ends CutOff count rest = IfSome rest IsPartial
 Ends ReadFailed count rest = ⊤
 Ends Malformed count rest = (h : Head) × (behind : Option (List ℕ)) × Consumes rest behind (head_bytes h) × (max_body < h.body_len)
 Ends WriteFailed count rest = 0 < count
-Ends Spent count rest = 2 ^ 64 - 1 ≤ count
 
 -- Behind the greetings: the requests that the line begins with were played in their order, and their replies written, all of them unless a
 -- write failed; and why the line ends.
@@ -72,7 +71,6 @@ EndsUngreeted CutOff line = IsCutOff line 8
 EndsUngreeted ReadFailed line = ⊤
 EndsUngreeted Malformed line = (bytes : List ℕ) × (length bytes ≡ 8) × (bytes ≢ greeting) × (rest : Option (List ℕ)) × Consumes line rest bytes
 EndsUngreeted WriteFailed line = (rest : Option (List ℕ)) × Consumes line rest greeting
-EndsUngreeted Spent line = ⊥
 
 -- The greetings are exchanged, and then requests served; or the line ends before, with nothing played.
 abbrev pub IsLine : {S T : Type 0} → (S → Request → Answer → S → Type 0) → (S → Catalog → Type 0) → (T → Lending → T → Type 0) → S × T → S × T → (line held holds : Option (List ℕ)) → Ending → Type 0

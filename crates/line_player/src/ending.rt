@@ -13,6 +13,4 @@ pub enum Ending {
     Malformed,
     /// A write failed.
     WriteFailed,
-    /// It had 2^64 - 1 requests.
-    Spent,
 }

@@ -16,6 +16,7 @@ use blob_digest::Refusal;
 use blob_frames::{FrameFault, Incoming, Request, read_greeting, read_request, write_greeting};
 use std::alloc::Global;
 use std::io::{self, Read, Write};
+use std::sync::Wait;
 use store_api::{Backend, Queries, Reply};
 use watched_reader::Watched;
 
@@ -104,7 +105,8 @@ fn serve_next<B: Backend + Queries, L: Lending<B>, I: Read, O: Write>(
 }
 
 /// Serves requests until the line ends.
-fn serve_requests<B: Backend + Queries, L: Lending<B>, I: Read, O: Write>(
+fn serve_requests<W: Wait, B: Backend + Queries, L: Lending<B>, I: Read, O: Write>(
+    rt: &W,
     alloc: Global,
     backend: &mut B,
     leases: &mut L,
@@ -115,12 +117,12 @@ fn serve_requests<B: Backend + Queries, L: Lending<B>, I: Read, O: Write>(
     ensures failed { EndsByRead result input.old input.new }
 {
     let mut buffer = Vec::new(alloc);
-    for _turn in 0..u64::MAX {
+    for _ in rt.forever() {
         if let Some(ending) = serve_next(alloc, backend, leases, input, output, &mut buffer) {
             return ending;
         }
     }
-    Ending::Spent
+    unreachable!()
 }
 
 /// Serves a line until it ends, and answers why it did: the greeting is read and answered, and then each request is
@@ -129,7 +131,10 @@ fn serve_requests<B: Backend + Queries, L: Lending<B>, I: Read, O: Write>(
 /// manifest that are replied go from where the store keeps them.
 ///
 /// Where memory runs out for a request, or for what it does, it is answered `Memory`, and the line goes on.
-pub fn serve<B: Backend + Queries, L: Lending<B>, I: Read, O: Write>(
+///
+/// It returns only if the line ends. A client may send requests forever.
+pub fn serve<W: Wait, B: Backend + Queries, L: Lending<B>, I: Read, O: Write>(
+    rt: &W,
     alloc: Global,
     backend: &mut B,
     leases: &mut L,
@@ -141,6 +146,6 @@ pub fn serve<B: Backend + Queries, L: Lending<B>, I: Read, O: Write>(
 {
     match greet(input, output) {
         Some(ending) => ending,
-        None => serve_requests(alloc, backend, leases, input, output),
+        None => serve_requests(rt, alloc, backend, leases, input, output),
     }
 }

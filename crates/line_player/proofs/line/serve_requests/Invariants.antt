@@ -1,16 +1,15 @@
 -- The requests so far were played in their order, and their replies written.
-use Rattle.std.specs.Prelude.{◌≡◌, List, length}
+use Rattle.std.specs.Prelude.{List}
 use Rattle.std.specs.Io.KnownBytes.{Appends, Consumes}
 use Rattle.blob_frames.specs.Replies.{Reply}
 use Rattle.line_player.specs.Served.{Frame, Serves, frames_bytes, replies_bytes}
 use Rattle.watched_reader.specs.Watching.{HasNotFailed, inner_of}
 use Rattle.line_player.proofs.line.serve_requests.Given as goal
 
-abbrev pub invariant-loop-turn : goal.invariant-loop-turn
-invariant-loop-turn g l =
+abbrev pub invariant-loop : goal.invariant-loop
+invariant-loop g l =
     (frames : List Frame) × (replies : List Reply)
     × Serves g.B.Backend.acts g.B.Queries.finds g.L.Lending.does (l.fn.backend, l.fn.leases) frames replies (l.backend, l.leases)
     × Consumes (g.I.Read.remaining (inner_of l.fn.input)) (g.I.Read.remaining (inner_of l.input)) (frames_bytes frames)
     × Appends (g.O.Write.contents l.fn.output) (g.O.Write.contents l.output) (replies_bytes replies)
-    × (length frames ≡ l._turn)
     × HasNotFailed l.fn.input l.input
