@@ -6,8 +6,8 @@ use blob_store::{Lease, Naming, Seat};
 use lease_table::{LeaseNaming, LeaseWriter, LockedLeaseTable};
 use line_player::Lending;
 use locked_book::StorePins;
-use store_api::Piece;
 use std::sync::{Mutex, Wait};
+use store_api::Piece;
 
 /// The table of leases that all lines share, under its lock, and a line's right to add to the table's history. Contracts
 /// see which events a line adds.
