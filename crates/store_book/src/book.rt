@@ -205,11 +205,11 @@ impl Book {
         ensures slots { (self.new.table ≡ self.old.table) × (self.new.slots ≡ self.old.slots) }
     {
         let tenant = self.links.tenant(repo)?;
-        let _ = self
+        let (_, place) = self
             .uploads
             .check(tenant, repo, number, range, len, self.max_blob)?;
         self.links.charge(tenant, len)?;
-        Ok(self.uploads.take(tenant, number, len))
+        Ok(self.uploads.take(tenant, number, place, len))
     }
 
     /// Puts a session's chunks back, with the one that was filled in, and answers the received length.
@@ -285,8 +285,8 @@ impl Book {
         ensures slots { (self.new.table ≡ self.old.table) × (self.new.slots ≡ self.old.slots) }
     {
         let tenant = self.links.tenant(repo)?;
-        let received = self.uploads.received_home(tenant, repo, number)?;
-        self.uploads.remove(tenant, number);
+        let (received, place) = self.uploads.received_home(tenant, repo, number)?;
+        self.uploads.remove(tenant, number, place);
         self.links.discharge(tenant, received);
         Ok(received)
     }

@@ -22,6 +22,8 @@ use std::mem;
 pub struct Hand {
     tenant: u16,
     number: u32,
+    /// Where the session stood among its tenant's when it was taken.
+    place: usize,
     received: u64,
     reserved: u64,
     pieces: Box<ChunkBuffer>,
@@ -47,6 +49,8 @@ impl Model for Hand {
 pub struct PendingClose {
     pub(crate) tenant: u16,
     pub(crate) number: u32,
+    /// Where the session stood among its tenant's when the bytes moved.
+    pub(crate) place: usize,
     pub(crate) pieces: Box<ChunkBuffer>,
 }
 
@@ -66,7 +70,13 @@ impl Model for PendingClose {
 
 impl Hand {
     /// The hand of a session's chunks, not filled.
-    pub(crate) fn new(tenant: u16, number: u32, reserved: u64, pieces: Box<ChunkBuffer>) -> Hand
+    pub(crate) fn new(
+        tenant: u16,
+        number: u32,
+        place: usize,
+        reserved: u64,
+        pieces: Box<ChunkBuffer>,
+    ) -> Hand
         requires whole { IsWhole pieces.value }
         requires fits { length pieces.value.bytes.items + reserved < 2 ^ 64 }
         ensures { result ≡ record { key = (tenant, number); chunks = cut pieces.value.lens.items pieces.value.bytes.items; reserved = reserved; last = None } }
@@ -75,6 +85,7 @@ impl Hand {
         Hand {
             tenant,
             number,
+            place,
             received,
             reserved,
             pieces,
@@ -93,6 +104,11 @@ impl Hand {
         ensures { result ≡ self.now.key.1 }
     {
         self.number
+    }
+
+    /// Where the session stood among its tenant's when it was taken.
+    pub(crate) fn place(&self) -> usize {
+        self.place
     }
 
     /// How many bytes the session had received when it was taken.
@@ -152,6 +168,7 @@ impl Hand {
         let Hand {
             tenant,
             number,
+            place,
             received,
             reserved,
             mut pieces,
@@ -160,6 +177,7 @@ impl Hand {
         let hand = Hand {
             tenant,
             number,
+            place,
             received,
             reserved,
             pieces,
@@ -179,6 +197,7 @@ impl Hand {
         let Hand {
             tenant: _,
             number: _,
+            place: _,
             received,
             reserved,
             mut pieces,
@@ -188,8 +207,12 @@ impl Hand {
     }
 
     /// Moves the bytes into a blob of this digest. Where they have another, the chunks come back
-    /// without the one that was filled in.
-    pub(crate) fn seal(self, digest: &Digest) -> Result<(Blob, PendingClose), Box<ChunkBuffer>>
+    /// without the one that was filled in. `place` is where the session stands now.
+    pub(crate) fn seal(
+        self,
+        digest: &Digest,
+        place: usize,
+    ) -> Result<(Blob, PendingClose), Box<ChunkBuffer>>
         requires full { IsFull self }
         ensures blob { IfOk result (λ r. r.0 ≡ (digest.now, whole_of self)) }
         ensures agrees { IfOk result (λ r. is_digest_of digest.now (whole_of self) ≡ true) }
@@ -201,6 +224,7 @@ impl Hand {
         let Hand {
             tenant,
             number,
+            place: _,
             received,
             reserved: _,
             mut pieces,
@@ -214,6 +238,7 @@ impl Hand {
                 PendingClose {
                     tenant,
                     number,
+                    place,
                     pieces,
                 },
             )),
@@ -230,6 +255,7 @@ impl Hand {
         let Hand {
             tenant: _,
             number: _,
+            place: _,
             received: _,
             reserved: _,
             pieces: _,
@@ -287,6 +313,7 @@ impl PendingClose {
         let PendingClose {
             tenant: _,
             number: _,
+            place: _,
             mut pieces,
         } = self;
         let received = sum_of(pieces.lens.as_slice());

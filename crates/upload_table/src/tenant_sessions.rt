@@ -1,10 +1,11 @@
 //! The open sessions of one tenant.
 
 ghost use Rattle.std.specs.Prelude.{◌≡◌, ◌+◌, ◌<◌, ◌≤◌, ◌^◌, IfSome, IsSome, Some, true, length, map};
-ghost use Rattle.std.specs.Option.{option_copied, option_map};
-ghost use Rattle.std.specs.List.{AllByRecursion};
+ghost use Rattle.std.specs.Option.{option_map};
+ghost use Rattle.std.specs.List.{AllByRecursion, HoldsAt};
 ghost use Rattle.std.specs.List.Sorted.{IsBinarySearchResult, IsSearchInRange};
 ghost use Rattle.std.specs.Ordering.{nat_cmp};
+ghost use Rattle.std.specs.declared.cmp.Ordering.TheVariants.{Equal};
 ghost use Rattle.std.specs.FinMap as fmap;
 ghost use Rattle.blob_digest.specs.Outcomes.{Does};
 ghost use Rattle.store_model.specs.Sessions.{Home, InHand, Session, charged, is_home};
@@ -23,9 +24,10 @@ const MAX_SESSIONS: usize = 64;
 /// Session numbers are below this.
 const NUMBER_LIMIT: u64 = 1 << 32;
 
-/// The open sessions of one tenant, at most 64, in the order of their numbers, with the next number and
-/// with what they count in the tenant's use. A session is found by binary search, and to remove one moves
-/// those behind it. Contracts see the next number and the sessions by number.
+/// The open sessions of one tenant, at most 64, in the order of their numbers, with the next number
+/// and with what they count in the tenant's use. A call looks for a session at the place that its
+/// caller expects, and then by binary search. To remove a session moves those with higher numbers.
+/// Contracts see the next number and the sessions by number.
 #[derive(Drop)]
 pub(crate) struct TenantSessions {
     next: u64,
@@ -47,12 +49,28 @@ impl Model for TenantSessions {
     ghost invariant = { λ a. IsSound a.next a.charged a.rows.items };
 }
 
-/// Where a session stands among rows in the order of their numbers, or where it would go.
-fn place_of(rows: &[Upload], number: u32) -> Result<usize, usize>
+/// Returns whether the session of a number stands at a place.
+fn is_at(rows: &[Upload], number: u32, place: usize) -> bool
+    ensures within { result ≡ true → place < length rows.now }
+    ensures equal { result ≡ true → HoldsAt (λ u. nat_cmp u.number number ≡ Equal) rows.now place }
+{
+    match rows.get(place) {
+        Some(row) => row.number == number,
+        None => false,
+    }
+}
+
+/// Returns where a session stands among rows in the order of their numbers, or where it would go.
+/// Looks at the expected place first. Searches by binary search if none is expected or the session
+/// is not there.
+fn place_of(rows: &[Upload], number: u32, expected: Option<usize>) -> Result<usize, usize>
     ensures within { IsSearchInRange result (length rows.now) }
     ensures place { IsBinarySearchResult (λ u. nat_cmp u.number number) rows.now result }
 {
-    rows.binary_search_by(|u| u.number.cmp(&number))
+    match expected {
+        Some(place) if is_at(rows, number, place) => Ok(place),
+        _ => rows.binary_search_by(|u| u.number.cmp(&number)),
+    }
 }
 
 impl TenantSessions {
@@ -94,13 +112,13 @@ impl TenantSessions {
         Ok(number)
     }
 
-    /// The session of a number.
-    pub(crate) fn row(&self, number: u32) -> Option<&Upload>
-        ensures shown { option_map session_of (option_copied result) ≡ fmap.get self.now.sessions number }
-        ensures whole { IfSome result (λ u. AreWhole u.now.content) }
+    /// Returns the session of a number, and its place. Looks at the expected place first.
+    pub(crate) fn row(&self, number: u32, expected: Option<usize>) -> Option<(usize, &Upload)>
+        ensures shown { option_map (λ r. session_of r.1.now) result ≡ fmap.get self.now.sessions number }
+        ensures whole { IfSome result (λ r. AreWhole r.1.now.content) }
     {
-        match place_of(self.rows.as_slice(), number) {
-            Ok(i) => Some(&self.rows[i]),
+        match place_of(self.rows.as_slice(), number, expected) {
+            Ok(i) => Some((i, &self.rows[i])),
             Err(_) => None,
         }
     }
@@ -115,7 +133,7 @@ impl TenantSessions {
 
     /// Takes the chunks of a session that is at home, and reserves so many bytes for a chunk more. It
     /// takes no memory.
-    pub(crate) fn take(&mut self, number: u32, len: u64) -> Box<ChunkBuffer>
+    pub(crate) fn take(&mut self, number: u32, place: usize, len: u64) -> Box<ChunkBuffer>
         requires home { is_home (fmap.get self.old.sessions number) ≡ true }
         requires room { charged_in self.old + len < 2 ^ 64 }
         ensures whole { IsWhole result.value }
@@ -123,7 +141,7 @@ impl TenantSessions {
         ensures chunks { option_map (λ s. s.chunks) (fmap.get self.old.sessions number) ≡ Some (Home (cut result.value.lens.items result.value.bytes.items)) }
         ensures taken { self.new ≡ with_chunks_here self.old number (InHand (length result.value.bytes.items) len) }
     {
-        match place_of(self.rows.as_slice(), number) {
+        match place_of(self.rows.as_slice(), number, Some(place)) {
             Ok(i) => {
                 self.charged += len;
                 take_chunks(&mut self.rows[i], len)
@@ -134,14 +152,14 @@ impl TenantSessions {
 
     /// Puts chunks home into a session, which counts no more with them than before, and answers their
     /// length. It takes no memory.
-    pub(crate) fn put_home(&mut self, number: u32, pieces: Box<ChunkBuffer>) -> u64
+    pub(crate) fn put_home(&mut self, number: u32, place: usize, pieces: Box<ChunkBuffer>) -> u64
         requires there { IsSome (fmap.get self.old.sessions number) }
         requires less { (s : Session) → fmap.get self.old.sessions number ≡ Some s → length pieces.value.bytes.items ≤ charged s }
         requires whole { IsWhole pieces.value }
         ensures len { result ≡ length pieces.value.bytes.items }
         ensures home { self.new ≡ with_chunks_here self.old number (Home (cut pieces.value.lens.items pieces.value.bytes.items)) }
     {
-        match place_of(self.rows.as_slice(), number) {
+        match place_of(self.rows.as_slice(), number, Some(place)) {
             Ok(i) => {
                 let row = &mut self.rows[i];
                 let before = charge_of(&row.content);
@@ -155,11 +173,11 @@ impl TenantSessions {
     }
 
     /// Drops a session, with the bytes that it has.
-    pub(crate) fn remove(&mut self, number: u32)
+    pub(crate) fn remove(&mut self, number: u32, place: usize)
         requires { IsSome (fmap.get self.old.sessions number) }
         ensures { self.new ≡ without self.old number }
     {
-        match place_of(self.rows.as_slice(), number) {
+        match place_of(self.rows.as_slice(), number, Some(place)) {
             Ok(i) => {
                 let charge = charge_of(&self.rows[i].content);
                 self.charged -= charge;

@@ -1,7 +1,7 @@
 //! The open sessions of all tenants.
 
-ghost use Rattle.std.specs.Prelude.{◌≡◌, ◌+◌, ◌<◌, ◌^◌, IsSome, Some, ◌≤◌, IfOk, IfErr, IfSome, Ok, Err, is_ok, true, length, map, replicate, slice_get, slice_index};
-ghost use Rattle.std.specs.Option.{option_copied, option_map};
+ghost use Rattle.std.specs.Prelude.{◌≡◌, ◌+◌, ◌<◌, ◌^◌, IsSome, is_some, Some, ◌≤◌, IfOk, IfErr, IfSome, Ok, Err, is_ok, true, length, map, replicate, slice_get, slice_index};
+ghost use Rattle.std.specs.Option.{option_map};
 ghost use Rattle.std.specs.FinMap as fmap;
 ghost use Rattle.blob_digest.specs.Digests.{is_digest_of};
 ghost use Rattle.blob_digest.specs.Outcomes.{Does, DoesExactly};
@@ -28,7 +28,14 @@ use std::marker::Model;
 /// sessions.
 ///
 /// Each tenant has its sessions in the order of their numbers. No call goes over another tenant's: a
-/// session is found by binary search among its tenant's, and to remove one moves those behind it.
+/// session is found by binary search among its tenant's, and to remove one moves those with higher
+/// numbers.
+///
+/// A chunk, a close and an abandonment each search for their session once. `check` and
+/// `received_home` search, and return the session's place among its tenant's. `take` and `remove`
+/// are given the place, and a `Hand` keeps it. `put_back` and `finish` look there first. They
+/// search once more only if a session of the tenant with a lower number was removed since, which
+/// moves the session. `repo_of`, `forget` and `reopen` look where `finish` found the session.
 #[derive(Drop)]
 pub struct Uploads {
     alloc: Global,
@@ -84,37 +91,46 @@ impl Uploads {
         self.tenants[tenant as usize].start(self.alloc, repo)
     }
 
-    /// The session of a tenant and a number.
-    fn row(&self, tenant: u16, number: u32) -> Option<&Upload>
-        ensures shown { option_map session_of (option_copied result) ≡ fmap.get self.now.sessions (tenant, number) }
-        ensures whole { IfSome result (λ u. AreWhole u.now.content) }
+    /// Returns the session of a tenant and a number, and its place. Looks at the expected place
+    /// first.
+    fn row(&self, tenant: u16, number: u32, expected: Option<usize>) -> Option<(usize, &Upload)>
+        ensures shown { option_map (λ r. session_of r.1.now) result ≡ fmap.get self.now.sessions (tenant, number) }
+        ensures whole { IfSome result (λ r. AreWhole r.1.now.content) }
     {
         if (tenant as usize) < self.tenants.as_slice().len() {
-            self.tenants[tenant as usize].row(number)
+            self.tenants[tenant as usize].row(number, expected)
         } else {
             None
         }
     }
 
-    /// A repository's session.
-    fn session(&self, tenant: u16, repo: &RepoName, number: u32) -> Result<&Upload, Refusal>
-        ensures ok { IfOk result (λ u. session_in (fmap.get self.now.sessions (tenant, number)) repo.now ≡ Ok (session_of u.now)) }
-        ensures whole { IfOk result (λ u. AreWhole u.now.content) }
+    /// Returns a repository's session, and its place. Searches for it.
+    fn session(
+        &self,
+        tenant: u16,
+        repo: &RepoName,
+        number: u32,
+    ) -> Result<(usize, &Upload), Refusal>
+        ensures ok { IfOk result (λ r. session_in (fmap.get self.now.sessions (tenant, number)) repo.now ≡ Ok (session_of r.1.now)) }
+        ensures whole { IfOk result (λ r. AreWhole r.1.now.content) }
         ensures refused { IfErr result (λ e. session_in (fmap.get self.now.sessions (tenant, number)) repo.now ≡ Err e) }
     {
-        match self.row(tenant, number) {
-            Some(row) if row.repo == *repo => Ok(row),
+        match self.row(tenant, number, None) {
+            Some((place, row)) if row.repo == *repo => Ok((place, row)),
             _ => Err(Refusal::UploadUnknown),
         }
     }
 
-    /// Whether a session is in hand with a hand's number and lengths.
-    fn has_taken(&self, hand: &Hand) -> bool
-        ensures { result ≡ is_ok (taken_session (fmap.get self.now.sessions hand.now.key) hand.now) }
+    /// Returns the place of the session that is in hand with a hand's number and lengths, if there
+    /// is one. Looks first where the session was when the hand was taken.
+    fn taken_place(&self, hand: &Hand) -> Option<usize>
+        ensures { is_some result ≡ is_ok (taken_session (fmap.get self.now.sessions hand.now.key) hand.now) }
     {
-        match self.row(hand.tenant(), hand.number()) {
-            Some(row) => is_in_hand(&row.content, hand.received(), hand.reserved()),
-            None => false,
+        match self.row(hand.tenant(), hand.number(), Some(hand.place())) {
+            Some((place, row)) if is_in_hand(&row.content, hand.received(), hand.reserved()) => {
+                Some(place)
+            }
+            _ => None,
         }
     }
 
@@ -123,27 +139,35 @@ impl Uploads {
     pub fn received(&self, tenant: u16, repo: &RepoName, number: u32) -> Result<u64, Refusal>
         ensures { result ≡ received_in self.now.sessions (tenant, number) repo.now }
     {
-        let row = self.session(tenant, repo, number)?;
+        let (_, row) = self.session(tenant, repo, number)?;
         Ok(received_of(&row.content))
     }
 
-    /// How many bytes a repository's session has received that is at home. Refused are, in this order:
-    /// what `received` refuses, and a session that is in hand (`Busy`).
-    pub fn received_home(&self, tenant: u16, repo: &RepoName, number: u32) -> Result<u64, Refusal>
-        ensures { result ≡ home_in self.now.sessions (tenant, number) repo.now }
+    /// Returns how many bytes a repository's session at home has received, and the session's place
+    /// among its tenant's, for `remove`. Refused are, in this order: what `received` refuses, and a
+    /// session that is in hand (`Busy`).
+    pub fn received_home(
+        &self,
+        tenant: u16,
+        repo: &RepoName,
+        number: u32,
+    ) -> Result<(u64, usize), Refusal>
+        ensures received { IfOk result (λ r. home_in self.now.sessions (tenant, number) repo.now ≡ Ok r.0) }
+        ensures refused { IfErr result (λ e. home_in self.now.sessions (tenant, number) repo.now ≡ Err e) }
     {
-        let row = self.session(tenant, repo, number)?;
+        let (place, row) = self.session(tenant, repo, number)?;
         match &row.content {
-            Content::Home(pieces) => Ok(pieces.bytes.as_slice().len() as u64),
+            Content::Home(pieces) => Ok((pieces.bytes.as_slice().len() as u64, place)),
             Content::InHand { .. } => Err(Refusal::Busy),
         }
     }
 
-    /// The length of a session after a chunk of `len` bytes. Refused are, in this order: a number that
-    /// the tenant has no session of, or a session of another repository (`UploadUnknown`); a session
-    /// that is in hand (`Busy`); a range of another length than the chunk's, or a length above
-    /// `max_blob` (`SizeInvalid`); a range that does not start where the session ends (`RangeInvalid`,
-    /// with the received length).
+    /// Returns the length of a session after a chunk of `len` bytes, and the session's place among
+    /// its tenant's, for `take`. Refused are, in this order: a number that the tenant has no
+    /// session of, or a session of another repository (`UploadUnknown`); a session that is in hand
+    /// (`Busy`); a range of another length than the chunk's, or a length above `max_blob`
+    /// (`SizeInvalid`); a range that does not start where the session ends (`RangeInvalid`, with
+    /// the received length).
     pub fn check(
         &self,
         tenant: u16,
@@ -152,24 +176,27 @@ impl Uploads {
         range: Option<ByteRange>,
         len: u64,
         max_blob: u64,
-    ) -> Result<u64, Refusal>
-        ensures { result ≡ check_in self.now.sessions max_blob (tenant, number) repo.now range len }
+    ) -> Result<(u64, usize), Refusal>
+        ensures after { IfOk result (λ r. check_in self.now.sessions max_blob (tenant, number) repo.now range len ≡ Ok r.0) }
+        ensures refused { IfErr result (λ e. check_in self.now.sessions max_blob (tenant, number) repo.now range len ≡ Err e) }
     {
-        let before = self.received_home(tenant, repo, number)?;
-        length_after(before, range, len, max_blob)
+        let (before, place) = self.received_home(tenant, repo, number)?;
+        let after = length_after(before, range, len, max_blob)?;
+        Ok((after, place))
     }
 
-    /// Takes the chunks of a session that is at home into a hand, and reserves so many bytes for a chunk
-    /// more. What the tenant's sessions count in its use stays below 2^64, as under any quota. It takes
-    /// no memory.
-    pub fn take(&mut self, tenant: u16, number: u32, len: u64) -> Hand
+    /// Takes the chunks of a session that is at home into a hand, and reserves `len` bytes for a
+    /// chunk more. `place` is where `check` found the session; any other place costs a search and
+    /// changes nothing else. What the tenant's sessions count in its use stays below 2^64, as under
+    /// any quota. It takes no memory.
+    pub fn take(&mut self, tenant: u16, number: u32, place: usize, len: u64) -> Hand
         requires home { is_home (fmap.get self.old.sessions (tenant, number)) ≡ true }
         requires room { session_charges self.old.sessions tenant + len < 2 ^ 64 }
         ensures hand { result ≡ hand_in self.old.sessions (tenant, number) len }
         ensures taken { self.new ≡ with_sessions self.old (take_in self.old.sessions (tenant, number) len) }
     {
-        let pieces = self.tenants[tenant as usize].take(number, len);
-        Hand::new(tenant, number, len, pieces)
+        let pieces = self.tenants[tenant as usize].take(number, place, len);
+        Hand::new(tenant, number, place, len, pieces)
     }
 
     /// Puts a session's chunks back, and the one that was filled in, where it has bytes; answers how many
@@ -180,13 +207,13 @@ impl Uploads {
     pub fn put_back(&mut self, hand: Hand) -> Result<u64, Refusal>
         ensures { DoesExactly (λ n. n) result self.old self.new (put_back_upload self.old hand) }
     {
-        if !self.has_taken(&hand) {
+        let Some(place) = self.taken_place(&hand) else {
             hand.discard();
             return Err(Refusal::UploadUnknown);
-        }
+        };
         let (tenant, number) = (hand.tenant(), hand.number());
         let pieces = hand.into_pieces();
-        Ok(self.bring_home(tenant, number, pieces))
+        Ok(self.bring_home(tenant, number, place, pieces))
     }
 
     /// Moves a hand's bytes into a blob of this digest, where its chunk was filled in or none is to come.
@@ -204,15 +231,15 @@ impl Uploads {
         ensures key { IfOk result (λ r. r.1.key ≡ hand.key) }
         ensures restores { IfOk result (λ r. CanReopen self.new r.1 r.0.1 × (reopened self.new r.1 r.0.1 ≡ with_sessions self.old (cancelled_in self.old.sessions hand))) }
     {
-        if !self.has_taken(&hand) {
+        let Some(place) = self.taken_place(&hand) else {
             hand.discard();
             return Err(Refusal::UploadUnknown);
-        }
+        };
         let (tenant, number) = (hand.tenant(), hand.number());
-        match hand.seal(digest) {
+        match hand.seal(digest, place) {
             Ok(sealed) => Ok(sealed),
             Err(pieces) => {
-                let _ = self.bring_home(tenant, number, pieces);
+                let _ = self.bring_home(tenant, number, place, pieces);
                 Err(Refusal::DigestInvalid)
             }
         }
@@ -223,8 +250,8 @@ impl Uploads {
         requires { IsSome (fmap.get self.now.sessions sealed.now.key) }
         ensures { result.now ≡ repo_at self.now sealed.now.key }
     {
-        match self.row(sealed.tenant, sealed.number) {
-            Some(row) => &row.repo,
+        match self.row(sealed.tenant, sealed.number, Some(sealed.place)) {
+            Some((_, row)) => &row.repo,
             None => unreachable!(),
         }
     }
@@ -235,21 +262,27 @@ impl Uploads {
         requires { CanReopen self.old sealed blob.1 }
         ensures { self.new ≡ reopened self.old sealed blob.1 }
     {
-        let (tenant, number) = (sealed.tenant, sealed.number);
+        let (tenant, number, place) = (sealed.tenant, sealed.number, sealed.place);
         let pieces = sealed.into_pieces(blob);
-        let _ = self.bring_home(tenant, number, pieces);
+        let _ = self.bring_home(tenant, number, place, pieces);
     }
 
     /// Brings chunks home into a session, which counts no more with them than before, and answers their
     /// length. It takes no memory.
-    fn bring_home(&mut self, tenant: u16, number: u32, pieces: Box<ChunkBuffer>) -> u64
+    fn bring_home(
+        &mut self,
+        tenant: u16,
+        number: u32,
+        place: usize,
+        pieces: Box<ChunkBuffer>,
+    ) -> u64
         requires there { IsSome (fmap.get self.old.sessions (tenant, number)) }
         requires less { (s : Session) → fmap.get self.old.sessions (tenant, number) ≡ Some s → length pieces.value.bytes.items ≤ charged s }
         requires whole { IsWhole pieces.value }
         ensures len { result ≡ length pieces.value.bytes.items }
         ensures home { self.new ≡ brought_with self.old (tenant, number) (cut pieces.value.lens.items pieces.value.bytes.items) }
     {
-        self.tenants[tenant as usize].put_home(number, pieces)
+        self.tenants[tenant as usize].put_home(number, place, pieces)
     }
 
     /// Forgets a session that was sealed.
@@ -260,17 +293,19 @@ impl Uploads {
         let PendingClose {
             tenant,
             number,
+            place,
             pieces: _,
         } = sealed;
-        self.tenants[tenant as usize].remove(number);
+        self.tenants[tenant as usize].remove(number, place);
     }
 
-    /// Drops a session that is at home, with its bytes.
-    pub fn remove(&mut self, tenant: u16, number: u32)
+    /// Drops a session that is at home, with its bytes. `place` is where `received_home` found the
+    /// session; any other place costs a search and changes nothing else.
+    pub fn remove(&mut self, tenant: u16, number: u32, place: usize)
         requires { is_home (fmap.get self.old.sessions (tenant, number)) ≡ true }
         ensures { self.new ≡ with_sessions self.old (fmap.remove self.old.sessions (tenant, number)) }
     {
-        self.tenants[tenant as usize].remove(number);
+        self.tenants[tenant as usize].remove(number, place);
     }
 
     /// What a tenant's sessions count in its use: the bytes received, and those reserved. Reads a sum that

@@ -11,7 +11,7 @@ pub bring_home-requires-clause-there : goal.bring_home-requires-clause-there
 bring_home-requires-clause-there c =
     let v = c.args.self.now in
     let h = c.args.hand in
-    let x = taken_value (get v.sessions h.key) h (sym c.if-not-has_taken.ensures) in
+    let x = taken_value (get v.sessions h.key) h (sym c.in-Some.ensures) in
     let key : (c.tenant-tenant.result, c.number-number.result) ≡ h.key = (λ j. (c.tenant-tenant.ensures j, c.number-number.ensures j)) in
     ap is_some (found_as v h x.0 x.1 _ key)
 
@@ -19,7 +19,7 @@ pub bring_home-requires-clause-less : goal.bring_home-requires-clause-less
 bring_home-requires-clause-less c = λ y is.
     let v = c.args.self.now in
     let h = c.args.hand in
-    let x = taken_value (get v.sessions h.key) h (sym c.if-not-has_taken.ensures) in
+    let x = taken_value (get v.sessions h.key) h (sym c.in-Some.ensures) in
     let key : (c.tenant-tenant.result, c.number-number.result) ≡ h.key = (λ j. (c.tenant-tenant.ensures j, c.number-number.ensures j)) in
     put_fits v h x.0 x.1 c.in-Err.pieces.value c.in-Err.ensures.whole (omega (arith, ap (sum_by length) c.in-Err.ensures.chunks)) y (some_same (sym is ∙ found_as v h x.0 x.1 _ key))
 
@@ -27,7 +27,7 @@ pub returns-in-Ok-clause-restores : goal.returns-in-Ok-clause-restores
 returns-in-Ok-clause-restores c =
     let v = c.args.self.now in
     let h = c.args.hand in
-    let x = taken_value (get v.sessions h.key) h (sym c.if-not-has_taken.ensures) in
+    let x = taken_value (get v.sessions h.key) h (sym c.in-Some.ensures) in
     let rest = c.in-Ok.ensures.rest in
     (can-reopen v h x.0 x.1 c.in-Ok.sealed.1 c.in-Ok.sealed.0.1 rest.1 rest.2 rest.0, reopens v h x.0 x.1 c.in-Ok.sealed.1 c.in-Ok.sealed.0.1 rest.1 rest.2)
 
@@ -35,7 +35,7 @@ pub returns-in-Err-clause-does : goal.returns-in-Err-clause-does
 returns-in-Err-clause-does c =
     let v = c.args.self.now in
     let h = c.args.hand in
-    let x = taken_value (get v.sessions h.key) h (sym c.if-not-has_taken.ensures) in
+    let x = taken_value (get v.sessions h.key) h (sym c.in-Some.ensures) in
     let key : (c.tenant-tenant.result, c.number-number.result) ≡ h.key = (λ j. (c.tenant-tenant.ensures j, c.number-number.ensures j)) in
     let after = c.bring_home.ensures.home ∙ brought v h x.0 x.1 _ _ key ∙ (λ j. with_sessions v (with_chunks v.sessions h.key x.0 (Home (c.in-Err.ensures.chunks j)))) in
     (finish_other v h x.0 x.1 c.args.digest.now c.in-Err.ensures.other, after ∙ ap (with_sessions v) (sym (given v h x.0 x.1)))

@@ -11,7 +11,7 @@ pub bring_home-requires-clause-there : goal.bring_home-requires-clause-there
 bring_home-requires-clause-there c =
     let v = c.args.self.now in
     let h = c.args.hand in
-    let x = taken_value (get v.sessions h.key) h (sym c.if-not-has_taken.ensures) in
+    let x = taken_value (get v.sessions h.key) h (sym c.in-Some.ensures) in
     let key : (c.tenant-tenant.result, c.number-number.result) ≡ h.key = (λ j. (c.tenant-tenant.ensures j, c.number-number.ensures j)) in
     ap is_some (found_as v h x.0 x.1 _ key)
 
@@ -19,7 +19,7 @@ pub bring_home-requires-clause-less : goal.bring_home-requires-clause-less
 bring_home-requires-clause-less c = λ y is.
     let v = c.args.self.now in
     let h = c.args.hand in
-    let x = taken_value (get v.sessions h.key) h (sym c.if-not-has_taken.ensures) in
+    let x = taken_value (get v.sessions h.key) h (sym c.in-Some.ensures) in
     let key : (c.tenant-tenant.result, c.number-number.result) ≡ h.key = (λ j. (c.tenant-tenant.ensures j, c.number-number.ensures j)) in
     let p = c.into_pieces-pieces.ensures in
     put_fits v h x.0 x.1 c.into_pieces-pieces.result.value p.whole (omega (arith, ap (sum_by length) p.chunks, p.fits)) y (some_same (sym is ∙ found_as v h x.0 x.1 _ key))
@@ -28,7 +28,7 @@ pub returns : goal.returns
 returns c =
     let v = c.args.self.now in
     let h = c.args.hand in
-    let x = taken_value (get v.sessions h.key) h (sym c.if-not-has_taken.ensures) in
+    let x = taken_value (get v.sessions h.key) h (sym c.in-Some.ensures) in
     let key : (c.tenant-tenant.result, c.number-number.result) ≡ h.key = (λ j. (c.tenant-tenant.ensures j, c.number-number.ensures j)) in
     let p = c.into_pieces-pieces.ensures in
     let after = c.bring_home.ensures.home ∙ brought v h x.0 x.1 _ _ key ∙ (λ j. with_sessions v (with_chunks v.sessions h.key x.0 (Home (p.chunks j)))) in
