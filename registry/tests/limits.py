@@ -1,13 +1,14 @@
 #!/usr/bin/env python3
 """What one client can take from the others, and what a signal or a store that hangs ends: connections, memory, lines to the
 store, passwords, metrics."""
-import base64, contextlib, os, random, resource, select, shutil, signal, subprocess, sys, tempfile, threading, time
+import base64, contextlib, json, os, random, resource, select, shutil, signal, subprocess, sys, tempfile, threading, time
 
 import server as servers
 from hardships import MIB, PATCH, head_of, played
+from playing import STUB, serving_stub
 from server import REGISTRYD, serving, sha256, sha512
 
-SLOW_STORE = f"{os.path.dirname(os.path.abspath(__file__))}/slow_store.py"
+STAT = "17"
 # Of `htpasswd -nbB -C 12`, of the password `secret`: some 0.2 s of work.
 COSTLY = "$2b$12$kIV1QY2QhHXZLy/oKAmtZerVboJWvuY2fpXYnW4Edy.gcb87au26i"
 # Of `htpasswd -nbB`, of the same.
@@ -24,16 +25,6 @@ def file_limit(soft):
         yield
     finally:
         resource.setrlimit(resource.RLIMIT_NOFILE, (max(old, min(hard, 4096)), hard))
-
-
-@contextlib.contextmanager
-def store(path):
-    """Another program keeps the store."""
-    old, servers.BLOBD = servers.BLOBD, path
-    try:
-        yield
-    finally:
-        servers.BLOBD = old
 
 
 @contextlib.contextmanager
@@ -201,8 +192,9 @@ def a_signal_ends_it_while_the_store_hangs():
 
 
 def a_signal_ends_it_before_the_store_is_there():
-    words = [REGISTRYD, "--listen", "127.0.0.1:0", "--blobd", SLOW_STORE, "mute=1"]
-    process = subprocess.Popen(words, stderr=subprocess.DEVNULL)
+    words = [REGISTRYD, "--listen", "127.0.0.1:0", "--blobd", STUB, "acme=1"]
+    rules = json.dumps({"greeting": {"slow": 60}})
+    process = subprocess.Popen(words, stderr=subprocess.DEVNULL, env={**os.environ, "STUB_RULES": rules})
     time.sleep(0.5)
     process.send_signal(signal.SIGTERM)
     try:
@@ -213,7 +205,7 @@ def a_signal_ends_it_before_the_store_is_there():
 
 
 def a_tenants_slow_calls_hold_no_other_up():
-    with store(SLOW_STORE), serving("--lines", "4") as server:
+    with serving_stub({f"{STAT} acme/one": {"slow": 1}}, "--lines", "4") as server:
         blob = f"blobs/{sha256(b'')}"
         slow = [server.socket() for _ in range(20)]
         for line in slow:

@@ -2,7 +2,7 @@
 """A store in place of blobd that is as slow, or as forgetful, as a test wants: it speaks the frames of docs/FRAMES.md, keeps
 manifests, and counts the bytes of uploads. STUB_RULES is a JSON object: under `COMMAND REPOSITORY`, or `COMMAND` alone, the
 seconds that a call takes before it is made (`slow`) or after (`late`), and the status that it is answered with instead of
-being made (`status`)."""
+being made (`status`). Under `greeting` are the seconds before it greets."""
 import hashlib, json, os, struct, sys, threading, time
 
 GREETING = b"blobd\0\1\0"
@@ -55,6 +55,7 @@ class Stub:
         with open(requests, "rb") as source, open(replies, "wb", buffering=0) as sink:
             if source.read(len(GREETING)) != GREETING:
                 return
+            time.sleep(self.rules.get("greeting", {}).get("slow", 0))
             sink.write(GREETING)
             while True:
                 head = source.read(HEAD.size)
