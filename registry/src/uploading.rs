@@ -5,7 +5,7 @@ use crate::limits::Limit;
 use crate::range::content_range;
 use crate::registry::{empty, Call, Served};
 use crate::store::{Answer, Lost, Mounted};
-use crate::uploads::InUse;
+use crate::uploads::{Adding, InUse};
 use bytes::Bytes;
 use hyper::StatusCode;
 use std::time::Duration;
@@ -33,10 +33,10 @@ pub async fn open(call: &Call, content: &mut Content) -> Served {
     };
     // Nobody else knows of this upload, so it is given up if it becomes no blob, and later if the store can't do so now.
     let uploads = &call.registry.uploads;
-    let upload = uploads.enter(&call.repo, uploads.add(&call.repo, session))?;
-    let closed = take_and_close(call, &upload, Place { start: 0, len: content.len }, &digest, content).await;
+    let mut adding = uploads.enter(&call.repo, uploads.add(&call.repo, session))?.add();
+    let closed = take_and_close(call, &mut adding, Place { start: 0, len: content.len }, &digest, content).await;
     if closed.is_ok() || store.abandon(&call.repo, session).await?.is_ok() {
-        uploads.remove(&upload.name);
+        uploads.remove(&adding.upload.name);
     }
     closed?;
     stored(call, &digest)
@@ -51,26 +51,28 @@ pub async fn status(call: &Call, name: &str) -> Served {
 
 /// end-5: takes a chunk.
 pub async fn append(call: &Call, name: &str, content: &mut Content) -> Served {
-    let upload = find(call, name)?;
-    let place = place(call, upload.session, content).await?;
-    let (start, rest) = take_all_but_last(call, &upload, place, content).await?;
-    let received = match rest.is_empty() {
-        true => start,
-        false => call.registry.store.append(&call.repo, upload.session, start, &rest).await??,
-    };
-    progress(call, StatusCode::ACCEPTED, &upload.name, received)
+    let mut adding = find(call, name)?.add();
+    let place = place(call, &adding, content).await?;
+    let (start, rest) = take_all_but_last(call, &mut adding, place, content).await?;
+    let mut received = start;
+    if !rest.is_empty() {
+        adding.send();
+        received = call.registry.store.append(&call.repo, adding.upload.session, start, &rest).await??;
+        adding.accepted(received);
+    }
+    progress(call, StatusCode::ACCEPTED, &adding.upload.name, received)
 }
 
 /// end-6: takes the last chunk, if any, and makes the upload a blob. Where it is refused the upload stays, with the bytes
 /// that were taken.
 pub async fn close(call: &Call, name: &str, content: &mut Content) -> Served {
-    let upload = find(call, name)?;
+    let mut adding = find(call, name)?.add();
     let digest = call.query("digest").ok_or_else(|| {
         Fault::new(StatusCode::BAD_REQUEST, "DIGEST_INVALID", "the query names no digest")
     })?;
-    let place = place(call, upload.session, content).await?;
-    take_and_close(call, &upload, place, &digest, content).await?;
-    call.registry.uploads.remove(&upload.name);
+    let place = place(call, &adding, content).await?;
+    take_and_close(call, &mut adding, place, &digest, content).await?;
+    call.registry.uploads.remove(&adding.upload.name);
     stored(call, &digest)
 }
 
@@ -114,21 +116,25 @@ struct Place {
     len: Option<u64>,
 }
 
-/// The place of a chunk: it begins at the upload's end, which its range has to name if there is one. A chunk that would make
-/// the blob too long is refused before a byte of it is read.
-async fn place(call: &Call, session: u32, content: &Content) -> Result<Place, Fault> {
-    let start = call.registry.store.status(&call.repo, session).await??;
+/// Returns the place of a chunk: it begins at the upload's end, which its range has to name if there is one. The store is
+/// asked for the length if it is unknown, and if the range names another place, so that the client learns the right one. A
+/// chunk that would make the blob too long is refused before a byte of it is read.
+async fn place(call: &Call, adding: &Adding<'_>, content: &Content) -> Result<Place, Fault> {
     let mut len = content.len;
+    let mut first = None;
     if let Some(text) = call.header("content-range") {
-        let (first, last) = content_range(text).ok_or_else(Fault::content_range)?;
-        let named = last - first + 1;
-        if len.map_or(false, |len| len != named) {
+        let (named, last) = content_range(text).ok_or_else(Fault::content_range)?;
+        if len.map_or(false, |len| len != last - named + 1) {
             return Err(Fault::content_range());
         }
-        if first != start {
-            return Err(Fault::out_of_order(start));
-        }
-        len = Some(named);
+        (first, len) = (Some(named), Some(last - named + 1));
+    }
+    let start = match adding.length() {
+        Some(length) if first.unwrap_or(length) == length => length,
+        _ => call.registry.store.status(&call.repo, adding.upload.session).await??,
+    };
+    if first.unwrap_or(start) != start {
+        return Err(Fault::out_of_order(start));
     }
     check_len(call, start, len)?;
     Ok(Place { start, len })
@@ -146,13 +152,14 @@ pub fn check_len(call: &Call, start: u64, len: Option<u64>) -> Result<(), Fault>
 /// Takes the content, and closes the session with its last piece.
 async fn take_and_close(
     call: &Call,
-    upload: &InUse<'_>,
+    adding: &mut Adding<'_>,
     place: Place,
     digest: &str,
     content: &mut Content,
 ) -> Result<(), Fault> {
-    let (start, rest) = take_all_but_last(call, upload, place, content).await?;
-    call.registry.store.close(&call.repo, upload.session, digest, start, &rest).await??;
+    let (start, rest) = take_all_but_last(call, adding, place, content).await?;
+    adding.send();
+    call.registry.store.close(&call.repo, adding.upload.session, digest, start, &rest).await??;
     Ok(())
 }
 
@@ -202,13 +209,13 @@ impl Place {
     }
 }
 
-/// Appends the content to a session but for its last piece, which is given back with the place where it belongs. Each
-/// piece names its place, so that it is refused where another request has added to the session, and the next are read and
+/// Appends the content to an upload but for its last piece, which is given back with the place where it belongs. Each
+/// piece names its place, so that it is refused where another request has added to the upload, and the next are read and
 /// sent while one is hashed. Where the client breaks off, or the content is longer or shorter than its range, what came of
 /// it is kept but for the last piece of such a range, and the upload can go on from there.
 async fn take_all_but_last(
     call: &Call,
-    upload: &InUse<'_>,
+    adding: &mut Adding<'_>,
     mut place: Place,
     content: &mut Content,
 ) -> Result<(u64, Vec<Bytes>), Fault> {
@@ -216,31 +223,36 @@ async fn take_all_but_last(
     loop {
         let piece = content.next().await;
         if !piece.parts.is_empty() {
-            upload.begin();
+            adding.upload.begin();
         }
         let counted = place.count(&piece);
         if counted.is_err() || piece.then == Then::End {
-            let received = received(sending, &place).await?;
+            let received = received(adding, sending, &place).await?;
             return counted.map(|()| (received, piece.parts));
         }
         let is_taken = match piece.parts.is_empty() {
             true => true,
             false => {
-                let sending = sending.get_or_insert_with(|| Sending::begin(call, upload.session, place.start));
+                adding.send();
+                let sending = sending.get_or_insert_with(|| Sending::begin(call, adding.upload.session, place.start));
                 sending.send(piece.parts).await?
             }
         };
         if !is_taken || piece.then == Then::CutOff {
-            received(sending, &place).await?;
+            received(adding, sending, &place).await?;
             return Err(if is_taken { Fault::cut_off() } else { Lost.into() });
         }
     }
 }
 
-/// How much the session has received once all pieces were appended that were sent, if any was.
-async fn received(sending: Option<Sending>, place: &Place) -> Result<u64, Fault> {
+/// Returns how much the upload has received once all pieces were appended that were sent, if any was.
+async fn received(adding: &mut Adding<'_>, sending: Option<Sending>, place: &Place) -> Result<u64, Fault> {
     match sending {
-        Some(sending) => sending.end().await,
+        Some(sending) => {
+            let received = sending.end().await?;
+            adding.accepted(received);
+            Ok(received)
+        }
         None => Ok(place.start),
     }
 }

@@ -5,17 +5,29 @@ use std::sync::Mutex;
 use std::time::{Duration, Instant};
 use uuid::Uuid;
 
-/// An upload: its repository, its session, and who uses it.
+/// An upload: its repository, its session, its length, and who uses it.
 #[derive(Clone, Debug, PartialEq, Eq)]
 pub struct Upload {
     pub repo: String,
     pub session: u32,
+    length: Length,
     /// When the last request of it ended, or it was opened.
     used: Instant,
     /// How many requests are using it.
     requests: u32,
     /// Whether a client sent a byte of it.
     is_begun: bool,
+}
+
+/// The length of an upload: the bytes that the store has received, by its replies.
+#[derive(Clone, Debug, PartialEq, Eq)]
+struct Length {
+    /// The length, if no request adds bytes now and the last reply gave it.
+    known: Option<u64>,
+    /// How many requests add bytes now.
+    adding: u32,
+    /// Whether two of them met. Which one the store served last is not known then.
+    have_met: bool,
 }
 
 /// How long an upload may be unused before it is given up.
@@ -47,6 +59,33 @@ pub struct InUse<'u> {
     pub session: u32,
 }
 
+/// A request that adds bytes to an upload, until this is dropped.
+pub struct Adding<'u> {
+    pub upload: InUse<'u>,
+    length: Option<u64>,
+}
+
+impl Length {
+    /// The length of an upload without bytes.
+    fn empty() -> Length {
+        Length { known: Some(0), adding: 0, have_met: false }
+    }
+
+    /// A request begins to add bytes. Returns the length, which nobody else knows before the request ends.
+    fn begin(&mut self) -> Option<u64> {
+        self.have_met |= self.adding > 0;
+        self.adding += 1;
+        self.known.take()
+    }
+
+    /// A request that adds bytes ends, with the length that its last reply gave, if any.
+    fn end(&mut self, given: Option<u64>) {
+        self.adding -= 1;
+        self.known = given.filter(|_| !self.have_met);
+        self.have_met &= self.adding > 0;
+    }
+}
+
 impl Upload {
     fn is_unused(&self, patience: Patience) -> bool {
         let time = if self.is_begun { patience.begun } else { patience.least() };
@@ -58,7 +97,14 @@ impl Uploads {
     /// Gives a session a name, a random UUID (RFC 4122, version 4).
     pub fn add(&self, repo: &str, session: u32) -> Uuid {
         let name = Uuid::new_v4();
-        let upload = Upload { repo: repo.to_string(), session, used: Instant::now(), requests: 0, is_begun: false };
+        let upload = Upload {
+            repo: repo.to_string(),
+            session,
+            length: Length::empty(),
+            used: Instant::now(),
+            requests: 0,
+            is_begun: false,
+        };
         self.by_name.lock().unwrap().insert(name, upload);
         name
     }
@@ -103,11 +149,45 @@ impl Uploads {
     }
 }
 
-impl InUse<'_> {
+impl<'u> InUse<'u> {
+    /// Begins to add bytes to it.
+    pub fn add(self) -> Adding<'u> {
+        let mut uploads = self.uploads.by_name.lock().unwrap();
+        let length = uploads.get_mut(&self.name).and_then(|upload| upload.length.begin());
+        drop(uploads);
+        Adding { upload: self, length }
+    }
+
     /// A client sent a byte of it.
     pub fn begin(&self) {
         if let Some(upload) = self.uploads.by_name.lock().unwrap().get_mut(&self.name) {
             upload.is_begun = true;
+        }
+    }
+}
+
+impl Adding<'_> {
+    /// Returns the upload's length, if it is known. The store is the authority: it refuses bytes at any other place.
+    pub fn length(&self) -> Option<u64> {
+        self.length
+    }
+
+    /// Bytes go to the store. The length is unknown until the store accepts all of them.
+    pub fn send(&mut self) {
+        self.length = None;
+    }
+
+    /// The store accepted all bytes that were sent, and returned the length.
+    pub fn accepted(&mut self, length: u64) {
+        self.length = Some(length);
+    }
+}
+
+impl Drop for Adding<'_> {
+    fn drop(&mut self) {
+        let InUse { uploads, name, .. } = &self.upload;
+        if let Some(upload) = uploads.by_name.lock().unwrap().get_mut(name) {
+            upload.length.end(self.length);
         }
     }
 }
@@ -154,6 +234,63 @@ mod tests {
         assert_eq!(uploads.len(), 0);
         uploads.put_back(name, upload);
         assert_eq!(uploads.unused(NOW), [name]);
+    }
+
+    #[test]
+    fn the_length_is_that_of_the_last_accepted_bytes() {
+        let uploads = Uploads::default();
+        let name = uploads.add("acme/web", 7);
+        let add = || uploads.enter("acme/web", name).unwrap().add();
+        let mut adding = add();
+        assert_eq!(adding.length(), Some(0));
+        adding.send();
+        assert_eq!(adding.length(), None);
+        adding.accepted(10);
+        drop(adding);
+        // A request that sends nothing leaves it as it is.
+        assert_eq!(add().length(), Some(10));
+        assert_eq!(add().length(), Some(10));
+        // One whose bytes are refused, or whose reply does not come, leaves it unknown, until others are accepted.
+        add().send();
+        assert_eq!(add().length(), None);
+        let mut adding = add();
+        adding.send();
+        adding.accepted(15);
+        drop(adding);
+        assert_eq!(add().length(), Some(15));
+    }
+
+    #[test]
+    fn the_length_is_unknown_while_and_after_two_requests_add_at_once() {
+        let uploads = Uploads::default();
+        let name = uploads.add("acme/web", 7);
+        let add = || uploads.enter("acme/web", name).unwrap().add();
+        let accept = |mut adding: Adding<'_>, length| {
+            adding.send();
+            adding.accepted(length);
+        };
+        let (first, second) = (add(), add());
+        assert_eq!((first.length(), second.length()), (Some(0), None));
+        accept(second, 20);
+        assert_eq!(add().length(), None);
+        // The reply to the bytes that the store added before comes late.
+        accept(first, 10);
+        assert_eq!(add().length(), None);
+        accept(add(), 30);
+        assert_eq!(add().length(), Some(30));
+    }
+
+    #[test]
+    fn an_upload_that_is_over_has_no_length() {
+        let uploads = Uploads::default();
+        let name = uploads.add("acme/web", 7);
+        let upload = uploads.enter("acme/web", name).unwrap();
+        let mut adding = uploads.enter("acme/web", name).unwrap().add();
+        uploads.remove(&name);
+        assert_eq!(upload.add().length(), None);
+        adding.accepted(10);
+        drop(adding);
+        assert_eq!(uploads.len(), 0);
     }
 
     #[test]

@@ -1,5 +1,5 @@
 """Plays tests one after the other, and a registry over a store that a test makes slow or forgetful."""
-import contextlib, json, os, sys, threading, time
+import collections, contextlib, json, os, re, sys, threading, time
 
 import server
 
@@ -17,6 +17,11 @@ def serving_stub(rules, *words, **options):
     finally:
         server.BLOBD = blobd
         del os.environ["STUB_RULES"]
+
+
+def calls(served):
+    """How often each command was called so far of a stub store, by its number."""
+    return collections.Counter(re.findall(r"^stub: (\d+) ", served.logged(), re.MULTILINE))
 
 
 class Asking(threading.Thread):

@@ -73,8 +73,9 @@ class Server:
         self.address = self.wait_for(r"listening address=(\S+)")
 
     def logged(self):
-        self.log.seek(0)
-        return self.log.read().decode()
+        """The log. The programs that write to it share the file's place, so that is left alone."""
+        number = self.log.fileno()
+        return os.pread(number, os.fstat(number).st_size, 0).decode()
 
     def wait_for(self, pattern, seconds=20):
         """What the log says, once it says it."""

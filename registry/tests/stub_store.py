@@ -1,8 +1,9 @@
 #!/usr/bin/env python3
 """A store in place of blobd that is as slow, or as forgetful, as a test wants: it speaks the frames of docs/FRAMES.md, keeps
-manifests, and counts the bytes of uploads. STUB_RULES is a JSON object: under `COMMAND REPOSITORY`, or `COMMAND` alone, the
-seconds that a call takes before it is made (`slow`) or after (`late`), and the status that it is answered with instead of
-being made (`status`). Under `greeting` are the seconds before it greets."""
+manifests, counts the bytes of uploads, and writes a line `stub: COMMAND REPOSITORY` for each call to standard error.
+STUB_RULES is a JSON object: under `COMMAND REPOSITORY`, or `COMMAND` alone, the seconds that a call takes before it is made
+(`slow`) or after (`late`), the status that it is answered with instead of being made (`status`), and the first number of the
+reply instead of the right one (`first`). Under `greeting` are the seconds before it greets."""
 import hashlib, json, os, struct, sys, threading, time
 
 GREETING = b"blobd\0\1\0"
@@ -11,7 +12,7 @@ START, STATUS, APPEND, CLOSE, ABANDON, MOUNT, DELETE, PUT_MANIFEST, GET_MANIFEST
 SWEEP, STAT_MANIFEST, FREE_SLOTS, USAGE = 14, 18, 19, 20
 # The quota of each tenant, in bytes.
 QUOTA = 1 << 50
-UPLOAD_UNKNOWN, BLOB_UNKNOWN, MANIFEST_UNKNOWN, NO_COMMAND = 4, 7, 9, 255
+UPLOAD_UNKNOWN, RANGE_INVALID, BLOB_UNKNOWN, MANIFEST_UNKNOWN, NO_COMMAND = 4, 6, 7, 9, 255
 
 
 class Stub:
@@ -19,8 +20,8 @@ class Stub:
         self.rules = json.loads(os.environ.get("STUB_RULES", "{}"))
         self.lock, self.manifests, self.uploads, self.count = threading.Lock(), {}, {}, 0
 
-    def reply(self, command, repo, digest, number, body):
-        """What a call is answered: status, first, second, digest, body."""
+    def reply(self, command, repo, digest, number, start, body):
+        """What a call is answered: status, first, second, digest, body. Bytes that name no start go to the end."""
         kept = self.manifests.get((repo, digest))
         if command in (START, MOUNT):
             self.count += 1
@@ -29,6 +30,8 @@ class Stub:
         if command in (STATUS, APPEND, CLOSE, ABANDON):
             if number not in self.uploads:
                 return UPLOAD_UNKNOWN, 0, 0, "", b""
+            if start not in (None, self.uploads[number]):
+                return RANGE_INVALID, self.uploads[number], 0, "", b""
             self.uploads[number] += len(body)
             received = self.uploads[number]
             if command in (CLOSE, ABANDON):
@@ -61,15 +64,17 @@ class Stub:
                 head = source.read(HEAD.size)
                 if len(head) < HEAD.size:
                     return
-                command, _, repo, digest, other, number, body, _, _ = HEAD.unpack(head)
+                command, flags, repo, digest, other, number, body, start, _ = HEAD.unpack(head)
                 repo, digest, other, body = (source.read(count) for count in (repo, digest, other, body))
-                repo = repo.decode()
+                repo, start = repo.decode(), start if flags & 1 else None
+                sys.stderr.write(f"stub: {command} {repo}\n")
                 rule = {**self.rules.get(str(command), {}), **self.rules.get(f"{command} {repo}", {})}
                 time.sleep(rule.get("slow", 0))
                 status, first, second, text, content = rule.get("status", 0), 0, 0, "", b""
                 if status == 0:
                     with self.lock:
-                        status, first, second, text, content = self.reply(command, repo, digest.decode(), number, body)
+                        status, first, second, text, content = self.reply(command, repo, digest.decode(), number, start, body)
+                    first = rule.get("first", first) if status == 0 else first
                 time.sleep(rule.get("late", 0))
                 head = struct.pack("<IIQQQ", status, len(text), first, second, len(content))
                 sink.write(head + text.encode() + content)

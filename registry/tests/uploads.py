@@ -2,11 +2,11 @@
 """Uploads that take long, that nobody goes on with, and whose chunks say other than what they are."""
 import threading, time
 
-from playing import play, serving_stub, until
+from playing import Asking, calls, play, serving_stub, until
 from server import sha256
 
 PATCH = {"Content-Type": "application/octet-stream"}
-ABANDON = "5"
+STATUS, APPEND, CLOSE, ABANDON = "2", "3", "4", "5"
 MIB = 1 << 20
 
 
@@ -19,6 +19,17 @@ def opened(client, repo="acme/one"):
 
 def is_there(client, at):
     return client.ask("GET", at).status == 204
+
+
+def patched(client, at, data, start=None):
+    """The status and the range that a chunk is answered with."""
+    span = {} if start is None else {"Content-Range": f"{start}-{start + len(data) - 1}"}
+    answer = client.ask("PATCH", at, data, {**PATCH, **span})
+    return answer.status, answer["Range"]
+
+
+def closed(client, at, data=b""):
+    return client.ask("PUT", f"{at}?digest={sha256(data)}", data, PATCH).status
 
 
 def an_upload_that_is_being_sent_is_not_given_up():
@@ -128,12 +139,121 @@ def a_blob_that_is_too_long_is_refused_before_it_is_sent():
         assert server.metric("registryd_uploads") == 2
 
 
+def chunks_and_closes_do_not_ask_for_the_length():
+    with serving_stub({}) as server:
+        client = server.client()
+        at = opened(client)
+        assert [patched(client, at, b"abc"), patched(client, at, b"def", 3)] == [(202, "0-2"), (202, "0-5")]
+        assert patched(client, at, b"") == (202, "0-5")
+        assert patched(client, at, b"x" * 2 * MIB, 6) == (202, f"0-{2 * MIB + 5}")
+        pieces = client.ask("PATCH", at, iter([b"x" * MIB, b"y"]), {**PATCH, "Transfer-Encoding": "chunked"})
+        assert (pieces.status, pieces["Range"]) == (202, f"0-{3 * MIB + 6}")
+        # Those that are refused before they are read leave the length known.
+        assert client.ask("PATCH", at, b"abc", {**PATCH, "Content-Range": "9-3"}).status == 400
+        assert client.ask("PUT", at, b"abc", PATCH).status == 400
+        assert closed(client, at) == 201
+        assert closed(client, opened(client), b"abc") == 201
+        assert closed(client, opened(client), b"x" * 2 * MIB) == 201
+        assert client.ask("POST", f"/v2/acme/one/blobs/uploads/?digest={sha256(b'abc')}", b"abc", PATCH).status == 201
+        mounted = client.ask("POST", f"/v2/acme/two/blobs/uploads/?mount={sha256(b'x')}&from=acme/one")
+        assert (mounted.status, patched(client, mounted["Location"], b"abc")) == (202, (202, "0-2"))
+        assert calls(server)[STATUS] == 0, calls(server)
+
+
+def a_chunk_at_another_place_is_answered_with_the_length_of_the_store():
+    with serving_stub({}) as server:
+        client = server.client()
+        at = opened(client)
+        assert patched(client, at, b"abc") == (202, "0-2")
+        for start in (0, 2, 4):
+            assert patched(client, at, b"def", start) == (416, "0-2"), start
+        assert calls(server)[STATUS] == 3 and calls(server)[APPEND] == 1, calls(server)
+        assert patched(client, at, b"def", 3) == (202, "0-5")
+        assert calls(server)[STATUS] == 3, calls(server)
+
+
+def a_length_that_is_out_of_date_costs_a_chunk_and_nothing_else():
+    """The store's replies to chunks have a wrong length, which is kept."""
+    with serving_stub({APPEND: {"first": 1}}) as server:
+        client = server.client()
+        at = opened(client)
+        assert patched(client, at, b"abc") == (202, "0-0")
+        assert patched(client, at, b"def") == (416, "0-2")
+        assert calls(server)[STATUS] == 0, calls(server)
+        # After the refusal the store is asked, and it is where a chunk names the right place.
+        assert patched(client, at, b"def")[0] == 202 and calls(server)[STATUS] == 1, calls(server)
+        assert patched(client, at, b"ghi", 6)[0] == 202 and calls(server)[STATUS] == 2, calls(server)
+        assert client.ask("GET", at)["Range"] == "0-8"
+        refused = client.ask("PUT", f"{at}?digest={sha256(b'')}", b"jkl", PATCH)
+        assert (refused.status, refused["Range"]) == (416, "0-8")
+        assert closed(client, at, b"jkl") == 201
+
+
+def the_length_is_asked_for_after_a_reply_that_came_too_late():
+    with serving_stub({APPEND: {"late": 1.5}}, "--call-s", "1", "--lines", "4") as server:
+        client = server.client()
+        at = opened(client)
+        assert patched(client, at, b"abc")[0] == 503
+        before = calls(server)[STATUS]
+        assert closed(client, at, b"def") == 201
+        assert calls(server)[STATUS] == before + 1, calls(server)
+
+
+def the_length_is_asked_for_after_a_refusal():
+    digest_invalid, quota = 2, 11
+    with serving_stub({f"{APPEND} acme/poor": {"status": quota}, f"{CLOSE} acme/one": {"status": digest_invalid}}) as server:
+        client = server.client()
+        poor, at = opened(client, "acme/poor"), opened(client)
+        assert [patched(client, poor, b"abc")[0] for _ in range(2)] == [403, 403]
+        assert patched(client, poor, b"") == (202, "0-0")
+        assert calls(server)[STATUS] == 2, calls(server)
+        assert patched(client, at, b"abc") == (202, "0-2") and closed(client, at, b"def") == 400
+        assert patched(client, at, b"def", 3) == (202, "0-5")
+        assert calls(server)[STATUS] == 3, calls(server)
+        assert patched(client, at, b"ghi") == (202, "0-8")
+        assert calls(server)[STATUS] == 3, calls(server)
+
+
+def a_chunk_that_breaks_off_is_gone_on_with():
+    with serving_stub({}) as server:
+        client = server.client()
+        at = opened(client)
+        line = server.socket()
+        line.sendall(f"PATCH {at} HTTP/1.1\r\nHost: x\r\nContent-Length: {4 * MIB}\r\n\r\n".encode() + b"x" * (2 * MIB + 5))
+        line.close()
+        received = 2 * MIB + 5
+        assert until(lambda: client.ask("GET", at)["Range"] == f"0-{received - 1}"), client.ask("GET", at)["Range"]
+        assert patched(client, at, b"abc", received) == (202, f"0-{received + 2}")
+        # Perhaps the one that broke off was there until then, so that the length is asked for once more.
+        assert patched(client, at, b"def") == (202, f"0-{received + 5}")
+        before = calls(server)[STATUS]
+        assert patched(client, at, b"ghi") == (202, f"0-{received + 8}")
+        assert calls(server)[STATUS] == before, calls(server)
+
+
+def the_length_is_asked_for_while_and_after_two_add_at_once():
+    """The store has added the first chunk before the second comes, and its reply is on its way."""
+    with serving_stub({APPEND: {"late": 0.6}}) as server:
+        client = server.client()
+        at = opened(client)
+        first = Asking(server, "PATCH", at, b"abc", PATCH)
+        assert until(lambda: calls(server)[APPEND] == 1)
+        time.sleep(0.1)
+        assert patched(client, at, b"def") == (202, "0-5")
+        assert first.answered().status == 202 and calls(server)[STATUS] == 1, calls(server)
+        assert patched(client, at, b"ghi") == (202, "0-8") and calls(server)[STATUS] == 2, calls(server)
+        assert patched(client, at, b"jkl") == (202, "0-11") and calls(server)[STATUS] == 2, calls(server)
+
+
 def main():
     play("uploads", [
         an_upload_that_is_being_sent_is_not_given_up, an_upload_without_bytes_is_given_up_early,
         an_upload_that_the_store_does_not_know_is_dropped, an_upload_that_the_store_keeps_is_tried_again,
         a_range_is_that_of_the_content_in_chunked_coding, a_range_that_no_content_has_is_refused,
-        a_blob_that_is_too_long_is_refused_before_it_is_sent])
+        a_blob_that_is_too_long_is_refused_before_it_is_sent, chunks_and_closes_do_not_ask_for_the_length,
+        a_chunk_at_another_place_is_answered_with_the_length_of_the_store, a_length_that_is_out_of_date_costs_a_chunk_and_nothing_else,
+        the_length_is_asked_for_after_a_reply_that_came_too_late, the_length_is_asked_for_after_a_refusal,
+        a_chunk_that_breaks_off_is_gone_on_with, the_length_is_asked_for_while_and_after_two_add_at_once])
 
 
 if __name__ == "__main__":
