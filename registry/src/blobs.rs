@@ -4,9 +4,10 @@ use crate::content::HELD_LEN;
 use crate::fault::Fault;
 use crate::frames::Refusal;
 use crate::line::WHOLE_LEN;
-use crate::range::{wanted_part, Part};
+use crate::memory::Reserved;
+use crate::range::{wanted, Part, Wanted, MAX_PLACE};
 use crate::registry::{empty, with_body, Call, Registry, Served};
-use crate::store::{Answer, Leased, Lost};
+use crate::store::{Answer, Fetched, Leased, Lost, MAX_FETCHED};
 use bytes::Bytes;
 use hyper::body::Sender;
 use hyper::{Body, StatusCode};
@@ -41,25 +42,61 @@ pub async fn head(call: &Call, digest: &str) -> Served {
     empty(StatusCode::OK, &headers_of(digest, &entity_tag(digest), &size))
 }
 
-/// end-2: a blob, or a part of it. A client who leaves gives the lease back.
+/// end-2: a blob, or a part of it.
 pub async fn get(call: &Call, digest: &str) -> Served {
     if has_content(call, digest) {
         call.registry.store.stat(&call.repo, digest).await??;
         return not_modified(digest);
     }
-    let leased = call.registry.store.lease(&call.repo, digest).await??;
-    let size = leased.size;
     let range = call.header("range").filter(|_| is_range_wanted(call, digest));
-    let part = range.map_or(Part::Whole, |text| wanted_part(text, size));
-    let (status, start, end) = match part {
-        Part::Whole => (StatusCode::OK, 0, size),
-        Part::Some(start, last) => (StatusCode::PARTIAL_CONTENT, start, last + 1),
-        Part::Unsatisfiable => {
+    let wanted = range.map_or(Wanted::Whole, wanted);
+    match fetch(call, digest, wanted).await? {
+        (Fetched::Leased(leased), _) => get_leased(call, digest, wanted, leased).await,
+        (Fetched::Piece { size, bytes }, reserved) => match Slice::of(wanted, size) {
+            Some(slice) => {
+                call.registry.metrics.sent(bytes.len());
+                slice.response(digest, bytes.into(), reserved)
+            }
+            None => unsatisfiable(size),
+        },
+    }
+}
+
+/// Fetches the wanted bytes, with memory reserved for them. Leases the blob instead if they are more than a fetch hands over,
+/// if their place depends on the blob's size, or if there is no memory for the longest piece that may come.
+async fn fetch(call: &Call, digest: &str, wanted: Wanted) -> Result<(Fetched, Option<Reserved>), Fault> {
+    let store = &call.registry.store;
+    let asked = match wanted {
+        Wanted::Whole => Some((None, MAX_FETCHED)),
+        Wanted::Between(start, last) => {
+            let (start, last) = (start.min(MAX_PLACE), last.min(MAX_PLACE));
+            Some((Some((start, last)), MAX_FETCHED.min(last - start + 1)))
+        }
+        Wanted::Last(_) => None,
+    };
+    let asked = asked.and_then(|(range, most)| Some((range, call.reserve(most).ok()?)));
+    let (range, mut reserved) = match asked {
+        Some(asked) => asked,
+        None => return Ok((Fetched::Leased(store.lease(&call.repo, digest).await??), None)),
+    };
+    let fetched = store.fetch(&call.repo, digest, range).await??;
+    if let Fetched::Piece { bytes, .. } = &fetched {
+        reserved.shrink(bytes.len() as u64);
+        return Ok((fetched, Some(reserved)));
+    }
+    Ok((fetched, None))
+}
+
+/// Answers with the wanted bytes of a leased blob. The lease is given back after they are read, or if the client leaves.
+async fn get_leased(call: &Call, digest: &str, wanted: Wanted, leased: Leased) -> Served {
+    let slice = match Slice::of(wanted, leased.size) {
+        Some(slice) => slice,
+        None => {
             call.registry.store.give_back(leased.number).await??;
-            let range = format!("bytes */{size}");
-            return empty(StatusCode::RANGE_NOT_SATISFIABLE, &[("Content-Range", &range)]);
+            return unsatisfiable(leased.size);
         }
     };
+    let (start, end) = (slice.start, slice.end);
     let reserved = match call.reserve((end - start).min(HELD_LEN)) {
         Ok(reserved) => reserved,
         Err(fault) => {
@@ -76,16 +113,49 @@ pub async fn get(call: &Call, digest: &str) -> Served {
             body
         }
     };
-    let len = (end - start).to_string();
-    let mut response = with_body(status, &headers_of(digest, &entity_tag(digest), &len), body)?;
-    response.extensions_mut().insert(reserved);
-    if status == StatusCode::PARTIAL_CONTENT {
-        let range = format!("bytes {start}-{}/{size}", end - 1);
-        if let Ok(value) = range.parse() {
-            response.headers_mut().insert("Content-Range", value);
+    slice.response(digest, body, Some(reserved))
+}
+
+/// The bytes of a blob from `start` to the one before `end`, and the status of the answer that has them.
+struct Slice {
+    status: StatusCode,
+    start: u64,
+    end: u64,
+    /// The blob's size.
+    size: u64,
+}
+
+impl Slice {
+    /// Returns the wanted bytes of a blob of `size` bytes, if it has any of them.
+    fn of(wanted: Wanted, size: u64) -> Option<Slice> {
+        match wanted.part(size) {
+            Part::Whole => Some(Slice { status: StatusCode::OK, start: 0, end: size, size }),
+            Part::Some(start, last) => Some(Slice { status: StatusCode::PARTIAL_CONTENT, start, end: last + 1, size }),
+            Part::Unsatisfiable => None,
         }
     }
-    Ok(response)
+
+    /// Returns the answer with these bytes. It holds the reserved memory until they are sent.
+    fn response(&self, digest: &str, body: Body, reserved: Option<Reserved>) -> Served {
+        let Slice { status, start, end, size } = *self;
+        let len = (end - start).to_string();
+        let mut response = with_body(status, &headers_of(digest, &entity_tag(digest), &len), body)?;
+        if let Some(reserved) = reserved {
+            response.extensions_mut().insert(reserved);
+        }
+        if status == StatusCode::PARTIAL_CONTENT {
+            let range = format!("bytes {start}-{}/{size}", end - 1);
+            if let Ok(value) = range.parse() {
+                response.headers_mut().insert("Content-Range", value);
+            }
+        }
+        Ok(response)
+    }
+}
+
+/// Returns the answer to a range in which a blob of `size` bytes has nothing.
+fn unsatisfiable(size: u64) -> Served {
+    empty(StatusCode::RANGE_NOT_SATISFIABLE, &[("Content-Range", &format!("bytes */{size}"))])
 }
 
 /// The bytes of a leased blob from a place to the one before another, of which one piece has all. The lease is given back.

@@ -33,6 +33,7 @@ pub enum Command {
     StatManifest = 18,
     FreeSlots = 19,
     Usage = 20,
+    Fetch = 21,
 }
 
 /// A request.

@@ -1,7 +1,7 @@
 //! The ranges that headers spell.
 
-/// The last place that a byte of an upload can have (docs/PROFILE.md, "Ranges").
-const MAX_PLACE: u64 = i64::MAX as u64;
+/// The last place that a range of the store can name (docs/PROFILE.md, "Ranges").
+pub const MAX_PLACE: u64 = i64::MAX as u64;
 
 /// The first place and the last of a chunk: `<start>-<end>` (OCI Distribution Specification 1.1, "Pushing a blob in
 /// chunks"). Older clients write `bytes ` or `bytes=` before it, or `/<whole>` behind it.
@@ -10,6 +10,16 @@ pub fn content_range(text: &str) -> Option<(u64, u64)> {
     let (start, end) = text.split('/').next()?.split_once('-')?;
     let (start, end) = (number(start)?, number(end)?);
     (start <= end && end <= MAX_PLACE).then_some((start, end))
+}
+
+/// What a header `Range` asks for, whatever the size of the blob.
+#[derive(Clone, Copy, Debug, PartialEq, Eq)]
+pub enum Wanted {
+    Whole,
+    /// From one place to another, both included.
+    Between(u64, u64),
+    /// The last bytes, of this number.
+    Last(u64),
 }
 
 /// What part of a blob is wanted.
@@ -22,23 +32,34 @@ pub enum Part {
     Unsatisfiable,
 }
 
-/// What part of a blob of some size a header `Range` wants (RFC 9110, 14.1.2 and 14.2). One that isn't understood, or
-/// names several parts, is as if it weren't there.
-pub fn wanted_part(text: &str, size: u64) -> Part {
+/// What a header `Range` asks for (RFC 9110, 14.1.2 and 14.2). One that isn't understood, or names several parts, is as if
+/// it weren't there.
+pub fn wanted(text: &str) -> Wanted {
     let ends = match text.strip_prefix("bytes=").and_then(|text| text.trim().split_once('-')) {
         Some(ends) => ends,
-        None => return Part::Whole,
+        None => return Wanted::Whole,
     };
-    let (start, last) = match (ends.0, number(ends.0), number(ends.1)) {
-        ("", _, Some(count)) => (size - count.min(size), u64::MAX),
-        (_, Some(start), _) if ends.1.is_empty() => (start, u64::MAX),
-        (_, Some(start), Some(last)) if start <= last => (start, last),
-        _ => return Part::Whole,
-    };
-    if start < size {
-        Part::Some(start, last.min(size - 1))
-    } else {
-        Part::Unsatisfiable
+    match (ends.0, number(ends.0), number(ends.1)) {
+        ("", _, Some(count)) => Wanted::Last(count),
+        (_, Some(start), _) if ends.1.is_empty() => Wanted::Between(start, u64::MAX),
+        (_, Some(start), Some(last)) if start <= last => Wanted::Between(start, last),
+        _ => Wanted::Whole,
+    }
+}
+
+impl Wanted {
+    /// Returns the part that this is of a blob of `size` bytes.
+    pub fn part(self, size: u64) -> Part {
+        let (start, last) = match self {
+            Wanted::Whole => return Part::Whole,
+            Wanted::Between(start, last) => (start, last),
+            Wanted::Last(count) => (size - count.min(size), u64::MAX),
+        };
+        if start < size {
+            Part::Some(start, last.min(size - 1))
+        } else {
+            Part::Unsatisfiable
+        }
     }
 }
 
@@ -82,8 +103,8 @@ mod tests {
             ("bytes=x-", Part::Whole),
         ];
         for (text, part) in cases {
-            assert_eq!(wanted_part(text, 10_000), part, "{text}");
+            assert_eq!(wanted(text).part(10_000), part, "{text}");
         }
-        assert_eq!(wanted_part("bytes=0-", 0), Part::Unsatisfiable);
+        assert_eq!(wanted("bytes=0-").part(0), Part::Unsatisfiable);
     }
 }

@@ -50,6 +50,17 @@ pub struct Leased {
     pub size: u64,
 }
 
+/// The result of a fetch.
+pub enum Fetched {
+    /// The bytes, at most `MAX_FETCHED`, and the blob's size.
+    Piece { size: u64, bytes: Bytes },
+    /// There are more bytes: the blob is leased.
+    Leased(Leased),
+}
+
+/// The longest piece that a fetch hands over, in bytes.
+pub const MAX_FETCHED: u64 = 1 << 20;
+
 /// What a mount comes to.
 pub enum Mounted {
     /// The blob is linked.
@@ -103,7 +114,7 @@ enum Undo {
     Nothing,
     /// Abandons the session that was opened in the call's repository.
     Session,
-    /// Gives the lease back.
+    /// Gives the lease back, if there is one.
     Lease,
 }
 
@@ -114,7 +125,9 @@ impl Undo {
             Undo::Session if reply.first != 0 => {
                 Some(Request { repo, number: reply.first as u32, ..Request::new(Command::Abandon) })
             }
-            Undo::Lease => Some(Request { number: reply.second as u32, ..Request::new(Command::GiveBack) }),
+            Undo::Lease if reply.second != 0 => {
+                Some(Request { number: reply.second as u32, ..Request::new(Command::GiveBack) })
+            }
             _ => None,
         }
     }
@@ -371,8 +384,24 @@ impl Store {
     /// A lease of a blob, which has to be given back.
     pub async fn lease(&self, repo: &str, digest: &str) -> Answer<Leased> {
         let answer = self.ask_with(Request { repo, digest, ..Request::new(Command::Lease) }, Undo::Lease).await?;
-        let sharer = self.sharer(repo);
-        Ok(answer.map(|reply| Leased { size: reply.first, number: Lease { number: reply.second as u32, sharer } }))
+        Ok(answer.map(|reply| self.leased(repo, &reply)))
+    }
+
+    /// Fetches the bytes of a blob in a range of two places, both included, or all of them without a range. If they are more
+    /// than `MAX_FETCHED`, the blob is leased, and the lease has to be given back.
+    pub async fn fetch(&self, repo: &str, digest: &str, range: Option<(u64, u64)>) -> Answer<Fetched> {
+        let request = Request { repo, digest, range, ..Request::new(Command::Fetch) };
+        let answer = self.ask_with(request, Undo::Lease).await?;
+        Ok(answer.map(|reply| match reply.second {
+            0 => Fetched::Piece { size: reply.first, bytes: reply.body },
+            _ => Fetched::Leased(self.leased(repo, &reply)),
+        }))
+    }
+
+    /// Returns the lease that a reply names.
+    fn leased(&self, repo: &str, reply: &Reply) -> Leased {
+        let number = Lease { number: reply.second as u32, sharer: self.sharer(repo) };
+        Leased { size: reply.first, number }
     }
 
     /// Bytes of a leased blob from a place to another, both included.

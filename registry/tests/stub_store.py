@@ -1,6 +1,6 @@
 #!/usr/bin/env python3
 """A store in place of blobd that is as slow, or as forgetful, as a test wants: it speaks the frames of docs/FRAMES.md, keeps
-manifests, counts the bytes of uploads, and writes a line `stub: COMMAND REPOSITORY` for each call to standard error.
+manifests and blobs without hashing them, and writes a line `stub: COMMAND REPOSITORY` for each call to standard error.
 STUB_RULES is a JSON object: under `COMMAND REPOSITORY`, or `COMMAND` alone, the seconds that a call takes before it is made
 (`slow`) or after (`late`), the status that it is answered with instead of being made (`status`), and the first number of the
 reply instead of the right one (`first`). Under `greeting` are the seconds before it greets."""
@@ -9,49 +9,91 @@ import hashlib, json, os, struct, sys, threading, time
 GREETING = b"blobd\0\1\0"
 HEAD = struct.Struct("<BBHHHIIQQ")
 START, STATUS, APPEND, CLOSE, ABANDON, MOUNT, DELETE, PUT_MANIFEST, GET_MANIFEST, DELETE_MANIFEST = range(1, 11)
-SWEEP, STAT_MANIFEST, FREE_SLOTS, USAGE = 14, 18, 19, 20
+LEASE, READ, GIVE_BACK, SWEEP = range(11, 15)
+STAT, STAT_MANIFEST, FREE_SLOTS, USAGE, FETCH = range(17, 22)
 # The quota of each tenant, in bytes.
 QUOTA = 1 << 50
-UPLOAD_UNKNOWN, RANGE_INVALID, BLOB_UNKNOWN, MANIFEST_UNKNOWN, NO_COMMAND = 4, 6, 7, 9, 255
+# The longest piece that a fetch hands over, in bytes.
+MAX_FETCHED = 1 << 20
+UPLOAD_UNKNOWN, RANGE_INVALID, BLOB_UNKNOWN, MANIFEST_UNKNOWN, NO_LEASE, NO_COMMAND = 4, 6, 7, 9, 254, 255
+
+
+def piece(content, span):
+    """The bytes in a range that the content has, or all of them without one."""
+    return content[span[0]:span[1] + 1] if span else content
+
+
+def reply(status=0, first=0, second=0, digest="", body=b""):
+    return status, first, second, digest, body
 
 
 class Stub:
     def __init__(self):
         self.rules = json.loads(os.environ.get("STUB_RULES", "{}"))
-        self.lock, self.manifests, self.uploads, self.count = threading.Lock(), {}, {}, 0
+        self.lock, self.count = threading.Lock(), 0
+        self.manifests, self.uploads, self.blobs, self.leases = {}, {}, {}, {}
 
-    def reply(self, command, repo, digest, number, start, body):
-        """What a call is answered: status, first, second, digest, body. Bytes that name no start go to the end."""
-        kept = self.manifests.get((repo, digest))
+    def answer(self, command, repo, digest, number, span, body):
+        """What a call is answered: status, first, second, digest, body. `span` is a range's first place and last, if any."""
         if command in (START, MOUNT):
             self.count += 1
-            self.uploads[self.count] = 0
-            return 0, self.count, 0, "", b""
+            self.uploads[self.count] = b""
+            return reply(first=self.count)
         if command in (STATUS, APPEND, CLOSE, ABANDON):
-            if number not in self.uploads:
-                return UPLOAD_UNKNOWN, 0, 0, "", b""
-            if start not in (None, self.uploads[number]):
-                return RANGE_INVALID, self.uploads[number], 0, "", b""
-            self.uploads[number] += len(body)
-            received = self.uploads[number]
-            if command in (CLOSE, ABANDON):
-                del self.uploads[number]
-            return 0, received if command != ABANDON else 0, 0, "", b""
+            return self.upload(command, repo, digest, number, span, body)
+        if command in (PUT_MANIFEST, GET_MANIFEST, STAT_MANIFEST, DELETE_MANIFEST):
+            return self.manifest(command, repo, digest, body)
+        if command in (STAT, LEASE, FETCH, DELETE):
+            return self.blob(command, repo, digest, span)
+        if command in (READ, GIVE_BACK):
+            kept = self.leases.get(number) if command == READ else self.leases.pop(number, None)
+            if kept is None:
+                return reply(NO_LEASE)
+            return reply(body=piece(kept, span) if command == READ else b"")
+        if command == USAGE:
+            return reply(second=QUOTA)
+        return reply(0 if command in (SWEEP, FREE_SLOTS) else NO_COMMAND)
+
+    def upload(self, command, repo, digest, number, span, body):
+        if number not in self.uploads:
+            return reply(UPLOAD_UNKNOWN)
+        received = len(self.uploads[number])
+        if span and span[0] != received:
+            return reply(RANGE_INVALID, received)
+        self.uploads[number] += body
+        if command == CLOSE:
+            self.blobs[repo, digest] = self.uploads[number]
+        if command in (CLOSE, ABANDON):
+            del self.uploads[number]
+        return reply(first=received + len(body))
+
+    def manifest(self, command, repo, digest, body):
         if command == PUT_MANIFEST:
             digest = "sha256:" + hashlib.sha256(body).hexdigest()
             self.manifests[repo, digest] = body
-            return 0, 0, 0, digest, b""
-        if command in (GET_MANIFEST, STAT_MANIFEST, DELETE_MANIFEST):
-            if kept is None:
-                return MANIFEST_UNKNOWN, 0, 0, "", b""
-            if command == DELETE_MANIFEST:
-                del self.manifests[repo, digest]
-            return 0, len(kept) if command == STAT_MANIFEST else 0, 0, "", kept if command == GET_MANIFEST else b""
-        if command == USAGE:
-            return 0, 0, QUOTA, "", b""
-        if command in (SWEEP, FREE_SLOTS):
-            return 0, 0, 0, "", b""
-        return (BLOB_UNKNOWN if command in (DELETE, 11, 12, 17) else NO_COMMAND), 0, 0, "", b""
+            return reply(digest=digest)
+        if (repo, digest) not in self.manifests:
+            return reply(MANIFEST_UNKNOWN)
+        kept = self.manifests[repo, digest]
+        if command == DELETE_MANIFEST:
+            del self.manifests[repo, digest]
+        return reply(first=len(kept)) if command == STAT_MANIFEST else reply(body=kept if command == GET_MANIFEST else b"")
+
+    def blob(self, command, repo, digest, span):
+        if (repo, digest) not in self.blobs:
+            return reply(BLOB_UNKNOWN)
+        kept = self.blobs[repo, digest]
+        if command == DELETE:
+            del self.blobs[repo, digest]
+            return reply()
+        fetched = piece(kept, span)
+        if command == FETCH and len(fetched) <= MAX_FETCHED:
+            return reply(first=len(kept), body=fetched)
+        if command == STAT:
+            return reply(first=len(kept))
+        self.count += 1
+        self.leases[self.count] = kept
+        return reply(first=len(kept), second=self.count)
 
     def serve(self, requests, replies):
         """One line, until it is closed."""
@@ -64,16 +106,16 @@ class Stub:
                 head = source.read(HEAD.size)
                 if len(head) < HEAD.size:
                     return
-                command, flags, repo, digest, other, number, body, start, _ = HEAD.unpack(head)
+                command, flags, repo, digest, other, number, body, start, last = HEAD.unpack(head)
                 repo, digest, other, body = (source.read(count) for count in (repo, digest, other, body))
-                repo, start = repo.decode(), start if flags & 1 else None
+                repo, digest, span = repo.decode(), digest.decode(), (start, last) if flags & 1 else None
                 sys.stderr.write(f"stub: {command} {repo}\n")
                 rule = {**self.rules.get(str(command), {}), **self.rules.get(f"{command} {repo}", {})}
                 time.sleep(rule.get("slow", 0))
                 status, first, second, text, content = rule.get("status", 0), 0, 0, "", b""
                 if status == 0:
                     with self.lock:
-                        status, first, second, text, content = self.reply(command, repo, digest.decode(), number, start, body)
+                        status, first, second, text, content = self.answer(command, repo, digest, number, span, body)
                     first = rule.get("first", first) if status == 0 else first
                 time.sleep(rule.get("late", 0))
                 head = struct.pack("<IIQQQ", status, len(text), first, second, len(content))
