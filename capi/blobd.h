@@ -13,7 +13,7 @@ typedef struct blobd_line blobd_line;
 enum blobd_command {
     BLOBD_START = 1, BLOBD_STATUS, BLOBD_APPEND, BLOBD_CLOSE, BLOBD_ABANDON, BLOBD_MOUNT, BLOBD_DELETE,
     BLOBD_PUT_MANIFEST, BLOBD_GET_MANIFEST, BLOBD_DELETE_MANIFEST, BLOBD_LEASE, BLOBD_READ, BLOBD_GIVE_BACK,
-    BLOBD_SWEEP, BLOBD_STAT = 17, BLOBD_STAT_MANIFEST, BLOBD_FREE_SLOTS, BLOBD_USAGE
+    BLOBD_SWEEP, BLOBD_STAT = 17, BLOBD_STAT_MANIFEST, BLOBD_FREE_SLOTS, BLOBD_USAGE, BLOBD_FETCH
 };
 
 /* 0, the number of a refusal, or that the line is gone. */
@@ -38,8 +38,9 @@ struct blobd_request {
 
 struct blobd_reply {
     int status;
-    /* A session, a length or a size. Of a lease, its size and its number; of a mount, the session that was opened, or 0;
-     * of a sweep, how many slots were freed and how many held; of a tenant, its use and its quota. */
+    /* A session, a length or a size. Of a lease, its size and its number; of a fetch, the blob's size, and 0 or the number
+     * of a lease; of a mount, the session that was opened, or 0; of a sweep, how many slots were freed and how many held;
+     * of a tenant, its use and its quota. */
     uint64_t first, second;
     char digest[BLOBD_MAX_DIGEST + 1];   /* of a manifest, or of what was missing or refers */
     uint64_t body;                       /* what is to be taken by blobd_body */

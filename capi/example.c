@@ -1,4 +1,4 @@
-/* Uploads `abc` in two chunks, is refused a third out of place, and reads the blob back under a lease. */
+/* Uploads `abc` in two chunks, is refused a third out of place, fetches the blob, and reads it back under a lease. */
 #include "blobd.h"
 #include <stdio.h>
 #include <string.h>
@@ -30,6 +30,10 @@ int main(int count, char **words) {
     printf("append elsewhere: status %d, received %llu\n", reply.status, (unsigned long long)reply.first);
     call(line, BLOBD_CLOSE, (struct blobd_request){.repo = "acme/one", .number = session, .digest = ABC, .body = "bc", .length = 2});
     printf("close: status %d, size %llu\n", reply.status, (unsigned long long)reply.first);
+    call(other, BLOBD_FETCH, (struct blobd_request){.repo = "acme/one", .digest = ABC});
+    blobd_body(other, bytes, reply.body < 3 ? reply.body : 3);
+    printf("fetch: status %d, size %llu, lease %llu, %s\n", reply.status, (unsigned long long)reply.first, (unsigned long long)reply.second, bytes);
+    memset(bytes, 0, sizeof bytes);
     call(other, BLOBD_LEASE, (struct blobd_request){.repo = "acme/one", .digest = ABC});
     uint32_t lease = (uint32_t)reply.second;
     printf("lease: status %d, size %llu\n", reply.status, (unsigned long long)reply.first);
