@@ -1,5 +1,5 @@
 -- What workers answer.
-use Rattle.std.specs.Prelude.{◌≡◌, ◌≤◌, ◌<◌, ℕ, ◌+◌, List, [], length, get_or}
+use Rattle.std.specs.Prelude.{◌≡◌, ◌≤◌, ◌<◌, ℕ, List, [], length, get_or}
 use Rattle.store_model.specs.Amounts.{nothing}
 use Rattle.store_model.specs.Catalog.{Catalog}
 use Rattle.store_model.specs.Histories.{LeadsTo, State, Step}
@@ -14,7 +14,6 @@ use Rattle.row_player.specs.Leases.{Leases, none}
 use Rattle.row_player.specs.Plays.{Plays}
 use Rattle.row_player.specs.Rows.{RowView}
 use Rattle.row_player.specs.Shares.{AreTogether, own_answers, own_rows}
-use Rattle.store_api.specs.declared.reply.Reply.{Reply}
 
 -- a claim on each place of a list and on what stands there
 abbrev pub AllAt : {X : Type 0} → (ℕ → X → Type 0) → List X → Type 0
@@ -67,14 +66,3 @@ pub record AreSettled (rows : List RowView) (answers : List Answer) (settled : S
   pub received : settled.received ≡ counted_bytes rows answers
   pub closed : settled.closed ≡ counted_closed rows answers
   pub abandoned : counted_abandons rows answers ≡ 0 → settled.abandoned ≡ 0
-
--- a worker has nothing on its desk yet, and room for its replies
-pub record IsReady (workers worker : ℕ) (rows : List RowView) (desk : DeskView) (replies : List Reply) (room : ℕ) : Type 0 where
-  pub fresh : work_of desk ≡ no_work
-  pub empty : replies ≡ []
-  pub fits : length (own_rows workers worker rows) ≤ room
-
--- the worker of a job, which stands at this place from the end of all
-pub record IsWorkerAt (workers place of number : ℕ) : Type 0 where
-  pub among : of ≡ workers
-  pub turn : number + place + 1 ≡ workers

@@ -3,20 +3,20 @@ ghost use Rattle.std.specs.Prelude.{ℕ, ◌≡◌, ◌⊎◌, ◌+◌, ◌<◌,
 ghost use Rattle.blob_digest.specs.declared.refusal.Refusal.TheVariants.{LimitReached, Memory};
 ghost use Rattle.locked_book.specs.History.{AreFresh, DeskView};
 ghost use Rattle.blob_store.specs.Parts.{names_of};
-ghost use Rattle.blob_store.specs.Workers.{AllAt, ArePlayed, AreSettled, HasPlayed, HavePlayed, IsInterleaved, IsReady, IsWorkerAt};
+ghost use Rattle.blob_store.specs.Jobs.{AreOutcomes, AreReady, HasRoom, IsRoomFor, IsRoomOfEach};
+ghost use Rattle.blob_store.specs.Workers.{ArePlayed, AreSettled, HasPlayed, HavePlayed, IsInterleaved};
 ghost use Rattle.store_api.specs.Answers.{answers_of};
-ghost use Rattle.row_player.specs.Shares.{own_answers, own_rows};
+ghost use Rattle.row_player.specs.Shares.{own_answers};
 
 use crate::parts::Parts;
 use crate::store::Store;
-use crate::workers::{Job, Outcome, WorkersDone, play_all};
+use crate::workers::{Job, Outcome, play_all};
 use blob_digest::Refusal;
-use locked_book::{Desk, DroppableDesk, LockedBook, Naming, Settled};
+use locked_book::{Desk, LockedBook, Naming, Settled};
 use row_player::{Gate, RepliesByRow, RowList, Worker, count_by_worker};
 use std::alloc::Global;
 use std::collections::VecDeque;
 use std::sync::Wait;
-use std::sync::atomic::AtomicBool;
 use std::thread::Threads;
 use store_api::Reply;
 
@@ -47,7 +47,7 @@ struct Room<S: Naming> {
     lists: Vec<Vec<Reply>>,
     queues: Vec<VecDeque<Reply>>,
     jobs: Vec<Job<S>>,
-    done: WorkersDone<S>,
+    outcomes: Vec<Outcome<S>>,
 }
 
 /// Room for the replies of each worker, and for no more.
@@ -57,9 +57,7 @@ fn lists_for<L: RowList>(
     workers: usize,
 ) -> Result<Vec<Vec<Reply>>, Refusal>
     requires { 0 < workers }
-    ensures len { IfOk result (λ v. vec_len v ≡ workers) }
-    ensures room { IfOk result (λ v. AllAt (λ w l. (l.items ≡ []) × (length (own_rows workers w (L.lines rows.now)) ≤ vec_capacity l)) v.items) }
-    ensures exact { IfOk result (λ v. AllAt (λ w l. vec_capacity l ≡ length (own_rows workers w (L.lines rows.now))) v.items) }
+    ensures room { IfOk result (IsRoomOfEach workers (L.lines rows.now)) }
     ensures refused { IfErr result (λ e. e ≡ Memory) }
 {
     let counts = count_by_worker(alloc, rows, workers)?;
@@ -77,20 +75,14 @@ fn room_for<S: Naming, L: RowList>(
     workers: usize,
 ) -> Result<Room<S>, Refusal>
     requires { 0 < workers }
-    ensures lists { IfOk result (λ r. (vec_len r.lists ≡ workers) × AllAt (λ w l. (l.items ≡ []) × (length (own_rows workers w (L.lines rows.now)) ≤ vec_capacity l)) r.lists.items) }
-    ensures queues { IfOk result (λ r. (vec_len r.queues ≡ 0) × (workers ≤ vec_capacity r.queues)) }
-    ensures jobs { IfOk result (λ r. (vec_len r.jobs ≡ 0) × (workers ≤ vec_capacity r.jobs)) }
-    ensures done { IfOk result (λ r. (vec_len r.done.outcomes ≡ 0) × (workers ≤ vec_capacity r.done.outcomes) × (vec_len r.done.unstarted ≡ 0) × (workers ≤ vec_capacity r.done.unstarted)) }
+    ensures room { IfOk result (HasRoom workers (L.lines rows.now)) }
     ensures refused { IfErr result (λ e. e ≡ Memory) }
 {
     Ok(Room {
         lists: lists_for(alloc, rows, workers)?,
         queues: Vec::with_capacity(alloc, workers)?,
         jobs: Vec::with_capacity(alloc, workers)?,
-        done: WorkersDone {
-            outcomes: Vec::with_capacity(alloc, workers)?,
-            unstarted: Vec::with_capacity(alloc, workers)?,
-        },
+        outcomes: Vec::with_capacity(alloc, workers)?,
     })
 }
 
@@ -103,11 +95,11 @@ fn jobs_of<S: Naming, L: RowList>(
     mut jobs: Vec<Job<S>>,
 ) -> Vec<Job<S>>
     requires fresh { AreFresh desks.old.items }
-    requires lists { (vec_len lists ≡ vec_len desks.old) × AllAt (λ w l. (l.items ≡ []) × (length (own_rows (vec_len desks.old) w (L.lines rows.now)) ≤ vec_capacity l)) lists.items }
-    requires room { (vec_len jobs ≡ 0) × (vec_len desks.old ≤ vec_capacity jobs) }
+    requires lists { IsRoomOfEach (vec_len desks.old) (L.lines rows.now) lists }
+    requires room { IsRoomFor (vec_len desks.old) jobs }
     ensures len { vec_len result ≡ vec_len desks.old }
-    ensures desks { (vec_len desks.new ≡ 0) × (vec_capacity desks.new ≡ vec_capacity desks.old) }
-    ensures ready { AllAt (λ k j. IsWorkerAt (vec_len desks.old) k j.worker.workers j.worker.number × IsReady (vec_len desks.old) j.worker.number (L.lines rows.now) j.desk j.replies.items (vec_capacity j.replies)) result.items }
+    ensures desks { IsRoomFor (vec_len desks.old) desks.new }
+    ensures ready { AreReady (L.lines rows.now) result }
 {
     let workers = desks.len();
     while let Some(desk) = desks.pop() {
@@ -133,10 +125,10 @@ fn collect<S: Naming, L: RowList>(
     desks: &mut Vec<Desk<S>>,
     queues: &mut Vec<VecDeque<Reply>>,
 ) -> bool
-    requires each { AllAt (λ k o. (w : ℕ) → w + k + 1 ≡ vec_len outcomes → o.completed ≡ true → HasPlayed S.names.opening workers w (L.lines rows.now) o.desk (answers_of o.replies.items)) outcomes.items }
-    requires room { (vec_len desks.old ≡ 0) × (vec_len outcomes ≤ vec_capacity desks.old) × (vec_len queues.old ≡ 0) × (vec_len outcomes ≤ vec_capacity queues.old) }
-    ensures len { (vec_len desks.new ≡ vec_len outcomes) × (vec_len queues.new ≡ vec_len outcomes) }
-    ensures capacity { vec_capacity desks.new ≡ vec_capacity desks.old }
+    requires each { AreOutcomes S.names.opening workers (L.lines rows.now) outcomes }
+    requires desks { IsRoomFor workers desks.old }
+    requires queues { IsRoomFor workers queues.old }
+    ensures len { (vec_len desks.new ≡ workers) × (vec_len queues.new ≡ workers) }
     ensures played { result ≡ true → ArePlayed S.names.opening workers (L.lines rows.now) desks.new.items (map (λ q. answers_of q.items) queues.new.items) }
 {
     let mut completed = true;
@@ -151,16 +143,6 @@ fn collect<S: Naming, L: RowList>(
         completed &= ended;
     }
     completed
-}
-
-/// Adds the desks of workers that were not started.
-fn add_desks<S: Naming>(mut unstarted: Vec<DroppableDesk<S>>, desks: &mut Vec<Desk<S>>)
-    requires room { vec_len desks.old + vec_len unstarted ≤ vec_capacity desks.old }
-    ensures none { vec_len unstarted ≡ 0 → desks.new.items ≡ desks.old.items }
-{
-    while let Some(desk) = unstarted.pop() {
-        desks.push_reserved(desk.into_desk());
-    }
 }
 
 /// Plays a script by as many workers as there are desks, and puts the desks back in their order. No replies, where memory
@@ -180,29 +162,20 @@ fn play_at<
     desks: &mut Vec<Desk<S>>,
 ) -> Option<RepliesByRow<L>>
     requires fresh { (0 < vec_len desks.old) × AreFresh desks.old.items }
-    requires lists { (vec_len room.lists ≡ vec_len desks.old) × AllAt (λ w l. (l.items ≡ []) × (length (own_rows (vec_len desks.old) w (L.lines rows.now)) ≤ vec_capacity l)) room.lists.items }
-    requires queues { (vec_len room.queues ≡ 0) × (vec_len desks.old ≤ vec_capacity room.queues) }
-    requires jobs { (vec_len room.jobs ≡ 0) × (vec_len desks.old ≤ vec_capacity room.jobs) }
-    requires done { (vec_len room.done.outcomes ≡ 0) × (vec_len desks.old ≤ vec_capacity room.done.outcomes) × (vec_len room.done.unstarted ≡ 0) × (vec_len desks.old ≤ vec_capacity room.done.unstarted) }
+    requires room { HasRoom (vec_len desks.old) (L.lines rows.now) room }
     ensures { IfSome result (λ replies. HavePlayed S.names.opening (vec_len desks.old) (L.lines rows.now) desks.new.items replies) }
 {
     let Room {
         lists,
         mut queues,
         jobs,
-        done,
+        outcomes,
     } = room;
     let workers = desks.len();
     let jobs = jobs_of(rows, desks, lists, jobs);
-    let halt = AtomicBool::new(false);
-    let WorkersDone {
-        outcomes,
-        unstarted,
-    } = play_all(rt, alloc, store, gate, rows, &halt, jobs, done);
-    let started = unstarted.is_empty();
-    let ended = collect(rows, workers, outcomes, desks, &mut queues);
-    add_desks(unstarted, desks);
-    if started && ended {
+    let outcomes = play_all(rt, alloc, store, gate, rows, jobs, outcomes);
+    let completed = collect(rows, workers, outcomes, desks, &mut queues);
+    if completed {
         Some(RepliesByRow::new(*rows, queues))
     } else {
         None
@@ -282,10 +255,7 @@ fn play_alone<
     room: Room<S>,
 ) -> Result<PlayedToEnd<S, L>, Refusal>
     requires workers { (0 < workers) × (workers ≤ MAX_WORKERS) }
-    requires lists { (vec_len room.lists ≡ workers) × AllAt (λ w l. (l.items ≡ []) × (length (own_rows workers w (L.lines rows.now)) ≤ vec_capacity l)) room.lists.items }
-    requires queues { (vec_len room.queues ≡ 0) × (workers ≤ vec_capacity room.queues) }
-    requires jobs { (vec_len room.jobs ≡ 0) × (workers ≤ vec_capacity room.jobs) }
-    requires done { (vec_len room.done.outcomes ≡ 0) × (workers ≤ vec_capacity room.done.outcomes) × (vec_len room.done.unstarted ≡ 0) × (workers ≤ vec_capacity room.done.unstarted) }
+    requires room { HasRoom workers (L.lines rows.now) room }
     ensures replies { IfOk result (λ p. length p.replies ≡ length (L.lines rows.now)) }
     ensures together { IfOk result (λ p. IsInterleaved S.names.opening workers (L.lines rows.now) p.replies p.book.book.catalog) }
     ensures refused { IfErr result (λ e. (e ≡ LimitReached) ⊎ (e ≡ Memory)) }

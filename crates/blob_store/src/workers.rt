@@ -1,7 +1,8 @@
 //! Workers that play the rows of a script on one store, each in a thread of its own.
-ghost use Rattle.std.specs.Prelude.{ℕ, ◌≡◌, ◌+◌, ◌<◌, ◌≤◌, true, vec_len, vec_capacity};
-ghost use Rattle.blob_store.specs.Workers.{AllAt, HasPlayed, IsReady, IsWorkerAt};
-ghost use Rattle.store_api.specs.Answers.{answers_of};
+ghost use Rattle.std.specs.Prelude.{◌≡◌, ◌+◌, ◌≤◌, false, vec_len, vec_capacity};
+ghost use Rattle.blob_store.specs.Jobs.{AreOutcomes, AreReady, AreStarted, HasPlayedIfComplete};
+ghost use Rattle.blob_store.specs.Jobs.{IsReady, IsReadyAt, IsRoomFor, Keeps};
+ghost use Rattle.blob_store.specs.Workers.{AllAt};
 
 use crate::seat::Seat;
 use crate::store::Store;
@@ -11,7 +12,7 @@ use std::alloc::Global;
 use std::sync::Wait;
 use std::sync::atomic::{AtomicBool, Ordering};
 use std::thread;
-use std::thread::{Promise, PromisedHandle, Threads};
+use std::thread::{Promise, PromisedHandle, Scope, Threads};
 use store_api::Reply;
 
 /// What a worker begins with: its desk, and room for its replies.
@@ -30,12 +31,17 @@ pub struct Outcome<S: Naming> {
     pub completed: bool,
 }
 
-/// What the workers end with: the outcomes of those that were started, the last one first, and the desks of
-/// those that could not be.
-#[derive(Drop)]
-pub struct WorkersDone<S: Naming> {
-    pub outcomes: Vec<Outcome<S>>,
-    pub unstarted: Vec<DroppableDesk<S>>,
+impl<S: Naming> Outcome<S> {
+    /// The outcome of a worker that did not complete.
+    fn incomplete(desk: DroppableDesk<S>, replies: Vec<Reply>) -> Outcome<S>
+        ensures { result.completed ≡ false }
+    {
+        Outcome {
+            desk,
+            replies,
+            completed: false,
+        }
+    }
 }
 
 /// What a worker promises: if it played all of its rows, then with its replies, its desk got what they come to, and its
@@ -47,41 +53,59 @@ pub struct PlaysRows<'r, L> {
 }
 
 impl<'r, S: Naming, L: RowList> Promise<Outcome<S>> for PlaysRows<'r, L> {
-    ghost kept_by = { λ p o. o.completed ≡ true → HasPlayed S.names.opening p.worker.workers p.worker.number (L.lines p.rows.now) o.desk (answers_of o.replies.items) };
+    ghost kept_by = { λ p o. Keeps S.names.opening (L.lines p.rows.now) p.worker o };
 }
 
-/// Plays a worker's rows on the store, and gives back the leases that its lanes still hold. It plays
-/// nothing where another worker could not be started before it begins, and plays on once it has begun.
-fn work<W: Wait, G: Gate, S: Naming, L: RowList>(
-    rt: &W,
+/// What all workers share.
+#[derive(Drop)]
+struct Shared<'e, W, G, S: Naming, L> {
+    rt: &'e W,
     alloc: Global,
-    store: &Store<S>,
-    gate: &G,
-    rows: &L,
-    halt: &AtomicBool,
+    store: &'e Store<S>,
+    gate: &'e G,
+    rows: &'e L,
+    /// Whether a worker could not be started.
+    halt: AtomicBool,
+}
+
+/// The threads that were started, and the outcomes of the workers without a thread.
+#[derive(Drop)]
+struct Started<'e, S: Naming, L: RowList> {
+    children: Vec<PromisedHandle<Outcome<S>, PlaysRows<'e, L>>>,
+    outcomes: Vec<Outcome<S>>,
+}
+
+/// Plays a worker's rows on the store, and gives back the leases that its lanes still hold. It
+/// plays nothing if another worker could not be started before it begins, and plays on once it has
+/// begun.
+fn work<W: Wait, G: Gate, S: Naming, L: RowList>(
+    shared: &Shared<'_, W, G, S, L>,
     job: Job<S>,
 ) -> Outcome<S>
-    requires ready { IsReady job.worker.workers job.worker.number (L.lines rows.now) job.desk job.replies.items (vec_capacity job.replies) }
-    ensures { result.completed ≡ true → HasPlayed S.names.opening job.worker.workers job.worker.number (L.lines rows.now) result.desk (answers_of result.replies.items) }
+    requires { IsReady (L.lines shared.now.rows.now) job }
+    ensures { Keeps S.names.opening (L.lines shared.now.rows.now) job.worker result }
 {
     let Job {
         desk,
         replies,
         worker,
     } = job;
-    if halt.load(Ordering::SeqCst) {
-        return Outcome {
-            desk,
-            replies,
-            completed: false,
-        };
+    if shared.halt.load(Ordering::SeqCst) {
+        return Outcome::incomplete(desk, replies);
     }
     let mut seat = Seat {
-        rt,
-        store,
+        rt: shared.rt,
+        store: shared.store,
         desk: desk.into_desk(),
     };
-    let played = play_rows(alloc, &mut seat, gate, rows, worker, replies);
+    let played = play_rows(
+        shared.alloc,
+        &mut seat,
+        shared.gate,
+        shared.rows,
+        worker,
+        replies,
+    );
     let Seat {
         rt: _,
         store: _,
@@ -96,44 +120,96 @@ fn work<W: Wait, G: Gate, S: Naming, L: RowList>(
                 completed: true,
             }
         }
-        Err(_) => Outcome {
-            desk: desk.into_droppable(),
-            replies: Vec::new(alloc),
-            completed: false,
-        },
+        Err(_) => Outcome::incomplete(desk.into_droppable(), Vec::new(shared.alloc)),
     }
 }
 
-/// Adds the desks of workers that are not started.
-fn add_unstarted<S: Naming>(
-    mut jobs: Vec<Job<S>>,
-    mut unstarted: Vec<DroppableDesk<S>>,
-) -> Vec<DroppableDesk<S>>
-    requires room { vec_len unstarted + vec_len jobs ≤ vec_capacity unstarted }
-    ensures len { vec_len result ≡ vec_len unstarted + vec_len jobs }
+/// Adds the outcomes of workers that are not started.
+fn add_unplayed<S: Naming>(mut jobs: Vec<Job<S>>, mut outcomes: Vec<Outcome<S>>) -> Vec<Outcome<S>>
+    requires room { IsRoomFor (vec_len jobs) outcomes }
+    ensures len { vec_len result ≡ vec_len jobs }
+    ensures capacity { vec_capacity result ≡ vec_capacity outcomes }
+    ensures none { AllAt (λ _ o. o.completed ≡ false) result.items }
 {
     while let Some(job) = jobs.pop() {
-        unstarted.push_reserved(job.desk);
+        let Job {
+            desk,
+            replies,
+            worker: _,
+        } = job;
+        outcomes.push_reserved(Outcome::incomplete(desk, replies));
     }
-    unstarted
+    outcomes
 }
 
-/// Joins the workers that were started, all but the first, the last one first, and adds what each ended with; and then
-/// what the first worker ended with.
-fn join_all<'r, W: Threads, S: Naming, L: RowList>(
-    rt: &W,
-    rows: &'r L,
-    workers: usize,
-    mut children: Vec<PromisedHandle<Outcome<S>, PlaysRows<'r, L>>>,
-    first: Outcome<S>,
-    mut outcomes: Vec<Outcome<S>>,
-) -> Vec<Outcome<S>>
-    requires children { AllAt (λ w h. (h.promise.rows.now ≡ rows.now) × (h.promise.worker.workers ≡ workers) × (h.promise.worker.number ≡ w + 1)) children.items }
-    requires first { first.completed ≡ true → HasPlayed S.names.opening workers 0 (L.lines rows.now) first.desk (answers_of first.replies.items) }
-    requires room { (vec_len outcomes ≡ 0) × (vec_len children < vec_capacity outcomes) }
-    ensures len { vec_len result ≡ vec_len children.entry + 1 }
-    ensures each { AllAt (λ k o. (w : ℕ) → w + k + 1 ≡ vec_len result → o.completed ≡ true → HasPlayed S.names.opening workers w (L.lines rows.now) o.desk (answers_of o.replies.items)) result.items }
+/// Starts a thread for each job, the last one first. If one can't be started, none that follows is,
+/// and the workers that have not begun play nothing.
+fn start_all<
+    's,
+    'e: 's,
+    W: Threads + Wait + Sync + 'e,
+    G: Gate + Send + Sync + 'e,
+    S: Naming + Send + Sync + 'e,
+    L: RowList + Sync + 'e,
+>(
+    scope: &'s Scope<'s, &'e ()>,
+    shared: &'e Shared<'e, W, G, S, L>,
+    mut jobs: Vec<Job<S>>,
+    started: Started<'e, S, L>,
+) -> Started<'e, S, L>
+    requires ready { AllAt (IsReadyAt (vec_len jobs + 1) (L.lines shared.now.rows.now)) jobs.items }
+    requires children { IsRoomFor (vec_len jobs) started.children }
+    requires outcomes { IsRoomFor (vec_len jobs + 1) started.outcomes }
+    ensures { AreStarted S.names.opening L.lines (vec_len jobs + 1) shared.now.rows.now result }
 {
+    let Started {
+        mut children,
+        outcomes,
+    } = started;
+    while let Some(job) = jobs.pop() {
+        let promise = PlaysRows {
+            rows: shared.rows,
+            worker: job.worker,
+        };
+        let there = move || -> Outcome<S>
+            requires { IsReady (L.lines shared.now.rows.now) job }
+            ensures { Keeps S.names.opening (L.lines shared.entry.now.rows.now) job.worker result }
+        { work(shared, job) };
+        match scope.spawn_with(promise, there) {
+            Ok(child) => children.push_reserved(child),
+            Err(refused) => {
+                shared.halt.store(true, Ordering::SeqCst);
+                let Outcome {
+                    desk,
+                    replies,
+                    completed: _,
+                } = (refused.value)();
+                let mut outcomes = add_unplayed(jobs, outcomes);
+                outcomes.push_reserved(Outcome::incomplete(desk, replies));
+                return Started { children, outcomes };
+            }
+        }
+    }
+    Started { children, outcomes }
+}
+
+/// Joins the threads, the last one first, adds the outcome of each, and then adds the first
+/// worker's.
+fn join_all<'e, W: Threads, S: Naming, L: RowList>(
+    rt: &W,
+    rows: &'e L,
+    workers: usize,
+    started: Started<'e, S, L>,
+    first: Outcome<S>,
+) -> Vec<Outcome<S>>
+    requires started { AreStarted S.names.opening L.lines workers rows.now started }
+    requires first { HasPlayedIfComplete S.names.opening workers 0 (L.lines rows.now) first }
+    ensures { AreOutcomes S.names.opening workers (L.lines rows.now) result }
+{
+    let Started {
+        mut children,
+        mut outcomes,
+    } = started;
     while let Some(child) = children.pop() {
         outcomes.push_reserved(child.join(rt));
     }
@@ -141,9 +217,40 @@ fn join_all<'r, W: Threads, S: Naming, L: RowList>(
     outcomes
 }
 
-/// Plays the last job, the first worker's, in the calling thread, once each other one was started in a thread of its
-/// own, and joins these. Once one can't be started, none that follows is, and those that have not begun play nothing,
-/// the caller's among them.
+/// Starts the threads of this scope, plays the last job, which is the first worker's, in the
+/// calling thread, and joins the threads.
+fn play_in<
+    's,
+    'e: 's,
+    W: Threads + Wait + Sync + 'e,
+    G: Gate + Send + Sync + 'e,
+    S: Naming + Send + Sync + 'e,
+    L: RowList + Sync + 'e,
+>(
+    scope: &'s Scope<'s, &'e ()>,
+    shared: &'e Shared<'e, W, G, S, L>,
+    mut jobs: Vec<Job<S>>,
+    outcomes: Vec<Outcome<S>>,
+) -> Vec<Outcome<S>>
+    requires ready { AreReady (L.lines shared.now.rows.now) jobs }
+    requires room { IsRoomFor (vec_len jobs) outcomes }
+    ensures { AreOutcomes S.names.opening (vec_len jobs) (L.lines shared.now.rows.now) result }
+{
+    let workers = jobs.len();
+    let Ok(children) = Vec::with_capacity(shared.alloc, workers) else {
+        return add_unplayed(jobs, outcomes);
+    };
+    let Some(own) = jobs.pop() else {
+        return outcomes;
+    };
+    let started = start_all(scope, shared, jobs, Started { children, outcomes });
+    let first = work(shared, own);
+    join_all(shared.rt, shared.rows, workers, started, first)
+}
+
+/// Plays all jobs: the last one, which is the first worker's, in the calling thread, and each other
+/// one in a thread of its own. If a thread can't be started, the workers that have not begun play
+/// nothing, the first one among them.
 pub fn play_all<
     W: Threads + Wait + Sync,
     G: Gate + Send + Sync,
@@ -155,65 +262,28 @@ pub fn play_all<
     store: &Store<S>,
     gate: &G,
     rows: &L,
-    halt: &AtomicBool,
     jobs: Vec<Job<S>>,
-    room: WorkersDone<S>,
-) -> WorkersDone<S>
-    requires ready { AllAt (λ k j. IsWorkerAt (vec_len jobs) k j.worker.workers j.worker.number × IsReady (vec_len jobs) j.worker.number (L.lines rows.now) j.desk j.replies.items (vec_capacity j.replies)) jobs.items }
-    requires room { (vec_len room.outcomes ≡ 0) × (vec_len jobs ≤ vec_capacity room.outcomes) × (vec_len room.unstarted ≡ 0) × (vec_len jobs ≤ vec_capacity room.unstarted) }
-    ensures len { vec_len result.outcomes + vec_len result.unstarted ≡ vec_len jobs }
-    ensures each { AllAt (λ k o. (w : ℕ) → w + k + 1 ≡ vec_len result.outcomes → o.completed ≡ true → HasPlayed S.names.opening (vec_len jobs) w (L.lines rows.now) o.desk (answers_of o.replies.items)) result.outcomes.items }
+    outcomes: Vec<Outcome<S>>,
+) -> Vec<Outcome<S>>
+    requires ready { AreReady (L.lines rows.now) jobs }
+    requires room { IsRoomFor (vec_len jobs) outcomes }
+    ensures { AreOutcomes S.names.opening (vec_len jobs) (L.lines rows.now) result }
 {
+    let shared = Shared {
+        rt,
+        alloc,
+        store,
+        gate,
+        rows,
+        halt: AtomicBool::new(false),
+    };
+    let shared = &shared;
     thread::scope(
         thread::scope_env(),
         rt,
-        move |scope| -> WorkersDone<S>
-            requires ready { AllAt (λ k j. IsWorkerAt (vec_len jobs) k j.worker.workers j.worker.number × IsReady (vec_len jobs) j.worker.number (L.lines rows.now) j.desk j.replies.items (vec_capacity j.replies)) jobs.items }
-            requires room { (vec_len room.outcomes ≡ 0) × (vec_len jobs ≤ vec_capacity room.outcomes) × (vec_len room.unstarted ≡ 0) × (vec_len jobs ≤ vec_capacity room.unstarted) }
-            ensures len { vec_len result.outcomes + vec_len result.unstarted ≡ vec_len jobs }
-            ensures each { AllAt (λ k o. (w : ℕ) → w + k + 1 ≡ vec_len result.outcomes → o.completed ≡ true → HasPlayed S.names.opening (vec_len jobs) w (L.lines rows.entry.now) o.desk (answers_of o.replies.items)) result.outcomes.items }
-        {
-            let WorkersDone {
-                outcomes,
-                mut unstarted,
-            } = room;
-            let mut jobs = jobs;
-            let count = jobs.len();
-            let Ok(mut children) = Vec::with_capacity(alloc, count) else {
-                return WorkersDone {
-                    outcomes,
-                    unstarted: add_unstarted(jobs, unstarted),
-                };
-            };
-            let Some(own) = jobs.pop() else {
-                return WorkersDone {
-                    outcomes,
-                    unstarted,
-                };
-            };
-            while let Some(job) = jobs.pop() {
-                let worker = job.worker;
-                let promise = PlaysRows { rows, worker };
-                let there = move || -> Outcome<S>
-                    requires ready { IsReady job.worker.workers job.worker.number (L.lines rows.now) job.desk job.replies.items (vec_capacity job.replies) }
-                    ensures { result.completed ≡ true → HasPlayed S.names.opening job.worker.workers job.worker.number (L.lines rows.entry.now) result.desk (answers_of result.replies.items) }
-                { work(rt, alloc, store, gate, rows, halt, job) };
-                match scope.spawn_with(promise, there) {
-                    Ok(child) => children.push_reserved(child),
-                    Err(refused) => {
-                        halt.store(true, Ordering::SeqCst);
-                        let unplayed = (refused.value)();
-                        unstarted.push_reserved(unplayed.desk);
-                        break;
-                    }
-                }
-            }
-            let unstarted = add_unstarted(jobs, unstarted);
-            let first = work(rt, alloc, store, gate, rows, halt, own);
-            WorkersDone {
-                outcomes: join_all(rt, rows, count, children, first, outcomes),
-                unstarted,
-            }
-        },
+        move |scope| -> Vec<Outcome<S>>
+            requires ready { AreReady (L.lines shared.now.rows.now) jobs }
+            requires room { IsRoomFor (vec_len jobs) outcomes }
+        { play_in(scope, shared, jobs, outcomes) },
     )
 }

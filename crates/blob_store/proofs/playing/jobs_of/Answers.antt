@@ -1,7 +1,8 @@
-use Rattle.std.proofs.Common.{◌≡◌, ◌≤◌, ◌∙◌, [], ap, arith, length, refl, subst, sym, vec_capacity}
+use Rattle.std.proofs.Common.{◌≡◌, ◌∙◌, ap, arith, length, refl, subst, sym, vec_capacity}
 use Rattle.locked_book.specs.History.{AreFresh}
+use Rattle.blob_store.specs.Jobs.{IsReadyAt, IsRoomOfWorker}
 use Rattle.blob_store.specs.Seats.{work_of}
-use Rattle.blob_store.specs.Workers.{AllAt, IsReady, IsWorkerAt}
+use Rattle.blob_store.specs.Workers.{AllAt}
 use Rattle.blob_store.proofs.Settlings.{fresh_work}
 use Rattle.blob_store.proofs.Places.{at_first, at_last, at_pushed}
 use Rattle.locked_book.proofs.Sums.{fresh_left}
@@ -13,24 +14,22 @@ loop-desk-preserved g c =
     let was = c.loop-desk.invariant in
     let n = c.len-workers.result in
     let lines = g.L.RowList.lines c.args.rows.now in
+    let replies = c.in-Some-pop.replies in
     let left = fresh_left c.pop.new.self.items c.in-Some.desk (subst AreFresh c.in-Some.ensures.items was.fresh) in
-    let lists = subst (AllAt (λ w v. (v.items ≡ []) × (length (own_rows n w lines) ≤ vec_capacity v))) c.in-Some-pop.ensures.items was.lists in
-    let mine = at_last (λ w v. (v.items ≡ []) × (length (own_rows n w lines) ≤ vec_capacity v)) c.pop-in-Some.new.self.items c.in-Some-pop.replies lists in
+    let lists = subst (AllAt (IsRoomOfWorker n lines)) c.in-Some-pop.ensures.items was.lists in
+    let mine = at_last (IsRoomOfWorker n lines) c.pop-in-Some.new.self.items replies lists in
     let desk_count = c.in-Some.ensures.len in
     let list_count = c.in-Some-pop.ensures.len in
     let number : length c.pop-in-Some.new.self.items ≡ c.len-number.result = omega (arith, was.both, desk_count, list_count, c.len-number.ensures, c.pop-in-Some.new.self.ok.0) in
-    let ready : IsReady n c.len-number.result lines c.into_droppable.result c.in-Some-pop.replies.items (vec_capacity c.in-Some-pop.replies) = record {
-      fresh = ap work_of c.into_droppable.ensures ∙ fresh_work c.in-Some.desk left.0;
-      empty = mine.0;
-      fits = subst (λ k. length (own_rows n k lines) ≤ vec_capacity c.in-Some-pop.replies) number mine.1;
-    } in
-    let turn : IsWorkerAt n (length c.loop-desk.jobs.items) n c.len-number.result = record {
-      among = refl;
-      turn = omega (arith, was.all, desk_count, c.len-number.ensures, c.loop-desk.jobs.ok.0);
-    } in
+    let exact = subst (λ k. vec_capacity replies ≡ length (own_rows n k lines)) number mine.1 in
     record {
-      jobs = subst (AllAt (λ k j. IsWorkerAt n k j.worker.workers j.worker.number × IsReady n j.worker.number lines j.desk j.replies.items (vec_capacity j.replies))) (sym c.push_reserved.ensures.items) (at_pushed (λ k j. IsWorkerAt n k j.worker.workers j.worker.number × IsReady n j.worker.number lines j.desk j.replies.items (vec_capacity j.replies)) c.loop-desk.jobs.items _ was.jobs (turn, ready));
-      lists = at_first (λ w v. (v.items ≡ []) × (length (own_rows n w lines) ≤ vec_capacity v)) c.pop-in-Some.new.self.items c.in-Some-pop.replies lists;
+      jobs = subst (AllAt (IsReadyAt n lines)) (sym c.push_reserved.ensures.items) (at_pushed (IsReadyAt n lines) c.loop-desk.jobs.items _ was.jobs
+          (record {
+            among = refl;
+            turn = omega (arith, was.all, desk_count, c.len-number.ensures, c.loop-desk.jobs.ok.0);
+            ready = record { fresh = ap work_of c.into_droppable.ensures ∙ fresh_work c.in-Some.desk left.0; empty = mine.0; fits = omega (arith, exact) };
+          }));
+      lists = at_first (IsRoomOfWorker n lines) c.pop-in-Some.new.self.items replies lists;
       fresh = left.1;
       workers = was.workers;
       both = omega (arith, was.both, desk_count, list_count);

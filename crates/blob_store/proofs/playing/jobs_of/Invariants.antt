@@ -1,13 +1,13 @@
-use Rattle.std.proofs.Common.{◌≡◌, [], ◌+◌, ◌≤◌, length, vec_len, vec_capacity}
+use Rattle.std.proofs.Common.{◌≡◌, ◌+◌, ◌≤◌, vec_len, vec_capacity}
 use Rattle.locked_book.specs.History.{AreFresh}
-use Rattle.blob_store.specs.Workers.{AllAt, IsReady, IsWorkerAt}
-use Rattle.row_player.specs.Shares.{own_rows}
+use Rattle.blob_store.specs.Jobs.{IsReadyAt, IsRoomOfWorker}
+use Rattle.blob_store.specs.Workers.{AllAt}
 use Rattle.blob_store.proofs.playing.jobs_of.Given as goal
 
 abbrev pub invariant-loop-desk : goal.invariant-loop-desk
 invariant-loop-desk g l = record {
-  jobs : AllAt (λ k j. IsWorkerAt l.workers k j.worker.workers j.worker.number × IsReady l.workers j.worker.number (g.L.RowList.lines l.rows) j.desk j.replies.items (vec_capacity j.replies)) l.jobs.items;
-  lists : AllAt (λ w v. (v.items ≡ []) × (length (own_rows l.workers w (g.L.RowList.lines l.rows)) ≤ vec_capacity v)) l.lists.items;
+  jobs : AllAt (IsReadyAt l.workers (g.L.RowList.lines l.rows)) l.jobs.items;
+  lists : AllAt (IsRoomOfWorker l.workers (g.L.RowList.lines l.rows)) l.lists.items;
   fresh : AreFresh l.desks.items;
   workers : l.workers ≡ vec_len l.fn.desks;
   both : vec_len l.lists ≡ vec_len l.desks;

@@ -11,12 +11,12 @@ use Rattle.blob_store.proofs.workers.work.Goals as goal
 
 pub returns-in-Ok : goal.returns-in-Ok
 returns-in-Ok g c = λ _.
-    let lines = own_rows c.args.job.worker.workers c.args.job.worker.number (g.L.RowList.lines c.args.rows.now) in
+    let lines = own_rows c.args.job.worker.workers c.args.job.worker.number (g.L.RowList.lines c.args.shared.now.rows.now) in
     let answers = answers_of c.in-Ok.replies.items in
     let played = c.in-Ok.ensures.played in
     let new = c.play_rows-played.new.backend in
     let shown = plays_through (λ seat. work_of seat.desk) (λ old request answer new. SeatActs g.S.Naming.names old.desk request answer new.desk) WorkActs (λ old request answer new acts. acts.work) (_, none) (new, played.0) lines answers played.1 in
-    let begun = subst (λ d. Plays WorkActs (d, none) lines answers (work_of new.desk, played.0)) (ap work_of c.into_desk.ensures ∙ c.requires.ready.fresh) shown in
+    let begun = subst (λ d. Plays WorkActs (d, none) lines answers (work_of new.desk, played.0)) (ap work_of c.into_desk.ensures ∙ c.requires.fresh) shown in
     record {
       played = (played.0, subst (λ d. Plays WorkActs (no_work, none) lines answers (d, played.0)) (ap work_of (sym c.into_droppable.ensures)) begun);
       part = subst (λ d. IsPart g.S.Naming.names.opening d.trace) (sym c.into_droppable.ensures) c.audit.ensures;
