@@ -6,14 +6,15 @@ use Rattle.std.proofs.lemmas.Bool.{ltb-true}
 use Rattle.blob_digest.specs.Digests.{sha256_text}
 use Rattle.blob_digest.specs.declared.refusal.Refusal.{Refusal}
 use Rattle.blob_digest.specs.declared.refusal.Refusal.TheVariants.{LimitReached, ManifestBlobUnknown, ManifestInvalid, Memory, NameUnknown, SizeInvalid}
-use Rattle.blob_digest.specs.Outcomes.{Does}
 use Rattle.finite_maps.specs.Outcomes.{◌>>=◌, refuse}
 use Rattle.oci_manifest.specs.Manifests.{max_manifest, refs_of}
 use Rattle.finite_maps.specs.Texts.{Text}
 use Rattle.store_model.specs.Catalog.{Catalog, holds, tenant_of}
-use Rattle.store_model.specs.Commands.{add_manifest, all_linked, has_manifest, is_full_of_manifests, lacks_room_for, put_manifest, tenant}
-use Rattle.locked_book.specs.Counting.{Content, counted, has_room}
-use Rattle.store_model.specs.Amounts.{Amounts}
+use Rattle.store_model.specs.Commands.{Outcome, add_manifest, all_linked, has_manifest, is_full_of_manifests, lacks_room_for, put_manifest, tenant}
+use Rattle.store_model.specs.Runs.{Answer, Bytes, PutManifest, answered, outcome}
+use Rattle.locked_book.specs.Calls.{reply}
+use Rattle.locked_book.specs.Counting.{Content, has_room}
+use Rattle.locked_book.specs.Performing.{HasOutcome, performed}
 
 -- not what bytes are refused for that are no manifest, or too many
 abbrev pub IsOther : Refusal → Type 0
@@ -64,13 +65,19 @@ of_put C repo m fits some =
       | false ↦ past (refuse (lacks_room_for C t repo) LimitReached) _ (limit (lacks_room_for C t repo)) (λ _. past (refuse (is_full_of_manifests C repo) LimitReached) _ (limit (is_full_of_manifests C repo)) (λ _. tt))
     ]))))
 
+-- what a command answers is refused for what its outcome is refused for
+of_answer : {A B : Type 0} (f : A → B) (o : Outcome A) → IsRefusedForOther o → IsRefusedForOther (answered f o)
+of_answer f (Ok a) other = tt
+of_answer f (Err e) other = other
+
 -- a manifest that was read is put, or refused for something else
-put_refused : {A : Type 0} (view : A → Text) (r : Result A Refusal) (amounts : Text → Amounts) (old new : Content × Amounts) (repo m : Text) → (max_manifest < length m → ⊥) → IsSome (refs_of m)
-    → Does view r old new (counted amounts (λ C. put_manifest C repo m) old) → IfErr r IsOther
-put_refused view (Ok a) amounts old new repo m fits some does = tt
-put_refused view (Err e) amounts old new repo m fits some does =
-    let all : IsRefusedForOther (counted amounts (λ C. put_manifest C repo m) old) =
-    past (refuse (not (has_room old.0 0)) LimitReached) _ (limit (not (has_room old.0 0))) (λ _. past (put_manifest old.0.book.catalog repo m) _ (of_put old.0.book.catalog repo m fits some) (λ done. tt)) in (
+put_refused : {A : Type 0} (view : A → Answer) (r : Result A Refusal) (old new : Content) (repo m : Text) → (max_manifest < length m → ⊥) → IsSome (refs_of m)
+    → HasOutcome (PutManifest repo m) (reply view r) old new → IfErr r IsOther
+put_refused view (Ok a) old new repo m fits some does = tt
+put_refused view (Err e) old new repo m fits some does =
+    let all : IsRefusedForOther (performed false (PutManifest repo m) old) =
+    past (refuse (not (has_room old 0)) LimitReached) _ (limit (not (has_room old 0))) (λ _.
+    past (outcome false old.book.catalog (PutManifest repo m)) _ (of_answer Bytes (put_manifest old.book.catalog repo m) (of_put old.book.catalog repo m fits some)) (λ done. tt)) in (
       λ is. (subst IsRefusedForOther (does.0 (λ memory. different_size (sym is ∙ memory))) all).0 is,
       λ is. (subst IsRefusedForOther (does.0 (λ memory. different_manifest (sym is ∙ memory))) all).1 is,
     )
@@ -81,10 +88,10 @@ put_refused view (Err e) amounts old new repo m fits some does =
     different_manifest : ◌≡◌ {A = Refusal} ManifestInvalid Memory → ⊥
     different_manifest h = absurd cc
 
-module _ {A : Type 0} (view : A → Text) (r : Result A Refusal) (amounts : Text → Amounts) (old new : Content × Amounts) (repo m bytes : Text) (same : m ≡ bytes) (fits : max_manifest < length bytes → ⊥) (some : IsSome (refs_of bytes))
-    (does : Does view r old new (counted amounts (λ C. put_manifest C repo m) old)) where
+module _ {A : Type 0} (view : A → Answer) (r : Result A Refusal) (old new : Content) (repo m bytes : Text) (same : m ≡ bytes) (fits : max_manifest < length bytes → ⊥) (some : IsSome (refs_of bytes))
+    (does : HasOutcome (PutManifest repo m) (reply view r) old new) where
   other : IfErr r IsOther
-  other = put_refused view r amounts old new repo m (subst (λ (x : Text). max_manifest < length x → ⊥) (sym same) fits) (subst (λ (x : Text). IsSome (refs_of x)) (sym same) some) does
+  other = put_refused view r old new repo m (subst (λ (x : Text). max_manifest < length x → ⊥) (sym same) fits) (subst (λ (x : Text). IsSome (refs_of x)) (sym same) some) does
 
   pub no_size : (P : Type 0) → IfErr r (λ e. e ≡ SizeInvalid → P)
   no_size P = by r other

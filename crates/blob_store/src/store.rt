@@ -11,7 +11,7 @@ ghost use Rattle.std.specs.Option.{option_copied};
 ghost use Rattle.store_model.specs.Histories.{Performed, Cleaned};
 ghost use Rattle.store_model.specs.Runs.{Start, Status, Abandon, Mount as MountCommand, Delete, PutManifest, GetManifest, DeleteManifest, Lease as LeaseCommand, Number, Mounting, Bytes, Done};
 ghost use Rattle.locked_book.specs.Calls.{reply};
-ghost use Rattle.locked_book.specs.History.{Adds, Appends, AreFresh, AreInOneHistory, Closes, OneBegins, amounts_of};
+ghost use Rattle.locked_book.specs.History.{Appends, AreFresh, AreInOneHistory, Closes, Makes, OneBegins, amounts_of};
 ghost use Rattle.locked_book.specs.Found.{AreTotalsOfSome, InSomeBook, IsSweepOfSome};
 ghost use Rattle.blob_store.specs.Parts.{names_of};
 ghost use Rattle.store_model.specs.Amounts.{nothing, plus, one, sum_of};
@@ -36,8 +36,9 @@ use store_book::{Mount, Swept};
 ///
 /// Each command is the lock around one function of `LockedBook`, of the same name, whose contract says what it does
 /// to the book and the totals; `append`, `close` and `put_manifest` are the lock around two of them, and copy
-/// and hash between the two without it. Here it is said what a command does to the desk of its caller, and, in its
-/// clause `history`, that it is a step of the store's history, with this reply. All of them may wait for the lock.
+/// and hash between the two without it. The contract here says that the caller's desk makes the step that the command
+/// is, with this reply (`Makes`): its amounts grow by what the step counts, and just this step is added to the store's
+/// history. All of them may wait for the lock.
 ///
 /// A command can't be counted where, with those in hand, 2^64 would be accepted or 2^64 bytes received.
 #[derive(Drop)]
@@ -179,9 +180,8 @@ impl<S: Naming> Store<S> {
     /// (`NameUnknown`); a tenant that has 1,024 repositories where this one is new, or 64 sessions, or no session
     /// number left (`LimitReached`); out of memory.
     pub fn start(&self, rt: &impl Wait, desk: &mut Desk<S>, repo: &RepoName) -> Result<u32, Refusal>
-        ensures ok { OnOk result (desk.new.amounts ≡ plus desk.old.amounts (one 0 0 0)) }
-        ensures err { OnErr result (desk.new.amounts ≡ desk.old.amounts) }
-        ensures history { Adds S.names.opening desk.old.trace (Performed (Start repo.now) (reply Number result)) desk.new.trace }
+        ensures { Makes S.names.opening (Performed (Start repo.now) (reply Number result))
+            desk.old desk.new }
     {
         self.locked(rt).start(desk, repo)
     }
@@ -198,9 +198,8 @@ impl<S: Naming> Store<S> {
         repo: &RepoName,
         number: u32,
     ) -> Result<u64, Refusal>
-        ensures ok { OnOk result (desk.new.amounts ≡ plus desk.old.amounts (one 0 0 0)) }
-        ensures err { OnErr result (desk.new.amounts ≡ desk.old.amounts) }
-        ensures history { Adds S.names.opening desk.old.trace (Performed (Status repo.now number) (reply Number result)) desk.new.trace }
+        ensures { Makes S.names.opening (Performed (Status repo.now number) (reply Number result))
+            desk.old desk.new }
     {
         self.locked(rt).status(desk, repo, number)
     }
@@ -288,9 +287,8 @@ impl<S: Naming> Store<S> {
         repo: &RepoName,
         number: u32,
     ) -> Result<u64, Refusal>
-        ensures ok { IfOk result (λ n. desk.new.amounts ≡ plus desk.old.amounts (one 0 0 n)) }
-        ensures err { OnErr result (desk.new.amounts ≡ desk.old.amounts) }
-        ensures history { Adds S.names.opening desk.old.trace (Performed (Abandon repo.now number) (reply Number result)) desk.new.trace }
+        ensures { Makes S.names.opening (Performed (Abandon repo.now number) (reply Number result))
+            desk.old desk.new }
     {
         self.locked(rt).abandon(desk, repo, number)
     }
@@ -311,9 +309,9 @@ impl<S: Naming> Store<S> {
         digest: &Digest,
         from: Option<&RepoName>,
     ) -> Result<Mount, Refusal>
-        ensures ok { OnOk result (desk.new.amounts ≡ plus desk.old.amounts (one 0 0 0)) }
-        ensures err { OnErr result (desk.new.amounts ≡ desk.old.amounts) }
-        ensures history { Adds S.names.opening desk.old.trace (Performed (MountCommand repo.now digest.now (option_copied from.entry)) (reply Mounting result)) desk.new.trace }
+        ensures { Makes S.names.opening
+            (Performed (MountCommand repo.now digest.now (option_copied from.entry)) (reply Mounting result))
+            desk.old desk.new }
     {
         self.locked(rt).mount(desk, repo, digest, from)
     }
@@ -331,9 +329,8 @@ impl<S: Naming> Store<S> {
         repo: &RepoName,
         digest: &Digest,
     ) -> Result<(), Refusal>
-        ensures ok { OnOk result (desk.new.amounts ≡ plus desk.old.amounts (one 0 0 0)) }
-        ensures err { OnErr result (desk.new.amounts ≡ desk.old.amounts) }
-        ensures history { Adds S.names.opening desk.old.trace (Performed (Delete repo.now digest.now) (reply (λ _. Done) result)) desk.new.trace }
+        ensures { Makes S.names.opening
+            (Performed (Delete repo.now digest.now) (reply (λ _. Done) result)) desk.old desk.new }
     {
         self.locked(rt).delete(desk, repo, digest)
     }
@@ -354,9 +351,8 @@ impl<S: Naming> Store<S> {
         repo: &RepoName,
         bytes: &[u8],
     ) -> Result<Digest, Refusal>
-        ensures ok { OnOk result (desk.new.amounts ≡ plus desk.old.amounts (one 0 0 0)) }
-        ensures err { OnErr result (desk.new.amounts ≡ desk.old.amounts) }
-        ensures history { Adds S.names.opening desk.old.trace (Performed (PutManifest repo.now bytes.now) (reply Bytes result)) desk.new.trace }
+        ensures makes { Makes S.names.opening
+            (Performed (PutManifest repo.now bytes.now) (reply Bytes result)) desk.old desk.new }
         ensures digest { IfOk result (λ d. d ≡ sha256_text bytes.now) }
         ensures too_long { max_manifest < length bytes.now → MatchResult result (λ _. ⊥) (λ e. (e ≡ LimitReached) ⊎ (e ≡ NameUnknown) ⊎ (e ≡ SizeInvalid)) }
         ensures size { IfErr result (λ e. e ≡ SizeInvalid → max_manifest < length bytes.now) }
@@ -382,9 +378,9 @@ impl<S: Naming> Store<S> {
         repo: &RepoName,
         digest: &Digest,
     ) -> Result<Arc<Manifest, Global>, Refusal>
-        ensures ok { OnOk result (desk.new.amounts ≡ plus desk.old.amounts (one 0 0 0)) }
-        ensures err { OnErr result (desk.new.amounts ≡ desk.old.amounts) }
-        ensures history { Adds S.names.opening desk.old.trace (Performed (GetManifest repo.now digest.now) (reply (λ m. Bytes (arc_value m)) result)) desk.new.trace }
+        ensures makes { Makes S.names.opening
+            (Performed (GetManifest repo.now digest.now) (reply (λ m. Bytes (arc_value m)) result))
+            desk.old desk.new }
         ensures digest { IfOk result (λ m. sha256_text (arc_value m) ≡ digest.now) }
     {
         self.locked(rt).get_manifest(desk, repo, digest)
@@ -402,9 +398,9 @@ impl<S: Naming> Store<S> {
         repo: &RepoName,
         digest: &Digest,
     ) -> Result<(), Refusal>
-        ensures ok { OnOk result (desk.new.amounts ≡ plus desk.old.amounts (one 0 0 0)) }
-        ensures err { OnErr result (desk.new.amounts ≡ desk.old.amounts) }
-        ensures history { Adds S.names.opening desk.old.trace (Performed (DeleteManifest repo.now digest.now) (reply (λ _. Done) result)) desk.new.trace }
+        ensures { Makes S.names.opening
+            (Performed (DeleteManifest repo.now digest.now) (reply (λ _. Done) result))
+            desk.old desk.new }
     {
         self.locked(rt).delete_manifest(desk, repo, digest)
     }
@@ -421,9 +417,9 @@ impl<S: Naming> Store<S> {
         repo: &RepoName,
         digest: &Digest,
     ) -> Result<Lease<'_, S>, Refusal>
-        ensures ok { OnOk result (desk.new.amounts ≡ plus desk.old.amounts (one 0 0 0)) }
-        ensures err { OnErr result (desk.new.amounts ≡ desk.old.amounts) }
-        ensures history { Adds S.names.opening desk.old.trace (Performed (LeaseCommand repo.now digest.now) (reply (λ l. Bytes l.bytes) result)) desk.new.trace }
+        ensures makes { Makes S.names.opening
+            (Performed (LeaseCommand repo.now digest.now) (reply (λ l. Bytes l.bytes) result))
+            desk.old desk.new }
         ensures leased { IfOk result (λ l. (l.hold.digest ≡ digest.now) × (l.hold.weight ≡ 1024)) }
     {
         let (pin, blob) = self.locked(rt).lease(&self.pins, desk, repo, digest)?;
@@ -441,8 +437,7 @@ impl<S: Naming> Store<S> {
 
     /// Sweeps as `sweep` does, for whoever has a desk: the sweep is a step of the desk's. It takes no memory.
     pub fn sweep_at(&self, rt: &impl Wait, desk: &mut Desk<S>) -> Swept
-        ensures same { desk.new.amounts ≡ desk.old.amounts }
-        ensures history { Adds S.names.opening desk.old.trace (Cleaned result) desk.new.trace }
+        ensures { Makes S.names.opening (Cleaned result) desk.old desk.new }
     {
         self.locked(rt).sweep_at(&self.pins, desk)
     }

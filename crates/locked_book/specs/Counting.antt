@@ -1,17 +1,14 @@
 -- What lies under the lock, and what a command answers there and counts.
-use Rattle.std.specs.Prelude.{◌≡◌, ℕ, ◌+◌, ◌^◌, ◌<◌, nat_lt, ◌==◌, ◌&&◌, ◌||◌, not, Bool, true, List, Result, Ok, length}
+use Rattle.std.specs.Prelude.{◌≡◌, ℕ, ◌+◌, ◌^◌, ◌<◌, nat_lt, ◌==◌, ◌&&◌, ◌||◌, not, Bool, List, Ok, length}
 use Rattle.std.proofs.Common.{refl}
 use Rattle.std.specs.Coded.{Coded, code_by, coded×, coded_ℕ}
 use Rattle.blob_digest.specs.declared.refusal.Refusal.TheVariants.{LimitReached}
-use Rattle.blob_digest.specs.declared.refusal.Refusal.{Refusal}
-use Rattle.blob_digest.specs.Outcomes.{Does, OutcomeIn}
+use Rattle.blob_digest.specs.Outcomes.{OutcomeIn}
 use Rattle.finite_maps.specs.Outcomes.{◌>>=◌, refuse}
-use Rattle.finite_maps.specs.Texts.{Text}
 use Rattle.store_model.specs.Catalog.{Catalog}
 use Rattle.store_book.specs.BookState.{BookState, SlotSeen, coded_state}
-use Rattle.store_book.specs.SlotSteps.{IsCrowded}
-use Rattle.store_model.specs.Commands.{Outcome, lease}
-use Rattle.store_model.specs.Amounts.{Amounts, coded_amounts, one, plus}
+use Rattle.store_model.specs.Commands.{Outcome}
+use Rattle.store_model.specs.Amounts.{Amounts, coded_amounts, plus}
 use Rattle.store_model.specs.Hands.{in_hand, received_in_sessions, reserved}
 use Rattle.locked_book.specs.Names.{StoreNames, setting_of}
 use Rattle.locked_book.specs.Totals.{Counts}
@@ -59,9 +56,9 @@ with_catalog k C = record k { book = record k.book { catalog = C } }
 abbrev pub with_slots : Content → List SlotSeen → Content
 with_slots k slots = record k { book = record k.book { slots = slots } }
 
--- the content and a desk after an accepted command of these amounts
-abbrev pub with_counted : Content × Amounts → Catalog → Amounts → Content × Amounts
-with_counted at C a = (record (with_catalog at.0 C) { counts = record at.0.counts { totals = plus at.0.counts.totals a } }, plus at.1 a)
+-- the content after an accepted command of these amounts
+abbrev pub with_counted : Content → Catalog → Amounts → Content
+with_counted k C a = record (with_catalog k C) { counts = record k.counts { totals = plus k.counts.totals a } }
 
 -- a step on the catalog, of which nothing is counted
 abbrev pub uncounted : {A : Type 0} → (Catalog → Outcome A) → Content → OutcomeIn Content A
@@ -69,29 +66,17 @@ uncounted step k = do
   done ← step k.book.catalog
   Ok (done.0, with_catalog k done.1)
 
--- a step on the catalog whose answer, once accepted, is counted by its amounts in the totals and in a desk
-abbrev pub accepted : {A : Type 0} → (A → Amounts) → (Catalog → Outcome A) → Content × Amounts → OutcomeIn (Content × Amounts) A
-accepted amounts step at = do
-  done ← step at.0.book.catalog
-  Ok (done.0, with_counted at done.1 (amounts done.0))
-
--- the same where, before all else, one more command can be counted
-abbrev pub counted : {A : Type 0} → (A → Amounts) → (Catalog → Outcome A) → Content × Amounts → OutcomeIn (Content × Amounts) A
-counted amounts step at = do
-  _ ← refuse (not (has_room at.0 0)) LimitReached
-  accepted amounts step at
+-- a step on the catalog whose answer, once accepted, is counted by its amounts in the totals
+abbrev pub accepted : {A : Type 0} → (A → Amounts) → (Catalog → Outcome A) → Content → OutcomeIn Content A
+accepted amounts step k = do
+  done ← step k.book.catalog
+  Ok (done.0, with_counted k done.1 (amounts done.0))
 
 -- a step that takes a session in hand for n bytes: it can be counted once it is accepted
 abbrev pub reserving : {A : Type 0} → ℕ → (Catalog → Outcome A) → Content → OutcomeIn Content A
 reserving n step k = do
   _ ← refuse (not (has_room k n)) LimitReached
   uncounted step k
-
--- an answer that changes nothing
-abbrev pub unchanged : {A : Type 0} → Result A Refusal → Catalog → Outcome A
-unchanged answer C = do
-  a ← answer
-  Ok (a, C)
 
 -- whether so many more desks can't be handed out
 abbrev pub cannot_hand_out : Content → ℕ → Bool
@@ -102,10 +87,3 @@ abbrev pub handing_out : ℕ → Content → OutcomeIn Content (Unit {0})
 handing_out n k = do
   _ ← refuse (cannot_hand_out k n) LimitReached
   Ok (tt, record k { counts = record k.counts { desks = k.counts.desks + n } })
-
--- A lease does what its definition says, counted. It is refused for its readers only where a look found no room for one more. What it does
--- to the slots is left out here.
-pub record Lends {A : Type 0} (view : A → Text) (result : Result A Refusal) (old new : Content × Amounts) (repo digest : Text) : Type 0 where
-  pub crowded : Bool
-  pub does : Does view result old (with_slots new.0 old.0.book.slots, new.1) (counted (λ _. one 0 0 0) (λ C. lease crowded C repo digest) old)
-  pub look : crowded ≡ true → IsCrowded digest new.0.book.slots

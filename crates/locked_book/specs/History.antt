@@ -7,9 +7,9 @@ use Rattle.finite_maps.specs.Texts.{Text}
 use Rattle.oci_manifest.specs.Manifests.{refs_of, max_manifest}
 use Rattle.shared_log.specs.declared.view.Entry.{Entry}
 use Rattle.shared_log.specs.Entries.{IsPrefix, entry, events_by}
-use Rattle.store_model.specs.Amounts.{Amounts, nothing}
+use Rattle.store_model.specs.Amounts.{Amounts, nothing, plus}
 use Rattle.store_model.specs.Catalog.{Catalog, Taken}
-use Rattle.store_model.specs.Histories.{Step, Took, PutBack, Finished, State, LeadsTo, IsLegal}
+use Rattle.store_model.specs.Histories.{Step, Took, PutBack, Finished, State, LeadsTo, IsLegal, step_amounts}
 use Rattle.locked_book.specs.Counting.{Content}
 
 -- the steps of a log, whoever made them
@@ -70,6 +70,11 @@ pub record Adds (C : Catalog) (old : Trace) (step : Step) (new : Trace) : Type 0
   pub number : new.number ≡ old.number
   pub agrees : events_by new.number new.seen ≡ new.own
   pub legal : IsLegal C (steps_of new.seen)
+
+-- A desk made this step: it got what the step counts, and just this step was added to the history.
+pub record Makes (C : Catalog) (step : Step) (old new : DeskView) : Type 0 where
+  pub amounts : new.amounts ≡ plus old.amounts (step_amounts step)
+  pub adds : Adds C old.trace step new.trace
 
 -- Just this step was added by a writer that had made none before, at the end of a history that leads to one state, and with the step to another.
 pub record AddsByNobody (C : Catalog) (before : State) (step : Step) (after : State) : Type 0 where

@@ -4,3 +4,4 @@ pub mod Names
 pub mod Found
 pub mod History
 pub mod Calls
+pub mod Performing

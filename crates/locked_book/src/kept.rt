@@ -14,12 +14,16 @@ ghost use Rattle.store_model.specs.Invariant.{Sound};
 ghost use Rattle.store_book.specs.Pinned.{blob_bytes, blob_digest};
 ghost use Rattle.store_model.specs.BookText.{book_text};
 ghost use Rattle.store_book.specs.SlotSteps.{EachSlot, HasLast, HasPin, IsHousing, IsLending, IsQuiet, IsStill, IsSweptSlot, ReadsWord};
-ghost use Rattle.store_model.specs.Commands.{check_tenant, start, status, abandon, mount, delete, put_manifest, get_manifest, delete_manifest, take, put_back, finish, after_cancel};
+ghost use Rattle.store_model.specs.Commands.{check_tenant, take, put_back, finish, after_cancel};
+ghost use Rattle.store_model.specs.Histories.{Finished, PutBack, step_amounts};
+ghost use Rattle.store_model.specs.Runs.{Start, Status, Abandon, Mount as MountCommand, Delete, PutManifest, GetManifest, DeleteManifest, Lease, Number, Mounting, Bytes, Done};
+ghost use Rattle.locked_book.specs.Calls.{reply};
+ghost use Rattle.locked_book.specs.Performing.{IsCounted};
 ghost use Rattle.store_model.specs.Sweep.{IsSweep};
 ghost use Rattle.locked_book.specs.Names.{setting_of};
 ghost use Rattle.store_model.specs.Amounts.{nothing, plus, one, sum_of};
 ghost use Rattle.store_model.specs.Hands.{received_in_sessions, filled_length};
-ghost use Rattle.locked_book.specs.Counting.{IsBalanced, Lends, cannot_hand_out, has_room, with_catalog, with_slots, uncounted, accepted, counted, reserving, handing_out, unchanged};
+ghost use Rattle.locked_book.specs.Counting.{IsBalanced, cannot_hand_out, has_room, with_catalog, with_slots, uncounted, accepted, reserving, handing_out};
 
 use crate::counters::Counters;
 use crate::desk::Settled;
@@ -114,7 +118,8 @@ impl<S: Naming> Kept<S> {
     /// Opens a session, as `Book::start` does, and counts it. Before all else it is refused, as
     /// `LimitReached`, where one more command can't be counted.
     pub fn start(&mut self, desk: &mut Tally<S>, repo: &RepoName) -> Result<u32, Refusal>
-        ensures does { Does (λ n. n) result (self.old, desk.old) (self.new, desk.new) (counted (λ _. one 0 0 0) (λ catalog. start catalog repo.now) (self.old, desk.old)) }
+        ensures does { IsCounted (Start repo.now) (reply Number result)
+            self.old self.new desk.old desk.new }
     {
         self.room(0)?;
         self.book.audit();
@@ -130,7 +135,8 @@ impl<S: Naming> Kept<S> {
         repo: &RepoName,
         number: u32,
     ) -> Result<u64, Refusal>
-        ensures does { DoesExactly (λ n. n) result (self.old, desk.old) (self.new, desk.new) (counted (λ _. one 0 0 0) (λ catalog. unchanged (status catalog repo.now number) catalog) (self.old, desk.old)) }
+        ensures does { IsCounted (Status repo.now number) (reply Number result)
+            self.old self.new desk.old desk.new }
     {
         self.room(0)?;
         let received = self.book.status(repo, number)?;
@@ -145,7 +151,8 @@ impl<S: Naming> Kept<S> {
         repo: &RepoName,
         number: u32,
     ) -> Result<u64, Refusal>
-        ensures does { DoesExactly (λ n. n) result (self.old, desk.old) (self.new, desk.new) (counted (λ n. one 0 0 n) (λ catalog. abandon catalog repo.now number) (self.old, desk.old)) }
+        ensures does { IsCounted (Abandon repo.now number) (reply Number result)
+            self.old self.new desk.old desk.new }
     {
         self.room(0)?;
         let length = self.book.abandon(repo, number)?;
@@ -162,7 +169,9 @@ impl<S: Naming> Kept<S> {
         digest: &Digest,
         from: Option<&RepoName>,
     ) -> Result<Mount, Refusal>
-        ensures does { Does (λ m. m) result (self.old, desk.old) (self.new, desk.new) (counted (λ _. one 0 0 0) (λ catalog. mount catalog repo.now digest.now (option_copied from.entry)) (self.old, desk.old)) }
+        ensures does { IsCounted (MountCommand repo.now digest.now (option_copied from.entry))
+            (reply Mounting result)
+            self.old self.new desk.old desk.new }
     {
         self.room(0)?;
         self.book.audit();
@@ -178,7 +187,8 @@ impl<S: Naming> Kept<S> {
         repo: &RepoName,
         digest: &Digest,
     ) -> Result<(), Refusal>
-        ensures does { DoesExactly (λ u. u) result (self.old, desk.old) (self.new, desk.new) (counted (λ _. one 0 0 0) (λ catalog. delete catalog repo.now digest.now) (self.old, desk.old)) }
+        ensures does { IsCounted (Delete repo.now digest.now) (reply (λ _. Done) result)
+            self.old self.new desk.old desk.new }
     {
         self.room(0)?;
         self.book.delete(repo, digest)?;
@@ -202,7 +212,8 @@ impl<S: Naming> Kept<S> {
         repo: &RepoName,
         manifest: Manifest,
     ) -> Result<Digest, Refusal>
-        ensures does { Does (λ d. d) result (self.old, desk.old) (self.new, desk.new) (counted (λ _. one 0 0 0) (λ catalog. put_manifest catalog repo.now manifest) (self.old, desk.old)) }
+        ensures does { IsCounted (PutManifest repo.now manifest) (reply Bytes result)
+            self.old self.new desk.old desk.new }
         ensures digest { IfOk result (λ d. d ≡ sha256_text manifest) }
     {
         self.room(0)?;
@@ -218,7 +229,9 @@ impl<S: Naming> Kept<S> {
         repo: &RepoName,
         digest: &Digest,
     ) -> Result<Arc<Manifest, Global>, Refusal>
-        ensures does { Does (λ m. arc_value m) result (self.old, desk.old) (self.new, desk.new) (counted (λ _. one 0 0 0) (λ catalog. unchanged (get_manifest catalog repo.now digest.now) catalog) (self.old, desk.old)) }
+        ensures does { IsCounted (GetManifest repo.now digest.now)
+            (reply (λ m. Bytes (arc_value m)) result)
+            self.old self.new desk.old desk.new }
         ensures digest { IfOk result (λ m. sha256_text (arc_value m) ≡ digest.now) }
     {
         self.room(0)?;
@@ -235,7 +248,8 @@ impl<S: Naming> Kept<S> {
         repo: &RepoName,
         digest: &Digest,
     ) -> Result<(), Refusal>
-        ensures does { DoesExactly (λ u. u) result (self.old, desk.old) (self.new, desk.new) (counted (λ _. one 0 0 0) (λ catalog. delete_manifest catalog repo.now digest.now) (self.old, desk.old)) }
+        ensures does { IsCounted (DeleteManifest repo.now digest.now) (reply (λ _. Done) result)
+            self.old self.new desk.old desk.new }
     {
         self.room(0)?;
         self.book.delete_manifest(repo, digest)?;
@@ -253,7 +267,9 @@ impl<S: Naming> Kept<S> {
         digest: &Digest,
     ) -> Result<(Pin, Arc<Blob, Global>), Refusal>
         requires table { pins.now ≡ S.names.table }
-        ensures does { Lends (λ r. blob_bytes (arc_value r.1)) result (self.old, desk.old) (self.new, desk.new) repo.now digest.now }
+        ensures does { IsCounted (Lease repo.now digest.now)
+            (reply (λ r. Bytes (blob_bytes (arc_value r.1))) result)
+            self.old self.new desk.old desk.new }
         ensures pin { IfOk result (λ r. (r.0.table ≡ S.names.table) × (r.0.hold.digest ≡ digest.now) × (r.0.hold.weight ≡ 1024)) }
         ensures content { IfOk result (λ r. is_digest_of digest.now (blob_bytes (arc_value r.1)) ≡ true) }
         ensures blob { IfOk result (λ r. blob_digest (arc_value r.1) ≡ digest.now) }
@@ -331,7 +347,9 @@ impl<S: Naming> Kept<S> {
     /// the command with that chunk's bytes.
     pub fn put_back(&mut self, desk: &mut Tally<S>, hand: Hand) -> Result<u64, Refusal>
         requires filled { hand.last ≢ None }
-        ensures does { DoesExactly (λ n. n) result (self.old, desk.old) (self.new, desk.new) (accepted (λ _. one (filled_length hand) 0 0) (λ catalog. put_back catalog hand) (self.old, desk.old)) }
+        ensures does { DoesExactly (λ n. n) result self.old self.new
+            (accepted (λ _. one (filled_length hand) 0 0) (λ catalog. put_back catalog hand) self.old) }
+        ensures amounts { desk.new ≡ plus desk.old (step_amounts (PutBack hand result)) }
         ensures length { IfOk result (λ n. n ≡ sum_by length hand.chunks + filled_length hand) }
     {
         let reserved = hand.reserved();
@@ -365,7 +383,11 @@ impl<S: Naming> Kept<S> {
     ) -> Result<u64, Refusal>
         requires table { pins.now ≡ S.names.table }
         requires full { IsFull hand }
-        ensures does { Does (λ n. n) result (with_catalog self.old (after_cancel self.old.book.catalog hand), desk.old) (with_slots self.new self.old.book.slots, desk.new) (accepted (λ n. one (filled_length hand) n 0) (λ catalog. finish catalog hand digest.now) (self.old, desk.old)) }
+        ensures does { Does (λ n. n) result
+            (with_catalog self.old (after_cancel self.old.book.catalog hand))
+            (with_slots self.new self.old.book.slots)
+            (accepted (λ n. one (filled_length hand) n 0) (λ catalog. finish catalog hand digest.now) self.old) }
+        ensures amounts { desk.new ≡ plus desk.old (step_amounts (Finished hand digest.now result)) }
         ensures length { IfOk result (λ n. n ≡ sum_by length hand.chunks + filled_length hand) }
         ensures slots { EachSlot IsQuiet self.old.book.slots self.new.book.slots }
         ensures housed { OnOk result (EachSlot (IsHousing digest.now) self.old.book.slots self.new.book.slots) }

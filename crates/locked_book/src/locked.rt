@@ -10,7 +10,7 @@ ghost use Rattle.blob_digest.specs.Outcomes.{Does, DoesExactly};
 ghost use Rattle.blob_digest.specs.declared.refusal.Refusal.TheVariants.{LimitReached};
 ghost use Rattle.store_model.specs.Amounts.{nothing, one};
 ghost use Rattle.store_model.specs.BookText.{book_text};
-ghost use Rattle.store_model.specs.Commands.{check_tenant, start, status, abandon, mount, delete, put_manifest, get_manifest, delete_manifest, take, put_back, finish, after_cancel};
+ghost use Rattle.store_model.specs.Commands.{check_tenant, take, put_back, finish, after_cancel};
 ghost use Rattle.store_model.specs.Hands.{filled_length};
 ghost use Rattle.store_model.specs.Histories.{Performed, Cleaned, Took, PutBack, Finished};
 ghost use Rattle.store_model.specs.Runs.{Start, Status, Abandon, Mount as MountCommand, Delete, PutManifest, GetManifest, DeleteManifest, Lease, Number, Mounting, Bytes, Done};
@@ -19,10 +19,11 @@ ghost use Rattle.store_model.specs.Sweep.{IsSweep};
 ghost use Rattle.store_book.specs.Pinned.{blob_bytes, blob_digest};
 ghost use Rattle.store_book.specs.SlotSteps.{EachSlot, HasPin, IsStill, ReadsWord};
 ghost use Rattle.locked_book.specs.Calls.{reply};
-ghost use Rattle.locked_book.specs.Counting.{IsBalanced, Lends, has_room, with_catalog, with_slots, uncounted, accepted, counted, reserving, unchanged};
+ghost use Rattle.locked_book.specs.Counting.{IsBalanced, has_room, with_catalog, with_slots, uncounted, accepted, reserving};
 ghost use Rattle.locked_book.specs.Found.{IsBookOf, IsContentOf, IsSweepOf};
-ghost use Rattle.locked_book.specs.History.{Adds, AreInOneHistory, IsUnread, Leaves, OneBegins, state_of};
+ghost use Rattle.locked_book.specs.History.{AreInOneHistory, IsUnread, Leaves, Makes, OneBegins, state_of};
 ghost use Rattle.locked_book.specs.Names.{setting_of};
+ghost use Rattle.locked_book.specs.Performing.{Performs};
 
 use crate::call::Call;
 use crate::counters::Counters;
@@ -102,8 +103,8 @@ impl<S: Naming> LockedBook<S> {
 
     /// Opens a session, as `Kept::start` does.
     pub fn start(&mut self, desk: &mut Desk<S>, repo: &RepoName) -> Result<u32, Refusal>
-        ensures does { Does (λ n. n) result (self.old, desk.old.amounts) (self.new, desk.new.amounts) (counted (λ _. one 0 0 0) (λ catalog. start catalog repo.now) (self.old, desk.old.amounts)) }
-        ensures history { Adds S.names.opening desk.old.trace (Performed (Start repo.now) (reply Number result)) desk.new.trace }
+        ensures does { Performs S.names.opening (Start repo.now) (reply Number result)
+            self.old self.new desk.old desk.new }
     {
         let result = self.kept.start(&mut desk.tally, repo);
         self.history
@@ -118,8 +119,8 @@ impl<S: Naming> LockedBook<S> {
         repo: &RepoName,
         number: u32,
     ) -> Result<u64, Refusal>
-        ensures does { DoesExactly (λ n. n) result (self.old, desk.old.amounts) (self.new, desk.new.amounts) (counted (λ _. one 0 0 0) (λ catalog. unchanged (status catalog repo.now number) catalog) (self.old, desk.old.amounts)) }
-        ensures history { Adds S.names.opening desk.old.trace (Performed (Status repo.now number) (reply Number result)) desk.new.trace }
+        ensures does { Performs S.names.opening (Status repo.now number) (reply Number result)
+            self.old self.new desk.old desk.new }
     {
         let result = self.kept.status(&mut desk.tally, repo, number);
         self.history
@@ -134,8 +135,8 @@ impl<S: Naming> LockedBook<S> {
         repo: &RepoName,
         number: u32,
     ) -> Result<u64, Refusal>
-        ensures does { DoesExactly (λ n. n) result (self.old, desk.old.amounts) (self.new, desk.new.amounts) (counted (λ n. one 0 0 n) (λ catalog. abandon catalog repo.now number) (self.old, desk.old.amounts)) }
-        ensures history { Adds S.names.opening desk.old.trace (Performed (Abandon repo.now number) (reply Number result)) desk.new.trace }
+        ensures does { Performs S.names.opening (Abandon repo.now number) (reply Number result)
+            self.old self.new desk.old desk.new }
     {
         let result = self.kept.abandon(&mut desk.tally, repo, number);
         self.history
@@ -151,8 +152,9 @@ impl<S: Naming> LockedBook<S> {
         digest: &Digest,
         from: Option<&RepoName>,
     ) -> Result<Mount, Refusal>
-        ensures does { Does (λ m. m) result (self.old, desk.old.amounts) (self.new, desk.new.amounts) (counted (λ _. one 0 0 0) (λ catalog. mount catalog repo.now digest.now (option_copied from.entry)) (self.old, desk.old.amounts)) }
-        ensures history { Adds S.names.opening desk.old.trace (Performed (MountCommand repo.now digest.now (option_copied from.entry)) (reply Mounting result)) desk.new.trace }
+        ensures does { Performs S.names.opening
+            (MountCommand repo.now digest.now (option_copied from.entry)) (reply Mounting result)
+            self.old self.new desk.old desk.new }
     {
         let result = self.kept.mount(&mut desk.tally, repo, digest, from);
         self.history
@@ -167,8 +169,9 @@ impl<S: Naming> LockedBook<S> {
         repo: &RepoName,
         digest: &Digest,
     ) -> Result<(), Refusal>
-        ensures does { DoesExactly (λ u. u) result (self.old, desk.old.amounts) (self.new, desk.new.amounts) (counted (λ _. one 0 0 0) (λ catalog. delete catalog repo.now digest.now) (self.old, desk.old.amounts)) }
-        ensures history { Adds S.names.opening desk.old.trace (Performed (Delete repo.now digest.now) (reply (λ _. Done) result)) desk.new.trace }
+        ensures does { Performs S.names.opening (Delete repo.now digest.now)
+            (reply (λ _. Done) result)
+            self.old self.new desk.old desk.new }
     {
         let result = self.kept.delete(&mut desk.tally, repo, digest);
         self.history
@@ -183,9 +186,9 @@ impl<S: Naming> LockedBook<S> {
         repo: &RepoName,
         manifest: Manifest,
     ) -> Result<Digest, Refusal>
-        ensures does { Does (λ d. d) result (self.old, desk.old.amounts) (self.new, desk.new.amounts) (counted (λ _. one 0 0 0) (λ catalog. put_manifest catalog repo.now manifest) (self.old, desk.old.amounts)) }
+        ensures does { Performs S.names.opening (PutManifest repo.now manifest) (reply Bytes result)
+            self.old self.new desk.old desk.new }
         ensures digest { IfOk result (λ d. d ≡ sha256_text manifest) }
-        ensures history { Adds S.names.opening desk.old.trace (Performed (PutManifest repo.now manifest) (reply Bytes result)) desk.new.trace }
     {
         let given = Snapshot::of(&manifest);
         let result = self.kept.keep_manifest(&mut desk.tally, repo, manifest);
@@ -201,9 +204,10 @@ impl<S: Naming> LockedBook<S> {
         repo: &RepoName,
         digest: &Digest,
     ) -> Result<Arc<Manifest, Global>, Refusal>
-        ensures does { Does (λ m. arc_value m) result (self.old, desk.old.amounts) (self.new, desk.new.amounts) (counted (λ _. one 0 0 0) (λ catalog. unchanged (get_manifest catalog repo.now digest.now) catalog) (self.old, desk.old.amounts)) }
+        ensures does { Performs S.names.opening (GetManifest repo.now digest.now)
+            (reply (λ m. Bytes (arc_value m)) result)
+            self.old self.new desk.old desk.new }
         ensures digest { IfOk result (λ m. sha256_text (arc_value m) ≡ digest.now) }
-        ensures history { Adds S.names.opening desk.old.trace (Performed (GetManifest repo.now digest.now) (reply (λ m. Bytes (arc_value m)) result)) desk.new.trace }
     {
         let result = self.kept.get_manifest(&mut desk.tally, repo, digest);
         self.history
@@ -218,8 +222,9 @@ impl<S: Naming> LockedBook<S> {
         repo: &RepoName,
         digest: &Digest,
     ) -> Result<(), Refusal>
-        ensures does { DoesExactly (λ u. u) result (self.old, desk.old.amounts) (self.new, desk.new.amounts) (counted (λ _. one 0 0 0) (λ catalog. delete_manifest catalog repo.now digest.now) (self.old, desk.old.amounts)) }
-        ensures history { Adds S.names.opening desk.old.trace (Performed (DeleteManifest repo.now digest.now) (reply (λ _. Done) result)) desk.new.trace }
+        ensures does { Performs S.names.opening (DeleteManifest repo.now digest.now)
+            (reply (λ _. Done) result)
+            self.old self.new desk.old desk.new }
     {
         let result = self.kept.delete_manifest(&mut desk.tally, repo, digest);
         self.history.add(
@@ -238,11 +243,12 @@ impl<S: Naming> LockedBook<S> {
         digest: &Digest,
     ) -> Result<(Pin, Arc<Blob, Global>), Refusal>
         requires table { pins.now ≡ S.names.table }
-        ensures does { Lends (λ r. blob_bytes (arc_value r.1)) result (self.old, desk.old.amounts) (self.new, desk.new.amounts) repo.now digest.now }
+        ensures does { Performs S.names.opening (Lease repo.now digest.now)
+            (reply (λ r. Bytes (blob_bytes (arc_value r.1))) result)
+            self.old self.new desk.old desk.new }
         ensures pin { IfOk result (λ r. (r.0.table ≡ S.names.table) × (r.0.hold.digest ≡ digest.now) × (r.0.hold.weight ≡ 1024)) }
         ensures content { IfOk result (λ r. is_digest_of digest.now (blob_bytes (arc_value r.1)) ≡ true) }
         ensures blob { IfOk result (λ r. blob_digest (arc_value r.1) ≡ digest.now) }
-        ensures history { Adds S.names.opening desk.old.trace (Performed (Lease repo.now digest.now) (reply (λ r. Bytes (blob_bytes (arc_value r.1))) result)) desk.new.trace }
     {
         let result = self.kept.lease(pins, &mut desk.tally, repo, digest);
         self.history
@@ -261,8 +267,7 @@ impl<S: Naming> LockedBook<S> {
     ) -> Result<Hand, Refusal>
         ensures does { DoesExactly (λ h. h) result self.old self.new (reserving len (λ catalog. take catalog repo.now number range len) self.old) }
         ensures ends { IfOk result (λ h. IfSome range (λ r. sum_by length h.chunks + len ≡ r.end + 1)) }
-        ensures same { desk.new.amounts ≡ desk.old.amounts }
-        ensures history { Adds S.names.opening desk.old.trace (Took repo.now number range len result) desk.new.trace }
+        ensures makes { Makes S.names.opening (Took repo.now number range len result) desk.old desk.new }
     {
         let result = self.kept.take(repo, number, range, len);
         self.history.add(
@@ -275,9 +280,10 @@ impl<S: Naming> LockedBook<S> {
     /// Puts a session's chunks back with the one that was filled in, as `Kept::put_back` does.
     pub fn put_back(&mut self, desk: &mut Desk<S>, hand: Hand) -> Result<u64, Refusal>
         requires filled { hand.last ≢ None }
-        ensures does { DoesExactly (λ n. n) result (self.old, desk.old.amounts) (self.new, desk.new.amounts) (accepted (λ _. one (filled_length hand) 0 0) (λ catalog. put_back catalog hand) (self.old, desk.old.amounts)) }
+        ensures does { DoesExactly (λ n. n) result self.old self.new
+            (accepted (λ _. one (filled_length hand) 0 0) (λ catalog. put_back catalog hand) self.old) }
         ensures length { IfOk result (λ n. n ≡ sum_by length hand.chunks + filled_length hand) }
-        ensures history { Adds S.names.opening desk.old.trace (PutBack hand result) desk.new.trace }
+        ensures makes { Makes S.names.opening (PutBack hand result) desk.old desk.new }
     {
         let given = Snapshot::of(&hand);
         let result = self.kept.put_back(&mut desk.tally, hand);
@@ -290,8 +296,7 @@ impl<S: Naming> LockedBook<S> {
     pub fn cancel(&mut self, desk: &mut Desk<S>, hand: Hand) -> Result<u64, Refusal>
         requires unfilled { hand.last ≡ None }
         ensures does { DoesExactly (λ n. n) result self.old self.new (uncounted (λ catalog. put_back catalog hand) self.old) }
-        ensures same { desk.new.amounts ≡ desk.old.amounts }
-        ensures history { Adds S.names.opening desk.old.trace (PutBack hand result) desk.new.trace }
+        ensures makes { Makes S.names.opening (PutBack hand result) desk.old desk.new }
     {
         let given = Snapshot::of(&hand);
         let result = self.kept.cancel(hand);
@@ -310,9 +315,12 @@ impl<S: Naming> LockedBook<S> {
     ) -> Result<u64, Refusal>
         requires table { pins.now ≡ S.names.table }
         requires full { IsFull hand }
-        ensures does { Does (λ n. n) result (with_catalog self.old (after_cancel self.old.book.catalog hand), desk.old.amounts) (with_slots self.new self.old.book.slots, desk.new.amounts) (accepted (λ n. one (filled_length hand) n 0) (λ catalog. finish catalog hand digest.now) (self.old, desk.old.amounts)) }
+        ensures does { Does (λ n. n) result
+            (with_catalog self.old (after_cancel self.old.book.catalog hand))
+            (with_slots self.new self.old.book.slots)
+            (accepted (λ n. one (filled_length hand) n 0) (λ catalog. finish catalog hand digest.now) self.old) }
         ensures length { IfOk result (λ n. n ≡ sum_by length hand.chunks + filled_length hand) }
-        ensures history { Adds S.names.opening desk.old.trace (Finished hand digest.now result) desk.new.trace }
+        ensures makes { Makes S.names.opening (Finished hand digest.now result) desk.old desk.new }
     {
         let given = Snapshot::of(&hand);
         let result = self.kept.finish(pins, &mut desk.tally, hand, digest);
@@ -331,8 +339,8 @@ impl<S: Naming> LockedBook<S> {
     ) -> Result<(), Refusal>
         ensures answers { result ≡ (if has_room self.old 0 then check_tenant self.old.book.catalog repo.now else Err LimitReached) }
         ensures ok { OnOk result (desk.new ≡ desk.old) }
-        ensures same { desk.new.amounts ≡ desk.old.amounts }
-        ensures history { IfErr result (λ e. Adds S.names.opening desk.old.trace (Performed (PutManifest repo.now bytes.now) (Err e)) desk.new.trace) }
+        ensures makes { IfErr result (λ e. Makes S.names.opening
+            (Performed (PutManifest repo.now bytes.now) (Err e)) desk.old desk.new) }
     {
         match self.kept.check_tenant(repo) {
             Ok(()) => Ok(()),
@@ -356,8 +364,8 @@ impl<S: Naming> LockedBook<S> {
     ) -> Refusal
         requires unread { IsUnread bytes.now unread }
         ensures answers { (result ≡ unread) ⊎ (Err result ≡ (if has_room self.old 0 then check_tenant self.old.book.catalog repo.now else Err LimitReached)) }
-        ensures same { desk.new.amounts ≡ desk.old.amounts }
-        ensures history { Adds S.names.opening desk.old.trace (Performed (PutManifest repo.now bytes.now) (Err result)) desk.new.trace }
+        ensures makes { Makes S.names.opening (Performed (PutManifest repo.now bytes.now) (Err result))
+            desk.old desk.new }
     {
         let refusal = match self.kept.check_tenant(repo) {
             Ok(()) => unread,
@@ -388,8 +396,7 @@ impl<S: Naming> LockedBook<S> {
         requires table { pins.now ≡ S.names.table }
         ensures sweeps { IsSweep self.old.book.catalog result self.new.book.catalog }
         ensures counts { self.new.counts ≡ self.old.counts }
-        ensures same { desk.new.amounts ≡ desk.old.amounts }
-        ensures history { Adds S.names.opening desk.old.trace (Cleaned result) desk.new.trace }
+        ensures makes { Makes S.names.opening (Cleaned result) desk.old desk.new }
     {
         let result = self.kept.sweep(pins);
         self.history.add(&mut desk.writer, Call::Sweep(&result));

@@ -1,9 +1,13 @@
+use Rattle.store_model.specs.Runs.{Start, Number}
+use Rattle.locked_book.specs.Calls.{reply}
 use Rattle.locked_book.specs.History.{state_of}
-use Rattle.locked_book.proofs.Counted.{starts}
+use Rattle.locked_book.proofs.Counted.{is_step}
 use Rattle.locked_book.proofs.locked.LockedBook.start.Goals as goal
 
 pub add-requires : goal.add-requires
-add-requires g c = (state_of c.self.inside.kept, state_of c.start-result.new.self, c.self.invariant, starts c.self.inside.kept c.start-result.new.self c.desk.inside.tally c.start-result.new.desk c.args.repo.now c.start-result.result c.start-result.ensures.does)
+add-requires g c =
+    (state_of c.self.inside.kept, state_of c.start-result.new.self, c.self.invariant, is_step c.self.inside.kept c.start-result.new.self (Start c.args.repo.now) (reply Number c.start-result.result) c.start-result.ensures.does.does)
 
 pub invariant_of-self : goal.invariant_of-self
-invariant_of-self g c = c.add.ensures.leads (state_of c.self.inside.kept) (state_of c.start-result.new.self) c.self.invariant (starts c.self.inside.kept c.start-result.new.self c.desk.inside.tally c.start-result.new.desk c.args.repo.now c.start-result.result c.start-result.ensures.does)
+invariant_of-self g c =
+    c.add.ensures.leads (state_of c.self.inside.kept) (state_of c.start-result.new.self) c.self.invariant (is_step c.self.inside.kept c.start-result.new.self (Start c.args.repo.now) (reply Number c.start-result.result) c.start-result.ensures.does.does)

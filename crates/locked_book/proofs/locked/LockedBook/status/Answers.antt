@@ -1,9 +1,13 @@
+use Rattle.store_model.specs.Runs.{Status, Number}
+use Rattle.locked_book.specs.Calls.{reply}
 use Rattle.locked_book.specs.History.{state_of}
-use Rattle.locked_book.proofs.Counted.{looks}
+use Rattle.locked_book.proofs.Counted.{is_step}
 use Rattle.locked_book.proofs.locked.LockedBook.status.Goals as goal
 
 pub add-requires : goal.add-requires
-add-requires g c = (state_of c.self.inside.kept, state_of c.status-result.new.self, c.self.invariant, looks c.self.inside.kept c.status-result.new.self c.desk.inside.tally c.status-result.new.desk c.args.repo.now c.args.number c.status-result.result c.status-result.ensures.does)
+add-requires g c =
+    (state_of c.self.inside.kept, state_of c.status-result.new.self, c.self.invariant, is_step c.self.inside.kept c.status-result.new.self (Status c.args.repo.now c.args.number) (reply Number c.status-result.result) c.status-result.ensures.does.does)
 
 pub invariant_of-self : goal.invariant_of-self
-invariant_of-self g c = c.add.ensures.leads (state_of c.self.inside.kept) (state_of c.status-result.new.self) c.self.invariant (looks c.self.inside.kept c.status-result.new.self c.desk.inside.tally c.status-result.new.desk c.args.repo.now c.args.number c.status-result.result c.status-result.ensures.does)
+invariant_of-self g c =
+    c.add.ensures.leads (state_of c.self.inside.kept) (state_of c.status-result.new.self) c.self.invariant (is_step c.self.inside.kept c.status-result.new.self (Status c.args.repo.now c.args.number) (reply Number c.status-result.result) c.status-result.ensures.does.does)
