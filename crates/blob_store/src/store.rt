@@ -34,11 +34,12 @@ use store_book::{Mount, Swept};
 
 /// A store that threads share: the pins, and one lock around the book with the totals.
 ///
-/// Each command is the lock around one function of `LockedBook`, of the same name, whose contract says what it does
-/// to the book and the totals; `append`, `close` and `put_manifest` are the lock around two of them, and copy
-/// and hash between the two without it. The contract here says that the caller's desk makes the step that the command
-/// is, with this reply (`Makes`): its amounts grow by what the step counts, and just this step is added to the store's
-/// history. All of them may wait for the lock.
+/// Each command is the lock around one function of `LockedBook`, of the same name, whose contract
+/// says what it does to the book and the totals; `append`, `close` and `put_manifest` are the lock
+/// around two of them, and copy and hash between the two without it. The contract here says that the
+/// caller's desk makes the step that the command is, with this reply (`Makes`): its amounts grow by
+/// what the step counts, and just this step is added to the store's history. All of them may wait for
+/// the lock.
 ///
 /// A command can't be counted where, with those in hand, 2^64 would be accepted or 2^64 bytes received.
 #[derive(Drop)]
@@ -310,8 +311,8 @@ impl<S: Naming> Store<S> {
         from: Option<&RepoName>,
     ) -> Result<Mount, Refusal>
         ensures { Makes S.names.opening
-            (Performed (MountCommand repo.now digest.now (option_copied from.entry)) (reply Mounting result))
-            desk.old desk.new }
+            (Performed (MountCommand repo.now digest.now (option_copied from.entry))
+            (reply Mounting result)) desk.old desk.new }
     {
         self.locked(rt).mount(desk, repo, digest, from)
     }

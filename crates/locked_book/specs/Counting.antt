@@ -5,11 +5,12 @@ use Rattle.std.specs.Coded.{Coded, code_by, coded×, coded_ℕ}
 use Rattle.blob_digest.specs.declared.refusal.Refusal.TheVariants.{LimitReached}
 use Rattle.blob_digest.specs.Outcomes.{OutcomeIn}
 use Rattle.finite_maps.specs.Outcomes.{◌>>=◌, refuse}
-use Rattle.store_model.specs.Catalog.{Catalog}
+use Rattle.finite_maps.specs.Texts.{Text}
+use Rattle.store_model.specs.Catalog.{Catalog, Taken}
 use Rattle.store_book.specs.BookState.{BookState, SlotSeen, coded_state}
-use Rattle.store_model.specs.Commands.{Outcome}
-use Rattle.store_model.specs.Amounts.{Amounts, coded_amounts, plus}
-use Rattle.store_model.specs.Hands.{in_hand, received_in_sessions, reserved}
+use Rattle.store_model.specs.Commands.{Outcome, finish, put_back}
+use Rattle.store_model.specs.Amounts.{Amounts, coded_amounts, one, plus}
+use Rattle.store_model.specs.Hands.{filled_length, in_hand, received_in_sessions, reserved}
 use Rattle.locked_book.specs.Names.{StoreNames, setting_of}
 use Rattle.locked_book.specs.Totals.{Counts}
 
@@ -71,6 +72,14 @@ abbrev pub accepted : {A : Type 0} → (A → Amounts) → (Catalog → Outcome 
 accepted amounts step k = do
   done ← step k.book.catalog
   Ok (done.0, with_counted k done.1 (amounts done.0))
+
+-- a hand that is put back with its chunk
+abbrev pub putting_back : Taken → Content → OutcomeIn Content ℕ
+putting_back hand k = accepted (λ _. one (filled_length hand) 0 0) (λ C. put_back C hand) k
+
+-- a hand that is finished under a digest
+abbrev pub finishing : Taken → Text → Content → OutcomeIn Content ℕ
+finishing hand digest k = accepted (λ n. one (filled_length hand) n 0) (λ C. finish C hand digest) k
 
 -- a step that takes a session in hand for n bytes: it can be counted once it is accepted
 abbrev pub reserving : {A : Type 0} → ℕ → (Catalog → Outcome A) → Content → OutcomeIn Content A

@@ -1,4 +1,4 @@
--- What a command under the lock is: its outcome, what is counted of it, and the step that its desk makes.
+-- What a command under the lock is: its outcome, what is counted of it, and its desk's step.
 use Rattle.std.specs.Prelude.{◌≡◌, Bool, true, false, not, Result}
 use Rattle.blob_digest.specs.declared.refusal.Refusal.{Refusal}
 use Rattle.blob_digest.specs.declared.refusal.Refusal.TheVariants.{LimitReached}
@@ -19,7 +19,7 @@ performed crowded command k = do
   _ ← refuse (not (has_room k 0)) LimitReached
   accepted (command_amounts command) (λ C. outcome crowded C command) k
 
--- the reply is the outcome's or, if the command takes memory, there may be none; a refusal changes nothing
+-- The reply is the outcome's. A command that takes memory may also find none. A refusal changes nothing.
 abbrev pub RepliesBy : Bool → Result Answer Refusal → Content → Content → OutcomeIn Content Answer → Type 0
 RepliesBy true reply old new outcome = Does (λ a. a) reply old new outcome
 RepliesBy false reply old new outcome = DoesExactly (λ a. a) reply old new outcome

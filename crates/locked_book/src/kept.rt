@@ -1,6 +1,6 @@
 //! What lies under the lock.
 
-ghost use Rattle.std.specs.Prelude.{◌≡◌, ◌≢◌, ◌⊎◌, ◌+◌, ◌<◌, None, Some, IfErr, IfOk, IfSome, MatchResult, OnErr, OnOk, Err, true, length, sum_by, vec_len, not, if◌then◌else◌};
+ghost use Rattle.std.specs.Prelude.{◌≡◌, ◌≢◌, ◌+◌, ◌<◌, None, IfOk, IfSome, OnErr, OnOk, Err, true, length, sum_by, not, if◌then◌else◌};
 ghost use Rattle.std.specs.Arc.{arc_value};
 ghost use Rattle.std.specs.FinMap.{empty};
 ghost use Rattle.std.specs.Option.{option_copied};
@@ -14,16 +14,16 @@ ghost use Rattle.store_model.specs.Invariant.{Sound};
 ghost use Rattle.store_book.specs.Pinned.{blob_bytes, blob_digest};
 ghost use Rattle.store_model.specs.BookText.{book_text};
 ghost use Rattle.store_book.specs.SlotSteps.{EachSlot, HasLast, HasPin, IsHousing, IsLending, IsQuiet, IsStill, IsSweptSlot, ReadsWord};
-ghost use Rattle.store_model.specs.Commands.{check_tenant, take, put_back, finish, after_cancel};
+ghost use Rattle.store_model.specs.Commands.{check_tenant, take, put_back, after_cancel};
 ghost use Rattle.store_model.specs.Histories.{Finished, PutBack, step_amounts};
 ghost use Rattle.store_model.specs.Runs.{Start, Status, Abandon, Mount as MountCommand, Delete, PutManifest, GetManifest, DeleteManifest, Lease, Number, Mounting, Bytes, Done};
 ghost use Rattle.locked_book.specs.Calls.{reply};
 ghost use Rattle.locked_book.specs.Performing.{IsCounted};
 ghost use Rattle.store_model.specs.Sweep.{IsSweep};
 ghost use Rattle.locked_book.specs.Names.{setting_of};
-ghost use Rattle.store_model.specs.Amounts.{nothing, plus, one, sum_of};
+ghost use Rattle.store_model.specs.Amounts.{nothing, plus};
 ghost use Rattle.store_model.specs.Hands.{received_in_sessions, filled_length};
-ghost use Rattle.locked_book.specs.Counting.{IsBalanced, cannot_hand_out, has_room, with_catalog, with_slots, uncounted, accepted, reserving, handing_out};
+ghost use Rattle.locked_book.specs.Counting.{IsBalanced, cannot_hand_out, has_room, with_catalog, with_slots, uncounted, finishing, putting_back, reserving};
 
 use crate::counters::Counters;
 use crate::desk::Settled;
@@ -347,8 +347,7 @@ impl<S: Naming> Kept<S> {
     /// the command with that chunk's bytes.
     pub fn put_back(&mut self, desk: &mut Tally<S>, hand: Hand) -> Result<u64, Refusal>
         requires filled { hand.last ≢ None }
-        ensures does { DoesExactly (λ n. n) result self.old self.new
-            (accepted (λ _. one (filled_length hand) 0 0) (λ catalog. put_back catalog hand) self.old) }
+        ensures does { DoesExactly (λ n. n) result self.old self.new (putting_back hand self.old) }
         ensures amounts { desk.new ≡ plus desk.old (step_amounts (PutBack hand result)) }
         ensures length { IfOk result (λ n. n ≡ sum_by length hand.chunks + filled_length hand) }
     {
@@ -385,9 +384,9 @@ impl<S: Naming> Kept<S> {
         requires full { IsFull hand }
         ensures does { Does (λ n. n) result
             (with_catalog self.old (after_cancel self.old.book.catalog hand))
-            (with_slots self.new self.old.book.slots)
-            (accepted (λ n. one (filled_length hand) n 0) (λ catalog. finish catalog hand digest.now) self.old) }
-        ensures amounts { desk.new ≡ plus desk.old (step_amounts (Finished hand digest.now result)) }
+            (with_slots self.new self.old.book.slots) (finishing hand digest.now self.old) }
+        ensures amounts { desk.new ≡ plus desk.old
+            (step_amounts (Finished hand digest.now result)) }
         ensures length { IfOk result (λ n. n ≡ sum_by length hand.chunks + filled_length hand) }
         ensures slots { EachSlot IsQuiet self.old.book.slots self.new.book.slots }
         ensures housed { OnOk result (EachSlot (IsHousing digest.now) self.old.book.slots self.new.book.slots) }

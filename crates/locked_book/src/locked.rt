@@ -8,9 +8,9 @@ ghost use Rattle.std.specs.Io.KnownBytes.{Appends};
 ghost use Rattle.blob_digest.specs.Digests.{is_digest_of, sha256_text};
 ghost use Rattle.blob_digest.specs.Outcomes.{Does, DoesExactly};
 ghost use Rattle.blob_digest.specs.declared.refusal.Refusal.TheVariants.{LimitReached};
-ghost use Rattle.store_model.specs.Amounts.{nothing, one};
+ghost use Rattle.store_model.specs.Amounts.{nothing};
 ghost use Rattle.store_model.specs.BookText.{book_text};
-ghost use Rattle.store_model.specs.Commands.{check_tenant, take, put_back, finish, after_cancel};
+ghost use Rattle.store_model.specs.Commands.{check_tenant, take, put_back, after_cancel};
 ghost use Rattle.store_model.specs.Hands.{filled_length};
 ghost use Rattle.store_model.specs.Histories.{Performed, Cleaned, Took, PutBack, Finished};
 ghost use Rattle.store_model.specs.Runs.{Start, Status, Abandon, Mount as MountCommand, Delete, PutManifest, GetManifest, DeleteManifest, Lease, Number, Mounting, Bytes, Done};
@@ -19,7 +19,7 @@ ghost use Rattle.store_model.specs.Sweep.{IsSweep};
 ghost use Rattle.store_book.specs.Pinned.{blob_bytes, blob_digest};
 ghost use Rattle.store_book.specs.SlotSteps.{EachSlot, HasPin, IsStill, ReadsWord};
 ghost use Rattle.locked_book.specs.Calls.{reply};
-ghost use Rattle.locked_book.specs.Counting.{IsBalanced, has_room, with_catalog, with_slots, uncounted, accepted, reserving};
+ghost use Rattle.locked_book.specs.Counting.{IsBalanced, has_room, with_catalog, with_slots, uncounted, finishing, putting_back, reserving};
 ghost use Rattle.locked_book.specs.Found.{IsBookOf, IsContentOf, IsSweepOf};
 ghost use Rattle.locked_book.specs.History.{AreInOneHistory, IsUnread, Leaves, Makes, OneBegins, state_of};
 ghost use Rattle.locked_book.specs.Names.{setting_of};
@@ -267,7 +267,8 @@ impl<S: Naming> LockedBook<S> {
     ) -> Result<Hand, Refusal>
         ensures does { DoesExactly (λ h. h) result self.old self.new (reserving len (λ catalog. take catalog repo.now number range len) self.old) }
         ensures ends { IfOk result (λ h. IfSome range (λ r. sum_by length h.chunks + len ≡ r.end + 1)) }
-        ensures makes { Makes S.names.opening (Took repo.now number range len result) desk.old desk.new }
+        ensures makes { Makes S.names.opening (Took repo.now number range len result)
+            desk.old desk.new }
     {
         let result = self.kept.take(repo, number, range, len);
         self.history.add(
@@ -280,8 +281,7 @@ impl<S: Naming> LockedBook<S> {
     /// Puts a session's chunks back with the one that was filled in, as `Kept::put_back` does.
     pub fn put_back(&mut self, desk: &mut Desk<S>, hand: Hand) -> Result<u64, Refusal>
         requires filled { hand.last ≢ None }
-        ensures does { DoesExactly (λ n. n) result self.old self.new
-            (accepted (λ _. one (filled_length hand) 0 0) (λ catalog. put_back catalog hand) self.old) }
+        ensures does { DoesExactly (λ n. n) result self.old self.new (putting_back hand self.old) }
         ensures length { IfOk result (λ n. n ≡ sum_by length hand.chunks + filled_length hand) }
         ensures makes { Makes S.names.opening (PutBack hand result) desk.old desk.new }
     {
@@ -317,8 +317,7 @@ impl<S: Naming> LockedBook<S> {
         requires full { IsFull hand }
         ensures does { Does (λ n. n) result
             (with_catalog self.old (after_cancel self.old.book.catalog hand))
-            (with_slots self.new self.old.book.slots)
-            (accepted (λ n. one (filled_length hand) n 0) (λ catalog. finish catalog hand digest.now) self.old) }
+            (with_slots self.new self.old.book.slots) (finishing hand digest.now self.old) }
         ensures length { IfOk result (λ n. n ≡ sum_by length hand.chunks + filled_length hand) }
         ensures makes { Makes S.names.opening (Finished hand digest.now result) desk.old desk.new }
     {
@@ -364,8 +363,8 @@ impl<S: Naming> LockedBook<S> {
     ) -> Refusal
         requires unread { IsUnread bytes.now unread }
         ensures answers { (result ≡ unread) ⊎ (Err result ≡ (if has_room self.old 0 then check_tenant self.old.book.catalog repo.now else Err LimitReached)) }
-        ensures makes { Makes S.names.opening (Performed (PutManifest repo.now bytes.now) (Err result))
-            desk.old desk.new }
+        ensures makes { Makes S.names.opening
+            (Performed (PutManifest repo.now bytes.now) (Err result)) desk.old desk.new }
     {
         let refusal = match self.kept.check_tenant(repo) {
             Ok(()) => unread,
