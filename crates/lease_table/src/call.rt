@@ -1,8 +1,8 @@
 //! A call that was made under the lock.
 
 use blob_digest::Digest;
-use store_api::Piece;
 use std::snapshot::Snapshot;
+use store_api::Piece;
 use store_book::{Lease, PinsName};
 
 /// A call that was made under the lock, with what it was given and what it returned.

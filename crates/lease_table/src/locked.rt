@@ -13,11 +13,11 @@ use crate::history::{LeaseHistory, LeaseWriter};
 use crate::naming::LeaseNaming;
 use crate::table::LeaseTable;
 use blob_digest::{Digest, Refusal};
-use store_api::Piece;
 use shared_log::SharedLog;
 use std::alloc::Global;
 use std::marker::Model;
 use std::snapshot::Snapshot;
+use store_api::Piece;
 use store_book::{Lease, PinsName};
 
 /// The table of leases, and its history, which leads from a table without leases to it. Contracts see the table. The

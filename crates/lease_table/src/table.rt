@@ -9,10 +9,10 @@ ghost use Rattle.line_player.specs.Lendings.{IsPieceOf};
 ghost use Rattle.lease_table.specs.Tables.{GivesBack, Keeps, Reads, numbered_in};
 
 use blob_digest::{Digest, Refusal};
-use store_api::Piece;
 use std::alloc::{AllocFailed, Global};
 use std::collections::BTreeMap;
 use std::marker::Model;
+use store_api::Piece;
 use store_book::{Lease, PinsName};
 
 /// Leases by their numbers.
