@@ -33,7 +33,8 @@ pub trait Backend {
 
     /// Returns how many bytes a session has received.
     fn status(&mut self, repo: &RepoName, number: u32) -> Result<u64, Refusal>
-        ensures { acts self.old (Calls (Status repo.now number)) (answered Received result) self.new };
+        ensures { acts self.old (Calls (Status repo.now number))
+            (answered Received result) self.new };
 
     /// Adds a chunk to a session, and returns the session's length.
     fn append(
@@ -43,7 +44,8 @@ pub trait Backend {
         range: Option<ByteRange>,
         bytes: &[u8],
     ) -> Result<u64, Refusal>
-        ensures { acts self.old (Calls (Append repo.now number range bytes.now)) (answered Received result) self.new };
+        ensures { acts self.old (Calls (Append repo.now number range bytes.now))
+            (answered Received result) self.new };
 
     /// Closes a session with its last chunk, and returns the blob's size.
     fn close(
@@ -54,11 +56,13 @@ pub trait Backend {
         range: Option<ByteRange>,
         bytes: &[u8],
     ) -> Result<u64, Refusal>
-        ensures { acts self.old (Calls (Close repo.now number digest.now range bytes.now)) (answered Stored result) self.new };
+        ensures { acts self.old (Calls (Close repo.now number digest.now range bytes.now))
+            (answered Stored result) self.new };
 
     /// Gives a session up, and returns how many bytes it had received.
     fn abandon(&mut self, repo: &RepoName, number: u32) -> Result<u64, Refusal>
-        ensures { acts self.old (Calls (Abandon repo.now number)) (answered (λ _. Abandoned) result) self.new };
+        ensures { acts self.old (Calls (Abandon repo.now number))
+            (answered (λ _. Abandoned) result) self.new };
 
     /// Links a blob that the tenant holds in the source or, without one, in any of its repositories, or opens an
     /// upload session for it.
@@ -68,15 +72,18 @@ pub trait Backend {
         digest: &Digest,
         from: Option<&RepoName>,
     ) -> Result<Mount, Refusal>
-        ensures { acts self.old (Calls (MountCommand repo.now digest.now (option_copied from.entry))) (answered mount_answer result) self.new };
+        ensures { acts self.old (Calls (MountCommand repo.now digest.now (option_copied from.entry)))
+            (answered mount_answer result) self.new };
 
     /// Takes a blob's link out of a repository.
     fn delete(&mut self, repo: &RepoName, digest: &Digest) -> Result<(), Refusal>
-        ensures { acts self.old (Calls (Delete repo.now digest.now)) (answered (λ _. Deleted) result) self.new };
+        ensures { acts self.old (Calls (Delete repo.now digest.now))
+            (answered (λ _. Deleted) result) self.new };
 
     /// Keeps a manifest, and returns its digest.
     fn put_manifest(&mut self, repo: &RepoName, bytes: &[u8]) -> Result<Digest, Refusal>
-        ensures { acts self.old (Calls (PutManifest repo.now bytes.now)) (answered Manifest result) self.new };
+        ensures { acts self.old (Calls (PutManifest repo.now bytes.now))
+            (answered Manifest result) self.new };
 
     /// Returns a manifest that a repository keeps.
     fn get_manifest(
@@ -84,11 +91,13 @@ pub trait Backend {
         repo: &RepoName,
         digest: &Digest,
     ) -> Result<Arc<OciManifest, Global>, Refusal>
-        ensures { acts self.old (Calls (GetManifest repo.now digest.now)) (answered (λ m. Body (arc_value m)) result) self.new };
+        ensures { acts self.old (Calls (GetManifest repo.now digest.now))
+            (answered (λ m. Body (arc_value m)) result) self.new };
 
     /// Takes a manifest out of a repository.
     fn delete_manifest(&mut self, repo: &RepoName, digest: &Digest) -> Result<(), Refusal>
-        ensures { acts self.old (Calls (DeleteManifest repo.now digest.now)) (answered (λ _. Deleted) result) self.new };
+        ensures { acts self.old (Calls (DeleteManifest repo.now digest.now))
+            (answered (λ _. Deleted) result) self.new };
 
     /// A new lease of a blob that is linked in a repository.
     fn lease(&mut self, repo: &RepoName, digest: &Digest) -> Result<Self::Lease, Refusal>
@@ -125,7 +134,9 @@ pub trait Backend {
 
 /// Does what a command says, and returns its reply.
 pub fn perform<B: Backend>(backend: &mut B, command: &Command<'_>) -> Result<Reply, Refusal>
-    ensures { MatchResult result (λ r. B.acts backend.old (Calls (command_view command.now)) (answer_of r) backend.new) (λ e. B.acts backend.old (Calls (command_view command.now)) (Refused e) backend.new) }
+    ensures { MatchResult result
+        (λ r. B.acts backend.old (Calls (command_view command.now)) (answer_of r) backend.new)
+        (λ e. B.acts backend.old (Calls (command_view command.now)) (Refused e) backend.new) }
 {
     match command {
         Command::Start { repo } => Ok(Reply::Session(backend.start(repo)?)),
