@@ -1,12 +1,12 @@
 -- What the tests of fields say of what the fields spell.
-use Rattle.std.proofs.Common.{◌≡◌, ◌≢◌, ◌∙◌, ◌∷◌, [], ◌^◌, Bool, true, false, Some, None, Ok, Err, length, ap, refl, sym}
+use Rattle.std.proofs.Common.{◌≡◌, ◌≢◌, ◌∙◌, ◌∷◌, [], ◌^◌, Bool, true, false, Some, Ok, Err, length, refl, sym}
 use Rattle.std.specs.Prelude.{nat_le, nat_lt}
 use Rattle.std.proofs.Math.Bridge.{le_prop}
 use Rattle.std.proofs.lemmas.Bool.{false≢true, leb-true, le-leb, lt-ltb, ltb-true}
 use Rattle.finite_maps.specs.Texts.{Text}
 use Rattle.blob_digest.specs.NameMachine.{is_repo_name}
 use Rattle.blob_digest.specs.declared.range.ByteRange.{ByteRange}
-use Rattle.blob_digest.specs.declared.refusal.Refusal.TheVariants.{NameInvalid, SizeInvalid}
+use Rattle.blob_digest.specs.declared.refusal.Refusal.TheVariants.{NameInvalid}
 use Rattle.store_api.specs.Commands.{source_in, range_by, range_with}
 
 pub source_ok : (text : Text) → length text ≢ 0 → is_repo_name text ≡ true → source_in text ≡ Ok (Some text)

@@ -1,7 +1,6 @@
 -- The texts of replies.
-use Rattle.std.specs.Prelude.{ℕ, List, ◌++◌, codes}
+use Rattle.std.specs.Prelude.{◌++◌, codes}
 use Rattle.std.specs.Fmt.{decimal}
-use Rattle.std.specs.List.{enumerate_from, flat_map}
 use Rattle.hex.specs.Hex.{encode_lower}
 use Rattle.finite_maps.specs.Texts.{Text}
 use Rattle.blob_digest.specs.Refusals.{refusal_text}
