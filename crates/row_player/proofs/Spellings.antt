@@ -10,11 +10,8 @@ use Rattle.finite_maps.specs.Outcomes.{◌>>=◌}
 use Rattle.blob_digest.specs.declared.range.ByteRange.{ByteRange}
 use Rattle.blob_digest.specs.declared.refusal.Refusal.{Refusal}
 use Rattle.store_model.specs.Runs.{repo_of}
-use Rattle.store_api.specs.Commands.{Command, Lease, command, digest_in, is_lease, repo_in, source_in, uses_digest, uses_range, uses_repo, uses_source, where_used}
+use Rattle.store_api.specs.Commands.{Command, Lease, command, digest_in, repo_in, source_in, uses_digest, uses_range, uses_repo, uses_source, where_used}
 use Rattle.row_player.specs.RowCommands.{command_of, range_in}
-use Rattle.store_api.specs.CommandViews.{command_view}
-use Rattle.store_api.specs.declared.command.Command.{Command as Called}
-use Rattle.store_api.specs.declared.command.Command.TheVariants as called
 use Rattle.row_player.specs.Rows.{RowView, session_number}
 use Rattle.store_api.specs.declared.verb.Verb.{Verb}
 use Rattle.store_api.specs.declared.verb.Verb.TheVariants as verb

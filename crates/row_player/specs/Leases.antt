@@ -1,10 +1,9 @@
 -- The leases that the lanes of a script hold.
-use Rattle.std.specs.Prelude.{ℕ, ◌+◌, ◌-◌, ◌/◌, take, drop}
+use Rattle.std.specs.Prelude.{ℕ}
 use Rattle.std.specs.declared.cmp.Ordering.{Ordering}
 use Rattle.std.specs.Ordering.{nat_cmp, ordering_then}
-use Rattle.std.specs.Coded.{Coded, code_by, coded×, coded_ℕ}
+use Rattle.std.specs.Coded.{Coded, coded×, coded_ℕ}
 use Rattle.std.specs.FinMap as fmap
-use Rattle.std.proofs.Common.{refl}
 use Rattle.store_api.specs.Lent.{Lent, coded_lent}
 use Rattle.finite_maps.specs.Texts.{Text, text_cmp, coded_text}
 

@@ -1,5 +1,5 @@
 -- What the rows of a script do to what they are played on, by what a store may do.
-use Rattle.std.specs.Prelude.{◌≡◌, ◌≢◌, ◌⊎◌, ℕ, ◌+◌, ◌-◌, ◌==◌, if◌then◌else◌, nat_le, false, List, [], ◌∷◌, ◌++◌, length, Option, Some, None, option_and_then, Result, Ok, Err}
+use Rattle.std.specs.Prelude.{◌≡◌, ◌≢◌, ◌⊎◌, ℕ, ◌+◌, ◌-◌, ◌==◌, if◌then◌else◌, nat_le, List, [], ◌∷◌, ◌++◌, length, Option, Some, None, option_and_then, Result, Ok, Err}
 use Rattle.std.specs.FinMap as fmap
 use Rattle.finite_maps.specs.Texts.{Text}
 use Rattle.blob_digest.specs.Ranges.{range_of}
@@ -7,7 +7,7 @@ use Rattle.blob_digest.specs.declared.refusal.Refusal.{Refusal}
 use Rattle.blob_digest.specs.declared.refusal.Refusal.TheVariants.{Memory, SizeInvalid, WeightSpent}
 use Rattle.store_api.specs.Answers.{Answer, answer_of, Leased, Bytes, Shared, GivenBack, NoLease, NameTaken, Refused}
 use Rattle.store_api.specs.Steps.{StepOf}
-use Rattle.store_api.specs.Commands.{Command, Request, Calls, Verifies, Sweeps, is_lease, Lease}
+use Rattle.store_api.specs.Commands.{Request, Calls, Verifies, Sweeps, Lease}
 use Rattle.row_player.specs.RowCommands.{command_of}
 use Rattle.store_api.specs.Lent.{Lent, between, halved, new_lease}
 use Rattle.row_player.specs.Leases.{Leases, Name}
