@@ -41,23 +41,15 @@ pub mount_accepts : (C C' : Catalog) (seen : List SlotSeen) (repo digest : Text)
 mount_accepts C C' seen repo digest from mounting.Mounted h = h
 mount_accepts C C' seen repo digest from (mounting.Session number) h = h
 
--- the same of the two that change nothing
-pub status_acts : (result : Result ℕ Refusal) (C : Catalog) (seen : List SlotSeen) (repo : Text) (number : ℕ) → result ≡ commands.status C repo number → ActsCall C seen (Status repo number) (answered Received result) C
-status_acts result C seen repo number h = by result h
-  where
-    abbrev told : Result ℕ Refusal → Outcome Answer
-    told r = runs.answered (command_answer (Status repo number)) (runs.reading runs.Number C r)
+-- ---- the two that change nothing
 
-    by : (r : Result ℕ Refusal) → r ≡ commands.status C repo number → ActsCall C seen (Status repo number) (answered Received r) C
-    by (Ok n) h = ap told (sym h)
-    by (Err e) h = (λ _. inl (ap told (sym h)), refl)
+abbrev read_as : {A : Type 0} → Catalog → Command → (A → runs.Answer) → Result A Refusal → Outcome Answer
+read_as C command f r = runs.answered (command_answer command) (runs.reading f C r)
+
+pub status_acts : (result : Result ℕ Refusal) (C : Catalog) (seen : List SlotSeen) (repo : Text) (number : ℕ) → result ≡ commands.status C repo number → ActsCall C seen (Status repo number) (answered Received result) C
+status_acts (Ok n) C seen repo number h = ap (read_as C (Status repo number) runs.Number) (sym h)
+status_acts (Err e) C seen repo number h = (λ _. inl (ap (read_as C (Status repo number) runs.Number) (sym h)), refl)
 
 pub manifest_acts : {A : Type 0} (view : A → Text) (result : Result A Refusal) (C : Catalog) (seen : List SlotSeen) (repo digest : Text) → Answers view result (commands.get_manifest C repo digest) → ActsCall C seen (GetManifest repo digest) (answered (λ m. Body (view m)) result) C
-manifest_acts view result C seen repo digest h = by result h
-  where
-    abbrev told : Result Text Refusal → Outcome Answer
-    told r = runs.answered (command_answer (GetManifest repo digest)) (runs.reading runs.Bytes C r)
-
-    by : (r : Result _ Refusal) → Answers view r (commands.get_manifest C repo digest) → ActsCall C seen (GetManifest repo digest) (answered (λ m. Body (view m)) r) C
-    by (Ok m) h = ap told h
-    by (Err e) h = (λ other. inl (ap told (h other)), refl)
+manifest_acts view (Ok m) C seen repo digest h = ap (read_as C (GetManifest repo digest) runs.Bytes) h
+manifest_acts view (Err e) C seen repo digest h = (λ other. inl (ap (read_as C (GetManifest repo digest) runs.Bytes) (h other)), refl)
