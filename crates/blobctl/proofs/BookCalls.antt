@@ -10,7 +10,7 @@ use Rattle.store_model.specs.Runs as runs
 use Rattle.store_model.specs.declared.mount.Mount.{Mount as Mounted}
 use Rattle.store_model.specs.declared.mount.Mount.TheVariants as mounting
 use Rattle.store_book.specs.BookState.{SlotSeen}
-use Rattle.store_api.specs.Answers.{Answer, Body, Received, Refused, answered, mount_answer}
+use Rattle.store_api.specs.Answers.{Answer, Body, Received, answered, mount_answer}
 use Rattle.store_api.specs.CommandAnswers.{command_answer}
 use Rattle.store_api.specs.Commands.{Command, GetManifest, Mount, Status}
 use Rattle.blobctl.specs.Played.{ActsCall, outcome}
