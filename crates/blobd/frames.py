@@ -1,6 +1,6 @@
 #!/usr/bin/env python3
-"""Writes the run that is kept of blobd, by the rules of docs/FRAMES.md: the frames that it reads from standard input, and
-those that it writes to standard output. With --check it writes nothing, and tells whether the files are these."""
+"""Writes the stored run of blobd by the rules of docs/PROTOCOL.md: the frames of standard input (stdin) and those of standard
+output (stdout). With --check it writes nothing, and compares the files with these frames."""
 import hashlib
 import pathlib
 import struct
@@ -9,12 +9,12 @@ import sys
 HERE = pathlib.Path(__file__).parent
 GREETING = b"blobd\0\1\0"
 
-# The commands by their numbers.
+# The numbers of the commands.
 START, STATUS, APPEND, CLOSE, ABANDON, MOUNT, DELETE, PUT_MANIFEST, GET_MANIFEST, DELETE_MANIFEST = range(1, 11)
 LEASE, READ, GIVE_BACK, SWEEP = range(11, 15)
 STAT, STAT_MANIFEST, FREE_SLOTS, USAGE, FETCH = range(17, 22)
 
-# Refusals, and what else a status may say.
+# The numbers of the refusals, and two more status codes.
 NAME_INVALID, DIGEST_INVALID, NAME_UNKNOWN, UPLOAD_UNKNOWN, SIZE_INVALID, RANGE_INVALID, BLOB_UNKNOWN = range(1, 8)
 MANIFEST_INVALID, MANIFEST_UNKNOWN, MANIFEST_BLOB_UNKNOWN, QUOTA, REFERENCED = range(8, 13)
 NO_LEASE, NO_COMMAND = 254, 255
@@ -49,9 +49,9 @@ MANIFEST = (
     % (sha256(CONFIG), ABC)
 ).encode()
 
-# By `args`, there are 16 slots, and tenant `acme` may use 100 bytes and `other` 4.
+# The file `args` gives 16 slots, a quota of 100 bytes to tenant `acme`, and one of 4 bytes to `other`.
 CALLS = [
-    # an upload in two chunks, one out of its place
+    # an upload in two chunks, with one chunk at a wrong place
     (request(START, ONE), reply(first=1)),
     (request(APPEND, ONE, number=1, span=(0, 1), body=b"ab"), reply(first=2)),
     (request(APPEND, ONE, number=1, span=(1, 2), body=b"bc"), reply(RANGE_INVALID, first=2)),
@@ -61,11 +61,11 @@ CALLS = [
     (request(CLOSE, ONE, NOTHING, number=1), reply(DIGEST_INVALID)),
     (request(CLOSE, ONE, ABC, number=1), reply(first=3)),
     (request(STATUS, ONE, number=1), reply(UPLOAD_UNKNOWN)),
-    # names and digests that are none
+    # invalid names and digests
     (request(START, "Acme/one"), reply(NAME_INVALID)),
     (request(START, "nobody/one"), reply(NAME_UNKNOWN)),
     (request(LEASE, ONE, "sha256:abc"), reply(DIGEST_INVALID)),
-    # a lease, read by ranges
+    # reads of a lease by ranges
     (request(LEASE, ONE, NOTHING), reply(BLOB_UNKNOWN)),
     (request(LEASE, ONE, ABC), reply(first=3, second=1)),
     (request(LEASE, ONE, ABC), reply(first=3, second=2)),
@@ -77,7 +77,7 @@ CALLS = [
     (request(READ, digest=ABC, number=3), reply(NO_LEASE)),
     (request(GIVE_BACK, number=2), reply()),
     (request(GIVE_BACK, number=2), reply(NO_LEASE)),
-    # fetches, which leave no lease
+    # fetches, which keep no lease
     (request(FETCH, ONE, ABC), reply(first=3, body=b"abc")),
     (request(FETCH, ONE, ABC, span=(1, 1)), reply(first=3, body=b"b")),
     (request(FETCH, ONE, ABC, span=(1, 99)), reply(first=3, body=b"bc")),
@@ -87,7 +87,7 @@ CALLS = [
     (request(FETCH, ONE, "sha256:abc", span=(2, 1)), reply(DIGEST_INVALID)),
     (request(FETCH, "Acme/one", "sha256:abc"), reply(NAME_INVALID)),
     (request(FETCH, ONE, NOTHING), reply(BLOB_UNKNOWN)),
-    # a manifest keeps its blobs
+    # a manifest prevents the deletion of its blobs
     (request(PUT_MANIFEST, ONE, body=b"no manifest"), reply(MANIFEST_INVALID)),
     (request(PUT_MANIFEST, ONE, body=MANIFEST), reply(MANIFEST_BLOB_UNKNOWN, digest=sha256(CONFIG))),
     (request(START, ONE), reply(first=2)),
@@ -96,7 +96,7 @@ CALLS = [
     (request(GET_MANIFEST, ONE, sha256(MANIFEST)), reply(body=MANIFEST)),
     (request(GET_MANIFEST, TWO, sha256(MANIFEST)), reply(MANIFEST_UNKNOWN)),
     (request(DELETE, ONE, ABC), reply(REFERENCED, digest=sha256(MANIFEST))),
-    # what is kept, and how much of it
+    # queries
     (request(STAT, ONE, ABC), reply(first=3)),
     (request(STAT, TWO, ABC), reply(BLOB_UNKNOWN)),
     (request(STAT_MANIFEST, ONE, sha256(MANIFEST)), reply(first=len(MANIFEST))),
@@ -105,24 +105,24 @@ CALLS = [
     (request(USAGE, ONE), reply(first=5, second=100)),
     (request(USAGE, "nobody"), reply(NAME_UNKNOWN)),
     (request(DELETE_MANIFEST, ONE, sha256(MANIFEST)), reply()),
-    # mounts within a tenant alone
+    # mounts, which succeed only within a tenant
     (request(MOUNT, TWO, ABC, ONE), reply()),
     (request(MOUNT, TWO, NOTHING), reply(first=3)),
     (request(ABANDON, TWO, number=3), reply()),
     (request(MOUNT, OTHER, ABC, ONE), reply(first=1)),
     (request(APPEND, OTHER, number=1, body=b"12345"), reply(QUOTA, first=0, second=4)),
-    # sweeps leave what is leased
+    # sweeps, which free no leased slot
     (request(DELETE, ONE, ABC), reply()),
     (request(DELETE, TWO, ABC), reply()),
     (request(SWEEP), reply(first=0, second=1)),
     (request(READ, digest=ABC, number=1), reply(body=b"abc")),
     (request(GIVE_BACK, number=1), reply()),
     (request(SWEEP), reply(first=1, second=0)),
-    # a blob by its other digest, which is left leased
+    # a blob by its SHA-512 digest, whose lease remains at the end
     (request(START, TWO), reply(first=4)),
     (request(CLOSE, TWO, ABC_512, number=4, span=(0, 2), body=b"abc"), reply(first=3)),
     (request(LEASE, TWO, ABC_512), reply(first=3, second=3)),
-    # bytes that ask for nothing
+    # numbers of no command
     (request(0), reply(NO_COMMAND)),
     (request(15), reply(NO_COMMAND)),
     (request(99, body=b"any"), reply(NO_COMMAND)),
@@ -137,7 +137,7 @@ def main():
     if sys.argv[1:] == ["--check"]:
         others = [name for name, data in files.items() if (HERE / name).read_bytes() != data]
         for name in others:
-            print(f"frames.py: crates/blobd/{name} isn't what frames.py writes", file=sys.stderr)
+            print(f"frames.py: crates/blobd/{name} differs from what frames.py writes", file=sys.stderr)
         return 1 if others else 0
     for name, data in files.items():
         (HERE / name).write_bytes(data)

@@ -1,4 +1,4 @@
--- The texts of digests stand in the order of the digests' values.
+-- The texts of digests are ordered as the values of the digests.
 use Rattle.std.proofs.Common.{Ordering, ◌≡◌, ℕ, zero, suc, ◌+◌, ◌/◌, ◌%◌, ◌<◌, ◌==◌, Bool, true, ◌&&◌, nat_le, if◌then◌else◌, inl, inr, List, [], ◌∷◌, slice_index, refl, sym, ap, ◌∙◌, arith, bytes_eq}
 use Rattle.std.proofs.lemmas.Bool.{and_parts, cases_lt, eqb-true}
 use Rattle.std.proofs.lemmas.Bool.Decides.{nat_tests}
@@ -9,7 +9,7 @@ use Rattle.blob_digest.specs.Checksums.{IsChecksum, text_of}
 use Rattle.blob_digest.specs.declared.checksum.Checksum.{Checksum}
 use Rattle.blob_digest.specs.declared.checksum.Checksum.TheVariants.{Sha256, Sha512}
 use Rattle.blob_digest.specs.contracts.checksum.ChecksumPartialEq.TheImpl as checksum_eq
-use Rattle.finite_maps.proofs.Sorted.{nat_cmp-equal, nat_cmp-greater, nat_cmp-less}
+use Rattle.spec_lib.proofs.Sorted.{nat_cmp-equal, nat_cmp-greater, nat_cmp-less}
 
 -- the digit of a value below sixteen
 abbrev char_of : ℕ → ℕ
@@ -39,7 +39,7 @@ char_cmp x y = grind (arith, nat_tests)
 digit_cmp : (x y : ℕ) → x < 16 → y < 16 → nat_cmp (slice_index lower_digits x) (slice_index lower_digits y) ≡ nat_cmp x y
 digit_cmp x y hx hy = rw (digit_is x hx, digit_is y hy) (char_cmp x y)
 
--- a byte's digits decide as the byte does
+-- the digits of two bytes compare as the bytes
 pair_cmp : (a b : ℕ) (o : Ordering) → ordering_then (nat_cmp (a / 16) (b / 16)) (ordering_then (nat_cmp (a % 16) (b % 16)) o) ≡ ordering_then (nat_cmp a b) o
 pair_cmp a b o = elim (cases_lt (a / 16) (b / 16)) [
   | inl h ↦ rw (nat_cmp-less (a / 16) (b / 16) h, nat_cmp-less a b (omega arith)) refl
@@ -55,7 +55,7 @@ pair_cmp a b o = elim (cases_lt (a / 16) (b / 16)) [
   ]
 ]
 
--- hex text stands in the order of its bytes
+-- hex texts are ordered as their bytes
 pub encoded_cmp : (xs ys : List ℕ) → IsBytes xs → IsBytes ys → slice_cmp nat_cmp (encode_lower xs) (encode_lower ys) ≡ slice_cmp nat_cmp xs ys
 unfolding encode_with
 encoded_cmp [] [] hx hy = refl
@@ -69,11 +69,11 @@ encoded_cmp (x ∷ xs) (y ∷ ys) hx hy =
     let low = digit_cmp (x % 16) (y % 16) (omega arith) (omega arith) in
     rw (high, low, ih) (pair_cmp x y (slice_cmp nat_cmp xs ys))
 
--- hex texts are equal where their bytes are
+-- hex texts are equal if and only if their bytes are equal
 same_digits : (a b : List ℕ) → IsBytes a → IsBytes b → bytes_eq (encode_lower a) (encode_lower b) ≡ bytes_eq a b
 same_digits a b ha hb = texts_ties (encode_lower a) (encode_lower b) ∙ ap is_eq (encoded_cmp a b ha hb) ∙ sym (texts_ties a b)
 
--- texts are equal where what they are the texts of is
+-- texts are equal if and only if their checksums are equal
 pub text_eq : (a b : Checksum) → IsChecksum a → IsChecksum b → bytes_eq (text_of a) (text_of b) ≡ checksum_eq.eq-value.it a b
 text_eq (Sha256 a) (Sha256 b) ha hb = same_digits a b ha.1 hb.1
 text_eq (Sha256 a) (Sha512 b) ha hb = refl

@@ -35,7 +35,7 @@ pub grammar_passes : (text : List ℕ) → IsDigestText text → is_digest_text 
 grammar_passes text (inl h) = rw (spelled_passes (codes "sha256:") text 64 refl h) refl
 grammar_passes text (inr h) = or_right (is_spelled (codes "sha256:") 64 text) (is_spelled (codes "sha512:") 128 text) (spelled_passes (codes "sha512:") text 128 refl h)
 
--- what passes the test is a text of the grammar
+-- a text that passes the test has the grammar
 pub passes_grammar : (text : List ℕ) → is_digest_text text ≡ true → IsDigestText text
 passes_grammar text h = elim (either (is_spelled (codes "sha256:") 64 text) (is_spelled (codes "sha512:") 128 text) h) [
   | inl x ↦ inl (passes_spelled (codes "sha256:") text 32 refl x)
@@ -57,7 +57,7 @@ all_lower-at (suc n) k h lt =
           rw e parts.0
     ]
 
--- hex text has digits in lower case alone
+-- hex text has only lower-case digits
 pub encoded_lower : (xs : List ℕ) → IsBytes xs → list_all is_lower_hex (encode_lower xs) ≡ true
 unfolding encode_with
 encoded_lower [] h = refl
@@ -69,12 +69,12 @@ spelled : (name value : List ℕ) (n : ℕ) → length value ≡ n → IsBytes v
 spelled name value n h bytes =
     (encode_lower value, refl, length-encode_with lower_digits value ∙ ap (λ k. 2 * k) h, AllPass-from_list_all is_lower_hex (encode_lower value) (encoded_lower value bytes))
 
--- the text of a digest is one of the grammar
+-- the text of a digest has the grammar
 pub text_of-grammar : (s : Checksum) → IsChecksum s → IsDigestText (text_of s)
 text_of-grammar (Sha256 value) h = inl (spelled (codes "sha256:") value 32 h.0 h.1)
 text_of-grammar (Sha512 value) h = inr (spelled (codes "sha512:") value 64 h.0 h.1)
 
--- no function gives more than 64 bytes
+-- no algorithm computes more than 64 bytes
 pub value-fits : (s : Checksum) → IsChecksum s → length (value_of s) ≤ 64
 value-fits (Sha256 value) h = omega (arith, h.0)
 value-fits (Sha512 value) h = omega (arith, h.0)

@@ -1,4 +1,4 @@
--- A text of digits in lower case is the hex text of the bytes that are computed from its digits.
+-- A text of lower-case digits is the hex text of the bytes that are computed from its digits.
 use Rattle.std.proofs.Common.{◌≡◌, ℕ, zero, suc, ◌+◌, ◌*◌, ◌/◌, ◌%◌, ◌<◌, ◌==◌, Bool, true, ◌&&◌, ◌||◌, not, nat_lt, inl, inr, List, [], ◌∷◌, length, slice_index, refl, sym, ap, ◌∙◌, arith, ltb-true}
 use Rattle.std.proofs.lemmas.Bool.{and_parts, cases_lt, eqb-true}
 use Rattle.std.proofs.lemmas.Bool.Decides.{nat_tests}
@@ -11,7 +11,7 @@ use Rattle.blob_digest.specs.Digests.{digit_of, is_spelled, is_lower_hex}
 use Rattle.std.proofs.lemmas.List.Sums.{AllPass-from_list_all}
 use Rattle.std.proofs.lemmas.Slice.Eq.{bytes_eq-Decides}
 
--- whether a digit stands at its value's place in the table
+-- whether a digit is at the position of its value in the table
 abbrev spells : ℕ → Bool
 spells c = not (is_lower_hex c) || ((slice_index lower_digits (digit_of c) == c) && nat_lt (digit_of c) 16)
 
@@ -33,7 +33,7 @@ all_spell-at (suc n) k h lt =
 lower_small : (c : ℕ) → is_lower_hex c ≡ true → c < 103
 lower_small c h = grind (arith, nat_tests)
 
--- a digit stands at its place
+-- a digit is at its position
 digit : (c : ℕ) → is_lower_hex c ≡ true → (slice_index lower_digits (digit_of c) ≡ c) × (digit_of c < 16)
 digit c h =
     let both : not (is_lower_hex c) || ((slice_index lower_digits (digit_of c) == c) && nat_lt (digit_of c) 16) ≡ true = all_spell-at 103 c refl (lower_small c h) in
@@ -43,7 +43,7 @@ digit c h =
 cons_two : (a b c d : ℕ) (s t : List ℕ) → a ≡ b → c ≡ d → s ≡ t → (a ∷ c ∷ s) ≡ (b ∷ d ∷ t)
 cons_two a b c d s t x y z = cc
 
--- what the test says
+-- the meaning of the test
 pub whole_of : (name text : List ℕ) (n : ℕ) → length name ≡ 7 → is_spelled name (2 * n) text ≡ true
     → (text ≡ name ++ drop 7 text) × (length (drop 7 text) ≡ 2 * n) × AllPass is_lower_hex (drop 7 text)
 whole_of name text n seven h =
@@ -53,7 +53,7 @@ whole_of name text n seven h =
     let prefix : take 7 text ≡ name = sym (ap (λ k. take k text) seven) ∙ sym ((bytes_eq-Decides name (take (length name) text)).0 front.1) in
     (sym (take-append-drop 7 text) ∙ ap (λ x. x ++ drop 7 text) prefix, omega (arith, length-drop 7 text), AllPass-from_list_all is_lower_hex (drop 7 text) parts.1)
 
--- the text of bytes and more bytes
+-- the text of bytes followed by more bytes
 pub encoded-append : (xs ys : List ℕ) → encode_lower (xs ++ ys) ≡ encode_lower xs ++ encode_lower ys
 unfolding encode_with
 encoded-append [] ys = refl

@@ -1,4 +1,4 @@
--- What the bytes of a name are, and where its first component ends.
+-- The bytes of a name, and the end of its first component.
 use Rattle.std.proofs.Common.{◌≡◌, ◌<◌, ◌≤◌, ◌++◌, ◌∷◌, ◌==◌, [], ◌∙◌, inl, inr, ℕ, List, Bool, true, false, cond, Some, None, not, ap, sym, refl, arith, length, take, nat_lt}
 use Rattle.std.proofs.Math.Seq.{take-append_seam}
 use Rattle.std.proofs.lemmas.Bool.{and_from, and_parts, ltb-false}
@@ -12,7 +12,7 @@ use Rattle.std.specs.Str.{IsAscii}
 use Rattle.blob_digest.proofs.Ascii.{IsAscii-from_test}
 use Rattle.blob_digest.specs.Names.{IsComponent, IsPath, IsSeparator, component, is_alnum, is_dash, joined, run, slashed, tenant_name}
 
--- a test that the bytes of a component pass
+-- each byte of a component passes a test
 record Passes (p : ℕ → Bool) : Type 0 where
   letters : (c : ℕ) → is_alnum c ≡ true → p c ≡ true
   dot : p 46 ≡ true
@@ -104,7 +104,7 @@ tenant_is_component text (slashed c q h rest) =
     ap (λ n. take n (c ++ (47 ∷ q))) (prefix_seam (λ b. not (b == 47)) c 47 q (component_no_slash c h) refl) ∙ take-append_seam c (47 ∷ q) in
     rw front h
 
--- the length of what stands before the first byte that passes
+-- the length of the bytes before the first byte that passes
 pub length-before_first : (p : ℕ → Bool) (xs : List ℕ) (i : ℕ) → position p xs ≡ Some i → i ≡ length (before_first p xs)
 length-before_first p xs i found =
     let at = position-Some p xs i 0 found in
@@ -116,7 +116,7 @@ none_is : (b : Bool) (n : ℕ) → cond b (Some n) None ≡ None → b ≡ false
 none_is true n h = cc
 none_is false n h = refl
 
--- the same, where none passes
+-- the same if no byte passes
 pub length-before_none : (p : ℕ → Bool) (xs : List ℕ) → position p xs ≡ None → length xs ≡ length (before_first p xs)
 length-before_none p xs absent =
     let over : length xs ≤ position_or_len p xs = ltb-false (position_or_len p xs) (length xs) (none_is (nat_lt (position_or_len p xs) (length xs)) (position_or_len p xs) absent) in

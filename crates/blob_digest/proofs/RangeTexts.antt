@@ -9,14 +9,14 @@ use Rattle.std.specs.List.{list_all, position, position_or_len}
 use Rattle.std.specs.Str.Parse.{digits_value}
 use Rattle.blob_digest.specs.Ranges.{IsNumber, IsRangeText, is_digits, number_of, ordered, range_at, range_of}
 use Rattle.blob_digest.proofs.NameTexts.{prefix_seam}
-use Rattle.finite_maps.proofs.Options.{cond_some}
+use Rattle.spec_lib.proofs.Options.{cond_some}
 
--- what a chain of options gave
+-- the value of a chain of options
 chained : {A B : Type 0} (f : A → Option B) (o : Option A) (y : B) → option_and_then f o ≡ Some y → (x : A) × (o ≡ Some x) × (f x ≡ Some y)
 chained f None y h = cc
 chained f (Some x) y h = (x, refl, h)
 
--- a number that the test finds is of the grammar
+-- a number that the test finds has the grammar
 pub number_found : (text : List ℕ) (n : ℕ) → number_of text ≡ Some n → IsNumber text n
 number_found text n h =
     let test = cond_some (is_digits text && nat_lt (digits_value 10 text) (2 ^ 63)) (digits_value 10 text) n h in
@@ -36,7 +36,7 @@ number_is text n h =
     let below : digits_value 10 text < 2 ^ 63 = omega (arith, h.value, h.small) in
     rw (lt-ltb 0 (length text) h.some, list_all-from_AllPass is_ascii_digit text h.digits, lt-ltb (digits_value 10 text) (2 ^ 63) below) (ap Some h.value)
 
--- what the test finds is of the grammar
+-- a range that the test finds has the grammar
 pub range_found : (text : List ℕ) (start end : ℕ) → range_of text ≡ Some (start, end) → IsRangeText text start end
 range_found text start end h =
     let dash = chained (range_at text) (position (λ c. c == 45) text) (start, end) h in
@@ -81,7 +81,7 @@ after_seam front back =
     ∙ ap (drop (length (front ++ 45 ∷ []))) (sym (append_assoc front (45 ∷ []) back))
     ∙ drop-append_seam (front ++ 45 ∷ []) back
 
--- what is of the grammar the test finds
+-- the test finds each range of the grammar
 pub range_is : (text : List ℕ) (start end : ℕ) → IsRangeText text start end → range_of text ≡ Some (start, end)
 range_is text start end h =
     let none = no_dash h.front (list_all-from_AllPass is_ascii_digit h.front h.first.digits) in

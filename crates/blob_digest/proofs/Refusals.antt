@@ -1,4 +1,4 @@
--- A refusal tells of out of memory or of something else.
+-- A refusal is `Memory` or another one.
 use Rattle.std.proofs.Common.{◌≡◌, ◌≢◌, refl, inl, inr}
 use Rattle.std.specs.Prelude.{◌⊎◌}
 use Rattle.blob_digest.specs.declared.refusal.Refusal.{Refusal}

@@ -1,4 +1,4 @@
--- The front of a list and the slice behind it.
+-- The front of a list and the slice after it.
 use Rattle.std.proofs.Common.{◌≡◌, ◌-◌, ◌++◌, ◌∙◌, ℕ, List, ap, drop, length, length-drop, sym, take}
 use Rattle.std.proofs.lemmas.List.{take-append-drop}
 use Rattle.std.proofs.Math.Seq.{take-length}

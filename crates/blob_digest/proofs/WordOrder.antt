@@ -1,4 +1,4 @@
--- Bytes stand in the order of the numbers that they are, the first byte the highest.
+-- Bytes are ordered as the big-endian numbers that they encode.
 use Rattle.std.proofs.Common.{Ordering, ◌≡◌, ℕ, zero, suc, ◌+◌, ◌*◌, ◌<◌, ◌≤◌, ◌++◌, inl, inr, List, [], ◌∷◌, length, take, drop, refl, sym, ap, ◌∙◌, arith}
 use Rattle.std.proofs.lemmas.Bool.{cases_lt}
 use Rattle.std.specs.Ordering.{nat_cmp, ordering_then}
@@ -6,9 +6,9 @@ use Rattle.std.specs.Cmp.Lexicographic.{slice_cmp}
 use Rattle.std.specs.Slice.Scan.{big_endian}
 use Rattle.hex.specs.Hex.{IsBytes}
 use Rattle.std.proofs.lemmas.List.{length-take-le, take-append-drop}
-use Rattle.finite_maps.proofs.Sorted.{nat_cmp-equal, nat_cmp-greater, nat_cmp-less}
+use Rattle.spec_lib.proofs.Sorted.{nat_cmp-equal, nat_cmp-greater, nat_cmp-less}
 
--- what stands behind a lower number stays below
+-- bytes after a lower number keep it lower
 below : (xs ys : List ℕ) (a b : ℕ) → length xs ≡ length ys → IsBytes xs → a < b → big_endian a xs < big_endian b ys
 below [] [] a b same small lt = lt
 below [] (y ∷ ys) a b same small lt = absurd (omega arith)
@@ -17,7 +17,7 @@ below (x ∷ xs) (y ∷ ys) a b same small lt =
     let byte : x < 256 = small 0 in
     below xs ys (a * 256 + x) (b * 256 + y) (omega arith) (λ i. small (suc i)) (omega arith)
 
--- the numbers behind one number stand as the bytes do
+-- numbers after the same number are ordered as the bytes
 big_endian_cmp : (xs ys : List ℕ) (a : ℕ) → length xs ≡ length ys → IsBytes xs → IsBytes ys → nat_cmp (big_endian a xs) (big_endian a ys) ≡ slice_cmp nat_cmp xs ys
 big_endian_cmp [] [] a same hx hy = nat_cmp-equal a a refl
 big_endian_cmp [] (y ∷ ys) a same hx hy = absurd (omega arith)
@@ -35,7 +35,7 @@ big_endian_cmp (x ∷ xs) (y ∷ ys) a same hx hy =
       ]
     ]
 
--- the first elements decide before those behind them
+-- the first elements decide before those after them
 parts_cmp : (xs ys us vs : List ℕ) → length xs ≡ length ys → slice_cmp nat_cmp (xs ++ us) (ys ++ vs) ≡ ordering_then (slice_cmp nat_cmp xs ys) (slice_cmp nat_cmp us vs)
 parts_cmp [] [] us vs same = refl
 parts_cmp [] (y ∷ ys) us vs same = absurd (omega arith)
@@ -54,7 +54,7 @@ IsBytes-take (suc n) [] h i = omega arith
 IsBytes-take (suc n) (x ∷ xs) h zero = h 0
 IsBytes-take (suc n) (x ∷ xs) h (suc i) = IsBytes-take n xs (λ j. h (suc j)) i
 
--- the numbers that the first n bytes are decide before the bytes behind them
+-- the numbers in the first `n` bytes decide before the bytes after them
 pub words_cmp : (n : ℕ) (xs ys : List ℕ) (x y : ℕ) → n ≤ length xs → n ≤ length ys → IsBytes xs → IsBytes ys
     → x ≡ big_endian 0 (take n xs) → y ≡ big_endian 0 (take n ys) → (r : Ordering) → nat_cmp x y ≡ r
     → slice_cmp nat_cmp xs ys ≡ ordering_then r (slice_cmp nat_cmp (drop n xs) (drop n ys))

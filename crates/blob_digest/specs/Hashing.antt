@@ -1,13 +1,21 @@
--- What a running hash, and the hashes of an upload, stand for.
-use Rattle.std.specs.Prelude.{◌≤◌, ℕ, List, length, take}
+-- The bytes that a running hash, and the hashes of an upload, have taken in.
+use Rattle.std.specs.Prelude.{◌≤◌, ◌++◌, ℕ, List, length, take}
 use Rattle.sha2.specs.Hashers.{Holds256, Holds512}
 use Rattle.blob_digest.specs.declared.running.Running.{Running}
 use Rattle.blob_digest.specs.declared.upload_hashes.UploadHashes.{UploadHashes}
 
--- the running hash has taken in these bytes, by each algorithm
+-- the hash by each algorithm has taken in these bytes
 unfoldable pub Hashes : Running → List ℕ → Type 0
 Hashes running bytes = Holds256 running.sha256 bytes × Holds512 running.sha512 bytes
 
--- SHA-256 has taken in these bytes, and SHA-512 so many first ones of them
+-- the new hash has taken in all bytes of the old one and then these
+abbrev pub TakesIn : Running → Running → List ℕ → Type 0
+TakesIn old new bytes = (before : List ℕ) → Hashes old before → Hashes new (before ++ bytes)
+
+-- SHA-256 has taken in these bytes, and SHA-512 the first `through_sha512` of them
 unfoldable pub HashesUpload : UploadHashes → List ℕ → Type 0
 HashesUpload h bytes = Holds256 h.sha256 bytes × (h.through_sha512 ≤ length bytes) × Holds512 h.sha512 (take h.through_sha512 bytes)
+
+-- the new hashes have taken in all bytes of the old ones and then these
+abbrev pub UploadTakesIn : UploadHashes → UploadHashes → List ℕ → Type 0
+UploadTakesIn old new bytes = (before : List ℕ) → HashesUpload old before → HashesUpload new (before ++ bytes)

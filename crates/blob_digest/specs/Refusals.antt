@@ -1,10 +1,10 @@
--- What a refusal prints.
+-- The printed text of a refusal.
 use Rattle.std.specs.Prelude.{ℕ, List, ◌++◌, codes}
 use Rattle.std.specs.Fmt.{decimal}
 use Rattle.blob_digest.specs.declared.refusal.Refusal.{Refusal}
 use Rattle.blob_digest.specs.declared.refusal.Refusal.TheVariants.{NameInvalid, DigestInvalid, NameUnknown, UploadUnknown, SizeInvalid, RangeInvalid, BlobUnknown, ManifestInvalid, ManifestUnknown, ManifestBlobUnknown, Quota, Referenced, StoreFull, TooManyReaders, LimitReached, WeightSpent, Memory, Busy}
 
--- its name, and then its fields: numbers in decimal, digests as their texts
+-- the text of a refusal: its name and its fields, numbers in decimal and digests as their texts
 abbrev pub refusal_text : Refusal → List ℕ
 refusal_text NameInvalid = codes "NameInvalid"
 refusal_text DigestInvalid = codes "DigestInvalid"

@@ -1,6 +1,6 @@
-//! Digest functions.
+//! Digest algorithms.
 
-/// A digest function of the OCI Image Specification 1.1, "Digests", "Registered Algorithms".
+/// A digest algorithm (OCI Image Specification 1.1, "Digests", "Registered Algorithms").
 #[derive(Clone, Copy, Debug, PartialEq, Eq)]
 pub enum Algorithm {
     /// SHA-256 (FIPS 180-4, section 6.2).

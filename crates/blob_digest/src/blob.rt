@@ -1,4 +1,4 @@
-//! Sealed blobs: bytes whose digest was compared with the one that was asked for.
+//! Sealed blobs: bytes whose digest was checked.
 ghost use Rattle.std.specs.Prelude.{◌≡◌, ◌↔◌, IsOk, IfOk, IfErr, ℕ, List, true};
 ghost use Rattle.blob_digest.specs.Digests.{algorithm_of, hash_text, is_digest_of};
 ghost use Rattle.blob_digest.specs.Hashing.{Hashes};
@@ -7,9 +7,10 @@ use crate::digest::Digest;
 use crate::running::Running;
 use std::marker::Model;
 
-/// The content of a blob, with the digest that it is named by (OCI Image Specification 1.1, "Content
-/// Descriptors", "Verification"). The two agree by the type: no blob has bytes of another digest.
-/// Contracts see it as the pair of the digest's text and the bytes.
+/// The content of a blob with its digest (OCI Image Specification 1.1, "Content Descriptors", "Verification").
+///
+/// The invariant of the type states that the bytes have this digest. Contracts see a blob as the pair of the digest's
+/// text and the bytes.
 #[derive(Debug, Drop)]
 pub struct Blob {
     bytes: Vec<u8>,
@@ -28,9 +29,17 @@ impl Model for Blob {
 }
 
 impl Blob {
-    /// The bytes with their digest, or the bytes back where the digest is not theirs by the algorithm
-    /// that it names. The hash was computed while the bytes came in, so the call reads none of them
-    /// again, and it takes no memory.
+    /// Seals bytes under a digest.
+    ///
+    /// `running` has hashed the bytes already, so the call does not read them again.
+    ///
+    /// # Errors
+    ///
+    /// - The bytes, unchanged: `digest` is not their digest by the algorithm that it names.
+    ///
+    /// # Memory
+    ///
+    /// The call does not allocate.
     pub fn seal(bytes: Vec<u8>, running: Running, digest: &Digest) -> Result<Blob, Vec<u8>>
         requires { Hashes running bytes.items }
         ensures agrees { IsOk result ↔ (is_digest_of digest.now bytes.items ≡ true) }
@@ -41,8 +50,17 @@ impl Blob {
         Blob::seal_found(bytes, found, digest)
     }
 
-    /// As `seal`, with the digest that was found of the bytes, by the algorithm that the wanted one names.
-    /// It reads no byte, and takes no memory.
+    /// Seals bytes under a digest, given the digest that was computed of them.
+    ///
+    /// `found` is the digest of the bytes by the algorithm that `digest` names. The call does not read the bytes.
+    ///
+    /// # Errors
+    ///
+    /// - The bytes, unchanged: `digest` is not `found`.
+    ///
+    /// # Memory
+    ///
+    /// The call does not allocate.
     pub fn seal_found(bytes: Vec<u8>, found: Digest, digest: &Digest) -> Result<Blob, Vec<u8>>
         requires { found ≡ hash_text (algorithm_of digest.now) bytes.items }
         ensures agrees { IsOk result ↔ (is_digest_of digest.now bytes.items ≡ true) }
@@ -59,7 +77,7 @@ impl Blob {
         }
     }
 
-    /// The digest of the bytes.
+    /// Returns the digest of the bytes.
     pub fn digest(&self) -> Digest
         ensures value { result ≡ self.now.0 }
         ensures agrees { is_digest_of self.now.0 self.now.1 ≡ true }
@@ -67,7 +85,7 @@ impl Blob {
         self.digest
     }
 
-    /// The content, in bytes.
+    /// Returns the content.
     pub fn bytes(&self) -> &[u8]
         ensures value { result.now ≡ self.now.1 }
         ensures agrees { is_digest_of self.now.0 self.now.1 ≡ true }
@@ -75,7 +93,7 @@ impl Blob {
         self.bytes.as_slice()
     }
 
-    /// The content alone, without a copy.
+    /// Returns the content without copying it.
     pub fn into_bytes(self) -> Vec<u8>
         ensures { result.items ≡ self.1 }
     {

@@ -1,11 +1,11 @@
-//! What a digest holds: an algorithm of the OCI Image Specification 1.1, "Digests", "Registered
-//! Algorithms", with the value that it gave.
+//! The two parts of a digest: an algorithm (OCI Image Specification 1.1, "Digests", "Registered Algorithms") and the
+//! value that it computed.
 ghost use Rattle.std.specs.Prelude.{◌≡◌};
-ghost use Rattle.blob_digest.specs.Checksums.{kind_of, prefix_of, value_of};
+ghost use Rattle.blob_digest.specs.Checksums.{checksum_algorithm, prefix_of, value_of};
 
 use crate::algorithm::Algorithm;
 
-/// A digest function with its value.
+/// An algorithm with the value that it computed.
 #[derive(Clone, Copy, Debug, PartialEq, Eq, Hash)]
 pub enum Checksum {
     /// SHA-256 (FIPS 180-4, section 6.2).
@@ -15,9 +15,9 @@ pub enum Checksum {
 }
 
 impl Checksum {
-    /// The algorithm.
+    /// Returns the algorithm.
     pub fn algorithm(&self) -> Algorithm
-        ensures { result ≡ kind_of self.now }
+        ensures { result ≡ checksum_algorithm self.now }
     {
         match self {
             Checksum::Sha256(_) => Algorithm::Sha256,
@@ -25,7 +25,7 @@ impl Checksum {
         }
     }
 
-    /// The identifier of the algorithm, and a colon.
+    /// Returns the identifier of the algorithm and a colon.
     pub fn prefix(&self) -> &'static str
         ensures { result.now ≡ prefix_of self.now }
     {
@@ -35,7 +35,7 @@ impl Checksum {
         }
     }
 
-    /// The value, in bytes.
+    /// Returns the bytes of the value.
     pub fn value(&self) -> &[u8]
         ensures { result.now ≡ value_of self.now }
     {

@@ -1,4 +1,4 @@
-//! Digests: the texts by which blobs and manifests are named.
+//! Digests: the names of blobs and manifests.
 ghost use Rattle.std.specs.Prelude.{◌≡◌, ◌*◌, true, ◌↔◌, ◌++◌, ◌+◌, ◌≤◌, IsOk, IfOk, IfErr, OnOk, OnErr, ℕ, is_ok, length, take, drop, string_bytes, bytes_eq, codes, Some, refl};
 ghost use Rattle.hex.specs.Hex.{encode_lower};
 ghost use Rattle.std.specs.List.{list_all};
@@ -19,12 +19,13 @@ use std::hash::{Hash, Hasher};
 use std::marker::Model;
 use std::{fmt, str};
 
-/// The most bytes of a digest's text: a name, a colon and 128 digits.
+/// The length of the longest text of a digest, in bytes: `sha512:` and 128 digits.
 const LONGEST: usize = 135;
 
-/// A digest: an algorithm with a value (OCI Image Specification 1.1, "Digests"). It is a plain value
-/// of 65 bytes and takes no memory of its own. Contracts see it as its text, and digests are equal and
-/// ordered as their texts are, by bytes.
+/// A digest: an algorithm with a value (OCI Image Specification 1.1, "Digests").
+///
+/// It is a plain value of 65 bytes and allocates nothing. Contracts see it as its text. Digests are equal if their
+/// texts are equal, and are ordered by the bytes of their texts.
 #[derive(Clone, Copy, Debug)]
 pub struct Digest {
     checksum: Checksum,
@@ -45,14 +46,15 @@ impl Model for Digest {
     ghost inverse_ok = { λ a h i. record { checksum = checksum_of-text_of a.checksum h i } };
 }
 
-/// A digit of the encoded part, which has no upper case.
+/// Returns whether a byte is a lower-case hexadecimal digit.
 fn is_digit(c: u8) -> bool
     ensures { result ≡ is_lower_hex c }
 {
     matches!(c, b'0'..=b'9' | b'a'..=b'f')
 }
 
-/// Whether each byte is a digit of the encoded part. All are looked at, so that several can be at once.
+/// Returns whether each byte is a lower-case hexadecimal digit. It has no early exit, so that several bytes can be
+/// tested at once.
 fn all_digits(text: &[u8]) -> bool
     ensures { result ≡ list_all is_lower_hex text.now }
 {
@@ -63,7 +65,7 @@ fn all_digits(text: &[u8]) -> bool
     all
 }
 
-/// Whether a text is this name and then so many digits.
+/// Returns whether a text is `name` followed by `size` digits.
 fn is_spelled_by(text: &[u8], name: &[u8], size: usize) -> bool
     requires { (length name.now ≡ 7) × (size ≤ 128) }
     ensures { result ≡ is_spelled name.now size text.now }
@@ -71,7 +73,7 @@ fn is_spelled_by(text: &[u8], name: &[u8], size: usize) -> bool
     text.len() == 7 + size && text.starts_with(name) && all_digits(&text[7..])
 }
 
-/// What stands after the name of the algorithm and the colon.
+/// Returns the digits after the name of the algorithm and the colon.
 fn encoded_part(text: &[u8]) -> &[u8]
     requires { 7 ≤ length text.now }
     ensures { result.now ≡ drop 7 text.now }
@@ -79,7 +81,7 @@ fn encoded_part(text: &[u8]) -> &[u8]
     &text[7..]
 }
 
-/// The value of a digit. It is computed without a branch on the digit, which none could foretell.
+/// Returns the value of a digit. The form needs no branch on the digit, which a processor could not predict.
 fn digit_value(c: u8) -> u8
     requires { is_lower_hex c ≡ true }
     ensures { result ≡ digit_of c }
@@ -87,7 +89,7 @@ fn digit_value(c: u8) -> u8
     if c <= b'9' { c - b'0' } else { c - b'a' + 10 }
 }
 
-/// The bytes that digits in lower case spell.
+/// Decodes lower-case hexadecimal digits into `value`.
 fn decode(encoded: &[u8], value: &mut [u8])
     requires digits { list_all is_lower_hex encoded.now ≡ true }
     requires size { length encoded.now ≡ 2 * length value.old }
@@ -100,7 +102,7 @@ fn decode(encoded: &[u8], value: &mut [u8])
     }
 }
 
-/// The number that the first eight bytes are, the first of them the highest.
+/// Returns the first eight bytes as a big-endian number.
 fn first_word(value: &[u8]) -> u64
     requires { 8 ≤ length value.now }
     ensures { result ≡ big_endian 0 (take 8 value.now) }
@@ -110,7 +112,7 @@ fn first_word(value: &[u8]) -> u64
     ])
 }
 
-/// The order of two values, by bytes. Their first eight, as one number each, nearly always decide it.
+/// Compares two values by their bytes. The first eight bytes, compared as one number, nearly always decide.
 fn value_cmp(first: &[u8], second: &[u8]) -> Ordering
     requires { (8 ≤ length first.now) × (8 ≤ length second.now) }
     ensures { result ≡ slice_cmp nat_cmp first.now second.now }
@@ -126,9 +128,18 @@ fn value_cmp(first: &[u8], second: &[u8]) -> Ordering
 }
 
 impl Digest {
-    /// The digest that a text spells: `sha256:` and 64 digits of `0-9a-f`, or `sha512:` and 128 of them,
-    /// and nothing else (OCI Image Specification 1.1, "Digests", "Registered Algorithms"). Any other text
-    /// is refused as `DigestInvalid`, one with a digit in upper case among them. It takes no memory.
+    /// Parses the text of a digest.
+    ///
+    /// The text is `sha256:` and 64 digits of `0-9a-f`, or `sha512:` and 128 of them (OCI Image Specification 1.1,
+    /// "Digests", "Registered Algorithms").
+    ///
+    /// # Errors
+    ///
+    /// - `DigestInvalid`: the text has another form, for example an upper-case digit.
+    ///
+    /// # Memory
+    ///
+    /// The call does not allocate.
     pub fn parse(text: &[u8]) -> Result<Digest, Refusal>
         ensures accepts { IsOk result ↔ IsDigestText text.now }
         ensures tested { is_ok result ≡ is_digest_text text.now }
@@ -148,7 +159,7 @@ impl Digest {
         Err(Refusal::DigestInvalid)
     }
 
-    /// The digest of a value of SHA-256.
+    /// Returns the digest with this value of SHA-256.
     pub(crate) fn of_sha256(value: [u8; 32]) -> Digest
         ensures { result ≡ codes "sha256:" ++ encode_lower value }
     {
@@ -157,7 +168,7 @@ impl Digest {
         }
     }
 
-    /// The digest of a value of SHA-512.
+    /// Returns the digest with this value of SHA-512.
     pub(crate) fn of_sha512(value: [u8; 64]) -> Digest
         ensures { result ≡ codes "sha512:" ++ encode_lower value }
     {
@@ -166,7 +177,15 @@ impl Digest {
         }
     }
 
-    /// The digest of bytes that are all there, by one algorithm alone (FIPS 180-4). It takes no memory.
+    /// Computes the digest of `bytes` by one algorithm (FIPS 180-4, sections 6.2 and 6.4).
+    ///
+    /// # Cost
+    ///
+    /// Each byte is hashed once.
+    ///
+    /// # Memory
+    ///
+    /// The call does not allocate.
     #[tactic(auto, unfolding(crate::specs::Digests::sha256_text, crate::specs::Digests::sha512_text))]
     pub fn of(algorithm: Algorithm, bytes: &[u8]) -> Digest
         ensures { result ≡ hash_text algorithm bytes.now }
@@ -177,14 +196,14 @@ impl Digest {
         }
     }
 
-    /// The algorithm that the digest names.
+    /// Returns the algorithm that the digest names.
     pub fn algorithm(&self) -> Algorithm
         ensures { result ≡ algorithm_of self.now }
     {
         self.checksum.algorithm()
     }
 
-    /// The algorithm and the value.
+    /// Returns the algorithm and the value.
     fn checksum(&self) -> &Checksum
         ensures text { text_of result.now ≡ self.now }
         ensures whole { IsDigestText self.now }
@@ -193,8 +212,11 @@ impl Digest {
         &self.checksum
     }
 
-    /// Appends the text of the digest to a text. Refused, as `Memory`, is a growth of that text, which
-    /// is then as it was.
+    /// Appends the text of the digest to `out`.
+    ///
+    /// # Errors
+    ///
+    /// - `Memory`: `out` cannot grow. Then it is unchanged.
     pub fn write(&self, out: &mut String) -> Result<(), Refusal>
         ensures whole { IsDigestText self.now }
         ensures ok { OnOk result (string_bytes out.new ≡ string_bytes out.old ++ self.now) }
@@ -241,7 +263,7 @@ impl Ord for Digest {
     ghost matches_eq = { texts_ties };
 
     fn cmp(&self, other: &Digest) -> Ordering {
-        // The algorithm's name stands first in a text.
+        // A text begins with the name of the algorithm.
         match (&self.checksum, &other.checksum) {
             (Checksum::Sha256(first), Checksum::Sha256(second)) => value_cmp(first, second),
             (Checksum::Sha512(first), Checksum::Sha512(second)) => value_cmp(first, second),
@@ -261,7 +283,7 @@ impl Hash for Digest {
     }
 }
 
-/// Puts the name of the algorithm and the colon at the head of a buffer.
+/// Writes the name of the algorithm and the colon to the front of a buffer.
 fn put_name(name: &str, buffer: &mut [u8])
     requires { (length name.now ≡ 7) × (7 ≤ length buffer.old) }
     ensures { buffer.new ≡ name.now ++ drop 7 buffer.old }
@@ -269,7 +291,7 @@ fn put_name(name: &str, buffer: &mut [u8])
     buffer[..7].copy_from_slice(name.as_bytes());
 }
 
-/// Puts the digits of bytes, two each, behind the name.
+/// Writes the digits of the value, two for each byte, after the name.
 fn put_digits(value: &[u8], buffer: &mut [u8])
     requires { length buffer.old ≡ 7 + 2 * length value.now }
     ensures { buffer.new ≡ take 7 buffer.old ++ encode_lower value.now }
@@ -280,7 +302,7 @@ fn put_digits(value: &[u8], buffer: &mut [u8])
     }
 }
 
-/// The text that bytes of the grammar are.
+/// Returns the bytes as a text. They are ASCII by the grammar.
 fn ascii(text: &[u8]) -> &str
     requires { IsDigestText text.now }
     ensures { result.now ≡ text.now }
@@ -291,7 +313,7 @@ fn ascii(text: &[u8]) -> &str
     }
 }
 
-/// The text of a digest, made at the head of a buffer.
+/// Writes the text of a digest to the front of a buffer and returns it.
 fn spell<'b>(checksum: &Checksum, buffer: &'b mut [u8]) -> &'b str
     requires text { IsDigestText (text_of checksum.now) }
     requires size { length (value_of checksum.now) ≤ 64 }

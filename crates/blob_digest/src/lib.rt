@@ -1,11 +1,12 @@
-//! The texts and values that every layer of the store speaks of: digests, repository names, byte
-//! ranges, numbers, hashes computed piece by piece, sealed blobs, and the one enum of refusals.
+//! The texts and values that every layer of the store uses: digests, repository names, byte ranges, numbers, hashes,
+//! sealed blobs, and the enum of refusals.
 //!
-//! It stands on `sha2` for the hash and on `hex` for digits. It promises that a text is taken exactly
-//! where its grammar has it (OCI Distribution Specification 1.1, "Pulling manifests" and "Pushing a
-//! blob in chunks"; OCI Image Specification 1.1, "Digests"), that a digest's text is that of the value
-//! which SHA-256 or SHA-512 gives to the bytes (FIPS 180-4), however they came in, and that a sealed
-//! blob's bytes have its digest.
+//! It depends on `spec_lib` for keys, on `sha2` for hashes and on `hex` for digits. Its contracts state:
+//!
+//! - A text is accepted only if its grammar has it (OCI Distribution Specification 1.1, "Pulling manifests" and
+//!   "Pushing a blob in chunks"; OCI Image Specification 1.1, "Digests").
+//! - A digest computed of bytes is the value of SHA-256 or SHA-512 (FIPS 180-4), in whichever pieces the bytes came.
+//! - The bytes of a sealed blob have its digest.
 #![tactic(auto)]
 
 mod algorithm;

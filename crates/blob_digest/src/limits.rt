@@ -1,4 +1,4 @@
-//! Limits that several layers keep.
+//! Limits that several layers share.
 
-/// The most slots that a store may have.
+/// The maximum number of slots of a store.
 pub const MAX_SLOTS: u32 = 65_536;

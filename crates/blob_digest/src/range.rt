@@ -1,24 +1,25 @@
 //! The byte ranges of chunks.
-ghost use Rattle.std.specs.Prelude.{ℕ, ◌↔◌, IsOk, MatchResult, ◌≡◌, ◌≤◌, ◌+◌, ◌-◌, ◌<◌, ◌^◌, IfOk, IfErr, Some, None, length, position, ◌==◌, IfSome};
-ghost use Rattle.blob_digest.specs.Ranges.{IsRangeText, range_of};
+ghost use Rattle.std.specs.Prelude.{ℕ, ◌↔◌, IsOk, ◌≡◌, ◌≤◌, ◌+◌, ◌-◌, ◌<◌, ◌^◌, IfOk, IfErr, length, position, ◌==◌, IfSome};
+ghost use Rattle.blob_digest.specs.Ranges.{AgreesWithEnds, IsRangeText, range_of};
 
 use crate::number::decimal;
 use crate::refusal::Refusal;
 
-/// The bytes from `start` to `end`, both of them included, as a chunk's `Content-Range` has them
-/// (OCI Distribution Specification 1.1, "Pushing a blob in chunks"). A range is never empty, and each
-/// end is at most 2^63 - 1.
+/// The bytes from `start` to `end`, both included, as in a chunk's `Content-Range` (OCI Distribution Specification
+/// 1.1, "Pushing a blob in chunks").
+///
+/// A range is never empty, and its ends are at most 2^63 - 1.
 #[derive(Clone, Copy, Debug, PartialEq, Eq)]
 pub struct ByteRange {
-    /// The place of the first byte, from 0.
+    /// The position of the first byte, counted from 0.
     pub start: u64,
-    /// The place of the last byte, not before the first.
+    /// The position of the last byte, not before the first.
     pub end: u64,
     pub ghost ordered: { start ≤ end },
     pub ghost small: { end < 2 ^ 63 },
 }
 
-/// The place of the first `-`.
+/// Returns the position of the first `-`.
 fn dash(text: &[u8]) -> Option<usize>
     ensures place { result ≡ position (λ c. c == 45) text.now }
     ensures within { IfSome result (λ i. i < length text.now) }
@@ -26,7 +27,7 @@ fn dash(text: &[u8]) -> Option<usize>
     text.iter().position(|c| *c == b'-')
 }
 
-/// The ends of the range that a text spells.
+/// Parses the two ends of a range.
 fn ends(text: &[u8]) -> Option<(u64, u64)>
     ensures value { result ≡ range_of text.now }
     ensures small { IfSome result (λ r. (r.0 ≤ r.1) × (r.1 < 2 ^ 63)) }
@@ -42,13 +43,19 @@ fn ends(text: &[u8]) -> Option<(u64, u64)>
 }
 
 impl ByteRange {
-    /// The range that a text spells: one or more decimal digits, `-`, and one or more decimal
-    /// digits, leading zeros allowed. Refused, as `SizeInvalid`, is any other text, a number above
-    /// 2^63 - 1, and a start past the end. It takes no memory.
+    /// Parses a range: two decimal numbers joined by `-`, with leading zeros allowed.
+    ///
+    /// # Errors
+    ///
+    /// - `SizeInvalid`: the text has another form, a number is above 2^63 - 1, or the start is after the end.
+    ///
+    /// # Memory
+    ///
+    /// The call does not allocate.
     pub fn parse(text: &[u8]) -> Result<ByteRange, Refusal>
         ensures accepts { IsOk result ↔ ((start : ℕ) × (end : ℕ) × IsRangeText text.now start end) }
         ensures value { IfOk result (λ r. IsRangeText text.now r.start r.end) }
-        ensures tested { MatchResult result (λ r. range_of text.now ≡ Some (r.start, r.end)) (λ _. range_of text.now ≡ None) }
+        ensures tested { AgreesWithEnds text.now (λ r. (r.start, r.end)) result }
         ensures refused { IfErr result (λ e. e ≡ Refusal.SizeInvalid) }
     {
         match ends(text) {
@@ -57,7 +64,7 @@ impl ByteRange {
         }
     }
 
-    /// How many bytes the range has: at least 1, and at most 2^63.
+    /// Returns the number of bytes in the range: at least 1 and at most 2^63.
     pub fn len(&self) -> u64
         ensures { result ≡ (self.now.end - self.now.start) + 1 }
     {

@@ -1,4 +1,4 @@
-//! The one enum of refusals.
+//! The enum of refusals.
 ghost use Rattle.std.specs.Prelude.{◌≡◌, Some};
 ghost use Rattle.blob_digest.specs.declared.refusal.Refusal.TheVariants.{Memory};
 ghost use Rattle.blob_digest.specs.Refusals.{refusal_text};
@@ -8,67 +8,71 @@ use std::alloc::{AllocError, AllocFailed};
 use std::error::Error;
 use std::fmt;
 
-/// Why a call is refused. One enum serves every layer; each call says which of these it gives, and
-/// in which order it looks for them. A refused call changes nothing but this: one that was given a hand
-/// spends it, and a finish, unless it is `UploadUnknown`, brings the hand's session home as it was before
-/// it was taken; a lease may lower the keeper's bound on a slot's readers; and of a script that several
-/// workers play, the rows that were accepted before `Memory` stand.
+/// The reason why a call fails. One enum serves every layer.
 ///
-/// It is printed as its name, and then its fields: numbers in decimal, digests as their texts. Where
-/// the OCI Distribution Specification 1.1, "Error Codes", has a code for the case, it is named beside
-/// the variant.
+/// Each call documents which of these errors it returns and in which order it checks for them. A failed call changes
+/// nothing, with these exceptions:
+///
+/// - A call that is given a `Hand` consumes it. A failed `finish` checks the session in, as it was before it was
+///   checked out, unless the error is `UploadUnknown`.
+/// - A failed `lease` may lower the keeper's bound on the readers of a slot.
+/// - If several workers play a script and it fails with `Memory`, the rows accepted before the failure keep their
+///   effect.
+///
+/// An error is printed as its name, followed by its fields: numbers in decimal, digests as their texts. A variant for
+/// which the OCI Distribution Specification 1.1, "Error Codes", has a code gives the code in parentheses.
 #[derive(Clone, Copy, Debug, PartialEq, Eq, Drop)]
 pub enum Refusal {
-    /// A text is no repository or tenant name (`NAME_INVALID`).
+    /// The text is not the name of a repository or tenant (`NAME_INVALID`).
     NameInvalid,
-    /// A text is no digest, or the content does not have the digest (`DIGEST_INVALID`).
+    /// The text is not a digest, or the content does not have the digest (`DIGEST_INVALID`).
     DigestInvalid,
-    /// The tenant is not there (`NAME_UNKNOWN`).
+    /// The tenant does not exist (`NAME_UNKNOWN`).
     NameUnknown,
-    /// The tenant has no such session, or it is another repository's (`BLOB_UPLOAD_UNKNOWN`).
+    /// The tenant has no such session, or the session belongs to another repository (`BLOB_UPLOAD_UNKNOWN`).
     UploadUnknown,
-    /// A range's text is malformed, its length is not that of the bytes, or a size limit is passed
+    /// The text is not a range, the range's length differs from the number of bytes, or a size limit is exceeded
     /// (`SIZE_INVALID`).
     SizeInvalid,
-    /// A range does not start at the received length, in bytes (status 416).
+    /// The range does not start at the length that the session has received (status 416).
     RangeInvalid {
         /// The length that the session has received, in bytes.
         received: u64,
     },
-    /// The digest is not linked in the repository (`BLOB_UNKNOWN`).
+    /// The repository has no link to the digest (`BLOB_UNKNOWN`).
     BlobUnknown,
-    /// The bytes are no manifest that the store reads (`MANIFEST_INVALID`).
+    /// The bytes are not a manifest that the store supports (`MANIFEST_INVALID`).
     ManifestInvalid,
     /// The repository has no such manifest (`MANIFEST_UNKNOWN`).
     ManifestUnknown,
-    /// The first reference of a manifest that is not linked (`MANIFEST_BLOB_UNKNOWN`).
+    /// The manifest refers to a blob that the repository has no link to (`MANIFEST_BLOB_UNKNOWN`).
     ManifestBlobUnknown {
-        /// The digest of the missing blob.
+        /// The digest of the first such blob, in the order of the manifest.
         digest: Digest,
     },
-    /// The tenant's use before the call plus the chunk passes its quota, both in bytes (`DENIED`).
+    /// The tenant's use before the call plus the chunk exceeds its quota (`DENIED`).
     Quota {
         /// The tenant's use before the call, in bytes.
         used: u64,
-        /// The most that it may use, in bytes.
+        /// The quota of the tenant, in bytes.
         quota: u64,
     },
-    /// A manifest refers to the blob; of several the one with the least digest (`DENIED`).
+    /// A manifest refers to the blob (`DENIED`).
     Referenced {
-        /// The digest of that manifest.
+        /// The digest of that manifest, the least if there are several.
         manifest: Digest,
     },
-    /// The digest is not resident and no slot is free.
+    /// No slot holds the digest, and no slot is free.
     StoreFull,
-    /// One more lease would pass the weight that a slot's word can hold.
+    /// One more lease would exceed the weight that a slot's word can hold.
     TooManyReaders,
     /// A limit on numbers or counts is reached.
     LimitReached,
     /// A lease of weight 1 cannot be shared.
     WeightSpent,
-    /// A growth was refused as out of memory.
+    /// Memory allocation failed.
     Memory,
-    /// The session is in hand: a chunk is on its way to it.
+    /// The session is checked out: a chunk is being added to it.
     Busy,
 }
 

@@ -1,10 +1,10 @@
 //! Repository names.
-ghost use Rattle.std.specs.Prelude.{◌≡◌, ◌⊎◌, ◌==◌, length, position, true, false, IfOk, IfErr, MatchResult, Some, refl, bytes_eq};
+ghost use Rattle.std.specs.Prelude.{◌≡◌, ◌==◌, length, position, IfOk, IfErr, Some, refl, bytes_eq};
 ghost use Rattle.std.specs.Ordering.{nat_cmp};
 ghost use Rattle.std.specs.Cmp.{partial_equiv_from_equiv};
 ghost use Rattle.std.specs.Cmp.Lexicographic.{slice_cmp, nat_list_eq_equiv, nat_list_cmp_total, texts_po, texts_ties};
-ghost use Rattle.blob_digest.specs.NameMachine.{is_repo_name};
-ghost use Rattle.blob_digest.specs.Names.{IsRepoName, IsComponent, tenant_name};
+ghost use Rattle.blob_digest.specs.NameMachine.{AgreesWithTest};
+ghost use Rattle.blob_digest.specs.Names.{IsComponent, IsNameRefusal, IsRepoName, tenant_name};
 
 use crate::name::is_path;
 use crate::refusal::Refusal;
@@ -13,12 +13,14 @@ use std::cmp::Ordering;
 use std::marker::Model;
 use std::{fmt, str};
 
-/// The most bytes that a repository's name has.
+/// The maximum length of a repository's name, in bytes.
 const MAX_NAME: usize = 255;
 
-/// The name of a repository: components joined by `/`, at most 255 bytes in all (OCI Distribution
-/// Specification 1.1, "Pulling manifests"). The first component names the tenant. Contracts see the
-/// name as its text, and names are ordered by the bytes of their texts.
+/// The name of a repository: components joined by `/`, at most 255 bytes (OCI Distribution Specification 1.1,
+/// "Pulling manifests").
+///
+/// The first component is the name of the tenant. Contracts see a name as its text. Names are ordered by the bytes of
+/// their texts.
 #[derive(Debug, Drop)]
 pub struct RepoName {
     text: String,
@@ -36,14 +38,14 @@ impl Model for RepoName {
     ghost invariant = { λ a. IsNamed (string_bytes a.text) a.tenant_len };
 }
 
-/// The place of the first `/`.
+/// Returns the position of the first `/`.
 fn first_slash(text: &[u8]) -> Option<usize>
     ensures { result ≡ position (λ b. b == 47) text.now }
 {
     text.iter().position(|b| *b == b'/')
 }
 
-/// How many bytes stand before the first `/`, or all.
+/// Returns the length of the first component, in bytes.
 fn tenant_len(text: &[u8]) -> usize
     ensures { result ≡ length (tenant_name text.now) }
 {
@@ -53,7 +55,7 @@ fn tenant_len(text: &[u8]) -> usize
     }
 }
 
-/// The text that the bytes are.
+/// Returns the bytes as a text. They are ASCII by the grammar.
 fn ascii(text: &[u8]) -> &str
     requires { IsRepoName text.now }
     ensures { result.now ≡ text.now }
@@ -65,13 +67,21 @@ fn ascii(text: &[u8]) -> &str
 }
 
 impl RepoName {
-    /// The name that a text spells. Refused are a text that is no name of at most 255 bytes
-    /// (`NameInvalid`), and then `Memory`, where there is no room for a copy of it.
+    /// Parses the name of a repository.
+    ///
+    /// # Errors
+    ///
+    /// - `NameInvalid`: the text is not a name, or has more than 255 bytes.
+    /// - `Memory`: allocation of the copy fails.
+    ///
+    /// # Cost
+    ///
+    /// Linear in the length of the text. The call allocates one copy of it.
     #[tactic(auto, using(crate::proofs::NameGrammar::name_passes, crate::proofs::NameGrammar::no_name_fails))]
     pub fn parse(alloc: Global, text: &[u8]) -> Result<RepoName, Refusal>
         ensures value { IfOk result (λ name. (name ≡ text.now) × IsRepoName text.now) }
-        ensures refused { IfErr result (λ e. ((e ≡ Refusal.NameInvalid) × ¬ IsRepoName text.now) ⊎ ((e ≡ Refusal.Memory) × IsRepoName text.now)) }
-        ensures tested { MatchResult result (λ _. is_repo_name text.now ≡ true) (λ e. ((e ≡ Refusal.NameInvalid) × (is_repo_name text.now ≡ false)) ⊎ ((e ≡ Refusal.Memory) × (is_repo_name text.now ≡ true))) }
+        ensures refused { IfErr result (λ e. IsNameRefusal text.now e) }
+        ensures tested { AgreesWithTest text.now result }
     {
         if text.len() > MAX_NAME {
             return Err(Refusal::NameInvalid);
@@ -84,7 +94,7 @@ impl RepoName {
         Ok(RepoName { text, tenant_len })
     }
 
-    /// The whole name, of 1 to 255 bytes.
+    /// Returns the whole name, of 1 to 255 bytes.
     pub fn text(&self) -> &str
         ensures value { result.now ≡ self.now }
         ensures grammar { IsRepoName self.now }
@@ -92,8 +102,11 @@ impl RepoName {
         self.text.as_str()
     }
 
-    /// The tenant that the repository belongs to: the first component of its name. Its end is kept, and
-    /// so is not looked for again.
+    /// Returns the name of the repository's tenant: the first component.
+    ///
+    /// # Cost
+    ///
+    /// Constant, because the length of the first component is stored.
     pub fn tenant(&self) -> &str
         ensures value { result.now ≡ tenant_name self.now }
         ensures grammar { IsComponent (tenant_name self.now) }

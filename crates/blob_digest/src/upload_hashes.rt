@@ -1,19 +1,24 @@
 //! The hashes of an upload's bytes.
 
-ghost use Rattle.std.specs.Prelude.{◌≡◌, ◌≤◌, ℕ, List, [], ◌++◌, length, take};
+ghost use Rattle.std.specs.Prelude.{◌≡◌, ◌≤◌, [], length, take};
 ghost use Rattle.blob_digest.specs.Digests.{algorithm_of, hash_text};
-ghost use Rattle.blob_digest.specs.Hashing.{HashesUpload};
+ghost use Rattle.blob_digest.specs.Hashing.{HashesUpload, UploadTakesIn};
 ghost use Rattle.sha2.specs.Hashers.{Holds512};
 
 use crate::algorithm::Algorithm;
 use crate::digest::Digest;
 use sha2::{Digest as _, Sha256, Sha512};
 
-/// The hashes of the bytes of an upload so far, of which either can be asked for at its end: by SHA-256 (FIPS
-/// 180-4, section 6.2) of all bytes, as they come, and by SHA-512 (section 6.4) of as many first ones as were
-/// there when it was asked for last. So an upload that is closed by SHA-256, as nearly all are, goes through one hash
-/// alone. It has no bytes of its own: who asks for a digest has them. Contracts relate it to them by
-/// `HashesUpload`. It takes no memory.
+/// The hashes of the bytes of an upload so far.
+///
+/// SHA-256 (FIPS 180-4, section 6.2) takes in bytes as they come. SHA-512 (section 6.4) takes them in only when its
+/// digest is requested. So the bytes of an upload that is closed by SHA-256, as nearly all are, go through one hash.
+/// The value does not store the bytes: the caller passes them to `digest`. Contracts relate it to them by
+/// `HashesUpload`.
+///
+/// # Memory
+///
+/// No call allocates.
 #[derive(Drop)]
 pub struct UploadHashes {
     sha256: Sha256,
@@ -22,7 +27,7 @@ pub struct UploadHashes {
 }
 
 impl UploadHashes {
-    /// The hashes of no bytes.
+    /// Returns the hashes of no bytes.
     #[tactic(auto, unfolding(crate::specs::Hashing::HashesUpload))]
     pub fn new() -> UploadHashes
         ensures { HashesUpload result [] }
@@ -34,17 +39,24 @@ impl UploadHashes {
         }
     }
 
-    /// Takes in more bytes, behind those before. Each goes through SHA-256 once.
+    /// Takes in `bytes` after those before.
+    ///
+    /// # Cost
+    ///
+    /// Each byte goes through SHA-256 once.
     pub fn update(&mut self, bytes: &[u8])
-        ensures { (before : List ℕ) → HashesUpload self.old before → HashesUpload self.new (before ++ bytes.now) }
+        ensures { UploadTakesIn self.old self.new bytes.now }
     {
         self.sha256.update(bytes);
     }
 
-    /// The hashes of the same bytes and then of more, with these as they were. It costs a copy of the state, of
-    /// some hundred bytes, and what `update` costs.
+    /// Returns the hashes of the bytes before followed by `bytes`, and leaves `self` unchanged.
+    ///
+    /// # Cost
+    ///
+    /// A copy of the state, of some hundred bytes, and the cost of `update`.
     pub fn updated(&self, bytes: &[u8]) -> UploadHashes
-        ensures { (before : List ℕ) → HashesUpload self.now before → HashesUpload result (before ++ bytes.now) }
+        ensures { UploadTakesIn self.now result bytes.now }
     {
         match self.sha256.clone() {
             Ok(sha256) => match self.sha512.clone() {
@@ -63,7 +75,7 @@ impl UploadHashes {
         }
     }
 
-    /// Lets SHA-512 take in those of these bytes, which are all that were taken in, that it has not yet.
+    /// Makes SHA-512 take in the rest of `bytes`, which are all bytes that SHA-256 has taken in.
     fn catch_up(&mut self, bytes: &[u8])
         requires behind { self.old.through_sha512 ≤ length bytes.now }
         requires all { HashesUpload self.old bytes.now }
@@ -74,9 +86,14 @@ impl UploadHashes {
         self.through_sha512 = bytes.len();
     }
 
-    /// The digest, by one of the algorithms, of these bytes, of which so many first ones were taken in. These stay
-    /// what was taken in. The others go through the hash of that algorithm; by SHA-512 those too that
-    /// were not there when it was asked for last, so that none that was taken in goes through it twice.
+    /// Returns the digest of `bytes`, of which the first `received` were taken in before.
+    ///
+    /// The call takes in no further bytes: `self` remains the hashes of the first `received`.
+    ///
+    /// # Cost
+    ///
+    /// The bytes after the first `received` go through the hash of `algorithm`. For SHA-512, so do the bytes taken in
+    /// since its digest was last requested: none of the first `received` goes through SHA-512 twice.
     pub fn digest(&mut self, bytes: &[u8], received: usize, algorithm: Algorithm) -> Digest
         requires within { received ≤ length bytes.now }
         requires front { HashesUpload self.old (take received bytes.now) }

@@ -2,6 +2,6 @@ pub mod Refusals
 pub mod Places
 pub mod RowOrders
 pub mod Settlings
-pub mod Seated
+pub mod BackendSteps
 pub mod Interleavings
 pub mod OneText

@@ -1,8 +1,8 @@
 -- The rows of several workers in an order.
-pub mod Calm
+pub mod ContentionFree
 pub mod Counts
-pub mod Held
-pub mod Kept
+pub mod CheckedOutSessions
+pub mod KeptHands
 pub mod Leases
 pub mod Merging
 pub mod Orders

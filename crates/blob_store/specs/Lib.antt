@@ -1,6 +1,8 @@
 pub mod Jobs
 pub mod OneText
 pub mod Parts
+pub mod Playing
 pub mod RowOrders
-pub mod Seats
+pub mod StoreBackends
+pub mod StoreCalls
 pub mod Workers

@@ -2,5 +2,5 @@
 
 use locked_book::StorePins;
 
-/// A lease of a blob of the store that has these names. `Store::lease` gives it, and `Store::verify` looks at its slot.
+/// A lease of a blob of the store with these names. `Store::lease` returns it, and `Store::verify` checks its slot.
 pub type Lease<'s, S> = store_book::Lease<'s, StorePins<S>>;

@@ -1,19 +1,19 @@
-//! What a store is made of.
+//! The parts that a store is made of.
 
-ghost use Rattle.std.specs.Prelude.{◌≡◌, IfOk, IfErr};
-ghost use Rattle.store_book.specs.Openings.{OpensBook, RefusesBook, tenants_shown};
+ghost use Rattle.std.specs.Prelude.{IfOk, IfErr};
+ghost use Rattle.blob_store.specs.Parts.{OpensParts, RefusesParts};
 
 use blob_digest::Refusal;
+use ghost_log::SharedLog;
 use locked_book::{LEDGER_PARTS, Step};
 use pin_table::Pins;
-use shared_log::SharedLog;
 use std::alloc::Global;
 use std::marker::Model;
 use std::sync::ledger::Blank;
 use store_book::{Book, Config};
 
-/// The parts of a store: a new book with its pins, four new ledgers, and an empty log. No type names them yet: `Store::new`
-/// does.
+/// The parts of a store: a new book with its pins, four new ledgers, and an empty log. `Store::new` gives them the
+/// names of a store.
 #[derive(Drop)]
 pub struct Parts {
     pub(crate) alloc: Global,
@@ -49,15 +49,15 @@ impl Model for Parts {
 }
 
 impl Parts {
-    /// The parts of a new store: its tenants in the order of their names, no repository, and every slot
-    /// free.
+    /// Makes the parts of a new store: its tenants in the order of their names, no repository, and every slot free.
     ///
-    /// Refused, in this order: a tenant's name that is no component of a repository's name or comes
-    /// twice (`NameInvalid`); a count, a quota or a size beyond its limit (`LimitReached`); out of
-    /// memory.
+    /// # Errors
+    ///
+    /// - Those of `store_book::Book::new`, in their order.
+    /// - `Memory` if the log cannot be allocated.
     pub fn new(alloc: Global, config: &Config) -> Result<Parts, Refusal>
-        ensures opened { IfOk result (λ p. OpensBook (tenants_shown config.now.tenants.items) config.now.slots config.now.max_blob config.now.first_generation p.book) }
-        ensures refused { IfErr result (λ e. RefusesBook e (tenants_shown config.now.tenants.items) config.now.slots config.now.max_blob) }
+        ensures opened { IfOk result (λ p. OpensParts config.now p) }
+        ensures refused { IfErr result (λ e. RefusesParts config.now e) }
     {
         let (book, pins) = Book::new(alloc, config)?;
         let log = SharedLog::new(alloc)?;

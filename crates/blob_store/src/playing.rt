@@ -1,19 +1,18 @@
-//! A script played by workers.
-ghost use Rattle.std.specs.Prelude.{ℕ, ◌≡◌, ◌⊎◌, ◌+◌, ◌<◌, ◌≤◌, [], IfOk, IfErr, IfSome, MatchResult, Some, true, length, map, vec_len, vec_capacity};
+//! Workers that play a whole script.
+ghost use Rattle.std.specs.Prelude.{◌≡◌, ◌⊎◌, ◌<◌, ◌≤◌, IfOk, IfErr, MatchResult, length, vec_len, vec_capacity};
 ghost use Rattle.blob_digest.specs.declared.refusal.Refusal.TheVariants.{LimitReached, Memory};
-ghost use Rattle.locked_book.specs.History.{AreFresh, DeskView};
+ghost use Rattle.locked_book.specs.History.{AreFreshDesks};
 ghost use Rattle.blob_store.specs.Parts.{names_of};
-ghost use Rattle.blob_store.specs.Jobs.{AreOutcomes, AreReady, HasRoom, IsRoomFor, IsRoomOfEach};
-ghost use Rattle.blob_store.specs.Workers.{ArePlayed, AreSettled, HasPlayed, HavePlayed, IsInterleaved};
-ghost use Rattle.store_api.specs.Answers.{answers_of};
-ghost use Rattle.row_player.specs.Shares.{own_answers};
+ghost use Rattle.blob_store.specs.Jobs.{AreWorkerResults, AreReady, HasRoom, IsRoomFor, IsRoomOfEach};
+ghost use Rattle.blob_store.specs.Playing.{EachHasPlayed, HavePlayedIf, HavePlayedIfSome};
+ghost use Rattle.blob_store.specs.Playing.{IsEndOf, IsInterleavedTo, SettlesReplies};
 
 use crate::parts::Parts;
 use crate::store::Store;
-use crate::workers::{Job, Outcome, play_all};
+use crate::workers::{Job, WorkerResult, play_all};
 use blob_digest::Refusal;
 use locked_book::{Desk, LockedBook, Naming, Settled};
-use row_player::{Gate, RepliesByRow, RowList, Worker, count_by_worker};
+use script_player::{Gate, RepliesByRow, RowList, Worker, count_by_worker};
 use std::alloc::Global;
 use std::collections::VecDeque;
 use std::sync::Wait;
@@ -23,7 +22,7 @@ use store_api::Reply;
 /// The most workers that play a script.
 pub const MAX_WORKERS: usize = 64;
 
-/// What playing a script answers.
+/// The result of `play`.
 #[derive(Drop)]
 pub struct Played {
     /// One reply for each row, in the order of the rows.
@@ -32,25 +31,25 @@ pub struct Played {
     pub settled: Settled,
 }
 
-/// What playing a script to the end of its store answers.
+/// The result of `play_to_end`.
 #[derive(Drop)]
 pub struct PlayedToEnd<S: Naming, L: RowList> {
     /// One reply for each row, in the order of the rows.
     pub replies: RepliesByRow<L>,
-    /// The book that is left.
+    /// The book after the last row, with its totals and its history.
     pub book: LockedBook<S>,
 }
 
-/// Room for what workers begin and end with.
+/// Allocated room for the values that workers begin and end with.
 #[derive(Drop)]
 struct Room<S: Naming> {
     lists: Vec<Vec<Reply>>,
     queues: Vec<VecDeque<Reply>>,
     jobs: Vec<Job<S>>,
-    outcomes: Vec<Outcome<S>>,
+    outcomes: Vec<WorkerResult<S>>,
 }
 
-/// Room for the replies of each worker, and for no more.
+/// Allocates room for the replies of each worker, and no more.
 fn lists_for<L: RowList>(
     alloc: Global,
     rows: &L,
@@ -68,7 +67,7 @@ fn lists_for<L: RowList>(
     Ok(lists)
 }
 
-/// All room that workers need.
+/// Allocates all room that workers need.
 fn room_for<S: Naming, L: RowList>(
     alloc: Global,
     rows: &L,
@@ -86,15 +85,15 @@ fn room_for<S: Naming, L: RowList>(
     })
 }
 
-/// The jobs of all workers, the last one first: each has a desk and room for its replies. The desks' vector is left
-/// empty, with the room that it had.
+/// Returns the jobs of all workers, the last one first. Each has a desk and room for its replies. The vector of the
+/// desks is left empty, with its room.
 fn jobs_of<S: Naming, L: RowList>(
     rows: &L,
     desks: &mut Vec<Desk<S>>,
     mut lists: Vec<Vec<Reply>>,
     mut jobs: Vec<Job<S>>,
 ) -> Vec<Job<S>>
-    requires fresh { AreFresh desks.old.items }
+    requires fresh { AreFreshDesks desks.old.items }
     requires lists { IsRoomOfEach (vec_len desks.old) (L.lines rows.now) lists }
     requires room { IsRoomFor (vec_len desks.old) jobs }
     ensures len { vec_len result ≡ vec_len desks.old }
@@ -116,24 +115,24 @@ fn jobs_of<S: Naming, L: RowList>(
     jobs
 }
 
-/// Takes the workers' desks and replies out of what they ended with, the first one first, and returns whether all
-/// played all of their rows.
+/// Moves the workers' desks and replies out of their results, the first worker's first. Returns whether each worker
+/// played all of its rows.
 fn collect<S: Naming, L: RowList>(
     rows: &L,
     workers: usize,
-    mut outcomes: Vec<Outcome<S>>,
+    mut outcomes: Vec<WorkerResult<S>>,
     desks: &mut Vec<Desk<S>>,
     queues: &mut Vec<VecDeque<Reply>>,
 ) -> bool
-    requires each { AreOutcomes S.names.opening workers (L.lines rows.now) outcomes }
+    requires each { AreWorkerResults S.names.opening workers (L.lines rows.now) outcomes }
     requires desks { IsRoomFor workers desks.old }
     requires queues { IsRoomFor workers queues.old }
     ensures len { (vec_len desks.new ≡ workers) × (vec_len queues.new ≡ workers) }
-    ensures played { result ≡ true → ArePlayed S.names.opening workers (L.lines rows.now) desks.new.items (map (λ q. answers_of q.items) queues.new.items) }
+    ensures played { HavePlayedIf result S.names workers (L.lines rows.now) desks.new queues.new }
 {
     let mut completed = true;
     while let Some(outcome) = outcomes.pop() {
-        let Outcome {
+        let WorkerResult {
             desk,
             replies,
             completed: ended,
@@ -145,9 +144,9 @@ fn collect<S: Naming, L: RowList>(
     completed
 }
 
-/// Plays a script by as many workers as there are desks, and puts the desks back in their order. No replies, where memory
-/// ran out for a row or for a thread.
-fn play_at<
+/// Plays a script by one worker for each desk, and puts the desks back in their order. Returns `None` if memory ran out
+/// for a row or for a thread.
+fn play_with_desks<
     W: Threads + Wait + Sync,
     G: Gate + Send + Sync,
     S: Naming + Send + Sync,
@@ -161,9 +160,9 @@ fn play_at<
     room: Room<S>,
     desks: &mut Vec<Desk<S>>,
 ) -> Option<RepliesByRow<L>>
-    requires fresh { (0 < vec_len desks.old) × AreFresh desks.old.items }
+    requires fresh { (0 < vec_len desks.old) × AreFreshDesks desks.old.items }
     requires room { HasRoom (vec_len desks.old) (L.lines rows.now) room }
-    ensures { IfSome result (λ replies. HavePlayed S.names.opening (vec_len desks.old) (L.lines rows.now) desks.new.items replies) }
+    ensures { HavePlayedIfSome S.names.opening (L.lines rows.now) desks.old desks.new result }
 {
     let Room {
         lists,
@@ -182,15 +181,22 @@ fn play_at<
     }
 }
 
-/// Plays a script by workers, the first in the calling thread and each other one in a thread of its own: a row of
-/// a lane is played by the worker whose number is the lane's modulo the workers', each worker plays its rows in
-/// their order, and the gate is asked before and after each row, outside the lock. At its end a worker gives back
-/// the leases that its lanes still hold. Which worker comes first is not said, nor that two of them run at the
-/// same time.
+/// Plays a script by workers on a store, and returns the replies and the settled amounts. The first worker runs in the
+/// calling thread, and each other one in a thread of its own.
 ///
-/// All room for desks and replies is made before a worker is started. Refused, in this order: more than
-/// 1,024 desks that would be out (`LimitReached`); out of memory. Where memory runs out, for a row or for a
-/// thread, the rows that were accepted before it stand, all leases are given back, and all desks are settled.
+/// The worker of a row is the one whose number is the row's lane modulo the number of workers. Each worker plays its
+/// rows in their order, and gives back the leases that its lanes still hold at its end. The gate is called before and
+/// after each row, without the lock. The order of two workers is not specified, and they need not run at the same time.
+///
+/// # Errors
+///
+/// - `LimitReached` if more than 1,024 desks would be out.
+/// - `Memory` if an allocation fails or a thread cannot be started. The rows that were accepted before remain in
+///   effect, all leases are given back, and all desks are settled.
+///
+/// # Cost
+///
+/// All room for desks and replies is allocated before a worker is started.
 pub fn play<
     W: Threads + Wait + Sync,
     G: Gate + Send + Sync,
@@ -206,15 +212,15 @@ pub fn play<
 ) -> Result<Played, Refusal>
     requires { (0 < workers) × (workers ≤ MAX_WORKERS) }
     ensures replies { IfOk result (λ p. length p.replies.items ≡ length (L.lines rows)) }
-    ensures each { IfOk result (λ p. (w : ℕ) → w < workers → (desk : DeskView) × HasPlayed S.names.opening workers w (L.lines rows) desk (own_answers workers w (L.lines rows) (answers_of p.replies.items))) }
+    ensures each { IfOk result (EachHasPlayed S.names.opening workers (L.lines rows)) }
     ensures room { IfOk result (λ p. vec_capacity p.replies ≡ length (L.lines rows)) }
-    ensures settled { IfOk result (λ p. AreSettled (L.lines rows) (answers_of p.replies.items) p.settled) }
+    ensures settled { IfOk result (SettlesReplies (L.lines rows)) }
     ensures refused { IfErr result (λ e. (e ≡ LimitReached) ⊎ (e ≡ Memory)) }
 {
     let room = room_for(alloc, &rows, workers)?;
     let list = Vec::with_capacity(alloc, rows.len())?;
     let mut desks = store.desks(rt, workers as u64)?;
-    let played = play_at(rt, alloc, store, &rows, gate, room, &mut desks);
+    let played = play_with_desks(rt, alloc, store, &rows, gate, room, &mut desks);
     let settled = store.settle(rt, desks);
     match played {
         Some(replies) => Ok(Played {
@@ -225,22 +231,22 @@ pub fn play<
     }
 }
 
-/// The replies with the book that is left, where all rows were played and the history has no steps but the workers'.
-fn to_end<S: Naming, L: RowList>(
+/// Returns the replies and the book if all rows were played and the history has only the workers' steps.
+fn end_of_play<S: Naming, L: RowList>(
     played: Option<RepliesByRow<L>>,
     book: LockedBook<S>,
-    is_whole: bool,
+    is_exclusive: bool,
 ) -> Result<PlayedToEnd<S, L>, Refusal>
-    ensures { MatchResult result (λ p. (is_whole ≡ true) × (played ≡ Some p.replies) × (p.book ≡ book)) (λ e. e ≡ Memory) }
+    ensures { MatchResult result (IsEndOf is_exclusive played book) (λ e. e ≡ Memory) }
 {
     match played {
-        Some(replies) if is_whole => Ok(PlayedToEnd { replies, book }),
+        Some(replies) if is_exclusive => Ok(PlayedToEnd { replies, book }),
         _ => Err(Refusal::Memory),
     }
 }
 
-/// Plays a script by workers on a store that nobody else uses, in this room, and answers the replies with the book that is left.
-fn play_alone<
+/// Plays a script by workers on a store that has no other user, in this room, and returns the replies and the book.
+fn play_exclusively<
     W: Threads + Wait + Sync,
     G: Gate + Send + Sync,
     S: Naming + Send + Sync,
@@ -257,22 +263,25 @@ fn play_alone<
     requires workers { (0 < workers) × (workers ≤ MAX_WORKERS) }
     requires room { HasRoom workers (L.lines rows.now) room }
     ensures replies { IfOk result (λ p. length p.replies ≡ length (L.lines rows.now)) }
-    ensures together { IfOk result (λ p. IsInterleaved S.names.opening workers (L.lines rows.now) p.replies p.book.book.catalog) }
+    ensures together { IfOk result (IsInterleavedTo S.names.opening workers (L.lines rows.now)) }
     ensures refused { IfErr result (λ e. (e ≡ LimitReached) ⊎ (e ≡ Memory)) }
 {
     let mut desks = store.desks(rt, workers as u64)?;
-    let played = play_at(rt, alloc, &store, rows, gate, room, &mut desks);
+    let played = play_with_desks(rt, alloc, &store, rows, gate, room, &mut desks);
     let mut book = store.into_book();
-    let is_whole = book.conclude(desks);
-    to_end(played, book, is_whole)
+    let is_exclusive = book.conclude(desks);
+    end_of_play(played, book, is_exclusive)
 }
 
-/// Plays a script by workers as `play` does, on a new store of these parts that nobody else uses, and answers the replies
-/// with the book that is left. The steps of all workers are one legal history, which has no others and leaves this book. The
-/// names of the parts are those that the type parameter says.
+/// Plays a script by workers as `play` does, on a new store of these parts, and returns the replies and the book. The
+/// workers' steps are one legal history that has no other steps and leads to this book. The names of the parts are
+/// those of the type parameter.
 ///
-/// Refused as `play` refuses. Out of memory is answered as well where the history has steps that are no worker's, of which there are
-/// none, since nobody else has the store.
+/// # Errors
+///
+/// - Those of `play`.
+/// - `Memory` if the history has steps that are no worker's. It has none, because the store has no other user; this is
+///   not proved.
 pub fn play_to_end<
     W: Threads + Wait + Sync,
     G: Gate + Send + Sync,
@@ -289,9 +298,9 @@ pub fn play_to_end<
     requires workers { (0 < workers) × (workers ≤ MAX_WORKERS) }
     requires named { names_of parts ≡ S.names }
     ensures replies { IfOk result (λ p. length p.replies ≡ length (L.lines rows)) }
-    ensures together { IfOk result (λ p. IsInterleaved S.names.opening workers (L.lines rows) p.replies p.book.book.catalog) }
+    ensures together { IfOk result (IsInterleavedTo S.names.opening workers (L.lines rows)) }
     ensures refused { IfErr result (λ e. (e ≡ LimitReached) ⊎ (e ≡ Memory)) }
 {
     let room = room_for(alloc, &rows, workers)?;
-    play_alone(rt, alloc, Store::new(parts), &rows, workers, gate, room)
+    play_exclusively(rt, alloc, Store::new(parts), &rows, workers, gate, room)
 }

@@ -1,8 +1,8 @@
-//! What a store tells beside its commands.
+//! Queries of a store that are not commands.
 
 ghost use Rattle.std.specs.Prelude.{◌≡◌};
 ghost use Rattle.store_model.specs.Queries.{stat, stat_manifest, usage, free_slots};
-ghost use Rattle.locked_book.specs.Found.{InSomeBook};
+ghost use Rattle.blob_store.specs.StoreCalls.{InSomeCatalog};
 
 use crate::store::Store;
 use blob_digest::{Digest, Refusal, RepoName};
@@ -10,50 +10,54 @@ use locked_book::Naming;
 use std::sync::Wait;
 use store_book::Usage;
 
-/// These take no desk: none is a command or a step of the history, and nothing is counted. Each has the lock for one
-/// look-up, changes nothing, copies nothing and takes no memory. What it answers is so of a book of this store that a
-/// legal history leaves: of the one that it finds under the lock.
+/// Queries: they use no desk, are no steps of the history and are counted nowhere. Each takes the lock for one look-up,
+/// changes nothing, copies nothing and allocates nothing. Its result is that of some book of this store: of the one
+/// that it finds under the lock.
 impl<S: Naming> Store<S> {
-    /// The size in bytes of a blob that is linked in a repository, as `Book::stat` tells it (OCI Distribution
-    /// Specification 1.1, "Checking if content exists in the registry"). No lease is taken.
+    /// Returns the size in bytes of a blob that is linked in a repository (OCI Distribution Specification 1.1,
+    /// "Checking if content exists in the registry"). No lease is taken.
     ///
-    /// Refused, in this order: a tenant that is not there (`NameUnknown`); a digest that is not linked in the
-    /// repository (`BlobUnknown`).
+    /// # Errors
+    ///
+    /// Those of `store_book::Book::stat`.
     pub fn stat(&self, rt: &impl Wait, repo: &RepoName, digest: &Digest) -> Result<u64, Refusal>
-        ensures { InSomeBook S.names (λ b. result ≡ stat b.catalog repo.now digest.now) }
+        ensures { InSomeCatalog S.names (λ c. result ≡ stat c repo.now digest.now) }
     {
         self.locked(rt).book().stat(repo, digest)
     }
 
-    /// The size in bytes of the manifest that a repository has under a digest, as `Book::stat_manifest` tells it (OCI
-    /// Distribution Specification 1.1, "Checking if content exists in the registry").
+    /// Returns the size in bytes of the manifest that a repository has under a digest (OCI Distribution Specification
+    /// 1.1, "Checking if content exists in the registry").
     ///
-    /// Refused, in this order: a tenant that is not there (`NameUnknown`); a digest under which the repository has no
-    /// manifest (`ManifestUnknown`).
+    /// # Errors
+    ///
+    /// Those of `store_book::Book::stat_manifest`.
     pub fn stat_manifest(
         &self,
         rt: &impl Wait,
         repo: &RepoName,
         digest: &Digest,
     ) -> Result<u64, Refusal>
-        ensures { InSomeBook S.names (λ b. result ≡ stat_manifest b.catalog repo.now digest.now) }
+        ensures { InSomeCatalog S.names (λ c. result ≡ stat_manifest c repo.now digest.now) }
     {
         self.locked(rt).book().stat_manifest(repo, digest)
     }
 
-    /// What the tenant of a repository uses, and its quota, as `Book::usage` tells them. The repository needn't be
-    /// there: a tenant's own name is the name of one of its repositories.
+    /// Returns the use and the quota of the tenant of a repository. The repository need not exist: a tenant's own name
+    /// is the name of one of its repositories.
     ///
-    /// Refused: a tenant that is not there (`NameUnknown`).
+    /// # Errors
+    ///
+    /// Those of `store_book::Book::usage`.
     pub fn usage(&self, rt: &impl Wait, repo: &RepoName) -> Result<Usage, Refusal>
-        ensures { InSomeBook S.names (λ b. result ≡ usage b.catalog repo.now) }
+        ensures { InSomeCatalog S.names (λ c. result ≡ usage c repo.now) }
     {
         self.locked(rt).book().usage(repo)
     }
 
-    /// How many slots are free, as `Book::free_slots` tells it: neither used, be it by a condemned blob, nor retired.
+    /// Returns how many slots are free: neither in use, by a live or a condemned blob, nor retired.
     pub fn free_slots(&self, rt: &impl Wait) -> u32
-        ensures { InSomeBook S.names (λ b. result ≡ free_slots b.catalog) }
+        ensures { InSomeCatalog S.names (λ c. result ≡ free_slots c) }
     {
         self.locked(rt).book().free_slots()
     }

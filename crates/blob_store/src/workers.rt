@@ -1,13 +1,13 @@
 //! Workers that play the rows of a script on one store, each in a thread of its own.
 ghost use Rattle.std.specs.Prelude.{◌≡◌, ◌+◌, ◌≤◌, false, vec_len, vec_capacity};
-ghost use Rattle.blob_store.specs.Jobs.{AreOutcomes, AreReady, AreStarted, HasPlayedIfComplete};
-ghost use Rattle.blob_store.specs.Jobs.{IsReady, IsReadyAt, IsRoomFor, Keeps};
+ghost use Rattle.blob_store.specs.Jobs.{AreWorkerResults, AreReady, AreStarted, HasPlayedIfComplete};
+ghost use Rattle.blob_store.specs.Jobs.{IsReady, IsReadyAt, IsRoomFor, KeepsPromise};
 ghost use Rattle.blob_store.specs.Workers.{AllAt};
 
-use crate::seat::Seat;
 use crate::store::Store;
+use crate::store_backend::StoreBackend;
 use locked_book::{DroppableDesk, Naming};
-use row_player::{Gate, RowList, Worker, play_rows};
+use script_player::{Gate, RowList, Worker, run_rows};
 use std::alloc::Global;
 use std::sync::Wait;
 use std::sync::atomic::{AtomicBool, Ordering};
@@ -15,7 +15,7 @@ use std::thread;
 use std::thread::{Promise, PromisedHandle, Scope, Threads};
 use store_api::Reply;
 
-/// What a worker begins with: its desk, and room for its replies.
+/// The values that a worker begins with: its desk, room for its replies, and its number.
 #[derive(Drop)]
 pub struct Job<S: Naming> {
     pub desk: DroppableDesk<S>,
@@ -23,20 +23,20 @@ pub struct Job<S: Naming> {
     pub worker: Worker,
 }
 
-/// What a worker ends with: its desk, its replies, and whether it played all of its rows.
+/// The result of a worker: its desk, its replies, and whether it played all of its rows.
 #[derive(Drop)]
-pub struct Outcome<S: Naming> {
+pub struct WorkerResult<S: Naming> {
     pub desk: DroppableDesk<S>,
     pub replies: Vec<Reply>,
     pub completed: bool,
 }
 
-impl<S: Naming> Outcome<S> {
-    /// The outcome of a worker that did not complete.
-    fn incomplete(desk: DroppableDesk<S>, replies: Vec<Reply>) -> Outcome<S>
+impl<S: Naming> WorkerResult<S> {
+    /// Returns the result of a worker that did not complete.
+    fn incomplete(desk: DroppableDesk<S>, replies: Vec<Reply>) -> WorkerResult<S>
         ensures { result.completed ≡ false }
     {
-        Outcome {
+        WorkerResult {
             desk,
             replies,
             completed: false,
@@ -44,19 +44,19 @@ impl<S: Naming> Outcome<S> {
     }
 }
 
-/// What a worker promises: if it played all of its rows, then with its replies, its desk got what they come to, and its
-/// steps are theirs.
+/// The promise of a worker. If it played all of its rows, its desk has the amounts and the steps of these rows, with
+/// its replies.
 #[derive(Clone, Copy)]
 pub struct PlaysRows<'r, L> {
     rows: &'r L,
     worker: Worker,
 }
 
-impl<'r, S: Naming, L: RowList> Promise<Outcome<S>> for PlaysRows<'r, L> {
-    ghost kept_by = { λ p o. Keeps S.names.opening (L.lines p.rows.now) p.worker o };
+impl<'r, S: Naming, L: RowList> Promise<WorkerResult<S>> for PlaysRows<'r, L> {
+    ghost kept_by = { λ p o. KeepsPromise S.names.opening (L.lines p.rows.now) p.worker o };
 }
 
-/// What all workers share.
+/// The values that all workers share.
 #[derive(Drop)]
 struct Shared<'e, W, G, S: Naming, L> {
     rt: &'e W,
@@ -68,22 +68,21 @@ struct Shared<'e, W, G, S: Naming, L> {
     halt: AtomicBool,
 }
 
-/// The threads that were started, and the outcomes of the workers without a thread.
+/// The threads that were started, and the results of the workers without a thread.
 #[derive(Drop)]
 struct Started<'e, S: Naming, L: RowList> {
-    children: Vec<PromisedHandle<Outcome<S>, PlaysRows<'e, L>>>,
-    outcomes: Vec<Outcome<S>>,
+    children: Vec<PromisedHandle<WorkerResult<S>, PlaysRows<'e, L>>>,
+    outcomes: Vec<WorkerResult<S>>,
 }
 
-/// Plays a worker's rows on the store, and gives back the leases that its lanes still hold. It
-/// plays nothing if another worker could not be started before it begins, and plays on once it has
-/// begun.
+/// Plays a worker's rows on the store, and gives back the leases that its lanes still hold. The worker plays nothing if
+/// another one could not be started before it begins. A worker that has begun does not stop for that reason.
 fn work<W: Wait, G: Gate, S: Naming, L: RowList>(
     shared: &Shared<'_, W, G, S, L>,
     job: Job<S>,
-) -> Outcome<S>
+) -> WorkerResult<S>
     requires { IsReady (L.lines shared.now.rows.now) job }
-    ensures { Keeps S.names.opening (L.lines shared.now.rows.now) job.worker result }
+    ensures { KeepsPromise S.names.opening (L.lines shared.now.rows.now) job.worker result }
 {
     let Job {
         desk,
@@ -91,41 +90,44 @@ fn work<W: Wait, G: Gate, S: Naming, L: RowList>(
         worker,
     } = job;
     if shared.halt.load(Ordering::SeqCst) {
-        return Outcome::incomplete(desk, replies);
+        return WorkerResult::incomplete(desk, replies);
     }
-    let mut seat = Seat {
+    let mut backend = StoreBackend {
         rt: shared.rt,
         store: shared.store,
         desk: desk.into_desk(),
     };
-    let played = play_rows(
+    let played = run_rows(
         shared.alloc,
-        &mut seat,
+        &mut backend,
         shared.gate,
         shared.rows,
         worker,
         replies,
     );
-    let Seat {
+    let StoreBackend {
         rt: _,
         store: _,
         desk,
-    } = seat;
+    } = backend;
     match played {
         Ok(replies) => {
-            desk.audit();
-            Outcome {
+            desk.reveal_invariant();
+            WorkerResult {
                 desk: desk.into_droppable(),
                 replies,
                 completed: true,
             }
         }
-        Err(_) => Outcome::incomplete(desk.into_droppable(), Vec::new(shared.alloc)),
+        Err(_) => WorkerResult::incomplete(desk.into_droppable(), Vec::new(shared.alloc)),
     }
 }
 
-/// Adds the outcomes of workers that are not started.
-fn add_unplayed<S: Naming>(mut jobs: Vec<Job<S>>, mut outcomes: Vec<Outcome<S>>) -> Vec<Outcome<S>>
+/// Adds the results of workers that are not started.
+fn add_unplayed<S: Naming>(
+    mut jobs: Vec<Job<S>>,
+    mut outcomes: Vec<WorkerResult<S>>,
+) -> Vec<WorkerResult<S>>
     requires room { IsRoomFor (vec_len jobs) outcomes }
     ensures len { vec_len result ≡ vec_len jobs }
     ensures capacity { vec_capacity result ≡ vec_capacity outcomes }
@@ -137,13 +139,13 @@ fn add_unplayed<S: Naming>(mut jobs: Vec<Job<S>>, mut outcomes: Vec<Outcome<S>>)
             replies,
             worker: _,
         } = job;
-        outcomes.push_reserved(Outcome::incomplete(desk, replies));
+        outcomes.push_reserved(WorkerResult::incomplete(desk, replies));
     }
     outcomes
 }
 
-/// Starts a thread for each job, the last one first. If one can't be started, none that follows is,
-/// and the workers that have not begun play nothing.
+/// Starts a thread for each job, the last one first. If one cannot be started, none of the later ones is, and the
+/// workers that have not begun play nothing.
 fn start_all<
     's,
     'e: 's,
@@ -171,21 +173,22 @@ fn start_all<
             rows: shared.rows,
             worker: job.worker,
         };
-        let there = move || -> Outcome<S>
+        let there = move || -> WorkerResult<S>
             requires { IsReady (L.lines shared.now.rows.now) job }
-            ensures { Keeps S.names.opening (L.lines shared.entry.now.rows.now) job.worker result }
+            ensures { KeepsPromise S.names.opening (L.lines shared.entry.now.rows.now) job.worker
+                result }
         { work(shared, job) };
         match scope.spawn_with(promise, there) {
             Ok(child) => children.push_reserved(child),
             Err(refused) => {
                 shared.halt.store(true, Ordering::SeqCst);
-                let Outcome {
+                let WorkerResult {
                     desk,
                     replies,
                     completed: _,
                 } = (refused.value)();
                 let mut outcomes = add_unplayed(jobs, outcomes);
-                outcomes.push_reserved(Outcome::incomplete(desk, replies));
+                outcomes.push_reserved(WorkerResult::incomplete(desk, replies));
                 return Started { children, outcomes };
             }
         }
@@ -193,18 +196,17 @@ fn start_all<
     Started { children, outcomes }
 }
 
-/// Joins the threads, the last one first, adds the outcome of each, and then adds the first
-/// worker's.
+/// Joins the threads, the last one first, adds the result of each, and then the first worker's.
 fn join_all<'e, W: Threads, S: Naming, L: RowList>(
     rt: &W,
     rows: &'e L,
     workers: usize,
     started: Started<'e, S, L>,
-    first: Outcome<S>,
-) -> Vec<Outcome<S>>
+    first: WorkerResult<S>,
+) -> Vec<WorkerResult<S>>
     requires started { AreStarted S.names.opening L.lines workers rows.now started }
     requires first { HasPlayedIfComplete S.names.opening workers 0 (L.lines rows.now) first }
-    ensures { AreOutcomes S.names.opening workers (L.lines rows.now) result }
+    ensures { AreWorkerResults S.names.opening workers (L.lines rows.now) result }
 {
     let Started {
         mut children,
@@ -217,8 +219,8 @@ fn join_all<'e, W: Threads, S: Naming, L: RowList>(
     outcomes
 }
 
-/// Starts the threads of this scope, plays the last job, which is the first worker's, in the
-/// calling thread, and joins the threads.
+/// Starts the threads of this scope, plays the last job in the calling thread, and joins the threads. The last job is
+/// the first worker's.
 fn play_in<
     's,
     'e: 's,
@@ -230,11 +232,11 @@ fn play_in<
     scope: &'s Scope<'s, &'e ()>,
     shared: &'e Shared<'e, W, G, S, L>,
     mut jobs: Vec<Job<S>>,
-    outcomes: Vec<Outcome<S>>,
-) -> Vec<Outcome<S>>
+    outcomes: Vec<WorkerResult<S>>,
+) -> Vec<WorkerResult<S>>
     requires ready { AreReady (L.lines shared.now.rows.now) jobs }
     requires room { IsRoomFor (vec_len jobs) outcomes }
-    ensures { AreOutcomes S.names.opening (vec_len jobs) (L.lines shared.now.rows.now) result }
+    ensures { AreWorkerResults S.names.opening (vec_len jobs) (L.lines shared.now.rows.now) result }
 {
     let workers = jobs.len();
     let Ok(children) = Vec::with_capacity(shared.alloc, workers) else {
@@ -248,9 +250,8 @@ fn play_in<
     join_all(shared.rt, shared.rows, workers, started, first)
 }
 
-/// Plays all jobs: the last one, which is the first worker's, in the calling thread, and each other
-/// one in a thread of its own. If a thread can't be started, the workers that have not begun play
-/// nothing, the first one among them.
+/// Plays all jobs: the last one, which is the first worker's, in the calling thread, and each other one in a thread of
+/// its own. If a thread cannot be started, the workers that have not begun play nothing, including the first one.
 pub fn play_all<
     W: Threads + Wait + Sync,
     G: Gate + Send + Sync,
@@ -263,11 +264,11 @@ pub fn play_all<
     gate: &G,
     rows: &L,
     jobs: Vec<Job<S>>,
-    outcomes: Vec<Outcome<S>>,
-) -> Vec<Outcome<S>>
+    outcomes: Vec<WorkerResult<S>>,
+) -> Vec<WorkerResult<S>>
     requires ready { AreReady (L.lines rows.now) jobs }
     requires room { IsRoomFor (vec_len jobs) outcomes }
-    ensures { AreOutcomes S.names.opening (vec_len jobs) (L.lines rows.now) result }
+    ensures { AreWorkerResults S.names.opening (vec_len jobs) (L.lines rows.now) result }
 {
     let shared = Shared {
         rt,
@@ -281,7 +282,7 @@ pub fn play_all<
     thread::scope(
         thread::scope_env(),
         rt,
-        move |scope| -> Vec<Outcome<S>>
+        move |scope| -> Vec<WorkerResult<S>>
             requires ready { AreReady (L.lines shared.now.rows.now) jobs }
             requires room { IsRoomFor (vec_len jobs) outcomes }
         { play_in(scope, shared, jobs, outcomes) },

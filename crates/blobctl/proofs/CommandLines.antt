@@ -1,4 +1,4 @@
--- What `clap` finds in the words, as the options read it.
+-- The words of the command line as `clap` and the options read them.
 use Rattle.std.proofs.Common.{◌≡◌, ℕ, ◌<◌, ◌^◌, List, [], ◌∷◌, length, map, Option, Some, None, Result, Ok, Err, refl, true, sym, ap, ◌∙◌, codes, subst, inl, inr, ℤ, w64}
 use Rattle.std.specs.Prelude.{IsSomeAnd, MatchOption, option_map, pos, unwrap_or}
 use Rattle.std.specs.Borrow.{Bor}
@@ -21,10 +21,10 @@ use Rattle.std.specs.Int.{saturate_unsigned}
 use Rattle.std.specs.Ordering.{nat_cmp, ord_max}
 use Rattle.clap.proofs.OnLiterals.{clap_on_literals}
 use Rattle.clap.specs.declared.error.kind.ErrorKind.{ErrorKind}
-use Rattle.finite_maps.specs.Texts.{Text}
-use Rattle.blobctl.specs.Arguments.{HasNumber, RefusesFound, RefusesWords, program, tenant_words}
+use Rattle.spec_lib.specs.Texts.{Text}
+use Rattle.blobctl.specs.Arguments.{HasNumber, RefusesFound, RefusesWords, program, tenant_args}
 use Rattle.blobctl.specs.Stops.{IsStopFor}
-use Rattle.tenant_words.specs.Tenants.{HasBadTenant}
+use Rattle.tenant_args.specs.Tenants.{HasBadTenant}
 use Rattle.blobctl.specs.declared.options.Stop.{Stop}
 use Rattle.blobctl.specs.declared.options.Stop.TheVariants.{Help, Usage, BadTenant, NotUtf8, Memory}
 
@@ -63,7 +63,7 @@ words_rule new named required ranged whole value values r is_named one_value is_
 
 -- ---- numbers
 
--- what `get_one` reads is the number of the option's numeral
+-- `get_one` returns the number of the option's numeral
 pub number_read : (E : Type 0) (G : List ℕ → Result ℕ E → Type 0) (k : ℕ) (rows : List Row) (id : Text) (r : Option ℕ) → ((u : List ℕ) (x : Result ℕ E) → G u x → ParsesUnsigned k 10 u x)
     → (one_of id rows ≡ None → r ≡ None) → ((t : Text) → one_of id rows ≡ Some t → ReadsOne G t r) → MatchOption r ((n : ℕ) → n < 2 ^ k → HasNumber rows id n → ⊥) (HasNumber rows id)
 number_read E G k rows id r only none some = by_text (one_of id rows) refl r none some
@@ -84,17 +84,17 @@ number_same rows id m n a b =
     let same : a.text ≡ b.text = same_Some a.text b.text (sym a.given ∙ b.given) in
     a.value ∙ ap (λ (x : Text). digits_value 10 (without_leading_plus x)) same ∙ sym b.value
 
--- the words for the tenants, as the program takes them out of the matches
+-- the words for the tenants, as the program reads them from the matches
 pub words_taken : (o : Option (Bor (List (Bor Text)))) (none : Bor (List (Bor Text))) (v : Option (List Text)) → none.now ≡ [] → option_map (λ s. map (λ x. x.now) s.now) o ≡ v → map (λ x. x.now) (unwrap_or o none).now ≡ unwrap_or v []
 words_taken None none v empty is = ap (map (λ x. x.now)) empty ∙ ap (λ (u : Option (List Text)). unwrap_or u []) is
 words_taken (Some s) none v empty is = ap (λ (u : Option (List Text)). unwrap_or u []) is
 
--- ---- refusals
+-- ---- errors
 
 pub refused_found : (words : List Text) (rows : List Row) (stop : Stop) → fault_of program words ≡ [] → rows ≡ matches_of program words → RefusesFound rows stop → RefusesWords words stop
 refused_found words rows (Help text) taken is why = absurd why
 refused_found words rows (Usage text) taken is why = inr (taken, subst (λ (r : List Row). RefusesFound r (Usage text)) is why)
-refused_found words rows BadTenant taken is why = (taken, subst (λ (r : List Row). HasBadTenant (tenant_words r)) is why)
+refused_found words rows BadTenant taken is why = (taken, subst (λ (r : List Row). HasBadTenant (tenant_args r)) is why)
 refused_found words rows NotUtf8 taken is why = absurd why
 refused_found words rows Memory taken is why = tt
 
@@ -107,7 +107,7 @@ refused_words words error BadTenant is why = absurd is
 refused_words words error NotUtf8 is why = absurd is
 refused_words words error Memory is why = tt
 
--- ---- on words that are written out
+-- ---- literal words
 
 abbrev two_words : List Text
 two_words = codes "blobctl" ∷ codes "acme=1000" ∷ codes "zeta=5" ∷ []
@@ -116,7 +116,7 @@ defaults : (one_of (codes "slots") (matches_of program two_words) ≡ Some (code
 unfolding clap_on_literals
 defaults = (refl, refl, refl)
 
-words_of_tenants : tenant_words (matches_of program two_words) ≡ codes "acme=1000" ∷ codes "zeta=5" ∷ []
+words_of_tenants : tenant_args (matches_of program two_words) ≡ codes "acme=1000" ∷ codes "zeta=5" ∷ []
 unfolding clap_on_literals
 words_of_tenants = refl
 

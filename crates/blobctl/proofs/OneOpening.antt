@@ -11,9 +11,9 @@ use Rattle.std.proofs.lemmas.List.Sorted.{sum_by-IsPermutation}
 use Rattle.std.proofs.lemmas.List.Sums.{sum_by-cons}
 use Rattle.std.proofs.lemmas.Map.Keys.{sorted_head, sorted_tail}
 use Rattle.std.proofs.lemmas.Map.Lookups.{exact_bytes}
-use Rattle.finite_maps.specs.Texts.{Text, text_cmp, same_text}
+use Rattle.spec_lib.specs.Texts.{Text, text_cmp, same_text}
 use Rattle.blob_digest.specs.Tenants.{Tenant}
-use Rattle.finite_maps.proofs.Texts.{same_itself, same_text_is, text_is_same}
+use Rattle.spec_lib.proofs.Texts.{same_itself, same_text_is, text_is_same}
 use Rattle.store_model.specs.Catalog.{Catalog, opening}
 use Rattle.store_book.specs.Openings.{OpensCatalog}
 
@@ -35,7 +35,7 @@ not_same q n below = elim (same_text n q) as (λ b. same_text n q ≡ b → same
   | false ↦ λ e. e
 ] refl
 
--- what stands past a name adds nothing under it
+-- tenants after a name add nothing to the sum of that name
 sum_past : (q : Text) (g : Tenant → ℕ) (ts : List Tenant) → Past q (names ts) → sum_by (λ t. cond (same_text t.name q) (g t) 0) ts ≡ 0
 sum_past q g [] past = refl
 sum_past q g (t ∷ ts) past = sum_by-cons (λ t. cond (same_text t.name q) (g t) 0) t ts ∙ rw (not_same q t.name past.0) (zero-add _ ∙ sum_past q g ts past.1)

@@ -2,9 +2,9 @@
 use Rattle.std.proofs.Common.{◌≡◌, ◌≤◌, ◌++◌, ◌∷◌, [], ◌∙◌, ℕ, zero, suc, List, Vec, length, drop, get_or, set, ap, sym, arith, append_assoc, append-nil, length-append}
 use Rattle.std.proofs.lemmas.List.{drop-append-le}
 use Rattle.std.specs.declared.alloc.Global.{Global}
-use Rattle.blobctl.specs.Pieces.{bytes_in, IsWithin}
+use Rattle.blobctl.specs.Pieces.{bytes_in, IsPlaceInPieces}
 
--- a piece more
+-- one more piece
 pub bytes_in-append : (pieces : List (Vec ℕ Global)) (piece : Vec ℕ Global) → bytes_in (pieces ++ piece ∷ []) ≡ bytes_in pieces ++ piece.items
 bytes_in-append [] piece = append-nil piece.items
 bytes_in-append (first ∷ rest) piece = ap (λ x. first.items ++ x) (bytes_in-append rest piece) ∙ sym (append_assoc first.items (bytes_in rest) piece.items)
@@ -20,11 +20,11 @@ bytes_in-set (first ∷ rest) (suc k) old new more last here grown =
     ap (λ x. first.items ++ x) (bytes_in-set rest k old new more (omega (arith, last)) here grown) ∙ sym (append_assoc first.items (bytes_in rest) more)
 
 -- the place is within the text
-pub within : (place : ℕ) (pieces : List (Vec ℕ Global)) → IsWithin place pieces → place ≤ length (bytes_in pieces)
+pub within : (place : ℕ) (pieces : List (Vec ℕ Global)) → IsPlaceInPieces place pieces → place ≤ length (bytes_in pieces)
 within place [] h = omega (arith, h)
 within place (first ∷ rest) h = omega (arith, h.0, length-append first.items (bytes_in rest))
 
--- bytes that are added are left to read, behind those that were
-pub left-more : (place : ℕ) (old new : List (Vec ℕ Global)) (more : List ℕ) → IsWithin place old → bytes_in new ≡ bytes_in old ++ more
+-- added bytes are left to read after the others
+pub left-more : (place : ℕ) (old new : List (Vec ℕ Global)) (more : List ℕ) → IsPlaceInPieces place old → bytes_in new ≡ bytes_in old ++ more
     → drop place (bytes_in new) ≡ drop place (bytes_in old) ++ more
 left-more place old new more h grown = ap (drop place) grown ∙ drop-append-le place (bytes_in old) more (within place old h)

@@ -3,18 +3,18 @@ use Rattle.std.proofs.Common.{◌≡◌, ◌<◌, ◌+◌, ◌∙◌, ◌++◌, 
 use Rattle.std.proofs.lemmas.Grind.{flat_map-append}
 use Rattle.std.proofs.lemmas.List.{append-nil, drop_more, length-map, map_more, take_more}
 use Rattle.std.specs.List.{enumerate_from, flat_map}
-use Rattle.row_player.specs.Replies.{replies_text, reply_line}
+use Rattle.script_player.specs.Replies.{replies_text, reply_line}
 use Rattle.store_api.specs.Answers.{Answer, answer_of, answers_of}
 use Rattle.store_api.specs.declared.reply.Reply.{Reply}
 
--- an element more is numbered after the others
+-- one more element is numbered after the others
 numbered_more : {A : Type 0} (n : ℕ) (xs : List A) (y : A) → enumerate_from n (xs ++ y ∷ []) ≡ enumerate_from n xs ++ (n + length xs, y) ∷ []
 numbered_more n [] y = ap (λ m. (m, y) ∷ []) (sym (add-zero n))
 numbered_more n (x ∷ xs) y =
     let place : n + 1 + length xs ≡ n + length (x ∷ xs) = omega arith in
     ap (λ t. (n, x) ∷ t) (numbered_more (n + 1) xs y ∙ ap (λ m. enumerate_from (n + 1) xs ++ (m, y) ∷ []) place)
 
--- a reply more adds its line
+-- one more reply adds its line
 replies_push : (answers : List Answer) (answer : Answer) (n : ℕ) → length answers ≡ n → replies_text (answers ++ answer ∷ []) ≡ replies_text answers ++ reply_line (n + 1, answer)
 replies_push answers answer n size =
     let number : 1 + length answers ≡ n + 1 = omega (arith, size) in
@@ -28,7 +28,7 @@ replies_more replies i d within =
     let size : length (answers_of (take i replies)) ≡ i = omega (arith, length-map (take i replies) answer_of, length-take i replies, within) in
     ap replies_text (map_more answer_of replies i d within) ∙ replies_push (answers_of (take i replies)) (answer_of (get_or replies i d)) i size
 
--- The answer that is left first, where the replies before it were written.
+-- the first remaining reply, after the replies before it were written
 pub next_left : (answers : List Answer) (i : ℕ) (answer : Answer) (rest : List Answer) → i < length answers → drop i answers ≡ answer ∷ rest
     → (rest ≡ drop (i + 1) answers) × (replies_text (take (i + 1) answers) ≡ replies_text (take i answers) ++ reply_line (i + 1, answer))
 next_left answers i answer rest within left =

@@ -1,24 +1,24 @@
--- A row that names a repository, and is not refused for a field, has a command.
+-- A row that names a repository, and has no malformed field, has a command.
 use Rattle.std.proofs.Common.{◌≡◌, ◌≢◌, ◌∙◌, ◌∷◌, [], ℕ, List, false, true, Option, Some, None, Ok, refl, subst, sym}
 use Rattle.std.specs.Prelude.{is_some, option_and_then, map}
 use Rattle.std.proofs.lemmas.Bool.{false≢true, and_parts}
-use Rattle.finite_maps.specs.Texts.{Text}
+use Rattle.spec_lib.specs.Texts.{Text}
 use Rattle.blob_digest.specs.declared.range.ByteRange.{ByteRange}
-use Rattle.store_api.specs.Commands.{Command, Start, Status, Append, Close, Abandon, Mount, Delete, PutManifest, GetManifest, DeleteManifest, Lease, command, digest_in, is_lease, repo_in, uses_digest, uses_repo, uses_session, where_used}
-use Rattle.row_player.specs.RowCommands.{command_of}
-use Rattle.row_player.specs.Rows.{RowView, fits, session_number}
+use Rattle.store_api.specs.Commands.{Command, Start, Status, Append, Close, Abandon, Mount, Delete, PutManifest, GetManifest, DeleteManifest, Lease, command_of_verb, digest_in, is_lease, repo_in, uses_digest, uses_repo, uses_session, used_field}
+use Rattle.script_player.specs.RowCommands.{command_of}
+use Rattle.script_player.specs.Rows.{RowView, has_needed_fields, session_number}
 use Rattle.store_api.specs.declared.verb.Verb.{Verb}
 use Rattle.store_api.specs.declared.verb.Verb.TheVariants as verb
-use Rattle.row_player.proofs.Spellings.{lease_spelled, spelled}
-use Rattle.blobctl.specs.Records.{Record, head_of, row_of, row_with}
-use Rattle.finite_maps.proofs.Options.{cond_some}
+use Rattle.script_player.proofs.Spellings.{lease_spelled, spelled}
+use Rattle.blobctl.specs.Records.{Record, head_of, row_of, row_of_head}
+use Rattle.spec_lib.proofs.Options.{cond_some}
 
 -- ---- a row fits its command
 
 abbrev pub Fits : RowView → Type 0
-Fits line = fits line.verb line.repo line.key line.digest line.range line.body ≡ true
+Fits line = has_needed_fields line.verb line.repo line.key line.digest line.range line.body ≡ true
 
-fits_with : (fields : Record) (head : Option (ℕ × Verb)) (line : RowView) → option_and_then (row_with fields) head ≡ Some line → Fits line
+fits_with : (fields : Record) (head : Option (ℕ × Verb)) (line : RowView) → option_and_then (row_of_head fields) head ≡ Some line → Fits line
 fits_with fields None line h = absurd (let e = h in cc)
 fits_with fields (Some head) line h = let p = cond_some _ _ line h in subst Fits p.1 p.0
 
@@ -40,7 +40,7 @@ some_of (Some n) h = (n, refl)
 
 module _ (line : RowView) where
   -- the session of a row that names one
-  session : (v : Verb) → uses_session v ≡ true → fits v line.repo line.key line.digest line.range line.body ≡ true → (n : ℕ) × (session_number line.key ≡ Some n)
+  session : (v : Verb) → uses_session v ≡ true → has_needed_fields v line.repo line.key line.digest line.range line.body ≡ true → (n : ℕ) × (session_number line.key ≡ Some n)
   session verb.Status uses h = some_of (session_number line.key) (and_parts _ _ (and_parts _ _ (and_parts _ _ h).0).0).0
   session verb.Append uses h = some_of (session_number line.key) (and_parts _ _ h).0
   session verb.Close uses h = some_of (session_number line.key) h
@@ -52,7 +52,7 @@ module _ (line : RowView) where
   Commanded o = (c : Command) × (o ≡ Some c) × (is_lease c ≡ false)
 
   module _ (repo digest : Text) (from : Option Text) (range : Option ByteRange) where
-    commanded : (v : Verb) → uses_repo v ≡ true → v ≢ verb.Lease → fits v line.repo line.key line.digest line.range line.body ≡ true → Commanded (command v repo from digest range (session_number line.key) line.body)
+    commanded : (v : Verb) → uses_repo v ≡ true → v ≢ verb.Lease → has_needed_fields v line.repo line.key line.digest line.range line.body ≡ true → Commanded (command_of_verb v repo from digest range (session_number line.key) line.body)
     commanded verb.Start uses other fit = (Start repo, refl, refl)
     commanded verb.Status uses other fit = let n = session verb.Status refl fit in (Status repo n.0, rw n.1 refl, refl)
     commanded verb.Append uses other fit = let n = session verb.Append refl fit in (Append repo n.0 range line.body, rw n.1 refl, refl)
@@ -78,5 +78,5 @@ module _ (line : RowView) where
   has_lease is o spells =
       let s = spelled line o spells in
       lease_spelled line s.repo s.digest is
-      (subst (λ (v : Verb). where_used (uses_repo v) [] (repo_in line.repo) ≡ Ok s.repo) is s.named)
-      (subst (λ (v : Verb). where_used (uses_digest v) [] (digest_in line.digest) ≡ Ok s.digest) is s.known)
+      (subst (λ (v : Verb). used_field (uses_repo v) [] (repo_in line.repo) ≡ Ok s.repo) is s.named)
+      (subst (λ (v : Verb). used_field (uses_digest v) [] (digest_in line.digest) ≡ Ok s.digest) is s.known)

@@ -1,4 +1,4 @@
--- Texts that workers write of the same rows.
+-- Texts that workers write for the same rows.
 use Rattle.std.proofs.Common.{◌≡◌, ◌<◌, ◌++◌, ◌∙◌, ℕ, List, length, ap, refl, subst}
 use Rattle.blob_digest.specs.Tenants.{Tenant}
 use Rattle.store_model.specs.BookText.{book_text}
@@ -9,12 +9,12 @@ use Rattle.locked_book.specs.History.{steps_of}
 use Rattle.blob_store.specs.OneText.{MeetsNoLimit, PlayedWithinLimits, WorkersWriteTheSame}
 use Rattle.blob_store.specs.Workers.{IsInterleaved}
 use Rattle.store_api.specs.Answers.{Answer}
-use Rattle.row_player.specs.Replies.{replies_text}
-use Rattle.row_player.specs.Rows.{RowView}
+use Rattle.script_player.specs.Replies.{replies_text}
+use Rattle.script_player.specs.Rows.{RowView}
 use Rattle.blobctl.specs.WorkersText.{AreApart, MeetNoLimit}
 use Rattle.blobctl.proofs.OneOpening.{one_opening}
 
--- what workers played, who met no limit that they share
+-- a play of workers that met no shared limit
 pub record Play (tenants : List Tenant) (slots max_blob : ℕ) (rows : List RowView) (first : Catalog) (answers : List Answer) (last : Catalog) : Type 0 where
   pub opened : OpensCatalog tenants slots max_blob first
   pub workers : ℕ
@@ -24,7 +24,7 @@ pub record Play (tenants : List Tenant) (slots max_blob : ℕ) (rows : List RowV
   pub free : MeetNoLimit slots max_blob run
 
 module _ (tenants : List Tenant) (slots max_blob : ℕ) (rows : List RowView) where
-  -- it is one within the limits of the opening, since it began with it
+  -- the run is within the limits of the opening catalog, because it began there
   within : (ts : List Tenant) (first last : Catalog) (answers : List Answer) (play : Play tenants slots max_blob rows first answers last) → first.tenants ≡ ts → PlayedWithinLimits ts slots max_blob play.workers rows answers last
   within ts first last answers play same =
       let opened : first ≡ opening ts slots max_blob = play.opened.empty ∙ ap (λ xs. opening xs slots max_blob) same in

@@ -13,3 +13,4 @@ pub mod Stops
 pub mod Texts
 pub mod WorkersOrder
 pub mod WorkersText
+pub mod Writing

@@ -3,15 +3,15 @@ use Rattle.std.specs.Prelude.{◌≡◌, ◌<◌, ◌≤◌, ℕ}
 use Rattle.store_book.specs.Openings.{HasNames, IsSized, IsWithinLimits, tenants_shown}
 use Rattle.blobctl.specs.declared.options.Options.{Options}
 
--- how many workers there can be
-pub record CanWork (workers : ℕ) : Type 0 where
+-- a run can have this number of workers
+pub record IsWorkerCount (workers : ℕ) : Type 0 where
   pub some : 0 < workers
   pub few : workers ≤ 64
 
 -- the numbers are within their limits, and a store can have the tenants
-pub record IsWithin (options : Options) : Type 0 where
+pub record IsWithinOptionLimits (options : Options) : Type 0 where
   pub sized : IsSized options.store.slots options.store.max_blob
   pub names : HasNames (tenants_shown options.store.tenants.items)
   pub limits : IsWithinLimits (tenants_shown options.store.tenants.items)
   pub first : options.store.first_generation ≡ 0
-  pub workers : CanWork options.workers
+  pub workers : IsWorkerCount options.workers

@@ -1,10 +1,10 @@
--- The row that a record of a script is.
+-- The row of a record of a script.
 use Rattle.std.specs.Prelude.{ℕ, ◌==◌, ◌&&◌, List, [], length, nat_le, if◌then◌else◌, Option, Some, None, option_map, option_and_then, unwrap_or, codes}
 use Rattle.std.specs.Str.{bytes_eq}
 use Rattle.csv.specs.Records.{field_at}
-use Rattle.finite_maps.specs.Texts.{Text}
+use Rattle.spec_lib.specs.Texts.{Text}
 use Rattle.blob_digest.specs.Ranges.{number_of}
-use Rattle.row_player.specs.Rows.{RowView, fits}
+use Rattle.script_player.specs.Rows.{RowView, has_needed_fields}
 use Rattle.store_api.specs.declared.verb.Verb.{Verb}
 use Rattle.store_api.specs.declared.verb.Verb.TheVariants.{Start, Status, Append, Close, Abandon, Mount, Delete, PutManifest, GetManifest, DeleteManifest, Lease, Read, Share, Verify, GiveBack, Sweep}
 
@@ -13,8 +13,8 @@ abbrev pub Record : Type 0
 Record = List Text
 
 -- the field at a place, counted from 0
-abbrev pub field : Record → ℕ → Text
-field fields i = unwrap_or (field_at fields i) []
+abbrev pub field_or_empty : Record → ℕ → Text
+field_or_empty fields i = unwrap_or (field_at fields i) []
 
 -- the command of a name
 abbrev pub verb_of : Text → Option Verb
@@ -43,14 +43,14 @@ lane_of text = option_and_then (λ n. if nat_le (length text) 3 && nat_le n 255 
 
 -- the lane and the command of a record of seven fields
 abbrev pub head_of : Record → Option (ℕ × Verb)
-head_of fields = if length fields == 7 then option_and_then (λ lane. option_map (λ verb. (lane, verb)) (verb_of (field fields 1))) (lane_of (field fields 0)) else None
+head_of fields = if length fields == 7 then option_and_then (λ lane. option_map (λ verb. (lane, verb)) (verb_of (field_or_empty fields 1))) (lane_of (field_or_empty fields 0)) else None
 
-abbrev pub row_with : Record → ℕ × Verb → Option RowView
-row_with fields head =
-    if fits head.1 (field fields 2) (field fields 3) (field fields 4) (field fields 5) (field fields 6)
-    then Some (record { lane = head.0; verb = head.1; repo = field fields 2; key = field fields 3; digest = field fields 4; range = field fields 5; body = field fields 6 })
+abbrev pub row_of_head : Record → ℕ × Verb → Option RowView
+row_of_head fields head =
+    if has_needed_fields head.1 (field_or_empty fields 2) (field_or_empty fields 3) (field_or_empty fields 4) (field_or_empty fields 5) (field_or_empty fields 6)
+    then Some (record { lane = head.0; verb = head.1; repo = field_or_empty fields 2; key = field_or_empty fields 3; digest = field_or_empty fields 4; range = field_or_empty fields 5; body = field_or_empty fields 6 })
     else None
 
--- the row of a record, or none where the record is bad
+-- the row of a record, or `None` if the record is bad
 abbrev pub row_of : Record → Option RowView
-row_of fields = option_and_then (row_with fields) (head_of fields)
+row_of fields = option_and_then (row_of_head fields) (head_of fields)

@@ -1,14 +1,14 @@
--- What is printed where the program stops before it runs, and its exit statuses then.
+-- The text and the exit status of a stop before the run.
 use Rattle.std.specs.Prelude.{⊤, ◌≡◌, ◌≢◌, ℕ, codes, string_bytes}
 use Rattle.clap.specs.declared.error.kind.ErrorKind.{ErrorKind}
 use Rattle.clap.specs.declared.error.kind.ErrorKind.TheVariants.{DisplayHelp, OutOfMemory}
-use Rattle.finite_maps.specs.Texts.{Text}
-use Rattle.tenant_words.specs.declared.fault.TenantFault.{TenantFault}
-use Rattle.tenant_words.specs.declared.fault.TenantFault.TheVariants as words
+use Rattle.spec_lib.specs.Texts.{Text}
+use Rattle.tenant_args.specs.declared.fault.TenantFault.{TenantFault}
+use Rattle.tenant_args.specs.declared.fault.TenantFault.TheVariants as words
 use Rattle.blobctl.specs.declared.options.Stop.{Stop}
 use Rattle.blobctl.specs.declared.options.Stop.TheVariants.{Help, Usage, BadTenant, NotUtf8, Memory}
 
--- what is printed
+-- the printed text
 abbrev pub stop_text : Stop → Text
 stop_text (Help text) = string_bytes text
 stop_text (Usage text) = string_bytes text
@@ -24,12 +24,12 @@ stop_status BadTenant = 2
 stop_status NotUtf8 = 2
 stop_status Memory = 5
 
--- how the program stops where the tenants' words are refused
+-- the stop for a fault of the tenants' words
 abbrev pub tenant_stop : TenantFault → Stop
 tenant_stop words.BadTenant = BadTenant
 tenant_stop words.Memory = Memory
 
--- how the program stops where `clap` answers an error of this kind; out of memory may come in place of either text
+-- the stop is one for an error of `clap` of this kind; `Memory` may replace either text
 abbrev pub IsStopFor : ErrorKind → Stop → Type 0
 IsStopFor kind (Help text) = kind ≡ DisplayHelp
 IsStopFor kind (Usage text) = (kind ≢ DisplayHelp) × (kind ≢ OutOfMemory)

@@ -1,8 +1,9 @@
-//! Reads the arguments.
-ghost use Rattle.std.specs.Prelude.{◌≡◌, ℕ, IfOk, IfErr, MatchOption, map, string_bytes};
+//! Reads the command line.
+ghost use Rattle.std.specs.Prelude.{◌≡◌, IfOk, IfErr, map, string_bytes};
 ghost use Rattle.clap.specs.Words.{app_of, found_of, kind_of, rows_of};
-ghost use Rattle.blobctl.specs.Arguments.{AreFound, HaveNumbers, HaveWorkers, RefusesFound, RefusesWords, SpellOptions, program};
-ghost use Rattle.blobctl.specs.Options.{IsWithin};
+ghost use Rattle.blobctl.specs.Arguments.{AreOptionsOf, ReadsNumbers, ReadsWorkers, RefusesFound};
+ghost use Rattle.blobctl.specs.Arguments.{RefusesWords, SpellOptions, program};
+ghost use Rattle.blobctl.specs.Options.{IsWithinOptionLimits};
 ghost use Rattle.blobctl.specs.Stops.{IsStopFor};
 
 use crate::options::{Options, Stop};
@@ -11,9 +12,9 @@ use clap::error::ErrorKind;
 use clap::{Arg, ArgAction, ArgMatches, Command};
 use std::alloc::{AllocError, Global};
 use store_book::{Config, MAX_BLOB, MAX_SLOTS};
-use tenant_words::read_tenants;
+use tenant_args::read_tenants;
 
-/// What `--help` says at its end.
+/// The end of the text of `--help`.
 const AFTER_HELP: &str = "\
 The script is CSV on standard input. Each record is one command, of seven fields:
 lane,command,repo,key,digest,range,body
@@ -29,37 +30,37 @@ Example: open an upload session, and add a chunk to it.
   session 1 received 3
   end";
 
-/// What the program takes.
+/// Makes `clap`'s description of the program's arguments.
 fn command<'a>(alloc: Global) -> Result<Command<'a>, AllocError>
     ensures { IfOk result (λ c. app_of c ≡ program) }
 {
     let slots = Arg::new(alloc, "slots")
-        .help("How many blobs the store can keep, 1 to 65536")
+        .help("Set the number of blobs that fit, 1 to 65536")
         .long("slots")
         .value_name("N")
         .value_parser(clap::value_parser!(u32).range(1..=65536))
         .default_value("64");
     let max_blob = Arg::new(alloc, "max-blob")
-        .help("The most bytes of a blob, 0 to 1099511627776")
+        .help("Limit the length of a blob, 0 to 1099511627776")
         .long("max-blob")
-        .value_name("N")
+        .value_name("BYTES")
         .value_parser(clap::value_parser!(u64).range(0..=1_099_511_627_776))
         .default_value("1048576");
     let workers = Arg::new(alloc, "workers")
-        .help("How many threads play the script, 1 to 64")
+        .help("Run the script by N threads, 1 to 64")
         .long("workers")
         .value_name("N")
         .value_parser(clap::value_parser!(u32).range(1..=64))
         .default_value("1");
     let tenants = Arg::new(alloc, "tenants")
-        .help("A tenant, and the bytes that it may use; 1 to 256 of them")
+        .help("Serve a tenant with a quota in bytes; 1 to 256 of them")
         .value_name("TENANT=QUOTA")
         .required(true)
         .num_args(1..)
         .action(ArgAction::Append);
     Command::new(alloc, "blobctl")
         .about(
-            "Plays a script of commands on a blob store in memory, and prints the replies and the book",
+            "Runs a script of commands on a blob store in memory, and prints replies and final state",
         )
         .after_help(AFTER_HELP)
         .arg(slots)?
@@ -68,8 +69,8 @@ fn command<'a>(alloc: Global) -> Result<Command<'a>, AllocError>
         .arg(tenants)
 }
 
-/// Why the words were not taken.
-fn stopped(alloc: Global, error: clap::Error) -> Stop
+/// Returns the stop for an error of `clap`.
+fn stop_of(alloc: Global, error: clap::Error) -> Stop
     ensures { IsStopFor (kind_of error) result }
 {
     let kind = error.kind();
@@ -83,9 +84,9 @@ fn stopped(alloc: Global, error: clap::Error) -> Stop
     }
 }
 
-/// The numbers of the options, or none where one is past its limit.
+/// Returns the slots and the limit on blobs, or `None` if one is out of its limits.
 fn numbers(matches: &ArgMatches<'_>) -> Option<(u32, u64)>
-    ensures { MatchOption result ((slots max_blob : ℕ) → HaveNumbers (rows_of (found_of matches.now)) slots max_blob → ⊥) (λ n. HaveNumbers (rows_of (found_of matches.now)) n.0 n.1) }
+    ensures { ReadsNumbers (rows_of (found_of matches.now)) result }
 {
     let slots = matches.get_one::<u32>("slots")?;
     let max_blob = matches.get_one::<u64>("max-blob")?;
@@ -96,9 +97,9 @@ fn numbers(matches: &ArgMatches<'_>) -> Option<(u32, u64)>
     }
 }
 
-/// The number of workers, or none where it is past its limit.
+/// Returns the number of workers, or `None` if it is out of its limits.
 fn worker_count(matches: &ArgMatches<'_>) -> Option<usize>
-    ensures { MatchOption result ((workers : ℕ) → HaveWorkers (rows_of (found_of matches.now)) workers → ⊥) (HaveWorkers (rows_of (found_of matches.now))) }
+    ensures { ReadsWorkers (rows_of (found_of matches.now)) result }
 {
     let workers = matches.get_one::<u32>("workers")? as usize;
     if 1 <= workers && workers <= MAX_WORKERS {
@@ -108,10 +109,10 @@ fn worker_count(matches: &ArgMatches<'_>) -> Option<usize>
     }
 }
 
-/// The options that the matches give.
+/// Makes the options of the matches.
 fn options_of(alloc: Global, matches: &ArgMatches<'_>) -> Result<Options, Stop>
-    ensures found { IfOk result (AreFound (rows_of (found_of matches.now))) }
-    ensures within { IfOk result IsWithin }
+    ensures found { IfOk result (AreOptionsOf (rows_of (found_of matches.now))) }
+    ensures within { IfOk result IsWithinOptionLimits }
     ensures refused { IfErr result (RefusesFound (rows_of (found_of matches.now))) }
 {
     let Some((slots, max_blob)) = numbers(matches) else {
@@ -132,16 +133,22 @@ fn options_of(alloc: Global, matches: &ArgMatches<'_>) -> Result<Options, Stop>
     Ok(Options { store, workers })
 }
 
-/// The options that the words spell. The first word is the program's own name. `clap`'s faults come
-/// before those of the tenants' words.
+/// Reads the options from the words of the command line, the program's name first.
+///
+/// # Errors
+///
+/// - `Help` if `clap`'s first fault is a request for help.
+/// - `Usage` if `clap` finds another fault, or a number is out of its limits.
+/// - `BadTenant` if a tenant's word is bad, after all other checks.
+/// - `Memory` if an allocation fails, in place of any of these.
 pub fn read_options(alloc: Global, words: &[String]) -> Result<Options, Stop>
     ensures spelled { IfOk result (SpellOptions (map string_bytes words.now)) }
-    ensures within { IfOk result IsWithin }
+    ensures within { IfOk result IsWithinOptionLimits }
     ensures refused { IfErr result (RefusesWords (map string_bytes words.now)) }
 {
     let command = command(alloc)?;
     match command.try_get_matches_from(words) {
         Ok(matches) => options_of(alloc, &matches),
-        Err(error) => Err(stopped(alloc, error)),
+        Err(error) => Err(stop_of(alloc, error)),
     }
 }

@@ -1,22 +1,22 @@
-//! Why a run ends before its end.
-ghost use Rattle.std.specs.Prelude.{◌≡◌, ◌++◌, Some, IfErr, OnErr, OnOk, string_bytes};
-ghost use Rattle.blobctl.specs.Texts.{fault_status, fault_text};
+//! Reasons why a run stops early.
+ghost use Rattle.std.specs.Prelude.{◌≡◌, Some, IfErr, OnErr, OnOk, string_bytes};
+ghost use Rattle.blobctl.specs.Texts.{GrewBy, fault_status, fault_text};
 ghost use Rattle.blobctl.specs.declared.fault.Fault.TheVariants.{Memory};
 
 use blob_digest::Refusal;
 use std::alloc::{AllocError, AllocFailed};
 use std::fmt;
 
-/// Why a run stops. Only after `Write` may something have been written.
+/// A reason why a run stops. Only a run that stops with `Write` may have written something.
 #[derive(Clone, Copy, Debug, PartialEq, Eq, Drop)]
 pub enum Fault {
     /// The script's first bad row, by its number from 1.
     BadRow(u32),
     /// A read failed, or the script is longer than 268,435,456 bytes.
     Read,
-    /// A write failed, or took no bytes.
+    /// A write failed, or accepted no bytes.
     Write,
-    /// A growth was refused as out of memory, in the program or in a command's answer.
+    /// Out of memory, in the program or in a command.
     Memory,
 }
 
@@ -50,8 +50,7 @@ impl fmt::Display for Fault {
 }
 
 impl Fault {
-    /// The program's exit status: 1 for a bad row, 3 for a read fault, 4 for a write fault, 5 for
-    /// out of memory.
+    /// Returns the exit status: 1 for a bad row, 3 for a read fault, 4 for a write fault, 5 for out of memory.
     pub fn status(&self) -> u8
         ensures { result ≡ fault_status self.now }
     {
@@ -63,10 +62,13 @@ impl Fault {
         }
     }
 
-    /// Appends the line that the program prints, its line feed included. Refused with `Memory`
-    /// alone, and then the text is as it was.
+    /// Appends the line that the program prints, including its line feed. If the call fails, the text is unchanged.
+    ///
+    /// # Errors
+    ///
+    /// - `Memory` if an allocation fails.
     pub fn write(&self, out: &mut String) -> Result<(), Refusal>
-        ensures ok { OnOk result (string_bytes out.new ≡ string_bytes out.old ++ fault_text self.now) }
+        ensures ok { OnOk result (GrewBy out.old out.new (fault_text self.now)) }
         ensures err { OnErr result (string_bytes out.new ≡ string_bytes out.old) }
         ensures refused { IfErr result (λ e. e ≡ Refusal.Memory) }
     {

@@ -1,15 +1,15 @@
 //! The row that a record's fields spell.
 ghost use Rattle.std.specs.Prelude.{◌≡◌, option_map};
 ghost use Rattle.csv.specs.Records.{fields_of};
-ghost use Rattle.row_player.specs.RowViews.{borrowed_view};
-ghost use Rattle.blobctl.specs.Records.{field, head_of, lane_of, row_of, verb_of};
+ghost use Rattle.script_player.specs.RowViews.{borrowed_view};
+ghost use Rattle.blobctl.specs.Records.{field_or_empty, head_of, lane_of, row_of, verb_of};
 
 use blob_digest::decimal;
 use csv::ByteRecord;
-use row_player::{BorrowedRow, has_fields};
+use script_player::{BorrowedRow, has_fields};
 use store_api::Verb;
 
-/// The command of a name.
+/// Returns the command of a name.
 fn verb_named(name: &[u8]) -> Option<Verb>
     ensures { result ≡ verb_of name.now }
 {
@@ -50,7 +50,7 @@ fn verb_named(name: &[u8]) -> Option<Verb>
     }
 }
 
-/// The lane that a field names.
+/// Returns the lane that a field spells: one to three digits of a value up to 255.
 fn lane(text: &[u8]) -> Option<u8>
     ensures { result ≡ lane_of text.now }
 {
@@ -62,15 +62,15 @@ fn lane(text: &[u8]) -> Option<u8>
     }
 }
 
-/// The bytes of a record's field, which are none where it has no such field.
+/// Returns the bytes of a record's field, or no bytes if there is no such field.
 fn field_at(fields: &ByteRecord, place: usize) -> &[u8]
-    ensures { result.now ≡ field (fields_of fields.now) place }
+    ensures { result.now ≡ field_or_empty (fields_of fields.now) place }
 {
     fields.get(place).unwrap_or(&[])
 }
 
-/// The lane and the command of a record of seven fields.
-fn head(fields: &ByteRecord) -> Option<(u8, Verb)>
+/// Returns the lane and the command of a record of seven fields.
+fn lane_and_verb(fields: &ByteRecord) -> Option<(u8, Verb)>
     ensures { result ≡ head_of (fields_of fields.now) }
 {
     if fields.len() != 7 {
@@ -81,11 +81,11 @@ fn head(fields: &ByteRecord) -> Option<(u8, Verb)>
     Some((lane, verb))
 }
 
-/// The row of a record, or none where the record is bad.
+/// Returns the row that a record spells, or `None` if the record is bad.
 pub fn read_row(fields: &ByteRecord) -> Option<BorrowedRow<'_>>
     ensures { option_map borrowed_view result ≡ row_of (fields_of fields.now) }
 {
-    let (lane, verb) = head(fields)?;
+    let (lane, verb) = lane_and_verb(fields)?;
     let repo = field_at(fields, 2);
     let key = field_at(fields, 3);
     let digest = field_at(fields, 4);

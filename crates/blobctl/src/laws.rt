@@ -1,4 +1,4 @@
-//! What follows from the definitions alone.
+//! Laws of the definitions alone.
 ghost use Rattle.blobctl.specs.OneText.{HasOneText, HasText};
 ghost use Rattle.blobctl.specs.ScriptRuns.{BooksFollowRows, ScriptsAreRuns};
 ghost use Rattle.blobctl.specs.WorkersOrder.{WorkersHaveOrders};
@@ -11,18 +11,16 @@ ghost use Rattle.blobctl.specs.WorkersText.{
 use blob_store::laws::{interleavings, orders_of_rows};
 use store_book::laws::isolation;
 
-/// A script without bad rows has a text on each opening catalog, and where none of its rows leases a
-/// blob it has no other: the replies and the book that are written for it are determined by the
-/// definitions.
+/// A script without bad rows has a text on each opening catalog. If none of its rows leases a blob, it has only one:
+/// the definitions determine the replies and the book that are written for it.
 pub fn one_text()
     ensures some { HasText }
     ensures most { HasOneText }
 {}
 
-/// A script's replies and book are those of a run of commands and sweeps as the law on tenants has it: of the
-/// commands that its rows spell. So the book depends on each tenant's rows alone, in their order. This is said of
-/// scripts in which no reply is that the store is full or that a name is taken, and no two closes bring different
-/// bytes that have the same digest.
+/// A script's replies and book are those of a run of commands and sweeps, of the commands that its rows spell. Hence
+/// the book depends only on each tenant's rows, in their order. This holds for scripts in which no reply is that the
+/// store is full or a name is taken, and in which no two closes supply different contents with one digest.
 pub fn tenants_rows()
     ensures runs { ScriptsAreRuns }
     ensures books { BooksFollowRows }
@@ -30,10 +28,10 @@ pub fn tenants_rows()
     isolation();
 }
 
-/// A script writes the same text, however many workers play it, one included, and in whichever order they come to
-/// their turns. This is said of scripts none of whose rows leases or sweeps, and of which no two lanes share a tenant,
-/// in which no reply is one that others can cause, and no two closes bring different bytes that have the same digest.
-/// What one worker plays is looked at as a history, as what several play is.
+/// A script writes the same text for each number of workers, one included, and for each order in which they reach their
+/// turns. This holds for scripts whose rows neither lease nor sweep and whose lanes share no tenant. No reply is one
+/// that other tenants can cause, and no two closes supply different contents with one digest. The rows that one worker
+/// plays are one history too.
 pub fn workers_text()
     ensures history { OneWorkerHasHistory }
     ensures one { OneWritesAsSeveral }
@@ -42,10 +40,9 @@ pub fn workers_text()
     interleavings();
 }
 
-/// What several workers write for a script is what its rows do in some order, one whole row after another:
-/// the reply at each row, and then the book that is left. The rows of each worker keep their order. This is
-/// said of runs in which no reply is that a session is busy or a quota is passed, and of fewer than 2^63 rows
-/// with fewer than 2^63 bytes in their bodies.
+/// Several workers write for a script what its rows do in some order, one whole row after another: the reply to each
+/// row, and then the book. The rows of each worker keep their order. This holds for runs in which no reply is `Busy` or
+/// `Quota`, and for fewer than 2^63 rows with fewer than 2^63 bytes in their bodies.
 pub fn workers_order()
     ensures orders { WorkersHaveOrders }
 {

@@ -1,28 +1,22 @@
-//! `blobctl` plays a script of commands on a store that lies in memory, and prints the replies and the
-//! book.
+//! `blobctl` plays a script of commands on a store in memory, and prints the replies and the book.
 //!
-//! The script is read from standard input: CSV records (RFC 4180) of seven fields, `lane`, `command`,
-//! `repo`, `key`, `digest`, `range` and `body`. The arguments are read first; then the script is read
-//! to its end, then all of it is checked, then it is played, and then the replies and the book are
-//! written. The program stands on `row_player` for the rows, on `store_book` and `pin_table` for the
-//! book that one worker has, on `blob_store` for the store that several share, on `csv` for the records
-//! and on `clap` for the arguments.
+//! The script is read from standard input: CSV records (RFC 4180) of seven fields, `lane`, `command`, `repo`, `key`,
+//! `digest`, `range` and `body`. The program reads its arguments, reads the script to its end, checks all of it, plays
+//! it, and writes the replies and then the book. `docs/SCRIPT.md` has the formats.
 //!
-//! It promises, of the function `run`: what a run of one worker that ends well has written is the
-//! replies and the book that the definitions of the store give for the script's rows; what one of
-//! several workers has written is one reply for each row, in the order of the rows, those of each worker
-//! as its rows in their order are answered, and a sound book that a legal history leaves; a bad row is the
-//! first one; a bad row, a read fault and running out of memory write nothing; a read fault comes only
-//! where a read failed or the script is too long, and where the run ends otherwise no read failed. A write
-//! fault where no write failed is ruled out by tests alone.
+//! The contract of `run` states:
 //!
-//! Of the definitions it proves (`laws`) that a script has a text, and no other where it leases nothing,
-//! that its replies and book are a run of each tenant's commands, which don't see each other, and that where no
-//! two lanes share a tenant, the text doesn't depend on how many workers play it.
+//! - One worker writes the replies and the book that the definitions of the store give for the script's rows.
+//! - Several workers write one reply for each row, in the order of the rows, and the book to which one legal history of
+//!   their rows leads.
+//! - A bad row is the script's first one. A bad row, a read fault and running out of memory write nothing.
+//! - A read fault occurs only if a read failed or the script is too long. After any other end, no read has failed.
+//!
+//! Only tests check that a write fault occurs only if a write failed. The laws on the definitions are in `laws`.
 #![tactic(auto)]
 
 ghost use Rattle.std.specs.Prelude.{◌≡◌, ◌⊎◌, IfOk};
-ghost use Rattle.blobctl.specs.Options.{IsWithin};
+ghost use Rattle.blobctl.specs.Options.{IsWithinOptionLimits};
 ghost use Rattle.blobctl.specs.Stops.{stop_status};
 ghost use Rattle.blobctl.specs.Texts.{fault_status};
 ghost use Rattle.blobctl.specs.declared.fault.Fault.TheVariants.{Write};
@@ -54,14 +48,14 @@ use watched_reader::Watched;
 /// How many bytes of the output are collected for one write.
 const WRITE_BUFFER: usize = 65_536;
 
-/// Runs on standard input and output, with threads where there are several workers. What is written is collected first, so that a fault of
-/// the last write is a write fault too.
+/// Runs on standard input and output, with threads if there are several workers. The output is flushed at the end, so a
+/// fault of the last write is a write fault too.
 fn run_on_stdio(
     rt: &HostRuntime,
     threads: &(impl Threads + Wait + Sync),
     options: &Options,
 ) -> Result<(), Fault>
-    requires { IsWithin options.now }
+    requires { IsWithinOptionLimits options.now }
 {
     let mut reader = Watched::new(rt.reader());
     let Ok(mut writer) = BufWriter::with_capacity(rt.alloc(), WRITE_BUFFER, io::writer(rt)) else {
@@ -74,23 +68,23 @@ fn run_on_stdio(
     }
 }
 
-/// Prints why a run ended early, and answers the exit status.
-fn faulted(rt: &HostRuntime, fault: Fault) -> u8
+/// Prints why a run stopped early, and returns the exit status.
+fn report_fault(rt: &HostRuntime, fault: Fault) -> u8
     ensures { result ≡ fault_status fault }
 {
     let _ = eprint!(rt; "{fault}");
     fault.status()
 }
 
-/// Prints why the program stops before it runs, and answers the exit status. A help text that can't
-/// be written is a write fault.
+/// Prints why the program stops before it runs, and returns the exit status. It is a write fault if the help text
+/// cannot be written.
 fn stopped(rt: &HostRuntime, stop: &Stop) -> u8
     ensures { (result ≡ stop_status stop.now) ⊎ (result ≡ fault_status Write) }
 {
     let text = stop.text();
     if let Stop::Help(_) = stop {
         let Ok(()) = print!(rt; "{text}") else {
-            return faulted(rt, Fault::Write);
+            return report_fault(rt, Fault::Write);
         };
     } else {
         let _ = eprint!(rt; "{text}");
@@ -98,8 +92,7 @@ fn stopped(rt: &HostRuntime, stop: &Stop) -> u8
     stop.status()
 }
 
-/// Why the words of the command line can't be read: since memory ran out, or since one of them is not
-/// UTF-8.
+/// Returns why the command line cannot be read: out of memory, or a word that is not UTF-8.
 fn arguments_stop(error: io::Error) -> Stop {
     match error.kind() {
         ErrorKind::OutOfMemory => Stop::Memory,
@@ -107,15 +100,15 @@ fn arguments_stop(error: io::Error) -> Stop {
     }
 }
 
-/// The words of the command line, the program's name first.
+/// Returns the words of the command line, the program's name first.
 fn words_of(rt: &HostRuntime) -> io::Result<Vec<String>> {
     let words = env::args(rt)?.collect(rt.alloc())?;
     Ok(words)
 }
 
-/// The options that the command line gives.
+/// Reads the options of the command line.
 fn options_here(rt: &HostRuntime) -> Result<Options, Stop>
-    ensures { IfOk result IsWithin }
+    ensures { IfOk result IsWithinOptionLimits }
 {
     match words_of(rt) {
         Ok(words) => read_options(rt.alloc(), words.as_slice()),
@@ -128,7 +121,7 @@ fn main(rt: HostRuntime) -> ExitCode {
         Err(stop) => stopped(&rt, &stop),
         Ok(options) => match run_on_stdio(&rt, &rt, &options) {
             Ok(()) => 0,
-            Err(fault) => faulted(&rt, fault),
+            Err(fault) => report_fault(&rt, fault),
         },
     };
     ExitCode::from(status)

@@ -1,34 +1,35 @@
-//! What the program runs on, and why it may stop before it runs.
-ghost use Rattle.std.specs.Prelude.{◌≡◌, ◌++◌, IfErr, OnErr, OnOk, string_bytes};
+//! The options of a run, and reasons why the program stops before it.
+ghost use Rattle.std.specs.Prelude.{◌≡◌, IfErr, OnErr, OnOk, string_bytes};
 ghost use Rattle.blobctl.specs.Stops.{stop_status, stop_text};
+ghost use Rattle.blobctl.specs.Texts.{GrewBy};
 ghost use Rattle.blobctl.specs.declared.options.Stop.TheVariants.{Memory};
 
 use blob_digest::Refusal;
 use std::alloc::{AllocError, AllocFailed};
 use store_book::Config;
-use tenant_words::TenantFault;
+use tenant_args::TenantFault;
 
-/// What the program runs on.
+/// The options of a run.
 #[derive(Debug, Drop)]
 pub struct Options {
-    /// What the store is made with: its slots, its limit on blobs, and its tenants with their quotas.
+    /// The slots of the store, its limit on blobs, and its tenants with their quotas.
     pub store: Config,
-    /// How many workers play the script, from 1 to 64.
+    /// The number of workers that play the script, from 1 to 64.
     pub workers: usize,
 }
 
-/// Why the program stops before it runs.
+/// A reason why the program stops before it runs.
 #[derive(Debug, Drop)]
 pub enum Stop {
-    /// Help was asked for: the text for standard output.
+    /// Help was requested: the text for standard output.
     Help(String),
     /// The arguments are wrong: the text for standard error.
     Usage(String),
-    /// A tenant's word is no name, `=` and quota, or its name came before, or it is the 257th.
+    /// A tenant's word is malformed, repeats a name, or is the 257th.
     BadTenant,
     /// An argument is not UTF-8.
     NotUtf8,
-    /// A growth was refused as out of memory.
+    /// Out of memory.
     Memory,
 }
 
@@ -62,7 +63,7 @@ impl From<TenantFault> for Stop {
 }
 
 impl Stop {
-    /// The program's exit status: 0 for help, 2 for wrong arguments, 5 where memory ran out.
+    /// Returns the exit status: 0 for help, 2 for wrong arguments, 5 for out of memory.
     pub fn status(&self) -> u8
         ensures { result ≡ stop_status self.now }
     {
@@ -75,7 +76,7 @@ impl Stop {
         }
     }
 
-    /// What the program prints, its last line feed included.
+    /// Returns the text that the program prints, including its last line feed.
     pub fn text(&self) -> &str
         ensures { result.now ≡ stop_text self.now }
     {
@@ -88,10 +89,13 @@ impl Stop {
         }
     }
 
-    /// Appends what the program prints. Refused with `Memory` alone, and then the text is as it
-    /// was.
+    /// Appends the text that the program prints. If the call fails, the text is unchanged.
+    ///
+    /// # Errors
+    ///
+    /// - `Memory` if an allocation fails.
     pub fn write(&self, out: &mut String) -> Result<(), Refusal>
-        ensures ok { OnOk result (string_bytes out.new ≡ string_bytes out.old ++ stop_text self.now) }
+        ensures ok { OnOk result (GrewBy out.old out.new (stop_text self.now)) }
         ensures err { OnErr result (string_bytes out.new ≡ string_bytes out.old) }
         ensures refused { IfErr result (λ e. e ≡ Refusal.Memory) }
     {

@@ -1,4 +1,4 @@
-//! A book with its pins as what rows are played on.
+//! A book with its pins as a backend of rows.
 ghost use Rattle.std.specs.Prelude.{◌≡◌};
 
 use blob_digest::{ByteRange, Digest, Refusal, RepoName};
@@ -10,7 +10,7 @@ use std::sync::Arc;
 use store_api::{Backend, Piece};
 use store_book::{Book, Lease, Mount, PinsName, Swept};
 
-/// A book with the words of its slots.
+/// A book with its pins, on which rows are played.
 #[derive(Drop)]
 pub struct PinnedBook<'p, N: PinsName> {
     pub book: Book,
@@ -23,10 +23,10 @@ pub struct PinnedBook<'p, N: PinsName> {
 impl<'p, N: PinsName> Backend for PinnedBook<'p, N> {
     type Lease = Lease<'p, N>;
 
-    ghost use Rattle.blobctl.specs.Played.{Acts};
-    ghost use Rattle.store_api.specs.Lent.{Lent};
+    ghost use Rattle.blobctl.specs.Played.{BookActs};
+    ghost use Rattle.store_api.specs.LeaseViews.{LeaseView};
 
-    ghost acts = { λ old request answer new. Acts old.book request answer new.book };
+    ghost acts = { λ old request answer new. BookActs old.book request answer new.book };
 
     ghost lent = { λ l. record { bytes = l.bytes; weight = l.hold.weight } };
 

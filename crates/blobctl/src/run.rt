@@ -1,12 +1,9 @@
 //! A run: reads a script, plays it, and writes the replies and the book.
 ghost use Rattle.std.specs.Prelude.{◌≡◌, ◌≢◌, ◌+◌, false, IfOk, IfErr, OnOk};
-ghost use Rattle.finite_maps.specs.Texts.{Text};
-ghost use Rattle.blobctl.specs.Ending.{WorkersRunSucceeds, RunSucceeds, Explains, IsReadWhole};
-ghost use Rattle.blobctl.specs.Inputs.{TakesAtMost, max_script};
-ghost use Rattle.blobctl.specs.Options.{IsWithin};
-ghost use Rattle.blobctl.specs.Script.{AreRowsOf};
-ghost use Rattle.watched_reader.specs.Watching.{has_failed, inner_of};
-ghost use Rattle.store_book.specs.Openings.{tenants_shown};
+ghost use Rattle.blobctl.specs.Ending.{AllSucceed, Explains, ExplainsReading, OneSucceeds, ReadsRows};
+ghost use Rattle.blobctl.specs.Inputs.{GaveAtMost, max_script};
+ghost use Rattle.blobctl.specs.Options.{IsWithinOptionLimits};
+ghost use Rattle.watched_reader.specs.Watching.{has_failed};
 
 use crate::fault::Fault;
 use crate::input::read_script;
@@ -15,7 +12,7 @@ use crate::options::Options;
 use crate::output::write_played;
 use crate::script::read_rows;
 use crate::workers::play_by_workers;
-use row_player::ScriptRows;
+use script_player::ScriptRows;
 use std::alloc::Global;
 use std::io::{Read, Write};
 use std::mem;
@@ -23,39 +20,47 @@ use std::sync::Wait;
 use std::thread::Threads;
 use watched_reader::Watched;
 
-/// The rows of the script that a reader gives. Its text is held whole until it is read, and then goes
-/// piece by piece as the rows are made.
+/// Reads a script and its rows. The text is held whole until it is read, and then dropped piece by piece as its rows
+/// are made.
 fn read_all<R: Read>(alloc: Global, reader: &mut Watched<R>) -> Result<ScriptRows, Fault>
     requires { has_failed reader.old ≡ false }
-    ensures rows { IfOk result (λ rows. (script : Text) × IsReadWhole R.remaining reader.old reader.new script × AreRowsOf script rows) }
-    ensures most { TakesAtMost (R.remaining (inner_of reader.old)) (R.remaining (inner_of reader.new)) (max_script + 1) }
-    ensures fault { IfErr result (λ e. (e ≢ Fault.Write) × Explains R.remaining reader.old reader.new e) }
+    ensures rows { IfOk result (λ rows. ReadsRows R.remaining reader.old reader.new rows) }
+    ensures most { GaveAtMost R.remaining reader.old reader.new (max_script + 1) }
+    ensures fault { IfErr result (λ e. ExplainsReading R.remaining reader.old reader.new e) }
 {
     let script = read_script(alloc, reader)?;
     read_rows(alloc, script)
 }
 
-/// Reads a script to its end, checks all of it, plays it row after row on a new book, whatever `workers`
-/// says, and writes the replies in the order of the rows, and then the book. It starts no thread, and waits
-/// for none.
+/// Reads a script to its end, checks all of it, plays it row by row on a new book, and writes the replies in the order
+/// of the rows, and then the book. It uses one worker for any value of `workers`, starts no thread, and waits for none.
+/// No read of the reader may have failed before. At most one byte past 268,435,456 is read.
 ///
-/// No read of the reader has failed before. A bad row, a read fault and running out of memory write nothing. A bad row is the script's first one, and
-/// a read fault comes only where a read failed or the script is longer than 268,435,456 bytes; where
-/// the run ends in another way, no read failed and the script was no longer. One byte more than that
-/// is read at most. After a write fault nothing is known of what was written. Writing takes no memory. The
-/// script's text goes piece by piece as its rows are made. While it plays, the run holds the rows that are left, the
-/// replies and the book. Where it ends well it doesn't give the last two back: the program ends then, and its memory
-/// with it.
+/// # Errors
+///
+/// - `Read` if a read fails or the script is longer than 268,435,456 bytes.
+/// - `BadRow` with the script's first bad row.
+/// - `Memory` if an allocation fails. This may happen at any time before the first write, but not after a failed read.
+/// - `Write` if the writer fails. The written bytes are then unspecified.
+///
+/// After any other error nothing is written.
+///
+/// # Cost
+///
+/// The script's text is dropped piece by piece as its rows are made. While the rows are played, the run holds those
+/// that are left, the replies and the book. Writing allocates nothing. A run that succeeds does not free the replies
+/// and the book, because the program then exits.
 pub fn run_one<R: Read, W: Write>(
     alloc: Global,
     reader: &mut Watched<R>,
     writer: &mut W,
     options: &Options,
 ) -> Result<(), Fault>
-    requires within { IsWithin options.now }
+    requires within { IsWithinOptionLimits options.now }
     requires unfailed { has_failed reader.old ≡ false }
-    ensures played { OnOk result (RunSucceeds R.remaining reader.old reader.new (W.contents writer.old) (W.contents writer.new) (tenants_shown options.now.store.tenants.items) options.now.store.slots options.now.store.max_blob) }
-    ensures most { TakesAtMost (R.remaining (inner_of reader.old)) (R.remaining (inner_of reader.new)) (max_script + 1) }
+    ensures played { OnOk result (OneSucceeds R.remaining reader.old reader.new
+        W.contents writer.old writer.new options.now) }
+    ensures most { GaveAtMost R.remaining reader.old reader.new (max_script + 1) }
     ensures silent { IfErr result (λ e. e ≢ Fault.Write → writer.new ≡ writer.old) }
     ensures fault { IfErr result (λ e. Explains R.remaining reader.old reader.new e) }
 {
@@ -69,12 +74,14 @@ pub fn run_one<R: Read, W: Write>(
     Ok(())
 }
 
-/// Runs as `run_one` does where there is one worker. Else the rows are played by workers on a new store, each in a
-/// thread of its own: those of a lane by the worker whose number is the lane's modulo the workers'. The replies are
-/// written in the order of the rows all the same, and then the book. How the rows of two workers follow one another
-/// is not said, so of some scripts the text may be another the next time; a row may be answered `Busy` then.
+/// Runs as `run_one` does if there is one worker. Otherwise workers play the rows on a new store, each in a thread of
+/// its own. The worker of a row is the one whose number is the row's lane modulo the number of workers. The replies are
+/// written in the order of the rows, and then the book. The order of the rows of two workers is not specified, so the
+/// same script may write another text at the next run; a row may then fail with `Busy`.
 ///
-/// It ends early as `run_one` does. Running out of memory is told also where a thread can't be started.
+/// # Errors
+///
+/// Those of `run_one`, and `Memory` if a thread cannot be started.
 pub fn run<T: Threads + Wait + Sync, R: Read, W: Write>(
     rt: &T,
     alloc: Global,
@@ -82,11 +89,13 @@ pub fn run<T: Threads + Wait + Sync, R: Read, W: Write>(
     writer: &mut W,
     options: &Options,
 ) -> Result<(), Fault>
-    requires within { IsWithin options.now }
+    requires within { IsWithinOptionLimits options.now }
     requires unfailed { has_failed reader.old ≡ false }
-    ensures played { options.now.workers ≡ 1 → OnOk result (RunSucceeds R.remaining reader.old reader.new (W.contents writer.old) (W.contents writer.new) (tenants_shown options.now.store.tenants.items) options.now.store.slots options.now.store.max_blob) }
-    ensures together { options.now.workers ≢ 1 → OnOk result (WorkersRunSucceeds R.remaining reader.old reader.new (W.contents writer.old) (W.contents writer.new) options.now.workers (tenants_shown options.now.store.tenants.items) options.now.store.slots options.now.store.max_blob) }
-    ensures most { TakesAtMost (R.remaining (inner_of reader.old)) (R.remaining (inner_of reader.new)) (max_script + 1) }
+    ensures played { options.now.workers ≡ 1 → OnOk result (OneSucceeds R.remaining
+        reader.old reader.new W.contents writer.old writer.new options.now) }
+    ensures together { options.now.workers ≢ 1 → OnOk result (AllSucceed R.remaining
+        reader.old reader.new W.contents writer.old writer.new options.now) }
+    ensures most { GaveAtMost R.remaining reader.old reader.new (max_script + 1) }
     ensures silent { IfErr result (λ e. e ≢ Fault.Write → writer.new ≡ writer.old) }
     ensures fault { IfErr result (λ e. Explains R.remaining reader.old reader.new e) }
 {

@@ -1,24 +1,20 @@
 //! Reads the rows of a script.
-ghost use Rattle.std.specs.Prelude.{◌≡◌, ◌⊎◌, ◌++◌, ◌∷◌, [], List, true, false, IfOk, IfErr, OnOk, Some, None};
+ghost use Rattle.std.specs.Prelude.{◌≡◌, [], IfOk, IfErr, OnOk};
 ghost use Rattle.csv.specs.Records.{fields_of};
-ghost use Rattle.finite_maps.specs.Texts.{Text};
-ghost use Rattle.blobctl.specs.Reading.{IsAfter};
-ghost use Rattle.blobctl.specs.Records.{Record, row_of};
-ghost use Rattle.row_player.specs.Rows.{RowView};
-ghost use Rattle.blobctl.specs.Script.{AreRecordsOf, AreRowsOf, ExplainsRows};
+ghost use Rattle.blobctl.specs.Reading.{IsAfter, IsAtLast, TakesNext};
+ghost use Rattle.blobctl.specs.Script.{AddsRow, AreRowsOf, ExplainsRow, ExplainsRows};
 
 use crate::fault::Fault;
 use crate::fields::read_row;
 use crate::script_text::ScriptText;
 use csv::{ByteRecord, Reader, ReaderBuilder};
-use row_player::ScriptRows;
+use script_player::ScriptRows;
 use std::alloc::Global;
 
 /// The most rows that a script may have.
 const MAX_ROWS: u32 = 65536;
 
-/// A reader of the script's records. It takes no header row, and leaves it to the caller how many
-/// fields a record has.
+/// Makes a reader of the script's records, without a header row, that accepts any number of fields.
 fn reader_of(alloc: Global, script: ScriptText) -> Reader<ScriptText>
     ensures { IsAfter script [] result }
 {
@@ -28,10 +24,10 @@ fn reader_of(alloc: Global, script: ScriptText) -> Reader<ScriptText>
         .from_reader(alloc, script)
 }
 
-/// Takes the next record, and says whether there was one.
+/// Takes the next record, and returns whether there was one.
 fn take_record(reader: &mut Reader<ScriptText>, fields: &mut ByteRecord) -> Result<bool, Fault>
-    ensures more { IfOk result (λ found. (script : Text) → (before : List Record) → IsAfter script before reader.old → found ≡ true → IsAfter script (before ++ fields_of fields.new ∷ []) reader.new) }
-    ensures end { IfOk result (λ found. (script : Text) → (before : List Record) → IsAfter script before reader.old → found ≡ false → AreRecordsOf script before) }
+    ensures more { IfOk result (TakesNext reader.old reader.new (fields_of fields.new)) }
+    ensures end { IfOk result (IsAtLast reader.old) }
     ensures refused { IfErr result (λ e. e ≡ Fault.Memory) }
 {
     let Ok(found) = reader.read_byte_record(fields) else {
@@ -47,8 +43,8 @@ fn add_row(
     number: u32,
     rows: &mut ScriptRows,
 ) -> Result<(), Fault>
-    ensures added { OnOk result ((line : RowView) × (row_of (fields_of fields.now) ≡ Some line) × (rows.new ≡ rows.old ++ line ∷ [])) }
-    ensures refused { IfErr result (λ e. (e ≡ Fault.Memory) ⊎ ((e ≡ Fault.BadRow number) × (row_of (fields_of fields.now) ≡ None))) }
+    ensures added { OnOk result (AddsRow (fields_of fields.now) rows.old rows.new) }
+    ensures refused { IfErr result (λ e. ExplainsRow (fields_of fields.now) number e) }
 {
     let Some(row) = read_row(fields) else {
         return Err(Fault::BadRow(number));
@@ -57,9 +53,13 @@ fn add_row(
     Ok(())
 }
 
-/// The rows of a script, or its first bad row. Running out of memory is told apart from a bad row. The
-/// records are dropped one by one as their rows are made, and the script's text piece by piece as it is
-/// read, so that at the end only the rows are held.
+/// Returns the rows of a script. The records are dropped one by one as their rows are made, and the script's text piece
+/// by piece as it is read. At the end only the rows are held.
+///
+/// # Errors
+///
+/// - `BadRow` with the first bad row, or with 65,537 if there are more rows.
+/// - `Memory` if an allocation fails.
 pub fn read_rows(alloc: Global, script: ScriptText) -> Result<ScriptRows, Fault>
     ensures rows { IfOk result (AreRowsOf script) }
     ensures fault { IfErr result (λ e. ExplainsRows script e) }

@@ -12,8 +12,8 @@ use std::marker::Model;
 /// The room of a piece, in bytes.
 const PIECE: usize = 1_048_576;
 
-/// The bytes of a script that are left to read, which is how contracts see it. They lie in pieces of 1 MiB, each of
-/// which is one block that is dropped when it is read to its end.
+/// The bytes of a script that are left to read. They lie in pieces of 1 MiB, and each piece is one block of memory that
+/// is dropped when it is read to its end.
 #[derive(Drop)]
 pub struct ScriptText {
     pieces: VecDeque<Vec<u8>>,
@@ -23,18 +23,22 @@ pub struct ScriptText {
 
 impl Model for ScriptText {
     ghost use Rattle.std.specs.Prelude.{drop};
-    ghost use Rattle.finite_maps.specs.Texts.{Text};
-    ghost use Rattle.blobctl.specs.Pieces.{bytes_in, IsWithin};
+    ghost use Rattle.spec_lib.specs.Texts.{Text};
+    ghost use Rattle.blobctl.specs.Pieces.{bytes_in, IsPlaceInPieces};
 
     ghost Value = { Text };
 
     ghost view = { λ script. drop script.place (bytes_in script.pieces.items) };
 
-    ghost invariant = { λ script. IsWithin script.place script.pieces.items };
+    ghost invariant = { λ script. IsPlaceInPieces script.place script.pieces.items };
 }
 
 impl ScriptText {
-    /// A text of no bytes. It allocates nothing.
+    /// Makes an empty text.
+    ///
+    /// # Memory
+    ///
+    /// Allocates nothing.
     pub fn new(alloc: Global) -> ScriptText
         ensures { result ≡ [] }
     {
@@ -44,7 +48,7 @@ impl ScriptText {
         }
     }
 
-    /// Adds to the last piece as many of these bytes as it has room for, and says how many those were.
+    /// Fills the last piece with the first of these bytes, and returns how many it had room for.
     fn fill_last(&mut self, bytes: &[u8]) -> Result<usize, AllocError>
         ensures added { IfOk result (λ n. self.new ≡ self.old ++ take n bytes.now) }
         ensures few { IfOk result (λ n. n ≤ length bytes.now) }
@@ -57,9 +61,9 @@ impl ScriptText {
         Ok(count)
     }
 
-    /// Adds bytes at the end. They fill up the last piece first, and a new one is begun with what is left of them. It is
-    /// meant for at most 1 MiB at a time: of more, the new piece grows past its room. Where memory runs out, some of the
-    /// bytes may have been added.
+    /// Adds bytes at the end: first to the last piece, and the rest to a new one. The caller adds at most 1 MiB at a
+    /// time; more would make the new piece grow past its room. If an allocation fails, some of the bytes may have been
+    /// added.
     pub fn add(&mut self, alloc: Global, bytes: &[u8]) -> Result<(), AllocError>
         ensures { OnOk result (self.new ≡ self.old ++ bytes.now) }
     {
@@ -77,8 +81,8 @@ impl ScriptText {
 impl Read for ScriptText {
     ghost remaining = { λ script. Some script };
 
-    /// Takes bytes of the first piece alone, and drops it where these were its last. It never fails, and takes none only
-    /// where the text is at its end or the buffer has no room.
+    /// Reads bytes of the first piece only, and drops the piece after its last byte. It never fails, and returns 0 only
+    /// if the text is at its end or the buffer has no room.
     fn read(&mut self, buf: &mut [u8]) -> io::Result<usize>
         ensures bound { ReadsAtMost result buf.new }
         ensures bytes { ReadConsumes (Some self.old) (Some self.new) result buf.new }

@@ -1,17 +1,14 @@
 //! Rows played by several workers on a store that they share.
 ghost use Rattle.std.specs.Prelude.{◌≡◌, ◌≢◌, ◌⊎◌, IfErr, OnOk};
-ghost use Rattle.std.specs.Io.KnownBytes.{Appends};
-ghost use Rattle.finite_maps.specs.Texts.{Text};
-ghost use Rattle.blobctl.specs.Ending.{PlayedByWorkers};
-ghost use Rattle.blobctl.specs.Options.{CanWork, IsWithin};
-ghost use Rattle.blob_store.specs.Parts.{names_of};
-ghost use Rattle.store_book.specs.Openings.{OpensBook, tenants_shown};
+ghost use Rattle.blobctl.specs.Options.{IsWorkerCount, IsWithinOptionLimits};
+ghost use Rattle.blobctl.specs.Writing.{AddsRunOf};
+ghost use Rattle.blob_store.specs.Parts.{OpensParts, names_of};
 
 use crate::fault::Fault;
 use crate::options::Options;
 use crate::output::write_by_row;
 use blob_store::{Naming, Parts, PlayedToEnd, play_to_end};
-use row_player::{OpenGate, ScriptRows};
+use script_player::{OpenGate, ScriptRows};
 use std::alloc::Global;
 use std::io::Write;
 use std::marker::Brand;
@@ -19,9 +16,9 @@ use std::mem;
 use std::sync::Wait;
 use std::thread::Threads;
 
-/// Plays all rows by workers on a store of these parts, which were made by the options and whose names are those that
-/// the type parameter says, and writes the replies and then the book that is left. Where that ends well, neither is given
-/// back.
+/// Plays all rows by workers on a store of these parts, and writes the replies and then the book. The parts are those
+/// of the options, and their names those of the type parameter. If the call succeeds, it does not free the replies and
+/// the book.
 fn play_on_store<T: Threads + Wait + Sync, W: Write, S: Naming + Send + Sync>(
     rt: &T,
     alloc: Global,
@@ -30,10 +27,10 @@ fn play_on_store<T: Threads + Wait + Sync, W: Write, S: Naming + Send + Sync>(
     options: &Options,
     rows: &ScriptRows,
 ) -> Result<(), Fault>
-    requires workers { CanWork options.now.workers }
-    requires opened { OpensBook (tenants_shown options.now.store.tenants.items) options.now.store.slots options.now.store.max_blob options.now.store.first_generation parts.book }
+    requires workers { IsWorkerCount options.now.workers }
+    requires opened { OpensParts options.now.store parts }
     requires named { names_of parts ≡ S.names }
-    ensures played { OnOk result ((text : Text) × Appends (W.contents writer.old) (W.contents writer.new) text × PlayedByWorkers options.now.workers (tenants_shown options.now.store.tenants.items) options.now.store.slots options.now.store.max_blob rows.now text) }
+    ensures played { OnOk result (AddsRunOf W.contents writer.old writer.new options.now rows.now) }
     ensures silent { IfErr result (λ e. e ≢ Fault.Write → writer.new ≡ writer.old) }
     ensures refused { IfErr result (λ e. (e ≡ Fault.Memory) ⊎ (e ≡ Fault.Write)) }
 {
@@ -53,9 +50,13 @@ fn play_on_store<T: Threads + Wait + Sync, W: Write, S: Naming + Send + Sync>(
     Ok(())
 }
 
-/// Plays all rows by workers on a new store, and writes the replies in the order of the rows, and then the book, which
-/// has the tenants, the quotas, the slots and the limit on blobs of the options.
-/// Refused with `Memory`, and then nothing is written; and what the writer refuses.
+/// Plays all rows by workers on a new store, and writes the replies in the order of the rows, and then the book. The
+/// book has the tenants, the quotas, the slots and the limit on blobs of the options.
+///
+/// # Errors
+///
+/// - `Memory` if an allocation fails or a thread cannot be started; nothing is written then.
+/// - `Write` if the writer fails.
 pub fn play_by_workers<T: Threads + Wait + Sync, W: Write>(
     rt: &T,
     alloc: Global,
@@ -63,8 +64,8 @@ pub fn play_by_workers<T: Threads + Wait + Sync, W: Write>(
     options: &Options,
     rows: &ScriptRows,
 ) -> Result<(), Fault>
-    requires { IsWithin options.now }
-    ensures played { OnOk result ((text : Text) × Appends (W.contents writer.old) (W.contents writer.new) text × PlayedByWorkers options.now.workers (tenants_shown options.now.store.tenants.items) options.now.store.slots options.now.store.max_blob rows.now text) }
+    requires { IsWithinOptionLimits options.now }
+    ensures played { OnOk result (AddsRunOf W.contents writer.old writer.new options.now rows.now) }
     ensures silent { IfErr result (λ e. e ≢ Fault.Write → writer.new ≡ writer.old) }
     ensures refused { IfErr result (λ e. (e ≡ Fault.Memory) ⊎ (e ≡ Fault.Write)) }
 {

@@ -1,36 +1,36 @@
--- Words that are parted at the first one of a kind.
+-- Lists that are split at the first element of a kind.
 use Rattle.std.proofs.Common.{◌≡◌, ◌∙◌, ◌+◌, ◌-◌, ◌≤◌, ◌∷◌, [], ℕ, List, Bool, true, false, Some, None, ap, arith, cond, drop, get_or, length, map, not, refl, string_bytes, String, sym, take}
 use Rattle.std.specs.declared.alloc.Global.{Global}
 use Rattle.std.specs.List.{after_first, before_first, position, position_or_len}
 use Rattle.std.proofs.lemmas.Bool.{ltb-false}
 use Rattle.std.proofs.lemmas.List.{drop_all, drop-map, length-drop, length-map, take_all, take-map}
 use Rattle.std.proofs.lemmas.Option.{cond_some, none-some}
-use Rattle.finite_maps.specs.Texts.{Text}
+use Rattle.spec_lib.specs.Texts.{Text}
 
--- no element is found only where the test fails
+-- a test that finds nothing fails
 not_found : {X : Type 0} (b : Bool) (x : X) → None ≡ cond b (Some x) None → b ≡ false
 not_found true x is = absurd (none-some x is)
 not_found false x is = refl
 
 module _ (p : Text → Bool) where
-  -- a text stands where its word does
+  -- an argument and its text have the same index
   place_kept : (words : List (String Global)) → position_or_len p (map string_bytes words) ≡ position_or_len (λ w. p (string_bytes w)) words
   place_kept [] = refl
   place_kept (w ∷ ws) = ap (λ n. cond (not (p (string_bytes w))) (1 + n) 0) (place_kept ws)
 
-  -- the words before the first one, and those behind it
-  pub parted_at : (words : List (String Global)) (end : ℕ) → Some end ≡ position (λ w. p (string_bytes w)) words
+  -- the arguments before the first one, and those after it
+  pub split_found : (words : List (String Global)) (end : ℕ) → Some end ≡ position (λ w. p (string_bytes w)) words
       → (map string_bytes (take end words) ≡ before_first p (map string_bytes words)) × (map string_bytes (take (length words - (end + 1)) (drop (end + 1) words)) ≡ after_first p (map string_bytes words))
-  parted_at words end is =
+  split_found words end is =
       let place : position_or_len p (map string_bytes words) ≡ end = place_kept words ∙ (cond_some _ _ end (sym is)).1 in (
         sym (ap (λ n. take n (map string_bytes words)) place ∙ take-map string_bytes end words),
         ap (map string_bytes) (take_all (length words - (end + 1)) (drop (end + 1) words) (omega (arith, length-drop (end + 1) words))) ∙ sym (ap (λ n. drop (n + 1) (map string_bytes words)) place ∙ drop-map string_bytes (end + 1) words),
       )
 
-  -- or all words, where there is none
-  pub not_parted : (words : List (String Global)) → None ≡ position (λ w. p (string_bytes w)) words
+  -- all arguments, if there is none
+  pub split_not_found : (words : List (String Global)) → None ≡ position (λ w. p (string_bytes w)) words
       → (map string_bytes words ≡ before_first p (map string_bytes words)) × ([] ≡ after_first p (map string_bytes words))
-  not_parted words is =
+  split_not_found words is =
       let past = ltb-false _ _ (not_found _ _ is) in
       let place = place_kept words in
       let size = length-map words string_bytes in
@@ -39,7 +39,7 @@ module _ (p : Text → Bool) where
         sym (drop_all (position_or_len p (map string_bytes words) + 1) (map string_bytes words) (omega (arith, whole))),
       )
 
--- the first three words, of which the second and the third are these, and the others
+-- the first three arguments, of which the second and the third are these, and the others
 pub first_three : (words : List (String Global)) (second third : String Global) → 3 ≤ length words → second ≡ get_or words 1 second → third ≡ get_or words 2 third
     → (first : String Global) × (map string_bytes words ≡ string_bytes first ∷ string_bytes second ∷ string_bytes third ∷ map string_bytes (take (length words - 3) (drop 3 words)))
 first_three [] second third many is_second is_third = absurd (omega (arith, many))

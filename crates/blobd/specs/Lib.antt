@@ -1,4 +1,4 @@
-pub mod Served
+pub mod Connections
 pub mod Stops
 pub mod Totals
-pub mod Words
+pub mod Arguments

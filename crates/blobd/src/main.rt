@@ -1,37 +1,38 @@
-//! `blobd` keeps a store in memory, and serves it on lines.
+//! Keeps a store in memory, and serves it on connections.
 //!
 //!     blobd SLOTS MAX_BLOB TENANT=QUOTA.. [-- IN OUT [IN OUT]..]
 //!
-//! A line is a pair of files, as the ends of two pipes: requests are read from the one, and replies written to the
-//! other, in the frames of `docs/FRAMES.md`. Without files there is one line: standard input and output. Each line has
-//! a thread and a desk of its own. It ends where its input does, and the program where all its lines have ended. The
-//! program stands on `line_player` for a line, on `blob_store` for the store, on `lease_table` for the leases that lines
-//! take, and on `tenant_words` for the tenants.
+//! A connection is a pair of files, such as the ends of two pipes. Requests are read from `IN` and replies written to
+//! `OUT`, in the frames of `docs/PROTOCOL.md`. Without files there is one connection: standard input and output. Each
+//! connection has a thread and a desk of its own. It ends when its input ends, and the program when all connections have
+//! ended. The program depends on `wire_server` for a connection, on `blob_store` for the store, on `lease_table` for the
+//! leases, and on `tenant_args` for the tenants.
 //!
-//! It promises, of the function `serve_new`: of each line that ended, what was written is the greeting and the replies of
-//! playing the requests that were read from it, in their order, and nothing else, unless a write failed; the steps of
-//! these requests are part of a legal history of the store, with these replies; and it ended as a failed read only if a
-//! read failed. What a read of a lease answers are bytes of the blob that has the digest which the request names. What
-//! the requests do to leases is part of a legal history of one table of leases: a lease is read, and given back, by its
-//! number.
+//! It guarantees of the function `serve_new`, for each connection:
+//!
+//! - The output is the greeting and one reply for each request that was read, in order, unless a write failed.
+//! - The requests' steps are part of a legal sequential history of the store, with these replies.
+//! - The requests' events of leases are part of a legal history of one table of leases.
+//! - The bytes of a read of a lease are of a content that has the digest in the request.
+//! - The connection ended with `ReadFailed` if and only if a read failed.
 #![tactic(auto)]
 
 ghost use Rattle.std.specs.Prelude.{◌≡◌, IfErr, IfOk};
 ghost use Rattle.blobd.specs.Stops.{stop_status};
-ghost use Rattle.blobd.specs.Words.{IsWithin};
+ghost use Rattle.blobd.specs.Arguments.{IsWithin};
 
-mod line;
+mod arguments;
+mod connection;
 mod serving;
 mod shared;
 mod stop;
 mod totals;
-mod words;
 
-use crate::line::Line;
+use crate::arguments::{Options, read_arguments};
+use crate::connection::Connection;
 use crate::serving::serve_new;
 use crate::stop::Stop;
 use crate::totals::TotalsLine;
-use crate::words::{Options, read_words};
 use blob_store::Parts;
 use std::env;
 use std::fs::File;
@@ -40,52 +41,71 @@ use std::process::ExitCode;
 use std::sync::Wait;
 use std::thread::Threads;
 
-/// A line whose files are read and written through buffers.
-type Buffered<I, O> = Line<BufReader<I>, BufWriter<O>>;
+/// A connection whose files are read and written through buffers.
+type Buffered<I, O> = Connection<BufReader<I>, BufWriter<O>>;
 
-/// Why a buffer can't be made, or a file opened.
-fn stop_of(error: io::Error) -> Stop {
+/// Returns the stop for a file that cannot be opened.
+fn file_stop(path: &str, error: io::Error) -> Stop<'_> {
     match error.kind() {
         ErrorKind::OutOfMemory => Stop::Memory,
-        _ => Stop::File,
+        _ => Stop::File { path, error },
     }
 }
 
-/// A line of these ends.
-fn buffered<I: Read + Drop, O: Write + Drop>(
+/// Makes a connection of an input and an output. It fails only with `Stop::Memory`.
+fn buffered<'w, I: Read + Drop, O: Write + Drop>(
     rt: &HostRuntime,
     input: I,
     output: O,
-) -> io::Result<Buffered<I, O>> {
-    Ok(Line::new(
-        BufReader::new(rt.alloc(), input)?,
-        BufWriter::new(rt.alloc(), output)?,
-    ))
+) -> Result<Buffered<I, O>, Stop<'w>> {
+    let Ok(input) = BufReader::new(rt.alloc(), input) else {
+        return Err(Stop::Memory);
+    };
+    let Ok(output) = BufWriter::new(rt.alloc(), output) else {
+        return Err(Stop::Memory);
+    };
+    Ok(Connection::new(input, output))
 }
 
-/// Opens the two files of a line.
-fn open_line(rt: &HostRuntime, input: &str, output: &str) -> io::Result<Buffered<File, File>> {
-    let input = File::open(rt, input)?;
-    let output = File::options().write(true).open(rt, output)?;
-    buffered(rt, input, output)
+/// Opens the file of a connection's requests.
+fn open_input<'w>(rt: &HostRuntime, path: &'w str) -> Result<File, Stop<'w>> {
+    match File::open(rt, path) {
+        Ok(file) => Ok(file),
+        Err(error) => Err(file_stop(path, error)),
+    }
 }
 
-/// Opens the files of all lines, two for each.
-fn open_lines(rt: &HostRuntime, paths: &[String]) -> io::Result<Vec<Buffered<File, File>>> {
+/// Opens the file of a connection's replies.
+fn open_output<'w>(rt: &HostRuntime, path: &'w str) -> Result<File, Stop<'w>> {
+    match File::options().write(true).open(rt, path) {
+        Ok(file) => Ok(file),
+        Err(error) => Err(file_stop(path, error)),
+    }
+}
+
+/// Opens the files of all connections, two for each.
+fn open_connections<'w>(
+    rt: &HostRuntime,
+    paths: &'w [String],
+) -> Result<Vec<Buffered<File, File>>, Stop<'w>> {
     let mut lines = Vec::new(rt.alloc());
     for pair in paths.chunks_exact(2) {
-        lines.push(open_line(rt, pair[0].as_str(), pair[1].as_str())?)?;
+        let input = open_input(rt, pair[0].as_str())?;
+        let output = open_output(rt, pair[1].as_str())?;
+        if lines.push(buffered(rt, input, output)?).is_err() {
+            return Err(Stop::Memory);
+        }
     }
     Ok(lines)
 }
 
-/// Serves lines on a store of these parts, and prints its totals.
+/// Serves connections on a store of these parts, and prints its totals.
 fn serve_all<I: Read + Send + Drop, O: Write + Send + Drop>(
     rt: &HostRuntime,
     threads: &(impl Threads + Wait + Sync),
     parts: Parts,
-    lines: &mut [Line<I, O>],
-) -> Result<(), Stop> {
+    lines: &mut [Connection<I, O>],
+) -> Result<(), Stop<'static>> {
     let totals = serve_new(threads, rt.alloc(), parts, lines)?;
     let _ = eprint!(rt; "{}", TotalsLine { totals });
     if lines.iter().all(|l| matches!(l.served(), Some(Ok(_)))) {
@@ -95,53 +115,69 @@ fn serve_all<I: Read + Send + Drop, O: Write + Send + Drop>(
     }
 }
 
-/// Serves the lines that the options name, on the store that they make.
-fn run(
+/// Serves the connections of the options on a new store.
+fn run<'w>(
     rt: &HostRuntime,
     threads: &(impl Threads + Wait + Sync),
-    options: &Options<'_>,
-) -> Result<(), Stop>
+    options: &Options<'w>,
+) -> Result<(), Stop<'w>>
     requires { IsWithin options.now }
 {
     let Ok(parts) = Parts::new(rt.alloc(), &options.store) else {
         return Err(Stop::Memory);
     };
     if options.paths.is_empty() {
-        let line = buffered(rt, rt.reader(), io::writer(rt)).map_err(stop_of)?;
+        let line = buffered(rt, rt.reader(), io::writer(rt))?;
         return serve_all(rt, threads, parts, &mut [line]);
     }
-    let mut lines = open_lines(rt, options.paths).map_err(stop_of)?;
+    let mut lines = open_connections(rt, options.paths)?;
     serve_all(rt, threads, parts, lines.as_mut_slice())
 }
 
-/// Why the words of the command line can't be had: since memory ran out, or since one of them is not UTF-8.
-fn words_stop(error: io::Error) -> Stop {
+/// Returns the stop for arguments that cannot be read: memory ran out, or one of them is not UTF-8.
+fn arguments_stop(error: io::Error) -> Stop<'static> {
     match error.kind() {
         ErrorKind::OutOfMemory => Stop::Memory,
         _ => Stop::Usage,
     }
 }
 
-/// The words of the command line, the program's name first.
+/// Returns the arguments of the command line, the program's name first.
 fn words_of(rt: &HostRuntime) -> io::Result<Vec<String>> {
     let words = env::args(rt)?.collect(rt.alloc())?;
     Ok(words)
 }
 
-/// Runs by the words of the command line.
-fn run_here(rt: &HostRuntime, threads: &(impl Threads + Wait + Sync)) -> Result<(), Stop> {
-    let words = words_of(rt).map_err(words_stop)?;
-    let options = read_words(rt.alloc(), words.as_slice())?;
+/// Runs with these arguments.
+fn run_with<'w>(
+    rt: &HostRuntime,
+    threads: &(impl Threads + Wait + Sync),
+    words: &'w [String],
+) -> Result<(), Stop<'w>> {
+    let options = read_arguments(rt.alloc(), words)?;
     run(rt, threads, &options)
 }
 
-fn main(rt: HostRuntime) -> ExitCode {
-    let status = match run_here(&rt, &rt) {
-        Ok(()) => 0,
-        Err(stop) => {
-            let _ = eprint!(rt; "{}", stop.text());
-            stop.status()
-        }
+/// Prints why the program stops, and returns its exit status.
+fn report(rt: &HostRuntime, stop: Stop<'_>) -> u8
+    ensures { result ≡ stop_status stop.entry }
+{
+    let _ = eprint!(rt; "{stop}");
+    stop.status()
+}
+
+/// Runs with the arguments of the command line, and returns the exit status.
+fn run_here(rt: &HostRuntime, threads: &(impl Threads + Wait + Sync)) -> u8 {
+    let words = match words_of(rt) {
+        Ok(words) => words,
+        Err(error) => return report(rt, arguments_stop(error)),
     };
-    ExitCode::from(status)
+    match run_with(rt, threads, words.as_slice()) {
+        Ok(()) => 0,
+        Err(stop) => report(rt, stop),
+    }
+}
+
+fn main(rt: HostRuntime) -> ExitCode {
+    ExitCode::from(run_here(&rt, &rt))
 }

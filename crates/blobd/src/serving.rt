@@ -1,32 +1,30 @@
-//! Serves lines on a store.
+//! Serves connections on a store.
 ghost use Rattle.std.specs.Prelude.{◌≡◌, ◌⊎◌, ◌+◌, [], IfErr, IfOk, OnErr, OnOk};
-ghost use Rattle.atomic_table.specs.Seated.{TableId};
 ghost use Rattle.blob_digest.specs.declared.refusal.Refusal.TheVariants.{LimitReached, Memory};
 ghost use Rattle.blob_store.specs.Parts.{names_of};
-ghost use Rattle.blob_store.specs.Seats.{work_of};
-ghost use Rattle.blob_store.specs.Workers.{no_work};
-ghost use Rattle.blobd.specs.Served.{AreServed, IsLineServed, IsServedBy};
-ghost use Rattle.line_player.specs.Served.{EndsByRead};
-ghost use Rattle.watched_reader.specs.Watching.{inner_of};
+ghost use Rattle.blob_store.specs.StoreBackends.{work_of};
+ghost use Rattle.blob_store.specs.Workers.{zero_work};
+ghost use Rattle.blobd.specs.Connections.{AreServed, AreServedOn, IsClosedConnection, ServesStreams};
+ghost use Rattle.wire_server.specs.Connections.{EndsByRead};
 
-use crate::line::{Ended, Line};
+use crate::connection::{Connection, EndedConnection};
 use crate::shared::SharedLeases;
 use blob_digest::Refusal;
-use blob_store::{Desk, MAX_DESKS, Naming, Parts, Seat, Store, Totals};
+use blob_store::{Desk, MAX_DESKS, Naming, Parts, Store, StoreBackend, Totals};
+use ghost_log::SharedLog;
 use lease_table::{LeaseEvent, LeaseNaming, LeaseWriter, LockedLeaseTable};
-use line_player::{Ending, serve};
 use locked_book::StorePins;
-use shared_log::SharedLog;
 use std::alloc::{AllocError, Global};
 use std::io::{Read, Write};
 use std::marker::Brand;
 use std::sync::{Mutex, Wait};
 use std::thread::{self, Threads};
 use watched_reader::Watched;
+use wire_server::{Ending, serve};
 
-/// Serves requests at a desk that has done nothing, by a writer that has added nothing, and answers the desk with why
-/// the line ended.
-fn serve_at<'s, W: Wait, S: Naming, L: LeaseNaming, I: Read, O: Write>(
+/// Serves a connection with a new desk and a new writer of the table's history. Returns why the connection ended, and the
+/// desk.
+fn serve_with_desk<'s, W: Wait, S: Naming, L: LeaseNaming, I: Read, O: Write>(
     rt: &'s W,
     alloc: Global,
     store: &'s Store<S>,
@@ -36,28 +34,34 @@ fn serve_at<'s, W: Wait, S: Naming, L: LeaseNaming, I: Read, O: Write>(
     input: &mut Watched<I>,
     output: &mut O,
 ) -> (Ending, Desk<S>)
-    requires fresh { work_of desk ≡ no_work }
+    requires fresh { work_of desk ≡ zero_work }
     requires unwritten { writer.own ≡ [] }
-    ensures served { IsServedBy S.names L.log (I.remaining (inner_of input.old)) (O.contents output.old) (O.contents output.new) result.0 }
+    ensures served { ServesStreams S.names L.log I.remaining O.contents
+        input.old output.old output.new result.0 }
     ensures failed { EndsByRead result.0 input.old input.new }
 {
-    let mut seat = Seat { rt, store, desk };
+    let mut backend = StoreBackend { rt, store, desk };
     let mut leases = SharedLeases { rt, table, writer };
-    let ending = serve(rt, alloc, &mut seat, &mut leases, input, output);
-    let Seat {
+    let ending = serve(rt, alloc, &mut backend, &mut leases, input, output);
+    let StoreBackend {
         rt: _,
         store: _,
         desk,
-    } = seat;
-    desk.audit();
+    } = backend;
+    desk.reveal_invariant();
     leases.writer.reveal_invariant();
     (ending, desk)
 }
 
-/// Serves requests at a desk of their own, which is settled at the end, and answers why the line ended.
+/// Serves a connection with a desk of its own, and returns why it ended. The desk is settled at the end.
 ///
-/// Refused, in this order: 1,024 desks that are out (`LimitReached`); out of memory. Then nothing is read or written.
-pub fn serve_ends<'s, W: Wait, S: Naming, L: LeaseNaming, I: Read, O: Write>(
+/// # Errors
+///
+/// Nothing is read or written then.
+///
+/// - `LimitReached`, if 1,024 desks exist.
+/// - `Memory`, if the desk cannot be allocated.
+pub fn serve_streams<'s, W: Wait, S: Naming, L: LeaseNaming, I: Read, O: Write>(
     rt: &'s W,
     alloc: Global,
     store: &'s Store<S>,
@@ -65,7 +69,8 @@ pub fn serve_ends<'s, W: Wait, S: Naming, L: LeaseNaming, I: Read, O: Write>(
     input: &mut Watched<I>,
     output: &mut O,
 ) -> Result<Ending, Refusal>
-    ensures served { IfOk result (IsServedBy S.names L.log (I.remaining (inner_of input.old)) (O.contents output.old) (O.contents output.new)) }
+    ensures served { IfOk result (ServesStreams S.names L.log I.remaining O.contents
+        input.old output.old output.new) }
     ensures failed { IfOk result (λ e. EndsByRead e input.old input.new) }
     ensures same { OnErr result ((input.new ≡ input.old) × (output.new ≡ output.old)) }
     ensures refused { IfErr result (λ e. (e ≡ LimitReached) ⊎ (e ≡ Memory)) }
@@ -75,31 +80,31 @@ pub fn serve_ends<'s, W: Wait, S: Naming, L: LeaseNaming, I: Read, O: Write>(
         unreachable!()
     };
     let writer = table.lock(rt).writer();
-    let (ending, desk) = serve_at(rt, alloc, store, table, desk, writer, input, output);
+    let (ending, desk) = serve_with_desk(rt, alloc, store, table, desk, writer, input, output);
     desks.push_reserved(desk);
     store.settle(rt, desks);
     Ok(ending)
 }
 
-/// Serves a line until it ends, and drops its two ends then.
-fn serve_line<'s, W: Wait, S: Naming, L: LeaseNaming, I: Read + Drop, O: Write + Drop>(
+/// Serves a connection until it ends, and then drops its input and output.
+fn serve_connection<'s, W: Wait, S: Naming, L: LeaseNaming, I: Read + Drop, O: Write + Drop>(
     rt: &'s W,
     alloc: Global,
     store: &'s Store<S>,
     table: &Mutex<LockedLeaseTable<'s, StorePins<S>, L>>,
-    line: &mut Line<I, O>,
+    line: &mut Connection<I, O>,
 )
-    ensures { IsLineServed S.names L.log I.remaining O.contents line.old line.new }
+    ensures { IsClosedConnection S.names L.log I.remaining O.contents line.old line.new }
 {
     if let Some((mut input, mut output)) = line.ends.take() {
-        let served = serve_ends(rt, alloc, store, table, &mut input, &mut output);
-        line.ended = Some(Ended::new(input, output, served));
+        let served = serve_streams(rt, alloc, store, table, &mut input, &mut output);
+        line.ended = Some(EndedConnection::new(input, output, served));
     }
 }
 
-/// Serves all lines until they end, each in a thread of its own, and 1,024 at once. Where no thread can be started,
-/// lines are served one behind the other.
-fn serve_lines<
+/// Serves all connections until they end, each in a thread of its own, at most 1,024 at once. If no thread can be started,
+/// it serves them one after another.
+fn serve_connections<
     's,
     'l,
     W: Threads + Wait + Sync,
@@ -112,7 +117,7 @@ fn serve_lines<
     alloc: Global,
     store: &'s Store<S>,
     table: &'l Mutex<LockedLeaseTable<'s, StorePins<S>, L>>,
-    lines: &mut [Line<I, O>],
+    lines: &mut [Connection<I, O>],
 )
     ensures { AreServed S.names L.log I.remaining O.contents lines.old lines.new }
 {
@@ -120,11 +125,11 @@ fn serve_lines<
         rt,
         lines,
         MAX_DESKS as usize,
-        &|_, line| serve_line(rt, alloc, store, table, line),
+        &|_, line| serve_connection(rt, alloc, store, table, line),
     );
 }
 
-/// Serves all lines on a store with one table of leases, gives back the leases that they leave, and answers the
+/// Serves all connections on a store with one new table of leases, gives back the remaining leases, and returns the
 /// store's totals.
 fn serve_on<
     's,
@@ -138,20 +143,20 @@ fn serve_on<
     alloc: Global,
     store: &'s Store<S>,
     log: SharedLog<LeaseEvent>,
-    lines: &mut [Line<I, O>],
+    lines: &mut [Connection<I, O>],
 ) -> Totals
     requires log { (log.name ≡ L.log) × (log.entries ≡ []) }
     ensures served { AreServed S.names L.log I.remaining O.contents lines.old lines.new }
     ensures totals { result.received ≡ result.in_sessions + result.closed + result.abandoned }
 {
     let table = Mutex::new(LockedLeaseTable::<'s, StorePins<S>, L>::new(alloc, log));
-    serve_lines(rt, alloc, store, &table, lines);
+    serve_connections(rt, alloc, store, &table, lines);
     table.into_inner().end();
     store.totals(rt)
 }
 
-/// Serves all lines on the store of these parts, with a table of leases that has this log. Their names are those that the
-/// type parameters say.
+/// Serves all connections on a new store of these parts, with a table of leases that has this log. The type parameters
+/// name the parts and the log.
 fn serve_parts<
     W: Threads + Wait + Sync,
     S: Naming + Send + Sync,
@@ -163,7 +168,7 @@ fn serve_parts<
     alloc: Global,
     parts: Parts,
     log: SharedLog<LeaseEvent>,
-    lines: &mut [Line<I, O>],
+    lines: &mut [Connection<I, O>],
 ) -> Totals
     requires named { names_of parts ≡ S.names }
     requires log { (log.name ≡ L.log) × (log.entries ≡ []) }
@@ -174,21 +179,26 @@ fn serve_parts<
     serve_on::<W, S, L, I, O>(rt, alloc, &store, log, lines)
 }
 
-/// Serves all lines on a new store of these parts, each in a thread of its own, until they end, and answers the store's
-/// totals. A lease that one line has taken the others may read and give back; those that are left at the end are given
-/// back then. At most 1,024 lines are served at once; where no thread can be started, they are served one behind the
-/// other. A line whose desk finds no memory is not served, and closed all the same.
+/// Serves all connections on a new store of these parts until they end, and returns the store's totals.
+///
+/// Each connection has a thread of its own, and at most 1,024 are served at once. If no thread can be started, they are
+/// served one after another. Any connection may read or give back a lease that another one has taken. The remaining leases
+/// are given back at the end. If memory runs out for the desk of a connection, it is closed without being served.
 ///
 /// # Errors
 ///
-/// Allocation fails before any line is served.
+/// `AllocError`, if the history's log cannot be allocated. Then all connections stay open.
+///
+/// # Cost
+///
+/// It allocates one log, and for each connection a desk, a thread, and the buffer of its longest request.
 pub fn serve_new<W: Threads + Wait + Sync, I: Read + Send + Drop, O: Write + Send + Drop>(
     rt: &W,
     alloc: Global,
     parts: Parts,
-    lines: &mut [Line<I, O>],
+    lines: &mut [Connection<I, O>],
 ) -> Result<Totals, AllocError>
-    ensures served { OnOk result ((log : TableId) × AreServed (names_of parts) log I.remaining O.contents lines.old lines.new) }
+    ensures served { OnOk result (AreServedOn parts I.remaining O.contents lines.old lines.new) }
     ensures totals { IfOk result (λ t. t.received ≡ t.in_sessions + t.closed + t.abandoned) }
     ensures same { OnErr result (lines.new ≡ lines.old) }
 {

@@ -1,31 +1,31 @@
-//! The table of leases that all lines share.
+//! The table of leases that all connections share.
 ghost use Rattle.std.specs.Prelude.{◌≡◌};
 
 use blob_digest::{Digest, Refusal};
-use blob_store::{Lease, Naming, Seat};
+use blob_store::{Lease, Naming, StoreBackend};
 use lease_table::{LeaseNaming, LeaseWriter, LockedLeaseTable};
-use line_player::Lending;
 use locked_book::StorePins;
 use std::sync::{Mutex, Wait};
 use store_api::Piece;
+use wire_server::LeaseStore;
 
-/// The table of leases that all lines share, under its lock, and a line's right to add to the table's history. Contracts
-/// see which events a line adds.
+/// A connection's access to the table of leases that all connections share: the lock, and the connection's writer of the
+/// table's history. Contracts see the events that the connection adds.
 #[derive(Drop)]
 pub struct SharedLeases<'l, 's, W: Wait, S: Naming, L: LeaseNaming> {
-    /// What the calls wait by.
+    /// The runtime whose `Wait` the lock uses.
     pub rt: &'l W,
-    /// The table.
+    /// The table under its lock.
     pub table: &'l Mutex<LockedLeaseTable<'s, StorePins<S>, L>>,
-    /// The line's writer.
+    /// The connection's writer.
     pub writer: LeaseWriter<L>,
 }
 
-impl<'l, 's, W: Wait, S: Naming, L: LeaseNaming> Lending<Seat<'s, W, S>>
+impl<'l, 's, W: Wait, S: Naming, L: LeaseNaming> LeaseStore<StoreBackend<'s, W, S>>
     for SharedLeases<'l, 's, W, S, L> {
-    ghost use Rattle.lease_table.specs.Histories.{Adds};
+    ghost use Rattle.lease_table.specs.Histories.{AddsEvent};
 
-    ghost does = { λ old event new. Adds old.writer event new.writer };
+    ghost does = { λ old event new. AddsEvent old.writer event new.writer };
 
     fn keep(&mut self, lease: Lease<'s, S>) -> Option<u32> {
         self.table.lock(self.rt).keep(&mut self.writer, lease)

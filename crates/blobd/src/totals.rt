@@ -1,11 +1,11 @@
-//! What the program tells at its end.
+//! The line of totals that the program prints at its end.
 ghost use Rattle.std.specs.Prelude.{Some};
 ghost use Rattle.blobd.specs.Totals.{totals_text};
 
 use blob_store::Totals;
 use std::fmt;
 
-/// The line of a store's totals.
+/// The line of text that reports a store's totals.
 #[derive(Clone, Copy, Drop)]
 pub struct TotalsLine {
     /// The totals.

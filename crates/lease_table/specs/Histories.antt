@@ -1,70 +1,70 @@
--- The history of a table of leases, and what contracts see of a writer's part in it.
+-- The history of a table of leases, and the traces of its writers.
 use Rattle.std.specs.Prelude.{◌≡◌, ℕ, List, [], ◌∷◌, ◌++◌, Option}
 use Rattle.std.specs.FinMap as fmap
 use Rattle.atomic_table.specs.Seated.{TableId}
-use Rattle.shared_log.specs.declared.view.Entry.{Entry}
-use Rattle.shared_log.specs.Entries.{entry, events_by, IsPrefix}
-use Rattle.shared_log.specs.Calls.{Writer}
-use Rattle.finite_maps.specs.Texts.{Text}
-use Rattle.line_player.specs.Lendings.{Lending}
-use Rattle.lease_table.specs.Tables.{Numbered, IsTableStep, read_event}
+use Rattle.ghost_log.specs.declared.view.Entry.{Entry}
+use Rattle.ghost_log.specs.Entries.{entry, events_by, IsPrefix}
+use Rattle.ghost_log.specs.Calls.{Writer}
+use Rattle.spec_lib.specs.Texts.{Text}
+use Rattle.wire_server.specs.LeaseEvents.{TableEvent}
+use Rattle.lease_table.specs.Tables.{LeaseMap, IsTableStep, read_event}
 
 -- ---- histories
 
--- events in turn lead from one table to another
-abbrev pub AreTableSteps : Numbered → List Lending → Numbered → Type 0
+-- the events lead from one table to another, one step after another
+abbrev pub AreTableSteps : LeaseMap → List TableEvent → LeaseMap → Type 0
 AreTableSteps old [] new = new ≡ old
-AreTableSteps old (event ∷ events) new = (mid : Numbered) × IsTableStep old event mid × AreTableSteps mid events new
+AreTableSteps old (event ∷ events) new = (mid : LeaseMap) × IsTableStep old event mid × AreTableSteps mid events new
 
--- events lead from the table without leases to this one
-abbrev pub LeadsTo : List Lending → Numbered → Type 0
+-- the events lead from the empty table to this one
+abbrev pub LeadsTo : List TableEvent → LeaseMap → Type 0
 LeadsTo events leases = AreTableSteps fmap.empty events leases
 
--- a history that one thread could have made
-abbrev pub IsLegal : List Lending → Type 0
-IsLegal events = (leases : Numbered) × LeadsTo events leases
+-- the history is one that a single thread could have made
+abbrev pub IsLegal : List TableEvent → Type 0
+IsLegal events = (leases : LeaseMap) × LeadsTo events leases
 
 -- ---- logs
 
--- the events of a log, whoever made them
-abbrev pub events_of : List (Entry Lending) → List Lending
+-- the events of a log by all writers
+abbrev pub events_of : List (Entry TableEvent) → List TableEvent
 events_of [] = []
 events_of (e ∷ es) = e.event ∷ events_of es
 
--- a log leads from the table without leases to this one
-abbrev pub Leaves : List (Entry Lending) → Numbered → Type 0
-Leaves entries leases = LeadsTo (events_of entries) leases
+-- the log leads from the empty table to this one
+abbrev pub LogLeadsTo : List (Entry TableEvent) → LeaseMap → Type 0
+LogLeadsTo entries leases = LeadsTo (events_of entries) leases
 
--- the history can go on by an event
-abbrev pub MayGoOn : List (Entry Lending) → Lending → Type 0
-MayGoOn entries event = (t t' : Numbered) × Leaves entries t × IsTableStep t event t'
+-- the event is a step of a table that the history leads to
+abbrev pub CanExtend : List (Entry TableEvent) → TableEvent → Type 0
+CanExtend entries event = (t t' : LeaseMap) × LogLeadsTo entries t × IsTableStep t event t'
 
--- a history went on by an event: it leads to where the event leads from where the history led
-abbrev pub GoesOn : List (Entry Lending) → Lending → List (Entry Lending) → Type 0
-GoesOn old event new = (t t' : Numbered) → Leaves old t → IsTableStep t event t' → Leaves new t'
+-- the new history leads to the table to which the event leads from a table of the old one
+abbrev pub ExtendsLog : List (Entry TableEvent) → TableEvent → List (Entry TableEvent) → Type 0
+ExtendsLog old event new = (t t' : LeaseMap) → LogLeadsTo old t → IsTableStep t event t' → LogLeadsTo new t'
 
 -- ---- writers
 
--- a writer's part in the history: the name of the log, its number, the beginning of the history that it has seen, and its own events
-pub record Trace : Type 0 where
+-- a writer's trace: the name of the log, its number, the part of the history that it has seen, and its own events
+pub record LeaseTrace : Type 0 where
   pub log : TableId
   pub number : ℕ
-  pub seen : List (Entry Lending)
-  pub own : List Lending
+  pub seen : List (Entry TableEvent)
+  pub own : List TableEvent
 
-abbrev pub trace_of : Writer Lending → Trace
+-- the trace of a writer
+abbrev pub trace_of : Writer TableEvent → LeaseTrace
 trace_of w = record { log = w.name; number = w.number; seen = w.seen; own = w.own }
 
--- Part of the history of this log: what was seen of it is legal, and has under this number just its own events, each once and in order.
-pub record IsPart (log : TableId) (trace : Trace) : Type 0 where
+-- the trace is part of a legal history of this log, whose events under its number are its own
+pub record IsLeaseHistoryPart (log : TableId) (trace : LeaseTrace) : Type 0 where
   pub named : trace.log ≡ log
   pub legal : IsLegal (events_of trace.seen)
   pub own : events_by trace.number trace.seen ≡ trace.own
 
--- Just this event was added, at the end of a history that is legal and goes on from all that the writer had seen; and of the writer's own events
--- that history has just those that it made, each once and in order, this one as the last.
-pub record Adds (old : Trace) (event : Lending) (new : Trace) : Type 0 where
-  pub between : List (Entry Lending)
+-- the event was added at the end of a legal history that extends the writer's, as the last of the writer's own events
+pub record AddsEvent (old : LeaseTrace) (event : TableEvent) (new : LeaseTrace) : Type 0 where
+  pub between : List (Entry TableEvent)
   pub seen : new.seen ≡ (old.seen ++ between) ++ entry old.number event ∷ []
   pub own : new.own ≡ old.own ++ event ∷ []
   pub log : new.log ≡ old.log
@@ -72,12 +72,12 @@ pub record Adds (old : Trace) (event : Lending) (new : Trace) : Type 0 where
   pub agrees : events_by new.number new.seen ≡ new.own
   pub legal : IsLegal (events_of new.seen)
 
--- a piece that was read, or that there was none, was added
-abbrev pub AddsRead : Trace → ℕ → Text → ℕ → ℕ → Trace → Option Text → Type 0
-AddsRead old number digest start end new piece = Adds old (read_event number digest start end piece) new
+-- the event of a read, or of one that found no lease, was added
+abbrev pub AddsReadEvent : LeaseTrace → ℕ → Text → ℕ → ℕ → LeaseTrace → Option Text → Type 0
+AddsReadEvent old number digest start end new piece = AddsEvent old (read_event number digest start end piece) new
 
--- Two writers see all of one history, which goes on from what each had seen, and neither adds to it.
-pub record Meets (one other one' other' : Trace) : Type 0 where
+-- two writers see one whole history, which extends that of each, and add nothing
+pub record SeesOneHistory (one other one' other' : LeaseTrace) : Type 0 where
   pub same : one'.seen ≡ other'.seen
   pub first : IsPrefix one.seen one'.seen
   pub second : IsPrefix other.seen other'.seen

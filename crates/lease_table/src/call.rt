@@ -1,17 +1,17 @@
-//! A call that was made under the lock.
+//! Calls on the table under its lock.
 
 use blob_digest::Digest;
 use std::snapshot::Snapshot;
 use store_api::Piece;
 use store_book::{Lease, PinsName};
 
-/// A call that was made under the lock, with what it was given and what it returned.
+/// A call on the table under its lock: its arguments and its result.
 #[derive(Drop)]
 pub enum Call<'a, 'p, N: PinsName> {
-    /// A lease was to be kept.
+    /// `keep`: the lease, and the returned number.
     Keep(Snapshot<Lease<'p, N>>, Option<u32>),
-    /// A piece was to be read, by a number and a digest, from a start to an end.
+    /// `piece`: the number, the digest, the start, the end, and the returned piece.
     Read(u32, &'a Digest, u64, u64, &'a Option<Piece>),
-    /// The lease of a number was to be given back.
+    /// `give_back`: the number, and whether there was a lease.
     GiveBack(u32, bool),
 }

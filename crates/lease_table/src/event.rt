@@ -1,50 +1,50 @@
-//! What is appended to a table's log: values of the proof alone.
+//! The entries of a table's log, which exist only in the proof.
 
 ghost use Rattle.std.specs.Prelude.{◌≡◌};
-ghost use Rattle.shared_log.specs.Calls.{Agrees, with_entry, has_appended};
+ghost use Rattle.ghost_log.specs.Calls.{Agrees, with_entry, writer_after_append};
 ghost use Rattle.lease_table.specs.Calls.{event_of};
 
 use crate::call::Call;
-use shared_log::{Event, SharedLog, Writer};
+use ghost_log::{Event, SharedLog, Writer};
 use std::marker::{Brand, Model, PhantomData};
 use store_book::PinsName;
 
-/// An event of a table's history. The code keeps none.
+/// An event of a table's history. It exists only in the proof.
 pub struct LeaseEvent {
     none: (),
 }
 
 impl Model for LeaseEvent {
-    ghost use Rattle.line_player.specs.Lendings.{Lending, NotGivenBack};
+    ghost use Rattle.wire_server.specs.LeaseEvents.{TableEvent, LeaseNotGivenBack};
 
-    ghost Value = { Lending };
+    ghost Value = { TableEvent };
 
-    ghost view = { λ _. NotGivenBack 0 };
+    ghost view = { λ _. LeaseNotGivenBack 0 };
 }
 
-/// Picks an event.
+/// A type parameter that names an event.
 pub trait EventName {
-    ghost use Rattle.line_player.specs.Lendings.{Lending};
+    ghost use Rattle.wire_server.specs.LeaseEvents.{TableEvent};
 
-    ghost event: { Lending };
+    ghost event: { TableEvent };
 }
 
 impl EventName for Brand {
-    ghost use Rattle.line_player.specs.Lendings.{NotGivenBack};
+    ghost use Rattle.wire_server.specs.LeaseEvents.{LeaseNotGivenBack};
 
-    ghost event = { NotGivenBack 0 };
+    ghost event = { LeaseNotGivenBack 0 };
 }
 
-/// The event that was picked.
-pub struct Picked<P> {
+/// The event that `P` names.
+pub struct PickedEvent<P> {
     of: PhantomData<P>,
 }
 
-impl<P: EventName> Event<LeaseEvent> for Picked<P> {
+impl<P: EventName> Event<LeaseEvent> for PickedEvent<P> {
     ghost event = { P.event };
 }
 
-// The event is picked in the proof alone.
+// The proof of a call picks the event that `P` names.
 fn append_as<P: EventName, N: PinsName>(
     log: &mut SharedLog<LeaseEvent>,
     writer: &mut Writer<LeaseEvent>,
@@ -54,13 +54,13 @@ fn append_as<P: EventName, N: PinsName>(
     requires name { writer.old.name ≡ log.old.name }
     ensures agrees { Agrees log.old writer.old }
     ensures log { log.new ≡ with_entry writer.old.number P.event log.old }
-    ensures writer { writer.new ≡ has_appended P.event log.old.entries writer.old }
+    ensures writer { writer.new ≡ writer_after_append P.event log.old.entries writer.old }
 {
     let _ = call;
-    log.append::<Picked<P>>(writer);
+    log.append::<PickedEvent<P>>(writer);
 }
 
-/// Appends the event that a call was.
+/// Appends the event of a call.
 pub fn append<N: PinsName>(
     log: &mut SharedLog<LeaseEvent>,
     writer: &mut Writer<LeaseEvent>,
@@ -69,7 +69,8 @@ pub fn append<N: PinsName>(
     requires { writer.old.name ≡ log.old.name }
     ensures agrees { Agrees log.old writer.old }
     ensures log { log.new ≡ with_entry writer.old.number (event_of call.entry) log.old }
-    ensures writer { writer.new ≡ has_appended (event_of call.entry) log.old.entries writer.old }
+    ensures writer { writer.new ≡ writer_after_append (event_of call.entry) log.old.entries
+        writer.old }
 {
     append_as::<Brand, N>(log, writer, call);
 }

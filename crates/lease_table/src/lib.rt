@@ -1,12 +1,12 @@
-//! The leases that are out, by their numbers, and the history of what was done to them.
+//! A table of leases by their numbers, and the history of its events.
 //!
-//! A lease that is kept gets a number, under which any connection may read it and give it back. `LockedLeaseTable` is
-//! what lies under a lock that connections share: the table, and a log of all that was done to it, in the proof alone.
-//! Each connection has a `LeaseWriter`. It stands on `store_book` for leases, on `line_player` for the events of a
-//! table, and on `shared_log` for the log. No lock and no thread is named here: `blobd` puts the lock around it.
+//! A kept lease gets a number, by which any connection may read it or give it back. `LockedLeaseTable` is the value under a
+//! lock that connections share: the table, and a log of its events, which exists only in the proof. Each connection has a
+//! `LeaseWriter`. The crate depends on `store_book` for leases, on `wire_server` for the events of a table, and on
+//! `ghost_log` for the log. It has no lock and no thread: `blobd` puts the lock around the table.
 //!
-//! It promises of each call which step of the table it is, by its number and its result, and that just this step was
-//! added to the one history of the table, which leads from a table without leases to the present one.
+//! It guarantees which step of the table each call is, by its number and its result. That step alone is added to the one
+//! history of the table, which leads from the empty table to the present one.
 #![tactic(auto)]
 
 mod call;

@@ -5,8 +5,8 @@ ghost use Rattle.atomic_table.specs.Seated.{TableId};
 
 use std::marker::Brand;
 
-/// Which history. It has no values, and no code: a table that carries such a parameter has the log of that name, and
-/// each writer of such a parameter writes to that log.
+/// A type parameter that names a log. It has no values and no code. A table with such a parameter has the log of that
+/// name, and a writer with the parameter writes to that log.
 pub trait LeaseNaming {
     ghost log: { TableId };
 }

@@ -1,12 +1,12 @@
-//! The leases that are out, by their numbers.
+//! A table of leases by their numbers.
 
 ghost use Rattle.std.specs.Prelude.{◌≡◌, ◌≢◌, ◌^◌, ◌<◌, ◌≤◌, IfErr, IfOk, IfSome, None};
 ghost use Rattle.std.specs.BTreeMap as tree;
 ghost use Rattle.std.specs.FinMap as fmap;
 ghost use Rattle.std.specs.Ordering.{nat_cmp};
 ghost use Rattle.blob_digest.specs.declared.refusal.Refusal.TheVariants.{Memory};
-ghost use Rattle.line_player.specs.Lendings.{IsPieceOf};
-ghost use Rattle.lease_table.specs.Tables.{GivesBack, Keeps, Reads, numbered_in};
+ghost use Rattle.wire_server.specs.LeaseEvents.{IsPieceOf};
+ghost use Rattle.lease_table.specs.Tables.{RemovesLease, AddsLease, ReadsLease, lease_map_of};
 
 use blob_digest::{Digest, Refusal};
 use std::alloc::{AllocFailed, Global};
@@ -15,11 +15,11 @@ use std::marker::Model;
 use store_api::Piece;
 use store_book::{Lease, PinsName};
 
-/// Leases by their numbers.
+/// The tree of leases by their numbers.
 type Leases<'p, N> = BTreeMap<u32, Lease<'p, N>>;
 
-/// The leases that are out, by their numbers, which begin at 1. They must be given back before the table goes.
-/// Contracts see a finite map from numbers to leases.
+/// A table of leases by their numbers, which begin at 1. Contracts see a finite map from numbers to leases. The table must
+/// be spent by `end`, which gives its leases back.
 pub struct LeaseTable<'p, N: PinsName> {
     leases: Leases<'p, N>,
     /// The number that is tried first.
@@ -27,17 +27,17 @@ pub struct LeaseTable<'p, N: PinsName> {
 }
 
 impl<'p, N: PinsName> Model for LeaseTable<'p, N> {
-    ghost use Rattle.lease_table.specs.Tables.{Numbered, coded_numbered, numbered_in};
+    ghost use Rattle.lease_table.specs.Tables.{LeaseMap, coded_lease_map, lease_map_of};
 
-    ghost Value = { Numbered };
+    ghost Value = { LeaseMap };
 
-    ghost coded = { coded_numbered };
+    ghost coded = { coded_lease_map };
 
-    ghost view = { λ t. numbered_in t.leases };
+    ghost view = { λ t. lease_map_of t.leases };
 }
 
-/// Finds a number that no lease has. It tries numbers from `next` on, one more than leases are out, and passes over 0;
-/// so the number of a lease that was given back isn't soon another's.
+/// Finds a number that no lease has, from `next` on, and moves `next` past it. So the number of a lease that was given
+/// back is not used again soon. It tries two numbers more than there are leases, and skips 0.
 fn free_number<'p, N: PinsName>(leases: &Leases<'p, N>, next: &mut u32) -> Option<u32>
     ensures { IfSome result (λ n. (n ≢ 0) × (tree.get nat_cmp leases.now n ≡ None)) }
 {
@@ -51,7 +51,7 @@ fn free_number<'p, N: PinsName>(leases: &Leases<'p, N>, next: &mut u32) -> Optio
     None
 }
 
-/// Keeps a lease under a number that no other has, or gives it back if allocation fails.
+/// Keeps a lease under a number that no other lease has. If allocation fails, it gives the lease back.
 fn keep_under<'p, N: PinsName>(
     leases: &mut Leases<'p, N>,
     number: u32,
@@ -59,7 +59,7 @@ fn keep_under<'p, N: PinsName>(
 ) -> Option<u32>
     requires positive { number ≢ 0 }
     requires free { tree.get nat_cmp leases.old number ≡ None }
-    ensures { Keeps (numbered_in leases.old) lease.entry result (numbered_in leases.new) }
+    ensures { AddsLease (lease_map_of leases.old) lease.entry result (lease_map_of leases.new) }
 {
     match leases.insert(number, lease) {
         Ok(None) => Some(number),
@@ -76,7 +76,7 @@ fn keep_under<'p, N: PinsName>(
     }
 }
 
-/// Reads a piece of the blob that is leased under a number, if it has a digest.
+/// Returns a piece of the blob that is leased under a number, if the blob has the digest.
 fn piece_in<'p, N: PinsName>(
     leases: &Leases<'p, N>,
     number: u32,
@@ -87,7 +87,7 @@ fn piece_in<'p, N: PinsName>(
     requires ordered { start ≤ end }
     requires small { end < 2 ^ 63 }
     ensures content { IfOk result (λ o. IfSome o (IsPieceOf digest.now start end)) }
-    ensures does { IfOk result (Reads (numbered_in leases.now) number digest.now start end) }
+    ensures does { IfOk result (ReadsLease (lease_map_of leases.now) number digest.now start end) }
     ensures refused { IfErr result (λ e. e ≡ Memory) }
 {
     let Some(lease) = leases.get(&number) else {
@@ -99,9 +99,9 @@ fn piece_in<'p, N: PinsName>(
     Ok(Some(Piece::new(lease.blob().clone()?, start, end)))
 }
 
-/// Gives the lease of a number back.
+/// Gives the lease of a number back, and returns whether there was one.
 fn give_back_in<'p, N: PinsName>(leases: &mut Leases<'p, N>, number: u32) -> bool
-    ensures { GivesBack (numbered_in leases.old) number result (numbered_in leases.new) }
+    ensures { RemovesLease (lease_map_of leases.old) number result (lease_map_of leases.new) }
 {
     match leases.remove(&number) {
         Some(lease) => {
@@ -123,9 +123,10 @@ impl<'p, N: PinsName> LeaseTable<'p, N> {
         }
     }
 
-    /// Keeps a lease, and returns its number, which no other lease has. If allocation fails, the lease is given back.
+    /// Keeps a lease and returns its number, which no other lease has. If allocation fails, it gives the lease back and
+    /// returns `None`.
     pub fn keep(&mut self, lease: Lease<'p, N>) -> Option<u32>
-        ensures { Keeps self.old lease.entry result self.new }
+        ensures { AddsLease self.old lease.entry result self.new }
     {
         let Some(number) = free_number(&self.leases, &mut self.next) else {
             lease.give_back();
@@ -134,12 +135,12 @@ impl<'p, N: PinsName> LeaseTable<'p, N> {
         keep_under(&mut self.leases, number, lease)
     }
 
-    /// Returns the bytes from a start to an end, both included, or to the end of the blob, of the lease of a number, if
-    /// its blob has the digest. They are not copied.
+    /// Returns a piece of the blob that is leased under `number`, if the blob has the digest. The piece has the bytes from
+    /// `start` to `end`, both included, or to the end of the blob. Returns `None` if there is no such lease.
     ///
     /// # Errors
     ///
-    /// `Memory`, if the blob has no room for one reader more.
+    /// `Memory`, if the blob's reference count is exhausted.
     pub fn piece(
         &self,
         number: u32,
@@ -150,20 +151,20 @@ impl<'p, N: PinsName> LeaseTable<'p, N> {
         requires ordered { start ≤ end }
         requires small { end < 2 ^ 63 }
         ensures content { IfOk result (λ o. IfSome o (IsPieceOf digest.now start end)) }
-        ensures does { IfOk result (Reads self.now number digest.now start end) }
+        ensures does { IfOk result (ReadsLease self.now number digest.now start end) }
         ensures refused { IfErr result (λ e. e ≡ Memory) }
     {
         piece_in(&self.leases, number, digest, start, end)
     }
 
-    /// Gives the lease of a number back, and returns whether there was one.
+    /// Gives the lease of a number back, and returns whether there was one. It does not allocate.
     pub fn give_back(&mut self, number: u32) -> bool
-        ensures { GivesBack self.old number result self.new }
+        ensures { RemovesLease self.old number result self.new }
     {
         give_back_in(&mut self.leases, number)
     }
 
-    /// Gives all leases back, and ends the table.
+    /// Gives all leases back and ends the table.
     pub fn end(self) {
         let LeaseTable {
             mut leases,

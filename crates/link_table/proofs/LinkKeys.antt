@@ -1,9 +1,9 @@
--- Links by the name of a repository and by a digest: how such a pair ties, and what is found by one that may tie.
+-- Pairs of a repository's name and a digest: their order, and the look-up of equal pairs.
 use Rattle.std.proofs.Common.{◌≡◌, Bool, true, false, cond, Option, None, refl, sym}
 use Rattle.std.specs.Prelude.{◌&&◌}
 use Rattle.std.specs.Ordering.{eq_by_cmp}
 use Rattle.std.specs.Cmp.{tied_then}
-use Rattle.finite_maps.specs.Texts.{Text, text_cmp}
+use Rattle.spec_lib.specs.Texts.{Text, text_cmp}
 use Rattle.blob_digest.specs.Keys.{link_cmp}
 
 pub link_tie : (r d s e : Text) → eq_by_cmp link_cmp (r, d) (s, e) ≡ (eq_by_cmp text_cmp r s && eq_by_cmp text_cmp d e)

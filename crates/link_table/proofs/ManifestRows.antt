@@ -1,4 +1,4 @@
--- The manifests of a repository in their tree, and the index of what they refer to.
+-- The manifests of a repository in their tree, and the index of their references.
 use Rattle.std.proofs.Common.{◌≡◌, ℕ, ◌+◌, ◌<◌, ◌≤◌, Bool, true, false, cond, not, List, [], ◌∷◌, length, map, take, get_or, Option, Some, None, is_some, Ok, Err, Bor, subst, refl, sym, ap, ◌∙◌}
 use Rattle.std.specs.Prelude.{◌&&◌, ◌||◌, slice_get, IfSome}
 use Rattle.std.specs.declared.alloc.Global.{Global}
@@ -23,16 +23,16 @@ use Rattle.std.proofs.lemmas.Bool.{true≢false, false_from_ne_true, le-leb, lt-
 use Rattle.std.proofs.lemmas.List.{length-map}
 use Rattle.std.proofs.lemmas.List.Folds.{list_any_more}
 use Rattle.std.proofs.lemmas.Map.Lookups.{exact_bytes}
-use Rattle.finite_maps.specs.Texts.{Text, text_cmp, same_text}
-use Rattle.finite_maps.proofs.Texts.{text_is_same, tied_text, tied_to_itself}
-use Rattle.finite_maps.proofs.Options.{some_same, some_none}
-use Rattle.finite_maps.proofs.Sorted.{entries-sorted, is_less, rising}
-use Rattle.finite_maps.proofs.Trees.{get_is}
+use Rattle.spec_lib.specs.Texts.{Text, text_cmp, same_text}
+use Rattle.spec_lib.proofs.Texts.{text_is_same, tied_text, tied_to_itself}
+use Rattle.spec_lib.proofs.Options.{some_same, some_none}
+use Rattle.spec_lib.proofs.Sorted.{entries-sorted, is_less, rising}
+use Rattle.spec_lib.proofs.Trees.{get_is}
 use Rattle.blob_digest.specs.Digests.{sha256_text}
 use Rattle.blob_digest.specs.declared.refusal.Refusal.TheVariants.{LimitReached}
 use Rattle.oci_manifest.specs.Manifests.{refs_of, refers}
-use Rattle.link_table.specs.Manifests.{Kept, kept, refer_cmp, is_pair, IsIndexed, put_in, referrer_in}
-use Rattle.finite_maps.proofs.Parts.{insert_by, remove_by}
+use Rattle.link_table.specs.Manifests.{RepoManifestBytes, stored_manifests, refer_cmp, is_pair, IsReferrerIndex, put_in, referrer_in}
+use Rattle.spec_lib.proofs.Parts.{insert_by, remove_by}
 use Rattle.std.proofs.Math.Bool.{and-false, and-true, or-false}
 
 sym_text : (a b : Text) → same_text a b ≡ same_text b a
@@ -40,7 +40,7 @@ sym_text a b = texts_ties a b ∙ (eq_by_cmp_equiv nat_list_cmp_total).symm a b 
 
 -- ---- one reference
 
--- whether a key is that of this reference
+-- the key is the key of this reference
 abbrev at_pair : Text → Text → Text → Option Text → Bool
 at_pair r m d None = false
 at_pair r m d (Some k) = same_text r d && same_text m k
@@ -123,8 +123,8 @@ find-mapped q (e ∷ es) = elim (eq_by_cmp text_cmp q e.0) as (λ b. cond b (Som
   | false ↦ find-mapped q es
 ]
 
-pub get-kept : (rows : tree.BTreeMap Text (Arc Text Global)) (q : Text) → get (kept rows) q ≡ option_map (λ a. a.value) (tree.get text_cmp rows q)
-get-kept rows q =
+pub get-stored_manifests : (rows : tree.BTreeMap Text (Arc Text Global)) (q : Text) → get (stored_manifests rows) q ≡ option_map (λ a. a.value) (tree.get text_cmp rows q)
+get-stored_manifests rows q =
     get-from_entries nat_list_cmp_total (map (λ e. (e.0, e.1.value)) rows.entries) q ∙ find-mapped q rows.entries
     ∙ ap (option_map (λ (a : Arc Text Global). a.value)) (sym (get-from_entries nat_list_cmp_total rows.entries q) ∙ sym (get_is rows q))
 
@@ -133,16 +133,16 @@ seen true w o = refl
 seen false w o = refl
 
 changed : (old new : tree.BTreeMap Text (Arc Text Global)) (d : Text) (w : Option (Arc Text Global)) → ((q : Text) → tree.get text_cmp new q ≡ cond (tree.is_at (text_cmp d) q) w (tree.get text_cmp old q)) →
-    (q : Text) → get (kept new) q ≡ cond (eq_by_cmp text_cmp q d) (option_map (λ a. a.value) w) (get (kept old) q)
+    (q : Text) → get (stored_manifests new) q ≡ cond (eq_by_cmp text_cmp q d) (option_map (λ a. a.value) w) (get (stored_manifests old) q)
 changed old new d w is q =
-    get-kept new q ∙ ap (option_map (λ (a : Arc Text Global). a.value)) (is q) ∙ seen (tree.is_at (text_cmp d) q) w (tree.get text_cmp old q)
-    ∙ (λ i. cond ((eq_by_cmp_equiv nat_list_cmp_total).symm d q i) (option_map (λ a. a.value) w) (sym (get-kept old q) i))
+    get-stored_manifests new q ∙ ap (option_map (λ (a : Arc Text Global). a.value)) (is q) ∙ seen (tree.is_at (text_cmp d) q) w (tree.get text_cmp old q)
+    ∙ (λ i. cond ((eq_by_cmp_equiv nat_list_cmp_total).symm d q i) (option_map (λ a. a.value) w) (sym (get-stored_manifests old q) i))
 
-pub kept-insert : (old new : tree.BTreeMap Text (Arc Text Global)) (d : Text) (a : Arc Text Global) → ((q : Text) → tree.get text_cmp new q ≡ cond (tree.is_at (text_cmp d) q) (Some a) (tree.get text_cmp old q)) → kept new ≡ insert (kept old) d a.value
-kept-insert old new d a is = insert_by nat_list_cmp_total exact_bytes (kept old) (kept new) d a.value (changed old new d (Some a) is)
+pub stored_manifests-insert : (old new : tree.BTreeMap Text (Arc Text Global)) (d : Text) (a : Arc Text Global) → ((q : Text) → tree.get text_cmp new q ≡ cond (tree.is_at (text_cmp d) q) (Some a) (tree.get text_cmp old q)) → stored_manifests new ≡ insert (stored_manifests old) d a.value
+stored_manifests-insert old new d a is = insert_by nat_list_cmp_total exact_bytes (stored_manifests old) (stored_manifests new) d a.value (changed old new d (Some a) is)
 
-pub kept-remove : (old new : tree.BTreeMap Text (Arc Text Global)) (d : Text) → ((q : Text) → tree.get text_cmp new q ≡ cond (tree.is_at (text_cmp d) q) None (tree.get text_cmp old q)) → kept new ≡ remove (kept old) d
-kept-remove old new d is = remove_by nat_list_cmp_total exact_bytes (kept old) (kept new) d (changed old new d None is)
+pub stored_manifests-remove : (old new : tree.BTreeMap Text (Arc Text Global)) (d : Text) → ((q : Text) → tree.get text_cmp new q ≡ cond (tree.is_at (text_cmp d) q) None (tree.get text_cmp old q)) → stored_manifests new ≡ remove (stored_manifests old) d
+stored_manifests-remove old new d is = remove_by nat_list_cmp_total exact_bytes (stored_manifests old) (stored_manifests new) d (changed old new d None is)
 
 -- ---- the index through each call
 
@@ -157,16 +157,16 @@ put_step false false x bytes d is none = or-false (option_map_or (λ c. refers c
 refers-refs : (bytes d : Text) (refs : List Text) → refs_of bytes ≡ Some refs → refers bytes d ≡ list_any (same_text d) refs
 refers-refs bytes d refs is = ap (λ o. option_map_or (list_any (same_text d)) o false) is
 
-module _ (m : Kept) (k bytes : Text) (refs : List Text) (is : refs_of bytes ≡ Some refs) (old new : BTreeSet (Text × Option Text)) (indexed : IsIndexed m old) where
+module _ (m : RepoManifestBytes) (k bytes : Text) (refs : List Text) (is : refs_of bytes ≡ Some refs) (old new : BTreeSet (Text × Option Text)) (indexed : IsReferrerIndex m old) where
   pub unreferred : get m k ≡ None → (d : Text) → contains refer_cmp old (d, Some k) ≡ false
   unreferred none d = indexed d (Some k) ∙ ap (λ o. option_map_or (λ c. refers c d) o false) none
 
   tied_none : (q : Text) → get m k ≡ None → eq_by_cmp text_cmp q k ≡ true → get m q ≡ None
   tied_none q none tie = ap (get m) (text_is_same q k (texts_ties q k ∙ tie)) ∙ none
 
-  pub IsIndexed-insert : get m k ≡ None → ((d : Text) (o : Option Text) → contains refer_cmp new (d, o) ≡ (contains refer_cmp old (d, o) || is_pair refs k d o)) → IsIndexed (insert m k bytes) new
-  IsIndexed-insert none more d None = more d None ∙ ap (λ b. b || false) (indexed d None)
-  IsIndexed-insert none more d (Some q) =
+  pub IsReferrerIndex-insert : get m k ≡ None → ((d : Text) (o : Option Text) → contains refer_cmp new (d, o) ≡ (contains refer_cmp old (d, o) || is_pair refs k d o)) → IsReferrerIndex (insert m k bytes) new
+  IsReferrerIndex-insert none more d None = more d None ∙ ap (λ b. b || false) (indexed d None)
+  IsReferrerIndex-insert none more d (Some q) =
       more d (Some q) ∙ (λ i. indexed d (Some q) i || (is_at_text k q i && list_any (same_text d) refs))
       ∙ put_step (eq_by_cmp text_cmp q k) (list_any (same_text d) refs) (get m q) bytes d (refers-refs bytes d refs is) (tied_none q none)
       ∙ ap (λ o. option_map_or (λ c. refers c d) o false) (sym (get-insert nat_list_cmp_total m k bytes q))
@@ -179,30 +179,30 @@ module _ (m : Kept) (k bytes : Text) (refs : List Text) (is : refs_of bytes ≡ 
       neither false = refl
   drop_step false x d at = and-true (option_map_or (λ c. refers c d) x false)
 
-  pub IsIndexed-remove : get m k ≡ Some bytes → ((d : Text) (o : Option Text) → contains refer_cmp new (d, o) ≡ (contains refer_cmp old (d, o) && not (is_pair refs k d o))) → IsIndexed (remove m k) new
-  IsIndexed-remove there less d None = less d None ∙ ap (λ b. b && true) (indexed d None)
-  IsIndexed-remove there less d (Some q) =
+  pub IsReferrerIndex-remove : get m k ≡ Some bytes → ((d : Text) (o : Option Text) → contains refer_cmp new (d, o) ≡ (contains refer_cmp old (d, o) && not (is_pair refs k d o))) → IsReferrerIndex (remove m k) new
+  IsReferrerIndex-remove there less d None = less d None ∙ ap (λ b. b && true) (indexed d None)
+  IsReferrerIndex-remove there less d (Some q) =
       less d (Some q) ∙ (λ i. indexed d (Some q) i && not (is_at_text k q i && list_any (same_text d) refs))
       ∙ drop_step (eq_by_cmp text_cmp q k) (get m q) d (λ tie. ap (get m) (text_is_same q k (texts_ties q k ∙ tie)) ∙ there)
       ∙ ap (λ o. option_map_or (λ c. refers c d) o false) (sym (get-remove nat_list_cmp_total m k q))
 
--- ---- what a call gives
+-- ---- the results of the calls
 
-pub put_there : (m : Kept) (bytes : Text) → fmap.contains_key m (sha256_text bytes) ≡ true → put_in m bytes ≡ Ok (tt {0}, m)
+pub put_there : (m : RepoManifestBytes) (bytes : Text) → fmap.contains_key m (sha256_text bytes) ≡ true → put_in m bytes ≡ Ok (tt {0}, m)
 put_there m bytes there = rw there refl
 
-pub put_full : (m : Kept) (bytes : Text) → fmap.contains_key m (sha256_text bytes) ≡ false → 1024 ≤ fmap.len m → put_in m bytes ≡ Err LimitReached
+pub put_full : (m : RepoManifestBytes) (bytes : Text) → fmap.contains_key m (sha256_text bytes) ≡ false → 1024 ≤ fmap.len m → put_in m bytes ≡ Err LimitReached
 put_full m bytes none many = rw (none, le-leb 1024 (fmap.len m) many) refl
 
-pub put_new : (m : Kept) (bytes : Text) → fmap.contains_key m (sha256_text bytes) ≡ false → fmap.len m < 1024 → put_in m bytes ≡ Ok (tt {0}, insert m (sha256_text bytes) bytes)
+pub put_new : (m : RepoManifestBytes) (bytes : Text) → fmap.contains_key m (sha256_text bytes) ≡ false → fmap.len m < 1024 → put_in m bytes ≡ Ok (tt {0}, insert m (sha256_text bytes) bytes)
 put_new m bytes none few = rw (none, lt-leb 1024 (fmap.len m) few) refl
 
 seen_some : (o : Option (Arc Text Global)) → is_some (option_map (λ a. a.value) o) ≡ is_some o
 seen_some None = refl
 seen_some (Some a) = refl
 
-pub contains-kept : (rows : tree.BTreeMap Text (Arc Text Global)) (q : Text) → is_some (tree.get text_cmp rows q) ≡ fmap.contains_key (kept rows) q
-contains-kept rows q = sym (ap is_some (get-kept rows q) ∙ seen_some (tree.get text_cmp rows q))
+pub contains-stored_manifests : (rows : tree.BTreeMap Text (Arc Text Global)) (q : Text) → is_some (tree.get text_cmp rows q) ≡ fmap.contains_key (stored_manifests rows) q
+contains-stored_manifests rows q = sym (ap is_some (get-stored_manifests rows q) ∙ seen_some (tree.get text_cmp rows q))
 
 below-mapped : (x : Text) (es : List (Text × Arc Text Global)) → AllByRecursion (λ y. text_cmp x y ≡ Less) (keys_of es) → below_all text_cmp x (map {B = Text × Text} (λ e. (e.0, e.1.value)) es) ≡ true
 below-mapped x [] all = refl
@@ -213,31 +213,31 @@ unfolding IsStrictlySortedBy
 sorted-mapped [] up = refl
 sorted-mapped (e ∷ es) up = and_from (below_all text_cmp e.0 (map {B = Text × Text} (λ e. (e.0, e.1.value)) es)) (is_sorted text_cmp (map {B = Text × Text} (λ e. (e.0, e.1.value)) es)) (below-mapped e.0 es up.0) (sorted-mapped es up.1)
 
-pub entries-kept : (rows : tree.BTreeMap Text (Arc Text Global)) → IsStrictlySortedBy text_cmp (keys_of rows.entries) → entries (kept rows) ≡ map (λ e. (e.0, e.1.value)) rows.entries
-entries-kept rows up = entries-sorted text_cmp nat_list_cmp_total exact_bytes (map {B = Text × Text} (λ e. (e.0, e.1.value)) rows.entries) (sorted-mapped rows.entries up)
+pub entries-stored_manifests : (rows : tree.BTreeMap Text (Arc Text Global)) → IsStrictlySortedBy text_cmp (keys_of rows.entries) → entries (stored_manifests rows) ≡ map (λ e. (e.0, e.1.value)) rows.entries
+entries-stored_manifests rows up = entries-sorted text_cmp nat_list_cmp_total exact_bytes (map {B = Text × Text} (λ e. (e.0, e.1.value)) rows.entries) (sorted-mapped rows.entries up)
 
-pub len-kept : (rows : tree.BTreeMap Text (Arc Text Global)) → IsStrictlySortedBy text_cmp (keys_of rows.entries) → fmap.len (kept rows) ≡ length rows.entries
-len-kept rows up = fmap.len-entries (kept rows) ∙ ap length (entries-kept rows up) ∙ length-map rows.entries (λ e. (e.0, e.1.value))
+pub len-stored_manifests : (rows : tree.BTreeMap Text (Arc Text Global)) → IsStrictlySortedBy text_cmp (keys_of rows.entries) → fmap.len (stored_manifests rows) ≡ length rows.entries
+len-stored_manifests rows up = fmap.len-entries (stored_manifests rows) ∙ ap length (entries-stored_manifests rows up) ∙ length-map rows.entries (λ e. (e.0, e.1.value))
 
-pub kept-same : (old new : tree.BTreeMap Text (Arc Text Global)) → new.entries ≡ old.entries → kept new ≡ kept old
-kept-same old new is = ap (λ es. fmap.from_entries {R = text_cmp} (map {B = Text × Text} (λ (e : Text × Arc Text Global). (e.0, e.1.value)) es)) is
+pub stored_manifests-same : (old new : tree.BTreeMap Text (Arc Text Global)) → new.entries ≡ old.entries → stored_manifests new ≡ stored_manifests old
+stored_manifests-same old new is = ap (λ es. fmap.from_entries {R = text_cmp} (map {B = Text × Text} (λ (e : Text × Arc Text Global). (e.0, e.1.value)) es)) is
 
--- what a look-up copies
+-- the copy that a look-up returns
 pub copied_value : {A B : Type 0} (f : A → B) (r : Option (Bor A)) → option_map (λ m. f m.now) r ≡ option_map f (option_copied r)
 copied_value f None = refl
 copied_value f (Some m) = refl
 
 -- nothing refers to anything
-pub IsIndexed-initial : (rows : tree.BTreeMap Text (Arc Text Global)) (s : BTreeSet (Text × Option Text)) → rows.entries ≡ [] → s.keys ≡ [] → IsIndexed (kept rows) s
-IsIndexed-initial rows s none empty d None = ap (list_any (tree.is_at (refer_cmp (d, None)))) empty
-IsIndexed-initial rows s none empty d (Some k) =
+pub IsReferrerIndex-initial : (rows : tree.BTreeMap Text (Arc Text Global)) (s : BTreeSet (Text × Option Text)) → rows.entries ≡ [] → s.keys ≡ [] → IsReferrerIndex (stored_manifests rows) s
+IsReferrerIndex-initial rows s none empty d None = ap (list_any (tree.is_at (refer_cmp (d, None)))) empty
+IsReferrerIndex-initial rows s none empty d (Some k) =
     ap (list_any (tree.is_at (refer_cmp (d, Some k)))) empty
     ∙ sym (ap (λ o. option_map_or (λ c. refers c d) o false) (ap (λ es. get (fmap.from_entries {R = text_cmp} (map {B = Text × Text} (λ (e : Text × Arc Text Global). (e.0, e.1.value)) es)) k) none ∙ fmap.get-empty text_cmp k))
 
 -- ---- the least manifest that refers to a digest
 
 module _ (p : Text → Bool) where
-  -- an entry of the rest is one of the whole, and its key is above the first
+  -- an entry of the rest is an entry of the list, and its key is above the first
   above : (x : Text) (es : List (Text × Text)) (q v : Text) → below_all text_cmp x es ≡ true → find text_cmp q es ≡ Some v → text_cmp x q ≡ Less
   above x [] q v below at = some_none (sym at)
   above x (e ∷ es) q v below at =
@@ -281,7 +281,7 @@ module _ (p : Text → Bool) where
       by_first false here true tie h below rest = absurd (true≢false (sym pass ∙ ap p (sym (some_same h)) ∙ here))
       by_first false here false tie h below rest = rest h
 
-module _ (m : Kept) (d : Text) (s : BTreeSet (Text × Option Text)) (indexed : IsIndexed m s) where
+module _ (m : RepoManifestBytes) (d : Text) (s : BTreeSet (Text × Option Text)) (indexed : IsReferrerIndex m s) where
   up : is_sorted text_cmp (entries m) ≡ true
   up = rising m
 
@@ -298,11 +298,11 @@ module _ (m : Kept) (d : Text) (s : BTreeSet (Text × Option Text)) (indexed : I
       by_value None is h = cc
       by_value (Some v) is h = least_passes (λ c. refers c d) (entries m) k v up (sym (fmap.get-entries m k) ∙ is) h (λ q w at pass. least q (there q w at ∙ pass))
 
-module _ (m : Kept) (d : Text) (s : BTreeSet (Text × Option Text)) (indexed : IsIndexed m s) (r : List (Text × Option Text)) (ranged : IsKeyRangeOf refer_cmp (Included (d, None)) Unbounded s r) where
+module _ (m : RepoManifestBytes) (d : Text) (s : BTreeSet (Text × Option Text)) (indexed : IsReferrerIndex m s) (r : List (Text × Option Text)) (ranged : IsKeyRangeOf refer_cmp (Included (d, None)) Unbounded s r) where
   in_start : (k : Text) → IsInRange refer_cmp (Included (d, None)) Unbounded (d, Some k)
   in_start k = (ap (λ o. is_gt (ordering_then o Less)) (tied_itself nat_list_cmp_total d), tt)
 
-  -- nothing stands from the digest on
+  -- no reference follows from the digest on
   pub referrer_empty : r ≡ [] → referrer_in m d ≡ None
   referrer_empty none = referrer_none m d s indexed (λ k. ranged.5 none (d, Some k) (in_start k))
 
@@ -313,7 +313,7 @@ module _ (m : Kept) (d : Text) (s : BTreeSet (Text × Option Text)) (indexed : I
     first_least : (k : Text) → contains refer_cmp s (d, Some k) ≡ true → is_gt (refer_cmp x (d, Some k)) ≡ false
     first_least k has = subst (λ l. IfSome (slice_get l 0) (λ y. IsLeBy refer_cmp y (d, Some k))) starts (ranged.2 (d, Some k) (in_start k) has)
 
-    -- the first that stands from the digest on is of this digest
+    -- the first reference from the digest on is of this digest
     pub referrer_first : x.0 ≡ d → x.1 ≡ referrer_in m d
     referrer_first same = by_manifest x.1 refl
       where

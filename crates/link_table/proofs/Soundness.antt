@@ -1,4 +1,4 @@
--- What is kept of a table's running numbers, through each call.
+-- The invariant of a table's stored sums, through each call.
 use Rattle.std.proofs.Common.{◌≡◌, ℕ, ◌+◌, ◌-◌, ◌<◌, ◌≤◌, ◌^◌, Bool, true, false, cond, not, List, [], ◌∷◌, length, get_or, set, Option, Some, None, is_some, Ok, refl, sym, ap, ◌∙◌, arith, inl, inr, get_or-set_same, get_or-set_other, length-set}
 use Rattle.std.specs.Prelude.{if◌then◌else◌, slice_index, nat_eq, replicate, ◌&&◌, ◌||◌}
 use Rattle.std.specs.Option.{option_eq}
@@ -10,21 +10,21 @@ use Rattle.std.specs.FinMap.{FinMap, find, get, insert, remove, entries, empty, 
 use Rattle.std.proofs.lemmas.Bool.{cases_eq, ne_eqb, true≢false}
 use Rattle.std.proofs.lemmas.List.{length-replicate, get_or-replicate}
 use Rattle.std.proofs.lemmas.Option.{slice_get_read, get_or_from_slice_get}
-use Rattle.finite_maps.specs.Texts.{Text, text_cmp, same_text}
+use Rattle.spec_lib.specs.Texts.{Text, text_cmp, same_text}
 use Rattle.blob_digest.specs.Keys.{Link, link_cmp}
 use Rattle.blob_digest.proofs.KeyOrders.{link_cmp_total, exact_link}
-use Rattle.finite_maps.proofs.Rows.{entries-empty}
-use Rattle.finite_maps.proofs.Sums.{insert_back}
-use Rattle.link_table.specs.Linked.{Tenant, Linked, sizes, blobs, total_size, is_tenants, tenant_of, IsSizeOf, link}
+use Rattle.spec_lib.proofs.Rows.{entries-empty}
+use Rattle.spec_lib.proofs.Sums.{insert_back}
+use Rattle.link_table.specs.Linked.{Tenant, Linked, digest_sizes, blobs, total_size, is_repo_of_tenant, tenant_of, IsSizeOf, link}
 use Rattle.link_table.specs.Tenancy.{AreTenants}
 use Rattle.link_table.specs.Usage.{KeepsUsage}
-use Rattle.link_table.specs.Holders.{is_held}
-use Rattle.finite_maps.proofs.Options.{option_eq_some}
+use Rattle.link_table.specs.Holders.{is_link_of}
+use Rattle.spec_lib.proofs.Options.{option_eq_some}
 use Rattle.link_table.proofs.Weights.{HasOneSize-insert, HasOneSize-remove, total-insert, total-other, total-remove, total-remove_other}
 use Rattle.std.proofs.Math.Bool.{and-false, and-true}
 
 -- a repository has one tenant
-others : (tenants : List Tenant) (t u : ℕ) (repo : Text) → is_tenants tenants t repo ≡ true → (u ≡ t → ⊥) → is_tenants tenants u repo ≡ false
+others : (tenants : List Tenant) (t u : ℕ) (repo : Text) → is_repo_of_tenant tenants t repo ≡ true → (u ≡ t → ⊥) → is_repo_of_tenant tenants u repo ≡ false
 others tenants t u repo own differ = ap (λ o. option_eq nat_eq o (Some u)) (option_eq_some (tenant_of tenants repo) t own) ∙ ne_eqb t u (λ e. differ (sym e))
 
 -- a number that is read from a list
@@ -35,7 +35,7 @@ at_most : (held : Bool) (w x size : ℕ) → w ≡ x + (if held then 0 else size
 at_most true w x size is = omega arith
 at_most false w x size is = omega arith
 
--- ---- which digests some repositories hold
+-- ---- the digests of some repositories
 
 split : {X : Type 0} (b : Bool) (v : X) (x : Option X) → is_some (cond b (Some v) x) ≡ (b || is_some x)
 split true v x = refl
@@ -45,30 +45,30 @@ text_tie : (q r : Text) → eq_by_cmp text_cmp q r ≡ same_text r q
 text_tie q r = (eq_by_cmp_equiv nat_list_cmp_total).symm q r ∙ sym (texts_ties r q)
 
 module _ (tenants : List Tenant) (t : ℕ) (d : Text) where
-  found_size : (es : List (Link × ℕ)) → is_some (find text_cmp d (sizes (is_tenants tenants t) es)) ≡ list_any (is_held tenants t d) es
+  found_size : (es : List (Link × ℕ)) → is_some (find text_cmp d (digest_sizes (is_repo_of_tenant tenants t) es)) ≡ list_any (is_link_of tenants t d) es
   found_size [] = refl
   found_size (e ∷ es) =
-      elim (is_tenants tenants t e.0.0) as (λ b. is_some (find text_cmp d (cond b ((e.0.1, e.1) ∷ sizes (is_tenants tenants t) es) (sizes (is_tenants tenants t) es))) ≡ ((same_text e.0.1 d && b) || list_any (is_held tenants t d) es)) [
-        | true ↦ split (eq_by_cmp text_cmp d e.0.1) e.1 (find text_cmp d (sizes (is_tenants tenants t) es)) ∙ (λ i. (text_tie d e.0.1 ∙ sym (and-true (same_text e.0.1 d))) i || found_size es i)
-        | false ↦ found_size es ∙ (λ i. sym (and-false (same_text e.0.1 d)) i || list_any (is_held tenants t d) es)
+      elim (is_repo_of_tenant tenants t e.0.0) as (λ b. is_some (find text_cmp d (cond b ((e.0.1, e.1) ∷ digest_sizes (is_repo_of_tenant tenants t) es) (digest_sizes (is_repo_of_tenant tenants t) es))) ≡ ((same_text e.0.1 d && b) || list_any (is_link_of tenants t d) es)) [
+        | true ↦ split (eq_by_cmp text_cmp d e.0.1) e.1 (find text_cmp d (digest_sizes (is_repo_of_tenant tenants t) es)) ∙ (λ i. (text_tie d e.0.1 ∙ sym (and-true (same_text e.0.1 d))) i || found_size es i)
+        | false ↦ found_size es ∙ (λ i. sym (and-false (same_text e.0.1 d)) i || list_any (is_link_of tenants t d) es)
       ]
 
-  -- a tenant holds a digest exactly where a link of its repositories has it
-  pub contains-blob : (links : FinMap link_cmp ℕ) → is_some (get (blobs (is_tenants tenants t) links) d) ≡ list_any (is_held tenants t d) (entries links)
-  contains-blob links = ap is_some (get-from_entries nat_list_cmp_total (sizes (is_tenants tenants t) (entries links)) d) ∙ found_size (entries links)
+  -- a tenant contains a digest if and only if a link of its repositories has it
+  pub contains-blob : (links : FinMap link_cmp ℕ) → is_some (get (blobs (is_repo_of_tenant tenants t) links) d) ≡ list_any (is_link_of tenants t d) (entries links)
+  contains-blob links = ap is_some (get-from_entries nat_list_cmp_total (digest_sizes (is_repo_of_tenant tenants t) (entries links)) d) ∙ found_size (entries links)
 
-module _ (tenants : List Tenant) (links : FinMap link_cmp ℕ) (blob_bytes charges : List ℕ) (sound : KeepsUsage tenants links blob_bytes charges) (t : ℕ) (lt : t < length tenants) (r d : Text) (size : ℕ) (own : is_tenants tenants t r ≡ true) where
+module _ (tenants : List Tenant) (links : FinMap link_cmp ℕ) (blob_bytes charges : List ℕ) (sound : KeepsUsage tenants links blob_bytes charges) (t : ℕ) (lt : t < length tenants) (r d : Text) (size : ℕ) (own : is_repo_of_tenant tenants t r ≡ true) where
   within : t < length blob_bytes
   within = omega (arith, sound.one_each.0)
 
   abbrev holds : FinMap link_cmp ℕ → Bool
-  holds m = is_some (get (blobs (is_tenants tenants t) m) d)
+  holds m = is_some (get (blobs (is_repo_of_tenant tenants t) m) d)
 
-  pub KeepsUsage-link : IsSizeOf links d size → total_size (blobs (is_tenants tenants t) links) + slice_index charges t + size < 2 ^ 64 →
+  pub KeepsUsage-link : IsSizeOf links d size → total_size (blobs (is_repo_of_tenant tenants t) links) + slice_index charges t + size < 2 ^ 64 →
       (held : Bool) → held ≡ holds links → (x w : ℕ) → x ≡ get_or blob_bytes t x → w ≡ x + (if held then 0 else size) → KeepsUsage tenants (insert links (r, d) size) (set blob_bytes t w) charges
   KeepsUsage-link fits room held is_held x w read is =
       let at : x ≡ slice_index blob_bytes t = read_at blob_bytes t x within read in
-      let summed : slice_index blob_bytes t ≡ total_size (blobs (is_tenants tenants t) links) = sound.summed t lt in
+      let summed : slice_index blob_bytes t ≡ total_size (blobs (is_repo_of_tenant tenants t) links) = sound.summed t lt in
       let most : w ≤ x + size = at_most held w x size is in
       let is_w : w ≡ slice_index blob_bytes t + (if held then 0 else size) = is ∙ ap (λ n. n + (if held then 0 else size)) at in
       let fits_now : w + slice_index charges t < 2 ^ 64 = omega arith in record {
@@ -77,9 +77,9 @@ module _ (tenants : List Tenant) (links : FinMap link_cmp ℕ) (blob_bytes charg
         one_size = HasOneSize-insert links r d size sound.one_size fits;
         summed = λ u below. elim (cases_eq u t) [
           | inl e ↦ rw e (get_or-set_same blob_bytes t w 0 within ∙ is_w ∙ (λ i. sound.summed t lt i + (if is_held i then 0 else size))
-              ∙ sym (total-insert links r d size sound.one_size fits (is_tenants tenants t) own))
+              ∙ sym (total-insert links r d size sound.one_size fits (is_repo_of_tenant tenants t) own))
           | inr other ↦ get_or-set_other blob_bytes t u w 0 other ∙ sound.summed u below
-              ∙ sym (total-other links r d size sound.one_size fits (is_tenants tenants u) (others tenants t u r own other))
+              ∙ sym (total-other links r d size sound.one_size fits (is_repo_of_tenant tenants u) (others tenants t u r own other))
         ];
         small = λ u below. elim (cases_eq u t) [
           | inl e ↦ rw (e, get_or-set_same blob_bytes t w 0 within) fits_now
@@ -88,10 +88,10 @@ module _ (tenants : List Tenant) (links : FinMap link_cmp ℕ) (blob_bytes charg
       }
 
   module _ (there : get links (r, d) ≡ Some size) (held : Bool) (is_held : held ≡ holds (remove links (r, d))) (x : ℕ) (read : x ≡ get_or blob_bytes t x) where
-    before : slice_index blob_bytes t ≡ total_size (blobs (is_tenants tenants t) (remove links (r, d))) + (if held then 0 else size)
+    before : slice_index blob_bytes t ≡ total_size (blobs (is_repo_of_tenant tenants t) (remove links (r, d))) + (if held then 0 else size)
     before =
-        sound.summed t lt ∙ total-remove links r d size sound.one_size there (is_tenants tenants t) own
-        ∙ (λ j. total_size (blobs (is_tenants tenants t) (remove links (r, d))) + (if sym is_held j then 0 else size))
+        sound.summed t lt ∙ total-remove links r d size sound.one_size there (is_repo_of_tenant tenants t) own
+        ∙ (λ j. total_size (blobs (is_repo_of_tenant tenants t) (remove links (r, d))) + (if sym is_held j then 0 else size))
 
     at : x ≡ slice_index blob_bytes t
     at = read_at blob_bytes t x within read
@@ -101,7 +101,7 @@ module _ (tenants : List Tenant) (links : FinMap link_cmp ℕ) (blob_bytes charg
 
     pub KeepsUsage-unlink : (w : ℕ) → w ≡ x - (if held then 0 else size) → KeepsUsage tenants (remove links (r, d)) (set blob_bytes t w) charges
     KeepsUsage-unlink w is =
-        let lighter : w ≡ total_size (blobs (is_tenants tenants t) (remove links (r, d))) = omega (arith, before, at) in
+        let lighter : w ≡ total_size (blobs (is_repo_of_tenant tenants t) (remove links (r, d))) = omega (arith, before, at) in
         let small_now : w + slice_index charges t < 2 ^ 64 = (let s = sound.small t lt in omega (arith, before, at)) in record {
           ordered = sound.ordered;
           one_each = (length-set blob_bytes t w ∙ sound.one_each.0, sound.one_each.1);
@@ -109,7 +109,7 @@ module _ (tenants : List Tenant) (links : FinMap link_cmp ℕ) (blob_bytes charg
           summed = λ u below. elim (cases_eq u t) [
             | inl e ↦ rw (e, get_or-set_same blob_bytes t w 0 within) lighter
             | inr other ↦ get_or-set_other blob_bytes t u w 0 other ∙ sound.summed u below
-                ∙ total-remove_other links r d size sound.one_size there (is_tenants tenants u) (others tenants t u r own other)
+                ∙ total-remove_other links r d size sound.one_size there (is_repo_of_tenant tenants u) (others tenants t u r own other)
           ];
           small = λ u below. elim (cases_eq u t) [
             | inl e ↦ rw (e, get_or-set_same blob_bytes t w 0 within) small_now
@@ -117,9 +117,9 @@ module _ (tenants : List Tenant) (links : FinMap link_cmp ℕ) (blob_bytes charg
           ];
         }
 
--- ---- what `link` gives
+-- ---- the result of `link`
 
--- what the call on the repository answers: whether it held nothing of the digest
+-- the call on the repository returns whether the repository lacked the digest
 pub was_there : (b held : Bool) → b ≡ not held → b ≡ false → held ≡ true
 was_there b true is old = refl
 was_there b false is old = absurd (true≢false (sym is ∙ old))
@@ -155,6 +155,6 @@ KeepsUsage-initial tenants links blob_bytes charges ordered no_links ws cs = rw 
   ordered = ordered;
   one_each = (length-replicate {A = ℕ} (length tenants) 0, length-replicate {A = ℕ} (length tenants) 0);
   one_size = λ r s d m n f g. nothing_linked (r, d) m f;
-  summed = λ t lt. get_or-replicate {A = ℕ} (length tenants) t 0 0 lt ∙ sym (none_total (is_tenants tenants t));
+  summed = λ t lt. get_or-replicate {A = ℕ} (length tenants) t 0 0 lt ∙ sym (none_total (is_repo_of_tenant tenants t));
   small = λ t lt. let a = get_or-replicate {A = ℕ} (length tenants) t 0 0 lt in omega arith;
 })

@@ -16,13 +16,13 @@ use Rattle.std.proofs.lemmas.List.Elements.{All-map}
 use Rattle.std.proofs.lemmas.List.Quantifiers.{position-Some}
 use Rattle.std.proofs.lemmas.List.Sorted.{All-permutation, length_permutation, sum_by-IsPermutation, IsPermutation-sym, IsPermutation-map}
 use Rattle.std.proofs.lemmas.List.Sums.{sum_by-cons}
-use Rattle.finite_maps.proofs.Texts.{same_itself, text_is_same}
-use Rattle.finite_maps.specs.Texts.{Text, text_cmp, same_text}
+use Rattle.spec_lib.proofs.Texts.{same_itself, text_is_same}
+use Rattle.spec_lib.specs.Texts.{Text, text_cmp, same_text}
 use Rattle.blob_digest.specs.Names.{tenant_name, IsComponent}
-use Rattle.blob_digest.specs.Tenants.{Tenant, tenant_of, is_tenants}
-use Rattle.finite_maps.proofs.Rows.{position-map, sum_by-map}
+use Rattle.blob_digest.specs.Tenants.{Tenant, tenant_of, is_repo_of_tenant}
+use Rattle.spec_lib.proofs.Rows.{position-map, sum_by-map}
 use Rattle.link_table.specs.Tenancy.{HasNames, IsWithinLimits, AreTenants, tenant_shown, tenants_shown}
-use Rattle.finite_maps.proofs.Sorted.{is_less}
+use Rattle.spec_lib.proofs.Sorted.{is_less}
 
 -- ---- how many pass a test
 
@@ -66,7 +66,7 @@ unnamed a (t ∷ ts) all =
     let reversed : text_cmp t.name a ≡ Greater = nat_list_cmp_total.antisymm t.name a ∙ ap ordering_reverse all.0 in
     count_by-cons (λ t. same_text t.name a) t ts ∙ rw (texts_ties t.name a ∙ ap is_eq reversed) (rw (unnamed a ts all.1) refl)
 
--- names that strictly rise come once
+-- names that strictly rise occur once
 pub once : (ts : List Tenant) → IsStrictlySortedBy text_cmp (map (λ t. t.name) ts) → (name : Text) → count_by (λ t. same_text t.name name) ts ≤ 1
 unfolding IsStrictlySortedBy
 once [] up name = omega arith
@@ -97,11 +97,11 @@ module _ (xs ys : List Tenant) (moved : IsPermutation xs ys) where
 pub tenant_of-rows : (rows : List (String Global × ℕ)) (repo name : Text) → name ≡ tenant_name repo → tenant_of (tenants_shown rows) repo ≡ position (λ t. same_text (string_bytes t.0) name) rows
 tenant_of-rows rows repo name is = position-map (λ t. same_text t.name (tenant_name repo)) tenant_shown rows ∙ ap (λ n. position (λ t. same_text (string_bytes t.0) n) rows) (sym is)
 
-pub is_tenants-found : (ts : List Tenant) (repo : Text) (t : ℕ) → tenant_of ts repo ≡ Some t → is_tenants ts t repo ≡ true
-is_tenants-found ts repo t found = ap (λ o. option_eq nat_eq o (Some t)) found ∙ eq-eqb t t refl
+pub is_repo_of_tenant-found : (ts : List Tenant) (repo : Text) (t : ℕ) → tenant_of ts repo ≡ Some t → is_repo_of_tenant ts t repo ≡ true
+is_repo_of_tenant-found ts repo t found = ap (λ o. option_eq nat_eq o (Some t)) found ∙ eq-eqb t t refl
 
--- a tenant that has a repository is there
-pub own_within : (ts : List Tenant) (t : ℕ) (repo : Text) → is_tenants ts t repo ≡ true → t < length ts
+-- a tenant with a repository exists
+pub own_within : (ts : List Tenant) (t : ℕ) (repo : Text) → is_repo_of_tenant ts t repo ≡ true → t < length ts
 own_within ts t repo own = (position-Some (λ x. same_text x.name (tenant_name repo)) ts t (record { name = []; quota = 0 }) (is_some_of (tenant_of ts repo) own)).0
   where
     is_some_of : (o : Option ℕ) → option_eq nat_eq o (Some t) ≡ true → o ≡ Some t
@@ -109,12 +109,12 @@ own_within ts t repo own = (position-Some (λ x. same_text x.name (tenant_name r
     is_some_of (Some x) e = ap Some (eqb-true x t e)
 
 -- a repository that no tenant has
-pub nobodys : (ts : List Tenant) (repo : Text) → tenant_of ts repo ≡ None → (t : ℕ) → is_tenants ts t repo ≡ false
+pub nobodys : (ts : List Tenant) (repo : Text) → tenant_of ts repo ≡ None → (t : ℕ) → is_repo_of_tenant ts t repo ≡ false
 nobodys ts repo none t = ap (λ o. option_eq nat_eq o (Some t)) none
 
--- ---- what the checks find
+-- ---- the checks
 
--- what holds of all that rows show holds of what each shows
+-- a property of all images is a property of each element's image
 pub All-unmap : {A B : Type 0} (P : B → Type 0) (f : A → B) (xs : List A) → All P (map f xs) → All (λ x. P (f x)) xs
 All-unmap P f [] all k d lt = absurd (omega arith)
 All-unmap P f (x ∷ xs) all zero d lt = all 0 (f x) (omega arith)

@@ -16,27 +16,27 @@ use Rattle.std.proofs.lemmas.Bool.{and_from}
 use Rattle.std.proofs.lemmas.List.{length-map, length-set}
 use Rattle.std.proofs.lemmas.Map.Lookups.{exact_bytes}
 use Rattle.std.proofs.lemmas.Option.{slice_get_read}
-use Rattle.finite_maps.specs.Sets as sets
-use Rattle.finite_maps.specs.Texts.{Text, text_cmp, same_text}
+use Rattle.spec_lib.specs.Sets as sets
+use Rattle.spec_lib.specs.Texts.{Text, text_cmp, same_text}
 use Rattle.blob_digest.specs.Keys.{Link, link_cmp}
 use Rattle.blob_digest.proofs.KeyOrders.{link_cmp_total, exact_link}
-use Rattle.finite_maps.proofs.Texts.{tied_text, tied_to_itself}
-use Rattle.finite_maps.proofs.Lists.{map-remove}
-use Rattle.finite_maps.proofs.Options.{some_same, some_none}
-use Rattle.finite_maps.proofs.Rows.{from_entries-remove, entries-empty}
-use Rattle.finite_maps.proofs.Sorted.{IsApart-sorted, is_sorted-remove, entries-sorted, from_entries-put, is_sorted_put, gap, missing, put_at, found_at, map_at}
-use Rattle.finite_maps.proofs.Trees.{get_is}
-use Rattle.finite_maps.specs.Rows.{IsApart}
+use Rattle.spec_lib.proofs.Texts.{tied_text, tied_to_itself}
+use Rattle.spec_lib.proofs.Lists.{map-remove}
+use Rattle.spec_lib.proofs.Options.{some_same, some_none}
+use Rattle.spec_lib.proofs.Rows.{from_entries-remove, entries-empty}
+use Rattle.spec_lib.proofs.Sorted.{IsApart-sorted, is_sorted-remove, entries-sorted, from_entries-put, is_sorted_put, gap, missing, put_at, found_at, map_at}
+use Rattle.spec_lib.proofs.Trees.{get_is}
+use Rattle.spec_lib.specs.Rows.{IsApart}
 use Rattle.link_table.specs.Linked.{first_unlinked}
-use Rattle.link_table.specs.TenantRepos.{blobs_on, count}
-use Rattle.link_table.specs.Rows.{named, links_in, owned_shown, IsInOrder, AreRepos}
+use Rattle.link_table.specs.TenantRepos.{blobs_on, repo_count}
+use Rattle.link_table.specs.Rows.{repo_entry, links_in, own_repos_shown, IsInOrder, AreRepos}
 use Rattle.link_table.specs.declared.repo.Repo.{Repo}
-use Rattle.finite_maps.proofs.Parts.{find_nowhere, find_in_part, find-set_part, where_key-agree, where_key-all}
+use Rattle.spec_lib.proofs.Parts.{find_nowhere, find_in_part, find-set_part, where_key-agree, where_key-all}
 use Rattle.link_table.proofs.LinkKeys.{link_tie, both_ties, none_anyway}
 
 -- ---- the repositories
 
-names_marked : (rows : List Repo) → map (λ (e : Text × Unit {0}). e.0) (map named rows) ≡ map (λ r. r.name) rows
+names_marked : (rows : List Repo) → map (λ (e : Text × Unit {0}). e.0) (map repo_entry rows) ≡ map (λ r. r.name) rows
 names_marked [] = refl
 names_marked (r ∷ rows) = ap (λ xs. r.name ∷ xs) (names_marked rows)
 
@@ -46,52 +46,52 @@ some_row (r ∷ rows) i lt = r
 
 module _ (rows : List Repo) (order : IsInOrder rows) where
   -- the members of the set, in order
-  pub items-rows : sets.items (owned_shown rows).repos ≡ map (λ r. r.name) rows
-  items-rows = ap (λ es. map (λ (e : Text × Unit {0}). e.0) es) (entries-sorted text_cmp nat_list_cmp_total exact_bytes (map named rows) order) ∙ names_marked rows
+  pub items-rows : sets.items (own_repos_shown rows).repos ≡ map (λ r. r.name) rows
+  items-rows = ap (λ es. map (λ (e : Text × Unit {0}). e.0) es) (entries-sorted text_cmp nat_list_cmp_total exact_bytes (map repo_entry rows) order) ∙ names_marked rows
 
-  pub count-rows : length (sets.items (owned_shown rows).repos) ≡ length rows
-  count-rows = ap length items-rows ∙ length-map rows (λ r. r.name)
+  pub repo_count-rows : length (sets.items (own_repos_shown rows).repos) ≡ length rows
+  repo_count-rows = ap length items-rows ∙ length-map rows (λ r. r.name)
 
-  pub there : (q : Text) (i : ℕ) → i < length rows → HoldsAt (λ r. text_cmp r.name q ≡ Equal) rows i → sets.contains (owned_shown rows).repos q ≡ true
-  there q i lt is = ap is_some (get-from_entries nat_list_cmp_total (map named rows) q ∙ found_at text_cmp nat_list_cmp_total named exact_bytes rows q i (some_row rows i lt) order lt is)
+  pub there : (q : Text) (i : ℕ) → i < length rows → HoldsAt (λ r. text_cmp r.name q ≡ Equal) rows i → sets.contains (own_repos_shown rows).repos q ≡ true
+  there q i lt is = ap is_some (get-from_entries nat_list_cmp_total (map repo_entry rows) q ∙ found_at text_cmp nat_list_cmp_total repo_entry exact_bytes rows q i (some_row rows i lt) order lt is)
 
-  lacks : (q : Text) (i : ℕ) → IsBinarySearchResult (λ r. text_cmp r.name q) rows (Err i) → find text_cmp q (map named rows) ≡ None
-  lacks q i missed = missing text_cmp nat_list_cmp_total named rows q i order missed
+  lacks : (q : Text) (i : ℕ) → IsBinarySearchResult (λ r. text_cmp r.name q) rows (Err i) → find text_cmp q (map repo_entry rows) ≡ None
+  lacks q i missed = missing text_cmp nat_list_cmp_total repo_entry rows q i order missed
 
-  pub absent : (q : Text) (i : ℕ) → IsBinarySearchResult (λ r. text_cmp r.name q) rows (Err i) → sets.contains (owned_shown rows).repos q ≡ false
-  absent q i missed = ap is_some (get-from_entries nat_list_cmp_total (map named rows) q ∙ lacks q i missed)
+  pub absent : (q : Text) (i : ℕ) → IsBinarySearchResult (λ r. text_cmp r.name q) rows (Err i) → sets.contains (own_repos_shown rows).repos q ≡ false
+  absent q i missed = ap is_some (get-from_entries nat_list_cmp_total (map repo_entry rows) q ∙ lacks q i missed)
 
   -- a row put in its place
   module _ (row : Repo) (i : ℕ) (within : i ≤ length rows) (missed : IsBinarySearchResult (λ r. text_cmp r.name row.name) rows (Err i)) where
-    placed : map named (insert rows i row) ≡ put text_cmp row.name (tt {0}) (map named rows)
-    placed = put_at text_cmp nat_list_cmp_total named rows i row within (gap text_cmp nat_list_cmp_total named rows row.name i order missed)
+    placed : map repo_entry (insert rows i row) ≡ put text_cmp row.name (tt {0}) (map repo_entry rows)
+    placed = put_at text_cmp nat_list_cmp_total repo_entry rows i row within (gap text_cmp nat_list_cmp_total repo_entry rows row.name i order missed)
 
-    pub repos-insert : (owned_shown (insert rows i row)).repos ≡ sets.insert (owned_shown rows).repos row.name
-    repos-insert = ap (λ es. from_entries {R = text_cmp} es) placed ∙ from_entries-put text_cmp nat_list_cmp_total exact_bytes row.name tt (map named rows)
+    pub repos-insert : (own_repos_shown (insert rows i row)).repos ≡ sets.insert (own_repos_shown rows).repos row.name
+    repos-insert = ap (λ es. from_entries {R = text_cmp} es) placed ∙ from_entries-put text_cmp nat_list_cmp_total exact_bytes row.name tt (map repo_entry rows)
 
     pub order-insert : IsInOrder (insert rows i row)
-    order-insert = rw placed (is_sorted_put text_cmp nat_list_cmp_total exact_bytes row.name tt (map named rows) order)
+    order-insert = rw placed (is_sorted_put text_cmp nat_list_cmp_total exact_bytes row.name tt (map repo_entry rows) order)
 
   -- a row taken out
   module _ (q : Text) (i : ℕ) (d : Repo) (within : i < length rows) (is : HoldsAt (λ r. text_cmp r.name q ≡ Equal) rows i) where
-    key : (get_or (map named rows) i (named d)).0 ≡ q
-    key = ap (λ (e : Text × Unit {0}). e.0) (map_at named rows i d) ∙ exact_bytes (get_or rows i d).name q (is d)
+    key : (get_or (map repo_entry rows) i (repo_entry d)).0 ≡ q
+    key = ap (λ (e : Text × Unit {0}). e.0) (map_at repo_entry rows i d) ∙ exact_bytes (get_or rows i d).name q (is d)
 
-    pub repos-remove : (owned_shown (remove rows i)).repos ≡ sets.remove (owned_shown rows).repos q
-    repos-remove = ap (λ es. from_entries {R = text_cmp} es) (map-remove named rows i)
-        ∙ from_entries-remove text_cmp nat_list_cmp_total exact_bytes (map named rows) i (named d) q (IsApart-sorted text_cmp (map named rows) order) (rw (length-map rows named) within) key
+    pub repos-remove : (own_repos_shown (remove rows i)).repos ≡ sets.remove (own_repos_shown rows).repos q
+    repos-remove = ap (λ es. from_entries {R = text_cmp} es) (map-remove repo_entry rows i)
+        ∙ from_entries-remove text_cmp nat_list_cmp_total exact_bytes (map repo_entry rows) i (repo_entry d) q (IsApart-sorted text_cmp (map repo_entry rows) order) (rw (length-map rows repo_entry) within) key
 
     pub order-remove : IsInOrder (remove rows i)
-    order-remove = rw (map-remove named rows i) (is_sorted-remove text_cmp (map named rows) i order)
+    order-remove = rw (map-remove repo_entry rows i) (is_sorted-remove text_cmp (map repo_entry rows) i order)
 
 -- a row that keeps its name
-pub names-set : (rows : List Repo) (i : ℕ) (row new : Repo) → slice_get rows i ≡ Some row → new.name ≡ row.name → map named (set rows i new) ≡ map named rows
+pub names-set : (rows : List Repo) (i : ℕ) (row new : Repo) → slice_get rows i ≡ Some row → new.name ≡ row.name → map repo_entry (set rows i new) ≡ map repo_entry rows
 names-set [] i row new at is = refl
-names-set (r ∷ rows) zero row new at is = (λ j. (is j, tt {0}) ∷ map named rows) ∙ ap (λ (x : Repo). named x ∷ map named rows) (sym (some_same at))
-names-set (r ∷ rows) (suc i) row new at is = ap (λ es. named r ∷ es) (names-set rows i row new at is)
+names-set (r ∷ rows) zero row new at is = (λ j. (is j, tt {0}) ∷ map repo_entry rows) ∙ ap (λ (x : Repo). repo_entry x ∷ map repo_entry rows) (sym (some_same at))
+names-set (r ∷ rows) (suc i) row new at is = ap (λ es. repo_entry r ∷ es) (names-set rows i row new at is)
 
-pub few-rows : (rows : List Repo) → AreRepos rows → count (owned_shown rows) ≤ 1024
-few-rows rows are = (let few = are.few in omega (arith, count-rows rows are.order))
+pub few-rows : (rows : List Repo) → AreRepos rows → repo_count (own_repos_shown rows) ≤ 1024
+few-rows rows are = (let few = are.few in omega (arith, repo_count-rows rows are.order))
 
 pub AreRepos-set : (rows : List Repo) (i : ℕ) (row new : Repo) → slice_get rows i ≡ Some row → new.name ≡ row.name → AreRepos rows → AreRepos (set rows i new)
 AreRepos-set rows i row new at is are = record {
@@ -105,12 +105,12 @@ row_found rows q i row lt is read = (slice_get_read rows (length rows) i row ref
 
 -- ---- names differ
 
-differs : (q : Text) (rows : List Repo) → find text_cmp q (map named rows) ≡ None → (j : ℕ) (u : Repo) → slice_get rows j ≡ Some u → eq_by_cmp text_cmp q u.name ≡ false
+differs : (q : Text) (rows : List Repo) → find text_cmp q (map repo_entry rows) ≡ None → (j : ℕ) (u : Repo) → slice_get rows j ≡ Some u → eq_by_cmp text_cmp q u.name ≡ false
 differs q [] none j u at = some_none (sym at)
 differs q (r ∷ rows) none j u at = by_tie (eq_by_cmp text_cmp q r.name) refl none j at (λ h k is. differs q rows h k u is)
   where
-    by_tie : (b : Bool) → eq_by_cmp text_cmp q r.name ≡ b → cond b (Some (tt {0})) (find text_cmp q (map named rows)) ≡ None → (j : ℕ) → slice_get (r ∷ rows) j ≡ Some u →
-        (find text_cmp q (map named rows) ≡ None → (k : ℕ) → slice_get rows k ≡ Some u → eq_by_cmp text_cmp q u.name ≡ false) → eq_by_cmp text_cmp q u.name ≡ false
+    by_tie : (b : Bool) → eq_by_cmp text_cmp q r.name ≡ b → cond b (Some (tt {0})) (find text_cmp q (map repo_entry rows)) ≡ None → (j : ℕ) → slice_get (r ∷ rows) j ≡ Some u →
+        (find text_cmp q (map repo_entry rows) ≡ None → (k : ℕ) → slice_get rows k ≡ Some u → eq_by_cmp text_cmp q u.name ≡ false) → eq_by_cmp text_cmp q u.name ≡ false
     by_tie true tie h j is rest = some_none h
     by_tie false tie h zero is rest = ap (λ (x : Repo). eq_by_cmp text_cmp q x.name) (sym (some_same is)) ∙ tie
     by_tie false tie h (suc j) is rest = rest h j is
@@ -118,7 +118,7 @@ differs q (r ∷ rows) none j u at = by_tie (eq_by_cmp text_cmp q r.name) refl n
 swapped : (a b : Text) → eq_by_cmp text_cmp a b ≡ false → eq_by_cmp text_cmp b a ≡ false
 swapped a b h = (eq_by_cmp_equiv nat_list_cmp_total).symm b a ∙ h
 
-apart : (rows : List Repo) → IsApart text_cmp (map named rows) → (i j : ℕ) (a b : Repo) → slice_get rows i ≡ Some a → slice_get rows j ≡ Some b → (j ≡ i → ⊥) → eq_by_cmp text_cmp a.name b.name ≡ false
+apart : (rows : List Repo) → IsApart text_cmp (map repo_entry rows) → (i j : ℕ) (a b : Repo) → slice_get rows i ≡ Some a → slice_get rows j ≡ Some b → (j ≡ i → ⊥) → eq_by_cmp text_cmp a.name b.name ≡ false
 apart [] all i j a b x y differ = some_none (sym x)
 apart (r ∷ rows) all zero zero a b x y differ = absurd (differ refl)
 apart (r ∷ rows) all zero (suc j) a b x y differ = ap (λ (z : Repo). eq_by_cmp text_cmp z.name b.name) (sym (some_same x)) ∙ differs r.name rows all.0 j b y
@@ -142,7 +142,7 @@ find-links_in row r d = find-paired row.name r d row.blobs.entries ∙ ap (λ x.
 changed : {X : Type 0} (a b : Bool) (w x : Option X) → cond a (cond b w x) None ≡ cond (a && b) w (cond a x None)
 changed a b w x = sym (both_ties a b w x)
 
--- a row that has something else at one digest
+-- a row with another size at one digest
 pub find-changed : (row new : Repo) (d : Text) (w : Option ℕ) → new.name ≡ row.name → ((q : Text) → tree.get text_cmp new.blobs q ≡ cond (tree.is_at (text_cmp d) q) w (tree.get text_cmp row.blobs q)) →
     (k : Link) → find link_cmp k (links_in new) ≡ cond (eq_by_cmp link_cmp k (row.name, d)) w (find link_cmp k (links_in row))
 find-changed row new d w name is k =
@@ -161,25 +161,25 @@ first_of_none links q none (d ∷ ds) = ap (λ o. cond (not (is_some o)) (Some d
 
 module _ (rows : List Repo) (order : IsInOrder rows) where
   -- a repository that is no row has no links
-  pub links-absent : (q : Text) (i : ℕ) → IsBinarySearchResult (λ r. text_cmp r.name q) rows (Err i) → (d : Text) → get (owned_shown rows).links (q, d) ≡ None
+  pub links-absent : (q : Text) (i : ℕ) → IsBinarySearchResult (λ r. text_cmp r.name q) rows (Err i) → (d : Text) → get (own_repos_shown rows).links (q, d) ≡ None
   links-absent q i missed d =
       get-from_entries link_cmp_total (flat_map links_in rows) (q, d)
       ∙ find_nowhere link_cmp links_in (q, d) rows (λ j u at.
       find-links_in u q d ∙ ap (λ b. cond b (tree.get text_cmp u.blobs d) None) (differs q rows (lacks rows order q i missed) j u at))
 
-  pub blobs-absent : (q : Text) (i : ℕ) → IsBinarySearchResult (λ r. text_cmp r.name q) rows (Err i) → blobs_on (owned_shown rows) q ≡ []
+  pub blobs-absent : (q : Text) (i : ℕ) → IsBinarySearchResult (λ r. text_cmp r.name q) rows (Err i) → blobs_on (own_repos_shown rows) q ≡ []
   blobs-absent q i missed =
       ap (map (λ (e : Link × ℕ). (e.0.1, e.1)))
-      (where_key-agree link_cmp_total exact_link (λ k. same_text k.0 q) (owned_shown rows).links empty (λ k h.
-      ap (get (owned_shown rows).links) (λ j. (tied_text k.0 q (sym (texts_ties k.0 q) ∙ h) j, k.1)) ∙ links-absent q i missed k.1 ∙ sym (get-empty link_cmp k))
+      (where_key-agree link_cmp_total exact_link (λ k. same_text k.0 q) (own_repos_shown rows).links empty (λ k h.
+      ap (get (own_repos_shown rows).links) (λ j. (tied_text k.0 q (sym (texts_ties k.0 q) ∙ h) j, k.1)) ∙ links-absent q i missed k.1 ∙ sym (get-empty link_cmp k))
       ∙ ap (where_key link_cmp (λ k. same_text k.0 q)) (entries-empty link_cmp ℕ))
 
   module _ (i : ℕ) (row : Repo) (at : slice_get rows i ≡ Some row) where
     -- the other rows have no link of this repository
     others : (d : Text) (j : ℕ) (u : Repo) → slice_get rows j ≡ Some u → (j ≡ i → ⊥) → find link_cmp (row.name, d) (links_in u) ≡ None
-    others d j u is differ = find-links_in u row.name d ∙ ap (λ b. cond b (tree.get text_cmp u.blobs d) None) (apart rows (IsApart-sorted text_cmp (map named rows) order) i j row u at is differ)
+    others d j u is differ = find-links_in u row.name d ∙ ap (λ b. cond b (tree.get text_cmp u.blobs d) None) (apart rows (IsApart-sorted text_cmp (map repo_entry rows) order) i j row u at is differ)
 
-    pub links-there : (d : Text) → get (owned_shown rows).links (row.name, d) ≡ tree.get text_cmp row.blobs d
+    pub links-there : (d : Text) → get (own_repos_shown rows).links (row.name, d) ≡ tree.get text_cmp row.blobs d
     links-there d =
         get-from_entries link_cmp_total (flat_map links_in rows) (row.name, d)
         ∙ find_in_part link_cmp links_in (row.name, d) rows i row at (others d)
@@ -187,26 +187,26 @@ module _ (rows : List Repo) (order : IsInOrder rows) where
 
     -- one row has something else at one digest
     pub links-set : (new : Repo) (d : Text) (w : Option ℕ) → new.name ≡ row.name → ((q : Text) → tree.get text_cmp new.blobs q ≡ cond (tree.is_at (text_cmp d) q) w (tree.get text_cmp row.blobs q)) →
-        (k : Link) → get (owned_shown (set rows i new)).links k ≡ cond (eq_by_cmp link_cmp k (row.name, d)) w (get (owned_shown rows).links k)
+        (k : Link) → get (own_repos_shown (set rows i new)).links k ≡ cond (eq_by_cmp link_cmp k (row.name, d)) w (get (own_repos_shown rows).links k)
     links-set new d w name is k =
         get-from_entries link_cmp_total (flat_map links_in (set rows i new)) k
         ∙ find-set_part link_cmp links_in link_cmp_total (row.name, d) w rows i row new at (others d) (find-changed row new d w name is) k
         ∙ ap (cond (eq_by_cmp link_cmp k (row.name, d)) w) (sym (get-from_entries link_cmp_total (flat_map links_in rows) k))
 
-    -- the same at the name that was looked for
+    -- the same for the name that was looked up
     pub links-changed : (q : Text) → row.name ≡ q → (new : Repo) (d : Text) (w : Option ℕ) → new.name ≡ row.name → ((e : Text) → tree.get text_cmp new.blobs e ≡ cond (tree.is_at (text_cmp d) e) w (tree.get text_cmp row.blobs e)) →
-        (k : Link) → get (owned_shown (set rows i new)).links k ≡ cond (eq_by_cmp link_cmp k (q, d)) w (get (owned_shown rows).links k)
-    links-changed q called new d w name is k = links-set new d w name is k ∙ ap (λ n. cond (eq_by_cmp link_cmp k (n, d)) w (get (owned_shown rows).links k)) called
+        (k : Link) → get (own_repos_shown (set rows i new)).links k ≡ cond (eq_by_cmp link_cmp k (q, d)) w (get (own_repos_shown rows).links k)
+    links-changed q called new d w name is k = links-set new d w name is k ∙ ap (λ n. cond (eq_by_cmp link_cmp k (n, d)) w (get (own_repos_shown rows).links k)) called
 
     -- without links there is nothing in the row
     no_entries : (es : List (Text × ℕ)) → ((d : Text) → find text_cmp d es ≡ None) → es ≡ []
     no_entries [] none = refl
     no_entries (e ∷ es) none = some_none (sym (ap (λ b. cond b (Some e.1) (find text_cmp e.0 es)) (tied_to_itself e.0)) ∙ none e.0)
 
-    pub unlinked : ((d : Text) → get (owned_shown rows).links (row.name, d) ≡ None) → links_in row ≡ []
+    pub unlinked : ((d : Text) → get (own_repos_shown rows).links (row.name, d) ≡ None) → links_in row ≡ []
     unlinked none = ap (map {B = Link × ℕ} (λ e. ((row.name, e.0), e.1))) (no_entries row.blobs.entries (λ d. in_tree row.blobs d ∙ sym (links-there d) ∙ none d))
 
-    -- ---- what the repository holds, in order
+    -- ---- the blobs of the repository, in order
 
     below-paired : (n x : Text) (es : List (Text × ℕ)) → below_all link_cmp (n, x) (map {B = Link × ℕ} (λ e. ((n, e.0), e.1)) es) ≡ below_all text_cmp x es
     below-paired n x [] = refl
@@ -220,17 +220,17 @@ module _ (rows : List Repo) (order : IsInOrder rows) where
     read-paired n [] = refl
     read-paired n (e ∷ es) = ap (λ xs. e ∷ xs) (read-paired n es)
 
-    pub blobs-there : is_sorted text_cmp row.blobs.entries ≡ true → blobs_on (owned_shown rows) row.name ≡ row.blobs.entries
+    pub blobs-there : is_sorted text_cmp row.blobs.entries ≡ true → blobs_on (own_repos_shown rows) row.name ≡ row.blobs.entries
     blobs-there sorted =
         let own : FinMap link_cmp ℕ = from_entries (links_in row) in
         let listed : entries own ≡ links_in row = entries-sorted link_cmp link_cmp_total exact_link (links_in row) (sorted-paired row.name row.blobs.entries ∙ sorted) in
         ap (map (λ (e : Link × ℕ). (e.0.1, e.1)))
-        (where_key-agree link_cmp_total exact_link (λ k. same_text k.0 row.name) (owned_shown rows).links own (λ k h. agree k (sym (texts_ties k.0 row.name) ∙ h))
+        (where_key-agree link_cmp_total exact_link (λ k. same_text k.0 row.name) (own_repos_shown rows).links own (λ k h. agree k (sym (texts_ties k.0 row.name) ∙ h))
         ∙ where_key-all link_cmp_total exact_link (λ k. same_text k.0 row.name) own (λ k v h. passes k v (eq_by_cmp text_cmp k.0 row.name) refl (sym (find-links_in row k.0 k.1) ∙ sym (get-from_entries link_cmp_total (links_in row) k) ∙ h))
         ∙ listed)
         ∙ read-paired row.name row.blobs.entries
       where
-        agree : (k : Link) → eq_by_cmp text_cmp k.0 row.name ≡ true → get (owned_shown rows).links k ≡ get (from_entries {R = link_cmp} (links_in row)) k
+        agree : (k : Link) → eq_by_cmp text_cmp k.0 row.name ≡ true → get (own_repos_shown rows).links k ≡ get (from_entries {R = link_cmp} (links_in row)) k
         agree k tie =
             get-from_entries link_cmp_total (flat_map links_in rows) k
             ∙ find_in_part link_cmp links_in k rows i row at (λ j u is differ. ap (λ (q : Text). find link_cmp (q, k.1) (links_in u)) (tied_text k.0 row.name tie) ∙ others k.1 j u is differ)
@@ -243,7 +243,7 @@ module _ (rows : List Repo) (order : IsInOrder rows) where
 pub same_links : (row new : Repo) → new.name ≡ row.name → new.blobs.entries ≡ row.blobs.entries → links_in new ≡ links_in row
 same_links row new name is = λ i. map {B = Link × ℕ} (λ e. ((name i, e.0), e.1)) (is i)
 
--- ---- rows without links come and go
+-- ---- rows without links are added and removed
 
 pub flat_map-insert : (rows : List Repo) (i : ℕ) (row : Repo) → links_in row ≡ [] → flat_map links_in (insert rows i row) ≡ flat_map links_in rows
 flat_map-insert [] zero row none = ap (λ es. es ++ []) none

@@ -1,4 +1,4 @@
--- A tenant is found by its name, where the names rise.
+-- A tenant is found by its name if the names rise.
 use Rattle.std.proofs.Common.{◌≡◌, ℕ, ◌<◌, Bool, true, false, List, [], ◌∷◌, length, map, get_or, Option, Some, None, is_some, Result, Ok, Err, refl, sym, ap, ◌∙◌, arith, inl, inr}
 use Prim.Native.Nat.{zero, suc}
 use Rattle.std.specs.Prelude.{String, string_bytes, ◌||◌, cond}
@@ -14,9 +14,9 @@ use Rattle.std.specs.FinMap.{is_sorted}
 use Rattle.std.specs.FinMap.Entries.{below_all}
 use Rattle.std.proofs.lemmas.Bool.{and_from, cases_order, cases_lt, true≢false}
 use Rattle.std.proofs.lemmas.List.Quantifiers.{position-Some}
-use Rattle.finite_maps.specs.Texts.{Text, text_cmp, same_text}
-use Rattle.finite_maps.proofs.Rows.{is_some-position, sum_by-map}
-use Rattle.finite_maps.proofs.Sorted.{gap}
+use Rattle.spec_lib.specs.Texts.{Text, text_cmp, same_text}
+use Rattle.spec_lib.proofs.Rows.{is_some-position, sum_by-map}
+use Rattle.spec_lib.proofs.Sorted.{gap}
 use Rattle.link_table.specs.Tenancy.{AreTenants, tenant_shown, tenants_shown}
 use Rattle.link_table.proofs.TenantLists.{two_places, once}
 

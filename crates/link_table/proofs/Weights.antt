@@ -1,4 +1,4 @@
--- What a set of repositories holds, each digest once, after a link more or less.
+-- The blobs of a set of repositories, each digest once, after one link more or less.
 use Rattle.std.proofs.Common.{◌≡◌, ℕ, ◌+◌, Bool, true, false, cond, List, [], ◌∷◌, Option, Some, None, is_some, refl, sym, ap, ◌∙◌, arith, inl, inr}
 use Rattle.std.specs.Prelude.{◌⊎◌, if◌then◌else◌}
 use Rattle.std.specs.Ordering.{eq_by_cmp, is_eq}
@@ -7,14 +7,14 @@ use Rattle.std.specs.Cmp.Lexicographic.{nat_list_cmp_total}
 use Rattle.std.specs.FinMap.{FinMap, entries, find, get, insert, remove, from_entries, get-entries, get-from_entries, get-insert, get-remove, same_map}
 use Rattle.std.proofs.lemmas.Bool.{true≢false}
 use Rattle.std.proofs.lemmas.Map.Lookups.{exact_bytes}
-use Rattle.finite_maps.proofs.Options.{some_none, some_same}
-use Rattle.finite_maps.specs.Texts.{Text, text_cmp}
+use Rattle.spec_lib.proofs.Options.{some_none, some_same}
+use Rattle.spec_lib.specs.Texts.{Text, text_cmp}
 use Rattle.blob_digest.specs.Keys.{Link, link_cmp}
 use Rattle.blob_digest.proofs.KeyOrders.{link_cmp_total, exact_link}
-use Rattle.finite_maps.proofs.Texts.{tied_text}
-use Rattle.finite_maps.proofs.Rows.{no_tie}
-use Rattle.finite_maps.proofs.Sums.{sum_new, insert-remove, insert_back}
-use Rattle.link_table.specs.Linked.{sizes, blobs, total_size, HasOneSize, IsSizeOf}
+use Rattle.spec_lib.proofs.Texts.{tied_text}
+use Rattle.spec_lib.proofs.Rows.{no_tie}
+use Rattle.spec_lib.proofs.Sums.{sum_new, insert-remove, insert_back}
+use Rattle.link_table.specs.Linked.{digest_sizes, blobs, total_size, HasOneSize, IsSizeOf}
 
 miss : (k : Link) (e : Link × ℕ) (es : List (Link × ℕ)) → (k ≡ e.0 → ⊥) → find link_cmp k (e ∷ es) ≡ find link_cmp k es
 miss k e es differ = rw (no_tie link_cmp exact_link k e.0 differ) refl
@@ -33,38 +33,38 @@ module _ (passes : Text → Bool) where
   other_repo q r e pass fails same = true≢false (sym pass ∙ ap passes (ap (λ k. k.0) same) ∙ fails)
 
   -- a digest that isn't found has no row
-  pub sizes_none : (es : List (Link × ℕ)) (q r : Text) → find text_cmp q (sizes passes es) ≡ None → passes r ≡ true → find link_cmp (r, q) es ≡ None
+  pub sizes_none : (es : List (Link × ℕ)) (q r : Text) → find text_cmp q (digest_sizes passes es) ≡ None → passes r ≡ true → find link_cmp (r, q) es ≡ None
   sizes_none [] q r none pass = refl
   sizes_none (e ∷ es) q r none pass =
-      elim (passes e.0.0) as (λ b. passes e.0.0 ≡ b → find text_cmp q (cond b ((e.0.1, e.1) ∷ sizes passes es) (sizes passes es)) ≡ None → find link_cmp (r, q) (e ∷ es) ≡ None) [
-        | true ↦ λ is h. elim (eq_by_cmp text_cmp q e.0.1) as (λ b. eq_by_cmp text_cmp q e.0.1 ≡ b → cond b (Some e.1) (find text_cmp q (sizes passes es)) ≡ None → find link_cmp (r, q) (e ∷ es) ≡ None) [
+      elim (passes e.0.0) as (λ b. passes e.0.0 ≡ b → find text_cmp q (cond b ((e.0.1, e.1) ∷ digest_sizes passes es) (digest_sizes passes es)) ≡ None → find link_cmp (r, q) (e ∷ es) ≡ None) [
+        | true ↦ λ is h. elim (eq_by_cmp text_cmp q e.0.1) as (λ b. eq_by_cmp text_cmp q e.0.1 ≡ b → cond b (Some e.1) (find text_cmp q (digest_sizes passes es)) ≡ None → find link_cmp (r, q) (e ∷ es) ≡ None) [
           | true ↦ λ tie g. some_none g
           | false ↦ λ tie g. miss (r, q) e es (other_digest q r e tie) ∙ sizes_none es q r g pass
         ] refl h
         | false ↦ λ is h. miss (r, q) e es (other_repo q r e pass is) ∙ sizes_none es q r h pass
       ] refl none
 
-  -- the size that is found is that of a row
-  pub sizes_some : (es : List (Link × ℕ)) (q : Text) (n : ℕ) → find text_cmp q (sizes passes es) ≡ Some n → (r : Text) × (passes r ≡ true) × (find link_cmp (r, q) es ≡ Some n)
+  -- the size that is found is the size of a row
+  pub sizes_some : (es : List (Link × ℕ)) (q : Text) (n : ℕ) → find text_cmp q (digest_sizes passes es) ≡ Some n → (r : Text) × (passes r ≡ true) × (find link_cmp (r, q) es ≡ Some n)
   sizes_some [] q n some = some_none (sym some)
   sizes_some (e ∷ es) q n some =
-      elim (passes e.0.0) as (λ b. passes e.0.0 ≡ b → find text_cmp q (cond b ((e.0.1, e.1) ∷ sizes passes es) (sizes passes es)) ≡ Some n → (r : Text) × (passes r ≡ true) × (find link_cmp (r, q) (e ∷ es) ≡ Some n)) [
-        | true ↦ λ is h. elim (eq_by_cmp text_cmp q e.0.1) as (λ b. eq_by_cmp text_cmp q e.0.1 ≡ b → cond b (Some e.1) (find text_cmp q (sizes passes es)) ≡ Some n → (r : Text) × (passes r ≡ true) × (find link_cmp (r, q) (e ∷ es) ≡ Some n)) [
+      elim (passes e.0.0) as (λ b. passes e.0.0 ≡ b → find text_cmp q (cond b ((e.0.1, e.1) ∷ digest_sizes passes es) (digest_sizes passes es)) ≡ Some n → (r : Text) × (passes r ≡ true) × (find link_cmp (r, q) (e ∷ es) ≡ Some n)) [
+        | true ↦ λ is h. elim (eq_by_cmp text_cmp q e.0.1) as (λ b. eq_by_cmp text_cmp q e.0.1 ≡ b → cond b (Some e.1) (find text_cmp q (digest_sizes passes es)) ≡ Some n → (r : Text) × (passes r ≡ true) × (find link_cmp (r, q) (e ∷ es) ≡ Some n)) [
           | true ↦ λ tie g. (e.0.0, is, hit (e.0.0, q) e es (λ i. (e.0.0, tied_text q e.0.1 tie i)) ∙ g)
           | false ↦ λ tie g. let t = sizes_some es q n g in (t.0, t.1, miss (t.0, q) e es (other_digest q t.0 e tie) ∙ t.2)
         ] refl h
         | false ↦ λ is h. let t = sizes_some es q n h in (t.0, t.1, miss (t.0, q) e es (other_repo q t.0 e t.1 is) ∙ t.2)
       ] refl some
 
-  -- the digests that these repositories hold, with their sizes
+  -- the digests of these repositories, with their sizes
   pub record IsBlobs (links : FinMap link_cmp ℕ) (m : FinMap text_cmp ℕ) : Type 0 where
     pub none : (q r : Text) → get m q ≡ None → passes r ≡ true → get links (r, q) ≡ None
     pub some : (q : Text) (n : ℕ) → get m q ≡ Some n → (r : Text) × (passes r ≡ true) × (get links (r, q) ≡ Some n)
 
-  pub IsBlobs-rows : (links : FinMap link_cmp ℕ) (es : List (Link × ℕ)) → ((k : Link) → get links k ≡ find link_cmp k es) → IsBlobs links (from_entries (sizes passes es))
+  pub IsBlobs-rows : (links : FinMap link_cmp ℕ) (es : List (Link × ℕ)) → ((k : Link) → get links k ≡ find link_cmp k es) → IsBlobs links (from_entries (digest_sizes passes es))
   IsBlobs-rows links es is = record {
-    none = λ q r h pass. is (r, q) ∙ sizes_none es q r (sym (get-from_entries nat_list_cmp_total (sizes passes es) q) ∙ h) pass;
-    some = λ q n h. let t = sizes_some es q n (sym (get-from_entries nat_list_cmp_total (sizes passes es) q) ∙ h) in (t.0, t.1, is (t.0, q) ∙ t.2);
+    none = λ q r h pass. is (r, q) ∙ sizes_none es q r (sym (get-from_entries nat_list_cmp_total (digest_sizes passes es) q) ∙ h) pass;
+    some = λ q n h. let t = sizes_some es q n (sym (get-from_entries nat_list_cmp_total (digest_sizes passes es) q) ∙ h) in (t.0, t.1, is (t.0, q) ∙ t.2);
   }
 
   pub IsBlobs-blobs : (links : FinMap link_cmp ℕ) → IsBlobs links (blobs passes links)

@@ -1,21 +1,21 @@
--- What a table of links stands for: tenants with quotas, repositories, links with the sizes of their blobs, and charges.
+-- The state of a table of links: tenants with quotas, repositories, links with the sizes of their blobs, manifests, and charges.
 use Rattle.std.specs.Prelude.{◌≡◌, ℕ, ◌+◌, ◌-◌, ◌&&◌, not, nat_le, nat_lt, Bool, Option, Some, None, Result, Ok, Err, List, [], ◌∷◌, length, map, filter, sum_by, slice_get, slice_index, slice_set, replicate, if◌then◌else◌}
 use Rattle.std.proofs.Common.{refl}
 use Rattle.std.specs.List.{find}
-use Rattle.std.specs.Option.{option_map_or, ok_or}
+use Rattle.std.specs.Option.{option_map, option_map_or, ok_or}
 use Rattle.std.specs.FinMap as fmap
 use Rattle.std.specs.Coded.{Coded, code_by, coded×, coded_ℕ, coded_list}
-use Rattle.finite_maps.specs.Sets as set
-use Rattle.finite_maps.specs.Texts.{Text, text_cmp, same_text, coded_text}
+use Rattle.spec_lib.specs.Sets as set
+use Rattle.spec_lib.specs.Texts.{Text, text_cmp, same_text, coded_text}
 use Rattle.blob_digest.specs.Keys.{Link, link_cmp, coded_link}
 use Rattle.blob_digest.specs.Outcomes.{OutcomeIn}
-use Rattle.finite_maps.specs.Outcomes.{refuse, ◌>>=◌}
+use Rattle.spec_lib.specs.Outcomes.{refuse, ◌>>=◌}
 use Rattle.blob_digest.specs.declared.refusal.Refusal.{Refusal}
 use Rattle.blob_digest.specs.declared.refusal.Refusal.TheVariants.{LimitReached, NameUnknown, Quota}
 use Rattle.link_table.specs.ManifestTable.{ManifestBytes, put_on}
-pub use Rattle.blob_digest.specs.Tenants.{Tenant, tenant_of, is_tenants, repos_in, coded_tenant}
+pub use Rattle.blob_digest.specs.Tenants.{Tenant, tenant_of, is_repo_of_tenant, tenant_repo_count, coded_tenant}
 
--- tenants in the order of their names, the repositories that are there, the links with the sizes of their blobs, the manifests, and each tenant's charge in bytes
+-- tenants in the order of their names, the existing repositories, the links with the sizes of their blobs, the manifests, and each tenant's charge in bytes
 pub record Linked : Type 0 where
   pub tenants : List Tenant
   pub repos : set.Set text_cmp
@@ -23,92 +23,96 @@ pub record Linked : Type 0 where
   pub manifests : ManifestBytes
   pub charges : List ℕ
 
--- a table's code, as a model's value has one
+-- the code of a table, which a model's value needs
 abbrev pub coded_linked : Coded Linked
 coded_linked = code_by (List Tenant × (set.Set text_cmp × (fmap.FinMap link_cmp ℕ × (ManifestBytes × List ℕ)))) (coded× (coded_list coded_tenant) (coded× (set.code coded_text) (coded× (fmap.code coded_link coded_ℕ) (coded× (fmap.code coded_link coded_text) (coded_list coded_ℕ))))) (λ l. (l.tenants, (l.repos, (l.links, (l.manifests, l.charges))))) (λ p. record { tenants = p.0; repos = p.1.0; links = p.1.1.0; manifests = p.1.1.1.0; charges = p.1.1.1.1 }) (λ _. refl)
 
--- ---- whose a repository is
+-- ---- one tenant
 
--- how much a tenant may use, in bytes
+-- the name of a tenant, if there is one
+abbrev pub name_at : List Tenant → ℕ → Option Text
+name_at tenants t = option_map (λ x. x.name) (slice_get tenants t)
+
+-- a tenant's quota in bytes
 abbrev pub quota_in : List Tenant → ℕ → ℕ
 quota_in tenants t = option_map_or (λ x. x.quota) (slice_get tenants t) 0
 
--- ---- what the links weigh
+-- ---- sizes and usage
 
--- the rows of the repositories that pass, by digest
-abbrev pub sizes : (Text → Bool) → List (Link × ℕ) → List (Text × ℕ)
-sizes passes [] = []
-sizes passes (e ∷ es) = if passes e.0.0 then (e.0.1, e.1) ∷ sizes passes es else sizes passes es
+-- the digest and the size of each link whose repository passes the test
+abbrev pub digest_sizes : (Text → Bool) → List (Link × ℕ) → List (Text × ℕ)
+digest_sizes passes [] = []
+digest_sizes passes (e ∷ es) = if passes e.0.0 then (e.0.1, e.1) ∷ digest_sizes passes es else digest_sizes passes es
 
--- each digest that these repositories hold, once, with its size
+-- the blobs of the repositories that pass the test, each digest once, with its size
 abbrev pub blobs : (Text → Bool) → fmap.FinMap link_cmp ℕ → fmap.FinMap text_cmp ℕ
-blobs passes links = fmap.from_entries (sizes passes (fmap.entries links))
+blobs passes links = fmap.from_entries (digest_sizes passes (fmap.entries links))
 
 -- the sum of the sizes
 abbrev pub total_size : fmap.FinMap text_cmp ℕ → ℕ
 total_size m = sum_by (λ e. e.1) (fmap.entries m)
 
--- each digest that a tenant's repositories hold, once, with its size
+-- the blobs of a tenant's repositories, each digest once, with its size
 abbrev pub blobs_of : Linked → ℕ → fmap.FinMap text_cmp ℕ
-blobs_of l t = blobs (is_tenants l.tenants t) l.links
+blobs_of l t = blobs (is_repo_of_tenant l.tenants t) l.links
 
--- What a tenant uses: the size of each digest that its repositories hold, once, and what was charged.
+-- a tenant's usage: the size of each blob of its repositories, counted once, plus its charge
 abbrev pub used_in : Linked → ℕ → ℕ
 used_in l t = total_size (blobs_of l t) + slice_index l.charges t
 
--- one size for each digest
+-- all links to a digest have the same size
 abbrev pub HasOneSize : fmap.FinMap link_cmp ℕ → Type 0
 HasOneSize links = (r s d : Text) (m n : ℕ) → fmap.get links (r, d) ≡ Some m → fmap.get links (s, d) ≡ Some n → m ≡ n
 
--- the size that a digest has wherever it is linked
+-- every link to this digest has this size
 abbrev pub IsSizeOf : fmap.FinMap link_cmp ℕ → Text → ℕ → Type 0
 IsSizeOf links d n = (r : Text) (m : ℕ) → fmap.get links (r, d) ≡ Some m → m ≡ n
 
--- no link is of this repository
+-- the repository has no link
 abbrev pub HasNoLinks : fmap.FinMap link_cmp ℕ → Text → Type 0
 HasNoLinks links r = (d : Text) → fmap.get links (r, d) ≡ None
 
--- ---- what is read
+-- ---- queries
 
 -- a tenant's repositories, in the order of their names
 abbrev pub repos_of : Linked → ℕ → List Text
-repos_of l t = filter (is_tenants l.tenants t) (set.items l.repos)
+repos_of l t = filter (is_repo_of_tenant l.tenants t) (set.items l.repos)
 
--- the digests that a repository holds, in their order, each with its size
+-- the blobs of a repository, in the order of their digests, each with its size
 abbrev pub blobs_in : Linked → Text → List (Text × ℕ)
 blobs_in l repo = map (λ e. (e.0.1, e.1)) (filter (λ e. same_text e.0.0 repo) (fmap.entries l.links))
 
--- the first of some digests that a repository doesn't hold
+-- the first of these digests that the repository does not contain
 abbrev pub first_unlinked : fmap.FinMap link_cmp ℕ → Text → List Text → Option Text
 first_unlinked links repo digests = find (λ d. not (fmap.contains_key links (repo, d))) digests
 
--- ---- what the calls do
+-- ---- changes
 
--- a table with nothing in it
+-- the table of these tenants, without repositories
 abbrev pub initial_links : List Tenant → Linked
-initial_links tenants = record { tenants = tenants; repos = set.none; links = fmap.empty; manifests = fmap.empty; charges = replicate (length tenants) 0 }
+initial_links tenants = record { tenants = tenants; repos = set.empty_set; links = fmap.empty; manifests = fmap.empty; charges = replicate (length tenants) 0 }
 
--- the number of a repository's tenant, or that there is none
+-- the number of a repository's tenant, or `NameUnknown` if there is none
 abbrev pub known_tenant : Linked → Text → Result ℕ Refusal
 known_tenant l repo = ok_or (tenant_of l.tenants repo) NameUnknown
 
--- a repository is new, and its tenant has as many as it may
+-- the repository is new, and its tenant has 1,024
 abbrev pub cannot_appear : Linked → ℕ → Text → Bool
-cannot_appear l t repo = not (set.contains l.repos repo) && nat_le 1024 (repos_in l.tenants l.repos t)
+cannot_appear l t repo = not (set.contains l.repos repo) && nat_le 1024 (tenant_repo_count l.tenants l.repos t)
 
--- a repository more, and whether it is new
+-- the table with this repository, and whether it is new
 abbrev pub appear : Linked → ℕ → Text → OutcomeIn Linked Bool
 appear l t repo = if cannot_appear l t repo then Err LimitReached else Ok (not (set.contains l.repos repo), record l { repos = set.insert l.repos repo })
 
--- a repository less
+-- the table without this repository
 abbrev pub vanish : Linked → Text → Linked
 vanish l repo = record l { repos = set.remove l.repos repo }
 
--- a link more, and whether it is new
+-- the table with this link, and whether it is new
 abbrev pub link : Linked → Text → Text → ℕ → OutcomeIn Linked Bool
 link l repo digest size = Ok (not (fmap.contains_key l.links (repo, digest)), record l { links = fmap.insert l.links (repo, digest) size })
 
--- a link less
+-- the table without this link
 abbrev pub unlink : Linked → Text → Text → Linked
 unlink l repo digest = record l { links = fmap.remove l.links (repo, digest) }
 
@@ -116,26 +120,26 @@ unlink l repo digest = record l { links = fmap.remove l.links (repo, digest) }
 abbrev pub with_manifests : Linked → ManifestBytes → Linked
 with_manifests l manifests = record l { manifests = manifests }
 
--- a manifest more, unless the repository has it
+-- the table with this manifest, or `LimitReached` if the repository has 1,024 others
 abbrev pub put_manifest : Linked → Text → Text → OutcomeIn Linked (Unit {0})
 put_manifest l repo bytes = do
   r ← put_on l.manifests repo bytes
   Ok (tt {0}, with_manifests l r.1)
 
--- a manifest less
+-- the table without this manifest
 abbrev pub drop_manifest : Linked → Text → Text → Linked
 drop_manifest l repo digest = with_manifests l (fmap.remove l.manifests (repo, digest))
 
--- a tenant's charge, raised
-abbrev pub charged : Linked → ℕ → ℕ → Linked
-charged l t n = record l { charges = slice_set l.charges t (slice_index l.charges t + n) }
+-- the table with the tenant's charge raised by n bytes
+abbrev pub with_charge : Linked → ℕ → ℕ → Linked
+with_charge l t n = record l { charges = slice_set l.charges t (slice_index l.charges t + n) }
 
--- a charge, unless use and charge together pass the quota
+-- the table with this charge, or `Quota` if the usage and the charge together exceed the quota
 abbrev pub charge : Linked → ℕ → ℕ → OutcomeIn Linked (Unit {0})
 charge l t n = do
   _ ← refuse (nat_lt (quota_in l.tenants t) (used_in l t + n)) (Quota (used_in l t) (quota_in l.tenants t))
-  Ok (tt {0}, charged l t n)
+  Ok (tt {0}, with_charge l t n)
 
--- a tenant's charge, lowered
+-- the table with the tenant's charge lowered by n bytes
 abbrev pub discharge : Linked → ℕ → ℕ → Linked
 discharge l t n = record l { charges = slice_set l.charges t (slice_index l.charges t - n) }

@@ -1,23 +1,24 @@
--- The manifests of all repositories, and which of one repository's refers to a digest.
-use Rattle.std.specs.Prelude.{ℕ, ◌&&◌, nat_le, Option, Ok, Err, List, map, filter, count_by, if◌then◌else◌}
+-- The manifests of all repositories, and a repository's manifest that refers to a digest.
+use Rattle.std.specs.Prelude.{ℕ, ◌&&◌, nat_le, Option, Result, Ok, Err, List, map, filter, count_by, if◌then◌else◌}
 use Rattle.std.specs.Option.{option_map}
 use Rattle.std.specs.List.{find, flat_map}
 use Rattle.std.specs.BTreeMap.{BTreeMap}
 use Rattle.std.specs.FinMap as fmap
 use Rattle.blob_digest.specs.Digests.{sha256_text}
-use Rattle.finite_maps.specs.Texts.{Text, text_cmp, same_text}
+use Rattle.spec_lib.specs.Texts.{Text, text_cmp, same_text}
 use Rattle.blob_digest.specs.Keys.{Link, link_cmp}
-use Rattle.blob_digest.specs.Outcomes.{OutcomeIn}
-use Rattle.finite_maps.specs.Trees.{map_of}
+use Rattle.blob_digest.specs.Outcomes.{Does, OutcomeIn}
+use Rattle.spec_lib.specs.Trees.{map_of}
+use Rattle.blob_digest.specs.declared.refusal.Refusal.{Refusal}
 use Rattle.blob_digest.specs.declared.refusal.Refusal.TheVariants.{LimitReached}
 use Rattle.oci_manifest.specs.Manifests.{refers}
-use Rattle.link_table.specs.Manifests.{Kept}
+use Rattle.link_table.specs.Manifests.{RepoManifestBytes}
 
 -- the bytes of each manifest, by repository and digest
 abbrev pub ManifestBytes : Type 0
 ManifestBytes = fmap.FinMap link_cmp Text
 
--- how many manifests a repository has
+-- the number of a repository's manifests
 abbrev pub manifests_in : ManifestBytes → Text → ℕ
 manifests_in m repo = count_by (λ e. same_text e.0.0 repo) (fmap.entries m)
 
@@ -29,24 +30,30 @@ manifests_on m repo = map (λ e. (e.0.1, e.1)) (filter (λ e. same_text e.0.0 re
 abbrev pub referrer_on : ManifestBytes → Text → Text → Option Text
 referrer_on m repo digest = option_map (λ e. e.0.1) (find (λ e. same_text e.0.0 repo && refers e.1 digest) (fmap.entries m))
 
--- a manifest more under its digest, unless the repository has it
+-- the manifests with this one under its digest, or `LimitReached` if the repository has 1,024 others
 abbrev pub put_on : ManifestBytes → Text → Text → OutcomeIn ManifestBytes (Unit {0})
 put_on m repo bytes =
     if fmap.contains_key m (repo, sha256_text bytes) then Ok (tt {0}, m) else
     if nat_le 1024 (manifests_in m repo) then Err LimitReached else Ok (tt {0}, fmap.insert m (repo, sha256_text bytes) bytes)
 
--- ---- what the rows stand for
+-- the call has this outcome, with its result read as it is
+abbrev pub Fulfils : {S A : Type 0} → Result A Refusal → S → S → OutcomeIn S A → Type 0
+Fulfils result old new outcome = Does (λ a. a) result old new outcome
+
+-- ---- the rows
 
 -- the manifests of each repository
-abbrev pub Groups : Type 0
-Groups = fmap.FinMap text_cmp Kept
+abbrev pub ManifestsByRepo : Type 0
+ManifestsByRepo = fmap.FinMap text_cmp RepoManifestBytes
 
--- those of one repository, with its name
-abbrev pub group_rows : Text × Kept → List (Link × Text)
+-- the manifests of one repository, each under the repository's name and its digest
+abbrev pub group_rows : Text × RepoManifestBytes → List (Link × Text)
 group_rows e = map (λ f. ((e.0, f.0), f.1)) (fmap.entries e.1)
 
-abbrev pub flat : Groups → ManifestBytes
-flat g = fmap.from_entries (flat_map group_rows (fmap.entries g))
+-- the manifests of all repositories, from those of each
+abbrev pub all_manifests : ManifestsByRepo → ManifestBytes
+all_manifests g = fmap.from_entries (flat_map group_rows (fmap.entries g))
 
-abbrev pub manifest_bytes : BTreeMap Text Kept → ManifestBytes
-manifest_bytes rows = flat (map_of rows)
+-- the manifests that the rows show
+abbrev pub manifest_bytes : BTreeMap Text RepoManifestBytes → ManifestBytes
+manifest_bytes rows = all_manifests (map_of rows)

@@ -1,29 +1,38 @@
--- What the rows of a tenant's repositories stand for, and what is kept of them.
-use Rattle.std.specs.Prelude.{◌≡◌, ◌≤◌, ℕ, List, length, map, true}
+-- The repositories and links that the rows of a tenant show.
+use Rattle.std.specs.Prelude.{◌≡◌, ◌≤◌, ℕ, Bool, List, Option, cond, is_some, length, map, not, true}
 use Rattle.std.specs.List.{flat_map}
+use Rattle.std.specs.BTreeMap as tree
 use Rattle.std.specs.FinMap as fmap
-use Rattle.finite_maps.specs.Texts.{Text, text_cmp}
+use Rattle.spec_lib.specs.Texts.{Text, text_cmp}
 use Rattle.blob_digest.specs.Keys.{Link}
-use Rattle.link_table.specs.TenantRepos.{Owned}
+use Rattle.link_table.specs.TenantRepos.{OwnRepos}
 use Rattle.link_table.specs.declared.repo.Repo.{Repo}
 
 -- a repository, as a member of a set
-abbrev pub named : Repo → Text × Unit {0}
-named r = (r.name, tt)
+abbrev pub repo_entry : Repo → Text × Unit {0}
+repo_entry r = (r.name, tt)
 
 -- the links of a repository
 abbrev pub links_in : Repo → List (Link × ℕ)
 links_in r = map (λ e. ((r.name, e.0), e.1)) r.blobs.entries
 
+-- the repository holds no blob of this digest
+abbrev pub lacks_blob : Repo → Text → Bool
+lacks_blob r d = not (is_some (tree.get text_cmp r.blobs d))
+
+-- the repository now has this size, or none, under the digest, and its other blobs as before
+abbrev pub SetsBlob : Repo → Repo → Text → Option ℕ → Type 0
+SetsBlob old new digest size = (q : Text) → tree.get text_cmp new.blobs q ≡ cond (tree.is_at (text_cmp digest) q) size (tree.get text_cmp old.blobs q)
+
 -- the repositories of a tenant
-abbrev pub owned_shown : List Repo → Owned
-owned_shown rows = record { repos = fmap.from_entries (map named rows); links = fmap.from_entries (flat_map links_in rows) }
+abbrev pub own_repos_shown : List Repo → OwnRepos
+own_repos_shown rows = record { repos = fmap.from_entries (map repo_entry rows); links = fmap.from_entries (flat_map links_in rows) }
 
--- they stand in the order of their names
+-- the rows are in the order of their names
 abbrev pub IsInOrder : List Repo → Type 0
-IsInOrder rows = fmap.is_sorted text_cmp (map named rows) ≡ true
+IsInOrder rows = fmap.is_sorted text_cmp (map repo_entry rows) ≡ true
 
--- and there are at most 1,024
+-- the rows are in the order of their names, and there are at most 1,024
 pub record AreRepos (rows : List Repo) : Type 0 where
   pub order : IsInOrder rows
   pub few : length rows ≤ 1024

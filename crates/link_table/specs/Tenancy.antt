@@ -1,24 +1,27 @@
--- Which lists of tenants make a table, and why the others are refused.
-use Rattle.std.specs.Prelude.{◌≡◌, ◌<◌, ◌≤◌, ◌^◌, ℕ, List, length, map, count_by, String, string_bytes}
+-- The lists of tenants that a table accepts, and the errors for the others.
+use Rattle.std.specs.Prelude.{◌≡◌, ◌<◌, ◌≤◌, ◌^◌, ℕ, Bool, List, length, map, count_by, String, string_bytes}
 use Rattle.std.specs.declared.alloc.Global.{Global}
+use Rattle.std.specs.declared.cmp.Ordering.{Ordering}
+use Rattle.std.specs.Ordering.{is_lt}
 use Rattle.std.specs.List.{All}
 use Rattle.std.specs.List.Sorted.{IsPermutation, IsStrictlySortedBy}
-use Rattle.finite_maps.specs.Texts.{Text, text_cmp, same_text}
+use Rattle.spec_lib.specs.Texts.{Text, text_cmp, same_text}
 use Rattle.blob_digest.specs.Names.{IsComponent}
 use Rattle.blob_digest.specs.Tenants.{Tenant}
 use Rattle.blob_digest.specs.declared.refusal.Refusal.{Refusal}
 use Rattle.blob_digest.specs.declared.refusal.Refusal.TheVariants.{NameInvalid, LimitReached, Memory}
 use Rattle.link_table.specs.Linked.{Linked, initial_links}
 
--- each name is one component of a repository's name (OCI Distribution Specification 1.1, "Pulling manifests"), and no name comes twice
+-- each name is one component of a repository's name (OCI Distribution Specification 1.1, "Pulling manifests"), and no name occurs twice
 pub record HasNames (ts : List Tenant) : Type 0 where
   pub components : All (λ t. IsComponent t.name) ts
   pub apart : (name : Text) → count_by (λ t. same_text t.name name) ts ≤ 1
 
--- the most tenants that a store has, and the largest quota in bytes
+-- the maximum number of tenants
 abbrev pub max_tenants : ℕ
 max_tenants = 256
 
+-- the maximum quota in bytes
 abbrev pub max_quota : ℕ
 max_quota = 2 ^ 50
 
@@ -28,20 +31,20 @@ pub record IsWithinLimits (ts : List Tenant) : Type 0 where
   pub few : length ts ≤ max_tenants
   pub quotas : All (λ t. t.quota ≤ max_quota) ts
 
--- Why a list of tenants is refused: for a name, and else for a limit, and else as out of memory alone.
+-- the error for a list of tenants: `NameInvalid` for a name, else `LimitReached` for a limit, else `Memory`
 abbrev pub RefusesTenants : Refusal → List Tenant → Type 0
 RefusesTenants NameInvalid given = ¬ (HasNames given)
 RefusesTenants LimitReached given = HasNames given × (¬ (IsWithinLimits given))
 RefusesTenants Memory given = HasNames given × IsWithinLimits given
 RefusesTenants _ given = ⊥
 
--- the tenants of a table: in the order of their names, which differ
+-- the tenants are in the strict order of their names, which are components, and within the limits
 pub record AreTenants (ts : List Tenant) : Type 0 where
   pub rising : IsStrictlySortedBy text_cmp (map (λ t. t.name) ts)
   pub components : All (λ t. IsComponent t.name) ts
   pub limits : IsWithinLimits ts
 
--- The table has the given tenants in the order of their names, and nothing else.
+-- the table has the given tenants in the order of their names, and nothing else
 pub record Opens (given : List Tenant) (l : Linked) : Type 0 where
   pub names : HasNames given
   pub limits : IsWithinLimits given
@@ -53,6 +56,18 @@ pub record Opens (given : List Tenant) (l : Linked) : Type 0 where
 abbrev pub tenant_shown : String Global × ℕ → Tenant
 tenant_shown t = record { name = string_bytes t.0; quota = t.1 }
 
--- rows of tenants, as tenants
+-- the tenants that rows show
 abbrev pub tenants_shown : List (String Global × ℕ) → List Tenant
 tenants_shown ts = map tenant_shown ts
+
+-- the order of a tenant's name and this name
+abbrev pub tenant_name_cmp : Text → String Global × ℕ → Ordering
+tenant_name_cmp name t = text_cmp (string_bytes t.0) name
+
+-- the test says whether the name of x is below that of y
+abbrev pub IsNameBelow : String Global × ℕ → String Global × ℕ → Bool → Type 0
+IsNameBelow x y b = b ≡ is_lt (text_cmp (string_bytes x.0) (string_bytes y.0))
+
+-- both lists have the same tenants, in any order
+abbrev pub SameTenants : List (String Global × ℕ) → List (String Global × ℕ) → Type 0
+SameTenants xs ys = IsPermutation (tenants_shown xs) (tenants_shown ys)

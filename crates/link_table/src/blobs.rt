@@ -1,4 +1,4 @@
-//! The blobs of a repository, one after the other.
+//! An iterator over the blobs of a repository.
 
 ghost use Rattle.std.specs.Iterator.{YieldsFirst, item_count};
 
@@ -6,8 +6,9 @@ use blob_digest::Digest;
 use std::collections::btree_map::Iter;
 use std::marker::Model;
 
-/// The blobs that a repository holds, in the order of their digests, with their sizes in bytes.
-/// Contracts see those that are left.
+/// An iterator over the blobs of a repository, in the order of their digests, with their sizes in bytes.
+///
+/// Contracts see the items that remain.
 #[derive(Drop)]
 pub struct Blobs<'a> {
     pub(crate) rest: Option<Iter<'a, Digest, u64>>,
@@ -17,7 +18,7 @@ impl<'a> Model for Blobs<'a> {
     ghost use Rattle.std.specs.Prelude.{List, ℕ, []};
     ghost use Rattle.std.specs.Option.{option_map_or};
     ghost use Rattle.std.specs.Coded.{coded_list, coded×, coded_ℕ};
-    ghost use Rattle.finite_maps.specs.Texts.{Text, coded_text};
+    ghost use Rattle.spec_lib.specs.Texts.{Text, coded_text};
 
     ghost Value = { List (Text × ℕ) };
 

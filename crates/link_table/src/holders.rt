@@ -1,11 +1,10 @@
-//! How many repositories of a tenant hold each digest.
+//! The number of a tenant's repositories that contain each digest.
 
-ghost use Rattle.std.specs.Prelude.{◌≡◌, ◌+◌, ◌-◌, ◌<◌, ◌^◌, OnOk, OnErr, IfOk, IfErr, length, nat_lt, if◌then◌else◌};
+ghost use Rattle.std.specs.Prelude.{◌≡◌, ◌+◌, ◌-◌, ◌<◌, ◌^◌, OnOk, OnErr, IfOk, IfErr, nat_lt};
 ghost use Rattle.std.specs.FinMap as fmap;
-ghost use Rattle.std.specs.List.{All};
-ghost use Rattle.finite_maps.specs.Texts.{Text, same_text};
+ghost use Rattle.spec_lib.specs.Texts.{Text};
 ghost use Rattle.blob_digest.specs.declared.refusal.Refusal.TheVariants.{Memory};
-ghost use Rattle.link_table.specs.Holders.{count_in};
+ghost use Rattle.link_table.specs.Holders.{count_in, AreEmptyMaps, CountsOneLess, CountsOneMore};
 
 use blob_digest::{Digest, Refusal};
 use std::alloc::Global;
@@ -13,8 +12,9 @@ use std::collections::BTreeMap;
 use std::collections::btree_map::Entry;
 use std::marker::Model;
 
-/// For each digest that some repositories of a tenant hold, how many do. A digest that none holds has no
-/// entry, so that there are as many entries as the tenant holds digests.
+/// The number of a tenant's repositories that contain a digest, for each digest that at least one contains.
+///
+/// No entry has the count 0, so there are as many entries as digests in the tenant's repositories.
 #[derive(Drop)]
 pub struct Holders {
     counts: BTreeMap<Digest, u64>,
@@ -24,8 +24,8 @@ impl Model for Holders {
     ghost use Rattle.std.specs.Prelude.{ℕ};
     ghost use Rattle.std.specs.Coded.{coded_ℕ};
     ghost use Rattle.std.specs.FinMap as fmap;
-    ghost use Rattle.finite_maps.specs.Texts.{text_cmp, coded_text};
-    ghost use Rattle.finite_maps.specs.Trees.{map_of};
+    ghost use Rattle.spec_lib.specs.Texts.{text_cmp, coded_text};
+    ghost use Rattle.spec_lib.specs.Trees.{map_of};
     ghost use Rattle.link_table.specs.Holders.{HasNoZero};
 
     ghost Value = { fmap.FinMap text_cmp ℕ };
@@ -38,7 +38,7 @@ impl Model for Holders {
 }
 
 impl Holders {
-    /// Of no digest. It takes no memory.
+    /// Returns an empty map. Allocates nothing.
     fn new(alloc: Global) -> Holders
         ensures { result ≡ fmap.empty }
     {
@@ -48,9 +48,9 @@ impl Holders {
     }
 }
 
-/// As many tenants, of which none holds a digest.
+/// Returns `count` empty maps.
 pub fn no_holders(alloc: Global, count: usize) -> Result<Vec<Holders>, Refusal>
-    ensures ok { IfOk result (λ v. (length v.items ≡ count) × All (λ h. h ≡ fmap.empty) v.items) }
+    ensures ok { IfOk result (λ v. AreEmptyMaps count v.items) }
     ensures refused { IfErr result (λ e. e ≡ Memory) }
 {
     let mut holders = Vec::with_capacity(alloc, count)?;
@@ -60,19 +60,22 @@ pub fn no_holders(alloc: Global, count: usize) -> Result<Vec<Holders>, Refusal>
     Ok(holders)
 }
 
-/// How many repositories of a tenant hold a digest.
+/// Returns the number of a tenant's repositories that contain a digest.
 pub fn holders_of(holders: &Holders, digest: &Digest) -> u64
     ensures { result ≡ count_in holders.now digest.now }
 {
     holders.counts.get(digest).copied().unwrap_or(0)
 }
 
-/// One more repository of a tenant holds a digest. Answers how many do now. Refused with `Memory`
-/// alone, and then nothing has changed.
+/// Counts one more repository for a digest, and returns the new count.
+///
+/// # Errors
+///
+/// - `Memory`: out of memory. Nothing changes.
 pub fn increment(holders: &mut Holders, digest: &Digest) -> Result<u64, Refusal>
     requires { count_in holders.old digest.now + 1 < 2 ^ 64 }
     ensures count { IfOk result (λ n. n ≡ count_in holders.old digest.now + 1) }
-    ensures ok { OnOk result ((d : Text) → count_in holders.new d ≡ count_in holders.old d + (if same_text digest.now d then 1 else 0)) }
+    ensures ok { OnOk result (CountsOneMore holders.old holders.new digest.now) }
     ensures err { OnErr result ((d : Text) → count_in holders.new d ≡ count_in holders.old d) }
     ensures refused { IfErr result (λ e. e ≡ Memory) }
 {
@@ -81,11 +84,11 @@ pub fn increment(holders: &mut Holders, digest: &Digest) -> Result<u64, Refusal>
     Ok(*count)
 }
 
-/// One repository of a tenant less holds a digest. Answers whether others still do. It takes no memory.
+/// Counts one repository less for a digest, and returns whether others remain. Allocates nothing.
 pub fn decrement(holders: &mut Holders, digest: &Digest) -> bool
     requires { 0 < count_in holders.old digest.now }
     ensures held { result ≡ nat_lt 0 (count_in holders.new digest.now) }
-    ensures count { (d : Text) → count_in holders.new d + (if same_text digest.now d then 1 else 0) ≡ count_in holders.old d }
+    ensures count { CountsOneLess holders.old holders.new digest.now }
 {
     match holders.counts.entry(*digest) {
         Ok(Entry::Occupied(mut entry)) => {

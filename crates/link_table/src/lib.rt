@@ -1,11 +1,9 @@
-//! Tenants with their quotas, repositories, the links by which repositories hold blobs, and the
-//! manifests of repositories, with what each tenant uses.
+//! Tenants with quotas, repositories, links, manifests, and each tenant's usage.
 //!
-//! It stands on `blob_digest` for names, digests and refusals and on `oci_manifest` for manifests, and
-//! knows of a blob only its digest and its size. It promises that a tenant's use is the size of each
-//! blob that its repositories hold, each counted once, and what was charged besides; that a charge
-//! never passes the quota; and that the manifest which is named for a blob is the least of the
-//! repository that refers to it.
+//! A link is the fact that a repository contains a blob. Of a blob, this crate has only the digest and the size. A
+//! tenant's usage is the size of each blob in its repositories, counted once, plus its charges. A charge never
+//! exceeds the quota. The manifest returned for a blob is the one with the least digest in the repository that refers
+//! to it.
 #![tactic(auto)]
 
 mod blobs;

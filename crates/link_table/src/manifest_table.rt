@@ -1,12 +1,11 @@
 //! The manifests of all repositories.
 
 ghost use Rattle.std.specs.Prelude.{◌≡◌, None};
-ghost use Rattle.std.specs.Option.{option_map};
 ghost use Rattle.std.specs.BTreeMap as tree;
 ghost use Rattle.std.specs.FinMap as fmap;
-ghost use Rattle.finite_maps.specs.Texts.{Text, text_cmp};
-ghost use Rattle.blob_digest.specs.Outcomes.{Does};
-ghost use Rattle.link_table.specs.ManifestTable.{put_on, referrer_on, manifests_on};
+ghost use Rattle.spec_lib.specs.Texts.{Text};
+ghost use Rattle.link_table.specs.ManifestTable.{put_on, referrer_on, manifests_on, Fulfils};
+ghost use Rattle.link_table.specs.Manifests.{found_bytes};
 
 use crate::manifests::Manifests;
 use crate::repo_manifests::RepoManifests;
@@ -17,9 +16,12 @@ use std::collections::BTreeMap;
 use std::marker::Model;
 use std::sync::Arc;
 
-/// The manifests of all repositories, each repository's together. Contracts see the bytes of each, by
-/// repository and digest. Each call takes the logarithm of the number of repositories that have had
-/// manifests, and what the call of `RepoManifests` takes.
+/// The manifests of all repositories, grouped by repository. Contracts see the bytes of each, by repository and digest.
+///
+/// # Cost
+///
+/// Each call is logarithmic in the number of repositories that have ever had a manifest. To this is added the cost of
+/// the call of `RepoManifests`.
 #[derive(Drop)]
 pub struct ManifestTable {
     rows: BTreeMap<RepoName, RepoManifests>,
@@ -28,7 +30,7 @@ pub struct ManifestTable {
 impl Model for ManifestTable {
     ghost use Rattle.std.specs.FinMap as fmap;
     ghost use Rattle.blob_digest.specs.Keys.{coded_link};
-    ghost use Rattle.finite_maps.specs.Texts.{coded_text};
+    ghost use Rattle.spec_lib.specs.Texts.{coded_text};
     ghost use Rattle.link_table.specs.ManifestTable.{ManifestBytes, manifest_bytes};
 
     ghost Value = { ManifestBytes };
@@ -39,7 +41,7 @@ impl Model for ManifestTable {
 }
 
 impl ManifestTable {
-    /// No manifests. It takes no memory.
+    /// Returns an empty table. Allocates nothing.
     pub fn new(alloc: Global) -> ManifestTable
         ensures { result ≡ fmap.empty }
     {
@@ -48,8 +50,7 @@ impl ManifestTable {
         }
     }
 
-    /// Keeps a manifest of a repository that had none so far. Refused with `Memory` alone, and then
-    /// nothing has changed.
+    /// Stores the first manifest of a repository. The only error is `Memory`, and then nothing changes.
     fn put_first(
         &mut self,
         alloc: Global,
@@ -57,7 +58,7 @@ impl ManifestTable {
         manifest: Arc<Manifest, Global>,
     ) -> Result<(), Refusal>
         requires { (d : Text) → fmap.get self.old (repo.now, d) ≡ None }
-        ensures { Does (λ u. u) result self.old self.new (put_on self.old repo.now manifest.value) }
+        ensures { Fulfils result self.old self.new (put_on self.old repo.now manifest.value) }
     {
         let mut group = RepoManifests::new(alloc);
         match group.put(manifest) {
@@ -69,15 +70,19 @@ impl ManifestTable {
         }
     }
 
-    /// Keeps a manifest of a repository under its digest. One that is there already stays. Refused are
-    /// one beyond 1,024 (`LimitReached`), and out of memory; nothing has changed then.
+    /// Stores a manifest of a repository under its digest. A manifest that is already there stays.
+    ///
+    /// # Errors
+    ///
+    /// - `LimitReached`: the repository has 1,024 manifests, and this is none of them.
+    /// - `Memory`: out of memory. Nothing changes.
     pub fn put(
         &mut self,
         alloc: Global,
         repo: &RepoName,
         manifest: Arc<Manifest, Global>,
     ) -> Result<(), Refusal>
-        ensures { Does (λ u. u) result self.old self.new (put_on self.old repo.now manifest.value) }
+        ensures { Fulfils result self.old self.new (put_on self.old repo.now manifest.value) }
     {
         match self.rows.get_mut(repo) {
             Some(group) => group.put(manifest),
@@ -85,7 +90,7 @@ impl ManifestTable {
         }
     }
 
-    /// Drops the manifest of a digest, if the repository has it. It takes no memory.
+    /// Removes the manifest of a digest, if the repository has it. Allocates nothing.
     pub fn remove(&mut self, repo: &RepoName, digest: &Digest)
         ensures { self.new ≡ fmap.remove self.old (repo.now, digest.now) }
     {
@@ -95,9 +100,9 @@ impl ManifestTable {
         }
     }
 
-    /// The manifest of a digest that a repository has.
+    /// Returns a repository's manifest of a digest.
     pub fn get(&self, repo: &RepoName, digest: &Digest) -> Option<&Arc<Manifest, Global>>
-        ensures { option_map (λ m. m.now.value) result ≡ fmap.get self.now (repo.now, digest.now) }
+        ensures { found_bytes result ≡ fmap.get self.now (repo.now, digest.now) }
     {
         match self.rows.get(repo) {
             Some(group) => group.get(digest),
@@ -105,7 +110,7 @@ impl ManifestTable {
         }
     }
 
-    /// The least digest of a manifest of a repository that refers to a digest.
+    /// Returns the least digest of a repository's manifest that refers to a digest.
     pub fn referrer(&self, repo: &RepoName, digest: &Digest) -> Option<Digest>
         ensures { result ≡ referrer_on self.now repo.now digest.now }
     {
@@ -115,7 +120,7 @@ impl ManifestTable {
         }
     }
 
-    /// The manifests of a repository, in the order of their digests.
+    /// Returns the manifests of a repository, in the order of their digests.
     pub fn manifests(&self, repo: &RepoName) -> Manifests<'_>
         ensures { result ≡ manifests_on self.now repo.now }
     {

@@ -1,4 +1,4 @@
-//! The manifests of a repository, one after the other.
+//! An iterator over the manifests of a repository.
 
 ghost use Rattle.std.specs.Iterator.{YieldsFirstBy, item_count};
 
@@ -9,8 +9,9 @@ use std::collections::btree_map::Iter;
 use std::marker::Model;
 use std::sync::Arc;
 
-/// The manifests that a repository has, in the order of their digests. Contracts see those that are
-/// left, each as its digest and its bytes.
+/// An iterator over the manifests of a repository, in the order of their digests.
+///
+/// Contracts see the items that remain, each as its digest and its bytes.
 #[derive(Drop)]
 pub struct Manifests<'a> {
     pub(crate) rest: Option<Iter<'a, Digest, Arc<Manifest, Global>>>,
@@ -20,7 +21,7 @@ impl<'a> Model for Manifests<'a> {
     ghost use Rattle.std.specs.Prelude.{List, []};
     ghost use Rattle.std.specs.Option.{option_map_or};
     ghost use Rattle.std.specs.Coded.{coded_list, coded×};
-    ghost use Rattle.finite_maps.specs.Texts.{Text, coded_text};
+    ghost use Rattle.spec_lib.specs.Texts.{Text, coded_text};
     ghost use Rattle.link_table.specs.Manifests.{shared_bytes};
 
     ghost Value = { List (Text × Text) };

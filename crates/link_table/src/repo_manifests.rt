@@ -1,13 +1,12 @@
 //! The manifests of one repository.
 
-ghost use Rattle.std.specs.Prelude.{◌≡◌, ◌&&◌, ◌||◌, not, false, OnOk, OnErr, IfErr, Option, Some};
-ghost use Rattle.std.specs.Option.{option_map};
+ghost use Rattle.std.specs.Prelude.{◌≡◌, false, OnOk, OnErr, IfErr, Option, Some};
 ghost use Rattle.std.specs.BTreeSet.{contains};
 ghost use Rattle.std.specs.FinMap as fmap;
-ghost use Rattle.finite_maps.specs.Texts.{Text};
+ghost use Rattle.spec_lib.specs.Texts.{Text};
 ghost use Rattle.blob_digest.specs.Outcomes.{Does};
 ghost use Rattle.blob_digest.specs.declared.refusal.Refusal.TheVariants.{Memory};
-ghost use Rattle.link_table.specs.Manifests.{put_in, referrer_in, refer_cmp, is_pair, shared_bytes};
+ghost use Rattle.link_table.specs.Manifests.{found_bytes, put_in, referrer_in, refer_cmp, shared_bytes, AddsPairs, HasSamePairs, RemovesPairs};
 
 use blob_digest::{Digest, Refusal};
 use oci_manifest::Manifest;
@@ -17,28 +16,32 @@ use std::collections::{BTreeMap, BTreeSet};
 use std::marker::Model;
 use std::sync::Arc;
 
-/// The most manifests that a repository may have.
+/// The maximum number of manifests of a repository.
 const MAX_MANIFESTS: usize = 1024;
 
-/// Which manifests refer to which digests: a digest that is referred to, and then the manifest's. None
-/// stands before each manifest, so a search for the first starts there.
+/// Pairs of a digest and of a manifest that refers to it.
+///
+/// `None` is below every manifest, so a search for the first manifest of a digest starts there.
 type Referrers = BTreeSet<(Digest, Option<Digest>)>;
 
-/// A manifest no longer refers to these digests. It takes no memory.
+/// Removes the references of a manifest to these digests. Allocates nothing.
 fn forget(referrers: &mut Referrers, refs: &[Digest], manifest: &Digest)
-    ensures { (d : Text) (o : Option Text) → contains refer_cmp referrers.new (d, o) ≡ (contains refer_cmp referrers.old (d, o) && not (is_pair refs.now manifest.now d o)) }
+    ensures { RemovesPairs referrers.old referrers.new refs.now manifest.now }
 {
     for digest in refs {
         referrers.remove(&(*digest, Some(*manifest)));
     }
 }
 
-/// A manifest that refers to nothing so far refers to these digests. Refused with `Memory` alone,
-/// and then nothing has changed.
+/// Adds the references to these digests of a manifest that has none so far.
+///
+/// # Errors
+///
+/// - `Memory`: out of memory. Nothing changes.
 fn refer(referrers: &mut Referrers, refs: &[Digest], manifest: &Digest) -> Result<(), Refusal>
     requires { (d : Text) → contains refer_cmp referrers.old (d, Some manifest.now) ≡ false }
-    ensures ok { OnOk result ((d : Text) (o : Option Text) → contains refer_cmp referrers.new (d, o) ≡ (contains refer_cmp referrers.old (d, o) || is_pair refs.now manifest.now d o)) }
-    ensures err { OnErr result ((d : Text) (o : Option Text) → contains refer_cmp referrers.new (d, o) ≡ contains refer_cmp referrers.old (d, o)) }
+    ensures ok { OnOk result (AddsPairs referrers.old referrers.new refs.now manifest.now) }
+    ensures err { OnErr result (HasSamePairs referrers.old referrers.new) }
     ensures refused { IfErr result (λ e. e ≡ Memory) }
 {
     for i in 0..refs.len() {
@@ -50,9 +53,13 @@ fn refer(referrers: &mut Referrers, refs: &[Digest], manifest: &Digest) -> Resul
     Ok(())
 }
 
-/// The manifests of a repository, by digest. Contracts see the bytes of each. To find one takes the
-/// logarithm of their number, and to find one that refers to a digest that of the number of all their
-/// references; to add or to drop one takes the first once and the second for each of its references.
+/// The manifests of a repository, by digest. Contracts see the bytes of each.
+///
+/// # Cost
+///
+/// Finding a manifest is logarithmic in the number of manifests. Finding the first that refers to a digest is
+/// logarithmic in the number of all references. Adding or removing one takes the former once, and the latter for each
+/// of its references.
 #[derive(Drop)]
 pub struct RepoManifests {
     rows: BTreeMap<Digest, Arc<Manifest, Global>>,
@@ -62,20 +69,20 @@ pub struct RepoManifests {
 impl Model for RepoManifests {
     ghost use Rattle.std.specs.Prelude.{ℕ};
     ghost use Rattle.std.specs.FinMap as fmap;
-    ghost use Rattle.finite_maps.specs.Texts.{Text, text_cmp, coded_text};
-    ghost use Rattle.link_table.specs.Manifests.{Kept, kept, IsIndexed};
+    ghost use Rattle.spec_lib.specs.Texts.{Text, text_cmp, coded_text};
+    ghost use Rattle.link_table.specs.Manifests.{RepoManifestBytes, stored_manifests, IsReferrerIndex};
 
-    ghost Value = { Kept };
+    ghost Value = { RepoManifestBytes };
 
     ghost coded = { fmap.code coded_text coded_text };
 
-    ghost view = { λ a. kept a.rows };
+    ghost view = { λ a. stored_manifests a.rows };
 
-    ghost invariant = { λ a. IsIndexed (kept a.rows) a.referrers };
+    ghost invariant = { λ a. IsReferrerIndex (stored_manifests a.rows) a.referrers };
 }
 
 impl RepoManifests {
-    /// No manifests. It takes no memory.
+    /// Returns an empty table. Allocates nothing.
     pub fn new(alloc: Global) -> RepoManifests
         ensures { result ≡ fmap.empty }
     {
@@ -85,8 +92,12 @@ impl RepoManifests {
         }
     }
 
-    /// Keeps a manifest under its digest. One that is there already stays. Refused are one beyond
-    /// 1,024 (`LimitReached`), and out of memory; nothing has changed then.
+    /// Stores a manifest under its digest. A manifest that is already there stays.
+    ///
+    /// # Errors
+    ///
+    /// - `LimitReached`: there are 1,024 manifests, and this is none of them.
+    /// - `Memory`: out of memory. Nothing changes.
     pub fn put(&mut self, manifest: Arc<Manifest, Global>) -> Result<(), Refusal>
         ensures { Does (λ u. u) result self.old self.new (put_in self.old manifest.value) }
     {
@@ -107,7 +118,7 @@ impl RepoManifests {
         }
     }
 
-    /// Drops the manifest of a digest, if there is one. It takes no memory.
+    /// Removes the manifest of a digest, if there is one. Allocates nothing.
     pub fn remove(&mut self, digest: &Digest)
         ensures { self.new ≡ fmap.remove self.old digest.now }
     {
@@ -116,14 +127,14 @@ impl RepoManifests {
         }
     }
 
-    /// The manifest of a digest.
+    /// Returns the manifest of a digest.
     pub fn get(&self, digest: &Digest) -> Option<&Arc<Manifest, Global>>
-        ensures { option_map (λ m. m.now.value) result ≡ fmap.get self.now digest.now }
+        ensures { found_bytes result ≡ fmap.get self.now digest.now }
     {
         self.rows.get(digest)
     }
 
-    /// The least digest of a manifest that refers to a digest.
+    /// Returns the least digest of a manifest that refers to a digest.
     pub fn referrer(&self, digest: &Digest) -> Option<Digest>
         ensures { result ≡ referrer_in self.now digest.now }
     {
@@ -135,7 +146,7 @@ impl RepoManifests {
         }
     }
 
-    /// The manifests, in the order of their digests.
+    /// Returns the manifests, in the order of their digests.
     pub fn iter(&self) -> Iter<'_, Digest, Arc<Manifest, Global>>
         ensures { shared_bytes result ≡ fmap.entries self.now }
     {

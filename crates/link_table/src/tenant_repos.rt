@@ -1,13 +1,13 @@
 //! The repositories of one tenant.
 
-ghost use Rattle.std.specs.Prelude.{◌≡◌, ◌≤◌, not, IfOk, OnOk, OnErr, IfErr, Some, true, slice_get, []};
+ghost use Rattle.std.specs.Prelude.{◌≡◌, ◌≤◌, IfOk, OnOk, OnErr, IfErr, Some, true, slice_get, []};
 ghost use Rattle.std.specs.Option.{option_copied, option_map_or};
 ghost use Rattle.std.specs.FinMap as fmap;
-ghost use Rattle.finite_maps.specs.Sets as set;
+ghost use Rattle.spec_lib.specs.Sets as set;
 ghost use Rattle.blob_digest.specs.Outcomes.{Does};
 ghost use Rattle.blob_digest.specs.declared.refusal.Refusal.TheVariants.{Memory};
 ghost use Rattle.link_table.specs.Linked.{HasNoLinks, first_unlinked};
-ghost use Rattle.link_table.specs.TenantRepos.{count, nothing, appear_on, blobs_on};
+ghost use Rattle.link_table.specs.TenantRepos.{repo_count, is_new_link, empty_tenant, appear_on, blobs_on, link_on, unlink_on};
 
 use crate::repo::{Repo, first_missing, insert_blob, place_of, remove_blob};
 use blob_digest::{Digest, Refusal, RepoName};
@@ -16,43 +16,50 @@ use std::collections::BTreeMap;
 use std::collections::btree_map::Iter;
 use std::marker::Model;
 
-/// The most repositories that a tenant may have.
+/// The maximum number of repositories of a tenant.
 const MAX_REPOS: usize = 1024;
 
-/// The repositories of one tenant, in the order of their names. Contracts see which there are, and
-/// their links. To find one takes the logarithm of their number, and to add or to remove one moves
-/// those behind it; a repository finds a blob in the logarithm of the number that it holds.
+/// The repositories of one tenant, in the order of their names. Contracts see the repositories and their links.
+///
+/// # Cost
+///
+/// Finding a repository is logarithmic in their number. Adding or removing one also moves those after it. Finding a
+/// blob is logarithmic in the number of blobs of its repository.
 #[derive(Drop)]
 pub struct TenantRepos {
     repos: Vec<Repo>,
 }
 
 impl Model for TenantRepos {
-    ghost use Rattle.link_table.specs.TenantRepos.{Owned, coded_owned};
+    ghost use Rattle.link_table.specs.TenantRepos.{OwnRepos, coded_own_repos};
 
-    ghost Value = { Owned };
+    ghost Value = { OwnRepos };
 
-    ghost coded = { coded_owned };
+    ghost coded = { coded_own_repos };
 
-    ghost use Rattle.link_table.specs.Rows.{owned_shown, AreRepos};
+    ghost use Rattle.link_table.specs.Rows.{own_repos_shown, AreRepos};
 
-    ghost view = { λ a. owned_shown a.repos.items };
+    ghost view = { λ a. own_repos_shown a.repos.items };
 
     ghost invariant = { λ a. AreRepos a.repos.items };
 }
 
 impl TenantRepos {
-    /// A tenant without repositories. It takes no memory.
+    /// Returns a tenant without repositories. Allocates nothing.
     pub fn new(alloc: Global) -> TenantRepos
-        ensures { result ≡ nothing }
+        ensures { result ≡ empty_tenant }
     {
         TenantRepos {
             repos: Vec::new(alloc),
         }
     }
 
-    /// Makes a repository known, and answers whether it is new. Refused are one beyond 1,024
-    /// (`LimitReached`), and out of memory.
+    /// Creates a repository if it does not exist, and returns whether it is new.
+    ///
+    /// # Errors
+    ///
+    /// - `LimitReached`: the tenant has 1,024 repositories, and this is none of them.
+    /// - `Memory`: out of memory.
     pub fn appear(&mut self, alloc: Global, repo: &RepoName) -> Result<bool, Refusal>
         ensures { Does (λ b. b) result self.old self.new (appear_on self.old repo.now) }
     {
@@ -70,7 +77,7 @@ impl TenantRepos {
         Ok(true)
     }
 
-    /// Takes back that a repository, which has no links, is known.
+    /// Removes a repository, which must have no links.
     pub fn vanish(&mut self, repo: &RepoName)
         requires there { set.contains self.old.repos repo.now ≡ true }
         requires unlinked { HasNoLinks self.old.links repo.now }
@@ -84,15 +91,18 @@ impl TenantRepos {
         }
     }
 
-    /// Links a blob of this digest and size in a repository that is there, and answers whether the link
-    /// is new. Refused with `Memory` alone, and then nothing has changed.
+    /// Adds a link between an existing repository and a blob, and returns whether it is new.
+    ///
+    /// # Errors
+    ///
+    /// - `Memory`: out of memory. Nothing changes.
     pub fn link(&mut self, repo: &RepoName, digest: &Digest, size: u64) -> Result<bool, Refusal>
         requires { set.contains self.old.repos repo.now ≡ true }
-        ensures new { IfOk result (λ b. b ≡ not (fmap.contains_key self.old.links (repo.now, digest.now))) }
-        ensures ok { OnOk result (self.new ≡ record self.old { links = fmap.insert self.old.links (repo.now, digest.now) size }) }
+        ensures new { IfOk result (λ b. b ≡ is_new_link self.old repo.now digest.now) }
+        ensures ok { OnOk result (self.new ≡ link_on self.old repo.now digest.now size) }
         ensures err { OnErr result (self.new ≡ self.old) }
         ensures refused { IfErr result (λ e. e ≡ Memory) }
-        ensures few { count self.old ≤ 1024 }
+        ensures few { repo_count self.old ≤ 1024 }
     {
         match place_of(self.repos.as_slice(), repo) {
             Ok(place) => insert_blob(&mut self.repos[place], digest, size),
@@ -100,10 +110,10 @@ impl TenantRepos {
         }
     }
 
-    /// Takes a link out of a repository, and answers the size of its blob. It takes no memory.
+    /// Removes a link, and returns the size of its blob if there was one. Allocates nothing.
     pub fn unlink(&mut self, repo: &RepoName, digest: &Digest) -> Option<u64>
         ensures value { result ≡ fmap.get self.old.links (repo.now, digest.now) }
-        ensures gone { self.new ≡ record self.old { links = fmap.remove self.old.links (repo.now, digest.now) } }
+        ensures gone { self.new ≡ unlink_on self.old repo.now digest.now }
     {
         match place_of(self.repos.as_slice(), repo) {
             Ok(place) => remove_blob(&mut self.repos[place], digest),
@@ -111,7 +121,7 @@ impl TenantRepos {
         }
     }
 
-    /// Whether a repository holds the blob of a digest.
+    /// Returns whether a repository contains a blob.
     pub fn holds(&self, repo: &RepoName, digest: &Digest) -> bool
         ensures { result ≡ fmap.contains_key self.now.links (repo.now, digest.now) }
     {
@@ -121,7 +131,7 @@ impl TenantRepos {
         }
     }
 
-    /// The first of some digests whose blob a repository doesn't hold.
+    /// Returns the first of these digests whose blob the repository does not contain.
     pub fn first_unlinked(&self, repo: &RepoName, digests: &[Digest]) -> Option<Digest>
         ensures { result ≡ first_unlinked self.now.links repo.now digests.now }
     {
@@ -131,7 +141,7 @@ impl TenantRepos {
         }
     }
 
-    /// The i-th repository, in the order of their names, from 0.
+    /// Returns the repository at index `i`, in the order of their names.
     pub fn repo_at(&self, i: usize) -> Option<&RepoName>
         ensures { option_copied result ≡ slice_get (set.items self.now.repos) i }
     {
@@ -142,7 +152,7 @@ impl TenantRepos {
         }
     }
 
-    /// The blobs that a repository holds, in the order of their digests, with their sizes in bytes.
+    /// Returns the blobs of a repository, in the order of their digests, with their sizes in bytes.
     pub fn blobs(&self, repo: &RepoName) -> Option<Iter<'_, Digest, u64>>
         ensures { option_map_or (λ rest. rest) result [] ≡ blobs_on self.now repo.now }
     {

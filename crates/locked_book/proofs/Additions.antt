@@ -1,12 +1,12 @@
--- A history goes on by a step.
+-- A history continues by a step.
 use Rattle.std.proofs.Common.{◌≡◌, ℕ, List, [], ◌∷◌, ◌++◌, refl, sym, ap, ◌∙◌, subst}
-use Rattle.shared_log.specs.declared.view.Entry.{Entry}
-use Rattle.shared_log.specs.Entries.{entry, events_by}
-use Rattle.shared_log.specs.Calls as shared
-use Rattle.shared_log.proofs.Lists.{events_own}
+use Rattle.ghost_log.specs.declared.view.Entry.{Entry}
+use Rattle.ghost_log.specs.Entries.{entry, events_by}
+use Rattle.ghost_log.specs.Calls as shared
+use Rattle.ghost_log.proofs.Lists.{events_own}
 use Rattle.store_model.specs.Catalog.{Catalog}
-use Rattle.store_model.specs.Histories.{Step, State, IsStep, AreSteps, first_state, IsLegal}
-use Rattle.locked_book.specs.History.{Adds, Leaves, Trace, steps_of}
+use Rattle.store_model.specs.Histories.{Step, State, IsStep, AreSteps, initial_state, IsLegal}
+use Rattle.locked_book.specs.History.{Adds, LogLeadsTo, Trace, steps_of}
 
 pub goes_on : (steps : List Step) (a b c : State) (step : Step) → AreSteps a steps b → IsStep b step c → AreSteps a (steps ++ step ∷ []) c
 goes_on [] a b c step run last = (c, subst (λ (x : State). IsStep x step c) run last, refl)
@@ -16,15 +16,15 @@ pub steps_of-push : (entries : List (Entry Step)) (e : Entry Step) → steps_of 
 steps_of-push [] e = refl
 steps_of-push (x ∷ xs) e = ap (λ ts. x.event ∷ ts) (steps_of-push xs e)
 
-pub leaves_on : (C : Catalog) (entries : List (Entry Step)) (number : ℕ) (step : Step) (s s' : State) → Leaves C entries s → IsStep s step s' → Leaves C (entries ++ entry number step ∷ []) s'
-leaves_on C entries number step s s' run last = subst (λ (ts : List Step). AreSteps (first_state C) ts s') (sym (steps_of-push entries (entry number step))) (goes_on (steps_of entries) (first_state C) s s' step run last)
+pub leaves_on : (C : Catalog) (entries : List (Entry Step)) (number : ℕ) (step : Step) (s s' : State) → LogLeadsTo C entries s → IsStep s step s' → LogLeadsTo C (entries ++ entry number step ∷ []) s'
+leaves_on C entries number step s s' run last = subst (λ (ts : List Step). AreSteps (initial_state C) ts s') (sym (steps_of-push entries (entry number step))) (goes_on (steps_of entries) (initial_state C) s s' step run last)
 
 abbrev pub trace_of : shared.Writer Step → Trace
 trace_of w = record { number = w.number; seen = w.seen; own = w.own }
 
-module _ (C : Catalog) (l : shared.Log Step) (w : shared.Writer Step) (step : Step) (s s' : State) (agrees : shared.Agrees l w) (run : Leaves C l.entries s) (last : IsStep s step s') where
+module _ (C : Catalog) (l : shared.Log Step) (w : shared.Writer Step) (step : Step) (s s' : State) (agrees : shared.Agrees l w) (run : LogLeadsTo C l.entries s) (last : IsStep s step s') where
   abbrev pub after : shared.Writer Step
-  after = shared.has_appended step l.entries w
+  after = shared.writer_after_append step l.entries w
 
   pub own_steps : events_by after.number after.seen ≡ after.own
   own_steps = events_own w.number l.entries (step ∷ []) ∙ ap (λ ts. ts ++ step ∷ []) agrees.own

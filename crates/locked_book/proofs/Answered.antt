@@ -1,4 +1,4 @@
--- What an accepted command tells of its answer.
+-- Facts about the result of an accepted command.
 use Rattle.std.proofs.Common.{◌≡◌, ℕ, Bool, true, List, Option, Some, Result, Ok, Err, sym, ap, ◌∙◌}
 use Rattle.std.specs.Prelude.{OnErr, OnOk}
 use Rattle.std.specs.FinMap.{get}
@@ -6,42 +6,42 @@ use Rattle.std.specs.Io.KnownBytes.{Appends}
 use Rattle.blob_digest.specs.Digests.{is_digest_of, sha256_text}
 use Rattle.blob_digest.specs.declared.refusal.Refusal.TheVariants.{BlobUnknown, ManifestUnknown, TooManyReaders}
 use Rattle.store_book.specs.BookState.{BookState}
-use Rattle.finite_maps.specs.Texts.{Text}
+use Rattle.spec_lib.specs.Texts.{Text}
 use Rattle.store_model.specs.Catalog.{Resident, Catalog}
-use Rattle.store_model.specs.Invariant.{Lawful}
+use Rattle.store_model.specs.Invariant.{WellFormed}
 use Rattle.store_model.specs.BookText.{book_text}
-use Rattle.store_model.specs.Commands.{tenant, get_manifest, linked, linked_blob, lease, with_lent}
-use Rattle.finite_maps.specs.Outcomes.{refuse}
+use Rattle.store_model.specs.Commands.{tenant, get_manifest, check_link, linked_blob, lease, with_leased}
+use Rattle.spec_lib.specs.Outcomes.{refuse}
 use Rattle.store_model.proofs.Commands.Accepted.{answer_by, left_by}
-use Rattle.finite_maps.proofs.Outcomes.{bound_ok, some_of_ok}
+use Rattle.spec_lib.proofs.Outcomes.{bound_ok, some_of_ok}
 use Rattle.locked_book.specs.Found.{InSomeBook, IsBookOf}
 use Rattle.locked_book.specs.Names.{StoreNames}
 
 -- ---- blobs and manifests
 
--- a blob that was lent
+-- a leased blob
 pub record Lent (C C' : Catalog) (digest bytes : Text) : Type 0 where
   pub blob : Resident
   pub found : get C.residents digest ≡ Some blob
   pub same : blob.bytes ≡ bytes
-  pub left : with_lent C digest blob ≡ C'
+  pub left : with_leased C digest blob ≡ C'
 
 pub lent : (C C' : Catalog) (crowded : Bool) (repo digest bytes : Text) → lease crowded C repo digest ≡ Ok (bytes, C') → Lent C C' digest bytes
 lent C C' crowded repo digest bytes stepped =
     let a = bound_ok (tenant C repo) _ (bytes, C') stepped in
     let b = bound_ok (linked_blob C repo digest) _ (bytes, C') a.2 in
     let c = bound_ok (refuse crowded TooManyReaders) _ (bytes, C') b.2 in
-    let held = bound_ok (linked C repo digest) _ b.0 b.1 in
+    let held = bound_ok (check_link C repo digest) _ b.0 b.1 in
     record { blob = b.0; found = some_of_ok _ BlobUnknown b.0 held.2; same = answer_by c.2; left = left_by c.2 }
 
--- a blob that is lent has its digest
-pub lent_content : (C C' : Catalog) (crowded : Bool) (repo digest bytes : Text) → Lawful C → lease crowded C repo digest ≡ Ok (bytes, C') → is_digest_of digest bytes ≡ true
+-- a leased blob has its digest
+pub lent_content : (C C' : Catalog) (crowded : Bool) (repo digest bytes : Text) → WellFormed C → lease crowded C repo digest ≡ Ok (bytes, C') → is_digest_of digest bytes ≡ true
 lent_content C C' crowded repo digest bytes lawful stepped =
     let l = lent C C' crowded repo digest bytes stepped in
     ap (is_digest_of digest) (sym l.same) ∙ lawful.content digest l.blob l.found
 
 -- a manifest is under its digest
-pub manifest_digest : (C : Catalog) (repo digest bytes : Text) → Lawful C → get_manifest C repo digest ≡ Ok bytes → sha256_text bytes ≡ digest
+pub manifest_digest : (C : Catalog) (repo digest bytes : Text) → WellFormed C → get_manifest C repo digest ≡ Ok bytes → sha256_text bytes ≡ digest
 manifest_digest C repo digest bytes lawful answered =
     let a = bound_ok (tenant C repo) _ bytes answered in
     let law = lawful.manifests (repo, digest) bytes (some_of_ok _ ManifestUnknown bytes a.2) in
@@ -54,7 +54,7 @@ pub some_book : {A E : Type 0} (r : Result A E) (names : StoreNames) (book : Boo
 some_book (Ok a) names book before after found text = (book, found, text)
 some_book (Err e) names book before after found text = tt
 
--- ---- refusals
+-- ---- errors
 
 pub on_err : {A E P : Type 0} (r : Result A E) → P → OnErr r P
 on_err (Ok a) p = tt

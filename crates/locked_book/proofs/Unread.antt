@@ -1,18 +1,18 @@
--- A manifest that is refused before it is looked up.
+-- A put of a manifest that fails before the manifest is looked up.
 use Rattle.std.proofs.Common.{◌≡◌, ℕ, Bool, true, false, Result, Ok, Err, refl, sym, ap, ◌∙◌, inl, inr}
 use Rattle.std.specs.Prelude.{if◌then◌else◌, length, nat_lt}
 use Rattle.std.specs.Option.{ok_or}
 use Rattle.std.proofs.lemmas.Bool.{lt-ltb, le-ltb}
 use Rattle.blob_digest.specs.declared.refusal.Refusal.{Refusal}
 use Rattle.blob_digest.specs.declared.refusal.Refusal.TheVariants.{LimitReached, Memory, SizeInvalid, ManifestInvalid}
-use Rattle.finite_maps.specs.Outcomes.{◌>>=◌, refuse}
+use Rattle.spec_lib.specs.Outcomes.{◌>>=◌, refuse}
 use Rattle.oci_manifest.specs.Manifests.{refs_of, max_manifest}
-use Rattle.finite_maps.specs.Texts.{Text}
+use Rattle.spec_lib.specs.Texts.{Text}
 use Rattle.store_model.specs.Catalog.{Catalog}
-use Rattle.store_model.specs.Runs.{PutManifest, Bytes, answered}
+use Rattle.store_model.specs.Runs.{PutManifest, Bytes, map_outcome}
 use Rattle.store_model.specs.Commands as commands
-use Rattle.locked_book.specs.Counting.{Content, has_room}
-use Rattle.store_model.specs.Histories.{Performed, IsStep}
+use Rattle.locked_book.specs.Counting.{StoreContent, has_room}
+use Rattle.store_model.specs.Histories.{CommandCall, IsStep}
 use Rattle.locked_book.specs.History.{state_of, IsUnread}
 use Rattle.locked_book.proofs.Counted.{plus_nothing}
 
@@ -27,15 +27,15 @@ asked o = do
   _ ← o
   Ok tt
 
-module _ (k : Content) (repo bytes : Text) where
+module _ (k : StoreContent) (repo bytes : Text) where
   abbrev C : Catalog
   C = k.book.catalog
 
   abbrev Refused : Refusal → Type 0
-  Refused e = IsStep (state_of k) (Performed (PutManifest repo bytes) (Err e)) (state_of k)
+  Refused e = IsStep (state_of k) (CommandCall (PutManifest repo bytes) (Err e)) (state_of k)
 
   put_refused : (e : Refusal) → commands.put_manifest C repo bytes ≡ Err e → Refused e
-  put_refused e h = record { leaves = inl (inl (false, ap (answered Bytes) h), refl); counts = plus_nothing k.counts.totals }
+  put_refused e h = record { leaves = inl (inl (false, ap (map_outcome Bytes) h), refl); counts = plus_nothing k.counts.totals }
 
   no_memory : (e : Refusal) → e ≡ Memory → Refused e
   no_memory e m = record { leaves = inl (inr (m, refl), refl); counts = plus_nothing k.counts.totals }
@@ -57,7 +57,7 @@ module _ (k : Content) (repo bytes : Text) where
       by_case (Ok t) h = (t, refl)
       by_case (Err f) h = absurd cc
 
-  -- the repository was refused
+  -- the common check failed
   pub unkept : (e : Refusal) → Err e ≡ (if has_room k 0 then commands.check_tenant C repo else Err LimitReached) → Refused e
   unkept e h = by_room (has_room k 0) refl h
     where
@@ -65,7 +65,7 @@ module _ (k : Content) (repo bytes : Text) where
       by_room true is h = put_refused e (bind_err (commands.tenant C repo) _ e (tenant_err e (sym h)))
       by_room false is h = denied e is cc
 
-  -- the bytes were refused
+  -- the bytes could not be parsed
   pub unread : (e : Refusal) (u : Unit {0}) → ◌≡◌ {A = Result (Unit {0}) Refusal} (Ok u) (if has_room k 0 then commands.check_tenant C repo else Err LimitReached) → IsUnread bytes e → Refused e
   unread e u h why = by_room (has_room k 0) h
     where

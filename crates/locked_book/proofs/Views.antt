@@ -1,18 +1,18 @@
--- What desks have seen of a history.
+-- The prefixes of a history that desks have seen.
 use Rattle.std.proofs.Common.{◌≡◌, ◌⊎◌, ap, List, [], ◌∷◌, refl, sym, subst, inl, inr, ◌∙◌}
-use Rattle.shared_log.specs.declared.view.Entry.{Entry}
-use Rattle.shared_log.specs.Entries.{IsPrefix}
-use Rattle.shared_log.specs.Calls as shared
+use Rattle.ghost_log.specs.declared.view.Entry.{Entry}
+use Rattle.ghost_log.specs.Entries.{IsPrefix}
+use Rattle.ghost_log.specs.Calls as shared
 use Rattle.store_model.specs.Catalog.{Catalog}
 use Rattle.store_model.specs.Histories.{IsLegal, Step}
 use Rattle.locked_book.specs.History.{AreInOneHistory, OneBegins, SeesAll, Trace, steps_of}
 use Rattle.locked_book.proofs.Additions.{trace_of}
 
 -- a writer of a log sees all of it
-pub sees_all : (l : shared.Log Step) (w : shared.Writer Step) (entries : List (Entry Step)) (was : Trace) → shared.Agrees l w → l.entries ≡ entries → trace_of w ≡ was → SeesAll entries was (trace_of (shared.has_seen l.entries w))
+pub sees_all : (l : shared.Log Step) (w : shared.Writer Step) (entries : List (Entry Step)) (was : Trace) → shared.Agrees l w → l.entries ≡ entries → trace_of w ≡ was → SeesAll entries was (trace_of (shared.writer_after_catch_up l.entries w))
 sees_all l w entries was agrees all same =
-    subst (λ (es : List (Entry Step)). SeesAll es was (trace_of (shared.has_seen l.entries w))) all
-    (subst (λ (t : Trace). SeesAll l.entries t (trace_of (shared.has_seen l.entries w))) same (record {
+    subst (λ (es : List (Entry Step)). SeesAll es was (trace_of (shared.writer_after_catch_up l.entries w))) all
+    (subst (λ (t : Trace). SeesAll l.entries t (trace_of (shared.writer_after_catch_up l.entries w))) same (record {
       began = agrees.seen;
       seen = refl;
       agrees = agrees.own;
@@ -29,7 +29,7 @@ module _ {A : Type 0} where
   head_or a [] = a
   head_or a (x ∷ xs) = x
 
-  -- of two beginnings of a list, one begins the other
+  -- of two prefixes of a list, one is a prefix of the other
   pub beginnings : (xs ys zs : List A) → IsPrefix xs zs → IsPrefix ys zs → IsPrefix xs ys ⊎ IsPrefix ys xs
   beginnings [] ys zs p q = inl (ys, refl)
   beginnings (x ∷ xs) [] zs p q = inr (x ∷ xs, refl)
@@ -41,7 +41,7 @@ module _ {A : Type 0} where
         | inr h ↦ inr (h.0, λ i. same i ∷ h.1 i)
       ]
 
--- two desks, whose traces these writers are, have seen all of a history
+-- two desks with the traces of these writers have seen the whole history
 pub in_one_history : (C : Catalog) (whole : List (Entry Step)) (one was_one one_new other was_other other_new : Trace) → IsLegal C (steps_of whole) → one ≡ was_one → other ≡ was_other → SeesAll whole one one_new → SeesAll whole other other_new
     → AreInOneHistory C was_one one_new was_other other_new
 in_one_history C whole one was_one one_new other was_other other_new legal is_one is_other a b = record {

@@ -1,6 +1,6 @@
--- What a call through the lock tells of the content that it found. It has no name outside the lock, so it is some content of the store.
+-- The content that a call through the lock finds. It has no name outside the lock, so contracts speak of some content of the store.
 use Rattle.std.specs.Prelude.{◌≡◌, List, length}
-use Rattle.locked_book.specs.Counting.{Content, IsBalanced}
+use Rattle.locked_book.specs.Counting.{StoreContent, IsBalanced}
 use Rattle.locked_book.specs.History.{AddsByNobody, state_of}
 use Rattle.locked_book.specs.Names.{StoreNames, setting_of}
 use Rattle.locked_book.specs.declared.totals.Totals.{Totals}
@@ -8,7 +8,7 @@ use Rattle.store_book.specs.BookState.{BookState}
 use Rattle.store_model.specs.Amounts.{Amounts}
 use Rattle.store_model.specs.Catalog.{Catalog}
 use Rattle.store_model.specs.Hands.{received_in_sessions}
-use Rattle.store_model.specs.Histories.{Cleaned, Step, LeadsTo}
+use Rattle.store_model.specs.Histories.{SweepCall, Step, LeadsTo}
 use Rattle.store_model.specs.Invariant.{Sound}
 use Rattle.store_model.specs.Sweep.{IsSweep}
 use Rattle.store_model.specs.declared.swept.Swept.{Swept}
@@ -17,29 +17,28 @@ use Rattle.store_model.specs.declared.swept.Swept.{Swept}
 abbrev pub IsReached : Catalog → Catalog → Type 0
 IsReached C C' = (steps : List Step) × (totals : Amounts) × LeadsTo C steps (record { catalog = C'; totals = totals })
 
--- A book that a legal history of a store leaves, from the catalog with which the store opened. It is sound, with the store's slots and setting.
+-- a legal history of the store leads to this book, which is sound and has the store's slots and setting
 pub record IsBookOf (names : StoreNames) (book : BookState) : Type 0 where
   pub reached : IsReached names.opening book.catalog
   pub sound : Sound book.catalog
   pub seen : length book.slots ≡ names.slots
   pub made : setting_of book.catalog ≡ names.setting
 
--- such a book of which this is so
+-- this is true of some book of the store
 abbrev pub InSomeBook : StoreNames → (BookState → Type 0) → Type 0
 InSomeBook names P = (book : BookState) × IsBookOf names book × P book
 
 -- ---- the totals
 
--- What lies under a store's lock at some moment: its book is one of the store's, one legal history leads to the book and to the totals, and what
--- was received is in sessions, was closed or was abandoned.
-pub record IsContentOf (names : StoreNames) (k : Content) : Type 0 where
+-- One legal history of the store leads to the book and the totals of this content, the book is one of the store's, and the totals are balanced.
+pub record IsContentOf (names : StoreNames) (k : StoreContent) : Type 0 where
   pub steps : List Step
   pub leads : LeadsTo names.opening steps (state_of k)
   pub book : IsBookOf names k.book
   pub balanced : IsBalanced k
 
--- the totals as they are read of a content
-pub record AreTotalsOf (k : Content) (totals : Totals) : Type 0 where
+-- the returned totals are those of this content
+pub record AreTotalsOf (k : StoreContent) (totals : Totals) : Type 0 where
   pub commands : totals.commands ≡ k.counts.totals.commands
   pub received : totals.received ≡ k.counts.totals.received
   pub in_sessions : totals.in_sessions ≡ received_in_sessions k.book.catalog
@@ -47,21 +46,21 @@ pub record AreTotalsOf (k : Content) (totals : Totals) : Type 0 where
   pub abandoned : totals.abandoned ≡ k.counts.totals.abandoned
   pub desks : totals.desks ≡ k.counts.desks
 
--- the totals of such a content
+-- the returned totals are those of some content of the store
 abbrev pub AreTotalsOfSome : StoreNames → Totals → Type 0
-AreTotalsOfSome names totals = (k : Content) × IsContentOf names k × AreTotalsOf k totals
+AreTotalsOfSome names totals = (k : StoreContent) × IsContentOf names k × AreTotalsOf k totals
 
 -- ---- a sweep without a desk
 
--- A sweep with these counts leads from one content of a store to another, and counts nothing. It is the last step of a legal history, by a writer of
--- its own.
-pub record IsSweepOf (names : StoreNames) (before : Content) (swept : Swept) (after : Content) : Type 0 where
+-- A sweep with this result leads from one content of a store to another and counts nothing. It is the last step of a legal history, made by a
+-- writer of its own.
+pub record IsSweepOf (names : StoreNames) (before : StoreContent) (swept : Swept) (after : StoreContent) : Type 0 where
   pub found : IsContentOf names before
   pub sweeps : IsSweep before.book.catalog swept after.book.catalog
   pub counts : after.counts ≡ before.counts
-  pub history : AddsByNobody names.opening (state_of before) (Cleaned swept) (state_of after)
+  pub history : AddsByNobody names.opening (state_of before) (SweepCall swept) (state_of after)
   pub left : IsContentOf names after
 
--- a sweep of some content of a store
+-- a sweep with this result was made on some content of the store
 abbrev pub IsSweepOfSome : StoreNames → Swept → Type 0
-IsSweepOfSome names swept = (before after : Content) × IsSweepOf names before swept after
+IsSweepOfSome names swept = (before after : StoreContent) × IsSweepOf names before swept after

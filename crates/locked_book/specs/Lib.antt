@@ -5,3 +5,4 @@ pub mod Found
 pub mod History
 pub mod Calls
 pub mod Performing
+pub mod Results

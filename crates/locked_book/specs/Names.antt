@@ -1,9 +1,11 @@
--- What a store's type parameter says of it.
-use Rattle.std.specs.Prelude.{ℕ, List, []}
+-- The names of a store, which its type parameter carries.
+use Rattle.std.specs.Prelude.{◌≡◌, ℕ, List, [], length}
 use Rattle.atomic_table.specs.Seated.{TableId}
+use Rattle.locked_book.specs.Totals.{ledger_parts}
+use Rattle.store_book.specs.BookState.{BookState}
 use Rattle.store_model.specs.Catalog.{Catalog, Tenant, opening}
 
--- What a store is made with, and no command changes: its tenants in the order of their names, with their quotas, its slots, and its limit on blobs.
+-- the setting of a store, which no command changes: its tenants with their quotas in the order of their names, its slots, and its blob size limit
 pub record Setting : Type 0 where
   pub tenants : List Tenant
   pub slots : ℕ
@@ -13,12 +15,12 @@ pub record Setting : Type 0 where
 abbrev pub setting_of : Catalog → Setting
 setting_of C = record { tenants = C.tenants; slots = C.slots; max_blob = C.max_blob }
 
--- a ledger: its name, and the number of parts into which its shares are cut
+-- a ledger: its name, and the number of parts of all its shares
 pub record LedgerName : Type 0 where
   pub name : ℕ
   pub parts : ℕ
 
--- a store: the table of its pins, how many slots it has, what it was made with, its ledgers, and its log with the catalog that it opens with
+-- a store: the table of its pins, its number of slots, its setting, its ledgers, its log, and its opening catalog
 pub record StoreNames : Type 0 where
   pub table : TableId
   pub slots : ℕ
@@ -30,13 +32,21 @@ pub record StoreNames : Type 0 where
   pub log : TableId
   pub opening : Catalog
 
+-- the book has the table, the slots and the setting of the store
+abbrev pub BelongsTo : BookState → StoreNames → Type 0
+BelongsTo book names = (book.table ≡ names.table) × (length book.slots ≡ names.slots) × (setting_of book.catalog ≡ names.setting)
+
+-- a new ledger of this name and these parts is the named one, with a part for each desk and one that stays
+abbrev pub IsLedger : ℕ → ℕ → LedgerName → Type 0
+IsLedger name parts ledger = (name ≡ ledger.name) × (parts ≡ ledger.parts) × (parts ≡ ledger_parts)
+
 -- a table of no words
 abbrev pub no_table : TableId
 no_table = record { words = 0; slots = 0; views_name = 0; atom = 0; block = 0; offset = 0; slot_names = [] }
 
--- names of no store
-abbrev pub unnamed : StoreNames
-unnamed = record {
+-- the names of no store
+abbrev pub no_names : StoreNames
+no_names = record {
   table = no_table;
   slots = 0;
   setting = record { tenants = []; slots = 0; max_blob = 0 };

@@ -1,4 +1,4 @@
-//! A call that was made under the lock.
+//! A call made under the lock, with its arguments and its result.
 
 use blob_digest::{Blob, ByteRange, Digest, Refusal, RepoName};
 use oci_manifest::Manifest;
@@ -9,7 +9,7 @@ use std::sync::Arc;
 use store_book::{Mount, Swept};
 use upload_table::Hand;
 
-/// A call that was made under the lock, with what it was given and what it answered.
+/// A call made under the lock, with its arguments and its result. The proof reads the history's step from it.
 #[derive(Clone, Copy)]
 pub enum Call<'a> {
     Start(&'a RepoName, &'a Result<u32, Refusal>),
@@ -21,7 +21,7 @@ pub enum Call<'a> {
     Mount(&'a RepoName, &'a Digest, Option<&'a RepoName>, &'a Result<Mount, Refusal>),
     Delete(&'a RepoName, &'a Digest, &'a Result<(), Refusal>),
     PutManifest(&'a RepoName, &'a Snapshot<Manifest>, &'a Result<Digest, Refusal>),
-    /// A put of a manifest that was refused before its bytes were a manifest.
+    /// A put of a manifest that failed before or while its bytes were parsed.
     RefuseManifest(&'a RepoName, &'a [u8], &'a Refusal),
     GetManifest(&'a RepoName, &'a Digest, &'a Result<Arc<Manifest, Global>, Refusal>),
     DeleteManifest(&'a RepoName, &'a Digest, &'a Result<(), Refusal>),

@@ -1,6 +1,6 @@
-//! One quantity with its ledger.
+//! One counted quantity and its ledger.
 ghost use Rattle.std.specs.Prelude.{◌≡◌, ◌+◌, ◌<◌, ◌≤◌, ◌^◌, ℕ};
-ghost use Rattle.locked_book.specs.Totals.{CounterView, ledger_parts};
+ghost use Rattle.locked_book.specs.Totals.{CounterView, IssuesPart, counter_after_settling, ledger_parts};
 
 use crate::kept::LEDGER_PARTS;
 use std::marker::Model;
@@ -22,7 +22,7 @@ impl<L: Ledger> Model for CounterShare<L> {
 }
 
 impl<L: Ledger> CounterShare<L> {
-    /// The amount.
+    /// Returns the amount.
     pub fn amount(&self) -> u64
         ensures { result ≡ self.now }
     {
@@ -30,7 +30,7 @@ impl<L: Ledger> CounterShare<L> {
     }
 }
 
-/// One quantity: its total and what was settled of it, with the ledger's book and the share that stays.
+/// A counted quantity: its total, its settled amount, the ledger's book, and the share that no desk holds.
 #[derive(Drop)]
 pub struct Counter<L: Ledger> {
     total: u64,
@@ -48,7 +48,7 @@ impl<L: Ledger> Model for Counter<L> {
 }
 
 impl<L: Ledger> Counter<L> {
-    /// The counter of a new ledger.
+    /// Creates the counter of a new ledger.
     pub fn new(blank: Blank) -> Counter<L>
         requires { (blank.name ≡ L.name) × (blank.parts ≡ L.parts) × (blank.parts ≡ LEDGER_PARTS) }
         ensures { result ≡ record { total = 0; settled = 0; parts = LEDGER_PARTS } }
@@ -62,21 +62,21 @@ impl<L: Ledger> Counter<L> {
         }
     }
 
-    /// The total.
+    /// Returns the total.
     pub fn total(&self) -> u64
         ensures { result ≡ self.now.total }
     {
         self.total
     }
 
-    /// What was settled so far.
+    /// Returns the amount settled so far.
     pub fn settled(&self) -> u64
         ensures { result ≡ self.now.settled }
     {
         self.settled
     }
 
-    /// Adds to the total and to a desk's share of it.
+    /// Adds an amount to the total and to a desk's share.
     pub fn add(&mut self, to: &mut CounterShare<L>, amount: u64)
         requires { self.old.total + amount < 2 ^ 64 }
         ensures counter { self.new ≡ record self.old { total = self.old.total + amount } }
@@ -89,19 +89,19 @@ impl<L: Ledger> Counter<L> {
         self.total += amount;
     }
 
-    /// A share for a new desk.
+    /// Splits off an empty share for a new desk.
     pub fn issue(&mut self) -> CounterShare<L>
         requires { 1 < self.old.parts }
-        ensures counter { (self.new.total ≡ self.old.total) × (self.new.settled ≡ self.old.settled) × (self.new.parts + 1 ≡ self.old.parts) }
+        ensures counter { IssuesPart self.old self.new }
         ensures share { result ≡ 0 }
     {
         let share = self.rest.split_off(1, 0);
         CounterShare { amount: 0, share }
     }
 
-    /// Settles a share. Once all parts are back, all of the total is settled.
+    /// Settles a share. If all parts are back, the settled amount equals the total.
     pub fn settle(&mut self, returned: CounterShare<L>)
-        ensures counter { self.new ≡ record { total = self.old.total; settled = self.old.settled + returned; parts = self.old.parts + 1 } }
+        ensures counter { self.new ≡ counter_after_settling self.old returned }
         ensures bound { self.new.settled ≤ self.new.total }
         ensures parts { self.new.parts ≤ LEDGER_PARTS }
         ensures all { self.new.parts ≡ LEDGER_PARTS → self.new.settled ≡ self.new.total }
@@ -112,8 +112,8 @@ impl<L: Ledger> Counter<L> {
         self.settled += amount;
     }
 
-    /// Changes nothing. No more is settled than the total, and all of it once all parts are back.
-    pub fn audit(&mut self)
+    /// Does nothing at run time: it gives the caller the bounds on the settled amount as a fact.
+    pub fn reveal_invariant(&mut self)
         ensures same { self.new ≡ self.old }
         ensures bound { self.old.settled ≤ self.old.total }
         ensures all { self.old.parts ≡ LEDGER_PARTS → self.old.settled ≡ self.old.total }

@@ -1,7 +1,9 @@
-//! The totals, with a ledger for each.
-ghost use Rattle.std.specs.Prelude.{◌≡◌, ◌+◌, ◌<◌, ◌≤◌, ◌^◌, ℕ, ◌&&◌, nat_lt};
-ghost use Rattle.store_model.specs.Amounts.{Amounts, nothing, plus, one};
-ghost use Rattle.locked_book.specs.Totals.{Counts, ledger_parts};
+//! The four totals, each with its ledger.
+ghost use Rattle.std.specs.Prelude.{◌≡◌, ◌+◌, ◌<◌, ◌≤◌, ◌^◌, ℕ};
+ghost use Rattle.store_model.specs.Amounts.{Amounts, zero_amounts, add_amounts, command_amounts_of};
+ghost use Rattle.locked_book.specs.Names.{IsLedger};
+ghost use Rattle.locked_book.specs.Results.{HasSums, HasTotals};
+ghost use Rattle.locked_book.specs.Totals.{AreAtMost, AreInSessions, Counts, counts_after, fits_totals, ledger_parts};
 
 use crate::counter::Counter;
 use crate::desk::Settled;
@@ -12,7 +14,7 @@ use crate::totals::Totals;
 use std::marker::Model;
 use std::sync::ledger::Blank;
 
-/// The totals, what was settled of them, and the number of desks out.
+/// The four totals, their settled amounts, and the number of unsettled desks.
 #[derive(Drop)]
 pub struct Counters<S: Naming> {
     commands: Counter<Commands<S>>,
@@ -35,13 +37,13 @@ impl<S: Naming> Model for Counters<S> {
 }
 
 impl<S: Naming> Counters<S> {
-    /// New counters over four new ledgers.
+    /// Creates the counters of four new ledgers.
     pub fn new(commands: Blank, received: Blank, closed: Blank, abandoned: Blank) -> Counters<S>
-        requires commands { (commands.name ≡ S.names.commands.name) × (commands.parts ≡ S.names.commands.parts) × (commands.parts ≡ LEDGER_PARTS) }
-        requires received { (received.name ≡ S.names.received.name) × (received.parts ≡ S.names.received.parts) × (received.parts ≡ LEDGER_PARTS) }
-        requires closed { (closed.name ≡ S.names.closed.name) × (closed.parts ≡ S.names.closed.parts) × (closed.parts ≡ LEDGER_PARTS) }
-        requires abandoned { (abandoned.name ≡ S.names.abandoned.name) × (abandoned.parts ≡ S.names.abandoned.parts) × (abandoned.parts ≡ LEDGER_PARTS) }
-        ensures { result ≡ record { totals = nothing; settled = nothing; desks = 0 } }
+        requires commands { IsLedger commands.name commands.parts S.names.commands }
+        requires received { IsLedger received.name received.parts S.names.received }
+        requires closed { IsLedger closed.name closed.parts S.names.closed }
+        requires abandoned { IsLedger abandoned.name abandoned.parts S.names.abandoned }
+        ensures { result ≡ record { totals = zero_amounts; settled = zero_amounts; desks = 0 } }
     {
         Counters {
             commands: Counter::new(commands),
@@ -52,24 +54,26 @@ impl<S: Naming> Counters<S> {
         }
     }
 
-    /// Whether one more command with these bytes can be counted, beside those that are in hand.
+    /// Returns whether one more command with these bytes can be counted in addition to the checked-out sessions.
     pub fn fits(&self, hands: u64, reserved: u64, bytes: u64) -> bool
         requires commands { self.now.totals.commands + hands < 2 ^ 64 }
         requires received { self.now.totals.received + reserved < 2 ^ 64 }
-        ensures { result ≡ (nat_lt (self.now.totals.commands + hands + 1) (2 ^ 64) && nat_lt (self.now.totals.received + reserved + bytes) (2 ^ 64)) }
+        ensures { result ≡ fits_totals self.now.totals hands reserved bytes }
     {
         self.commands.total() + hands < u64::MAX
             && bytes <= u64::MAX - (self.received.total() + reserved)
     }
 
-    /// Counts an accepted command.
+    /// Counts an accepted command in the totals and in a desk's tally.
     pub fn add(&mut self, desk: &mut Tally<S>, received: u64, closed: u64, abandoned: u64)
         requires commands { self.old.totals.commands + 1 < 2 ^ 64 }
         requires received { self.old.totals.received + received < 2 ^ 64 }
         requires closed { self.old.totals.closed + closed < 2 ^ 64 }
         requires abandoned { self.old.totals.abandoned + abandoned < 2 ^ 64 }
-        ensures totals { self.new ≡ record self.old { totals = plus self.old.totals (one received closed abandoned) } }
-        ensures desk { desk.new ≡ plus desk.old (one received closed abandoned) }
+        ensures totals { self.new ≡ counts_after self.old
+            (command_amounts_of received closed abandoned) }
+        ensures desk { desk.new ≡ add_amounts desk.old
+            (command_amounts_of received closed abandoned) }
     {
         self.commands.add(&mut desk.commands, 1);
         self.received.add(&mut desk.received, received);
@@ -77,11 +81,11 @@ impl<S: Naming> Counters<S> {
         self.abandoned.add(&mut desk.abandoned, abandoned);
     }
 
-    /// The totals, with the bytes that are left in sessions.
+    /// Returns the totals. The bytes in sessions are those received less those closed and abandoned.
     pub fn totals(&self) -> Totals
         requires { self.now.totals.closed + self.now.totals.abandoned ≤ self.now.totals.received }
-        ensures amounts { (result.commands ≡ self.now.totals.commands) × (result.received ≡ self.now.totals.received) × (result.closed ≡ self.now.totals.closed) × (result.abandoned ≡ self.now.totals.abandoned) }
-        ensures left { result.in_sessions + self.now.totals.closed + self.now.totals.abandoned ≡ self.now.totals.received }
+        ensures amounts { HasTotals result self.now.totals }
+        ensures left { AreInSessions result.in_sessions self.now.totals }
         ensures desks { result.desks ≡ self.now.desks }
     {
         let received = self.received.total();
@@ -97,18 +101,18 @@ impl<S: Naming> Counters<S> {
         }
     }
 
-    /// The number of desks out.
+    /// Returns the number of unsettled desks.
     pub fn desks(&self) -> u64
         ensures { (result ≡ self.now.desks) × (result ≤ LEDGER_PARTS) }
     {
         self.desks
     }
 
-    /// The tally of a new desk, with empty shares.
+    /// Creates the tally of a new desk, with empty shares.
     pub fn issue(&mut self) -> Tally<S>
         requires { self.old.desks + 1 < LEDGER_PARTS }
         ensures counts { self.new ≡ record self.old { desks = self.old.desks + 1 } }
-        ensures desk { result ≡ nothing }
+        ensures desk { result ≡ zero_amounts }
     {
         self.desks += 1;
         Tally {
@@ -119,11 +123,12 @@ impl<S: Naming> Counters<S> {
         }
     }
 
-    /// Settles a desk's tally. Once none is out, all of the totals is settled.
+    /// Settles a desk's tally. If no desk is unsettled then, the settled amounts equal the totals.
     pub fn settle(&mut self, desk: Tally<S>)
-        ensures totals { (self.new.totals ≡ self.old.totals) × (self.new.desks + 1 ≡ self.old.desks) }
-        ensures settled { self.new.settled ≡ plus self.old.settled desk }
-        ensures bound { (self.new.settled.commands ≤ self.old.totals.commands) × (self.new.settled.received ≤ self.old.totals.received) × (self.new.settled.closed ≤ self.old.totals.closed) × (self.new.settled.abandoned ≤ self.old.totals.abandoned) }
+        ensures totals { self.new.totals ≡ self.old.totals }
+        ensures desks { self.new.desks + 1 ≡ self.old.desks }
+        ensures settled { self.new.settled ≡ add_amounts self.old.settled desk }
+        ensures bound { AreAtMost self.new.settled self.old.totals }
         ensures all { self.new.desks ≡ 0 → self.new.settled ≡ self.new.totals }
     {
         let Tally {
@@ -139,21 +144,21 @@ impl<S: Naming> Counters<S> {
         self.desks -= 1;
     }
 
-    /// Changes nothing. Once no desk is out, all of the totals is settled.
-    pub fn audit(&mut self)
+    /// Does nothing at run time: it gives the caller the bounds on the settled amounts as a fact.
+    pub fn reveal_invariant(&mut self)
         ensures same { self.new ≡ self.old }
-        ensures bound { (self.old.settled.commands ≤ self.old.totals.commands) × (self.old.settled.received ≤ self.old.totals.received) × (self.old.settled.closed ≤ self.old.totals.closed) × (self.old.settled.abandoned ≤ self.old.totals.abandoned) }
+        ensures bound { AreAtMost self.old.settled self.old.totals }
         ensures all { self.old.desks ≡ 0 → self.old.settled ≡ self.old.totals }
     {
-        self.commands.audit();
-        self.received.audit();
-        self.closed.audit();
-        self.abandoned.audit();
+        self.commands.reveal_invariant();
+        self.received.reveal_invariant();
+        self.closed.reveal_invariant();
+        self.abandoned.reveal_invariant();
     }
 
-    /// What was settled so far.
+    /// Returns the settled amounts and the number of unsettled desks.
     pub fn settled(&self) -> Settled
-        ensures { (result.commands ≡ self.now.settled.commands) × (result.received ≡ self.now.settled.received) × (result.closed ≡ self.now.settled.closed) × (result.abandoned ≡ self.now.settled.abandoned) × (result.left ≡ self.now.desks) }
+        ensures { HasSums result self.now.settled × (result.left ≡ self.now.desks) }
     {
         Settled {
             commands: self.commands.settled(),

@@ -1,4 +1,4 @@
-//! The desk of one who uses a store.
+//! A thread's handle on the store.
 ghost use Rattle.std.specs.Prelude.{◌≡◌, ℕ};
 ghost use Rattle.locked_book.specs.History.{IsPart};
 
@@ -8,10 +8,13 @@ use crate::names::Naming;
 use crate::tally::Tally;
 use std::marker::Model;
 
-/// The desk of one who uses a store: a share of the four totals, and the right to add to the store's history under a
-/// number of its own. Contracts see its amounts, and its part in the history: its number, the beginning of the history
-/// that it has seen, and its own steps. It can't be dropped: `LockedBook::settle` takes it. `into_droppable` makes it
-/// one that a closure and a thread's result can hold.
+/// A thread's handle on the store: its share of the four totals and its part of the history.
+///
+/// It is the right to add steps to the history under a number of its own. Contracts see its amounts and its trace: its
+/// number, the prefix of the history that it has seen, and its own steps.
+///
+/// A desk can't be dropped: `LockedBook::settle` or `conclude` consumes it. `into_droppable` converts it to a type that
+/// closures and thread results may hold.
 pub struct Desk<S: Naming> {
     pub(crate) tally: Tally<S>,
     pub(crate) writer: HistoryWriter<S>,
@@ -26,42 +29,48 @@ impl<S: Naming> Model for Desk<S> {
 }
 
 impl<S: Naming> Desk<S> {
-    /// Accepted commands.
+    /// Returns the number of accepted commands.
     pub fn commands(&self) -> u64
         ensures { result ≡ self.now.amounts.commands }
     {
         self.tally.commands.amount()
     }
 
-    /// Bytes received.
+    /// Returns the bytes received.
     pub fn received(&self) -> u64
         ensures { result ≡ self.now.amounts.received }
     {
         self.tally.received.amount()
     }
 
-    /// Bytes of closed sessions.
+    /// Returns the bytes of closed sessions.
     pub fn closed(&self) -> u64
         ensures { result ≡ self.now.amounts.closed }
     {
         self.tally.closed.amount()
     }
 
-    /// Bytes of abandoned sessions.
+    /// Returns the bytes of abandoned sessions.
     pub fn abandoned(&self) -> u64
         ensures { result ≡ self.now.amounts.abandoned }
     {
         self.tally.abandoned.amount()
     }
 
-    /// Tells what is so of every desk: its part in the history is part of a legal one. It does nothing.
-    pub fn audit(&self)
+    /// Does nothing at run time: it gives the caller the invariant of desks as a fact.
+    ///
+    /// A desk's trace is part of a legal history.
+    pub fn reveal_invariant(&self)
         ensures { IsPart S.names.opening self.now.trace }
     {
-        self.writer.audit();
+        self.writer.reveal_invariant();
     }
 
-    /// The same desk, for a closure or a thread's result. It takes no memory.
+    /// Converts the desk to a type that a closure or a thread's result may hold.
+    ///
+    /// # Memory
+    ///
+    /// Never allocates.
     pub fn into_droppable(self) -> DroppableDesk<S>
         ensures { result ≡ self }
     {
@@ -70,12 +79,17 @@ impl<S: Naming> Desk<S> {
     }
 }
 
-/// What was settled, and the number of desks still out.
+/// The sums of settled shares, and the number of desks that are still unsettled.
 #[derive(Clone, Copy, PartialEq, Eq, Debug)]
 pub struct Settled {
+    /// Accepted commands.
     pub commands: u64,
+    /// Bytes received.
     pub received: u64,
+    /// Bytes of closed sessions.
     pub closed: u64,
+    /// Bytes of abandoned sessions.
     pub abandoned: u64,
+    /// Desks that are still unsettled.
     pub left: u64,
 }

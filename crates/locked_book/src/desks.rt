@@ -1,13 +1,14 @@
-//! Desks are handed out, and settled at the end of their use.
+//! Creating desks, settling them, and reading the totals.
 
-ghost use Rattle.std.specs.Prelude.{◌≡◌, ◌⊎◌, ◌+◌, ◌<◌, ◌≤◌, IfErr, IfOk, MatchResult, [], true, vec_len, vec_capacity};
+ghost use Rattle.std.specs.Prelude.{◌≡◌, ◌⊎◌, ◌+◌, ◌<◌, ◌≤◌, IfErr, IfOk, [], true, vec_len, vec_capacity};
 ghost use Rattle.blob_digest.specs.Outcomes.{Does};
 ghost use Rattle.blob_digest.specs.declared.refusal.Refusal.TheVariants.{LimitReached};
-ghost use Rattle.store_model.specs.Amounts.{nothing, plus, sum_of};
+ghost use Rattle.store_model.specs.Amounts.{zero_amounts};
 ghost use Rattle.store_model.specs.Hands.{received_in_sessions};
-ghost use Rattle.locked_book.specs.Counting.{cannot_hand_out, handing_out};
+ghost use Rattle.locked_book.specs.Counting.{KeepsTotals, cannot_hand_out, hand_out_outcome, with_desks};
 ghost use Rattle.locked_book.specs.Found.{IsContentOf};
-ghost use Rattle.locked_book.specs.History.{AreFresh, IsWhole, amounts_of, state_of, steps_of_each};
+ghost use Rattle.locked_book.specs.History.{AreFreshDesks, IsMadeBy, SettlesAll, total_of};
+ghost use Rattle.locked_book.specs.Results.{FailsWith, HasSums, HasTotals};
 
 use crate::desk::{Desk, Settled};
 use crate::locked::LockedBook;
@@ -18,37 +19,43 @@ use blob_digest::Refusal;
 use std::alloc::Global;
 
 impl<S: Naming> LockedBook<S> {
-    /// A new desk with empty shares, which has made no step.
+    /// Creates a desk with empty shares and no steps.
     fn issue(&mut self) -> Desk<S>
         requires { self.old.counts.desks + 1 < 1025 }
-        ensures counts { self.new ≡ record self.old { counts = record self.old.counts { desks = self.old.counts.desks + 1 } } }
-        ensures fresh { (result.amounts ≡ nothing) × (result.trace.own ≡ []) }
+        ensures counts { self.new ≡ with_desks self.old 1 }
+        ensures fresh { (result.amounts ≡ zero_amounts) × (result.trace.own ≡ []) }
     {
         let tally = self.kept.issue();
         let writer = self.history.writer();
         Desk { tally, writer }
     }
 
-    /// Issues desks with empty shares, for which there is room.
+    /// Pushes `count` new desks to a vector that has room for them.
     fn issue_all(&mut self, desks: &mut Vec<Desk<S>>, count: u64)
         requires count { self.old.counts.desks + count < 1025 }
         requires room { (vec_len desks.old ≡ 0) × (count ≤ vec_capacity desks.old) }
-        ensures counts { self.new ≡ record self.old { counts = record self.old.counts { desks = self.old.counts.desks + count } } }
-        ensures desks { (vec_len desks.new ≡ count) × AreFresh desks.new.items }
+        ensures counts { self.new ≡ with_desks self.old count }
+        ensures desks { (vec_len desks.new ≡ count) × AreFreshDesks desks.new.items }
     {
         for _i in 0..count {
             desks.push_reserved(self.issue());
         }
     }
 
-    /// Makes desks with empty shares, which have made no step.
+    /// Creates `count` desks with empty shares and no steps.
     ///
-    /// Refused, in this order: no desks, or more than 1,024 that would be out (`LimitReached`); out of
-    /// memory.
+    /// # Errors
+    ///
+    /// - `LimitReached` if `count` is 0, or if more than 1,024 desks would be unsettled.
+    /// - `Memory` if the vector of desks can't be allocated.
+    ///
+    /// # Cost
+    ///
+    /// Linear in `count`; one allocation.
     pub fn desks(&mut self, alloc: Global, count: u64) -> Result<Vec<Desk<S>>, Refusal>
-        ensures made { IfOk result (λ v. (vec_len v ≡ count) × AreFresh v.items) }
-        ensures does { Does (λ _. tt) result self.old self.new (handing_out count self.old) }
-        ensures limit { cannot_hand_out self.old count ≡ true → MatchResult result (λ _. ⊥) (λ e. e ≡ LimitReached) }
+        ensures made { IfOk result (λ v. (vec_len v ≡ count) × AreFreshDesks v.items) }
+        ensures does { Does (λ _. tt) result self.old self.new (hand_out_outcome count self.old) }
+        ensures limit { cannot_hand_out self.old count ≡ true → FailsWith result LimitReached }
         ensures refused { IfErr result (λ e. (e ≡ LimitReached) ⊎ (e ≡ Refusal.Memory)) }
     {
         if self.kept.lacks_desks(count) {
@@ -59,25 +66,44 @@ impl<S: Naming> LockedBook<S> {
         Ok(desks)
     }
 
-    /// Settles desks at the end of their use, and tells whether their steps are all that were ever made here: those of each desk
-    /// under the number of its place, and no others. It is so for desks that were made first and stand in the order in which
-    /// they were made, where no other desk was ever made and nobody swept without one.
+    /// Settles desks, and returns whether their steps are the whole history, each desk's under the number of its place.
+    ///
+    /// The result is true for one or more desks in the order of their creation, if no other desk was ever created and
+    /// no sweep was made without a desk.
+    ///
+    /// # Cost
+    ///
+    /// Linear in the number of desks.
+    ///
+    /// # Memory
+    ///
+    /// Never allocates.
     pub fn conclude(&mut self, desks: Vec<Desk<S>>) -> bool
-        ensures same { (self.new.book ≡ self.old.book) × (self.new.counts.totals ≡ self.old.counts.totals) }
+        ensures same { KeepsTotals self.old self.new }
         ensures desks { self.new.counts.desks + vec_len desks ≡ self.old.counts.desks }
-        ensures settled { self.new.counts.settled ≡ plus self.old.counts.settled (sum_of (amounts_of desks.items)) }
-        ensures whole { result ≡ true → IsWhole S.names.opening (state_of self.new) (steps_of_each desks.items) }
+        ensures settled { SettlesAll self.old.counts self.new.counts desks.items }
+        ensures whole { result ≡ true → IsMadeBy S.names.opening self.new desks.items }
     {
         settle_all(&mut self.kept, &mut self.history, desks)
     }
 
-    /// Settles desks: the sums of their shares, and the number still out. Once none is out, all of the
-    /// totals is settled.
+    /// Settles desks, and returns the sums of their shares and the number of desks that are still unsettled.
+    ///
+    /// If that number is 0, the settled amounts equal the totals.
+    ///
+    /// # Cost
+    ///
+    /// Linear in the number of desks.
+    ///
+    /// # Memory
+    ///
+    /// Never allocates.
     pub fn settle(&mut self, desks: Vec<Desk<S>>) -> Settled
-        ensures sums { (result.commands ≡ (sum_of (amounts_of desks.items)).commands) × (result.received ≡ (sum_of (amounts_of desks.items)).received) × (result.closed ≡ (sum_of (amounts_of desks.items)).closed) × (result.abandoned ≡ (sum_of (amounts_of desks.items)).abandoned) }
-        ensures left { (result.left ≡ self.new.counts.desks) × (self.new.counts.desks + vec_len desks ≡ self.old.counts.desks) }
-        ensures same { (self.new.book ≡ self.old.book) × (self.new.counts.totals ≡ self.old.counts.totals) }
-        ensures settled { self.new.counts.settled ≡ plus self.old.counts.settled (sum_of (amounts_of desks.items)) }
+        ensures sums { HasSums result (total_of desks.items) }
+        ensures left { result.left ≡ self.new.counts.desks }
+        ensures desks { self.new.counts.desks + vec_len desks ≡ self.old.counts.desks }
+        ensures same { KeepsTotals self.old self.new }
+        ensures settled { SettlesAll self.old.counts self.new.counts desks.items }
         ensures all { result.left ≡ 0 → self.new.counts.settled ≡ self.new.counts.totals }
     {
         let before = self.kept.settled();
@@ -92,15 +118,19 @@ impl<S: Naming> LockedBook<S> {
         }
     }
 
-    /// The totals, to which, with the book, a legal history of the store leads.
+    /// Returns the totals. One legal history of the store leads to them and to the book.
+    ///
+    /// # Memory
+    ///
+    /// Never allocates.
     pub fn totals(&self) -> Totals
-        ensures amounts { (result.commands ≡ self.now.counts.totals.commands) × (result.received ≡ self.now.counts.totals.received) × (result.closed ≡ self.now.counts.totals.closed) × (result.abandoned ≡ self.now.counts.totals.abandoned) }
+        ensures amounts { HasTotals result self.now.counts.totals }
         ensures in_sessions { result.in_sessions ≡ received_in_sessions self.now.book.catalog }
         ensures balanced { result.received ≡ result.in_sessions + result.closed + result.abandoned }
         ensures desks { result.desks ≡ self.now.counts.desks }
         ensures found { IsContentOf S.names self.now }
     {
-        self.audit();
+        self.reveal_invariant();
         self.kept.totals()
     }
 }

@@ -1,4 +1,4 @@
-//! A desk on its way into a thread and out of it.
+//! A desk in a form that may be dropped, to cross a thread's boundary.
 ghost use Rattle.std.specs.Prelude.{◌≡◌};
 
 use crate::desk::Desk;
@@ -7,11 +7,12 @@ use crate::names::Naming;
 use crate::tally::Tally;
 use std::marker::Model;
 
-/// A desk that may be dropped, as all that a closure captures or a thread returns: `Desk::into_droppable` makes it on
-/// one side of the thread's border, and `into_desk` is the desk again on the other. Both have the same shares, in the
-/// ledgers of the same store, and the same part in its history.
+/// A desk that may be dropped, as closures and thread results require.
 ///
-/// One that is dropped is never settled: its desk counts as out for ever, and the totals keep what it got.
+/// `Desk::into_droppable` makes it on one side of the thread's boundary, and `into_desk` makes the desk again on the
+/// other. Both have the same shares, in the ledgers of the same store, and the same trace.
+///
+/// If it is dropped, its desk is never settled: it counts as unsettled for ever, and the totals keep its amounts.
 #[derive(Drop)]
 pub struct DroppableDesk<S: Naming> {
     pub(crate) tally: Tally<S>,
@@ -27,7 +28,11 @@ impl<S: Naming> Model for DroppableDesk<S> {
 }
 
 impl<S: Naming> DroppableDesk<S> {
-    /// The desk that it was made of. It takes no memory.
+    /// Converts it back to the desk.
+    ///
+    /// # Memory
+    ///
+    /// Never allocates.
     pub fn into_desk(self) -> Desk<S>
         ensures { result ≡ self }
     {

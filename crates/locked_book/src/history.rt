@@ -1,30 +1,31 @@
-//! The history of a store, and the right to add to it.
+//! The history of a store, and its writers.
 
 ghost use Rattle.std.specs.Prelude.{◌≡◌, ◌+◌, ◌≤◌, ℕ, [], IfSome, Some, true};
-ghost use Rattle.shared_log.specs.Entries.{events_by};
-ghost use Rattle.store_model.specs.Histories.{State, IsLegal, IsStep};
+ghost use Rattle.ghost_log.specs.Entries.{events_by};
+ghost use Rattle.store_model.specs.Histories.{IsLegal};
 ghost use Rattle.locked_book.specs.Calls.{step_of};
-ghost use Rattle.locked_book.specs.History.{Adds, IsPart, Leaves, SeesAll, steps_of};
+ghost use Rattle.locked_book.specs.History.{Adds, Allows, IsPart, LeadsOn, SeesAll, steps_of};
 
 use crate::call::Call;
 use crate::names::Naming;
 use crate::step::{Step, append};
-use shared_log::{SharedLog, Writer};
+use ghost_log::{SharedLog, Writer};
 use std::marker::{Model, PhantomData};
 
-/// The history of a store: all steps that were made under its lock, in the proof alone. It lies beside the book that it
-/// tells of.
+/// The history of a store: all steps made under its lock.
+///
+/// The steps exist in the proof alone. At run time it is one atomic word and the number of its writers.
 #[derive(Drop)]
 pub struct History<S: Naming> {
     log: SharedLog<Step>,
-    /// How many writers there are, as long as they can be counted.
+    /// The number of writers, or `None` if it exceeded 64 bits.
     writers: Option<u64>,
     of: PhantomData<S>,
 }
 
 impl<S: Naming> Model for History<S> {
     ghost use Rattle.std.specs.Prelude.{◌≡◌, IfSome, List};
-    ghost use Rattle.shared_log.specs.declared.view.Entry.{Entry};
+    ghost use Rattle.ghost_log.specs.declared.view.Entry.{Entry};
     ghost use Rattle.store_model.specs.Histories as histories;
 
     ghost Value = { List (Entry histories.Step) };
@@ -34,18 +35,18 @@ impl<S: Naming> Model for History<S> {
     ghost invariant = { λ h. (h.log.name ≡ S.names.log) × IfSome h.writers (λ n. n ≡ h.log.writers) };
 }
 
-/// The right to add to a store's history under a number of its own.
+/// The right to add steps to a store's history under a number of its own.
 #[derive(Drop)]
 pub struct HistoryWriter<S: Naming> {
     writer: Writer<Step>,
-    /// Its number, where it could be counted.
+    /// Its number, or `None` if that exceeded 64 bits.
     number: Option<u64>,
     of: PhantomData<S>,
 }
 
 impl<S: Naming> Model for HistoryWriter<S> {
     ghost use Rattle.std.specs.Prelude.{◌≡◌, IfSome};
-    ghost use Rattle.shared_log.specs.Entries.{events_by};
+    ghost use Rattle.ghost_log.specs.Entries.{events_by};
     ghost use Rattle.store_model.specs.Histories.{IsLegal};
     ghost use Rattle.locked_book.specs.History.{Trace, steps_of};
 
@@ -57,15 +58,15 @@ impl<S: Naming> Model for HistoryWriter<S> {
 }
 
 impl<S: Naming> HistoryWriter<S> {
-    /// Tells what is so of every writer. It does nothing.
-    pub fn audit(&self)
+    /// Does nothing at run time: it gives the caller the invariant of writers as a fact.
+    pub fn reveal_invariant(&self)
         ensures { IsPart S.names.opening self.now }
     {
         let _ = &self.writer;
     }
 }
 
-/// One more, where that can be counted.
+/// Returns the count plus one, or `None` if that exceeds 64 bits.
 fn one_more(count: Option<u64>) -> Option<u64>
     ensures { IfSome result (λ n. (m : ℕ) × (count ≡ Some m) × (n ≡ m + 1)) }
 {
@@ -73,7 +74,7 @@ fn one_more(count: Option<u64>) -> Option<u64>
 }
 
 impl<S: Naming> History<S> {
-    /// A history without steps and writers.
+    /// Creates a history without steps and writers.
     pub fn new(log: SharedLog<Step>) -> History<S>
         requires name { log.name ≡ S.names.log }
         requires empty { (log.entries ≡ []) × (log.writers ≡ 0) }
@@ -86,7 +87,7 @@ impl<S: Naming> History<S> {
         }
     }
 
-    /// A writer with a number of its own, which has seen all and made no step.
+    /// Creates a writer with a number of its own, which has seen the whole history and made no step.
     pub fn writer(&mut self) -> HistoryWriter<S>
         requires { IsLegal S.names.opening (steps_of self.old) }
         ensures same { self.new ≡ self.old }
@@ -95,7 +96,7 @@ impl<S: Naming> History<S> {
         let number = self.writers;
         self.writers = one_more(number);
         let writer = self.log.writer();
-        writer.audit();
+        writer.reveal_invariant();
         HistoryWriter {
             writer,
             number,
@@ -103,17 +104,17 @@ impl<S: Naming> History<S> {
         }
     }
 
-    /// Adds the step that a call was, which leads on from where the history led.
+    /// Adds the step that this call is, under the writer's number. The writer has then seen the whole history.
     pub fn add(&mut self, writer: &mut HistoryWriter<S>, call: Call<'_>)
-        requires { (s : State) × (s' : State) × Leaves S.names.opening self.old s × IsStep s (step_of call) s' }
+        requires { Allows S.names.opening self.old (step_of call) }
         ensures adds { Adds S.names.opening writer.old (step_of call.entry) writer.new }
         ensures all { writer.new.seen ≡ self.new }
-        ensures leads { (s s' : State) → Leaves S.names.opening self.old s → IsStep s (step_of call.entry) s' → Leaves S.names.opening self.new s' }
+        ensures leads { LeadsOn S.names.opening self.old (step_of call.entry) self.new }
     {
         append(&mut self.log, &mut writer.writer, call);
     }
 
-    /// Lets a writer see all of the history, of which it had seen a beginning.
+    /// Shows a writer the whole history, of which it had seen a prefix.
     pub fn catch_up(&mut self, writer: &mut HistoryWriter<S>)
         requires { IsLegal S.names.opening (steps_of self.old) }
         ensures same { self.new ≡ self.old }
@@ -122,8 +123,9 @@ impl<S: Naming> History<S> {
         self.log.catch_up(&mut writer.writer);
     }
 
-    /// Takes a writer back, and tells whether it had this number and there are just so many writers. Then its own steps are all
-    /// that were added under this number, and from that many on there is no number under which one was.
+    /// Consumes a writer, and returns whether its number is `number` and exactly `writers` writers exist.
+    ///
+    /// If so, its own steps are all steps under `number`, and no step has the number `writers` or a greater one.
     pub fn take_back(&mut self, writer: HistoryWriter<S>, number: u64, writers: u64) -> bool
         ensures same { self.new ≡ self.old }
         ensures own { result ≡ true → events_by number self.old ≡ writer.own }

@@ -1,29 +1,26 @@
-//! What lies under the lock.
+//! The store's state under the lock, without its history.
 
-ghost use Rattle.std.specs.Prelude.{◌≡◌, ◌≢◌, ◌+◌, ◌<◌, None, IfOk, IfSome, OnErr, OnOk, Err, true, length, sum_by, not, if◌then◌else◌};
+ghost use Rattle.std.specs.Prelude.{◌≡◌, ◌≢◌, ◌+◌, ◌<◌, None, IfOk, OnErr, OnOk, length, sum_by, not};
 ghost use Rattle.std.specs.Arc.{arc_value};
 ghost use Rattle.std.specs.FinMap.{empty};
 ghost use Rattle.std.specs.Option.{option_copied};
-ghost use Rattle.std.specs.Io.KnownBytes.{Appends};
-ghost use Rattle.blob_digest.specs.Digests.{is_digest_of, sha256_text};
-ghost use Rattle.blob_digest.specs.Outcomes.{Does, DoesExactly};
-ghost use Rattle.finite_maps.specs.Outcomes.{refuse};
+ghost use Rattle.blob_digest.specs.Digests.{sha256_text};
+ghost use Rattle.spec_lib.specs.Outcomes.{refuse};
 ghost use Rattle.blob_digest.specs.declared.refusal.Refusal.TheVariants.{LimitReached};
-ghost use Rattle.store_model.specs.Sessions.{IsFull};
+ghost use Rattle.store_model.specs.Sessions.{HasNoOpenReserve};
 ghost use Rattle.store_model.specs.Invariant.{Sound};
 ghost use Rattle.store_book.specs.Pinned.{blob_bytes, blob_digest};
-ghost use Rattle.store_model.specs.BookText.{book_text};
-ghost use Rattle.store_book.specs.SlotSteps.{EachSlot, HasLast, HasPin, IsHousing, IsLending, IsQuiet, IsStill, IsSweptSlot, ReadsWord};
-ghost use Rattle.store_model.specs.Commands.{check_tenant, take, put_back, after_cancel};
-ghost use Rattle.store_model.specs.Histories.{Finished, PutBack, step_amounts};
+ghost use Rattle.store_book.specs.SlotSteps.{HasLastGeneration, HasPin, MayPlace, IsLending, KeepsGeneration, IsUnchanged, SweepsSlot, ReadsWord};
+ghost use Rattle.store_model.specs.Histories.{FinishCall, PutBackCall};
 ghost use Rattle.store_model.specs.Runs.{Start, Status, Abandon, Mount as MountCommand, Delete, PutManifest, GetManifest, DeleteManifest, Lease, Number, Mounting, Bytes, Done};
 ghost use Rattle.locked_book.specs.Calls.{reply};
-ghost use Rattle.locked_book.specs.Performing.{IsCounted};
+ghost use Rattle.locked_book.specs.Performing.{ChecksIn, ChecksInUnchanged, ChecksOut, CountsStep, Finishes, IsCounted};
 ghost use Rattle.store_model.specs.Sweep.{IsSweep};
-ghost use Rattle.locked_book.specs.Names.{setting_of};
-ghost use Rattle.store_model.specs.Amounts.{nothing, plus};
+ghost use Rattle.locked_book.specs.Names.{BelongsTo};
+ghost use Rattle.store_model.specs.Amounts.{zero_amounts, add_amounts};
 ghost use Rattle.store_model.specs.Hands.{received_in_sessions, filled_length};
-ghost use Rattle.locked_book.specs.Counting.{IsBalanced, cannot_hand_out, has_room, with_catalog, with_slots, uncounted, finishing, putting_back, reserving};
+ghost use Rattle.locked_book.specs.Counting.{EachSlotOf, IsBalanced, KeepsCatalog, KeepsTotals, cannot_hand_out, common_check, has_room, with_desks};
+ghost use Rattle.locked_book.specs.Results.{EndsWithRange, HasSums, HasTotals, HashesTo, IsPinOf, PrintsBook};
 
 use crate::counters::Counters;
 use crate::desk::Settled;
@@ -40,43 +37,62 @@ use std::sync::Arc;
 use store_book::{Book, Mount, Swept};
 use upload_table::Hand;
 
-/// The most desks that are out at a time.
+/// The largest number of unsettled desks.
 pub const MAX_DESKS: u64 = 1024;
 
-/// All parts of a ledger: one for each desk that may be out, and one that stays.
+/// The number of parts of a ledger: one for each desk, and one that no desk gets.
 pub const LEDGER_PARTS: u64 = MAX_DESKS + 1;
 
-/// The book, the totals, and what was settled of them.
+/// The book, the totals and their settled amounts.
 ///
-/// What was received is in sessions, was closed or was abandoned. Beside the totals it keeps how many
-/// sessions are in hand and how many bytes are reserved for them, so that each can be counted when it
-/// comes back.
+/// The bytes received are those in sessions, closed and abandoned. In addition to the totals it stores the number of
+/// checked-out sessions and the bytes reserved for them, so that each of their commands can be counted at check-in.
+///
+/// # Errors
+///
+/// `start` to `lease` fail with `LimitReached` if one more command can't be counted, and then with the errors of the
+/// call of `Book` that has their name. A failed call counts nothing.
+///
+/// # Cost
+///
+/// That of the call of `Book`. Counting takes constant time and never allocates.
+///
+/// # Memory
+///
+/// `status`, `abandon`, `delete`, `check_tenant`, `delete_manifest`, `sweep`, `verify`, `word`, `take`, `put_back` and
+/// `cancel` never allocate, nor do the calls on desks and totals.
 #[derive(Drop)]
 pub struct Kept<S: Naming> {
     book: Book,
     counters: Counters<S>,
+    /// The number of checked-out sessions.
     hands: u64,
+    /// The bytes reserved for them.
     reserve: u64,
 }
 
 impl<S: Naming> Model for Kept<S> {
-    ghost use Rattle.locked_book.specs.Counting.{Content, coded_content, IsKept};
+    ghost use Rattle.locked_book.specs.Counting.{StoreContent, IsKeptState, coded_store_content};
 
-    ghost Value = { Content };
+    ghost Value = { StoreContent };
 
-    ghost coded = { coded_content };
+    ghost coded = { coded_store_content };
 
     ghost view = { λ k. record { book = k.book; counts = k.counters } };
 
-    ghost invariant = { λ k. IsKept S.names k.book k.counters k.hands k.reserve };
+    ghost invariant = { λ k. IsKeptState S.names k.book k.counters k.hands k.reserve };
 }
 
 impl<S: Naming> Kept<S> {
-    /// The value of a book without sessions, with the slots and the setting that the name says, and nothing counted.
+    /// Creates the state of a store whose book has no sessions, with nothing counted.
     pub fn new(book: Book, counters: Counters<S>) -> Kept<S>
         requires book { book.catalog.sessions ≡ empty }
-        requires named { (book.table ≡ S.names.table) × (length book.slots ≡ S.names.slots) × (setting_of book.catalog ≡ S.names.setting) }
-        requires counters { counters ≡ record { totals = nothing; settled = nothing; desks = 0 } }
+        requires named { BelongsTo book S.names }
+        requires counters { counters ≡ record {
+          totals = zero_amounts;
+          settled = zero_amounts;
+          desks = 0;
+        } }
         ensures { result ≡ record { book = book; counts = counters } }
     {
         Kept {
@@ -87,24 +103,25 @@ impl<S: Naming> Kept<S> {
         }
     }
 
-    /// Changes nothing, and tells what holds at all times: the catalog is sound and of the setting that the store was
-    /// made with, and what was received is in sessions, was closed or was abandoned.
-    pub fn audit(&self)
+    /// Does nothing at run time: it gives the caller the invariant as a fact.
+    ///
+    /// The catalog is sound, the totals are balanced, and the book has the store's table, slots and setting.
+    pub fn reveal_invariant(&self)
         ensures sound { Sound self.now.book.catalog }
         ensures balanced { IsBalanced self.now }
-        ensures named { (self.now.book.table ≡ S.names.table) × (length self.now.book.slots ≡ S.names.slots) × (setting_of self.now.book.catalog ≡ S.names.setting) }
+        ensures named { BelongsTo self.now.book S.names }
     {
-        self.book.audit();
+        self.book.reveal_invariant();
     }
 
-    /// The book, which tells sizes, uses and free slots. Nothing of that is counted.
+    /// Returns the book, for queries of sizes, uses and free slots. Queries are not counted.
     pub fn book(&self) -> &Book
         ensures { result.now ≡ self.now.book }
     {
         &self.book
     }
 
-    /// Refuses where one more command with these bytes can't be counted.
+    /// Fails with `LimitReached` if one more command with these bytes can't be counted.
     fn room(&self, bytes: u64) -> Result<(), Refusal>
         ensures { result ≡ refuse (not (has_room self.now bytes)) LimitReached }
     {
@@ -115,20 +132,19 @@ impl<S: Naming> Kept<S> {
         }
     }
 
-    /// Opens a session, as `Book::start` does, and counts it. Before all else it is refused, as
-    /// `LimitReached`, where one more command can't be counted.
+    /// Opens a session with `Book::start`, and counts the command.
     pub fn start(&mut self, desk: &mut Tally<S>, repo: &RepoName) -> Result<u32, Refusal>
         ensures does { IsCounted (Start repo.now) (reply Number result)
             self.old self.new desk.old desk.new }
     {
         self.room(0)?;
-        self.book.audit();
+        self.book.reveal_invariant();
         let number = self.book.start(repo)?;
         self.counters.add(desk, 0, 0, 0);
         Ok(number)
     }
 
-    /// The received length of a session, as `Book::status` answers it, counted.
+    /// Returns the received length of a session from `Book::status`, and counts the command.
     pub fn status(
         &mut self,
         desk: &mut Tally<S>,
@@ -144,7 +160,7 @@ impl<S: Naming> Kept<S> {
         Ok(received)
     }
 
-    /// Gives a session up, as `Book::abandon` does, and counts its bytes as abandoned.
+    /// Removes a session with `Book::abandon`, and counts its bytes as abandoned.
     pub fn abandon(
         &mut self,
         desk: &mut Tally<S>,
@@ -160,8 +176,7 @@ impl<S: Naming> Kept<S> {
         Ok(length)
     }
 
-    /// Links a blob that the tenant holds in the source or, without one, anywhere, or opens a session, as
-    /// `Book::mount` does, counted.
+    /// Links a blob from another repository, or opens a session, with `Book::mount`, and counts the command.
     pub fn mount(
         &mut self,
         desk: &mut Tally<S>,
@@ -174,13 +189,13 @@ impl<S: Naming> Kept<S> {
             self.old self.new desk.old desk.new }
     {
         self.room(0)?;
-        self.book.audit();
+        self.book.reveal_invariant();
         let mounted = self.book.mount(repo, digest, from)?;
         self.counters.add(desk, 0, 0, 0);
         Ok(mounted)
     }
 
-    /// Takes a link out of a repository, as `Book::delete` does, counted.
+    /// Removes the link between a repository and a blob with `Book::delete`, and counts the command.
     pub fn delete(
         &mut self,
         desk: &mut Tally<S>,
@@ -196,16 +211,20 @@ impl<S: Naming> Kept<S> {
         Ok(())
     }
 
-    /// Refuses a repository for which no command is accepted: as `LimitReached`, where one more command can't
-    /// be counted, and else as `Book::check_tenant` does. Nothing is counted.
+    /// Makes the check that all commands of a repository begin with. Nothing is counted.
+    ///
+    /// # Errors
+    ///
+    /// - `LimitReached` if one more command can't be counted.
+    /// - `NameUnknown` if the tenant doesn't exist.
     pub fn check_tenant(&self, repo: &RepoName) -> Result<(), Refusal>
-        ensures { result ≡ (if has_room self.now 0 then check_tenant self.now.book.catalog repo.now else Err LimitReached) }
+        ensures { result ≡ common_check self.now repo.now }
     {
         self.room(0)?;
         self.book.check_tenant(repo)
     }
 
-    /// Keeps a manifest that was read, as `Book::keep_manifest` does, counted.
+    /// Stores a parsed manifest with `Book::keep_manifest`, and counts the command.
     pub fn keep_manifest(
         &mut self,
         desk: &mut Tally<S>,
@@ -222,7 +241,7 @@ impl<S: Naming> Kept<S> {
         Ok(digest)
     }
 
-    /// A manifest of a repository, as `Book::get_manifest` answers it, counted.
+    /// Returns a manifest of a repository from `Book::get_manifest`, and counts the command.
     pub fn get_manifest(
         &mut self,
         desk: &mut Tally<S>,
@@ -235,13 +254,13 @@ impl<S: Naming> Kept<S> {
         ensures digest { IfOk result (λ m. sha256_text (arc_value m) ≡ digest.now) }
     {
         self.room(0)?;
-        self.book.audit();
+        self.book.reveal_invariant();
         let manifest = self.book.get_manifest(repo, digest)?;
         self.counters.add(desk, 0, 0, 0);
         Ok(manifest)
     }
 
-    /// Takes a manifest out of a repository, as `Book::delete_manifest` does, counted.
+    /// Removes a manifest from a repository with `Book::delete_manifest`, and counts the command.
     pub fn delete_manifest(
         &mut self,
         desk: &mut Tally<S>,
@@ -257,8 +276,9 @@ impl<S: Naming> Kept<S> {
         Ok(())
     }
 
-    /// Lends a blob that a repository holds, as `Book::lease` does, counted: a pin on its slot, and a share
-    /// of its bytes, which have its digest.
+    /// Leases a blob of a repository with `Book::lease`, and counts the command.
+    ///
+    /// Returns a pin on the blob's slot and a shared reference to its bytes.
     pub fn lease(
         &mut self,
         pins: &Pins,
@@ -270,62 +290,65 @@ impl<S: Naming> Kept<S> {
         ensures does { IsCounted (Lease repo.now digest.now)
             (reply (λ r. Bytes (blob_bytes (arc_value r.1))) result)
             self.old self.new desk.old desk.new }
-        ensures pin { IfOk result (λ r. (r.0.table ≡ S.names.table) × (r.0.hold.digest ≡ digest.now) × (r.0.hold.weight ≡ 1024)) }
-        ensures content { IfOk result (λ r. is_digest_of digest.now (blob_bytes (arc_value r.1)) ≡ true) }
+        ensures pin { IfOk result (λ r. IsPinOf S.names.table digest.now r.0) }
+        ensures content { IfOk result (λ r. HashesTo (blob_bytes (arc_value r.1)) digest.now) }
         ensures blob { IfOk result (λ r. blob_digest (arc_value r.1) ≡ digest.now) }
-        ensures slots { EachSlot (IsLending digest.now) self.old.book.slots self.new.book.slots }
-        ensures refused { OnErr result (EachSlot IsStill self.old.book.slots self.new.book.slots) }
+        ensures slots { EachSlotOf (IsLending digest.now) self.old self.new }
+        ensures refused { OnErr result (EachSlotOf IsUnchanged self.old self.new) }
     {
         self.room(0)?;
-        self.book.audit();
+        self.book.reveal_invariant();
         let lent = self.book.lease(pins, repo, digest)?;
         self.counters.add(desk, 0, 0, 0);
         Ok(lent)
     }
 
-    /// Sweeps as `Book::sweep` does. Nothing is counted.
+    /// Sweeps with `Book::sweep`. Nothing is counted.
     pub fn sweep(&mut self, pins: &Pins) -> Swept
         requires table { pins.now ≡ S.names.table }
         ensures sweeps { IsSweep self.old.book.catalog result self.new.book.catalog }
-        ensures slots { EachSlot IsSweptSlot self.old.book.slots self.new.book.slots }
-        ensures retired { 0 < result.retired → HasLast self.old.book.slots }
+        ensures slots { EachSlotOf SweepsSlot self.old self.new }
+        ensures retired { 0 < result.retired → HasLastGeneration self.old.book.slots }
         ensures counts { self.new.counts ≡ self.old.counts }
     {
         self.book.sweep(pins)
     }
 
-    /// The pin with all that it had, as `Book::verify` tells of it. Nothing is counted.
+    /// Confirms with `Book::verify` that a pin's slot is its own, and returns the pin. Nothing is counted.
     pub fn verify(&mut self, pins: &Pins, pin: Pin) -> Pin
         requires table { (pins.now ≡ S.names.table) × (pin.table ≡ S.names.table) }
         ensures same { result ≡ pin }
         ensures kept { HasPin pin.hold self.old.book }
-        ensures content { (self.new.book.catalog ≡ self.old.book.catalog) × (self.new.counts ≡ self.old.counts) }
-        ensures slots { EachSlot IsStill self.old.book.slots self.new.book.slots }
+        ensures content { KeepsCatalog self.old self.new }
+        ensures slots { EachSlotOf IsUnchanged self.old self.new }
     {
         self.book.verify(pins, pin)
     }
 
-    /// The word of a slot, as `Book::word` reads it. Nothing is counted.
+    /// Returns the word of a slot from `Book::word`. Nothing is counted.
     pub fn word(&mut self, pins: &Pins, slot: u32) -> u64
         requires table { pins.now ≡ S.names.table }
         requires within { slot < S.names.slots }
         ensures word { ReadsWord slot result self.old.book.slots self.new.book.slots }
-        ensures content { (self.new.book.catalog ≡ self.old.book.catalog) × (self.new.counts ≡ self.old.counts) }
-        ensures slots { EachSlot IsStill self.old.book.slots self.new.book.slots }
+        ensures content { KeepsCatalog self.old self.new }
+        ensures slots { EachSlotOf IsUnchanged self.old self.new }
     {
         self.book.word(pins, slot)
     }
 
-    /// Writes the text of the book, as `Book::print` does.
+    /// Writes the text of the book with `Book::print`.
     pub fn print<W: Write>(&self, writer: &mut W) -> io::Result<()>
-        ensures text { OnOk result (Appends (W.contents writer.old) (W.contents writer.new) (book_text self.now.book.catalog)) }
+        ensures text { OnOk result (PrintsBook W.contents writer.old writer.new self.now.book) }
     {
         self.book.print(writer)
     }
 
-    /// Takes a session's chunks into a hand, as `Book::take` does. Nothing is counted yet; before all else
-    /// it is refused, as `LimitReached`, where one more command with these bytes can't be counted beside
-    /// those that are in hand.
+    /// Checks a session out with `Book::take`, and reserves `len` bytes. The command is counted at check-in.
+    ///
+    /// # Errors
+    ///
+    /// - `LimitReached` if one more command with `len` bytes can't be counted in addition to the checked-out sessions.
+    /// - Those of `Book::take`.
     pub fn take(
         &mut self,
         repo: &RepoName,
@@ -333,8 +356,8 @@ impl<S: Naming> Kept<S> {
         range: Option<ByteRange>,
         len: u64,
     ) -> Result<Hand, Refusal>
-        ensures does { DoesExactly (λ h. h) result self.old self.new (reserving len (λ catalog. take catalog repo.now number range len) self.old) }
-        ensures ends { IfOk result (λ h. IfSome range (λ r. sum_by length h.chunks + len ≡ r.end + 1)) }
+        ensures does { ChecksOut repo.now number range len result self.old self.new }
+        ensures ends { IfOk result (λ h. EndsWithRange h len range) }
     {
         self.room(len)?;
         let hand = self.book.take(repo, number, range, len)?;
@@ -343,12 +366,15 @@ impl<S: Naming> Kept<S> {
         Ok(hand)
     }
 
-    /// Puts a session's chunks back with the one that was filled in, as `Book::put_back` does, and counts
-    /// the command with that chunk's bytes.
+    /// Checks a session in with its new chunk by `Book::put_back`, and counts the command with that chunk's bytes.
+    ///
+    /// # Errors
+    ///
+    /// Those of `Book::put_back`.
     pub fn put_back(&mut self, desk: &mut Tally<S>, hand: Hand) -> Result<u64, Refusal>
         requires filled { hand.last ≢ None }
-        ensures does { DoesExactly (λ n. n) result self.old self.new (putting_back hand self.old) }
-        ensures amounts { desk.new ≡ plus desk.old (step_amounts (PutBack hand result)) }
+        ensures does { ChecksIn hand result self.old self.new }
+        ensures amounts { CountsStep (PutBackCall hand result) desk.old desk.new }
         ensures length { IfOk result (λ n. n ≡ sum_by length hand.chunks + filled_length hand) }
     {
         let reserved = hand.reserved();
@@ -359,10 +385,14 @@ impl<S: Naming> Kept<S> {
         Ok(after)
     }
 
-    /// Puts a session's chunks back as they were before it was taken, and counts nothing.
+    /// Checks a session in unchanged by `Book::put_back`, and counts nothing.
+    ///
+    /// # Errors
+    ///
+    /// Those of `Book::put_back`.
     pub fn cancel(&mut self, hand: Hand) -> Result<u64, Refusal>
         requires unfilled { hand.last ≡ None }
-        ensures does { DoesExactly (λ n. n) result self.old self.new (uncounted (λ catalog. put_back catalog hand) self.old) }
+        ensures does { ChecksInUnchanged hand result self.old self.new }
     {
         let reserved = hand.reserved();
         let received = self.book.put_back(hand)?;
@@ -371,8 +401,13 @@ impl<S: Naming> Kept<S> {
         Ok(received)
     }
 
-    /// Closes a session in hand, as `Book::finish` does, and counts the command with its last chunk's bytes
-    /// as received and all of the session's as closed. Beside the slot of its blob, no slot changes.
+    /// Closes a checked-out session with `Book::finish`, and counts the command.
+    ///
+    /// The bytes of the last chunk are counted as received, and all bytes of the session as closed.
+    ///
+    /// # Errors
+    ///
+    /// Those of `Book::finish`. Each but `UploadUnknown` checks the session in unchanged.
     pub fn finish(
         &mut self,
         pins: &Pins,
@@ -381,15 +416,12 @@ impl<S: Naming> Kept<S> {
         digest: &Digest,
     ) -> Result<u64, Refusal>
         requires table { pins.now ≡ S.names.table }
-        requires full { IsFull hand }
-        ensures does { Does (λ n. n) result
-            (with_catalog self.old (after_cancel self.old.book.catalog hand))
-            (with_slots self.new self.old.book.slots) (finishing hand digest.now self.old) }
-        ensures amounts { desk.new ≡ plus desk.old
-            (step_amounts (Finished hand digest.now result)) }
+        requires full { HasNoOpenReserve hand }
+        ensures does { Finishes hand digest.now result self.old self.new }
+        ensures amounts { CountsStep (FinishCall hand digest.now result) desk.old desk.new }
         ensures length { IfOk result (λ n. n ≡ sum_by length hand.chunks + filled_length hand) }
-        ensures slots { EachSlot IsQuiet self.old.book.slots self.new.book.slots }
-        ensures housed { OnOk result (EachSlot (IsHousing digest.now) self.old.book.slots self.new.book.slots) }
+        ensures slots { EachSlotOf KeepsGeneration self.old self.new }
+        ensures housed { OnOk result (EachSlotOf (MayPlace digest.now) self.old self.new) }
         ensures kept { OnErr result (self.new.book.slots ≡ self.old.book.slots) }
     {
         let reserved = hand.reserved();
@@ -411,45 +443,45 @@ impl<S: Naming> Kept<S> {
         }
     }
 
-    /// Whether so many more desks can't be handed out.
+    /// Returns whether `count` is 0, or `count` more desks would be more than `MAX_DESKS`.
     pub fn lacks_desks(&self, count: u64) -> bool
         ensures { result ≡ cannot_hand_out self.now count }
     {
         count == 0 || count > MAX_DESKS || self.counters.desks() > MAX_DESKS - count
     }
 
-    /// The tally of a new desk, with empty shares.
+    /// Creates the tally of a new desk, with empty shares.
     pub fn issue(&mut self) -> Tally<S>
         requires { self.old.counts.desks + 1 < LEDGER_PARTS }
-        ensures counts { self.new ≡ record self.old { counts = record self.old.counts { desks = self.old.counts.desks + 1 } } }
-        ensures empty { result ≡ nothing }
+        ensures counts { self.new ≡ with_desks self.old 1 }
+        ensures empty { result ≡ zero_amounts }
     {
         self.counters.issue()
     }
 
     /// Settles a desk's tally.
     pub fn settle(&mut self, tally: Tally<S>)
-        ensures same { (self.new.book ≡ self.old.book) × (self.new.counts.totals ≡ self.old.counts.totals) }
+        ensures same { KeepsTotals self.old self.new }
         ensures desks { self.new.counts.desks + 1 ≡ self.old.counts.desks }
-        ensures settled { self.new.counts.settled ≡ plus self.old.counts.settled tally }
+        ensures settled { self.new.counts.settled ≡ add_amounts self.old.counts.settled tally }
     {
         self.counters.settle(tally);
     }
 
-    /// What was settled so far, of which none is more than its total. Once no desk is out, it is the totals.
+    /// Returns the settled amounts and the number of unsettled desks. If that is 0, the amounts equal the totals.
     pub fn settled(&mut self) -> Settled
         ensures same { self.new ≡ self.old }
-        ensures amounts { (result.commands ≡ self.old.counts.settled.commands) × (result.received ≡ self.old.counts.settled.received) × (result.closed ≡ self.old.counts.settled.closed) × (result.abandoned ≡ self.old.counts.settled.abandoned) }
+        ensures amounts { HasSums result self.old.counts.settled }
         ensures left { result.left ≡ self.old.counts.desks }
         ensures all { result.left ≡ 0 → self.old.counts.settled ≡ self.old.counts.totals }
     {
-        self.counters.audit();
+        self.counters.reveal_invariant();
         self.counters.settled()
     }
 
-    /// The totals.
+    /// Returns the totals.
     pub fn totals(&self) -> Totals
-        ensures amounts { (result.commands ≡ self.now.counts.totals.commands) × (result.received ≡ self.now.counts.totals.received) × (result.closed ≡ self.now.counts.totals.closed) × (result.abandoned ≡ self.now.counts.totals.abandoned) }
+        ensures amounts { HasTotals result self.now.counts.totals }
         ensures in_sessions { result.in_sessions ≡ received_in_sessions self.now.book.catalog }
         ensures balanced { result.received ≡ result.in_sessions + result.closed + result.abandoned }
         ensures desks { result.desks ≡ self.now.counts.desks }

@@ -1,12 +1,14 @@
-//! What lies under a store's lock: the book with its totals and its history, and the desks among which the totals are
-//! shared and by which the history is written.
+//! The state under a store's lock: the book with its totals and its history, and the desks that share both.
 //!
-//! It stands on `store_book`, whose outcomes its contracts name, on `upload_table` for sessions in hand, on
-//! `pin_table` for the pins of leases, and on std's ledgers, whose shares the desks hold. At all times the book is
-//! sound, and the bytes received are those in sessions, closed and abandoned. What a desk got is what its accepted
-//! commands come to; once all desks are settled, the sums of their shares are the totals. The history, which is in the
-//! proof alone, leads from the opening catalog to that of the book and to the totals. No lock and no thread is
-//! named here: `blob_store` puts the lock around it.
+//! A desk is a thread's handle on the store: its share of the totals and its part of the history.
+//!
+//! - At all times the book is sound, and the bytes received are those in sessions, closed and abandoned.
+//! - A desk's amounts are those of its accepted commands. If all desks are settled, the sums of their shares are the
+//!   totals.
+//! - The history, which exists in the proof alone, leads from the opening catalog to the catalog of the book and to the
+//!   totals.
+//!
+//! This crate has no lock and starts no thread: `blob_store` puts the lock around `LockedBook`.
 #![tactic(auto)]
 
 mod call;

@@ -1,29 +1,25 @@
-//! What lies under the lock: the book with its totals, and its history.
+//! The store's state under the lock: the book with its totals, and its history.
 
-ghost use Rattle.std.specs.Prelude.{◌≡◌, ◌≢◌, ◌⊎◌, ◌+◌, ◌<◌, None, IfErr, IfOk, IfSome, OnOk, Err, [], true, length, sum_by, if◌then◌else◌};
+ghost use Rattle.std.specs.Prelude.{◌≡◌, ◌≢◌, ◌⊎◌, ◌+◌, ◌<◌, None, IfErr, IfOk, OnOk, Err, [], length, sum_by};
 ghost use Rattle.std.specs.Arc.{arc_value};
 ghost use Rattle.std.specs.FinMap.{empty};
 ghost use Rattle.std.specs.Option.{option_copied};
-ghost use Rattle.std.specs.Io.KnownBytes.{Appends};
-ghost use Rattle.blob_digest.specs.Digests.{is_digest_of, sha256_text};
-ghost use Rattle.blob_digest.specs.Outcomes.{Does, DoesExactly};
-ghost use Rattle.blob_digest.specs.declared.refusal.Refusal.TheVariants.{LimitReached};
-ghost use Rattle.store_model.specs.Amounts.{nothing};
-ghost use Rattle.store_model.specs.BookText.{book_text};
-ghost use Rattle.store_model.specs.Commands.{check_tenant, take, put_back, after_cancel};
+ghost use Rattle.blob_digest.specs.Digests.{sha256_text};
+ghost use Rattle.store_model.specs.Amounts.{zero_amounts};
 ghost use Rattle.store_model.specs.Hands.{filled_length};
-ghost use Rattle.store_model.specs.Histories.{Performed, Cleaned, Took, PutBack, Finished};
+ghost use Rattle.store_model.specs.Histories.{SweepCall, PutBackCall, FinishCall};
 ghost use Rattle.store_model.specs.Runs.{Start, Status, Abandon, Mount as MountCommand, Delete, PutManifest, GetManifest, DeleteManifest, Lease, Number, Mounting, Bytes, Done};
-ghost use Rattle.store_model.specs.Sessions.{IsFull};
+ghost use Rattle.store_model.specs.Sessions.{HasNoOpenReserve};
 ghost use Rattle.store_model.specs.Sweep.{IsSweep};
 ghost use Rattle.store_book.specs.Pinned.{blob_bytes, blob_digest};
-ghost use Rattle.store_book.specs.SlotSteps.{EachSlot, HasPin, IsStill, ReadsWord};
+ghost use Rattle.store_book.specs.SlotSteps.{HasPin, IsUnchanged, ReadsWord};
 ghost use Rattle.locked_book.specs.Calls.{reply};
-ghost use Rattle.locked_book.specs.Counting.{IsBalanced, has_room, with_catalog, with_slots, uncounted, finishing, putting_back, reserving};
+ghost use Rattle.locked_book.specs.Counting.{EachSlotOf, IsBalanced, KeepsCatalog, common_check};
 ghost use Rattle.locked_book.specs.Found.{IsBookOf, IsContentOf, IsSweepOf};
-ghost use Rattle.locked_book.specs.History.{AreInOneHistory, IsUnread, Leaves, Makes, OneBegins, state_of};
-ghost use Rattle.locked_book.specs.Names.{setting_of};
-ghost use Rattle.locked_book.specs.Performing.{Performs};
+ghost use Rattle.locked_book.specs.History.{IsUnread, KeepsAmounts, LogLeadsTo, Makes, MakesCheckOut, MakesFailedPut, OneBegins, SeeOneHistory, state_of};
+ghost use Rattle.locked_book.specs.Names.{BelongsTo};
+ghost use Rattle.locked_book.specs.Performing.{ChecksIn, ChecksInUnchanged, ChecksOut, Finishes, Performs};
+ghost use Rattle.locked_book.specs.Results.{EndsWithRange, HashesTo, IsPinOf, PrintsBook};
 
 use crate::call::Call;
 use crate::counters::Counters;
@@ -33,9 +29,9 @@ use crate::kept::Kept;
 use crate::names::Naming;
 use crate::step::Step;
 use blob_digest::{Blob, ByteRange, Digest, Refusal, RepoName};
+use ghost_log::SharedLog;
 use oci_manifest::Manifest;
 use pin_table::{Pin, Pins};
-use shared_log::SharedLog;
 use std::alloc::Global;
 use std::io::{self, Write};
 use std::marker::Model;
@@ -44,8 +40,18 @@ use std::sync::Arc;
 use store_book::{Book, Mount, Swept};
 use upload_table::Hand;
 
-/// The book with its totals, and its history, which leads from the opening catalog to that of the book, and to the
-/// totals. Each sweep without a desk is added by a writer of its own, that no desk has.
+/// The book with its totals, and its history.
+///
+/// The history leads from the opening catalog to the catalog of the book and to the totals. A call with a desk adds its
+/// step under the desk's number, also if it fails. A sweep without a desk adds its step under a number of its own.
+///
+/// # Errors
+///
+/// Each call fails with the errors of the call of `Kept` that has its name.
+///
+/// # Cost
+///
+/// That of the call of `Kept`, and for a step three loads of an atomic word.
 #[derive(Drop)]
 pub struct LockedBook<S: Naming> {
     pub(crate) kept: Kept<S>,
@@ -53,25 +59,28 @@ pub struct LockedBook<S: Naming> {
 }
 
 impl<S: Naming> Model for LockedBook<S> {
-    ghost use Rattle.locked_book.specs.Counting.{Content, coded_content};
-    ghost use Rattle.locked_book.specs.History.{Leaves, state_of};
+    ghost use Rattle.locked_book.specs.Counting.{StoreContent, coded_store_content};
+    ghost use Rattle.locked_book.specs.History.{LogLeadsTo, state_of};
 
-    ghost Value = { Content };
+    ghost Value = { StoreContent };
 
-    ghost coded = { coded_content };
+    ghost coded = { coded_store_content };
 
     ghost view = { λ b. b.kept };
 
-    ghost invariant = { λ b. Leaves S.names.opening b.history (state_of b.kept) };
+    ghost invariant = { λ b. LogLeadsTo S.names.opening b.history (state_of b.kept) };
 }
 
 impl<S: Naming> LockedBook<S> {
-    /// The value of a book without sessions, with the slots and the setting that the name says, nothing counted, and no
-    /// step made.
+    /// Creates the state of a store whose book has no sessions, with nothing counted and no step made.
     pub fn new(book: Book, counters: Counters<S>, log: SharedLog<Step>) -> LockedBook<S>
         requires book { book.catalog.sessions ≡ empty }
-        requires named { (book.table ≡ S.names.table) × (length book.slots ≡ S.names.slots) × (setting_of book.catalog ≡ S.names.setting) }
-        requires counters { counters ≡ record { totals = nothing; settled = nothing; desks = 0 } }
+        requires named { BelongsTo book S.names }
+        requires counters { counters ≡ record {
+          totals = zero_amounts;
+          settled = zero_amounts;
+          desks = 0;
+        } }
         requires log { (log.name ≡ S.names.log) × (log.entries ≡ []) × (log.writers ≡ 0) }
         requires opening { book.catalog ≡ S.names.opening }
         ensures { result ≡ record { book = book; counts = counters } }
@@ -82,26 +91,27 @@ impl<S: Naming> LockedBook<S> {
         }
     }
 
-    /// Changes nothing, and tells what holds at all times: the book is one that a legal history of the store leaves, it is
-    /// sound, and what was received is in sessions, was closed or was abandoned.
-    pub fn audit(&self)
+    /// Does nothing at run time: it gives the caller the invariant as a fact.
+    ///
+    /// A legal history of the store leads to the book and the totals, the book is sound, and the totals are balanced.
+    pub fn reveal_invariant(&self)
         ensures found { IsBookOf S.names self.now.book }
         ensures balanced { IsBalanced self.now }
         ensures content { IsContentOf S.names self.now }
     {
-        self.kept.audit();
+        self.kept.reveal_invariant();
     }
 
-    /// The book, which tells sizes, uses and free slots. No step is made.
+    /// Returns the book, for queries of sizes, uses and free slots. No step is made.
     pub fn book(&self) -> &Book
         ensures found { IsBookOf S.names self.now.book }
         ensures same { result.now ≡ self.now.book }
     {
-        self.audit();
+        self.reveal_invariant();
         self.kept.book()
     }
 
-    /// Opens a session, as `Kept::start` does.
+    /// Opens a session with `Kept::start`.
     pub fn start(&mut self, desk: &mut Desk<S>, repo: &RepoName) -> Result<u32, Refusal>
         ensures does { Performs S.names.opening (Start repo.now) (reply Number result)
             self.old self.new desk.old desk.new }
@@ -112,7 +122,7 @@ impl<S: Naming> LockedBook<S> {
         result
     }
 
-    /// The received length of a session, as `Kept::status` answers it.
+    /// Returns the received length of a session from `Kept::status`.
     pub fn status(
         &mut self,
         desk: &mut Desk<S>,
@@ -128,7 +138,7 @@ impl<S: Naming> LockedBook<S> {
         result
     }
 
-    /// Gives a session up, as `Kept::abandon` does.
+    /// Removes a session with `Kept::abandon`.
     pub fn abandon(
         &mut self,
         desk: &mut Desk<S>,
@@ -144,7 +154,7 @@ impl<S: Naming> LockedBook<S> {
         result
     }
 
-    /// Links a blob that the tenant holds, or opens a session, as `Kept::mount` does.
+    /// Links a blob from another repository, or opens a session, with `Kept::mount`.
     pub fn mount(
         &mut self,
         desk: &mut Desk<S>,
@@ -162,7 +172,7 @@ impl<S: Naming> LockedBook<S> {
         result
     }
 
-    /// Takes a link out of a repository, as `Kept::delete` does.
+    /// Removes the link between a repository and a blob with `Kept::delete`.
     pub fn delete(
         &mut self,
         desk: &mut Desk<S>,
@@ -179,7 +189,7 @@ impl<S: Naming> LockedBook<S> {
         result
     }
 
-    /// Keeps a manifest that was read, as `Kept::keep_manifest` does.
+    /// Stores a parsed manifest with `Kept::keep_manifest`.
     pub fn keep_manifest(
         &mut self,
         desk: &mut Desk<S>,
@@ -197,7 +207,7 @@ impl<S: Naming> LockedBook<S> {
         result
     }
 
-    /// A manifest of a repository, as `Kept::get_manifest` answers it.
+    /// Returns a manifest of a repository from `Kept::get_manifest`.
     pub fn get_manifest(
         &mut self,
         desk: &mut Desk<S>,
@@ -215,7 +225,7 @@ impl<S: Naming> LockedBook<S> {
         result
     }
 
-    /// Takes a manifest out of a repository, as `Kept::delete_manifest` does.
+    /// Removes a manifest from a repository with `Kept::delete_manifest`.
     pub fn delete_manifest(
         &mut self,
         desk: &mut Desk<S>,
@@ -234,7 +244,7 @@ impl<S: Naming> LockedBook<S> {
         result
     }
 
-    /// Lends a blob that a repository holds, as `Kept::lease` does.
+    /// Leases a blob of a repository with `Kept::lease`.
     pub fn lease(
         &mut self,
         pins: &Pins,
@@ -246,8 +256,8 @@ impl<S: Naming> LockedBook<S> {
         ensures does { Performs S.names.opening (Lease repo.now digest.now)
             (reply (λ r. Bytes (blob_bytes (arc_value r.1))) result)
             self.old self.new desk.old desk.new }
-        ensures pin { IfOk result (λ r. (r.0.table ≡ S.names.table) × (r.0.hold.digest ≡ digest.now) × (r.0.hold.weight ≡ 1024)) }
-        ensures content { IfOk result (λ r. is_digest_of digest.now (blob_bytes (arc_value r.1)) ≡ true) }
+        ensures pin { IfOk result (λ r. IsPinOf S.names.table digest.now r.0) }
+        ensures content { IfOk result (λ r. HashesTo (blob_bytes (arc_value r.1)) digest.now) }
         ensures blob { IfOk result (λ r. blob_digest (arc_value r.1) ≡ digest.now) }
     {
         let result = self.kept.lease(pins, &mut desk.tally, repo, digest);
@@ -256,7 +266,7 @@ impl<S: Naming> LockedBook<S> {
         result
     }
 
-    /// Takes a session in hand, as `Kept::take` does. Nothing is counted yet.
+    /// Checks a session out with `Kept::take`. The command is counted at check-in.
     pub fn take(
         &mut self,
         desk: &mut Desk<S>,
@@ -265,10 +275,9 @@ impl<S: Naming> LockedBook<S> {
         range: Option<ByteRange>,
         len: u64,
     ) -> Result<Hand, Refusal>
-        ensures does { DoesExactly (λ h. h) result self.old self.new (reserving len (λ catalog. take catalog repo.now number range len) self.old) }
-        ensures ends { IfOk result (λ h. IfSome range (λ r. sum_by length h.chunks + len ≡ r.end + 1)) }
-        ensures makes { Makes S.names.opening (Took repo.now number range len result)
-            desk.old desk.new }
+        ensures does { ChecksOut repo.now number range len result self.old self.new }
+        ensures ends { IfOk result (λ h. EndsWithRange h len range) }
+        ensures makes { MakesCheckOut S.names repo.now number range len result desk.old desk.new }
     {
         let result = self.kept.take(repo, number, range, len);
         self.history.add(
@@ -278,12 +287,12 @@ impl<S: Naming> LockedBook<S> {
         result
     }
 
-    /// Puts a session's chunks back with the one that was filled in, as `Kept::put_back` does.
+    /// Checks a session in with its new chunk by `Kept::put_back`.
     pub fn put_back(&mut self, desk: &mut Desk<S>, hand: Hand) -> Result<u64, Refusal>
         requires filled { hand.last ≢ None }
-        ensures does { DoesExactly (λ n. n) result self.old self.new (putting_back hand self.old) }
+        ensures does { ChecksIn hand result self.old self.new }
         ensures length { IfOk result (λ n. n ≡ sum_by length hand.chunks + filled_length hand) }
-        ensures makes { Makes S.names.opening (PutBack hand result) desk.old desk.new }
+        ensures makes { Makes S.names.opening (PutBackCall hand result) desk.old desk.new }
     {
         let given = Snapshot::of(&hand);
         let result = self.kept.put_back(&mut desk.tally, hand);
@@ -292,11 +301,11 @@ impl<S: Naming> LockedBook<S> {
         result
     }
 
-    /// Puts a session's chunks back as they were before it was taken, as `Kept::cancel` does.
+    /// Checks a session in unchanged by `Kept::cancel`.
     pub fn cancel(&mut self, desk: &mut Desk<S>, hand: Hand) -> Result<u64, Refusal>
         requires unfilled { hand.last ≡ None }
-        ensures does { DoesExactly (λ n. n) result self.old self.new (uncounted (λ catalog. put_back catalog hand) self.old) }
-        ensures makes { Makes S.names.opening (PutBack hand result) desk.old desk.new }
+        ensures does { ChecksInUnchanged hand result self.old self.new }
+        ensures makes { Makes S.names.opening (PutBackCall hand result) desk.old desk.new }
     {
         let given = Snapshot::of(&hand);
         let result = self.kept.cancel(hand);
@@ -305,7 +314,7 @@ impl<S: Naming> LockedBook<S> {
         result
     }
 
-    /// Closes a session in hand, as `Kept::finish` does.
+    /// Closes a checked-out session with `Kept::finish`.
     pub fn finish(
         &mut self,
         pins: &Pins,
@@ -314,12 +323,11 @@ impl<S: Naming> LockedBook<S> {
         digest: &Digest,
     ) -> Result<u64, Refusal>
         requires table { pins.now ≡ S.names.table }
-        requires full { IsFull hand }
-        ensures does { Does (λ n. n) result
-            (with_catalog self.old (after_cancel self.old.book.catalog hand))
-            (with_slots self.new self.old.book.slots) (finishing hand digest.now self.old) }
+        requires full { HasNoOpenReserve hand }
+        ensures does { Finishes hand digest.now result self.old self.new }
         ensures length { IfOk result (λ n. n ≡ sum_by length hand.chunks + filled_length hand) }
-        ensures makes { Makes S.names.opening (Finished hand digest.now result) desk.old desk.new }
+        ensures makes { Makes S.names.opening (FinishCall hand digest.now result)
+            desk.old desk.new }
     {
         let given = Snapshot::of(&hand);
         let result = self.kept.finish(pins, &mut desk.tally, hand, digest);
@@ -328,18 +336,18 @@ impl<S: Naming> LockedBook<S> {
         result
     }
 
-    /// Refuses a put of a manifest to a repository for which no command is accepted, as `Kept::check_tenant` does. Where
-    /// it is accepted, no step is made.
+    /// Makes the check of `Kept::check_tenant` for a put of a manifest.
+    ///
+    /// If it fails, the failed put is a step. Otherwise no step is made.
     pub fn check_tenant(
         &mut self,
         desk: &mut Desk<S>,
         repo: &RepoName,
         bytes: &[u8],
     ) -> Result<(), Refusal>
-        ensures answers { result ≡ (if has_room self.old 0 then check_tenant self.old.book.catalog repo.now else Err LimitReached) }
+        ensures answers { result ≡ common_check self.old repo.now }
         ensures ok { OnOk result (desk.new ≡ desk.old) }
-        ensures makes { IfErr result (λ e. Makes S.names.opening
-            (Performed (PutManifest repo.now bytes.now) (Err e)) desk.old desk.new) }
+        ensures makes { IfErr result (MakesFailedPut S.names repo.now bytes.now desk.old desk.new) }
     {
         match self.kept.check_tenant(repo) {
             Ok(()) => Ok(()),
@@ -353,7 +361,9 @@ impl<S: Naming> LockedBook<S> {
         }
     }
 
-    /// Refuses bytes that are no manifest, unless the repository is refused first.
+    /// Adds the step of a put of a manifest whose bytes could not be parsed, and returns its error.
+    ///
+    /// The error is that of `Kept::check_tenant` if the check fails, and `unread` otherwise.
     pub fn refuse_manifest(
         &mut self,
         desk: &mut Desk<S>,
@@ -362,9 +372,8 @@ impl<S: Naming> LockedBook<S> {
         unread: Refusal,
     ) -> Refusal
         requires unread { IsUnread bytes.now unread }
-        ensures answers { (result ≡ unread) ⊎ (Err result ≡ (if has_room self.old 0 then check_tenant self.old.book.catalog repo.now else Err LimitReached)) }
-        ensures makes { Makes S.names.opening
-            (Performed (PutManifest repo.now bytes.now) (Err result)) desk.old desk.new }
+        ensures answers { (result ≡ unread) ⊎ (Err result ≡ common_check self.old repo.now) }
+        ensures makes { MakesFailedPut S.names repo.now bytes.now desk.old desk.new result }
     {
         let refusal = match self.kept.check_tenant(repo) {
             Ok(()) => unread,
@@ -377,71 +386,77 @@ impl<S: Naming> LockedBook<S> {
         refusal
     }
 
-    /// Sweeps as `Kept::sweep` does. Its step has a writer of its own, that no desk has.
+    /// Sweeps with `Kept::sweep`. The step has a writer of its own, which no desk has.
     pub fn sweep(&mut self, pins: &Pins) -> Swept
         requires table { pins.now ≡ S.names.table }
         ensures sweeps { IsSweepOf S.names self.old result self.new }
     {
-        self.audit();
+        self.reveal_invariant();
         let result = self.kept.sweep(pins);
         let mut nobody = self.history.writer();
         self.history.add(&mut nobody, Call::Sweep(&result));
-        self.audit();
+        self.reveal_invariant();
         result
     }
 
-    /// Sweeps as `sweep` does, for whoever has a desk: the step is the desk's.
+    /// Sweeps with `Kept::sweep`. The step is the desk's.
     pub fn sweep_at(&mut self, pins: &Pins, desk: &mut Desk<S>) -> Swept
         requires table { pins.now ≡ S.names.table }
         ensures sweeps { IsSweep self.old.book.catalog result self.new.book.catalog }
         ensures counts { self.new.counts ≡ self.old.counts }
-        ensures makes { Makes S.names.opening (Cleaned result) desk.old desk.new }
+        ensures makes { Makes S.names.opening (SweepCall result) desk.old desk.new }
     {
         let result = self.kept.sweep(pins);
         self.history.add(&mut desk.writer, Call::Sweep(&result));
         result
     }
 
-    /// Lets two desks see all of the history, of which each had seen a beginning. No step is made, and nothing is counted.
+    /// Shows two desks the whole history, of which each had seen a prefix.
+    ///
+    /// No step is made, and nothing is counted.
+    ///
+    /// # Memory
+    ///
+    /// Never allocates.
     pub fn compare(&mut self, one: &mut Desk<S>, other: &mut Desk<S>)
         ensures content { self.new ≡ self.old }
-        ensures same { (one.new.amounts ≡ one.old.amounts) × (other.new.amounts ≡ other.old.amounts) }
-        ensures one_history { AreInOneHistory S.names.opening one.old.trace one.new.trace other.old.trace other.new.trace }
+        ensures same { KeepsAmounts one.old one.new × KeepsAmounts other.old other.new }
+        ensures one_history { SeeOneHistory S.names.opening one.old one.new other.old other.new }
         ensures begins { OneBegins one.old.trace.seen other.old.trace.seen }
-        ensures leads { Leaves S.names.opening one.new.trace.seen (state_of self.new) }
+        ensures leads { LogLeadsTo S.names.opening one.new.trace.seen (state_of self.new) }
     {
         self.history.catch_up(&mut one.writer);
         self.history.catch_up(&mut other.writer);
     }
 
-    /// The pin with all that it had, as `Kept::verify` tells of it. No step is made.
+    /// Confirms with `Kept::verify` that a pin's slot is its own, and returns the pin. No step is made.
     pub fn verify(&mut self, pins: &Pins, pin: Pin) -> Pin
         requires table { (pins.now ≡ S.names.table) × (pin.table ≡ S.names.table) }
         ensures found { IsBookOf S.names self.old.book }
         ensures same { result ≡ pin }
         ensures kept { HasPin pin.hold self.old.book }
     {
-        self.audit();
+        self.reveal_invariant();
         self.kept.verify(pins, pin)
     }
 
-    /// The word of a slot, as `Kept::word` reads it. No step is made.
+    /// Returns the word of a slot from `Kept::word`. No step is made.
     pub fn word(&mut self, pins: &Pins, slot: u32) -> u64
         requires table { pins.now ≡ S.names.table }
         requires within { slot < S.names.slots }
         ensures word { ReadsWord slot result self.old.book.slots self.new.book.slots }
-        ensures content { (self.new.book.catalog ≡ self.old.book.catalog) × (self.new.counts ≡ self.old.counts) }
-        ensures slots { EachSlot IsStill self.old.book.slots self.new.book.slots }
+        ensures content { KeepsCatalog self.old self.new }
+        ensures slots { EachSlotOf IsUnchanged self.old self.new }
     {
         self.kept.word(pins, slot)
     }
 
-    /// Writes the text of the book, as `Kept::print` does.
+    /// Writes the text of the book with `Kept::print`.
     pub fn print<W: Write>(&self, writer: &mut W) -> io::Result<()>
         ensures found { IsBookOf S.names self.now.book }
-        ensures text { OnOk result (Appends (W.contents writer.old) (W.contents writer.new) (book_text self.now.book.catalog)) }
+        ensures text { OnOk result (PrintsBook W.contents writer.old writer.new self.now.book) }
     {
-        self.audit();
+        self.reveal_invariant();
         self.kept.print(writer)
     }
 }

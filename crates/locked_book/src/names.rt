@@ -1,22 +1,23 @@
-//! The names of a store, of its pins and of its ledgers.
+//! Types that name a store, its pins and its ledgers.
 
-ghost use Rattle.locked_book.specs.Names.{StoreNames, unnamed};
+ghost use Rattle.locked_book.specs.Names.{StoreNames, no_names};
 
 use std::marker::{Brand, PhantomData};
 use std::sync::ledger::Ledger;
 use store_book::PinsName;
 
-/// Which store: the table of its pins, what it was made with, its four ledgers, and its log. It has no values, and no code: a
-/// type that carries such a parameter belongs to the store of these names.
+/// The names of a store: its table of pins, its setting, its four ledgers and its log.
+///
+/// A type with such a parameter belongs to the store of these names. The names exist in the proof alone.
 pub trait Naming {
     ghost names: { StoreNames };
 }
 
 impl Naming for Brand {
-    ghost names = { unnamed };
+    ghost names = { no_names };
 }
 
-/// The pins of a store.
+/// A name for the pins of a store.
 pub struct StorePins<S: Naming> {
     of: PhantomData<S>,
 }
@@ -25,7 +26,7 @@ impl<S: Naming> PinsName for StorePins<S> {
     ghost table = { S.names.table };
 }
 
-/// The ledger of a store's accepted commands.
+/// A name for the ledger of accepted commands.
 pub struct Commands<S: Naming> {
     of: PhantomData<S>,
 }
@@ -36,7 +37,7 @@ impl<S: Naming> Ledger for Commands<S> {
     ghost parts = { S.names.commands.parts };
 }
 
-/// The ledger of the bytes that a store received.
+/// A name for the ledger of received bytes.
 pub struct Received<S: Naming> {
     of: PhantomData<S>,
 }
@@ -47,7 +48,7 @@ impl<S: Naming> Ledger for Received<S> {
     ghost parts = { S.names.received.parts };
 }
 
-/// The ledger of the bytes of a store's closed sessions.
+/// A name for the ledger of the bytes of closed sessions.
 pub struct Closed<S: Naming> {
     of: PhantomData<S>,
 }
@@ -58,7 +59,7 @@ impl<S: Naming> Ledger for Closed<S> {
     ghost parts = { S.names.closed.parts };
 }
 
-/// The ledger of the bytes of a store's abandoned sessions.
+/// A name for the ledger of the bytes of abandoned sessions.
 pub struct Abandoned<S: Naming> {
     of: PhantomData<S>,
 }

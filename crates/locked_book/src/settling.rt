@@ -1,26 +1,25 @@
-//! Settling desks, and looking back at the history that they wrote.
+//! Settling desks, and comparing their steps with the history.
 
-ghost use Rattle.std.specs.Prelude.{◌≡◌, ◌+◌, ℕ, [], get_or, true, vec_len};
-ghost use Rattle.shared_log.specs.Entries.{events_by};
-ghost use Rattle.store_model.specs.Amounts.{plus, sum_of};
-ghost use Rattle.locked_book.specs.History.{amounts_of, steps_of_each};
+ghost use Rattle.std.specs.Prelude.{◌≡◌, ◌+◌, true, vec_len};
+ghost use Rattle.locked_book.specs.Counting.{KeepsTotals};
+ghost use Rattle.locked_book.specs.History.{HasStepsOf, SettlesAll, steps_of_each};
 
 use crate::desk::Desk;
 use crate::history::History;
 use crate::kept::Kept;
 use crate::names::Naming;
 
-/// Settles desks, and tells whether the history has under each number the steps of the desk at this place, and no others.
+/// Settles desks, and returns whether their steps are the whole history, each desk's under the number of its place.
 pub fn settle_all<S: Naming>(
     kept: &mut Kept<S>,
     history: &mut History<S>,
     mut desks: Vec<Desk<S>>,
 ) -> bool
-    ensures same { (kept.new.book ≡ kept.old.book) × (kept.new.counts.totals ≡ kept.old.counts.totals) }
+    ensures same { KeepsTotals kept.old kept.new }
     ensures history { history.new ≡ history.old }
     ensures desks { kept.new.counts.desks + vec_len desks ≡ kept.old.counts.desks }
-    ensures settled { kept.new.counts.settled ≡ plus kept.old.counts.settled (sum_of (amounts_of desks.items)) }
-    ensures whole { result ≡ true → (n : ℕ) → events_by n history.new ≡ get_or (steps_of_each desks.items) n [] }
+    ensures settled { SettlesAll kept.old.counts kept.new.counts desks.items }
+    ensures whole { result ≡ true → HasStepsOf history.new (steps_of_each desks.items) }
 {
     let writers = desks.len() as u64;
     let mut whole = !desks.is_empty();

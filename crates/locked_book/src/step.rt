@@ -1,14 +1,14 @@
-//! What is appended to a store's log: values of the proof alone.
+//! The events of a store's log, which exist in the proof alone.
 
 ghost use Rattle.std.specs.Prelude.{◌≡◌};
-ghost use Rattle.shared_log.specs.Calls.{Agrees, with_entry, has_appended};
+ghost use Rattle.ghost_log.specs.Calls.{Agrees, with_entry, writer_after_append};
 ghost use Rattle.locked_book.specs.Calls.{step_of};
 
 use crate::call::Call;
-use shared_log::{Event, SharedLog, Writer};
+use ghost_log::{Event, SharedLog, Writer};
 use std::marker::{Brand, Model, PhantomData};
 
-/// A step of a store's history. The code keeps none.
+/// A step of a store's history. At run time it has no content.
 pub struct Step {
     none: (),
 }
@@ -18,10 +18,10 @@ impl Model for Step {
 
     ghost Value = { histories.Step };
 
-    ghost view = { λ _. histories.Cleaned (record { condemned = 0; freed = 0; held = 0; retired = 0 }) };
+    ghost view = { λ _. histories.SweepCall (record { condemned = 0; freed = 0; held = 0; retired = 0 }) };
 }
 
-/// Picks a step.
+/// A type that names a step.
 pub trait StepName {
     ghost use Rattle.store_model.specs.Histories as histories;
 
@@ -31,10 +31,10 @@ pub trait StepName {
 impl StepName for Brand {
     ghost use Rattle.store_model.specs.Histories as histories;
 
-    ghost step = { histories.Cleaned (record { condemned = 0; freed = 0; held = 0; retired = 0 }) };
+    ghost step = { histories.SweepCall (record { condemned = 0; freed = 0; held = 0; retired = 0 }) };
 }
 
-/// The step that was picked.
+/// The event that is the step named by `P`.
 pub struct Picked<P> {
     of: PhantomData<P>,
 }
@@ -43,24 +43,25 @@ impl<P: StepName> Event<Step> for Picked<P> {
     ghost event = { P.step };
 }
 
-// The step is picked in the proof alone.
+// The proof chooses `P`, and with it the step.
 fn append_as<P: StepName>(log: &mut SharedLog<Step>, writer: &mut Writer<Step>, call: Call<'_>)
     requires step { P.step ≡ step_of call }
     requires name { writer.old.name ≡ log.old.name }
     ensures agrees { Agrees log.old writer.old }
     ensures log { log.new ≡ with_entry writer.old.number P.step log.old }
-    ensures writer { writer.new ≡ has_appended P.step log.old.entries writer.old }
+    ensures writer { writer.new ≡ writer_after_append P.step log.old.entries writer.old }
 {
     let _ = call;
     log.append::<Picked<P>>(writer);
 }
 
-/// Appends the step that a call was.
+/// Appends the step that a call is.
 pub fn append(log: &mut SharedLog<Step>, writer: &mut Writer<Step>, call: Call<'_>)
     requires { writer.old.name ≡ log.old.name }
     ensures agrees { Agrees log.old writer.old }
     ensures log { log.new ≡ with_entry writer.old.number (step_of call.entry) log.old }
-    ensures writer { writer.new ≡ has_appended (step_of call.entry) log.old.entries writer.old }
+    ensures writer { writer.new ≡ writer_after_append (step_of call.entry) log.old.entries
+        writer.old }
 {
     append_as::<Brand>(log, writer, call);
 }

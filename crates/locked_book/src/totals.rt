@@ -1,18 +1,18 @@
-//! The totals, as they are read.
+//! The totals that a call returns.
 
-/// What was accepted so far, in commands and bytes.
+/// The totals of all accepted commands and of their bytes.
 #[derive(Clone, Copy, PartialEq, Eq, Debug)]
 pub struct Totals {
     /// Accepted commands.
     pub commands: u64,
     /// Bytes of accepted chunks.
     pub received: u64,
-    /// Bytes that the sessions have received.
+    /// Bytes received in sessions that are neither closed nor abandoned.
     pub in_sessions: u64,
-    /// Bytes of sessions that were closed.
+    /// Bytes of closed sessions.
     pub closed: u64,
-    /// Bytes of sessions that were abandoned.
+    /// Bytes of abandoned sessions.
     pub abandoned: u64,
-    /// The number of desks out.
+    /// Unsettled desks.
     pub desks: u64,
 }

@@ -1,15 +1,15 @@
--- Which document bytes read as.
+-- The JSON value of bytes.
 use Rattle.std.proofs.Common.{◌≡◌, ℕ, List, Bool, true, false, None, IsUtf8, refl}
 use Rattle.std.specs.Str.{is_utf8}
 use Rattle.std.proofs.lemmas.Str.{IsUtf8-from_is_utf8, is_utf8-from_IsUtf8}
 use Rattle.serde_json.specs.Read.{read}
 use Rattle.oci_manifest.specs.Manifests.{document_of}
 
--- of a text, what `serde_json` reads
+-- the document of a text is the value that `serde_json` reads
 pub document_of_text : (bytes : List ℕ) → IsUtf8 bytes → document_of bytes ≡ read bytes
 document_of_text bytes utf8 = rw (is_utf8-from_IsUtf8 bytes utf8) refl
 
--- none where a text reads as nothing
+-- a text that `serde_json` refuses has no document
 pub no_document : (bytes : List ℕ) → (IsUtf8 bytes → read bytes ≡ None) → document_of bytes ≡ None
 no_document bytes h = by_test (is_utf8 bytes) refl
   where

@@ -1,10 +1,12 @@
-//! Reads manifests, and keeps each in the exact bytes that were given.
+//! Reads manifests, and keeps each as the exact bytes that were given.
 //!
-//! It stands on `blob_digest` for digests and refusals, and on `serde_json` for JSON (RFC 8259). It
-//! promises that the references which it gives are those of the definition `refs_of`, over the JSON
-//! value that the bytes read as (OCI Image Specification 1.1, "Image Manifest" and "Image Index"), that
-//! it refuses exactly the bytes which have none and those past 4 MiB, unless memory ran out, and that a
-//! manifest's digest is the SHA-256 of its bytes (FIPS 180-4).
+//! It depends on `blob_digest` for digests and refusals, on `spec_lib` for texts as keys, and on `serde_json` for JSON
+//! (RFC 8259). Its contracts state:
+//!
+//! - The references of a manifest are those of the definition `refs_of`, on the JSON value of the bytes (OCI Image
+//!   Specification 1.1, "Image Manifest" and "Image Index").
+//! - Unless memory runs out, `read` fails exactly for more than 4 MiB and for bytes without references.
+//! - The digest of a manifest is the SHA-256 of its bytes (FIPS 180-4, section 6.2).
 #![tactic(auto)]
 
 mod manifest;

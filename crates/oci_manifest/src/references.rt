@@ -1,30 +1,29 @@
-//! The references of a manifest: those that `specs/Manifests.antt` defines, one function for each of
-//! its definitions.
-ghost use Rattle.std.specs.Prelude.{◌≡◌, IfOk, IfErr, option_map, ◌⊎◌, Some, None};
+//! The references of a manifest. Each function computes one definition of `specs/Manifests.antt`.
+ghost use Rattle.std.specs.Prelude.{◌≡◌, IfOk, IfErr, Some, None};
 ghost use Rattle.serde_json.specs.View.{view, items_view};
-ghost use Rattle.oci_manifest.specs.Manifests.{described, document_of, is_filled, is_skipped, is_version_2, image_refs, layer_refs, listed, named, once, refs_of};
+ghost use Rattle.oci_manifest.specs.Manifests.{IsInvalidOnlyIf, descriptor_digest, document_of, found_digests, image_refs, is_filled, is_skipped, is_version_2, layer_refs, member_items, member_view, named, distinct_texts, refs_of, slice_view};
 
 use blob_digest::{Digest, Refusal};
 use serde_json::Value;
 use std::alloc::{AllocError, Global};
 use std::collections::BTreeSet;
 
-/// The digest that a descriptor names.
-fn described(descriptor: &Value) -> Option<Digest>
-    ensures { result ≡ described (view descriptor.now) }
+/// Returns the digest in a descriptor.
+fn descriptor_digest(descriptor: &Value) -> Option<Digest>
+    ensures { result ≡ descriptor_digest (view descriptor.now) }
 {
     let text = descriptor.get("digest")?.as_str()?;
     Digest::parse(text.as_bytes()).ok()
 }
 
-/// Whether a list has an element.
+/// Returns whether a list has an element.
 fn is_filled(list: &Vec<Value>) -> bool
     ensures { result ≡ is_filled (items_view list.now.items) }
 {
     !list.is_empty()
 }
 
-/// Whether a layer is skipped, since it is fetched from elsewhere.
+/// Returns whether a layer is skipped because it is fetched from elsewhere.
 fn is_skipped(layer: &Value) -> bool
     ensures { result ≡ is_skipped (view layer.now) }
 {
@@ -34,21 +33,21 @@ fn is_skipped(layer: &Value) -> bool
     }
 }
 
-/// Whether `schemaVersion` is the whole number 2.
+/// Returns whether `schemaVersion` is the integer 2.
 fn is_version_2(root: &Value) -> bool
     ensures { result ≡ is_version_2 (view root.now) }
 {
     root.get("schemaVersion").and_then(Value::as_u64) == Some(2)
 }
 
-/// The digests of the layers that are not skipped, in order.
+/// Returns the digests of the layers that are not skipped, in order. It returns `None` if one of these has no digest.
 fn layer_refs(alloc: Global, layers: &[Value]) -> Result<Option<Vec<Digest>>, AllocError>
-    ensures { IfOk result (λ found. option_map (λ digests. digests.items) found ≡ layer_refs (items_view layers.now)) }
+    ensures { IfOk result (λ found. found_digests found ≡ layer_refs (items_view layers.now)) }
 {
     let mut digests = Vec::new(alloc);
     for layer in layers {
         if !is_skipped(layer) {
-            let Some(digest) = described(layer) else {
+            let Some(digest) = descriptor_digest(layer) else {
                 return Ok(None);
             };
             digests.push(digest)?;
@@ -57,9 +56,9 @@ fn layer_refs(alloc: Global, layers: &[Value]) -> Result<Option<Vec<Digest>>, Al
     Ok(Some(digests))
 }
 
-/// The items of a member that is a list; absent and null count as empty.
-fn listed(member: Option<&Value>) -> Option<&[Value]>
-    ensures { option_map (λ items. items_view items.now) result ≡ listed (option_map (λ value. view value.now) member.entry) }
+/// Returns the items of a member that is a list. An absent member and null count as an empty list.
+fn member_items(member: Option<&Value>) -> Option<&[Value]>
+    ensures { slice_view result ≡ member_items (member_view member.entry) }
 {
     match member {
         None => Some(&[]),
@@ -69,14 +68,14 @@ fn listed(member: Option<&Value>) -> Option<&[Value]>
     }
 }
 
-/// An image manifest's digests: the config's, then those of the layers.
+/// Returns the digests of an image manifest: the digest of the config, then those of the layers.
 fn image_refs(alloc: Global, root: &Value) -> Result<Option<Vec<Digest>>, AllocError>
-    ensures { IfOk result (λ found. option_map (λ digests. digests.items) found ≡ image_refs (view root.now)) }
+    ensures { IfOk result (λ found. found_digests found ≡ image_refs (view root.now)) }
 {
-    let Some(config) = root.get("config").and_then(described) else {
+    let Some(config) = root.get("config").and_then(descriptor_digest) else {
         return Ok(None);
     };
-    let Some(layers) = listed(root.get("layers")) else {
+    let Some(layers) = member_items(root.get("layers")) else {
         return Ok(None);
     };
     let Some(mut digests) = layer_refs(alloc, layers)? else {
@@ -86,9 +85,9 @@ fn image_refs(alloc: Global, root: &Value) -> Result<Option<Vec<Digest>>, AllocE
     Ok(Some(digests))
 }
 
-/// The digests that a document names, in order; none where it is no manifest.
+/// Returns the digests in a JSON value, in order, or `None` if it is not a manifest.
 fn named(alloc: Global, root: &Value) -> Result<Option<Vec<Digest>>, AllocError>
-    ensures { IfOk result (λ found. option_map (λ digests. digests.items) found ≡ named (view root.now)) }
+    ensures { IfOk result (λ found. found_digests found ≡ named (view root.now)) }
 {
     if !root.is_object() || !is_version_2(root) {
         return Ok(None);
@@ -103,17 +102,24 @@ fn named(alloc: Global, root: &Value) -> Result<Option<Vec<Digest>>, AllocError>
     if root.get("config").is_some() || root.get("layers").is_some() {
         return Ok(None);
     }
-    match listed(manifests) {
+    match member_items(manifests) {
         Some(_) => Ok(Some(Vec::new(alloc))),
         None => Ok(None),
     }
 }
 
-/// Each digest once, at its first place. Doubles are found among those that came before in the order of
-/// their texts, so that each digest takes the logarithm of their number, whichever digests a client picks. The
-/// list has room for all digests, which a manifest's bytes outweigh, and mostly no more than it needs.
-fn once(alloc: Global, digests: &[Digest]) -> Result<Vec<Digest>, Refusal>
-    ensures value { IfOk result (λ kept. kept.items ≡ once digests.now) }
+/// Returns each digest once, at its first position.
+///
+/// # Errors
+///
+/// - `Memory`: allocation fails.
+///
+/// # Cost
+///
+/// Each digest takes the logarithm of the number of different ones before it, whichever digests a client chooses. The
+/// list is allocated for all digests, which take less memory than the bytes of the manifest.
+fn distinct_digests(alloc: Global, digests: &[Digest]) -> Result<Vec<Digest>, Refusal>
+    ensures value { IfOk result (λ kept. kept.items ≡ distinct_texts digests.now) }
     ensures refused { IfErr result (λ e. e ≡ Refusal.Memory) }
 {
     let mut seen = BTreeSet::new(alloc);
@@ -126,11 +132,11 @@ fn once(alloc: Global, digests: &[Digest]) -> Result<Vec<Digest>, Refusal>
     Ok(kept)
 }
 
-/// The JSON value that the bytes read as.
+/// Reads bytes as a JSON value.
 #[tactic(auto, using(crate::proofs::Documents::document_of_text, crate::proofs::Documents::no_document))]
 fn document(alloc: Global, bytes: &[u8]) -> Result<Value, Refusal>
     ensures value { IfOk result (λ root. document_of bytes.now ≡ Some (view root)) }
-    ensures refused { IfErr result (λ e. (e ≡ Refusal.Memory) ⊎ ((e ≡ Refusal.ManifestInvalid) × (document_of bytes.now ≡ None))) }
+    ensures refused { IfErr result (λ e. IsInvalidOnlyIf (document_of bytes.now ≡ None) e) }
 {
     match Value::from_slice(alloc, bytes) {
         Ok(root) => Ok(root),
@@ -143,15 +149,15 @@ fn document(alloc: Global, bytes: &[u8]) -> Result<Value, Refusal>
     }
 }
 
-/// The references of a manifest's bytes.
+/// Returns the references of a manifest's bytes.
 #[tactic(auto, unfolding(crate::specs::Manifests::refs_of))]
 pub(crate) fn references(alloc: Global, bytes: &[u8]) -> Result<Vec<Digest>, Refusal>
     ensures value { IfOk result (λ refs. refs_of bytes.now ≡ Some refs.items) }
-    ensures refused { IfErr result (λ e. (e ≡ Refusal.Memory) ⊎ ((e ≡ Refusal.ManifestInvalid) × (refs_of bytes.now ≡ None))) }
+    ensures refused { IfErr result (λ e. IsInvalidOnlyIf (refs_of bytes.now ≡ None) e) }
 {
     let root = document(alloc, bytes)?;
     match named(alloc, &root)? {
-        Some(digests) => once(alloc, digests.as_slice()),
+        Some(digests) => distinct_digests(alloc, digests.as_slice()),
         None => Err(Refusal::ManifestInvalid),
     }
 }

@@ -8,8 +8,8 @@ use mathlib.Core.Logic.{dite}
 use native.Mathlib.Decide.{ℕ_discrete}
 use Rattle.pin_core.specs.declared.world.PinRecord.{PinRecord}
 use Rattle.pin_core.specs.declared.world.PinEntry.{PinEntry}
-use Rattle.pin_core.specs.World.{hold_named, IsNamed}
-use Rattle.pin_core.specs.Events.{half, halve, second, entry}
+use Rattle.pin_core.specs.World.{hold_named, HasDistinctNames}
+use Rattle.pin_core.specs.Events.{half, half_if_named, second, named_entry}
 
 abbrev pub hold_in : PinEntry → PinRecord
 hold_in e = e.hold
@@ -57,37 +57,37 @@ pub on_push : (es fs : List PinEntry) (n k : ℕ) → IsOn es n k → IsOn (es +
 on_push es fs n k on = record { hold = on.hold; there = found_push es fs n on.hold on.there; slot = on.slot }
 
 -- a new name at the end
-pub named_last : (es : List PinEntry) (n : ℕ) (h : PinRecord) → hold_named n es ≡ None → hold_named n (es ++ entry n h ∷ []) ≡ Some h
+pub named_last : (es : List PinEntry) (n : ℕ) (h : PinRecord) → hold_named n es ≡ None → hold_named n (es ++ named_entry n h ∷ []) ≡ Some h
 named_last [] n h e = ap (λ b. cond b (Some h) None) (eq-eqb n n refl)
 named_last (x ∷ es) n h e = by_name (x.name == n) e (named_last es n h)
   where
-    by_name : (b : Bool) → cond b (Some x.hold) (hold_named n es) ≡ None → (hold_named n es ≡ None → hold_named n (es ++ entry n h ∷ []) ≡ Some h) → cond b (Some x.hold) (hold_named n (es ++ entry n h ∷ [])) ≡ Some h
+    by_name : (b : Bool) → cond b (Some x.hold) (hold_named n es) ≡ None → (hold_named n es ≡ None → hold_named n (es ++ named_entry n h ∷ []) ≡ Some h) → cond b (Some x.hold) (hold_named n (es ++ named_entry n h ∷ [])) ≡ Some h
     by_name true e rest = absurd (cc)
     by_name false e rest = rest e
 
-pub halved_hold : (m : ℕ) (e : PinEntry) → (halve m e).name ≡ e.name
+pub halved_hold : (m : ℕ) (e : PinEntry) → (half_if_named m e).name ≡ e.name
 halved_hold m e = by_name (e.name == m)
   where
-    by_name : (b : Bool) → (cond b (entry e.name (half e.hold)) e).name ≡ e.name
+    by_name : (b : Bool) → (cond b (named_entry e.name (half e.hold)) e).name ≡ e.name
     by_name true = refl
     by_name false = refl
 
-pub halved_slot : (m : ℕ) (e : PinEntry) → (halve m e).hold.slot ≡ e.hold.slot
+pub halved_slot : (m : ℕ) (e : PinEntry) → (half_if_named m e).hold.slot ≡ e.hold.slot
 halved_slot m e = by_name (e.name == m)
   where
-    by_name : (b : Bool) → (cond b (entry e.name (half e.hold)) e).hold.slot ≡ e.hold.slot
+    by_name : (b : Bool) → (cond b (named_entry e.name (half e.hold)) e).hold.slot ≡ e.hold.slot
     by_name true = refl
     by_name false = refl
 
-pub on_halved : (m : ℕ) (es : List PinEntry) (n k : ℕ) → IsOn es n k → IsOn (map (halve m) es) n k
+pub on_halved : (m : ℕ) (es : List PinEntry) (n k : ℕ) → IsOn es n k → IsOn (map (half_if_named m) es) n k
 on_halved m [] n k on = let t = on.there in absurd (cc)
 on_halved m (x ∷ es) n k on = by_name (x.name == n) refl on.there (λ t. on_halved m es n k (record { hold = on.hold; there = t; slot = on.slot }))
   where
-    by_name : (b : Bool) → (x.name == n) ≡ b → cond b (Some x.hold) (hold_named n es) ≡ Some on.hold → (hold_named n es ≡ Some on.hold → IsOn (map (halve m) es) n k) → IsOn (halve m x ∷ map (halve m) es) n k
+    by_name : (b : Bool) → (x.name == n) ≡ b → cond b (Some x.hold) (hold_named n es) ≡ Some on.hold → (hold_named n es ≡ Some on.hold → IsOn (map (half_if_named m) es) n k) → IsOn (half_if_named m x ∷ map (half_if_named m) es) n k
     by_name true is e rest = let same : x.hold ≡ on.hold = cc in
-        record { hold = (halve m x).hold; there = ap (λ i. cond (i == n) (Some (halve m x).hold) (hold_named n (map (halve m) es))) (halved_hold m x) ∙ ap (λ b. cond b (Some (halve m x).hold) (hold_named n (map (halve m) es))) is; slot = halved_slot m x ∙ ap (λ (h : PinRecord). h.slot) same ∙ on.slot }
+        record { hold = (half_if_named m x).hold; there = ap (λ i. cond (i == n) (Some (half_if_named m x).hold) (hold_named n (map (half_if_named m) es))) (halved_hold m x) ∙ ap (λ b. cond b (Some (half_if_named m x).hold) (hold_named n (map (half_if_named m) es))) is; slot = halved_slot m x ∙ ap (λ (h : PinRecord). h.slot) same ∙ on.slot }
     by_name false is e rest = let r = rest e in
-        record { hold = r.hold; there = ap (λ i. cond (i == n) (Some (halve m x).hold) (hold_named n (map (halve m) es))) (halved_hold m x) ∙ ap (λ b. cond b (Some (halve m x).hold) (hold_named n (map (halve m) es))) is ∙ r.there; slot = r.slot }
+        record { hold = r.hold; there = ap (λ i. cond (i == n) (Some (half_if_named m x).hold) (hold_named n (map (half_if_named m) es))) (halved_hold m x) ∙ ap (λ b. cond b (Some (half_if_named m x).hold) (hold_named n (map (half_if_named m) es))) is ∙ r.there; slot = r.slot }
 
 pub on_filter : (m : ℕ) (es : List PinEntry) (n k : ℕ) → n ≢ m → IsOn es n k → IsOn (filter (λ e. not (e.name == m)) es) n k
 on_filter m [] n k ne on = let t = on.there in absurd (cc)
@@ -105,26 +105,26 @@ on_filter m (x ∷ es) n k ne on = dite (ℕ_discrete x.name m)
     by_name true is e rest = record { hold = x.hold; there = ap (λ b. cond b (Some x.hold) (hold_named n (filter (λ e. not (e.name == m)) es))) is; slot = (let same : x.hold ≡ on.hold = cc in ap (λ (h : PinRecord). h.slot) same) ∙ on.slot }
     by_name false is e rest = let r = rest e in record { hold = r.hold; there = ap (λ b. cond b (Some x.hold) (hold_named n (filter (λ e. not (e.name == m)) es))) is ∙ r.there; slot = r.slot }
 
-pub none_halved : (m : ℕ) (es : List PinEntry) (n : ℕ) → hold_named n es ≡ None → hold_named n (map (halve m) es) ≡ None
+pub none_halved : (m : ℕ) (es : List PinEntry) (n : ℕ) → hold_named n es ≡ None → hold_named n (map (half_if_named m) es) ≡ None
 none_halved m [] n e = refl
 none_halved m (x ∷ es) n e = by_name (x.name == n) refl e (none_halved m es n)
   where
-    by_name : (b : Bool) → (x.name == n) ≡ b → cond b (Some x.hold) (hold_named n es) ≡ None → (hold_named n es ≡ None → hold_named n (map (halve m) es) ≡ None) → hold_named n (halve m x ∷ map (halve m) es) ≡ None
+    by_name : (b : Bool) → (x.name == n) ≡ b → cond b (Some x.hold) (hold_named n es) ≡ None → (hold_named n es ≡ None → hold_named n (map (half_if_named m) es) ≡ None) → hold_named n (half_if_named m x ∷ map (half_if_named m) es) ≡ None
     by_name true is e rest = absurd (cc)
-    by_name false is e rest = ap (λ i. cond (i == n) (Some (halve m x).hold) (hold_named n (map (halve m) es))) (halved_hold m x) ∙ ap (λ b. cond b (Some (halve m x).hold) (hold_named n (map (halve m) es))) is ∙ rest e
+    by_name false is e rest = ap (λ i. cond (i == n) (Some (half_if_named m x).hold) (hold_named n (map (half_if_named m) es))) (halved_hold m x) ∙ ap (λ b. cond b (Some (half_if_named m x).hold) (hold_named n (map (half_if_named m) es))) is ∙ rest e
 
 -- ---- names of their own
 
--- a pin that isn't there isn't there behind another name
-pub none_push : (es : List PinEntry) (a n : ℕ) (h : PinRecord) → hold_named a es ≡ None → n ≢ a → hold_named a (es ++ entry n h ∷ []) ≡ None
+-- a name that is absent from a list is absent from the rest of it
+pub none_push : (es : List PinEntry) (a n : ℕ) (h : PinRecord) → hold_named a es ≡ None → n ≢ a → hold_named a (es ++ named_entry n h ∷ []) ≡ None
 none_push [] a n h e ne = ap (λ b. cond b (Some h) None) (ne_eqb n a ne)
 none_push (x ∷ es) a n h e ne = by_name (x.name == a) e (λ f. none_push es a n h f ne)
   where
-    by_name : (b : Bool) → cond b (Some x.hold) (hold_named a es) ≡ None → (hold_named a es ≡ None → hold_named a (es ++ entry n h ∷ []) ≡ None) → cond b (Some x.hold) (hold_named a (es ++ entry n h ∷ [])) ≡ None
+    by_name : (b : Bool) → cond b (Some x.hold) (hold_named a es) ≡ None → (hold_named a es ≡ None → hold_named a (es ++ named_entry n h ∷ []) ≡ None) → cond b (Some x.hold) (hold_named a (es ++ named_entry n h ∷ [])) ≡ None
     by_name true e rest = absurd (cc)
     by_name false e rest = rest e
 
--- what isn't found isn't the first, nor behind it
+-- a name that is absent from a list is neither the first one nor in the rest
 pub none_cons : (x : PinEntry) (es : List PinEntry) (n : ℕ) → hold_named n (x ∷ es) ≡ None → (x.name ≢ n) × (hold_named n es ≡ None)
 none_cons x es n e = by_name (x.name == n) refl e
   where
@@ -133,7 +133,7 @@ none_cons x es n e = by_name (x.name == n) refl e
     by_name false is e = (λ same. let t = eq-eqb x.name n same in absurd cc, e)
 
 -- a pin of a new name
-pub named_push : (es : List PinEntry) (n : ℕ) (h : PinRecord) → IsNamed es → hold_named n es ≡ None → IsNamed (es ++ entry n h ∷ [])
+pub named_push : (es : List PinEntry) (n : ℕ) (h : PinRecord) → HasDistinctNames es → hold_named n es ≡ None → HasDistinctNames (es ++ named_entry n h ∷ [])
 named_push [] n h all none = (refl, tt)
 named_push (x ∷ es) n h all none =
     let c = none_cons x es n none in
@@ -151,29 +151,29 @@ none_filter p (x ∷ es) n e =
     by_test false rest other = rest
 
 -- some of the pins
-pub named_filter : (p : PinEntry → Bool) (es : List PinEntry) → IsNamed es → IsNamed (filter p es)
+pub named_filter : (p : PinEntry → Bool) (es : List PinEntry) → HasDistinctNames es → HasDistinctNames (filter p es)
 named_filter p [] all = tt
 named_filter p (x ∷ es) all = by_test (p x) (none_filter p es x.name all.0) (named_filter p es all.1)
   where
-    by_test : (b : Bool) → hold_named x.name (filter p es) ≡ None → IsNamed (filter p es) → IsNamed (cond b (x ∷ filter p es) (filter p es))
+    by_test : (b : Bool) → hold_named x.name (filter p es) ≡ None → HasDistinctNames (filter p es) → HasDistinctNames (cond b (x ∷ filter p es) (filter p es))
     by_test true none rest = (none, rest)
     by_test false none rest = rest
 
-named_halved : (m : ℕ) (es : List PinEntry) → IsNamed es → IsNamed (map (halve m) es)
+named_halved : (m : ℕ) (es : List PinEntry) → HasDistinctNames es → HasDistinctNames (map (half_if_named m) es)
 named_halved m [] all = tt
-named_halved m (x ∷ es) all = (ap (λ n. hold_named n (map (halve m) es)) (halved_hold m x) ∙ none_halved m es x.name all.0, named_halved m es all.1)
+named_halved m (x ∷ es) all = (ap (λ n. hold_named n (map (half_if_named m) es)) (halved_hold m x) ∙ none_halved m es x.name all.0, named_halved m es all.1)
 
 append_nil : (es : List PinEntry) → es ++ [] ≡ es
 append_nil [] = refl
 append_nil (x ∷ es) = ap (λ l. x ∷ l) (append_nil es)
 
 -- a shared pin under a new name
-pub named_shared : (es : List PinEntry) (n m : ℕ) → IsNamed es → hold_named m es ≡ None → IsNamed (map (halve n) es ++ second m (hold_named n es))
+pub named_shared : (es : List PinEntry) (n m : ℕ) → HasDistinctNames es → hold_named m es ≡ None → HasDistinctNames (map (half_if_named n) es ++ second m (hold_named n es))
 named_shared es n m all none = by_hold (hold_named n es)
   where
-    by_hold : (o : Option PinRecord) → IsNamed (map (halve n) es ++ second m o)
-    by_hold None = subst (λ l. IsNamed l) (sym (append_nil (map (halve n) es))) (named_halved n es all)
-    by_hold (Some h) = named_push (map (halve n) es) m (half h) (named_halved n es all) (none_halved n es m none)
+    by_hold : (o : Option PinRecord) → HasDistinctNames (map (half_if_named n) es ++ second m o)
+    by_hold None = subst (λ l. HasDistinctNames l) (sym (append_nil (map (half_if_named n) es))) (named_halved n es all)
+    by_hold (Some h) = named_push (map (half_if_named n) es) m (half h) (named_halved n es all) (none_halved n es m none)
 
 -- no pin is on the slot, names apart
 pub clear_holds : (k : ℕ) (es : List PinEntry) → All (λ e. e.hold.slot ≢ k) es → All (λ h. h.slot ≢ k) (map hold_in es)
@@ -187,7 +187,7 @@ pub none_any : (es : List PinEntry) (n : ℕ) → hold_named n es ≡ None → l
 none_any [] n e = refl
 none_any (x ∷ es) n e = let c = none_cons x es n e in ap (λ b. b || list_any (λ y. y.name == n) es) (ne_eqb x.name n c.0) ∙ none_any es n c.1
 
--- where none of the pins has the name, all others are all
+-- if no pin has the name, removing that name leaves all pins
 pub others_all : (es : List PinEntry) (n : ℕ) → list_any (λ e. e.name == n) es ≡ false → filter (λ e. not (e.name == n)) es ≡ es
 others_all [] n e = refl
 others_all (x ∷ es) n e = by_name (x.name == n) e (others_all es n)
@@ -197,14 +197,14 @@ others_all (x ∷ es) n e = by_name (x.name == n) e (others_all es n)
     by_name true e rest = absurd cc
     by_name false e rest = ap (λ l. x ∷ l) (rest e)
 
--- a pin that stands at a place is there
+-- a list with the name at some place has a pin of that name
 there_named : (es : List PinEntry) (i : ℕ) (x : PinEntry) → i < length es → x ≡ get_or es i x → hold_named x.name es ≡ None → ⊥
 there_named [] i x lt is none = absurd (omega arith)
 there_named (y ∷ es) zero x lt is none = let c = none_cons y es x.name none in c.0 (ap (λ (e : PinEntry). e.name) (sym is))
 there_named (y ∷ es) (suc i) x lt is none = let c = none_cons y es x.name none in there_named es i x (omega arith) is c.1
 
--- the others, where the pin of the name stands at a place
-pub removed : (es : List PinEntry) (i n : ℕ) (x : PinEntry) → i < length es → x ≡ get_or es i x → x.name ≡ n → IsNamed es → take i es ++ drop (suc i) es ≡ filter (λ e. not (e.name == n)) es
+-- the other pins, if the pin with the name is at a given place
+pub removed : (es : List PinEntry) (i n : ℕ) (x : PinEntry) → i < length es → x ≡ get_or es i x → x.name ≡ n → HasDistinctNames es → take i es ++ drop (suc i) es ≡ filter (λ e. not (e.name == n)) es
 removed [] i n x lt is name all = absurd (omega arith)
 removed (y ∷ es) zero n x lt is name all =
     let same : y.name ≡ n = ap (λ (e : PinEntry). e.name) (sym is) ∙ name in
@@ -216,7 +216,7 @@ removed (y ∷ es) (suc i) n x lt is name all =
     ∙ sym (ap (λ b. cond (not b) (y ∷ filter (λ e. not (e.name == n)) es) (filter (λ e. not (e.name == n)) es)) (ne_eqb y.name n other))
 
 -- the other half isn't halved again
-pub second_kept : (es : List PinEntry) (n m : ℕ) (h g : PinRecord) → hold_named n es ≡ Some h → hold_named m es ≡ None → map (halve n) (es ++ entry m g ∷ []) ≡ map (halve n) es ++ entry m g ∷ []
+pub second_kept : (es : List PinEntry) (n m : ℕ) (h g : PinRecord) → hold_named n es ≡ Some h → hold_named m es ≡ None → map (half_if_named n) (es ++ named_entry m g ∷ []) ≡ map (half_if_named n) es ++ named_entry m g ∷ []
 second_kept es n m h g there none =
     let other : m ≢ n = λ same. let e = ap (λ i. hold_named i es) same in absurd cc in
-    map-append (halve n) es (entry m g ∷ []) ∙ ap (λ e. map (halve n) es ++ e ∷ []) (ap (λ b. cond b (entry m (half g)) (entry m g)) (ne_eqb m n other))
+    map-append (half_if_named n) es (named_entry m g ∷ []) ∙ ap (λ e. map (half_if_named n) es ++ e ∷ []) (ap (λ b. cond b (named_entry m (half g)) (named_entry m g)) (ne_eqb m n other))

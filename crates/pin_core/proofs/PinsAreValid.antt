@@ -14,9 +14,9 @@ use Rattle.pin_core.specs.declared.world.PinRecord.{PinRecord}
 use Rattle.pin_core.specs.declared.world.PinEntry.{PinEntry}
 use Rattle.pin_core.specs.declared.event.Event.{Event}
 use Rattle.pin_core.specs.declared.event.Event.TheVariants.{Give, Lend, Share, Leave, Condemn, Revive, Reclaim, Look, Verify}
-use Rattle.finite_maps.specs.Texts.{Text}
+use Rattle.spec_lib.specs.Texts.{Text}
 use Rattle.pin_core.specs.World.{PinWorld, IsValidPin, HasDigest, IsState, IsUsed, IsWeight, max_weight, hold_named, holds_of, initial_world, row, no_row}
-use Rattle.pin_core.specs.Events.{Can, after, with_row, half, halve, second, entry, lent_hold, digest_or, given_row, in_phase, reclaimed_row}
+use Rattle.pin_core.specs.Events.{Can, after, with_row, half, half_if_named, second, named_entry, lent_hold, digest_or, given_row, in_phase, reclaimed_row}
 use Rattle.pin_core.proofs.Names.{hold_in, all_named, all_map, all_filter, all_push, clear_holds, named_push, named_filter, named_shared}
 use Rattle.pin_core.proofs.Weights.{lent_fits, filter_fits}
 use Rattle.pin_core.proofs.Shares.{shared_weights, shared_sum}
@@ -60,10 +60,10 @@ unused rs k hs never = all_each (IsValidPin rs) (λ h. h.slot ≢ k) (λ h keeps
 half_keeps : (rs : List PinRow) (h : PinRecord) → IsValidPin rs h → IsValidPin rs (half h)
 half_keeps rs h k = record { there = k.there; used = k.used; generation = k.generation; digest = k.digest }
 
-halve_keeps : (rs : List PinRow) (n : ℕ) (e : PinEntry) → IsValidPin rs e.hold → IsValidPin rs (halve n e).hold
+halve_keeps : (rs : List PinRow) (n : ℕ) (e : PinEntry) → IsValidPin rs e.hold → IsValidPin rs (half_if_named n e).hold
 halve_keeps rs n e k = by_name (e.name == n)
   where
-    by_name : (b : Bool) → IsValidPin rs (cond b (entry e.name (half e.hold)) e).hold
+    by_name : (b : Bool) → IsValidPin rs (cond b (named_entry e.name (half e.hold)) e).hold
     by_name true = half_keeps rs e.hold k
     by_name false = k
 
@@ -101,9 +101,9 @@ pub state_after : (p : PinWorld) (e : Event) → Can p e → IsState p → IsSta
 state_after p (Give k d) can g = let r = given_row d (row p.rows k) in
     record { held = keeps_else p.rows k r (holds_of p) (unused p.rows k (holds_of p) (free_unused (row p.rows k).phase can.0.1) g.held) g.held; named = g.named; weights = g.weights; fits = g.fits; digests = All-set HasDigest p.rows k r ((λ _. (d, refl)), (λ never. absurd (never tt))) g.digests }
 state_after p (Lend k n) can g = let h = lent_hold k (row p.rows k) in
-    record { held = all_push (IsValidPin p.rows) p.pins (entry n h ∷ []) g.held (All-cons (IsValidPin p.rows) h [] (new_keeps p.rows k can.0.0 can.0.1 g.digests) (All-nil (IsValidPin p.rows))); named = named_push p.pins n h g.named can.1; weights = all_push IsWeight p.pins (entry n h ∷ []) g.weights (All-cons IsWeight h [] (10, omega arith, refl) (All-nil IsWeight)); fits = lent_fits p.pins k n h refl refl g.fits can.2; digests = g.digests }
+    record { held = all_push (IsValidPin p.rows) p.pins (named_entry n h ∷ []) g.held (All-cons (IsValidPin p.rows) h [] (new_keeps p.rows k can.0.0 can.0.1 g.digests) (All-nil (IsValidPin p.rows))); named = named_push p.pins n h g.named can.1; weights = all_push IsWeight p.pins (named_entry n h ∷ []) g.weights (All-cons IsWeight h [] (10, omega arith, refl) (All-nil IsWeight)); fits = lent_fits p.pins k n h refl refl g.fits can.2; digests = g.digests }
 state_after p (Share n m) can g =
-    record { held = all_push (IsValidPin p.rows) (map (halve n) p.pins) (second m (hold_named n p.pins)) (all_map (IsValidPin p.rows) (halve n) (halve_keeps p.rows n) p.pins g.held) (second_keeps p.rows n m p.pins g.held (hold_named n p.pins) refl); named = named_shared p.pins n m g.named can.1; weights = shared_weights p.pins n m g.named can.0 g.weights; fits = λ k. subst (λ s. s ≤ max_weight) (sym (shared_sum k n m p.pins g.named can.0 g.weights)) (g.fits k); digests = g.digests }
+    record { held = all_push (IsValidPin p.rows) (map (half_if_named n) p.pins) (second m (hold_named n p.pins)) (all_map (IsValidPin p.rows) (half_if_named n) (halve_keeps p.rows n) p.pins g.held) (second_keeps p.rows n m p.pins g.held (hold_named n p.pins) refl); named = named_shared p.pins n m g.named can.1; weights = shared_weights p.pins n m g.named can.0 g.weights; fits = λ k. subst (λ s. s ≤ max_weight) (sym (shared_sum k n m p.pins g.named can.0 g.weights)) (g.fits k); digests = g.digests }
 state_after p (Leave n) can g = record { held = all_filter (IsValidPin p.rows) (λ e. not (e.name == n)) p.pins g.held; named = named_filter (λ e. not (e.name == n)) p.pins g.named; weights = all_filter IsWeight (λ e. not (e.name == n)) p.pins g.weights; fits = filter_fits (λ e. not (e.name == n)) p.pins g.fits; digests = g.digests }
 state_after p (Condemn k) can g = let r = in_phase Condemned (row p.rows k) in let u = live_used (row p.rows k).phase can.1 in
     record { held = keeps_same p.rows k r (holds_of p) can.0 (record { used = λ _. tt; generation = refl; digest = refl }) g.held; named = g.named; weights = g.weights; fits = g.fits; digests = All-set HasDigest p.rows k r (phased p.rows k Condemned can.0 tt u g.digests) g.digests }

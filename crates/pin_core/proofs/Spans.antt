@@ -3,13 +3,13 @@ use Rattle.std.proofs.Common.{◌≡◌, ◌≢◌, ℕ, zero, suc, ◌+◌, ◌
 use Rattle.std.specs.Prelude.{slice_get}
 use mathlib.Core.Logic.{dite}
 use native.Mathlib.Decide.{dec_le}
-use Rattle.finite_maps.proofs.Lists.{there_at}
+use Rattle.spec_lib.proofs.Lists.{there_at}
 use Rattle.pin_core.specs.declared.event.Event.{Event}
 use Rattle.pin_core.specs.declared.event.Event.TheVariants.{Give, Lend, Share, Leave, Condemn, Revive, Reclaim, Look, Verify}
 use Rattle.pin_core.specs.World.{PinWorld, IsValidPin, IsState, hold_named, initial_world, row, row_word, word}
 use Rattle.pin_core.proofs.Shares.{shared_sum}
-use Rattle.pin_core.specs.Events.{Can, after, CanAll, half, halve, second, entry, lent_hold}
-use Rattle.pin_core.specs.Laws.{world_at, Given, Spanned, begun, lent, shared, generation_at, Reclaims, Reclamation}
+use Rattle.pin_core.specs.Events.{Can, after, CanAll, half, half_if_named, second, named_entry, lent_hold}
+use Rattle.pin_core.specs.Laws.{world_at, GivesAt, HasPinAt, begun, lent, shared, generation_at, ReclaimsSafely, Reclamation}
 use Rattle.pin_core.proofs.Names.{IsOn, all_named, on_push, named_last, on_halved, on_filter, none_halved}
 use Rattle.pin_core.proofs.PinsAreValid.{free_unused, state_after, state_initial, rises_after, Past, past_after, given_past}
 
@@ -44,8 +44,8 @@ up_to P p es j i h lo hi law at =
 -- a pin that doesn't leave stays on its slot
 pub on_after : (p : PinWorld) (e : Event) (n k : ℕ) → e ≢ Leave n → IsOn p.pins n k → IsOn (after p e).pins n k
 on_after p (Give j d) n k ne on = on
-on_after p (Lend j m) n k ne on = on_push p.pins (entry m (lent_hold j (row p.rows j)) ∷ []) n k on
-on_after p (Share m q) n k ne on = on_push (map (halve m) p.pins) (second q (hold_named m p.pins)) n k (on_halved m p.pins n k on)
+on_after p (Lend j m) n k ne on = on_push p.pins (named_entry m (lent_hold j (row p.rows j)) ∷ []) n k on
+on_after p (Share m q) n k ne on = on_push (map (half_if_named m) p.pins) (second q (hold_named m p.pins)) n k (on_halved m p.pins n k on)
 on_after p (Leave m) n k ne on = on_filter m p.pins n k (λ e. ne (ap (λ x. Leave x) (sym e))) on
 on_after p (Condemn j) n k ne on = on
 on_after p (Revive j) n k ne on = on
@@ -58,10 +58,10 @@ lent_on p k n can = record { hold = lent_hold k (row p.rows k); there = named_la
 
 shared_on : (p : PinWorld) (m n k : ℕ) → Can p (Share m n) → IsOn p.pins m k → IsOn (after p (Share m n)).pins n k
 shared_on p m n k can on =
-    let two : second n (hold_named m p.pins) ≡ entry n (half on.hold) ∷ [] = ap (λ o. second n o) on.there in
-    record { hold = half on.hold; there = ap (λ l. hold_named n (map (halve m) p.pins ++ l)) two ∙ named_last (map (halve m) p.pins) n (half on.hold) (none_halved m p.pins n can.1); slot = on.slot }
+    let two : second n (hold_named m p.pins) ≡ named_entry n (half on.hold) ∷ [] = ap (λ o. second n o) on.there in
+    record { hold = half on.hold; there = ap (λ l. hold_named n (map (half_if_named m) p.pins ++ l)) two ∙ named_last (map (half_if_named m) p.pins) n (half on.hold) (none_halved m p.pins n can.1); slot = on.slot }
 
-pub spanned_on : (p : PinWorld) (es : List Event) (i n k : ℕ) → CanAll p es → i ≤ length es → Spanned p es i n k → IsOn (world_at p es i).pins n k
+pub spanned_on : (p : PinWorld) (es : List Event) (i n k : ℕ) → CanAll p es → i ≤ length es → HasPinAt p es i n k → IsOn (world_at p es i).pins n k
 spanned_on p es i n k h l (begun _ _ _ hold at slot stays) =
     up_to (λ w. IsOn w.pins n k) p es 0 i h (omega arith) l
     (λ x e lo hi is can on. on_after (world_at p es x) e n k (λ same. stays x lo hi (is ∙ ap Some same)) on)
@@ -82,7 +82,7 @@ spanned_on p es i n k h l (shared j _ m _ _ span at before stays) =
 state_at : (p : PinWorld) (es : List Event) (i : ℕ) → CanAll p es → i ≤ length es → IsState p → IsState (world_at p es i)
 state_at p es i h l g = up_to IsState p es 0 i h (omega arith) l (λ x e lo hi is can g'. state_after (world_at p es x) e can g') g
 
-apart : (p : PinWorld) (es : List Event) → CanAll p es → IsState p → (i k n : ℕ) → Given es k i → Spanned p es i n k → ⊥
+apart : (p : PinWorld) (es : List Event) → CanAll p es → IsState p → (i k n : ℕ) → GivesAt es k i → HasPinAt p es i n k → ⊥
 apart p es h g i k n given span =
     let t = turn p es i (Give k given.0) h given.1 in
     let w = t.within in
@@ -96,7 +96,7 @@ rises p es h i j k lo hi = up_to (λ w. generation_at p es i k ≤ (row w.rows k
     (λ x e _ _ _ can old. let up = rises_after (world_at p es x) e k can in omega arith) (omega arith)
 
 -- a slot given at i isn't given in that generation later
-not_again : (p : PinWorld) (es : List Event) → CanAll p es → (i j k : ℕ) → i < j → Given es k i → Given es k j → generation_at p es i k ≡ generation_at p es j k → ⊥
+not_again : (p : PinWorld) (es : List Event) → CanAll p es → (i j k : ℕ) → i < j → GivesAt es k i → GivesAt es k j → generation_at p es i k ≡ generation_at p es j k → ⊥
 not_again p es h i j k before first again same =
     let t = turn p es i (Give k first.0) h first.1 in
     let u = turn p es j (Give k again.0) h again.1 in
@@ -106,7 +106,7 @@ not_again p es h i j k before first again same =
     (subst (λ w. Past g (row w.rows k)) (sym t.next) (given_past (world_at p es i) k first.0 t.can)) in
     ⊎_elim (λ x. x.1 u.can.0.1) (λ l. absurd (omega arith)) past
 
-once : (p : PinWorld) (es : List Event) → CanAll p es → (i j k : ℕ) → Given es k i → Given es k j → generation_at p es i k ≡ generation_at p es j k → i ≡ j
+once : (p : PinWorld) (es : List Event) → CanAll p es → (i j k : ℕ) → GivesAt es k i → GivesAt es k j → generation_at p es i k ≡ generation_at p es j k → i ≡ j
 once p es h i j k first again same = dite (dec_le (suc i) j)
     (λ (l : suc i ≤ j). absurd (not_again p es h i j k (omega arith) first again same))
     (λ (a : ¬ (suc i ≤ j)). dite (dec_le (suc j) i)
@@ -122,7 +122,7 @@ steady p es h g i k n m at =
     let s = state_at p es i h (omega arith) g in
     ap (λ q. word q k) t.next ∙ ap (row_word (row w.rows k)) (shared_sum k n m w.pins s.named t.can.0 s.weights)
 
-reclaims : (p : PinWorld) (es : List Event) → IsState p → CanAll p es → Reclaims p es
+reclaims : (p : PinWorld) (es : List Event) → IsState p → CanAll p es → ReclaimsSafely p es
 reclaims p es good h = record {
   held = λ i l. (state_at p es i h l good).held;
   states = λ i l. state_at p es i h l good;

@@ -6,7 +6,7 @@ use Rattle.std.proofs.lemmas.List.Sums.{sum_by-cons}
 use Rattle.pin_core.specs.declared.world.PinRecord.{PinRecord}
 use Rattle.pin_core.specs.declared.world.PinEntry.{PinEntry}
 use Rattle.pin_core.specs.World.{weight_at, weight_on, max_weight}
-use Rattle.pin_core.specs.Events.{entry, new_weight}
+use Rattle.pin_core.specs.Events.{named_entry, new_weight}
 use Rattle.pin_core.proofs.Names.{hold_in}
 
 -- what the pins weigh on a slot
@@ -21,14 +21,14 @@ sum_of-append k [] fs = omega arith
 sum_of-append k (x ∷ es) fs = let a = sum_of-cons k x (es ++ fs) in let b = sum_of-cons k x es in let c = sum_of-append k es fs in omega arith
 
 -- after a Lend
-pub lent_fits : (es : List PinEntry) (k n : ℕ) (h : PinRecord) → h.slot ≡ k → h.weight ≡ new_weight → ((j : ℕ) → sum_of j es ≤ max_weight) → sum_of k es + new_weight ≤ max_weight → (j : ℕ) → sum_of j (es ++ entry n h ∷ []) ≤ max_weight
+pub lent_fits : (es : List PinEntry) (k n : ℕ) (h : PinRecord) → h.slot ≡ k → h.weight ≡ new_weight → ((j : ℕ) → sum_of j es ≤ max_weight) → sum_of k es + new_weight ≤ max_weight → (j : ℕ) → sum_of j (es ++ named_entry n h ∷ []) ≤ max_weight
 lent_fits es k n h slot weight fits room j =
-    let a = sum_of-append j es (entry n h ∷ []) in
-    let b = sum_of-cons j (entry n h) [] in
+    let a = sum_of-append j es (named_entry n h ∷ []) in
+    let b = sum_of-cons j (named_entry n h) [] in
     let c = fits j in
     by_slot (h.slot == j) refl a b c
   where
-    by_slot : (t : Bool) → (h.slot == j) ≡ t → sum_of j (es ++ entry n h ∷ []) ≡ sum_of j es + sum_of j (entry n h ∷ []) → sum_of j (entry n h ∷ []) ≡ cond t h.weight 0 + sum_of j [] → sum_of j es ≤ max_weight → sum_of j (es ++ entry n h ∷ []) ≤ max_weight
+    by_slot : (t : Bool) → (h.slot == j) ≡ t → sum_of j (es ++ named_entry n h ∷ []) ≡ sum_of j es + sum_of j (named_entry n h ∷ []) → sum_of j (named_entry n h ∷ []) ≡ cond t h.weight 0 + sum_of j [] → sum_of j es ≤ max_weight → sum_of j (es ++ named_entry n h ∷ []) ≤ max_weight
     by_slot true is a b c =
         let same : h.slot ≡ j = eqb-true h.slot j is in
         let here : sum_of j es ≡ sum_of k es = ap (λ i. sum_of i es) (sym same ∙ slot) in omega arith

@@ -1,7 +1,8 @@
 -- Slots with generations, and the pins on them: reference counts with weights.
-use Rattle.std.specs.Prelude.{◌≡◌, ℕ, ◌+◌, ◌*◌, ◌^◌, ◌==◌, cond, ◌<◌, ◌≤◌, List, [], ◌∷◌, map, length, replicate, sum_by, slice_index_or, Option, Some, None}
+use Rattle.std.specs.Prelude.{◌≡◌, ℕ, ◌+◌, ◌*◌, ◌^◌, ◌==◌, cond, ◌<◌, ◌≤◌, List, [], ◌∷◌, map, length, replicate, sum_by, slice_get, slice_index_or, Option, Some, None}
 use Rattle.std.specs.List.{All}
-use Rattle.finite_maps.specs.Texts.{Text}
+use Rattle.std.specs.Option.{option_map}
+use Rattle.spec_lib.specs.Texts.{Text}
 use Rattle.pin_core.specs.declared.world.Phase.{Phase}
 use Rattle.pin_core.specs.declared.world.Phase.TheVariants.{Free, Live, Condemned, Retired}
 use Rattle.pin_core.specs.declared.world.PinRow.{PinRow}
@@ -9,19 +10,19 @@ use Rattle.pin_core.specs.declared.world.PinRecord.{PinRecord}
 use Rattle.pin_core.specs.declared.world.PinEntry.{PinEntry}
 use Rattle.pin_core.specs.declared.word.WordRow.{WordRow}
 
--- the rows by slot number, and the pins
+-- a pin world: its rows by slot number, and its pins
 pub record PinWorld : Type 0 where
   pub rows : List PinRow
   pub pins : List PinEntry
 
--- a used slot is live or condemned
+-- a phase is that of a used slot: live or condemned
 abbrev pub IsUsed : Phase → Type 0
 IsUsed Free = ⊥
 IsUsed Live = Unit {0}
 IsUsed Condemned = Unit {0}
 IsUsed Retired = ⊥
 
--- a row for a number that is no slot's
+-- the row that stands for a slot number out of range
 abbrev pub no_row : PinRow
 no_row = record { generation = 0; phase = Free; digest = None }
 
@@ -29,11 +30,11 @@ no_row = record { generation = 0; phase = Free; digest = None }
 abbrev pub row : List PinRow → ℕ → PinRow
 row rows k = slice_index_or rows k no_row
 
--- what the pins hold, without their names
+-- the pins without their names
 abbrev pub holds_of : PinWorld → List PinRecord
 holds_of p = map (λ e. e.hold) p.pins
 
--- what a pin weighs on the slot k
+-- the weight of a pin on the slot k
 abbrev pub weight_at : ℕ → PinRecord → ℕ
 weight_at k h = cond (h.slot == k) h.weight 0
 
@@ -41,32 +42,32 @@ weight_at k h = cond (h.slot == k) h.weight 0
 abbrev pub weight_on : ℕ → List PinRecord → ℕ
 weight_on k hs = sum_by (weight_at k) hs
 
--- the pin of that name, if there is one
+-- the pin named n, if there is one
 abbrev pub hold_named : ℕ → List PinEntry → Option PinRecord
 hold_named n [] = None
 hold_named n (e ∷ es) = cond (e.name == n) (Some e.hold) (hold_named n es)
 
--- no two pins have one name
-abbrev pub IsNamed : List PinEntry → Type 0
-IsNamed [] = Unit {0}
-IsNamed (e ∷ es) = (hold_named e.name es ≡ None) × IsNamed es
+-- no two pins have the same name
+abbrev pub HasDistinctNames : List PinEntry → Type 0
+HasDistinctNames [] = Unit {0}
+HasDistinctNames (e ∷ es) = (hold_named e.name es ≡ None) × HasDistinctNames es
 
--- the slot is used, and has the pin's generation and digest
+-- the pin's slot is used and has the pin's generation and digest
 pub record IsValidPin (rows : List PinRow) (h : PinRecord) : Type 0 where
   pub there : h.slot < length rows
   pub used : IsUsed (row rows h.slot).phase
   pub generation : (row rows h.slot).generation ≡ h.generation
   pub digest : (row rows h.slot).digest ≡ Some h.digest
 
--- the slot of each pin is used and its own
+-- the slot of every pin is used and has the pin's generation and digest
 abbrev pub PinsAreValid : PinWorld → Type 0
 PinsAreValid p = All (IsValidPin p.rows) (holds_of p)
 
--- a slot has a digest exactly where it is used
+-- a slot has a digest exactly if it is used
 abbrev pub HasDigest : PinRow → Type 0
 HasDigest r = (IsUsed r.phase → (d : Text) × (r.digest ≡ Some d)) × (¬ IsUsed r.phase → r.digest ≡ None)
 
--- the weight is a power of two from 1 to 1024
+-- the pin's weight is a power of two from 1 to 1,024
 abbrev pub IsWeight : PinRecord → Type 0
 IsWeight h = (e : ℕ) × (e ≤ 10) × (h.weight ≡ 2 ^ e)
 
@@ -76,14 +77,15 @@ initial_world n g = record { rows = replicate n (record { generation = g; phase 
 
 -- ---- words
 
--- the bit of a used slot, and the bit of a condemned or retired one
+-- the bit of a used slot
 abbrev pub used_bit : ℕ
 used_bit = 0x8000_0000
 
+-- the bit of a condemned or retired slot
 abbrev pub condemned_bit : ℕ
 condemned_bit = 0x4000_0000
 
--- bit 31 is set where the slot is used, bit 30 where it is condemned or retired
+-- the bits of a phase: bit 31 if the slot is used, bit 30 if it is condemned or retired
 abbrev pub phase_bits : Phase → ℕ
 phase_bits Free = 0
 phase_bits Live = used_bit
@@ -98,12 +100,17 @@ word_of generation phase weight = generation * 0x1_0000_0000 + phase_bits phase 
 abbrev pub max_weight : ℕ
 max_weight = 0x3fff_ffff
 
--- What every state keeps: slots have digests exactly where they are used; pins have names of their own, and powers of two for weights; sums fit their words; the slot of each pin is used and its own.
+-- The world is well-formed.
 pub record IsState (p : PinWorld) : Type 0 where
+  -- a slot has a digest exactly if it is used
   pub digests : All HasDigest p.rows
-  pub named : IsNamed p.pins
+  -- no two pins have the same name
+  pub named : HasDistinctNames p.pins
+  -- each pin's weight is a power of two from 1 to 1,024
   pub weights : All IsWeight (holds_of p)
+  -- each slot's sum of weights fits its word
   pub fits : (k : ℕ) → weight_on k (holds_of p) ≤ max_weight
+  -- the slot of every pin is used and has the pin's generation and digest
   pub held : PinsAreValid p
 
 -- the word of a row with a sum of weights
@@ -114,6 +121,10 @@ row_word r weight = word_of r.generation r.phase weight
 abbrev pub word : PinWorld → ℕ → ℕ
 word p k = row_word (row p.rows k) (weight_on k (holds_of p))
 
--- what the word of a row with a sum of weights says
+-- the contents of the word of a row with a sum of weights
 abbrev pub word_row : PinRow → ℕ → WordRow
 word_row r weight = record { generation = r.generation; phase = r.phase; weight = weight }
+
+-- the contents of the word of the slot k, if there is such a slot
+abbrev pub word_row_at : PinWorld → ℕ → Option WordRow
+word_row_at p k = option_map (λ r. word_row r (weight_on k (holds_of p))) (slice_get p.rows k)

@@ -1,29 +1,30 @@
-//! The events of a pin world.
+//! Defines the events of a pin world.
 
 use blob_digest::Digest;
 
-/// One step of a pin world. An event whose slot or pin isn't there can't happen, and on a retired
-/// slot nothing can happen but a look.
+/// A step of a pin world.
+///
+/// An event can't happen if its slot or pin doesn't exist. On a retired slot only a `Look` can happen.
 #[derive(Clone, Copy, Debug, PartialEq, Eq)]
 pub enum Event {
-    /// A free slot becomes live with a digest that no used slot has.
+    /// A free slot becomes live, with a digest that no used slot has.
     Give { slot: u32, digest: Digest },
-    /// A live slot gets a pin of weight 1024 with its generation and digest. The name is new, and
-    /// the sum of the slot's weights stays within 2^30 - 1.
+    /// A live slot gets a pin of weight 1,024 with its generation and digest.
+    ///
+    /// The pin's name is new, and the slot's sum of weights is then at most 2^30 - 1.
     Lend { slot: u32, pin: u64 },
-    /// A pin of weight above 1 becomes two of half its weight. The second name is new.
+    /// A pin of weight above 1 becomes two pins of half its weight. The second name is new.
     Share { pin: u64, second: u64 },
-    /// A pin goes.
+    /// A pin is removed.
     Leave { pin: u64 },
-    /// A live slot is condemned.
+    /// A live slot becomes condemned.
     Condemn { slot: u32 },
-    /// A condemned slot is live again.
+    /// A condemned slot becomes live again.
     Revive { slot: u32 },
-    /// A condemned slot without pins is free in its next generation; of the last generation it is
-    /// retired.
+    /// A condemned slot without pins becomes free in its next generation, or retired after the last one.
     Reclaim { slot: u32 },
-    /// The slot's word is read.
+    /// A slot's word is read.
     Look { slot: u32 },
-    /// The pin's slot is compared with the pin.
+    /// A pin is compared with its slot.
     Verify { pin: u64 },
 }

@@ -1,24 +1,27 @@
-//! Laws of slots, pins and words.
+//! States the theorems about slots, pins and words.
 
 ghost use Rattle.std.specs.Prelude.{◌≡◌, ◌<◌, ◌^◌};
 ghost use Rattle.pin_core.specs.Laws.{Reclamation, Packing};
 
 use crate::word::{WordRow, pack, unpack};
 
-/// Over every list of events from free slots on, and from any world that keeps what every state
-/// keeps: after each event every pin's slot is used and has the pin's generation and digest, and no
-/// word's sum overflows; no slot is given while a pin is on it; a slot's generation never falls; and
-/// a slot is given at most once in a generation.
+/// States the reclamation theorem: no slot is given a digest while a pin is on it.
+///
+/// It holds for every list of events that can happen, from free slots or from any well-formed world. Further:
+///
+/// - after each event, the slot of every pin is used and has the pin's generation and digest;
+/// - no word's sum of weights overflows, and a `Share` changes no word;
+/// - a slot's generation never falls, and a slot is given at most once in a generation.
 pub fn reclamation()
     ensures { Reclamation }
 {}
 
-/// Two slots with one word are alike in all that the word says.
+/// States that equal words have equal generations, phases and sums of weights.
 pub fn packing()
     ensures { Packing }
 {}
 
-/// A packed row is unpacked as it was.
+/// Unpacks a packed row: returns the row unchanged.
 pub fn unpack_pack(row: WordRow) -> WordRow
     requires { row.weight < 2 ^ 30 }
     ensures { result ≡ row }
@@ -26,7 +29,7 @@ pub fn unpack_pack(row: WordRow) -> WordRow
     unpack(pack(row))
 }
 
-/// An unpacked word is packed as it was.
+/// Packs an unpacked word: returns the word unchanged.
 pub fn pack_unpack(word: u64) -> u64
     ensures { result ≡ word }
 {

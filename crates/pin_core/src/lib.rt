@@ -1,10 +1,8 @@
-//! The slots of a store and the pins on them, as a machine without any handle: what a pin keeps,
-//! the nine events that change slots and pins, and a slot as one word of 64 bits.
+//! Models a store's slots and pins as a pure machine: the nine events on them, and the layout of a slot's word.
 //!
-//! It stands on `blob_digest` for digests and refusals. It promises, over every list of events from
-//! free slots on, that the slot of each pin is used and has the pin's generation and digest, and
-//! that no slot is given while a pin is on it (`laws::reclamation`); and that `step` and `run` are
-//! those events.
+//! For every list of events from free slots, `laws::reclamation` states two facts: the slot of each pin is used and
+//! has the pin's generation and digest, and no slot is given while a pin is on it. `step` and `run` are proved to
+//! be these events. Digests and refusals come from `blob_digest`.
 #![tactic(auto)]
 
 mod event;

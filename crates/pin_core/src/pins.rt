@@ -1,13 +1,13 @@
-//! What is asked of the pins of a pin world, and how they change.
+//! Reads and changes the pins of a pin world.
 
 ghost use Rattle.std.specs.Prelude.{◌≡◌, ◌↔◌, ◌==◌, not, map, position, IsTrue};
 ghost use Rattle.std.specs.List.{filter};
-ghost use Rattle.pin_core.specs.World.{IsNamed, hold_named, weight_on};
-ghost use Rattle.pin_core.specs.Events.{IsClear, half, halve};
+ghost use Rattle.pin_core.specs.World.{HasDistinctNames, hold_named, weight_on};
+ghost use Rattle.pin_core.specs.Events.{IsClear, half, half_if_named};
 
 use crate::world::{PinEntry, PinRecord};
 
-/// The pin of a name.
+/// Returns the pin with this name, if there is one.
 pub fn find(pins: &[PinEntry], name: u64) -> Option<PinRecord>
     ensures { result ≡ hold_named name pins.now }
 {
@@ -19,7 +19,7 @@ pub fn find(pins: &[PinEntry], name: u64) -> Option<PinRecord>
     None
 }
 
-/// The sum of the weights on a slot. Its type holds the sum of any number of pins.
+/// Returns the sum of the weights on a slot. The result type holds the sum of any number of pins.
 pub fn sum_on(pins: &[PinEntry], slot: u32) -> u128
     ensures { result ≡ weight_on slot (map (λ e. e.hold) pins.now) }
 {
@@ -32,14 +32,14 @@ pub fn sum_on(pins: &[PinEntry], slot: u32) -> u128
     sum
 }
 
-/// Whether no pin is on the slot.
+/// Returns whether no pin is on the slot.
 pub fn is_clear(pins: &[PinEntry], slot: u32) -> bool
     ensures { IsTrue result ↔ IsClear slot pins.now }
 {
     !pins.iter().any(|entry| entry.hold.slot == slot)
 }
 
-/// Half of a pin.
+/// Returns a pin of half the weight.
 pub fn halved(hold: &PinRecord) -> PinRecord
     ensures { result ≡ half hold.now }
 {
@@ -51,9 +51,9 @@ pub fn halved(hold: &PinRecord) -> PinRecord
     }
 }
 
-/// The pin under the name, with half of its weight where it has that name.
-fn kept_half(entry: PinEntry, name: u64) -> PinEntry
-    ensures { result ≡ halve name entry }
+/// Returns the entry, with half its weight if it has this name.
+fn half_if_named(entry: PinEntry, name: u64) -> PinEntry
+    ensures { result ≡ half_if_named name entry }
 {
     if entry.name == name {
         return PinEntry {
@@ -64,28 +64,28 @@ fn kept_half(entry: PinEntry, name: u64) -> PinEntry
     entry
 }
 
-/// The pin of that name keeps half of its weight.
+/// Halves the weight of the pin with this name.
 pub fn halve_named(pins: &mut Vec<PinEntry>, name: u64)
-    ensures { pins.new.items ≡ map (halve name) pins.old.items }
+    ensures { pins.new.items ≡ map (half_if_named name) pins.old.items }
 {
     for entry in pins.iter_mut() {
-        *entry = kept_half(*entry, name);
+        *entry = half_if_named(*entry, name);
     }
 }
 
-/// Where the pin of a name stands.
-fn place_of(pins: &[PinEntry], name: u64) -> Option<usize>
+/// Returns the position of the pin with this name.
+fn position_of(pins: &[PinEntry], name: u64) -> Option<usize>
     ensures { result ≡ position (λ e. e.name == name) pins.now }
 {
     pins.iter().position(|entry| entry.name == name)
 }
 
-/// The pin of that name goes.
+/// Removes the pin with this name.
 pub fn drop_named(pins: &mut Vec<PinEntry>, name: u64)
-    requires { IsNamed pins.old.items }
+    requires { HasDistinctNames pins.old.items }
     ensures { pins.new.items ≡ filter (λ e. not (e.name == name)) pins.old.items }
 {
-    if let Some(place) = place_of(pins, name) {
+    if let Some(place) = position_of(pins, name) {
         pins.remove(place);
     }
 }

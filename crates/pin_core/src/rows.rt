@@ -1,4 +1,4 @@
-//! What is asked of the rows of a pin world, and how one changes.
+//! Reads the rows of a pin world, and computes changed rows.
 
 ghost use Rattle.std.specs.Prelude.{◌≡◌, ◌↔◌, Some, IsTrue};
 ghost use Rattle.pin_core.specs.World.{IsUsed};
@@ -8,7 +8,7 @@ use crate::word::LAST_GENERATION;
 use crate::world::{Phase, PinRow};
 use blob_digest::Digest;
 
-/// Whether a row is used and has the digest.
+/// Returns whether a row is used and has the digest.
 fn has(row: PinRow, digest: Digest) -> bool
     ensures { IsTrue result ↔ (IsUsed row.phase × (row.digest ≡ Some digest)) }
 {
@@ -18,14 +18,14 @@ fn has(row: PinRow, digest: Digest) -> bool
     }
 }
 
-/// Whether no used slot has the digest.
+/// Returns whether no used slot has the digest.
 pub fn is_new(rows: &[PinRow], digest: Digest) -> bool
     ensures { IsTrue result ↔ IsNew digest rows.now }
 {
     !rows.iter().any(|row| has(*row, digest))
 }
 
-/// The row of a slot that is given a digest.
+/// Returns the row of a free slot after it was given a digest.
 pub fn given(row: PinRow, digest: Digest) -> PinRow
     ensures { result ≡ given_row digest row }
 {
@@ -36,7 +36,7 @@ pub fn given(row: PinRow, digest: Digest) -> PinRow
     }
 }
 
-/// The row in another phase.
+/// Returns the row with another phase.
 pub fn in_phase(row: PinRow, phase: Phase) -> PinRow
     ensures { result ≡ in_phase phase row }
 {
@@ -47,7 +47,7 @@ pub fn in_phase(row: PinRow, phase: Phase) -> PinRow
     }
 }
 
-/// The row of a reclaimed slot.
+/// Returns the row after it was reclaimed: free in the next generation, or retired after the last one.
 pub fn reclaimed(row: PinRow) -> PinRow
     ensures { result ≡ reclaimed_row row }
 {

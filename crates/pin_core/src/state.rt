@@ -1,10 +1,10 @@
-//! A pin world that a program holds.
+//! Stores a pin world.
 
-ghost use Rattle.std.specs.Prelude.{◌≡◌, ◌⊎◌, ◌+◌, ◌<◌, ◌↔◌, length, slice_get, None, IfOk, IfErr, OnOk, OnErr, IfSome, IsTrue, ◌^◌};
-ghost use Rattle.std.specs.Option.{option_map, option_map_or};
-ghost use Rattle.blob_digest.specs.declared.refusal.Refusal.TheVariants.{LimitReached, Memory};
-ghost use Rattle.pin_core.specs.World.{IsState, holds_of, hold_named, initial_world, row, weight_on, word_row};
-ghost use Rattle.pin_core.specs.Events.{AddsPin, Can, IsIn, IsOutside, after, with_row};
+ghost use Rattle.std.specs.Prelude.{◌≡◌, ◌<◌, ◌↔◌, length, slice_get, None, IfOk, IfErr, OnOk, OnErr, IfSome, IsTrue, ◌^◌};
+ghost use Rattle.std.specs.Option.{option_map_or};
+ghost use Rattle.blob_digest.specs.declared.refusal.Refusal.TheVariants.{Memory};
+ghost use Rattle.pin_core.specs.World.{IsState, hold_named, initial_world, row, word_row_at};
+ghost use Rattle.pin_core.specs.Events.{AddsPin, Can, IsIn, IsOpeningError, IsOutside, after, with_row};
 ghost use Rattle.pin_core.specs.declared.event.Event.TheVariants.{Give, Lend, Share, Leave, Condemn, Revive, Reclaim, Look, Verify};
 
 use crate::event::Event;
@@ -16,7 +16,9 @@ use blob_digest::{Digest, MAX_SLOTS, Refusal};
 use std::alloc::Global;
 use std::marker::Model;
 
-/// Slots and the pins on them. Contracts see the pin world: its rows by slot number and its pins.
+/// A pin world: slots, and the pins on them.
+///
+/// Contracts read it as its rows by slot number and its list of pins.
 #[derive(Drop)]
 pub struct PinState {
     rows: Vec<PinRow>,
@@ -34,12 +36,20 @@ impl Model for PinState {
 }
 
 impl PinState {
-    /// Free slots of the first generation, and no pin.
+    /// Returns a world of free slots of the given generation, without pins.
     ///
-    /// Refused with `LimitReached` exactly outside 1 to 65,536 slots, and with `Memory` only within.
+    /// # Errors
+    ///
+    /// - `LimitReached` exactly if `slots` is not 1 to 65,536.
+    /// - `Memory` if allocation fails.
+    ///
+    /// # Cost
+    ///
+    /// Allocates one row for each slot.
     pub fn new(alloc: Global, slots: u32, first_generation: u32) -> Result<PinState, Refusal>
-        ensures made { IfOk result (λ s. ¬ IsOutside slots × (s ≡ initial_world slots first_generation)) }
-        ensures refused { IfErr result (λ e. ((e ≡ LimitReached) × IsOutside slots) ⊎ ((e ≡ Memory) × ¬ IsOutside slots)) }
+        ensures within { OnOk result (¬ IsOutside slots) }
+        ensures made { IfOk result (λ s. s ≡ initial_world slots first_generation) }
+        ensures refused { IfErr result (λ e. IsOpeningError slots e) }
     {
         if slots < 1 || slots > MAX_SLOTS {
             return Err(Refusal::LimitReached);
@@ -56,9 +66,13 @@ impl PinState {
         })
     }
 
-    /// What the word of a slot says, where the slot is there. Goes over the pins.
+    /// Returns the contents of a slot's word, if there is such a slot.
+    ///
+    /// # Cost
+    ///
+    /// Linear in the number of pins.
     pub fn row(&self, slot: u32) -> Option<WordRow>
-        ensures value { result ≡ option_map (λ r. word_row r (weight_on slot (holds_of self.now))) (slice_get self.now.rows slot) }
+        ensures value { result ≡ word_row_at self.now slot }
         ensures fits { IfSome result (λ r. r.weight < 2 ^ 30) }
     {
         let row = self.rows.get(slot as usize)?;
@@ -69,7 +83,7 @@ impl PinState {
         })
     }
 
-    /// The digest of a slot's blob, where the slot is used.
+    /// Returns the digest of a slot's blob, if the slot is used.
     pub fn digest(&self, slot: u32) -> Option<Digest>
         ensures { result ≡ option_map_or (λ r. r.digest) (slice_get self.now.rows slot) None }
     {
@@ -77,14 +91,26 @@ impl PinState {
         row.digest
     }
 
-    /// The pin of a name, where there is one. Goes over the pins.
+    /// Returns the pin with this name, if there is one.
+    ///
+    /// # Cost
+    ///
+    /// Linear in the number of pins.
     pub fn pin(&self, name: u64) -> Option<PinRecord>
         ensures { result ≡ hold_named name self.now.pins }
     {
         find(&self.pins, name)
     }
 
-    /// A second state like this one.
+    /// Returns a copy of the state.
+    ///
+    /// # Errors
+    ///
+    /// - `Memory` if allocation fails.
+    ///
+    /// # Cost
+    ///
+    /// Linear in the number of slots and pins.
     pub fn copy(&self) -> Result<PinState, Refusal>
         ensures same { IfOk result (λ s. s ≡ self.now) }
         ensures refused { IfErr result (λ e. e ≡ Memory) }
@@ -94,7 +120,7 @@ impl PinState {
         Ok(PinState { rows, pins })
     }
 
-    /// Whether the slot is there, in that phase.
+    /// Returns whether there is such a slot and it is in this phase.
     fn is_in(&self, slot: u32, phase: Phase) -> bool
         ensures { IsTrue result ↔ IsIn self.now slot phase }
     {
@@ -102,7 +128,7 @@ impl PinState {
         k < self.rows.len() && self.rows[k].phase == phase
     }
 
-    /// Whether the slot is live and can be lent under that name.
+    /// Returns whether the slot is live and can be pinned under this name.
     fn can_lend(&self, slot: u32, pin: u64) -> bool
         ensures { IsTrue result ↔ Can self.now (Lend slot pin) }
     {
@@ -111,7 +137,7 @@ impl PinState {
             && sum_on(&self.pins, slot) + u128::from(NEW_WEIGHT) <= u128::from(MAX_WEIGHT)
     }
 
-    /// Whether the pin can be shared under that name.
+    /// Returns whether the pin can be shared under the second name.
     fn can_share(&self, pin: u64, second: u64) -> bool
         ensures { IsTrue result ↔ Can self.now (Share pin second) }
     {
@@ -121,7 +147,12 @@ impl PinState {
         }
     }
 
-    /// Whether the event can happen.
+    /// Returns whether the event can happen.
+    ///
+    /// # Cost
+    ///
+    /// Linear in the number of slots for a `Give`, and in the number of pins for a `Lend`, a `Share`, a `Leave`, a
+    /// `Reclaim` or a `Verify`. Constant for the others.
     pub fn can(&self, event: &Event) -> bool
         ensures { IsTrue result ↔ Can self.now event.now }
     {
@@ -139,7 +170,7 @@ impl PinState {
         }
     }
 
-    /// Another row for a slot.
+    /// Replaces the row of a slot.
     fn set_row(&mut self, slot: u32, row: PinRow)
         requires within { slot < length self.old.rows }
         requires state { IsState (with_row slot row self.old) }
@@ -148,6 +179,7 @@ impl PinState {
         self.rows[slot as usize] = row;
     }
 
+    /// Makes a `Give`.
     fn give(&mut self, slot: u32, digest: Digest)
         requires { Can self.old (Give slot digest) }
         ensures { self.new ≡ after self.old (Give slot digest) }
@@ -156,6 +188,7 @@ impl PinState {
         self.set_row(slot, row);
     }
 
+    /// Makes a `Condemn`.
     fn condemn(&mut self, slot: u32)
         requires { Can self.old (Condemn slot) }
         ensures { self.new ≡ after self.old (Condemn slot) }
@@ -164,6 +197,7 @@ impl PinState {
         self.set_row(slot, row);
     }
 
+    /// Makes a `Revive`.
     fn revive(&mut self, slot: u32)
         requires { Can self.old (Revive slot) }
         ensures { self.new ≡ after self.old (Revive slot) }
@@ -172,6 +206,7 @@ impl PinState {
         self.set_row(slot, row);
     }
 
+    /// Makes a `Reclaim`.
     fn reclaim(&mut self, slot: u32)
         requires { Can self.old (Reclaim slot) }
         ensures { self.new ≡ after self.old (Reclaim slot) }
@@ -180,6 +215,7 @@ impl PinState {
         self.set_row(slot, row);
     }
 
+    /// Makes a `Lend`, or leaves the state unchanged if memory runs out.
     fn lend(&mut self, slot: u32, pin: u64) -> Result<(), Refusal>
         requires { Can self.old (Lend slot pin) }
         ensures ok { OnOk result (self.new ≡ after self.old (Lend slot pin)) }
@@ -200,6 +236,7 @@ impl PinState {
         Ok(())
     }
 
+    /// Makes a `Share`, or leaves the state unchanged if memory runs out.
     fn share(&mut self, pin: u64, second: u64) -> Result<(), Refusal>
         requires { Can self.old (Share pin second) }
         ensures ok { OnOk result (self.new ≡ after self.old (Share pin second)) }
@@ -217,6 +254,7 @@ impl PinState {
         Ok(())
     }
 
+    /// Makes a `Leave`.
     fn leave(&mut self, pin: u64)
         requires { Can self.old (Leave pin) }
         ensures { self.new ≡ after self.old (Leave pin) }
@@ -224,8 +262,15 @@ impl PinState {
         drop_named(&mut self.pins, pin);
     }
 
-    /// Makes an event that can happen. Refused with `Memory` alone, a `Lend` or a `Share` only, which add a pin;
-    /// then the state is as it was.
+    /// Makes an event that can happen.
+    ///
+    /// # Errors
+    ///
+    /// - `Memory` if a `Lend` or a `Share` cannot allocate its new pin. The state is then unchanged.
+    ///
+    /// # Cost
+    ///
+    /// Linear in the number of pins for a `Share` or a `Leave`. A `Lend` copies all pins if their buffer grows.
     pub fn change(&mut self, event: &Event) -> Result<(), Refusal>
         requires { Can self.old event.now }
         ensures ok { OnOk result (self.new ≡ after self.old event.now) }

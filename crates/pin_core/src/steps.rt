@@ -1,20 +1,24 @@
-//! What a state is after one event, and after a list of them.
+//! Computes the state after one event, and after a list of events.
 
-ghost use Rattle.std.specs.Prelude.{◌≡◌, IfOk, IfErr, MatchOption};
+ghost use Rattle.std.specs.Prelude.{◌≡◌, IfOk, IfErr};
 ghost use Rattle.blob_digest.specs.declared.refusal.Refusal.TheVariants.{Memory};
-ghost use Rattle.pin_core.specs.Events.{Can, CanAll, after_all, pinstep};
+ghost use Rattle.pin_core.specs.Events.{Can, IsRunResult, IsStepResult};
 
 use crate::event::Event;
 use crate::state::PinState;
 use blob_digest::Refusal;
 
-/// The state after an event, or none exactly where the event can't happen.
+/// Returns the state after an event, or `None` exactly if the event can't happen.
 ///
-/// Refused with `Memory` alone, and only where the event can happen. Goes over the slots for a
-/// `Give`, over the pins for a `Lend`, a `Share`, a `Leave`, a `Reclaim` or a `Verify`, and copies
-/// slots and pins once.
+/// # Errors
+///
+/// - `Memory` if the event can happen and allocation fails.
+///
+/// # Cost
+///
+/// Copies all slots and pins once.
 pub fn step(state: &PinState, event: &Event) -> Result<Option<PinState>, Refusal>
-    ensures stepped { IfOk result (λ o. MatchOption o (¬ Can state.now event.now) (λ s. pinstep state.now event.now s)) }
+    ensures stepped { IfOk result (λ found. IsStepResult state.now event.now found) }
     ensures refused { IfErr result (λ e. (e ≡ Memory) × Can state.now event.now) }
 {
     if !state.can(event) {
@@ -25,12 +29,17 @@ pub fn step(state: &PinState, event: &Event) -> Result<Option<PinState>, Refusal
     Ok(Some(next))
 }
 
-/// The state after a list of events, or none exactly where one of them can't happen in its turn.
+/// Returns the state after a list of events, or `None` exactly if one of them can't happen in its turn.
 ///
-/// Refused with `Memory` alone. Slots and pins are copied once for the whole list; each event then
-/// goes over the slots or the pins, as in `step`.
+/// # Errors
+///
+/// - `Memory` if allocation fails.
+///
+/// # Cost
+///
+/// Copies all slots and pins once. Each event is at most linear in the number of slots and pins.
 pub fn run(state: &PinState, events: &[Event]) -> Result<Option<PinState>, Refusal>
-    ensures ran { IfOk result (λ o. MatchOption o (¬ CanAll state.now events.now) (λ s. CanAll state.now events.now × (s ≡ after_all state.now events.now))) }
+    ensures ran { IfOk result (λ found. IsRunResult state.now events.now found) }
     ensures refused { IfErr result (λ e. e ≡ Memory) }
 {
     let mut next = state.copy()?;

@@ -1,5 +1,7 @@
-//! A slot as one word of 64 bits: bits 0 to 29 the sum of the weights of the pins on it, bit 30
-//! condemned, bit 31 used, bits 32 to 63 the generation. A retired slot has bit 30 alone.
+//! Packs a slot into one word of 64 bits.
+//!
+//! Bits 0 to 29 are the sum of the weights of the pins on the slot. Bit 31 is set if the slot is used. Bit 30 is set if
+//! it is condemned or retired. Bits 32 to 63 are the generation.
 
 ghost use Rattle.std.specs.Prelude.{◌≡◌, ◌<◌, ◌^◌};
 ghost use Rattle.pin_core.specs.World.{phase_bits, word_of};
@@ -9,13 +11,13 @@ use crate::world::Phase;
 /// The bit of a used slot.
 pub const USED: u64 = 0x8000_0000;
 
-/// The bit of a condemned slot, and of a retired one.
+/// The bit of a condemned or retired slot.
 pub const CONDEMNED: u64 = 0x4000_0000;
 
-/// One generation.
+/// The lowest bit of the generation.
 const GENERATION: u64 = 0x1_0000_0000;
 
-/// The largest sum of weights that a word can hold.
+/// The maximum sum of weights on a slot.
 pub const MAX_WEIGHT: u32 = 0x3fff_ffff;
 
 /// The weight of a new pin.
@@ -24,7 +26,7 @@ pub const NEW_WEIGHT: u32 = 1024;
 /// The generation after which a slot is retired.
 pub const LAST_GENERATION: u32 = u32::MAX;
 
-/// What a word says of its slot. The weight is the sum over the pins on it.
+/// The contents of a slot's word. `weight` is the sum of the weights of the pins on the slot.
 #[derive(Clone, Copy, Debug, PartialEq, Eq)]
 pub struct WordRow {
     pub generation: u32,
@@ -32,7 +34,7 @@ pub struct WordRow {
     pub weight: u32,
 }
 
-/// The bits of a phase.
+/// Returns the bits of a phase.
 fn phase_bits(phase: Phase) -> u64
     ensures { result ≡ phase_bits phase }
 {
@@ -44,7 +46,11 @@ fn phase_bits(phase: Phase) -> u64
     }
 }
 
-/// The word of a slot.
+/// Packs a slot's contents into its word.
+///
+/// # Memory
+///
+/// Never allocates.
 pub fn pack(row: WordRow) -> u64
     requires { row.weight < 2 ^ 30 }
     ensures { result ≡ word_of row.generation row.phase row.weight }
@@ -52,7 +58,11 @@ pub fn pack(row: WordRow) -> u64
     u64::from(row.generation) * GENERATION + phase_bits(row.phase) + u64::from(row.weight)
 }
 
-/// What a word says. Every number of 64 bits is the word of exactly one generation, phase and sum.
+/// Unpacks a word. Every number of 64 bits is the word of exactly one generation, phase and sum.
+///
+/// # Memory
+///
+/// Never allocates.
 pub fn unpack(word: u64) -> WordRow
     ensures weight { result.weight < 2 ^ 30 }
     ensures inverse { word ≡ word_of result.generation result.phase result.weight }

@@ -1,22 +1,23 @@
-//! What a pin world is made of.
+//! Defines the parts of a pin world: slots and pins.
 
 use blob_digest::Digest;
 
-/// What a slot is.
+/// The phase of a slot.
 #[derive(Clone, Copy, Debug, PartialEq, Eq)]
 pub enum Phase {
-    /// It holds nothing, and may be given a digest.
+    /// The slot is empty and may be given a digest.
     Free,
-    /// It holds the blob of its digest, and may be lent.
+    /// The slot holds the blob of its digest, and new pins may be made on it.
     Live,
-    /// It holds the blob of its digest, is lent no more, and is reclaimed once no pin is on it.
+    /// The slot holds the blob of its digest. It gets no new pin, and may be reclaimed once no pin is on it.
     Condemned,
-    /// It is given to no digest any more.
+    /// The slot is never given a digest again.
     Retired,
 }
 
-/// A slot: its generation, which counts on from the first one by one at each reclaim; what it is;
-/// and the digest of its blob where it is used, that is live or condemned.
+/// A slot: its generation, its phase, and the digest of its blob if it is used.
+///
+/// A slot is used if it is live or condemned. Each reclaim raises the generation by one, up to the last one.
 #[derive(Clone, Copy, Debug, PartialEq, Eq)]
 pub struct PinRow {
     pub generation: u32,
@@ -24,7 +25,7 @@ pub struct PinRow {
     pub digest: Option<Digest>,
 }
 
-/// What a pin holds: a slot in one generation, with the digest that the slot had, by a weight.
+/// The contents of a pin: a slot in one generation, the digest of that slot, and the pin's weight.
 #[derive(Clone, Copy, Debug, PartialEq, Eq)]
 pub struct PinRecord {
     pub slot: u32,
@@ -33,7 +34,7 @@ pub struct PinRecord {
     pub weight: u32,
 }
 
-/// A pin under its name.
+/// A pin with its name.
 #[derive(Clone, Copy, Debug, PartialEq, Eq)]
 pub struct PinEntry {
     pub name: u64,

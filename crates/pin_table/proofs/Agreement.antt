@@ -1,4 +1,4 @@
--- That words and seats agree with a pin world, after a step; and the events behind the rule.
+-- The agreement of words and seats with a pin world after a step, and the events of the rule.
 use Rattle.std.proofs.Common.{◌≡◌, ◌≢◌, ℕ, ◌≤◌, ◌<◌, List, [], ◌∷◌, ◌++◌, length, set, sum_by, refl, sym, ap, ◌∙◌, subst, arith}
 use Rattle.std.specs.Prelude.{slice_index, IsPermutation}
 use Rattle.std.specs.List.{All}
@@ -19,9 +19,9 @@ use Rattle.pin_table.specs.declared.view.KeeperView.{KeeperView}
 use Rattle.pin_table.specs.declared.view.View.{View}
 use Rattle.pin_table.specs.declared.view.View.TheVariants.{Keeper}
 use Rattle.pin_table.specs.Rule.{Accounts, Agrees, Ruled, all_holds, IsPinSeat}
-use Rattle.pin_table.specs.Steps.{Leads}
+use Rattle.pin_table.specs.Steps.{LeadsByEvent}
 
--- ---- the events behind the rule
+-- ---- the events of the rule
 
 after_push : (p : PinWorld) (es : List Event) (e : Event) → after_all p (es ++ e ∷ []) ≡ after (after_all p es) e
 after_push p [] e = refl
@@ -32,16 +32,16 @@ happens_push p [] e h can = (can, tt)
 happens_push p (x ∷ es) e h can = (h.0, happens_push (after p x) es e h.1 can)
 
 -- one event more
-pub advanced : (n g : ℕ) (ws ws' : List ℕ) (vs vs' : List View) (r : Ruled n g ws vs) (e : Event) → Leads (after_all (initial_world n g) r.events) e ws' vs' → Ruled n g ws' vs'
+pub advanced : (n g : ℕ) (ws ws' : List ℕ) (vs vs' : List View) (r : Ruled n g ws vs) (e : Event) → LeadsByEvent (after_all (initial_world n g) r.events) e ws' vs' → Ruled n g ws' vs'
 advanced n g ws ws' vs vs' r e leads = record {
   events = r.events ++ e ∷ [];
   happen = happens_push (initial_world n g) r.events e r.happen leads.0;
   agrees = subst (λ p. Agrees ws' vs' p) (sym (after_push (initial_world n g) r.events e)) leads.1;
 }
 
--- ---- what agreeing says
+-- ---- facts that follow from agreement
 
--- the keeper's view, where it is known
+-- the keeper's view, if the first seat is known
 pub is_keeper : {ws : List ℕ} {vs : List View} {p : PinWorld} (a : Agrees ws vs p) (v : KeeperView) → get_elem? vs 0 ≡ some (Keeper v) → a.keeper ≡ v
 is_keeper a v at = let first : some (Keeper a.keeper) ≡ some (Keeper v) = ap (λ l. get_elem? l 0) (sym a.seats) ∙ at in cc
 

@@ -1,4 +1,4 @@
--- What the rule says at any moment.
+-- Facts that follow from the rule at any moment.
 use Rattle.std.proofs.Common.{◌≡◌, ℕ, ◌≤◌, List, ap, ◌∙◌, subst, arith}
 use Rattle.std.specs.Prelude.{slice_index}
 use mathlib.Core.Option.{some}

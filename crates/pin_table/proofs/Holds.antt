@@ -55,7 +55,7 @@ pub weight_none : (k : ℕ) (hs : List PinRecord) → All (λ h. h.slot ≢ k) h
 weight_none k [] a = refl
 weight_none k (h ∷ hs) a = omega (arith, sum_by-cons (weight_at k) h hs, weight_apart k h (All-head (λ x. x.slot ≢ k) h hs a), weight_none k hs (All-tail (λ x. x.slot ≢ k) h hs a))
 
--- where nothing weighs on the slot, no pin is on it
+-- if the sum of weights on a slot is 0, no pin is on it
 pub none_left : (k : ℕ) (es : List PinEntry) → All IsWeight (map hold_in es) → weight_on k (map hold_in es) ≡ 0 → IsClear k es
 none_left k [] a z = All-nil (λ e. e.hold.slot ≢ k)
 none_left k (x ∷ es) a z =

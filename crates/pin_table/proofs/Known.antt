@@ -1,4 +1,4 @@
--- What the rule says where the seats are known.
+-- The rule for a known list of seats.
 use Rattle.std.proofs.Common.{◌≡◌, ℕ, ◌+◌, ◌<◌, List, ◌∷◌, length, drop, sum_by, sym, ap, ◌∙◌, subst, refl}
 use Rattle.std.specs.Prelude.{slice_index}
 use Rattle.pin_core.specs.declared.world.PinRecord.{PinRecord}
@@ -10,7 +10,7 @@ use Rattle.pin_table.specs.Rule.{Accounts, Agrees, all_holds, in_transit}
 use Rattle.pin_table.proofs.Agreement.{is_keeper}
 use Rattle.pin_table.proofs.PinSeats.{seat_sums}
 
--- what agrees with the words, where the seats are known
+-- the world that agrees with the words and a known list of seats
 pub record Known (ws : List ℕ) (v : KeeperView) (others : List View) (p : PinWorld) : Type 0 where
   pub rows : p.rows ≡ v.rows
   pub words : (k : ℕ) → k < length p.rows → slice_index ws k ≡ row_word (row v.rows k) (weight_on k (holds_of p))

@@ -7,8 +7,8 @@ use Rattle.std.proofs.lemmas.List.Sums.{sum_by-cons, sum_by_push}
 use mathlib.Core.Logic.{dite}
 use Rattle.pin_core.specs.declared.world.PinRecord.{PinRecord}
 use Rattle.pin_core.specs.declared.world.PinEntry.{PinEntry}
-use Rattle.pin_core.specs.World.{IsNamed, hold_named}
-use Rattle.pin_core.specs.Events.{half, halve, second, entry}
+use Rattle.pin_core.specs.World.{HasDistinctNames, hold_named}
+use Rattle.pin_core.specs.Events.{half, half_if_named, second, named_entry}
 use Rattle.pin_core.proofs.Names.{hold_in, none_any, others_all}
 use Rattle.pin_core.proofs.Shares.{named_cases, halved_sum}
 use Rattle.pin_table.proofs.Orders.{is_same, one, one_other}
@@ -24,7 +24,7 @@ unnamed [] n l = refl
 unnamed (e ∷ es) n l = ap (λ b. cond b (Some e.hold) (hold_named n es)) (ne_eqb e.name n (λ s. omega arith)) ∙ unnamed es n (omega arith)
 
 -- a pin that counts has a name
-pub name_of : (h : PinRecord) (es : List PinEntry) → IsNamed es → 0 < sum_by (one h) (map hold_in es) → (n : ℕ) × (hold_named n es ≡ Some h)
+pub name_of : (h : PinRecord) (es : List PinEntry) → HasDistinctNames es → 0 < sum_by (one h) (map hold_in es) → (n : ℕ) × (hold_named n es ≡ Some h)
 name_of h [] all l = let z : sum_by (one h) [] ≡ 0 = refl in absurd (omega arith)
 name_of h (x ∷ es) all l = dite (is_same h x.hold)
     (λ (e : h ≡ x.hold). (x.name, ap (λ b. cond b (Some x.hold) (hold_named x.name es)) (eq-eqb x.name x.name refl) ∙ ap (λ (g : PinRecord). Some g) (sym e)))
@@ -37,10 +37,10 @@ name_of h (x ∷ es) all l = dite (is_same h x.hold)
 
 -- ---- the sums after an event
 
-pub lent_sum : (f : PinRecord → ℕ) (n : ℕ) (h : PinRecord) (es : List PinEntry) → sum_by f (map hold_in (es ++ entry n h ∷ [])) ≡ sum_by f (map hold_in es) + f h
-lent_sum f n h es = ap (sum_by f) (map-append hold_in es (entry n h ∷ [])) ∙ sum_by_push f (map hold_in es) h
+pub lent_sum : (f : PinRecord → ℕ) (n : ℕ) (h : PinRecord) (es : List PinEntry) → sum_by f (map hold_in (es ++ named_entry n h ∷ [])) ≡ sum_by f (map hold_in es) + f h
+lent_sum f n h es = ap (sum_by f) (map-append hold_in es (named_entry n h ∷ [])) ∙ sum_by_push f (map hold_in es) h
 
-pub left_sum : (f : PinRecord → ℕ) (n : ℕ) (es : List PinEntry) (h : PinRecord) → IsNamed es → hold_named n es ≡ Some h → sum_by f (map hold_in (filter (λ e. not (e.name == n)) es)) + f h ≡ sum_by f (map hold_in es)
+pub left_sum : (f : PinRecord → ℕ) (n : ℕ) (es : List PinEntry) (h : PinRecord) → HasDistinctNames es → hold_named n es ≡ Some h → sum_by f (map hold_in (filter (λ e. not (e.name == n)) es)) + f h ≡ sum_by f (map hold_in es)
 left_sum f n [] h all there = absurd cc
 left_sum f n (x ∷ es) h all there =
     let others : List PinEntry = filter (λ e. not (e.name == n)) es in elim (named_cases n x es h all there) [
@@ -58,8 +58,8 @@ left_sum f n (x ∷ es) h all there =
           let d = left_sum f n es h all.1 g.1 in omega arith
     ]
 
-pub shared_sums : (f : PinRecord → ℕ) (n m : ℕ) (es : List PinEntry) (h : PinRecord) → IsNamed es → hold_named n es ≡ Some h → sum_by f (map hold_in (map (halve n) es ++ second m (hold_named n es))) + f h ≡ sum_by f (map hold_in es) + f (half h) + f (half h)
+pub shared_sums : (f : PinRecord → ℕ) (n m : ℕ) (es : List PinEntry) (h : PinRecord) → HasDistinctNames es → hold_named n es ≡ Some h → sum_by f (map hold_in (map (half_if_named n) es ++ second m (hold_named n es))) + f h ≡ sum_by f (map hold_in es) + f (half h) + f (half h)
 shared_sums f n m es h all there =
-    let two = ap (λ o. sum_by f (map hold_in (map (halve n) es ++ second m o))) there in
-    let a = lent_sum f m (half h) (map (halve n) es) in
+    let two = ap (λ o. sum_by f (map hold_in (map (half_if_named n) es ++ second m o))) there in
+    let a = lent_sum f m (half h) (map (half_if_named n) es) in
     let b = halved_sum f n es h all there in omega arith

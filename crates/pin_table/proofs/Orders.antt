@@ -40,7 +40,7 @@ one_other h g ne = by_test (is_same h g)
     by_test (yes e) = absurd (ne e)
     by_test (no n) = refl
 
--- the pin h stands in the list, or there is none of it
+-- the pin h is in the list, or the list has no pin equal to it
 pub record Parted (h : PinRecord) (xs : List PinRecord) : Type 0 where
   pub front : List PinRecord
   pub back : List PinRecord

@@ -19,16 +19,16 @@ use Rattle.pin_core.proofs.Shares.{shared_sum}
 use Rattle.pin_table.specs.declared.view.KeeperView.{KeeperView}
 use Rattle.pin_table.specs.declared.view.View.{View}
 use Rattle.pin_table.specs.declared.view.View.TheVariants.{Keeper, Pin, Left, Empty}
-use Rattle.pin_table.specs.Rule.{Accounts, Agrees, all_holds, gone, gone_at, gone_since, holds_in, in_transit, keeper_view, IsPinSeat, IsPast, initial_view}
-use Rattle.pin_table.specs.Plays.{with_transit, own_seat}
-use Rattle.pin_table.specs.Steps.{Leads}
+use Rattle.pin_table.specs.Rule.{Accounts, Agrees, all_holds, released_pin, released_weight, released_weight_since, holds_in, in_transit, keeper_view, IsPinSeat, IsPast, initial_view}
+use Rattle.pin_table.specs.Plays.{with_transit, seat_of_pin}
+use Rattle.pin_table.specs.Steps.{LeadsByEvent}
 use Rattle.pin_table.proofs.Orders.{one, one_self, permutes}
 use Rattle.pin_table.proofs.Names.{fresh, unnamed, name_of, left_sum, shared_sums}
 use Rattle.pin_table.proofs.Holds.{sum_set, sum_push, sum_one, sum_at, all_counted, weight_same, weight_apart}
 use Rattle.pin_table.proofs.Accounts.{leaves_kept, regrouped_kept, view_set}
 use Rattle.pin_table.proofs.Agreement.{is_keeper, sums, changed, pins_changed, regrouped}
 
--- what is known where the seat id has the pin h: its place among the others, and its name
+-- facts about the seat id with the pin h: its place among the others, and its name
 pub record Pinned (ws : List ℕ) (vs : List View) (p : PinWorld) (id : ℕ) (h : PinRecord) : Type 0 where
   pub agrees : Agrees ws vs p
   pub place : ℕ
@@ -72,11 +72,11 @@ left_word : (n g b t t' w : ℕ) → n < 18446744073709551616 → n ≡ g * 4294
 left_word n g b t t' w fits is less small = omega arith
 
 pub leaves : {ws : List ℕ} {vs : List View} {p : PinWorld} {id : ℕ} {h : PinRecord} (c : Pinned ws vs p id h) → slice_index ws h.slot < 18446744073709551616
-    → Leads p (Leave c.name) (set ws h.slot ((slice_index ws h.slot + (18446744073709551616 - h.weight)) % 18446744073709551616)) (set vs id (Left (gone h (slice_index c.agrees.keeper.looks h.slot))))
+    → LeadsByEvent p (Leave c.name) (set ws h.slot ((slice_index ws h.slot + (18446744073709551616 - h.weight)) % 18446744073709551616)) (set vs id (Left (released_pin h (slice_index c.agrees.keeper.looks h.slot))))
 leaves {ws} {vs} {p} {id} {h} c fits =
     let a = c.agrees in
     let k : ℕ = h.slot in
-    let u = Left (gone h (slice_index a.keeper.looks k)) in
+    let u = Left (released_pin h (slice_index a.keeper.looks k)) in
     let can : Can p (Leave c.name) = ap is_some c.named in
     let q = after p (Leave c.name) in
     let n = slice_index ws k in
@@ -101,7 +101,7 @@ leaves {ws} {vs} {p} {id} {h} c fits =
 -- ---- Share
 
 pub shares : {ws : List ℕ} {vs : List View} {p : PinWorld} {id : ℕ} {h : PinRecord} (c : Pinned ws vs p id h) → 1 < h.weight
-    → Leads p (Share c.name (fresh p.pins)) ws (set vs id (Pin (half h)) ++ Pin (half h) ∷ [])
+    → LeadsByEvent p (Share c.name (fresh p.pins)) ws (set vs id (Pin (half h)) ++ Pin (half h) ∷ [])
 shares {ws} {vs} {p} {id} {h} c more =
     let a = c.agrees in
     let g = half h in
@@ -115,47 +115,47 @@ shares {ws} {vs} {p} {id} {h} c more =
     let still : (f : View → ℕ) → f (Pin h) ≡ 0 → f (Pin g) ≡ 0 → sum_by f others ≡ sum_by f a.others = λ f x y. omega (arith, sum_by_push f (set a.others c.place (Pin g)) (Pin g), view_set f a.others c.place (Pin h) (Pin g) c.at) in
     let guests = All-push IsPinSeat (set a.others c.place (Pin g)) (Pin g) (All-set IsPinSeat a.others c.place (Pin g) tt a.guests) tt in
     let made = regrouped ws vs p q.pins a a.keeper others guests refl refl pins (state_after p (Share c.name second) can a.state) (λ j. shared_sum j c.name second p.pins a.state.named big a.state.weights)
-    (regrouped_kept (length p.rows) a.keeper.bounds a.keeper.looks a.keeper.lent a.others others (holds_of p) (holds_of q) (λ k. still (gone_at k) refl refl) (λ k look. still (gone_since k look) refl refl) (λ j. shared_sum j c.name second p.pins a.state.named big a.state.weights)
+    (regrouped_kept (length p.rows) a.keeper.bounds a.keeper.looks a.keeper.lent a.others others (holds_of p) (holds_of q) (λ k. still (released_weight k) refl refl) (λ k look. still (released_weight_since k look) refl refl) (λ j. shared_sum j c.name second p.pins a.state.named big a.state.weights)
     (All-push (IsPast a.keeper.looks) (set a.others c.place (Pin g)) (Pin g) (All-set (IsPast a.keeper.looks) a.others c.place (Pin g) tt a.accounts.past) tt) a.accounts) in
     (can, subst (λ l. Agrees ws (set l id (Pin g) ++ Pin g ∷ []) q) (sym a.seats) (subst (λ i. Agrees ws (set (Keeper a.keeper ∷ a.others) i (Pin g) ++ Pin g ∷ []) q) (sym c.id_is) made))
 
 -- ---- the pin in transit
 
-own_seat_sum : (f : PinRecord → ℕ) (o : Option PinRecord) → sum_by f (holds_in (own_seat o)) ≡ sum_by f (in_transit o)
+own_seat_sum : (f : PinRecord → ℕ) (o : Option PinRecord) → sum_by f (holds_in (seat_of_pin o)) ≡ sum_by f (in_transit o)
 own_seat_sum f None = refl
 own_seat_sum f (Some h) = refl
 
-own_seat_none : (f : View → ℕ) → ((h : PinRecord) → f (Pin h) ≡ 0) → f Empty ≡ 0 → (o : Option PinRecord) → f (own_seat o) ≡ 0
+own_seat_none : (f : View → ℕ) → ((h : PinRecord) → f (Pin h) ≡ 0) → f Empty ≡ 0 → (o : Option PinRecord) → f (seat_of_pin o) ≡ 0
 own_seat_none f pin spent None = spent
 own_seat_none f pin spent (Some h) = pin h
 
-own_seat_past : (looks : List ℕ) (o : Option PinRecord) → IsPast looks (own_seat o)
+own_seat_past : (looks : List ℕ) (o : Option PinRecord) → IsPast looks (seat_of_pin o)
 own_seat_past looks None = tt
 own_seat_past looks (Some h) = tt
 
-own_seat_guest : (o : Option PinRecord) → IsPinSeat (own_seat o)
+own_seat_guest : (o : Option PinRecord) → IsPinSeat (seat_of_pin o)
 own_seat_guest None = tt
 own_seat_guest (Some h) = tt
 
-pub hands_out : {ws : List ℕ} {vs : List View} {p : PinWorld} (a : Agrees ws vs p) (v : KeeperView) → get_elem? vs 0 ≡ some (Keeper v) → Agrees ws (set vs 0 (Keeper (with_transit None v)) ++ own_seat v.transit ∷ []) p
+pub hands_out : {ws : List ℕ} {vs : List View} {p : PinWorld} (a : Agrees ws vs p) (v : KeeperView) → get_elem? vs 0 ≡ some (Keeper v) → Agrees ws (set vs 0 (Keeper (with_transit None v)) ++ seat_of_pin v.transit ∷ []) p
 hands_out {ws} {vs} {p} a v at =
     let same = is_keeper a v at in
     let u = with_transit None v in
-    let others = a.others ++ own_seat v.transit ∷ [] in
+    let others = a.others ++ seat_of_pin v.transit ∷ [] in
     let pins = permutes (all_holds (Keeper u ∷ others)) (holds_of p)
-    (λ f. omega (arith, seat_sums a f, ap (λ (x : KeeperView). sum_by f (in_transit x.transit)) same, sum_push f a.others (own_seat v.transit), own_seat_sum f v.transit)) in
-    let still : (f : View → ℕ) → ((h : PinRecord) → f (Pin h) ≡ 0) → f Empty ≡ 0 → sum_by f others ≡ sum_by f a.others = λ f x y. omega (arith, sum_by_push f a.others (own_seat v.transit), own_seat_none f x y v.transit) in
-    let accounts = regrouped_kept (length p.rows) a.keeper.bounds a.keeper.looks a.keeper.lent a.others others (holds_of p) (holds_of p) (λ k. still (gone_at k) (λ h. refl) refl) (λ k look. still (gone_since k look) (λ h. refl) refl) (λ j. refl)
-    (All-push (IsPast a.keeper.looks) a.others (own_seat v.transit) a.accounts.past (own_seat_past a.keeper.looks v.transit)) a.accounts in
-    subst (λ l. Agrees ws (set l 0 (Keeper u) ++ own_seat v.transit ∷ []) p) (sym a.seats)
-    (regrouped ws vs p p.pins a u others (All-push IsPinSeat a.others (own_seat v.transit) a.guests (own_seat_guest v.transit)) (sym (ap (λ (x : KeeperView). x.rows) same)) (sym (ap (λ (x : KeeperView). x.bounds) same)) pins a.state (λ j. refl)
+    (λ f. omega (arith, seat_sums a f, ap (λ (x : KeeperView). sum_by f (in_transit x.transit)) same, sum_push f a.others (seat_of_pin v.transit), own_seat_sum f v.transit)) in
+    let still : (f : View → ℕ) → ((h : PinRecord) → f (Pin h) ≡ 0) → f Empty ≡ 0 → sum_by f others ≡ sum_by f a.others = λ f x y. omega (arith, sum_by_push f a.others (seat_of_pin v.transit), own_seat_none f x y v.transit) in
+    let accounts = regrouped_kept (length p.rows) a.keeper.bounds a.keeper.looks a.keeper.lent a.others others (holds_of p) (holds_of p) (λ k. still (released_weight k) (λ h. refl) refl) (λ k look. still (released_weight_since k look) (λ h. refl) refl) (λ j. refl)
+    (All-push (IsPast a.keeper.looks) a.others (seat_of_pin v.transit) a.accounts.past (own_seat_past a.keeper.looks v.transit)) a.accounts in
+    subst (λ l. Agrees ws (set l 0 (Keeper u) ++ seat_of_pin v.transit ∷ []) p) (sym a.seats)
+    (regrouped ws vs p p.pins a u others (All-push IsPinSeat a.others (seat_of_pin v.transit) a.guests (own_seat_guest v.transit)) (sym (ap (λ (x : KeeperView). x.rows) same)) (sym (ap (λ (x : KeeperView). x.bounds) same)) pins a.state (λ j. refl)
     (subst (λ (x : KeeperView). Accounts (length p.rows) x.bounds x.looks x.lent others (holds_of p)) same accounts))
 
 -- a pin goes from its seat to the keeper
 pub record Taken (ws : List ℕ) (vs : List View) (p : PinWorld) (v : KeeperView) (id : ℕ) (h : PinRecord) : Type 0 where
   pub name : ℕ
   pub named : hold_named name p.pins ≡ Some h
-  pub leads : Leads p (Verify name) ws (set (set vs 0 (Keeper (with_transit (Some h) v))) id Empty)
+  pub leads : LeadsByEvent p (Verify name) ws (set (set vs 0 (Keeper (with_transit (Some h) v))) id Empty)
 
 pub takes_in : {ws : List ℕ} {vs : List View} {p : PinWorld} (a : Agrees ws vs p) (v : KeeperView) (id : ℕ) (h : PinRecord) → get_elem? vs 0 ≡ some (Keeper v) → v.transit ≡ None → ¬ (id ≡ 0)
     → get_elem? (set vs 0 (Keeper (with_transit (Some h) v))) id ≡ some (Pin h) → Taken ws vs p v id h
@@ -168,7 +168,7 @@ takes_in {ws} {vs} {p} a v (suc place) h at empty ne there =
     let others = set a.others place Empty in
     let none : (f : PinRecord → ℕ) → sum_by f (in_transit a.keeper.transit) ≡ 0 = λ f. ap (λ (x : KeeperView). sum_by f (in_transit x.transit)) same ∙ ap (λ o. sum_by f (in_transit o)) empty in
     let still : (f : View → ℕ) → f (Pin h) ≡ 0 → f Empty ≡ 0 → sum_by f others ≡ sum_by f a.others = λ f x y. omega (arith, view_set f a.others place (Pin h) Empty here) in
-    let accounts = regrouped_kept (length p.rows) a.keeper.bounds a.keeper.looks a.keeper.lent a.others others (holds_of p) (holds_of p) (λ k. still (gone_at k) refl refl) (λ k look. still (gone_since k look) refl refl) (λ j. refl)
+    let accounts = regrouped_kept (length p.rows) a.keeper.bounds a.keeper.looks a.keeper.lent a.others others (holds_of p) (holds_of p) (λ k. still (released_weight k) refl refl) (λ k look. still (released_weight_since k look) refl refl) (λ j. refl)
     (All-set (IsPast a.keeper.looks) a.others place Empty tt a.accounts.past) a.accounts in
     let pins = permutes (all_holds (Keeper u ∷ others)) (holds_of p)
     (λ f. omega (arith, seat_sums a f, none f, sum_by-append f (h ∷ []) (all_holds others), sum_set f a.others place (Pin h) Empty here, sum_one f h)) in record {

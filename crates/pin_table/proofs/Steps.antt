@@ -5,7 +5,7 @@ use Rattle.std.proofs.lemmas.List.{set-get_or}
 use Rattle.std.proofs.lemmas.List.Sums.{sum_by-append}
 use mathlib.Core.Option.{some}
 use lib.ListN.{get_elem?}
-use Rattle.finite_maps.specs.Texts.{Text}
+use Rattle.spec_lib.specs.Texts.{Text}
 use Rattle.pin_core.specs.declared.world.Phase.TheVariants.{Free, Live, Condemned}
 use Rattle.pin_core.specs.declared.world.PinRecord.{PinRecord}
 use Rattle.pin_core.specs.declared.event.Event.TheVariants.{Give, Lend, Condemn, Revive, Reclaim, Look}
@@ -16,8 +16,8 @@ use Rattle.pin_table.specs.declared.view.KeeperView.{KeeperView}
 use Rattle.pin_table.specs.declared.view.View.{View}
 use Rattle.pin_table.specs.declared.view.View.TheVariants.{Keeper}
 use Rattle.pin_table.specs.Rule.{Accounts, Agrees, all_holds, in_transit}
-use Rattle.pin_table.specs.Plays.{Finds, TransitKept, with_transit, with_lent, with_look, with_row}
-use Rattle.pin_table.specs.Steps.{Leads}
+use Rattle.pin_table.specs.Plays.{Finds, IsTransitValid, with_transit, with_lent, with_look, with_row}
+use Rattle.pin_table.specs.Steps.{LeadsByEvent}
 use Rattle.pin_table.proofs.Bits.{set_used, set_condemned, clear_condemned}
 use Rattle.pin_table.proofs.Orders.{one, one_self, permutes}
 use Rattle.pin_table.proofs.Names.{fresh, unnamed, lent_sum}
@@ -49,7 +49,7 @@ keeping {ws} {vs} {p} a v k at l =
       finds = record { word = a.at_words k l ∙ ap (λ rs. row_word (row rs k) (weight_on k (holds_of p))) rows; within = bound; fits = omega arith };
     }
 
--- what was lent and the bounds, by what the keeper knows
+-- the weights lent and the bounds, by the keeper's view
 accounts : {ws : List ℕ} {vs : List View} {p : PinWorld} {v : KeeperView} {k : ℕ} (c : Keeping ws vs p v k) → Accounts (length p.rows) v.bounds v.looks v.lent c.agrees.others (holds_of p)
 accounts {p = p} c = subst (λ (x : KeeperView). Accounts (length p.rows) x.bounds x.looks x.lent c.agrees.others (holds_of p)) c.same c.agrees.accounts
 
@@ -69,10 +69,10 @@ pub bound_kept : (v : KeeperView) (k : ℕ) → v.bounds ≡ set v.bounds k (sli
 bound_kept v k = sym (set-get_or v.bounds k 0)
 
 -- the pin in transit is kept
-pub hand_kept : {ws : List ℕ} {vs : List View} {p : PinWorld} {v : KeeperView} {k : ℕ} → Keeping ws vs p v k → TransitKept v.rows v.transit
+pub hand_kept : {ws : List ℕ} {vs : List View} {p : PinWorld} {v : KeeperView} {k : ℕ} → Keeping ws vs p v k → IsTransitValid v.rows v.transit
 hand_kept {ws} {vs} {p} {v} {k} c = by_hand v.transit refl
   where
-    by_hand : (o : Option PinRecord) → v.transit ≡ o → TransitKept v.rows o
+    by_hand : (o : Option PinRecord) → v.transit ≡ o → IsTransitValid v.rows o
     by_hand None e = tt
     by_hand (Some h) e =
         let a = c.agrees in
@@ -83,7 +83,7 @@ hand_kept {ws} {vs} {p} {v} {k} c = by_hand v.transit refl
 -- ---- Look
 
 pub looks : {ws : List ℕ} {vs : List View} {p : PinWorld} {v : KeeperView} {k : ℕ} → Keeping ws vs p v k
-    → Leads p (Look k) (set ws k (slice_index ws k)) (set vs 0 (Keeper (with_look k (weight_on k (holds_of p)) v)))
+    → LeadsByEvent p (Look k) (set ws k (slice_index ws k)) (set vs 0 (Keeper (with_look k (weight_on k (holds_of p)) v)))
 looks {ws} {vs} {p} {v} {k} c =
     let w : ℕ = weight_on k (holds_of p) in (
       c.within,
@@ -94,7 +94,7 @@ looks {ws} {vs} {p} {v} {k} c =
 -- ---- Give
 
 pub gives : {ws : List ℕ} {vs : List View} {p : PinWorld} {v : KeeperView} {k : ℕ} (d : Text) → Keeping ws vs p v k → (row v.rows k).phase ≡ Free → IsNew d v.rows
-    → Leads p (Give k d) (set ws k (bit_or (slice_index ws k) 2147483648)) (set vs 0 (Keeper (with_look k 0 (with_row k (given_row d (row v.rows k)) v))))
+    → LeadsByEvent p (Give k d) (set ws k (bit_or (slice_index ws k) 2147483648)) (set vs 0 (Keeper (with_look k 0 (with_row k (given_row d (row v.rows k)) v))))
 gives {ws} {vs} {p} {v} {k} d c free new =
     let free' : (row p.rows k).phase ≡ Free = ap (λ rs. (row rs k).phase) c.rows ∙ free in
     let can : Can p (Give k d) = ((c.within, free'), subst (λ rs. IsNew d rs) (sym c.rows) new) in
@@ -116,7 +116,7 @@ lent_word : (n g w : ℕ) → n < 18446744073709551616 → n ≡ g * 4294967296 
 lent_word n g w fits is l = omega arith
 
 pub lends : {ws : List ℕ} {vs : List View} {p : PinWorld} {v : KeeperView} {k : ℕ} → Keeping ws vs p v k → slice_index ws k < 18446744073709551616 → v.transit ≡ None → (row v.rows k).phase ≡ Live → slice_index v.bounds k + new_weight ≤ max_weight
-    → Leads p (Lend k (fresh p.pins)) (set ws k ((slice_index ws k + 1024) % 18446744073709551616)) (set vs 0 (Keeper (with_transit (Some (lent_hold k (row v.rows k))) (with_lent k v))))
+    → LeadsByEvent p (Lend k (fresh p.pins)) (set ws k ((slice_index ws k + 1024) % 18446744073709551616)) (set vs 0 (Keeper (with_transit (Some (lent_hold k (row v.rows k))) (with_lent k v))))
 lends {ws} {vs} {p} {v} {k} c fits empty live room =
     let name = fresh p.pins in
     let live' : (row p.rows k).phase ≡ Live = ap (λ rs. (row rs k).phase) c.rows ∙ live in
@@ -145,7 +145,7 @@ lends {ws} {vs} {p} {v} {k} c fits empty live room =
 -- ---- Condemn and Revive
 
 pub condemns : {ws : List ℕ} {vs : List View} {p : PinWorld} {v : KeeperView} {k : ℕ} → Keeping ws vs p v k → (row v.rows k).phase ≡ Live
-    → Leads p (Condemn k) (set ws k (bit_or (slice_index ws k) 1073741824)) (set vs 0 (Keeper (with_row k (in_phase Condemned (row v.rows k)) v)))
+    → LeadsByEvent p (Condemn k) (set ws k (bit_or (slice_index ws k) 1073741824)) (set vs 0 (Keeper (with_row k (in_phase Condemned (row v.rows k)) v)))
 condemns {ws} {vs} {p} {v} {k} c live =
     let live' : (row p.rows k).phase ≡ Live = ap (λ rs. (row rs k).phase) c.rows ∙ live in
     let can : Can p (Condemn k) = (c.within, live') in
@@ -163,7 +163,7 @@ condemns {ws} {vs} {p} {v} {k} c live =
     )
 
 pub revives : {ws : List ℕ} {vs : List View} {p : PinWorld} {v : KeeperView} {k : ℕ} → Keeping ws vs p v k → slice_index ws k < 18446744073709551616 → (row v.rows k).phase ≡ Condemned
-    → Leads p (Revive k) (set ws k (bit_and (slice_index ws k) 18446744072635809791)) (set vs 0 (Keeper (with_row k (in_phase Live (row v.rows k)) v)))
+    → LeadsByEvent p (Revive k) (set ws k (bit_and (slice_index ws k) 18446744072635809791)) (set vs 0 (Keeper (with_row k (in_phase Live (row v.rows k)) v)))
 revives {ws} {vs} {p} {v} {k} c fits dead =
     let dead' : (row p.rows k).phase ≡ Condemned = ap (λ rs. (row rs k).phase) c.rows ∙ dead in
     let can : Can p (Revive k) = (c.within, dead') in
@@ -183,7 +183,7 @@ revives {ws} {vs} {p} {v} {k} c fits dead =
 -- ---- Reclaim
 
 pub reclaims : {ws : List ℕ} {vs : List View} {p : PinWorld} {v : KeeperView} {k : ℕ} (old new : ℕ) → Keeping ws vs p v k → (row v.rows k).phase ≡ Condemned → old ≡ row_word (row v.rows k) 0 → new ≡ row_word (reclaimed_row (row v.rows k)) 0 → slice_index ws k ≡ old
-    → Leads p (Reclaim k) (set ws k new) (set vs 0 (Keeper (with_look k 0 (with_row k (reclaimed_row (row v.rows k)) v))))
+    → LeadsByEvent p (Reclaim k) (set ws k new) (set vs 0 (Keeper (with_look k 0 (with_row k (reclaimed_row (row v.rows k)) v))))
 reclaims {ws} {vs} {p} {v} {k} old new c dead old_is new_is hit =
     let dead' : (row p.rows k).phase ≡ Condemned = ap (λ rs. (row rs k).phase) c.rows ∙ dead in
     let found = c.finds.word in

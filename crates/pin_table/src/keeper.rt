@@ -1,4 +1,4 @@
-//! The keeper of the slots, which alone changes their rows.
+//! Defines the keeper: the exclusive owner of the slot words' bookkeeping.
 
 ghost use Rattle.std.specs.Prelude.{◌≡◌, ◌<◌, length, slice_index};
 ghost use Rattle.pin_core.specs.World.{row};
@@ -8,11 +8,11 @@ use blob_digest::Digest;
 use pin_core::{Phase, PinRow};
 use std::marker::Model;
 
-/// The keeper of a table's slots: of each its row, and a bound on the sum of the weights on it.
+/// The keeper of a table's slots: each slot's row, and a bound on its sum of weights.
 ///
-/// Whoever has it by `&mut` is the only one to give, lend, condemn, revive and reclaim slots. No
-/// other holder changes a row, so what it shows of phases, generations and digests is so at every
-/// moment; the sums only fall meanwhile.
+/// Only the holder of `&mut Keeper` can give, lend, condemn, revive and reclaim slots. No other thread changes a row,
+/// so the phases, generations and digests that it returns are exact at every moment. Between its calls the sums only
+/// fall, because other threads can release and share pins but not make them.
 #[derive(Drop)]
 pub struct Keeper {
     pub(crate) rows: Vec<PinRow>,
@@ -36,7 +36,11 @@ impl Model for Keeper {
 }
 
 impl Keeper {
-    /// What a slot is.
+    /// Returns the phase of a slot.
+    ///
+    /// # Memory
+    ///
+    /// Never allocates.
     pub fn phase(&self, slot: u32) -> Phase
         requires { slot < length self.now.rows }
         ensures { result ≡ (row self.now.rows slot).phase }
@@ -44,7 +48,11 @@ impl Keeper {
         self.rows[slot as usize].phase
     }
 
-    /// The generation of a slot: it counts on from the first one, by one at each reclaim.
+    /// Returns the generation of a slot. Each reclaim raises it by one, up to the last one.
+    ///
+    /// # Memory
+    ///
+    /// Never allocates.
     pub fn generation(&self, slot: u32) -> u32
         requires { slot < length self.now.rows }
         ensures { result ≡ (row self.now.rows slot).generation }
@@ -52,7 +60,11 @@ impl Keeper {
         self.rows[slot as usize].generation
     }
 
-    /// The digest of a slot, where the slot is used.
+    /// Returns the digest of a slot, if the slot is used.
+    ///
+    /// # Memory
+    ///
+    /// Never allocates.
     pub fn digest(&self, slot: u32) -> Option<Digest>
         requires { slot < length self.now.rows }
         ensures { result ≡ (row self.now.rows slot).digest }
@@ -60,8 +72,13 @@ impl Keeper {
         self.rows[slot as usize].digest
     }
 
-    /// The sum of weights on a slot is at most this: the keeper's last look at it and what it lent
-    /// since, 0 after a give.
+    /// Returns an upper bound on the sum of weights on a slot.
+    ///
+    /// It is the sum that the keeper's last look found, plus the weight lent since. After a give or a reclaim it is 0.
+    ///
+    /// # Memory
+    ///
+    /// Never allocates.
     pub fn bound(&self, slot: u32) -> u32
         requires { slot < length self.now.rows }
         ensures { result ≡ slice_index self.now.bounds slot }

@@ -1,36 +1,45 @@
-//! Laws of the steps on words, of their histories, of the words at any moment, and of looks.
+//! States the theorems about steps on words, lists of steps, the words at any moment, and looks.
 
 ghost use Rattle.pin_table.specs.Laws.{StepsAreEvents, Histories, RunningWords};
 ghost use Rattle.pin_table.specs.Looks.{LooksAreTrue};
 
-/// Each kind of step is its event: from each pin world with which words and seats agree before the
-/// step, the event can happen, and after the step they agree with the world after it. A split of the
-/// keeper's seat is no event: they agree with the same world after it.
+/// States that each kind of step is its event.
+///
+/// If words and seats agree with a pin world before a step, the step's event can happen in that world. After the step,
+/// words and seats agree with the world after the event. A split of the keeper's seat is no event: afterwards they
+/// agree with the same world.
 pub fn steps()
     ensures { StepsAreEvents }
 {}
 
-/// Every list of steps from a new table on, of whichever seats, is one list of events that can happen
-/// in their turn, an event a step: the law of those events holds, and at each moment the words and
-/// seats agree with the world after the events so far.
+/// States that every list of steps from a new table is one list of events that can happen.
+///
+/// The steps may be those of any seats, in any order. There is one event for each step, and none for a split of the
+/// keeper's seat. The reclamation theorem of `pin_core` holds for the events. After each step, words and seats agree
+/// with the world after the events so far.
 pub fn histories()
     ensures { Histories }
 {}
 
-/// What the table's rule says at any moment, whichever threads have made whichever steps: events
-/// that can happen lead from free slots to a world with which words and seats agree, so that the law
-/// of those events holds; and the slot of each pin that is out is used, has the pin's generation and
-/// digest in the keeper's rows, and counts the pin in its word.
+/// States the consequences of the table's rule at any moment and for any interleaving of threads.
+///
+/// - Some events that can happen lead from free slots to a world with which words and seats agree. The reclamation
+///   theorem of `pin_core` holds for them.
+/// - The slot of each pin is used and has the pin's generation and digest in the keeper's rows.
+/// - The slot's word is that of its row, with a sum of at least the pin's weight.
 pub fn running_words()
     ensures { RunningWords }
 {}
 
-/// A look is true, of whatever kinds the steps are that make it. After a step of the keeper's seat
-/// that counts one look more at a slot, the bound is the sum in the slot's word; a pin that leaves
-/// bears the count of looks as it is. So a call of any number of steps that counts one look more and
-/// has in the end the pins that it had and lent has for the bound what others' pins weighed at a
-/// moment of the call, and its own. And a call on a pin that ends with a seat which says that the pin
-/// left has left nothing of it in the word.
+/// States that the sum which a look finds was in the slot's word at a moment of the call.
+///
+/// The theorem holds whatever kinds of steps the call makes:
+///
+/// - If a step of the keeper's seat counts one more look at a slot, the bound then equals the sum in the slot's word.
+/// - If a pin leaves its seat, the seat records the current number of looks at its slot.
+/// - Suppose a call counts one more look at a slot and still has all pins that it had or lent. The bound is then the
+///   weight of the other pins on the slot at some moment of the call, plus the weight of the call's own pins.
+/// - If a call on a pin ends with a seat that records the pin as released, nothing of the pin remains in the word.
 pub fn looks()
     ensures { LooksAreTrue }
 {}

@@ -1,4 +1,4 @@
-//! Pins, and what is left of one.
+//! Defines pins and released pins.
 
 ghost use Rattle.std.specs.Prelude.{◌≡◌};
 
@@ -7,9 +7,9 @@ use blob_digest::Digest;
 use pin_core::PinRecord;
 use std::marker::Model;
 
-/// A pin on a slot: while it is out, the slot is used and has the pin's generation and digest.
+/// A pin on a slot. While the pin exists, the slot is used and has the pin's generation and digest.
 ///
-/// It can be neither copied nor dropped: `Pins::share` makes two of it, and `Pins::leave` ends it.
+/// It can be neither copied nor dropped. `Pins::share` splits it in two, and `Pins::leave` releases it.
 pub struct Pin {
     pub(crate) hold: PinRecord,
     pub(crate) seat: PinSeat,
@@ -28,7 +28,7 @@ impl Model for Pin {
     ghost invariant = { λ p. (p.seat.me ≡ (PinView p.hold, [])) × (p.hold.slot < p.seat.table_id.words) × IsWeight p.hold };
 }
 
-/// The seat of a pin that was left. It counts for nothing, and may be dropped.
+/// The seat of a released pin. It weighs nothing and may be dropped.
 #[derive(Drop)]
 pub struct Left {
     pub(crate) seat: PinSeat,
@@ -43,28 +43,44 @@ impl Model for Left {
 }
 
 impl Pin {
-    /// The slot that the pin is on.
+    /// Returns the slot that the pin is on.
+    ///
+    /// # Memory
+    ///
+    /// Never allocates.
     pub fn slot(&self) -> u32
         ensures { result ≡ self.now.hold.slot }
     {
         self.hold.slot
     }
 
-    /// The generation in which its slot was given.
+    /// Returns the generation of the pin's slot.
+    ///
+    /// # Memory
+    ///
+    /// Never allocates.
     pub fn generation(&self) -> u32
         ensures { result ≡ self.now.hold.generation }
     {
         self.hold.generation
     }
 
-    /// The digest of its slot.
+    /// Returns the digest of the pin's slot.
+    ///
+    /// # Memory
+    ///
+    /// Never allocates.
     pub fn digest(&self) -> Digest
         ensures { result ≡ self.now.hold.digest }
     {
         self.hold.digest
     }
 
-    /// What the pin weighs in its slot's word: 1024 when it is new, and half after each share.
+    /// Returns the pin's weight in its slot's word: 1,024 for a new pin, halved by each share.
+    ///
+    /// # Memory
+    ///
+    /// Never allocates.
     pub fn weight(&self) -> u32
         ensures { result ≡ self.now.hold.weight }
     {

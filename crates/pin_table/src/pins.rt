@@ -1,17 +1,13 @@
-//! The words of all slots, and the calls on them.
+//! Implements the calls on the slots' words.
 
-ghost use Rattle.std.specs.Prelude.{◌≡◌, ◌⊎◌, ℕ, ◌+◌, ◌<◌, ◌≤◌, [], length, slice_index, Some, None, IfOk, IfErr, MatchResult};
-ghost use mathlib.Core.Option.{none};
-ghost use Rattle.atomic_table.specs.Table.{step};
-ghost use Rattle.blob_digest.specs.declared.refusal.Refusal.TheVariants.{LimitReached, Memory, TooManyReaders};
-ghost use Rattle.pin_core.specs.World.{row, row_word, used_bit, max_weight};
+ghost use Rattle.std.specs.Prelude.{◌≡◌, ℕ, ◌+◌, ◌<◌, ◌≤◌, length, slice_index, Some, IfOk, IfErr};
+ghost use Rattle.pin_core.specs.World.{row, row_word, max_weight};
 ghost use Rattle.pin_core.specs.declared.world.Phase.TheVariants.{Free, Live, Condemned};
-ghost use Rattle.pin_core.specs.Events.{IsNew, IsOutside, given_row, in_phase, new_weight};
-ghost use Rattle.pin_table.specs.declared.view.KeeperView.{KeeperView};
-ghost use Rattle.pin_table.specs.declared.view.View.TheVariants.{Keeper as KeeperSeat, Left as LeftView};
-ghost use Rattle.pin_table.specs.Plays.{gave};
-ghost use Rattle.pin_table.specs.Rule.{gone};
-ghost use Rattle.pin_table.specs.Calls.{opened, with_both, rowed, lent_on, seat_value, halved_pin, lent_pin, Looked, Lent, Crowded, Reclaims, IsUnheld, Verified};
+ghost use Rattle.pin_core.specs.Events.{IsNew, IsOpeningError, new_weight};
+ghost use Rattle.pin_table.specs.declared.view.View.TheVariants.{Left as LeftView};
+ghost use Rattle.pin_table.specs.Plays.{Gives, IsGiver, give_move};
+ghost use Rattle.pin_table.specs.Rule.{released_pin};
+ghost use Rattle.pin_table.specs.Calls.{IsNewTable, with_digest, with_phase, with_new_pin, seat_value, lent_pin, FindsWord, IsLendResult, IsShareResult, IsReclaimResult, IsUnheld, VerifiesPin};
 
 use crate::keeper::Keeper;
 use crate::pin::{Left, Pin};
@@ -29,8 +25,10 @@ use std::marker::{Brand, Model};
 /// Every bit but that of a condemned slot.
 const NOT_CONDEMNED: u64 = u64::MAX - CONDEMNED;
 
-/// The words of a table's slots. Contracts see the table's name, which its keeper and its pins have
-/// too: a call takes a keeper and pins of its own table only.
+/// The words of a table's slots.
+///
+/// Contracts read it as the table's identity, which its keeper and its pins share. Each call requires a keeper and pins
+/// of its own table.
 #[derive(Drop)]
 pub struct Pins {
     table: PinTable,
@@ -44,7 +42,7 @@ impl Model for Pins {
     ghost view = { λ p. p.table.shared.table_id };
 }
 
-/// The word of a slot that no pin is on.
+/// Returns the word of a slot without pins.
 fn clear_word(row: &PinRow) -> u64
     ensures { result ≡ row_word row.now 0 }
 {
@@ -55,25 +53,33 @@ fn clear_word(row: &PinRow) -> u64
     })
 }
 
-// The digest that the slot is given is in the proof alone.
+/// Sets the bit of a used slot. The digest `D::digest` exists only in the proof.
 fn give_as<D: Given>(shared: &PinShared, seat: &mut PinSeat, word: usize, digest: Digest)
     requires digest { digest ≡ D.digest }
-    requires table { (seat.old.table_id ≡ shared.now.table_id) × (word < shared.now.table_id.words) }
-    requires keeper { (v : KeeperView) × (seat.old.id ≡ 0) × (seat.old.me ≡ (KeeperSeat v, [])) × (word < length v.rows) × ((row v.rows word).phase ≡ Free) × IsNew digest v.rows }
+    requires table { seat.old.table_id ≡ shared.now.table_id }
+    requires within { word < shared.now.table_id.words }
+    requires keeper { IsGiver word digest seat.old.id seat.old.me }
     ensures seat { (seat.new.table_id ≡ seat.old.table_id) × (seat.new.id ≡ seat.old.id) }
-    ensures step { (n : ℕ) × gave digest (step shared.now.table_id.slots word used_bit 0 none) seat.old.me n seat.new.me }
+    ensures step { Gives digest (give_move shared.now.table_id.slots word) seat.old.me seat.new.me }
 {
     let _ = digest;
     shared.fetch_or::<Give<D>>(seat, word, USED);
 }
 
 impl Pins {
-    /// The words of so many free slots of the first generation, and their keeper.
+    /// Makes a table of free slots of the given generation, and its keeper.
     ///
-    /// Refused with `LimitReached` exactly outside 1 to 65,536 slots, and with `Memory` only within.
+    /// # Errors
+    ///
+    /// - `LimitReached` exactly if `slots` is not 1 to 65,536.
+    /// - `Memory` if allocation fails.
+    ///
+    /// # Cost
+    ///
+    /// Linear in the number of slots. Allocates the words, rows and bounds.
     pub fn new(alloc: Global, slots: u32, first_generation: u32) -> Result<(Pins, Keeper), Refusal>
-        ensures made { IfOk result (λ r. ¬ IsOutside slots × (r.1 ≡ opened r.0 slots first_generation)) }
-        ensures refused { IfErr result (λ e. ((e ≡ LimitReached) × IsOutside slots) ⊎ ((e ≡ Memory) × ¬ IsOutside slots)) }
+        ensures made { IfOk result (λ r. IsNewTable slots first_generation r.0 r.1) }
+        ensures refused { IfErr result (λ e. IsOpeningError slots e) }
     {
         if slots < 1 || slots > MAX_SLOTS {
             return Err(Refusal::LimitReached);
@@ -95,11 +101,15 @@ impl Pins {
         Ok((Pins { table }, Keeper { rows, bounds, seat }))
     }
 
-    /// The word of a slot, as a load finds it; the keeper's bound is then the sum in it.
+    /// Loads the word of a slot, and sets the keeper's bound to the sum in it.
+    ///
+    /// # Memory
+    ///
+    /// Never allocates.
     pub fn look(&self, keeper: &mut Keeper, slot: u32) -> u64
         requires table { keeper.old.table ≡ self.now }
         requires within { slot < length keeper.old.rows }
-        ensures { Looked slot result keeper.old keeper.new }
+        ensures { FindsWord slot result keeper.old keeper.new }
     {
         let word = slot as usize;
         let found = self.table.shared.load::<Look>(&mut keeper.seat, word);
@@ -108,13 +118,17 @@ impl Pins {
         found
     }
 
-    /// Gives a free slot a digest that no used slot has. It is live then, and its bound is 0.
+    /// Gives a free slot a digest that no used slot has. The slot is then live, and its bound is 0.
+    ///
+    /// # Memory
+    ///
+    /// Never allocates.
     pub fn give(&self, keeper: &mut Keeper, slot: u32, digest: Digest)
         requires table { keeper.old.table ≡ self.now }
         requires within { slot < length keeper.old.rows }
         requires free { (row keeper.old.rows slot).phase ≡ Free }
         requires new { IsNew digest keeper.old.rows }
-        ensures { keeper.new ≡ with_both slot (given_row digest (row keeper.old.rows slot)) 0 keeper.old }
+        ensures { keeper.new ≡ with_digest slot digest keeper.old }
     {
         let word = slot as usize;
         give_as::<Brand>(&self.table.shared, &mut keeper.seat, word, digest);
@@ -122,16 +136,22 @@ impl Pins {
         keeper.bounds[word] = 0;
     }
 
-    /// A new pin on a live slot, of weight 1024.
+    /// Makes a new pin of weight 1,024 on a live slot.
     ///
-    /// Refused with `TooManyReaders` alone, and only where the sum that the keeper has just found
-    /// leaves no room for it: where both together pass 2^30 - 1. The bound is the sum that was found,
-    /// and of an accepted call the new pin's weight more.
+    /// The call looks at the slot first. The bound is then the sum that it found, plus the weight of the new pin.
+    ///
+    /// # Errors
+    ///
+    /// - `TooManyReaders` exactly if the sum that was found plus 1,024 exceeds 2^30 - 1. The bound is then that sum.
+    ///
+    /// # Memory
+    ///
+    /// Never allocates.
     pub fn lend(&self, keeper: &mut Keeper, slot: u32) -> Result<Pin, Refusal>
         requires table { keeper.old.table ≡ self.now }
         requires within { slot < length keeper.old.rows }
         requires live { (row keeper.old.rows slot).phase ≡ Live }
-        ensures { MatchResult result (λ p. Lent slot keeper.old keeper.new p) (λ e. (e ≡ TooManyReaders) × Crowded slot keeper.old keeper.new) }
+        ensures { IsLendResult slot keeper.old keeper.new result }
     {
         let sum = unpack(self.look(keeper, slot)).weight;
         if sum > MAX_WEIGHT - NEW_WEIGHT {
@@ -140,13 +160,13 @@ impl Pins {
         Ok(self.add_pin(keeper, slot))
     }
 
-    /// A new pin on a live slot whose bound has room for it.
+    /// Makes a new pin on a live slot whose bound has room for it.
     fn add_pin(&self, keeper: &mut Keeper, slot: u32) -> Pin
         requires table { keeper.old.table ≡ self.now }
         requires within { slot < length keeper.old.rows }
         requires live { (row keeper.old.rows slot).phase ≡ Live }
         requires room { slice_index keeper.old.bounds slot + new_weight ≤ max_weight }
-        ensures bound { keeper.new ≡ lent_on slot (slice_index keeper.old.bounds slot + new_weight) keeper.old }
+        ensures bound { keeper.new ≡ with_new_pin slot keeper.old }
         ensures pin { result ≡ lent_pin slot keeper.old }
         ensures digest { (row keeper.old.rows slot).digest ≡ Some result.hold.digest }
     {
@@ -168,12 +188,16 @@ impl Pins {
         Pin { hold, seat }
     }
 
-    /// Condemns a live slot: no pin is lent on it, and it may be reclaimed once none is left.
+    /// Condemns a live slot. It gets no new pin, and may be reclaimed once no pin is on it.
+    ///
+    /// # Memory
+    ///
+    /// Never allocates.
     pub fn condemn(&self, keeper: &mut Keeper, slot: u32)
         requires table { keeper.old.table ≡ self.now }
         requires within { slot < length keeper.old.rows }
         requires live { (row keeper.old.rows slot).phase ≡ Live }
-        ensures { keeper.new ≡ rowed slot (in_phase Condemned (row keeper.old.rows slot)) keeper.old }
+        ensures { keeper.new ≡ with_phase slot Condemned keeper.old }
     {
         let word = slot as usize;
         self.table
@@ -183,11 +207,15 @@ impl Pins {
     }
 
     /// Makes a condemned slot live again.
+    ///
+    /// # Memory
+    ///
+    /// Never allocates.
     pub fn revive(&self, keeper: &mut Keeper, slot: u32)
         requires table { keeper.old.table ≡ self.now }
         requires within { slot < length keeper.old.rows }
         requires condemned { (row keeper.old.rows slot).phase ≡ Condemned }
-        ensures { keeper.new ≡ rowed slot (in_phase Live (row keeper.old.rows slot)) keeper.old }
+        ensures { keeper.new ≡ with_phase slot Live keeper.old }
     {
         let word = slot as usize;
         self.table
@@ -196,16 +224,19 @@ impl Pins {
         keeper.rows[word] = in_phase(keeper.rows[word], Phase::Live);
     }
 
-    /// Frees a condemned slot that no pin is on, or retires it in the last generation; else says
-    /// what the pins on it weighed as the exchange found them, and the bound is that.
+    /// Frees a condemned slot without pins, or retires it in the last generation.
     ///
-    /// A slot whose bound is 0, because nothing was lent since it was given or the keeper saw it
-    /// empty, is never held.
+    /// If pins hold the slot, returns the sum of weights that the exchange found, and sets the bound to it. A slot whose
+    /// bound is 0 is never held.
+    ///
+    /// # Memory
+    ///
+    /// Never allocates.
     pub fn reclaim(&self, keeper: &mut Keeper, slot: u32) -> Reclaim
         requires table { keeper.old.table ≡ self.now }
         requires within { slot < length keeper.old.rows }
         requires condemned { (row keeper.old.rows slot).phase ≡ Condemned }
-        ensures answer { Reclaims slot keeper.old keeper.new result }
+        ensures answer { IsReclaimResult slot keeper.old keeper.new result }
         ensures unlent { slice_index keeper.old.bounds slot ≡ 0 → IsUnheld result }
     {
         let word = slot as usize;
@@ -229,13 +260,18 @@ impl Pins {
         Reclaim::Freed
     }
 
-    /// The pin with all that it had; its slot is used, and has the pin's generation and digest. The
-    /// keeper's bound of that slot is then the sum in its word, as a load finds it.
+    /// Confirms that a pin's slot is used and has the pin's generation and digest, and returns the pin unchanged.
+    ///
+    /// Sets the keeper's bound for the slot to the sum that a load of its word finds.
+    ///
+    /// # Memory
+    ///
+    /// Never allocates.
     pub fn verify(&self, keeper: &mut Keeper, pin: Pin) -> Pin
         requires table { keeper.old.table ≡ self.now }
         requires pin { pin.table ≡ self.now }
         ensures same { result ≡ pin }
-        ensures kept { Verified pin.hold keeper.old keeper.new }
+        ensures kept { VerifiesPin pin.hold keeper.old keeper.new }
     {
         let Pin { hold, seat } = pin;
         let shared = &self.table.shared;
@@ -247,10 +283,18 @@ impl Pins {
         Pin { hold, seat }
     }
 
-    /// Two pins of half the weight each. A pin of weight 1 comes back as it was.
+    /// Splits a pin into two pins of half its weight.
+    ///
+    /// # Errors
+    ///
+    /// - The same pin, unchanged, if its weight is 1.
+    ///
+    /// # Memory
+    ///
+    /// Never allocates.
     pub fn share(&self, pin: Pin) -> Result<(Pin, Pin), Pin>
         requires table { pin.table ≡ self.now }
-        ensures { MatchResult result (λ p. (p.0 ≡ halved_pin pin) × (p.1 ≡ halved_pin pin)) (λ e. (e ≡ pin) × (pin.hold.weight ≡ 1)) }
+        ensures { IsShareResult pin result }
     {
         if pin.hold.weight == 1 {
             return Err(pin);
@@ -267,11 +311,17 @@ impl Pins {
         ))
     }
 
-    /// Ends a pin: its weight leaves its slot's word. What comes back is the pin's own seat, which
-    /// weighs nothing any more and keeps what the pin held.
+    /// Releases a pin: subtracts its weight from its slot's word.
+    ///
+    /// Returns the pin's seat, which weighs nothing and records the pin.
+    ///
+    /// # Memory
+    ///
+    /// Never allocates.
     pub fn leave(&self, pin: Pin) -> Left
         requires table { pin.table ≡ self.now }
-        ensures { (look : ℕ) × (result ≡ seat_value self.now (LeftView (gone pin.hold look))) }
+        ensures { (look : ℕ) × (result ≡ seat_value self.now
+            (LeftView (released_pin pin.hold look))) }
     {
         let Pin { hold, mut seat } = pin;
         let shared = &self.table.shared;

@@ -1,21 +1,21 @@
-//! What each kind of step tells the seat that makes it. All of this is for the proof alone.
+//! Defines how each kind of step changes the view of its seat. All types here exist only in proofs.
 
 use crate::view::View;
 use atomic_table::{Join, Play, Split};
 use std::marker::{Brand, PhantomData};
 
-/// The keeper reads a word.
+/// A step by which the keeper reads a word.
 pub struct Look;
 
 impl Play<(), View> for Look {
-    ghost use Rattle.pin_table.specs.Plays.{looked};
+    ghost use Rattle.pin_table.specs.Plays.{IsLookStep};
 
-    ghost then = { looked };
+    ghost then = { IsLookStep };
 }
 
-/// Names the digest that a slot is given, which is in the keeper's row and not in the word.
+/// Names the digest that a slot is given. It is part of the keeper's row, but not of the word.
 pub trait Given {
-    ghost use Rattle.finite_maps.specs.Texts.{Text};
+    ghost use Rattle.spec_lib.specs.Texts.{Text};
 
     ghost digest: { Text };
 }
@@ -26,18 +26,18 @@ impl Given for Brand {
     ghost digest = { [] };
 }
 
-/// The keeper gives a slot.
+/// A step by which the keeper gives a slot a digest.
 pub struct Give<D> {
     digest: PhantomData<D>,
 }
 
 impl<D: Given> Play<(), View> for Give<D> {
-    ghost use Rattle.pin_table.specs.Plays.{gave};
+    ghost use Rattle.pin_table.specs.Plays.{IsGiveStep};
 
-    ghost then = { gave D.digest };
+    ghost then = { IsGiveStep D.digest };
 }
 
-/// The keeper lends a pin, which is in transit then.
+/// A step by which the keeper makes a pin, which is then in transit.
 pub struct Lend;
 
 impl Play<(), View> for Lend {
@@ -46,43 +46,43 @@ impl Play<(), View> for Lend {
     ghost then = { lent };
 }
 
-/// A pin leaves.
+/// A step that releases a pin.
 pub struct Leave;
 
 impl Play<(), View> for Leave {
-    ghost use Rattle.pin_table.specs.Plays.{left};
+    ghost use Rattle.pin_table.specs.Plays.{IsLeaveStep};
 
-    ghost then = { left };
+    ghost then = { IsLeaveStep };
 }
 
-/// The keeper condemns a slot.
+/// A step by which the keeper condemns a slot.
 pub struct Condemn;
 
 impl Play<(), View> for Condemn {
-    ghost use Rattle.pin_table.specs.Plays.{condemned};
+    ghost use Rattle.pin_table.specs.Plays.{IsCondemnStep};
 
-    ghost then = { condemned };
+    ghost then = { IsCondemnStep };
 }
 
-/// The keeper makes a slot live again.
+/// A step by which the keeper makes a slot live again.
 pub struct Revive;
 
 impl Play<(), View> for Revive {
-    ghost use Rattle.pin_table.specs.Plays.{revived};
+    ghost use Rattle.pin_table.specs.Plays.{IsReviveStep};
 
-    ghost then = { revived };
+    ghost then = { IsReviveStep };
 }
 
-/// The keeper reclaims a slot, or reads its word.
+/// A step by which the keeper reclaims a slot, or reads its word if pins hold it.
 pub struct Reclaiming;
 
 impl Play<(), View> for Reclaiming {
-    ghost use Rattle.pin_table.specs.Plays.{reclaimed};
+    ghost use Rattle.pin_table.specs.Plays.{IsReclaimStep};
 
-    ghost then = { reclaimed };
+    ghost then = { IsReclaimStep };
 }
 
-/// A pin goes between the keeper and a seat of its own.
+/// A move of a pin between the keeper's seat and a seat of its own.
 pub struct Transit;
 
 impl Split<View> for Transit {
@@ -94,15 +94,15 @@ impl Split<View> for Transit {
 }
 
 impl Join<View> for Transit {
-    ghost use Rattle.pin_table.specs.Plays.{taken_in};
+    ghost use Rattle.pin_table.specs.Plays.{with_pin_taken};
     ghost use Rattle.pin_table.specs.declared.view.View.TheVariants.{Empty};
 
-    ghost both = { taken_in };
+    ghost both = { with_pin_taken };
 
     ghost spent = { Empty };
 }
 
-/// Half of a pin goes to a new seat.
+/// A split of a pin's seat into two halves.
 pub struct Share;
 
 impl Split<View> for Share {

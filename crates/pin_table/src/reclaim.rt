@@ -1,12 +1,12 @@
-//! What became of a slot that was to be reclaimed.
+//! Defines the result of reclaiming a slot.
 
-/// The answer of `Pins::reclaim`.
+/// The result of `Pins::reclaim`.
 #[derive(Clone, Copy, Debug, PartialEq, Eq)]
 pub enum Reclaim {
     /// The slot is free in its next generation.
     Freed,
-    /// The slot was in the last generation, and is given to no digest any more.
+    /// The slot was in the last generation. It is never given a digest again.
     Retired,
-    /// Pins hold the slot; the sum of their weights was this, which is above 0.
+    /// Pins hold the slot. The sum of their weights, as the exchange found it, is `weight`, which is above 0.
     Held { weight: u32 },
 }

@@ -1,17 +1,17 @@
-//! The rule of the table, and the names of its types.
+//! Defines the rule of the table, and names its types.
 
 use crate::view::View;
 use atomic_table::{Seat, Shared, Table, TableRule};
 use std::alloc::Global;
 
-/// How many slots there are at the start, and their generation.
+/// The number of slots in a new table, and their generation.
 #[derive(Clone, Copy)]
 pub struct Opening {
     pub slots: usize,
     pub first_generation: u32,
 }
 
-/// The words are those of a pin world, which the seats know of: `Ruled` in `specs/Rule.antt`.
+/// The rule of the table: words and seats agree with a pin world (`Ruled` in `specs/Rule.antt`).
 pub struct PinRule;
 
 impl TableRule<(), View, Opening> for PinRule {
@@ -22,8 +22,11 @@ impl TableRule<(), View, Opening> for PinRule {
     ghost first = { λ about. initial_view about.slots about.first_generation };
 }
 
+/// The table of the slots' words.
 pub type PinTable = Table<(), View, Opening, PinRule, Global>;
 
+/// The shared part of the table, on which steps are made.
 pub type PinShared = Shared<(), View, Opening, PinRule>;
 
+/// A seat at the table.
 pub type PinSeat = Seat<(), View>;

@@ -1,33 +1,36 @@
-//! What a seat knows. These are values of the proof alone: none is ever made.
+//! Defines the views of seats. These values exist only in proofs.
 
 use pin_core::{PinRecord, PinRow};
 use std::collections::LinkedList;
 
-/// What the keeper knows: of all slots the rows; by slot number a bound on the sum of weights, which
-/// is what the keeper's last look found and what it lent since, how often it looked, and what it ever
-/// lent; and the pin in transit in the middle of a call.
+/// The view of the keeper's seat: lists by slot number, and a pin in transit.
 pub struct KeeperView {
+    /// The slots' rows.
     pub rows: LinkedList<PinRow>,
+    /// The bounds on the sums of weights: the sum that the last look found, plus the weight lent since.
     pub bounds: LinkedList<u32>,
+    /// The number of looks at each slot.
     pub looks: LinkedList<u64>,
+    /// The total weight ever lent on each slot.
     pub lent: LinkedList<u64>,
+    /// The pin in transit, if a call is in the middle of moving one.
     pub transit: Option<PinRecord>,
 }
 
-/// A pin that was left, and how often the keeper had looked at its slot by then.
-pub struct Gone {
+/// A released pin, and the number of looks at its slot at that time.
+pub struct ReleasedPin {
     pub hold: PinRecord,
     pub look: u64,
 }
 
-/// What a seat stands for.
+/// The view of a seat.
 pub enum View {
     /// The keeper, at the first seat.
     Keeper(KeeperView),
     /// A pin.
     Pin(PinRecord),
-    /// A pin that was left. It counts for nothing in its slot's word.
-    Left(Gone),
-    /// A seat whose pin is elsewhere.
+    /// A released pin. It weighs nothing in its slot's word.
+    Left(ReleasedPin),
+    /// A seat whose pin was moved to another seat.
     Empty,
 }

@@ -1,4 +1,4 @@
--- What each change of one slot keeps of a table with its index and its stack.
+-- The invariant of a table with its index and its stack, through each change of one slot.
 use Rattle.std.proofs.Common.{◌≡◌, ℕ, ◌+◌, ◌*◌, ◌<◌, ◌≤◌, ◌==◌, Bool, true, false, cond, nat_lt, List, [], ◌∷◌, ◌++◌, length, length-append, set, get_or, Some, None, refl, sym, ap, ◌∙◌, subst, inl, inr, arith}
 use Rattle.std.specs.Prelude.{count_by, replicate}
 use Rattle.std.specs.Option.{option_map_or}
@@ -10,22 +10,22 @@ use Rattle.std.proofs.lemmas.List.{length-replicate}
 use Rattle.std.proofs.lemmas.List.Folds.{sum_by-replicate}
 use Rattle.std.proofs.Math.ListN.{length-set}
 use Rattle.std.proofs.lemmas.Option.{none-some}
-use Rattle.finite_maps.specs.Texts.{Text, text_cmp, same_text}
+use Rattle.spec_lib.specs.Texts.{Text, text_cmp, same_text}
 use Rattle.slot_table.specs.declared.phase.Phase.TheVariants as phase
-use Rattle.slot_table.specs.Slots.{Slot, Held, Content, Free, Used, Retired, held_in, held_at, phase_at, has_digest, is_free, slot_of, free_slots, fill, on_held, content_with, emptied, retire, empty_slot, IsTable}
-use Rattle.slot_table.specs.Indexes.{is_free_at, Finds, IsIndexed}
+use Rattle.slot_table.specs.Slots.{Slot, StoredBlob, SlotContent, Free, Used, Retired, stored_blob_in, stored_blob_at, phase_at, has_digest, is_free, slot_of, free_slots, fill, on_stored_blob, content_with, freed_slot, retire, empty_slot, IsTable}
+use Rattle.slot_table.specs.Indexes.{is_free_at, IndexesDigests, IsSlotIndex}
 use Rattle.slot_table.proofs.Finding.{condemned_within}
 use Rattle.slot_table.proofs.Writes.{held-table, emptied-table, placed-table}
 use Rattle.slot_table.proofs.Indexing.{slot_of_none, tells, finds-kept, finds-placed, finds-emptied}
 use Rattle.slot_table.proofs.Stacking.{free_within, free_at-held, condemned-used, free_at-read, free_slots-set, stacks-kept, stacks-popped, stacks-pushed}
 
-digest_kept : (f : Held → Held) (c : Content) (d : Text) → ((h : Held) → (f h).digest ≡ h.digest) →
-    option_map_or (λ h. same_text h.digest d) (held_in (content_with f c)) false ≡ option_map_or (λ h. same_text h.digest d) (held_in c) false
+digest_kept : (f : StoredBlob → StoredBlob) (c : SlotContent) (d : Text) → ((h : StoredBlob) → (f h).digest ≡ h.digest) →
+    option_map_or (λ h. same_text h.digest d) (stored_blob_in (content_with f c)) false ≡ option_map_or (λ h. same_text h.digest d) (stored_blob_in c) false
 digest_kept f Free d digest = refl
 digest_kept f (Used h) d digest = ap (λ t. same_text t d) (digest h)
 digest_kept f Retired d digest = refl
 
-free_kept : (f : Held → Held) (c : Content) → elim (content_with f c) as (λ _. Bool) [ Free ↦ true | Used h ↦ false | Retired ↦ false ] ≡ elim c as (λ _. Bool) [ Free ↦ true | Used h ↦ false | Retired ↦ false ]
+free_kept : (f : StoredBlob → StoredBlob) (c : SlotContent) → elim (content_with f c) as (λ _. Bool) [ Free ↦ true | Used h ↦ false | Retired ↦ false ] ≡ elim c as (λ _. Bool) [ Free ↦ true | Used h ↦ false | Retired ↦ false ]
 free_kept f Free = refl
 free_kept f (Used h) = refl
 free_kept f Retired = refl
@@ -36,11 +36,11 @@ same_count slots k old new lt is same =
     omega arith
 
 -- a blob is changed and keeps its digest
-pub changed : (slots : List Slot) (k : ℕ) (old : Slot) (f : Held → Held) (index : tree.BTreeMap Text ℕ) (stack : List ℕ) (room : ℕ) → IsTable slots → IsIndexed slots index stack room → k < length slots → old ≡ get_or slots k old →
-    ((h : Held) → (f h).digest ≡ h.digest) → ((h : Held) → held_at slots k ≡ Some h → (f h).condemned ≡ true → (f h).links ≡ 0) →
-    IsTable (set slots k (on_held f old)) × IsIndexed (set slots k (on_held f old)) index stack room
+pub changed : (slots : List Slot) (k : ℕ) (old : Slot) (f : StoredBlob → StoredBlob) (index : tree.BTreeMap Text ℕ) (stack : List ℕ) (room : ℕ) → IsTable slots → IsSlotIndex slots index stack room → k < length slots → old ≡ get_or slots k old →
+    ((h : StoredBlob) → (f h).digest ≡ h.digest) → ((h : StoredBlob) → stored_blob_at slots k ≡ Some h → (f h).condemned ≡ true → (f h).links ≡ 0) →
+    IsTable (set slots k (on_stored_blob f old)) × IsSlotIndex (set slots k (on_stored_blob f old)) index stack room
 changed slots k old f index stack room table kept lt is digest idle =
-    let new : Slot = on_held f old in
+    let new : Slot = on_stored_blob f old in
     let same : is_free new ≡ is_free old = free_kept f old.content in (
       held-table slots k old f table lt is digest idle,
       record {
@@ -52,10 +52,10 @@ changed slots k old f index stack room table kept lt is digest idle =
     )
 
 -- a blob is placed into the free slot on top of the stack
-pub placed : (slots : List Slot) (k : ℕ) (old : Slot) (blob : Text × Text) (index into : tree.BTreeMap Text ℕ) (rest : List ℕ) (room : ℕ) → IsTable slots → IsIndexed slots index (rest ++ k ∷ []) room →
+pub placed : (slots : List Slot) (k : ℕ) (old : Slot) (blob : Text × Text) (index into : tree.BTreeMap Text ℕ) (rest : List ℕ) (room : ℕ) → IsTable slots → IsSlotIndex slots index (rest ++ k ∷ []) room →
     slot_of slots blob.0 ≡ None → is_free_at slots k ≡ true → old ≡ get_or slots k old →
     ((d : Text) → tree.get text_cmp into d ≡ cond (tree.is_at (text_cmp blob.0) d) (Some k) (tree.get text_cmp index d)) →
-    IsTable (set slots k (fill blob old)) × IsIndexed (set slots k (fill blob old)) into rest room
+    IsTable (set slots k (fill blob old)) × IsSlotIndex (set slots k (fill blob old)) into rest room
 placed slots k old blob index into rest room table kept new_digest free is at =
     let lt : k < length slots = free_within slots k free in
     let new : Slot = fill blob old in
@@ -73,12 +73,12 @@ placed slots k old blob index into rest room table kept new_digest free is at =
     )
 
 -- a condemned slot is free in its next generation, and goes on top of the stack
-pub freed : (slots : List Slot) (k : ℕ) (old : Slot) (index into : tree.BTreeMap Text ℕ) (stack : List ℕ) (room more : ℕ) → IsTable slots → IsIndexed slots index stack room → room ≤ more →
+pub freed : (slots : List Slot) (k : ℕ) (old : Slot) (index into : tree.BTreeMap Text ℕ) (stack : List ℕ) (room more : ℕ) → IsTable slots → IsSlotIndex slots index stack room → room ≤ more →
     phase_at slots k ≡ phase.Condemned → old ≡ get_or slots k old → ((d : Text) → tree.get text_cmp into d ≡ cond (has_digest d old) None (tree.get text_cmp index d)) →
-    IsTable (set slots k (emptied old)) × IsIndexed (set slots k (emptied old)) into (stack ++ k ∷ []) more
+    IsTable (set slots k (freed_slot old)) × IsSlotIndex (set slots k (freed_slot old)) into (stack ++ k ∷ []) more
 freed slots k old index into stack room more table kept le condemned is at =
     let lt : k < length slots = condemned_within slots k condemned in
-    let new : Slot = emptied old in
+    let new : Slot = freed_slot old in
     let used : is_free_at slots k ≡ false = condemned-used slots k condemned in
     let was : is_free old ≡ false = sym (free_at-read slots k old lt is) ∙ used in
     let after : IsTable (set slots k new) = emptied-table slots k old new table lt is refl in
@@ -96,9 +96,9 @@ freed slots k old index into stack room more table kept le condemned is at =
     )
 
 -- a condemned slot is retired
-pub table_retired : (slots : List Slot) (k : ℕ) (old : Slot) (index into : tree.BTreeMap Text ℕ) (stack : List ℕ) (room : ℕ) → IsTable slots → IsIndexed slots index stack room →
+pub table_retired : (slots : List Slot) (k : ℕ) (old : Slot) (index into : tree.BTreeMap Text ℕ) (stack : List ℕ) (room : ℕ) → IsTable slots → IsSlotIndex slots index stack room →
     phase_at slots k ≡ phase.Condemned → old ≡ get_or slots k old → ((d : Text) → tree.get text_cmp into d ≡ cond (has_digest d old) None (tree.get text_cmp index d)) →
-    IsTable (set slots k (retire old)) × IsIndexed (set slots k (retire old)) into stack room
+    IsTable (set slots k (retire old)) × IsSlotIndex (set slots k (retire old)) into stack room
 table_retired slots k old index into stack room table kept condemned is at =
     let lt : k < length slots = condemned_within slots k condemned in
     let new : Slot = retire old in
@@ -122,20 +122,20 @@ empty_at (suc n) first (suc k) =
     let one : nat_lt k n ≡ nat_lt (suc k) (suc n) = grind (arith, nat_tests) in
     rest ∙ one
 
--- and hold nothing
-none_at : (n first k : ℕ) → held_at (replicate n (empty_slot first)) k ≡ None
+-- the slots have no blob
+none_at : (n first k : ℕ) → stored_blob_at (replicate n (empty_slot first)) k ≡ None
 none_at zero first k = refl
 none_at (suc n) first zero = refl
 none_at (suc n) first (suc k) = none_at n first k
 
 -- a new table
 pub opened : (n first : ℕ) (index : tree.BTreeMap Text ℕ) (stack : List ℕ) (room : ℕ) → n ≤ 65536 → tree.IsEmpty index → ((k : ℕ) → count_by (λ m. m == k) stack ≡ cond (nat_lt k n) 1 0) → length stack ≡ n → n ≤ room →
-    IsTable (replicate n (empty_slot first)) × IsIndexed (replicate n (empty_slot first)) index stack room
+    IsTable (replicate n (empty_slot first)) × IsSlotIndex (replicate n (empty_slot first)) index stack room
 opened n first index stack room few empty stacks long le =
     let slots : List Slot = replicate n (empty_slot first) in
     let size : length slots ≡ n = length-replicate n (empty_slot first) in
     let all : free_slots slots ≡ n * 1 = sum_by-replicate (λ s. cond (is_free s) 1 0) n (empty_slot first) in
-    let none = λ (k : ℕ) (h : Held) (e : held_at slots k ≡ Some h). none-some h (sym (none_at n first k) ∙ e) in (
+    let none = λ (k : ℕ) (h : StoredBlob) (e : stored_blob_at slots k ≡ Some h). none-some h (sym (none_at n first k) ∙ e) in (
       record {
         few = omega arith;
         distinct = λ k m g h at_k at_m e. absurd (none k g at_k);
@@ -149,10 +149,10 @@ opened n first index stack room few empty stacks long le =
       },
     )
 
--- an index that forgets what it was given last finds what it found before
-pub taken_back : (slots : List Slot) (k : ℕ) (digest : Text) (index into back : tree.BTreeMap Text ℕ) → slot_of slots digest ≡ None → Finds slots index →
+-- an index without the last inserted digest finds the same as before
+pub taken_back : (slots : List Slot) (k : ℕ) (digest : Text) (index into back : tree.BTreeMap Text ℕ) → slot_of slots digest ≡ None → IndexesDigests slots index →
     ((d : Text) → tree.get text_cmp into d ≡ cond (tree.is_at (text_cmp digest) d) (Some k) (tree.get text_cmp index d)) →
-    ((d : Text) → tree.get text_cmp back d ≡ cond (tree.is_at (text_cmp digest) d) None (tree.get text_cmp into d)) → Finds slots back
+    ((d : Text) → tree.get text_cmp back d ≡ cond (tree.is_at (text_cmp digest) d) None (tree.get text_cmp into d)) → IndexesDigests slots back
 taken_back slots k digest index into back new_digest finds put take d = take d ∙ elim (tells digest d) [
   | inl a ↦
       let Q : Text → Type 0 = λ t. None ≡ slot_of slots t in

@@ -1,4 +1,4 @@
--- What a write of one slot does to the stack of free slots.
+-- The stack of free slots after a write of one slot.
 use Rattle.std.proofs.Common.{◌≡◌, ◌≢◌, ℕ, ◌+◌, ◌-◌, ◌<◌, ◌≤◌, Bool, true, false, cond, ◌==◌, ◌&&◌, nat_le, nat_lt, List, [], ◌∷◌, ◌++◌, length, set, get_or, Option, Some, None, refl, sym, ap, ◌∙◌, subst, inl, inr, arith}
 use Prim.Native.Nat.{zero, suc}
 use Rattle.std.specs.Prelude.{slice_get, count_by}
@@ -8,8 +8,8 @@ use Rattle.std.proofs.lemmas.Bool.{eq-eqb}
 use Rattle.std.proofs.lemmas.Option.{slice_get_within, slice_get_read, get_or_from_slice_get, none-some}
 use Rattle.std.proofs.lemmas.List.Sums.{sum_by-set, sum_by-append, sum_by-cons, count_by-le-length}
 use Rattle.slot_table.specs.declared.phase.Phase.TheVariants as phase
-use Rattle.slot_table.specs.Slots.{Slot, Content, Free, Used, Retired, held_in, held_at, phase_in, phase_at, is_free, free_slots}
-use Rattle.slot_table.specs.Indexes.{is_free_at, Stacks}
+use Rattle.slot_table.specs.Slots.{Slot, SlotContent, Free, Used, Retired, stored_blob_in, stored_blob_at, phase_in, phase_at, is_free, free_slots}
+use Rattle.slot_table.specs.Indexes.{is_free_at, StacksFree}
 use Rattle.slot_table.proofs.Writes.{slice_get-set_same, slice_get-set_other}
 
 -- ---- free slots
@@ -22,20 +22,20 @@ free_within slots k free = within (slice_get slots k) refl
     within None e = let gone : false ≡ true = ap (λ o. option_map_or is_free o false) (sym e) ∙ free in absurd cc
     within (Some s) e = slice_get_within slots k s e
 
-held_by : (c : Content) → elim c as (λ _. Bool) [ Free ↦ true | Used h ↦ false | Retired ↦ false ] ≡ true → held_in c ≡ None
+held_by : (c : SlotContent) → elim c as (λ _. Bool) [ Free ↦ true | Used h ↦ false | Retired ↦ false ] ≡ true → stored_blob_in c ≡ None
 held_by Free free = refl
 held_by (Used h) free = absurd cc
 held_by Retired free = absurd cc
 
-none_by : (o : Option Slot) → option_map_or is_free o false ≡ true → option_map_or (λ s. held_in s.content) o None ≡ None
+none_by : (o : Option Slot) → option_map_or is_free o false ≡ true → option_map_or (λ s. stored_blob_in s.content) o None ≡ None
 none_by None free = refl
 none_by (Some s) free = held_by s.content free
 
--- a free slot holds no blob
-pub free_at-held : (slots : List Slot) (k : ℕ) → is_free_at slots k ≡ true → held_at slots k ≡ None
+-- a free slot has no blob
+pub free_at-held : (slots : List Slot) (k : ℕ) → is_free_at slots k ≡ true → stored_blob_at slots k ≡ None
 free_at-held slots k free = none_by (slice_get slots k) free
 
-free_by : (c : Content) → elim c as (λ _. Bool) [ Free ↦ true | Used h ↦ false | Retired ↦ false ] ≡ true → phase_in c ≡ phase.Free
+free_by : (c : SlotContent) → elim c as (λ _. Bool) [ Free ↦ true | Used h ↦ false | Retired ↦ false ] ≡ true → phase_in c ≡ phase.Free
 free_by Free free = refl
 free_by (Used h) free = absurd cc
 free_by Retired free = absurd cc
@@ -48,7 +48,7 @@ phase_by (Some s) free = free_by s.content free
 pub free_at-phase : (slots : List Slot) (k : ℕ) → is_free_at slots k ≡ true → phase_at slots k ≡ phase.Free
 free_at-phase slots k free = phase_by (slice_get slots k) free
 
-condemned_by : (c : Content) → phase_in c ≡ phase.Condemned → elim c as (λ _. Bool) [ Free ↦ true | Used h ↦ false | Retired ↦ false ] ≡ false
+condemned_by : (c : SlotContent) → phase_in c ≡ phase.Condemned → elim c as (λ _. Bool) [ Free ↦ true | Used h ↦ false | Retired ↦ false ] ≡ false
 condemned_by Free e = absurd cc
 condemned_by (Used h) e = refl
 condemned_by Retired e = refl
@@ -78,13 +78,13 @@ free_slots-set slots k old new lt is =
 
 -- ---- the stack
 
--- how often a number stands in the stack after a push
+-- the number of occurrences in the stack after a push
 count-push : (stack : List ℕ) (k m : ℕ) → count_by (λ n. n == m) (stack ++ k ∷ []) ≡ count_by (λ n. n == m) stack + cond (k == m) 1 0
 count-push stack k m =
     let f : ℕ → ℕ = λ n. cond (n == m) 1 0 in
     sum_by-append f stack (k ∷ []) ∙ ap (λ n. count_by (λ x. x == m) stack + n) (sum_by-cons f k [] ∙ (omega arith))
 
--- what is on the stack is counted
+-- a number on the stack is counted
 count-get : (stack : List ℕ) (i k : ℕ) → slice_get stack i ≡ Some k → 0 < count_by (λ n. n == k) stack
 count-get [] i k e = absurd (none-some k e)
 count-get (x ∷ xs) zero k e =
@@ -98,12 +98,12 @@ once_is : (b : Bool) (n : ℕ) → 0 < n → n ≡ cond b 1 0 → b ≡ true
 once_is true n some e = refl
 once_is false n some e = absurd (omega arith)
 
--- what is on the stack is free
-pub stacked_free : (slots : List Slot) (stack : List ℕ) (i k : ℕ) → Stacks slots stack → slice_get stack i ≡ Some k → is_free_at slots k ≡ true
+-- a slot on the stack is free
+pub stacked_free : (slots : List Slot) (stack : List ℕ) (i k : ℕ) → StacksFree slots stack → slice_get stack i ≡ Some k → is_free_at slots k ≡ true
 stacked_free slots stack i k stacks e = once_is (is_free_at slots k) (count_by (λ n. n == k) stack) (count-get stack i k e) (stacks k)
 
 -- a change of one slot that is as free as before keeps the stack
-pub stacks-kept : (slots : List Slot) (stack : List ℕ) (k : ℕ) (old new : Slot) → k < length slots → old ≡ get_or slots k old → is_free new ≡ is_free old → Stacks slots stack → Stacks (set slots k new) stack
+pub stacks-kept : (slots : List Slot) (stack : List ℕ) (k : ℕ) (old new : Slot) → k < length slots → old ≡ get_or slots k old → is_free new ≡ is_free old → StacksFree slots stack → StacksFree (set slots k new) stack
 stacks-kept slots stack k old new lt is same stacks m = stacks m ∙ ap (λ b. cond b 1 0) (elim (eqb_tells m k) [
   | inl e ↦
       let Q : ℕ → Type 0 = λ n. is_free_at slots n ≡ is_free_at (set slots k new) n in
@@ -116,7 +116,7 @@ none_left true n e = omega arith
 none_left false n e = absurd (omega arith)
 
 -- the free slot on top is taken
-pub stacks-popped : (slots : List Slot) (rest : List ℕ) (k : ℕ) (new : Slot) → k < length slots → is_free new ≡ false → Stacks slots (rest ++ k ∷ []) → Stacks (set slots k new) rest
+pub stacks-popped : (slots : List Slot) (rest : List ℕ) (k : ℕ) (new : Slot) → k < length slots → is_free new ≡ false → StacksFree slots (rest ++ k ∷ []) → StacksFree (set slots k new) rest
 stacks-popped slots rest k new lt used stacks m = elim (eqb_tells m k) [
   | inl e ↦
       let Q : ℕ → Type 0 = λ n. count_by (λ x. x == n) rest ≡ cond (is_free_at (set slots k new) n) 1 0 in
@@ -130,7 +130,7 @@ stacks-popped slots rest k new lt used stacks m = elim (eqb_tells m k) [
 ]
 
 -- a slot that is free now is put on top
-pub stacks-pushed : (slots : List Slot) (stack : List ℕ) (k : ℕ) (new : Slot) → k < length slots → is_free_at slots k ≡ false → is_free new ≡ true → Stacks slots stack → Stacks (set slots k new) (stack ++ k ∷ [])
+pub stacks-pushed : (slots : List Slot) (stack : List ℕ) (k : ℕ) (new : Slot) → k < length slots → is_free_at slots k ≡ false → is_free new ≡ true → StacksFree slots stack → StacksFree (set slots k new) (stack ++ k ∷ [])
 stacks-pushed slots stack k new lt used free stacks m = count-push stack k m ∙ elim (eqb_tells m k) [
   | inl e ↦
       let Q : ℕ → Type 0 = λ n. count_by (λ x. x == n) stack + cond (k == n) 1 0 ≡ cond (is_free_at (set slots k new) n) 1 0 in
@@ -143,7 +143,7 @@ stacks-pushed slots stack k new lt used free stacks m = count-push stack k m ∙
       ap (λ b. count_by (λ x. x == m) stack + cond b 1 0) other ∙ same ∙ stacks m ∙ ap (λ b. cond b 1 0) (sym (free_at-set_other slots k m new ne.1))
 ]
 
--- where a slot is used, not all are free
+-- if a slot is used, not all are free
 pub not_all_free : (slots : List Slot) (k : ℕ) → k < length slots → is_free_at slots k ≡ false → free_slots slots < length slots
 not_all_free [] k lt used = absurd (omega arith)
 not_all_free (s ∷ slots) zero lt used =
@@ -157,7 +157,7 @@ not_all_free (s ∷ slots) (suc k) lt used =
     at_most true few = omega arith
     at_most false few = omega arith
 
--- what a pop leaves, where the top is known
+-- the stack after a pop, if the top is known
 pub popped : (stack rest : List ℕ) (n k : ℕ) (last : Option ℕ) → n ≡ length stack → slice_get stack (length stack - 1) ≡ Some k → ((d : ℕ) → 0 < n → last ≡ Some (get_or stack (n - 1) d)) → stack ≡ rest ++ option_to_list last → stack ≡ rest ++ k ∷ []
 popped stack rest n k last long top at items =
     let within : length stack - 1 < length stack = slice_get_within stack (length stack - 1) k top in

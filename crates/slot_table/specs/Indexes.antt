@@ -1,25 +1,33 @@
--- What an index of the slots and a stack of the free ones hold.
-use Rattle.std.specs.Prelude.{◌≡◌, ℕ, ◌≤◌, ◌==◌, Bool, false, List, length, count_by, slice_get, if◌then◌else◌}
+-- The index of the digests of the slots, and the stack of the free slots.
+use Rattle.std.specs.Prelude.{◌≡◌, ℕ, ◌≤◌, ◌==◌, nat_lt, Bool, false, None, List, length, count_by, slice_get, if◌then◌else◌}
 use Rattle.std.specs.Option.{option_map_or}
 use Rattle.std.specs.BTreeMap as tree
-use Rattle.finite_maps.specs.Texts.{Text, text_cmp}
-use Rattle.slot_table.specs.Slots.{Slot, slot_of, free_slots, is_free}
+use Rattle.spec_lib.specs.Texts.{Text, text_cmp}
+use Rattle.slot_table.specs.Slots.{Slot, slot_of, free_slots, has_digest, is_free}
 
--- the index has the digest of each used slot, with the slot, and nothing else
-abbrev pub Finds : List Slot → tree.BTreeMap Text ℕ → Type 0
-Finds slots index = (d : Text) → tree.get text_cmp index d ≡ slot_of slots d
+-- the index maps the digest of each used slot to the slot, and has no other entry
+abbrev pub IndexesDigests : List Slot → tree.BTreeMap Text ℕ → Type 0
+IndexesDigests slots index = (d : Text) → tree.get text_cmp index d ≡ slot_of slots d
 
--- whether the slot k is free; false where there is no such slot
+-- slot k is free; false if there is no such slot
 abbrev pub is_free_at : List Slot → ℕ → Bool
 is_free_at slots k = option_map_or is_free (slice_get slots k) false
 
--- the stack has each free slot once, and nothing else
-abbrev pub Stacks : List Slot → List ℕ → Type 0
-Stacks slots stack = (k : ℕ) → count_by (λ n. n == k) stack ≡ (if is_free_at slots k then 1 else 0)
+-- the stack has each free slot once, and no other number
+abbrev pub StacksFree : List Slot → List ℕ → Type 0
+StacksFree slots stack = (k : ℕ) → count_by (λ n. n == k) stack ≡ (if is_free_at slots k then 1 else 0)
 
--- what every table's index and stack keep, where the stack has room for so many slots
-pub record IsIndexed (slots : List Slot) (index : tree.BTreeMap Text ℕ) (stack : List ℕ) (room : ℕ) : Type 0 where
-  pub found : Finds slots index
-  pub stacked : Stacks slots stack
+-- the index and the stack are those of these slots, and the stack has room for all slots
+pub record IsSlotIndex (slots : List Slot) (index : tree.BTreeMap Text ℕ) (stack : List ℕ) (room : ℕ) : Type 0 where
+  pub found : IndexesDigests slots index
+  pub stacked : StacksFree slots stack
   pub counted : length stack ≡ free_slots slots
   pub roomy : length slots ≤ room
+
+-- the list has each number below n once, and no other number
+abbrev pub HasEachOnce : ℕ → List ℕ → Type 0
+HasEachOnce n xs = (k : ℕ) → count_by (λ x. x == k) xs ≡ (if nat_lt k n then 1 else 0)
+
+-- the new index lacks the digest of this slot, and is otherwise the old one
+abbrev pub ForgetsDigest : Slot → tree.BTreeMap Text ℕ → tree.BTreeMap Text ℕ → Type 0
+ForgetsDigest s old new = (d : Text) → tree.get text_cmp new d ≡ (if has_digest d s then None else tree.get text_cmp old d)

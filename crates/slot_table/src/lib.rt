@@ -1,8 +1,7 @@
-//! The slots of a store: which blob each holds, how often that is linked, whether it is condemned,
-//! and which slot has a digest.
+//! The slots of a store: each slot's blob, its number of links, its phase, and the slot of each digest.
 //!
-//! It stands on `blob_digest`. It promises that the slots are what the list in its contracts says
-//! after each call, that a digest never has two slots, and that a refused call changes nothing.
+//! After each call the slots equal the list in its contract. No digest has two slots, and a failed call changes
+//! nothing.
 #![tactic(auto)]
 
 mod phase;

@@ -1,12 +1,12 @@
-/// What a slot is.
+/// The state of a slot.
 #[derive(Clone, Copy, Debug, PartialEq, Eq, Drop)]
 pub enum Phase {
-    /// It holds nothing, and may be given a blob.
+    /// It has no blob, and can get one.
     Free,
-    /// It holds a blob that repositories may link.
+    /// It has a blob that repositories may link.
     Live,
-    /// It holds a blob without links, which is freed once no lease holds it.
+    /// It has a blob without links, which is freed once no lease pins it.
     Condemned,
-    /// It is given to no blob any more.
+    /// It never gets a blob again.
     Retired,
 }

@@ -1,8 +1,8 @@
-//! One slot's row: its generation and what the slot holds.
+//! A slot's row: its generation and its content.
 
 ghost use Rattle.std.specs.Prelude.{◌≡◌, ◌+◌, ◌<◌, ◌^◌};
 ghost use Rattle.std.specs.Option.{option_map};
-ghost use Rattle.slot_table.specs.Slots.{empty_slot, held_in, is_orphan, phase_in, links_in, fill, on_held, link_up, link_down, lend, mark, emptied, retire};
+ghost use Rattle.slot_table.specs.Slots.{blob_in, empty_slot, is_orphan, phase_in, links_in, fill, on_stored_blob, link_up, link_down, lend, mark, freed_slot, retire};
 
 use crate::phase::Phase;
 use blob_digest::Blob;
@@ -10,24 +10,24 @@ use std::alloc::Global;
 use std::marker::Model;
 use std::sync::Arc;
 
-/// A blob with what is counted of it.
+/// A stored blob with its marks and its number of links.
 #[derive(Drop)]
-pub struct Filled {
+pub struct FilledRow {
     blob: Arc<Blob, Global>,
     condemned: bool,
     lent: bool,
     links: u32,
 }
 
-/// What a slot holds.
+/// The content of a slot.
 #[derive(Drop)]
 pub enum Cell {
     Free,
-    Used(Filled),
+    Used(FilledRow),
     Retired,
 }
 
-/// A slot's row. Contracts see it as the slot.
+/// The row of a slot. Contracts see it as the slot.
 #[derive(Drop)]
 pub struct Row {
     generation: u32,
@@ -45,7 +45,7 @@ impl Model for Row {
 }
 
 impl Row {
-    /// A free slot.
+    /// Returns a free slot of this generation.
     pub fn empty(generation: u32) -> Row
         ensures { result ≡ empty_slot generation }
     {
@@ -55,7 +55,7 @@ impl Row {
         }
     }
 
-    /// Whether the slot holds a blob without links.
+    /// Returns whether the slot has a blob without links.
     pub fn is_orphan(&self) -> bool
         ensures { result ≡ is_orphan self.now }
     {
@@ -65,7 +65,7 @@ impl Row {
         }
     }
 
-    /// What the slot is.
+    /// Returns the slot's phase.
     pub fn phase(&self) -> Phase
         ensures { result ≡ phase_in self.now.content }
     {
@@ -77,14 +77,14 @@ impl Row {
         }
     }
 
-    /// The slot's generation.
+    /// Returns the slot's generation.
     pub fn generation(&self) -> u32
         ensures { result ≡ self.now.generation }
     {
         self.generation
     }
 
-    /// How many links the slot's blob has.
+    /// Returns the number of links to the slot's blob, or 0 if it has none.
     pub fn links(&self) -> u32
         ensures { result ≡ links_in self.now.content }
     {
@@ -94,9 +94,9 @@ impl Row {
         }
     }
 
-    /// The slot's blob.
+    /// Returns the slot's blob, if it has one.
     pub fn blob(&self) -> Option<&Arc<Blob, Global>>
-        ensures { option_map (λ b. b.now.value) result ≡ option_map (λ h. (h.digest, h.bytes)) (held_in self.now.content) }
+        ensures { option_map (λ b. b.now.value) result ≡ blob_in self.now.content }
     {
         match &self.cell {
             Cell::Used(filled) => Some(&filled.blob),
@@ -104,11 +104,11 @@ impl Row {
         }
     }
 
-    /// The slot holds a blob without links.
+    /// Stores a blob, live and without links.
     pub fn fill(&mut self, blob: Arc<Blob, Global>)
         ensures { self.new ≡ fill blob.value self.old }
     {
-        self.cell = Cell::Used(Filled {
+        self.cell = Cell::Used(FilledRow {
             blob,
             condemned: false,
             lent: false,
@@ -116,54 +116,54 @@ impl Row {
         });
     }
 
-    /// The slot's blob has one link more.
+    /// Adds a link to the slot's blob.
     pub fn link_up(&mut self)
         requires { links_in self.old.content + 1 < 2 ^ 32 }
-        ensures { self.new ≡ on_held link_up self.old }
+        ensures { self.new ≡ on_stored_blob link_up self.old }
     {
         if let Cell::Used(filled) = &mut self.cell {
             filled.links += 1;
         }
     }
 
-    /// The slot's blob has one link less.
+    /// Removes a link from the slot's blob.
     pub fn link_down(&mut self)
         requires { 0 < links_in self.old.content }
-        ensures { self.new ≡ on_held link_down self.old }
+        ensures { self.new ≡ on_stored_blob link_down self.old }
     {
         if let Cell::Used(filled) = &mut self.cell {
             filled.links -= 1;
         }
     }
 
-    /// The slot's blob was lent.
+    /// Marks the slot's blob as ever leased.
     pub fn lend(&mut self)
-        ensures { self.new ≡ on_held lend self.old }
+        ensures { self.new ≡ on_stored_blob lend self.old }
     {
         if let Cell::Used(filled) = &mut self.cell {
             filled.lent = true;
         }
     }
 
-    /// The slot's blob is condemned, or live again.
+    /// Condemns the slot's blob, or makes it live again.
     pub fn mark(&mut self, condemned: bool)
-        ensures { self.new ≡ on_held (mark condemned) self.old }
+        ensures { self.new ≡ on_stored_blob (mark condemned) self.old }
     {
         if let Cell::Used(filled) = &mut self.cell {
             filled.condemned = condemned;
         }
     }
 
-    /// The slot is free in its next generation.
+    /// Frees the slot, and advances it to its next generation.
     pub fn free(&mut self)
         requires { self.old.generation + 1 < 2 ^ 32 }
-        ensures { self.new ≡ emptied self.old }
+        ensures { self.new ≡ freed_slot self.old }
     {
         self.generation += 1;
         self.cell = Cell::Free;
     }
 
-    /// The slot is retired.
+    /// Retires the slot.
     pub fn retire(&mut self)
         ensures { self.new ≡ retire self.old }
     {

@@ -1,13 +1,13 @@
-//! A set of slots, a bit each.
+//! A set of slots, with one bit per slot.
 
-ghost use Rattle.std.specs.Prelude.{◌≡◌, ◌≢◌, ℕ, ◌*◌, ◌<◌, ◌≤◌, ◌==◌, length, None, IfOk, IfSome, true, false, slice_index, if◌then◌else◌};
+ghost use Rattle.std.specs.Prelude.{◌≡◌, ◌≢◌, ℕ, ◌*◌, ◌<◌, ◌≤◌, ◌==◌, length, None, IfOk, IfSome, false, slice_index};
 ghost use Rattle.std.specs.Int.{bit_at};
-ghost use Rattle.slot_table.specs.SlotSets.{has};
+ghost use Rattle.slot_table.specs.SlotSets.{contains_slot, IsFirstBit, IsFirstMember, IsFirstWord, SetsMember};
 
 use std::alloc::{AllocError, Global};
 use std::marker::Model;
 
-/// A set of slots below 65,536, a bit of a word each. Contracts see the words.
+/// A set of slots below 65,536, with one bit per slot in words of 64 bits. Contracts see the words.
 #[derive(Drop)]
 pub struct SlotSet {
     words: Vec<u64>,
@@ -23,7 +23,7 @@ impl Model for SlotSet {
     ghost invariant = { λ a. length a.words.items ≤ 1024 };
 }
 
-/// The lowest bit that is set of a word that isn't 0.
+/// Returns the lowest set bit of a word that is not 0.
 fn lowest_bit(word: u64) -> u32
     requires { word ≢ 0 }
     ensures within { result < 64 }
@@ -33,10 +33,10 @@ fn lowest_bit(word: u64) -> u32
     word.trailing_zeros()
 }
 
-/// The lowest bit of a word that is set, from one on.
+/// Returns the lowest set bit of a word from bit `from` on.
 fn bit_from(word: u64, from: u32) -> Option<u32>
     requires { from < 64 }
-    ensures some { IfSome result (λ r. (from ≤ r) × (r < 64) × (bit_at word r ≡ 1) × ((i : ℕ) → from ≤ i → i < r → bit_at word i ≡ 0)) }
+    ensures some { IfSome result (λ r. IsFirstBit word from r) }
     ensures none { result ≡ None → (i : ℕ) → from ≤ i → bit_at word i ≡ 0 }
 {
     let rest = word >> from;
@@ -47,9 +47,9 @@ fn bit_from(word: u64, from: u32) -> Option<u32>
     }
 }
 
-/// The first word that isn't 0, from one on.
+/// Returns the index of the first word from `from` on that is not 0.
 fn word_from(words: &[u64], from: usize) -> Option<usize>
-    ensures some { IfSome result (λ r. (from ≤ r) × (r < length words.now) × (slice_index words.now r ≢ 0) × ((w : ℕ) → from ≤ w → w < r → slice_index words.now w ≡ 0)) }
+    ensures some { IfSome result (λ r. IsFirstWord words.now from r) }
     ensures none { result ≡ None → (w : ℕ) → from ≤ w → slice_index words.now w ≡ 0 }
 {
     for place in from..words.len() {
@@ -61,20 +61,20 @@ fn word_from(words: &[u64], from: usize) -> Option<usize>
 }
 
 impl SlotSet {
-    /// An empty set for so many slots.
+    /// Returns an empty set for `slots` slots. Fails if out of memory.
     pub fn new(alloc: Global, slots: u32) -> Result<SlotSet, AllocError>
         requires { slots ≤ 65536 }
-        ensures empty { IfOk result (λ s. (k : ℕ) → has s k ≡ false) }
+        ensures empty { IfOk result (λ s. (k : ℕ) → contains_slot s k ≡ false) }
         ensures room { IfOk result (λ s. slots ≤ 64 * length s) }
     {
         let words = Vec::from_elem(alloc, 0u64, slots.div_ceil(64) as usize)?;
         Ok(SlotSet { words })
     }
 
-    /// Puts a slot into the set, or takes it out.
+    /// Adds a slot to the set, or removes it.
     pub fn set(&mut self, slot: u32, is_in: bool)
         requires { slot < 64 * length self.old }
-        ensures each { (k : ℕ) → has self.new k ≡ (if k == slot then is_in else has self.old k) }
+        ensures each { SetsMember self.old self.new slot is_in }
         ensures len { length self.new ≡ length self.old }
     {
         let bit = 1u64 << (slot % 64);
@@ -86,10 +86,12 @@ impl SlotSet {
         }
     }
 
-    /// The least slot of the set, from one on. It looks at the words of 64 slots up to the one that has it.
+    /// Returns the first member of the set from `slot` on.
+    ///
+    /// Reads one word for each 64 slots, up to the one that has the member.
     pub fn first_from(&self, slot: u32) -> Option<u32>
-        ensures some { IfSome result (λ r. (slot ≤ r) × (has self.now r ≡ true) × ((k : ℕ) → slot ≤ k → k < r → has self.now k ≡ false)) }
-        ensures none { result ≡ None → (k : ℕ) → slot ≤ k → has self.now k ≡ false }
+        ensures some { IfSome result (λ r. IsFirstMember self.now slot r) }
+        ensures none { result ≡ None → (k : ℕ) → slot ≤ k → contains_slot self.now k ≡ false }
     {
         let place = (slot / 64) as usize;
         if place >= self.words.len() {

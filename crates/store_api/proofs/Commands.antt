@@ -1,11 +1,11 @@
--- What a command is not.
+-- The commands that lease no blob.
 use Rattle.std.proofs.Common.{◌≡◌, false, refl}
 use Rattle.store_api.specs.Commands.{is_lease}
 use Rattle.store_api.specs.CommandViews.{command_view}
 use Rattle.store_api.specs.declared.command.Command.{Command}
 use Rattle.store_api.specs.declared.command.Command.TheVariants as command
 
--- a command that is answered with a reply is no lease
+-- a command with a reply does not lease a blob
 pub no_lease : (c : Command) → is_lease (command_view c) ≡ false
 no_lease (command.Start repo) = refl
 no_lease (command.Status repo number) = refl

@@ -1,7 +1,7 @@
--- What is answered, as contracts see a reply: its numbers and texts, and not where they are kept.
+-- Answers: replies as contracts see them, without where their bytes are stored.
 use Rattle.std.specs.Prelude.{ℕ, List, Result, Ok, Err, map}
 use Rattle.std.specs.Arc.{arc_value}
-use Rattle.finite_maps.specs.Texts.{Text}
+use Rattle.spec_lib.specs.Texts.{Text}
 use Rattle.blob_digest.specs.declared.refusal.Refusal.{Refusal}
 use Rattle.store_model.specs.declared.swept.Swept.{Swept as SweptCounts}
 use Rattle.store_model.specs.declared.mount.Mount.{Mount}
@@ -9,6 +9,7 @@ use Rattle.store_model.specs.declared.mount.Mount.TheVariants as mounting
 use Rattle.store_api.specs.declared.reply.Reply.{Reply}
 use Rattle.store_api.specs.declared.reply.Reply.TheVariants as reply
 
+-- the answer to a request: a result, or a refusal
 pub data Answer : Type 0 where
   Session : ℕ → Answer
   Received : ℕ → Answer
@@ -28,7 +29,7 @@ pub data Answer : Type 0 where
   NameTaken : Answer
   Refused : Refusal → Answer
 
--- what a reply answers
+-- the answer of a reply
 abbrev pub answer_of : Reply → Answer
 answer_of (reply.Session number) = Session number
 answer_of (reply.Received length) = Received length
@@ -48,7 +49,7 @@ answer_of reply.NoLease = NoLease
 answer_of reply.NameTaken = NameTaken
 answer_of (reply.Refused refusal) = Refused refusal
 
--- what replies answer
+-- the answers of replies
 abbrev pub answers_of : List Reply → List Answer
 answers_of replies = map answer_of replies
 
@@ -57,7 +58,7 @@ abbrev pub mount_answer : Mount → Answer
 mount_answer mounting.Mounted = Mounted
 mount_answer (mounting.Session number) = Session number
 
--- the answer that a result is
-abbrev pub answered : {A : Type 0} → (A → Answer) → Result A Refusal → Answer
-answered f (Ok a) = f a
-answered f (Err e) = Refused e
+-- the answer of a result: that of its value, or its refusal
+abbrev pub result_answer : {A : Type 0} → (A → Answer) → Result A Refusal → Answer
+result_answer f (Ok a) = f a
+result_answer f (Err e) = Refused e

@@ -1,8 +1,13 @@
--- A command as contracts see it, without where its bytes lie.
+-- Commands as contracts see them, without where their bytes are stored.
 use Rattle.store_api.specs.Commands as commands
+use Rattle.std.specs.Prelude.{Option, Result}
+use Rattle.blob_digest.specs.declared.refusal.Refusal.{Refusal}
 use Rattle.store_api.specs.declared.command.Command.{Command}
+use Rattle.store_api.specs.declared.command.Fields.{Fields}
+use Rattle.store_api.specs.declared.verb.Verb.{Verb}
 use Rattle.store_api.specs.declared.command.Command.TheVariants.{Start, Status, Append, Close, Abandon, Mount, Delete, PutManifest, GetManifest, DeleteManifest}
 
+-- the view of a command
 abbrev pub command_view : Command → commands.Command
 command_view (Start repo) = commands.Start repo
 command_view (Status repo number) = commands.Status repo number
@@ -14,3 +19,7 @@ command_view (Delete repo digest) = commands.Delete repo digest
 command_view (PutManifest repo bytes) = commands.PutManifest repo bytes.now
 command_view (GetManifest repo digest) = commands.GetManifest repo digest
 command_view (DeleteManifest repo digest) = commands.DeleteManifest repo digest
+
+-- the command that a verb's fields spell, or the refusal of the first of them that is malformed
+abbrev pub command_of_fields : Verb → Fields → Result (Option commands.Command) Refusal
+command_of_fields verb fields = commands.command_from verb fields.repo.now fields.source.now fields.digest.now fields.range fields.number fields.body.now

@@ -1,7 +1,9 @@
 pub mod Answers
+pub mod Backend
 pub mod CommandAnswers
 pub mod CommandViews
 pub mod Commands
-pub mod Lent
+pub mod LeaseViews
+pub mod Queries
 pub mod Replies
 pub mod Steps

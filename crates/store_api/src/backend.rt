@@ -1,11 +1,10 @@
-//! What keeps a store.
-ghost use Rattle.std.specs.Prelude.{◌≡◌, ◌≢◌, ◌⊎◌, ◌^◌, ◌<◌, ◌≤◌, length, MatchResult};
-ghost use Rattle.std.specs.Arc.{arc_value};
-ghost use Rattle.std.specs.Option.{option_copied};
-ghost use Rattle.store_api.specs.Answers.{Answer, Abandoned, Body, Bytes, Deleted, Manifest, Received, Refused, Session, Stored, Swept as SweptAnswer, Verified, answer_of, answered, mount_answer};
+//! The backends of a store.
+ghost use Rattle.std.specs.Prelude.{◌≡◌, ◌^◌, ◌<◌, ◌≤◌, length};
+ghost use Rattle.store_api.specs.Answers.{Answer, Swept as SweptAnswer};
+ghost use Rattle.store_api.specs.Backend.{Abandons, Appends, Closes, ConfirmsLease, DeletesLink, DeletesManifest, GetsManifest, LeasesBlob, Mounts, PerformsCommand, PutsManifest, ReadsPiece, ReportsStatus, SplitsLease, Starts};
 ghost use Rattle.store_api.specs.CommandViews.{command_view};
-ghost use Rattle.store_api.specs.Commands.{Request, Calls, Verifies, Sweeps, Start, Status, Append, Close, Abandon, Mount as MountCommand, Delete, PutManifest, GetManifest, DeleteManifest, Lease as LeaseCommand};
-ghost use Rattle.store_api.specs.Lent.{Lent, between, halved};
+ghost use Rattle.store_api.specs.Commands.{StoreRequest, Sweeps};
+ghost use Rattle.store_api.specs.LeaseViews.{LeaseView};
 
 use crate::command::Command;
 use crate::piece::Piece;
@@ -16,25 +15,26 @@ use std::alloc::Global;
 use std::sync::Arc;
 use store_model::{Mount, Swept};
 
-/// What keeps a store: a book alone, or a place at a store that others use too.
+/// A backend of a store: a store that the program alone uses, or a worker's handle on a shared store.
+///
+/// Each implementation chooses the relation `acts`, which states the result and the effect of each method.
 pub trait Backend {
-    /// A lease of a blob that this backend keeps. It must be spent, by `share` or `give_back`.
+    /// A lease of a blob of this backend. Each lease must be passed to `share` or `give_back`.
     type Lease;
 
-    // What may come of a request with this answer. A lease is answered by the bytes of its blob.
-    ghost acts: { Self → Request → Answer → Self → Type 0 };
+    // The steps: state before, request, answer, state after. The answer to a lease is the bytes of its blob.
+    ghost acts: { Self → StoreRequest → Answer → Self → Type 0 };
 
-    // The bytes of a lease's blob, and the lease's weight.
-    ghost lent: { Self.Lease → Lent };
+    // A lease as contracts see it: the bytes of its blob, and its weight.
+    ghost lent: { Self.Lease → LeaseView };
 
     /// Opens an upload session, and returns its number.
     fn start(&mut self, repo: &RepoName) -> Result<u32, Refusal>
-        ensures { acts self.old (Calls (Start repo.now)) (answered Session result) self.new };
+        ensures { Starts acts self.old repo.now result self.new };
 
-    /// Returns how many bytes a session has received.
+    /// Returns the number of bytes that a session has received.
     fn status(&mut self, repo: &RepoName, number: u32) -> Result<u64, Refusal>
-        ensures { acts self.old (Calls (Status repo.now number))
-            (answered Received result) self.new };
+        ensures { ReportsStatus acts self.old repo.now number result self.new };
 
     /// Adds a chunk to a session, and returns the session's length.
     fn append(
@@ -44,8 +44,7 @@ pub trait Backend {
         range: Option<ByteRange>,
         bytes: &[u8],
     ) -> Result<u64, Refusal>
-        ensures { acts self.old (Calls (Append repo.now number range bytes.now))
-            (answered Received result) self.new };
+        ensures { Appends acts self.old repo.now number range bytes.now result self.new };
 
     /// Closes a session with its last chunk, and returns the blob's size.
     fn close(
@@ -56,87 +55,92 @@ pub trait Backend {
         range: Option<ByteRange>,
         bytes: &[u8],
     ) -> Result<u64, Refusal>
-        ensures { acts self.old (Calls (Close repo.now number digest.now range bytes.now))
-            (answered Stored result) self.new };
+        ensures { Closes acts self.old repo.now number digest.now range bytes.now result self.new };
 
-    /// Gives a session up, and returns how many bytes it had received.
+    /// Abandons a session, and returns the number of bytes that it had received.
     fn abandon(&mut self, repo: &RepoName, number: u32) -> Result<u64, Refusal>
-        ensures { acts self.old (Calls (Abandon repo.now number))
-            (answered (λ _. Abandoned) result) self.new };
+        ensures { Abandons acts self.old repo.now number result self.new };
 
-    /// Links a blob that the tenant holds in the source or, without one, in any of its repositories, or opens an
-    /// upload session for it.
+    /// Links a blob from the source repository or, without a source, from any repository of the tenant.
+    ///
+    /// If the tenant has no such blob, it opens an upload session.
     fn mount(
         &mut self,
         repo: &RepoName,
         digest: &Digest,
         from: Option<&RepoName>,
     ) -> Result<Mount, Refusal>
-        ensures { acts self.old (Calls (MountCommand repo.now digest.now (option_copied from.entry)))
-            (answered mount_answer result) self.new };
+        ensures { Mounts acts self.old repo.now digest.now from.entry result self.new };
 
-    /// Takes a blob's link out of a repository.
+    /// Removes the link between a repository and a blob.
     fn delete(&mut self, repo: &RepoName, digest: &Digest) -> Result<(), Refusal>
-        ensures { acts self.old (Calls (Delete repo.now digest.now))
-            (answered (λ _. Deleted) result) self.new };
+        ensures { DeletesLink acts self.old repo.now digest.now result self.new };
 
-    /// Keeps a manifest, and returns its digest.
+    /// Stores a manifest in a repository, and returns its digest.
     fn put_manifest(&mut self, repo: &RepoName, bytes: &[u8]) -> Result<Digest, Refusal>
-        ensures { acts self.old (Calls (PutManifest repo.now bytes.now))
-            (answered Manifest result) self.new };
+        ensures { PutsManifest acts self.old repo.now bytes.now result self.new };
 
-    /// Returns a manifest that a repository keeps.
+    /// Returns a manifest of a repository, without a copy.
     fn get_manifest(
         &mut self,
         repo: &RepoName,
         digest: &Digest,
     ) -> Result<Arc<OciManifest, Global>, Refusal>
-        ensures { acts self.old (Calls (GetManifest repo.now digest.now))
-            (answered (λ m. Body (arc_value m)) result) self.new };
+        ensures { GetsManifest acts self.old repo.now digest.now result self.new };
 
-    /// Takes a manifest out of a repository.
+    /// Removes a manifest from a repository.
     fn delete_manifest(&mut self, repo: &RepoName, digest: &Digest) -> Result<(), Refusal>
-        ensures { acts self.old (Calls (DeleteManifest repo.now digest.now))
-            (answered (λ _. Deleted) result) self.new };
+        ensures { DeletesManifest acts self.old repo.now digest.now result self.new };
 
-    /// A new lease of a blob that is linked in a repository.
+    /// Returns a new lease, of weight 1,024, of a blob that is linked in a repository.
     fn lease(&mut self, repo: &RepoName, digest: &Digest) -> Result<Self::Lease, Refusal>
-        ensures { MatchResult result (λ l. acts self.old (Calls (LeaseCommand repo.now digest.now)) (Bytes (lent l).bytes) self.new × ((lent l).weight ≡ 1024)) (λ e. acts self.old (Calls (LeaseCommand repo.now digest.now)) (Refused e) self.new) };
+        ensures { LeasesBlob acts lent self.old repo.now digest.now result self.new };
 
-    /// The lease with all that it had, once the store has looked at its slot.
+    /// Confirms that the slot of a lease is still the lease's own, and returns the lease unchanged.
     fn verify(&mut self, lease: Self::Lease) -> Self::Lease
         ensures same { lent result ≡ lent lease }
-        ensures acts { acts self.old (Verifies (length (lent lease).bytes)) (Verified (length (lent lease).bytes)) self.new };
+        ensures acts { ConfirmsLease acts self.old (lent lease) self.new };
 
-    /// Frees the slots of blobs without links that no lease holds.
+    /// Frees the slots of blobs that have neither links nor leases, and returns the counts of the sweep.
     fn sweep(&mut self) -> Swept
         ensures { acts self.old Sweeps (SweptAnswer result) self.new };
 
-    /// The size of a lease's blob in bytes.
+    /// Returns the size of a lease's blob in bytes.
     fn size(lease: &Self::Lease) -> u64
         ensures { result ≡ length (lent lease.now).bytes };
 
-    /// The bytes of a lease's blob from a start to an end, both included, or to the end of the blob, without a copy.
-    /// Refused with `Memory` alone.
+    /// Returns the bytes of a lease's blob from `start` to `end`, both included, or to the blob's end, without a copy.
+    ///
+    /// # Errors
+    /// - `Memory` if memory runs out.
     fn piece(lease: &Self::Lease, start: u64, end: u64) -> Result<Piece, Refusal>
         requires ordered { start ≤ end }
         requires small { end < 2 ^ 63 }
-        ensures { MatchResult result (λ p. p ≡ between (lent lease.now).bytes start end) (λ e. e ≡ Refusal.Memory) };
+        ensures { ReadsPiece (lent lease.now).bytes start end result };
 
-    /// Two leases of half the weight. A lease of weight 1 comes back, refused with `WeightSpent`,
-    /// and any lease where memory runs out.
+    /// Splits a lease into two of half its weight.
+    ///
+    /// # Errors
+    /// - `Memory` if memory runs out.
+    /// - `WeightSpent` if the lease's weight is 1.
+    ///
+    /// Each error returns the lease unchanged.
     fn share(lease: Self::Lease) -> Result<(Self::Lease, Self::Lease), (Refusal, Self::Lease)>
-        ensures { MatchResult result (λ p. ((lent lease).weight ≢ 1) × (lent p.0 ≡ halved (lent lease)) × (lent p.1 ≡ halved (lent lease))) (λ e. (lent e.1 ≡ lent lease) × ((e.0 ≡ Refusal.Memory) ⊎ ((e.0 ≡ Refusal.WeightSpent) × ((lent lease).weight ≡ 1)))) };
+        ensures { SplitsLease lent lease result };
 
-    /// Ends a lease.
+    /// Gives a lease back.
     fn give_back(lease: Self::Lease);
 }
 
-/// Does what a command says, and returns its reply.
+/// Executes a command, and returns its reply.
+///
+/// # Errors
+/// - The error of the backend's method.
+///
+/// # Cost
+/// One call of the backend. It allocates nothing itself.
 pub fn perform<B: Backend>(backend: &mut B, command: &Command<'_>) -> Result<Reply, Refusal>
-    ensures { MatchResult result
-        (λ r. B.acts backend.old (Calls (command_view command.now)) (answer_of r) backend.new)
-        (λ e. B.acts backend.old (Calls (command_view command.now)) (Refused e) backend.new) }
+    ensures { PerformsCommand B.acts backend.old (command_view command.now) result backend.new }
 {
     match command {
         Command::Start { repo } => Ok(Reply::Session(backend.start(repo)?)),

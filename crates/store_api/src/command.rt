@@ -1,22 +1,23 @@
-//! Commands, and what they are spelled with.
+//! Commands, and the fields that spell them.
 ghost use Rattle.std.specs.Prelude.{◌≡◌, true, IsSome, Some};
 ghost use Rattle.blob_digest.specs.Outcomes.{Answers};
-ghost use Rattle.store_api.specs.CommandViews.{command_view};
-ghost use Rattle.store_api.specs.Commands.{command_from, digest_in, is_command, repo_in, source_in, uses_session};
+ghost use Rattle.store_api.specs.CommandViews.{command_of_fields, command_view};
+ghost use Rattle.store_api.specs.Commands.{digest_in, is_command, repo_in, source_in, uses_session};
 
 use crate::verb::Verb;
 use blob_digest::{ByteRange, Digest, Refusal, RepoName};
 use std::alloc::Global;
 
-/// A command that a store answers with a reply: its repository, and what else it takes. A lease is asked for by itself.
-/// The bytes of a chunk, or of a manifest, are those that it was spelled with.
+/// A command of a store that returns a reply: its repository and its other arguments.
+///
+/// A request for a lease is not a command. The bytes of a chunk or of a manifest are borrowed from the request.
 #[derive(Drop)]
 pub enum Command<'r> {
     /// Opens an upload session.
     Start {
         repo: RepoName,
     },
-    /// Asks how many bytes a session has received.
+    /// Reads the number of bytes that a session has received.
     Status {
         repo: RepoName,
         number: u32,
@@ -36,55 +37,65 @@ pub enum Command<'r> {
         range: Option<ByteRange>,
         bytes: &'r [u8],
     },
-    /// Gives a session up.
+    /// Abandons a session.
     Abandon {
         repo: RepoName,
         number: u32,
     },
-    /// Links a blob that the tenant holds in the source or, without one, in any of its repositories, or opens
-    /// an upload session for it.
+    /// Links a blob from the source repository or, without a source, from any repository of the tenant.
+    /// If the tenant has no such blob, it opens an upload session.
     Mount {
         repo: RepoName,
         digest: Digest,
         from: Option<RepoName>,
     },
-    /// Takes a blob's link out of a repository.
+    /// Removes the link between a repository and a blob.
     Delete {
         repo: RepoName,
         digest: Digest,
     },
-    /// Keeps a manifest.
+    /// Stores a manifest in a repository.
     PutManifest {
         repo: RepoName,
         bytes: &'r [u8],
     },
-    /// Asks for a manifest that a repository keeps.
+    /// Reads a manifest of a repository.
     GetManifest {
         repo: RepoName,
         digest: Digest,
     },
-    /// Takes a manifest out of a repository.
+    /// Removes a manifest from a repository.
     DeleteManifest {
         repo: RepoName,
         digest: Digest,
     },
 }
 
-/// The repository that a field spells.
+/// Returns the repository name that a field spells.
+///
+/// # Errors
+/// - `NameInvalid` if the name is malformed.
+/// - `Memory` if allocation fails.
 pub fn repo_in(alloc: Global, text: &[u8]) -> Result<RepoName, Refusal>
     ensures { Answers (λ r. r) result (repo_in text.now) }
 {
     RepoName::parse(alloc, text)
 }
 
-/// The digest that a field spells.
+/// Returns the digest that a field spells.
+///
+/// # Errors
+/// - `DigestInvalid` if the digest is malformed.
+///
+/// # Memory
+/// Allocates nothing.
 pub fn digest_in(text: &[u8]) -> Result<Digest, Refusal>
     ensures { result ≡ digest_in text.now }
 {
     Digest::parse(text)
 }
 
-/// The source that a field spells, which is none where the field is empty.
+/// Returns the source repository that a field spells, or none if the field is empty.
 #[tactic(auto, using(crate::proofs::FieldTexts::source_ok, crate::proofs::FieldTexts::source_bad))]
 fn source_in(alloc: Global, text: &[u8]) -> Result<Option<RepoName>, Refusal>
     ensures { Answers (λ r. r) result (source_in text.now) }
@@ -96,7 +107,7 @@ fn source_in(alloc: Global, text: &[u8]) -> Result<Option<RepoName>, Refusal>
     Ok(Some(from))
 }
 
-/// What a command is spelled with.
+/// The fields that spell a command.
 #[derive(Drop)]
 pub struct Fields<'r> {
     /// The repository's name.
@@ -105,7 +116,7 @@ pub struct Fields<'r> {
     pub source: &'r [u8],
     /// The digest's text.
     pub digest: &'r [u8],
-    /// The range of a chunk, or why there is none.
+    /// The range of a chunk, or the error of its text.
     pub range: Result<Option<ByteRange>, Refusal>,
     /// The number of a session.
     pub number: Option<u32>,
@@ -113,7 +124,7 @@ pub struct Fields<'r> {
     pub body: &'r [u8],
 }
 
-/// The number of a session that is there.
+/// Returns the number of a session.
 fn session_in(number: Option<u32>) -> u32
     requires { IsSome number }
     ensures { number ≡ Some result }
@@ -124,8 +135,14 @@ fn session_in(number: Option<u32>) -> u32
     }
 }
 
-/// The command of a verb with these fields. Refused is the first of the fields that it uses, in the order
-/// repository, source, digest and range, that spells nothing.
+/// Returns the command that a verb and its fields spell.
+///
+/// # Errors
+/// - The refusal of the first malformed field that the verb uses, in the order repository, source, digest, range.
+/// - `Memory` if a name cannot be allocated.
+///
+/// # Cost
+/// Copies the names of repositories. The bytes of a chunk or of a manifest are borrowed.
 pub fn command_from<'r>(
     alloc: Global,
     verb: Verb,
@@ -133,7 +150,7 @@ pub fn command_from<'r>(
 ) -> Result<Command<'r>, Refusal>
     requires command { is_command verb ≡ true }
     requires session { uses_session verb ≡ true → IsSome fields.number }
-    ensures { Answers (λ c. Some (command_view c)) result (command_from verb fields.entry.repo.now fields.entry.source.now fields.entry.digest.now fields.entry.range fields.entry.number fields.entry.body.now) }
+    ensures { Answers (λ c. Some (command_view c)) result (command_of_fields verb fields.entry) }
 {
     let Fields {
         repo,

@@ -4,17 +4,17 @@ ghost use Rattle.hex.specs.Hex.{encode_lower};
 
 use std::{fmt, str};
 
-/// How many bytes are spelled at a time.
+/// The number of bytes that are encoded at a time.
 const BLOCK: usize = 512;
 
-/// Bytes that print as two digits each, in lower case.
+/// Bytes that print as two hexadecimal digits each, in lower case.
 #[derive(Drop)]
 pub struct HexDigits<'b> {
-    /// What is printed.
+    /// The bytes to print.
     pub bytes: &'b [u8],
 }
 
-/// The digits of a block, which are put into a buffer of twice its length.
+/// Writes the digits of a block into a buffer of twice its length, and returns them as text.
 fn spelled<'d>(block: &[u8], digits: &'d mut [u8]) -> &'d str
     requires { length digits.old ≡ 2 * length block.now }
     ensures { result.now ≡ encode_lower block.now }

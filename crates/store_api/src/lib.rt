@@ -1,11 +1,12 @@
-//! What a store is asked for and what it answers, and the trait of what keeps a store.
+//! The requests to a store, the replies to them, and the trait of a store's backends.
 //!
-//! A script's rows, a connection's requests and a caller's own code ask for the same commands, and read the same
-//! replies; who asks is not known here. It stands on `blob_digest` for names, digests and ranges, on `oci_manifest` and
-//! `store_model` for what commands mean and what replies show, and on `hex` for their digits.
+//! The rows of a script, the requests of a connection and a caller's own code use the same commands and replies.
 //!
-//! It promises: the command of a verb is spelled by its fields, or the first field that spells nothing is refused; a piece
-//! has the bytes of its blob from its start to its end; and the text of a reply is that of its answer.
+//! The contracts guarantee:
+//! - A command is that of its verb's fields, or the first malformed field is refused.
+//! - `perform` makes one call of the backend, and returns the reply to it.
+//! - A piece has the bytes of its blob from a start to an end.
+//! - The text of a reply is that of its answer.
 #![tactic(auto)]
 
 mod backend;

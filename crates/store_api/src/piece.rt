@@ -1,14 +1,14 @@
-//! Parts of blobs.
+//! Pieces of blobs.
 ghost use Rattle.std.specs.Prelude.{◌≡◌, ◌^◌, ◌<◌, ◌≤◌};
 ghost use Rattle.std.specs.Arc.{arc_value};
-ghost use Rattle.store_api.specs.Lent.{between};
+ghost use Rattle.store_api.specs.LeaseViews.{bytes_between};
 
 use blob_digest::Blob;
 use std::alloc::Global;
 use std::marker::Model;
 use std::sync::Arc;
 
-/// A part of a blob's content, which it shares with the blob. Contracts see its bytes.
+/// A piece of a blob's content, which it shares with the blob. Contracts see its bytes.
 #[derive(Drop)]
 pub struct Piece {
     blob: Arc<Blob, Global>,
@@ -28,11 +28,14 @@ impl Model for Piece {
 }
 
 impl Piece {
-    /// The bytes from a start to an end, both included, or to the end of the blob.
+    /// Creates the piece from `start` to `end`, both included, or to the end of the blob.
+    ///
+    /// # Memory
+    /// Allocates nothing, and copies no bytes.
     pub fn new(blob: Arc<Blob, Global>, start: u64, end: u64) -> Piece
         requires ordered { start ≤ end }
         requires small { end < 2 ^ 63 }
-        ensures { result ≡ between (arc_value blob).1 start end }
+        ensures { result ≡ bytes_between (arc_value blob).1 start end }
     {
         let len = blob.bytes().len() as u64;
         let first = start.min(len);
@@ -44,7 +47,10 @@ impl Piece {
         }
     }
 
-    /// The bytes.
+    /// Returns the bytes.
+    ///
+    /// # Memory
+    /// Allocates nothing.
     pub fn bytes(&self) -> &[u8]
         ensures { result.now ≡ self.now }
     {

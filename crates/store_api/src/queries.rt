@@ -1,30 +1,32 @@
-//! What a backend tells beside its commands.
-ghost use Rattle.std.specs.Prelude.{◌≡◌};
+//! The queries of a backend.
 ghost use Rattle.store_model.specs.Catalog.{Catalog};
+ghost use Rattle.store_api.specs.Queries.{IsQueryResult};
 ghost use Rattle.store_model.specs.Queries.{free_slots, stat, stat_manifest, usage};
 
 use blob_digest::{Digest, Refusal, RepoName};
 use store_model::Usage;
 
-/// What a backend tells beside its commands. It changes nothing by that, and what it tells is so of a catalog that it
-/// finds: of its own, or of one that a store which others use too has meanwhile.
+/// The queries of a backend, which change nothing.
+///
+/// Each result is that of some catalog that the backend finds: its own, or one that a shared store has during the
+/// call.
 pub trait Queries {
-    // A catalog that may be found.
+    // A catalog that the backend may find.
     ghost finds: { Self → Catalog → Type 0 };
 
-    /// The size in bytes of a blob that is linked in a repository.
+    /// Returns the size in bytes of a blob that is linked in a repository.
     fn stat(&self, repo: &RepoName, digest: &Digest) -> Result<u64, Refusal>
-        ensures { (catalog : Catalog) × finds self.now catalog × (result ≡ stat catalog repo.now digest.now) };
+        ensures { IsQueryResult finds self.now (λ c. stat c repo.now digest.now) result };
 
-    /// The size in bytes of a repository's manifest.
+    /// Returns the size in bytes of a manifest of a repository.
     fn stat_manifest(&self, repo: &RepoName, digest: &Digest) -> Result<u64, Refusal>
-        ensures { (catalog : Catalog) × finds self.now catalog × (result ≡ stat_manifest catalog repo.now digest.now) };
+        ensures { IsQueryResult finds self.now (λ c. stat_manifest c repo.now digest.now) result };
 
-    /// What the tenant of a repository uses, and its quota.
+    /// Returns the usage and the quota of a repository's tenant.
     fn usage(&self, repo: &RepoName) -> Result<Usage, Refusal>
-        ensures { (catalog : Catalog) × finds self.now catalog × (result ≡ usage catalog repo.now) };
+        ensures { IsQueryResult finds self.now (λ c. usage c repo.now) result };
 
-    /// How many slots are free.
+    /// Returns the number of free slots.
     fn free_slots(&self) -> u32
-        ensures { (catalog : Catalog) × finds self.now catalog × (result ≡ free_slots catalog) };
+        ensures { IsQueryResult finds self.now free_slots result };
 }

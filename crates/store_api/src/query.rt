@@ -1,16 +1,16 @@
-//! Questions to a store.
+//! Queries of a store.
 
 use blob_digest::{Digest, RepoName};
 
-/// A question about what a store keeps: what is asked for, and what else it takes. It changes nothing.
+/// A query of a store, with its arguments. It changes nothing.
 #[derive(Drop)]
 pub enum Query {
-    /// Asks for the size of a blob that is linked in a repository.
+    /// Reads the size of a blob that is linked in a repository.
     Stat { repo: RepoName, digest: Digest },
-    /// Asks for the size of a manifest that a repository keeps.
+    /// Reads the size of a manifest of a repository.
     StatManifest { repo: RepoName, digest: Digest },
-    /// Asks how many slots are free.
+    /// Reads the number of free slots.
     FreeSlots,
-    /// Asks what the tenant of a repository uses, and its quota.
+    /// Reads the usage and the quota of a repository's tenant.
     Usage { repo: RepoName },
 }

@@ -1,7 +1,7 @@
 //! Replies, and their texts.
-ghost use Rattle.std.specs.Prelude.{◌≡◌, ◌++◌, Some, IfErr, OnErr, OnOk, string_bytes};
+ghost use Rattle.std.specs.Prelude.{◌≡◌, Some, IfErr, OnErr, OnOk, string_bytes};
 ghost use Rattle.store_api.specs.Answers.{answer_of, mount_answer};
-ghost use Rattle.store_api.specs.Replies.{reply_text};
+ghost use Rattle.store_api.specs.Replies.{AppendsReply, reply_text};
 
 use crate::hex_digits::HexDigits;
 use crate::piece::Piece;
@@ -12,25 +12,26 @@ use std::fmt;
 use std::sync::Arc;
 use store_model::{Mount, Swept};
 
-/// What is asked for is answered with this. Manifests and blobs are shared with the book and not copied. Contracts see what is
-/// answered (`answer_of`).
+/// A reply to a request. It shares manifests and blobs with the store, and copies none.
+///
+/// Contracts see its answer (`answer_of`).
 #[derive(Drop)]
 pub enum Reply {
     /// A session was opened: its number.
     Session(u32),
-    /// A chunk was taken: the session's length in bytes.
+    /// The length of a session in bytes.
     Received(u64),
     /// A session was closed: the blob's size in bytes.
     Stored(u64),
-    /// A session was given up.
+    /// A session was abandoned.
     Abandoned,
     /// A blob was linked from another repository.
     Mounted,
-    /// A link or a manifest was taken out.
+    /// A link or a manifest was removed.
     Deleted,
-    /// A manifest was kept: its digest.
+    /// A manifest was stored: its digest.
     Manifest(Digest),
-    /// A manifest that was asked for.
+    /// The manifest that was requested.
     Body(Arc<Manifest, Global>),
     /// A blob was leased: its size in bytes.
     Leased(u64),
@@ -42,17 +43,17 @@ pub enum Reply {
     Verified(u64),
     /// A lease was given back.
     GivenBack,
-    /// What a sweep did.
+    /// The counts of a sweep.
     Swept(Swept),
-    /// Whoever asks has no such lease.
+    /// The lane or the connection has no lease of this name.
     NoLease,
-    /// Whoever asks has a lease of this name already.
+    /// The lane or the connection already has a lease of this name.
     NameTaken,
-    /// It was refused.
+    /// The request was refused.
     Refused(Refusal),
 }
 
-/// The reply to a mount.
+/// Returns the reply to a mount. It allocates nothing.
 pub fn mount_reply(mount: Mount) -> Reply
     ensures { answer_of result ≡ mount_answer mount }
 {
@@ -110,9 +111,16 @@ impl fmt::Display for Reply {
 }
 
 impl Reply {
-    /// Appends the text of the reply, without a line feed. Refused is out of memory alone, and then the text is as it was.
+    /// Appends the text of the reply to `out`, without a line feed.
+    ///
+    /// # Errors
+    /// - `Memory` if allocation fails. The text is unchanged then.
+    ///
+    /// # Cost
+    /// Linear in the length of the reply's text, which has two digits for each byte of a manifest or of a piece. It
+    /// allocates that text once more before it appends it.
     pub fn write(&self, out: &mut String) -> Result<(), Refusal>
-        ensures ok { OnOk result (string_bytes out.new ≡ string_bytes out.old ++ reply_text (answer_of self.now)) }
+        ensures ok { OnOk result (AppendsReply out.old self.now out.new) }
         ensures err { OnErr result (string_bytes out.new ≡ string_bytes out.old) }
         ensures refused { IfErr result (λ e. e ≡ Refusal.Memory) }
     {

@@ -1,38 +1,38 @@
-//! What can be asked of a store.
+//! The kinds of requests to a store.
 
-/// What can be asked of a store: a command, something about a lease, or a sweep.
+/// A kind of request to a store: a command, a request about a lease, or a sweep.
 #[derive(Clone, Copy, Debug, PartialEq, Eq)]
 pub enum Verb {
     /// Opens an upload session.
     Start,
-    /// Asks how many bytes a session has received.
+    /// Reads the number of bytes that a session has received.
     Status,
     /// Adds a chunk to a session.
     Append,
-    /// Ends a session and links its blob.
+    /// Closes a session, and links its blob.
     Close,
-    /// Gives a session up.
+    /// Abandons a session.
     Abandon,
     /// Links a blob of another repository of the tenant.
     Mount,
-    /// Takes a blob's link out of a repository.
+    /// Removes the link between a repository and a blob.
     Delete,
-    /// Keeps a manifest in a repository.
+    /// Stores a manifest in a repository.
     PutManifest,
-    /// Asks for the bytes of a manifest.
+    /// Reads the bytes of a manifest.
     GetManifest,
-    /// Takes a manifest out of a repository.
+    /// Removes a manifest from a repository.
     DeleteManifest,
     /// Leases a blob under a name.
     Lease,
     /// Reads a piece of a leased blob.
     Read,
-    /// Makes two leases of one.
+    /// Splits a lease into two.
     Share,
-    /// Has the store look at a lease's slot.
+    /// Verifies the slot of a lease.
     Verify,
     /// Gives a lease back.
     GiveBack,
-    /// Frees the slots of blobs without links.
+    /// Frees the slots of blobs that have neither links nor leases.
     Sweep,
 }

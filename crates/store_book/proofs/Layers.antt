@@ -1,4 +1,4 @@
--- The four layers agree: sums, counts and charges that they keep, and what a kept blob changes in them.
+-- The layers agree: their sums, counts and charges, and the change that a stored blob makes in them.
 pub mod CanKeep
 pub mod ChunkCharges
 pub mod Keep

@@ -1,4 +1,4 @@
--- Each call of the book is its definition: from what the calls of the layers did, one file a call.
+-- Each call of the book has the outcome of its command, by the clauses of the layers' calls. There is one file for each call.
 pub mod Abandon
 pub mod Delete
 pub mod Events

@@ -1,8 +1,8 @@
--- The slots, the keeper's rows and what is seen of them, change by change.
+-- The slots, the keeper's rows and the view of them, change by change.
 pub mod Changed
 pub mod Filled
-pub mod Housed
-pub mod Lent
+pub mod Placement
+pub mod LeaseMarks
 pub mod Pinned
 pub mod Placed
 pub mod Reclaimed

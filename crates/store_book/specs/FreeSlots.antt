@@ -1,8 +1,8 @@
--- Which of the slots that are seen are free.
+-- Free slots.
 use Rattle.std.specs.Prelude.{Bool, true, false}
 use Rattle.slot_table.specs.declared.phase.Phase.TheVariants as phase
-use Rattle.store_book.specs.BookState.{SlotSeen}
+use Rattle.store_book.specs.BookState.{SlotView}
 
--- whether a slot is free: it holds no blob, live or condemned, and isn't retired
-abbrev pub is_free : SlotSeen → Bool
+-- whether a slot is free: neither used nor retired
+abbrev pub is_free : SlotView → Bool
 is_free s = elim s.phase [ phase.Free ↦ true | phase.Live ↦ false | phase.Condemned ↦ false | phase.Retired ↦ false ]

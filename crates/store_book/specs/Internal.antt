@@ -1,4 +1,4 @@
--- No public contract cites these.
-pub mod Keeping
+-- Definitions that no public contract cites.
+pub mod Storing
 pub mod Lines
 pub mod SweptSlots

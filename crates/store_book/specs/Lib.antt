@@ -1,3 +1,4 @@
+pub mod BookCalls
 pub mod BookFields
 pub mod BookState
 pub mod Events
@@ -7,4 +8,5 @@ pub mod Layers
 pub mod Leased
 pub mod Openings
 pub mod Pinned
+pub mod Printing
 pub mod SlotSteps

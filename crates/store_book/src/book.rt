@@ -1,22 +1,17 @@
-ghost use Rattle.std.specs.Prelude.{◌≡◌, ◌≢◌, ◌<◌, length, Some, IfOk, IfErr, IsOk, OnErr, OnOk};
-ghost use Rattle.std.specs.FinMap.{get};
-ghost use Rattle.std.specs.Option.{option_copied};
-ghost use Rattle.blob_digest.specs.declared.refusal.Refusal.TheVariants.{UploadUnknown};
-ghost use Rattle.blob_digest.specs.Outcomes.{Does, DoesExactly};
-ghost use Rattle.link_table.specs.Tenancy.{tenants_shown};
-ghost use Rattle.store_model.specs.Invariant.{Sound};
-ghost use Rattle.store_book.specs.Pinned.{blob_bytes, blob_digest};
-ghost use Rattle.store_book.specs.Openings.{OpensBook, RefusesBook};
-ghost use Rattle.store_model.specs.BookText.{book_text};
-ghost use Rattle.store_book.specs.SlotSteps.{EachSlot, FindsNoRoom, HasLast, HasPin, IsHousing, IsLending, IsQuiet, IsStill, IsSweptSlot, Leases, ReadsWord};
-ghost use Rattle.store_model.specs.Commands.{start, status, append, close, abandon, mount, delete, take, put_back, finish, after_cancel};
-ghost use Rattle.store_model.specs.Sweep.{IsSweep};
-ghost use Rattle.store_model.specs.Sessions.{taken_session};
-ghost use Rattle.store_model.specs.Sessions.{IsFull};
+ghost use Rattle.std.specs.Prelude.{◌≡◌, ◌≢◌, ◌<◌, length, IfOk, IfErr, OnErr, OnOk};
 ghost use Rattle.std.specs.Arc.{arc_value};
-ghost use Rattle.std.specs.Io.KnownBytes.{Appends};
+ghost use Rattle.blob_digest.specs.declared.refusal.Refusal.TheVariants.{TooManyReaders, UploadUnknown};
+ghost use Rattle.store_model.specs.Commands.{status};
+ghost use Rattle.store_model.specs.Invariant.{Sound};
+ghost use Rattle.store_model.specs.Sessions.{HasNoOpenReserve};
+ghost use Rattle.store_model.specs.Sweep.{IsSweep};
+ghost use Rattle.store_book.specs.BookCalls.{Abandons, AppendsChunk, ChangesSlots, ChecksIn, ChecksOut, Closes, Deletes, FailsOnlyIfFull, Finishes, HasCheckedOut, IsNewPin, KeepsSlots, LeasesBlob, Mounts, PlacesOnly, Starts};
+ghost use Rattle.store_book.specs.Openings.{OpensFrom, RefusesConfig};
+ghost use Rattle.store_book.specs.Pinned.{blob_digest};
+ghost use Rattle.store_book.specs.Printing.{PrintsCatalog};
+ghost use Rattle.store_book.specs.SlotSteps.{EachSlot, HasLastGeneration, HasPin, IsLending, KeepsGeneration, IsUnchanged, SweepsSlot, ReadsWord};
 
-use crate::config::{Config, copied};
+use crate::config::{Config, copy_tenants};
 use crate::keep::{find_linked, keep, link_slot};
 use crate::mount::find_source;
 use crate::pinned_slots::PinnedSlots;
@@ -32,7 +27,10 @@ use std::sync::Arc;
 use store_model::{Mount, Swept};
 use upload_table::{Hand, Uploads};
 
-/// The book: what every tenant's repositories hold, and what is being uploaded to them.
+/// The state of a store: what each tenant's repositories contain, and the uploads in progress.
+///
+/// Its calls find the tenant, the repository and the session in logarithmic time. The costs below are in addition.
+/// `Memory` has no fixed position in the order of errors: a failed allocation is returned at once.
 #[derive(Drop)]
 pub struct Book {
     pub(crate) alloc: Global,
@@ -61,18 +59,18 @@ impl Model for Book {
 pub const MAX_BLOB: u64 = 1 << 40;
 
 impl Book {
-    /// The book of a new store: its tenants in the order of their names, no repository, and every slot
-    /// free; and the words of its slots.
+    /// Makes the book of a new store, with the words of its slots: no repository, and every slot free.
     ///
-    /// Refused, in this order: a tenant's name that is no component of a repository's name or comes
-    /// twice (`NameInvalid`); a count, a quota or a size beyond its limit (`LimitReached`); out of
-    /// memory.
+    /// # Errors
+    /// - `NameInvalid` if a tenant's name is not a component of a repository's name, or occurs twice.
+    /// - `LimitReached` if a count, a quota or a size is beyond its limit.
+    /// - `Memory` if out of memory.
     pub fn new(alloc: Global, config: &Config) -> Result<(Book, Pins), Refusal>
-        ensures opened { IfOk result (λ r. OpensBook (tenants_shown config.now.tenants.items) config.now.slots config.now.max_blob config.now.first_generation r.0) }
+        ensures opened { IfOk result (λ r. OpensFrom config.now r.0) }
         ensures table { IfOk result (λ r. r.0.table ≡ r.1) }
-        ensures refused { IfErr result (λ e. RefusesBook e (tenants_shown config.now.tenants.items) config.now.slots config.now.max_blob) }
+        ensures refused { IfErr result (λ e. RefusesConfig e config.now) }
     {
-        let tenants = copied(alloc, &config.tenants)?;
+        let tenants = copy_tenants(alloc, &config.tenants)?;
         let links = Links::new(alloc, tenants)?;
         if config.max_blob > MAX_BLOB {
             return Err(Refusal::LimitReached);
@@ -89,15 +87,23 @@ impl Book {
         Ok((book, pins))
     }
 
-    /// Opens a session in a repository, and answers its number (OCI Distribution Specification 1.1,
-    /// "Pushing a blob in chunks", the opening POST). The repository appears with it.
+    /// Opens a session in a repository and returns its number (OCI Distribution Specification 1.1, "Pushing a blob in
+    /// chunks", the opening POST).
     ///
-    /// Refused, in this order: a tenant that is not there (`NameUnknown`); a tenant that has 1,024
-    /// repositories where this one is new, or 64 sessions, or no session number left
-    /// (`LimitReached`); out of memory.
+    /// If the repository is new, the call creates it.
+    ///
+    /// # Errors
+    /// - `NameUnknown` if the tenant does not exist.
+    /// - `LimitReached` if the repository is new and the tenant has 1,024.
+    /// - `LimitReached` if the tenant has 64 sessions, or no session number is left.
+    /// - `Memory` if out of memory.
+    ///
+    /// # Cost
+    /// A new repository moves the tenant's repositories after it. The call allocates the session and a new
+    /// repository.
     pub fn start(&mut self, repo: &RepoName) -> Result<u32, Refusal>
-        ensures does { Does (λ n. n) result self.old.catalog self.new.catalog (start self.old.catalog repo.now) }
-        ensures slots { (self.new.table ≡ self.old.table) × (self.new.slots ≡ self.old.slots) }
+        ensures does { Starts result self.old self.new repo.now }
+        ensures slots { KeepsSlots self.old self.new }
     {
         let tenant = self.links.tenant(repo)?;
         let is_new = self.links.appear(tenant, repo)?;
@@ -112,11 +118,15 @@ impl Book {
         }
     }
 
-    /// How many bytes a session has received (OCI Distribution Specification 1.1, "Pushing a blob in
-    /// chunks", the GET of a session's location). It takes no memory.
+    /// Returns how many bytes a session has received (OCI Distribution Specification 1.1, "Pushing a blob in chunks",
+    /// the GET of a session's location).
     ///
-    /// Refused, in this order: a tenant that is not there (`NameUnknown`); a session that is not there
-    /// or another repository's (`UploadUnknown`).
+    /// # Errors
+    /// - `NameUnknown` if the tenant does not exist.
+    /// - `UploadUnknown` if the session does not exist or belongs to another repository.
+    ///
+    /// # Memory
+    /// None is allocated.
     pub fn status(&self, repo: &RepoName, number: u32) -> Result<u64, Refusal>
         ensures { result ≡ status self.now.catalog repo.now number }
     {
@@ -124,14 +134,23 @@ impl Book {
         self.uploads.received(tenant, repo, number)
     }
 
-    /// Adds a chunk to a session, and answers the received length (OCI Distribution Specification 1.1,
-    /// "Pushing a blob in chunks"). A chunk without a range goes at the end; one without bytes and
-    /// range is accepted and changes nothing.
+    /// Appends a chunk to a session and returns the received length (OCI Distribution Specification 1.1, "Pushing a
+    /// blob in chunks").
     ///
-    /// Refused, in this order: a tenant that is not there (`NameUnknown`); a session that is not there
-    /// or another repository's (`UploadUnknown`); a session that is in hand (`Busy`); a range of another
-    /// length than the bytes, or a session past the size limit (`SizeInvalid`); a range that does not
-    /// start at the received length (`RangeInvalid`); a use past the quota (`Quota`); out of memory.
+    /// A chunk without a range is appended at the end. An empty chunk without a range is accepted and changes
+    /// nothing.
+    ///
+    /// # Errors
+    /// - `NameUnknown` if the tenant does not exist.
+    /// - `UploadUnknown` if the session does not exist or belongs to another repository.
+    /// - `Busy` if the session is checked out.
+    /// - `SizeInvalid` if the range and the bytes differ in length, or the session would pass the size limit.
+    /// - `RangeInvalid` if the range does not start at the received length.
+    /// - `Quota` if the tenant's use would pass its quota.
+    /// - `Memory` if out of memory.
+    ///
+    /// # Cost
+    /// The bytes are copied and hashed once.
     pub fn append(
         &mut self,
         repo: &RepoName,
@@ -139,8 +158,8 @@ impl Book {
         range: Option<ByteRange>,
         bytes: &[u8],
     ) -> Result<u64, Refusal>
-        ensures does { Does (λ n. n) result self.old.catalog self.new.catalog (append self.old.catalog repo.now number range bytes.now) }
-        ensures slots { (self.new.table ≡ self.old.table) × (self.new.slots ≡ self.old.slots) }
+        ensures does { AppendsChunk result self.old self.new repo.now number range bytes.now }
+        ensures slots { KeepsSlots self.old self.new }
     {
         let hand = self.take(repo, number, range, bytes.len() as u64)?;
         match hand.fill(bytes) {
@@ -152,15 +171,21 @@ impl Book {
         }
     }
 
-    /// Closes a session with its last chunk, which may be empty: its bytes become the blob of this
-    /// digest, linked in the repository. Answers the blob's size (OCI Distribution Specification 1.1,
-    /// "Pushing a blob in chunks", the closing PUT). The session's bytes move into the blob, and only
-    /// the last chunk is hashed, by the algorithm that the digest names.
+    /// Closes a session with its last chunk, which may be empty, and returns the blob's size (OCI Distribution
+    /// Specification 1.1, "Pushing a blob in chunks", the closing PUT).
     ///
-    /// Refused, in this order: what `append` refuses of the last chunk; a digest that is not that of
-    /// the whole, or that is kept with other bytes (`DigestInvalid`); a store that has no slot free
-    /// for a digest that is not kept (`StoreFull`); out of memory. A refusal leaves the session
-    /// without the last chunk.
+    /// The session's bytes become the blob of this digest, linked in the repository.
+    ///
+    /// # Errors
+    /// - The errors of `append`, for the last chunk.
+    /// - `DigestInvalid` if the digest is not that of the content, or the store has other bytes with it.
+    /// - `StoreFull` if the digest is new to the store and no slot is free.
+    /// - `Memory` if out of memory.
+    ///
+    /// A failed call leaves the session as it was, without the last chunk.
+    ///
+    /// # Cost
+    /// The session's bytes move into the blob. Only the last chunk is copied and hashed, by the digest's algorithm.
     pub fn close(
         &mut self,
         pins: &Pins,
@@ -171,9 +196,9 @@ impl Book {
         bytes: &[u8],
     ) -> Result<u64, Refusal>
         requires table { self.old.table ≡ pins.now }
-        ensures does { Does (λ n. n) result self.old.catalog self.new.catalog (close self.old.catalog repo.now number digest.now range bytes.now) }
-        ensures slots { (self.new.table ≡ self.old.table) × EachSlot IsQuiet self.old.slots self.new.slots }
-        ensures housed { OnOk result (EachSlot (IsHousing digest.now) self.old.slots self.new.slots) }
+        ensures does { Closes result self.old self.new repo.now number digest.now range bytes.now }
+        ensures slots { ChangesSlots KeepsGeneration self.old self.new }
+        ensures housed { OnOk result (PlacesOnly digest.now self.old self.new) }
         ensures kept { OnErr result (self.new.slots ≡ self.old.slots) }
     {
         let hand = self.take(repo, number, range, bytes.len() as u64)?;
@@ -186,14 +211,20 @@ impl Book {
         }
     }
 
-    /// Takes the chunks of a session into a hand, and reserves so many bytes for one more. Until the hand
-    /// is put back or finished, the session is busy, and the reserve counts in its tenant's use. It takes
-    /// no memory.
+    /// Checks a session out and reserves `len` bytes for one more chunk.
     ///
-    /// Refused, in this order: a tenant that is not there (`NameUnknown`); a session that is not there
-    /// or another repository's (`UploadUnknown`); a session that is in hand (`Busy`); a range of another
-    /// length than the chunk, or a session past the size limit (`SizeInvalid`); a range that does not
-    /// start at the received length (`RangeInvalid`); a use past the quota (`Quota`).
+    /// Until the hand is put back or finished, the session is busy, and the tenant's use includes the reserved bytes.
+    ///
+    /// # Errors
+    /// - `NameUnknown` if the tenant does not exist.
+    /// - `UploadUnknown` if the session does not exist or belongs to another repository.
+    /// - `Busy` if the session is checked out.
+    /// - `SizeInvalid` if the range's length is not `len`, or the session would pass the size limit.
+    /// - `RangeInvalid` if the range does not start at the received length.
+    /// - `Quota` if the tenant's use would pass its quota.
+    ///
+    /// # Memory
+    /// None is allocated.
     pub fn take(
         &mut self,
         repo: &RepoName,
@@ -201,8 +232,8 @@ impl Book {
         range: Option<ByteRange>,
         len: u64,
     ) -> Result<Hand, Refusal>
-        ensures does { DoesExactly (λ h. h) result self.old.catalog self.new.catalog (take self.old.catalog repo.now number range len) }
-        ensures slots { (self.new.table ≡ self.old.table) × (self.new.slots ≡ self.old.slots) }
+        ensures does { ChecksOut result self.old self.new repo.now number range len }
+        ensures slots { KeepsSlots self.old self.new }
     {
         let tenant = self.links.tenant(repo)?;
         let (_, place) = self
@@ -212,14 +243,19 @@ impl Book {
         Ok(self.uploads.take(tenant, number, place, len))
     }
 
-    /// Puts a session's chunks back, with the one that was filled in, and answers the received length.
-    /// Where none was filled in, the reserve is free again. It takes no memory.
+    /// Checks a session in, with its new chunk if that was filled, and returns the received length.
     ///
-    /// Refused, as `UploadUnknown`, is a hand that this book has no session in hand for: none with its
-    /// number and its lengths. The hand is then dropped, and nothing changes.
+    /// If the chunk was not filled, the reserved bytes are released.
+    ///
+    /// # Errors
+    /// - `UploadUnknown` if no checked-out session of this book has the hand's number and lengths. The hand is
+    ///   dropped, and nothing changes.
+    ///
+    /// # Memory
+    /// None is allocated.
     pub fn put_back(&mut self, hand: Hand) -> Result<u64, Refusal>
-        ensures does { DoesExactly (λ n. n) result self.old.catalog self.new.catalog (put_back self.old.catalog hand) }
-        ensures slots { (self.new.table ≡ self.old.table) × (self.new.slots ≡ self.old.slots) }
+        ensures does { ChecksIn result self.old self.new hand }
+        ensures slots { KeepsSlots self.old self.new }
     {
         let tenant = hand.tenant();
         let reserved = hand.reserved();
@@ -229,22 +265,27 @@ impl Book {
         Ok(after)
     }
 
-    /// Closes a session in hand, whose last chunk was filled in or is empty: as `close`, of which it is
-    /// the second half. No byte is copied, and none hashed, but for a last chunk that `fill_last` hashed by
-    /// the other algorithm than the digest's.
+    /// Closes a checked-out session whose last chunk was filled or is empty, and returns the blob's size.
     ///
-    /// Refused, in this order: a hand that this book has no session in hand for, as `put_back` does
-    /// (`UploadUnknown`); a digest that is not that of the whole, or that is kept with other bytes
-    /// (`DigestInvalid`); a store that has no slot free for a digest that is not kept (`StoreFull`);
-    /// out of memory. The first changes nothing; after the others the session is as before it was
-    /// taken.
+    /// It is the second half of `close`.
+    ///
+    /// # Errors
+    /// - `UploadUnknown` if no checked-out session of this book has the hand's number and lengths. Nothing changes.
+    /// - `DigestInvalid` if the digest is not that of the content, or the store has other bytes with it.
+    /// - `StoreFull` if the digest is new to the store and no slot is free.
+    /// - `Memory` if out of memory.
+    ///
+    /// After the last three, the session is checked in as it was before `take`.
+    ///
+    /// # Cost
+    /// No byte is copied. None is hashed, except a last chunk that `fill_last` hashed by the other algorithm.
     pub fn finish(&mut self, pins: &Pins, hand: Hand, digest: &Digest) -> Result<u64, Refusal>
         requires table { self.old.table ≡ pins.now }
-        requires full { IsFull hand }
-        ensures does { Does (λ n. n) result (after_cancel self.old.catalog hand) self.new.catalog (finish self.old.catalog hand digest.now) }
-        ensures taken { IfErr result (λ e. e ≢ UploadUnknown → IsOk (taken_session (get self.old.catalog.sessions hand.key) hand)) }
-        ensures slots { (self.new.table ≡ self.old.table) × EachSlot IsQuiet self.old.slots self.new.slots }
-        ensures housed { OnOk result (EachSlot (IsHousing digest.now) self.old.slots self.new.slots) }
+        requires full { HasNoOpenReserve hand }
+        ensures does { Finishes result self.old self.new hand digest.now }
+        ensures taken { IfErr result (λ e. e ≢ UploadUnknown → HasCheckedOut self.old hand) }
+        ensures slots { ChangesSlots KeepsGeneration self.old self.new }
+        ensures housed { OnOk result (PlacesOnly digest.now self.old self.new) }
         ensures kept { OnErr result (self.new.slots ≡ self.old.slots) }
     {
         let tenant = hand.tenant();
@@ -275,14 +316,20 @@ impl Book {
         }
     }
 
-    /// Gives a session up with its bytes, and answers how many it had received. Its number is not
-    /// given again. It takes no memory.
+    /// Removes a session with its bytes and returns how many it had received.
     ///
-    /// Refused, in this order: a tenant that is not there (`NameUnknown`); a session that is not there
-    /// or another repository's (`UploadUnknown`); a session that is in hand (`Busy`).
+    /// Its number is not used again.
+    ///
+    /// # Errors
+    /// - `NameUnknown` if the tenant does not exist.
+    /// - `UploadUnknown` if the session does not exist or belongs to another repository.
+    /// - `Busy` if the session is checked out.
+    ///
+    /// # Memory
+    /// None is allocated.
     pub fn abandon(&mut self, repo: &RepoName, number: u32) -> Result<u64, Refusal>
-        ensures does { DoesExactly (λ n. n) result self.old.catalog self.new.catalog (abandon self.old.catalog repo.now number) }
-        ensures slots { (self.new.table ≡ self.old.table) × (self.new.slots ≡ self.old.slots) }
+        ensures does { Abandons result self.old self.new repo.now number }
+        ensures slots { KeepsSlots self.old self.new }
     {
         let tenant = self.links.tenant(repo)?;
         let (received, place) = self.uploads.received_home(tenant, repo, number)?;
@@ -291,24 +338,30 @@ impl Book {
         Ok(received)
     }
 
-    /// Links a blob that the tenant holds in the source or, without one, in any of its repositories, without
-    /// an upload (OCI Distribution Specification 1.1, "Mounting a blob from another repository"). The
-    /// repository appears with it. Where it isn't held there, though elsewhere perhaps, or the source is
-    /// another tenant's, this opens a session, as `start` does. No bytes are copied. Beside finding the
-    /// repositories, it takes the logarithm of the number of digests that the tenant holds and, where it
-    /// links the blob, of that of kept blobs; a repository that appears moves its tenant's behind it.
+    /// Links a blob that the tenant already has, without an upload (OCI Distribution Specification 1.1, "Mounting a
+    /// blob from another repository").
     ///
-    /// Refused, in this order: a tenant that is not there (`NameUnknown`); a tenant that has 1,024
-    /// repositories where this one is new, and, where a session is opened, 64 sessions or no session
-    /// number left (`LimitReached`); out of memory.
+    /// The blob must be in the source repository or, without a source, in any repository of the tenant. If it is not
+    /// there, or the source belongs to another tenant, the call opens a session instead, as `start` does. If the
+    /// repository is new, the call creates it.
+    ///
+    /// # Errors
+    /// - `NameUnknown` if the tenant does not exist.
+    /// - `LimitReached` if the repository is new and the tenant has 1,024.
+    /// - `LimitReached` if a session is to be opened and the tenant has 64, or no session number is left.
+    /// - `Memory` if out of memory.
+    ///
+    /// # Cost
+    /// Logarithmic in the number of digests that the tenant has and of stored blobs. A new repository moves the
+    /// tenant's repositories after it. No bytes are copied.
     pub fn mount(
         &mut self,
         repo: &RepoName,
         digest: &Digest,
         from: Option<&RepoName>,
     ) -> Result<Mount, Refusal>
-        ensures does { Does (λ m. m) result self.old.catalog self.new.catalog (mount self.old.catalog repo.now digest.now (option_copied from.entry)) }
-        ensures slots { (self.new.table ≡ self.old.table) × (self.new.slots ≡ self.old.slots) }
+        ensures does { Mounts result self.old self.new repo.now digest.now from.entry }
+        ensures slots { KeepsSlots self.old self.new }
     {
         let tenant = self.links.tenant(repo)?;
         let Some(slot) = find_source(&self.links, self.slots.table(), tenant, from, digest) else {
@@ -327,20 +380,28 @@ impl Book {
         }
     }
 
-    /// Takes the link to a blob out of a repository (OCI Distribution Specification 1.1, "Deleting
-    /// Blobs"). The blob stays in its slot, and other repositories keep their links. It takes no
-    /// memory, and beside finding the repository the logarithm of the number of digests that the tenant
-    /// holds, of kept blobs and of the references of the repository's manifests.
+    /// Removes the link between a repository and a blob (OCI Distribution Specification 1.1, "Deleting Blobs").
     ///
-    /// Refused, in this order: a tenant that is not there (`NameUnknown`); a digest that is not linked
-    /// in the repository (`BlobUnknown`); one that a manifest of the repository refers to
-    /// (`Referenced`, with the least digest of such a manifest).
+    /// The blob stays in its slot, and other repositories keep their links.
+    ///
+    /// # Errors
+    /// - `NameUnknown` if the tenant does not exist.
+    /// - `BlobUnknown` if the digest is not linked in the repository.
+    /// - `Referenced` if a manifest of the repository refers to the digest. It names the least digest of such a
+    ///   manifest.
+    ///
+    /// # Cost
+    /// Logarithmic in the number of digests that the tenant has, of stored blobs and of references of the
+    /// repository's manifests.
+    ///
+    /// # Memory
+    /// None is allocated.
     pub fn delete(&mut self, repo: &RepoName, digest: &Digest) -> Result<(), Refusal>
-        ensures does { DoesExactly (λ u. u) result self.old.catalog self.new.catalog (delete self.old.catalog repo.now digest.now) }
-        ensures slots { (self.new.table ≡ self.old.table) × (self.new.slots ≡ self.old.slots) }
+        ensures does { Deletes result self.old self.new repo.now digest.now }
+        ensures slots { KeepsSlots self.old self.new }
     {
         let tenant = self.links.tenant(repo)?;
-        // What a manifest refers to is linked, so that this can be asked first, and the link found once.
+        // Manifests refer only to linked blobs. So this check can come first, and the link is found only once.
         if let Some(manifest) = self.links.referrer(repo, digest) {
             return Err(Refusal::Referenced { manifest });
         }
@@ -354,12 +415,15 @@ impl Book {
         Ok(())
     }
 
-    /// Lends a blob that a repository holds: a pin on its slot, and a share of its bytes. The blob is
-    /// marked as lent. While the pin is out, no sweep frees the slot.
+    /// Leases a blob of a repository: returns a pin on its slot and a share of its bytes.
     ///
-    /// Refused, in this order: a tenant that is not there (`NameUnknown`); a digest that is not linked
-    /// in the repository (`BlobUnknown`); a slot on which this call's look finds no room for one reader
-    /// more (`TooManyReaders`); out of memory, which comes before any look.
+    /// The blob is marked as leased. While the pin exists, no sweep frees the slot.
+    ///
+    /// # Errors
+    /// - `NameUnknown` if the tenant does not exist.
+    /// - `BlobUnknown` if the digest is not linked in the repository.
+    /// - `Memory` if out of memory.
+    /// - `TooManyReaders` if this call's look at the slot's word finds no room for one more reader.
     pub fn lease(
         &mut self,
         pins: &Pins,
@@ -367,13 +431,13 @@ impl Book {
         digest: &Digest,
     ) -> Result<(Pin, Arc<Blob, Global>), Refusal>
         requires table { self.old.table ≡ pins.now }
-        ensures does { Leases (λ r. blob_bytes (arc_value r.1)) result self.old.catalog self.new.catalog self.new.slots repo.now digest.now }
-        ensures readers { IfErr result (λ e. e ≡ Refusal.TooManyReaders → FindsNoRoom digest.now self.old.slots self.new.slots) }
-        ensures others { IfErr result (λ e. e ≢ Refusal.TooManyReaders → self.new.slots ≡ self.old.slots) }
+        ensures does { LeasesBlob result self.old self.new repo.now digest.now }
+        ensures readers { FailsOnlyIfFull result self.old self.new digest.now }
+        ensures others { IfErr result (λ e. e ≢ TooManyReaders → self.new.slots ≡ self.old.slots) }
         ensures blob { IfOk result (λ r. blob_digest (arc_value r.1) ≡ digest.now) }
-        ensures pin { IfOk result (λ r. (r.0.table ≡ pins.now) × (r.0.hold.digest ≡ digest.now) × (r.0.hold.weight ≡ 1024)) }
-        ensures slots { (self.new.table ≡ self.old.table) × EachSlot (IsLending digest.now) self.old.slots self.new.slots }
-        ensures refused { OnErr result (EachSlot IsStill self.old.slots self.new.slots) }
+        ensures pin { IfOk result (λ r. IsNewPin r.0 pins.now digest.now) }
+        ensures slots { ChangesSlots (IsLending digest.now) self.old self.new }
+        ensures refused { OnErr result (EachSlot IsUnchanged self.old.slots self.new.slots) }
     {
         let tenant = self.links.tenant(repo)?;
         let slots = self.slots.table();
@@ -385,59 +449,74 @@ impl Book {
         Ok((pin, blob))
     }
 
-    /// Condemns each live blob that no repository links, and reclaims the slot of each condemned one:
-    /// it is free in its next generation, or retired in the last one, or held by leases. A blob that
-    /// was never lent goes at once. It goes once over the blobs without links, for the others 64 slots cost one test;
-    /// and it takes no memory.
+    /// Condemns each live blob without links, and reclaims the slot of each condemned one that no pin holds.
+    ///
+    /// A reclaimed slot is free in its next generation, or retired after the last one. A blob that was never leased
+    /// is removed at once.
+    ///
+    /// # Cost
+    /// One step for each blob without links, and one test for every 64 slots.
+    ///
+    /// # Memory
+    /// None is allocated.
     pub fn sweep(&mut self, pins: &Pins) -> Swept
         requires { self.old.table ≡ pins.now }
         ensures sweeps { IsSweep self.old.catalog result self.new.catalog }
-        ensures slots { (self.new.table ≡ self.old.table) × EachSlot IsSweptSlot self.old.slots self.new.slots }
-        ensures retired { 0 < result.retired → HasLast self.old.slots }
+        ensures slots { ChangesSlots SweepsSlot self.old self.new }
+        ensures retired { 0 < result.retired → HasLastGeneration self.old.slots }
     {
         sweep_slots(&mut self.slots, pins)
     }
 
-    /// The pin with all that it had. Its slot is used and has the pin's generation and digest, and the
-    /// blob that the book keeps there has that digest. It takes no memory.
+    /// Confirms that a pin's slot is in use, in the pin's generation and with its digest, and returns the pin.
+    ///
+    /// # Memory
+    /// None is allocated.
     pub fn verify(&mut self, pins: &Pins, pin: Pin) -> Pin
         requires table { self.old.table ≡ pins.now }
         requires pin { pin.table ≡ pins.now }
         ensures same { result ≡ pin }
         ensures kept { HasPin pin.hold self.old }
         ensures catalog { self.new.catalog ≡ self.old.catalog }
-        ensures slots { (self.new.table ≡ self.old.table) × EachSlot IsStill self.old.slots self.new.slots }
+        ensures slots { ChangesSlots IsUnchanged self.old self.new }
     {
         self.slots.verify(pins, pin)
     }
 
-    /// The word of a slot: its generation, what it is, and the sum of the weights of the pins on it. It
-    /// takes no memory.
+    /// Returns the word of a slot: its generation, its phase, and the sum of the weights of its pins.
+    ///
+    /// # Memory
+    /// None is allocated.
     pub fn word(&mut self, pins: &Pins, slot: u32) -> u64
         requires table { self.old.table ≡ pins.now }
         requires within { slot < length self.old.slots }
         ensures word { ReadsWord slot result self.old.slots self.new.slots }
         ensures catalog { self.new.catalog ≡ self.old.catalog }
-        ensures slots { (self.new.table ≡ self.old.table) × EachSlot IsStill self.old.slots self.new.slots }
+        ensures slots { ChangesSlots IsUnchanged self.old self.new }
     {
         self.slots.word(pins, slot)
     }
 
-    /// Changes nothing, and tells that what the book keeps is a sound catalog.
-    pub fn audit(&self)
+    /// Reveals that the catalog of the book is sound, and changes nothing.
+    pub fn reveal_invariant(&self)
         ensures { Sound self.now.catalog }
     {
         let _ = &self.links;
     }
 
-    /// Writes the text of the book, without taking memory: `book`; each tenant in the order of the
-    /// names with its use, its quota and its next session number; after it each of its repositories
-    /// with its blobs, its manifests and its sessions, each in their orders; and `end`.
+    /// Writes the text of the book: `book`, the tenants with their repositories, and `end`.
     ///
-    /// Refused is what the writer refuses. What is printed is a sound catalog.
+    /// Tenants and repositories are in the order of their names. A tenant's line has its use, its quota and its next
+    /// session number. A repository is followed by its blobs, its manifests and its sessions, each in their order.
+    ///
+    /// # Errors
+    /// The errors of the writer.
+    ///
+    /// # Memory
+    /// None is allocated.
     pub fn print<W: Write>(&self, writer: &mut W) -> io::Result<()>
         ensures sound { Sound self.now.catalog }
-        ensures text { OnOk result (Appends (W.contents writer.old) (W.contents writer.new) (book_text self.now.catalog)) }
+        ensures text { PrintsCatalog W.contents writer.old writer.new result self.now.catalog }
     {
         print_book(writer, &self.links, &self.uploads, self.slots.table())
     }

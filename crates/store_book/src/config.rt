@@ -3,22 +3,22 @@ ghost use Rattle.link_table.specs.Tenancy.{tenants_shown};
 
 use std::alloc::{AllocError, Global};
 
-/// What a store is made with. Nothing of it changes later.
+/// The parameters of a new store. They never change later.
 #[derive(Debug, Drop)]
 pub struct Config {
-    /// How many blobs the store can keep: 1 to 65,536.
+    /// The number of blobs that the store can keep: 1 to 65,536.
     pub slots: u32,
-    /// The most bytes of a blob: 0 to 2^40.
+    /// The largest size of a blob in bytes: at most 2^40.
     pub max_blob: u64,
-    /// Each tenant's name, one component of a repository's name, and its quota in bytes, 0 to 2^50:
-    /// 1 to 256 tenants in any order, no name twice.
+    /// Each tenant's name, one component of a repository's name, with its quota in bytes, at most 2^50: 1 to 256
+    /// tenants in any order, no name twice.
     pub tenants: Vec<(String, u64)>,
-    /// The generation that each slot has at first.
+    /// The first generation of every slot.
     pub first_generation: u32,
 }
 
-/// The same tenants with the same quotas.
-pub(crate) fn copied(
+/// Copies the tenants with their quotas. Fails only if out of memory.
+pub(crate) fn copy_tenants(
     alloc: Global,
     tenants: &[(String, u64)],
 ) -> Result<Vec<(String, u64)>, AllocError>

@@ -1,12 +1,12 @@
-//! Linking blobs: the links and the slots together.
+//! Links blobs: changes the links and the slots together.
 
-ghost use Rattle.std.specs.Prelude.{◌≡◌, ◌≢◌, ◌<◌, length, true, false, Some, None, IfErr, OnOk, OnErr, bytes_eq};
-ghost use Rattle.std.specs.Option.{option_map_or};
-ghost use Rattle.link_table.specs.Linked.{is_tenants};
-ghost use Rattle.slot_table.specs.Slots.{held_at, phase_at, slot_of};
+ghost use Rattle.std.specs.Prelude.{◌≡◌, ◌≢◌, ◌<◌, length, true, Some, None, IfErr, OnOk, OnErr};
+ghost use Rattle.blob_digest.specs.declared.refusal.Refusal.TheVariants.{Memory};
+ghost use Rattle.link_table.specs.Linked.{is_repo_of_tenant};
+ghost use Rattle.slot_table.specs.Slots.{phase_at, slot_of};
 ghost use Rattle.slot_table.specs.declared.phase.Phase.TheVariants as phase;
-ghost use Rattle.store_book.specs.Pinned.{shown, Quietly};
-ghost use Rattle.store_book.specs.Internal.Keeping.{bytes_at, linked_slot, CanKeep, IsKept, IsUnkept};
+ghost use Rattle.store_book.specs.Pinned.{KeepsView, KeepsGenerations};
+ghost use Rattle.store_book.specs.Internal.Storing.{bytes_at, holds_bytes_at, linked_slot, CanStore, CanLinkSlot, CannotStore, LinksSlot, StoresBlob};
 
 use crate::pinned_slots::PinnedSlots;
 use blob_digest::{Blob, Digest, Refusal, RepoName};
@@ -14,10 +14,10 @@ use link_table::Links;
 use pin_table::Pins;
 use slot_table::SlotTable;
 
-/// Whether a slot holds these bytes.
+/// Returns whether a slot holds these bytes.
 fn holds(slots: &SlotTable, slot: u32, bytes: &[u8]) -> bool
     requires { slot < length slots.now }
-    ensures { result ≡ option_map_or (λ h. bytes_eq h.bytes bytes.now) (held_at slots.now slot) false }
+    ensures { result ≡ holds_bytes_at slots.now slot bytes.now }
 {
     match slots.blob(slot) {
         Some(blob) => blob.bytes() == bytes,
@@ -25,7 +25,7 @@ fn holds(slots: &SlotTable, slot: u32, bytes: &[u8]) -> bool
     }
 }
 
-/// How many bytes a slot holds.
+/// Returns how many bytes a slot holds.
 pub(crate) fn held_len(slots: &SlotTable, slot: u32) -> u64
     requires { slot < length slots.now }
     ensures { result ≡ length (bytes_at slots.now slot) }
@@ -36,7 +36,7 @@ pub(crate) fn held_len(slots: &SlotTable, slot: u32) -> u64
     }
 }
 
-/// The slot of a blob that a repository of a tenant holds.
+/// Finds the slot of a blob that is linked in a tenant's repository.
 pub(crate) fn find_linked(
     links: &Links,
     slots: &SlotTable,
@@ -45,7 +45,7 @@ pub(crate) fn find_linked(
     digest: &Digest,
 ) -> Option<u32>
     requires there { tenant < length links.now.tenants }
-    requires own { is_tenants links.now.tenants tenant repo.now ≡ true }
+    requires own { is_repo_of_tenant links.now.tenants tenant repo.now ≡ true }
     ensures { result ≡ linked_slot links.now slots.now repo.now digest.now }
 {
     if links.holds(tenant, repo, digest) {
@@ -55,8 +55,9 @@ pub(crate) fn find_linked(
     }
 }
 
-/// Links the live blob that a slot holds in a repository, and counts the link where it is new. Refused
-/// is out of memory, which changes nothing.
+/// Links the live blob of a slot in a repository, and counts the link if it is new.
+///
+/// Fails only if out of memory, and then changes nothing.
 pub(crate) fn link_slot(
     links: &mut Links,
     slots: &mut PinnedSlots,
@@ -67,11 +68,11 @@ pub(crate) fn link_slot(
 ) -> Result<(), Refusal>
     requires there { slot_of slots.old.slots digest.now ≡ Some slot }
     requires live { phase_at slots.old.slots slot ≡ phase.Live }
-    requires can { CanKeep links.old slots.old.slots tenant repo.now (digest.now, bytes_at slots.old.slots slot) }
-    ensures ok { OnOk result (IsKept links.old slots.old.slots repo.now (digest.now, bytes_at slots.old.slots slot) links.new slots.new.slots) }
-    ensures memory { IfErr result (λ e. e ≡ Refusal.Memory) }
+    requires can { CanLinkSlot links.old slots.old tenant repo.now digest.now slot }
+    ensures ok { LinksSlot result links.old slots.old repo.now digest.now slot links.new slots.new }
+    ensures memory { IfErr result (λ e. e ≡ Memory) }
     ensures err { OnErr result ((links.new ≡ links.old) × (slots.new ≡ slots.old)) }
-    ensures seen { (slots.new.table ≡ slots.old.table) × (shown slots.new ≡ shown slots.old) }
+    ensures seen { KeepsView slots.old slots.new }
 {
     let size = held_len(slots.table(), slot);
     let is_new = links.link(tenant, repo, digest, size)?;
@@ -81,9 +82,14 @@ pub(crate) fn link_slot(
     Ok(())
 }
 
-/// Links a blob whose digest has a slot, which is live from now on. Refused are other bytes there
-/// (`DigestInvalid`) and out of memory; a refusal hands the blob back.
-fn keep_again(
+/// Links a blob whose digest has a slot, and makes the slot live.
+///
+/// Any error returns the blob and changes nothing.
+///
+/// # Errors
+/// - `DigestInvalid` if the slot holds other bytes.
+/// - `Memory` if out of memory.
+fn store_existing(
     links: &mut Links,
     slots: &mut PinnedSlots,
     pins: &Pins,
@@ -93,13 +99,13 @@ fn keep_again(
     blob: Blob,
 ) -> Result<(), (Refusal, Blob)>
     requires table { slots.old.table ≡ pins.now }
-    requires can { CanKeep links.old slots.old.slots tenant repo.now blob }
+    requires can { CanStore links.old slots.old.slots tenant repo.now blob }
     requires there { slot_of slots.old.slots blob.0 ≡ Some slot }
-    ensures ok { OnOk result (IsKept links.old slots.old.slots repo.now blob links.new slots.new.slots) }
+    ensures ok { OnOk result (StoresBlob links.old slots.old repo.now blob links.new slots.new) }
     ensures back { IfErr result (λ e. e.1 ≡ blob) }
-    ensures refused { IfErr result (λ e. e.0 ≢ Refusal.Memory → IsUnkept slots.old.slots blob e.0) }
+    ensures refused { IfErr result (λ e. e.0 ≢ Memory → CannotStore slots.old.slots blob e.0) }
     ensures err { OnErr result ((links.new ≡ links.old) × (slots.new ≡ slots.old)) }
-    ensures quiet { Quietly slots.old slots.new }
+    ensures quiet { KeepsGenerations slots.old slots.new }
 {
     if !holds(slots.table(), slot, blob.bytes()) {
         return Err((Refusal::DigestInvalid, blob));
@@ -117,9 +123,14 @@ fn keep_again(
     }
 }
 
-/// Links a blob whose digest has no slot, and puts it into one. Refused are a store without a free
-/// slot (`StoreFull`) and out of memory; a refusal hands the blob back.
-fn keep_anew(
+/// Links a blob whose digest has no slot, and puts it into a free one.
+///
+/// Any error returns the blob and changes nothing.
+///
+/// # Errors
+/// - `StoreFull` if no slot is free.
+/// - `Memory` if out of memory.
+fn store_new(
     links: &mut Links,
     slots: &mut PinnedSlots,
     pins: &Pins,
@@ -128,13 +139,13 @@ fn keep_anew(
     blob: Blob,
 ) -> Result<(), (Refusal, Blob)>
     requires table { slots.old.table ≡ pins.now }
-    requires can { CanKeep links.old slots.old.slots tenant repo.now blob }
+    requires can { CanStore links.old slots.old.slots tenant repo.now blob }
     requires absent { slot_of slots.old.slots blob.0 ≡ None }
-    ensures ok { OnOk result (IsKept links.old slots.old.slots repo.now blob links.new slots.new.slots) }
+    ensures ok { OnOk result (StoresBlob links.old slots.old repo.now blob links.new slots.new) }
     ensures back { IfErr result (λ e. e.1 ≡ blob) }
-    ensures refused { IfErr result (λ e. e.0 ≢ Refusal.Memory → IsUnkept slots.old.slots blob e.0) }
+    ensures refused { IfErr result (λ e. e.0 ≢ Memory → CannotStore slots.old.slots blob e.0) }
     ensures err { OnErr result ((links.new ≡ links.old) × (slots.new ≡ slots.old)) }
-    ensures quiet { Quietly slots.old slots.new }
+    ensures quiet { KeepsGenerations slots.old slots.new }
 {
     if slots.table().free_count() == 0 {
         return Err((Refusal::StoreFull, blob));
@@ -156,9 +167,14 @@ fn keep_anew(
     }
 }
 
-/// Links a sealed blob in a repository, and keeps it where it is new. Refused are a kept blob of the
-/// same digest with other bytes (`DigestInvalid`), a store without a free slot (`StoreFull`) and out
-/// of memory; a refusal hands the blob back and changes nothing.
+/// Links a sealed blob in a repository, and stores it if its digest has no slot.
+///
+/// Any error returns the blob and changes nothing.
+///
+/// # Errors
+/// - `DigestInvalid` if the store has other bytes with this digest.
+/// - `StoreFull` if the digest has no slot and none is free.
+/// - `Memory` if out of memory.
 pub(crate) fn keep(
     links: &mut Links,
     slots: &mut PinnedSlots,
@@ -168,15 +184,15 @@ pub(crate) fn keep(
     blob: Blob,
 ) -> Result<(), (Refusal, Blob)>
     requires table { slots.old.table ≡ pins.now }
-    requires can { CanKeep links.old slots.old.slots tenant repo.now blob }
-    ensures ok { OnOk result (IsKept links.old slots.old.slots repo.now blob links.new slots.new.slots) }
+    requires can { CanStore links.old slots.old.slots tenant repo.now blob }
+    ensures ok { OnOk result (StoresBlob links.old slots.old repo.now blob links.new slots.new) }
     ensures back { IfErr result (λ e. e.1 ≡ blob) }
-    ensures refused { IfErr result (λ e. e.0 ≢ Refusal.Memory → IsUnkept slots.old.slots blob e.0) }
+    ensures refused { IfErr result (λ e. e.0 ≢ Memory → CannotStore slots.old.slots blob e.0) }
     ensures err { OnErr result ((links.new ≡ links.old) × (slots.new ≡ slots.old)) }
-    ensures quiet { Quietly slots.old slots.new }
+    ensures quiet { KeepsGenerations slots.old slots.new }
 {
     match slots.table().find(&blob.digest()) {
-        Some(slot) => keep_again(links, slots, pins, tenant, repo, slot, blob),
-        None => keep_anew(links, slots, pins, tenant, repo, blob),
+        Some(slot) => store_existing(links, slots, pins, tenant, repo, slot, blob),
+        None => store_new(links, slots, pins, tenant, repo, blob),
     }
 }

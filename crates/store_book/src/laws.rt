@@ -1,23 +1,23 @@
-//! Laws of the definitions, and of what a book keeps of them. Each is the contract of a function that
-//! does nothing.
+//! Laws of the definitions, and of books. Each is the contract of a function with an empty body.
 
 ghost use Rattle.std.specs.Prelude.{ℕ};
-ghost use Rattle.finite_maps.specs.Texts.{Text};
+ghost use Rattle.spec_lib.specs.Texts.{Text};
 ghost use Rattle.store_model.specs.Runs.{Bytes, Done, Mounting, Number};
 ghost use Rattle.store_model.specs.declared.mount.Mount.{Mount};
 ghost use Rattle.store_book.specs.Events.{ChangesAreEvents, ExactChangesAreEvents, ExactReadsAreEvents, LeasesAreEvents, ReadsAreEvents};
-ghost use Rattle.store_book.specs.Layers.{UsesAreKept};
+ghost use Rattle.store_book.specs.Layers.{UsesMatchCatalog};
 
 pub use store_model::laws::{counts_and_uses, isolation, soundness};
 
-/// In every book, a tenant's use, which is kept as a running number, is that of its catalog.
-pub fn uses_are_kept()
-    ensures { UsesAreKept }
+/// States that the running number which a book keeps of a tenant's use equals the use that its catalog defines.
+pub fn uses_match_catalog()
+    ensures { UsesMatchCatalog }
 {}
 
-/// Each call of a book is an event of a run: where the clause of the call holds, the command with the
-/// call's reply leads from the catalog before it to the one after it. There is a clause here for each
-/// form that the clauses of the calls have, and for each answer of that form.
+/// States that each call of a book is an event of a run.
+///
+/// If the clause of the call holds, the command with the call's reply leads from the catalog before it to the one
+/// after it. There is one clause for each form of the calls' clauses and each type of reply.
 pub fn calls_are_events()
     ensures numbers { ChangesAreEvents ℕ Number }
     ensures mounts { ChangesAreEvents Mount Mounting }

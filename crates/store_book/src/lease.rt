@@ -1,11 +1,10 @@
-//! A reader's hold on a blob.
+//! Leases: a reader's hold on a blob.
 
-ghost use Rattle.std.specs.Prelude.{◌≡◌, ◌≢◌, ◌⊎◌, ◌-◌, ◌++◌, IfOk, IfErr, OnOk, true, length, take, drop, min, []};
+ghost use Rattle.std.specs.Prelude.{◌≡◌, ◌≢◌, ◌-◌, ◌++◌, IfOk, IfErr, OnOk, true, length, take, drop, min};
 ghost use Rattle.std.specs.Arc.{arc_value};
 ghost use Rattle.atomic_table.specs.Seated.{TableId};
 ghost use Rattle.blob_digest.specs.Digests.{is_digest_of};
-ghost use Rattle.blob_digest.specs.declared.refusal.Refusal.TheVariants.{Memory, WeightSpent};
-ghost use Rattle.store_book.specs.Leased.{halved};
+ghost use Rattle.store_book.specs.Leased.{no_table, AreHalves, IsBlobOf, RefusesShare};
 ghost use Rattle.store_book.specs.Pinned.{blob_bytes, blob_digest};
 
 use blob_digest::{Blob, Digest, Refusal};
@@ -14,18 +13,21 @@ use std::alloc::Global;
 use std::marker::{Brand, Model, PhantomData};
 use std::sync::Arc;
 
-/// Which table of pins. It has no values, and no code: a lease that carries such a parameter has its pin in the table
-/// of that name.
+/// The name of a table of pins.
+///
+/// It has no values and no code. A lease with such a parameter has its pin in the table of that name.
 pub trait PinsName {
     ghost table: { TableId };
 }
 
 impl PinsName for Brand {
-    ghost table = { record { words = 0; slots = 0; views_name = 0; atom = 0; block = 0; offset = 0; slot_names = [] } };
+    ghost table = { no_table };
 }
 
-/// A reader's hold on a blob: its bytes, and a pin on its slot, which no sweep frees while the lease is out. It can't
-/// be dropped: `share`, `give_back` and `into_parts` take it. None of its functions takes a lock or waits.
+/// A reader's hold on a blob: its bytes, and a pin on its slot.
+///
+/// While the lease exists, no sweep frees the slot. A lease cannot be dropped: `share`, `give_back` or `into_parts`
+/// consumes it. None of its functions takes a lock or waits.
 pub struct Lease<'p, N: PinsName> {
     pins: &'p Pins,
     blob: Arc<Blob, Global>,
@@ -36,18 +38,19 @@ pub struct Lease<'p, N: PinsName> {
 impl<'p, N: PinsName> Model for Lease<'p, N> {
     ghost use Rattle.std.specs.Prelude.{◌≡◌};
     ghost use Rattle.std.specs.Arc.{arc_value};
-    ghost use Rattle.store_book.specs.Leased.{Leased};
+    ghost use Rattle.store_book.specs.Leased.{LeaseValue};
     ghost use Rattle.store_book.specs.Pinned.{blob_bytes, blob_digest};
 
-    ghost Value = { Leased };
+    ghost Value = { LeaseValue };
 
     ghost view = { λ l. record { bytes = blob_bytes (arc_value l.blob); hold = l.pin.hold } };
 
-    ghost invariant = { λ l. (l.pin.table ≡ N.table) × (l.pins.now ≡ N.table) × (blob_digest (arc_value l.blob) ≡ l.pin.hold.digest) };
+    ghost invariant = { λ l. (l.pin.table ≡ N.table) × (l.pins.now ≡ N.table)
+        × (blob_digest (arc_value l.blob) ≡ l.pin.hold.digest) };
 }
 
 impl<'p, N: PinsName> Lease<'p, N> {
-    /// The lease of a blob by a pin on its slot.
+    /// Makes a lease of a blob from a pin on its slot.
     pub fn new(pins: &'p Pins, pin: Pin, blob: Arc<Blob, Global>) -> Lease<'p, N>
         requires table { (pin.table ≡ N.table) × (pins.now ≡ N.table) }
         requires content { blob_digest (arc_value blob) ≡ pin.hold.digest }
@@ -61,10 +64,10 @@ impl<'p, N: PinsName> Lease<'p, N> {
         }
     }
 
-    /// The pin and the blob that the lease is made of.
+    /// Takes the lease apart into its pin and its blob.
     pub fn into_parts(self) -> (Pin, Arc<Blob, Global>)
         ensures pin { (result.0.table ≡ N.table) × (result.0.hold ≡ self.entry.hold) }
-        ensures blob { (blob_bytes (arc_value result.1) ≡ self.entry.bytes) × (blob_digest (arc_value result.1) ≡ self.entry.hold.digest) }
+        ensures blob { IsBlobOf self.entry (arc_value result.1) }
     {
         let Lease {
             pins: _,
@@ -75,28 +78,28 @@ impl<'p, N: PinsName> Lease<'p, N> {
         (pin, blob)
     }
 
-    /// The blob.
+    /// Returns the blob.
     pub fn blob(&self) -> &Arc<Blob, Global>
         ensures { blob_bytes (arc_value result.now) ≡ self.now.bytes }
     {
         &self.blob
     }
 
-    /// The blob's bytes, as the store has them: none is copied.
+    /// Returns the blob's bytes in place. None is copied.
     pub fn bytes(&self) -> &[u8]
         ensures { result.now ≡ self.now.bytes }
     {
         self.blob.bytes()
     }
 
-    /// The blob's size in bytes.
+    /// Returns the blob's size in bytes.
     pub fn len(&self) -> u64
         ensures { result ≡ length self.now.bytes }
     {
         self.blob.bytes().len() as u64
     }
 
-    /// The blob's digest.
+    /// Returns the blob's digest.
     pub fn digest(&self) -> Digest
         ensures value { result ≡ self.now.hold.digest }
         ensures agrees { is_digest_of self.now.hold.digest self.now.bytes ≡ true }
@@ -104,30 +107,37 @@ impl<'p, N: PinsName> Lease<'p, N> {
         self.blob.digest()
     }
 
-    /// The slot that the lease keeps.
+    /// Returns the slot that the lease pins.
     pub fn slot(&self) -> u32
         ensures { result ≡ self.now.hold.slot }
     {
         self.pin.slot()
     }
 
-    /// The generation of that slot.
+    /// Returns the generation of that slot.
     pub fn generation(&self) -> u32
         ensures { result ≡ self.now.hold.generation }
     {
         self.pin.generation()
     }
 
-    /// The weight of the lease in its slot's word: a power of two, 1024 at first.
+    /// Returns the weight of the lease in its slot's word: a power of two, 1,024 at first.
     pub fn weight(&self) -> u32
         ensures { result ≡ self.now.hold.weight }
     {
         self.pin.weight()
     }
 
-    /// Copies the blob's bytes from `offset` on, as many as there are and fit, and answers how many. It is 0
-    /// at the blob's end or past it. The rest of the slice stays. It takes no memory, and what it costs is
-    /// the copy.
+    /// Copies the blob's bytes from `offset` on into `out`, and returns how many: at most the bytes that are there
+    /// and that fit.
+    ///
+    /// The result is 0 at the blob's end and after it. The rest of `out` is unchanged.
+    ///
+    /// # Cost
+    /// The copy.
+    ///
+    /// # Memory
+    /// None is allocated.
     pub fn read_at(&self, offset: u64, out: &mut [u8]) -> usize
         ensures count { result ≡ min (length out.old) (length self.now.bytes - offset) }
         ensures bytes { out.new ≡ take result (drop offset self.now.bytes) ++ drop result out.old }
@@ -142,15 +152,18 @@ impl<'p, N: PinsName> Lease<'p, N> {
         count
     }
 
-    /// Two leases of half the weight each. No byte is copied.
+    /// Splits the lease into two of half the weight. No byte is copied.
     ///
-    /// Refused: out of memory, where the bytes have no room for a reader more; a lease of weight 1 (`WeightSpent`).
-    /// The lease comes back as it was.
+    /// Any error returns the lease unchanged.
+    ///
+    /// # Errors
+    /// - `Memory` if the blob's bytes have no room for one more share.
+    /// - `WeightSpent` if the lease weighs 1.
     pub fn share(self) -> Result<(Lease<'p, N>, Lease<'p, N>), (Refusal, Lease<'p, N>)>
-        ensures shared { IfOk result (λ r. (r.0 ≡ halved self.entry) × (r.1 ≡ halved self.entry)) }
+        ensures shared { IfOk result (λ r. AreHalves r.0 r.1 self.entry) }
         ensures more { OnOk result (self.entry.hold.weight ≢ 1) }
         ensures back { IfErr result (λ r. r.1 ≡ self.entry) }
-        ensures refused { IfErr result (λ r. (r.0 ≡ Memory) ⊎ ((r.0 ≡ WeightSpent) × (self.entry.hold.weight ≡ 1))) }
+        ensures refused { IfErr result (λ r. RefusesShare r.0 self.entry) }
     {
         let Lease {
             pins,
@@ -170,7 +183,10 @@ impl<'p, N: PinsName> Lease<'p, N> {
         }
     }
 
-    /// Gives the lease back: its weight leaves its slot's word. It takes no memory.
+    /// Ends the lease and subtracts its weight from its slot's word.
+    ///
+    /// # Memory
+    /// None is allocated.
     pub fn give_back(self) {
         let Lease {
             pins,

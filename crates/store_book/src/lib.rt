@@ -1,16 +1,18 @@
-//! The book of a registry's blob store: tenants, repositories, the blobs linked in them, the manifests
-//! that refer to these, and the sessions that upload them, in one thread.
+//! The state of a registry's blob store, for one thread: tenants, repositories, links, manifests, blobs and uploads.
 //!
-//! It stands on `link_table`, `upload_table` and `slot_table`, which keep the parts, on `pin_table`,
-//! whose keeper it has, for the words of the slots, on `oci_manifest`, which reads manifests, and on
-//! `blob_digest` for names, digests and blobs. Contracts see a book as a catalog of finite sets and
-//! maps, and beside it of each slot its generation, what it is, its digest, a bound on its readers, and
-//! how often the keeper has looked at it.
-//! Each command's contract is the outcome that the definitions give it: the first refusal that
-//! applies, with nothing changed, or its answer and the catalog after it. A book is sound at all
-//! times: each blob's bytes have its digest, each linked digest is kept, what a manifest refers to is
-//! linked in its repository, no tenant passes its quota, and the counts and uses that the layers keep
-//! as running numbers are those that the definitions count.
+//! `Book` combines four layers: `link_table`, `upload_table`, `slot_table`, and the keeper of `pin_table` for the
+//! words of the slots. `oci_manifest` reads manifests, and `blob_digest` has names, digests and blobs.
+//!
+//! Contracts see a book as a catalog of finite sets and maps, with the table of its pins and a view of each slot: its
+//! generation, its phase, its digest, a bound on its readers' weights, and a count of looks at its word.
+//!
+//! Each command's contract is the outcome that `store_model` defines: the first error that applies, with nothing
+//! changed, or the reply with the new catalog. A book is well-formed at all times:
+//!
+//! - Each blob's bytes have its digest, and each linked digest has a blob.
+//! - Each reference of a manifest is linked in the manifest's repository.
+//! - No tenant's use passes its quota.
+//! - The running counts and uses of the layers are those that the definitions count.
 #![tactic(auto)]
 
 mod book;

@@ -1,11 +1,12 @@
-//! Manifests of a repository: whether it holds what they refer to, how one is added, and the book's commands on them.
+//! The manifests of a repository: the check of their references, and the book's commands on them.
 
-ghost use Rattle.std.specs.Prelude.{◌≡◌, ◌<◌, length, true, false};
-ghost use Rattle.blob_digest.specs.Outcomes.{Answers, Does, DoesExactly};
-ghost use Rattle.finite_maps.specs.Sets as set;
-ghost use Rattle.link_table.specs.Linked.{is_tenants, HasNoLinks};
-ghost use Rattle.store_book.specs.Internal.Keeping.{all_held, with_manifest_on};
-ghost use Rattle.store_model.specs.Commands.{check_tenant, put_manifest, get_manifest, delete_manifest};
+ghost use Rattle.std.specs.Prelude.{◌≡◌, ◌<◌, length, true};
+ghost use Rattle.std.specs.Arc.{arc_value};
+ghost use Rattle.blob_digest.specs.Outcomes.{Answers};
+ghost use Rattle.link_table.specs.Linked.{is_repo_of_tenant};
+ghost use Rattle.store_book.specs.BookCalls.{DeletesManifest, KeepsSlots, PutsManifest};
+ghost use Rattle.store_book.specs.Internal.Storing.{check_held, AddsManifest, IsUnlinkedIfAbsent};
+ghost use Rattle.store_model.specs.Commands.{check_tenant, get_manifest};
 
 use crate::book::Book;
 use blob_digest::{Digest, Refusal, RepoName};
@@ -14,8 +15,8 @@ use oci_manifest::{Manifest, read};
 use std::alloc::Global;
 use std::sync::Arc;
 
-/// Refuses the first of some digests that a repository of a tenant doesn't hold, if there is one
-/// (`ManifestBlobUnknown`). The repository is found once.
+/// Fails with `ManifestBlobUnknown` for the first of these digests that is not linked in a tenant's repository. The
+/// repository is found once.
 pub(crate) fn check_linked(
     links: &Links,
     tenant: u16,
@@ -23,8 +24,8 @@ pub(crate) fn check_linked(
     digests: &[Digest],
 ) -> Result<(), Refusal>
     requires there { tenant < length links.now.tenants }
-    requires own { is_tenants links.now.tenants tenant repo.now ≡ true }
-    ensures { result ≡ all_held links.now repo.now digests.now }
+    requires own { is_repo_of_tenant links.now.tenants tenant repo.now ≡ true }
+    ensures { result ≡ check_held links.now repo.now digests.now }
 {
     match links.first_unlinked(tenant, repo, digests) {
         Some(digest) => Err(Refusal::ManifestBlobUnknown { digest }),
@@ -32,10 +33,13 @@ pub(crate) fn check_linked(
     }
 }
 
-/// Keeps a manifest of a repository under the digest of its bytes. The repository appears with it.
-/// Refused are a repository that would be one too many for its tenant, and a manifest that would be one
-/// too many for its repository (`LimitReached`), and out of memory; a refusal leaves no repository
-/// behind. A repository that is not there has no links.
+/// Adds a manifest to a repository under the digest of its bytes. If the repository is new, the call creates it.
+///
+/// Any error removes a new repository again.
+///
+/// # Errors
+/// - `LimitReached` if the repository is new and the tenant has 1,024, or the repository has 1,024 manifests.
+/// - `Memory` if out of memory.
 pub(crate) fn add_manifest(
     links: &mut Links,
     tenant: u16,
@@ -43,9 +47,9 @@ pub(crate) fn add_manifest(
     manifest: Arc<Manifest, Global>,
 ) -> Result<(), Refusal>
     requires there { tenant < length links.old.tenants }
-    requires own { is_tenants links.old.tenants tenant repo.now ≡ true }
-    requires unlinked { set.contains links.old.repos repo.now ≡ false → HasNoLinks links.old.links repo.now }
-    ensures { Does (λ u. u) result links.old links.new (with_manifest_on links.old tenant repo.now manifest.value) }
+    requires own { is_repo_of_tenant links.old.tenants tenant repo.now ≡ true }
+    requires unlinked { IsUnlinkedIfAbsent links.old repo.now }
+    ensures { AddsManifest result links.old links.new tenant repo.now manifest.value }
 {
     let is_new = links.appear(tenant, repo)?;
     match links.put_manifest(repo, manifest) {
@@ -60,8 +64,16 @@ pub(crate) fn add_manifest(
 }
 
 impl Book {
-    /// Refuses a repository whose tenant is not there (`NameUnknown`), as every command does before all else.
-    /// Tenants never change. It takes the logarithm of their number, and no memory.
+    /// Checks that the tenant of a repository exists, as every command does first. Tenants never change.
+    ///
+    /// # Errors
+    /// - `NameUnknown` if the tenant does not exist.
+    ///
+    /// # Cost
+    /// Logarithmic in the number of tenants.
+    ///
+    /// # Memory
+    /// None is allocated.
     pub fn check_tenant(&self, repo: &RepoName) -> Result<(), Refusal>
         ensures { result ≡ check_tenant self.now.catalog repo.now }
     {
@@ -69,35 +81,48 @@ impl Book {
         Ok(())
     }
 
-    /// Keeps a manifest under the SHA-256 digest of its bytes, and answers that digest (OCI
-    /// Distribution Specification 1.1, "Pushing Manifests"). The repository appears with it. One that
-    /// is there stays as it is. No tenant is charged for manifests. The bytes are parsed, hashed and
-    /// copied once; the rest is `keep_manifest`.
+    /// Stores a manifest under the SHA-256 digest of its bytes, and returns that digest (OCI Distribution
+    /// Specification 1.1, "Pushing Manifests").
     ///
-    /// Refused, in this order: a tenant that is not there (`NameUnknown`); more than 4,194,304 bytes
-    /// (`SizeInvalid`); bytes that are no manifest (`ManifestInvalid`); what `keep_manifest` refuses. A
-    /// refusal leaves no repository behind.
+    /// If the repository is new, the call creates it. A manifest that the repository has is unchanged. No tenant is
+    /// charged for manifests.
+    ///
+    /// # Errors
+    /// - `NameUnknown` if the tenant does not exist.
+    /// - `SizeInvalid` if there are more than 4,194,304 bytes.
+    /// - `ManifestInvalid` if the bytes are not a manifest.
+    /// - The errors of `keep_manifest` after the first.
+    ///
+    /// A failed call creates no repository.
+    ///
+    /// # Cost
+    /// The bytes are parsed, hashed and copied once. The rest is `keep_manifest`.
     pub fn put_manifest(&mut self, repo: &RepoName, bytes: &[u8]) -> Result<Digest, Refusal>
-        ensures does { Does (λ d. d) result self.old.catalog self.new.catalog (put_manifest self.old.catalog repo.now bytes.now) }
-        ensures slots { (self.new.table ≡ self.old.table) × (self.new.slots ≡ self.old.slots) }
+        ensures does { PutsManifest result self.old self.new repo.now bytes.now }
+        ensures slots { KeepsSlots self.old self.new }
     {
         self.check_tenant(repo)?;
         let manifest = read(self.alloc, bytes)?;
         self.keep_manifest(repo, manifest)
     }
 
-    /// Keeps a manifest that was read, as `put_manifest` does with its bytes, of which it is the last part: none
-    /// is hashed or copied. The repository is found once for all references, of which each takes the logarithm of the
-    /// number of the repository's blobs, and, where the manifest is
-    /// new, that of the references of the repository's manifests.
+    /// Stores a manifest that was read already. It is the last part of `put_manifest`.
     ///
-    /// Refused, in this order: a tenant that is not there (`NameUnknown`); a reference that the repository
-    /// doesn't hold (`ManifestBlobUnknown`, with the first); where the manifest is new, a tenant that
-    /// has 1,024 repositories and not this one, or a repository that has 1,024 manifests
-    /// (`LimitReached`); out of memory. A refusal leaves no repository behind.
+    /// # Errors
+    /// - `NameUnknown` if the tenant does not exist.
+    /// - `ManifestBlobUnknown` with the first reference that is not linked in the repository.
+    /// - `LimitReached` if the manifest is new, and its repository is new and the tenant has 1,024.
+    /// - `LimitReached` if the manifest is new and the repository has 1,024.
+    /// - `Memory` if out of memory.
+    ///
+    /// A failed call creates no repository.
+    ///
+    /// # Cost
+    /// For each reference, logarithmic in the number of the repository's blobs. If the manifest is new, it is also
+    /// logarithmic in the number of references of the repository's manifests. No byte is hashed or copied.
     pub fn keep_manifest(&mut self, repo: &RepoName, manifest: Manifest) -> Result<Digest, Refusal>
-        ensures does { Does (λ d. d) result self.old.catalog self.new.catalog (put_manifest self.old.catalog repo.now manifest) }
-        ensures slots { (self.new.table ≡ self.old.table) × (self.new.slots ≡ self.old.slots) }
+        ensures does { PutsManifest result self.old self.new repo.now manifest }
+        ensures slots { KeepsSlots self.old self.new }
     {
         let tenant = self.links.tenant(repo)?;
         check_linked(&self.links, tenant, repo, manifest.refs())?;
@@ -110,18 +135,24 @@ impl Book {
         Ok(digest)
     }
 
-    /// A manifest that a repository has under a digest (OCI Distribution Specification 1.1, "Pulling
-    /// manifests"). Manifests are kept under SHA-256 digests alone. The bytes are shared, not copied; it
-    /// takes the logarithm of the number of manifests.
+    /// Returns the manifest that a repository has under a digest (OCI Distribution Specification 1.1, "Pulling
+    /// manifests").
     ///
-    /// Refused, in this order: a tenant that is not there (`NameUnknown`); a digest under which the
-    /// repository has no manifest (`ManifestUnknown`); out of memory.
+    /// Manifests are stored under SHA-256 digests only.
+    ///
+    /// # Errors
+    /// - `NameUnknown` if the tenant does not exist.
+    /// - `ManifestUnknown` if the repository has no manifest under the digest.
+    /// - `Memory` if out of memory.
+    ///
+    /// # Cost
+    /// Logarithmic in the number of manifests. The bytes are shared, not copied.
     pub fn get_manifest(
         &self,
         repo: &RepoName,
         digest: &Digest,
     ) -> Result<Arc<Manifest, Global>, Refusal>
-        ensures { Answers (λ m. m.value) result (get_manifest self.now.catalog repo.now digest.now) }
+        ensures { Answers arc_value result (get_manifest self.now.catalog repo.now digest.now) }
     {
         let _ = self.links.tenant(repo)?;
         let Some(manifest) = self.links.manifest(repo, digest) else {
@@ -130,14 +161,19 @@ impl Book {
         Ok(manifest.clone()?)
     }
 
-    /// Takes a manifest out of a repository (OCI Distribution Specification 1.1, "Deleting Manifests").
-    /// Who has it from `get_manifest` keeps it. It takes no memory.
+    /// Removes a manifest from a repository (OCI Distribution Specification 1.1, "Deleting Manifests").
     ///
-    /// Refused, in this order: a tenant that is not there (`NameUnknown`); a digest under which the
-    /// repository has no manifest (`ManifestUnknown`).
+    /// A manifest that `get_manifest` returned stays valid.
+    ///
+    /// # Errors
+    /// - `NameUnknown` if the tenant does not exist.
+    /// - `ManifestUnknown` if the repository has no manifest under the digest.
+    ///
+    /// # Memory
+    /// None is allocated.
     pub fn delete_manifest(&mut self, repo: &RepoName, digest: &Digest) -> Result<(), Refusal>
-        ensures does { DoesExactly (λ u. u) result self.old.catalog self.new.catalog (delete_manifest self.old.catalog repo.now digest.now) }
-        ensures slots { (self.new.table ≡ self.old.table) × (self.new.slots ≡ self.old.slots) }
+        ensures does { DeletesManifest result self.old self.new repo.now digest.now }
+        ensures slots { KeepsSlots self.old self.new }
     {
         let _ = self.links.tenant(repo)?;
         let Some(_) = self.links.manifest(repo, digest) else {

@@ -1,16 +1,17 @@
-//! Where a mount takes the blob from.
+//! The source of a mount.
 
 ghost use Rattle.std.specs.Prelude.{◌≡◌, ◌<◌, length};
-ghost use Rattle.std.specs.Option.{option_copied};
-ghost use Rattle.store_book.specs.Internal.Keeping.{source_slot};
+ghost use Rattle.store_book.specs.Internal.Storing.{mount_slot};
 
 use crate::keep::find_linked;
 use blob_digest::{Digest, RepoName};
 use link_table::Links;
 use slot_table::SlotTable;
 
-/// The slot of the blob that a mount links: where the source is the tenant's and holds it or, without a
-/// source, where some repository of the tenant does.
+/// Finds the slot of the blob that a mount links.
+///
+/// With a source, the source must belong to the tenant and contain the blob. Without one, any repository of the
+/// tenant may.
 pub(crate) fn find_source(
     links: &Links,
     slots: &SlotTable,
@@ -19,7 +20,7 @@ pub(crate) fn find_source(
     digest: &Digest,
 ) -> Option<u32>
     requires { tenant < length links.now.tenants }
-    ensures { result ≡ source_slot links.now slots.now tenant (option_copied from.entry) digest.now }
+    ensures { result ≡ mount_slot links.now slots.now tenant from.entry digest.now }
 {
     match from {
         Some(from) => match links.tenant(from) {

@@ -1,14 +1,11 @@
-//! The slots with the keeper of their words.
+//! The slots of a store with the keeper of their words.
 
-ghost use Rattle.std.specs.Prelude.{◌≡◌, ◌≢◌, ◌⊎◌, ◌+◌, ◌<◌, ◌^◌, [], length, replicate, None, Some, IfOk, IfErr, OnErr, MatchResult, IsTrue, ◌↔◌, true, false};
-ghost use Rattle.std.specs.Option.{option_map};
+ghost use Rattle.std.specs.Prelude.{◌≡◌, ◌≢◌, ◌+◌, ◌<◌, ◌^◌, length, None, Some, IfOk, IfErr, OnErr, IsTrue, ◌↔◌, true, false};
 ghost use Rattle.std.specs.Arc.{arc_value};
-ghost use Rattle.blob_digest.specs.declared.refusal.Refusal.TheVariants.{LimitReached, Memory, StoreFull, TooManyReaders};
-ghost use Rattle.pin_core.specs.Events.{IsOutside};
-ghost use Rattle.pin_table.specs.Calls.{IsUnheld};
-ghost use Rattle.slot_table.specs.Slots.{Held, empty_slot, held_at, phase_at, links_at, slot_of, free_slots, fill, on_held, link_up, link_down, mark};
+ghost use Rattle.blob_digest.specs.declared.refusal.Refusal.TheVariants.{Memory};
+ghost use Rattle.slot_table.specs.Slots.{phase_at, links_at, slot_of, fill, on_stored_blob, link_up, link_down, mark};
 ghost use Rattle.slot_table.specs.declared.phase.Phase.TheVariants as phase;
-ghost use Rattle.store_book.specs.Pinned.{is_orphan_at, with_both, slotted, IsLent, IsFull, Looked, Reclaimed, Verified};
+ghost use Rattle.store_book.specs.Pinned.{blob_at, is_orphan_at, with_changed_slot, with_slot_and_bound, HasOneEach, LendsOn, ReadsSlotWord, OpensSlots, ReclaimsSlot, RefusesForSlots, RefusesSlots, UnheldIfNeverLent, VerifiesPin};
 
 use blob_digest::{Blob, Refusal};
 use pin_table::{Keeper, Pin, Pins, Reclaim};
@@ -17,8 +14,10 @@ use std::alloc::Global;
 use std::marker::Model;
 use std::sync::Arc;
 
-/// The slots of a store, with the keeper of their words: each slot's generation, what it is and its
-/// digest are those of the keeper's row, and a used slot that isn't marked as lent has the bound 0.
+/// The slots of a store, with the keeper of their words.
+///
+/// The keeper's row of each slot has the slot's generation, phase and digest. A used slot that was never leased has
+/// the bound 0.
 #[derive(Drop)]
 pub struct PinnedSlots {
     slots: SlotTable,
@@ -31,20 +30,30 @@ impl Model for PinnedSlots {
 
     ghost Value = { Pinned };
 
-    ghost view = { λ a. record { table = a.keeper.table; slots = a.slots; bounds = a.keeper.bounds; looks = a.keeper.looks } };
+    ghost view = { λ a. record {
+      table = a.keeper.table;
+      slots = a.slots;
+      bounds = a.keeper.bounds;
+      looks = a.keeper.looks;
+    } };
 
-    ghost invariant = { λ a. IsPinned a.slots a.keeper.rows a.keeper.bounds × (length a.keeper.looks ≡ length a.slots) };
+    ghost invariant = { λ a. IsPinned a.slots a.keeper.rows a.keeper.bounds
+        × (length a.keeper.looks ≡ length a.slots) };
 }
 
 impl PinnedSlots {
-    /// Free slots of the first generation, and their words.
+    /// Makes free slots of the first generation, with their words.
+    ///
+    /// # Errors
+    /// - `LimitReached` outside 1 to 65,536 slots.
+    /// - `Memory` if out of memory.
     pub fn new(
         alloc: Global,
         slots: u32,
         first_generation: u32,
     ) -> Result<(PinnedSlots, Pins), Refusal>
-        ensures made { IfOk result (λ r. ¬ IsOutside slots × (r.0 ≡ record { table = r.1; slots = replicate slots (empty_slot first_generation); bounds = replicate slots 0; looks = replicate slots 0 })) }
-        ensures refused { IfErr result (λ e. ((e ≡ LimitReached) × IsOutside slots) ⊎ ((e ≡ Memory) × ¬ IsOutside slots)) }
+        ensures made { IfOk result (λ r. OpensSlots r.0 r.1 slots first_generation) }
+        ensures refused { IfErr result (λ e. RefusesSlots e slots) }
     {
         let table = SlotTable::new(alloc, slots, first_generation)?;
         let (pins, keeper) = Pins::new(alloc, slots, first_generation)?;
@@ -57,22 +66,25 @@ impl PinnedSlots {
         ))
     }
 
-    /// The slots.
+    /// Returns the slots.
     pub fn table(&self) -> &SlotTable
         ensures { result.now ≡ self.now.slots }
     {
         &self.slots
     }
 
-    /// Puts a blob into a free slot, live and without links, and answers the slot: as
-    /// `SlotTable::place`. Nothing is lent of it yet.
+    /// Puts a blob into a free slot, live and without links, and returns the slot. It was never leased.
+    ///
+    /// # Errors
+    /// - `StoreFull` if no slot is free.
+    /// - `Memory` if out of memory.
     pub fn place(&mut self, pins: &Pins, blob: Blob) -> Result<u32, (Refusal, Blob)>
         requires table { self.old.table ≡ pins.now }
         requires absent { slot_of self.old.slots blob.0 ≡ None }
         ensures free { IfOk result (λ k. phase_at self.old.slots k ≡ phase.Free) }
-        ensures ok { IfOk result (λ k. self.new ≡ with_both k (fill blob) 0 self.old) }
+        ensures ok { IfOk result (λ k. self.new ≡ with_slot_and_bound k (fill blob) 0 self.old) }
         ensures back { IfErr result (λ e. e.1 ≡ blob) }
-        ensures refused { IfErr result (λ e. e.0 ≢ Memory → (e.0 ≡ StoreFull) × (free_slots self.old.slots ≡ 0)) }
+        ensures refused { IfErr result (λ e. e.0 ≢ Memory → RefusesForSlots e.0 self.old) }
         ensures err { OnErr result (self.new ≡ self.old) }
     {
         let digest = blob.digest();
@@ -85,7 +97,7 @@ impl PinnedSlots {
     pub fn link_up(&mut self, slot: u32)
         requires live { phase_at self.old.slots slot ≡ phase.Live }
         requires room { links_at self.old.slots slot + 1 < 2 ^ 32 }
-        ensures { self.new ≡ slotted slot (on_held link_up) self.old }
+        ensures { self.new ≡ with_changed_slot slot (on_stored_blob link_up) self.old }
     {
         self.slots.link_up(slot);
     }
@@ -94,16 +106,16 @@ impl PinnedSlots {
     pub fn link_down(&mut self, slot: u32)
         requires live { phase_at self.old.slots slot ≡ phase.Live }
         requires linked { 0 < links_at self.old.slots slot }
-        ensures { self.new ≡ slotted slot (on_held link_down) self.old }
+        ensures { self.new ≡ with_changed_slot slot (on_stored_blob link_down) self.old }
     {
         self.slots.link_down(slot);
     }
 
-    /// Makes a condemned blob live again, in its row and its word. A live one stays as it is.
+    /// Makes a condemned blob live again, in its row and its word. A live one is unchanged.
     pub fn revive(&mut self, pins: &Pins, slot: u32)
         requires table { self.old.table ≡ pins.now }
         requires used { slot < length self.old.slots }
-        ensures { self.new ≡ slotted slot (on_held (mark false)) self.old }
+        ensures { self.new ≡ with_changed_slot slot (on_stored_blob (mark false)) self.old }
     {
         if self.slots.phase(slot) == Phase::Condemned {
             self.slots.revive(slot);
@@ -111,12 +123,11 @@ impl PinnedSlots {
         }
     }
 
-    /// Condemns a blob without links, in its row and its word, and answers whether it was live. A
-    /// condemned one stays as it is.
+    /// Condemns a blob without links, in its row and its word, and returns whether it was live.
     pub fn condemn(&mut self, pins: &Pins, slot: u32) -> bool
         requires table { self.old.table ≡ pins.now }
         requires orphan { is_orphan_at self.old.slots slot ≡ true }
-        ensures after { self.new ≡ slotted slot (on_held (mark true)) self.old }
+        ensures after { self.new ≡ with_changed_slot slot (on_stored_blob (mark true)) self.old }
         ensures live { IsTrue result ↔ phase_at self.old.slots slot ≡ phase.Live }
     {
         let is_live = self.slots.phase(slot) == Phase::Live;
@@ -127,13 +138,15 @@ impl PinnedSlots {
         is_live
     }
 
-    /// Frees the slot of a condemned blob that no pin is on, or retires it in the last generation;
-    /// else says what the pins on it weigh. The slot of a blob that was never lent is never held.
+    /// Frees the slot of a condemned blob that no pin holds, or retires it in the last generation.
+    ///
+    /// If pins hold the slot, the call returns the sum of their weights. A slot whose blob was never leased is never
+    /// held.
     pub fn reclaim(&mut self, pins: &Pins, slot: u32) -> Reclaim
         requires table { self.old.table ≡ pins.now }
         requires condemned { phase_at self.old.slots slot ≡ phase.Condemned }
-        ensures answer { Reclaimed slot self.old self.new result }
-        ensures unlent { (h : Held) → held_at self.old.slots slot ≡ Some h → h.lent ≡ false → IsUnheld result }
+        ensures answer { ReclaimsSlot slot self.old self.new result }
+        ensures unlent { UnheldIfNeverLent slot self.old result }
     {
         let reclaimed = pins.reclaim(&mut self.keeper, slot);
         match reclaimed {
@@ -144,12 +157,12 @@ impl PinnedSlots {
         reclaimed
     }
 
-    /// A share of a used slot's blob. Refused with `Memory`.
+    /// Returns a share of a used slot's blob. Fails only if out of memory.
     pub fn share(&self, slot: u32) -> Result<Arc<Blob, Global>, Refusal>
         requires live { phase_at self.now.slots slot ≡ phase.Live }
-        ensures value { IfOk result (λ b. Some (arc_value b) ≡ option_map (λ h. (h.digest, h.bytes)) (held_at self.now.slots slot)) }
+        ensures value { IfOk result (λ b. Some (arc_value b) ≡ blob_at self.now.slots slot) }
         ensures refused { IfErr result (λ e. e ≡ Memory) }
-        ensures one_each { (length self.now.bounds ≡ length self.now.slots) × (length self.now.looks ≡ length self.now.slots) }
+        ensures one_each { HasOneEach self.now }
     {
         match self.slots.blob(slot) {
             Some(blob) => Ok(Arc::try_clone(blob)?),
@@ -157,35 +170,36 @@ impl PinnedSlots {
         }
     }
 
-    /// A new pin on a live slot, whose blob is marked as lent.
+    /// Makes a new pin on a live slot, and marks its blob as leased.
     ///
-    /// Refused, as `TooManyReaders`, only where this call's look finds no room for one more.
+    /// # Errors
+    /// - `TooManyReaders` if this call's look at the word finds no room for one more.
     pub fn lend(&mut self, pins: &Pins, slot: u32) -> Result<Pin, Refusal>
         requires table { self.old.table ≡ pins.now }
         requires live { phase_at self.old.slots slot ≡ phase.Live }
-        ensures { MatchResult result (λ p. IsLent slot self.old self.new p) (λ e. (e ≡ TooManyReaders) × IsFull slot self.old self.new) }
+        ensures { LendsOn result slot self.old self.new }
     {
         let pin = pins.lend(&mut self.keeper, slot)?;
         self.slots.lend(slot);
         Ok(pin)
     }
 
-    /// The word of a slot.
+    /// Returns the word of a slot.
     pub fn word(&mut self, pins: &Pins, slot: u32) -> u64
         requires table { self.old.table ≡ pins.now }
         requires within { slot < length self.old.slots }
-        ensures read { Looked slot result self.old self.new }
+        ensures read { ReadsSlotWord slot result self.old self.new }
         ensures one_each { length self.old.looks ≡ length self.old.slots }
     {
         pins.look(&mut self.keeper, slot)
     }
 
-    /// The pin with all that it had. Its slot is used, and has the pin's generation and digest.
+    /// Confirms that a pin's slot is in use, in the pin's generation and with its digest, and returns the pin.
     pub fn verify(&mut self, pins: &Pins, pin: Pin) -> Pin
         requires table { self.old.table ≡ pins.now }
         requires pin { pin.table ≡ pins.now }
         ensures same { result ≡ pin }
-        ensures kept { Verified pin.hold self.old self.new }
+        ensures kept { VerifiesPin pin.hold self.old self.new }
     {
         pins.verify(&mut self.keeper, pin)
     }

@@ -1,5 +1,5 @@
-//! What a book tells beside its commands: the sizes of blobs and manifests, a tenant's use, and free slots. All of it is
-//! read by `&`, takes no memory, and is counted nowhere.
+//! Queries of a book: the sizes of blobs and manifests, a tenant's use, and the number of free slots. They allocate
+//! no memory, and no total counts them.
 
 ghost use Rattle.std.specs.Prelude.{◌≡◌, count_by};
 ghost use Rattle.store_book.specs.FreeSlots.{is_free};
@@ -11,11 +11,17 @@ use blob_digest::{Digest, Refusal, RepoName};
 use store_model::Usage;
 
 impl Book {
-    /// The size in bytes of a blob that is linked in a repository (OCI Distribution Specification 1.1, "Checking if
-    /// content exists in the registry"). No lease is taken. It takes as long as `lease` does to find the blob.
+    /// Returns the size in bytes of a blob that is linked in a repository (OCI Distribution Specification 1.1,
+    /// "Checking if content exists in the registry").
     ///
-    /// Refused, in this order: a tenant that is not there (`NameUnknown`); a digest that is not linked in the
-    /// repository (`BlobUnknown`).
+    /// No lease is taken.
+    ///
+    /// # Errors
+    /// - `NameUnknown` if the tenant does not exist.
+    /// - `BlobUnknown` if the digest is not linked in the repository.
+    ///
+    /// # Cost
+    /// Finding the blob, as in `lease`.
     pub fn stat(&self, repo: &RepoName, digest: &Digest) -> Result<u64, Refusal>
         ensures { result ≡ stat self.now.catalog repo.now digest.now }
     {
@@ -27,11 +33,15 @@ impl Book {
         }
     }
 
-    /// The size in bytes of the manifest that a repository has under a digest (OCI Distribution Specification 1.1,
-    /// "Checking if content exists in the registry"). It takes as long as `get_manifest`.
+    /// Returns the size in bytes of the manifest that a repository has under a digest (OCI Distribution Specification
+    /// 1.1, "Checking if content exists in the registry").
     ///
-    /// Refused, in this order: a tenant that is not there (`NameUnknown`); a digest under which the repository has no
-    /// manifest (`ManifestUnknown`).
+    /// # Errors
+    /// - `NameUnknown` if the tenant does not exist.
+    /// - `ManifestUnknown` if the repository has no manifest under the digest.
+    ///
+    /// # Cost
+    /// As `get_manifest`.
     pub fn stat_manifest(&self, repo: &RepoName, digest: &Digest) -> Result<u64, Refusal>
         ensures { result ≡ stat_manifest self.now.catalog repo.now digest.now }
     {
@@ -42,10 +52,15 @@ impl Book {
         }
     }
 
-    /// What the tenant of a repository uses, and its quota. The repository needn't be there: a tenant's own name is the
-    /// name of one of its repositories. Both are at hand, so beside finding the tenant it costs nothing.
+    /// Returns the use and the quota of a repository's tenant.
     ///
-    /// Refused: a tenant that is not there (`NameUnknown`).
+    /// The repository need not exist: a tenant's own name is the name of one of its repositories.
+    ///
+    /// # Errors
+    /// - `NameUnknown` if the tenant does not exist.
+    ///
+    /// # Cost
+    /// Only that of finding the tenant: both numbers are stored.
     pub fn usage(&self, repo: &RepoName) -> Result<Usage, Refusal>
         ensures { result ≡ usage self.now.catalog repo.now }
     {
@@ -56,8 +71,12 @@ impl Book {
         })
     }
 
-    /// How many slots are free: as many blobs of digests that aren't kept can be closed before a sweep. A slot with a
-    /// condemned blob isn't free, nor is a retired one. The number is kept.
+    /// Returns how many slots are free: before the next sweep, that many blobs with new digests can be closed.
+    ///
+    /// A slot with a condemned blob is not free, and neither is a retired one.
+    ///
+    /// # Cost
+    /// Constant: the number is stored.
     pub fn free_slots(&self) -> u32
         ensures seen { result ≡ count_by is_free self.now.slots }
         ensures left { result ≡ free_slots self.now.catalog }

@@ -1,18 +1,17 @@
-//! The sweep of the slots: blobs without links are condemned, and their slots freed once no pin is on
-//! them.
+//! The sweep of the slots: it condemns blobs without links, and reclaims slots that no pin holds.
 
 ghost use Rattle.std.specs.Prelude.{◌≡◌, ◌+◌, ◌<◌, ◌≤◌, ◌^◌, length};
-ghost use Rattle.store_book.specs.Internal.SweptSlots.{counting, Sweeps};
+ghost use Rattle.store_book.specs.Internal.SweptSlots.{counts_with, Sweeps};
 
 use crate::pinned_slots::PinnedSlots;
 use pin_table::{Pins, Reclaim};
 use store_model::Swept;
 
-/// Counts one blob more: whether it was live, and what became of its slot.
+/// Counts one more blob, by whether it was live and what became of its slot.
 fn count(swept: &mut Swept, was_live: bool, became: Reclaim)
     requires condemned { swept.old.condemned + 1 < 2 ^ 32 }
     requires reclaimed { swept.old.freed + swept.old.held + swept.old.retired + 1 < 2 ^ 32 }
-    ensures { swept.new ≡ counting was_live became swept.old }
+    ensures { swept.new ≡ counts_with was_live became swept.old }
 {
     if was_live {
         swept.condemned += 1;
@@ -24,8 +23,10 @@ fn count(swept: &mut Swept, was_live: bool, became: Reclaim)
     }
 }
 
-/// Goes over the blobs without links once, in the order of their slots. A live one is condemned; the slot of each
-/// condemned one is freed or retired where no pin is on it. It takes no memory.
+/// Goes once over the blobs without links, in the order of their slots.
+///
+/// It condemns a live one. It frees or retires the slot of each condemned one that no pin holds. No memory is
+/// allocated.
 pub(crate) fn sweep_slots(slots: &mut PinnedSlots, pins: &Pins) -> Swept
     requires table { slots.old.table ≡ pins.now }
     requires few { length slots.old.slots ≤ 65536 }

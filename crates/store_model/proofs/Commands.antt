@@ -1,4 +1,4 @@
--- What each command, each sweep and each run keeps.
+-- Each command, each sweep and each run keeps a catalog sound.
 pub mod Abandon
 pub mod Accepted
 pub mod AppendClose

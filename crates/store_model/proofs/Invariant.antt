@@ -1,4 +1,4 @@
--- What each change of a field keeps: the catalog lawful, the counts and the uses right.
+-- Each change of a field keeps the catalog well-formed and the counts and uses right.
 pub mod Blobs
 pub mod Bounds
 pub mod Chunks

@@ -1,4 +1,4 @@
--- Tenants don't see each other: the unwinding theorem. A tenant's own step is the same from catalogs that are the same for it (StepConsistency), and another's changes nothing for it (LocalRespect).
+-- Isolation of tenants, by unwinding: a tenant's own step is the same from equivalent catalogs (StepConsistency); another's changes nothing for it (LocalRespect).
 pub mod Consistency
 pub mod Hands
 pub mod Histories

@@ -1,4 +1,4 @@
--- A history as a run of whole commands: the run's catalog is the history's with the hands at home.
+-- A history as a run of whole commands: the run's catalog is the history's after every hand was checked in.
 pub mod AtHome
 pub mod Commands
 pub mod Histories

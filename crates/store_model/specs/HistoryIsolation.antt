@@ -1,143 +1,142 @@
--- Tenants don't see each other in histories either, where sessions are in hand between two steps. What a tenant is told, and what it has at the end, are
--- what its own steps alone would give.
+-- Isolation of tenants in histories: a tenant's replies, and its view at the end, are those of its own steps alone.
 use Rattle.std.specs.Prelude.{◌≡◌, ◌≢◌, ◌==◌, ◌+◌, ℕ, Bool, true, false, Option, Result, Ok, Err, List, [], ◌∷◌, ◌++◌, filter}
 use Rattle.std.specs.FinMap as fmap
 use Rattle.blob_digest.specs.declared.range.ByteRange.{ByteRange}
 use Rattle.blob_digest.specs.declared.refusal.Refusal.{Refusal}
 use Rattle.blob_digest.specs.declared.refusal.Refusal.TheVariants.{Memory, StoreFull, TooManyReaders}
-use Rattle.finite_maps.specs.Texts.{Text}
+use Rattle.spec_lib.specs.Texts.{Text}
 use Rattle.store_model.specs.BookText.{book_text}
-use Rattle.store_model.specs.Catalog.{Catalog, Taken, Tenant, is_tenants, opening}
+use Rattle.store_model.specs.Catalog.{Catalog, HandRecord, Tenant, is_repo_of_tenant, opening}
 use Rattle.store_model.specs.Commands.{Outcome, after_cancel, finish, put_back, take}
-use Rattle.store_model.specs.Histories.{AreSteps, Cleaned, Finished, IsUncountable, LeadsTo, Performed, PutBack, State, Step, Took, first_state}
-use Rattle.store_model.specs.Noninterference.{NoCollision, brought_by, left, named, outcome_alone, part, reply}
+use Rattle.store_model.specs.Histories.{AreSteps, SweepCall, FinishCall, IsUncountable, LeadsTo, CommandCall, PutBackCall, State, Step, TakeCall, initial_state}
+use Rattle.store_model.specs.Noninterference.{NoCollision, uploads_of_command, catalog_after, uploaded_pair, isolated_outcome, tenant_view, reply_of}
 use Rattle.store_model.specs.Runs.{Command, repo_of}
-use Rattle.store_model.specs.Sessions.{whole_of}
+use Rattle.store_model.specs.Sessions.{hand_content}
 
--- ---- what a tenant asks for, is told and has
+-- ---- a tenant's steps and requests
 
--- whether a step is a tenant's: it names a repository of the tenant, or brings a hand of a session of the tenant
+-- whether a step is a tenant's: its repository or its hand belongs to the tenant
 abbrev pub is_step_of : List Tenant → ℕ → Step → Bool
-is_step_of tenants t (Performed command reply) = is_tenants tenants t (repo_of command)
-is_step_of tenants t (Cleaned swept) = false
-is_step_of tenants t (Took r n g len reply) = is_tenants tenants t r
-is_step_of tenants t (PutBack h reply) = h.key.0 == t
-is_step_of tenants t (Finished h d reply) = h.key.0 == t
+is_step_of tenants t (CommandCall command reply) = is_repo_of_tenant tenants t (repo_of command)
+is_step_of tenants t (SweepCall swept) = false
+is_step_of tenants t (TakeCall r n g len reply) = is_repo_of_tenant tenants t r
+is_step_of tenants t (PutBackCall h reply) = h.key.0 == t
+is_step_of tenants t (FinishCall h d reply) = h.key.0 == t
 
 -- a tenant's steps
 abbrev pub steps_of : List Tenant → ℕ → List Step → List Step
 steps_of tenants t steps = filter (is_step_of tenants t) steps
 
--- what a step asks for: a command, to take a session in hand, to put a hand back, or to finish it under a digest
-pub data Request : Type 0 where
-  Perform : Command → Request
-  Take : Text → ℕ → Option ByteRange → ℕ → Request
-  Return : Taken → Request
-  Finish : Taken → Text → Request
+-- a step without its reply: a command, or a check-out, check-in or finish of a session
+pub data StepRequest : Type 0 where
+  Perform : Command → StepRequest
+  Take : Text → ℕ → Option ByteRange → ℕ → StepRequest
+  Return : HandRecord → StepRequest
+  Finish : HandRecord → Text → StepRequest
 
--- what steps ask for in turn, without the replies; a sweep asks for nothing of a tenant's
-abbrev pub requests : List Step → List Request
-requests [] = []
-requests (Performed command reply ∷ steps) = Perform command ∷ requests steps
-requests (Cleaned swept ∷ steps) = requests steps
-requests (Took r n g len reply ∷ steps) = Take r n g len ∷ requests steps
-requests (PutBack h reply ∷ steps) = Return h ∷ requests steps
-requests (Finished h d reply ∷ steps) = Finish h d ∷ requests steps
+-- the requests of a list of steps, of which a sweep has none
+abbrev pub requests_of : List Step → List StepRequest
+requests_of [] = []
+requests_of (CommandCall command reply ∷ steps) = Perform command ∷ requests_of steps
+requests_of (SweepCall swept ∷ steps) = requests_of steps
+requests_of (TakeCall r n g len reply ∷ steps) = Take r n g len ∷ requests_of steps
+requests_of (PutBackCall h reply ∷ steps) = Return h ∷ requests_of steps
+requests_of (FinishCall h d reply ∷ steps) = Finish h d ∷ requests_of steps
 
--- ---- a tenant alone
+-- ---- a tenant's isolated history
 
--- the same catalog with a slot that is free
+-- the catalog with one free slot
 abbrev pub with_slot : Catalog → Catalog
 with_slot C = record C { slots = fmap.len C.residents + C.retired + 1 }
 
--- an outcome without its catalog
-abbrev pub told : {A : Type 0} → Outcome A → Result A Refusal
-told (Ok x) = Ok x.0
-told (Err e) = Err e
+-- the reply of an outcome
+abbrev pub reply_of_outcome : {A : Type 0} → Outcome A → Result A Refusal
+reply_of_outcome (Ok x) = Ok x.0
+reply_of_outcome (Err e) = Err e
 
--- the catalog that an outcome leaves, or what is left where it was refused
-abbrev pub left_by : {A : Type 0} → Catalog → Outcome A → Catalog
-left_by C (Ok x) = x.1
-left_by C (Err e) = C
+-- the catalog after an outcome, or C if it failed
+abbrev pub catalog_after_or : {A : Type 0} → Catalog → Outcome A → Catalog
+catalog_after_or C (Ok x) = x.1
+catalog_after_or C (Err e) = C
 
--- the step that a request comes to, without the cases that others can cause: a finish finds a slot, too
-abbrev pub step_alone : Catalog → Request → Step
-step_alone C (Perform command) = Performed command (reply (outcome_alone C command))
-step_alone C (Take r n g len) = Took r n g len (told (take C r n g len))
-step_alone C (Return h) = PutBack h (told (put_back C h))
-step_alone C (Finish h d) = Finished h d (told (finish (with_slot C) h d))
+-- the step of a request, without the errors that other tenants may cause
+abbrev pub isolated_step : Catalog → StepRequest → Step
+isolated_step C (Perform command) = CommandCall command (reply_of (isolated_outcome C command))
+isolated_step C (Take r n g len) = TakeCall r n g len (reply_of_outcome (take C r n g len))
+isolated_step C (Return h) = PutBackCall h (reply_of_outcome (put_back C h))
+isolated_step C (Finish h d) = FinishCall h d (reply_of_outcome (finish (with_slot C) h d))
 
--- the catalog that it leaves
-abbrev pub after_alone : Catalog → Request → Catalog
-after_alone C (Perform command) = left C (outcome_alone C command)
-after_alone C (Take r n g len) = left_by C (take C r n g len)
-after_alone C (Return h) = left_by C (put_back C h)
-after_alone C (Finish h d) = left_by (after_cancel C h) (finish (with_slot C) h d)
+-- the catalog after a request, without the errors that other tenants may cause
+abbrev pub catalog_after_request : Catalog → StepRequest → Catalog
+catalog_after_request C (Perform command) = catalog_after C (isolated_outcome C command)
+catalog_after_request C (Take r n g len) = catalog_after_or C (take C r n g len)
+catalog_after_request C (Return h) = catalog_after_or C (put_back C h)
+catalog_after_request C (Finish h d) = catalog_after_or (after_cancel C h) (finish (with_slot C) h d)
 
--- the steps that requests come to in turn, and the catalog at the end
-abbrev pub steps_alone : Catalog → List Request → List Step
-steps_alone C [] = []
-steps_alone C (request ∷ requests) = step_alone C request ∷ steps_alone (after_alone C request) requests
+-- the steps of requests in an isolated history
+abbrev pub isolated_steps : Catalog → List StepRequest → List Step
+isolated_steps C [] = []
+isolated_steps C (request ∷ requests) = isolated_step C request ∷ isolated_steps (catalog_after_request C request) requests
 
-abbrev pub catalog_alone : Catalog → List Request → Catalog
-catalog_alone C [] = C
-catalog_alone C (request ∷ requests) = catalog_alone (after_alone C request) requests
+-- the catalog at the end of an isolated history
+abbrev pub catalog_after_requests : Catalog → List StepRequest → Catalog
+catalog_after_requests C [] = C
+catalog_after_requests C (request ∷ requests) = catalog_after_requests (catalog_after_request C request) requests
 
 -- ---- the premises
 
--- the refusal isn't one of the cases that others can cause
+-- the error is not one that other tenants may cause: `Memory`, `StoreFull` or `TooManyReaders`
 abbrev pub IsOwnRefusal : Refusal → Type 0
 IsOwnRefusal e = (e ≢ Memory) × (e ≢ StoreFull) × (e ≢ TooManyReaders)
 
--- nor is a reply, nor is it for want of a count
+-- the reply of a step is neither an error that other tenants may cause, nor one because it can't be counted
 abbrev pub IsOwnReply : State → Step → Type 0
-IsOwnReply s (Performed command (Err e)) = IsOwnRefusal e × ¬ (IsUncountable s 0 e)
-IsOwnReply s (Took r n g len (Err e)) = IsOwnRefusal e × ¬ (IsUncountable s len e)
-IsOwnReply s (PutBack h (Err e)) = IsOwnRefusal e
-IsOwnReply s (Finished h d (Err e)) = IsOwnRefusal e
+IsOwnReply s (CommandCall command (Err e)) = IsOwnRefusal e × ¬ (IsUncountable s 0 e)
+IsOwnReply s (TakeCall r n g len (Err e)) = IsOwnRefusal e × ¬ (IsUncountable s len e)
+IsOwnReply s (PutBackCall h (Err e)) = IsOwnRefusal e
+IsOwnReply s (FinishCall h d (Err e)) = IsOwnRefusal e
 IsOwnReply s step = Unit {0}
 
--- so it is with each reply to a tenant
+-- no reply to a tenant is an error that other tenants may cause, or one because it can't be counted
 abbrev pub AreOwnReplies : List Tenant → ℕ → (s : State) (steps : List Step) (s' : State) → AreSteps s steps s' → Type 0
 AreOwnReplies tenants t s [] s' run = Unit {0}
 AreOwnReplies tenants t s (step ∷ steps) s' run = (is_step_of tenants t step ≡ true → IsOwnReply s step) × AreOwnReplies tenants t run.0 steps s' run.2
 
--- the digest that a close or a finish names with the whole that it brings, where the whole has it
-abbrev pub brought_at : Catalog → Step → List (Text × Text)
-brought_at C (Performed command reply) = brought_by C command
-brought_at C (Finished h d reply) = named d (Ok (whole_of h))
-brought_at C step = []
+-- the digest and content of a close or a finish, if the content has the digest
+abbrev pub uploads_of_step : Catalog → Step → List (Text × Text)
+uploads_of_step C (CommandCall command reply) = uploads_of_command C command
+uploads_of_step C (FinishCall h d reply) = uploaded_pair d (Ok (hand_content h))
+uploads_of_step C step = []
 
--- all that the steps brought
-abbrev pub brought_along : (s : State) (steps : List Step) (s' : State) → AreSteps s steps s' → List (Text × Text)
-brought_along s [] s' run = []
-brought_along s (step ∷ steps) s' run = brought_at s.catalog step ++ brought_along run.0 steps s' run.2
+-- the digests and contents of all closes and finishes of a list of steps
+abbrev pub uploads_of_history : (s : State) (steps : List Step) (s' : State) → AreSteps s steps s' → List (Text × Text)
+uploads_of_history s [] s' run = []
+uploads_of_history s (step ∷ steps) s' run = uploads_of_step s.catalog step ++ uploads_of_history run.0 steps s' run.2
 
--- ---- the laws
+-- ---- the theorems
 
--- The steps lead from the opening to a state, and no two of them bring different wholes that have the same digest.
-pub record IsFairHistory (tenants : List Tenant) (slots max_blob : ℕ) (steps : List Step) (s : State) : Type 0 where
+-- The steps are a legal history of a new store in which no two uploads have different contents with the same digest.
+pub record IsCollisionFreeHistory (tenants : List Tenant) (slots max_blob : ℕ) (steps : List Step) (s : State) : Type 0 where
   pub run : LeadsTo (opening tenants slots max_blob) steps s
-  pub no_collision : NoCollision (brought_along (first_state (opening tenants slots max_blob)) steps s run)
+  pub no_collision : NoCollision (uploads_of_history (initial_state (opening tenants slots max_blob)) steps s run)
 
--- no reply to a tenant is one that others can cause
-abbrev pub IsUndisturbed : (tenants : List Tenant) (slots max_blob t : ℕ) (steps : List Step) (s : State) → IsFairHistory tenants slots max_blob steps s → Type 0
-IsUndisturbed tenants slots max_blob t steps s fair = AreOwnReplies tenants t (first_state (opening tenants slots max_blob)) steps s fair.run
+-- no reply to a tenant in the history is one that others may cause
+abbrev pub IsUnaffectedHistory : (tenants : List Tenant) (slots max_blob t : ℕ) (steps : List Step) (s : State) → IsCollisionFreeHistory tenants slots max_blob steps s → Type 0
+IsUnaffectedHistory tenants slots max_blob t steps s fair = AreOwnReplies tenants t (initial_state (opening tenants slots max_blob)) steps s fair.run
 
--- what a tenant is told and has are those of its steps alone
-pub record IsAloneInHistory (tenants : List Tenant) (slots max_blob t : ℕ) (steps : List Step) (s : State) : Type 0 where
-  pub replies : steps_alone (opening tenants slots max_blob) (requests (steps_of tenants t steps)) ≡ steps_of tenants t steps
-  pub part : part s.catalog t ≡ part (catalog_alone (opening tenants slots max_blob) (requests (steps_of tenants t steps))) t
+-- a tenant's steps and its view at the end are those of its isolated history
+pub record IsIsolatedInHistory (tenants : List Tenant) (slots max_blob t : ℕ) (steps : List Step) (s : State) : Type 0 where
+  pub replies : isolated_steps (opening tenants slots max_blob) (requests_of (steps_of tenants t steps)) ≡ steps_of tenants t steps
+  pub tenant_view : tenant_view s.catalog t ≡ tenant_view (catalog_after_requests (opening tenants slots max_blob) (requests_of (steps_of tenants t steps))) t
 
--- Whatever the others call and hold in hand meanwhile: where no reply to a tenant is one that others can cause, its replies, and its part at the
--- end, are those of its steps alone.
-abbrev pub TenantsAreAloneInHistories : Type 0
-TenantsAreAloneInHistories = (tenants : List Tenant) (slots max_blob t : ℕ) (steps : List Step) (s : State) (fair : IsFairHistory tenants slots max_blob steps s) →
-    IsUndisturbed tenants slots max_blob t steps s fair → IsAloneInHistory tenants slots max_blob t steps s
+-- If no reply to a tenant is one that others may cause, its replies and its view at the end are those of its isolated history.
+abbrev pub TenantsAreIsolatedInHistories : Type 0
+TenantsAreIsolatedInHistories = (tenants : List Tenant) (slots max_blob t : ℕ) (steps : List Step) (s : State) (fair : IsCollisionFreeHistory tenants slots max_blob steps s) →
+    IsUnaffectedHistory tenants slots max_blob t steps s fair → IsIsolatedInHistory tenants slots max_blob t steps s
 
--- So the book's text is the same after any two histories in which each tenant asks for the same in the same order.
+-- The store's text is the same after two such histories in which each tenant makes the same requests in the same order.
 abbrev pub HistoriesLeaveTheSameText : Type 0
 HistoriesLeaveTheSameText = (tenants : List Tenant) (slots max_blob : ℕ) (one two : List Step) (s s' : State)
-    (fair : IsFairHistory tenants slots max_blob one s) → ((t : ℕ) → IsUndisturbed tenants slots max_blob t one s fair) →
-    (fair' : IsFairHistory tenants slots max_blob two s') → ((t : ℕ) → IsUndisturbed tenants slots max_blob t two s' fair') →
-    ((t : ℕ) → requests (steps_of tenants t one) ≡ requests (steps_of tenants t two)) → book_text s.catalog ≡ book_text s'.catalog
+    (fair : IsCollisionFreeHistory tenants slots max_blob one s) → ((t : ℕ) → IsUnaffectedHistory tenants slots max_blob t one s fair) →
+    (fair' : IsCollisionFreeHistory tenants slots max_blob two s') → ((t : ℕ) → IsUnaffectedHistory tenants slots max_blob t two s' fair') →
+    ((t : ℕ) → requests_of (steps_of tenants t one) ≡ requests_of (steps_of tenants t two)) → book_text s.catalog ≡ book_text s'.catalog

@@ -1,145 +1,151 @@
--- Tenants don't see each other. What a tenant is told, and what it has at the end, are what its own commands alone would give.
+-- Isolation of tenants in runs: a tenant's replies, and its view at the end, are those of its own commands alone.
 use Rattle.std.specs.Prelude.{◌≡◌, ◌≢◌, ℕ, ◌==◌, false, Result, Ok, Err, List, [], ◌∷◌, ◌++◌, map, filter, if◌then◌else◌}
 use Rattle.std.specs.List.{AllByRecursion, Contains}
 use Rattle.std.specs.FinMap as fmap
 use Rattle.blob_digest.specs.declared.refusal.Refusal.{Refusal}
 use Rattle.blob_digest.specs.declared.refusal.Refusal.TheVariants.{Memory, TooManyReaders, StoreFull}
 use Rattle.blob_digest.specs.Digests.{is_digest_of}
-use Rattle.finite_maps.specs.Sets as set
-use Rattle.finite_maps.specs.Texts.{Text, text_cmp}
-use Rattle.store_model.specs.Catalog.{Tenant, Session, Catalog, link_cmp, number_cmp, is_tenants, is_of, tenant_holds, next_of, opening}
-use Rattle.finite_maps.specs.Outcomes.{◌>>=◌}
-use Rattle.store_model.specs.Commands.{Outcome, tenant, session, whole_in, close_by}
-use Rattle.store_model.specs.Runs.{Command, Close, Answer, Number, repo_of, outcome, answered, Event, Called, Swept, IsRun}
+use Rattle.spec_lib.specs.Sets as set
+use Rattle.spec_lib.specs.Texts.{Text, text_cmp}
+use Rattle.store_model.specs.Catalog.{Tenant, Session, Catalog, link_cmp, session_number_cmp, is_repo_of_tenant, is_repo_of, tenant_holds, next_number_of, opening}
+use Rattle.spec_lib.specs.Outcomes.{◌>>=◌}
+use Rattle.store_model.specs.Commands.{Outcome, tenant, session, content_in, close_by}
+use Rattle.store_model.specs.Runs.{Command, Close, Answer, Number, repo_of, outcome, map_outcome, Event, CommandEvent, SweepEvent, IsRun}
 use Rattle.store_model.specs.BookText.{book_text}
 
--- ---- what a tenant calls, is told and has
+-- ---- a tenant's commands, replies and view
 
 -- a tenant's events
 abbrev pub events_of : List Tenant → ℕ → List Event → List Event
 events_of tenants t [] = []
-events_of tenants t (Called command reply ∷ es) = if is_tenants tenants t (repo_of command) then Called command reply ∷ events_of tenants t es else events_of tenants t es
-events_of tenants t (Swept swept ∷ es) = events_of tenants t es
+events_of tenants t (CommandEvent command reply ∷ es) = if is_repo_of_tenant tenants t (repo_of command) then CommandEvent command reply ∷ events_of tenants t es else events_of tenants t es
+events_of tenants t (SweepEvent swept ∷ es) = events_of tenants t es
 
--- the commands of events, and the replies to them
-abbrev pub commands : List Event → List Command
-commands [] = []
-commands (Called command reply ∷ es) = command ∷ commands es
-commands (Swept swept ∷ es) = commands es
+-- the commands of a list of events
+abbrev pub commands_of : List Event → List Command
+commands_of [] = []
+commands_of (CommandEvent command reply ∷ es) = command ∷ commands_of es
+commands_of (SweepEvent swept ∷ es) = commands_of es
 
+-- the replies of a list of events
 abbrev pub replies : List Event → List (Result Answer Refusal)
 replies [] = []
-replies (Called command reply ∷ es) = reply ∷ replies es
-replies (Swept swept ∷ es) = replies es
+replies (CommandEvent command reply ∷ es) = reply ∷ replies es
+replies (SweepEvent swept ∷ es) = replies es
 
--- the digests that a tenant's repositories hold, in order, each with its bytes
+-- the digests that a tenant's repositories contain, in order, each with its bytes
 abbrev pub blobs_of : Catalog → ℕ → List (Text × Text)
 blobs_of C t = map (λ e. (e.0, e.1.bytes)) (filter (λ e. tenant_holds C t e.0) (fmap.entries C.residents))
 
--- a tenant's part of a catalog
-pub record Part : Type 0 where
+-- a tenant's view of a catalog
+pub record TenantView : Type 0 where
   pub repos : set.Set text_cmp
   pub links : set.Set link_cmp
   pub manifests : fmap.FinMap link_cmp Text
-  pub sessions : fmap.FinMap number_cmp Session
+  pub sessions : fmap.FinMap session_number_cmp Session
   pub next : ℕ
   pub blobs : List (Text × Text)
 
-abbrev pub part : Catalog → ℕ → Part
-part C t = record {
-  repos = fmap.retain_keys C.repos (is_of C t);
-  links = fmap.retain_keys C.links (λ l. is_of C t l.0);
-  manifests = fmap.retain_keys C.manifests (λ l. is_of C t l.0);
+-- the tenant t's view of the catalog C
+abbrev pub tenant_view : Catalog → ℕ → TenantView
+tenant_view C t = record {
+  repos = fmap.retain_keys C.repos (is_repo_of C t);
+  links = fmap.retain_keys C.links (λ l. is_repo_of C t l.0);
+  manifests = fmap.retain_keys C.manifests (λ l. is_repo_of C t l.0);
   sessions = fmap.retain_keys C.sessions (λ n. n.0 == t);
-  next = next_of C t;
+  next = next_number_of C t;
   blobs = blobs_of C t;
 }
 
--- ---- a tenant alone
+-- ---- a tenant's isolated run
 
--- there is always a slot
-abbrev pub unhoused : Catalog → Text → Result (Unit {0}) Refusal
-unhoused C digest = Ok tt
+-- a check for a slot that always succeeds
+abbrev pub always_has_slot : Catalog → Text → Result (Unit {0}) Refusal
+always_has_slot C digest = Ok tt
 
--- the outcome without the cases that others can cause: no slot is free, too many readers, no memory
-abbrev pub outcome_alone : Catalog → Command → Outcome Answer
-outcome_alone C (Close r n d g b) = answered Number (close_by unhoused C r n d g b)
-outcome_alone C command = outcome false C command
+-- the outcome of a command if it fails neither for lack of a slot, nor for too many readers, nor for lack of memory
+abbrev pub isolated_outcome : Catalog → Command → Outcome Answer
+isolated_outcome C (Close r n d g b) = map_outcome Number (close_by always_has_slot C r n d g b)
+isolated_outcome C command = outcome false C command
 
-abbrev pub reply : Outcome Answer → Result Answer Refusal
-reply (Ok x) = Ok x.0
-reply (Err e) = Err e
+-- the reply of an outcome
+abbrev pub reply_of : Outcome Answer → Result Answer Refusal
+reply_of (Ok x) = Ok x.0
+reply_of (Err e) = Err e
 
-abbrev pub left : Catalog → Outcome Answer → Catalog
-left C (Ok x) = x.1
-left C (Err e) = C
+-- the catalog after an outcome
+abbrev pub catalog_after : Catalog → Outcome Answer → Catalog
+catalog_after C (Ok x) = x.1
+catalog_after C (Err e) = C
 
--- the replies to commands in turn, and the catalog at the end
-abbrev pub replies_alone : Catalog → List Command → List (Result Answer Refusal)
-replies_alone C [] = []
-replies_alone C (command ∷ cs) = reply (outcome_alone C command) ∷ replies_alone (left C (outcome_alone C command)) cs
+-- the replies of commands in an isolated run
+abbrev pub isolated_replies : Catalog → List Command → List (Result Answer Refusal)
+isolated_replies C [] = []
+isolated_replies C (command ∷ cs) = reply_of (isolated_outcome C command) ∷ isolated_replies (catalog_after C (isolated_outcome C command)) cs
 
-abbrev pub left_alone : Catalog → List Command → Catalog
-left_alone C [] = C
-left_alone C (command ∷ cs) = left_alone (left C (outcome_alone C command)) cs
+-- the catalog at the end of an isolated run
+abbrev pub isolated_catalog : Catalog → List Command → Catalog
+isolated_catalog C [] = C
+isolated_catalog C (command ∷ cs) = isolated_catalog (catalog_after C (isolated_outcome C command)) cs
 
 -- ---- the premises
 
--- the reply isn't one of the cases that others can cause
-abbrev pub IsUncrowded : Event → Type 0
-IsUncrowded (Called command (Err e)) = (e ≢ Memory) × (e ≢ StoreFull) × (e ≢ TooManyReaders)
-IsUncrowded (Called command (Ok a)) = Unit {0}
-IsUncrowded (Swept swept) = Unit {0}
+-- the reply is not one that other tenants may cause: `Memory`, `StoreFull` or `TooManyReaders`
+abbrev pub IsUnaffectedByOthers : Event → Type 0
+IsUnaffectedByOthers (CommandEvent command (Err e)) = (e ≢ Memory) × (e ≢ StoreFull) × (e ≢ TooManyReaders)
+IsUnaffectedByOthers (CommandEvent command (Ok a)) = Unit {0}
+IsUnaffectedByOthers (SweepEvent swept) = Unit {0}
 
--- The whole that a close brings: what its session has received, and then its last chunk. It brings none where the session isn't its repository's.
-abbrev pub whole_of : Catalog → Text → ℕ → Text → Result Text Refusal
-whole_of C repo number last = do
+-- the content of a close: its session's bytes followed by its last chunk, or an error if it has no session
+abbrev pub close_content : Catalog → Text → ℕ → Text → Result Text Refusal
+close_content C repo number last = do
   t ← tenant C repo
   _ ← session C t repo number
-  Ok (whole_in C.sessions (t, number) last)
+  Ok (content_in C.sessions (t, number) last)
 
-abbrev pub named : Text → Result Text Refusal → List (Text × Text)
-named digest (Ok whole) = if is_digest_of digest whole then (digest, whole) ∷ [] else []
-named digest (Err e) = []
+-- the digest and the content, if the content has the digest
+abbrev pub uploaded_pair : Text → Result Text Refusal → List (Text × Text)
+uploaded_pair digest (Ok whole) = if is_digest_of digest whole then (digest, whole) ∷ [] else []
+uploaded_pair digest (Err e) = []
 
--- the digest that a close names with the whole that it brings, where the whole has it
-abbrev pub brought_by : Catalog → Command → List (Text × Text)
-brought_by C (Close r n d g b) = named d (whole_of C r n b)
-brought_by C command = []
+-- the digest and content of a close, if the content has the digest
+abbrev pub uploads_of_command : Catalog → Command → List (Text × Text)
+uploads_of_command C (Close r n d g b) = uploaded_pair d (close_content C r n b)
+uploads_of_command C command = []
 
-abbrev pub brought : Catalog → Event → List (Text × Text)
-brought C (Called command r) = brought_by C command
-brought C (Swept swept) = []
+-- the digest and content of an event, if it is such a close
+abbrev pub uploads_of_event : Catalog → Event → List (Text × Text)
+uploads_of_event C (CommandEvent command r) = uploads_of_command C command
+uploads_of_event C (SweepEvent swept) = []
 
--- all that the closes of a run brought
-abbrev pub brought_in : (es : List Event) (C C' : Catalog) → IsRun C es C' → List (Text × Text)
-brought_in [] C C' run = []
-brought_in (e ∷ es) C C' run = brought C e ++ brought_in es run.0 C' run.2
+-- the digests and contents of all closes of a run
+abbrev pub uploads_of_run : (es : List Event) (C C' : Catalog) → IsRun C es C' → List (Text × Text)
+uploads_of_run [] C C' run = []
+uploads_of_run (e ∷ es) C C' run = uploads_of_event C e ++ uploads_of_run es run.0 C' run.2
 
--- no digest was brought with two wholes
+-- no digest is paired with two different contents
 abbrev pub NoCollision : List (Text × Text) → Type 0
 NoCollision pairs = (digest a b : Text) → Contains pairs (digest, a) → Contains pairs (digest, b) → a ≡ b
 
 -- ---- the theorem
 
--- The events lead from the opening to a catalog, and no two closes bring different wholes that have the same digest.
-pub record IsFair (tenants : List Tenant) (slots max_blob : ℕ) (es : List Event) (C' : Catalog) : Type 0 where
+-- The events are a run of a new store in which no two closes have different contents with the same digest.
+pub record IsCollisionFreeRun (tenants : List Tenant) (slots max_blob : ℕ) (es : List Event) (C' : Catalog) : Type 0 where
   pub run : IsRun (opening tenants slots max_blob) es C'
-  pub no_collision : NoCollision (brought_in es (opening tenants slots max_blob) C' run)
+  pub no_collision : NoCollision (uploads_of_run es (opening tenants slots max_blob) C' run)
 
--- what a tenant is told and has are those of its commands alone
-pub record IsAlone (tenants : List Tenant) (slots max_blob t : ℕ) (es : List Event) (C' : Catalog) : Type 0 where
-  pub replies : replies (events_of tenants t es) ≡ replies_alone (opening tenants slots max_blob) (commands (events_of tenants t es))
-  pub part : part C' t ≡ part (left_alone (opening tenants slots max_blob) (commands (events_of tenants t es))) t
+-- a tenant's replies and its view at the end are those of its isolated run
+pub record IsIsolated (tenants : List Tenant) (slots max_blob t : ℕ) (es : List Event) (C' : Catalog) : Type 0 where
+  pub replies : replies (events_of tenants t es) ≡ isolated_replies (opening tenants slots max_blob) (commands_of (events_of tenants t es))
+  pub tenant_view : tenant_view C' t ≡ tenant_view (isolated_catalog (opening tenants slots max_blob) (commands_of (events_of tenants t es))) t
 
--- Whatever the others call and are told, and whatever each sweep keeps of the lent blobs: where no reply to a tenant is one that others can
--- cause, its replies, and its part at the end, are those of its commands alone.
-abbrev pub TenantsAreAlone : Type 0
-TenantsAreAlone = (tenants : List Tenant) (slots max_blob t : ℕ) (es : List Event) (C' : Catalog) →
-    IsFair tenants slots max_blob es C' → AllByRecursion IsUncrowded (events_of tenants t es) → IsAlone tenants slots max_blob t es C'
+-- If no reply to a tenant is one that others may cause, its replies and its view at the end are those of its isolated run.
+abbrev pub TenantsAreIsolated : Type 0
+TenantsAreIsolated = (tenants : List Tenant) (slots max_blob t : ℕ) (es : List Event) (C' : Catalog) →
+    IsCollisionFreeRun tenants slots max_blob es C' → AllByRecursion IsUnaffectedByOthers (events_of tenants t es) → IsIsolated tenants slots max_blob t es C'
 
--- So the book's text is the same after any two runs that have the same commands in the same order for each tenant.
+-- The store's text is the same after two such runs in which each tenant makes the same commands in the same order.
 abbrev pub TextsAreTheSame : Type 0
 TextsAreTheSame = (tenants : List Tenant) (slots max_blob : ℕ) (es fs : List Event) (C' D' : Catalog) →
-    IsFair tenants slots max_blob es C' → AllByRecursion IsUncrowded es → IsFair tenants slots max_blob fs D' → AllByRecursion IsUncrowded fs →
-    ((t : ℕ) → commands (events_of tenants t es) ≡ commands (events_of tenants t fs)) → book_text C' ≡ book_text D'
+    IsCollisionFreeRun tenants slots max_blob es C' → AllByRecursion IsUnaffectedByOthers es → IsCollisionFreeRun tenants slots max_blob fs D' → AllByRecursion IsUnaffectedByOthers fs →
+    ((t : ℕ) → commands_of (events_of tenants t es) ≡ commands_of (events_of tenants t fs)) → book_text C' ≡ book_text D'

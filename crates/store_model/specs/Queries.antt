@@ -1,13 +1,13 @@
--- What is told of a catalog beside the commands. A query changes nothing, is counted nowhere, and is no event of a run.
+-- The queries of a catalog. A query changes nothing, is not counted, and is no event of a run.
 use Rattle.std.specs.Prelude.{ℕ, ◌+◌, ◌-◌, Result, Ok, length}
 use Rattle.std.specs.FinMap as fmap
 use Rattle.blob_digest.specs.declared.refusal.Refusal.{Refusal}
-use Rattle.finite_maps.specs.Texts.{Text}
-use Rattle.store_model.specs.Catalog.{Catalog, quota_of, used}
+use Rattle.spec_lib.specs.Texts.{Text}
+use Rattle.store_model.specs.Catalog.{Catalog, quota_of, used_bytes}
 use Rattle.store_model.specs.Commands.{◌>>=◌, tenant, linked_blob, get_manifest}
 use Rattle.store_model.specs.declared.usage.Usage.{Usage}
 
--- the size of a blob that is linked in a repository (OCI Distribution Specification 1.1, "Checking if content exists in the registry")
+-- the size of a blob that a repository contains (OCI Distribution Specification 1.1, "Checking if content exists in the registry")
 abbrev pub stat : Catalog → Text → Text → Result ℕ Refusal
 stat C repo digest = do
   _ ← tenant C repo
@@ -20,12 +20,12 @@ stat_manifest C repo name = do
   bytes ← get_manifest C repo name
   Ok (length bytes)
 
--- what the tenant of a repository uses, and its quota
+-- the use and the quota of a repository's tenant
 abbrev pub usage : Catalog → Text → Result Usage Refusal
 usage C repo = do
   t ← tenant C repo
-  Ok (record { used = used C t; quota = quota_of C t })
+  Ok (record { used = used_bytes C t; quota = quota_of C t })
 
--- How many slots are free: neither used, be it by a condemned blob, nor retired. Where it is 0, a digest that isn't kept finds the store full.
+-- the number of slots that are neither used nor retired
 abbrev pub free_slots : Catalog → ℕ
 free_slots C = C.slots - (fmap.len C.residents + C.retired)

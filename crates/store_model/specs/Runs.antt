@@ -1,11 +1,11 @@
--- Commands with their replies, and runs of them and of sweeps.
+-- Commands with their replies, and runs of commands and sweeps.
 use Rattle.std.specs.Prelude.{◌≡◌, ◌≤◌, ◌⊎◌, ℕ, Bool, true, false, Option, Some, None, Result, Ok, Err, List, [], ◌∷◌, length}
 use Rattle.std.specs.List.{AllByRecursion}
 use Rattle.blob_digest.specs.declared.range.ByteRange.{ByteRange}
 use Rattle.blob_digest.specs.declared.refusal.Refusal.{Refusal}
 use Rattle.blob_digest.specs.declared.refusal.Refusal.TheVariants.{Memory}
 use Rattle.store_model.specs.declared.mount.Mount as mount
-use Rattle.finite_maps.specs.Texts.{Text}
+use Rattle.spec_lib.specs.Texts.{Text}
 use Rattle.store_model.specs.Catalog.{Catalog}
 use Rattle.store_model.specs.Invariant.{Sound}
 use Rattle.store_model.specs.Commands
@@ -13,7 +13,7 @@ use Rattle.store_model.specs.Commands.{Outcome}
 use Rattle.store_model.specs.declared.swept.Swept.{Swept as SweptCounts}
 use Rattle.store_model.specs.Sweep.{IsSweep}
 
--- the commands that name a repository first, with what else they are given
+-- a command: its repository and its other arguments
 pub data Command : Type 0 where
   Start : Text → Command
   Status : Text → ℕ → Command
@@ -27,7 +27,7 @@ pub data Command : Type 0 where
   DeleteManifest : Text → Text → Command
   Lease : Text → Text → Command
 
--- the repository that a command names first: its tenant is the caller
+-- the first repository of a command, whose tenant is the caller
 abbrev pub repo_of : Command → Text
 repo_of (Start r) = r
 repo_of (Status r n) = r
@@ -41,40 +41,40 @@ repo_of (GetManifest r m) = r
 repo_of (DeleteManifest r m) = r
 repo_of (Lease r d) = r
 
--- an answer: a number or a length, what a mount came to, a digest or bytes, or that it is done
+-- the result of a command: a number or length, the result of a mount, a digest or bytes, or nothing
 pub data Answer : Type 0 where
   Number : ℕ → Answer
   Mounting : mount.Mount → Answer
   Bytes : Text → Answer
   Done : Answer
 
--- an outcome with its answer told as another
-abbrev pub answered : {A B : Type 0} → (A → B) → Outcome A → Outcome B
-answered f (Ok x) = Ok (f x.0, x.1)
-answered f (Err e) = Err e
+-- an outcome with its result mapped by f
+abbrev pub map_outcome : {A B : Type 0} → (A → B) → Outcome A → Outcome B
+map_outcome f (Ok x) = Ok (f x.0, x.1)
+map_outcome f (Err e) = Err e
 
--- what a command answers that changes nothing
-abbrev pub reading : {A : Type 0} → (A → Answer) → Catalog → Result A Refusal → Outcome Answer
-reading f C (Ok a) = Ok (f a, C)
-reading f C (Err e) = Err e
+-- the outcome of a command that changes nothing, from its result
+abbrev pub reading_outcome : {A : Type 0} → (A → Answer) → Catalog → Result A Refusal → Outcome Answer
+reading_outcome f C (Ok a) = Ok (f a, C)
+reading_outcome f C (Err e) = Err e
 
--- what a command answers and leaves, where the slot of what it lends is crowded or isn't
+-- the outcome of a command; `crowded` is whether the slot that it leases has too many readers
 abbrev pub outcome : Bool → Catalog → Command → Outcome Answer
-outcome crowded C (Start r) = answered Number (Commands.start C r)
-outcome crowded C (Status r n) = reading Number C (Commands.status C r n)
-outcome crowded C (Append r n g b) = answered Number (Commands.append C r n g b)
-outcome crowded C (Close r n d g b) = answered Number (Commands.close C r n d g b)
-outcome crowded C (Abandon r n) = answered Number (Commands.abandon C r n)
-outcome crowded C (Mount r d from) = answered Mounting (Commands.mount C r d from)
-outcome crowded C (Delete r d) = answered (λ _. Done) (Commands.delete C r d)
-outcome crowded C (PutManifest r b) = answered Bytes (Commands.put_manifest C r b)
-outcome crowded C (GetManifest r m) = reading Bytes C (Commands.get_manifest C r m)
-outcome crowded C (DeleteManifest r m) = answered (λ _. Done) (Commands.delete_manifest C r m)
-outcome crowded C (Lease r d) = answered Bytes (Commands.lease crowded C r d)
+outcome crowded C (Start r) = map_outcome Number (Commands.start C r)
+outcome crowded C (Status r n) = reading_outcome Number C (Commands.status C r n)
+outcome crowded C (Append r n g b) = map_outcome Number (Commands.append C r n g b)
+outcome crowded C (Close r n d g b) = map_outcome Number (Commands.close C r n d g b)
+outcome crowded C (Abandon r n) = map_outcome Number (Commands.abandon C r n)
+outcome crowded C (Mount r d from) = map_outcome Mounting (Commands.mount C r d from)
+outcome crowded C (Delete r d) = map_outcome (λ _. Done) (Commands.delete C r d)
+outcome crowded C (PutManifest r b) = map_outcome Bytes (Commands.put_manifest C r b)
+outcome crowded C (GetManifest r m) = reading_outcome Bytes C (Commands.get_manifest C r m)
+outcome crowded C (DeleteManifest r m) = map_outcome (λ _. Done) (Commands.delete_manifest C r m)
+outcome crowded C (Lease r d) = map_outcome Bytes (Commands.lease crowded C r d)
 
--- ---- the cases of a step
+-- ---- the cases of a command
 
--- whether a command takes memory
+-- whether a command may allocate
 abbrev pub takes_memory : Command → Bool
 takes_memory (Status r n) = false
 takes_memory (Abandon r n) = false
@@ -82,51 +82,52 @@ takes_memory (Delete r d) = false
 takes_memory (DeleteManifest r m) = false
 takes_memory command = true
 
--- A command and its reply lead from one catalog to another: the reply is an outcome's, or memory was refused. A refusal changes nothing.
-abbrev pub IsCase : Catalog → Command → Result Answer Refusal → Catalog → Type 0
-IsCase C command (Ok a) C' = outcome false C command ≡ Ok (a, C')
-IsCase C command (Err e) C' = (((crowded : Bool) × (outcome crowded C command ≡ Err e)) ⊎ ((e ≡ Memory) × (takes_memory command ≡ true))) × (C' ≡ C)
+-- a command with this reply leads from one catalog to another: by its outcome, or unchanged with `Memory`
+abbrev pub IsCommandCase : Catalog → Command → Result Answer Refusal → Catalog → Type 0
+IsCommandCase C command (Ok a) C' = outcome false C command ≡ Ok (a, C')
+IsCommandCase C command (Err e) C' = (((crowded : Bool) × (outcome crowded C command ≡ Err e)) ⊎ ((e ≡ Memory) × (takes_memory command ≡ true))) × (C' ≡ C)
 
 -- ---- runs
 
--- a command with its reply, or a sweep with its counts
+-- an event of a run: a command with its reply, or a sweep with its counts
 pub data Event : Type 0 where
-  Called : Command → Result Answer Refusal → Event
-  Swept : SweptCounts → Event
+  CommandEvent : Command → Result Answer Refusal → Event
+  SweepEvent : SweptCounts → Event
 
+-- an event leads from one catalog to another
 abbrev pub Happens : Catalog → Event → Catalog → Type 0
-Happens C (Called command reply) C' = IsCase C command reply C'
-Happens C (Swept swept) C' = IsSweep C swept C'
+Happens C (CommandEvent command reply) C' = IsCommandCase C command reply C'
+Happens C (SweepEvent swept) C' = IsSweep C swept C'
 
--- events in turn lead from one catalog to another
+-- a list of events, one after another, leads from one catalog to another
 abbrev pub IsRun : Catalog → List Event → Catalog → Type 0
 IsRun C [] C' = C' ≡ C
 IsRun C (e ∷ es) C' = (mid : Catalog) × Happens C e mid × IsRun mid es C'
 
--- the name that a command is given first is as short as a repository's
-abbrev pub IsNamed : Event → Type 0
-IsNamed (Called command reply) = length (repo_of command) ≤ 255
-IsNamed (Swept swept) = Unit {0}
+-- the first repository name of a command has at most 255 bytes
+abbrev pub HasShortName : Event → Type 0
+HasShortName (CommandEvent command reply) = length (repo_of command) ≤ 255
+HasShortName (SweepEvent swept) = Unit {0}
 
--- Commands and sweeps lead from a sound catalog to a sound one.
+-- Every run from a sound catalog leads to a sound catalog, if its repository names have at most 255 bytes.
 abbrev pub RunsStaySound : Type 0
-RunsStaySound = (C C' : Catalog) (es : List Event) → AllByRecursion IsNamed es → IsRun C es C' → Sound C → Sound C'
+RunsStaySound = (C C' : Catalog) (es : List Event) → AllByRecursion HasShortName es → IsRun C es C' → Sound C → Sound C'
 
--- ---- a run of what is wanted: a command each, or a sweep
+-- ---- a run of given commands and sweeps
 
--- what a list of events was asked to do
-abbrev pub asked : List Event → List (Option Command)
-asked [] = []
-asked (Called command reply ∷ es) = Some command ∷ asked es
-asked (Swept s ∷ es) = None ∷ asked es
+-- the requests of a list of events: a command, or none for a sweep
+abbrev pub asked_commands : List Event → List (Option Command)
+asked_commands [] = []
+asked_commands (CommandEvent command reply ∷ es) = Some command ∷ asked_commands es
+asked_commands (SweepEvent s ∷ es) = None ∷ asked_commands es
 
--- from this catalog there is a run of what is wanted
+-- a run of these requests exists from the catalog C
 pub record HasRun (C : Catalog) (wanted : List (Option Command)) : Type 0 where
   pub events : List Event
   pub last : Catalog
   pub run : IsRun C events last
-  pub as_asked : asked events ≡ wanted
+  pub as_asked : asked_commands events ≡ wanted
 
--- Every list of commands and sweeps has a run, from every catalog.
+-- Every list of commands and sweeps has a run from every catalog.
 abbrev pub RunsExist : Type 0
 RunsExist = (wanted : List (Option Command)) (C : Catalog) → HasRun C wanted

@@ -1,26 +1,31 @@
--- What a sweep does.
+-- The relation between the catalogs before and after a sweep.
 use Rattle.std.specs.Prelude.{◌≡◌, ◌+◌, ◌==◌, ◌&&◌, not, Bool, true, false, Option, Some, None, count_by, is_none}
 use Rattle.std.specs.FinMap as fmap
-use Rattle.finite_maps.specs.Texts.{Text}
-use Rattle.store_model.specs.Catalog.{Resident, Catalog, count}
+use Rattle.spec_lib.specs.Texts.{Text}
+use Rattle.store_model.specs.Catalog.{Resident, Catalog, link_count}
 use Rattle.store_model.specs.declared.swept.Swept.{Swept}
 
--- whether no repository holds a digest
+-- whether no repository contains a digest
 abbrev pub is_orphan : Catalog → Text → Bool
-is_orphan C digest = count C digest == 0
+is_orphan C digest = link_count C digest == 0
 
--- What a sweep leaves of a blob. One that is linked stays as it is. An orphan is gone, or was lent and is condemned.
-abbrev pub IsLeft : Bool → Resident → Option Resident → Type 0
-IsLeft false b now = now ≡ Some b
-IsLeft true b None = Unit {0}
-IsLeft true b (Some now) = (b.lent ≡ true) × (now ≡ record b { condemned = true })
+-- a sweep keeps a linked blob unchanged, and removes an orphan or, if it was ever leased, may condemn it
+abbrev pub IsAfterSweep : Bool → Resident → Option Resident → Type 0
+IsAfterSweep false b now = now ≡ Some b
+IsAfterSweep true b None = Unit {0}
+IsAfterSweep true b (Some now) = (b.lent ≡ true) × (now ≡ record b { condemned = true })
 
--- A sweep changes orphans alone. It counts those that it condemned, those that are gone, by freed and by retired slots, and those that
--- are left condemned. Which of the lent ones are gone is for their readers to say, and not for the catalog.
+-- A sweep changes only orphans and reports its counts; the catalog does not determine which leased orphans it removes.
 pub record IsSweep (C : Catalog) (swept : Swept) (C' : Catalog) : Type 0 where
-  pub orphans : (d : Text) (b : Resident) → fmap.get C.residents d ≡ Some b → IsLeft (is_orphan C d) b (fmap.get C'.residents d)
+  -- each orphan is removed or condemned, and every other blob is unchanged
+  pub orphans : (d : Text) (b : Resident) → fmap.get C.residents d ≡ Some b → IsAfterSweep (is_orphan C d) b (fmap.get C'.residents d)
+  -- no blob is added
   pub no_others : (d : Text) → fmap.get C.residents d ≡ None → fmap.get C'.residents d ≡ None
+  -- only the blobs and the number of retired slots change
   pub rest : C' ≡ record C { residents = C'.residents; retired = C.retired + swept.retired }
+  -- `condemned` is the number of orphans that were not condemned before
   pub condemned : swept.condemned ≡ count_by (λ e. is_orphan C e.0 && not e.1.condemned) (fmap.entries C.residents)
+  -- `freed` plus `retired` is the number of removed blobs
   pub gone : swept.freed + swept.retired ≡ count_by (λ e. is_none (fmap.get C'.residents e.0)) (fmap.entries C.residents)
+  -- `held` is the number of condemned blobs that remain
   pub held : swept.held ≡ count_by (λ e. e.1.condemned) (fmap.entries C'.residents)

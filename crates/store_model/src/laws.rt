@@ -1,53 +1,79 @@
-//! Laws of the definitions alone. Each is the contract of a function that does nothing.
+//! States the theorems about the definitions. Each theorem is the contract of a function with an empty body.
 
 ghost use Rattle.store_model.specs.HistoryIsolation.{
   HistoriesLeaveTheSameText,
-  TenantsAreAloneInHistories,
+  TenantsAreIsolatedInHistories,
 };
 ghost use Rattle.store_model.specs.Invariant.{CountsAreLinks, ReferencedStays, UsesAreDistinct};
-ghost use Rattle.store_model.specs.Noninterference.{TenantsAreAlone, TextsAreTheSame};
+ghost use Rattle.store_model.specs.Noninterference.{TenantsAreIsolated, TextsAreTheSame};
 ghost use Rattle.store_model.specs.Runs.{RunsExist, RunsStaySound};
 ghost use Rattle.store_model.specs.WholeCommands.{HistoriesAreRuns};
 
-/// The count of a digest is the number of links to it, and a tenant's use is the sum over the
-/// distinct digests that its repositories hold and over its sessions, in every lawful catalog.
+/// States what counts and uses are in every well-formed catalog.
+///
+/// - `counts`: the count of a digest is the number of links to it.
+/// - `uses`: a tenant's use is the total size of the distinct blobs that its repositories contain, plus the bytes that
+///   its sessions have received and reserved.
 pub fn counts_and_uses()
     ensures counts { CountsAreLinks }
     ensures uses { UsesAreDistinct }
 {}
 
-/// Commands and sweeps keep a catalog sound, every list of them has a run, and a blob to which a
-/// manifest of its repository refers can't be deleted from it.
+/// States that commands and sweeps keep a catalog sound.
+///
+/// - `runs`: every run from a sound catalog leads to a sound catalog, also if commands fail. The commands' repository
+///   names have at most 255 bytes, as the type `RepoName` ensures.
+/// - `exist`: every list of commands and sweeps has a run from every catalog, so `runs` is not vacuous.
+/// - `referenced`: in a well-formed catalog, a delete of a blob to which a manifest of the repository refers fails with
+///   `Referenced`. The error names the least such manifest.
 pub fn soundness()
     ensures runs { RunsStaySound }
     ensures exist { RunsExist }
     ensures referenced { ReferencedStays }
 {}
 
-/// Tenants don't see each other. Whatever the others do, a tenant is told, and has at the end, what
-/// its own commands alone would give. So the text of the book depends only on the commands of each
-/// tenant, in their order. This is said of every list of commands and sweeps in which no reply to the
-/// tenant is that the store is full, that a blob has too many readers, or that memory runs out, and
-/// no two closes bring different bytes that have the same digest.
+/// States that tenants are isolated from each other (noninterference).
+///
+/// - `alone`: a tenant's replies, and its view of the catalog at the end, are those of its own commands alone.
+/// - `same_text`: the store's text is the same after two runs in which each tenant makes the same commands in the same
+///   order.
+///
+/// Both hold for every run of commands and sweeps of a new store that meets two premises:
+///
+/// - No reply to the tenant (for `same_text`: to any tenant) is `StoreFull`, `TooManyReaders` or `Memory`.
+/// - No two closes have different contents with the same digest.
 pub fn isolation()
-    ensures alone { TenantsAreAlone }
+    ensures alone { TenantsAreIsolated }
     ensures same_text { TextsAreTheSame }
 {}
 
-/// The same of histories, where a session may be in hand between two steps and others do what they
-/// like meanwhile: a tenant is told, and has at the end, what its own steps alone would give. Its own
-/// hands and their reserves are among its steps, so its refusals for a busy session or a quota are too.
-/// Besides what `isolation` asks, no refusal to the tenant is for want of a count, of which there are
-/// 2^64. So the text of the book depends only on what each tenant asks for, in its order.
+/// States that tenants are isolated from each other in histories, in which sessions are checked out between two steps.
+///
+/// - `alone`: a tenant's steps with their replies, and its view of the catalog at the end, are those of its own requests
+///   alone. Its own check-outs are among its steps, so this includes its `Busy` and `Quota` errors.
+/// - `same_text`: the store's text is the same after two histories in which each tenant makes the same requests in the
+///   same order.
+///
+/// Both hold for every legal history of a new store that meets the premises of `isolation` and a third one:
+///
+/// - No command of the tenant (for `same_text`: of any tenant) fails because a counter would reach 2^64.
+///
+/// The premise about contents then includes those of finishes.
 pub fn isolation_of_histories()
-    ensures alone { TenantsAreAloneInHistories }
+    ensures alone { TenantsAreIsolatedInHistories }
     ensures same_text { HistoriesLeaveTheSameText }
 {}
 
-/// A history in which no reply is `Busy` or `Quota`, and no hand is out at its end, is a run of whole
-/// commands and sweeps with the same replies and the same catalog at the end: its takes are dropped,
-/// and each append and close stands where its hand came back or was finished. A take that was refused
-/// stands for its whole append or close. No refusal is for want of a count.
+/// States that a history free of contention is a run of whole commands and sweeps.
+///
+/// The run has the same replies and the same catalog at the end. Check-outs are dropped. Each append and close happens
+/// when its session is checked in or finished; a failed check-out is its whole append or close.
+///
+/// The theorem holds for every history from a sound new store that meets these premises:
+///
+/// - No reply is `Busy` or `Quota`, and no command fails because a counter would reach 2^64.
+/// - No session is checked out at the end.
+/// - Repository names have at most 255 bytes.
 pub fn whole_commands()
     ensures runs { HistoriesAreRuns }
 {}

@@ -1,11 +1,11 @@
-//! What a blob store is: the catalog that it keeps, what each command and each sweep does to it, what is
-//! printed of it, and what all of that keeps.
+//! Specifies a blob store: its abstract state (the catalog), its commands, its sweeps and its printed text.
 //!
-//! It has definitions and theorems alone. A command is a function from a catalog to a refusal, or to an
-//! answer with the catalog after it; its lines are the refusals in their order. The theorems are the
-//! contracts of the functions of `laws`: a run of commands and sweeps keeps a catalog sound, the counts
-//! and uses are those of the links, and tenants don't see each other. That the code does what the
-//! definitions say is proved in the crates above, whose contracts cite them.
+//! The crate contains definitions and theorems only. A command is a function from a catalog to an error, or to a result
+//! with the catalog after it. The lines of its definition are the checks, in the order of the errors.
+//!
+//! The theorems are the contracts of the functions in `laws`. Runs keep a catalog sound, counts and uses are those of
+//! the links, and tenants are isolated from each other. The crates above prove that the code meets the definitions.
+//! Their contracts cite them.
 #![tactic(auto)]
 
 pub mod laws;

@@ -1,12 +1,12 @@
-//! What a mount comes to.
+//! Defines the result of a mount.
 
-/// What a mount comes to (OCI Distribution Specification 1.1, "Mounting a blob from another
-/// repository").
+/// The result of a mount (OCI Distribution Specification 1.1, "Mounting a blob from another repository").
 #[derive(Clone, Copy, Debug, PartialEq, Eq)]
 pub enum Mount {
-    /// The blob is linked in the repository.
+    /// The blob was linked in the repository.
     Mounted,
-    /// The source doesn't hold the blob or, without one, no repository of the tenant does, and an upload
-    /// session was opened for it: its number.
+    /// The source does not contain the blob, so an upload session with this number was opened.
+    ///
+    /// Without a named source, the source is every repository of the tenant.
     Session(u32),
 }

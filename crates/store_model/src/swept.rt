@@ -1,14 +1,14 @@
-//! What a sweep did.
+//! Defines the counts of a sweep.
 
-/// What a sweep did to the blobs that no repository links, and to their slots.
+/// The counts of a sweep, which changes only blobs that no repository contains.
 #[derive(Clone, Copy, Debug, PartialEq, Eq, Drop)]
 pub struct Swept {
-    /// How many blobs were live, and were condemned.
+    /// The number of live blobs that the sweep condemned.
     pub condemned: u32,
-    /// How many slots were freed.
+    /// The number of slots freed.
     pub freed: u32,
-    /// How many slots are held by leases.
+    /// The number of slots that leases hold.
     pub held: u32,
-    /// How many slots were retired, being in the last generation.
+    /// The number of slots retired because they were in the last generation.
     pub retired: u32,
 }

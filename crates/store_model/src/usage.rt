@@ -1,11 +1,11 @@
-//! What a tenant uses.
+//! Defines a tenant's use and quota.
 
-/// What a tenant uses, and how much it may, in bytes.
+/// A tenant's use and quota, in bytes.
 #[derive(Clone, Copy, Debug, PartialEq, Eq, Drop)]
 pub struct Usage {
-    /// The size of each blob that some of the tenant's repositories hold, once, and what its sessions have received
-    /// and reserved. Manifests aren't counted.
+    /// The size of each blob that the tenant's repositories contain, counted once, plus the bytes that its sessions have
+    /// received and reserved. Manifests are not counted.
     pub used: u64,
-    /// The tenant's quota, which never changes.
+    /// The tenant's quota. It never changes.
     pub quota: u64,
 }

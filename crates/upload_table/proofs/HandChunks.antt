@@ -7,14 +7,14 @@ use Rattle.std.proofs.lemmas.Bool.Decides.{nat_tests}
 use Rattle.std.proofs.lemmas.List.{length-take-le, take-append-drop, append-nil}
 use Rattle.std.proofs.lemmas.List.Sums.{sum_by-cons, sum_by_push}
 use Rattle.std.proofs.Math.Seq.{drop-append_seam}
-use Rattle.store_model.specs.Sessions.{Taken, chunks_of, whole_of, with_chunk}
-use Rattle.upload_table.specs.Uploaded.{cut}
-use Rattle.upload_table.specs.Rows.{taken, with_length, IsFilled, IsHand}
-use Rattle.upload_table.specs.declared.hashed.Hashed.{Hashed}
+use Rattle.store_model.specs.Sessions.{HandRecord, chunks_of, hand_content, with_chunk}
+use Rattle.upload_table.specs.Uploaded.{cut_chunks}
+use Rattle.upload_table.specs.Rows.{hand_shown, with_length, IsFilled, IsHand}
+use Rattle.upload_table.specs.declared.hashed.ContentHash.{ContentHash}
 use Rattle.upload_table.specs.declared.upload.ChunkBuffer.{ChunkBuffer}
-use Rattle.upload_table.proofs.Cuts.{concat-cut, cut-more, cut-push, cut-take, sum_by-cut}
+use Rattle.upload_table.proofs.Cuts.{concat-cut_chunks, cut_chunks-more, cut_chunks-push, cut_chunks-take, sum_by-cut_chunks}
 
--- a test that can't hold fails
+-- a test of a false fact is false
 pub is_false : (b : Bool) → (b ≡ true → ⊥) → b ≡ false
 is_false true h = absurd (h refl)
 is_false false h = refl
@@ -23,25 +23,25 @@ some_bytes : (n : ℕ) (b : List ℕ) → 0 < n → n ≤ length b → take n b 
 some_bytes n b some within e = omega (arith, length-take-le n b within, ap length e)
 
 -- chunks of positive lengths are not empty
-pub cut-nonempty : (lens bytes : List ℕ) → sum lens ≤ length bytes → AllByRecursion (λ n. 0 < n) lens → AllByRecursion (λ c. c ≢ []) (cut lens bytes)
-cut-nonempty [] bytes within all = tt
-cut-nonempty (n ∷ lens) bytes within all =
+pub cut_chunks-nonempty : (lens bytes : List ℕ) → sum lens ≤ length bytes → AllByRecursion (λ n. 0 < n) lens → AllByRecursion (λ c. c ≢ []) (cut_chunks lens bytes)
+cut_chunks-nonempty [] bytes within all = tt
+cut_chunks-nonempty (n ∷ lens) bytes within all =
     let total : sum (n ∷ lens) ≡ n + sum lens = sum_by-cons (λ x. x) n lens in
     let rest : sum lens ≤ length (drop n bytes) = omega (arith, length-drop n bytes) in
     let first : n ≤ length bytes = omega arith in
-    (some_bytes n bytes all.0 first, cut-nonempty lens (drop n bytes) rest all.1)
+    (some_bytes n bytes all.0 first, cut_chunks-nonempty lens (drop n bytes) rest all.1)
 
 -- the chunks joined are the front of the bytes
-pub concat-cut-front : (lens bytes : List ℕ) → sum lens ≤ length bytes → concat (cut lens bytes) ≡ take (sum lens) bytes
-concat-cut-front lens bytes within =
+pub concat-cut_chunks-front : (lens bytes : List ℕ) → sum lens ≤ length bytes → concat (cut_chunks lens bytes) ≡ take (sum lens) bytes
+concat-cut_chunks-front lens bytes within =
     let whole : sum lens ≡ length (take (sum lens) bytes) = sym (length-take-le (sum lens) bytes within) in
-    ap concat (sym (cut-take lens bytes within)) ∙ concat-cut lens (take (sum lens) bytes) whole
+    ap concat (sym (cut_chunks-take lens bytes within)) ∙ concat-cut_chunks lens (take (sum lens) bytes) whole
 
--- the chunks, and what follows them as the last one
-pub cut-last : (lens bytes : List ℕ) (n : ℕ) → length bytes ≡ sum lens + n → cut (with_length lens n) bytes ≡ with_chunk (cut lens bytes) (drop (sum lens) bytes)
-cut-last lens bytes n len = at (drop (sum lens) bytes) refl
+-- the bytes are the chunks, followed by the last chunk
+pub cut_chunks-last : (lens bytes : List ℕ) (n : ℕ) → length bytes ≡ sum lens + n → cut_chunks (with_length lens n) bytes ≡ with_chunk (cut_chunks lens bytes) (drop (sum lens) bytes)
+cut_chunks-last lens bytes n len = at (drop (sum lens) bytes) refl
   where
-    at : (last : List ℕ) → drop (sum lens) bytes ≡ last → cut (with_length lens n) bytes ≡ with_chunk (cut lens bytes) last
+    at : (last : List ℕ) → drop (sum lens) bytes ≡ last → cut_chunks (with_length lens n) bytes ≡ with_chunk (cut_chunks lens bytes) last
     at [] is =
         let none : n ≡ 0 = omega (arith, len, length-drop (sum lens) bytes, ap length is) in
         rw none refl
@@ -51,59 +51,59 @@ cut-last lens bytes n len = at (drop (sum lens) bytes) refl
         let within : sum lens ≤ length bytes = omega arith in
         let front : sum lens ≡ length (take (sum lens) bytes) = sym (length-take-le (sum lens) bytes within) in
         let parts : bytes ≡ take (sum lens) bytes ++ (b ∷ bs) = sym (take-append-drop (sum lens) bytes) ∙ ap (λ d. take (sum lens) bytes ++ d) is in
-        rw some (ap (λ k. cut (lens ++ k ∷ []) bytes) (sym more)
-        ∙ ap (cut (lens ++ length (b ∷ bs) ∷ [])) parts
-        ∙ cut-push lens (take (sum lens) bytes) (b ∷ bs) front
-        ∙ ap (λ cs. cs ++ (b ∷ bs) ∷ []) (cut-take lens bytes within))
+        rw some (ap (λ k. cut_chunks (lens ++ k ∷ []) bytes) (sym more)
+        ∙ ap (cut_chunks (lens ++ length (b ∷ bs) ∷ [])) parts
+        ∙ cut_chunks-push lens (take (sum lens) bytes) (b ∷ bs) front
+        ∙ ap (λ cs. cs ++ (b ∷ bs) ∷ []) (cut_chunks-take lens bytes within))
 
-module _ (received reserved : ℕ) (p : ChunkBuffer) (room : ℕ) (whole : Option Hashed) (hand : IsHand received reserved p room whole) where
+module _ (received reserved : ℕ) (p : ChunkBuffer) (room : ℕ) (whole : Option ContentHash) (hand : IsHand received reserved p room whole) where
   -- the chunks are among the bytes
   pub chunks_within : sum p.lens.items ≤ length p.bytes.items
   chunks_within = at whole hand.filled
     where
-      at : (w : Option Hashed) → IsFilled received reserved p room w → sum p.lens.items ≤ length p.bytes.items
+      at : (w : Option ContentHash) → IsFilled received reserved p room w → sum p.lens.items ≤ length p.bytes.items
       at None filled = omega (arith, filled, hand.lengths)
       at (Some w) filled = omega (arith, filled.0, hand.lengths)
 
-  pub hand_received : received ≡ sum_by length (cut p.lens.items p.bytes.items)
-  hand_received = sym hand.lengths ∙ sym (sum_by-cut p.lens.items p.bytes.items chunks_within)
+  pub hand_received : received ≡ sum_by length (cut_chunks p.lens.items p.bytes.items)
+  hand_received = sym hand.lengths ∙ sym (sum_by-cut_chunks p.lens.items p.bytes.items chunks_within)
 
-  pub hand_nonempty : AllByRecursion (λ c. c ≢ []) (cut p.lens.items p.bytes.items)
-  hand_nonempty = cut-nonempty p.lens.items p.bytes.items chunks_within hand.positive
+  pub hand_nonempty : AllByRecursion (λ c. c ≢ []) (cut_chunks p.lens.items p.bytes.items)
+  hand_nonempty = cut_chunks-nonempty p.lens.items p.bytes.items chunks_within hand.positive
 
   -- its bytes are those of all its chunks
-  pub hand_whole : (t n : ℕ) → whole_of (taken t n received reserved p whole) ≡ p.bytes.items
+  pub hand_whole : (t n : ℕ) → hand_content (hand_shown t n received reserved p whole) ≡ p.bytes.items
   hand_whole t n = at whole hand.filled
     where
-      at : (w : Option Hashed) → IsFilled received reserved p room w → concat (cut p.lens.items p.bytes.items) ++ option_map_or (λ b. b) (option_map (λ (r : Hashed). drop received p.bytes.items) w) [] ≡ p.bytes.items
-      at None filled = append-nil (concat (cut p.lens.items p.bytes.items)) ∙ concat-cut p.lens.items p.bytes.items (hand.lengths ∙ sym filled)
-      at (Some w) filled = ap (λ front. front ++ drop received p.bytes.items) (concat-cut-front p.lens.items p.bytes.items chunks_within)
+      at : (w : Option ContentHash) → IsFilled received reserved p room w → concat (cut_chunks p.lens.items p.bytes.items) ++ option_map_or (λ b. b) (option_map (λ (r : ContentHash). drop received p.bytes.items) w) [] ≡ p.bytes.items
+      at None filled = append-nil (concat (cut_chunks p.lens.items p.bytes.items)) ∙ concat-cut_chunks p.lens.items p.bytes.items (hand.lengths ∙ sym filled)
+      at (Some w) filled = ap (λ front. front ++ drop received p.bytes.items) (concat-cut_chunks-front p.lens.items p.bytes.items chunks_within)
           ∙ ap (λ k. take k p.bytes.items ++ drop received p.bytes.items) hand.lengths ∙ take-append-drop received p.bytes.items
 
-  -- with the length of the last one, where there is one, its bytes are cut into all its chunks
-  pub hand_chunks : (t n : ℕ) → cut (if is_some whole then with_length p.lens.items reserved else p.lens.items) p.bytes.items ≡ chunks_of (taken t n received reserved p whole)
+  -- with the length of the last chunk, if there is one, the bytes are cut into all chunks
+  pub hand_chunks : (t n : ℕ) → cut_chunks (if is_some whole then with_length p.lens.items reserved else p.lens.items) p.bytes.items ≡ chunks_of (hand_shown t n received reserved p whole)
   hand_chunks t n = at whole hand.filled
     where
-      at : (v : Option Hashed) → IsFilled received reserved p room v → cut (if is_some v then with_length p.lens.items reserved else p.lens.items) p.bytes.items ≡ chunks_of (taken t n received reserved p v)
+      at : (v : Option ContentHash) → IsFilled received reserved p room v → cut_chunks (if is_some v then with_length p.lens.items reserved else p.lens.items) p.bytes.items ≡ chunks_of (hand_shown t n received reserved p v)
       at None filled = refl
       at (Some v) filled =
           let len : length p.bytes.items ≡ sum p.lens.items + reserved = omega (arith, filled.0, hand.lengths) in
-          cut-last p.lens.items p.bytes.items reserved len ∙ ap (λ k. with_chunk (cut p.lens.items p.bytes.items) (drop k p.bytes.items)) hand.lengths
+          cut_chunks-last p.lens.items p.bytes.items reserved len ∙ ap (λ k. with_chunk (cut_chunks p.lens.items p.bytes.items) (drop k p.bytes.items)) hand.lengths
 
   -- a chunk is filled in
-  pub hand_fill : (t n : ℕ) (new : ChunkBuffer) (w : Hashed) (chunk : List ℕ) → (taken t n received reserved p whole).last ≡ None → new.lens.items ≡ p.lens.items → new.bytes.items ≡ p.bytes.items ++ chunk →
-      taken t n received reserved new (Some w) ≡ record (taken t n received reserved p whole) { last = Some chunk }
+  pub hand_fill : (t n : ℕ) (new : ChunkBuffer) (w : ContentHash) (chunk : List ℕ) → (hand_shown t n received reserved p whole).last ≡ None → new.lens.items ≡ p.lens.items → new.bytes.items ≡ p.bytes.items ++ chunk →
+      hand_shown t n received reserved new (Some w) ≡ record (hand_shown t n received reserved p whole) { last = Some chunk }
   hand_fill t n new w chunk empty lens bytes = at whole empty hand.filled
     where
-      at : (v : Option Hashed) → (taken t n received reserved p v).last ≡ None → IsFilled received reserved p room v → taken t n received reserved new (Some w) ≡ record (taken t n received reserved p v) { last = Some chunk }
+      at : (v : Option ContentHash) → (hand_shown t n received reserved p v).last ≡ None → IsFilled received reserved p room v → hand_shown t n received reserved new (Some w) ≡ record (hand_shown t n received reserved p v) { last = Some chunk }
       at None none filled =
-          let chunks : cut new.lens.items new.bytes.items ≡ cut p.lens.items p.bytes.items = rw (lens, bytes) (cut-more p.lens.items p.bytes.items chunk chunks_within) in
+          let chunks : cut_chunks new.lens.items new.bytes.items ≡ cut_chunks p.lens.items p.bytes.items = rw (lens, bytes) (cut_chunks-more p.lens.items p.bytes.items chunk chunks_within) in
           let last : drop received new.bytes.items ≡ chunk = rw bytes (ap (λ k. drop k (p.bytes.items ++ chunk)) (sym filled) ∙ drop-append_seam p.bytes.items chunk) in
           λ i. record { key = (t, n); chunks = chunks i; reserved = reserved; last = Some (last i) }
       at (Some v) none filled = absurd cc
 
--- all chunks of a hand are no longer than what is received and reserved
-pub chunks_of-length : (h : Taken) → IfSome h.last (λ b. length b ≡ h.reserved) → sum_by length (chunks_of h) ≤ sum_by length h.chunks + h.reserved
+-- all chunks of a hand together are no longer than the received and reserved bytes
+pub chunks_of-length : (h : HandRecord) → IfSome h.last (λ b. length b ≡ h.reserved) → sum_by length (chunks_of h) ≤ sum_by length h.chunks + h.reserved
 chunks_of-length h = at h.last
   where
     at : (last : Option (List ℕ)) → IfSome last (λ b. length b ≡ h.reserved) → sum_by length (option_map_or (with_chunk h.chunks) last h.chunks) ≤ sum_by length h.chunks + h.reserved
@@ -111,11 +111,11 @@ chunks_of-length h = at h.last
     at (Some []) fits = omega arith
     at (Some (b ∷ bs)) fits = omega (arith, sum_by_push (λ (c : List ℕ). length c) h.chunks (b ∷ bs), fits)
 
--- so with the one that is filled in they fit into what was reserved
-pub hand_fits : (t n received reserved : ℕ) (p : ChunkBuffer) (room : ℕ) (whole : Option Hashed) → IsHand received reserved p room whole →
-    sum_by length (chunks_of (taken t n received reserved p whole)) ≤ sum_by length (taken t n received reserved p whole).chunks + reserved
-hand_fits t n received reserved p room whole hand = chunks_of-length (taken t n received reserved p whole) (last whole hand.filled)
+-- with the filled chunk, the chunks fit into the received and reserved bytes
+pub hand_fits : (t n received reserved : ℕ) (p : ChunkBuffer) (room : ℕ) (whole : Option ContentHash) → IsHand received reserved p room whole →
+    sum_by length (chunks_of (hand_shown t n received reserved p whole)) ≤ sum_by length (hand_shown t n received reserved p whole).chunks + reserved
+hand_fits t n received reserved p room whole hand = chunks_of-length (hand_shown t n received reserved p whole) (last whole hand.filled)
   where
-    last : (w : Option Hashed) → IsFilled received reserved p room w → IfSome (taken t n received reserved p w).last (λ b. length b ≡ reserved)
+    last : (w : Option ContentHash) → IsFilled received reserved p room w → IfSome (hand_shown t n received reserved p w).last (λ b. length b ≡ reserved)
     last None filled = tt
     last (Some w) filled = omega (arith, filled.0, length-drop received p.bytes.items)

@@ -1,78 +1,112 @@
--- What a tenant's rows and a hand stand for, and what is true of them. What contracts see of `Hand` and `RepoSessions`, and what a `Hand` keeps, is made of these.
-use Rattle.std.specs.Prelude.{◌≡◌, ℕ, ◌+◌, ◌<◌, ◌^◌, ◌==◌, ◌&&◌, ◌++◌, Bool, true, false, List, [], ◌∷◌, Option, Some, None, drop, filter, length, map, sum, sum_by, take, nat_lt, if◌then◌else◌}
+-- The sessions that a tenant's rows show, the checked-out session that a hand shows, and the invariants of both.
+use Rattle.std.specs.Prelude.{◌≡◌, ℕ, ◌+◌, ◌<◌, ◌≤◌, ◌^◌, ◌==◌, ◌&&◌, ◌++◌, Bool, true, false, List, [], ◌∷◌, Option, Some, None, is_some, vec_capacity, drop, filter, length, map, sum, sum_by, take, nat_lt, if◌then◌else◌}
 use Rattle.std.specs.Option.{option_map}
+use Rattle.std.specs.Borrow.{Bor}
 use Rattle.std.specs.List.{AllByRecursion}
+use Rattle.std.specs.declared.cmp.Ordering.TheVariants.{Equal}
 use Rattle.std.specs.FinMap as fmap
 use Rattle.std.specs.Ordering.{nat_cmp}
 use Rattle.blob_digest.specs.Digests.{algorithm_of, hash_text}
 use Rattle.blob_digest.specs.Hashing.{HashesUpload}
-use Rattle.finite_maps.specs.Texts.{Text, same_text}
-use Rattle.store_model.specs.Sessions.{Chunks, Session, Taken}
+use Rattle.blob_digest.specs.Keys.{SessionNumber}
+use Rattle.blob_digest.specs.declared.upload_hashes.UploadHashes.{UploadHashes}
+use Rattle.spec_lib.specs.Texts.{Text, same_text}
+use Rattle.store_model.specs.Sessions.{Chunks, Session, HandRecord, charged_length}
 use Rattle.store_model.specs.Sessions as shown
-use Rattle.upload_table.specs.Tenants.{Numbered}
-use Rattle.upload_table.specs.Uploaded.{cut}
-use Rattle.upload_table.specs.declared.hashed.Hashed.{Hashed}
-use Rattle.upload_table.specs.declared.hashed.Hashed.TheVariants.{All, One}
-use Rattle.upload_table.specs.declared.upload.Content.{Content}
-use Rattle.upload_table.specs.declared.upload.Content.TheVariants.{Home, InHand}
+use Rattle.upload_table.specs.Tenants.{SessionsByNumber}
+use Rattle.upload_table.specs.Uploaded.{cut_chunks}
+use Rattle.upload_table.specs.declared.hashed.ContentHash.{ContentHash}
+use Rattle.upload_table.specs.declared.hashed.ContentHash.TheVariants.{All, One}
+use Rattle.upload_table.specs.declared.upload.SessionContent.{SessionContent}
+use Rattle.upload_table.specs.declared.upload.SessionContent.TheVariants.{Home, InHand}
 use Rattle.upload_table.specs.declared.upload.ChunkBuffer.{ChunkBuffer}
 use Rattle.upload_table.specs.declared.upload.Upload.{Upload}
 
--- the chunks that a row stands for
-abbrev pub chunks_shown : Content → Chunks
-chunks_shown (Home p) = shown.Home (cut p.value.lens.items p.value.bytes.items)
-chunks_shown (InHand received reserved) = shown.InHand received reserved
+-- the bytes of a buffer, cut into its chunks
+abbrev pub cut_buffer : ChunkBuffer → List Text
+cut_buffer p = cut_chunks p.lens.items p.bytes.items
 
+-- the chunks of a checked-in session with this buffer
+abbrev pub home_chunks : ChunkBuffer → Chunks
+home_chunks p = shown.CheckedIn (cut_buffer p)
+
+-- the chunks of a session that is checked out with this buffer, with n bytes reserved
+abbrev pub out_chunks : ChunkBuffer → ℕ → Chunks
+out_chunks p n = shown.CheckedOutWith (length p.bytes.items) n
+
+-- the chunks that a row shows
+abbrev pub chunks_shown : SessionContent → Chunks
+chunks_shown (Home p) = shown.CheckedIn (cut_chunks p.value.lens.items p.value.bytes.items)
+chunks_shown (InHand received reserved) = shown.CheckedOutWith received reserved
+
+-- the session that a row shows
 abbrev pub session_of : Upload → Session
 session_of u = record { repo = u.repo; chunks = chunks_shown u.content }
+
+-- the session of a row that was found with its place
+abbrev pub found_session : ℕ × Bor Upload → Session
+found_session r = session_of r.1.now
+
+-- the row has this number
+abbrev pub HasNumber : ℕ → Upload → Type 0
+HasNumber number u = nat_cmp u.number number ≡ Equal
+
+-- the session, if there is one, is charged for at least the bytes of the buffer
+abbrev pub FitsCharge : Option Session → ChunkBuffer → Type 0
+FitsCharge o p = (s : Session) → o ≡ Some s → length p.bytes.items ≤ charged_length s
 
 -- a row, under its number
 abbrev pub entry_of : Upload → ℕ × Session
 entry_of u = (u.number, session_of u)
 
--- what the rows of a tenant show
-abbrev pub shown_by : ℕ → List Upload → Numbered
-shown_by next rows = record { next = next; sessions = fmap.from_entries (map entry_of rows) }
+-- the next number and the sessions that a tenant's rows show
+abbrev pub sessions_shown : ℕ → List Upload → SessionsByNumber
+sessions_shown next rows = record { next = next; sessions = fmap.from_entries (map entry_of rows) }
 
--- the lengths are those of chunks with bytes, the hashes are those of the bytes, and no last chunk is to come to them
-pub record IsWhole (p : ChunkBuffer) : Type 0 where
+-- the lengths are positive and add up to the bytes, the hashes are those of the bytes, and no filled chunk is pending
+pub record IsConsistentBuffer (p : ChunkBuffer) : Type 0 where
   pub lengths : sum p.lens.items ≡ length p.bytes.items
   pub positive : AllByRecursion (λ n. 0 < n) p.lens.items
   pub hash : HashesUpload p.hashes p.bytes.items
   pub none : p.whole ≡ None
 
--- a row at home has whole chunks
-abbrev pub AreWhole : Content → Type 0
-AreWhole (Home p) = IsWhole p.value
-AreWhole (InHand received reserved) = Unit {0}
+-- the chunks of a checked-in row are whole
+abbrev pub HasConsistentBuffer : SessionContent → Type 0
+HasConsistentBuffer (Home p) = IsConsistentBuffer p.value
+HasConsistentBuffer (InHand received reserved) = Unit {0}
 
--- how many bytes a row has received, and how many it counts in its tenant's use
-abbrev pub content_received : Content → ℕ
+-- the number of bytes that a row has received
+abbrev pub content_received : SessionContent → ℕ
 content_received (Home p) = length p.value.bytes.items
 content_received (InHand received reserved) = received
 
-abbrev pub content_charge : Content → ℕ
+-- the number of bytes that a row counts in its tenant's usage
+abbrev pub content_charge : SessionContent → ℕ
 content_charge (Home p) = length p.value.bytes.items
 content_charge (InHand received reserved) = received + reserved
 
--- whether a row is at home
-abbrev pub is_at_home : Content → Bool
+-- the row is checked in
+abbrev pub is_at_home : SessionContent → Bool
 is_at_home (Home p) = true
 is_at_home (InHand received reserved) = false
 
--- whether a row is in hand with these lengths
-abbrev pub is_out : ℕ → ℕ → Content → Bool
-is_out received reserved (Home p) = false
-is_out received reserved (InHand n m) = n == received && m == reserved
+-- the row with its chunks checked out, and n bytes reserved
+abbrev pub checked_out_row : Upload → ℕ → Upload
+checked_out_row u n = record u { content = InHand (content_received u.content) n }
 
--- A tenant's rows stand in the order of their numbers, which are below the next one, their chunks are whole, and what they count is kept.
+-- the row is checked out with these lengths
+abbrev pub is_out_with : ℕ → ℕ → SessionContent → Bool
+is_out_with received reserved (Home p) = false
+is_out_with received reserved (InHand n m) = n == received && m == reserved
+
+-- the rows are in the order of their numbers, below the next one; their chunks are whole; and their usage is stored
 pub record IsSound (next charged : ℕ) (rows : List Upload) : Type 0 where
   pub order : fmap.is_sorted nat_cmp (map entry_of rows) ≡ true
   pub below : AllByRecursion (λ u. u.number < next) rows
-  pub whole : AllByRecursion (λ u. AreWhole u.content) rows
+  pub whole : AllByRecursion (λ u. HasConsistentBuffer u.content) rows
   pub counted : charged ≡ sum_by (λ u. content_charge u.content) rows
 
--- a row's number, and what it has received
+-- the number of a row, and the number of bytes received
 abbrev pub row_listed : Upload → ℕ × ℕ
 row_listed u = (u.number, content_received u.content)
 
@@ -82,27 +116,56 @@ rows_listed repo rows = map row_listed (filter (λ u. same_text u.repo repo) row
 
 -- ---- hands
 
--- what a hand stands for
-abbrev pub taken : ℕ → ℕ → ℕ → ℕ → ChunkBuffer → Option Hashed → Taken
-taken tenant number received reserved p whole = record { key = (tenant, number); chunks = cut p.lens.items p.bytes.items; reserved = reserved; last = option_map (λ _. drop received p.bytes.items) whole }
+-- a hand of these chunks with n bytes reserved, not filled
+abbrev pub empty_hand : SessionNumber → ℕ → ChunkBuffer → HandRecord
+empty_hand key n p = record { key = key; chunks = cut_buffer p; reserved = n; last = None }
 
--- the hashes have taken in these bytes, or it is their digest by the algorithm that it names
-abbrev pub IsHashOf : Hashed → List ℕ → Type 0
+-- the checked-out session that a hand shows
+abbrev pub hand_shown : ℕ → ℕ → ℕ → ℕ → ChunkBuffer → Option ContentHash → HandRecord
+hand_shown tenant number received reserved p whole = record { key = (tenant, number); chunks = cut_chunks p.lens.items p.bytes.items; reserved = reserved; last = option_map (λ _. drop received p.bytes.items) whole }
+
+-- the hashes are those of these bytes, or the digest is theirs by the algorithm that it names
+abbrev pub IsHashOf : ContentHash → List ℕ → Type 0
 IsHashOf (All hashes) bytes = HashesUpload hashes bytes
 IsHashOf (One digest) bytes = digest ≡ hash_text (algorithm_of digest) bytes
 
--- a chunk of the reserved length follows the others, there is room for its length, and all bytes are hashed; or no chunk does
-abbrev pub IsFilled : ℕ → ℕ → ChunkBuffer → ℕ → Option Hashed → Type 0
+-- the buffer has a hash of all of its bytes
+abbrev pub HasHashOfAll : ChunkBuffer → Type 0
+HasHashOfAll p = (w : ContentHash) × (p.whole ≡ Some w) × IsHashOf w p.bytes.items
+
+-- this hash turns the hashes of the bytes before a chunk into those of the bytes with the chunk
+abbrev pub ExtendsHashes : ContentHash → UploadHashes → UploadHashes → List ℕ → Type 0
+ExtendsHashes hashed old new chunk = (before : List ℕ) → HashesUpload old before → IsHashOf hashed (before ++ chunk) → HashesUpload new (before ++ chunk)
+
+-- the bytes and the hash of all of them are unchanged
+abbrev pub KeepsBytes : ChunkBuffer → ChunkBuffer → Type 0
+KeepsBytes old new = (new.bytes.items ≡ old.bytes.items) × (new.whole ≡ old.whole)
+
+-- the bytes and the lengths are unchanged, and the hash of all bytes is removed
+abbrev pub LosesHash : ChunkBuffer → ChunkBuffer → Type 0
+LosesHash old new = (new.bytes ≡ old.bytes) × (new.lens ≡ old.lens) × (new.whole ≡ None)
+
+-- if a chunk is filled, it has the reserved length, there is room for its length, and all bytes are hashed
+abbrev pub IsFilled : ℕ → ℕ → ChunkBuffer → ℕ → Option ContentHash → Type 0
 IsFilled received reserved p room None = length p.bytes.items ≡ received
 IsFilled received reserved p room (Some whole) = (length p.bytes.items ≡ received + reserved) × (length p.lens.items < room) × IsHashOf whole p.bytes.items
 
-pub record IsHand (received reserved : ℕ) (p : ChunkBuffer) (room : ℕ) (whole : Option Hashed) : Type 0 where
+-- `IsFilled` holds with the room that the buffer's lengths have
+abbrev pub IsFilledBuffer : ℕ → ℕ → ChunkBuffer → Type 0
+IsFilledBuffer received reserved p = IsFilled received reserved p (vec_capacity p.lens) p.whole
+
+-- the buffer is that of a hand with these lengths
+pub record IsHand (received reserved : ℕ) (p : ChunkBuffer) (room : ℕ) (whole : Option ContentHash) : Type 0 where
   pub lengths : sum p.lens.items ≡ received
   pub positive : AllByRecursion (λ n. 0 < n) p.lens.items
   pub hash : HashesUpload p.hashes (take received p.bytes.items)
   pub fits : received + reserved < 2 ^ 64
   pub filled : IsFilled received reserved p room whole
 
--- the lengths with one more, where it isn't 0
+-- the lengths with one more, unless it is 0
 abbrev pub with_length : List ℕ → ℕ → List ℕ
 with_length lens n = if nat_lt 0 n then lens ++ n ∷ [] else lens
+
+-- the lengths, with that of the last chunk if it was filled in and has bytes
+abbrev pub all_lengths : ChunkBuffer → ℕ → List ℕ
+all_lengths p n = if is_some p.whole then with_length p.lens.items n else p.lens.items

@@ -1,28 +1,28 @@
-//! What is in hand of a session: its chunks, outside the table.
+//! A checked-out session: its chunks, outside the table.
 
 ghost use Rattle.std.specs.Prelude.{◌≡◌, ◌≢◌, ◌+◌, ◌<◌, ◌≤◌, ◌^◌, [], Some, None, IfSome, IfOk, IfErr, OnErr, true, false, if◌then◌else◌, is_some, length, sum_by, take};
 ghost use Rattle.std.specs.List.{AllByRecursion};
 ghost use Rattle.blob_digest.specs.Digests.{hash_text, is_digest_of};
 ghost use Rattle.blob_digest.specs.Hashing.{HashesUpload};
-ghost use Rattle.store_model.specs.Sessions.{chunks_of, whole_of};
-ghost use Rattle.upload_table.specs.Uploaded.{cut, BeginsWith};
-ghost use Rattle.store_model.specs.Sessions.{IsFull};
-ghost use Rattle.upload_table.specs.Rows.{with_length, IsFilled, IsHashOf, IsWhole};
-ghost use Rattle.std.specs.Vec.{vec_capacity};
+ghost use Rattle.store_model.specs.Sessions.{chunks_of, hand_content};
+ghost use Rattle.upload_table.specs.Uploaded.{cut_chunks, total_length, BeginsWith, IsRemainderOf};
+ghost use Rattle.store_model.specs.Sessions.{HasNoOpenReserve};
+ghost use Rattle.upload_table.specs.Rows.{all_lengths, cut_buffer, empty_hand, IsFilledBuffer, IsHashOf, IsConsistentBuffer, LosesHash};
 
 use crate::upload::{ChunkBuffer, extend, sum_of};
 use blob_digest::{Algorithm, Blob, Digest};
 use std::marker::Model;
 use std::mem;
 
-/// The chunks of a session in hand, with room reserved for one more. Its bytes are copied and hashed by
-/// `fill` or `fill_last`, which look at no table, so that a table need not be locked for them.
+/// The chunks of a checked-out session, with room reserved for one more.
 ///
-/// It can be neither copied nor dropped: `Uploads::put_back` or `Uploads::finish` takes it.
+/// `fill` and `fill_last` copy and hash that chunk. They do not use the table, so its lock need not be held.
+///
+/// A hand can be neither copied nor dropped: `Uploads::put_back` or `Uploads::finish` consumes it.
 pub struct Hand {
     tenant: u16,
     number: u32,
-    /// Where the session stood among its tenant's when it was taken.
+    /// The session's index among its tenant's sessions at the time of the check-out.
     place: usize,
     received: u64,
     reserved: u64,
@@ -31,25 +31,26 @@ pub struct Hand {
 
 impl Model for Hand {
     ghost use Rattle.std.specs.Vec.{vec_capacity};
-    ghost use Rattle.store_model.specs.Sessions.{Taken, coded_taken};
+    ghost use Rattle.store_model.specs.Sessions.{HandRecord, coded_taken};
 
-    ghost Value = { Taken };
+    ghost Value = { HandRecord };
 
     ghost coded = { coded_taken };
 
-    ghost use Rattle.upload_table.specs.Rows.{taken, IsHand};
+    ghost use Rattle.upload_table.specs.Rows.{hand_shown, IsHand};
 
-    ghost view = { λ h. taken h.tenant h.number h.received h.reserved h.pieces.value h.pieces.value.whole };
+    ghost view = { λ h. hand_shown h.tenant h.number h.received h.reserved h.pieces.value h.pieces.value.whole };
 
     ghost invariant = { λ h. IsHand h.received h.reserved h.pieces.value (vec_capacity h.pieces.value.lens) h.pieces.value.whole };
 }
 
-/// What is left of a hand whose bytes have moved into a blob. `Uploads::forget` or `Uploads::reopen`
-/// takes it.
+/// The remainder of a checked-out session after its bytes moved into a blob.
+///
+/// `Uploads::forget` or `Uploads::reopen` consumes it.
 pub struct PendingClose {
     pub(crate) tenant: u16,
     pub(crate) number: u32,
-    /// Where the session stood among its tenant's when the bytes moved.
+    /// The session's index among its tenant's sessions at the time of the move.
     pub(crate) place: usize,
     pub(crate) pieces: Box<ChunkBuffer>,
 }
@@ -57,11 +58,11 @@ pub struct PendingClose {
 impl Model for PendingClose {
     ghost use Rattle.std.specs.Prelude.{◌≡◌, ◌<◌, None};
     ghost use Rattle.std.specs.List.{AllByRecursion};
-    ghost use Rattle.upload_table.specs.Uploaded.{Rest, coded_rest};
+    ghost use Rattle.upload_table.specs.Uploaded.{HandRemainder, coded_hand_remainder};
 
-    ghost Value = { Rest };
+    ghost Value = { HandRemainder };
 
-    ghost coded = { coded_rest };
+    ghost coded = { coded_hand_remainder };
 
     ghost view = { λ s. record { key = (s.tenant, s.number); lens = s.pieces.value.lens.items; hashes = s.pieces.value.hashes } };
 
@@ -69,7 +70,7 @@ impl Model for PendingClose {
 }
 
 impl Hand {
-    /// The hand of a session's chunks, not filled.
+    /// Returns the unfilled hand of a session's chunks.
     pub(crate) fn new(
         tenant: u16,
         number: u32,
@@ -77,9 +78,9 @@ impl Hand {
         reserved: u64,
         pieces: Box<ChunkBuffer>,
     ) -> Hand
-        requires whole { IsWhole pieces.value }
+        requires whole { IsConsistentBuffer pieces.value }
         requires fits { length pieces.value.bytes.items + reserved < 2 ^ 64 }
-        ensures { result ≡ record { key = (tenant, number); chunks = cut pieces.value.lens.items pieces.value.bytes.items; reserved = reserved; last = None } }
+        ensures { result ≡ empty_hand (tenant, number) reserved pieces.value }
     {
         let received = pieces.bytes.as_slice().len() as u64;
         Hand {
@@ -92,34 +93,35 @@ impl Hand {
         }
     }
 
-    /// The place of the session's tenant.
+    /// Returns the tenant's number.
     pub fn tenant(&self) -> u16
         ensures { result ≡ self.now.key.0 }
     {
         self.tenant
     }
 
-    /// The session's number.
+    /// Returns the session's number.
     pub fn number(&self) -> u32
         ensures { result ≡ self.now.key.1 }
     {
         self.number
     }
 
-    /// Where the session stood among its tenant's when it was taken.
+    /// Returns the session's index among its tenant's sessions at the time of the check-out.
     pub(crate) fn place(&self) -> usize {
         self.place
     }
 
-    /// How many bytes the session had received when it was taken.
+    /// Returns the number of bytes that the session had received when it was checked out.
     pub fn received(&self) -> u64
         ensures { result ≡ sum_by length self.now.chunks }
     {
         self.received
     }
 
-    /// How many bytes are reserved for the chunk, which has this length once it is filled in. None of the
-    /// other chunks is empty.
+    /// Returns the number of bytes reserved for the chunk, which is also its length once it is filled.
+    ///
+    /// No other chunk is empty.
     pub fn reserved(&self) -> u64
         ensures value { result ≡ self.now.reserved }
         ensures pieces { AllByRecursion (λ c. c ≢ []) self.now.chunks }
@@ -128,15 +130,22 @@ impl Hand {
         self.reserved
     }
 
-    /// Whether the chunk was filled in.
+    /// Returns whether the chunk was filled.
     pub fn filled(&self) -> bool
         ensures { result ≡ is_some self.now.last }
     {
         self.pieces.whole.is_some()
     }
 
-    /// Fills in the chunk, of the reserved length: copies and hashes its bytes, and makes the room that
-    /// putting it back takes. An `Err` is out of memory, with the hand as it was.
+    /// Fills the chunk: copies and hashes its bytes, and reserves the room that checking in needs.
+    ///
+    /// # Errors
+    ///
+    /// The unchanged hand: out of memory.
+    ///
+    /// # Cost
+    ///
+    /// Linear in `bytes`. If the session's buffer grows, also linear in the bytes received so far.
     pub fn fill(self, bytes: &[u8]) -> Result<Hand, Hand>
         requires len { length bytes.now ≡ self.reserved }
         requires empty { self.last ≡ None }
@@ -146,9 +155,18 @@ impl Hand {
         self.fill_by(bytes, None)
     }
 
-    /// As `fill`, of a chunk that is to be the last: its bytes are hashed by this algorithm alone, which the
-    /// close's digest is to name. The hand can be put back as well, or finished under a digest by the other
-    /// algorithm; either hashes the chunk once more.
+    /// Fills the chunk as `fill` does, but hashes it by one algorithm only, for a close with that algorithm.
+    ///
+    /// The hand can still be put back, or finished under a digest by the other algorithm. Either hashes the chunk
+    /// once more.
+    ///
+    /// # Errors
+    ///
+    /// The unchanged hand: out of memory.
+    ///
+    /// # Cost
+    ///
+    /// As `fill`. With SHA-512, also linear in the received bytes that have not passed through SHA-512.
     pub fn fill_last(self, bytes: &[u8], algorithm: Algorithm) -> Result<Hand, Hand>
         requires len { length bytes.now ≡ self.reserved }
         requires empty { self.last ≡ None }
@@ -158,7 +176,7 @@ impl Hand {
         self.fill_by(bytes, Some(algorithm))
     }
 
-    /// Fills in the chunk, hashed by the one algorithm that is named, or else so that more can follow.
+    /// Fills the chunk, hashed by the given algorithm only, or so that more chunks can follow.
     fn fill_by(self, bytes: &[u8], algorithm: Option<Algorithm>) -> Result<Hand, Hand>
         requires len { length bytes.now ≡ self.reserved }
         requires empty { self.last ≡ None }
@@ -188,11 +206,11 @@ impl Hand {
         }
     }
 
-    /// The chunks, and then the one that was filled in, where it has bytes. It takes no memory.
+    /// Returns the chunks, including the filled one if it has bytes. Allocates nothing.
     pub(crate) fn into_pieces(self) -> Box<ChunkBuffer>
-        ensures whole { IsWhole result.value }
-        ensures chunks { cut result.value.lens.items result.value.bytes.items ≡ chunks_of self }
-        ensures fits { sum_by length (chunks_of self) ≤ sum_by length self.chunks + self.reserved }
+        ensures whole { IsConsistentBuffer result.value }
+        ensures chunks { cut_buffer result.value ≡ chunks_of self }
+        ensures fits { total_length (chunks_of self) ≤ total_length self.chunks + self.reserved }
     {
         let Hand {
             tenant: _,
@@ -206,20 +224,22 @@ impl Hand {
         pieces
     }
 
-    /// Moves the bytes into a blob of this digest. Where they have another, the chunks come back
-    /// without the one that was filled in. `place` is where the session stands now.
+    /// Moves the bytes into a blob of this digest.
+    ///
+    /// `place` is the session's current index. If the bytes have another digest, returns the chunks without the
+    /// filled one.
     pub(crate) fn seal(
         self,
         digest: &Digest,
         place: usize,
     ) -> Result<(Blob, PendingClose), Box<ChunkBuffer>>
-        requires full { IsFull self }
-        ensures blob { IfOk result (λ r. r.0 ≡ (digest.now, whole_of self)) }
-        ensures agrees { IfOk result (λ r. is_digest_of digest.now (whole_of self) ≡ true) }
-        ensures rest { IfOk result (λ r. BeginsWith r.1 r.0.1 × (r.1.key ≡ self.key) × (cut r.1.lens r.0.1 ≡ self.chunks)) }
-        ensures other { OnErr result (is_digest_of digest.now (whole_of self) ≡ false) }
-        ensures whole { IfErr result (λ p. IsWhole p.value) }
-        ensures chunks { IfErr result (λ p. cut p.value.lens.items p.value.bytes.items ≡ self.chunks) }
+        requires full { HasNoOpenReserve self }
+        ensures blob { IfOk result (λ r. r.0 ≡ (digest.now, hand_content self)) }
+        ensures agrees { IfOk result (λ r. is_digest_of digest.now (hand_content self) ≡ true) }
+        ensures rest { IfOk result (λ r. IsRemainderOf self r.1 r.0.1) }
+        ensures other { OnErr result (is_digest_of digest.now (hand_content self) ≡ false) }
+        ensures whole { IfErr result (λ p. IsConsistentBuffer p.value) }
+        ensures chunks { IfErr result (λ p. cut_buffer p.value ≡ self.chunks) }
     {
         let Hand {
             tenant,
@@ -250,7 +270,7 @@ impl Hand {
         }
     }
 
-    /// Lets a hand go that is of no use.
+    /// Drops a hand that matches no session.
     pub(crate) fn discard(self) {
         let Hand {
             tenant: _,
@@ -263,14 +283,14 @@ impl Hand {
     }
 }
 
-/// Takes the last chunk, where one was filled in, among the lengths and the hashes: its bytes are there, and so is the
-/// room for its length.
+/// Adds the filled chunk, if there is one, to the lengths and the hashes. Its bytes and the room for its length are
+/// there.
 fn add_last(pieces: &mut ChunkBuffer, received: usize, len: u64)
-    requires last { IsFilled received len pieces.old (vec_capacity pieces.old.lens) pieces.old.whole }
+    requires last { IsFilledBuffer received len pieces.old }
     requires front { HashesUpload pieces.old.hashes (take received pieces.old.bytes.items) }
     ensures none { pieces.new.whole ≡ None }
     ensures bytes { pieces.new.bytes.items ≡ pieces.old.bytes.items }
-    ensures lens { pieces.new.lens.items ≡ if is_some pieces.old.whole then with_length pieces.old.lens.items len else pieces.old.lens.items }
+    ensures lens { pieces.new.lens.items ≡ all_lengths pieces.old len }
     ensures hash { HashesUpload pieces.new.hashes pieces.old.bytes.items }
 {
     let Some(hashed) = mem::replace(&mut pieces.whole, None) else {
@@ -285,14 +305,15 @@ fn add_last(pieces: &mut ChunkBuffer, received: usize, len: u64)
     }
 }
 
-/// The digest by an algorithm of all bytes, of which so many first ones are those of the chunks. What hashing all of
-/// them gave is used up.
+/// Returns the digest of all bytes by an algorithm, and removes the hash of all bytes.
+///
+/// `hashes` describes the first `received` bytes.
 fn whole_digest(pieces: &mut ChunkBuffer, received: usize, algorithm: Algorithm) -> Digest
     requires within { received ≤ length pieces.old.bytes.items }
     requires front { HashesUpload pieces.old.hashes (take received pieces.old.bytes.items) }
     requires all { IfSome pieces.old.whole (λ w. IsHashOf w pieces.old.bytes.items) }
     ensures value { result ≡ hash_text algorithm pieces.old.bytes.items }
-    ensures kept { (pieces.new.bytes ≡ pieces.old.bytes) × (pieces.new.lens ≡ pieces.old.lens) × (pieces.new.whole ≡ None) }
+    ensures kept { LosesHash pieces.old pieces.new }
     ensures same { HashesUpload pieces.new.hashes (take received pieces.old.bytes.items) }
 {
     let whole = mem::replace(&mut pieces.whole, None);
@@ -304,11 +325,11 @@ fn whole_digest(pieces: &mut ChunkBuffer, received: usize, algorithm: Algorithm)
 }
 
 impl PendingClose {
-    /// The chunks again, their bytes moved back out of a blob that begins with them.
+    /// Moves the bytes back out of a blob that begins with the chunks.
     pub(crate) fn into_pieces(self, blob: Blob) -> Box<ChunkBuffer>
         requires { BeginsWith self blob.1 }
-        ensures whole { IsWhole result.value }
-        ensures chunks { cut result.value.lens.items result.value.bytes.items ≡ cut self.lens blob.1 }
+        ensures whole { IsConsistentBuffer result.value }
+        ensures chunks { cut_buffer result.value ≡ cut_chunks self.lens blob.1 }
     {
         let PendingClose {
             tenant: _,

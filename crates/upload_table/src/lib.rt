@@ -1,18 +1,18 @@
 //! Open upload sessions, by tenant and number (OCI Distribution Specification 1.1, "Pushing blobs").
 //!
-//! A session is the list of its chunks. The table keeps each session's bytes, the lengths of its
-//! chunks and the hashes of the bytes so far. Each tenant has its own sessions, at most 64, and no call
-//! goes over another tenant's. The crate stands on `blob_digest` alone. It promises that each call does
-//! what `specs/` says of it, and that a refused call changes nothing, but for `finish`.
+//! A session is a list of chunks. The table keeps each session's bytes, the lengths of its chunks and the hashes of
+//! its bytes. Each tenant has its own sessions, at most 64, and no call reads another tenant's. Every contract is
+//! stated with the definitions in `specs/`. A failed call changes nothing, except `finish`.
 //!
-//! A session changes by way of a `Hand`: `take` moves its chunks out of the table and reserves bytes for
-//! one more, `Hand::fill` copies and hashes that one without the table, and `put_back` moves all of them
-//! in again. To close a session, `finish` moves the bytes of the hand into a blob, and then `forget`
-//! drops the session, or `reopen` takes the blob back and leaves the session as before it was taken.
-//! `fill` alone copies bytes: those of its chunk, and those before them where their list has to grow. Each
-//! byte goes through SHA-256 once, as it comes, and through SHA-512 once where a close asks for it; those of a last
-//! chunk go through the one alone that the close asks for, where `Hand::fill_last` is told which, and through
-//! SHA-256 as well where the hand is put back after all.
+//! A chunk is appended in three steps. `take` checks a session out into a `Hand` and reserves bytes for one more
+//! chunk. `Hand::fill` copies and hashes that chunk without the table. `put_back` checks the session in again. To
+//! close a session, `finish` moves the bytes of the hand into a blob. After that, `forget` removes the session, or
+//! `reopen` moves the bytes back and restores the session.
+//!
+//! `fill` alone copies bytes: those of its chunk, and all earlier ones if the buffer has to grow. Each byte passes
+//! through SHA-256 once, when it arrives, and through SHA-512 once if a close asks for it. If `Hand::fill_last` names
+//! the algorithm of the close, the last chunk passes through that one only, and also through SHA-256 if the hand is
+//! put back.
 #![tactic(auto)]
 
 mod hand;

@@ -1,22 +1,23 @@
-//! The open sessions of a repository, one after the other.
+//! An iterator over the open sessions of a repository.
 
 ghost use Rattle.std.specs.Prelude.{◌≡◌, position};
 ghost use Rattle.std.specs.Iterator.{YieldsFirst, item_count};
-ghost use Rattle.finite_maps.specs.Texts.{same_text};
+ghost use Rattle.spec_lib.specs.Texts.{same_text};
 
 use crate::upload::{Upload, received_of};
 use blob_digest::RepoName;
 use std::marker::Model;
 
-/// Where the first session for a repository stands.
+/// Returns the index of the first session for the repository.
 fn place_of(rows: &[Upload], repo: &RepoName) -> Option<usize>
     ensures { result ≡ position (λ u. same_text u.repo repo.now) rows.now }
 {
     rows.iter().position(|row| row.repo == *repo)
 }
 
-/// The open sessions of a repository, in the order of their numbers: of each its number, and how many
-/// bytes it has received. Contracts see those that are left.
+/// An iterator over the open sessions of a repository, in the order of their numbers.
+///
+/// It yields each session's number and the number of bytes received. Contracts see the items that remain.
 #[derive(Drop)]
 pub struct RepoSessions<'a> {
     pub(crate) rest: &'a [Upload],

@@ -1,34 +1,33 @@
-//! An open session, and its chunks.
+//! An open session and its chunks.
 
 ghost use Rattle.std.specs.Prelude.{◌≡◌, ◌+◌, ◌<◌, ◌^◌, ◌++◌, [], OnOk, OnErr, Some, length, sum, true};
 ghost use Rattle.std.specs.Vec.{vec_capacity};
 ghost use Rattle.blob_digest.specs.Hashing.{HashesUpload};
 ghost use Rattle.store_model.specs.Sessions.{length_after as length_after_chunk};
-ghost use Rattle.upload_table.specs.Rows.{content_charge, content_received, is_at_home, is_out, IsHashOf, IsWhole};
-ghost use Rattle.upload_table.specs.Uploaded.{cut};
-ghost use Rattle.upload_table.specs.declared.hashed.Hashed.{Hashed};
-ghost use Rattle.upload_table.specs.declared.upload.Content.TheVariants.{Home, InHand};
+ghost use Rattle.upload_table.specs.Rows.{checked_out_row, content_charge, content_received, cut_buffer, is_at_home, is_out_with, HasHashOfAll, IsConsistentBuffer, KeepsBytes};
+ghost use Rattle.upload_table.specs.declared.upload.SessionContent.TheVariants.{Home};
 
-use crate::hashed::Hashed;
+use crate::hashed::ContentHash;
 use blob_digest::{Algorithm, ByteRange, Refusal, RepoName, UploadHashes};
 use std::alloc::{AllocError, Global};
 use std::mem;
 
-/// The chunks of a session: their bytes, one after another, their lengths, and the hashes of the bytes.
+/// The chunks of a session: their concatenated bytes, their lengths, and the hashes of the bytes.
 #[derive(Drop)]
 pub(crate) struct ChunkBuffer {
     pub(crate) bytes: Vec<u8>,
     pub(crate) lens: Vec<u64>,
     pub(crate) hashes: UploadHashes,
-    /// What hashing all bytes gave, where the last of them are a chunk of a hand, which is neither among the lengths
-    /// nor among the hashes yet.
-    pub(crate) whole: Option<Hashed>,
+    /// The hash of all bytes. It is set while the buffer ends with a filled chunk that is not yet part of `lens` and
+    /// `hashes`.
+    pub(crate) whole: Option<ContentHash>,
 }
 
-/// What the table has of a session: its chunks, or only their length while they are in hand. The chunks lie in a box, so
-/// that they go into a hand and back without a copy of the hashes' state.
+/// The content of a session: its chunks, or only their lengths while the session is checked out.
+///
+/// The chunks are boxed, so that checking a session out or in does not copy the state of the hashes.
 #[derive(Drop)]
-pub(crate) enum Content {
+pub(crate) enum SessionContent {
     Home(Box<ChunkBuffer>),
     InHand { received: u64, reserved: u64 },
 }
@@ -38,14 +37,14 @@ pub(crate) enum Content {
 pub(crate) struct Upload {
     pub(crate) number: u32,
     pub(crate) repo: RepoName,
-    pub(crate) content: Content,
+    pub(crate) content: SessionContent,
 }
 
 impl ChunkBuffer {
-    /// No chunks. It takes no memory.
+    /// Returns a buffer without chunks. Allocates nothing.
     pub(crate) fn new(alloc: Global) -> ChunkBuffer
-        ensures whole { IsWhole result }
-        ensures none { cut result.lens.items result.bytes.items ≡ [] }
+        ensures whole { IsConsistentBuffer result }
+        ensures none { cut_buffer result ≡ [] }
         ensures empty { result.bytes.items ≡ [] }
     {
         ChunkBuffer {
@@ -57,61 +56,66 @@ impl ChunkBuffer {
     }
 }
 
-/// How many bytes a session has received.
-pub(crate) fn received_of(content: &Content) -> u64
+/// Returns the number of bytes that a session has received.
+pub(crate) fn received_of(content: &SessionContent) -> u64
     ensures { result ≡ content_received content.now }
 {
     match content {
-        Content::Home(pieces) => pieces.bytes.as_slice().len() as u64,
-        Content::InHand {
+        SessionContent::Home(pieces) => pieces.bytes.as_slice().len() as u64,
+        SessionContent::InHand {
             received,
             reserved: _,
         } => *received,
     }
 }
 
-/// How many bytes a session counts in its tenant's use.
-pub(crate) fn charge_of(content: &Content) -> u64
+/// Returns the number of bytes that a session counts in its tenant's usage.
+pub(crate) fn charge_of(content: &SessionContent) -> u64
     requires { content_charge content.now < 2 ^ 64 }
     ensures { result ≡ content_charge content.now }
 {
     match content {
-        Content::Home(pieces) => pieces.bytes.as_slice().len() as u64,
-        Content::InHand { received, reserved } => *received + *reserved,
+        SessionContent::Home(pieces) => pieces.bytes.as_slice().len() as u64,
+        SessionContent::InHand { received, reserved } => *received + *reserved,
     }
 }
 
-/// Whether a session is in hand with these lengths.
-pub(crate) fn is_in_hand(content: &Content, received: u64, reserved: u64) -> bool
-    ensures { result ≡ is_out received reserved content.now }
+/// Returns whether a session is checked out with these lengths.
+pub(crate) fn is_in_hand(content: &SessionContent, received: u64, reserved: u64) -> bool
+    ensures { result ≡ is_out_with received reserved content.now }
 {
     match content {
-        Content::Home(_) => false,
-        Content::InHand {
+        SessionContent::Home(_) => false,
+        SessionContent::InHand {
             received: n,
             reserved: m,
         } => *n == received && *m == reserved,
     }
 }
 
-/// Takes the chunks out of a session that is at home, and reserves so many bytes.
+/// Moves the chunks out of a checked-in session, and reserves `len` bytes.
 pub(crate) fn take_chunks(upload: &mut Upload, len: u64) -> Box<ChunkBuffer>
     requires { is_at_home upload.old.content ≡ true }
     ensures pieces { upload.old.content ≡ Home result }
-    ensures row { upload.new ≡ record upload.old { content = InHand (content_received upload.old.content) len } }
+    ensures row { upload.new ≡ checked_out_row upload.old len }
 {
     let received = received_of(&upload.content);
-    let out = Content::InHand {
+    let out = SessionContent::InHand {
         received,
         reserved: len,
     };
     match mem::replace(&mut upload.content, out) {
-        Content::Home(pieces) => pieces,
-        Content::InHand { .. } => unreachable!(),
+        SessionContent::Home(pieces) => pieces,
+        SessionContent::InHand { .. } => unreachable!(),
     }
 }
 
-/// The length of a session after a chunk, from that before it.
+/// Returns the length of a session of `before` bytes after a chunk of `len` bytes.
+///
+/// # Errors
+///
+/// - `SizeInvalid`: the range has another length than the chunk, or the sum exceeds `max_blob`.
+/// - `RangeInvalid`, with the received length: the range does not start at `before`.
 pub(crate) fn length_after(
     before: u64,
     range: Option<ByteRange>,
@@ -136,19 +140,20 @@ pub(crate) fn length_after(
     }
 }
 
-/// Adds the bytes of a chunk at the end, makes room for its length, and keeps what hashing all bytes gives: their
-/// digest by the one algorithm that is named, or else their hashes, behind which more chunks may follow. The chunks' own
-/// hashes stay theirs, so that they need not be hashed again where the last one goes.
+/// Appends the bytes of a chunk, reserves room for its length, and sets the hash of all bytes.
+///
+/// `Some(algorithm)` yields only the digest by that algorithm, `None` a state to which more chunks can be added. The
+/// hashes of the earlier chunks are kept, so removing the last chunk requires no new hashing.
 pub(crate) fn extend(
     pieces: &mut ChunkBuffer,
     chunk: &[u8],
     algorithm: Option<Algorithm>,
 ) -> Result<(), AllocError>
     requires { HashesUpload pieces.old.hashes pieces.old.bytes.items }
-    ensures hash { OnOk result ((w : Hashed) × (pieces.new.whole ≡ Some w) × IsHashOf w pieces.new.bytes.items) }
+    ensures hash { OnOk result (HasHashOfAll pieces.new) }
     ensures bytes { OnOk result (pieces.new.bytes.items ≡ pieces.old.bytes.items ++ chunk.now) }
     ensures room { OnOk result (length pieces.new.lens.items < vec_capacity pieces.new.lens) }
-    ensures err { OnErr result ((pieces.new.bytes.items ≡ pieces.old.bytes.items) × (pieces.new.whole ≡ pieces.old.whole)) }
+    ensures err { OnErr result (KeepsBytes pieces.old pieces.new) }
     ensures lens { pieces.new.lens.items ≡ pieces.old.lens.items }
     ensures front { HashesUpload pieces.new.hashes pieces.old.bytes.items }
 {
@@ -156,12 +161,12 @@ pub(crate) fn extend(
     pieces.lens.reserve(1)?;
     pieces.bytes.extend_from_slice(chunk)?;
     let bytes = pieces.bytes.as_slice();
-    let whole = Hashed::of(&mut pieces.hashes, bytes, received, algorithm);
+    let whole = ContentHash::of(&mut pieces.hashes, bytes, received, algorithm);
     pieces.whole = Some(whole);
     Ok(())
 }
 
-/// The sum of the lengths of some chunks.
+/// Returns the sum of some lengths.
 pub(crate) fn sum_of(lens: &[u64]) -> u64
     requires { sum lens.now < 2 ^ 64 }
     ensures { result ≡ sum lens.now }

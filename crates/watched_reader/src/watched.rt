@@ -1,14 +1,14 @@
 //! A reader that remembers whether a read of it failed.
-ghost use Rattle.std.specs.Prelude.{◌≡◌, true, false, MatchResult};
+ghost use Rattle.std.specs.Prelude.{◌≡◌, false};
 ghost use Rattle.std.specs.Io.{ReadsAtMost};
-ghost use Rattle.std.specs.Io.KnownBytes.{ReadConsumes};
-ghost use Rattle.watched_reader.specs.Watching.{HasNotFailed, has_failed, inner_of};
+ghost use Rattle.watched_reader.specs.Watching.{ReadsFrom, RemembersFailure, has_failed, inner_of};
 
 use std::io;
 use std::io::Read;
 
-/// A reader that remembers whether a read of it failed, so that a fault of reading can be told from
-/// every other one.
+/// A reader that remembers whether a read of it failed.
+///
+/// So a caller can distinguish a failed read from every other failure.
 #[derive(Drop)]
 pub struct Watched<R> {
     inner: R,
@@ -16,7 +16,7 @@ pub struct Watched<R> {
 }
 
 impl<R> Watched<R> {
-    /// A reader of which no read has failed.
+    /// Wraps a reader, of which no read has failed.
     pub fn new(inner: R) -> Watched<R>
         ensures inner { inner_of result ≡ inner }
         ensures failed { has_failed result ≡ false }
@@ -33,8 +33,8 @@ impl<R: Read> Read for Watched<R> {
 
     fn read(&mut self, buf: &mut [u8]) -> io::Result<usize>
         ensures bound { ReadsAtMost result buf.new }
-        ensures bytes { ReadConsumes (R.remaining (inner_of self.old)) (R.remaining (inner_of self.new)) result buf.new }
-        ensures failed { MatchResult result (λ _. HasNotFailed self.old self.new) (λ _. has_failed self.new ≡ true) }
+        ensures bytes { ReadsFrom R.remaining self.old self.new result buf.new }
+        ensures failed { RemembersFailure self.old self.new result }
     {
         match self.inner.read(buf) {
             Ok(count) => Ok(count),

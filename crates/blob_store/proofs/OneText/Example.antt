@@ -1,4 +1,4 @@
--- Two lanes of two tenants, by two workers, of whom the second comes first: any other number of workers writes the same.
+-- Two lanes of two tenants, played by two workers, the second lane first: any other number of workers writes the same.
 use Rattle.std.proofs.Common.{◌≡◌, ◌<◌, ◌≤◌, ℕ, true, List, [], ◌∷◌, Some, Ok, refl, sym, ◌∙◌, arith, inl, subst}
 use Prim.Native.Nat.{zero, suc}
 use Rattle.std.specs.Prelude.{codes}
@@ -7,27 +7,27 @@ use Rattle.std.specs.List.{Contains}
 use Rattle.std.specs.Cmp.Lexicographic.{nat_list_cmp_total}
 use Rattle.std.proofs.lemmas.Bool.{eqb-true, ne_eqb}
 use Rattle.blob_digest.proofs.KeyOrders.{number_cmp_total}
-use Rattle.finite_maps.proofs.Rows.{entries-empty}
-use Rattle.finite_maps.specs.Texts.{Text}
-use Rattle.shared_log.specs.Entries.{entry, events_by}
-use Rattle.shared_log.specs.declared.view.Entry.{Entry}
+use Rattle.spec_lib.proofs.Rows.{entries-empty}
+use Rattle.spec_lib.specs.Texts.{Text}
+use Rattle.ghost_log.specs.Entries.{entry, events_by}
+use Rattle.ghost_log.specs.declared.view.Entry.{Entry}
 use Rattle.store_model.specs.Amounts.{Amounts}
-use Rattle.store_model.specs.Catalog.{Catalog, Session, Tenant, is_tenants, opening}
-use Rattle.store_model.specs.Commands.{new_session, start}
-use Rattle.store_model.specs.Histories.{LeadsTo, Performed, State, Step}
+use Rattle.store_model.specs.Catalog.{Catalog, Session, Tenant, is_repo_of_tenant, opening}
+use Rattle.store_model.specs.Commands.{with_new_session, start}
+use Rattle.store_model.specs.Histories.{LeadsTo, CommandCall, State, Step}
 use Rattle.store_model.specs.Runs.{Number as Numbered}
 use Rattle.store_api.specs.Answers.{Answer, Session as Opened}
 use Rattle.store_api.specs.Commands.{Calls, Start}
-use Rattle.row_player.specs.RowCommands.{command_of}
-use Rattle.row_player.specs.Leases.{none}
-use Rattle.row_player.specs.Plays.{Plays}
-use Rattle.row_player.specs.Rows.{RowView}
-use Rattle.row_player.specs.Shares.{own_answers}
+use Rattle.script_player.specs.RowCommands.{command_of}
+use Rattle.script_player.specs.Leases.{no_leases}
+use Rattle.script_player.specs.Plays.{Plays}
+use Rattle.script_player.specs.Rows.{RowView}
+use Rattle.script_player.specs.Shares.{own_answers}
 use Rattle.store_api.specs.declared.verb.Verb.TheVariants as verb
 use Rattle.locked_book.specs.History.{steps_of}
 use Rattle.blob_store.specs.OneText.{NeitherLeaseNorSweep, PlayedWithinLimits, ShareNoTenant, WriteTheSame}
-use Rattle.blob_store.specs.Seats.{Work, WorkActs}
-use Rattle.blob_store.specs.Workers.{IsInterleaved, IsPlayed, no_work}
+use Rattle.blob_store.specs.StoreBackends.{Work, WorkActs}
+use Rattle.blob_store.specs.Workers.{IsInterleaved, IsPlayed, zero_work}
 use Rattle.blob_store.proofs.OneText.Texts.{one_text}
 
 abbrev tenants : List Tenant
@@ -48,9 +48,9 @@ commands : NeitherLeaseNorSweep rows
 commands = (refl, (refl, tt))
 
 -- a row of these is of the tenant whose number is its lane
-lane_is : (t : ℕ) (r : RowView) → Contains rows r → is_tenants tenants t r.repo ≡ true → r.lane ≡ t
-lane_is t r (zero, lt, is) own = subst (λ (x : RowView). is_tenants tenants t x.repo ≡ true → x.lane ≡ t) is (eqb-true 0 t) own
-lane_is t r (suc zero, lt, is) own = subst (λ (x : RowView). is_tenants tenants t x.repo ≡ true → x.lane ≡ t) is (eqb-true 1 t) own
+lane_is : (t : ℕ) (r : RowView) → Contains rows r → is_repo_of_tenant tenants t r.repo ≡ true → r.lane ≡ t
+lane_is t r (zero, lt, is) own = subst (λ (x : RowView). is_repo_of_tenant tenants t x.repo ≡ true → x.lane ≡ t) is (eqb-true 0 t) own
+lane_is t r (suc zero, lt, is) own = subst (λ (x : RowView). is_repo_of_tenant tenants t x.repo ≡ true → x.lane ≡ t) is (eqb-true 1 t) own
 lane_is t r (suc (suc k), lt, is) own = absurd (omega (arith, lt))
 
 share : ShareNoTenant tenants rows
@@ -62,16 +62,16 @@ abbrev book : Catalog
 book = opening tenants 64 10
 
 abbrev other_open : Catalog
-other_open = new_session book 1 (codes "other/x")
+other_open = with_new_session book 1 (codes "other/x")
 
 abbrev both_open : Catalog
-both_open = new_session other_open 0 (codes "acme/one")
+both_open = with_new_session other_open 0 (codes "acme/one")
 
-abbrev started : Text → Step
-started repo = Performed (Start repo) (Ok (Numbered 1))
+abbrev start_step : Text → Step
+start_step repo = CommandCall (Start repo) (Ok (Numbered 1))
 
 abbrev order : List (Entry Step)
-order = entry 1 (started (codes "other/x")) ∷ entry 0 (started (codes "acme/one")) ∷ []
+order = entry 1 (start_step (codes "other/x")) ∷ entry 0 (start_step (codes "acme/one")) ∷ []
 
 other_starts : start book (codes "other/x") ≡ Ok (1, other_open)
 other_starts = simp (get-empty, entries-empty) refl
@@ -91,20 +91,20 @@ abbrev one_start : Amounts
 one_start = record { commands = 1; received = 0; closed = 0; abandoned = 0 }
 
 abbrev work : Text → Work
-work repo = record { amounts = one_start; steps = started repo ∷ [] }
+work repo = record { amounts = one_start; steps = start_step repo ∷ [] }
 
-start_played : (lane : ℕ) (repo : Text) → command_of (row lane repo) ≡ Ok (Some (Start repo)) → Plays WorkActs (no_work, none) (row lane repo ∷ []) (Opened 1 ∷ []) (work repo, none)
-start_played lane repo spells = ((work repo, none), inl (rw spells (refl, started_work), refl), (λ e. absurd cc), refl)
+start_played : (lane : ℕ) (repo : Text) → command_of (row lane repo) ≡ Ok (Some (Start repo)) → Plays WorkActs (zero_work, no_leases) (row lane repo ∷ []) (Opened 1 ∷ []) (work repo, no_leases)
+start_played lane repo spells = ((work repo, no_leases), inl (rw spells (refl, started_work), refl), (λ e. absurd cc), refl)
   where
-    started_work : WorkActs no_work (Calls (Start repo)) (Opened 1) (work repo)
+    started_work : WorkActs zero_work (Calls (Start repo)) (Opened 1) (work repo)
     started_work = record {
       amounts = record { commands = refl; received = refl; closed = refl; abandoned = λ _. refl };
-      steps = (started repo ∷ [], (Ok (Numbered 1), refl, refl), refl);
+      steps = (start_step repo ∷ [], (Ok (Numbered 1), refl, refl), refl);
     }
 
 lanes : (w : ℕ) → w < 2 → (done : Work) × (done.steps ≡ events_by w order) × IsPlayed 2 w rows done (own_answers 2 w rows answers)
-lanes zero lt = (work (codes "acme/one"), refl, (none, start_played 0 (codes "acme/one") refl))
-lanes (suc zero) lt = (work (codes "other/x"), refl, (none, start_played 1 (codes "other/x") refl))
+lanes zero lt = (work (codes "acme/one"), refl, (no_leases, start_played 0 (codes "acme/one") refl))
+lanes (suc zero) lt = (work (codes "other/x"), refl, (no_leases, start_played 1 (codes "other/x") refl))
 lanes (suc (suc w)) lt = absurd (omega (arith, lt))
 
 others : (n : ℕ) → 2 ≤ n → events_by n order ≡ []

@@ -1,19 +1,19 @@
--- Histories and rows that workers share: what passes a test, where all of it is one worker's.
+-- Histories and rows that workers share: the elements that pass a test, if all of them are one worker's.
 use Rattle.std.proofs.Common.{◌≡◌, ◌≢◌, ◌<◌, ◌%◌, ℕ, Bool, true, false, cond, List, [], ◌∷◌, refl, sym, ap, ◌∙◌}
 use Rattle.std.specs.Prelude.{◌==◌, if◌then◌else◌}
 use Rattle.std.specs.List.{AllByRecursion, filter}
 use Rattle.std.proofs.lemmas.Bool.{eq-eqb, eqb-false, true≢false}
 use Rattle.std.proofs.lemmas.Nat.{mod_below}
-use Rattle.shared_log.specs.declared.view.Entry.{Entry}
-use Rattle.shared_log.specs.Entries.{events_by}
+use Rattle.ghost_log.specs.declared.view.Entry.{Entry}
+use Rattle.ghost_log.specs.Entries.{events_by}
 use Rattle.store_model.specs.Histories.{Step}
-use Rattle.row_player.specs.Shares.{is_own}
+use Rattle.script_player.specs.Shares.{is_own}
 use Rattle.locked_book.specs.History.{steps_of}
 use Rattle.blob_store.proofs.OneText.RowSteps.{Line}
 
 -- ---- steps by their writers
 
--- what all steps of a history have, a writer's have
+-- a fact of all steps of a history holds of a writer's steps
 pub all_by : (P : Step → Type 0) (w : ℕ) (order : List (Entry Step)) → AllByRecursion P (steps_of order) → AllByRecursion P (events_by w order)
 all_by P w [] h = tt
 all_by P w (e ∷ es) h = elim (e.writer == w) as (λ b. AllByRecursion P (if b then e.event ∷ events_by w es else events_by w es)) [
@@ -22,7 +22,7 @@ all_by P w (e ∷ es) h = elim (e.writer == w) as (λ b. AllByRecursion P (if b 
 ]
 
 module _ {A : Type 0} (p : A → Bool) where
-  -- of what leaves nothing, neither the first nor the rest passes
+  -- if a filter leaves nothing, neither the first element nor the rest passes
   none_first : (x : A) (xs : List A) → filter p (x ∷ xs) ≡ [] → p x ≡ false
   none_first x xs h = by (p x) h
     where
@@ -33,7 +33,7 @@ module _ {A : Type 0} (p : A → Bool) where
   none_after : (x : A) (xs : List A) → filter p (x ∷ xs) ≡ [] → filter p xs ≡ []
   none_after x xs h = rw (none_first x xs h) at h
 
--- where no other writer's steps pass a test, those that pass are this writer's that do
+-- if no other writer's steps pass a test, the steps that pass are this writer's that do
 pub only_by : (p : Step → Bool) (w : ℕ) (order : List (Entry Step)) → ((v : ℕ) → v ≢ w → filter p (events_by v order) ≡ []) → filter p (steps_of order) ≡ filter p (events_by w order)
 only_by p w [] none = refl
 only_by p w (e ∷ es) none = by (e.writer == w) refl (only_by p w es (λ v other. after v (e.writer == v) (none v other)))
@@ -50,7 +50,7 @@ only_by p w (e ∷ es) none = by (e.writer == w) refl (only_by p w es (λ v othe
 
 -- ---- rows by their workers
 
--- of those that all pass a test or all don't, where another is passed, the test leaves all or none
+-- if each element that passes `p` also passes `own`, a filter by `own` before that by `p` changes nothing
 module _ {A : Type 0} (p own : A → Bool) where
   pub passed_all : (xs : List A) → AllByRecursion (λ x. p x ≡ true → own x ≡ true) xs → filter p (filter own xs) ≡ filter p xs
   passed_all [] h = refl
@@ -74,7 +74,7 @@ module _ {A : Type 0} (p own : A → Bool) where
         | false ↦ λ _. rest
       ] refl
 
--- what all of each worker's rows have, all rows have
+-- a fact of all of each worker's rows holds of all rows
 pub all_shares : (P : Line → Type 0) (n : ℕ) → 0 < n → (lines : List Line) → ((w : ℕ) → w < n → AllByRecursion P (filter (λ l. is_own n w l.0) lines)) → AllByRecursion P lines
 all_shares P n some [] each = tt
 all_shares P n some (l ∷ lines) each = (here, all_shares P n some lines (λ w lt. rest w (is_own n w l.0) (each w lt)))

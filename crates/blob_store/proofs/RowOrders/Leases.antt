@@ -1,23 +1,23 @@
--- Rows of several workers play on one table of leases as on those of the workers: a row has to do with the leases of its own lane alone.
+-- Rows of several workers use one table of leases as those of the workers: a row uses only the leases of its own lane.
 use Rattle.std.proofs.Common.{◌≡◌, ◌≢◌, ◌%◌, ◌==◌, ◌++◌, ◌∷◌, [], ℕ, Bool, true, false, cond, List, map, Option, Some, None, refl, sym, ap, ◌∙◌, subst, inl, inr}
 use Rattle.std.specs.Prelude.{if◌then◌else◌}
 use Rattle.std.specs.FinMap.{get, get-insert, get-remove, insert, remove}
 use Rattle.std.specs.Ordering.{eq_by_cmp}
 use Rattle.std.proofs.lemmas.Bool.{cases_eq}
 use Rattle.blob_digest.specs.declared.refusal.Refusal.TheVariants.{WeightSpent}
-use Rattle.finite_maps.specs.Texts.{Text}
-use Rattle.finite_maps.proofs.Maps.{get-insert_other, get-remove_other}
+use Rattle.spec_lib.specs.Texts.{Text}
+use Rattle.spec_lib.proofs.Maps.{get-insert_other, get-remove_other}
 use Rattle.store_model.specs.Catalog.{Catalog}
 use Rattle.store_model.specs.Runs.{Event, IsRun}
 use Rattle.store_api.specs.Answers.{Answer, Refused, Shared}
-use Rattle.store_api.specs.Commands.{Request}
-use Rattle.store_api.specs.Lent.{Lent, halved, new_lease}
-use Rattle.row_player.specs.Leases.{Leases, Name, name_cmp}
-use Rattle.row_player.specs.Plays.{LendsWhereFree, Plays, RowStep, State, VerifiesLease, give_back_of, name_of, named, piece_of, read_of, second_of, share_of}
-use Rattle.row_player.specs.Rows.{RowView}
-use Rattle.row_player.specs.LeaseNames.{name_cmp_total}
-use Rattle.row_player.proofs.LeaseTables.{exact_name}
-use Rattle.blob_store.specs.RowOrders.{Leads}
+use Rattle.store_api.specs.Commands.{StoreRequest}
+use Rattle.store_api.specs.LeaseViews.{LeaseView, half_lease, new_lease}
+use Rattle.script_player.specs.Leases.{Leases, Name, name_cmp}
+use Rattle.script_player.specs.Plays.{LendsIfNameFree, Plays, RowStep, State, VerifiesLease, give_back_result, lease_name_of, named_lease, piece_ends, read_answer, second_name_of, share_result}
+use Rattle.script_player.specs.Rows.{RowView}
+use Rattle.script_player.specs.LeaseNames.{name_cmp_total}
+use Rattle.script_player.proofs.LeaseTables.{exact_name}
+use Rattle.blob_store.specs.RowOrders.{RequestLeads}
 use Rattle.blob_store.proofs.RowOrders.Merging.{Told}
 
 -- ---- one row
@@ -27,7 +27,7 @@ module _ (lane : ℕ) (table own : Leases) where
   abbrev AreSame : Leases → Leases → Type 0
   AreSame a b = (key : Text) → get a (lane, key) ≡ get b (lane, key)
 
-  -- What is left of the table where this is left of the lane's own: other lanes keep theirs.
+  -- the remaining table if this remains of the lane's leases: other lanes keep theirs
   pub record IsJoined (left : Leases) (P : Leases → Type 0) : Type 0 where
     pub after : Leases
     pub does : P after
@@ -38,7 +38,7 @@ module _ (lane : ℕ) (table own : Leases) where
   other_lane : (key : Text) (name : Name) → name.0 ≢ lane → name ≢ (lane, key)
   other_lane key name other e = other (ap (λ (x : Name). x.0) e)
 
-  inserted : (a b : Leases) → AreSame a b → (key : Text) (lease : Lent) → AreSame (insert a (lane, key) lease) (insert b (lane, key) lease)
+  inserted : (a b : Leases) → AreSame a b → (key : Text) (lease : LeaseView) → AreSame (insert a (lane, key) lease) (insert b (lane, key) lease)
   inserted a b same key lease q =
       get-insert name_cmp_total a (lane, key) lease (lane, q) ∙ ap (cond (eq_by_cmp name_cmp (lane, q) (lane, key)) (Some lease)) (same q) ∙ sym (get-insert name_cmp_total b (lane, key) lease (lane, q))
 
@@ -46,7 +46,7 @@ module _ (lane : ℕ) (table own : Leases) where
   removed a b same key q =
       get-remove name_cmp_total a (lane, key) (lane, q) ∙ ap (cond (eq_by_cmp name_cmp (lane, q) (lane, key)) None) (same q) ∙ sym (get-remove name_cmp_total b (lane, key) (lane, q))
 
-  inserted_elsewhere : (a : Leases) (key : Text) (lease : Lent) (name : Name) → name.0 ≢ lane → get (insert a (lane, key) lease) name ≡ get a name
+  inserted_elsewhere : (a : Leases) (key : Text) (lease : LeaseView) (name : Name) → name.0 ≢ lane → get (insert a (lane, key) lease) name ≡ get a name
   inserted_elsewhere a key lease name other = get-insert_other name_cmp_total exact_name a (lane, key) lease name (other_lane key name other)
 
   removed_elsewhere : (a : Leases) (key : Text) (name : Name) → name.0 ≢ lane → get (remove a (lane, key)) name ≡ get a name
@@ -62,7 +62,7 @@ module _ (lane : ℕ) (table own : Leases) where
       own_elsewhere = λ name other. ap (λ m. get m name) is;
     }
 
-    one_more : (key : Text) (lease : Lent) → left ≡ insert own (lane, key) lease → P (insert table (lane, key) lease) → IsJoined left P
+    one_more : (key : Text) (lease : LeaseView) → left ≡ insert own (lane, key) lease → P (insert table (lane, key) lease) → IsJoined left P
     one_more key lease is does = record {
       after = insert table (lane, key) lease;
       does = does;
@@ -71,7 +71,7 @@ module _ (lane : ℕ) (table own : Leases) where
       own_elsewhere = λ name other. ap (λ m. get m name) is ∙ inserted_elsewhere own key lease name other;
     }
 
-    two_more : (key second : Text) (lease : Lent) → left ≡ insert (insert own (lane, key) lease) (lane, second) lease → P (insert (insert table (lane, key) lease) (lane, second) lease) → IsJoined left P
+    two_more : (key second : Text) (lease : LeaseView) → left ≡ insert (insert own (lane, key) lease) (lane, second) lease → P (insert (insert table (lane, key) lease) (lane, second) lease) → IsJoined left P
     two_more key second lease is does = record {
       after = insert (insert table (lane, key) lease) (lane, second) lease;
       does = does;
@@ -89,11 +89,11 @@ module _ (lane : ℕ) (table own : Leases) where
       own_elsewhere = λ name other. ap (λ m. get m name) is ∙ removed_elsewhere own key name other;
     }
 
-    -- what was joined for one claim is for another that follows
+    -- a join with one fact is a join with each fact that follows from it
     joined_so : (Q : Leases → Type 0) → ((m : Leases) → P m → Q m) → IsJoined left P → IsJoined left Q
     joined_so Q f j = record { after = j.after; does = f j.after j.does; same = j.same; elsewhere = j.elsewhere; own_elsewhere = j.own_elsewhere }
 
-module _ {S : Type 0} (acts : S → Request → Answer → S → Type 0) (s t : S) (table own left : Leases) (row : RowView) (answer : Answer) (same : (key : Text) → get table (row.lane, key) ≡ get own (row.lane, key)) where
+module _ {S : Type 0} (acts : S → StoreRequest → Answer → S → Type 0) (s t : S) (table own left : Leases) (row : RowView) (answer : Answer) (same : (key : Text) → get table (row.lane, key) ≡ get own (row.lane, key)) where
   -- the row on the table
   abbrev Step : Leases → Type 0
   Step m = RowStep acts (s, table) row answer (t, m)
@@ -101,52 +101,52 @@ module _ {S : Type 0} (acts : S → Request → Answer → S → Type 0) (s t : 
   abbrev Joined : (Leases → Type 0) → Type 0
   Joined P = IsJoined row.lane table own left P
 
-  key_same : named own row ≡ named table row
+  key_same : named_lease own row ≡ named_lease table row
   key_same = sym (same row.key)
 
-  lends : (o : Option Lent) → LendsWhereFree acts o (s, own) row answer (t, left) → Joined (λ m. LendsWhereFree acts o (s, table) row answer (t, m))
-  lends (Some lease) h = stays row.lane table own same left (λ m. LendsWhereFree acts (Some lease) (s, table) row answer (t, m)) (ap (λ (x : State S). x.1) h.1) (h.0, λ i. ((h.1 i).0, table))
+  lends : (o : Option LeaseView) → LendsIfNameFree acts o (s, own) row answer (t, left) → Joined (λ m. LendsIfNameFree acts o (s, table) row answer (t, m))
+  lends (Some lease) h = stays row.lane table own same left (λ m. LendsIfNameFree acts (Some lease) (s, table) row answer (t, m)) (ap (λ (x : State S). x.1) h.1) (h.0, λ i. ((h.1 i).0, table))
   lends None h = elim h [
-    | inl l ↦ one_more row.lane table own same left (λ m. LendsWhereFree acts None (s, table) row answer (t, m)) row.key (new_lease l.0) l.3 (inl (l.0, l.1, l.2, refl))
-    | inr r ↦ stays row.lane table own same left (λ m. LendsWhereFree acts None (s, table) row answer (t, m)) r.3 (inr (r.0, r.1, r.2, refl))
+    | inl l ↦ one_more row.lane table own same left (λ m. LendsIfNameFree acts None (s, table) row answer (t, m)) row.key (new_lease l.0) l.3 (inl (l.0, l.1, l.2, refl))
+    | inr r ↦ stays row.lane table own same left (λ m. LendsIfNameFree acts None (s, table) row answer (t, m)) r.3 (inr (r.0, r.1, r.2, refl))
   ]
 
-  shares : (o p : Option Lent) → ◌≡◌ {A = Answer × Leases} (answer, left) (share_of own (name_of row) (second_of row) o p) → Joined (λ m. ◌≡◌ {A = Answer × Leases} (answer, m) (share_of table (name_of row) (second_of row) o p))
-  shares None p h = stays row.lane table own same left (λ m. ◌≡◌ {A = Answer × Leases} (answer, m) (share_of table (name_of row) (second_of row) None p)) (ap (λ (x : Answer × Leases). x.1) h) (λ i. ((h i).0, table))
-  shares (Some lease) (Some other) h = stays row.lane table own same left (λ m. ◌≡◌ {A = Answer × Leases} (answer, m) (share_of table (name_of row) (second_of row) (Some lease) (Some other))) (ap (λ (x : Answer × Leases). x.1) h) (λ i. ((h i).0, table))
+  shares : (o p : Option LeaseView) → ◌≡◌ {A = Answer × Leases} (answer, left) (share_result own (lease_name_of row) (second_name_of row) o p) → Joined (λ m. ◌≡◌ {A = Answer × Leases} (answer, m) (share_result table (lease_name_of row) (second_name_of row) o p))
+  shares None p h = stays row.lane table own same left (λ m. ◌≡◌ {A = Answer × Leases} (answer, m) (share_result table (lease_name_of row) (second_name_of row) None p)) (ap (λ (x : Answer × Leases). x.1) h) (λ i. ((h i).0, table))
+  shares (Some lease) (Some other) h = stays row.lane table own same left (λ m. ◌≡◌ {A = Answer × Leases} (answer, m) (share_result table (lease_name_of row) (second_name_of row) (Some lease) (Some other))) (ap (λ (x : Answer × Leases). x.1) h) (λ i. ((h i).0, table))
   shares (Some lease) None h = by (lease.weight == 1) h
     where
-      -- what sharing comes to where one of the weight can be halved, or not
+      -- the result of sharing, if the weight of one can be halved, or not
       by_weight : Leases → Bool → Answer × Leases
-      by_weight m b = if b then (Refused WeightSpent, m) else (Shared, insert (insert m (name_of row) (halved lease)) (second_of row) (halved lease))
+      by_weight m b = if b then (Refused WeightSpent, m) else (Shared, insert (insert m (lease_name_of row) (half_lease lease)) (second_name_of row) (half_lease lease))
 
       by : (b : Bool) → ◌≡◌ {A = Answer × Leases} (answer, left) (by_weight own b) → Joined (λ m. ◌≡◌ {A = Answer × Leases} (answer, m) (by_weight table b))
       by true h = stays row.lane table own same left (λ m. ◌≡◌ {A = Answer × Leases} (answer, m) (by_weight table true)) (ap (λ (x : Answer × Leases). x.1) h) (λ i. ((h i).0, table))
-      by false h = two_more row.lane table own same left (λ m. ◌≡◌ {A = Answer × Leases} (answer, m) (by_weight table false)) row.key row.body (halved lease) (ap (λ (x : Answer × Leases). x.1) h) (λ i. ((h i).0, insert (insert table (name_of row) (halved lease)) (second_of row) (halved lease)))
+      by false h = two_more row.lane table own same left (λ m. ◌≡◌ {A = Answer × Leases} (answer, m) (by_weight table false)) row.key row.body (half_lease lease) (ap (λ (x : Answer × Leases). x.1) h) (λ i. ((h i).0, insert (insert table (lease_name_of row) (half_lease lease)) (second_name_of row) (half_lease lease)))
 
-  returns : (o : Option Lent) → ◌≡◌ {A = Answer × Leases} (answer, left) (give_back_of own (name_of row) o) → Joined (λ m. ◌≡◌ {A = Answer × Leases} (answer, m) (give_back_of table (name_of row) o))
-  returns None h = stays row.lane table own same left (λ m. ◌≡◌ {A = Answer × Leases} (answer, m) (give_back_of table (name_of row) None)) (ap (λ (x : Answer × Leases). x.1) h) (λ i. ((h i).0, table))
-  returns (Some lease) h = one_less row.lane table own same left (λ m. ◌≡◌ {A = Answer × Leases} (answer, m) (give_back_of table (name_of row) (Some lease))) row.key (ap (λ (x : Answer × Leases). x.1) h) (λ i. ((h i).0, remove table (name_of row)))
+  returns : (o : Option LeaseView) → ◌≡◌ {A = Answer × Leases} (answer, left) (give_back_result own (lease_name_of row) o) → Joined (λ m. ◌≡◌ {A = Answer × Leases} (answer, m) (give_back_result table (lease_name_of row) o))
+  returns None h = stays row.lane table own same left (λ m. ◌≡◌ {A = Answer × Leases} (answer, m) (give_back_result table (lease_name_of row) None)) (ap (λ (x : Answer × Leases). x.1) h) (λ i. ((h i).0, table))
+  returns (Some lease) h = one_less row.lane table own same left (λ m. ◌≡◌ {A = Answer × Leases} (answer, m) (give_back_result table (lease_name_of row) (Some lease))) row.key (ap (λ (x : Answer × Leases). x.1) h) (λ i. ((h i).0, remove table (lease_name_of row)))
 
   pub row_joined : RowStep acts (s, own) row answer (t, left) → Joined Step
   row_joined step = elim step [
     | inl store ↦ stays row.lane table own same left Step store.1 (inl (store.0, refl))
     | inr (inl x) ↦
-        joined_so row.lane table own same left (λ m. LendsWhereFree acts (named own row) (s, table) row answer (t, m)) Step
-        (λ m h. inr (inl (x.0, x.1, subst (λ o. LendsWhereFree acts o (s, table) row answer (t, m)) key_same h)))
-        (lends (named own row) x.2)
+        joined_so row.lane table own same left (λ m. LendsIfNameFree acts (named_lease own row) (s, table) row answer (t, m)) Step
+        (λ m h. inr (inl (x.0, x.1, subst (λ o. LendsIfNameFree acts o (s, table) row answer (t, m)) key_same h)))
+        (lends (named_lease own row) x.2)
     | inr (inr (inl x)) ↦
-        stays row.lane table own same left Step (ap (λ (y : State S). y.1) x.2) (inr (inr (inl (x.0, x.1 ∙ ap (λ o. read_of o (piece_of row.range)) key_same, λ i. ((x.2 i).0, table)))))
+        stays row.lane table own same left Step (ap (λ (y : State S). y.1) x.2) (inr (inr (inl (x.0, x.1 ∙ ap (λ o. read_answer o (piece_ends row.range)) key_same, λ i. ((x.2 i).0, table)))))
     | inr (inr (inr (inl x))) ↦
-        joined_so row.lane table own same left (λ m. ◌≡◌ {A = Answer × Leases} (answer, m) (share_of table (name_of row) (second_of row) (get own (name_of row)) (get own (second_of row)))) Step
-        (λ m h. inr (inr (inr (inl (x.0, h ∙ (λ i. share_of table (name_of row) (second_of row) (sym (same row.key) i) (sym (same row.body) i)), x.2)))))
-        (shares (get own (name_of row)) (get own (second_of row)) x.1)
+        joined_so row.lane table own same left (λ m. ◌≡◌ {A = Answer × Leases} (answer, m) (share_result table (lease_name_of row) (second_name_of row) (get own (lease_name_of row)) (get own (second_name_of row)))) Step
+        (λ m h. inr (inr (inr (inl (x.0, h ∙ (λ i. share_result table (lease_name_of row) (second_name_of row) (sym (same row.key) i) (sym (same row.body) i)), x.2)))))
+        (shares (get own (lease_name_of row)) (get own (second_name_of row)) x.1)
     | inr (inr (inr (inr (inl x)))) ↦
         stays row.lane table own same left Step x.2 (inr (inr (inr (inr (inl (x.0, subst (λ o. VerifiesLease acts o s answer t) key_same x.1, refl))))))
     | inr (inr (inr (inr (inr (inl x))))) ↦
-        joined_so row.lane table own same left (λ m. ◌≡◌ {A = Answer × Leases} (answer, m) (give_back_of table (name_of row) (named own row))) Step
-        (λ m h. inr (inr (inr (inr (inr (inl (x.0, h ∙ ap (give_back_of table (name_of row)) key_same, x.2)))))))
-        (returns (named own row) x.1)
+        joined_so row.lane table own same left (λ m. ◌≡◌ {A = Answer × Leases} (answer, m) (give_back_result table (lease_name_of row) (named_lease own row))) Step
+        (λ m h. inr (inr (inr (inr (inr (inl (x.0, h ∙ ap (give_back_result table (lease_name_of row)) key_same, x.2)))))))
+        (returns (named_lease own row) x.1)
     | inr (inr (inr (inr (inr (inr x))))) ↦ stays row.lane table own same left Step x.2 (inr (inr (inr (inr (inr (inr (x.0, x.1, refl)))))))
   ]
 
@@ -162,7 +162,7 @@ IsTable n table held = (name : Name) → get table name ≡ get (held (name.0 % 
 
 -- rows that are these events play on one table as the events run
 pub told_plays : (n : ℕ) (order : List (RowView × Answer)) (events : List Event) (C C' : Catalog) (table : Leases) (held : ℕ → Leases) → Told n held order events → IsRun C events C' → IsTable n table held →
-    (left : Leases) × Plays Leads (C, table) (map (λ p. p.0) order) (map (λ p. p.1) order) (C', left)
+    (left : Leases) × Plays RequestLeads (C, table) (map (λ p. p.0) order) (map (λ p. p.1) order) (C', left)
 told_plays n [] events C C' table held told run is = (table, λ i. (subst (λ es. IsRun C es C') told run i, table))
 told_plays n (p ∷ order) events C C' table held told run is =
     let first : List Event = told.0 in
@@ -170,7 +170,7 @@ told_plays n (p ∷ order) events C C' table held told run is =
     let next : ℕ → Leases = told.2 in
     let w : ℕ = p.0.lane % n in
     let parts = parted first later C C' (subst (λ es. IsRun C es C') told.3 run) in
-    let j = row_joined Leads C parts.0 table (held w) (next w) p.0 p.1 (λ key. is (p.0.lane, key)) (told.4.step C parts.0 parts.1) in
+    let j = row_joined RequestLeads C parts.0 table (held w) (next w) p.0 p.1 (λ key. is (p.0.lane, key)) (told.4.step C parts.0 parts.1) in
     let goes_on : IsTable n j.after next = (λ name. elim (cases_eq name.0 p.0.lane) [
       | inl e ↦ subst (λ l. get j.after (l, name.1) ≡ get (next (l % n)) (l, name.1)) (sym e) (j.same name.1)
       | inr other ↦ j.elsewhere name other ∙ is name ∙ elim (cases_eq (name.0 % n) w) [

@@ -1,19 +1,19 @@
--- In a book, a blob that is not too long can be linked.
+-- In a book, a blob within the size limit can be linked.
 use Rattle.std.proofs.Common.{◌≡◌, ℕ, ◌^◌, ◌<◌, ◌≤◌, true, length, Some, None, Ok, sym, ap, ◌∙◌, arith}
 use Rattle.std.specs.FinMap.{get}
-use Rattle.finite_maps.proofs.Options.{not_some, some_same}
+use Rattle.spec_lib.proofs.Options.{not_some, some_same}
 use Rattle.blob_digest.specs.declared.refusal.Refusal.TheVariants.{NameUnknown}
-use Rattle.finite_maps.specs.Sets as set
+use Rattle.spec_lib.specs.Sets as set
 use Rattle.link_table.specs.Linked.{known_tenant}
-use Rattle.finite_maps.specs.Texts.{Text}
+use Rattle.spec_lib.specs.Texts.{Text}
 use Rattle.store_model.specs.Catalog.{Resident, Catalog, tenant_of}
 use Rattle.store_book.specs.Layers.{Layers, lent_marks, book_catalog, IsBook}
-use Rattle.store_book.specs.Internal.Keeping.{CanKeep}
+use Rattle.store_book.specs.Internal.Storing.{CanStore}
 use Rattle.store_book.proofs.Refine.Take.{use_is}
 use Rattle.store_model.proofs.Invariant.Bounds.{count_small, used_small}
-use Rattle.store_book.proofs.Slots.Lent.{length-marks}
+use Rattle.store_book.proofs.Slots.LeaseMarks.{length-marks}
 use Rattle.store_model.proofs.Invariant.Repos.{is_own}
-use Rattle.finite_maps.proofs.Outcomes.{some_of_ok}
+use Rattle.spec_lib.proofs.Outcomes.{some_of_ok}
 use Rattle.store_model.proofs.Commands.Accepted.{tenant_there}
 use Rattle.store_book.proofs.Layers.Ties.{not_resident, slot_is_resident}
 
@@ -22,8 +22,8 @@ module _ (L : Layers) (t : ℕ) (repo : Text) (blob : Text × Text) (book : IsBo
   abbrev C : Catalog
   C = book_catalog L
 
-  pub CanKeep-book : CanKeep L.links L.slots t repo blob
-  CanKeep-book =
+  pub CanStore-book : CanStore L.links L.slots t repo blob
+  CanStore-book =
       let name : tenant_of L.links.tenants repo ≡ Some t = some_of_ok (tenant_of L.links.tenants repo) NameUnknown t known in
       let in_tenants : t < length L.links.tenants = tenant_there L.links.tenants repo t name in
       record {

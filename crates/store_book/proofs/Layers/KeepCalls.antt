@@ -1,4 +1,4 @@
--- Linking a sealed blob, from what the calls of the links and the slots did.
+-- Linking a sealed blob, by the clauses of the calls of the links and the slots.
 use Rattle.std.proofs.Common.{◌≡◌, ◌≢◌, ℕ, ◌+◌, ◌<◌, ◌^◌, arith, Bool, true, false, cond, not, List, [], length, Some, None, Ok, refl, sym, ap, ◌∙◌, bytes_eq}
 use Rattle.std.specs.Prelude.{if◌then◌else◌}
 use Rattle.std.specs.Option.{option_map_or}
@@ -7,18 +7,18 @@ use Rattle.std.specs.Cmp.{Equal-is}
 use Rattle.std.specs.Cmp.Lexicographic.{bytes_decides}
 use Rattle.std.specs.FinMap.{get, insert, remove, contains_key, get-insert, get-remove, get_tied, same_map}
 use Rattle.std.proofs.lemmas.Bool.{not-true, not-false}
-use Rattle.finite_maps.specs.Texts.{Text}
+use Rattle.spec_lib.specs.Texts.{Text}
 use Rattle.blob_digest.specs.Keys.{Link, link_cmp}
 use Rattle.blob_digest.specs.declared.refusal.Refusal.TheVariants.{DigestInvalid}
 use Rattle.blob_digest.proofs.KeyOrders.{link_cmp_total, exact_link}
 use Rattle.slot_table.specs.declared.phase.Phase.TheVariants as phase
-use Rattle.slot_table.specs.Slots.{Slot, Held, slot_of, held_at, links_at, phase_at, with_slot, fill, on_held, link_up, mark}
+use Rattle.slot_table.specs.Slots.{Slot, StoredBlob, slot_of, stored_blob_at, links_at, phase_at, with_slot, fill, on_stored_blob, link_up, mark}
 use Rattle.link_table.specs.Linked.{Linked, link, unlink}
-use Rattle.store_book.specs.Internal.Keeping.{revived, bytes_at, CanKeep, IsKept, IsUnkept, again, anew, differs}
-use Rattle.store_book.proofs.Slots.Writes.{phase_live, held_at-on}
+use Rattle.store_book.specs.Internal.Storing.{with_revived_slot, bytes_at, CanStore, IsStored, CannotStore, is_existing, is_added, differs}
+use Rattle.store_book.proofs.Slots.Writes.{phase_live, stored_blob_at-on}
 use Rattle.slot_table.proofs.Finding.{held_of}
 
--- what a link answered, and left
+-- the result of a link, and the links after it
 module _ (l l' : Linked) (repo digest : Text) (n : ℕ) (b : Bool) (made : link l repo digest n ≡ Ok (b, l')) where
   pub link_new : not (contains_key l.links (repo, digest)) ≡ b
   link_new = let p : ◌≡◌ {A = Bool × Linked} (not (contains_key l.links (repo, digest)), record l { links = insert l.links (repo, digest) n }) (b, l') = cc in λ i. (p i).0
@@ -26,7 +26,7 @@ module _ (l l' : Linked) (repo digest : Text) (n : ℕ) (b : Bool) (made : link 
   pub link_left : record l { links = insert l.links (repo, digest) n } ≡ l'
   link_left = let p : ◌≡◌ {A = Bool × Linked} (not (contains_key l.links (repo, digest)), record l { links = insert l.links (repo, digest) n }) (b, l') = cc in λ i. (p i).1
 
-  -- it can be taken out again where it is new
+  -- a new link can be removed again
   absent_at : (q : Link) (t : Bool) → eq_by_cmp link_cmp q (repo, digest) ≡ t → get l.links (repo, digest) ≡ None → cond t None (cond t (Some n) (get l.links q)) ≡ get l.links q
   absent_at q true tie none = sym (sym (get_tied link_cmp_total l.links q (repo, digest) ((Equal-is (link_cmp q (repo, digest))).0 tie)) ∙ none)
   absent_at q false tie none = refl
@@ -40,81 +40,81 @@ module _ (l l' : Linked) (repo digest : Text) (n : ℕ) (b : Bool) (made : link 
       ∙ absent_at q (eq_by_cmp link_cmp q (repo, digest)) refl none) in
       ap (λ (x : Linked). unlink x repo digest) (sym link_left) ∙ (λ i. record l { links = back i })
 
--- whether the slot that a digest has holds these bytes
+-- whether the slot of a digest holds these bytes
 abbrev pub test_at : List Slot → ℕ → Text → Bool
-test_at slots k bytes = option_map_or (λ h. bytes_eq h.bytes bytes) (held_at slots k) false
+test_at slots k bytes = option_map_or (λ h. bytes_eq h.bytes bytes) (stored_blob_at slots k) false
 
 not_same : (x y : Text) → bytes_eq x y ≡ false → x ≢ y
 not_same x y no_match same = let e : bytes_eq x y ≡ true = (bytes_decides x y).1 same in cc
 
 module _ (slots : List Slot) (k : ℕ) (blob : Text × Text) (found : slot_of slots blob.0 ≡ Some k) where
   -- a slot with other bytes
-  pub differs_by_test : test_at slots k blob.1 ≡ false → IsUnkept slots blob DigestInvalid
+  pub differs_by_test : test_at slots k blob.1 ≡ false → CannotStore slots blob DigestInvalid
   differs_by_test test =
       let h = held_of slots blob.0 k found in
-      differs k h.0 found h.1 (not_same h.0.bytes blob.1 (ap (λ o. option_map_or (λ (x : Held). bytes_eq x.bytes blob.1) o false) (sym h.1) ∙ test)) refl
+      differs k h.0 found h.1 (not_same h.0.bytes blob.1 (ap (λ o. option_map_or (λ (x : StoredBlob). bytes_eq x.bytes blob.1) o false) (sym h.1) ∙ test)) refl
 
-  same_by_test : test_at slots k blob.1 ≡ true → (h : Held) × (held_at slots k ≡ Some h) × (h.digest ≡ blob.0) × (h.bytes ≡ blob.1)
+  same_by_test : test_at slots k blob.1 ≡ true → (h : StoredBlob) × (stored_blob_at slots k ≡ Some h) × (h.digest ≡ blob.0) × (h.bytes ≡ blob.1)
   same_by_test test =
       let h = held_of slots blob.0 k found in
-      (h.0, h.1, h.2, (bytes_decides h.0.bytes blob.1).0 (ap (λ o. option_map_or (λ (x : Held). bytes_eq x.bytes blob.1) o false) (sym h.1) ∙ test))
+      (h.0, h.1, h.2, (bytes_decides h.0.bytes blob.1).0 (ap (λ o. option_map_or (λ (x : StoredBlob). bytes_eq x.bytes blob.1) o false) (sym h.1) ∙ test))
 
 -- a blob whose slot holds the same bytes
 module _ (slots : List Slot) (k : ℕ) (blob : Text × Text) (found : slot_of slots blob.0 ≡ Some k) (test : test_at slots k blob.1 ≡ true) where
-  abbrev there : (h : Held) × (held_at slots k ≡ Some h) × (h.digest ≡ blob.0) × (h.bytes ≡ blob.1)
+  abbrev there : (h : StoredBlob) × (stored_blob_at slots k ≡ Some h) × (h.digest ≡ blob.0) × (h.bytes ≡ blob.1)
   there = same_by_test slots k blob found test
 
-  awake_holds : held_at (revived slots k) k ≡ Some (mark false there.0)
-  awake_holds = held_at-on (mark false) slots k there.0 there.1
+  awake_holds : stored_blob_at (with_revived_slot slots k) k ≡ Some (mark false there.0)
+  awake_holds = stored_blob_at-on (mark false) slots k there.0 there.1
 
-  pub again_size : (l : Linked) (t : ℕ) (repo : Text) → CanKeep l slots t repo blob → (r : Text) (m : ℕ) → get l.links (r, blob.0) ≡ Some m → m ≡ length blob.1
+  pub again_size : (l : Linked) (t : ℕ) (repo : Text) → CanStore l slots t repo blob → (r : Text) (m : ℕ) → get l.links (r, blob.0) ≡ Some m → m ≡ length blob.1
   again_size l t repo can r m at = can.sizes k there.0 r m there.1 (ap (λ (d : Text). get l.links (r, d)) there.2 ∙ at) ∙ ap length there.3
 
-  pub awake_live : phase_at (revived slots k) k ≡ phase.Live
-  awake_live = phase_live (revived slots k) k (mark false there.0) awake_holds refl
+  pub awake_live : phase_at (with_revived_slot slots k) k ≡ phase.Live
+  awake_live = phase_live (with_revived_slot slots k) k (mark false there.0) awake_holds refl
 
-  pub awake_room : (l : Linked) (t : ℕ) (repo : Text) → CanKeep l slots t repo blob → links_at (revived slots k) k + 1 < 2 ^ 32
+  pub awake_room : (l : Linked) (t : ℕ) (repo : Text) → CanStore l slots t repo blob → links_at (with_revived_slot slots k) k + 1 < 2 ^ 32
   awake_room l t repo can =
-      let links : links_at (revived slots k) k ≡ there.0.links = ap (λ o. option_map_or (λ (h : Held). h.links) o 0) awake_holds in
+      let links : links_at (with_revived_slot slots k) k ≡ there.0.links = ap (λ o. option_map_or (λ (h : StoredBlob). h.links) o 0) awake_holds in
       let few = can.counts k there.0 there.1 in
       omega arith
 
-  pub kept_new : (l l' : Linked) (slots' : List Slot) (repo : Text) → link l repo blob.0 (length blob.1) ≡ Ok (true, l') → slots' ≡ with_slot (revived slots k) k (on_held link_up) → IsKept l slots repo blob l' slots'
+  pub kept_new : (l l' : Linked) (slots' : List Slot) (repo : Text) → link l repo blob.0 (length blob.1) ≡ Ok (true, l') → slots' ≡ with_slot (with_revived_slot slots k) k (on_stored_blob link_up) → IsStored l slots repo blob l' slots'
   kept_new l l' slots' repo made linked_up =
       let new = not-true _ (link_new l l' repo blob.0 (length blob.1) true made) in
-      again k there.0 found there.1 there.3 (sym (link_left l l' repo blob.0 (length blob.1) true made)) (linked_up ∙ ap (λ b. if b then revived slots k else with_slot (revived slots k) k (on_held link_up)) (sym new))
+      is_existing k there.0 found there.1 there.3 (sym (link_left l l' repo blob.0 (length blob.1) true made)) (linked_up ∙ ap (λ b. if b then with_revived_slot slots k else with_slot (with_revived_slot slots k) k (on_stored_blob link_up)) (sym new))
 
-  pub kept_old : (l l' : Linked) (slots' : List Slot) (repo : Text) → link l repo blob.0 (length blob.1) ≡ Ok (false, l') → slots' ≡ revived slots k → IsKept l slots repo blob l' slots'
+  pub kept_old : (l l' : Linked) (slots' : List Slot) (repo : Text) → link l repo blob.0 (length blob.1) ≡ Ok (false, l') → slots' ≡ with_revived_slot slots k → IsStored l slots repo blob l' slots'
   kept_old l l' slots' repo made same =
       let old = not-false _ (link_new l l' repo blob.0 (length blob.1) false made) in
-      again k there.0 found there.1 there.3 (sym (link_left l l' repo blob.0 (length blob.1) false made)) (same ∙ ap (λ b. if b then revived slots k else with_slot (revived slots k) k (on_held link_up)) (sym old))
+      is_existing k there.0 found there.1 there.3 (sym (link_left l l' repo blob.0 (length blob.1) false made)) (same ∙ ap (λ b. if b then with_revived_slot slots k else with_slot (with_revived_slot slots k) k (on_stored_blob link_up)) (sym old))
 
 module _ (slots : List Slot) (k : ℕ) (digest : Text) (found : slot_of slots digest ≡ Some k) where
   abbrev blob_there : Text × Text
   blob_there = (digest, bytes_at slots k)
 
   pub bytes_there : bytes_at slots k ≡ (held_of slots digest k found).0.bytes
-  bytes_there = ap (λ o. option_map_or (λ (x : Held). x.bytes) o []) (held_of slots digest k found).1
+  bytes_there = ap (λ o. option_map_or (λ (x : StoredBlob). x.bytes) o []) (held_of slots digest k found).1
 
-  -- the size of a link of what a slot holds
-  pub size_there : (l : Linked) (t : ℕ) (repo : Text) → CanKeep l slots t repo blob_there → (r : Text) (m : ℕ) → get l.links (r, digest) ≡ Some m → m ≡ length (bytes_at slots k)
+  -- the size of a link to the blob of a slot
+  pub size_there : (l : Linked) (t : ℕ) (repo : Text) → CanStore l slots t repo blob_there → (r : Text) (m : ℕ) → get l.links (r, digest) ≡ Some m → m ≡ length (bytes_at slots k)
   size_there l t repo can r m at =
       let h = held_of slots digest k found in
       can.sizes k h.0 r m h.1 (ap (λ (d : Text). get l.links (r, d)) h.2 ∙ at) ∙ ap length (sym bytes_there)
 
-  pub again_new : (l l' : Linked) (slots' : List Slot) (repo : Text) → link l repo digest (length (bytes_at slots k)) ≡ Ok (true, l') → slots' ≡ with_slot (revived slots k) k (on_held link_up) → IsKept l slots repo blob_there l' slots'
+  pub again_new : (l l' : Linked) (slots' : List Slot) (repo : Text) → link l repo digest (length (bytes_at slots k)) ≡ Ok (true, l') → slots' ≡ with_slot (with_revived_slot slots k) k (on_stored_blob link_up) → IsStored l slots repo blob_there l' slots'
   again_new l l' slots' repo made linked_up =
       let h = held_of slots digest k found in
       let new = not-true _ (link_new l l' repo digest (length (bytes_at slots k)) true made) in
-      again k h.0 found h.1 (sym bytes_there) (sym (link_left l l' repo digest (length (bytes_at slots k)) true made)) (linked_up ∙ ap (λ b. if b then revived slots k else with_slot (revived slots k) k (on_held link_up)) (sym new))
+      is_existing k h.0 found h.1 (sym bytes_there) (sym (link_left l l' repo digest (length (bytes_at slots k)) true made)) (linked_up ∙ ap (λ b. if b then with_revived_slot slots k else with_slot (with_revived_slot slots k) k (on_stored_blob link_up)) (sym new))
 
-  pub again_old : (l l' : Linked) (repo : Text) → link l repo digest (length (bytes_at slots k)) ≡ Ok (false, l') → IsKept l slots repo blob_there l' (revived slots k)
+  pub again_old : (l l' : Linked) (repo : Text) → link l repo digest (length (bytes_at slots k)) ≡ Ok (false, l') → IsStored l slots repo blob_there l' (with_revived_slot slots k)
   again_old l l' repo made =
       let h = held_of slots digest k found in
       let old = not-false _ (link_new l l' repo digest (length (bytes_at slots k)) false made) in
-      again k h.0 found h.1 (sym bytes_there) (sym (link_left l l' repo digest (length (bytes_at slots k)) false made)) (ap (λ b. if b then revived slots k else with_slot (revived slots k) k (on_held link_up)) (sym old))
+      is_existing k h.0 found h.1 (sym bytes_there) (sym (link_left l l' repo digest (length (bytes_at slots k)) false made)) (ap (λ b. if b then with_revived_slot slots k else with_slot (with_revived_slot slots k) k (on_stored_blob link_up)) (sym old))
 
 pub kept_anew : (l l' : Linked) (slots slots1 slots' : List Slot) (repo : Text) (blob : Text × Text) (k : ℕ) (b : Bool) → slot_of slots blob.0 ≡ None → phase_at slots k ≡ phase.Free → link l repo blob.0 (length blob.1) ≡ Ok (b, l') →
-    slots1 ≡ with_slot slots k (fill blob) → slots' ≡ with_slot slots1 k (on_held link_up) → IsKept l slots repo blob l' slots'
+    slots1 ≡ with_slot slots k (fill blob) → slots' ≡ with_slot slots1 k (on_stored_blob link_up) → IsStored l slots repo blob l' slots'
 kept_anew l l' slots slots1 slots' repo blob k b none free made filled linked_up =
-    anew k none free (sym (link_left l l' repo blob.0 (length blob.1) b made)) (linked_up ∙ ap (λ xs. with_slot xs k (on_held link_up)) filled)
+    is_added k none free (sym (link_left l l' repo blob.0 (length blob.1) b made)) (linked_up ∙ ap (λ xs. with_slot xs k (on_stored_blob link_up)) filled)

@@ -11,18 +11,18 @@ use Rattle.std.specs.FinMap.{FinMap, find, entries, get, from_entries, keys, get
 use Rattle.std.proofs.lemmas.List.Sums.{sum_by-cons}
 use Rattle.std.proofs.lemmas.Bool.{false≢true, and_from, and_parts}
 use Rattle.std.proofs.lemmas.Map.Lookups.{exact_bytes}
-use Rattle.finite_maps.proofs.Lists.{witness, list_any_weaker}
-use Rattle.finite_maps.proofs.Options.{not_some, some_none, some_same}
-use Rattle.finite_maps.specs.Sets as set
-use Rattle.finite_maps.specs.Rows.{IsApart}
+use Rattle.spec_lib.proofs.Lists.{witness, list_any_weaker}
+use Rattle.spec_lib.proofs.Options.{not_some, some_none, some_same}
+use Rattle.spec_lib.specs.Sets as set
+use Rattle.spec_lib.specs.Rows.{IsApart}
 use Rattle.blob_digest.proofs.KeyOrders.{link_cmp_total}
-use Rattle.finite_maps.proofs.Texts.{tied_text}
-use Rattle.finite_maps.proofs.Rows.{sum_by-from_entries}
-use Rattle.slot_table.specs.Slots.{Slot, Held, Free, Used, Retired, held_at, held_in, IsDistinct}
+use Rattle.spec_lib.proofs.Texts.{tied_text}
+use Rattle.spec_lib.proofs.Rows.{sum_by-from_entries}
+use Rattle.slot_table.specs.Slots.{Slot, StoredBlob, Free, Used, Retired, stored_blob_at, stored_blob_in, IsDistinct}
 use Rattle.link_table.specs.Linked.{blobs_of, total_size, used_in}
 use Rattle.link_table.proofs.Weights.{IsBlobs-blobs}
-use Rattle.finite_maps.specs.Texts.{Text, text_cmp}
-use Rattle.store_model.specs.Catalog.{Link, Resident, Catalog, link_cmp, is_of, is_tenants, holds, tenant_holds, used}
+use Rattle.spec_lib.specs.Texts.{Text, text_cmp}
+use Rattle.store_model.specs.Catalog.{Link, Resident, Catalog, link_cmp, is_repo_of, is_repo_of_tenant, holds, tenant_holds, used_bytes}
 use Rattle.store_book.specs.Layers.{Layers, links_of, resident_of, with_resident, resident_rows, catalog_from, AreCharges, IsTied}
 
 -- ---- a sum over some keys of a map
@@ -79,7 +79,7 @@ module _ {X : Type 0} (p : Text → Bool) (f : X → ℕ) where
             sum-picked es ∙ (omega arith)
       ] refl
 
-  -- where a map has some of the rows' keys, its sum is one over the rows
+  -- if a map's keys are among the rows', its sum is one over the rows
   pub sum-part : (m : FinMap text_cmp ℕ) (es : List (Text × X)) → IsApart text_cmp es → ((q : Text) → get m q ≡ cond (p q) (option_map f (find text_cmp q es)) None) →
       total_size m ≡ sum_by share_of (entries (from_entries {R = text_cmp} es))
   sum-part m es apart is =
@@ -95,7 +95,7 @@ mark n = tt
 unit_is : (u : Unit {0}) → ◌≡◌ {A = Option (Unit {0})} (Some tt) (Some u)
 unit_is u = refl
 
-find-keys : (es : List (Link × ℕ)) (k : Link) → find link_cmp k (set.marked (map (λ e. e.0) es)) ≡ option_map mark (find link_cmp k es)
+find-keys : (es : List (Link × ℕ)) (k : Link) → find link_cmp k (set.unit_entries (map (λ e. e.0) es)) ≡ option_map mark (find link_cmp k es)
 find-keys [] k = refl
 find-keys (e ∷ es) k = ap (λ o. cond (eq_by_cmp link_cmp k e.0) (Some tt) o) (find-keys es k) ∙ marks (eq_by_cmp link_cmp k e.0) (find link_cmp k es)
   where
@@ -104,12 +104,12 @@ find-keys (e ∷ es) k = ap (λ o. cond (eq_by_cmp link_cmp k e.0) (Some tt) o) 
     marks false o = refl
 
 pub get-links_of : (links : FinMap link_cmp ℕ) (k : Link) → get (links_of links) k ≡ option_map mark (get links k)
-get-links_of links k = get-from_entries link_cmp_total (set.marked (keys links)) k ∙ find-keys (entries links) k ∙ ap (option_map mark) (sym (get-entries links k))
+get-links_of links k = get-from_entries link_cmp_total (set.unit_entries (keys links)) k ∙ find-keys (entries links) k ∙ ap (option_map mark) (sym (get-entries links k))
 
 -- ---- the blobs of the slots
 
 abbrev Found : List Slot → List Bool → Text → Resident → Type 0
-Found slots marks d b = (k : ℕ) × (h : Held) × (held_at slots k ≡ Some h) × (h.digest ≡ d) × (b.bytes ≡ h.bytes) × (b.condemned ≡ h.condemned)
+Found slots marks d b = (k : ℕ) × (h : StoredBlob) × (stored_blob_at slots k ≡ Some h) × (h.digest ≡ d) × (b.bytes ≡ h.bytes) × (b.condemned ≡ h.condemned)
 
 -- a blob that is found is that of a slot
 pub found_slot : (slots : List Slot) (marks : List Bool) (d : Text) (b : Resident) → find text_cmp d (resident_rows slots marks) ≡ Some b → Found slots marks d b
@@ -119,7 +119,7 @@ found_slot (s ∷ slots) (m ∷ marks) d b found =
     elim s.content as (λ c. s.content ≡ c → find text_cmp d (with_resident c m (resident_rows slots marks)) ≡ Some b → Found (s ∷ slots) (m ∷ marks) d b) [
       | Free ↦ λ is h. later (found_slot slots marks d b h)
       | Used g ↦ λ is h. elim (eq_by_cmp text_cmp d g.digest) as (λ t. eq_by_cmp text_cmp d g.digest ≡ t → cond t (Some (resident_of m g)) (find text_cmp d (resident_rows slots marks)) ≡ Some b → Found (s ∷ slots) (m ∷ marks) d b) [
-        | true ↦ λ tie e. (0, g, ap held_in is, sym (exact_bytes d g.digest ((Equal-is (text_cmp d g.digest)).0 tie)), ap (λ (x : Resident). x.bytes) (sym (some_same e)), ap (λ (x : Resident). x.condemned) (sym (some_same e)))
+        | true ↦ λ tie e. (0, g, ap stored_blob_in is, sym (exact_bytes d g.digest ((Equal-is (text_cmp d g.digest)).0 tie)), ap (λ (x : Resident). x.bytes) (sym (some_same e)), ap (λ (x : Resident). x.condemned) (sym (some_same e)))
         | false ↦ λ tie e. later (found_slot slots marks d b e)
       ] refl h
       | Retired ↦ λ is h. later (found_slot slots marks d b h)
@@ -134,7 +134,7 @@ suc_same k m e = omega arith
 pub IsDistinct-rest : (s : Slot) (slots : List Slot) → IsDistinct (s ∷ slots) → IsDistinct slots
 IsDistinct-rest s slots distinct = λ k m g h at_k at_m same. suc_same k m (distinct (suc k) (suc m) g h at_k at_m same)
 
--- where no digest has two slots, the rows are apart
+-- if no digest has two slots, the rows have distinct keys
 pub IsApart-rows : (slots : List Slot) (marks : List Bool) → IsDistinct slots → IsApart text_cmp (resident_rows slots marks)
 IsApart-rows [] marks distinct = tt
 IsApart-rows (s ∷ slots) [] distinct = tt
@@ -143,7 +143,7 @@ IsApart-rows (s ∷ slots) (m ∷ marks) distinct =
       | Free ↦ λ is. IsApart-rows slots marks (IsDistinct-rest s slots distinct)
       | Used g ↦ λ is. (
         not_some (find text_cmp g.digest (resident_rows slots marks)) (λ b found. let f = found_slot slots marks g.digest b found in
-            let same : 0 ≡ suc f.0 = distinct 0 (suc f.0) g f.1 (ap held_in is) f.2 (sym f.3) in omega arith),
+            let same : 0 ≡ suc f.0 = distinct 0 (suc f.0) g f.1 (ap stored_blob_in is) f.2 (sym f.3) in omega arith),
         IsApart-rows slots marks (IsDistinct-rest s slots distinct),
       )
       | Retired ↦ λ is. IsApart-rows slots marks (IsDistinct-rest s slots distinct)
@@ -167,11 +167,11 @@ module _ (L : Layers) (marks : List Bool) (tied : IsTied L.links L.slots marks (
   holds_is r d = ap is_some (get-links_of L.links.links (r, d)) ∙ is_some_map (get L.links.links (r, d))
 
   module _ (t : ℕ) where
-    held_by : (r d : Text) (n : ℕ) → is_tenants L.links.tenants t r ≡ true → get L.links.links (r, d) ≡ Some n → tenant_holds C t d ≡ true
+    held_by : (r d : Text) (n : ℕ) → is_repo_of_tenant L.links.tenants t r ≡ true → get L.links.links (r, d) ≡ Some n → tenant_holds C t d ≡ true
     held_by r d n own at =
         let here : holds C r d ≡ true = holds_is r d ∙ ap is_some at in
-        list_any_weaker (eq_by_cmp text_cmp r) (λ q. is_of C t q && holds C q d)
-        (λ q tie. subst (λ (x : Text). (is_of C t x && holds C x d) ≡ true) (exact_bytes r q ((Equal-is (text_cmp r q)).0 tie)) (and_from (is_of C t r) (holds C r d) own here))
+        list_any_weaker (eq_by_cmp text_cmp r) (λ q. is_repo_of C t q && holds C q d)
+        (λ q tie. subst (λ (x : Text). (is_repo_of C t x && holds C x d) ≡ true) (exact_bytes r q ((Equal-is (text_cmp r q)).0 tie)) (and_from (is_repo_of C t r) (holds C r d) own here))
         (set.items C.repos) (sym (contains_key-keys C.repos r) ∙ named (r, d) here)
 
     size_at : (q : Text) (o : Option ℕ) → get (blobs_of L.links t) q ≡ o → o ≡ cond (tenant_holds C t q) (option_map (λ b. length b.bytes) (find text_cmp q rows)) None
@@ -179,17 +179,17 @@ module _ (L : Layers) (marks : List Bool) (tied : IsTied L.links L.slots marks (
       where
         none_at : (b : Bool) → tenant_holds C t q ≡ b → cond b (option_map (λ b. length b.bytes) (find text_cmp q rows)) None ≡ None
         none_at true h =
-            let r = witness (λ r. is_of C t r && holds C r q) (set.items C.repos) h in
-            let both = and_parts (is_of C t r.0) (holds C r.0 q) r.1 in
-            let none = (IsBlobs-blobs (is_tenants L.links.tenants t) L.links.links).none q r.0 is both.0 in
+            let r = witness (λ r. is_repo_of C t r && holds C r q) (set.items C.repos) h in
+            let both = and_parts (is_repo_of C t r.0) (holds C r.0 q) r.1 in
+            let none = (IsBlobs-blobs (is_repo_of_tenant L.links.tenants t) L.links.links).none q r.0 is both.0 in
             absurd (false≢true (ap is_some (sym none) ∙ sym (holds_is r.0 q) ∙ both.1))
         none_at false h = refl
     size_at q (Some n) is =
-        let r = (IsBlobs-blobs (is_tenants L.links.tenants t) L.links.links).some q n is in
+        let r = (IsBlobs-blobs (is_repo_of_tenant L.links.tenants t) L.links.links).some q n is in
         let b = tied.sizes (r.0, q) n r.2 in
         let found : find text_cmp q rows ≡ Some b.0 = sym (get-from_entries nat_list_cmp_total rows q) ∙ b.1 in
         rw (held_by r.0 q n r.1 r.2, found) (ap Some b.2)
 
-    -- the use that the links keep is that of the catalog
-    pub used_is : AreCharges L.links C → t < length L.links.tenants → used_in L.links t ≡ used C t
+    -- the use that the links count is that of the catalog
+    pub used_is : AreCharges L.links C → t < length L.links.tenants → used_in L.links t ≡ used_bytes C t
     used_is charges lt = λ i. sum-part (tenant_holds C t) (λ (b : Resident). length b.bytes) (blobs_of L.links t) rows (IsApart-rows L.slots marks tied.distinct) (λ q. size_at q (get (blobs_of L.links t) q) refl) i + charges.sums t lt i

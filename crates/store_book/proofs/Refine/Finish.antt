@@ -1,4 +1,4 @@
--- `Book::finish`, from what its calls of the layers did.
+-- `Book::finish`, by the clauses of its calls of the layers.
 use Rattle.std.proofs.Common.{◌≡◌, ℕ, ◌+◌, ◌-◌, ◌^◌, ◌<◌, ◌≤◌, Bool, true, false, not, List, length, Option, Some, None, Result, is_some, Ok, Err, refl, sym, ap, ◌∙◌, subst, arith}
 use Rattle.std.specs.Prelude.{nat_le, ◌&&◌, slice_index, slice_set, if◌then◌else◌}
 use Rattle.std.specs.FinMap.{get, remove, len}
@@ -7,39 +7,39 @@ use Rattle.std.proofs.lemmas.Bool.{le-leb, false_from_ne_true, not-false}
 use Rattle.blob_digest.specs.declared.refusal.Refusal.{Refusal}
 use Rattle.blob_digest.specs.declared.refusal.Refusal.TheVariants.{DigestInvalid, StoreFull, UploadUnknown}
 use Rattle.blob_digest.specs.Digests.{is_digest_of}
-use Rattle.finite_maps.specs.Sets as set
-use Rattle.finite_maps.proofs.Texts.{text_is_same}
-use Rattle.slot_table.specs.Slots.{Slot, Held}
+use Rattle.spec_lib.specs.Sets as set
+use Rattle.spec_lib.proofs.Texts.{text_is_same}
+use Rattle.slot_table.specs.Slots.{Slot, StoredBlob}
 use Rattle.link_table.specs.Linked.{Linked, known_tenant, discharge}
-use Rattle.store_model.specs.Sessions.{Home, Session, Taken, are_taken, brought_home, charged, cancelled_in, taken_session, whole_of, with_chunks, IsFull}
+use Rattle.store_model.specs.Sessions.{CheckedIn, Session, HandRecord, are_of_hand, with_old_chunks, charged_length, after_cancel_in, session_of_hand, hand_content, with_chunks, HasNoOpenReserve}
 use Rattle.upload_table.specs.Uploaded.{Uploaded, finish_upload, with_sessions}
-use Rattle.finite_maps.specs.Texts.{Text}
+use Rattle.spec_lib.specs.Texts.{Text}
 use Rattle.store_model.specs.Catalog.{Catalog, session_charges_of}
-use Rattle.finite_maps.specs.Outcomes.{◌>>=◌, refuse}
-use Rattle.store_model.specs.Commands.{finish, after_cancel, same_bytes, is_full_for}
+use Rattle.spec_lib.specs.Outcomes.{◌>>=◌, refuse}
+use Rattle.store_model.specs.Commands.{finish, after_cancel, has_same_bytes, is_full_for}
 use Rattle.store_book.specs.Layers.{Layers, lent_marks, book_catalog, IsBook}
-use Rattle.store_book.specs.Internal.Keeping.{CanKeep, IsKept, IsUnkept, differs, full}
-use Rattle.store_book.proofs.Layers.Keep.{Keeps, IsKept-Keeps}
-use Rattle.store_book.proofs.Slots.Lent.{length-marks}
-use Rattle.store_book.proofs.Layers.CanKeep.{CanKeep-book}
+use Rattle.store_book.specs.Internal.Storing.{CanStore, IsStored, CannotStore, differs, full}
+use Rattle.store_book.proofs.Layers.Keep.{Keeps, IsStored-Keeps}
+use Rattle.store_book.proofs.Slots.LeaseMarks.{length-marks}
+use Rattle.store_book.proofs.Layers.CanKeep.{CanStore-book}
 use Rattle.store_model.proofs.Commands.Finish.{Sound-after_finish}
 use Rattle.store_model.proofs.Commands.Hands.{whole_long, IsProper}
-use Rattle.finite_maps.proofs.Options.{some_same}
-use Rattle.finite_maps.proofs.Outcomes.{bound_ok, not_refused}
+use Rattle.spec_lib.proofs.Options.{some_same}
+use Rattle.spec_lib.proofs.Outcomes.{bound_ok, not_refused}
 use Rattle.store_book.proofs.Refine.PutBack.{here_charged, here_small, here_tenant, session_here, IsBook-home}
 use Rattle.store_book.proofs.Layers.SessionCharges.{sums-gone}
 use Rattle.store_model.proofs.Invariant.SessionTenants.{session_owner}
 use Rattle.slot_table.proofs.Finding.{held_of}
 use Rattle.store_book.proofs.Layers.Ties.{slot_is_resident, not_resident, rooms}
 
-module _ (L : Layers) (h : Taken) (digest : Text) where
+module _ (L : Layers) (h : HandRecord) (digest : Text) where
   abbrev C : Catalog
   C = book_catalog L
 
   abbrev whole : Text
-  whole = whole_of h
+  whole = hand_content h
 
-  module _ (book : IsBook L) (proper : IsProper h) (full_h : IsFull h) (s : Session) (here : taken_session (get L.uploads.sessions h.key) h ≡ Ok s) where
+  module _ (book : IsBook L) (proper : IsProper h) (full_h : HasNoOpenReserve h) (s : Session) (here : session_of_hand (get L.uploads.sessions h.key) h ≡ Ok s) where
     pub finish_other_digest : is_digest_of digest whole ≡ false → finish C h digest ≡ Err DigestInvalid
     finish_other_digest other = rw (here, other) refl
 
@@ -52,7 +52,7 @@ module _ (L : Layers) (h : Taken) (digest : Text) where
     pub known : known_tenant L.links s.repo ≡ Ok h.key.0
     known = rw (session_owner C book.sound.lawful h.key s found) refl
 
-    long : length whole ≡ charged s
+    long : length whole ≡ charged_length s
     long = whole_long h proper full_h ∙ sym (here_charged L h book proper s here)
 
     whole_small : length whole ≤ 2 ^ 50
@@ -62,41 +62,41 @@ module _ (L : Layers) (h : Taken) (digest : Text) where
         omega (arith, long, small, most)
 
     -- the sealed blob can be linked
-    pub CanKeep-finished : (blob : Text × Text) → blob ≡ (digest, whole) → CanKeep L.links L.slots h.key.0 s.repo blob
-    CanKeep-finished blob is = CanKeep-book L h.key.0 s.repo blob book known repo_there (rw is whole_small)
+    pub CanStore-finished : (blob : Text × Text) → blob ≡ (digest, whole) → CanStore L.links L.slots h.key.0 s.repo blob
+    CanStore-finished blob is = CanStore-book L h.key.0 s.repo blob book known repo_there (rw is whole_small)
 
-    -- what is reserved, and the whole, were charged
+    -- the reserve and the content were charged
     pub reserve_charged : h.reserved ≤ slice_index L.links.charges h.key.0
     reserve_charged = let small = here_small L h book proper s here in omega arith
 
     module _ (agrees : is_digest_of digest whole ≡ true) where
-      finish_other_bytes : same_bytes (get C.residents digest) whole ≡ false → finish C h digest ≡ Err DigestInvalid
+      finish_other_bytes : has_same_bytes (get C.residents digest) whole ≡ false → finish C h digest ≡ Err DigestInvalid
       finish_other_bytes other = rw (here, agrees, other) refl
 
-      finish_full : same_bytes (get C.residents digest) whole ≡ true → is_full_for C digest ≡ true → finish C h digest ≡ Err StoreFull
+      finish_full : has_same_bytes (get C.residents digest) whole ≡ true → is_full_for C digest ≡ true → finish C h digest ≡ Err StoreFull
       finish_full same is_full = rw (here, agrees, same, is_full) refl
 
-      -- a blob that can't be linked
-      pub finish_unkept : (e : Refusal) → IsUnkept L.slots (digest, whole) e → finish C h digest ≡ Err e
+      -- a blob that cannot be linked
+      pub finish_unkept : (e : Refusal) → CannotStore L.slots (digest, whole) e → finish C h digest ≡ Err e
       finish_unkept e (differs k x place at other is) =
           let held = held_of L.slots digest k place in
           let same : held.0 ≡ x = some_same (sym held.1 ∙ at) in
-          let named : x.digest ≡ digest = ap (λ (y : Held). y.digest) (sym same) ∙ held.2 in
+          let named : x.digest ≡ digest = ap (λ (y : StoredBlob). y.digest) (sym same) ∙ held.2 in
           let b = slot_is_resident L.slots (lent_marks L.slots) (length-marks L.slots) book.tied.distinct k x at in
           let kept : get C.residents digest ≡ Some b.0 = ap (get C.residents) (sym named) ∙ b.1 in
-          let no_match : same_bytes (get C.residents digest) whole ≡ false =
-          ap (λ o. same_bytes o whole) kept ∙ false_from_ne_true (same_bytes (Some b.0) whole) (λ match. other (sym b.2 ∙ text_is_same b.0.bytes whole match)) in
+          let no_match : has_same_bytes (get C.residents digest) whole ≡ false =
+          ap (λ o. has_same_bytes o whole) kept ∙ false_from_ne_true (has_same_bytes (Some b.0) whole) (λ match. other (sym b.2 ∙ text_is_same b.0.bytes whole match)) in
           finish_other_bytes no_match ∙ ap Err (sym is)
       finish_unkept e (full none no_slot is) =
           let absent = not_resident L.slots (lent_marks L.slots) digest none in
           let sum = rooms L (lent_marks L.slots) (length-marks L.slots) book.tied.distinct in
           let crowded : nat_le C.slots (len C.residents + C.retired) ≡ true = le-leb C.slots (len C.residents + C.retired) (omega arith) in
           let no_room : is_full_for C digest ≡ true = (λ i. not (is_some (absent i)) && crowded i) in
-          finish_full (ap (λ o. same_bytes o whole) absent) no_room ∙ ap Err (sym is)
+          finish_full (ap (λ o. has_same_bytes o whole) absent) no_room ∙ ap Err (sym is)
 
-      module _ (l' : Linked) (slots' : List Slot) (kept : IsKept L.links L.slots s.repo (digest, whole) l' slots') where
+      module _ (l' : Linked) (slots' : List Slot) (kept : IsStored L.links L.slots s.repo (digest, whole) l' slots') where
         keeps : Keeps L s.repo (digest, whole) l' slots'
-        keeps = IsKept-Keeps L s.repo (digest, whole) book.tied book.sound.lawful repo_there l' slots' kept
+        keeps = IsStored-Keeps L s.repo (digest, whole) book.tied book.sound.lawful repo_there l' slots' kept
 
         abbrev l1 : Linked
         l1 = discharge l' h.key.0 (length whole)
@@ -125,7 +125,7 @@ module _ (L : Layers) (h : Taken) (digest : Text) where
         sums_after : (v : ℕ) → v < length L.links.tenants → slice_index (slice_set L.links.charges h.key.0 (slice_index L.links.charges h.key.0 - length whole)) v ≡ session_charges_of C1 v
         sums_after v lt = ap (λ n. slice_index (slice_set L.links.charges h.key.0 (slice_index L.links.charges h.key.0 - n)) v) long ∙ sums-gone L h.key.0 h.key.1 book (here_tenant L h book proper s here) s found v lt
 
-        -- a session that was finished leaves a book
+        -- after a session was finished, the layers make a book
         finished_book : IsBook (record L { links = l1; uploads = u1; slots = slots' })
         finished_book = record {
           sound = Sound-after_finish C C1 h digest (length whole) proper full_h finished_as book.sound;
@@ -143,61 +143,61 @@ module _ (L : Layers) (h : Taken) (digest : Text) where
           pub IsBook-finish : IsBook (record L { links = l''; uploads = u''; slots = slots' })
           IsBook-finish = subst (λ (x : Layers). IsBook x) (λ i. record L { links = sym links i; uploads = sym uploads i; slots = slots' }) finished_book
 
-    -- ---- a refused finish
+    -- ---- a failed finish
 
     abbrev back : Uploaded
-    back = with_sessions L.uploads (cancelled_in L.uploads.sessions h)
+    back = with_sessions L.uploads (after_cancel_in L.uploads.sessions h)
 
-    given : with_sessions L.uploads (with_chunks L.uploads.sessions h.key s (Home h.chunks)) ≡ back
-    given = ap (λ o. with_sessions L.uploads (brought_home L.uploads.sessions h o)) (sym here)
+    given : with_sessions L.uploads (with_chunks L.uploads.sessions h.key s (CheckedIn h.chunks)) ≡ back
+    given = ap (λ o. with_sessions L.uploads (with_old_chunks L.uploads.sessions h o)) (sym here)
 
-    -- the session comes home, and its reserve is discharged
+    -- the session is checked in, and its reserve is discharged
     pub IsBook-after_cancel : (l' : Linked) (u' : Uploaded) → l' ≡ discharge L.links h.key.0 h.reserved → u' ≡ back → IsBook (record L { links = l'; uploads = u' })
     IsBook-after_cancel l' u' links uploads =
         let now = IsBook-home L h book proper s here h.chunks h.reserved proper.pieces refl in
         let home = given ∙ sym uploads in
         subst (λ (x : Layers). IsBook x) (λ i. record L { links = sym links i; uploads = home i }) now
 
-  -- what it leaves is the catalog with the hand given back
-  pub after_cancel_is : (l' : Linked) (u' : Uploaded) (k : ℕ) → l' ≡ discharge L.links h.key.0 k → u' ≡ with_sessions L.uploads (cancelled_in L.uploads.sessions h) → book_catalog (record L { links = l'; uploads = u' }) ≡ after_cancel C h
+  -- the new catalog is the old one with the hand's session checked in
+  pub after_cancel_is : (l' : Linked) (u' : Uploaded) (k : ℕ) → l' ≡ discharge L.links h.key.0 k → u' ≡ with_sessions L.uploads (after_cancel_in L.uploads.sessions h) → book_catalog (record L { links = l'; uploads = u' }) ≡ after_cancel C h
   after_cancel_is l' u' k links uploads = λ i. book_catalog (record L { links = links i; uploads = uploads i })
 
--- why the layer refuses
-pub layer_refused : (u : Uploaded) (h : Taken) (digest : Text) (e : Refusal) → finish_upload u h digest ≡ Err e → (e ≡ UploadUnknown → ⊥) → (s : Session) × (taken_session (get u.sessions h.key) h ≡ Ok s) × (is_digest_of digest (whole_of h) ≡ false) × (e ≡ DigestInvalid)
-layer_refused u h digest e refused other = by (taken_session (get u.sessions h.key) h) refl
+-- the error of the layer
+pub layer_refused : (u : Uploaded) (h : HandRecord) (digest : Text) (e : Refusal) → finish_upload u h digest ≡ Err e → (e ≡ UploadUnknown → ⊥) → (s : Session) × (session_of_hand (get u.sessions h.key) h ≡ Ok s) × (is_digest_of digest (hand_content h) ≡ false) × (e ≡ DigestInvalid)
+layer_refused u h digest e refused other = by (session_of_hand (get u.sessions h.key) h) refl
   where
-    unknown : (o : Option Session) (d : Refusal) → taken_session o h ≡ Err d → d ≡ UploadUnknown
+    unknown : (o : Option Session) (d : Refusal) → session_of_hand o h ≡ Err d → d ≡ UploadUnknown
     unknown None d is = cc
-    unknown (Some s) d is = test (are_taken h s.chunks) is
+    unknown (Some s) d is = test (are_of_hand h s.chunks) is
       where
         test : (b : Bool) → (if b then Ok s else Err UploadUnknown) ≡ Err d → d ≡ UploadUnknown
         test true is = absurd cc
         test false is = cc
 
-    by : (x : Result Session Refusal) → taken_session (get u.sessions h.key) h ≡ x → (s : Session) × (taken_session (get u.sessions h.key) h ≡ Ok s) × (is_digest_of digest (whole_of h) ≡ false) × (e ≡ DigestInvalid)
-    by (Ok s) here = digests (is_digest_of digest (whole_of h)) refl (rw here at refused)
+    by : (x : Result Session Refusal) → session_of_hand (get u.sessions h.key) h ≡ x → (s : Session) × (session_of_hand (get u.sessions h.key) h ≡ Ok s) × (is_digest_of digest (hand_content h) ≡ false) × (e ≡ DigestInvalid)
+    by (Ok s) here = digests (is_digest_of digest (hand_content h)) refl (rw here at refused)
       where
-        digests : (b : Bool) → is_digest_of digest (whole_of h) ≡ b → ◌>>=◌ {B = (Text × Text) × Uploaded} (refuse (not (is_digest_of digest (whole_of h))) DigestInvalid) (λ _. Ok ((digest, whole_of h), u)) ≡ Err e → (s : Session) × (taken_session (get u.sessions h.key) h ≡ Ok s) × (is_digest_of digest (whole_of h) ≡ false) × (e ≡ DigestInvalid)
+        digests : (b : Bool) → is_digest_of digest (hand_content h) ≡ b → ◌>>=◌ {B = (Text × Text) × Uploaded} (refuse (not (is_digest_of digest (hand_content h))) DigestInvalid) (λ _. Ok ((digest, hand_content h), u)) ≡ Err e → (s : Session) × (session_of_hand (get u.sessions h.key) h ≡ Ok s) × (is_digest_of digest (hand_content h) ≡ false) × (e ≡ DigestInvalid)
         digests true agrees h = absurd (let k = rw agrees at h in cc)
         digests false agrees h = (s, here, agrees, let k = rw agrees at h in cc)
     by (Err d) here = absurd (other (let k : ◌≡◌ {A = Result ((Text × Text) × Uploaded) Refusal} (Err d) (Err e) = rw here at refused in let same : d ≡ e = cc in sym same ∙ unknown (get u.sessions h.key) d here))
 
--- where the layer knows no such hand, nothing changes
-pub layer_unknown : (u : Uploaded) (h : Taken) (digest : Text) (e : Refusal) → finish_upload u h digest ≡ Err e → e ≡ UploadUnknown → with_sessions u (cancelled_in u.sessions h) ≡ u
-layer_unknown u h digest e refused unknown = by (taken_session (get u.sessions h.key) h) refl
+-- if the layer has no such hand, nothing changes
+pub layer_unknown : (u : Uploaded) (h : HandRecord) (digest : Text) (e : Refusal) → finish_upload u h digest ≡ Err e → e ≡ UploadUnknown → with_sessions u (after_cancel_in u.sessions h) ≡ u
+layer_unknown u h digest e refused unknown = by (session_of_hand (get u.sessions h.key) h) refl
   where
-    by : (x : Result Session Refusal) → taken_session (get u.sessions h.key) h ≡ x → with_sessions u (cancelled_in u.sessions h) ≡ u
-    by (Ok s) here = digests (is_digest_of digest (whole_of h)) refl (rw here at refused)
+    by : (x : Result Session Refusal) → session_of_hand (get u.sessions h.key) h ≡ x → with_sessions u (after_cancel_in u.sessions h) ≡ u
+    by (Ok s) here = digests (is_digest_of digest (hand_content h)) refl (rw here at refused)
       where
-        digests : (b : Bool) → is_digest_of digest (whole_of h) ≡ b → ◌>>=◌ {B = (Text × Text) × Uploaded} (refuse (not (is_digest_of digest (whole_of h))) DigestInvalid) (λ _. Ok ((digest, whole_of h), u)) ≡ Err e → with_sessions u (cancelled_in u.sessions h) ≡ u
+        digests : (b : Bool) → is_digest_of digest (hand_content h) ≡ b → ◌>>=◌ {B = (Text × Text) × Uploaded} (refuse (not (is_digest_of digest (hand_content h))) DigestInvalid) (λ _. Ok ((digest, hand_content h), u)) ≡ Err e → with_sessions u (after_cancel_in u.sessions h) ≡ u
         digests true agrees h = absurd (let k = rw agrees at h in cc)
         digests false agrees h = absurd (let k = rw (agrees, unknown) at h in cc)
-    by (Err d) here = ap (λ (o : Result Session Refusal). with_sessions u (brought_home u.sessions h o)) here
+    by (Err d) here = ap (λ (o : Result Session Refusal). with_sessions u (with_old_chunks u.sessions h o)) here
 
 -- a hand that the layer finishes is this book's
-pub layer_finished : (u : Uploaded) (h : Taken) (digest : Text) (blob : Text × Text) (u' : Uploaded) → finish_upload u h digest ≡ Ok (blob, u') → (s : Session) × (taken_session (get u.sessions h.key) h ≡ Ok s) × (is_digest_of digest (whole_of h) ≡ true) × (blob ≡ (digest, whole_of h)) × (u' ≡ u)
+pub layer_finished : (u : Uploaded) (h : HandRecord) (digest : Text) (blob : Text × Text) (u' : Uploaded) → finish_upload u h digest ≡ Ok (blob, u') → (s : Session) × (session_of_hand (get u.sessions h.key) h ≡ Ok s) × (is_digest_of digest (hand_content h) ≡ true) × (blob ≡ (digest, hand_content h)) × (u' ≡ u)
 layer_finished u h digest blob u' done =
-    let a = bound_ok (taken_session (get u.sessions h.key) h) _ (blob, u') done in
-    let b = bound_ok (refuse (not (is_digest_of digest (whole_of h))) DigestInvalid) _ (blob, u') a.2 in
-    let p : ◌≡◌ {A = (Text × Text) × Uploaded} ((digest, whole_of h), u) (blob, u') = cc b.2 in
+    let a = bound_ok (session_of_hand (get u.sessions h.key) h) _ (blob, u') done in
+    let b = bound_ok (refuse (not (is_digest_of digest (hand_content h))) DigestInvalid) _ (blob, u') a.2 in
+    let p : ◌≡◌ {A = (Text × Text) × Uploaded} ((digest, hand_content h), u) (blob, u') = cc b.2 in
     (a.0, a.1, not-false _ (not_refused _ _ _ b.1), sym (λ i. (p i).0), sym (λ i. (p i).1))

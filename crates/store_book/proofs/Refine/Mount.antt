@@ -1,4 +1,4 @@
--- `Book::mount`, from what its calls of the layers did.
+-- `Book::mount`, by the clauses of its calls of the layers.
 use Rattle.std.proofs.Common.{◌≡◌, ℕ, ◌^◌, ◌<◌, ◌≤◌, Bool, true, false, List, length, Option, Some, None, Ok, Err, refl, sym, ap, ◌∙◌, subst, arith}
 use Rattle.std.specs.Prelude.{slice_index, if◌then◌else◌}
 use Rattle.std.specs.Cmp.Lexicographic.{nat_list_cmp_total}
@@ -6,30 +6,30 @@ use Rattle.std.specs.FinMap.{get}
 use Rattle.std.proofs.lemmas.Map.Lookups.{exact_bytes}
 use Rattle.blob_digest.specs.declared.refusal.Refusal.{Refusal}
 use Rattle.blob_digest.specs.declared.refusal.Refusal.TheVariants.{NameUnknown}
-use Rattle.finite_maps.specs.Sets as set
+use Rattle.spec_lib.specs.Sets as set
 use Rattle.slot_table.specs.declared.phase.Phase.TheVariants as phase
-use Rattle.slot_table.specs.Slots.{Slot, Held, slot_of, held_at, phase_at}
+use Rattle.slot_table.specs.Slots.{Slot, StoredBlob, slot_of, stored_blob_at, phase_at}
 use Rattle.link_table.specs.Linked.{Linked, known_tenant, appear}
 use Rattle.store_model.specs.declared.mount.Mount.TheVariants as mounting
-use Rattle.finite_maps.specs.Texts.{Text}
-use Rattle.store_model.specs.Catalog.{Resident, Catalog, tenant_of, is_of, holds}
-use Rattle.store_model.specs.Commands.{mount, has_source, start, start_instead, link_held, with_link, lacks_room_for}
-use Rattle.store_book.specs.Internal.Keeping.{bytes_at, source_slot, CanKeep, IsKept}
+use Rattle.spec_lib.specs.Texts.{Text}
+use Rattle.store_model.specs.Catalog.{Resident, Catalog, tenant_of, is_repo_of, holds}
+use Rattle.store_model.specs.Commands.{mount, has_source, start, started_outcome, mounted_outcome, with_link, lacks_room_for}
+use Rattle.store_book.specs.Internal.Storing.{bytes_at, source_slot, CanStore, IsStored}
 use Rattle.store_book.specs.Layers.{Layers, lent_marks, book_catalog, IsBook}
 use Rattle.store_model.proofs.Invariant.Bounds.{held_within, used_small}
-use Rattle.store_model.proofs.Invariant.Counts.{count-appear}
+use Rattle.store_model.proofs.Invariant.Counts.{link_count-appear}
 use Rattle.store_book.proofs.Layers.KeepCalls.{bytes_there}
-use Rattle.store_book.proofs.Layers.CanKeep.{CanKeep-book}
-use Rattle.store_book.proofs.Layers.Keep.{Keeps, IsKept-Keeps, same_residents}
-use Rattle.store_book.proofs.Slots.Lent.{length-marks}
-use Rattle.store_model.proofs.Invariant.Repos.{Lawful-appear, used-appear}
+use Rattle.store_book.proofs.Layers.CanKeep.{CanStore-book}
+use Rattle.store_book.proofs.Layers.Keep.{Keeps, IsStored-Keeps, same_residents}
+use Rattle.store_book.proofs.Slots.LeaseMarks.{length-marks}
+use Rattle.store_model.proofs.Invariant.Repos.{WellFormed-appear, used_bytes-appear}
 use Rattle.store_model.proofs.Invariant.Links.{is_held}
 use Rattle.store_model.proofs.Commands.Mount.{source_of, Sound-after_mount}
 use Rattle.store_book.proofs.Layers.LinkedSlots.{linked_live, source_some, source_none}
 use Rattle.store_book.proofs.Slots.Writes.{phase_live}
-use Rattle.finite_maps.proofs.Outcomes.{some_of_ok}
+use Rattle.spec_lib.proofs.Outcomes.{some_of_ok}
 use Rattle.store_model.proofs.Commands.Accepted.{tenant_there}
-use Rattle.finite_maps.proofs.Sets.{now}
+use Rattle.spec_lib.proofs.Sets.{now}
 use Rattle.store_book.proofs.Refine.Start.{ok_of_if, err_of_if}
 use Rattle.slot_table.proofs.Finding.{held_of}
 use Rattle.store_book.proofs.Layers.Ties.{slot_is_resident}
@@ -48,32 +48,32 @@ module _ (L : Layers) (t : ℕ) (repo : Text) (book : IsBook L) (known : known_t
   l0 = record L.links { repos = set.insert L.links.repos repo }
 
   module _ (short : length repo ≤ 255) (room : lacks_room_for C t repo ≡ false) where
-    -- a repository that appears leaves a book
+    -- after a repository was created, the layers make a book
     IsBook-appear : IsBook (record L { links = l0 })
     IsBook-appear = record {
       sound = record {
-        lawful = Lawful-appear C t repo book.sound.lawful name short room;
-        quotas = λ v lt. (let same = used-appear C t repo book.sound.lawful name v in let k = book.sound.quotas v lt in omega arith);
+        lawful = WellFormed-appear C t repo book.sound.lawful name short room;
+        quotas = λ v lt. (let same = used_bytes-appear C t repo book.sound.lawful name v in let k = book.sound.quotas v lt in omega arith);
         slots = record { some = book.sound.slots.some; few = book.sound.slots.few; fit = book.sound.slots.fit };
       };
       tied = record {
         marks = book.tied.marks;
         distinct = book.tied.distinct;
         sizes = book.tied.sizes;
-        counts = λ k h at. book.tied.counts k h at ∙ sym (count-appear C repo h.digest book.sound.lawful);
+        counts = λ k h at. book.tied.counts k h at ∙ sym (link_count-appear C repo h.digest book.sound.lawful);
       };
       charges = record { one_each = book.charges.one_each; sums = book.charges.sums };
     }
 
   module _ (digest : Text) (from : Option Text) where
-    by_source : (b : Bool) → has_source C t digest from ≡ b → mount C repo digest from ≡ (if b then link_held C t repo digest else start_instead C repo)
+    by_source : (b : Bool) → has_source C t digest from ≡ b → mount C repo digest from ≡ (if b then mounted_outcome C t repo digest else started_outcome C repo)
     by_source b is = rw (known, is) refl
 
     module _ (none : source_slot L.links L.slots t from digest ≡ None) where
-      instead : mount C repo digest from ≡ start_instead C repo
+      instead : mount C repo digest from ≡ started_outcome C repo
       instead = by_source false (source_none L book t from digest none)
 
-      -- a session is opened where there is no source
+      -- a session is opened if there is no source
       pub session_ok : (n : ℕ) (D : Catalog) → start C repo ≡ Ok (n, D) → mount C repo digest from ≡ Ok (mounting.Session n, D)
       session_ok n D started = instead ∙ rw started refl
 
@@ -84,21 +84,21 @@ module _ (L : Layers) (t : ℕ) (repo : Text) (book : IsBook L) (known : known_t
       abbrev source : (has_source C t digest from ≡ true) × (slot_of L.slots digest ≡ Some k)
       source = source_some L book t from digest k found
 
-      -- a repository of the tenant that holds the blob
-      abbrev holder : (q : Text) × (is_of C t q ≡ true) × (holds C q digest ≡ true)
+      -- a repository of the tenant that contains the blob
+      abbrev holder : (q : Text) × (is_repo_of C t q ≡ true) × (holds C q digest ≡ true)
       holder = source_of C t digest from source.0
 
-      links_it : mount C repo digest from ≡ link_held C t repo digest
+      links_it : mount C repo digest from ≡ mounted_outcome C t repo digest
       links_it = by_source true source.0
 
-      -- a repository that can't appear
+      -- a repository that cannot be created
       pub mount_refused_first : (e : Refusal) → appear L.links t repo ≡ Err e → mount C repo digest from ≡ Err e
       mount_refused_first e refused = let a = err_of_if _ _ _ _ refused in links_it ∙ rw a.0 (ap Err a.1)
 
       abbrev blob : Text × Text
       blob = (digest, bytes_at L.slots k)
 
-      abbrev held : (h : Held) × (held_at L.slots k ≡ Some h) × (h.digest ≡ digest)
+      abbrev held : (h : StoredBlob) × (stored_blob_at L.slots k ≡ Some h) × (h.digest ≡ digest)
       held = held_of L.slots digest k source.1
 
       same_bytes_there : held.0.bytes ≡ blob.1
@@ -114,7 +114,7 @@ module _ (L : Layers) (t : ℕ) (repo : Text) (book : IsBook L) (known : known_t
       pub live_source : phase_at L.slots k ≡ phase.Live
       live_source = phase_live L.slots k held.0 held.1 source_live
 
-      -- the tenant holds the blob, so that it is within its use
+      -- the tenant has the blob, so its use includes it
       small : length blob.1 ≤ 2 ^ 50
       small =
           let kept : get C.residents digest ≡ Some resident.0 = ap (get C.residents) (sym held.2) ∙ resident.1 in
@@ -131,12 +131,12 @@ module _ (L : Layers) (t : ℕ) (repo : Text) (book : IsBook L) (known : known_t
         there0 : set.contains l0.repos repo ≡ true
         there0 = now nat_list_cmp_total exact_bytes L.links.repos repo
 
-        can0 : CanKeep l0 L.slots t repo blob
-        can0 = CanKeep-book (record L { links = l0 }) t repo blob book0 known there0 small
+        can0 : CanStore l0 L.slots t repo blob
+        can0 = CanStore-book (record L { links = l0 }) t repo blob book0 known there0 small
 
-        module _ (l' : Linked) (slots' : List Slot) (kept : IsKept l0 L.slots repo blob l' slots') where
+        module _ (l' : Linked) (slots' : List Slot) (kept : IsStored l0 L.slots repo blob l' slots') where
           keeps : Keeps (record L { links = l0 }) repo blob l' slots'
-          keeps = IsKept-Keeps (record L { links = l0 }) repo blob book0.tied book0.sound.lawful there0 l' slots' kept
+          keeps = IsStored-Keeps (record L { links = l0 }) repo blob book0.tied book0.sound.lawful there0 l' slots' kept
 
           abbrev C' : Catalog
           C' = book_catalog (record L { links = l'; slots = slots' })
@@ -163,7 +163,7 @@ module _ (L : Layers) (t : ℕ) (repo : Text) (book : IsBook L) (known : known_t
             };
           }
 
-      -- after the repository appeared
+      -- after the repository was created
       module _ (l1 : Linked) (is_new : Bool) (appeared : appear L.links t repo ≡ Ok (is_new, l1)) (short : length repo ≤ 255) where
         room1 : lacks_room_for C t repo ≡ false
         room1 = (ok_of_if _ _ _ _ appeared).0
@@ -172,16 +172,16 @@ module _ (L : Layers) (t : ℕ) (repo : Text) (book : IsBook L) (known : known_t
         appeared_is = let a = ok_of_if _ _ _ _ appeared in λ i. (a.1 i).1
 
         -- the blob can be linked
-        pub can_link : CanKeep l1 L.slots t repo blob
-        can_link = subst (λ (x : Linked). CanKeep x L.slots t repo blob) appeared_is (can0 short room1)
+        pub can_link : CanStore l1 L.slots t repo blob
+        can_link = subst (λ (x : Linked). CanStore x L.slots t repo blob) appeared_is (can0 short room1)
 
-        module _ (l' : Linked) (slots' : List Slot) (kept : IsKept l1 L.slots repo blob l' slots') where
-          kept0 : IsKept l0 L.slots repo blob l' slots'
-          kept0 = subst (λ (x : Linked). IsKept x L.slots repo blob l' slots') (sym appeared_is) kept
+        module _ (l' : Linked) (slots' : List Slot) (kept : IsStored l1 L.slots repo blob l' slots') where
+          kept0 : IsStored l0 L.slots repo blob l' slots'
+          kept0 = subst (λ (x : Linked). IsStored x L.slots repo blob l' slots') (sym appeared_is) kept
 
           pub mount_ok : mount C repo digest from ≡ Ok (mounting.Mounted, book_catalog (record L { links = l'; slots = slots' }))
           mount_ok = mounted short room1 l' slots' kept0
 
-          -- a mounted blob leaves a book
+          -- after a blob was mounted, the layers make a book
           pub IsBook-mount : IsBook (record L { links = l'; slots = slots' })
           IsBook-mount = mounted_book short room1 l' slots' kept0

@@ -9,28 +9,28 @@ use Rattle.std.proofs.lemmas.Bool.{leb-true, leb-false}
 use Rattle.std.proofs.lemmas.List.{length-replicate}
 use Rattle.std.proofs.lemmas.List.Elements.{recursion_from_All}
 use Rattle.std.proofs.lemmas.List.Sums.{sum_by-cons}
-use Rattle.finite_maps.specs.Sets as set
-use Rattle.finite_maps.proofs.Rows.{entries-empty}
-use Rattle.slot_table.specs.Slots.{Slot, held_at, empty_slot, is_retired}
+use Rattle.spec_lib.specs.Sets as set
+use Rattle.spec_lib.proofs.Rows.{entries-empty}
+use Rattle.slot_table.specs.Slots.{Slot, stored_blob_at, empty_slot, is_retired}
 use Rattle.link_table.specs.Linked.{Linked}
 use Rattle.link_table.specs.Linked as links
 use Rattle.link_table.specs.Tenancy.{AreTenants, Opens}
 use Rattle.store_model.specs.Sessions.{Session, session_charge}
 use Rattle.upload_table.specs.Uploaded.{Uploaded}
 use Rattle.upload_table.specs.Uploaded as uploads
-use Rattle.finite_maps.specs.Texts.{Text, text_cmp}
-use Rattle.store_model.specs.Catalog.{Tenant, Resident, Catalog, link_cmp, number_cmp, opening}
+use Rattle.spec_lib.specs.Texts.{Text, text_cmp}
+use Rattle.store_model.specs.Catalog.{Tenant, Resident, Catalog, link_cmp, session_number_cmp, opening}
 use Rattle.store_model.specs.Invariant.{Sound}
 use Rattle.atomic_table.specs.Seated.{TableId}
 use Rattle.pin_core.specs.Events.{IsOutside}
-use Rattle.store_book.specs.Pinned.{Pinned, shown, with_looks}
-use Rattle.store_book.proofs.Slots.Shown.{shown-opening}
-use Rattle.store_book.proofs.Slots.Pinned.{seen-opening}
+use Rattle.store_book.specs.Pinned.{Pinned, slot_views_of, with_looks}
+use Rattle.store_book.proofs.Slots.Shown.{slot_views_of-opening}
+use Rattle.store_book.proofs.Slots.Pinned.{slot_view-opening}
 use Rattle.store_book.specs.Layers.{Layers, links_of, resident_rows, lent_marks, book_catalog, book_state, IsBook}
 use Rattle.store_book.specs.Openings.{IsSized, OpensBook}
-use Rattle.store_book.proofs.Slots.Lent.{length-marks}
+use Rattle.store_book.proofs.Slots.LeaseMarks.{length-marks}
 use Rattle.store_model.proofs.Commands.Opening.{Sound-opening}
-use Rattle.finite_maps.proofs.Options.{nothing}
+use Rattle.spec_lib.proofs.Options.{nothing}
 
 abbrev new_slots : ℕ → ℕ → List Slot
 new_slots slots first = replicate slots (empty_slot first)
@@ -47,7 +47,7 @@ none_retired (suc slots) first =
     let rest = none_retired slots first in
     omega arith
 
-none_held : (slots first k : ℕ) → held_at (new_slots slots first) k ≡ None
+none_held : (slots first k : ℕ) → stored_blob_at (new_slots slots first) k ≡ None
 none_held zero first k = refl
 none_held (suc slots) first zero = refl
 none_held (suc slots) first (suc k) = none_held slots first k
@@ -61,7 +61,7 @@ zeros zero k = refl
 zeros (suc n) zero = refl
 zeros (suc n) (suc k) = zeros n k
 
-no_links : links_of empty ≡ set.none
+no_links : links_of empty ≡ set.empty_set
 no_links = ap (λ (es : List ((Text × Text) × ℕ)). set.from_list {R = link_cmp} (map (λ e. e.0) es)) (entries-empty link_cmp ℕ)
 
 zero_or : (n : ℕ) → (n ≡ 0) ⊎ (0 < n)
@@ -93,7 +93,7 @@ module _ (tenants : List Tenant) (slots first max_blob : ℕ) where
     tenants = tenants;
     slots = length-replicate slots (empty_slot first) i;
     max_blob = max_blob;
-    repos = set.none;
+    repos = set.empty_set;
     links = no_links i;
     manifests = empty;
     sessions = empty;
@@ -113,11 +113,11 @@ module _ (tenants : List Tenant) (slots first max_blob : ℕ) where
     };
     charges = record {
       one_each = length-replicate (length tenants) 0;
-      sums = λ t there. zeros (length tenants) t ∙ sym (ap (λ (es : List ((ℕ × ℕ) × Session)). sum_by (session_charge t) es) (entries-empty number_cmp Session));
+      sums = λ t there. zeros (length tenants) t ∙ sym (ap (λ (es : List ((ℕ × ℕ) × Session)). sum_by (session_charge t) es) (entries-empty session_number_cmp Session));
     };
   }
 
--- what the layers were made with makes a book
+-- the new layers make a book
 module _ (given : List Tenant) (l' : Linked) (u' : Uploaded) (p : Pinned) (t : TableId) (count first max_blob n : ℕ) (opened : Opens given l') (small : max_blob ≤ 2 ^ 40) (within : ¬ IsOutside count)
     (made : p ≡ record { table = t; slots = replicate count (empty_slot first); bounds = replicate count 0; looks = replicate count 0 }) (uploads_are : u' ≡ uploads.initial_uploads n 1) (one_each : n ≡ length l'.tenants) where
   slots_are : new_slots count first ≡ p.slots
@@ -153,5 +153,5 @@ module _ (given : List Tenant) (l' : Linked) (u' : Uploaded) (p : Pinned) (t : T
       rising = opened.tenants.rising;
       empty = ap book_catalog (sym layers_are) ∙ catalog-opening l'.tenants count first max_blob;
     };
-    slots = ap shown made ∙ ap (with_looks (replicate count 0)) (seen-opening count first) ∙ shown-opening count _;
+    slots = ap slot_views_of made ∙ ap (with_looks (replicate count 0)) (slot_view-opening count first) ∙ slot_views_of-opening count _;
   }

@@ -1,4 +1,4 @@
--- The lines that the layers give are the book's text.
+-- The lines from the layers are the text of the book.
 use Rattle.std.proofs.Common.{◌≡◌, ℕ, ◌+◌, ◌<◌, ◌≤◌, Bool, true, false, cond, List, [], ◌∷◌, ◌++◌, length, map, get_or, Option, Some, None, refl, sym, ap, ◌∙◌, arith}
 use Rattle.std.specs.Prelude.{filter, ◌&&◌, slice_index}
 use Rattle.std.specs.declared.cmp.Ordering.{Ordering}
@@ -10,17 +10,17 @@ use Rattle.std.specs.FinMap.Entries.{below_all}
 use Rattle.std.proofs.lemmas.List.Concat.{flat_map-cons}
 use Rattle.std.proofs.lemmas.List.Folds.{flat_map-map}
 use Rattle.std.proofs.lemmas.List.Sums.{length-filter}
-use Rattle.finite_maps.proofs.Lists.{all_weaker, is_true, flat_map-same, all_same, all_by_index}
-use Rattle.finite_maps.specs.Sets as set
+use Rattle.spec_lib.proofs.Lists.{all_weaker, is_true, flat_map-same, all_same, all_by_index}
+use Rattle.spec_lib.specs.Sets as set
 use Rattle.blob_digest.proofs.KeyOrders.{link_cmp_total, exact_link}
-use Rattle.finite_maps.proofs.Rows.{found_value}
-use Rattle.slot_table.specs.Slots.{Held, slot_of, links_at}
+use Rattle.spec_lib.proofs.Rows.{found_value}
+use Rattle.slot_table.specs.Slots.{StoredBlob, slot_of, links_at}
 use Rattle.link_table.specs.ManifestTable.{manifests_on}
 use Rattle.link_table.specs.Linked.{Tenant, used_in, blobs_in, repos_of}
-use Rattle.finite_maps.proofs.Sorted.{IsApart-sorted, entries-sorted}
-use Rattle.store_model.specs.Sessions.{listed, sessions_of}
-use Rattle.finite_maps.specs.Texts.{Text, same_text}
-use Rattle.store_model.specs.Catalog.{Link, Resident, Catalog, is_of, link_cmp, used, size, count}
+use Rattle.spec_lib.proofs.Sorted.{IsApart-sorted, entries-sorted}
+use Rattle.store_model.specs.Sessions.{number_and_length, sessions_of}
+use Rattle.spec_lib.specs.Texts.{Text, same_text}
+use Rattle.store_model.specs.Catalog.{Link, Resident, Catalog, is_repo_of, link_cmp, used_bytes, blob_length, link_count}
 use Rattle.store_book.specs.Layers.{Layers, links_of, lent_marks, book_catalog, IsBook}
 use Rattle.store_book.specs.Internal.Lines.{CanPrint, blob_row, links_to, session_row, repo_rows, tenant_rows, book_rows}
 use Rattle.store_model.specs.BookText.{blob_line, blob_text, book_line, book_text, end_line, manifest_row, manifest_text, repo_text, repository_line, tenant_line, tenant_text}
@@ -46,21 +46,21 @@ each_found links =
     ∙ found_value link_cmp link_cmp_total (entries links) i no_link (get_or (entries links) i no_link).0 (IsApart-sorted link_cmp (entries links) (is_true (entries_sorted links))) lt refl)
 
 module _ {K X : Type 0} (R : K → K → Ordering) where
-  below_all-marked : (q : K) (es : List (K × X)) → below_all R q (set.marked (map (λ e. e.0) es)) ≡ below_all R q es
+  below_all-marked : (q : K) (es : List (K × X)) → below_all R q (set.unit_entries (map (λ e. e.0) es)) ≡ below_all R q es
   below_all-marked q [] = refl
   below_all-marked q (e ∷ es) = ap (λ b. is_lt (R q e.0) && b) (below_all-marked q es)
 
-  is_sorted-marked : (es : List (K × X)) → is_sorted R (set.marked (map (λ e. e.0) es)) ≡ is_sorted R es
+  is_sorted-marked : (es : List (K × X)) → is_sorted R (set.unit_entries (map (λ e. e.0) es)) ≡ is_sorted R es
   is_sorted-marked [] = refl
   is_sorted-marked (e ∷ es) = λ i. below_all-marked e.0 es i && is_sorted-marked es i
 
-unmarked : {K : Type 0} (ks : List K) → map (λ (e : K × Unit {0}). e.0) (set.marked ks) ≡ ks
+unmarked : {K : Type 0} (ks : List K) → map (λ (e : K × Unit {0}). e.0) (set.unit_entries ks) ≡ ks
 unmarked [] = refl
 unmarked (k ∷ ks) = ap (λ t. k ∷ t) (unmarked ks)
 
 items_links : (links : FinMap link_cmp ℕ) → set.items (links_of links) ≡ keys links
 items_links links =
-    ap (map (λ e. e.0)) (entries-sorted link_cmp link_cmp_total exact_link (set.marked (keys links)) (is_sorted-marked link_cmp (entries links) ∙ is_true (entries_sorted links)))
+    ap (map (λ e. e.0)) (entries-sorted link_cmp link_cmp_total exact_link (set.unit_entries (keys links)) (is_sorted-marked link_cmp (entries links) ∙ is_true (entries_sorted links)))
     ∙ unmarked (keys links)
 
 -- the rows of a repository's links, and its links in the catalog
@@ -81,20 +81,20 @@ module _ (L : Layers) (book : IsBook L) where
   abbrev C : Catalog
   C = book_catalog L
 
-  as_many_links : (d : Text) (b : Resident) → get C.residents d ≡ Some b → links_to L.slots d ≡ count C d
+  as_many_links : (d : Text) (b : Resident) → get C.residents d ≡ Some b → links_to L.slots d ≡ link_count C d
   as_many_links d b kept = by_slot (slot_of L.slots d) refl
     where
-      by_slot : (o : Option ℕ) → slot_of L.slots d ≡ o → option_map_or (links_at L.slots) o 0 ≡ count C d
+      by_slot : (o : Option ℕ) → slot_of L.slots d ≡ o → option_map_or (links_at L.slots) o 0 ≡ link_count C d
       by_slot None none = absurd (let gone = sym kept ∙ not_resident L.slots (lent_marks L.slots) d none in cc)
       by_slot (Some k) found =
           let h = held_of L.slots d k found in
-          ap (λ (o : Option Held). option_map_or (λ h. h.links) o 0) h.1 ∙ book.tied.counts k h.0 h.1 ∙ ap (count C) h.2
+          ap (λ (o : Option StoredBlob). option_map_or (λ h. h.links) o 0) h.1 ∙ book.tied.counts k h.0 h.1 ∙ ap (link_count C) h.2
 
   linked : (e : Link × ℕ) → get L.links.links e.0 ≡ Some e.1 → blob_row L.slots (e.0.1, e.1) ≡ blob_text C e.0
   linked e there =
       let b = book.tied.sizes e.0 e.1 there in
-      let length_is : e.1 ≡ size C e.0.1 = b.2 ∙ ap (λ o. option_map_or (λ (b : Resident). length b.bytes) o 0) (sym b.1) in
-      let links_are : links_to L.slots e.0.1 ≡ count C e.0.1 = as_many_links e.0.1 b.0 b.1 in
+      let length_is : e.1 ≡ blob_length C e.0.1 = b.2 ∙ ap (λ o. option_map_or (λ (b : Resident). length b.bytes) o 0) (sym b.1) in
+      let links_are : links_to L.slots e.0.1 ≡ link_count C e.0.1 = as_many_links e.0.1 b.0 b.1 in
       λ i. blob_line e.0.1 (length_is i) (links_are i)
 
   blobs_are : (repo : Text) → flat_map (blob_row L.slots) (blobs_in L.links repo) ≡ flat_map (blob_text C) (filter (λ l. same_text l.0 repo) (set.items C.links))
@@ -106,16 +106,16 @@ module _ (L : Layers) (book : IsBook L) where
   manifests_are repo = flat_map-map manifest_row (λ e. (e.0.1, e.1)) (filter (λ e. same_text e.0.0 repo) (entries L.links.manifests))
 
   repo_is : (t : ℕ) (repo : Text) → repo_rows L.links L.uploads L.slots t repo ≡ repo_text C t repo
-  repo_is t repo = λ i. repository_line repo ++ blobs_are repo i ++ manifests_are repo i ++ flat_map-map session_row listed (sessions_of L.uploads.sessions t repo) i
+  repo_is t repo = λ i. repository_line repo ++ blobs_are repo i ++ manifests_are repo i ++ flat_map-map session_row number_and_length (sessions_of L.uploads.sessions t repo) i
 
   tenant_is : (e : ℕ × Tenant) → e.0 < length L.links.tenants → tenant_rows L.links L.uploads L.slots e ≡ tenant_text C e
   tenant_is e there =
       let repos_are : flat_map (repo_rows L.links L.uploads L.slots e.0) (repos_of L.links e.0) ≡ flat_map (repo_text C e.0) (repos_of L.links e.0) =
       flat_map-same (repo_rows L.links L.uploads L.slots e.0) (repo_text C e.0) (repos_of L.links e.0) (all_same (λ r. repo_rows L.links L.uploads L.slots e.0 r ≡ repo_text C e.0 r) (repo_is e.0) (repos_of L.links e.0)) in
-      let used_is : used_in L.links e.0 ≡ used C e.0 = use_is L e.0 book there in
+      let used_is : used_in L.links e.0 ≡ used_bytes C e.0 = use_is L e.0 book there in
       λ i. tenant_line e.1.name (used_is i) e.1.quota (slice_index L.uploads.next e.0) ++ repos_are i
 
-  -- the layers' lines are the book's text
+  -- the lines from the layers are the text of the book
   pub text_is : book_rows L.links L.uploads L.slots ≡ book_text C
   text_is =
       ap (λ (t : Text). book_line ++ t ++ end_line)
@@ -126,5 +126,5 @@ module _ (L : Layers) (book : IsBook L) where
   pub can_print : CanPrint L.links L.uploads
   can_print = record {
     next = book.sound.lawful.numbering.one_each;
-    repos = λ t. let few = book.sound.lawful.repositories.few t in let same = length-filter (is_of C t) (set.items L.links.repos) in omega arith;
+    repos = λ t. let few = book.sound.lawful.repositories.few t in let same = length-filter (is_repo_of C t) (set.items L.links.repos) in omega arith;
   }

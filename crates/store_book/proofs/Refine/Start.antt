@@ -1,4 +1,4 @@
--- `Book::start`, from what its calls of the layers did.
+-- `Book::start`, by the clauses of its calls of the layers.
 use Rattle.std.proofs.Common.{◌≡◌, ℕ, ◌≤◌, Bool, true, false, List, length, Ok, Err, is_some, refl, sym, ap, ◌∙◌, subst, arith}
 use Rattle.std.specs.Prelude.{if◌then◌else◌}
 use Rattle.std.specs.Cmp.Lexicographic.{nat_list_cmp_total}
@@ -6,22 +6,22 @@ use Rattle.std.specs.FinMap.{get}
 use Rattle.std.specs.Option.{option_map}
 use Rattle.std.proofs.lemmas.Bool.{not-true, not-false, true≢false}
 use Rattle.std.proofs.lemmas.Map.Lookups.{exact_bytes}
-use Rattle.finite_maps.proofs.Options.{not_some}
+use Rattle.spec_lib.proofs.Options.{not_some}
 use Rattle.blob_digest.specs.declared.refusal.Refusal.{Refusal}
-use Rattle.finite_maps.specs.Sets as set
-use Rattle.finite_maps.proofs.Sets.{insert_there, remove-insert}
+use Rattle.spec_lib.specs.Sets as set
+use Rattle.spec_lib.proofs.Sets.{insert_there, remove-insert}
 use Rattle.slot_table.specs.Slots.{Slot}
 use Rattle.link_table.specs.Linked.{Linked, HasNoLinks, known_tenant, appear, vanish}
-use Rattle.upload_table.specs.Uploaded.{Uploaded, start_upload, started}
-use Rattle.finite_maps.specs.Texts.{Text}
+use Rattle.upload_table.specs.Uploaded.{Uploaded, start_upload, with_new_session}
+use Rattle.spec_lib.specs.Texts.{Text}
 use Rattle.store_model.specs.Catalog.{Catalog, session_charges_of}
 use Rattle.store_model.specs.Commands.{start}
 use Rattle.store_model.specs.Invariant.{Sound}
 use Rattle.store_book.specs.Layers.{Layers, book_catalog, IsBook}
 use Rattle.store_book.proofs.Layers.Sums.{get-links_of, mark}
-use Rattle.store_model.proofs.Invariant.Counts.{count-appear}
+use Rattle.store_model.proofs.Invariant.Counts.{link_count-appear}
 use Rattle.store_model.proofs.Invariant.Repos.{holds_none}
-use Rattle.store_model.proofs.Invariant.Sessions.{used-open}
+use Rattle.store_model.proofs.Invariant.Sessions.{used_bytes-open}
 use Rattle.store_model.proofs.Commands.Start.{Sound-after_start}
 
 module _ {A E : Type 0} where
@@ -33,7 +33,7 @@ module _ {A E : Type 0} where
   err_of_if true d e x h = (refl, cc)
   err_of_if false d e x h = absurd cc
 
--- layers that are as they were
+-- unchanged layers
 module _ (L : Layers) (l' : Linked) (u' : Uploaded) (slots' : List Slot) (links : l' ≡ L.links) (uploads : u' ≡ L.uploads) (slots_are : slots' ≡ L.slots) where
   abbrev same_layers : record L { links = l'; uploads = u'; slots = slots' } ≡ L
   same_layers = λ i. record L { links = links i; uploads = uploads i; slots = slots_are i }
@@ -45,7 +45,7 @@ module _ (L : Layers) (l' : Linked) (u' : Uploaded) (slots' : List Slot) (links 
   same_book book = subst (λ (x : Layers). IsBook x) (sym same_layers) book
 
 module _ (l l' : Linked) (t : ℕ) (repo : Text) (b : Bool) (appeared : appear l t repo ≡ Ok (b, l')) where
-  -- what appeared is taken back
+  -- a new repository is removed again
   pub undone : b ≡ true → vanish l' repo ≡ l
   undone new =
       let a = ok_of_if _ _ _ _ appeared in
@@ -85,13 +85,13 @@ module _ (L : Layers) (l' : Linked) (t : ℕ) (repo : Text) (b : Bool) where
     l1 = record L.links { repos = set.insert L.links.repos repo }
 
     abbrev u1 : Uploaded
-    u1 = started L.uploads t repo
+    u1 = with_new_session L.uploads t repo
 
     abbrev C1 : Catalog
     C1 = book_catalog (record L { links = l1; uploads = u1 })
 
     same_sessions : (v : ℕ) → session_charges_of C1 v ≡ session_charges_of C v
-    same_sessions v = let same = used-open C t repo book.sound.lawful v in omega arith
+    same_sessions v = let same = used_bytes-open C t repo book.sound.lawful v in omega arith
 
     opened_book : Sound C1 → IsBook (record L { links = l1; uploads = u1 })
     opened_book sound = record {
@@ -100,12 +100,12 @@ module _ (L : Layers) (l' : Linked) (t : ℕ) (repo : Text) (b : Bool) where
         marks = book.tied.marks;
         distinct = book.tied.distinct;
         sizes = book.tied.sizes;
-        counts = λ k h at. book.tied.counts k h at ∙ sym (count-appear C repo h.digest book.sound.lawful);
+        counts = λ k h at. book.tied.counts k h at ∙ sym (link_count-appear C repo h.digest book.sound.lawful);
       };
       charges = record { one_each = book.charges.one_each; sums = λ v lt. book.charges.sums v lt ∙ sym (same_sessions v) };
     }
 
-    -- a session that was opened leaves a book
+    -- after a session was opened, the layers make a book
     pub IsBook-start : (u' : Uploaded) (n : ℕ) → length repo ≤ 255 → known_tenant L.links repo ≡ Ok t → appear L.links t repo ≡ Ok (b, l') → start_upload L.uploads t repo ≡ Ok (n, u') → IsBook (record L { links = l'; uploads = u' })
     IsBook-start u' n short known appeared opened =
         let a = ok_of_if _ _ _ _ appeared in
@@ -116,7 +116,7 @@ module _ (L : Layers) (l' : Linked) (t : ℕ) (repo : Text) (b : Bool) where
         let sound = Sound-after_start C C1 repo n step short book.sound in
         subst (λ (x : Layers). IsBook x) (λ i. record L { links = links i; uploads = uploads i }) (opened_book sound)
 
--- a repository that isn't there has no links
+-- a repository that is absent has no links
 pub absent_unlinked : (L : Layers) (repo : Text) → IsBook L → set.contains L.links.repos repo ≡ false → HasNoLinks L.links.links repo
 absent_unlinked L repo book absent d =
     let unheld = holds_none (book_catalog L) repo book.sound.lawful absent d in

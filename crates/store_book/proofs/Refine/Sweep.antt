@@ -1,4 +1,4 @@
--- A sweep of the slots is a sweep of the book's catalog, and the book stays what it is.
+-- A sweep of the slots is a sweep of the book's catalog, and the book stays well-formed.
 use Rattle.std.proofs.Common.{◌≡◌, ℕ, ◌+◌, Bool, true, false, cond, List, [], ◌∷◌, length, Option, Some, None, refl, sym, ap, ◌∙◌, subst, arith}
 use Rattle.std.specs.Prelude.{slice_get, slice_index, ◌==◌, ◌&&◌, not, is_none}
 use Rattle.std.specs.Option.{option_map, option_map_or, is_some}
@@ -8,26 +8,26 @@ use Rattle.std.specs.FinMap.{entries, get}
 use Rattle.std.proofs.lemmas.Bool.{true≢false, false_from_ne_true, eq-eqb}
 use Rattle.std.proofs.lemmas.List.Sums.{sum_by-cons}
 use Rattle.std.proofs.lemmas.Option.{slice_get_within}
-use Rattle.finite_maps.specs.Sets as set
-use Rattle.finite_maps.proofs.Lists.{count_by-none, there_at}
-use Rattle.finite_maps.proofs.Rows.{sum_by-from_entries}
-use Rattle.slot_table.specs.Slots.{Slot, Held, Content, Free, Used, Retired, held_at, held_in, slot_of, is_orphan, on_held, content_with, mark, IsDistinct}
+use Rattle.spec_lib.specs.Sets as set
+use Rattle.spec_lib.proofs.Lists.{count_by-none, there_at}
+use Rattle.spec_lib.proofs.Rows.{sum_by-from_entries}
+use Rattle.slot_table.specs.Slots.{Slot, StoredBlob, SlotContent, Free, Used, Retired, stored_blob_at, stored_blob_in, slot_of, is_orphan, on_stored_blob, content_with, mark, IsDistinct}
 use Rattle.slot_table.proofs.Indexing.{slot_of_none}
-use Rattle.finite_maps.specs.Texts.{Text, text_cmp}
-use Rattle.store_model.specs.Catalog.{Link, Resident, Catalog, holds, count}
+use Rattle.spec_lib.specs.Texts.{Text, text_cmp}
+use Rattle.store_model.specs.Catalog.{Link, Resident, Catalog, holds, link_count}
 use Rattle.store_book.specs.Layers.{Layers, resident_of, with_resident, resident_rows, residents_of, lent_marks, book_catalog, IsBook}
 use Rattle.store_book.specs.Pinned.{Pinned}
 use Rattle.store_model.specs.declared.swept.Swept.{Swept}
-use Rattle.store_model.specs.Sweep.{IsLeft, IsSweep}
+use Rattle.store_model.specs.Sweep.{IsAfterSweep, IsSweep}
 use Rattle.store_model.specs.Sweep as sweeps
-use Rattle.store_book.specs.Internal.SweptSlots.{Sweeps, IsTurned, is_live_orphan, kept, held, freed, retired}
+use Rattle.store_book.specs.Internal.SweptSlots.{Sweeps, IsSweptTo, is_live_orphan, kept, held, freed, retired}
 use Rattle.store_book.proofs.Layers.Sums.{holds_is, IsApart-rows}
 use Rattle.store_book.proofs.Slots.Changed.{resident_at}
-use Rattle.finite_maps.proofs.Places.{count_by-alike, count_by-parts}
+use Rattle.spec_lib.proofs.Places.{count_by-alike, count_by-parts}
 use Rattle.store_model.proofs.Commands.Sweep.{linked_stays, Sound-sweep}
-use Rattle.store_book.proofs.Slots.Lent.{length-marks}
+use Rattle.store_book.proofs.Slots.LeaseMarks.{length-marks}
 use Rattle.store_book.proofs.Layers.LinkedSlots.{linked_live}
-use Rattle.finite_maps.proofs.Options.{some_same}
+use Rattle.spec_lib.proofs.Options.{some_same}
 use Rattle.store_book.proofs.Slots.Reclaimed.{orphan_held}
 use Rattle.store_book.proofs.Slots.Writes.{slot_of_held}
 use Rattle.slot_table.proofs.Finding.{held_of}
@@ -36,25 +36,25 @@ use Rattle.store_book.proofs.Layers.Ties.{not_resident}
 -- ---- the blobs of the slots
 
 -- a resident blob is that of a slot
-resident_slot : (slots : List Slot) → IsDistinct slots → (d : Text) (b : Resident) → get (residents_of slots (lent_marks slots)) d ≡ Some b → (k : ℕ) × (h : Held) × (held_at slots k ≡ Some h) × (h.digest ≡ d) × (b ≡ resident_of h.lent h)
+resident_slot : (slots : List Slot) → IsDistinct slots → (d : Text) (b : Resident) → get (residents_of slots (lent_marks slots)) d ≡ Some b → (k : ℕ) × (h : StoredBlob) × (stored_blob_at slots k ≡ Some h) × (h.digest ≡ d) × (b ≡ resident_of h.lent h)
 resident_slot slots distinct d b found = by (slot_of slots d) refl
   where
-    by : (o : Option ℕ) → slot_of slots d ≡ o → (k : ℕ) × (h : Held) × (held_at slots k ≡ Some h) × (h.digest ≡ d) × (b ≡ resident_of h.lent h)
+    by : (o : Option ℕ) → slot_of slots d ≡ o → (k : ℕ) × (h : StoredBlob) × (stored_blob_at slots k ≡ Some h) × (h.digest ≡ d) × (b ≡ resident_of h.lent h)
     by None none = absurd (let n : Some b ≡ None = sym found ∙ not_resident slots (lent_marks slots) d none in cc)
     by (Some k) is =
         let h = held_of slots d k is in
         (k, h.0, h.1, h.2, some_same (sym found ∙ ap (get (residents_of slots (lent_marks slots))) (sym h.2) ∙ resident_at slots k h.0 h.1 distinct))
 
--- what a test of a resident blob says of a slot
+-- a test of a resident blob, as a test of its slot
 abbrev of_slot : (Text × Resident → Bool) → Slot → Bool
-of_slot f s = option_map_or (λ h. f (h.digest, resident_of h.lent h)) (held_in s.content) false
+of_slot f s = option_map_or (λ h. f (h.digest, resident_of h.lent h)) (stored_blob_in s.content) false
 
 count_rows : (f : Text × Resident → Bool) (slots : List Slot) → count_by f (resident_rows slots (lent_marks slots)) ≡ count_by (of_slot f) slots
 count_rows f [] = refl
 count_rows f (s ∷ slots) = by s.content (count_rows f slots) ∙ sym (sum_by-cons (λ x. cond {A = ℕ} (of_slot f x) 1 0) s slots)
   where
-    by : (c : Content) → count_by f (resident_rows slots (lent_marks slots)) ≡ count_by (of_slot f) slots →
-        count_by f (with_resident c (option_map_or (λ (h : Held). h.lent) (held_in c) false) (resident_rows slots (lent_marks slots))) ≡ cond {A = ℕ} (option_map_or (λ (h : Held). f (h.digest, resident_of h.lent h)) (held_in c) false) 1 0 + count_by (of_slot f) slots
+    by : (c : SlotContent) → count_by f (resident_rows slots (lent_marks slots)) ≡ count_by (of_slot f) slots →
+        count_by f (with_resident c (option_map_or (λ (h : StoredBlob). h.lent) (stored_blob_in c) false) (resident_rows slots (lent_marks slots))) ≡ cond {A = ℕ} (option_map_or (λ (h : StoredBlob). f (h.digest, resident_of h.lent h)) (stored_blob_in c) false) 1 0 + count_by (of_slot f) slots
     by Free rest = omega arith
     by (Used h) rest = sum_by-cons (λ e. cond {A = ℕ} (f e) 1 0) (h.digest, resident_of h.lent h) (resident_rows slots (lent_marks slots)) ∙ ap (λ n. cond {A = ℕ} (f (h.digest, resident_of h.lent h)) 1 0 + n) rest
     by Retired rest = omega arith
@@ -63,13 +63,13 @@ count_rows f (s ∷ slots) = by s.content (count_rows f slots) ∙ sym (sum_by-c
 count_residents : (f : Text × Resident → Bool) (slots : List Slot) → IsDistinct slots → count_by f (entries (residents_of slots (lent_marks slots))) ≡ count_by (of_slot f) slots
 count_residents f slots distinct = sum_by-from_entries text_cmp (λ e. cond {A = ℕ} (f e) 1 0) nat_list_cmp_total (resident_rows slots (lent_marks slots)) (IsApart-rows slots (lent_marks slots) distinct) ∙ count_rows f slots
 
--- what a slot holds
-held_there : (slots : List Slot) (k : ℕ) (s : Slot) → slice_get slots k ≡ Some s → held_at slots k ≡ held_in s.content
-held_there slots k s at = ap (λ o. option_map_or (λ (x : Slot). held_in x.content) o None) at
+-- the content of a slot
+held_there : (slots : List Slot) (k : ℕ) (s : Slot) → slice_get slots k ≡ Some s → stored_blob_at slots k ≡ stored_blob_in s.content
+held_there slots k s at = ap (λ o. option_map_or (λ (x : Slot). stored_blob_in x.content) o None) at
 
 -- an orphan is marked
-marked : (s : Slot) (h : Held) → s.content ≡ Used h → held_in (on_held (mark true) s).content ≡ Some (mark true h)
-marked s h is = ap (λ c. held_in (content_with (mark true) c)) is
+marked : (s : Slot) (h : StoredBlob) → s.content ≡ Used h → stored_blob_in (on_stored_blob (mark true) s).content ≡ Some (mark true h)
+marked s h is = ap (λ c. stored_blob_in (content_with (mark true) c)) is
 
 module _ (L : Layers) (p q : Pinned) (swept : Swept) (book : IsBook (record L { slots = p.slots })) (sweep : Sweeps p q swept) where
   abbrev C : Catalog
@@ -81,21 +81,21 @@ module _ (L : Layers) (p q : Pinned) (swept : Swept) (book : IsBook (record L { 
   abbrev distinct : IsDistinct p.slots
   distinct = book.tied.distinct
 
-  -- ---- what is left was there
+  -- ---- each remaining blob was there
 
-  abbrev Origin : ℕ → Held → Type 0
-  Origin j x = (h : Held) × (held_at p.slots j ≡ Some h) × (x.digest ≡ h.digest) × (x.links ≡ h.links)
+  abbrev Origin : ℕ → StoredBlob → Type 0
+  Origin j x = (h : StoredBlob) × (stored_blob_at p.slots j ≡ Some h) × (x.digest ≡ h.digest) × (x.links ≡ h.links)
 
-  origin_of : (j : ℕ) (x : Held) (s t : Slot) (n m : ℕ) → slice_get p.slots j ≡ Some s → held_in t.content ≡ Some x → IsTurned s n t m → Origin j x
-  origin_of j x s t n m at here (kept linked e same) = (x, held_there p.slots j s at ∙ ap (λ (y : Slot). held_in y.content) (sym e) ∙ here, refl, refl)
+  origin_of : (j : ℕ) (x : StoredBlob) (s t : Slot) (n m : ℕ) → slice_get p.slots j ≡ Some s → stored_blob_in t.content ≡ Some x → IsSweptTo s n t m → Origin j x
+  origin_of j x s t n m at here (kept linked e same) = (x, held_there p.slots j s at ∙ ap (λ (y : Slot). stored_blob_in y.content) (sym e) ∙ here, refl, refl)
   origin_of j x s t n m at here (held is lent e le) =
       let h = orphan_held s.content is in
-      let same : x ≡ mark true h.0 = some_same (sym here ∙ ap (λ (y : Slot). held_in y.content) e ∙ marked s h.0 h.1) in
-      (h.0, held_there p.slots j s at ∙ ap held_in h.1, ap (λ (y : Held). y.digest) same, ap (λ (y : Held). y.links) same)
-  origin_of j x s t n m at here (freed is lt e zeroed) = absurd (let clash : None ≡ Some x = ap (λ (y : Slot). held_in y.content) (sym e) ∙ here in cc)
-  origin_of j x s t n m at here (retired is last e zeroed) = absurd (let clash : None ≡ Some x = ap (λ (y : Slot). held_in y.content) (sym e) ∙ here in cc)
+      let same : x ≡ mark true h.0 = some_same (sym here ∙ ap (λ (y : Slot). stored_blob_in y.content) e ∙ marked s h.0 h.1) in
+      (h.0, held_there p.slots j s at ∙ ap stored_blob_in h.1, ap (λ (y : StoredBlob). y.digest) same, ap (λ (y : StoredBlob). y.links) same)
+  origin_of j x s t n m at here (freed is lt e zeroed) = absurd (let clash : None ≡ Some x = ap (λ (y : Slot). stored_blob_in y.content) (sym e) ∙ here in cc)
+  origin_of j x s t n m at here (retired is last e zeroed) = absurd (let clash : None ≡ Some x = ap (λ (y : Slot). stored_blob_in y.content) (sym e) ∙ here in cc)
 
-  origin : (j : ℕ) (x : Held) → held_at q.slots j ≡ Some x → Origin j x
+  origin : (j : ℕ) (x : StoredBlob) → stored_blob_at q.slots j ≡ Some x → Origin j x
   origin j x here =
       let t = slot_of_held q.slots j x here in
       let lt = slice_get_within q.slots j t.0 t.1 in
@@ -107,57 +107,57 @@ module _ (L : Layers) (p q : Pinned) (swept : Swept) (book : IsBook (record L { 
   distinct' : IsDistinct q.slots
   distinct' = λ a b x y at_a at_b same. (let o = origin a x at_a in let r = origin b y at_b in distinct a b o.0 r.0 o.1 r.1 (sym o.2 ∙ same ∙ r.2))
 
-  abbrev shown : Option Held → Option Resident
-  shown o = option_map (λ (x : Held). resident_of x.lent x) o
+  abbrev shown : Option StoredBlob → Option Resident
+  shown o = option_map (λ (x : StoredBlob). resident_of x.lent x) o
 
-  -- what is left of a blob is what its slot holds
-  left_at : (k : ℕ) (h : Held) → held_at p.slots k ≡ Some h → get C'.residents h.digest ≡ shown (held_at q.slots k)
-  left_at k h at = by (held_at q.slots k) refl
+  -- the remaining blob is the one that its slot holds
+  left_at : (k : ℕ) (h : StoredBlob) → stored_blob_at p.slots k ≡ Some h → get C'.residents h.digest ≡ shown (stored_blob_at q.slots k)
+  left_at k h at = by (stored_blob_at q.slots k) refl
     where
-      by : (o : Option Held) → held_at q.slots k ≡ o → get C'.residents h.digest ≡ shown o
+      by : (o : Option StoredBlob) → stored_blob_at q.slots k ≡ o → get C'.residents h.digest ≡ shown o
       by None none = not_resident q.slots (lent_marks q.slots) h.digest (slot_of_none q.slots h.digest (λ j x here is.
           let o = origin j x here in
           let same : j ≡ k = distinct j k o.0 h o.1 at (sym o.2 ∙ is) in
-          let clash : None ≡ Some x = sym none ∙ ap (held_at q.slots) (sym same) ∙ here in
+          let clash : None ≡ Some x = sym none ∙ ap (stored_blob_at q.slots) (sym same) ∙ here in
           cc))
       by (Some x) here =
           let o = origin k x here in
           let same : o.0 ≡ h = some_same (sym o.1 ∙ at) in
-          ap (get C'.residents) (sym (o.2 ∙ ap (λ (y : Held). y.digest) same)) ∙ resident_at q.slots k x here distinct'
+          ap (get C'.residents) (sym (o.2 ∙ ap (λ (y : StoredBlob). y.digest) same)) ∙ resident_at q.slots k x here distinct'
 
-  orphan_is : (k : ℕ) (h : Held) → held_at p.slots k ≡ Some h → sweeps.is_orphan C h.digest ≡ (h.links == 0)
+  orphan_is : (k : ℕ) (h : StoredBlob) → stored_blob_at p.slots k ≡ Some h → sweeps.is_orphan C h.digest ≡ (h.links == 0)
   orphan_is k h at = ap (λ n. n == 0) (sym (book.tied.counts k h at))
 
-  -- ---- what a sweep leaves of each blob
+  -- ---- each blob after the sweep
 
-  left_by : (h : Held) (s t : Slot) (n m : ℕ) → held_in s.content ≡ Some h → IsTurned s n t m → IsLeft (h.links == 0) (resident_of h.lent h) (shown (held_in t.content))
+  left_by : (h : StoredBlob) (s t : Slot) (n m : ℕ) → stored_blob_in s.content ≡ Some h → IsSweptTo s n t m → IsAfterSweep (h.links == 0) (resident_of h.lent h) (shown (stored_blob_in t.content))
   left_by h s t n m here turned = by turned
     where
       test : (b : Bool) → is_orphan s ≡ b → (h.links == 0) ≡ b
-      test b is = ap (λ o. option_map_or (λ (x : Held). x.links == 0) o false) (sym here) ∙ is
+      test b is = ap (λ o. option_map_or (λ (x : StoredBlob). x.links == 0) o false) (sym here) ∙ is
 
-      leaves : (b : Bool) (o : Option Held) → (h.links == 0) ≡ b → held_in t.content ≡ o → IsLeft b (resident_of h.lent h) (shown o) → IsLeft (h.links == 0) (resident_of h.lent h) (shown (held_in t.content))
-      leaves b o same now is = subst (λ x. IsLeft x (resident_of h.lent h) (shown (held_in t.content))) (sym same) (subst (λ x. IsLeft b (resident_of h.lent h) (shown x)) (sym now) is)
+      leaves : (b : Bool) (o : Option StoredBlob) → (h.links == 0) ≡ b → stored_blob_in t.content ≡ o → IsAfterSweep b (resident_of h.lent h) (shown o) → IsAfterSweep (h.links == 0) (resident_of h.lent h) (shown (stored_blob_in t.content))
+      leaves b o same now is = subst (λ x. IsAfterSweep x (resident_of h.lent h) (shown (stored_blob_in t.content))) (sym same) (subst (λ x. IsAfterSweep b (resident_of h.lent h) (shown x)) (sym now) is)
 
-      by : IsTurned s n t m → IsLeft (h.links == 0) (resident_of h.lent h) (shown (held_in t.content))
-      by (kept linked e same) = leaves false (Some h) (test false linked) (ap (λ (y : Slot). held_in y.content) e ∙ here) refl
+      by : IsSweptTo s n t m → IsAfterSweep (h.links == 0) (resident_of h.lent h) (shown (stored_blob_in t.content))
+      by (kept linked e same) = leaves false (Some h) (test false linked) (ap (λ (y : Slot). stored_blob_in y.content) e ∙ here) refl
       by (held is lent e le) =
           let g = orphan_held s.content is in
-          let same : g.0 ≡ h = some_same (ap held_in (sym g.1) ∙ here) in
-          leaves true (Some (mark true h)) (test true is) (ap (λ (y : Slot). held_in y.content) e ∙ marked s g.0 g.1 ∙ ap (λ (x : Held). Some (mark true x)) same) (ap (λ o. option_map_or (λ (x : Held). x.lent) o false) (sym here) ∙ lent, refl)
-      by (freed is lt e zeroed) = leaves true None (test true is) (ap (λ (y : Slot). held_in y.content) e) tt
-      by (retired is last e zeroed) = leaves true None (test true is) (ap (λ (y : Slot). held_in y.content) e) tt
+          let same : g.0 ≡ h = some_same (ap stored_blob_in (sym g.1) ∙ here) in
+          leaves true (Some (mark true h)) (test true is) (ap (λ (y : Slot). stored_blob_in y.content) e ∙ marked s g.0 g.1 ∙ ap (λ (x : StoredBlob). Some (mark true x)) same) (ap (λ o. option_map_or (λ (x : StoredBlob). x.lent) o false) (sym here) ∙ lent, refl)
+      by (freed is lt e zeroed) = leaves true None (test true is) (ap (λ (y : Slot). stored_blob_in y.content) e) tt
+      by (retired is last e zeroed) = leaves true None (test true is) (ap (λ (y : Slot). stored_blob_in y.content) e) tt
 
-  orphans : (d : Text) (b : Resident) → get C.residents d ≡ Some b → IsLeft (sweeps.is_orphan C d) b (get C'.residents d)
+  orphans : (d : Text) (b : Resident) → get C.residents d ≡ Some b → IsAfterSweep (sweeps.is_orphan C d) b (get C'.residents d)
   orphans d b found =
       let r = resident_slot p.slots distinct d b found in
       let s = slot_of_held p.slots r.0 r.1 r.2 in
       let e = sweep.each r.0 s.0 s.1 in
       let left = left_by r.1 s.0 e.0 (slice_index p.bounds r.0) (slice_index q.bounds r.0) s.2 e.2 in
-      let now : get C'.residents r.1.digest ≡ shown (held_in e.0.content) = left_at r.0 r.1 r.2 ∙ ap shown (held_there q.slots r.0 e.0 e.1) in
-      let by_slot : IsLeft (sweeps.is_orphan C r.1.digest) (resident_of r.1.lent r.1) (get C'.residents r.1.digest) =
-      subst (λ x. IsLeft x (resident_of r.1.lent r.1) (get C'.residents r.1.digest)) (sym (orphan_is r.0 r.1 r.2)) (subst (λ x. IsLeft (r.1.links == 0) (resident_of r.1.lent r.1) x) (sym now) left) in
-      subst (λ (x : Text). IsLeft (sweeps.is_orphan C x) b (get C'.residents x)) r.3 (subst (λ (x : Resident). IsLeft (sweeps.is_orphan C r.1.digest) x (get C'.residents r.1.digest)) (sym r.4) by_slot)
+      let now : get C'.residents r.1.digest ≡ shown (stored_blob_in e.0.content) = left_at r.0 r.1 r.2 ∙ ap shown (held_there q.slots r.0 e.0 e.1) in
+      let by_slot : IsAfterSweep (sweeps.is_orphan C r.1.digest) (resident_of r.1.lent r.1) (get C'.residents r.1.digest) =
+      subst (λ x. IsAfterSweep x (resident_of r.1.lent r.1) (get C'.residents r.1.digest)) (sym (orphan_is r.0 r.1 r.2)) (subst (λ x. IsAfterSweep (r.1.links == 0) (resident_of r.1.lent r.1) x) (sym now) left) in
+      subst (λ (x : Text). IsAfterSweep (sweeps.is_orphan C x) b (get C'.residents x)) r.3 (subst (λ (x : Resident). IsAfterSweep (sweeps.is_orphan C r.1.digest) x (get C'.residents r.1.digest)) (sym r.4) by_slot)
 
   no_others : (d : Text) → get C.residents d ≡ None → get C'.residents d ≡ None
   no_others d none = by (get C'.residents d) refl
@@ -175,49 +175,49 @@ module _ (L : Layers) (p q : Pinned) (swept : Swept) (book : IsBook (record L { 
   condemned = sweep.condemned ∙ count_by-alike is_live_orphan (of_slot (λ e. sweeps.is_orphan C e.0 && not e.1.condemned)) p.slots alike ∙ sym (count_residents (λ e. sweeps.is_orphan C e.0 && not e.1.condemned) p.slots distinct)
     where
       alike : (k : ℕ) (s : Slot) → slice_get p.slots k ≡ Some s → is_live_orphan s ≡ of_slot (λ e. sweeps.is_orphan C e.0 && not e.1.condemned) s
-      alike k s at = by (held_in s.content) refl
+      alike k s at = by (stored_blob_in s.content) refl
         where
-          by : (o : Option Held) → held_in s.content ≡ o → option_map_or (λ (h : Held). h.links == 0 && not h.condemned) o false ≡ option_map_or (λ (h : Held). sweeps.is_orphan C h.digest && not h.condemned) o false
+          by : (o : Option StoredBlob) → stored_blob_in s.content ≡ o → option_map_or (λ (h : StoredBlob). h.links == 0 && not h.condemned) o false ≡ option_map_or (λ (h : StoredBlob). sweeps.is_orphan C h.digest && not h.condemned) o false
           by None e = refl
           by (Some h) e = ap (λ b. b && not h.condemned) (sym (orphan_is k h (held_there p.slots k s at ∙ e)))
 
   abbrev is_gone : Text × Resident → Bool
   is_gone e = is_none (get C'.residents e.0)
 
-  gone_slot : (k : ℕ) (s : Slot) (h : Held) (o : Option Held) → slice_get p.slots k ≡ Some s → held_in s.content ≡ Some h → held_at q.slots k ≡ o → of_slot is_gone s ≡ is_none (shown o)
-  gone_slot k s h o at here now = ap (λ x. option_map_or (λ (y : Held). is_none (get C'.residents y.digest)) x false) here ∙ ap is_none (left_at k h (held_there p.slots k s at ∙ here) ∙ ap shown now)
+  gone_slot : (k : ℕ) (s : Slot) (h : StoredBlob) (o : Option StoredBlob) → slice_get p.slots k ≡ Some s → stored_blob_in s.content ≡ Some h → stored_blob_at q.slots k ≡ o → of_slot is_gone s ≡ is_none (shown o)
+  gone_slot k s h o at here now = ap (λ x. option_map_or (λ (y : StoredBlob). is_none (get C'.residents y.digest)) x false) here ∙ ap is_none (left_at k h (held_there p.slots k s at ∙ here) ∙ ap shown now)
 
   abbrev one : Bool → ℕ
   one b = cond b 1 0
 
-  gone_by : (k : ℕ) (s t : Slot) (n m : ℕ) → slice_get p.slots k ≡ Some s → slice_get q.slots k ≡ Some t → IsTurned s n t m → one (is_orphan s) ≡ one (is_orphan t) + one (of_slot is_gone s)
+  gone_by : (k : ℕ) (s t : Slot) (n m : ℕ) → slice_get p.slots k ≡ Some s → slice_get q.slots k ≡ Some t → IsSweptTo s n t m → one (is_orphan s) ≡ one (is_orphan t) + one (of_slot is_gone s)
   gone_by k s t n m at now (kept linked e same) =
       let a : one (is_orphan s) ≡ 0 = ap one linked in
       let b : one (is_orphan t) ≡ 0 = ap (λ (y : Slot). one (is_orphan y)) e ∙ a in
-      let c : one (of_slot is_gone s) ≡ 0 = by (held_in s.content) refl in
+      let c : one (of_slot is_gone s) ≡ 0 = by (stored_blob_in s.content) refl in
       omega arith
     where
-      by : (o : Option Held) → held_in s.content ≡ o → one (of_slot is_gone s) ≡ 0
-      by None none = ap (λ x. one (option_map_or (λ (y : Held). is_none (get C'.residents y.digest)) x false)) none
-      by (Some h) here = ap one (gone_slot k s h (Some h) at here (held_there q.slots k t now ∙ ap (λ (y : Slot). held_in y.content) e ∙ here))
+      by : (o : Option StoredBlob) → stored_blob_in s.content ≡ o → one (of_slot is_gone s) ≡ 0
+      by None none = ap (λ x. one (option_map_or (λ (y : StoredBlob). is_none (get C'.residents y.digest)) x false)) none
+      by (Some h) here = ap one (gone_slot k s h (Some h) at here (held_there q.slots k t now ∙ ap (λ (y : Slot). stored_blob_in y.content) e ∙ here))
   gone_by k s t n m at now (held is lent e le) =
       let h = orphan_held s.content is in
-      let here : held_in t.content ≡ Some (mark true h.0) = ap (λ (y : Slot). held_in y.content) e ∙ marked s h.0 h.1 in
+      let here : stored_blob_in t.content ≡ Some (mark true h.0) = ap (λ (y : Slot). stored_blob_in y.content) e ∙ marked s h.0 h.1 in
       let a : one (is_orphan s) ≡ 1 = ap one is in
-      let b : one (is_orphan t) ≡ 1 = ap (λ o. one (option_map_or (λ (x : Held). x.links == 0) o false)) here ∙ ap one (eq-eqb h.0.links 0 h.2) in
-      let c : one (of_slot is_gone s) ≡ 0 = ap one (gone_slot k s h.0 (Some (mark true h.0)) at (ap held_in h.1) (held_there q.slots k t now ∙ here)) in
+      let b : one (is_orphan t) ≡ 1 = ap (λ o. one (option_map_or (λ (x : StoredBlob). x.links == 0) o false)) here ∙ ap one (eq-eqb h.0.links 0 h.2) in
+      let c : one (of_slot is_gone s) ≡ 0 = ap one (gone_slot k s h.0 (Some (mark true h.0)) at (ap stored_blob_in h.1) (held_there q.slots k t now ∙ here)) in
       omega arith
   gone_by k s t n m at now (freed is lt e zeroed) =
       let h = orphan_held s.content is in
       let a : one (is_orphan s) ≡ 1 = ap one is in
       let b : one (is_orphan t) ≡ 0 = ap (λ (y : Slot). one (is_orphan y)) e in
-      let c : one (of_slot is_gone s) ≡ 1 = ap one (gone_slot k s h.0 None at (ap held_in h.1) (held_there q.slots k t now ∙ ap (λ (y : Slot). held_in y.content) e)) in
+      let c : one (of_slot is_gone s) ≡ 1 = ap one (gone_slot k s h.0 None at (ap stored_blob_in h.1) (held_there q.slots k t now ∙ ap (λ (y : Slot). stored_blob_in y.content) e)) in
       omega arith
   gone_by k s t n m at now (retired is last e zeroed) =
       let h = orphan_held s.content is in
       let a : one (is_orphan s) ≡ 1 = ap one is in
       let b : one (is_orphan t) ≡ 0 = ap (λ (y : Slot). one (is_orphan y)) e in
-      let c : one (of_slot is_gone s) ≡ 1 = ap one (gone_slot k s h.0 None at (ap held_in h.1) (held_there q.slots k t now ∙ ap (λ (y : Slot). held_in y.content) e)) in
+      let c : one (of_slot is_gone s) ≡ 1 = ap one (gone_slot k s h.0 None at (ap stored_blob_in h.1) (held_there q.slots k t now ∙ ap (λ (y : Slot). stored_blob_in y.content) e)) in
       omega arith
 
   gone : swept.freed + swept.retired ≡ count_by is_gone (entries C.residents)
@@ -225,30 +225,30 @@ module _ (L : Layers) (p q : Pinned) (swept : Swept) (book : IsBook (record L { 
       let parts : count_by is_orphan p.slots ≡ count_by is_orphan q.slots + count_by (of_slot is_gone) p.slots = count_by-parts is_orphan (of_slot is_gone) is_orphan p.slots q.slots sweep.long (λ k s t at now.
       let e = sweep.each k s at in
       let same : e.0 ≡ t = some_same (sym e.1 ∙ now) in
-      gone_by k s t (slice_index p.bounds k) (slice_index q.bounds k) at now (subst (λ (x : Slot). IsTurned s (slice_index p.bounds k) x (slice_index q.bounds k)) same e.2)) in
+      gone_by k s t (slice_index p.bounds k) (slice_index q.bounds k) at now (subst (λ (x : Slot). IsSweptTo s (slice_index p.bounds k) x (slice_index q.bounds k)) same e.2)) in
       let rows = count_residents is_gone p.slots distinct in
       let all = sweep.all in
       let held = sweep.held in
       omega arith
 
   -- a condemned blob has no links
-  unlinked : (k : ℕ) (h : Held) → held_at p.slots k ≡ Some h → h.condemned ≡ true → h.links ≡ 0
+  unlinked : (k : ℕ) (h : StoredBlob) → stored_blob_at p.slots k ≡ Some h → h.condemned ≡ true → h.links ≡ 0
   unlinked k h at is =
       book.tied.counts k h at ∙ count_by-none (λ r. holds C r h.digest) (λ r. false_from_ne_true (holds C r h.digest) (λ has. true≢false (sym is ∙ linked_live (record L { slots = p.slots }) book r h.digest k h at refl has))) (set.items C.repos)
 
   abbrev is_condemned : Text × Resident → Bool
   is_condemned e = e.1.condemned
 
-  held_by : (k : ℕ) (s t : Slot) (n m : ℕ) → slice_get p.slots k ≡ Some s → IsTurned s n t m → is_orphan t ≡ of_slot is_condemned t
-  held_by k s t n m at (kept linked e same) = ap is_orphan e ∙ by (held_in s.content) refl linked ∙ ap (of_slot is_condemned) (sym e)
+  held_by : (k : ℕ) (s t : Slot) (n m : ℕ) → slice_get p.slots k ≡ Some s → IsSweptTo s n t m → is_orphan t ≡ of_slot is_condemned t
+  held_by k s t n m at (kept linked e same) = ap is_orphan e ∙ by (stored_blob_in s.content) refl linked ∙ ap (of_slot is_condemned) (sym e)
     where
-      by : (o : Option Held) → held_in s.content ≡ o → option_map_or (λ (x : Held). x.links == 0) o false ≡ false → option_map_or (λ (x : Held). x.links == 0) o false ≡ option_map_or (λ (x : Held). x.condemned) o false
+      by : (o : Option StoredBlob) → stored_blob_in s.content ≡ o → option_map_or (λ (x : StoredBlob). x.links == 0) o false ≡ false → option_map_or (λ (x : StoredBlob). x.links == 0) o false ≡ option_map_or (λ (x : StoredBlob). x.condemned) o false
       by None none linked = refl
       by (Some h) here linked = linked ∙ sym (false_from_ne_true h.condemned (λ is. true≢false (sym (eq-eqb h.links 0 (unlinked k h (held_there p.slots k s at ∙ here) is)) ∙ linked)))
   held_by k s t n m at (held is lent e le) =
       let h = orphan_held s.content is in
-      let here : held_in t.content ≡ Some (mark true h.0) = ap (λ (y : Slot). held_in y.content) e ∙ marked s h.0 h.1 in
-      ap (λ o. option_map_or (λ (x : Held). x.links == 0) o false) here ∙ eq-eqb h.0.links 0 h.2 ∙ sym (ap (λ o. option_map_or (λ (x : Held). x.condemned) o false) here)
+      let here : stored_blob_in t.content ≡ Some (mark true h.0) = ap (λ (y : Slot). stored_blob_in y.content) e ∙ marked s h.0 h.1 in
+      ap (λ o. option_map_or (λ (x : StoredBlob). x.links == 0) o false) here ∙ eq-eqb h.0.links 0 h.2 ∙ sym (ap (λ o. option_map_or (λ (x : StoredBlob). x.condemned) o false) here)
   held_by k s t n m at (freed is lt e zeroed) = ap is_orphan e ∙ sym (ap (of_slot is_condemned) e)
   held_by k s t n m at (retired is last e zeroed) = ap is_orphan e ∙ sym (ap (of_slot is_condemned) e)
 
@@ -262,7 +262,7 @@ module _ (L : Layers) (p q : Pinned) (swept : Swept) (book : IsBook (record L { 
           let s = there_at p.slots k (omega arith) in
           let e = sweep.each k s.0 s.1 in
           let same : e.0 ≡ t = some_same (sym e.1 ∙ now) in
-          held_by k s.0 t (slice_index p.bounds k) (slice_index q.bounds k) s.1 (subst (λ (x : Slot). IsTurned s.0 (slice_index p.bounds k) x (slice_index q.bounds k)) same e.2)
+          held_by k s.0 t (slice_index p.bounds k) (slice_index q.bounds k) s.1 (subst (λ (x : Slot). IsSweptTo s.0 (slice_index p.bounds k) x (slice_index q.bounds k)) same e.2)
 
   -- ---- the catalog and the book
 
@@ -289,7 +289,7 @@ module _ (L : Layers) (p q : Pinned) (swept : Swept) (book : IsBook (record L { 
       marks = length-marks q.slots;
       distinct = distinct';
       sizes = sized;
-      counts = λ k x here. (let o = origin k x here in o.3 ∙ book.tied.counts k o.0 o.1 ∙ ap (count C) (sym o.2));
+      counts = λ k x here. (let o = origin k x here in o.3 ∙ book.tied.counts k o.0 o.1 ∙ ap (link_count C) (sym o.2));
     };
     charges = record { one_each = book.charges.one_each; sums = book.charges.sums };
   }

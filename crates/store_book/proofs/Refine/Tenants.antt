@@ -5,12 +5,12 @@ use Rattle.std.specs.List.{flat_map, enumerate_from}
 use Rattle.std.specs.Option.{option_map, option_map_or}
 use Rattle.std.proofs.lemmas.List.FromFn.{length-enumerate_from}
 use Rattle.link_table.specs.Linked.{Tenant, quota_in}
-use Rattle.finite_maps.proofs.Lists.{there_at}
-use Rattle.finite_maps.proofs.Writing.{at_number}
+use Rattle.spec_lib.proofs.Lists.{there_at}
+use Rattle.spec_lib.proofs.Writing.{at_number}
 use Rattle.store_book.specs.Internal.Lines.{tenant_in}
 use Rattle.std.proofs.lemmas.List.{take_all}
 
--- the tenant of a number, with the number
+-- the tenant with a number, and the number
 pub numbered : (tenants : List Tenant) (t : ℕ) → t < length tenants → slice_get (enumerate_from 0 tenants) t ≡ Some (t, tenant_in tenants t)
 numbered tenants t lt =
     let x = there_at tenants t lt in

@@ -8,9 +8,9 @@ use Rattle.std.specs.Cmp.Lexicographic.{nat_list_cmp_total}
 use Rattle.std.specs.FinMap.{find, get, insert, get-from_entries, get-insert, same_map}
 use Rattle.std.proofs.lemmas.Map.Lookups.{exact_bytes}
 use Rattle.slot_table.specs.declared.phase.Phase.TheVariants as phase
-use Rattle.slot_table.specs.Slots.{Slot, Content, Free, Used, Retired, with_slot, fill, phase_at, phase_in}
-use Rattle.finite_maps.proofs.Options.{some_none}
-use Rattle.finite_maps.specs.Texts.{Text, text_cmp}
+use Rattle.slot_table.specs.Slots.{Slot, SlotContent, Free, Used, Retired, with_slot, fill, phase_at, phase_in}
+use Rattle.spec_lib.proofs.Options.{some_none}
+use Rattle.spec_lib.specs.Texts.{Text, text_cmp}
 use Rattle.store_model.specs.Catalog.{Resident}
 use Rattle.store_book.proofs.Slots.Writes.{with_slot-suc}
 use Rattle.store_book.specs.Layers.{resident_of, with_resident, resident_rows, residents_of}
@@ -36,7 +36,7 @@ module _ (blob : Text × Text) where
   apart_from q d true v o e = some_none e
   apart_from q d false v o e = (refl, e)
 
-  free_content : (c : Content) → phase_in c ≡ phase.Free → (m : Bool) (rest : List (Text × Resident)) → with_resident c m rest ≡ rest
+  free_content : (c : SlotContent) → phase_in c ≡ phase.Free → (m : Bool) (rest : List (Text × Resident)) → with_resident c m rest ≡ rest
   free_content Free e m rest = refl
   free_content (Used h) e m rest = not_free h.condemned e
     where
@@ -59,7 +59,7 @@ module _ (blob : Text × Text) where
       ap (λ rows. find text_cmp q (resident_rows rows (x ∷ marks))) (with_slot-suc s slots k (fill blob))
       ∙ under s.content none (λ h. find-fill slots k marks m q free at h)
     where
-      under : (c : Content) → find text_cmp blob.0 (with_resident c x (resident_rows slots marks)) ≡ None →
+      under : (c : SlotContent) → find text_cmp blob.0 (with_resident c x (resident_rows slots marks)) ≡ None →
           (find text_cmp blob.0 (resident_rows slots marks) ≡ None → find text_cmp q (resident_rows (with_slot slots k (fill blob)) marks) ≡ cond (eq_by_cmp text_cmp q blob.0) (Some (stored m)) (find text_cmp q (resident_rows slots marks))) →
           find text_cmp q (with_resident c x (resident_rows (with_slot slots k (fill blob)) marks)) ≡ cond (eq_by_cmp text_cmp q blob.0) (Some (stored m)) (find text_cmp q (with_resident c x (resident_rows slots marks)))
       under Free none rest = rest none
@@ -69,7 +69,7 @@ module _ (blob : Text × Text) where
           ∙ swapped q h.digest (stored m) (resident_of x h) (find text_cmp q (resident_rows slots marks)) parts.0
       under Retired none rest = rest none
 
-  -- a blob that wasn't resident is, and the other residents stay
+  -- the new blob is resident, and the others are unchanged
   pub residents-fill : (slots : List Slot) (k : ℕ) (marks : List Bool) (m : Bool) → phase_at slots k ≡ phase.Free → slice_get marks k ≡ Some m → get (residents_of slots marks) blob.0 ≡ None →
       residents_of (with_slot slots k (fill blob)) marks ≡ insert (residents_of slots marks) blob.0 (stored m)
   residents-fill slots k marks m free at none = same_map nat_list_cmp_total exact_bytes (residents_of (with_slot slots k (fill blob)) marks) (insert (residents_of slots marks) blob.0 (stored m)) (λ q.

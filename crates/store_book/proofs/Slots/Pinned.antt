@@ -1,4 +1,4 @@
--- The slots and the keeper's rows agree, call by call; and what is seen of the slots.
+-- The slots and the keeper's rows agree after each call, and the view of the slots.
 use Rattle.std.proofs.Common.{◌≡◌, ℕ, ◌+◌, ◌≤◌, ◌⊎◌, Bool, true, false, cond, List, [], ◌∷◌, length, map, get_or, Option, Some, None, refl, sym, ap, ◌∙◌, subst, arith, inl, inr}
 use Prim.Native.Nat.{zero, suc}
 use Rattle.std.specs.Prelude.{slice_get, slice_index, slice_set, replicate, ◌≢◌, nat_le, ◌&&◌, Result, Ok, Err, if◌then◌else◌}
@@ -7,24 +7,24 @@ use Rattle.std.proofs.lemmas.Bool.{cases_eq}
 use Rattle.std.proofs.lemmas.List.{get_or-set_other, get_or-set_same, length-map, length-replicate}
 use Rattle.std.proofs.lemmas.Option.{slice_get_within}
 use Rattle.std.proofs.Math.ListN.{length-set}
-use Rattle.finite_maps.proofs.Lists.{there_at}
+use Rattle.spec_lib.proofs.Lists.{there_at}
 use Rattle.pin_core.specs.declared.world.Phase.TheVariants as pin
 use Rattle.pin_core.specs.declared.world.PinRow.{PinRow}
 use Rattle.pin_core.specs.Events.{IsNew, given_row, in_phase}
 use Rattle.pin_core.specs.World.{row, no_row}
-use Rattle.pin_table.specs.Rule.{raised}
+use Rattle.pin_table.specs.Rule.{with_added}
 use Rattle.slot_table.specs.declared.phase.Phase.TheVariants as phase
-use Rattle.slot_table.specs.Slots.{initial_slots, Slot, Held, Content, Free, Used, Retired, held_in, held_at, phase_in, phase_at, slot_of, with_slot, on_held, content_with, fill, mark, link_up, link_down, lend, empty_slot}
+use Rattle.slot_table.specs.Slots.{initial_slots, Slot, StoredBlob, SlotContent, Free, Used, Retired, stored_blob_in, stored_blob_at, phase_in, phase_at, slot_of, with_slot, on_stored_blob, content_with, fill, mark, link_up, link_down, lend, empty_slot}
 use Rattle.blob_digest.specs.declared.refusal.Refusal.{Refusal}
 use Rattle.blob_digest.specs.declared.refusal.Refusal.TheVariants.{LimitReached}
-use Rattle.store_book.specs.BookState.{SlotSeen}
-use Rattle.finite_maps.specs.Texts.{Text}
-use Rattle.store_book.specs.Internal.Keeping.{revived}
-use Rattle.store_book.specs.Pinned.{Pinned, IsPinned, row_of, seen, all_seen, with_both, slotted, Quietly}
-use Rattle.store_book.specs.SlotSteps.{EachSlot, IsQuiet}
-use Rattle.finite_maps.proofs.Options.{some_same}
+use Rattle.store_book.specs.BookState.{SlotView}
+use Rattle.spec_lib.specs.Texts.{Text}
+use Rattle.store_book.specs.Internal.Storing.{with_revived_slot}
+use Rattle.store_book.specs.Pinned.{Pinned, IsPinned, row_of, slot_view, slot_views, with_slot_and_bound, with_changed_slot, KeepsGenerations}
+use Rattle.store_book.specs.SlotSteps.{EachSlot, KeepsGeneration}
+use Rattle.spec_lib.proofs.Options.{some_same}
 use Rattle.store_book.proofs.Slots.Placed.{free_slot}
-use Rattle.store_book.proofs.Slots.Writes.{with_slot-suc, length-with_slot, slot-same, slot-other, map-with_slot, held_at-same, held_at-other}
+use Rattle.store_book.proofs.Slots.Writes.{with_slot-suc, length-with_slot, slot-same, slot-other, map-with_slot, stored_blob_at-same, stored_blob_at-other}
 use Rattle.slot_table.proofs.Finding.{not_held}
 
 -- ---- lists
@@ -45,54 +45,54 @@ rows-write [] k f s at = cc
 rows-write (x ∷ slots) zero f s at = ap (λ (y : Slot). row_of (f y) ∷ map row_of slots) (sym (some_same at))
 rows-write (x ∷ slots) (suc k) f s at = ap (λ rs. row_of x ∷ rs) (rows-write slots k f s at) ∙ sym (ap (map row_of) (with_slot-suc x slots k f))
 
--- ---- what is seen
+-- ---- the view of the slots
 
-pub all_seen-with_slot : (slots : List Slot) (k : ℕ) (f : Slot → Slot) (bounds : List ℕ) → ((s : Slot) (b : ℕ) → seen (f s) b ≡ seen s b) → all_seen (with_slot slots k f) bounds ≡ all_seen slots bounds
-all_seen-with_slot [] k f bounds same = refl
-all_seen-with_slot (s ∷ slots) zero f [] same = ap (λ x. x ∷ all_seen slots []) (same s 0)
-all_seen-with_slot (s ∷ slots) zero f (b ∷ bounds) same = ap (λ x. x ∷ all_seen slots bounds) (same s b)
-all_seen-with_slot (s ∷ slots) (suc k) f [] same = ap (λ xs. all_seen xs []) (with_slot-suc s slots k f) ∙ ap (λ xs. seen s 0 ∷ xs) (all_seen-with_slot slots k f [] same)
-all_seen-with_slot (s ∷ slots) (suc k) f (b ∷ bounds) same = ap (λ xs. all_seen xs (b ∷ bounds)) (with_slot-suc s slots k f) ∙ ap (λ xs. seen s b ∷ xs) (all_seen-with_slot slots k f bounds same)
+pub slot_views-with_slot : (slots : List Slot) (k : ℕ) (f : Slot → Slot) (bounds : List ℕ) → ((s : Slot) (b : ℕ) → slot_view (f s) b ≡ slot_view s b) → slot_views (with_slot slots k f) bounds ≡ slot_views slots bounds
+slot_views-with_slot [] k f bounds same = refl
+slot_views-with_slot (s ∷ slots) zero f [] same = ap (λ x. x ∷ slot_views slots []) (same s 0)
+slot_views-with_slot (s ∷ slots) zero f (b ∷ bounds) same = ap (λ x. x ∷ slot_views slots bounds) (same s b)
+slot_views-with_slot (s ∷ slots) (suc k) f [] same = ap (λ xs. slot_views xs []) (with_slot-suc s slots k f) ∙ ap (λ xs. slot_view s 0 ∷ xs) (slot_views-with_slot slots k f [] same)
+slot_views-with_slot (s ∷ slots) (suc k) f (b ∷ bounds) same = ap (λ xs. slot_views xs (b ∷ bounds)) (with_slot-suc s slots k f) ∙ ap (λ xs. slot_view s b ∷ xs) (slot_views-with_slot slots k f bounds same)
 
-pub link_up-seen : (s : Slot) (b : ℕ) → seen (on_held link_up s) b ≡ seen s b
-link_up-seen s b = by_content s.content
+pub link_up-slot_view : (s : Slot) (b : ℕ) → slot_view (on_stored_blob link_up s) b ≡ slot_view s b
+link_up-slot_view s b = by_content s.content
   where
-    by_content : (c : Content) → seen (record { generation = s.generation; content = content_with link_up c }) b ≡ seen (record { generation = s.generation; content = c }) b
+    by_content : (c : SlotContent) → slot_view (record { generation = s.generation; content = content_with link_up c }) b ≡ slot_view (record { generation = s.generation; content = c }) b
     by_content Free = refl
     by_content (Used h) = refl
     by_content Retired = refl
 
-pub link_down-seen : (s : Slot) (b : ℕ) → seen (on_held link_down s) b ≡ seen s b
-link_down-seen s b = by_content s.content
+pub link_down-slot_view : (s : Slot) (b : ℕ) → slot_view (on_stored_blob link_down s) b ≡ slot_view s b
+link_down-slot_view s b = by_content s.content
   where
-    by_content : (c : Content) → seen (record { generation = s.generation; content = content_with link_down c }) b ≡ seen (record { generation = s.generation; content = c }) b
+    by_content : (c : SlotContent) → slot_view (record { generation = s.generation; content = content_with link_down c }) b ≡ slot_view (record { generation = s.generation; content = c }) b
     by_content Free = refl
     by_content (Used h) = refl
     by_content Retired = refl
 
-pub length-all_seen : (slots : List Slot) (bounds : List ℕ) → length (all_seen slots bounds) ≡ length slots
-length-all_seen [] bounds = refl
-length-all_seen (s ∷ slots) [] = ap suc (length-all_seen slots [])
-length-all_seen (s ∷ slots) (b ∷ bounds) = ap suc (length-all_seen slots bounds)
+pub length-slot_views : (slots : List Slot) (bounds : List ℕ) → length (slot_views slots bounds) ≡ length slots
+length-slot_views [] bounds = refl
+length-slot_views (s ∷ slots) [] = ap suc (length-slot_views slots [])
+length-slot_views (s ∷ slots) (b ∷ bounds) = ap suc (length-slot_views slots bounds)
 
--- what is seen at k
-pub seen-at : (slots : List Slot) (bounds : List ℕ) (k : ℕ) (a : SlotSeen) → slice_get (all_seen slots bounds) k ≡ Some a → (s : Slot) × (slice_get slots k ≡ Some s) × (a ≡ seen s (slice_index bounds k))
-seen-at [] bounds k a at = absurd cc
-seen-at (s ∷ slots) [] zero a at = (s, refl, sym (some_same at))
-seen-at (s ∷ slots) [] (suc k) a at = seen-at slots [] k a at
-seen-at (s ∷ slots) (b ∷ bounds) zero a at = (s, refl, sym (some_same at))
-seen-at (s ∷ slots) (b ∷ bounds) (suc k) a at = seen-at slots bounds k a at
+-- the view of the slot k
+pub slot_view-at : (slots : List Slot) (bounds : List ℕ) (k : ℕ) (a : SlotView) → slice_get (slot_views slots bounds) k ≡ Some a → (s : Slot) × (slice_get slots k ≡ Some s) × (a ≡ slot_view s (slice_index bounds k))
+slot_view-at [] bounds k a at = absurd cc
+slot_view-at (s ∷ slots) [] zero a at = (s, refl, sym (some_same at))
+slot_view-at (s ∷ slots) [] (suc k) a at = slot_view-at slots [] k a at
+slot_view-at (s ∷ slots) (b ∷ bounds) zero a at = (s, refl, sym (some_same at))
+slot_view-at (s ∷ slots) (b ∷ bounds) (suc k) a at = slot_view-at slots bounds k a at
 
--- generations stay, and bounds don't rise
+-- generations are unchanged, and no bound rises
 pub EachSlot-quiet : (slots slots' : List Slot) (bounds bounds' : List ℕ) → length slots' ≡ length slots →
     ((k : ℕ) (s s' : Slot) → slice_get slots k ≡ Some s → slice_get slots' k ≡ Some s' → s'.generation ≡ s.generation) →
-    ((k : ℕ) → slice_index bounds' k ≤ slice_index bounds k) → EachSlot IsQuiet (all_seen slots bounds) (all_seen slots' bounds')
+    ((k : ℕ) → slice_index bounds' k ≤ slice_index bounds k) → EachSlot KeepsGeneration (slot_views slots bounds) (slot_views slots' bounds')
 EachSlot-quiet slots slots' bounds bounds' long same less = (
-  length-all_seen slots' bounds' ∙ long ∙ sym (length-all_seen slots bounds),
+  length-slot_views slots' bounds' ∙ long ∙ sym (length-slot_views slots bounds),
   λ k a b at_a at_b.
-      let p = seen-at slots bounds k a at_a in
-      let q = seen-at slots' bounds' k b at_b in (
-        ap (λ (x : SlotSeen). x.generation) q.2 ∙ same k p.0 q.0 p.1 q.1 ∙ sym (ap (λ (x : SlotSeen). x.generation) p.2),
+      let p = slot_view-at slots bounds k a at_a in
+      let q = slot_view-at slots' bounds' k b at_b in (
+        ap (λ (x : SlotView). x.generation) q.2 ∙ same k p.0 q.0 p.1 q.1 ∙ sym (ap (λ (x : SlotView). x.generation) p.2),
         rw (p.2, q.2) (less k),
       ),
 )
@@ -118,80 +118,80 @@ index-lowered (x ∷ xs) zero (suc j) = le-self (slice_index xs j)
 index-lowered (x ∷ xs) (suc k) zero = le-self x
 index-lowered (x ∷ xs) (suc k) (suc j) = index-lowered xs k j
 
-pub Quietly-same : (p : Pinned) → Quietly p p
-Quietly-same p = record { table = refl; slots = EachSlot-quiet p.slots p.slots p.bounds p.bounds refl (λ k s s' at at'. ap (λ (x : Slot). x.generation) (some_same (sym at' ∙ at))) (λ k. le-self (slice_index p.bounds k)) }
+pub KeepsGenerations-same : (p : Pinned) → KeepsGenerations p p
+KeepsGenerations-same p = record { table = refl; slots = EachSlot-quiet p.slots p.slots p.bounds p.bounds refl (λ k s s' at at'. ap (λ (x : Slot). x.generation) (some_same (sym at' ∙ at))) (λ k. le-self (slice_index p.bounds k)) }
 
--- a change of one slot in its generation
-pub Quietly-slotted : (p q r : Pinned) (k : ℕ) (f : Slot → Slot) → ((s : Slot) → (f s).generation ≡ s.generation) → Quietly p q → r ≡ slotted k f q → Quietly p r
-Quietly-slotted p q r k f same quiet is = subst (λ x. Quietly p x) (sym is) (record {
+-- a change of one slot that keeps its generation
+pub KeepsGenerations-with_changed_slot : (p q r : Pinned) (k : ℕ) (f : Slot → Slot) → ((s : Slot) → (f s).generation ≡ s.generation) → KeepsGenerations p q → r ≡ with_changed_slot k f q → KeepsGenerations p r
+KeepsGenerations-with_changed_slot p q r k f same quiet is = subst (λ x. KeepsGenerations p x) (sym is) (record {
   table = quiet.table;
   slots = (
-    length-all_seen (with_slot q.slots k f) q.bounds ∙ length-with_slot q.slots k f ∙ sym (length-all_seen q.slots q.bounds) ∙ quiet.slots.0,
+    length-slot_views (with_slot q.slots k f) q.bounds ∙ length-with_slot q.slots k f ∙ sym (length-slot_views q.slots q.bounds) ∙ quiet.slots.0,
     λ j a b at_a at_b.
-        let now = seen-at (with_slot q.slots k f) q.bounds j b at_b in
-        let old = there_at (all_seen q.slots q.bounds) j (let lt = slice_get_within (with_slot q.slots k f) j now.0 now.1 in let long = length-with_slot q.slots k f in let longer = length-all_seen q.slots q.bounds in omega arith) in
-        let was = seen-at q.slots q.bounds j old.0 old.1 in
+        let now = slot_view-at (with_slot q.slots k f) q.bounds j b at_b in
+        let old = there_at (slot_views q.slots q.bounds) j (let lt = slice_get_within (with_slot q.slots k f) j now.0 now.1 in let long = length-with_slot q.slots k f in let longer = length-slot_views q.slots q.bounds in omega arith) in
+        let was = slot_view-at q.slots q.bounds j old.0 old.1 in
         let before = quiet.slots.1 j a old.0 at_a old.1 in (
-          ap (λ (x : SlotSeen). x.generation) now.2 ∙ generation-with_slot q.slots k f same j was.0 now.0 was.1 now.1 ∙ sym (ap (λ (x : SlotSeen). x.generation) was.2) ∙ before.0,
-          rw now.2 (let e = ap (λ (x : SlotSeen). x.bound) was.2 in let le = before.1 in omega arith),
+          ap (λ (x : SlotView). x.generation) now.2 ∙ generation-with_slot q.slots k f same j was.0 now.0 was.1 now.1 ∙ sym (ap (λ (x : SlotView). x.generation) was.2) ∙ before.0,
+          rw now.2 (let e = ap (λ (x : SlotView). x.bound) was.2 in let le = before.1 in omega arith),
         ),
   );
 })
 
 -- a slot that is filled
-pub Quietly-placed : (p q : Pinned) (k : ℕ) (blob : Text × Text) → q ≡ with_both k (fill blob) 0 p → Quietly p q
-Quietly-placed p q k blob is = subst (λ x. Quietly p x) (sym is) (record {
+pub KeepsGenerations-placed : (p q : Pinned) (k : ℕ) (blob : Text × Text) → q ≡ with_slot_and_bound k (fill blob) 0 p → KeepsGenerations p q
+KeepsGenerations-placed p q k blob is = subst (λ x. KeepsGenerations p x) (sym is) (record {
   table = refl;
   slots = EachSlot-quiet p.slots (with_slot p.slots k (fill blob)) p.bounds (slice_set p.bounds k 0) (length-with_slot p.slots k (fill blob)) (generation-with_slot p.slots k (fill blob) (λ s. refl)) (index-lowered p.bounds k);
 })
 
 -- ---- the slots and the rows agree
 
--- where a changed blob came from
-pub origin-on : (g : Held → Held) (slots : List Slot) (k j : ℕ) (x : Held) → held_at (with_slot slots k (on_held g)) j ≡ Some x → (y : Held) × (held_at slots j ≡ Some y) × ((x ≡ y) ⊎ ((j ≡ k) × (x ≡ g y)))
+-- the blob before the change
+pub origin-on : (g : StoredBlob → StoredBlob) (slots : List Slot) (k j : ℕ) (x : StoredBlob) → stored_blob_at (with_slot slots k (on_stored_blob g)) j ≡ Some x → (y : StoredBlob) × (stored_blob_at slots j ≡ Some y) × ((x ≡ y) ⊎ ((j ≡ k) × (x ≡ g y)))
 origin-on g slots k j x here = elim (cases_eq j k) [
   | inl e ↦ at_k (slice_get slots k) refl e
-  | inr other ↦ (x, sym (held_at-other slots k (on_held g) j other) ∙ here, inl refl)
+  | inr other ↦ (x, sym (stored_blob_at-other slots k (on_stored_blob g) j other) ∙ here, inl refl)
 ]
   where
-    at_k : (o : Option Slot) → slice_get slots k ≡ o → j ≡ k → (y : Held) × (held_at slots j ≡ Some y) × ((x ≡ y) ⊎ ((j ≡ k) × (x ≡ g y)))
+    at_k : (o : Option Slot) → slice_get slots k ≡ o → j ≡ k → (y : StoredBlob) × (stored_blob_at slots j ≡ Some y) × ((x ≡ y) ⊎ ((j ≡ k) × (x ≡ g y)))
     at_k None none e =
-        let same : with_slot slots k (on_held g) ≡ slots = ap (λ o. option_map_or (λ s. slice_set slots k (on_held g s)) o slots) none in
-        (x, ap (λ xs. held_at xs j) (sym same) ∙ here, inl refl)
+        let same : with_slot slots k (on_stored_blob g) ≡ slots = ap (λ o. option_map_or (λ s. slice_set slots k (on_stored_blob g s)) o slots) none in
+        (x, ap (λ xs. stored_blob_at xs j) (sym same) ∙ here, inl refl)
     at_k (Some s) at e =
-        let now : held_in (content_with g s.content) ≡ Some x = sym (held_at-same slots k (on_held g) s at) ∙ ap (held_at (with_slot slots k (on_held g))) (sym e) ∙ here in
+        let now : stored_blob_in (content_with g s.content) ≡ Some x = sym (stored_blob_at-same slots k (on_stored_blob g) s at) ∙ ap (stored_blob_at (with_slot slots k (on_stored_blob g))) (sym e) ∙ here in
         let c = by_content s.content now in
-        (c.0, ap (held_at slots) e ∙ ap (λ o. option_map_or (λ (z : Slot). held_in z.content) o None) at ∙ c.1, inr (e, c.2))
+        (c.0, ap (stored_blob_at slots) e ∙ ap (λ o. option_map_or (λ (z : Slot). stored_blob_in z.content) o None) at ∙ c.1, inr (e, c.2))
       where
-        by_content : (c : Content) → held_in (content_with g c) ≡ Some x → (y : Held) × (held_in c ≡ Some y) × (x ≡ g y)
+        by_content : (c : SlotContent) → stored_blob_in (content_with g c) ≡ Some x → (y : StoredBlob) × (stored_blob_in c ≡ Some y) × (x ≡ g y)
         by_content Free e = absurd cc
         by_content (Used y) e = (y, refl, sym (some_same e))
         by_content Retired e = absurd cc
 
 -- a change that keeps each row and each mark
-pub IsPinned-kept : (g : Held → Held) → ((s : Slot) → row_of (on_held g s) ≡ row_of s) → ((h : Held) → (g h).lent ≡ h.lent) → (slots : List Slot) (k : ℕ) (rows : List PinRow) (bounds : List ℕ) → IsPinned slots rows bounds → IsPinned (with_slot slots k (on_held g)) rows bounds
+pub IsPinned-kept : (g : StoredBlob → StoredBlob) → ((s : Slot) → row_of (on_stored_blob g s) ≡ row_of s) → ((h : StoredBlob) → (g h).lent ≡ h.lent) → (slots : List Slot) (k : ℕ) (rows : List PinRow) (bounds : List ℕ) → IsPinned slots rows bounds → IsPinned (with_slot slots k (on_stored_blob g)) rows bounds
 IsPinned-kept g same mark_kept slots k rows bounds kept = record {
-  same_rows = kept.same_rows ∙ sym (map-with_slot row_of slots k (on_held g) (λ s at. same s));
-  one_each = kept.one_each ∙ sym (length-with_slot slots k (on_held g));
+  same_rows = kept.same_rows ∙ sym (map-with_slot row_of slots k (on_stored_blob g) (λ s at. same s));
+  one_each = kept.one_each ∙ sym (length-with_slot slots k (on_stored_blob g));
   unlent = λ j x here unlent. (let o = origin-on g slots k j x here in kept.unlent j o.0 o.1 (by_origin j x o.0 o.2 unlent));
 }
   where
-    by_origin : (j : ℕ) (x y : Held) → (x ≡ y) ⊎ ((j ≡ k) × (x ≡ g y)) → x.lent ≡ false → y.lent ≡ false
-    by_origin j x y (inl e) unlent = ap (λ (h : Held). h.lent) (sym e) ∙ unlent
-    by_origin j x y (inr e) unlent = sym (mark_kept y) ∙ ap (λ (h : Held). h.lent) (sym e.1) ∙ unlent
+    by_origin : (j : ℕ) (x y : StoredBlob) → (x ≡ y) ⊎ ((j ≡ k) × (x ≡ g y)) → x.lent ≡ false → y.lent ≡ false
+    by_origin j x y (inl e) unlent = ap (λ (h : StoredBlob). h.lent) (sym e) ∙ unlent
+    by_origin j x y (inr e) unlent = sym (mark_kept y) ∙ ap (λ (h : StoredBlob). h.lent) (sym e.1) ∙ unlent
 
-pub link_up-row : (s : Slot) → row_of (on_held link_up s) ≡ row_of s
+pub link_up-row : (s : Slot) → row_of (on_stored_blob link_up s) ≡ row_of s
 link_up-row s = by_content s.content
   where
-    by_content : (c : Content) → row_of (record { generation = s.generation; content = content_with link_up c }) ≡ row_of (record { generation = s.generation; content = c })
+    by_content : (c : SlotContent) → row_of (record { generation = s.generation; content = content_with link_up c }) ≡ row_of (record { generation = s.generation; content = c })
     by_content Free = refl
     by_content (Used h) = refl
     by_content Retired = refl
 
-pub link_down-row : (s : Slot) → row_of (on_held link_down s) ≡ row_of s
+pub link_down-row : (s : Slot) → row_of (on_stored_blob link_down s) ≡ row_of s
 link_down-row s = by_content s.content
   where
-    by_content : (c : Content) → row_of (record { generation = s.generation; content = content_with link_down c }) ≡ row_of (record { generation = s.generation; content = c })
+    by_content : (c : SlotContent) → row_of (record { generation = s.generation; content = content_with link_down c }) ≡ row_of (record { generation = s.generation; content = c })
     by_content Free = refl
     by_content (Used h) = refl
     by_content Retired = refl
@@ -204,12 +204,12 @@ new_digest slots rows bounds kept d none = subst (λ rs. IsNew d rs) (sym kept.s
     let is : get_or (map row_of slots) k default ≡ row_of s.0 = get-map row_of slots k s.0 default s.1 in
     held s.0 k s.1 (ap (λ (r : PinRow). r.digest) (sym is) ∙ has))
   where
-    held : (s : Slot) (k : ℕ) → slice_get slots k ≡ Some s → option_map (λ (h : Held). h.digest) (held_in s.content) ≡ Some d → ⊥
-    held s k at has = by (held_in s.content) refl has
+    held : (s : Slot) (k : ℕ) → slice_get slots k ≡ Some s → option_map (λ (h : StoredBlob). h.digest) (stored_blob_in s.content) ≡ Some d → ⊥
+    held s k at has = by (stored_blob_in s.content) refl has
       where
-        by : (o : Option Held) → held_in s.content ≡ o → option_map (λ (h : Held). h.digest) o ≡ Some d → ⊥
+        by : (o : Option StoredBlob) → stored_blob_in s.content ≡ o → option_map (λ (h : StoredBlob). h.digest) o ≡ Some d → ⊥
         by None e f = absurd cc
-        by (Some h) e f = not_held slots d none k h (ap (λ o. option_map_or (λ (x : Slot). held_in x.content) o None) at ∙ e) (some_same f)
+        by (Some h) e f = not_held slots d none k h (ap (λ o. option_map_or (λ (x : Slot). stored_blob_in x.content) o None) at ∙ e) (some_same f)
 
 pub IsPinned-placed : (slots : List Slot) (rows : List PinRow) (bounds : List ℕ) → IsPinned slots rows bounds → (k : ℕ) (blob : Text × Text) → phase_at slots k ≡ phase.Free →
     IsPinned (with_slot slots k (fill blob)) (slice_set rows k (given_row blob.0 (row rows k))) (slice_set bounds k 0)
@@ -224,14 +224,14 @@ IsPinned-placed slots rows bounds kept k blob free =
       unlent = unlent;
     }
   where
-    unlent : (j : ℕ) (h : Held) → held_at (with_slot slots k (fill blob)) j ≡ Some h → h.lent ≡ false → slice_index (slice_set bounds k 0) j ≡ 0
+    unlent : (j : ℕ) (h : StoredBlob) → stored_blob_at (with_slot slots k (fill blob)) j ≡ Some h → h.lent ≡ false → slice_index (slice_set bounds k 0) j ≡ 0
     unlent j h here mark = elim (cases_eq j k) [
       | inl e ↦
           (let s = free_slot slots k free in
           let lt = slice_get_within slots k s.0 s.1 in
           let long = kept.one_each in
           ap (slice_index (slice_set bounds k 0)) e ∙ get_or-set_same bounds k 0 0 (omega arith))
-      | inr other ↦ get_or-set_other bounds k j 0 0 other ∙ kept.unlent j h (sym (held_at-other slots k (fill blob) j other) ∙ here) mark
+      | inr other ↦ get_or-set_other bounds k j 0 0 other ∙ kept.unlent j h (sym (stored_blob_at-other slots k (fill blob) j other) ∙ here) mark
     ]
 
 -- ---- reviving
@@ -243,7 +243,7 @@ condemned_slot slots k is = by (slice_get slots k) refl is
     by None e f = absurd cc
     by (Some s) e f = (s, e, f)
 
-used_condemned : (c : Content) → phase_in c ≡ phase.Condemned → (h : Held) × (c ≡ Used h) × (h.condemned ≡ true)
+used_condemned : (c : SlotContent) → phase_in c ≡ phase.Condemned → (h : StoredBlob) × (c ≡ Used h) × (h.condemned ≡ true)
 used_condemned Free e = absurd cc
 used_condemned (Used h) e = (h, refl, is h.condemned e)
   where
@@ -253,37 +253,37 @@ used_condemned (Used h) e = (h, refl, is h.condemned e)
 used_condemned Retired e = absurd cc
 
 -- the blob of a slot is condemned, or live again
-pub IsPinned-marked : (b : Bool) (slots : List Slot) (rows : List PinRow) (bounds : List ℕ) → IsPinned slots rows bounds → (k : ℕ) (s : Slot) (h : Held) → slice_get slots k ≡ Some s → s.content ≡ Used h →
-    IsPinned (with_slot slots k (on_held (mark b))) (slice_set rows k (in_phase (cond b pin.Condemned pin.Live) (row rows k))) bounds
+pub IsPinned-marked : (b : Bool) (slots : List Slot) (rows : List PinRow) (bounds : List ℕ) → IsPinned slots rows bounds → (k : ℕ) (s : Slot) (h : StoredBlob) → slice_get slots k ≡ Some s → s.content ≡ Used h →
+    IsPinned (with_slot slots k (on_stored_blob (mark b))) (slice_set rows k (in_phase (cond b pin.Condemned pin.Live) (row rows k))) bounds
 IsPinned-marked b slots rows bounds kept k s h at is =
-    let changed : in_phase (cond b pin.Condemned pin.Live) (row_of s) ≡ row_of (on_held (mark b) s) = (λ i. record { generation = s.generation; phase = cond b pin.Condemned pin.Live; digest = option_map (λ (x : Held). x.digest) (held_in (is i)) }) ∙ (λ i. row_of (record { generation = s.generation; content = content_with (mark b) (sym is i) })) in
+    let changed : in_phase (cond b pin.Condemned pin.Live) (row_of s) ≡ row_of (on_stored_blob (mark b) s) = (λ i. record { generation = s.generation; phase = cond b pin.Condemned pin.Live; digest = option_map (λ (x : StoredBlob). x.digest) (stored_blob_in (is i)) }) ∙ (λ i. row_of (record { generation = s.generation; content = content_with (mark b) (sym is i) })) in
     record {
       same_rows =
           ap (λ rs. slice_set rs k (in_phase (cond b pin.Condemned pin.Live) (row rs k))) kept.same_rows
           ∙ ap (λ (r : PinRow). slice_set (map row_of slots) k (in_phase (cond b pin.Condemned pin.Live) r)) (row-at slots k s at)
           ∙ ap (slice_set (map row_of slots) k) changed
-          ∙ rows-write slots k (on_held (mark b)) s at;
-      one_each = kept.one_each ∙ sym (length-with_slot slots k (on_held (mark b)));
+          ∙ rows-write slots k (on_stored_blob (mark b)) s at;
+      one_each = kept.one_each ∙ sym (length-with_slot slots k (on_stored_blob (mark b)));
       unlent = λ j x here unlent. (let o = origin-on (mark b) slots k j x here in kept.unlent j o.0 o.1 (by_origin j x o.0 o.2 unlent));
     }
   where
-    by_origin : (j : ℕ) (x y : Held) → (x ≡ y) ⊎ ((j ≡ k) × (x ≡ mark b y)) → x.lent ≡ false → y.lent ≡ false
-    by_origin j x y (inl e) unlent = ap (λ (h : Held). h.lent) (sym e) ∙ unlent
-    by_origin j x y (inr e) unlent = ap (λ (h : Held). h.lent) (sym e.1) ∙ unlent
+    by_origin : (j : ℕ) (x y : StoredBlob) → (x ≡ y) ⊎ ((j ≡ k) × (x ≡ mark b y)) → x.lent ≡ false → y.lent ≡ false
+    by_origin j x y (inl e) unlent = ap (λ (h : StoredBlob). h.lent) (sym e) ∙ unlent
+    by_origin j x y (inr e) unlent = ap (λ (h : StoredBlob). h.lent) (sym e.1) ∙ unlent
 
-pub IsPinned-revived : (slots : List Slot) (rows : List PinRow) (bounds : List ℕ) → IsPinned slots rows bounds → (k : ℕ) → phase_at slots k ≡ phase.Condemned →
-    IsPinned (revived slots k) (slice_set rows k (in_phase pin.Live (row rows k))) bounds
-IsPinned-revived slots rows bounds kept k is =
+pub IsPinned-with_revived_slot : (slots : List Slot) (rows : List PinRow) (bounds : List ℕ) → IsPinned slots rows bounds → (k : ℕ) → phase_at slots k ≡ phase.Condemned →
+    IsPinned (with_revived_slot slots k) (slice_set rows k (in_phase pin.Live (row rows k))) bounds
+IsPinned-with_revived_slot slots rows bounds kept k is =
     let s = condemned_slot slots k is in
     let h = used_condemned s.0.content s.2 in
     IsPinned-marked false slots rows bounds kept k s.0 h.0 s.1 h.1
 
--- a slot that isn't condemned has nothing to revive
-pub revived-same : (slots : List Slot) (k : ℕ) → phase_at slots k ≢ phase.Condemned → revived slots k ≡ slots
-revived-same [] k not = refl
-revived-same (s ∷ slots) zero not = ap (λ (x : Slot). x ∷ slots) (λ i. record { generation = s.generation; content = by_content s.content not i })
+-- reviving a slot that is not condemned changes nothing
+pub with_revived_slot-same : (slots : List Slot) (k : ℕ) → phase_at slots k ≢ phase.Condemned → with_revived_slot slots k ≡ slots
+with_revived_slot-same [] k not = refl
+with_revived_slot-same (s ∷ slots) zero not = ap (λ (x : Slot). x ∷ slots) (λ i. record { generation = s.generation; content = by_content s.content not i })
   where
-    by_content : (c : Content) → phase_in c ≢ phase.Condemned → content_with (mark false) c ≡ c
+    by_content : (c : SlotContent) → phase_in c ≢ phase.Condemned → content_with (mark false) c ≡ c
     by_content Free e = refl
     by_content (Used x) e = at x.condemned refl e
       where
@@ -291,22 +291,22 @@ revived-same (s ∷ slots) zero not = ap (λ (x : Slot). x ∷ slots) (λ i. rec
         at true is e = absurd (e refl)
         at false is e = λ i. Used (record { digest = x.digest; bytes = x.bytes; condemned = sym is i; lent = x.lent; links = x.links })
     by_content Retired e = refl
-revived-same (s ∷ slots) (suc k) not = with_slot-suc s slots k (on_held (mark false)) ∙ ap (λ xs. s ∷ xs) (revived-same slots k not)
+with_revived_slot-same (s ∷ slots) (suc k) not = with_slot-suc s slots k (on_stored_blob (mark false)) ∙ ap (λ xs. s ∷ xs) (with_revived_slot-same slots k not)
 
 -- ---- looks
 
--- what was written is there, or nothing
+-- after n was written at k, the number at k is at most n
 pub index-set-most : (xs : List ℕ) (k n : ℕ) → slice_index (slice_set xs k n) k ≤ n
 index-set-most [] k n = omega arith
 index-set-most (x ∷ xs) zero n = omega arith
 index-set-most (x ∷ xs) (suc k) n = index-set-most xs k n
 
--- one count of looks for each slot, where a slot changes
+-- each slot has one count of looks after a slot changed
 pub one_each-kept : (slots : List Slot) (looks : List ℕ) (k : ℕ) (f : Slot → Slot) → length looks ≡ length slots → length looks ≡ length (with_slot slots k f)
 one_each-kept slots looks k f each = each ∙ sym (length-with_slot slots k f)
 
--- and where it was looked at first
-pub one_each-looked : (slots : List Slot) (looks : List ℕ) (k : ℕ) (f : Slot → Slot) → length looks ≡ length slots → length (raised k 1 looks) ≡ length (with_slot slots k f)
+-- the same after a look and a change
+pub one_each-looked : (slots : List Slot) (looks : List ℕ) (k : ℕ) (f : Slot → Slot) → length looks ≡ length slots → length (with_added k 1 looks) ≡ length (with_slot slots k f)
 one_each-looked slots looks k f each = length-set looks k (slice_index looks k + 1) ∙ one_each-kept slots looks k f each
 
 -- ---- opening
@@ -327,9 +327,9 @@ IsPinned-opening n first = record {
     zeros (suc m) zero = refl
     zeros (suc m) (suc k) = zeros m k
 
-pub seen-opening : (n first : ℕ) → all_seen (replicate n (empty_slot first)) (replicate n 0) ≡ replicate n (record { generation = first; phase = phase.Free; digest = None; bound = 0; looks = 0 })
-seen-opening zero first = refl
-seen-opening (suc n) first = ap (λ (xs : List SlotSeen). seen (empty_slot first) 0 ∷ xs) (seen-opening n first)
+pub slot_view-opening : (n first : ℕ) → slot_views (replicate n (empty_slot first)) (replicate n 0) ≡ replicate n (record { generation = first; phase = phase.Free; digest = None; bound = 0; looks = 0 })
+slot_view-opening zero first = refl
+slot_view-opening (suc n) first = ap (λ (xs : List SlotView). slot_view (empty_slot first) 0 ∷ xs) (slot_view-opening n first)
 
 pub opened_slots : (count first : ℕ) (slots : List Slot) → initial_slots count first ≡ Ok slots → slots ≡ replicate count (empty_slot first)
 opened_slots count first slots h = by_test (nat_le 1 count && nat_le count 65536) h
@@ -340,34 +340,34 @@ opened_slots count first slots h = by_test (nat_le 1 count && nat_le count 65536
 
 -- ---- lending and looking
 
-pub lend-row : (s : Slot) → row_of (on_held lend s) ≡ row_of s
+pub lend-row : (s : Slot) → row_of (on_stored_blob lend s) ≡ row_of s
 lend-row s = by_content s.content
   where
-    by_content : (c : Content) → row_of (record { generation = s.generation; content = content_with lend c }) ≡ row_of (record { generation = s.generation; content = c })
+    by_content : (c : SlotContent) → row_of (record { generation = s.generation; content = content_with lend c }) ≡ row_of (record { generation = s.generation; content = c })
     by_content Free = refl
     by_content (Used h) = refl
     by_content Retired = refl
 
-pub IsPinned-lent : (slots : List Slot) (rows : List PinRow) (bounds : List ℕ) → IsPinned slots rows bounds → (k n : ℕ) → IsPinned (with_slot slots k (on_held lend)) rows (slice_set bounds k n)
+pub IsPinned-lent : (slots : List Slot) (rows : List PinRow) (bounds : List ℕ) → IsPinned slots rows bounds → (k n : ℕ) → IsPinned (with_slot slots k (on_stored_blob lend)) rows (slice_set bounds k n)
 IsPinned-lent slots rows bounds kept k n = record {
-  same_rows = kept.same_rows ∙ sym (map-with_slot row_of slots k (on_held lend) (λ s at. lend-row s));
-  one_each = length-set bounds k n ∙ kept.one_each ∙ sym (length-with_slot slots k (on_held lend));
+  same_rows = kept.same_rows ∙ sym (map-with_slot row_of slots k (on_stored_blob lend) (λ s at. lend-row s));
+  one_each = length-set bounds k n ∙ kept.one_each ∙ sym (length-with_slot slots k (on_stored_blob lend));
   unlent = λ j x here mark. elim (cases_eq j k) [
     | inl e ↦ (lent_at j e x here mark (slice_get slots k) refl)
-    | inr other ↦ get_or-set_other bounds k j n 0 other ∙ kept.unlent j x (sym (held_at-other slots k (on_held lend) j other) ∙ here) mark
+    | inr other ↦ get_or-set_other bounds k j n 0 other ∙ kept.unlent j x (sym (stored_blob_at-other slots k (on_stored_blob lend) j other) ∙ here) mark
   ];
 }
   where
-    lent_at : (j : ℕ) → j ≡ k → (x : Held) → held_at (with_slot slots k (on_held lend)) j ≡ Some x → x.lent ≡ false → (o : Option Slot) → slice_get slots k ≡ o → slice_index (slice_set bounds k n) j ≡ 0
+    lent_at : (j : ℕ) → j ≡ k → (x : StoredBlob) → stored_blob_at (with_slot slots k (on_stored_blob lend)) j ≡ Some x → x.lent ≡ false → (o : Option Slot) → slice_get slots k ≡ o → slice_index (slice_set bounds k n) j ≡ 0
     lent_at j e x here mark None none =
-        let same : with_slot slots k (on_held lend) ≡ slots = ap (λ o. option_map_or (λ s. slice_set slots k (on_held lend s)) o slots) none in
-        let gone : None ≡ Some x = sym (ap (λ o. option_map_or (λ (z : Slot). held_in z.content) o None) none) ∙ ap (held_at slots) (sym e) ∙ ap (λ xs. held_at xs j) (sym same) ∙ here in
+        let same : with_slot slots k (on_stored_blob lend) ≡ slots = ap (λ o. option_map_or (λ s. slice_set slots k (on_stored_blob lend s)) o slots) none in
+        let gone : None ≡ Some x = sym (ap (λ o. option_map_or (λ (z : Slot). stored_blob_in z.content) o None) none) ∙ ap (stored_blob_at slots) (sym e) ∙ ap (λ xs. stored_blob_at xs j) (sym same) ∙ here in
         absurd cc
-    lent_at j e x here mark (Some s) at = absurd (by_content s.content (sym (held_at-same slots k (on_held lend) s at) ∙ ap (held_at (with_slot slots k (on_held lend))) (sym e) ∙ here))
+    lent_at j e x here mark (Some s) at = absurd (by_content s.content (sym (stored_blob_at-same slots k (on_stored_blob lend) s at) ∙ ap (stored_blob_at (with_slot slots k (on_stored_blob lend))) (sym e) ∙ here))
       where
-        by_content : (c : Content) → held_in (content_with lend c) ≡ Some x → ⊥
+        by_content : (c : SlotContent) → stored_blob_in (content_with lend c) ≡ Some x → ⊥
         by_content Free f = absurd cc
-        by_content (Used y) f = let clash : true ≡ false = ap (λ (h : Held). h.lent) (some_same f) ∙ mark in cc
+        by_content (Used y) f = let clash : true ≡ false = ap (λ (h : StoredBlob). h.lent) (some_same f) ∙ mark in cc
         by_content Retired f = absurd cc
 
 pub index-set-le : (xs : List ℕ) (k n j : ℕ) → n ≤ slice_index xs k → slice_index (slice_set xs k n) j ≤ slice_index xs j

@@ -1,4 +1,4 @@
--- A blob placed in a free slot: the catalog keeps it, and the layers agree.
+-- After a blob was placed in a free slot, the catalog has it and the layers agree.
 use Rattle.std.proofs.Common.{◌≡◌, ℕ, Bool, true, false, cond, List, length, Option, Some, None, refl, sym, ap, ◌∙◌, ◌⊎◌, subst, inl, inr}
 use Rattle.std.specs.Prelude.{slice_get}
 use Rattle.std.specs.Option.{option_map_or}
@@ -9,17 +9,17 @@ use Rattle.std.proofs.lemmas.Bool.{cases_eq}
 use Rattle.std.proofs.lemmas.Map.Lookups.{exact_bytes}
 use Rattle.slot_table.specs.declared.phase.Phase.{Phase}
 use Rattle.slot_table.specs.declared.phase.Phase.TheVariants as phase
-use Rattle.slot_table.specs.Slots.{Slot, Held, Content, Free, Used, Retired, with_slot, fill, phase_at, phase_in, held_at, held_in, slot_of, is_retired}
-use Rattle.finite_maps.proofs.Lists.{count_by-none}
-use Rattle.finite_maps.specs.Sets as set
-use Rattle.finite_maps.specs.Texts.{Text}
-use Rattle.store_model.specs.Catalog.{Link, Resident, Catalog, holds, count}
-use Rattle.store_model.specs.Invariant.{Lawful}
+use Rattle.slot_table.specs.Slots.{Slot, StoredBlob, SlotContent, Free, Used, Retired, with_slot, fill, phase_at, phase_in, stored_blob_at, stored_blob_in, slot_of, is_retired}
+use Rattle.spec_lib.proofs.Lists.{count_by-none}
+use Rattle.spec_lib.specs.Sets as set
+use Rattle.spec_lib.specs.Texts.{Text}
+use Rattle.store_model.specs.Catalog.{Link, Resident, Catalog, holds, link_count}
+use Rattle.store_model.specs.Invariant.{WellFormed}
 use Rattle.store_book.specs.Layers.{Layers, catalog_from, IsTied}
-use Rattle.finite_maps.proofs.Maps.{cases_key, get-insert_other}
-use Rattle.finite_maps.proofs.Options.{some_same}
+use Rattle.spec_lib.proofs.Maps.{cases_key, get-insert_other}
+use Rattle.spec_lib.proofs.Options.{some_same}
 use Rattle.store_model.proofs.Invariant.Links.{unlinked}
-use Rattle.store_book.proofs.Slots.Writes.{length-with_slot, count_by-with_slot, held_at-other, held_at-same}
+use Rattle.store_book.proofs.Slots.Writes.{length-with_slot, count_by-with_slot, stored_blob_at-other, stored_blob_at-same}
 use Rattle.slot_table.proofs.Finding.{not_held}
 use Rattle.store_book.proofs.Layers.Ties.{not_resident}
 use Rattle.store_book.proofs.Slots.Filled.{residents-fill, stored}
@@ -27,16 +27,16 @@ use Rattle.store_book.proofs.Slots.Filled.{residents-fill, stored}
 abbrev phase_by : Option Slot → Phase
 phase_by o = option_map_or (λ s. phase_in s.content) o phase.Retired
 
--- a slot that is free is there, holds nothing, and is not retired
-pub free_slot : (slots : List Slot) (k : ℕ) → phase_at slots k ≡ phase.Free → (s : Slot) × (slice_get slots k ≡ Some s) × (held_in s.content ≡ None) × (is_retired s ≡ false)
+-- a free slot exists, holds nothing, and is not retired
+pub free_slot : (slots : List Slot) (k : ℕ) → phase_at slots k ≡ phase.Free → (s : Slot) × (slice_get slots k ≡ Some s) × (stored_blob_in s.content ≡ None) × (is_retired s ≡ false)
 free_slot slots k free = there (slice_get slots k) refl free
   where
-    at : (s : Slot) (c : Content) → s.content ≡ c → phase_in c ≡ phase.Free → (held_in c ≡ None) × (is_retired (record s { content = c }) ≡ false)
+    at : (s : Slot) (c : SlotContent) → s.content ≡ c → phase_in c ≡ phase.Free → (stored_blob_in c ≡ None) × (is_retired (record s { content = c }) ≡ false)
     at s Free e f = (refl, refl)
-    at s (Used h) e f = elim h.condemned as (λ b. cond b phase.Condemned phase.Live ≡ phase.Free → (held_in (Used h) ≡ None) × (is_retired (record s { content = Used h }) ≡ false)) [ true ↦ λ g. cc | false ↦ λ g. cc ] f
+    at s (Used h) e f = elim h.condemned as (λ b. cond b phase.Condemned phase.Live ≡ phase.Free → (stored_blob_in (Used h) ≡ None) × (is_retired (record s { content = Used h }) ≡ false)) [ true ↦ λ g. cc | false ↦ λ g. cc ] f
     at s Retired e f = cc
 
-    there : (o : Option Slot) → slice_get slots k ≡ o → phase_by o ≡ phase.Free → (s : Slot) × (slice_get slots k ≡ Some s) × (held_in s.content ≡ None) × (is_retired s ≡ false)
+    there : (o : Option Slot) → slice_get slots k ≡ o → phase_by o ≡ phase.Free → (s : Slot) × (slice_get slots k ≡ Some s) × (stored_blob_in s.content ≡ None) × (is_retired s ≡ false)
     there None e f = cc
     there (Some s) e f = let x = at s s.content refl f in (s, e, x.0, x.1)
 
@@ -54,7 +54,7 @@ module _ (L : Layers) (marks : List Bool) (k : ℕ) (blob : Text × Text) (m : B
   absent : get C.residents blob.0 ≡ None
   absent = not_resident L.slots marks blob.0 none
 
-  -- to fill a free slot is to keep one blob more
+  -- filling a free slot adds one blob
   pub catalog-fill : catalog_from (record L { slots = slots' }) marks ≡ after
   catalog-fill =
       let s = free_slot L.slots k free in
@@ -66,33 +66,33 @@ module _ (L : Layers) (marks : List Bool) (k : ℕ) (blob : Text × Text) (m : B
         retired = retired i;
       }
 
-  abbrev filled : Held
+  abbrev filled : StoredBlob
   filled = record { digest = blob.0; bytes = blob.1; condemned = false; lent = false; links = 0 }
 
-  pub held_at-fill : held_at slots' k ≡ Some filled
-  held_at-fill = let s = free_slot L.slots k free in held_at-same L.slots k (fill blob) s.0 s.1
+  pub stored_blob_at-fill : stored_blob_at slots' k ≡ Some filled
+  stored_blob_at-fill = let s = free_slot L.slots k free in stored_blob_at-same L.slots k (fill blob) s.0 s.1
 
-  -- what a slot holds then
-  abbrev pub Holds : ℕ → Held → Type 0
-  Holds j h = ((j ≡ k) × (filled ≡ h)) ⊎ ((j ≡ k → ⊥) × (held_at L.slots j ≡ Some h))
+  -- the blob of each slot then
+  abbrev pub Holds : ℕ → StoredBlob → Type 0
+  Holds j h = ((j ≡ k) × (filled ≡ h)) ⊎ ((j ≡ k → ⊥) × (stored_blob_at L.slots j ≡ Some h))
 
-  pub held_then : (j : ℕ) (h : Held) → held_at slots' j ≡ Some h → Holds j h
+  pub held_then : (j : ℕ) (h : StoredBlob) → stored_blob_at slots' j ≡ Some h → Holds j h
   held_then j h here = elim (cases_eq j k) [
-    | inl e ↦ inl (e, some_same (sym held_at-fill ∙ ap (held_at slots') (sym e) ∙ here))
-    | inr other ↦ inr (other, sym (held_at-other L.slots k (fill blob) j other) ∙ here)
+    | inl e ↦ inl (e, some_same (sym stored_blob_at-fill ∙ ap (stored_blob_at slots') (sym e) ∙ here))
+    | inr other ↦ inr (other, sym (stored_blob_at-other L.slots k (fill blob) j other) ∙ here)
   ]
 
-  module _ (tied : IsTied L.links L.slots marks C) (lawful : Lawful C) where
-    apart : (a b : ℕ) (x y : Held) → Holds a x → Holds b y → x.digest ≡ y.digest → a ≡ b
+  module _ (tied : IsTied L.links L.slots marks C) (lawful : WellFormed C) where
+    apart : (a b : ℕ) (x y : StoredBlob) → Holds a x → Holds b y → x.digest ≡ y.digest → a ≡ b
     apart a b x y (inl p) (inl q) same = p.0 ∙ sym q.0
-    apart a b x y (inl p) (inr q) same = absurd (not_held L.slots blob.0 none b y q.1 (sym same ∙ ap (λ (h : Held). h.digest) (sym p.1)))
-    apart a b x y (inr p) (inl q) same = absurd (not_held L.slots blob.0 none a x p.1 (same ∙ ap (λ (h : Held). h.digest) (sym q.1)))
+    apart a b x y (inl p) (inr q) same = absurd (not_held L.slots blob.0 none b y q.1 (sym same ∙ ap (λ (h : StoredBlob). h.digest) (sym p.1)))
+    apart a b x y (inr p) (inl q) same = absurd (not_held L.slots blob.0 none a x p.1 (same ∙ ap (λ (h : StoredBlob). h.digest) (sym q.1)))
     apart a b x y (inr p) (inr q) same = tied.distinct a b x y p.1 q.1 same
 
-    as_many_links : (j : ℕ) (h : Held) → Holds j h → h.links ≡ count after h.digest
+    as_many_links : (j : ℕ) (h : StoredBlob) → Holds j h → h.links ≡ link_count after h.digest
     as_many_links j h (inl p) =
-        let zero : count C blob.0 ≡ 0 = count_by-none (λ r. holds C r blob.0) (unlinked C lawful blob.0 absent) (set.items C.repos) in
-        subst (λ (x : Held). x.links ≡ count after x.digest) p.1 (sym zero)
+        let zero : link_count C blob.0 ≡ 0 = count_by-none (λ r. holds C r blob.0) (unlinked C lawful blob.0 absent) (set.items C.repos) in
+        subst (λ (x : StoredBlob). x.links ≡ link_count after x.digest) p.1 (sym zero)
     as_many_links j h (inr p) = tied.counts j h p.1
 
     sized : (key : Link) (n : ℕ) → get L.links.links key ≡ Some n → (b : Resident) × (get after.residents key.1 ≡ Some b) × (n ≡ length b.bytes)

@@ -12,13 +12,13 @@ use Rattle.pin_table.specs.declared.reclaim.Reclaim.{Reclaim}
 use Rattle.pin_table.specs.declared.reclaim.Reclaim.TheVariants as reclaim
 use Rattle.pin_table.specs.Calls.{IsUnheld}
 use Rattle.slot_table.specs.declared.phase.Phase.TheVariants as phase
-use Rattle.slot_table.specs.Slots.{Slot, Held, Content, Free, Used, Retired, held_at, held_in, phase_at, phase_in, generation_at, is_orphan, is_retired, orphan_from, with_slot, on_held, content_with, mark, emptied, retire}
+use Rattle.slot_table.specs.Slots.{Slot, StoredBlob, SlotContent, Free, Used, Retired, stored_blob_at, stored_blob_in, phase_at, phase_in, generation_at, is_orphan, is_retired, orphan_from, with_slot, on_stored_blob, content_with, mark, freed_slot, retire}
 use Rattle.store_book.specs.Layers.{is_lent}
-use Rattle.store_book.specs.Pinned.{Pinned, Reclaimed, is_orphan_at, slotted}
-use Rattle.store_book.specs.Internal.SweptSlots.{Sweeps, IsTurned, counting, is_live_orphan, kept, held, freed, retired}
+use Rattle.store_book.specs.Pinned.{Pinned, ReclaimsSlot, is_orphan_at, with_changed_slot}
+use Rattle.store_book.specs.Internal.SweptSlots.{Sweeps, IsSweptTo, counts_with, is_live_orphan, kept, held, freed, retired}
 use Rattle.store_model.specs.declared.swept.Swept.{Swept}
-use Rattle.finite_maps.proofs.Places.{IsFirst, get-drop, first, nowhere, count_by-nowhere}
-use Rattle.finite_maps.proofs.Options.{some_same}
+use Rattle.spec_lib.proofs.Places.{IsFirst, get-drop, first, nowhere, count_by-nowhere}
+use Rattle.spec_lib.proofs.Options.{some_same}
 use Rattle.store_book.proofs.Slots.Pinned.{index-set-le}
 use Rattle.store_book.proofs.Slots.Reclaimed.{orphan_held}
 use Rattle.store_book.proofs.Slots.Writes.{length-with_slot, slot-other, slot-same, with_slot-suc, with_slot-twice}
@@ -38,7 +38,7 @@ count_by-written p (x ∷ slots) (suc k) f s at =
     let old : count_by p (x ∷ slots) ≡ cond (p x) 1 0 + count_by p slots = sum_by-cons (λ y. cond {A = ℕ} (p y) 1 0) x slots in
     omega arith
 
--- what stands past a slot that changes
+-- the slots after the changed one
 drop-written : (slots : List Slot) (k : ℕ) (f : Slot → Slot) → drop (suc k) (with_slot slots k f) ≡ drop (suc k) slots
 drop-written [] k f = refl
 drop-written (s ∷ slots) zero f = refl
@@ -51,27 +51,27 @@ index-zeroed (x ∷ xs) (suc k) = index-zeroed xs k
 
 -- ---- one orphan
 
--- a blob that is marked is an orphan, and used, where it was
-marked_orphan : (b : Bool) (c : Content) → option_map_or (λ (h : Held). h.links == 0) (held_in (content_with (mark b) c)) false ≡ option_map_or (λ (h : Held). h.links == 0) (held_in c) false
+-- marking a blob changes neither whether it is an orphan nor whether its slot is used
+marked_orphan : (b : Bool) (c : SlotContent) → option_map_or (λ (h : StoredBlob). h.links == 0) (stored_blob_in (content_with (mark b) c)) false ≡ option_map_or (λ (h : StoredBlob). h.links == 0) (stored_blob_in c) false
 marked_orphan b Free = refl
 marked_orphan b (Used h) = refl
 marked_orphan b Retired = refl
 
-marked_retired : (b : Bool) (s : Slot) → is_retired (on_held (mark b) s) ≡ is_retired s
+marked_retired : (b : Bool) (s : Slot) → is_retired (on_stored_blob (mark b) s) ≡ is_retired s
 marked_retired b s = by s.content
   where
-    by : (c : Content) → is_retired (record { generation = s.generation; content = content_with (mark b) c }) ≡ is_retired (record { generation = s.generation; content = c })
+    by : (c : SlotContent) → is_retired (record { generation = s.generation; content = content_with (mark b) c }) ≡ is_retired (record { generation = s.generation; content = c })
     by Free = refl
     by (Used h) = refl
     by Retired = refl
 
 orphan_unretired : (s : Slot) → is_orphan s ≡ true → is_retired s ≡ false
-orphan_unretired s is = let h = orphan_held s.content is in ap (λ (c : Content). is_retired (record { generation = s.generation; content = c })) h.1
+orphan_unretired s is = let h = orphan_held s.content is in ap (λ (c : SlotContent). is_retired (record { generation = s.generation; content = c })) h.1
 
 live_orphan : (s : Slot) → is_orphan s ≡ true → (live : Bool) → IsTrue live ↔ (phase_in s.content ≡ phase.Live) → is_live_orphan s ≡ live
 live_orphan s is live told = by s.content is live told
   where
-    by : (c : Content) → option_map_or (λ (h : Held). h.links == 0) (held_in c) false ≡ true → (live : Bool) → IsTrue live ↔ (phase_in c ≡ phase.Live) → option_map_or (λ (h : Held). h.links == 0 && not h.condemned) (held_in c) false ≡ live
+    by : (c : SlotContent) → option_map_or (λ (h : StoredBlob). h.links == 0) (stored_blob_in c) false ≡ true → (live : Bool) → IsTrue live ↔ (phase_in c ≡ phase.Live) → option_map_or (λ (h : StoredBlob). h.links == 0 && not h.condemned) (stored_blob_in c) false ≡ live
     by Free e live told = absurd cc
     by (Used h) e live told = ap (λ b. b && not h.condemned) e ∙ marked h.condemned live told
       where
@@ -82,11 +82,11 @@ live_orphan s is live told = by s.content is live told
         marked false false told = sym (told.1 refl)
     by Retired e live told = absurd cc
 
--- a blob that pins hold was lent
-lent_there : (s : Slot) → is_orphan s ≡ true → (weight : ℕ) → ((h : Held) → held_in (content_with (mark true) s.content) ≡ Some h → h.lent ≡ false → IsUnheld (reclaim.Held weight)) → is_lent s ≡ true
+-- a blob that pins hold was leased
+lent_there : (s : Slot) → is_orphan s ≡ true → (weight : ℕ) → ((h : StoredBlob) → stored_blob_in (content_with (mark true) s.content) ≡ Some h → h.lent ≡ false → IsUnheld (reclaim.Held weight)) → is_lent s ≡ true
 lent_there s is weight unlent = by s.content is unlent
   where
-    by : (c : Content) → option_map_or (λ (h : Held). h.links == 0) (held_in c) false ≡ true → ((h : Held) → held_in (content_with (mark true) c) ≡ Some h → h.lent ≡ false → IsUnheld (reclaim.Held weight)) → option_map_or (λ (h : Held). h.lent) (held_in c) false ≡ true
+    by : (c : SlotContent) → option_map_or (λ (h : StoredBlob). h.links == 0) (stored_blob_in c) false ≡ true → ((h : StoredBlob) → stored_blob_in (content_with (mark true) c) ≡ Some h → h.lent ≡ false → IsUnheld (reclaim.Held weight)) → option_map_or (λ (h : StoredBlob). h.lent) (stored_blob_in c) false ≡ true
     by Free e unlent = absurd cc
     by (Used h) e unlent = at h.lent refl
       where
@@ -95,7 +95,7 @@ lent_there s is weight unlent = by s.content is unlent
         at false is = absurd (unlent (mark true h) refl is)
     by Retired e unlent = absurd cc
 
--- ---- as far as the sweep has come
+-- ---- the sweep up to a slot
 
 -- The slots below a place were swept, and the counts are those of their orphans.
 pub record IsPartly (p q : Pinned) (from : ℕ) (n : Swept) : Type 0 where
@@ -104,7 +104,7 @@ pub record IsPartly (p q : Pinned) (from : ℕ) (n : Swept) : Type 0 where
   pub within : from ≤ length p.slots
   pub rest : drop from q.slots ≡ drop from p.slots
   pub bounds : (k : ℕ) → from ≤ k → slice_index q.bounds k ≡ slice_index p.bounds k
-  pub each : (k : ℕ) (s : Slot) → k < from → slice_get p.slots k ≡ Some s → (t : Slot) × (slice_get q.slots k ≡ Some t) × IsTurned s (slice_index p.bounds k) t (slice_index q.bounds k)
+  pub each : (k : ℕ) (s : Slot) → k < from → slice_get p.slots k ≡ Some s → (t : Slot) × (slice_get q.slots k ≡ Some t) × IsSweptTo s (slice_index p.bounds k) t (slice_index q.bounds k)
   pub condemned : n.condemned + count_by is_live_orphan (drop from p.slots) ≡ count_by is_live_orphan p.slots
   pub all : n.held + (n.freed + n.retired) + count_by is_orphan (drop from p.slots) ≡ count_by is_orphan p.slots
   pub left : count_by is_orphan q.slots + (n.freed + n.retired) ≡ count_by is_orphan p.slots
@@ -130,12 +130,12 @@ no_orphan slots from e = by (position is_orphan (drop from slots)) e
 live_is_orphan : (s : Slot) → is_orphan s ≡ false → is_live_orphan s ≡ false
 live_is_orphan s is = by s.content is
   where
-    by : (c : Content) → option_map_or (λ (h : Held). h.links == 0) (held_in c) false ≡ false → option_map_or (λ (h : Held). h.links == 0 && not h.condemned) (held_in c) false ≡ false
+    by : (c : SlotContent) → option_map_or (λ (h : StoredBlob). h.links == 0) (stored_blob_in c) false ≡ false → option_map_or (λ (h : StoredBlob). h.links == 0 && not h.condemned) (stored_blob_in c) false ≡ false
     by Free e = refl
     by (Used h) e = ap (λ b. b && not h.condemned) e
     by Retired e = refl
 
--- where the next orphan stands
+-- the slot of the next orphan
 pub orphan_place : (slots : List Slot) (from k : ℕ) → (next : orphan_from slots from ≡ Some k) → slice_get slots k ≡ Some (found_orphan slots from k next).2.found
 orphan_place slots from k next = let o = found_orphan slots from k next in ap (slice_get slots) o.1 ∙ sym (get-drop from slots o.0) ∙ o.2.there
 
@@ -147,20 +147,20 @@ orphan_there slots from k e =
 pub orphan_next : (slots : List Slot) (from k : ℕ) → orphan_from slots from ≡ Some k → is_orphan_at slots k ≡ true
 orphan_next slots from k e = let s = orphan_there slots from k e in ap (λ o. option_map_or is_orphan o false) s.1 ∙ s.2
 
-pub orphan_condemned : (slots : List Slot) (from k : ℕ) → orphan_from slots from ≡ Some k → phase_at (with_slot slots k (on_held (mark true))) k ≡ phase.Condemned
+pub orphan_condemned : (slots : List Slot) (from k : ℕ) → orphan_from slots from ≡ Some k → phase_at (with_slot slots k (on_stored_blob (mark true))) k ≡ phase.Condemned
 orphan_condemned slots from k e =
     let s = orphan_there slots from k e in
-    ap (λ o. option_map_or (λ (x : Slot). phase_in x.content) o phase.Retired) (slot-same slots k (on_held (mark true)) s.0 s.1) ∙ by s.0.content s.2
+    ap (λ o. option_map_or (λ (x : Slot). phase_in x.content) o phase.Retired) (slot-same slots k (on_stored_blob (mark true)) s.0 s.1) ∙ by s.0.content s.2
   where
-    by : (c : Content) → option_map_or (λ (h : Held). h.links == 0) (held_in c) false ≡ true → phase_in (content_with (mark true) c) ≡ phase.Condemned
+    by : (c : SlotContent) → option_map_or (λ (h : StoredBlob). h.links == 0) (stored_blob_in c) false ≡ true → phase_in (content_with (mark true) c) ≡ phase.Condemned
     by Free e = absurd cc
     by (Used h) e = refl
     by Retired e = absurd cc
 
 -- ---- one orphan more
 
-transported : (x y : Slot) → x ≡ y → (t : Slot) (a b : ℕ) → a ≡ b → (c d : ℕ) → c ≡ d → IsTurned y a t c → IsTurned x b t d
-transported x y same t a b e c d f turned = subst (λ z. IsTurned z b t d) (sym same) (subst (λ m. IsTurned y m t d) e (subst (λ m. IsTurned y a t m) f turned))
+transported : (x y : Slot) → x ≡ y → (t : Slot) (a b : ℕ) → a ≡ b → (c d : ℕ) → c ≡ d → IsSweptTo y a t c → IsSweptTo x b t d
+transported x y same t a b e c d f turned = subst (λ z. IsSweptTo z b t d) (sym same) (subst (λ m. IsSweptTo y m t d) e (subst (λ m. IsSweptTo y a t m) f turned))
 
 -- What became of the slot of an orphan s: the slot changed by f, and its bound.
 pub record Becomes (k : ℕ) (q r : Pinned) (s : Slot) (n m : Swept) (live : Bool) : Type 0 where
@@ -169,23 +169,23 @@ pub record Becomes (k : ℕ) (q r : Pinned) (s : Slot) (n m : Swept) (live : Boo
   pub table : r.table ≡ q.table
   pub slots : r.slots ≡ with_slot q.slots k f
   pub bounds : r.bounds ≡ slice_set q.bounds k bound
-  pub turned : IsTurned s (slice_index q.bounds k) (f s) (slice_index (slice_set q.bounds k bound) k)
+  pub turned : IsSweptTo s (slice_index q.bounds k) (f s) (slice_index (slice_set q.bounds k bound) k)
   pub condemned : m.condemned ≡ n.condemned + cond live 1 0
   pub all : m.held + (m.freed + m.retired) ≡ n.held + (n.freed + n.retired) + 1
   pub left : cond (is_orphan (f s)) 1 0 + (m.freed + m.retired) ≡ n.freed + n.retired + 1
   pub retired : m.retired ≡ n.retired + cond (is_retired (f s)) 1 0
   pub last : 0 < m.retired → (0 < n.retired) ⊎ (s.generation + 1 ≡ 2 ^ 32)
 
-pub became_of : (k : ℕ) (q r1 r : Pinned) (s : Slot) (n : Swept) (live : Bool) (became : Reclaim) → slice_get q.slots k ≡ Some s → is_orphan s ≡ true → r1 ≡ slotted k (on_held (mark true)) q →
-    Reclaimed k r1 r became → ((h : Held) → held_at r1.slots k ≡ Some h → h.lent ≡ false → IsUnheld became) → Becomes k q r s n (counting live became n) live
+pub became_of : (k : ℕ) (q r1 r : Pinned) (s : Slot) (n : Swept) (live : Bool) (became : Reclaim) → slice_get q.slots k ≡ Some s → is_orphan s ≡ true → r1 ≡ with_changed_slot k (on_stored_blob (mark true)) q →
+    ReclaimsSlot k r1 r became → ((h : StoredBlob) → stored_blob_at r1.slots k ≡ Some h → h.lent ≡ false → IsUnheld became) → Becomes k q r s n (counts_with live became n) live
 became_of k q r1 r s n live reclaim.Freed at is e done unlent =
-    let generation : generation_at r1.slots k ≡ s.generation = ap (λ (x : Pinned). generation_at x.slots k) e ∙ ap (λ o. option_map_or (λ (x : Slot). x.generation) o 0) (slot-same q.slots k (on_held (mark true)) s at) in
+    let generation : generation_at r1.slots k ≡ s.generation = ap (λ (x : Pinned). generation_at x.slots k) e ∙ ap (λ o. option_map_or (λ (x : Slot). x.generation) o 0) (slot-same q.slots k (on_stored_blob (mark true)) s at) in
     let young = done.0 in
     record {
-      f = emptied;
+      f = freed_slot;
       bound = 0;
       table = ap (λ (x : Pinned). x.table) done.1 ∙ ap (λ (x : Pinned). x.table) e;
-      slots = ap (λ (x : Pinned). x.slots) done.1 ∙ ap (λ (x : Pinned). with_slot x.slots k emptied) e ∙ with_slot-twice q.slots k (on_held (mark true)) emptied;
+      slots = ap (λ (x : Pinned). x.slots) done.1 ∙ ap (λ (x : Pinned). with_slot x.slots k freed_slot) e ∙ with_slot-twice q.slots k (on_stored_blob (mark true)) freed_slot;
       bounds = ap (λ (x : Pinned). x.bounds) done.1 ∙ ap (λ (x : Pinned). slice_set x.bounds k 0) e;
       turned = freed is (omega arith) refl (index-zeroed q.bounds k);
       condemned = refl;
@@ -195,14 +195,14 @@ became_of k q r1 r s n live reclaim.Freed at is e done unlent =
       last = λ lt. inl lt;
     }
 became_of k q r1 r s n live reclaim.Retired at is e done unlent =
-    let generation : generation_at r1.slots k ≡ s.generation = ap (λ (x : Pinned). generation_at x.slots k) e ∙ ap (λ o. option_map_or (λ (x : Slot). x.generation) o 0) (slot-same q.slots k (on_held (mark true)) s at) in
+    let generation : generation_at r1.slots k ≡ s.generation = ap (λ (x : Pinned). generation_at x.slots k) e ∙ ap (λ o. option_map_or (λ (x : Slot). x.generation) o 0) (slot-same q.slots k (on_stored_blob (mark true)) s at) in
     let old = done.0 in
     let last : s.generation + 1 ≡ 2 ^ 32 = omega arith in
     record {
       f = retire;
       bound = 0;
       table = ap (λ (x : Pinned). x.table) done.1 ∙ ap (λ (x : Pinned). x.table) e;
-      slots = ap (λ (x : Pinned). x.slots) done.1 ∙ ap (λ (x : Pinned). with_slot x.slots k retire) e ∙ with_slot-twice q.slots k (on_held (mark true)) retire;
+      slots = ap (λ (x : Pinned). x.slots) done.1 ∙ ap (λ (x : Pinned). with_slot x.slots k retire) e ∙ with_slot-twice q.slots k (on_stored_blob (mark true)) retire;
       bounds = ap (λ (x : Pinned). x.bounds) done.1 ∙ ap (λ (x : Pinned). slice_set x.bounds k 0) e;
       turned = retired is last refl (index-zeroed q.bounds k);
       condemned = refl;
@@ -212,12 +212,12 @@ became_of k q r1 r s n live reclaim.Retired at is e done unlent =
       last = λ lt. inr last;
     }
 became_of k q r1 r s n live (reclaim.Held weight) at is e done unlent =
-    let lent : is_lent s ≡ true = lent_there s is weight (λ h here. unlent h (ap (λ (x : Pinned). held_at x.slots k) e ∙ ap (λ o. option_map_or (λ (x : Slot). held_in x.content) o None) (slot-same q.slots k (on_held (mark true)) s at) ∙ here)) in
+    let lent : is_lent s ≡ true = lent_there s is weight (λ h here. unlent h (ap (λ (x : Pinned). stored_blob_at x.slots k) e ∙ ap (λ o. option_map_or (λ (x : Slot). stored_blob_in x.content) o None) (slot-same q.slots k (on_stored_blob (mark true)) s at) ∙ here)) in
     let le : weight ≤ slice_index q.bounds k = (let w = done.1 in let same : slice_index r1.bounds k ≡ slice_index q.bounds k = ap (λ (x : Pinned). slice_index x.bounds k) e in omega arith) in
-    let still : is_orphan (on_held (mark true) s) ≡ true = marked_orphan true s.content ∙ is in
-    let used : is_retired (on_held (mark true) s) ≡ false = marked_retired true s ∙ orphan_unretired s is in
+    let still : is_orphan (on_stored_blob (mark true) s) ≡ true = marked_orphan true s.content ∙ is in
+    let used : is_retired (on_stored_blob (mark true) s) ≡ false = marked_retired true s ∙ orphan_unretired s is in
     record {
-      f = on_held (mark true);
+      f = on_stored_blob (mark true);
       bound = weight;
       table = ap (λ (x : Pinned). x.table) done.2 ∙ ap (λ (x : Pinned). x.table) e;
       slots = ap (λ (x : Pinned). x.slots) done.2 ∙ ap (λ (x : Pinned). x.slots) e;
@@ -240,7 +240,7 @@ module _ (p q r : Pinned) (from k : ℕ) (n m : Swept) (live : Bool) (part : IsP
   at : slice_get q.slots k ≡ Some s
   at = orphan_place q.slots from k next
 
-  -- what stands from the place on stood there before
+  -- the slots from the place on are unchanged
   as_before : (j : ℕ) → from ≤ j → slice_get q.slots j ≡ slice_get p.slots j
   as_before j le =
       let there : from + (j - from) ≡ j = omega arith in
@@ -254,7 +254,7 @@ module _ (p q r : Pinned) (from k : ℕ) (n m : Swept) (live : Bool) (part : IsP
       let there : from + (j - from) ≡ j = omega arith in
       o.2.before (j - from) x (let e = o.1 in omega arith) (get-drop from q.slots (j - from) ∙ ap (slice_get q.slots) there ∙ here)
 
-  -- counts of orphans from the place on, and past the orphan
+  -- counts of orphans from the place on, and after the orphan
   counts : (f : Slot → Bool) → ((x : Slot) → is_orphan x ≡ false → f x ≡ false) → count_by f (drop from p.slots) ≡ cond (f s) 1 0 + count_by f (drop (k + 1) p.slots)
   counts f weaker =
       let place : from + suc o.0 ≡ k + 1 = (let e = o.1 in omega arith) in
@@ -262,7 +262,7 @@ module _ (p q r : Pinned) (from k : ℕ) (n m : Swept) (live : Bool) (part : IsP
       ∙ ap (λ xs. cond {A = ℕ} (f s) 1 0 + count_by f xs) (ap (drop (suc o.0)) part.rest ∙ drop-drop (suc o.0) from p.slots ∙ ap (λ i. drop i p.slots) place)
 
   module _ (told : IsTrue live ↔ (phase_at q.slots k ≡ phase.Live)) (b : Becomes k q r s n m live) where
-    turns : (j : ℕ) (x : Slot) → j < k + 1 → slice_get p.slots j ≡ Some x → (t : Slot) × (slice_get r.slots j ≡ Some t) × IsTurned x (slice_index p.bounds j) t (slice_index r.bounds j)
+    turns : (j : ℕ) (x : Slot) → j < k + 1 → slice_get p.slots j ≡ Some x → (t : Slot) × (slice_get r.slots j ≡ Some t) × IsSweptTo x (slice_index p.bounds j) t (slice_index r.bounds j)
     turns j x lt here = elim (cases_eq j k) [
       | inl e ↦
           let same : x ≡ s = some_same (sym here ∙ sym (as_before j (let le = past in omega arith)) ∙ ap (slice_get q.slots) e ∙ at) in

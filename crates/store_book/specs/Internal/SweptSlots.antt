@@ -1,36 +1,36 @@
--- What a sweep does to the slots with their keeper.
+-- The effect of a sweep on the slots and their bounds.
 use Rattle.std.specs.Prelude.{◌≡◌, ◌+◌, ◌<◌, ◌≤◌, ◌^◌, ◌==◌, ◌&&◌, not, ℕ, Bool, true, false, Some, count_by, cond, length, slice_get, slice_index}
 use Rattle.std.specs.Option.{option_map_or}
 use Rattle.pin_table.specs.declared.reclaim.Reclaim.{Reclaim}
 use Rattle.pin_table.specs.declared.reclaim.Reclaim.TheVariants as reclaim
-use Rattle.slot_table.specs.Slots.{Slot, held_in, is_orphan, is_retired, on_held, mark, emptied, retire}
+use Rattle.slot_table.specs.Slots.{Slot, stored_blob_in, is_orphan, is_retired, on_stored_blob, mark, freed_slot, retire}
 use Rattle.store_book.specs.Layers.{is_lent}
 use Rattle.store_book.specs.Pinned.{Pinned}
 use Rattle.store_model.specs.declared.swept.Swept.{Swept}
 
 -- whether a slot holds a live blob without links
 abbrev pub is_live_orphan : Slot → Bool
-is_live_orphan s = option_map_or (λ h. h.links == 0 && not h.condemned) (held_in s.content) false
+is_live_orphan s = option_map_or (λ h. h.links == 0 && not h.condemned) (stored_blob_in s.content) false
 
--- one orphan more: whether it was live, and what became of its slot
-abbrev pub counting : Bool → Reclaim → Swept → Swept
-counting live reclaim.Freed n = record { condemned = n.condemned + cond live 1 0; freed = n.freed + 1; held = n.held; retired = n.retired }
-counting live reclaim.Retired n = record { condemned = n.condemned + cond live 1 0; freed = n.freed; held = n.held; retired = n.retired + 1 }
-counting live (reclaim.Held weight) n = record { condemned = n.condemned + cond live 1 0; freed = n.freed; held = n.held + 1; retired = n.retired }
+-- the counts with one more orphan, which was live or not and whose slot became this
+abbrev pub counts_with : Bool → Reclaim → Swept → Swept
+counts_with live reclaim.Freed n = record { condemned = n.condemned + cond live 1 0; freed = n.freed + 1; held = n.held; retired = n.retired }
+counts_with live reclaim.Retired n = record { condemned = n.condemned + cond live 1 0; freed = n.freed; held = n.held; retired = n.retired + 1 }
+counts_with live (reclaim.Held weight) n = record { condemned = n.condemned + cond live 1 0; freed = n.freed; held = n.held + 1; retired = n.retired }
 
--- What a sweep leaves of a slot and its bound. One that holds no orphan stays as it is. An orphan is condemned and held by pins, where it
--- was lent; or its slot is free in the next generation, or retired in the last one.
-pub data IsTurned (s : Slot) (bound : ℕ) (t : Slot) (now : ℕ) : Type 0 where
-  kept : is_orphan s ≡ false → t ≡ s → now ≡ bound → IsTurned s bound t now
-  held : is_orphan s ≡ true → is_lent s ≡ true → t ≡ on_held (mark true) s → now ≤ bound → IsTurned s bound t now
-  freed : is_orphan s ≡ true → s.generation + 1 < 2 ^ 32 → t ≡ emptied s → now ≡ 0 → IsTurned s bound t now
-  retired : is_orphan s ≡ true → s.generation + 1 ≡ 2 ^ 32 → t ≡ retire s → now ≡ 0 → IsTurned s bound t now
+-- A slot s with its bound became t with its new one: unchanged if it holds no orphan. Else it is condemned and held by pins, which only
+-- happens to a leased blob; or it is free in the next generation, or retired in the last one.
+pub data IsSweptTo (s : Slot) (bound : ℕ) (t : Slot) (now : ℕ) : Type 0 where
+  kept : is_orphan s ≡ false → t ≡ s → now ≡ bound → IsSweptTo s bound t now
+  held : is_orphan s ≡ true → is_lent s ≡ true → t ≡ on_stored_blob (mark true) s → now ≤ bound → IsSweptTo s bound t now
+  freed : is_orphan s ≡ true → s.generation + 1 < 2 ^ 32 → t ≡ freed_slot s → now ≡ 0 → IsSweptTo s bound t now
+  retired : is_orphan s ≡ true → s.generation + 1 ≡ 2 ^ 32 → t ≡ retire s → now ≡ 0 → IsSweptTo s bound t now
 
--- Each slot is swept once, and the counts are those of its orphans: the live ones, those that are left, and all of them.
+-- Each slot was swept once. The counts are those of the orphans: the live ones, the remaining ones, and all of them.
 pub record Sweeps (p q : Pinned) (swept : Swept) : Type 0 where
   pub table : q.table ≡ p.table
   pub long : length q.slots ≡ length p.slots
-  pub each : (k : ℕ) (s : Slot) → slice_get p.slots k ≡ Some s → (t : Slot) × (slice_get q.slots k ≡ Some t) × IsTurned s (slice_index p.bounds k) t (slice_index q.bounds k)
+  pub each : (k : ℕ) (s : Slot) → slice_get p.slots k ≡ Some s → (t : Slot) × (slice_get q.slots k ≡ Some t) × IsSweptTo s (slice_index p.bounds k) t (slice_index q.bounds k)
   pub condemned : swept.condemned ≡ count_by is_live_orphan p.slots
   pub held : swept.held ≡ count_by is_orphan q.slots
   pub all : swept.held + (swept.freed + swept.retired) ≡ count_by is_orphan p.slots

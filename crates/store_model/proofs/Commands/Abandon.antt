@@ -1,15 +1,15 @@
--- An accepted abandon keeps all that is kept.
+-- An accepted abandon keeps a catalog sound.
 use Rattle.std.proofs.Common.{◌≡◌, ℕ, Some, Ok, subst, arith, inl, inr}
 use Rattle.std.specs.FinMap.{get}
 use Rattle.std.proofs.lemmas.Bool.{cases_eq}
 use Rattle.blob_digest.specs.declared.refusal.Refusal.TheVariants.{NameUnknown}
-use Rattle.finite_maps.specs.Texts.{Text}
-use Rattle.store_model.specs.Catalog.{Session, Catalog, charged, tenant_of, received}
+use Rattle.spec_lib.specs.Texts.{Text}
+use Rattle.store_model.specs.Catalog.{Session, Catalog, charged_length, tenant_of, received_length}
 use Rattle.store_model.specs.Commands.{tenant, session, not_busy, abandon, without_session}
-use Rattle.store_model.specs.Invariant.{Lawful, KeepsQuotas, FitsSlots, Sound}
-use Rattle.store_model.proofs.Invariant.Sessions.{Lawful-gone, used-gone, used_other-gone}
+use Rattle.store_model.specs.Invariant.{WellFormed, KeepsQuotas, FitsSlots, Sound}
+use Rattle.store_model.proofs.Invariant.Sessions.{WellFormed-gone, used_bytes-gone, used_other-gone}
 use Rattle.store_model.proofs.Commands.Hands.{home_charged, home_chunks}
-use Rattle.finite_maps.proofs.Outcomes.{bound_ok, some_of_ok}
+use Rattle.spec_lib.proofs.Outcomes.{bound_ok, some_of_ok}
 use Rattle.store_model.proofs.Commands.Accepted.{left_by, answer_by, session_found}
 
 module _ (C C' : Catalog) (repo : Text) (number n : ℕ) (stepped : abandon C repo number ≡ Ok (n, C')) where
@@ -18,8 +18,8 @@ module _ (C C' : Catalog) (repo : Text) (number n : ℕ) (stepped : abandon C re
     known : tenant_of C.tenants repo ≡ Some t
     s : Session
     found : get C.sessions (t, number) ≡ Some s
-    counts : charged s ≡ received s
-    answer : received s ≡ n
+    counts : charged_length s ≡ received_length s
+    answer : received_length s ≡ n
     left : without_session C t number ≡ C'
 
   abandoned : Abandoned
@@ -30,8 +30,8 @@ module _ (C C' : Catalog) (repo : Text) (number n : ℕ) (stepped : abandon C re
       let home = home_chunks b.0.chunks d.0 d.1 in
       record { t = a.0; known = some_of_ok (tenant_of C.tenants repo) NameUnknown a.0 a.1; s = b.0; found = (session_found _ repo b.0 b.1).0; counts = home_charged b.0 home.0 home.1; answer = answer_by d.2; left = left_by d.2 }
 
-  pub Lawful-after_abandon : Lawful C → Lawful C'
-  Lawful-after_abandon lawful = let p = abandoned in subst (λ (D : Catalog). Lawful D) p.left (Lawful-gone C (p.t, number) lawful)
+  pub WellFormed-after_abandon : WellFormed C → WellFormed C'
+  WellFormed-after_abandon lawful = let p = abandoned in subst (λ (D : Catalog). WellFormed D) p.left (WellFormed-gone C (p.t, number) lawful)
 
   pub KeepsQuotas-after_abandon : KeepsQuotas C → KeepsQuotas C'
   KeepsQuotas-after_abandon keeps =
@@ -39,7 +39,7 @@ module _ (C C' : Catalog) (repo : Text) (number n : ℕ) (stepped : abandon C re
       subst (λ (D : Catalog). KeepsQuotas D) p.left (λ u there.
       let k = keeps u there in
       elim (cases_eq u p.t) [
-        | inl e ↦ rw e (let less = used-gone C (p.t, number) p.s p.found in let k = rw e at k in omega arith)
+        | inl e ↦ rw e (let less = used_bytes-gone C (p.t, number) p.s p.found in let k = rw e at k in omega arith)
         | inr other ↦ let same = used_other-gone C (p.t, number) p.s p.found u other in omega arith
       ])
 
@@ -47,4 +47,4 @@ module _ (C C' : Catalog) (repo : Text) (number n : ℕ) (stepped : abandon C re
   FitsSlots-after_abandon fits = subst (λ (D : Catalog). FitsSlots D) abandoned.left fits
 
   pub Sound-after_abandon : Sound C → Sound C'
-  Sound-after_abandon sound = record { lawful = Lawful-after_abandon sound.lawful; quotas = KeepsQuotas-after_abandon sound.quotas; slots = FitsSlots-after_abandon sound.slots }
+  Sound-after_abandon sound = record { lawful = WellFormed-after_abandon sound.lawful; quotas = KeepsQuotas-after_abandon sound.quotas; slots = FitsSlots-after_abandon sound.slots }

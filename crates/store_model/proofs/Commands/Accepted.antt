@@ -1,4 +1,4 @@
--- What is known where a command was accepted.
+-- Facts about accepted commands.
 use Rattle.std.proofs.Common.{◌≡◌, ℕ, ◌+◌, ◌<◌, ◌≤◌, Bool, true, false, cond, List, [], ◌∷◌, length, Option, Some, None, Result, Ok, Err, refl, sym, ap, ◌∙◌, arith, length-append}
 use Rattle.std.specs.Prelude.{if◌then◌else◌, nat_lt}
 use Rattle.std.specs.List.{sum_by, concat}
@@ -8,11 +8,11 @@ use Rattle.std.proofs.lemmas.List.Quantifiers.{position-Some}
 use Rattle.blob_digest.specs.declared.range.ByteRange.{ByteRange}
 use Rattle.blob_digest.specs.declared.refusal.Refusal.{Refusal}
 use Rattle.blob_digest.specs.declared.refusal.Refusal.TheVariants.{UploadUnknown}
-use Rattle.finite_maps.specs.Texts.{Text, same_text}
+use Rattle.spec_lib.specs.Texts.{Text, same_text}
 use Rattle.store_model.specs.Catalog.{Tenant, Session, Catalog, tenant_name, tenant_of}
 use Rattle.store_model.specs.Sessions.{session_in, length_after, has_other_length}
-use Rattle.finite_maps.proofs.Texts.{text_is_same}
-use Rattle.finite_maps.proofs.Outcomes.{bound_ok, not_refused}
+use Rattle.spec_lib.proofs.Texts.{text_is_same}
+use Rattle.spec_lib.proofs.Outcomes.{bound_ok, not_refused}
 
 pub left_by : {A : Type 0} {a b : A} {C C' : Catalog} → ◌≡◌ {A = Result (A × Catalog) Refusal} (Ok (a, C)) (Ok (b, C')) → C ≡ C'
 left_by {A} {a} {b} {C} {C'} h = let p : ◌≡◌ {A = A × Catalog} (a, C) (b, C') = cc in λ i. (p i).1

@@ -1,4 +1,4 @@
--- An accepted finish keeps all that is kept. What the session counted moves into the blob's length, which the tenant uses once.
+-- An accepted finish keeps a catalog sound: the session's bytes become the blob's, which the tenant uses once.
 use Rattle.std.proofs.Common.{◌≡◌, ◌≢◌, ℕ, ◌+◌, ◌≤◌, true, false, not, length, Option, Some, None, Ok, refl, sym, ap, ◌∙◌, subst, arith, inl, inr}
 use Rattle.std.specs.Prelude.{◌&&◌, nat_le, if◌then◌else◌}
 use Rattle.std.specs.Cmp.Lexicographic.{nat_list_cmp_total}
@@ -7,33 +7,33 @@ use Rattle.std.proofs.lemmas.Bool.{cases_eq, leb-false, not-false, and_parts}
 use Rattle.std.proofs.lemmas.Map.Lookups.{exact_bytes}
 use Rattle.blob_digest.specs.declared.refusal.Refusal.TheVariants.{DigestInvalid}
 use Rattle.blob_digest.specs.Digests.{is_digest_of}
-use Rattle.finite_maps.specs.Sets as set
-use Rattle.finite_maps.specs.Texts.{Text}
-use Rattle.store_model.specs.Catalog.{Session, Resident, Catalog, Taken, charged, tenant_of, tenant_holds, used, quota_of}
-use Rattle.store_model.specs.Commands.{finish, has_slot, is_full_for, is_digest_accepted, same_bytes, stored, taken_session, was_lent, whole_of}
-use Rattle.finite_maps.specs.Outcomes.{refuse}
-use Rattle.store_model.specs.Invariant.{Lawful, KeepsQuotas, FitsSlots, Sound}
-use Rattle.finite_maps.proofs.Texts.{text_is_same}
-use Rattle.finite_maps.proofs.Maps.{get-insert_at}
+use Rattle.spec_lib.specs.Sets as set
+use Rattle.spec_lib.specs.Texts.{Text}
+use Rattle.store_model.specs.Catalog.{Session, Resident, Catalog, HandRecord, charged_length, tenant_of, tenant_holds, used_bytes, quota_of}
+use Rattle.store_model.specs.Commands.{finish, has_slot, is_full_for, is_digest_accepted, has_same_bytes, with_stored_blob, session_of_hand, was_leased, hand_content}
+use Rattle.spec_lib.specs.Outcomes.{refuse}
+use Rattle.store_model.specs.Invariant.{WellFormed, KeepsQuotas, FitsSlots, Sound}
+use Rattle.spec_lib.proofs.Texts.{text_is_same}
+use Rattle.spec_lib.proofs.Maps.{get-insert_at}
 use Rattle.store_model.proofs.Invariant.Repos.{is_own, is_no_other}
-use Rattle.store_model.proofs.Invariant.Blobs.{Lawful-put, used-put, FitsSlots-put}
-use Rattle.store_model.proofs.Invariant.Links.{Lawful-link, used_other-link}
-use Rattle.store_model.proofs.Invariant.Sessions.{Lawful-gone, used-gone, used_other-gone}
-use Rattle.store_model.proofs.Invariant.Use.{used-link}
+use Rattle.store_model.proofs.Invariant.Blobs.{WellFormed-put, used_bytes-put, FitsSlots-put}
+use Rattle.store_model.proofs.Invariant.Links.{WellFormed-link, used_other-link}
+use Rattle.store_model.proofs.Invariant.Sessions.{WellFormed-gone, used_bytes-gone, used_other-gone}
+use Rattle.store_model.proofs.Invariant.Use.{used_bytes-link}
 use Rattle.store_model.proofs.Commands.Hands.{taken_found, whole_long, IsProper}
-use Rattle.finite_maps.proofs.Outcomes.{bound_ok, not_refused}
+use Rattle.spec_lib.proofs.Outcomes.{bound_ok, not_refused}
 use Rattle.store_model.proofs.Commands.Accepted.{left_by, answer_by}
 use Rattle.store_model.proofs.Invariant.SessionTenants.{session_owner, session_tenant}
-use Rattle.store_model.specs.Sessions.{IsFull}
+use Rattle.store_model.specs.Sessions.{HasNoOpenReserve}
 
--- a blob that is there has these very bytes
-bytes_kept : (x : Option Resident) (bytes : Text) → same_bytes x bytes ≡ true → (old : Resident) → x ≡ Some old → length old.bytes ≡ length bytes
+-- a stored blob of this digest has these bytes
+bytes_kept : (x : Option Resident) (bytes : Text) → has_same_bytes x bytes ≡ true → (old : Resident) → x ≡ Some old → length old.bytes ≡ length bytes
 bytes_kept None bytes same old e = absurd cc
 bytes_kept (Some b) bytes same old e = let is : b ≡ old = cc in ap (λ (y : Resident). length y.bytes) (sym is) ∙ ap length (text_is_same b.bytes bytes same)
 
-module _ (C : Catalog) (t number : ℕ) (repo digest whole : Text) (s : Session) (lawful : Lawful C) (known : tenant_of C.tenants repo ≡ Some t) (found : get C.sessions (t, number) ≡ Some s) (of_repo : s.repo ≡ repo) (same : same_bytes (get C.residents digest) whole ≡ true) where
+module _ (C : Catalog) (t number : ℕ) (repo digest whole : Text) (s : Session) (lawful : WellFormed C) (known : tenant_of C.tenants repo ≡ Some t) (found : get C.sessions (t, number) ≡ Some s) (of_repo : s.repo ≡ repo) (same : has_same_bytes (get C.residents digest) whole ≡ true) where
   abbrev blob : Resident
-  blob = record { bytes = whole; condemned = false; lent = was_lent (get C.residents digest) }
+  blob = record { bytes = whole; condemned = false; lent = was_leased (get C.residents digest) }
 
   abbrev put : Catalog
   put = record C { residents = insert C.residents digest blob }
@@ -42,7 +42,7 @@ module _ (C : Catalog) (t number : ℕ) (repo digest whole : Text) (s : Session)
   linked = record put { links = set.insert C.links (repo, digest) }
 
   abbrev after : Catalog
-  after = stored C t repo number digest whole
+  after = with_stored_blob C t repo number digest whole
 
   there : set.contains C.repos repo ≡ true
   there = ap (λ (r : Text). set.contains C.repos r) (sym of_repo) ∙ (lawful.sessions (t, number) s found).repo
@@ -51,27 +51,27 @@ module _ (C : Catalog) (t number : ℕ) (repo digest whole : Text) (s : Session)
   now_kept = get-insert_at nat_list_cmp_total exact_bytes C.residents digest blob
 
   module _ (is_digest : is_digest_of digest whole ≡ true) where
-    pub Lawful-close : Lawful after
-    Lawful-close = Lawful-gone linked (t, number) (Lawful-link put repo digest (Lawful-put C digest blob refl lawful is_digest) there blob now_kept refl)
+    pub WellFormed-close : WellFormed after
+    WellFormed-close = WellFormed-gone linked (t, number) (WellFormed-link put repo digest (WellFormed-put C digest blob refl lawful is_digest) there blob now_kept refl)
 
-  -- the session's length goes, and the blob's comes where the tenant didn't hold it
-  pub used-close : used after t + charged s + (if tenant_holds C t digest then length whole else 0) ≡ used C t + length whole
-  used-close =
-      let a : used put t ≡ used C t = used-put C digest blob lawful (bytes_kept (get C.residents digest) whole same) t in
-      let b : used linked t + (if tenant_holds C t digest then length whole else 0) ≡ used put t + length whole = used-link put t repo digest blob there (is_own C t repo known) now_kept in
-      let c : used linked t ≡ used after t + charged s = used-gone linked (t, number) s found in
+  -- the session's length is removed, and the blob's is added if the tenant did not have it
+  pub used_bytes-close : used_bytes after t + charged_length s + (if tenant_holds C t digest then length whole else 0) ≡ used_bytes C t + length whole
+  used_bytes-close =
+      let a : used_bytes put t ≡ used_bytes C t = used_bytes-put C digest blob lawful (bytes_kept (get C.residents digest) whole same) t in
+      let b : used_bytes linked t + (if tenant_holds C t digest then length whole else 0) ≡ used_bytes put t + length whole = used_bytes-link put t repo digest blob there (is_own C t repo known) now_kept in
+      let c : used_bytes linked t ≡ used_bytes after t + charged_length s = used_bytes-gone linked (t, number) s found in
       omega arith
 
-  pub used_other-close : (u : ℕ) → u ≢ t → used after u ≡ used C u
+  pub used_other-close : (u : ℕ) → u ≢ t → used_bytes after u ≡ used_bytes C u
   used_other-close u other =
-      let a : used put u ≡ used C u = used-put C digest blob lawful (bytes_kept (get C.residents digest) whole same) u in
-      let b : used linked u ≡ used put u = used_other-link put repo digest u (is_no_other C t u repo known other) in
-      let c : used linked u ≡ used after u = used_other-gone linked (t, number) s found u other in
+      let a : used_bytes put u ≡ used_bytes C u = used_bytes-put C digest blob lawful (bytes_kept (get C.residents digest) whole same) u in
+      let b : used_bytes linked u ≡ used_bytes put u = used_other-link put repo digest u (is_no_other C t u repo known other) in
+      let c : used_bytes linked u ≡ used_bytes after u = used_other-gone linked (t, number) s found u other in
       omega arith
 
-  pub KeepsQuotas-close : (n : ℕ) → length whole ≡ charged s + n → used C t + n ≤ quota_of C t → KeepsQuotas C → KeepsQuotas after
+  pub KeepsQuotas-close : (n : ℕ) → length whole ≡ charged_length s + n → used_bytes C t + n ≤ quota_of C t → KeepsQuotas C → KeepsQuotas after
   KeepsQuotas-close n long within keeps = λ u in_tenants. elim (cases_eq u t) [
-    | inl e ↦ rw e (let sum = used-close in omega arith)
+    | inl e ↦ rw e (let sum = used_bytes-close in omega arith)
     | inr other ↦ let alike = used_other-close u other in let k = keeps u in_tenants in omega arith
   ]
 
@@ -80,20 +80,20 @@ module _ (C : Catalog) (t number : ℕ) (repo digest whole : Text) (s : Session)
       let f = FitsSlots-put C digest blob fits (λ new. leb-false C.slots (len C.residents + C.retired) (sym (ap (λ b. not b && nat_le C.slots (len C.residents + C.retired)) new) ∙ free)) in
       record { some = f.some; few = f.few; fit = f.fit }
 
-module _ (C C' : Catalog) (h : Taken) (digest : Text) (n : ℕ) (proper : IsProper h) (full : IsFull h) (stepped : finish C h digest ≡ Ok (n, C')) where
-  -- what an accepted finish met
+module _ (C C' : Catalog) (h : HandRecord) (digest : Text) (n : ℕ) (proper : IsProper h) (full : HasNoOpenReserve h) (stepped : finish C h digest ≡ Ok (n, C')) where
+  -- facts about an accepted finish
   pub record Finished : Type 0 where
     pub s : Session
-    pub here : taken_session (get C.sessions h.key) h ≡ Ok s
-    pub named : is_digest_accepted C digest (whole_of h) ≡ true
+    pub here : session_of_hand (get C.sessions h.key) h ≡ Ok s
+    pub named : is_digest_accepted C digest (hand_content h) ≡ true
     pub housed_ok : has_slot C digest ≡ Ok tt
-    pub answer : length (whole_of h) ≡ n
-    pub left : stored C h.key.0 s.repo h.key.1 digest (whole_of h) ≡ C'
+    pub answer : length (hand_content h) ≡ n
+    pub left : with_stored_blob C h.key.0 s.repo h.key.1 digest (hand_content h) ≡ C'
 
   pub finished : Finished
   finished =
-      let a = bound_ok (taken_session (get C.sessions h.key) h) _ (n, C') stepped in
-      let d = bound_ok (refuse (not (is_digest_accepted C digest (whole_of h))) DigestInvalid) _ (n, C') a.2 in
+      let a = bound_ok (session_of_hand (get C.sessions h.key) h) _ (n, C') stepped in
+      let d = bound_ok (refuse (not (is_digest_accepted C digest (hand_content h))) DigestInvalid) _ (n, C') a.2 in
       let e = bound_ok (has_slot C digest) _ (n, C') d.2 in
       record { s = a.0; here = a.1; named = not-false _ (not_refused _ _ _ d.1); housed_ok = e.1; answer = answer_by e.2; left = left_by e.2 }
 
@@ -101,13 +101,13 @@ module _ (C C' : Catalog) (h : Taken) (digest : Text) (n : ℕ) (proper : IsProp
   Sound-after_finish sound =
       let p = finished in
       let f = taken_found (get C.sessions h.key) h p.s p.here in
-      let both = and_parts (is_digest_of digest (whole_of h)) (same_bytes (get C.residents digest) (whole_of h)) p.named in
+      let both = and_parts (is_digest_of digest (hand_content h)) (has_same_bytes (get C.residents digest) (hand_content h)) p.named in
       let known = session_owner C sound.lawful h.key p.s f.0 in
       let there = session_tenant C sound.lawful h.key p.s f.0 in
-      let counts : charged p.s ≡ length (whole_of h) = rw f.1 (sym (whole_long h proper full)) in
-      let within : used C h.key.0 + 0 ≤ quota_of C h.key.0 = let keeps = sound.quotas h.key.0 there in omega arith in
+      let counts : charged_length p.s ≡ length (hand_content h) = rw f.1 (sym (whole_long h proper full)) in
+      let within : used_bytes C h.key.0 + 0 ≤ quota_of C h.key.0 = let keeps = sound.quotas h.key.0 there in omega arith in
       subst (λ (D : Catalog). Sound D) p.left (record {
-        lawful = Lawful-close C h.key.0 h.key.1 p.s.repo digest (whole_of h) p.s sound.lawful known f.0 refl both.1 both.0;
-        quotas = KeepsQuotas-close C h.key.0 h.key.1 p.s.repo digest (whole_of h) p.s sound.lawful known f.0 refl both.1 0 (omega arith) within sound.quotas;
-        slots = FitsSlots-close C h.key.0 h.key.1 p.s.repo digest (whole_of h) p.s sound.lawful known f.0 refl both.1 (not_refused _ _ _ p.housed_ok) sound.slots;
+        lawful = WellFormed-close C h.key.0 h.key.1 p.s.repo digest (hand_content h) p.s sound.lawful known f.0 refl both.1 both.0;
+        quotas = KeepsQuotas-close C h.key.0 h.key.1 p.s.repo digest (hand_content h) p.s sound.lawful known f.0 refl both.1 0 (omega arith) within sound.quotas;
+        slots = FitsSlots-close C h.key.0 h.key.1 p.s.repo digest (hand_content h) p.s sound.lawful known f.0 refl both.1 (not_refused _ _ _ p.housed_ok) sound.slots;
       })

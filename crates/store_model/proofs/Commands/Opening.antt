@@ -1,15 +1,15 @@
--- A new catalog is lawful, so the claims can be met.
+-- A new catalog is well-formed, so the premises can be met.
 use Rattle.std.proofs.Common.{◌≡◌, ℕ, ◌^◌, ◌<◌, ◌≤◌, List, [], ◌∷◌, length, map, get_or, arith}
 use Prim.Native.Nat.{zero, suc}
 use Rattle.std.specs.List.{AllByRecursion}
 use Rattle.std.specs.List.Sorted.{IsStrictlySortedBy}
 use Rattle.std.specs.FinMap.{empty, get-empty, len-empty, len}
 use Rattle.std.proofs.lemmas.List.{length-map}
-use Rattle.finite_maps.specs.Texts.{Text, text_cmp}
-use Rattle.store_model.specs.Catalog.{Tenant, Session, Resident, Catalog, link_cmp, number_cmp, next_of, opening}
-use Rattle.store_model.specs.Invariant.{Lawful, Sound}
-use Rattle.finite_maps.proofs.Rows.{entries-empty}
-use Rattle.finite_maps.proofs.Options.{nothing, no_member}
+use Rattle.spec_lib.specs.Texts.{Text, text_cmp}
+use Rattle.store_model.specs.Catalog.{Tenant, Session, Resident, Catalog, link_cmp, session_number_cmp, next_number_of, opening}
+use Rattle.store_model.specs.Invariant.{WellFormed, Sound}
+use Rattle.spec_lib.proofs.Rows.{entries-empty}
+use Rattle.spec_lib.proofs.Options.{nothing, no_member}
 
 one_each : (tenants : List Tenant) (t : ℕ) → t < length tenants → 0 < get_or (map {B = ℕ} (λ _. 1) tenants) t 0
 one_each [] t lt = absurd (omega arith)
@@ -25,12 +25,12 @@ module _ (tenants : List Tenant) (slots max_blob : ℕ) where
   abbrev C : Catalog
   C = opening tenants slots max_blob
 
-  pub Lawful-opening : 0 < length tenants → length tenants ≤ 256 → IsStrictlySortedBy text_cmp (map (λ t. t.name) tenants) → max_blob ≤ 2 ^ 40 → AllByRecursion (λ t. t.quota ≤ 2 ^ 50) tenants → Lawful C
-  Lawful-opening some few rise small quotas = record {
+  pub WellFormed-opening : 0 < length tenants → length tenants ≤ 256 → IsStrictlySortedBy text_cmp (map (λ t. t.name) tenants) → max_blob ≤ 2 ^ 40 → AllByRecursion (λ t. t.quota ≤ 2 ^ 50) tenants → WellFormed C
+  WellFormed-opening some few rise small quotas = record {
     content = λ d b h. nothing (get-empty text_cmp d) h;
     links = λ l h. no_member (get-empty link_cmp l) h;
     manifests = λ l bytes h. nothing (get-empty link_cmp l) h;
-    sessions = λ key s h. nothing (get-empty number_cmp key) h;
+    sessions = λ key s h. nothing (get-empty session_number_cmp key) h;
     repositories = record {
       owned = λ r h. no_member (get-empty text_cmp r) h;
       few = λ t. rw (entries-empty text_cmp (Unit {0})) (omega arith);
@@ -39,7 +39,7 @@ module _ (tenants : List Tenant) (slots max_blob : ℕ) where
     numbering = record {
       one_each = let f : Tenant → ℕ = λ _. 1 in length-map tenants f;
       from_one = one_each tenants;
-      few = λ t. let one : next_of C t ≤ 1 = one_or_none tenants t in omega arith;
+      few = λ t. let one : next_number_of C t ≤ 1 = one_or_none tenants t in omega arith;
     };
     limits = record {
       tenants = (some, few);
@@ -47,13 +47,13 @@ module _ (tenants : List Tenant) (slots max_blob : ℕ) where
       max_blob = small;
       quotas = quotas;
     };
-    few_sessions = λ t. rw (entries-empty number_cmp Session) (omega arith);
+    few_sessions = λ t. rw (entries-empty session_number_cmp Session) (omega arith);
     few_manifests = λ r. rw (entries-empty link_cmp Text) (omega arith);
   }
 
   pub Sound-opening : 0 < length tenants → length tenants ≤ 256 → IsStrictlySortedBy text_cmp (map (λ t. t.name) tenants) → max_blob ≤ 2 ^ 40 → AllByRecursion (λ t. t.quota ≤ 2 ^ 50) tenants → 0 < slots → slots ≤ 65536 → Sound C
   Sound-opening some few rise small quotas any at_most = record {
-    lawful = Lawful-opening some few rise small quotas;
-    quotas = λ t there. rw (entries-empty text_cmp Resident, entries-empty number_cmp Session) (omega arith);
+    lawful = WellFormed-opening some few rise small quotas;
+    quotas = λ t there. rw (entries-empty text_cmp Resident, entries-empty session_number_cmp Session) (omega arith);
     slots = record { some = any; few = at_most; fit = let none : len (empty {X = Resident} {R = text_cmp}) ≡ 0 = len-empty text_cmp Resident in omega arith };
   }

@@ -1,4 +1,4 @@
--- A manifest that refers to a digest keeps the digest's link: a delete is refused, and names the least such manifest.
+-- A delete of a digest to which a manifest refers fails, and names the least such manifest.
 use Rattle.std.proofs.Common.{◌≡◌, ◌≢◌, Bool, true, false, cond, not, List, [], ◌∷◌, Option, Some, None, Ok, refl, sym, ap, ◌∙◌, subst}
 use Rattle.std.specs.Prelude.{◌&&◌, ◌||◌}
 use Rattle.std.specs.Option.{option_map, option_map_or, ok_or}
@@ -12,16 +12,16 @@ use Rattle.std.specs.FinMap.{IsAntisymmetric, entries, entries_sorted, get, get-
 use Rattle.std.specs.FinMap.Entries.{is_sorted, below_all, find as find_key}
 use Rattle.std.proofs.lemmas.Bool.{true≢false, false≢true, and_parts, and_from}
 use Rattle.blob_digest.specs.declared.refusal.Refusal.TheVariants.{NameUnknown, BlobUnknown}
-use Rattle.finite_maps.specs.Sets as set
+use Rattle.spec_lib.specs.Sets as set
 use Rattle.blob_digest.proofs.KeyOrders.{link_cmp_total, exact_link}
-use Rattle.finite_maps.proofs.Texts.{same_itself, text_is_same}
-use Rattle.finite_maps.proofs.Options.{some_none, some_same, some_value}
-use Rattle.finite_maps.specs.Texts.{Text, text_cmp, same_text}
+use Rattle.spec_lib.proofs.Texts.{same_itself, text_is_same}
+use Rattle.spec_lib.proofs.Options.{some_none, some_same, some_value}
+use Rattle.spec_lib.specs.Texts.{Text, text_cmp, same_text}
 use Rattle.store_model.specs.Catalog.{Link, Catalog, link_cmp, tenant_of, holds}
-use Rattle.finite_maps.specs.Outcomes.{◌>>=◌, refuse}
-use Rattle.store_model.specs.Commands.{linked, unreferenced, refers, referrer}
-use Rattle.store_model.specs.Invariant.{Lawful, RefersTo, IsLeastReferrer, ReferencedStays}
-use Rattle.finite_maps.proofs.Lists.{is_true}
+use Rattle.spec_lib.specs.Outcomes.{◌>>=◌, refuse}
+use Rattle.store_model.specs.Commands.{check_link, check_no_referrer, refers, referrer}
+use Rattle.store_model.specs.Invariant.{WellFormed, RefersTo, IsLeastReferrer, ReferencedStays}
+use Rattle.spec_lib.proofs.Lists.{is_true}
 use Rattle.store_model.proofs.Invariant.Links.{unreferred}
 
 -- ---- the first entry that passes a test, in the order of the keys
@@ -43,7 +43,7 @@ module _ {K X : Type 0} (R : K → K → Ordering) (o : IsTotalOrder R) (same : 
         | false ↦ λ _ h. below k q v es both.1 h
       ] refl found
 
-  -- it is there, passes, and no entry that passes has a lesser key
+  -- the entry exists, passes, and has the least key of those that pass
   first_passes : (p : K × X → Bool) (es : List (K × X)) (e : K × X) → find p es ≡ Some e → p e ≡ true
   first_passes p [] e h = absurd cc
   first_passes p (x ∷ es) e h = elim (p x) as (λ b. p x ≡ b → cond b (Some x) (find p es) ≡ Some e → p e ≡ true) [
@@ -128,14 +128,14 @@ module _ (C : Catalog) (repo digest : Text) where
     | false ↦ λ _ any. holds_referred refs all.1 any
   ] refl any
 
-module _ (C : Catalog) (lawful : Lawful C) (repo digest : Text) where
-  -- what a manifest refers to is held where the manifest is
+module _ (C : Catalog) (lawful : WellFormed C) (repo digest : Text) where
+  -- a manifest's references are linked in its repository
   held_by : (name : Text) → RefersTo C repo name digest → holds C repo digest ≡ true
   held_by name r =
       let k = lawful.manifests (repo, name) r.0 r.1 in
       holds_referred C repo digest k.refs.0 k.refs.2 (sym (ap (λ x. option_map_or (list_any (same_text digest)) x false) k.refs.1) ∙ r.2)
 
-  -- so what has a referrer is held
+  -- so a digest with a referrer is linked
   pub held_if_referred : (manifest : Text) → referrer C repo digest ≡ Some manifest → holds C repo digest ≡ true
   held_if_referred manifest is =
       let first = found_one C repo digest (find (is_referrer C repo digest) (entries C.manifests)) refl (λ none. some_none (sym is ∙ ap (option_map (λ e. e.0.1)) none)) in
@@ -149,7 +149,7 @@ referenced_stays C lawful repo digest name r =
     let held = held_by C lawful repo digest name r in (
       first.0.0.1,
       least_of C repo digest first.0 first.1,
-      ap (λ o. ok_or o NameUnknown >>= λ _. linked C repo digest >>= λ _. unreferenced (referrer C repo digest) >>= λ _. Ok (tt, record C { links = set.remove C.links (repo, digest) })) t.1
-          ∙ ap (λ b. refuse (not b) BlobUnknown >>= λ _. unreferenced (referrer C repo digest) >>= λ _. Ok (tt, record C { links = set.remove C.links (repo, digest) })) held
-          ∙ ap (λ o. unreferenced (option_map (λ e. e.0.1) o) >>= λ _. Ok (tt, record C { links = set.remove C.links (repo, digest) })) first.1,
+      ap (λ o. ok_or o NameUnknown >>= λ _. check_link C repo digest >>= λ _. check_no_referrer (referrer C repo digest) >>= λ _. Ok (tt, record C { links = set.remove C.links (repo, digest) })) t.1
+          ∙ ap (λ b. refuse (not b) BlobUnknown >>= λ _. check_no_referrer (referrer C repo digest) >>= λ _. Ok (tt, record C { links = set.remove C.links (repo, digest) })) held
+          ∙ ap (λ o. check_no_referrer (option_map (λ e. e.0.1) o) >>= λ _. Ok (tt, record C { links = set.remove C.links (repo, digest) })) first.1,
     )

@@ -4,7 +4,7 @@ use Rattle.blob_digest.specs.declared.refusal.Refusal.{Refusal}
 use Rattle.store_model.specs.Catalog.{Catalog}
 use Rattle.store_model.specs.Commands.{Outcome}
 use Rattle.store_model.specs.Invariant.{Sound}
-use Rattle.store_model.specs.Runs.{Command, Answer, Event, answered, reading, outcome, IsCase, Happens, IsNamed, RunsStaySound, repo_of, Start, Status, Append, Close, Abandon, Mount, Delete, PutManifest, GetManifest, DeleteManifest, Lease, Called, Swept}
+use Rattle.store_model.specs.Runs.{Command, Answer, Event, map_outcome, reading_outcome, outcome, IsCommandCase, Happens, HasShortName, RunsStaySound, repo_of, Start, Status, Append, Close, Abandon, Mount, Delete, PutManifest, GetManifest, DeleteManifest, Lease, CommandEvent, SweepEvent}
 use Rattle.store_model.proofs.Commands.Accepted.{left_by}
 use Rattle.store_model.proofs.Commands.Start.{Sound-after_start}
 use Rattle.store_model.proofs.Commands.AppendClose.{Sound-after_append, Sound-after_close}
@@ -17,11 +17,11 @@ use Rattle.store_model.proofs.Commands.Sweep.{Sound-sweep}
 
 -- ---- cases
 
-answered_ok : {A : Type 0} (f : A → Answer) (o : Outcome A) (a : Answer) (C' : Catalog) → answered f o ≡ Ok (a, C') → (x : A) × (o ≡ Ok (x, C'))
+answered_ok : {A : Type 0} (f : A → Answer) (o : Outcome A) (a : Answer) (C' : Catalog) → map_outcome f o ≡ Ok (a, C') → (x : A) × (o ≡ Ok (x, C'))
 answered_ok {A} f (Ok x) a C' h = let p : ◌≡◌ {A = Answer × Catalog} (f x.0, x.1) (a, C') = cc in (x.0, λ i. Ok (x.0, (p i).1))
 answered_ok f (Err e) a C' h = absurd cc
 
-reading_ok : {A : Type 0} (f : A → Answer) (C : Catalog) (x : Result A Refusal) (a : Answer) (C' : Catalog) → reading f C x ≡ Ok (a, C') → C ≡ C'
+reading_ok : {A : Type 0} (f : A → Answer) (C : Catalog) (x : Result A Refusal) (a : Answer) (C' : Catalog) → reading_outcome f C x ≡ Ok (a, C') → C ≡ C'
 reading_ok f C (Ok x) a C' h = left_by h
 reading_ok f C (Err e) a C' h = absurd cc
 
@@ -38,13 +38,13 @@ accepted C C' (GetManifest r d) a short h sound = subst (λ (D : Catalog). Sound
 accepted C C' (DeleteManifest r d) a short h sound = let o = answered_ok _ _ a C' h in Sound-after_delete_manifest C C' r d o.1 sound
 accepted C C' (Lease r d) a short h sound = let o = answered_ok _ _ a C' h in Sound-after_lease C C' false r d o.0 o.1 sound
 
-pub Sound-case : (C C' : Catalog) (command : Command) (reply : Result Answer Refusal) → length (repo_of command) ≤ 255 → IsCase C command reply C' → Sound C → Sound C'
+pub Sound-case : (C C' : Catalog) (command : Command) (reply : Result Answer Refusal) → length (repo_of command) ≤ 255 → IsCommandCase C command reply C' → Sound C → Sound C'
 Sound-case C C' command (Ok a) short case sound = accepted C C' command a short case sound
 Sound-case C C' command (Err e) short case sound = subst (λ (D : Catalog). Sound D) (sym case.1) sound
 
-pub Sound-event : (C C' : Catalog) (e : Event) → IsNamed e → Happens C e C' → Sound C → Sound C'
-Sound-event C C' (Called command reply) short happens sound = Sound-case C C' command reply short happens sound
-Sound-event C C' (Swept swept) short happens sound = Sound-sweep C C' swept happens sound.lawful sound.quotas sound.slots
+pub Sound-event : (C C' : Catalog) (e : Event) → HasShortName e → Happens C e C' → Sound C → Sound C'
+Sound-event C C' (CommandEvent command reply) short happens sound = Sound-case C C' command reply short happens sound
+Sound-event C C' (SweepEvent swept) short happens sound = Sound-sweep C C' swept happens sound.lawful sound.quotas sound.slots
 
 pub Sound-run : RunsStaySound
 Sound-run C C' [] short run sound = subst (λ (D : Catalog). Sound D) (sym run) sound

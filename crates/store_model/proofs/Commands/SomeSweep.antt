@@ -4,14 +4,14 @@ use Rattle.std.specs.Prelude.{◌&&◌, is_none}
 use Rattle.std.specs.List.{count_by}
 use Rattle.std.specs.FinMap.{FinMap, entries, get, retain_keys, get-retain_keys}
 use Rattle.std.proofs.lemmas.Map.Lookups.{exact_bytes}
-use Rattle.finite_maps.proofs.Options.{some_same}
-use Rattle.finite_maps.specs.Texts.{Text, text_cmp}
+use Rattle.spec_lib.proofs.Options.{some_same}
+use Rattle.spec_lib.specs.Texts.{Text, text_cmp}
 use Rattle.store_model.specs.Catalog.{Resident, Catalog}
 use Rattle.store_model.specs.declared.swept.Swept.{Swept}
-use Rattle.store_model.specs.Sweep.{is_orphan, IsLeft, IsSweep}
+use Rattle.store_model.specs.Sweep.{is_orphan, IsAfterSweep, IsSweep}
 
 -- each resident blob after a sweep has the bytes of one before it
-pub left_bytes : (orphan : Bool) (b now : Resident) → IsLeft orphan b (Some now) → b.bytes ≡ now.bytes
+pub left_bytes : (orphan : Bool) (b now : Resident) → IsAfterSweep orphan b (Some now) → b.bytes ≡ now.bytes
 left_bytes true b now left = sym (ap (λ (x : Resident). x.bytes) left.1)
 left_bytes false b now left = ap (λ (x : Resident). x.bytes) (sym (some_same left))
 
@@ -33,7 +33,7 @@ module _ (C : Catalog) where
   at : (d : Text) → get kept d ≡ cond (not (is_orphan C d)) (get C.residents d) None
   at d = get-retain_keys C.residents (λ d. not (is_orphan C d)) d (λ x tie. ap (λ (q : Text). not (is_orphan C q)) (sym (exact_bytes d x tie)))
 
-  left : (o : Bool) (b : Resident) → IsLeft o b (cond (not o) (Some b) None)
+  left : (o : Bool) (b : Resident) → IsAfterSweep o b (cond (not o) (Some b) None)
   left true b = tt
   left false b = refl
 
@@ -43,7 +43,7 @@ module _ (C : Catalog) where
 
   pub some_sweep : IsSweep C swept after
   some_sweep = record {
-    orphans = λ d b found. subst (λ (x : Option Resident). IsLeft (is_orphan C d) b x) (sym (at d ∙ ap (λ x. cond (not (is_orphan C d)) x None) found)) (left (is_orphan C d) b);
+    orphans = λ d b found. subst (λ (x : Option Resident). IsAfterSweep (is_orphan C d) b x) (sym (at d ∙ ap (λ x. cond (not (is_orphan C d)) x None) found)) (left (is_orphan C d) b);
     no_others = λ d none. at d ∙ ap (λ x. cond (not (is_orphan C d)) x None) none ∙ nothing (not (is_orphan C d));
     rest = refl;
     condemned = refl;

@@ -1,4 +1,4 @@
--- A sweep keeps the catalog lawful, no use changes, and what it frees and retires still fits the slots.
+-- A sweep keeps the catalog well-formed, every use unchanged, and the blobs and retired slots within the slots.
 use Rattle.std.proofs.Common.{◌≡◌, ℕ, ◌+◌, true, false, cond, length, Option, Some, None, refl, sym, ap, ◌∙◌, subst, arith}
 use Rattle.std.specs.Prelude.{is_none}
 use Rattle.std.specs.List.{sum_by}
@@ -7,40 +7,40 @@ use Rattle.std.specs.FinMap.{entries, get, len, len-entries}
 use Rattle.std.proofs.lemmas.Bool.{true≢false, eqb-true}
 use Rattle.std.proofs.lemmas.Map.Lookups.{exact_bytes}
 use Rattle.blob_digest.specs.Digests.{is_digest_of}
-use Rattle.finite_maps.specs.Sets as set
-use Rattle.finite_maps.specs.Texts.{Text}
-use Rattle.store_model.specs.Catalog.{Link, Resident, Catalog, tenant_holds, count, blob_share, used}
-use Rattle.store_model.specs.Invariant.{Lawful, KeepsQuotas, FitsSlots, Sound}
+use Rattle.spec_lib.specs.Sets as set
+use Rattle.spec_lib.specs.Texts.{Text}
+use Rattle.store_model.specs.Catalog.{Link, Resident, Catalog, tenant_holds, link_count, blob_share, used_bytes}
+use Rattle.store_model.specs.Invariant.{WellFormed, KeepsQuotas, FitsSlots, Sound}
 use Rattle.store_model.specs.declared.swept.Swept.{Swept}
-use Rattle.store_model.specs.Sweep.{is_orphan, IsLeft, IsSweep}
+use Rattle.store_model.specs.Sweep.{is_orphan, IsAfterSweep, IsSweep}
 use Rattle.store_model.proofs.Commands.SomeSweep.{left_bytes}
-use Rattle.finite_maps.proofs.Maps.{sum_alike, term}
-use Rattle.finite_maps.proofs.Lists.{sum_by-add, sum_by-ones}
+use Rattle.spec_lib.proofs.Maps.{sum_alike, term}
+use Rattle.spec_lib.proofs.Lists.{sum_by-add, sum_by-ones}
 use Rattle.store_model.proofs.Invariant.Links.{uncounted, is_unheld}
 
 one_each : (x : Option Resident) → cond {A = ℕ} (is_none x) 1 0 + cond {A = ℕ} (is_none x) 0 1 ≡ 1
 one_each None = omega arith
 one_each (Some b) = omega arith
 
-module _ (C C' : Catalog) (swept : Swept) (sweep : IsSweep C swept C') (lawful : Lawful C) where
+module _ (C C' : Catalog) (swept : Swept) (sweep : IsSweep C swept C') (lawful : WellFormed C) where
   abbrev after : Catalog
   after = record C { residents = C'.residents; retired = C.retired + swept.retired }
 
-  -- what is linked stays as it is
+  -- a linked blob is unchanged
   pub linked_stays : (l : Link) → set.contains C.links l ≡ true → (b : Resident) → get C.residents l.1 ≡ Some b → get C'.residents l.1 ≡ Some b
   linked_stays l h b found =
-      elim (is_orphan C l.1) as (λ o. is_orphan C l.1 ≡ o → IsLeft o b (get C'.residents l.1) → get C'.residents l.1 ≡ Some b) [
-        | true ↦ λ o _. absurd (true≢false (sym h ∙ uncounted C lawful l.1 (eqb-true (count C l.1) 0 o) l.0))
+      elim (is_orphan C l.1) as (λ o. is_orphan C l.1 ≡ o → IsAfterSweep o b (get C'.residents l.1) → get C'.residents l.1 ≡ Some b) [
+        | true ↦ λ o _. absurd (true≢false (sym h ∙ uncounted C lawful l.1 (eqb-true (link_count C l.1) 0 o) l.0))
         | false ↦ λ o left. left
       ] refl (sweep.orphans l.1 b found)
 
   content_from : (d : Text) (now : Resident) (x : Option Resident) → get C.residents d ≡ x → get C'.residents d ≡ Some now → is_digest_of d now.bytes ≡ true
   content_from d now None none h = absurd (let e : Some now ≡ None = sym h ∙ sweep.no_others d none in cc)
   content_from d now (Some b) found h =
-      let same = left_bytes (is_orphan C d) b now (subst (λ (x : Option Resident). IsLeft (is_orphan C d) b x) h (sweep.orphans d b found)) in
+      let same = left_bytes (is_orphan C d) b now (subst (λ (x : Option Resident). IsAfterSweep (is_orphan C d) b x) h (sweep.orphans d b found)) in
       ap (is_digest_of d) (sym same) ∙ lawful.content d b found
 
-  lawful_after : Lawful after
+  lawful_after : WellFormed after
   lawful_after = record {
     content = λ d now h. content_from d now (get C.residents d) refl h;
     links = λ l h. let k = lawful.links l h in record { repo = k.repo; kept = (k.kept.0, linked_stays l h k.kept.0 k.kept.1, k.kept.2) };
@@ -53,16 +53,16 @@ module _ (C C' : Catalog) (swept : Swept) (sweep : IsSweep C swept C') (lawful :
     few_manifests = lawful.few_manifests;
   }
 
-  pub Lawful-sweep : Lawful C'
-  Lawful-sweep = subst (λ (D : Catalog). Lawful D) (sym sweep.rest) lawful_after
+  pub WellFormed-sweep : WellFormed C'
+  WellFormed-sweep = subst (λ (D : Catalog). WellFormed D) (sym sweep.rest) lawful_after
 
   unheld : (u : ℕ) (d : Text) → is_orphan C d ≡ true → tenant_holds C u d ≡ false
-  unheld u d o = is_unheld C u d (uncounted C lawful d (eqb-true (count C d) 0 o))
+  unheld u d o = is_unheld C u d (uncounted C lawful d (eqb-true (link_count C d) 0 o))
 
   share_alike : (u : ℕ) (d : Text) (x : Option Resident) → get C.residents d ≡ x → term (blob_share C u) d x ≡ term (blob_share C u) d (get C'.residents d)
   share_alike u d None none = sym (ap (term (blob_share C u) d) (sweep.no_others d none))
   share_alike u d (Some b) found =
-      elim (is_orphan C d) as (λ o. is_orphan C d ≡ o → IsLeft o b (get C'.residents d) → blob_share C u (d, b) ≡ term (blob_share C u) d (get C'.residents d)) [
+      elim (is_orphan C d) as (λ o. is_orphan C d ≡ o → IsAfterSweep o b (get C'.residents d) → blob_share C u (d, b) ≡ term (blob_share C u) d (get C'.residents d)) [
         | true ↦ λ o _. nothing o b ∙ sym (at o (get C'.residents d))
         | false ↦ λ o left. sym (ap (term (blob_share C u) d) left)
       ] refl (sweep.orphans d b found)
@@ -74,16 +74,16 @@ module _ (C C' : Catalog) (swept : Swept) (sweep : IsSweep C swept C') (lawful :
       at o None = refl
       at o (Some y) = nothing o y
 
-  pub used-sweep : (u : ℕ) → used C' u ≡ used C u
-  used-sweep u =
+  pub used_bytes-sweep : (u : ℕ) → used_bytes C' u ≡ used_bytes C u
+  used_bytes-sweep u =
       let blobs : sum_by (blob_share C u) (entries C.residents) ≡ sum_by (blob_share C u) (entries C'.residents) = sum_alike nat_list_cmp_total exact_bytes (blob_share C u) (blob_share C u) C.residents C'.residents (λ d. share_alike u d (get C.residents d) refl) in
-      let same : used C' u ≡ used after u = ap (λ D. used D u) sweep.rest in
+      let same : used_bytes C' u ≡ used_bytes after u = ap (λ D. used_bytes D u) sweep.rest in
       omega arith
 
   pub KeepsQuotas-sweep : KeepsQuotas C → KeepsQuotas C'
   KeepsQuotas-sweep keeps = subst (λ (D : Catalog). KeepsQuotas D) (sym sweep.rest) (λ u there.
-      let same : used C' u ≡ used after u = ap (λ D. used D u) sweep.rest in
-      let alike = used-sweep u in
+      let same : used_bytes C' u ≡ used_bytes after u = ap (λ D. used_bytes D u) sweep.rest in
+      let alike = used_bytes-sweep u in
       let before = keeps u there in
       omega arith)
 
@@ -95,7 +95,7 @@ module _ (C C' : Catalog) (swept : Swept) (sweep : IsSweep C swept C') (lawful :
       at None = refl
       at (Some y) = refl
 
-  -- each blob is left or gone
+  -- each blob stays or is removed
   pub len-sweep : len C.residents ≡ swept.freed + swept.retired + len C'.residents
   len-sweep =
       let gone : Text × Resident → ℕ = λ e. cond (is_none (get C'.residents e.0)) 1 0 in
@@ -116,4 +116,4 @@ module _ (C C' : Catalog) (swept : Swept) (sweep : IsSweep C swept C') (lawful :
   })
 
   pub Sound-sweep : KeepsQuotas C → FitsSlots C → Sound C'
-  Sound-sweep keeps fits = record { lawful = Lawful-sweep; quotas = KeepsQuotas-sweep keeps; slots = FitsSlots-sweep fits }
+  Sound-sweep keeps fits = record { lawful = WellFormed-sweep; quotas = KeepsQuotas-sweep keeps; slots = FitsSlots-sweep fits }

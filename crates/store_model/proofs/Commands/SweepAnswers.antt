@@ -1,25 +1,25 @@
--- What a sweep does is fixed but for the blobs that were lent.
+-- The result of a sweep is determined, except for blobs that were ever leased.
 use Rattle.std.proofs.Common.{◌≡◌, ℕ, ◌+◌, Bool, false, cond, Option, Some, None, refl, ap, ◌∙◌, subst, arith}
 use Rattle.std.specs.Prelude.{◌&&◌, not, is_none}
 use Rattle.std.specs.Cmp.Lexicographic.{nat_list_cmp_total}
 use Rattle.std.specs.List.{count_by}
 use Rattle.std.specs.FinMap.{entries, get, same_map}
 use Rattle.std.proofs.lemmas.Map.Lookups.{exact_bytes}
-use Rattle.finite_maps.specs.Texts.{Text}
+use Rattle.spec_lib.specs.Texts.{Text}
 use Rattle.store_model.specs.Catalog.{Resident, Catalog}
 use Rattle.store_model.specs.declared.swept.Swept.{Swept}
-use Rattle.store_model.specs.Sweep.{is_orphan, IsLeft, IsSweep}
-use Rattle.finite_maps.proofs.Maps.{term, sum_zero}
+use Rattle.store_model.specs.Sweep.{is_orphan, IsAfterSweep, IsSweep}
+use Rattle.spec_lib.proofs.Maps.{term, sum_zero}
 
 module _ (C C' : Catalog) (swept : Swept) (sweep : IsSweep C swept C') where
-  -- whether a blob is gone
+  -- whether a blob was removed
   abbrev is_gone : Text → Bool
   is_gone d = is_none (get C'.residents d)
 
   module _ (linked : (d : Text) (b : Resident) → get C.residents d ≡ Some b → (is_orphan C d ≡ false) × (b.condemned ≡ false)) where
     stays : (d : Text) (o : Option Resident) → get C.residents d ≡ o → get C'.residents d ≡ o
     stays d None none = sweep.no_others d none
-    stays d (Some b) found = subst (λ o. IsLeft o b (get C'.residents d)) (linked d b found).0 (sweep.orphans d b found)
+    stays d (Some b) found = subst (λ o. IsAfterSweep o b (get C'.residents d)) (linked d b found).0 (sweep.orphans d b found)
 
     residents_stay : C'.residents ≡ C.residents
     residents_stay = same_map nat_list_cmp_total exact_bytes C'.residents C.residents (λ d. stays d (get C.residents d) refl)
@@ -45,7 +45,7 @@ module _ (C C' : Catalog) (swept : Swept) (sweep : IsSweep C swept C') where
         at d None none = refl
         at d (Some b) found = ap (λ c. cond {A = ℕ} c 1 0) (linked d b found).1
 
-    -- where each blob is linked, a sweep does nothing
+    -- if each blob is linked, a sweep does nothing
     pub idle_sweep : (swept ≡ record { condemned = 0; freed = 0; held = 0; retired = 0 }) × (C' ≡ C)
     idle_sweep =
         let freed : swept.freed ≡ 0 = (let g = none_gone in omega arith) in

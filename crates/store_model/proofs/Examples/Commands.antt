@@ -5,16 +5,16 @@ use Rattle.std.specs.FinMap.{get-empty, get-insert, get-remove, len-empty, len-i
 use Rattle.std.specs.Cmp.Lexicographic.{nat_list_cmp_total}
 use Rattle.blob_digest.specs.declared.refusal.Refusal.TheVariants.{NameUnknown, UploadUnknown, BlobUnknown, ManifestUnknown, RangeInvalid, SizeInvalid, Quota}
 use Rattle.std.specs.Fmt.{digits}
-use Rattle.finite_maps.specs.Sets as set
-use Rattle.store_model.specs.Sessions.{Session, append_in}
+use Rattle.spec_lib.specs.Sets as set
+use Rattle.store_model.specs.Sessions.{Session, after_append_in}
 use Rattle.store_model.specs.declared.mount.Mount.TheVariants as mounting
-use Rattle.finite_maps.specs.Texts.{Text}
-use Rattle.store_model.specs.Catalog.{Tenant, Catalog, Resident, used, count, opening}
-use Rattle.store_model.specs.Commands.{start, append, new_session, mount, with_link, delete}
+use Rattle.spec_lib.specs.Texts.{Text}
+use Rattle.store_model.specs.Catalog.{Tenant, Catalog, Resident, used_bytes, link_count, opening}
+use Rattle.store_model.specs.Commands.{start, append, with_new_session, mount, with_link, delete}
 use Rattle.store_model.specs.BookText.{book_text}
 use Rattle.store_model.specs.Queries.{stat, stat_manifest, usage, free_slots}
 use Rattle.blob_digest.proofs.KeyOrders.{number_cmp_total, link_cmp_total}
-use Rattle.finite_maps.proofs.Rows.{entries-empty}
+use Rattle.spec_lib.proofs.Rows.{entries-empty}
 
 -- two tenants of 1,000 and 5 bytes, as they are printed before anything is done
 abbrev two_tenants : Catalog
@@ -40,19 +40,19 @@ empty_book = opening acme 64 10
 unknown_tenant : start empty_book (codes "nobody/x") ≡ Err NameUnknown
 unknown_tenant = refl
 
-first_session : start empty_book one ≡ Ok (1, new_session empty_book 0 one)
+first_session : start empty_book one ≡ Ok (1, with_new_session empty_book 0 one)
 first_session = simp (get-empty, entries-empty) refl
 
 unknown_session : append empty_book one 1 None (codes "ab") ≡ Err UploadUnknown
 unknown_session = simp get-empty refl
 
 abbrev opened : Catalog
-opened = new_session empty_book 0 one
+opened = with_new_session empty_book 0 one
 
 session_of_another_repository : append opened two 1 None (codes "ab") ≡ Err UploadUnknown
 session_of_another_repository = simp (get-insert {X = Session} number_cmp_total) refl
 
-first_chunk : append opened one 1 None (codes "ab") ≡ Ok (2, record opened { sessions = append_in opened.sessions (0, 1) (codes "ab") })
+first_chunk : append opened one 1 None (codes "ab") ≡ Ok (2, record opened { sessions = after_append_in opened.sessions (0, 1) (codes "ab") })
 first_chunk = simp (get-insert {X = Session} number_cmp_total, get-empty, entries-insert {X = Session} number_cmp_total, entries-empty) refl
 
 chunk_out_of_order : append opened one 1 (Some (record { start = 1; end = 2; ordered = omega arith; small = omega arith })) (codes "ab") ≡ Err (RangeInvalid 0)
@@ -74,15 +74,15 @@ opened_text = simp (entries-insert {X = Session} number_cmp_total, entries-inser
 -- two repositories of one tenant hold one blob of three bytes
 abbrev shared : Catalog
 shared = record empty_book {
-  repos = set.insert (set.insert set.none one) two;
-  links = set.insert (set.insert set.none (one, codes "d")) (two, codes "d");
+  repos = set.insert (set.insert set.empty_set one) two;
+  links = set.insert (set.insert set.empty_set (one, codes "d")) (two, codes "d");
   residents = insert empty (codes "d") (record { bytes = codes "abc"; condemned = false; lent = false });
 }
 
-used_once : used shared 0 ≡ 3
+used_once : used_bytes shared 0 ≡ 3
 used_once = simp (entries-insert {X = Unit {0}} nat_list_cmp_total, entries-insert {X = Resident} nat_list_cmp_total, get-insert {X = Unit {0}} link_cmp_total, get-empty, entries-empty) refl
 
-counted_twice : count shared (codes "d") ≡ 2
+counted_twice : link_count shared (codes "d") ≡ 2
 counted_twice = simp (entries-insert {X = Unit {0}} nat_list_cmp_total, get-insert {X = Unit {0}} link_cmp_total, get-empty, entries-empty) refl
 
 shared_text : book_text shared ≡ codes "book\ntenant acme used 3 quota 3 next 1\nrepository acme/one\nblob d size 3 links 2\nrepository acme/two\nblob d size 3 links 2\nend\n"
@@ -94,8 +94,8 @@ shared_text = simp (entries-insert {X = Unit {0}} nat_list_cmp_total, entries-in
 -- of two tenants, a repository of the first holds a blob of three bytes
 abbrev one_link : Catalog
 one_link = record two_tenants {
-  repos = set.insert set.none one;
-  links = set.insert set.none (one, codes "d");
+  repos = set.insert set.empty_set one;
+  links = set.insert set.empty_set (one, codes "d");
   residents = insert empty (codes "d") (record { bytes = codes "abc"; condemned = false; lent = false });
 }
 
@@ -108,27 +108,27 @@ mounted = simp (get-insert {X = Unit {0}} link_cmp_total, get-insert {X = Unit {
 mounted_without_a_name : mount one_link two (codes "d") None ≡ Ok (mounting.Mounted, two_links)
 mounted_without_a_name = simp (get-insert {X = Unit {0}} link_cmp_total, get-insert {X = Unit {0}} nat_list_cmp_total, entries-insert {X = Unit {0}} nat_list_cmp_total, get-empty, entries-empty) refl
 
-counted_after_the_mount : count two_links (codes "d") ≡ 2
+counted_after_the_mount : link_count two_links (codes "d") ≡ 2
 counted_after_the_mount = simp (entries-insert {X = Unit {0}} nat_list_cmp_total, get-insert {X = Unit {0}} link_cmp_total, get-empty, entries-empty) refl
 
-used_after_the_mount : used two_links 0 ≡ 3
+used_after_the_mount : used_bytes two_links 0 ≡ 3
 used_after_the_mount = simp (entries-insert {X = Unit {0}} nat_list_cmp_total, entries-insert {X = Resident} nat_list_cmp_total, get-insert {X = Unit {0}} link_cmp_total, get-empty, entries-empty) refl
 
-mounted_from_another_tenant : mount one_link (codes "zeta/x") (codes "d") (Some one) ≡ Ok (mounting.Session 1, new_session one_link 1 (codes "zeta/x"))
+mounted_from_another_tenant : mount one_link (codes "zeta/x") (codes "d") (Some one) ≡ Ok (mounting.Session 1, with_new_session one_link 1 (codes "zeta/x"))
 mounted_from_another_tenant = simp (get-insert {X = Unit {0}} nat_list_cmp_total, entries-insert {X = Unit {0}} nat_list_cmp_total, get-empty, entries-empty) refl
 
-mounted_where_it_is_not_held : mount one_link two (codes "e") (Some one) ≡ Ok (mounting.Session 1, new_session one_link 0 two)
+mounted_where_it_is_not_held : mount one_link two (codes "e") (Some one) ≡ Ok (mounting.Session 1, with_new_session one_link 0 two)
 mounted_where_it_is_not_held = simp (get-insert {X = Unit {0}} link_cmp_total, get-insert {X = Unit {0}} nat_list_cmp_total, entries-insert {X = Unit {0}} nat_list_cmp_total, get-empty, entries-empty) refl
 
 -- without a source that is named, any repository of the tenant is one
-mounted_for_another_tenant : mount one_link (codes "zeta/x") (codes "d") None ≡ Ok (mounting.Session 1, new_session one_link 1 (codes "zeta/x"))
+mounted_for_another_tenant : mount one_link (codes "zeta/x") (codes "d") None ≡ Ok (mounting.Session 1, with_new_session one_link 1 (codes "zeta/x"))
 mounted_for_another_tenant = simp (get-insert {X = Unit {0}} nat_list_cmp_total, entries-insert {X = Unit {0}} nat_list_cmp_total, get-empty, entries-empty) refl
 
-mounted_where_nobody_holds_it : mount one_link two (codes "e") None ≡ Ok (mounting.Session 1, new_session one_link 0 two)
+mounted_where_nobody_holds_it : mount one_link two (codes "e") None ≡ Ok (mounting.Session 1, with_new_session one_link 0 two)
 mounted_where_nobody_holds_it = simp (get-insert {X = Unit {0}} link_cmp_total, get-insert {X = Unit {0}} nat_list_cmp_total, entries-insert {X = Unit {0}} nat_list_cmp_total, get-empty, entries-empty) refl
 
--- the one that is named alone counts
-mounted_from_where_it_is_not : mount one_link (codes "acme/four") (codes "d") (Some two) ≡ Ok (mounting.Session 1, new_session one_link 0 (codes "acme/four"))
+-- only the named source counts
+mounted_from_where_it_is_not : mount one_link (codes "acme/four") (codes "d") (Some two) ≡ Ok (mounting.Session 1, with_new_session one_link 0 (codes "acme/four"))
 mounted_from_where_it_is_not = simp (get-insert {X = Unit {0}} link_cmp_total, get-insert {X = Unit {0}} nat_list_cmp_total, entries-insert {X = Unit {0}} nat_list_cmp_total, get-empty, entries-empty) refl
 
 deleted_from_one : delete two_links one (codes "d") ≡ Ok (tt, record two_links { links = set.remove two_links.links (one, codes "d") })
@@ -138,18 +138,18 @@ deleted_where_it_is_not_linked : delete one_link two (codes "d") ≡ Err BlobUnk
 deleted_where_it_is_not_linked = simp (get-insert {X = Unit {0}} link_cmp_total, get-empty, entries-empty) refl
 
 -- the use falls with the last link
-used_after_a_delete : used (record two_links { links = set.remove two_links.links (one, codes "d") }) 0 ≡ 3
+used_after_a_delete : used_bytes (record two_links { links = set.remove two_links.links (one, codes "d") }) 0 ≡ 3
 used_after_a_delete = simp (entries-insert {X = Unit {0}} nat_list_cmp_total, entries-insert {X = Resident} nat_list_cmp_total, get-remove {X = Unit {0}} link_cmp_total, get-insert {X = Unit {0}} link_cmp_total, entries-empty) refl
 
-used_after_both : used (record two_links { links = set.remove (set.remove two_links.links (one, codes "d")) (two, codes "d") }) 0 ≡ 0
+used_after_both : used_bytes (record two_links { links = set.remove (set.remove two_links.links (one, codes "d")) (two, codes "d") }) 0 ≡ 0
 used_after_both = simp (entries-insert {X = Unit {0}} nat_list_cmp_total, entries-insert {X = Resident} nat_list_cmp_total, get-remove {X = Unit {0}} link_cmp_total, get-insert {X = Unit {0}} link_cmp_total, entries-empty) refl
 
--- ---- what is told beside the commands
+-- ---- queries
 
 blob_size : stat two_links two (codes "d") ≡ Ok 3
 blob_size = simp (get-insert {X = Unit {0}} link_cmp_total, get-insert {X = Resident} nat_list_cmp_total) refl
 
--- another repository of the tenant holds it
+-- another repository of the tenant contains it
 blob_of_another_repository : stat one_link two (codes "d") ≡ Err BlobUnknown
 blob_of_another_repository = simp (get-insert {X = Unit {0}} link_cmp_total, get-empty) refl
 

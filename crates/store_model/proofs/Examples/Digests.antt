@@ -4,7 +4,7 @@ use Rattle.std.specs.Prelude.{codes}
 use Rattle.hex.specs.Hex.{encode_with}
 use Rattle.sha2.specs.Sha256.{sha256, first_words, schedule, rounds, compress, hash_after, digest_bytes}
 use Rattle.blob_digest.specs.Digests.{is_digest_of, sha256_text}
-use Rattle.finite_maps.specs.Texts.{Text}
+use Rattle.spec_lib.specs.Texts.{Text}
 
 -- three bytes, and the digest that FIPS 180-4 gives for them
 abbrev pub abc_bytes : Text

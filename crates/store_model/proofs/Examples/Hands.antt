@@ -1,4 +1,4 @@
--- Worked examples of sessions in hand.
+-- Worked examples of checked-out sessions.
 use Rattle.std.proofs.Common.{◌≡◌, [], ◌∷◌, Option, Some, None, Ok, Err, refl, arith}
 use Rattle.std.specs.Prelude.{codes}
 use Rattle.std.specs.Fmt.{digits}
@@ -6,36 +6,36 @@ use Rattle.std.specs.FinMap.{empty, insert, entries-insert, get-empty, get-inser
 use Rattle.std.specs.Cmp.Lexicographic.{nat_list_cmp_total}
 use Rattle.blob_digest.specs.declared.range.ByteRange.{ByteRange}
 use Rattle.blob_digest.specs.declared.refusal.Refusal.TheVariants.{Busy, Quota, UploadUnknown}
-use Rattle.finite_maps.specs.Sets as set
+use Rattle.spec_lib.specs.Sets as set
 use Rattle.blob_digest.proofs.KeyOrders.{number_cmp_total}
-use Rattle.finite_maps.proofs.Rows.{entries-empty}
-use Rattle.finite_maps.specs.Texts.{Text}
-use Rattle.store_model.specs.Catalog.{Catalog, Home, Session, Taken, opening, used}
-use Rattle.store_model.specs.Commands.{abandon, append, append_in, close, after_cancel, put_back, status, take, take_in}
+use Rattle.spec_lib.proofs.Rows.{entries-empty}
+use Rattle.spec_lib.specs.Texts.{Text}
+use Rattle.store_model.specs.Catalog.{Catalog, CheckedIn, Session, HandRecord, opening, used_bytes}
+use Rattle.store_model.specs.Commands.{abandon, append, after_append_in, close, after_cancel, put_back, status, take, after_take_in}
 use Rattle.store_model.specs.BookText.{book_text}
 
 abbrev one : Text
 one = codes "acme/one"
 
--- of a tenant of 5 bytes, session 1 holds two, and session 2 none
+-- a tenant with a quota of 5 bytes: session 1 has two bytes, and session 2 none
 abbrev book : Catalog
 book = record (opening (record { name = codes "acme"; quota = 5 } ∷ []) 64 10) {
-  repos = set.insert set.none one;
-  sessions = insert (insert empty (0, 1) (record { repo = one; chunks = Home (codes "ab" ∷ []) })) (0, 2) (record { repo = one; chunks = Home [] });
+  repos = set.insert set.empty_set one;
+  sessions = insert (insert empty (0, 1) (record { repo = one; chunks = CheckedIn (codes "ab" ∷ []) })) (0, 2) (record { repo = one; chunks = CheckedIn [] });
   next = 3 ∷ [];
 }
 
-abbrev hand : Taken
+abbrev hand : HandRecord
 hand = record { key = (0, 1); chunks = codes "ab" ∷ []; reserved = 2; last = None }
 
--- session 1 is in hand, with two bytes reserved
+-- session 1 is checked out, with two bytes reserved
 abbrev held : Catalog
-held = record book { sessions = take_in book.sessions (0, 1) 2 }
+held = record book { sessions = after_take_in book.sessions (0, 1) 2 }
 
 taken : take book one 1 None 2 ≡ Ok (hand, held)
 taken = simp (get-insert {X = Session} number_cmp_total, get-empty, entries-insert {X = Session} number_cmp_total, entries-empty) refl
 
-used_with_the_reserve : used held 0 ≡ 4
+used_with_the_reserve : used_bytes held 0 ≡ 4
 used_with_the_reserve = simp (get-insert {X = Session} number_cmp_total, get-empty, entries-insert {X = Session} number_cmp_total, entries-empty) refl
 
 status_without_the_reserve : status held one 1 ≡ Ok 2
@@ -62,43 +62,43 @@ others_past_the_quota = simp (get-insert {X = Session} number_cmp_total, get-emp
 
 -- session 2 has a byte now
 abbrev others : Catalog
-others = record held { sessions = append_in held.sessions (0, 2) (codes "x") }
+others = record held { sessions = after_append_in held.sessions (0, 2) (codes "x") }
 
 others_within_the_quota : append held one 2 None (codes "x") ≡ Ok (1, others)
 others_within_the_quota = simp (get-insert {X = Session} number_cmp_total, get-empty, entries-insert {X = Session} number_cmp_total, entries-empty) refl
 
-abbrev filled : Taken
+abbrev filled : HandRecord
 filled = record hand { last = Some (codes "cd") }
 
 -- and session 1 has two chunks
 abbrev both : Catalog
-both = record others { sessions = insert others.sessions (0, 1) (record { repo = one; chunks = Home (codes "ab" ∷ codes "cd" ∷ []) }) }
+both = record others { sessions = insert others.sessions (0, 1) (record { repo = one; chunks = CheckedIn (codes "ab" ∷ codes "cd" ∷ []) }) }
 
 put_back_filled : put_back others filled ≡ Ok (4, both)
 put_back_filled = simp (get-insert {X = Session} number_cmp_total, get-empty) refl
 
-used_after_both : used both 0 ≡ 5
+used_after_both : used_bytes both 0 ≡ 5
 used_after_both = simp (get-insert {X = Session} number_cmp_total, get-empty, entries-insert {X = Session} number_cmp_total, entries-empty) refl
 
 no_room_to_take : take both one 1 None 1 ≡ Err (Quota 5 5)
 no_room_to_take = simp (get-insert {X = Session} number_cmp_total, get-empty, entries-insert {X = Session} number_cmp_total, entries-empty) refl
 
--- a hand that was put back is of no use again
+-- a hand that was checked in can't be used again
 put_back_twice : put_back both filled ≡ Err UploadUnknown
 put_back_twice = simp (get-insert {X = Session} number_cmp_total, get-empty) refl
 
--- a hand with other lengths is none of this session's
+-- a hand with other lengths does not match this session
 put_back_of_another : put_back held (record hand { reserved = 3 }) ≡ Err UploadUnknown
 put_back_of_another = simp (get-insert {X = Session} number_cmp_total, get-empty) refl
 
--- put back without being filled, it leaves no reserve
+-- checked in without a chunk, it leaves no reserve
 abbrev back : Catalog
-back = record held { sessions = insert held.sessions (0, 1) (record { repo = one; chunks = Home (codes "ab" ∷ []) }) }
+back = record held { sessions = insert held.sessions (0, 1) (record { repo = one; chunks = CheckedIn (codes "ab" ∷ []) }) }
 
 put_back_empty : put_back held hand ≡ Ok (2, back)
 put_back_empty = simp (get-insert {X = Session} number_cmp_total, get-empty) refl
 
-used_after_an_empty_hand : used back 0 ≡ 2
+used_after_an_empty_hand : used_bytes back 0 ≡ 2
 used_after_an_empty_hand = simp (get-insert {X = Session} number_cmp_total, get-empty, entries-insert {X = Session} number_cmp_total, entries-empty) refl
 
 after_cancel_is_put_back : after_cancel held filled ≡ back

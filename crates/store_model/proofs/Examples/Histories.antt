@@ -4,13 +4,13 @@ use Rattle.std.specs.Prelude.{codes}
 use Rattle.std.specs.FinMap.{get, insert, get-empty, get-insert, entries-insert, len-entries}
 use Rattle.std.specs.Cmp.Lexicographic.{nat_list_cmp_total}
 use Rattle.blob_digest.proofs.KeyOrders.{number_cmp_total, link_cmp_total}
-use Rattle.finite_maps.proofs.Rows.{entries-empty}
-use Rattle.finite_maps.specs.Texts.{Text}
-use Rattle.store_model.specs.Catalog.{Catalog, Chunks, Home, InHand, Resident, Session, Taken, opening}
-use Rattle.store_model.specs.Commands.{finish, new_session, put_back, start, stored, take, was_lent}
-use Rattle.store_model.specs.Histories.{Step, Performed, Cleaned, Took, PutBack, Finished, State, AreSteps, LeadsTo}
+use Rattle.spec_lib.proofs.Rows.{entries-empty}
+use Rattle.spec_lib.specs.Texts.{Text}
+use Rattle.store_model.specs.Catalog.{Catalog, Chunks, CheckedIn, CheckedOutWith, Resident, Session, HandRecord, opening}
+use Rattle.store_model.specs.Commands.{finish, with_new_session, put_back, start, with_stored_blob, take, was_leased}
+use Rattle.store_model.specs.Histories.{Step, CommandCall, SweepCall, TakeCall, PutBackCall, FinishCall, State, AreSteps, LeadsTo}
 use Rattle.store_model.specs.Runs.{Start, Number}
-use Rattle.store_model.specs.Sweep.{is_orphan, IsLeft, IsSweep}
+use Rattle.store_model.specs.Sweep.{is_orphan, IsAfterSweep, IsSweep}
 use Rattle.store_model.specs.declared.swept.Swept.{Swept}
 use Rattle.store_model.proofs.Examples.Digests.{abc, abc_bytes, abc_named}
 use Rattle.store_model.proofs.Examples.Sweeps.{is_only}
@@ -22,28 +22,28 @@ abbrev empty_store : Catalog
 empty_store = opening (record { name = codes "acme"; quota = 9 } ∷ []) 1 10
 
 abbrev opened : Catalog
-opened = new_session empty_store 0 repo
+opened = with_new_session empty_store 0 repo
 
 -- the one session has these chunks now
 abbrev with : Catalog → Chunks → Catalog
 with C chunks = record C { sessions = insert C.sessions (0, 1) (record { repo = repo; chunks = chunks }) }
 
 abbrev taken : Catalog
-taken = with opened (InHand 0 3)
+taken = with opened (CheckedOutWith 0 3)
 
 abbrev appended : Catalog
-appended = with taken (Home (abc_bytes ∷ []))
+appended = with taken (CheckedIn (abc_bytes ∷ []))
 
 abbrev taken_again : Catalog
-taken_again = with appended (InHand 3 0)
+taken_again = with appended (CheckedOutWith 3 0)
 
 abbrev closed : Catalog
-closed = stored taken_again 0 repo 1 abc abc_bytes
+closed = with_stored_blob taken_again 0 repo 1 abc abc_bytes
 
-abbrev first_hand : Taken
+abbrev first_hand : HandRecord
 first_hand = record { key = (0, 1); chunks = []; reserved = 3; last = None }
 
-abbrev second_hand : Taken
+abbrev second_hand : HandRecord
 second_hand = record { key = (0, 1); chunks = abc_bytes ∷ []; reserved = 0; last = None }
 
 started : start empty_store repo ≡ Ok (1, opened)
@@ -63,7 +63,7 @@ finished = simp (len-entries, get-insert {X = Session} number_cmp_total, get-emp
 
 -- the blob is linked, and stays
 abbrev blob : Resident
-blob = record { bytes = abc_bytes; condemned = false; lent = was_lent (get taken_again.residents abc) }
+blob = record { bytes = abc_bytes; condemned = false; lent = was_leased (get taken_again.residents abc) }
 
 is_linked : is_orphan closed abc ≡ false
 is_linked = simp (entries-insert {X = Unit {0}} nat_list_cmp_total, get-insert {X = Unit {0}} link_cmp_total, get-empty, entries-empty) refl
@@ -73,7 +73,7 @@ none_swept = record { condemned = 0; freed = 0; held = 0; retired = 0 }
 
 swept : IsSweep closed none_swept closed
 swept = record {
-  orphans = λ d b found. subst (λ o. IsLeft o b (get closed.residents d)) (sym (ap (is_orphan closed) (is_only blob d b found).0 ∙ is_linked)) found;
+  orphans = λ d b found. subst (λ o. IsAfterSweep o b (get closed.residents d)) (sym (ap (is_orphan closed) (is_only blob d b found).0 ∙ is_linked)) found;
   no_others = λ d none. none;
   rest = refl;
   condemned = simp (entries-insert {X = Resident} nat_list_cmp_total, entries-insert {X = Unit {0}} nat_list_cmp_total, get-insert {X = Unit {0}} link_cmp_total, get-empty, entries-empty) refl;
@@ -83,8 +83,8 @@ swept = record {
 
 -- the steps of the history
 abbrev steps : List Step
-steps = Performed (Start repo) (Ok (Number 1)) ∷ Took repo 1 None 3 (Ok first_hand) ∷ PutBack (record first_hand { last = Some abc_bytes }) (Ok 3) ∷ Took repo 1 None 0 (Ok second_hand)
-    ∷ Finished (record second_hand { last = Some [] }) abc (Ok 3) ∷ Cleaned none_swept ∷ []
+steps = CommandCall (Start repo) (Ok (Number 1)) ∷ TakeCall repo 1 None 3 (Ok first_hand) ∷ PutBackCall (record first_hand { last = Some abc_bytes }) (Ok 3) ∷ TakeCall repo 1 None 0 (Ok second_hand)
+    ∷ FinishCall (record second_hand { last = Some [] }) abc (Ok 3) ∷ SweepCall none_swept ∷ []
 
 abbrev state : Catalog → ℕ → ℕ → ℕ → State
 state C commands received closed = record { catalog = C; totals = record { commands = commands; received = received; closed = closed; abandoned = 0 } }
@@ -93,11 +93,11 @@ state C commands received closed = record { catalog = C; totals = record { comma
 legal : LeadsTo empty_store steps (state closed 3 3 3)
 legal = (state opened 1 0 0, record { leaves = rw started refl; counts = refl }, by_chunk)
   where
-    by_sweep : AreSteps (state closed 3 3 3) (Cleaned none_swept ∷ []) (state closed 3 3 3)
+    by_sweep : AreSteps (state closed 3 3 3) (SweepCall none_swept ∷ []) (state closed 3 3 3)
     by_sweep = (state closed 3 3 3, record { leaves = swept; counts = refl }, refl)
 
-    by_close : AreSteps (state appended 2 3 0) (Took repo 1 None 0 (Ok second_hand) ∷ Finished (record second_hand { last = Some [] }) abc (Ok 3) ∷ Cleaned none_swept ∷ []) (state closed 3 3 3)
+    by_close : AreSteps (state appended 2 3 0) (TakeCall repo 1 None 0 (Ok second_hand) ∷ FinishCall (record second_hand { last = Some [] }) abc (Ok 3) ∷ SweepCall none_swept ∷ []) (state closed 3 3 3)
     by_close = (state taken_again 2 3 0, record { leaves = took_to_close; counts = refl }, (state closed 3 3 3, record { leaves = finished; counts = refl }, by_sweep))
 
-    by_chunk : AreSteps (state opened 1 0 0) (Took repo 1 None 3 (Ok first_hand) ∷ PutBack (record first_hand { last = Some abc_bytes }) (Ok 3) ∷ Took repo 1 None 0 (Ok second_hand) ∷ Finished (record second_hand { last = Some [] }) abc (Ok 3) ∷ Cleaned none_swept ∷ []) (state closed 3 3 3)
+    by_chunk : AreSteps (state opened 1 0 0) (TakeCall repo 1 None 3 (Ok first_hand) ∷ PutBackCall (record first_hand { last = Some abc_bytes }) (Ok 3) ∷ TakeCall repo 1 None 0 (Ok second_hand) ∷ FinishCall (record second_hand { last = Some [] }) abc (Ok 3) ∷ SweepCall none_swept ∷ []) (state closed 3 3 3)
     by_chunk = (state taken 1 0 0, record { leaves = took_for_a_chunk; counts = refl }, (state appended 2 3 0, record { leaves = put_back_filled; counts = refl }, by_close))

@@ -1,4 +1,4 @@
--- A tenant with a second one beside it, and alone: its replies and its part are the same.
+-- A tenant has the same replies and the same view with a second tenant present and in its isolated run.
 use Rattle.std.proofs.Common.{◌≡◌, Bool, true, false, cond, List, [], ◌∷◌, ◌++◌, Option, None, Ok, refl, sym, ap, ◌∙◌, subst, inl, inr, arith}
 use Prim.Native.Nat.{zero, suc}
 use Rattle.std.specs.Prelude.{codes, if◌then◌else◌}
@@ -6,21 +6,21 @@ use Rattle.std.specs.List.{AllByRecursion, Contains}
 use Rattle.std.specs.FinMap.{get, remove, empty, get-empty, get-insert, get-remove, entries-insert, len-entries}
 use Rattle.std.specs.Cmp.Lexicographic.{nat_list_cmp_total}
 use Rattle.std.proofs.lemmas.Map.Lookups.{exact_bytes}
-use Rattle.finite_maps.specs.Texts.{same_text, Text, text_cmp}
-use Rattle.finite_maps.specs.Sets as set
+use Rattle.spec_lib.specs.Texts.{same_text, Text, text_cmp}
+use Rattle.spec_lib.specs.Sets as set
 use Rattle.blob_digest.proofs.KeyOrders.{number_cmp_total, exact_number, link_cmp_total}
-use Rattle.finite_maps.proofs.Sums.{entries-remove, get-remove_same}
-use Rattle.finite_maps.proofs.Rows.{entries-empty}
+use Rattle.spec_lib.proofs.Sums.{entries-remove, get-remove_same}
+use Rattle.spec_lib.proofs.Rows.{entries-empty}
 use Rattle.store_model.specs.declared.mount.Mount.TheVariants as mounting
 use Rattle.store_model.specs.Catalog.{Tenant, Session, Resident, Catalog, opening}
-use Rattle.store_model.specs.Commands.{new_session, stored, with_link}
-use Rattle.store_model.specs.Runs.{Command, Event, Called, Swept, Start, Close, Mount, Delete, Number, Mounting, Done, outcome, IsRun}
+use Rattle.store_model.specs.Commands.{with_new_session, with_stored_blob, with_link}
+use Rattle.store_model.specs.Runs.{Command, Event, CommandEvent, SweepEvent, Start, Close, Mount, Delete, Number, Mounting, Done, outcome, IsRun}
 use Rattle.store_model.specs.declared.swept.Swept.{Swept as SweptCounts}
-use Rattle.store_model.specs.Sweep.{is_orphan, IsLeft, IsSweep}
-use Rattle.store_model.specs.Noninterference.{events_of, commands, replies_alone, left_alone, outcome_alone, part, named, whole_of, brought_in, NoCollision, IsFair, IsUncrowded, IsAlone}
+use Rattle.store_model.specs.Sweep.{is_orphan, IsAfterSweep, IsSweep}
+use Rattle.store_model.specs.Noninterference.{events_of, commands_of, isolated_replies, isolated_catalog, isolated_outcome, tenant_view, uploaded_pair, close_content, uploads_of_run, NoCollision, IsCollisionFreeRun, IsUnaffectedByOthers, IsIsolated}
 use Rattle.store_model.proofs.Noninterference.Runs.{isolated}
-use Rattle.finite_maps.proofs.Maps.{get-insert_other, cases_key}
-use Rattle.finite_maps.proofs.Options.{nothing}
+use Rattle.spec_lib.proofs.Maps.{get-insert_other, cases_key}
+use Rattle.spec_lib.proofs.Options.{nothing}
 use Rattle.store_model.proofs.Examples.Digests.{abc, abc_bytes, abc_named, obj, obj_bytes, obj_named}
 
 abbrev tenants : List Tenant
@@ -38,34 +38,34 @@ x = codes "other/x"
 abbrev empty_book : Catalog
 empty_book = opening tenants 64 10
 
--- ---- the first tenant alone
+-- ---- the first tenant's isolated run
 
 -- the mount finds nothing of the tenant's, the session that it opens is closed, and the second mount finds the blob
 abbrev own : List Command
 own = Mount one abc None ∷ Close one 1 abc None abc_bytes ∷ Mount two abc None ∷ []
 
 abbrev alone_open : Catalog
-alone_open = new_session empty_book 0 one
+alone_open = with_new_session empty_book 0 one
 
 abbrev alone_stored : Catalog
-alone_stored = stored alone_open 0 one 1 abc abc_bytes
+alone_stored = with_stored_blob alone_open 0 one 1 abc abc_bytes
 
 abbrev alone_mounted : Catalog
 alone_mounted = with_link alone_stored two abc
 
-opens_alone : outcome_alone empty_book (Mount one abc None) ≡ Ok (Mounting (mounting.Session 1), alone_open)
+opens_alone : isolated_outcome empty_book (Mount one abc None) ≡ Ok (Mounting (mounting.Session 1), alone_open)
 opens_alone = simp (get-empty, entries-empty) refl
 
-stores_alone : outcome_alone alone_open (Close one 1 abc None abc_bytes) ≡ Ok (Number 3, alone_stored)
+stores_alone : isolated_outcome alone_open (Close one 1 abc None abc_bytes) ≡ Ok (Number 3, alone_stored)
 stores_alone = simp (get-insert {X = Session} number_cmp_total, entries-insert {X = Session} number_cmp_total, get-empty, entries-empty) (rw abc_named refl)
 
-mounts_alone : outcome_alone alone_stored (Mount two abc None) ≡ Ok (Mounting mounting.Mounted, alone_mounted)
+mounts_alone : isolated_outcome alone_stored (Mount two abc None) ≡ Ok (Mounting mounting.Mounted, alone_mounted)
 mounts_alone = simp (entries-insert {X = Unit {0}} nat_list_cmp_total, get-insert {X = Unit {0}} nat_list_cmp_total, get-insert {X = Unit {0}} link_cmp_total, get-empty, entries-empty) refl
 
-own_replies_alone : replies_alone empty_book own ≡ Ok (Mounting (mounting.Session 1)) ∷ Ok (Number 3) ∷ Ok (Mounting mounting.Mounted) ∷ []
+own_replies_alone : isolated_replies empty_book own ≡ Ok (Mounting (mounting.Session 1)) ∷ Ok (Number 3) ∷ Ok (Mounting mounting.Mounted) ∷ []
 own_replies_alone = rw (opens_alone, stores_alone, mounts_alone) refl
 
-own_left_alone : left_alone empty_book own ≡ alone_mounted
+own_left_alone : isolated_catalog empty_book own ≡ alone_mounted
 own_left_alone = rw (opens_alone, stores_alone, mounts_alone) refl
 
 -- ---- with a second one, which stores the same blob first, and another one, and deletes both again; a sweep then takes the other one away
@@ -74,30 +74,30 @@ abbrev swept : SweptCounts
 swept = record { condemned = 1; freed = 1; held = 0; retired = 0 }
 
 abbrev called : List Event
-called = Called (Start x) (Ok (Number 1)) ∷ Called (Close x 1 abc None abc_bytes) (Ok (Number 3)) ∷ Called (Start x) (Ok (Number 2)) ∷ Called (Close x 2 obj None obj_bytes) (Ok (Number 2))
-    ∷ Called (Mount one abc None) (Ok (Mounting (mounting.Session 1))) ∷ Called (Close one 1 abc None abc_bytes) (Ok (Number 3))
-    ∷ Called (Delete x abc) (Ok Done) ∷ Called (Delete x obj) (Ok Done) ∷ Swept swept ∷ Called (Mount two abc None) (Ok (Mounting mounting.Mounted)) ∷ []
+called = CommandEvent (Start x) (Ok (Number 1)) ∷ CommandEvent (Close x 1 abc None abc_bytes) (Ok (Number 3)) ∷ CommandEvent (Start x) (Ok (Number 2)) ∷ CommandEvent (Close x 2 obj None obj_bytes) (Ok (Number 2))
+    ∷ CommandEvent (Mount one abc None) (Ok (Mounting (mounting.Session 1))) ∷ CommandEvent (Close one 1 abc None abc_bytes) (Ok (Number 3))
+    ∷ CommandEvent (Delete x abc) (Ok Done) ∷ CommandEvent (Delete x obj) (Ok Done) ∷ SweepEvent swept ∷ CommandEvent (Mount two abc None) (Ok (Mounting mounting.Mounted)) ∷ []
 
-own_commands : commands (events_of tenants 0 called) ≡ own
+own_commands : commands_of (events_of tenants 0 called) ≡ own
 own_commands = refl
 
 abbrev other_open : Catalog
-other_open = new_session empty_book 1 x
+other_open = with_new_session empty_book 1 x
 
 abbrev other_stored : Catalog
-other_stored = stored other_open 1 x 1 abc abc_bytes
+other_stored = with_stored_blob other_open 1 x 1 abc abc_bytes
 
 abbrev other_again : Catalog
-other_again = new_session other_stored 1 x
+other_again = with_new_session other_stored 1 x
 
 abbrev other_both : Catalog
-other_both = stored other_again 1 x 2 obj obj_bytes
+other_both = with_stored_blob other_again 1 x 2 obj obj_bytes
 
 abbrev both_open : Catalog
-both_open = new_session other_both 0 one
+both_open = with_new_session other_both 0 one
 
 abbrev both_stored : Catalog
-both_stored = stored both_open 0 one 1 abc abc_bytes
+both_stored = with_stored_blob both_open 0 one 1 abc abc_bytes
 
 abbrev one_deleted : Catalog
 one_deleted = record both_stored { links = set.remove both_stored.links (x, abc) }
@@ -141,7 +141,7 @@ first_mounts = simp (entries-insert {X = Unit {0}} nat_list_cmp_total, get-inser
 
 -- ---- the sweep
 
--- the first one holds the one blob, and nobody the other
+-- the first tenant has one blob, and no tenant has the other
 is_linked : is_orphan both_deleted abc ≡ false
 is_linked = simp (entries-insert {X = Unit {0}} nat_list_cmp_total, get-remove {X = Unit {0}} link_cmp_total, get-insert {X = Unit {0}} link_cmp_total, entries-empty) refl
 
@@ -160,11 +160,11 @@ same_abc = get-remove nat_list_cmp_total both_deleted.residents obj abc
 other_swept : IsSweep both_deleted swept cleaned
 other_swept = record {
   orphans = λ d b found. elim (cases_key nat_list_cmp_total exact_bytes d abc) [
-    | inl e ↦ subst (λ q. IsLeft (is_orphan both_deleted q) b (get cleaned.residents q)) (sym e) (subst (λ o. IsLeft o b (get cleaned.residents abc)) (sym is_linked) (same_abc ∙ ap (get both_deleted.residents) (sym e) ∙ found))
+    | inl e ↦ subst (λ q. IsAfterSweep (is_orphan both_deleted q) b (get cleaned.residents q)) (sym e) (subst (λ o. IsAfterSweep o b (get cleaned.residents abc)) (sym is_linked) (same_abc ∙ ap (get both_deleted.residents) (sym e) ∙ found))
     | inr other ↦ elim (cases_key nat_list_cmp_total exact_bytes d obj) [
       | inl e ↦
-          subst (λ q. IsLeft (is_orphan both_deleted q) b (get cleaned.residents q)) (sym e)
-          (subst (λ o. IsLeft o b (get cleaned.residents obj)) (sym is_unlinked) (subst (λ now. IsLeft true b now) (sym (get-remove_same nat_list_cmp_total exact_bytes both_deleted.residents obj)) tt))
+          subst (λ q. IsAfterSweep (is_orphan both_deleted q) b (get cleaned.residents q)) (sym e)
+          (subst (λ o. IsAfterSweep o b (get cleaned.residents obj)) (sym is_unlinked) (subst (λ now. IsAfterSweep true b now) (sym (get-remove_same nat_list_cmp_total exact_bytes both_deleted.residents obj)) tt))
       | inr another ↦ nothing (no_third_blob d other another) found
     ]
   ];
@@ -211,22 +211,22 @@ both_run = (
   ),
 )
 
-brought_first : named abc (whole_of other_open x 1 abc_bytes) ≡ (abc, abc_bytes) ∷ []
+brought_first : uploaded_pair abc (close_content other_open x 1 abc_bytes) ≡ (abc, abc_bytes) ∷ []
 brought_first = simp (get-insert {X = Session} number_cmp_total) (rw abc_named refl)
 
-brought_second : named obj (whole_of other_again x 2 obj_bytes) ≡ (obj, obj_bytes) ∷ []
+brought_second : uploaded_pair obj (close_content other_again x 2 obj_bytes) ≡ (obj, obj_bytes) ∷ []
 brought_second = simp (get-insert {X = Session} number_cmp_total) (rw obj_named refl)
 
-brought_third : named abc (whole_of both_open one 1 abc_bytes) ≡ (abc, abc_bytes) ∷ []
+brought_third : uploaded_pair abc (close_content both_open one 1 abc_bytes) ≡ (abc, abc_bytes) ∷ []
 brought_third = simp (get-insert {X = Session} number_cmp_total) (rw abc_named refl)
 
 abbrev all_brought : List (Text × Text)
 all_brought = (abc, abc_bytes) ∷ (obj, obj_bytes) ∷ (abc, abc_bytes) ∷ []
 
-is_brought : brought_in called empty_book both_mounted both_run ≡ all_brought
+is_brought : uploads_of_run called empty_book both_mounted both_run ≡ all_brought
 is_brought = λ i. brought_first i ++ (brought_second i ++ (brought_third i ++ []))
 
--- the whole that is brought with a digest
+-- the content that is uploaded with a digest
 abbrev whole_with : Text → Text
 whole_with d = if same_text d abc then abc_bytes else obj_bytes
 
@@ -236,17 +236,17 @@ brought_with d whole (suc zero, lt, is) = ap (λ (p : Text × Text). whole_with 
 brought_with d whole (suc (suc zero), lt, is) = ap (λ (p : Text × Text). whole_with p.0) (sym is) ∙ ap (λ (p : Text × Text). p.1) is
 brought_with d whole (suc (suc (suc n)), lt, is) = absurd (omega arith)
 
--- ---- the premises of the law, and what it says
+-- ---- the premises of the theorem, and its conclusion
 
-fair : IsFair tenants 64 10 called both_mounted
+fair : IsCollisionFreeRun tenants 64 10 called both_mounted
 fair = record { run = both_run; no_collision = subst NoCollision (sym is_brought) (λ d a b first second. sym (brought_with d a first) ∙ brought_with d b second) }
 
-uncrowded : AllByRecursion IsUncrowded (events_of tenants 0 called)
+uncrowded : AllByRecursion IsUnaffectedByOthers (events_of tenants 0 called)
 uncrowded = (tt, (tt, (tt, tt)))
 
--- what the first tenant is told and has is what it would be alone
-first_alone : IsAlone tenants 64 10 0 called both_mounted
+-- the first tenant's replies and view are those of its isolated run
+first_alone : IsIsolated tenants 64 10 0 called both_mounted
 first_alone = isolated tenants 64 10 0 called both_mounted fair uncrowded
 
-same_part : part both_mounted 0 ≡ part alone_mounted 0
-same_part = first_alone.part ∙ ap (λ C. part C 0) own_left_alone
+same_part : tenant_view both_mounted 0 ≡ tenant_view alone_mounted 0
+same_part = first_alone.tenant_view ∙ ap (λ C. tenant_view C 0) own_left_alone

@@ -1,27 +1,27 @@
--- The limits on numbers: the last that is accepted, and the first that is refused.
+-- The limits on numbers: the last accepted value, and the first rejected one.
 use Rattle.std.proofs.Common.{◌≡◌, ℕ, ◌^◌, true, false, length, List, [], ◌∷◌, Option, Some, Ok, Err, refl}
 use Rattle.std.specs.Prelude.{codes, nat_lt}
 use Rattle.std.specs.FinMap.{get-insert}
 use Rattle.std.specs.Cmp.Lexicographic.{nat_list_cmp_total}
 use Rattle.blob_digest.specs.declared.refusal.Refusal.TheVariants.{LimitReached}
 use Rattle.blob_digest.specs.Digests.{sha256_text}
-use Rattle.finite_maps.specs.Sets as set
+use Rattle.spec_lib.specs.Sets as set
 use Rattle.oci_manifest.specs.Manifests.{refs_of, max_manifest}
 use Rattle.store_model.specs.declared.mount.Mount.TheVariants as mounting
-use Rattle.finite_maps.proofs.Rows.{entries-empty}
-use Rattle.finite_maps.specs.Texts.{Text}
-use Rattle.store_model.specs.Catalog.{Tenant, Catalog, opening, tenant_of, open_sessions, next_of, repos_of, manifests_of}
-use Rattle.store_model.specs.Commands.{start, new_session, mount, has_source, with_link, put_manifest, with_manifest, has_manifest}
+use Rattle.spec_lib.proofs.Rows.{entries-empty}
+use Rattle.spec_lib.specs.Texts.{Text}
+use Rattle.store_model.specs.Catalog.{Tenant, Catalog, opening, tenant_of, open_sessions, next_number_of, repos_of, manifests_of}
+use Rattle.store_model.specs.Commands.{start, with_new_session, mount, has_source, with_link, put_manifest, with_manifest, has_manifest}
 
 module _ (C : Catalog) (t : ℕ) (repo : Text) (known : tenant_of C.tenants repo ≡ Some t) where
   module _ (there : set.contains C.repos repo ≡ true) where
-    last_session : open_sessions C t ≡ 63 → next_of C t ≡ 4294967295 → start C repo ≡ Ok (4294967295, new_session C t repo)
+    last_session : open_sessions C t ≡ 63 → next_number_of C t ≡ 4294967295 → start C repo ≡ Ok (4294967295, with_new_session C t repo)
     last_session few next = rw (known, there, few, next) refl
 
     session_too_many : open_sessions C t ≡ 64 → start C repo ≡ Err LimitReached
     session_too_many full = rw (known, there, full) refl
 
-    no_number_left : open_sessions C t ≡ 0 → next_of C t ≡ 2 ^ 32 → start C repo ≡ Err LimitReached
+    no_number_left : open_sessions C t ≡ 0 → next_number_of C t ≡ 2 ^ 32 → start C repo ≡ Err LimitReached
     no_number_left few next = rw (known, there, few, next) refl
 
   module _ (new : set.contains C.repos repo ≡ false) where
@@ -53,7 +53,7 @@ abbrev one : Text
 one = codes "acme/one"
 
 abbrev all_given : Catalog
-all_given = record (opening acme 64 10) { repos = set.insert set.none one; next = 2 ^ 32 ∷ [] }
+all_given = record (opening acme 64 10) { repos = set.insert set.empty_set one; next = 2 ^ 32 ∷ [] }
 
 is_there : set.contains all_given.repos one ≡ true
 is_there = simp (get-insert {X = Unit {0}} nat_list_cmp_total) refl

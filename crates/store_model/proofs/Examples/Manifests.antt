@@ -1,5 +1,4 @@
--- Manifests of two small blobs. Of bytes it is given what they refer to, and whether they are too long. At the end stand bytes of which
--- each of these premises holds.
+-- Manifests of two small blobs, with premises on the bytes' references and length. The last section has bytes that meet each premise.
 use Rattle.std.proofs.Common.{◌≡◌, ℕ, true, false, List, [], ◌∷◌, ◌++◌, length, Option, Some, None, Ok, Err, refl, sym, ap, ◌∙◌}
 use Rattle.std.specs.Prelude.{codes, nat_lt, ◌+◌, replicate, option_and_then, option_map, if◌then◌else◌}
 use Rattle.std.specs.List.{flat_map, list_all}
@@ -10,22 +9,22 @@ use Rattle.std.specs.FinMap.{get, insert, remove, empty, entries, get-empty, get
 use Rattle.std.specs.Cmp.Lexicographic.{nat_list_cmp_total}
 use Rattle.blob_digest.specs.declared.refusal.Refusal.TheVariants.{SizeInvalid, ManifestInvalid, ManifestUnknown, ManifestBlobUnknown, Referenced}
 use Rattle.blob_digest.specs.Digests.{sha256_text}
-use Rattle.finite_maps.specs.Sets as set
+use Rattle.spec_lib.specs.Sets as set
 use Rattle.blob_digest.proofs.KeyOrders.{link_cmp_total, exact_link}
-use Rattle.finite_maps.proofs.Rows.{entries-empty}
-use Rattle.finite_maps.proofs.Sums.{get-remove_same}
-use Rattle.oci_manifest.specs.Manifests.{named, once, refs_of, max_manifest}
+use Rattle.spec_lib.proofs.Rows.{entries-empty}
+use Rattle.spec_lib.proofs.Sums.{get-remove_same}
+use Rattle.oci_manifest.specs.Manifests.{named, distinct_texts, refs_of, max_manifest}
 use Rattle.serde_json.specs.Read.{number_of, read as json_value}
 use Rattle.json.specs.Lex.{lex, punctuate}
 use Rattle.json.specs.Json.{items, members, value}
 use Rattle.json.specs.Text.{content}
 use Rattle.json.specs.Word.{after_number, word}
 use Rattle.fast_float.specs.Text.{scan}
-use Rattle.finite_maps.specs.Texts.{Text}
+use Rattle.spec_lib.specs.Texts.{Text}
 use Rattle.store_model.specs.Catalog.{Catalog, opening}
 use Rattle.store_model.specs.Commands.{put_manifest, get_manifest, delete_manifest, with_manifest, delete}
 use Rattle.store_model.specs.BookText.{manifest_text, manifest_line}
-use Rattle.finite_maps.proofs.Maps.{get-insert_at, remove-insert_new}
+use Rattle.spec_lib.proofs.Maps.{get-insert_at, remove-insert_new}
 use Rattle.store_model.proofs.Examples.Digests.{abc, abc_bytes, obj, obj_bytes}
 
 abbrev one : Text
@@ -40,8 +39,8 @@ empty_book = opening (record { name = codes "acme"; quota = 1000 } ∷ []) 64 10
 
 abbrev one_linked : Catalog
 one_linked = record empty_book {
-  repos = set.insert set.none one;
-  links = set.insert set.none (one, obj);
+  repos = set.insert set.empty_set one;
+  links = set.insert set.empty_set (one, obj);
   residents = insert empty obj (record { bytes = obj_bytes; condemned = false; lent = false });
 }
 
@@ -115,10 +114,10 @@ too_long m long = rw long refl
 -- ---- there are such bytes
 
 -- what ASCII bytes refer to, by the value that they read as
-refs_read : (bytes : Text) (refs : Option (List Text)) → list_all (λ b. nat_lt b 128) bytes ≡ true → option_map once (option_and_then named (json_value bytes)) ≡ refs → refs_of bytes ≡ refs
+refs_read : (bytes : Text) (refs : Option (List Text)) → list_all (λ b. nat_lt b 128) bytes ≡ true → option_map distinct_texts (option_and_then named (json_value bytes)) ≡ refs → refs_of bytes ≡ refs
 unfolding refs_of
 refs_read bytes refs ascii is =
-    ap (λ b. option_map once (option_and_then named (if b then json_value bytes else None))) (is_utf8-from_IsUtf8 bytes (IsUtf8-from_ascii bytes (IsAscii-from_test bytes ascii))) ∙ is
+    ap (λ b. option_map distinct_texts (option_and_then named (if b then json_value bytes else None))) (is_utf8-from_IsUtf8 bytes (IsUtf8-from_ascii bytes (IsAscii-from_test bytes ascii))) ∙ is
 
 -- an image manifest whose config is the empty object, and whose one layer has three bytes
 abbrev image : Text

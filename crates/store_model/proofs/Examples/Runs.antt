@@ -1,15 +1,15 @@
--- Runs on small literals: two tenants, one of which is refused for its quota, and a sweep between.
+-- Runs on small literals: two tenants, one of which gets `Quota`, and a sweep in between.
 use Rattle.std.proofs.Common.{◌≡◌, List, [], ◌∷◌, None, Ok, Err, refl}
 use Rattle.std.specs.Prelude.{codes}
 use Rattle.std.specs.FinMap.{get-empty, get-insert, entries-insert}
 use Rattle.blob_digest.specs.declared.refusal.Refusal.TheVariants.{Quota}
-use Rattle.finite_maps.specs.Texts.{Text}
+use Rattle.spec_lib.specs.Texts.{Text}
 use Rattle.store_model.specs.Catalog.{Tenant, Session, Catalog, opening}
-use Rattle.store_model.specs.Runs.{Event, Called, Swept, Start, Append, Mount, Number, Mounting}
+use Rattle.store_model.specs.Runs.{Event, CommandEvent, SweepEvent, Start, Append, Mount, Number, Mounting}
 use Rattle.store_model.specs.declared.mount.Mount.TheVariants as mounting
-use Rattle.store_model.specs.Noninterference.{events_of, commands, replies, replies_alone}
+use Rattle.store_model.specs.Noninterference.{events_of, commands_of, replies, isolated_replies}
 use Rattle.blob_digest.proofs.KeyOrders.{number_cmp_total}
-use Rattle.finite_maps.proofs.Rows.{entries-empty}
+use Rattle.spec_lib.proofs.Rows.{entries-empty}
 
 abbrev two : List Tenant
 two = record { name = codes "acme"; quota = 3 } ∷ record { name = codes "other"; quota = 9 } ∷ []
@@ -24,11 +24,11 @@ abbrev x : Text
 x = codes "other/x"
 
 abbrev called : List Event
-called = Called (Start one) (Ok (Number 1)) ∷ Called (Start x) (Ok (Number 1)) ∷ Called (Append x 1 None (codes "abcd")) (Ok (Number 4)) ∷ Called (Append one 1 None (codes "ab")) (Ok (Number 2))
-    ∷ Swept (record { condemned = 0; freed = 0; held = 0; retired = 0 }) ∷ Called (Append one 1 None (codes "cd")) (Err (Quota 2 3)) ∷ Called (Mount x (codes "d") None) (Ok (Mounting (mounting.Session 2))) ∷ []
+called = CommandEvent (Start one) (Ok (Number 1)) ∷ CommandEvent (Start x) (Ok (Number 1)) ∷ CommandEvent (Append x 1 None (codes "abcd")) (Ok (Number 4)) ∷ CommandEvent (Append one 1 None (codes "ab")) (Ok (Number 2))
+    ∷ SweepEvent (record { condemned = 0; freed = 0; held = 0; retired = 0 }) ∷ CommandEvent (Append one 1 None (codes "cd")) (Err (Quota 2 3)) ∷ CommandEvent (Mount x (codes "d") None) (Ok (Mounting (mounting.Session 2))) ∷ []
 
-own_commands : commands (events_of two 0 called) ≡ Start one ∷ Append one 1 None (codes "ab") ∷ Append one 1 None (codes "cd") ∷ []
+own_commands : commands_of (events_of two 0 called) ≡ Start one ∷ Append one 1 None (codes "ab") ∷ Append one 1 None (codes "cd") ∷ []
 own_commands = refl
 
-own_replies : replies (events_of two 0 called) ≡ replies_alone empty_book (commands (events_of two 0 called))
+own_replies : replies (events_of two 0 called) ≡ isolated_replies empty_book (commands_of (events_of two 0 called))
 own_replies = simp (get-insert {X = Session} number_cmp_total, get-empty, entries-insert {X = Session} number_cmp_total, entries-empty) refl

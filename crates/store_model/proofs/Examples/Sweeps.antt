@@ -5,19 +5,19 @@ use Rattle.std.specs.FinMap.{FinMap, get, insert, empty, entries, get-empty, get
 use Rattle.std.specs.Cmp.Lexicographic.{nat_list_cmp_total}
 use Rattle.std.proofs.lemmas.Map.Lookups.{exact_bytes}
 use Rattle.blob_digest.specs.declared.refusal.Refusal.TheVariants.{StoreFull, TooManyReaders}
-use Rattle.finite_maps.specs.Sets as set
+use Rattle.spec_lib.specs.Sets as set
 use Rattle.blob_digest.proofs.KeyOrders.{number_cmp_total, link_cmp_total}
-use Rattle.finite_maps.proofs.Rows.{entries-empty}
+use Rattle.spec_lib.proofs.Rows.{entries-empty}
 use Rattle.store_model.specs.Sessions.{Session}
-use Rattle.finite_maps.specs.Texts.{Text, text_cmp}
-use Rattle.store_model.specs.Catalog.{Catalog, Home, Resident, opening}
-use Rattle.store_model.specs.Commands.{lease, with_lent, delete, close, stored}
+use Rattle.spec_lib.specs.Texts.{Text, text_cmp}
+use Rattle.store_model.specs.Catalog.{Catalog, CheckedIn, Resident, opening}
+use Rattle.store_model.specs.Commands.{lease, with_leased, delete, close, with_stored_blob}
 use Rattle.store_model.specs.declared.swept.Swept.{Swept}
-use Rattle.store_model.specs.Sweep.{is_orphan, IsLeft, IsSweep}
-use Rattle.finite_maps.proofs.Maps.{got-insert, get-insert_at, get-insert_other, cases_key}
+use Rattle.store_model.specs.Sweep.{is_orphan, IsAfterSweep, IsSweep}
+use Rattle.spec_lib.proofs.Maps.{got-insert, get-insert_at, get-insert_other, cases_key}
 use Rattle.store_model.proofs.Commands.SweepAnswers.{idle_sweep}
 use Rattle.std.proofs.lemmas.Bool.{false≢true}
-use Rattle.finite_maps.proofs.Options.{nothing}
+use Rattle.spec_lib.proofs.Options.{nothing}
 use Rattle.store_model.proofs.Examples.Digests.{abc, abc_bytes, abc_named, obj, obj_bytes, obj_named}
 
 abbrev one : Text
@@ -32,18 +32,18 @@ with_blob condemned lent = insert empty abc (record { bytes = abc_bytes; condemn
 
 abbrev kept : Catalog
 kept = record (opening (record { name = codes "acme"; quota = 1000 } ∷ []) 1 10) {
-  repos = set.insert set.none one;
-  links = set.insert set.none (one, abc);
+  repos = set.insert set.empty_set one;
+  links = set.insert set.empty_set (one, abc);
   residents = with_blob false false;
 }
 
-blob_is_lent : lease false kept one abc ≡ Ok (abc_bytes, with_lent kept abc (record { bytes = abc_bytes; condemned = false; lent = false }))
+blob_is_lent : lease false kept one abc ≡ Ok (abc_bytes, with_leased kept abc (record { bytes = abc_bytes; condemned = false; lent = false }))
 blob_is_lent = simp (get-insert {X = Unit {0}} link_cmp_total, get-insert {X = Resident} nat_list_cmp_total) refl
 
 blob_is_crowded : lease true kept one abc ≡ Err TooManyReaders
 blob_is_crowded = simp (get-insert {X = Unit {0}} link_cmp_total, get-insert {X = Resident} nat_list_cmp_total) refl
 
--- the link is gone; the blob was lent, or wasn't
+-- the link is removed; the blob was leased before, or was not
 abbrev unlinked : Bool → Bool → Catalog
 unlinked condemned lent = record kept { links = set.remove kept.links (one, abc); residents = with_blob condemned lent }
 
@@ -61,13 +61,13 @@ blob condemned lent = record { bytes = abc_bytes; condemned = condemned; lent = 
 pub is_only : (b : Resident) (d : Text) (x : Resident) → get (insert {R = text_cmp} empty abc b) d ≡ Some x → (d ≡ abc) × (b ≡ x)
 is_only b d x h = ⊎_elim (λ e. e) (λ h. nothing (get-empty text_cmp d) h) (got-insert nat_list_cmp_total exact_bytes empty abc b d x h)
 
--- what is left, by what is left of the one blob
-left_of : (C C' : Catalog) (b : Resident) (o : Option Resident) → C.residents ≡ insert empty abc b → is_orphan C abc ≡ true → get C'.residents abc ≡ o → IsLeft true b o →
-    (d : Text) (x : Resident) → get C.residents d ≡ Some x → IsLeft (is_orphan C d) x (get C'.residents d)
+-- the catalog after a sweep, by the one blob after it
+left_of : (C C' : Catalog) (b : Resident) (o : Option Resident) → C.residents ≡ insert empty abc b → is_orphan C abc ≡ true → get C'.residents abc ≡ o → IsAfterSweep true b o →
+    (d : Text) (x : Resident) → get C.residents d ≡ Some x → IsAfterSweep (is_orphan C d) x (get C'.residents d)
 left_of C C' b o only orphan now is d x found =
     let e = is_only b d x (ap (λ m. get m d) (sym only) ∙ found) in
-    let at : IsLeft (is_orphan C abc) b (get C'.residents abc) = subst (λ p. IsLeft p b (get C'.residents abc)) (sym orphan) (subst (λ o. IsLeft true b o) (sym now) is) in
-    subst (λ (y : Resident). IsLeft (is_orphan C d) y (get C'.residents d)) e.1 (subst (λ (q : Text). IsLeft (is_orphan C q) b (get C'.residents q)) (sym e.0) at)
+    let at : IsAfterSweep (is_orphan C abc) b (get C'.residents abc) = subst (λ p. IsAfterSweep p b (get C'.residents abc)) (sym orphan) (subst (λ o. IsAfterSweep true b o) (sym now) is) in
+    subst (λ (y : Resident). IsAfterSweep (is_orphan C d) y (get C'.residents d)) e.1 (subst (λ (q : Text). IsAfterSweep (is_orphan C q) b (get C'.residents q)) (sym e.0) at)
 
 stays_out : (b c : Resident) (d : Text) → get (insert {R = text_cmp} empty abc b) d ≡ None → get (insert {R = text_cmp} empty abc c) d ≡ None
 stays_out b c d none = elim (cases_key nat_list_cmp_total exact_bytes d abc) [
@@ -104,7 +104,7 @@ lent_is_held = record {
   held = simp (entries-insert {X = Resident} nat_list_cmp_total, entries-empty) refl;
 }
 
--- its reader has left: its slot is freed
+-- the lease was given back: its slot is freed
 condemned_is_freed : IsSweep (unlinked true true) (swept 0 1 0 0) (emptied 0)
 condemned_is_freed = record {
   orphans = left_of (unlinked true true) (emptied 0) (blob true true) None refl (is_unlinked true true) (none_there abc) tt;
@@ -115,7 +115,7 @@ condemned_is_freed = record {
   held = none_held;
 }
 
--- it was never lent: it is condemned and freed at once, and in the last generation its slot is retired
+-- a blob that was never leased is condemned and freed at once, or its slot is retired in the last generation
 unlent_is_freed : IsSweep (unlinked false false) (swept 1 1 0 0) (emptied 0)
 unlent_is_freed = record {
   orphans = left_of (unlinked false false) (emptied 0) (blob false false) None refl (is_unlinked false false) (none_there abc) tt;
@@ -136,11 +136,11 @@ unlent_is_retired = record {
   held = none_held;
 }
 
--- a sweep may not hold what was never lent
+-- a sweep can't report a blob as held that was never leased
 unlent_is_gone : (n m k : ℕ) (C' : Catalog) → IsSweep (unlinked false false) (swept 1 n m k) C' → get C'.residents abc ≡ None
-unlent_is_gone n m k C' sweep = at (get C'.residents abc) (subst (λ p. IsLeft p (blob false false) (get C'.residents abc)) (is_unlinked false false) (sweep.orphans abc (blob false false) (get-insert_at nat_list_cmp_total exact_bytes empty abc (blob false false))))
+unlent_is_gone n m k C' sweep = at (get C'.residents abc) (subst (λ p. IsAfterSweep p (blob false false) (get C'.residents abc)) (is_unlinked false false) (sweep.orphans abc (blob false false) (get-insert_at nat_list_cmp_total exact_bytes empty abc (blob false false))))
   where
-    at : (o : Option Resident) → IsLeft true (blob false false) o → o ≡ None
+    at : (o : Option Resident) → IsAfterSweep true (blob false false) o → o ≡ None
     at None left = refl
     at (Some x) left = absurd (false≢true left.0)
 
@@ -150,7 +150,7 @@ linked lent = record kept { residents = with_blob false lent }
 is_linked : (lent : Bool) → is_orphan (linked lent) abc ≡ false
 is_linked lent = simp (entries-insert {X = Unit {0}} nat_list_cmp_total, get-insert {X = Unit {0}} link_cmp_total, get-empty, entries-empty) refl
 
--- a linked blob stays, whatever a sweep does
+-- a linked blob stays in every sweep
 linked_stays : (lent : Bool) (s : Swept) (C' : Catalog) → IsSweep (linked lent) s C' → (s ≡ swept 0 0 0 0) × (C' ≡ linked lent)
 linked_stays lent s C' sweep = idle_sweep (linked lent) C' s sweep (λ d b found.
     let e = is_only (blob false lent) d b found in
@@ -159,7 +159,7 @@ linked_stays lent s C' sweep = idle_sweep (linked lent) C' s sweep (λ d b found
 -- and there is such a sweep
 linked_is_left : (lent : Bool) → IsSweep (linked lent) (swept 0 0 0 0) (linked lent)
 linked_is_left lent = record {
-  orphans = λ d b found. subst (λ o. IsLeft o b (get (linked lent).residents d)) (sym (ap (is_orphan (linked lent)) (is_only (blob false lent) d b found).0 ∙ is_linked lent)) found;
+  orphans = λ d b found. subst (λ o. IsAfterSweep o b (get (linked lent).residents d)) (sym (ap (is_orphan (linked lent)) (is_only (blob false lent) d b found).0 ∙ is_linked lent)) found;
   no_others = λ d none. none;
   rest = refl;
   condemned = simp (entries-insert {X = Resident} nat_list_cmp_total, entries-insert {X = Unit {0}} nat_list_cmp_total, get-insert {X = Unit {0}} link_cmp_total, get-empty, entries-empty) refl;
@@ -171,18 +171,18 @@ linked_is_left lent = record {
 
 -- a session with all of its bytes
 abbrev uploading : Catalog → Text → Catalog
-uploading C bytes = record C { sessions = insert empty (0, 2) (record { repo = one; chunks = Home (bytes ∷ []) }) }
+uploading C bytes = record C { sessions = insert empty (0, 2) (record { repo = one; chunks = CheckedIn (bytes ∷ []) }) }
 
--- a condemned blob that is uploaded again is live again, and is still marked as lent
-revived : close (uploading (unlinked true true) abc_bytes) one 2 abc None [] ≡ Ok (3, stored (uploading (unlinked true true) abc_bytes) 0 one 2 abc abc_bytes)
+-- a condemned blob that is uploaded again is live again, and is still marked as leased
+revived : close (uploading (unlinked true true) abc_bytes) one 2 abc None [] ≡ Ok (3, with_stored_blob (uploading (unlinked true true) abc_bytes) 0 one 2 abc abc_bytes)
 revived =
     simp (get-insert {X = Session} number_cmp_total, entries-insert {X = Session} number_cmp_total, entries-insert {X = Resident} nat_list_cmp_total, entries-insert {X = Unit {0}} nat_list_cmp_total, get-remove {X = Unit {0}} link_cmp_total, get-insert {X = Unit {0}} link_cmp_total, get-insert {X = Resident} nat_list_cmp_total, entries-empty)
     (rw abc_named refl)
 
-revived_blob : get (stored (uploading (unlinked true true) abc_bytes) 0 one 2 abc abc_bytes).residents abc ≡ Some (blob false true)
+revived_blob : get (with_stored_blob (uploading (unlinked true true) abc_bytes) 0 one 2 abc abc_bytes).residents abc ≡ Some (blob false true)
 revived_blob = simp (get-insert {X = Resident} nat_list_cmp_total) refl
 
--- the slot is used, by a linked blob or by one whose link is gone, or it is retired: there is no room for another
+-- the only slot is used or retired, so there is no room for another blob
 full_while_linked : close (uploading kept obj_bytes) one 2 obj None [] ≡ Err StoreFull
 full_while_linked =
     simp (len-entries, get-insert {X = Session} number_cmp_total, entries-insert {X = Session} number_cmp_total, entries-insert {X = Resident} nat_list_cmp_total, entries-insert {X = Unit {0}} nat_list_cmp_total, get-insert {X = Unit {0}} link_cmp_total, get-insert {X = Resident} nat_list_cmp_total, get-empty, entries-empty)
@@ -198,7 +198,7 @@ full_once_retired =
     simp (len-entries, get-insert {X = Session} number_cmp_total, entries-insert {X = Session} number_cmp_total, entries-insert {X = Unit {0}} nat_list_cmp_total, get-remove {X = Unit {0}} link_cmp_total, get-empty, entries-empty)
     (rw obj_named refl)
 
-room_once_freed : close (uploading (emptied 0) obj_bytes) one 2 obj None [] ≡ Ok (2, stored (uploading (emptied 0) obj_bytes) 0 one 2 obj obj_bytes)
+room_once_freed : close (uploading (emptied 0) obj_bytes) one 2 obj None [] ≡ Ok (2, with_stored_blob (uploading (emptied 0) obj_bytes) 0 one 2 obj obj_bytes)
 room_once_freed =
     simp (len-entries, get-insert {X = Session} number_cmp_total, entries-insert {X = Session} number_cmp_total, entries-insert {X = Unit {0}} nat_list_cmp_total, get-remove {X = Unit {0}} link_cmp_total, get-empty, entries-empty)
     (rw obj_named refl)

@@ -1,5 +1,5 @@
--- Two tenants on two threads. While each has a session in hand, the first one is refused for its quota and for its busy session: its own reserve counts
--- and the other's doesn't, so it is told the same alone. Without these two refusals the steps are a run of whole commands.
+-- Two tenants on two threads, each with a checked-out session. The first one gets `Quota` and `Busy` because of its own session only,
+-- so it gets both in its isolated history too. Without these two errors the history is a run of whole commands.
 use Rattle.std.proofs.Common.{◌≡◌, ℕ, false, List, [], ◌∷◌, Some, None, Ok, Err, refl, ap, ◌∙◌, arith, inl}
 use Rattle.std.specs.Prelude.{codes}
 use Rattle.std.specs.FinMap.{empty, insert, remove, get-empty, get-insert, get-remove, entries-insert}
@@ -7,16 +7,16 @@ use Rattle.std.specs.List.Sorted.{IsStrictlySortedBy}
 use Rattle.std.specs.Cmp.Lexicographic.{nat_list_cmp_total}
 use Rattle.blob_digest.specs.declared.refusal.Refusal.TheVariants.{Busy, Quota}
 use Rattle.blob_digest.proofs.KeyOrders.{number_cmp_total, exact_number}
-use Rattle.finite_maps.proofs.Maps.{remove-insert_new}
-use Rattle.finite_maps.proofs.Rows.{entries-empty}
-use Rattle.finite_maps.specs.Texts.{Text}
-use Rattle.store_model.specs.Catalog.{Catalog, Chunks, Home, InHand, Number, Session, Taken, Tenant, number_cmp, opening}
-use Rattle.store_model.specs.Commands.{abandon, new_session, put_back, start, take}
-use Rattle.store_model.specs.Histories.{AreSteps, IsUncountable, LeadsTo, Performed, PutBack, State, Step, Took}
-use Rattle.store_model.specs.HistoryIsolation.{Perform, Return, Take, IsAloneInHistory, IsFairHistory, IsOwnRefusal, IsUndisturbed, requests, steps_alone, steps_of}
+use Rattle.spec_lib.proofs.Maps.{remove-insert_new}
+use Rattle.spec_lib.proofs.Rows.{entries-empty}
+use Rattle.spec_lib.specs.Texts.{Text}
+use Rattle.store_model.specs.Catalog.{Catalog, Chunks, CheckedIn, CheckedOutWith, SessionNumber, Session, HandRecord, Tenant, session_number_cmp, opening}
+use Rattle.store_model.specs.Commands.{abandon, with_new_session, put_back, start, take}
+use Rattle.store_model.specs.Histories.{AreSteps, IsUncountable, LeadsTo, CommandCall, PutBackCall, State, Step, TakeCall}
+use Rattle.store_model.specs.HistoryIsolation.{Perform, Return, Take, IsIsolatedInHistory, IsCollisionFreeHistory, IsOwnRefusal, IsUnaffectedHistory, requests_of, isolated_steps, steps_of}
 use Rattle.store_model.specs.Invariant.{Sound}
-use Rattle.store_model.specs.Runs.{Abandon, Append, Called, Event, IsRun, Number as Numbered, Start}
-use Rattle.store_model.specs.WholeCommands.{AreWhole, Hands, Lent}
+use Rattle.store_model.specs.Runs.{Abandon, Append, CommandEvent, Event, IsRun, Number as Numbered, Start}
+use Rattle.store_model.specs.WholeCommands.{AreWholeCommands, CheckedOutSessions, CheckedOut}
 use Rattle.store_model.proofs.Commands.Opening.{Sound-opening}
 use Rattle.store_model.proofs.Noninterference.Histories.{alone_in_histories}
 use Rattle.store_model.proofs.WholeCommands.Histories.{histories_are_runs}
@@ -32,44 +32,44 @@ x = codes "other/x"
 
 -- ---- the steps
 
--- a session of a repository has these chunks from now on
-abbrev with : Catalog → Number → Text → Chunks → Catalog
+-- a session of a repository with these chunks
+abbrev with : Catalog → SessionNumber → Text → Chunks → Catalog
 with C key repo chunks = record C { sessions = insert C.sessions key (record { repo = repo; chunks = chunks }) }
 
 abbrev book : Catalog
 book = opening tenants 64 10
 
 abbrev first_open : Catalog
-first_open = new_session book 0 one
+first_open = with_new_session book 0 one
 
 abbrev second_open : Catalog
-second_open = new_session first_open 0 one
+second_open = with_new_session first_open 0 one
 
 abbrev all_open : Catalog
-all_open = new_session second_open 1 x
+all_open = with_new_session second_open 1 x
 
 abbrev other_out : Catalog
-other_out = with all_open (1, 1) x (InHand 0 4)
+other_out = with all_open (1, 1) x (CheckedOutWith 0 4)
 
 abbrev both_out : Catalog
-both_out = with other_out (0, 1) one (InHand 0 2)
+both_out = with other_out (0, 1) one (CheckedOutWith 0 2)
 
 abbrev one_back : Catalog
-one_back = with both_out (0, 1) one (Home (codes "ab" ∷ []))
+one_back = with both_out (0, 1) one (CheckedIn (codes "ab" ∷ []))
 
 abbrev both_back : Catalog
-both_back = with one_back (1, 1) x (Home (codes "abcd" ∷ []))
+both_back = with one_back (1, 1) x (CheckedIn (codes "abcd" ∷ []))
 
-abbrev hand : Taken
+abbrev hand : HandRecord
 hand = record { key = (0, 1); chunks = []; reserved = 2; last = None }
 
-abbrev other_hand : Taken
+abbrev other_hand : HandRecord
 other_hand = record { key = (1, 1); chunks = []; reserved = 4; last = None }
 
 abbrev steps : List Step
-steps = Performed (Start one) (Ok (Numbered 1)) ∷ Performed (Start one) (Ok (Numbered 2)) ∷ Performed (Start x) (Ok (Numbered 1)) ∷ Took x 1 None 4 (Ok other_hand)
-    ∷ Took one 1 None 2 (Ok hand) ∷ Took one 2 None 2 (Err (Quota 2 3)) ∷ Performed (Abandon one 1) (Err Busy)
-    ∷ PutBack (record hand { last = Some (codes "ab") }) (Ok 2) ∷ PutBack (record other_hand { last = Some (codes "abcd") }) (Ok 4) ∷ []
+steps = CommandCall (Start one) (Ok (Numbered 1)) ∷ CommandCall (Start one) (Ok (Numbered 2)) ∷ CommandCall (Start x) (Ok (Numbered 1)) ∷ TakeCall x 1 None 4 (Ok other_hand)
+    ∷ TakeCall one 1 None 2 (Ok hand) ∷ TakeCall one 2 None 2 (Err (Quota 2 3)) ∷ CommandCall (Abandon one 1) (Err Busy)
+    ∷ PutBackCall (record hand { last = Some (codes "ab") }) (Ok 2) ∷ PutBackCall (record other_hand { last = Some (codes "abcd") }) (Ok 4) ∷ []
 
 starts : start book one ≡ Ok (1, first_open)
 starts = simp (get-empty, entries-empty) refl
@@ -104,16 +104,16 @@ other_comes_back = simp (get-insert {X = Session} number_cmp_total) refl
 abbrev state : Catalog → ℕ → ℕ → State
 state C commands received = record { catalog = C; totals = record { commands = commands; received = received; closed = 0; abandoned = 0 } }
 
--- both hands come back
+-- both hands are checked in
 abbrev backs : List Step
-backs = PutBack (record hand { last = Some (codes "ab") }) (Ok 2) ∷ PutBack (record other_hand { last = Some (codes "abcd") }) (Ok 4) ∷ []
+backs = PutBackCall (record hand { last = Some (codes "ab") }) (Ok 2) ∷ PutBackCall (record other_hand { last = Some (codes "abcd") }) (Ok 4) ∷ []
 
 back : AreSteps (state both_out 3 0) backs (state both_back 5 6)
 back = (state one_back 4 2, record { leaves = comes_back; counts = refl }, (state both_back 5 6, record { leaves = other_comes_back; counts = refl }, refl))
 
--- what three starts and two takes lead to
+-- the state after three starts and two check-outs
 opened : (steps : List Step) (s : State) → AreSteps (state both_out 3 0) steps s →
-    LeadsTo book (Performed (Start one) (Ok (Numbered 1)) ∷ Performed (Start one) (Ok (Numbered 2)) ∷ Performed (Start x) (Ok (Numbered 1)) ∷ Took x 1 None 4 (Ok other_hand) ∷ Took one 1 None 2 (Ok hand) ∷ steps) s
+    LeadsTo book (CommandCall (Start one) (Ok (Numbered 1)) ∷ CommandCall (Start one) (Ok (Numbered 2)) ∷ CommandCall (Start x) (Ok (Numbered 1)) ∷ TakeCall x 1 None 4 (Ok other_hand) ∷ TakeCall one 1 None 2 (Ok hand) ∷ steps) s
 opened steps s rest = (
   state first_open 1 0,
   record { leaves = rw starts refl; counts = refl },
@@ -129,18 +129,18 @@ opened steps s rest = (
 )
 
 legal : LeadsTo book steps (state both_back 5 6)
-legal = opened (Took one 2 None 2 (Err (Quota 2 3)) ∷ Performed (Abandon one 1) (Err Busy) ∷ backs) (state both_back 5 6) (
+legal = opened (TakeCall one 2 None 2 (Err (Quota 2 3)) ∷ CommandCall (Abandon one 1) (Err Busy) ∷ backs) (state both_back 5 6) (
   state both_out 3 0,
   record { leaves = (inl past_the_quota, refl); counts = refl },
   (state both_out 3 0, record { leaves = inl (inl (false, rw busy refl), refl); counts = refl }, back),
 )
 
--- ---- the premises of the law, and what it says
+-- ---- the premises of the theorem, and its conclusion
 
-fair : IsFairHistory tenants 64 10 steps (state both_back 5 6)
+fair : IsCollisionFreeHistory tenants 64 10 steps (state both_back 5 6)
 fair = record { run = legal; no_collision = λ d a b first second. absurd (let lt = first.1 in omega arith) }
 
-undisturbed : IsUndisturbed tenants 64 10 0 steps (state both_back 5 6) fair
+undisturbed : IsUnaffectedHistory tenants 64 10 0 steps (state both_back 5 6) fair
 unfolding fair legal opened
 undisturbed = ((λ _. tt), ((λ _. tt), ((λ _. tt), ((λ _. tt), ((λ _. tt), ((λ _. quota (state both_out 3 0)), ((λ _. busy_session (state both_out 3 0)), ((λ _. tt), ((λ _. tt), tt)))))))))
   where
@@ -150,50 +150,50 @@ undisturbed = ((λ _. tt), ((λ _. tt), ((λ _. tt), ((λ _. tt), ((λ _. tt), (
     busy_session : (s : State) → IsOwnRefusal Busy × ¬ (IsUncountable s 0 Busy)
     busy_session s = (((λ e. absurd cc), (λ e. absurd cc), (λ e. absurd cc)), (λ u. let e = u.1 in absurd cc))
 
-own_requests : requests (steps_of tenants 0 steps) ≡
+own_requests : requests_of (steps_of tenants 0 steps) ≡
     Perform (Start one) ∷ Perform (Start one) ∷ Take one 1 None 2 ∷ Take one 2 None 2 ∷ Perform (Abandon one 1) ∷ Return (record hand { last = Some (codes "ab") }) ∷ []
 own_requests = refl
 
-first_alone : IsAloneInHistory tenants 64 10 0 steps (state both_back 5 6)
+first_alone : IsIsolatedInHistory tenants 64 10 0 steps (state both_back 5 6)
 first_alone = alone_in_histories tenants 64 10 0 steps (state both_back 5 6) fair undisturbed
 
--- so alone, too, it is refused for its quota, by the same numbers, and for its busy session
-same_replies : steps_alone book (requests (steps_of tenants 0 steps)) ≡
-    Performed (Start one) (Ok (Numbered 1)) ∷ Performed (Start one) (Ok (Numbered 2)) ∷ Took one 1 None 2 (Ok hand) ∷ Took one 2 None 2 (Err (Quota 2 3)) ∷ Performed (Abandon one 1) (Err Busy)
-    ∷ PutBack (record hand { last = Some (codes "ab") }) (Ok 2) ∷ []
+-- in its isolated history the tenant gets `Quota`, with the same numbers, and `Busy` too
+same_replies : isolated_steps book (requests_of (steps_of tenants 0 steps)) ≡
+    CommandCall (Start one) (Ok (Numbered 1)) ∷ CommandCall (Start one) (Ok (Numbered 2)) ∷ TakeCall one 1 None 2 (Ok hand) ∷ TakeCall one 2 None 2 (Err (Quota 2 3)) ∷ CommandCall (Abandon one 1) (Err Busy)
+    ∷ PutBackCall (record hand { last = Some (codes "ab") }) (Ok 2) ∷ []
 same_replies = first_alone.replies
 
--- ---- without the two refusals
+-- ---- without the two errors
 
 abbrev calm_steps : List Step
-calm_steps = Performed (Start one) (Ok (Numbered 1)) ∷ Performed (Start one) (Ok (Numbered 2)) ∷ Performed (Start x) (Ok (Numbered 1)) ∷ Took x 1 None 4 (Ok other_hand)
-    ∷ Took one 1 None 2 (Ok hand) ∷ backs
+calm_steps = CommandCall (Start one) (Ok (Numbered 1)) ∷ CommandCall (Start one) (Ok (Numbered 2)) ∷ CommandCall (Start x) (Ok (Numbered 1)) ∷ TakeCall x 1 None 4 (Ok other_hand)
+    ∷ TakeCall one 1 None 2 (Ok hand) ∷ backs
 
--- the appends stand where the hands came back
+-- the appends happen when the hands are checked in
 abbrev appends : List Event
-appends = Called (Append one 1 None (codes "ab")) (Ok (Numbered 2)) ∷ Called (Append x 1 None (codes "abcd")) (Ok (Numbered 4)) ∷ []
+appends = CommandEvent (Append one 1 None (codes "ab")) (Ok (Numbered 2)) ∷ CommandEvent (Append x 1 None (codes "abcd")) (Ok (Numbered 4)) ∷ []
 
 abbrev commands : List Event
-commands = Called (Start one) (Ok (Numbered 1)) ∷ Called (Start one) (Ok (Numbered 2)) ∷ Called (Start x) (Ok (Numbered 1)) ∷ appends
+commands = CommandEvent (Start one) (Ok (Numbered 1)) ∷ CommandEvent (Start one) (Ok (Numbered 2)) ∷ CommandEvent (Start x) (Ok (Numbered 1)) ∷ appends
 
-abbrev other_lent : Hands
+abbrev other_lent : CheckedOutSessions
 other_lent = insert empty (1, 1) (record { hand = other_hand; repo = x; range = None })
 
-abbrev both_lent : Hands
+abbrev both_lent : CheckedOutSessions
 both_lent = insert other_lent (0, 1) (record { hand = hand; repo = one; range = None })
 
-are_back : AreWhole both_lent backs appends
+are_back : AreWholeCommands both_lent backs appends
 are_back = (
-  Called (Append one 1 None (codes "ab")) (Ok (Numbered 2)) ∷ [],
-  Called (Append x 1 None (codes "abcd")) (Ok (Numbered 4)) ∷ [],
+  CommandEvent (Append one 1 None (codes "ab")) (Ok (Numbered 2)) ∷ [],
+  CommandEvent (Append x 1 None (codes "abcd")) (Ok (Numbered 4)) ∷ [],
   remove both_lent (0, 1),
-  (record { hand = hand; repo = one; range = None }, simp (get-insert {X = Lent} number_cmp_total) refl, inl (codes "ab", (refl, refl), refl), refl),
+  (record { hand = hand; repo = one; range = None }, simp (get-insert {X = CheckedOut} number_cmp_total) refl, inl (codes "ab", (refl, refl), refl), refl),
   refl,
   (
-    Called (Append x 1 None (codes "abcd")) (Ok (Numbered 4)) ∷ [],
+    CommandEvent (Append x 1 None (codes "abcd")) (Ok (Numbered 4)) ∷ [],
     [],
     remove (remove both_lent (0, 1)) (1, 1),
-    (record { hand = other_hand; repo = x; range = None }, simp (get-remove {X = Lent} number_cmp_total, get-insert {X = Lent} number_cmp_total) refl, inl (codes "abcd", (refl, refl), refl), refl),
+    (record { hand = other_hand; repo = x; range = None }, simp (get-remove {X = CheckedOut} number_cmp_total, get-insert {X = CheckedOut} number_cmp_total) refl, inl (codes "abcd", (refl, refl), refl), refl),
     refl,
     (none_out, refl),
   ),
@@ -201,10 +201,10 @@ are_back = (
   where
     none_out : remove (remove both_lent (0, 1)) (1, 1) ≡ empty
     none_out =
-        ap (λ (m : Hands). remove m (1, 1)) (remove-insert_new number_cmp_total exact_number other_lent (0, 1) _ (simp (get-insert {X = Lent} number_cmp_total, get-empty) refl))
-        ∙ remove-insert_new number_cmp_total exact_number empty (1, 1) _ (get-empty number_cmp (1, 1))
+        ap (λ (m : CheckedOutSessions). remove m (1, 1)) (remove-insert_new number_cmp_total exact_number other_lent (0, 1) _ (simp (get-insert {X = CheckedOut} number_cmp_total, get-empty) refl))
+        ∙ remove-insert_new number_cmp_total exact_number empty (1, 1) _ (get-empty session_number_cmp (1, 1))
 
-whole : AreWhole empty calm_steps commands
+whole : AreWholeCommands empty calm_steps commands
 whole = (_, _, empty, (refl, refl), refl, (_, _, empty, (refl, refl), refl, (_, _, empty, (refl, refl), refl, ([], appends, other_lent, (refl, refl), refl, ([], appends, both_lent, (refl, refl), refl, are_back)))))
 
 sound : Sound book

@@ -1,14 +1,14 @@
--- A blob that is put keeps the catalog lawful, and no use changes.
+-- Storing a blob keeps the catalog well-formed and every use unchanged.
 use Rattle.std.proofs.Common.{◌≡◌, ℕ, ◌+◌, ◌<◌, ◌≤◌, true, false, cond, length, Some, None, refl, ap, ◌∙◌, subst, arith, inl, inr, ⊎_elim}
 use Rattle.std.specs.Cmp.Lexicographic.{nat_list_cmp_total}
 use Rattle.std.specs.FinMap.{get, insert, len, contains_key, len-insert}
 use Rattle.std.proofs.lemmas.Map.Lookups.{exact_bytes}
 use Rattle.blob_digest.specs.Digests.{is_digest_of}
-use Rattle.finite_maps.specs.Texts.{Text}
-use Rattle.store_model.specs.Catalog.{Resident, Catalog, tenant_holds, blob_share, used}
-use Rattle.store_model.specs.Invariant.{Lawful, FitsSlots}
-use Rattle.finite_maps.proofs.Sums.{sum_new, sum_changed}
-use Rattle.finite_maps.proofs.Maps.{get-insert_at, get-insert_other, got-insert, cases_key}
+use Rattle.spec_lib.specs.Texts.{Text}
+use Rattle.store_model.specs.Catalog.{Resident, Catalog, tenant_holds, blob_share, used_bytes}
+use Rattle.store_model.specs.Invariant.{WellFormed, FitsSlots}
+use Rattle.spec_lib.proofs.Sums.{sum_new, sum_changed}
+use Rattle.spec_lib.proofs.Maps.{get-insert_at, get-insert_other, got-insert, cases_key}
 use Rattle.store_model.proofs.Invariant.Links.{unlinked, is_unheld}
 
 module _ (C : Catalog) (d : Text) (b : Resident) where
@@ -22,8 +22,8 @@ module _ (C : Catalog) (d : Text) (b : Resident) where
       | inr differ ↦ (k.0, get-insert_other nat_list_cmp_total exact_bytes C.residents d b x differ ∙ k.1, k.2)
     ]
 
-    pub Lawful-put : Lawful C → is_digest_of d b.bytes ≡ true → Lawful after
-    Lawful-put lawful is_digest = record {
+    pub WellFormed-put : WellFormed C → is_digest_of d b.bytes ≡ true → WellFormed after
+    WellFormed-put lawful is_digest = record {
       content = λ x now h. ⊎_elim
           (λ e. subst (λ (y : Resident). is_digest_of x y.bytes ≡ true) e.1 (ap (λ (q : Text). is_digest_of q b.bytes) e.0 ∙ is_digest))
           (lawful.content x now)
@@ -38,9 +38,9 @@ module _ (C : Catalog) (d : Text) (b : Resident) where
       few_manifests = lawful.few_manifests;
     }
 
-  -- a blob that is there keeps its length
-  pub used-put : Lawful C → ((old : Resident) → get C.residents d ≡ Some old → length old.bytes ≡ length b.bytes) → (u : ℕ) → used after u ≡ used C u
-  used-put lawful same u = elim (get C.residents d) as (λ x. get C.residents d ≡ x → used after u ≡ used C u) [
+  -- a stored blob keeps its length
+  pub used_bytes-put : WellFormed C → ((old : Resident) → get C.residents d ≡ Some old → length old.bytes ≡ length b.bytes) → (u : ℕ) → used_bytes after u ≡ used_bytes C u
+  used_bytes-put lawful same u = elim (get C.residents d) as (λ x. get C.residents d ≡ x → used_bytes after u ≡ used_bytes C u) [
     | None ↦ λ none.
         let sum = sum_new nat_list_cmp_total exact_bytes (blob_share C u) C.residents d b none in
         let nothing : blob_share C u (d, b) ≡ 0 = ap (λ h. cond h (length b.bytes) 0) (is_unheld C u d (unlinked C lawful d none)) in
@@ -51,7 +51,7 @@ module _ (C : Catalog) (d : Text) (b : Resident) where
         omega arith
   ] refl
 
-  -- a blob that is there takes no slot, and a new one takes a free one
+  -- a stored blob takes no new slot, and a new blob takes a free one
   pub FitsSlots-put : FitsSlots C → (contains_key C.residents d ≡ false → len C.residents + C.retired < C.slots) → FitsSlots after
   FitsSlots-put fits free = record {
     some = fits.some;

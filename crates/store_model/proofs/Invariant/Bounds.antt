@@ -1,4 +1,4 @@
--- The numbers that a sound book keeps are small.
+-- Bounds on the numbers of a sound catalog.
 use Rattle.std.proofs.Common.{◌≡◌, ℕ, ◌+◌, ◌*◌, ◌<◌, ◌≤◌, ◌^◌, Bool, true, false, cond, not, List, [], ◌∷◌, length, Option, Some, None, refl, sym, ap, ◌∙◌, subst, arith}
 use Prim.Native.Nat.{zero, suc}
 use Rattle.std.specs.Prelude.{slice_get, nat_lt, nat_eq, ◌||◌}
@@ -10,14 +10,14 @@ use Rattle.std.proofs.lemmas.Bool.Decides.{nat_tests}
 use Rattle.std.proofs.lemmas.List.Sums.{sum_by-cons, count_by-le-length}
 use Rattle.std.proofs.lemmas.Map.Lookups.{exact_bytes}
 use Rattle.std.specs.FinMap.{get}
-use Rattle.finite_maps.proofs.Options.{some_value}
-use Rattle.finite_maps.specs.Sets as set
-use Rattle.finite_maps.proofs.Sums.{sum_split}
-use Rattle.finite_maps.specs.Texts.{Text}
-use Rattle.store_model.specs.Catalog.{Tenant, Resident, Catalog, tenant_of, is_tenants, quota_of, tenant_holds, blob_share, used, count}
-use Rattle.store_model.specs.Invariant.{Lawful, Sound}
+use Rattle.spec_lib.proofs.Options.{some_value}
+use Rattle.spec_lib.specs.Sets as set
+use Rattle.spec_lib.proofs.Sums.{sum_split}
+use Rattle.spec_lib.specs.Texts.{Text}
+use Rattle.store_model.specs.Catalog.{Tenant, Resident, Catalog, tenant_of, is_repo_of_tenant, quota_of, tenant_holds, blob_share, used_bytes, link_count}
+use Rattle.store_model.specs.Invariant.{WellFormed, Sound}
 use Rattle.store_model.proofs.Invariant.DistinctUse.{some_member}
-use Rattle.finite_maps.proofs.Lists.{list_any_count, count_by-none}
+use Rattle.spec_lib.proofs.Lists.{list_any_count, count_by-none}
 use Rattle.store_model.proofs.Commands.Accepted.{tenant_there}
 
 each_at : {A : Type 0} (P : A → Type 0) (xs : List A) (k : ℕ) (x : A) → AllByRecursion P xs → slice_get xs k ≡ Some x → P x
@@ -26,14 +26,14 @@ each_at P (y ∷ xs) zero x all at = let same : y ≡ x = cc in subst P same all
 each_at P (y ∷ xs) (suc k) x all at = each_at P xs k x all.1 at
 
 -- no quota is above 2^50
-pub quota_small : (C : Catalog) → Lawful C → (t : ℕ) → quota_of C t ≤ 2 ^ 50
+pub quota_small : (C : Catalog) → WellFormed C → (t : ℕ) → quota_of C t ≤ 2 ^ 50
 quota_small C lawful t = at (slice_get C.tenants t) refl
   where
     at : (o : Option Tenant) → slice_get C.tenants t ≡ o → option_map_or (λ x. x.quota) o 0 ≤ 2 ^ 50
     at None e = omega arith
     at (Some x) e = each_at (λ (y : Tenant). y.quota ≤ 2 ^ 50) C.tenants t x lawful.limits.quotas e
 
--- what passes one of two tests is counted by one of them
+-- an element that passes one of two tests is counted by one of them
 count_by-or : {A : Type 0} (p q r : A → Bool) → ((x : A) → p x ≡ true → (q x || r x) ≡ true) → (xs : List A) → count_by p xs ≤ count_by q xs + count_by r xs
 count_by-or p q r either [] = omega arith
 count_by-or p q r either (x ∷ xs) =
@@ -50,7 +50,7 @@ count_by-or p q r either (x ∷ xs) =
     at true false true h = omega arith
     at true false false h = absurd (let f : false ≡ true = h refl in cc)
 
--- what passes a test, and what fails it
+-- elements that pass a test, and those that fail it
 count_by-split : {A : Type 0} (p : A → Bool) (xs : List A) → count_by p xs + count_by (λ x. not (p x)) xs ≡ length xs
 count_by-split p [] = refl
 count_by-split p (x ∷ xs) =
@@ -76,23 +76,23 @@ none_below : (o : Option ℕ) → option_map_or (λ t. nat_lt t 0) o false ≡ f
 none_below None = refl
 none_below (Some t) = grind (arith, nat_tests)
 
-count_below : (tenants : List Tenant) (xs : List Text) → ((t : ℕ) → count_by (is_tenants tenants t) xs ≤ 1024) → (n : ℕ) → count_by (below tenants n) xs ≤ n * 1024
+count_below : (tenants : List Tenant) (xs : List Text) → ((t : ℕ) → count_by (is_repo_of_tenant tenants t) xs ≤ 1024) → (n : ℕ) → count_by (below tenants n) xs ≤ n * 1024
 count_below tenants xs few zero = let none = count_by-none (below tenants 0) (λ r. none_below (tenant_of tenants r)) xs in omega arith
 count_below tenants xs few (suc n) =
-    let step = count_by-or (below tenants (suc n)) (below tenants n) (is_tenants tenants n) (λ r h. below-suc (tenant_of tenants r) n h) xs in
+    let step = count_by-or (below tenants (suc n)) (below tenants n) (is_repo_of_tenant tenants n) (λ r h. below-suc (tenant_of tenants r) n h) xs in
     let rest = count_below tenants xs few n in
     let one = few n in
     omega arith
 
 -- no count is above the number of all repositories, 256 tenants with 1,024 each
-pub count_small : (C : Catalog) → Lawful C → (d : Text) → count C d ≤ 262144
+pub count_small : (C : Catalog) → WellFormed C → (d : Text) → link_count C d ≤ 262144
 count_small C lawful d =
     let T : ℕ = length C.tenants in
     let xs : List Text = set.items C.repos in
     let within : count_by (below C.tenants T) xs ≤ T * 1024 = count_below C.tenants xs lawful.repositories.few T in
     let parts : count_by (below C.tenants T) xs + count_by (λ r. not (below C.tenants T r)) xs ≡ length xs = count_by-split (below C.tenants T) xs in
     let none : count_by (λ r. not (below C.tenants T r)) xs ≡ 0 = zero_of (count_by (λ r. not (below C.tenants T r)) xs) (sym (list_any_count (λ r. not (below C.tenants T r)) xs) ∙ no_stranger) in
-    let most : count C d ≤ length xs = count_by-le-length (λ r. set.contains C.links (r, d)) xs in
+    let most : link_count C d ≤ length xs = count_by-le-length (λ r. set.contains C.links (r, d)) xs in
     let tenants = lawful.limits.tenants.1 in
     omega arith
   where
@@ -108,11 +108,11 @@ count_small C lawful d =
         true≢false (sym r.2 ∙ ap not is))
 
 -- a tenant's use is small, and leaves room for a blob
-pub used_small : (C : Catalog) → Sound C → (t : ℕ) → t < length C.tenants → used C t ≤ 2 ^ 50
+pub used_small : (C : Catalog) → Sound C → (t : ℕ) → t < length C.tenants → used_bytes C t ≤ 2 ^ 50
 used_small C sound t there = let within = sound.quotas t there in let quota = quota_small C sound.lawful t in omega arith
 
--- a blob that a tenant holds is within its use
-pub held_within : (C : Catalog) (t : ℕ) (d : Text) (b : Resident) → get C.residents d ≡ Some b → tenant_holds C t d ≡ true → length b.bytes ≤ used C t
+-- the length of a tenant's blob is at most its use
+pub held_within : (C : Catalog) (t : ℕ) (d : Text) (b : Resident) → get C.residents d ≡ Some b → tenant_holds C t d ≡ true → length b.bytes ≤ used_bytes C t
 held_within C t d b kept held =
     let sum = sum_split nat_list_cmp_total exact_bytes (blob_share C t) C.residents d b kept in
     let session_charge : blob_share C t (d, b) ≡ length b.bytes = rw held refl in

@@ -1,34 +1,34 @@
--- A manifest that is put, and one that is taken out, keep the catalog lawful. No use changes.
+-- Storing and removing a manifest keep the catalog well-formed and every use unchanged.
 use Rattle.std.proofs.Common.{◌≡◌, ℕ, ◌+◌, ◌<◌, ◌≤◌, true, false, cond, List, length, Some, None, refl, sym, ap, subst, arith, inl, inr}
 use Rattle.std.specs.List.{AllByRecursion}
 use Rattle.std.specs.FinMap.{get, insert, remove}
 use Rattle.blob_digest.specs.Digests.{sha256_text}
-use Rattle.finite_maps.specs.Sets as set
+use Rattle.spec_lib.specs.Sets as set
 use Rattle.oci_manifest.specs.Manifests.{refs_of, max_manifest}
-use Rattle.finite_maps.specs.Texts.{Text, same_text}
+use Rattle.spec_lib.specs.Texts.{Text, same_text}
 use Rattle.store_model.specs.Catalog.{Link, Catalog, holds, manifests_of}
-use Rattle.store_model.specs.Invariant.{Lawful, LawfulManifest}
+use Rattle.store_model.specs.Invariant.{WellFormed, WellFormedManifest}
 use Rattle.blob_digest.proofs.KeyOrders.{link_cmp_total, exact_link}
-use Rattle.finite_maps.proofs.Texts.{text_is_same}
-use Rattle.finite_maps.proofs.Sums.{sum_new}
-use Rattle.finite_maps.proofs.Maps.{got-insert, got-remove, sum_at}
+use Rattle.spec_lib.proofs.Texts.{text_is_same}
+use Rattle.spec_lib.proofs.Sums.{sum_new}
+use Rattle.spec_lib.proofs.Maps.{got-insert, got-remove, sum_at}
 
-module _ (C : Catalog) (lawful : Lawful C) (r bytes : Text) where
+module _ (C : Catalog) (lawful : WellFormed C) (r bytes : Text) where
   abbrev key : Link
   key = (r, sha256_text bytes)
 
   abbrev after : Catalog
   after = record C { manifests = insert C.manifests key bytes }
 
-  pub Lawful-put_manifest : set.contains C.repos r ≡ true → length bytes ≤ max_manifest → (refs : List Text) → refs_of bytes ≡ Some refs → AllByRecursion (λ d. holds C r d ≡ true) refs →
-      get C.manifests key ≡ None → manifests_of C r < 1024 → Lawful after
-  Lawful-put_manifest there small refs read linked absent few = record {
+  pub WellFormed-put_manifest : set.contains C.repos r ≡ true → length bytes ≤ max_manifest → (refs : List Text) → refs_of bytes ≡ Some refs → AllByRecursion (λ d. holds C r d ≡ true) refs →
+      get C.manifests key ≡ None → manifests_of C r < 1024 → WellFormed after
+  WellFormed-put_manifest there small refs read linked absent few = record {
     content = lawful.content;
     links = lawful.links;
     manifests = λ l x h. elim (got-insert link_cmp_total exact_link C.manifests key bytes l x h) [
       | inl e ↦
-          let new : LawfulManifest after key bytes = record { repo = there; name = refl; small = small; refs = (refs, read, linked) } in
-          subst (λ (y : Text). LawfulManifest after l y) e.1 (subst (λ (q : Link). LawfulManifest after q bytes) (sym e.0) new)
+          let new : WellFormedManifest after key bytes = record { repo = there; name = refl; small = small; refs = (refs, read, linked) } in
+          subst (λ (y : Text). WellFormedManifest after l y) e.1 (subst (λ (q : Link). WellFormedManifest after q bytes) (sym e.0) new)
       | inr old ↦ lawful.manifests l x old
     ];
     sessions = lawful.sessions;
@@ -45,12 +45,12 @@ module _ (C : Catalog) (lawful : Lawful C) (r bytes : Text) where
         ] refl;
   }
 
-module _ (C : Catalog) (lawful : Lawful C) (key : Link) where
+module _ (C : Catalog) (lawful : WellFormed C) (key : Link) where
   abbrev without : Catalog
   without = record C { manifests = remove C.manifests key }
 
-  pub Lawful-drop_manifest : Lawful without
-  Lawful-drop_manifest = record {
+  pub WellFormed-drop_manifest : WellFormed without
+  WellFormed-drop_manifest = record {
     content = lawful.content;
     links = lawful.links;
     manifests = λ l x h. lawful.manifests l x (got-remove link_cmp_total exact_link C.manifests key l x h);

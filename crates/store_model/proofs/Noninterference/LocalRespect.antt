@@ -1,4 +1,4 @@
--- What a command leaves: to each other tenant nothing has changed, and the catalog stays consistent.
+-- A command changes nothing for any other tenant, and keeps the catalog consistent.
 use Rattle.std.proofs.Common.{◌≡◌, ℕ, ◌+◌, Bool, true, false, not, [], length, Option, Some, None, Result, Ok, Err, refl, sym, ap, ◌∙◌, get_or-set_other}
 use Rattle.std.specs.Prelude.{◌==◌, nat_lt, nat_eq, if◌then◌else◌}
 use Rattle.std.specs.Option.{option_map_or, option_eq, ok_or}
@@ -11,23 +11,23 @@ use Rattle.blob_digest.specs.declared.range.ByteRange.{ByteRange}
 use Rattle.blob_digest.specs.declared.refusal.Refusal.{Refusal}
 use Rattle.blob_digest.specs.declared.refusal.Refusal.TheVariants.{NameUnknown, DigestInvalid, SizeInvalid, BlobUnknown, ManifestInvalid, ManifestUnknown, TooManyReaders, LimitReached}
 use Rattle.blob_digest.specs.Digests.{sha256_text}
-use Rattle.finite_maps.specs.Sets as kept_set
+use Rattle.spec_lib.specs.Sets as kept_set
 use Rattle.oci_manifest.specs.Manifests.{refs_of, max_manifest}
-use Rattle.finite_maps.specs.Texts.{Text}
-use Rattle.store_model.specs.Catalog.{Number, Home, Session, Resident, Catalog, number_cmp, tenant_of, is_of, next_of}
+use Rattle.spec_lib.specs.Texts.{Text}
+use Rattle.store_model.specs.Catalog.{SessionNumber, CheckedIn, Session, Resident, Catalog, session_number_cmp, tenant_of, is_repo_of, next_number_of}
 use Rattle.store_model.specs.Commands
-use Rattle.finite_maps.specs.Outcomes.{◌>>=◌, refuse}
-use Rattle.store_model.specs.Commands.{Outcome, tenant, session_in, not_busy, length_after, new_session, append_in, whole_in, is_digest_accepted, same_bytes, stored, has_source, with_link, with_manifest, with_lent, linked, linked_blob, lacks_room_for, cannot_open, has_manifest, is_full_of_manifests, all_linked, unreferenced, within_quota, has_slot}
+use Rattle.spec_lib.specs.Outcomes.{◌>>=◌, refuse}
+use Rattle.store_model.specs.Commands.{Outcome, tenant, session_in, not_busy, length_after, with_new_session, after_append_in, content_in, is_digest_accepted, has_same_bytes, with_stored_blob, has_source, with_link, with_manifest, with_leased, check_link, linked_blob, lacks_room_for, cannot_open, has_manifest, is_full_of_manifests, check_all_links, check_no_referrer, check_quota, has_slot}
 use Rattle.store_model.specs.declared.mount.Mount.TheVariants as mounting
 use Rattle.store_model.specs.Runs as runs
-use Rattle.store_model.specs.Runs.{Command, Answer, answered, reading, outcome, repo_of}
+use Rattle.store_model.specs.Runs.{Command, Answer, map_outcome, reading_outcome, outcome, repo_of}
 use Rattle.blob_digest.proofs.KeyOrders.{number_cmp_total, exact_number, link_cmp_total, exact_link}
-use Rattle.finite_maps.proofs.Outcomes.{bound_ok, not_refused, some_of_ok}
-use Rattle.finite_maps.proofs.Agreement.{AgreeOn, unseen_insert, unseen_remove}
+use Rattle.spec_lib.proofs.Outcomes.{bound_ok, not_refused, some_of_ok}
+use Rattle.spec_lib.proofs.Agreement.{AgreeOn, unseen_insert, unseen_remove}
 use Rattle.store_model.proofs.Noninterference.SameFor.{Alike, of_same, visible, with_repos, with_links, with_manifests, with_sessions}
 use Rattle.store_model.proofs.Noninterference.StepConsistency.{longer}
 
--- the catalog that an accepted command leaves
+-- the catalog after an accepted command
 abbrev pub Leaves : {A : Type 0} → (Catalog → Type 0) → Outcome A → Type 0
 Leaves P (Ok x) = P x.1
 Leaves P (Err e) = Unit {0}
@@ -43,11 +43,11 @@ module _ (P : Catalog → Type 0) where
   either true x y at_true at_false = at_true refl
   either false x y at_true at_false = at_false refl
 
-  pub answers_leave : {A : Type 0} (f : A → Answer) (x : Outcome A) → Leaves P x → Leaves P (answered f x)
+  pub answers_leave : {A : Type 0} (f : A → Answer) (x : Outcome A) → Leaves P x → Leaves P (map_outcome f x)
   answers_leave f (Ok x) h = h
   answers_leave f (Err e) h = tt
 
-  pub reading_leave : {A : Type 0} (f : A → Answer) (C : Catalog) (x : Result A Refusal) → P C → Leaves P (reading f C x)
+  pub reading_leave : {A : Type 0} (f : A → Answer) (C : Catalog) (x : Result A Refusal) → P C → Leaves P (reading_outcome f C x)
   reading_leave f C (Ok x) same = same
   reading_leave f C (Err e) same = tt
 
@@ -55,45 +55,45 @@ module _ (P : Catalog → Type 0) where
   started_leave (Ok x) h = h
   started_leave (Err e) h = tt
 
-  -- ---- what each command may leave
+  -- ---- the catalog after each command
 
   module _ (C : Catalog) (r : Text) where
     pub of_tenant : {A : Type 0} (f : ℕ → Outcome A) → ((t : ℕ) → tenant_of C.tenants r ≡ Some t → Leaves P (f t)) → Leaves P (tenant C r >>= f)
     of_tenant f h = past (tenant C r) f (λ t e. h t (some_of_ok (tenant_of C.tenants r) NameUnknown t e))
 
-    pub start_leaves : ((t : ℕ) → tenant_of C.tenants r ≡ Some t → P (new_session C t r)) → Leaves P (Commands.start C r)
+    pub start_leaves : ((t : ℕ) → tenant_of C.tenants r ≡ Some t → P (with_new_session C t r)) → Leaves P (Commands.start C r)
     start_leaves new = of_tenant _ (λ t k. past (refuse (lacks_room_for C t r) LimitReached) _ (λ _ _. past (refuse (cannot_open C t) LimitReached) _ (λ _ _. new t k)))
 
-    pub append_leaves : (n : ℕ) (g : Option ByteRange) (b : Text) → ((t : ℕ) → tenant_of C.tenants r ≡ Some t → P (record C { sessions = append_in C.sessions (t, n) b })) → Leaves P (Commands.append C r n g b)
-    append_leaves n g b new = of_tenant _ (λ t k. past (Commands.check C t r n g (length b)) _ (λ _ _. past (within_quota C t (length b)) _ (λ _ _. new t k)))
+    pub append_leaves : (n : ℕ) (g : Option ByteRange) (b : Text) → ((t : ℕ) → tenant_of C.tenants r ≡ Some t → P (record C { sessions = after_append_in C.sessions (t, n) b })) → Leaves P (Commands.append C r n g b)
+    append_leaves n g b new = of_tenant _ (λ t k. past (Commands.chunk_length_check C t r n g (length b)) _ (λ _ _. past (check_quota C t (length b)) _ (λ _ _. new t k)))
 
     pub close_leaves : (housed : Catalog → Text → Result (Unit {0}) Refusal) (n : ℕ) (d : Text) (g : Option ByteRange) (b : Text) →
-        ((t after : ℕ) → tenant_of C.tenants r ≡ Some t → Commands.check C t r n g (length b) ≡ Ok after → is_digest_accepted C d (whole_in C.sessions (t, n) b) ≡ true → P (stored C t r n d (whole_in C.sessions (t, n) b))) →
+        ((t after : ℕ) → tenant_of C.tenants r ≡ Some t → Commands.chunk_length_check C t r n g (length b) ≡ Ok after → is_digest_accepted C d (content_in C.sessions (t, n) b) ≡ true → P (with_stored_blob C t r n d (content_in C.sessions (t, n) b))) →
         Leaves P (Commands.close_by housed C r n d g b)
     close_leaves housed n d g b new =
-        of_tenant _ (λ t k. past (Commands.check C t r n g (length b)) _ (λ after checked. past (within_quota C t (length b)) _ (λ _ _. past (refuse (not (is_digest_accepted C d (whole_in C.sessions (t, n) b))) DigestInvalid) _ (λ u h. past (housed C d) _ (λ _ _. new t after k checked (not-false (is_digest_accepted C d (whole_in C.sessions (t, n) b)) (not_refused _ _ _ h)))))))
+        of_tenant _ (λ t k. past (Commands.chunk_length_check C t r n g (length b)) _ (λ after checked. past (check_quota C t (length b)) _ (λ _ _. past (refuse (not (is_digest_accepted C d (content_in C.sessions (t, n) b))) DigestInvalid) _ (λ u h. past (housed C d) _ (λ _ _. new t after k checked (not-false (is_digest_accepted C d (content_in C.sessions (t, n) b)) (not_refused _ _ _ h)))))))
 
     pub abandon_leaves : (n : ℕ) → ((t : ℕ) → tenant_of C.tenants r ≡ Some t → P (record C { sessions = remove C.sessions (t, n) })) → Leaves P (Commands.abandon C r n)
     abandon_leaves n new = of_tenant _ (λ t k. past (Commands.session C t r n) _ (λ s _. past (not_busy s.chunks) _ (λ _ _. new t k)))
 
-    pub mount_leaves : (d : Text) (from : Option Text) → ((t : ℕ) → tenant_of C.tenants r ≡ Some t → P (new_session C t r)) →
+    pub mount_leaves : (d : Text) (from : Option Text) → ((t : ℕ) → tenant_of C.tenants r ≡ Some t → P (with_new_session C t r)) →
         ((t : ℕ) → tenant_of C.tenants r ≡ Some t → has_source C t d from ≡ true → P (with_link C r d)) → Leaves P (Commands.mount C r d from)
     mount_leaves d from new linked = of_tenant _ (λ t k. either (has_source C t d from) _ _ (λ has. past (refuse (lacks_room_for C t r) LimitReached) _ (λ _ _. linked t k has)) (λ _. started_leave (Commands.start C r) (start_leaves new)))
 
     pub delete_leaves : (d : Text) → P (record C { links = kept_set.remove C.links (r, d) }) → Leaves P (Commands.delete C r d)
-    delete_leaves d new = of_tenant _ (λ t k. past (Commands.linked C r d) _ (λ _ _. past (unreferenced (Commands.referrer C r d)) _ (λ _ _. new)))
+    delete_leaves d new = of_tenant _ (λ t k. past (Commands.check_link C r d) _ (λ _ _. past (check_no_referrer (Commands.referrer C r d)) _ (λ _ _. new)))
 
     pub put_leaves : (b : Text) → P C → ((t : ℕ) → tenant_of C.tenants r ≡ Some t → P (with_manifest C r b)) → Leaves P (Commands.put_manifest C r b)
     put_leaves b same new =
-        of_tenant _ (λ t k. past (refuse (nat_lt max_manifest (length b)) SizeInvalid) _ (λ _ _. past (ok_or (refs_of b) ManifestInvalid) _ (λ refs _. past (all_linked C r refs) _ (λ _ _.
+        of_tenant _ (λ t k. past (refuse (nat_lt max_manifest (length b)) SizeInvalid) _ (λ _ _. past (ok_or (refs_of b) ManifestInvalid) _ (λ refs _. past (check_all_links C r refs) _ (λ _ _.
         either (has_manifest C r (sha256_text b)) _ _ (λ _. same) (λ _. past (refuse (lacks_room_for C t r) LimitReached) _ (λ _ _. past (refuse (is_full_of_manifests C r) LimitReached) _ (λ _ _. new t k)))))))
 
     pub delete_manifest_leaves : (m : Text) → P (record C { manifests = remove C.manifests (r, m) }) → Leaves P (Commands.delete_manifest C r m)
     delete_manifest_leaves m new = of_tenant _ (λ t k. past (ok_or (get C.manifests (r, m)) ManifestUnknown) _ (λ _ _. new))
 
-    pub lease_leaves : (crowded : Bool) (d : Text) → ((b : Resident) → get C.residents d ≡ Some b → P (with_lent C d b)) → Leaves P (Commands.lease crowded C r d)
+    pub lease_leaves : (crowded : Bool) (d : Text) → ((b : Resident) → get C.residents d ≡ Some b → P (with_leased C d b)) → Leaves P (Commands.lease crowded C r d)
     lease_leaves crowded d new = of_tenant _ (λ t k. past (linked_blob C r d) _ (λ b found. past (refuse crowded TooManyReaders) _ (λ _ _.
-        let is = bound_ok (linked C r d) _ b found in
+        let is = bound_ok (check_link C r d) _ b found in
         new b (some_of_ok (get C.residents d) BlobUnknown b is.2))))
 
 -- ---- another tenant sees nothing
@@ -122,49 +122,49 @@ alike_through t B C D b c = record {
   sessions = λ q is. b.sessions q is ∙ c.sessions q is;
 }
 
-unseen_append : (p : Number → Bool) (m : FinMap number_cmp Session) (k : Number) (b : Text) → p k ≡ false → AgreeOn p (append_in m k b) m
+unseen_append : (p : SessionNumber → Bool) (m : FinMap session_number_cmp Session) (k : SessionNumber) (b : Text) → p k ≡ false → AgreeOn p (after_append_in m k b) m
 unseen_append p m k b off = at (get m k)
   where
     at : (o : Option Session) → AgreeOn p (option_map_or (λ s. insert m k (longer b s)) o m) m
     at None = λ q is. refl
     at (Some s) = unseen_insert number_cmp_total exact_number p m k (longer b s) off
 
-module _ (C : Catalog) (u : ℕ) (r : Text) (other : is_of C u r ≡ false) where
+module _ (C : Catalog) (u : ℕ) (r : Text) (other : is_repo_of C u r ≡ false) where
   abbrev Unseen : Catalog → Type 0
   Unseen X = Alike u X C
 
   pub apart : (t : ℕ) → tenant_of C.tenants r ≡ Some t → (t == u) ≡ false
   apart t k = ap (λ o. option_eq nat_eq o (Some u)) (sym k) ∙ other
 
-  unseen_new : (t : ℕ) → tenant_of C.tenants r ≡ Some t → Unseen (new_session C t r)
+  unseen_new : (t : ℕ) → tenant_of C.tenants r ≡ Some t → Unseen (with_new_session C t r)
   unseen_new t k = record {
     tenants = refl;
     max_blob = refl;
-    numbers = length-set C.next t (next_of C t + 1);
-    next = get_or-set_other C.next t u (next_of C t + 1) 0 (λ e. eqb-false t u (apart t k) (sym e));
-    repos = unseen_insert nat_list_cmp_total exact_bytes (is_of C u) C.repos r tt other;
+    numbers = length-set C.next t (next_number_of C t + 1);
+    next = get_or-set_other C.next t u (next_number_of C t + 1) 0 (λ e. eqb-false t u (apart t k) (sym e));
+    repos = unseen_insert nat_list_cmp_total exact_bytes (is_repo_of C u) C.repos r tt other;
     links = λ q is. refl;
     manifests = λ q is. refl;
-    sessions = unseen_insert number_cmp_total exact_number (λ n. n.0 == u) C.sessions (t, next_of C t) (record { repo = r; chunks = Home [] }) (apart t k);
+    sessions = unseen_insert number_cmp_total exact_number (λ n. n.0 == u) C.sessions (t, next_number_of C t) (record { repo = r; chunks = CheckedIn [] }) (apart t k);
   }
 
-  unseen_sessions : (m : FinMap number_cmp Session) → AgreeOn (λ n. n.0 == u) m C.sessions → Unseen (record C { sessions = m })
+  unseen_sessions : (m : FinMap session_number_cmp Session) → AgreeOn (λ n. n.0 == u) m C.sessions → Unseen (record C { sessions = m })
   unseen_sessions m agree = with_sessions u (visible C) (visible C) (alike_itself u C) m C.sessions agree
 
   pub unseen_close : (housed : Catalog → Text → Result (Unit {0}) Refusal) (n : ℕ) (d : Text) (g : Option ByteRange) (b : Text) → Leaves Unseen (Commands.close_by housed C r n d g b)
-  unseen_close housed n d g b = close_leaves Unseen C r housed n d g b (λ t after k _ _. with_sessions u _ _ (with_links u (visible C) (visible C) (alike_itself u C) _ C.links (unseen_insert link_cmp_total exact_link (λ l. is_of C u l.0) C.links (r, d) tt other)) _ C.sessions (unseen_remove number_cmp_total exact_number (λ n. n.0 == u) C.sessions (t, n) (apart t k)))
+  unseen_close housed n d g b = close_leaves Unseen C r housed n d g b (λ t after k _ _. with_sessions u _ _ (with_links u (visible C) (visible C) (alike_itself u C) _ C.links (unseen_insert link_cmp_total exact_link (λ l. is_repo_of C u l.0) C.links (r, d) tt other)) _ C.sessions (unseen_remove number_cmp_total exact_number (λ n. n.0 == u) C.sessions (t, n) (apart t k)))
 
   pub unseen_mount : (d : Text) (from : Option Text) → Leaves Unseen (Commands.mount C r d from)
-  unseen_mount d from = mount_leaves Unseen C r d from unseen_new (λ t k _. with_links u _ _ (with_repos u (visible C) (visible C) (alike_itself u C) _ C.repos (unseen_insert nat_list_cmp_total exact_bytes (is_of C u) C.repos r tt other)) _ C.links (unseen_insert link_cmp_total exact_link (λ l. is_of C u l.0) C.links (r, d) tt other))
+  unseen_mount d from = mount_leaves Unseen C r d from unseen_new (λ t k _. with_links u _ _ (with_repos u (visible C) (visible C) (alike_itself u C) _ C.repos (unseen_insert nat_list_cmp_total exact_bytes (is_repo_of C u) C.repos r tt other)) _ C.links (unseen_insert link_cmp_total exact_link (λ l. is_repo_of C u l.0) C.links (r, d) tt other))
 
   pub unseen_delete : (d : Text) → Leaves Unseen (Commands.delete C r d)
-  unseen_delete d = delete_leaves Unseen C r d (with_links u (visible C) (visible C) (alike_itself u C) _ C.links (unseen_remove link_cmp_total exact_link (λ l. is_of C u l.0) C.links (r, d) other))
+  unseen_delete d = delete_leaves Unseen C r d (with_links u (visible C) (visible C) (alike_itself u C) _ C.links (unseen_remove link_cmp_total exact_link (λ l. is_repo_of C u l.0) C.links (r, d) other))
 
   pub unseen_put : (b : Text) → Leaves Unseen (Commands.put_manifest C r b)
-  unseen_put b = put_leaves Unseen C r b (alike_itself u C) (λ t k. with_manifests u _ _ (with_repos u (visible C) (visible C) (alike_itself u C) _ C.repos (unseen_insert nat_list_cmp_total exact_bytes (is_of C u) C.repos r tt other)) _ C.manifests (unseen_insert link_cmp_total exact_link (λ l. is_of C u l.0) C.manifests (r, sha256_text b) b other))
+  unseen_put b = put_leaves Unseen C r b (alike_itself u C) (λ t k. with_manifests u _ _ (with_repos u (visible C) (visible C) (alike_itself u C) _ C.repos (unseen_insert nat_list_cmp_total exact_bytes (is_repo_of C u) C.repos r tt other)) _ C.manifests (unseen_insert link_cmp_total exact_link (λ l. is_repo_of C u l.0) C.manifests (r, sha256_text b) b other))
 
   pub unseen_delete_manifest : (m : Text) → Leaves Unseen (Commands.delete_manifest C r m)
-  unseen_delete_manifest m = delete_manifest_leaves Unseen C r m (with_manifests u (visible C) (visible C) (alike_itself u C) _ C.manifests (unseen_remove link_cmp_total exact_link (λ l. is_of C u l.0) C.manifests (r, m) other))
+  unseen_delete_manifest m = delete_manifest_leaves Unseen C r m (with_manifests u (visible C) (visible C) (alike_itself u C) _ C.manifests (unseen_remove link_cmp_total exact_link (λ l. is_repo_of C u l.0) C.manifests (r, m) other))
 
   pub unseen_lease : (crowded : Bool) (d : Text) → Leaves Unseen (Commands.lease crowded C r d)
   unseen_lease crowded d = lease_leaves Unseen C r crowded d (λ b found. alike_itself u C)
@@ -173,12 +173,12 @@ module _ (C : Catalog) (u : ℕ) (r : Text) (other : is_of C u r ≡ false) wher
   unseen_start = start_leaves Unseen C r unseen_new
 
   pub unseen_add : (n : ℕ) (g : Option ByteRange) (b : Text) → Leaves Unseen (Commands.append C r n g b)
-  unseen_add n g b = append_leaves Unseen C r n g b (λ t k. unseen_sessions (append_in C.sessions (t, n) b) (unseen_append (λ n. n.0 == u) C.sessions (t, n) b (apart t k)))
+  unseen_add n g b = append_leaves Unseen C r n g b (λ t k. unseen_sessions (after_append_in C.sessions (t, n) b) (unseen_append (λ n. n.0 == u) C.sessions (t, n) b (apart t k)))
 
   pub unseen_abandon : (n : ℕ) → Leaves Unseen (Commands.abandon C r n)
   unseen_abandon n = abandon_leaves Unseen C r n (λ t k. unseen_sessions (remove C.sessions (t, n)) (unseen_remove number_cmp_total exact_number (λ n. n.0 == u) C.sessions (t, n) (apart t k)))
 
-pub unseen_command : (C : Catalog) (u : ℕ) (command : Command) → is_of C u (repo_of command) ≡ false → Leaves (λ X. Alike u X C) (outcome false C command)
+pub unseen_command : (C : Catalog) (u : ℕ) (command : Command) → is_repo_of C u (repo_of command) ≡ false → Leaves (λ X. Alike u X C) (outcome false C command)
 unseen_command C u (runs.Start r) other = answers_leave (λ X. Alike u X C) runs.Number _ (unseen_start C u r other)
 unseen_command C u (runs.Status r n) other = reading_leave (λ X. Alike u X C) runs.Number C (Commands.status C r n) (alike_itself u C)
 unseen_command C u (runs.Append r n g b) other = answers_leave (λ X. Alike u X C) runs.Number _ (unseen_add C u r other n g b)

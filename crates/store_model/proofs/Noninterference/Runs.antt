@@ -1,4 +1,4 @@
--- Tenants don't see each other: the induction over a run.
+-- Isolation of tenants: the induction over a run.
 use Rattle.std.proofs.Common.{◌≡◌, ◌≢◌, ℕ, ◌<◌, Bool, true, false, cond, List, [], ◌∷◌, ◌++◌, length, get_or, Option, Some, None, Result, Ok, Err, refl, sym, ap, ◌∙◌, subst, arith, ⊎_elim}
 use Prim.Native.Nat.{zero, suc}
 use Rattle.std.specs.Prelude.{◌⊎◌, ◌==◌, if◌then◌else◌}
@@ -14,33 +14,33 @@ use Rattle.std.proofs.lemmas.List.Elements.{Contains-get_or}
 use Rattle.std.proofs.lemmas.Map.Lookups.{exact_bytes}
 use Rattle.blob_digest.specs.declared.refusal.Refusal.{Refusal}
 use Rattle.blob_digest.specs.declared.refusal.Refusal.TheVariants.{Memory, StoreFull, TooManyReaders}
-use Rattle.finite_maps.specs.Texts.{Text, text_cmp}
-use Rattle.store_model.specs.Catalog.{Tenant, Resident, Catalog, link_cmp, number_cmp, is_tenants, is_of, opening}
+use Rattle.spec_lib.specs.Texts.{Text, text_cmp}
+use Rattle.store_model.specs.Catalog.{Tenant, Resident, Catalog, link_cmp, session_number_cmp, is_repo_of_tenant, is_repo_of, opening}
 use Rattle.store_model.specs.Commands
-use Rattle.store_model.specs.Commands.{Outcome, tenant, whole_in, linked_blob, with_lent}
-use Rattle.finite_maps.specs.Outcomes.{◌>>=◌, refuse}
+use Rattle.store_model.specs.Commands.{Outcome, tenant, content_in, linked_blob, with_leased}
+use Rattle.spec_lib.specs.Outcomes.{◌>>=◌, refuse}
 use Rattle.store_model.specs.Runs as runs
-use Rattle.store_model.specs.Runs.{Command, Answer, answered, takes_memory, outcome, IsCase, Event, Called, Swept, Happens, IsRun, repo_of}
-use Rattle.store_model.specs.Noninterference.{events_of, commands, replies, part, outcome_alone, named, reply, left, replies_alone, left_alone, IsUncrowded, brought, brought_by, brought_in, NoCollision, IsFair, TenantsAreAlone}
+use Rattle.store_model.specs.Runs.{Command, Answer, map_outcome, takes_memory, outcome, IsCommandCase, Event, CommandEvent, SweepEvent, Happens, IsRun, repo_of}
+use Rattle.store_model.specs.Noninterference.{events_of, commands_of, replies, tenant_view, isolated_outcome, uploaded_pair, reply_of, catalog_after, isolated_replies, isolated_catalog, IsUnaffectedByOthers, uploads_of_event, uploads_of_command, uploads_of_run, NoCollision, IsCollisionFreeRun, TenantsAreIsolated}
 use Rattle.blob_digest.proofs.KeyOrders.{number_cmp_total, exact_number, link_cmp_total, exact_link}
-use Rattle.finite_maps.proofs.Lists.{all_by_index}
-use Rattle.finite_maps.proofs.Agreement.{AgreeOn}
-use Rattle.finite_maps.proofs.Parts.{as_passes}
-use Rattle.finite_maps.proofs.Options.{nothing, no_member}
+use Rattle.spec_lib.proofs.Lists.{all_by_index}
+use Rattle.spec_lib.proofs.Agreement.{AgreeOn}
+use Rattle.spec_lib.proofs.Parts.{as_passes}
+use Rattle.spec_lib.proofs.Options.{nothing, no_member}
 use Rattle.store_model.proofs.Noninterference.SameFor.{Alike, Consistent, of_same, session_same, whole_same, blobs_same}
 use Rattle.store_model.proofs.Noninterference.StepConsistency.{Fits, Matches, own_command, known}
 use Rattle.store_model.proofs.Noninterference.LocalRespect.{Leaves, unseen_command, tenants_stay, alike_itself, alike_through}
 use Rattle.store_model.proofs.Noninterference.Consistency.{consistent_command, consistent_sweep, unseen_sweep}
-use Rattle.finite_maps.proofs.Texts.{tied_to_itself}
+use Rattle.spec_lib.proofs.Texts.{tied_to_itself}
 
 -- ---- one event
 
--- a lease that is refused, but not for its readers, is refused where there are none
+-- a lease that fails, but not with `TooManyReaders`, also fails without readers
 calm_lease : (C : Catalog) (r d : Text) (e : Refusal) → e ≢ TooManyReaders → Commands.lease true C r d ≡ Err e → Commands.lease false C r d ≡ Err e
 calm_lease C r d e other h = at (tenant C r) h
   where
     lent : Resident → Outcome Text
-    lent b = Ok (b.bytes, with_lent C d b)
+    lent b = Ok (b.bytes, with_leased C d b)
 
     blob : (x : Result Resident Refusal) → (x >>= λ b. refuse true TooManyReaders >>= λ _. lent b) ≡ Err e → (x >>= lent) ≡ Err e
     blob (Ok b) h = absurd (other (let p : TooManyReaders ≡ e = cc in sym p))
@@ -54,26 +54,26 @@ calm : (C : Catalog) (command : Command) (e : Refusal) (crowded : Bool) → e �
 calm C command e false other h = h
 calm C (runs.Lease r d) e true other h = refused_too (Commands.lease true C r d) (Commands.lease false C r d) (calm_lease C r d e other) h
   where
-    refused_too : (x y : Outcome Text) → (x ≡ Err e → y ≡ Err e) → answered runs.Bytes x ≡ Err e → answered runs.Bytes y ≡ Err e
+    refused_too : (x y : Outcome Text) → (x ≡ Err e → y ≡ Err e) → map_outcome runs.Bytes x ≡ Err e → map_outcome runs.Bytes y ≡ Err e
     refused_too (Ok a) y gives h = absurd cc
-    refused_too (Err f) y gives h = let p : f ≡ e = cc in ap (answered runs.Bytes) (gives (ap (λ x. Err x) p))
+    refused_too (Err f) y gives h = let p : f ≡ e = cc in ap (map_outcome runs.Bytes) (gives (ap (λ x. Err x) p))
 calm C command e true other h = h
 
 module _ (content : Text → Text) where
-  pub consistent_event : (C mid : Catalog) (e : Event) → Consistent content C → Happens C e mid → Fits content (brought C e) → Consistent content mid
-  consistent_event C mid (Called command (Ok a)) consistent h fits = subst (λ x. Leaves (Consistent content) x) h (consistent_command content C consistent command fits).0
-  consistent_event C mid (Called command (Err e)) consistent h fits = subst (λ X. Consistent content X) (sym h.1) consistent
-  consistent_event C mid (Swept swept) consistent h fits = consistent_sweep content C mid swept consistent h
+  pub consistent_event : (C mid : Catalog) (e : Event) → Consistent content C → Happens C e mid → Fits content (uploads_of_event C e) → Consistent content mid
+  consistent_event C mid (CommandEvent command (Ok a)) consistent h fits = subst (λ x. Leaves (Consistent content) x) h (consistent_command content C consistent command fits).0
+  consistent_event C mid (CommandEvent command (Err e)) consistent h fits = subst (λ X. Consistent content X) (sym h.1) consistent
+  consistent_event C mid (SweepEvent swept) consistent h fits = consistent_sweep content C mid swept consistent h
 
-  unseen_called : (t : ℕ) (C mid : Catalog) (command : Command) (r : Result Answer Refusal) → IsCase C command r mid → is_of C t (repo_of command) ≡ false → Alike t mid C
+  unseen_called : (t : ℕ) (C mid : Catalog) (command : Command) (r : Result Answer Refusal) → IsCommandCase C command r mid → is_repo_of C t (repo_of command) ≡ false → Alike t mid C
   unseen_called t C mid command (Ok a) h other = subst (λ x. Leaves (λ X. Alike t X C) x) h (unseen_command C t command other)
   unseen_called t C mid command (Err e) h other = subst (λ X. Alike t X C) (sym h.1) (alike_itself t C)
 
-  -- a tenant's own call, among others with its reply, and alone
+  -- a tenant's own command with its reply, with other tenants present and in the isolated run
   pub record Kept (t : ℕ) (D mid : Catalog) (r : Result Answer Refusal) (y : Outcome Answer) : Type 0 where
-    pub told : r ≡ reply y
-    pub alike : Alike t mid (left D y)
-    pub consistent : Consistent content (left D y)
+    pub told : r ≡ reply_of y
+    pub alike : Alike t mid (catalog_after D y)
+    pub consistent : Consistent content (catalog_after D y)
 
   kept_ok : (t : ℕ) (D mid : Catalog) (a : Answer) (y : Outcome Answer) → Matches t (Ok (a, mid)) y → Leaves (Consistent content) y → Kept t D mid (Ok a) y
   kept_ok t D mid a (Ok y) m s = record { told = ap (λ x. Ok x) m.0; alike = m.1; consistent = s }
@@ -83,23 +83,23 @@ module _ (content : Text → Text) where
   kept_err t D mid e (Ok y) free m a s = absurd (free m)
   kept_err t D mid e (Err f) free m a s = record { told = ap (λ x. Err x) m; alike = a; consistent = s }
 
-  fixed : (C : Catalog) (command : Command) (e : Refusal) → IsUncrowded (Called command (Err e)) → (((crowded : Bool) × (outcome crowded C command ≡ Err e)) ⊎ ((e ≡ Memory) × (takes_memory command ≡ true))) → outcome false C command ≡ Err e
+  fixed : (C : Catalog) (command : Command) (e : Refusal) → IsUnaffectedByOthers (CommandEvent command (Err e)) → (((crowded : Bool) × (outcome crowded C command ≡ Err e)) ⊎ ((e ≡ Memory) × (takes_memory command ≡ true))) → outcome false C command ≡ Err e
   fixed C command e free h = ⊎_elim (λ x. calm C command e x.0 free.2 x.1) (λ x. absurd (free.0 x.0)) h
 
-  pub own_called : (t : ℕ) (C D mid : Catalog) (command : Command) (r : Result Answer Refusal) → IsCase C command r mid → IsUncrowded (Called command r) → is_of C t (repo_of command) ≡ true →
-      Alike t C D → Consistent content C → Consistent content D → Fits content (brought_by C command) → Fits content (brought_by D command) → Kept t D mid r (outcome_alone D command)
+  pub own_called : (t : ℕ) (C D mid : Catalog) (command : Command) (r : Result Answer Refusal) → IsCommandCase C command r mid → IsUnaffectedByOthers (CommandEvent command r) → is_repo_of C t (repo_of command) ≡ true →
+      Alike t C D → Consistent content C → Consistent content D → Fits content (uploads_of_command C command) → Fits content (uploads_of_command D command) → Kept t D mid r (isolated_outcome D command)
   own_called t C D mid command (Ok a) h free own alike c d fits fits_D =
-      kept_ok t D mid a (outcome_alone D command) (subst (λ x. Matches t x (outcome_alone D command)) h (own_command content t C D alike c d command own fits)) (consistent_command content D d command fits_D).1
+      kept_ok t D mid a (isolated_outcome D command) (subst (λ x. Matches t x (isolated_outcome D command)) h (own_command content t C D alike c d command own fits)) (consistent_command content D d command fits_D).1
   own_called t C D mid command (Err e) h free own alike c d fits fits_D =
-      kept_err t D mid e (outcome_alone D command) free.1 (subst (λ x. Matches t x (outcome_alone D command)) (fixed C command e free h.0) (own_command content t C D alike c d command own fits))
+      kept_err t D mid e (isolated_outcome D command) free.1 (subst (λ x. Matches t x (isolated_outcome D command)) (fixed C command e free h.0) (own_command content t C D alike c d command own fits))
       (subst (λ X. Alike t X D) (sym h.1) alike) d
 
--- what a tenant's close brings among others and alone
-pub brought_same : (t : ℕ) (C D : Catalog) → Alike t C D → (command : Command) → is_of C t (repo_of command) ≡ true → brought_by C command ≡ brought_by D command
-brought_same t C D alike (runs.Close r n d g b) own = ap (named d) (
-    ap (λ x. x >>= λ u. Commands.session C u r n >>= λ _. Ok (whole_in C.sessions (u, n) b)) (known C t r own)
+-- the content of a tenant's close, with other tenants present and in the isolated run
+pub brought_same : (t : ℕ) (C D : Catalog) → Alike t C D → (command : Command) → is_repo_of C t (repo_of command) ≡ true → uploads_of_command C command ≡ uploads_of_command D command
+brought_same t C D alike (runs.Close r n d g b) own = ap (uploaded_pair d) (
+    ap (λ x. x >>= λ u. Commands.session C u r n >>= λ _. Ok (content_in C.sessions (u, n) b)) (known C t r own)
     ∙ (λ i. session_same t C D alike r n i >>= λ _. Ok (whole_same t C D alike n b i))
-    ∙ sym (ap (λ x. x >>= λ u. Commands.session D u r n >>= λ _. Ok (whole_in D.sessions (u, n) b)) (known D t r (sym (of_same t C D alike r) ∙ own))))
+    ∙ sym (ap (λ x. x >>= λ u. Commands.session D u r n >>= λ _. Ok (content_in D.sessions (u, n) b)) (known D t r (sym (of_same t C D alike r) ∙ own))))
 brought_same t C D alike command own = refl
 
 -- ---- a run
@@ -108,63 +108,63 @@ pub fits_both : (content : Text → Text) (xs ys : List (Text × Text)) → Fits
 fits_both content [] ys h = (tt, h)
 fits_both content (x ∷ xs) ys h = let rest = fits_both content xs ys h.1 in ((h.0, rest.0), rest.1)
 
--- what a run leaves to a tenant, by the tenant's events of it, from a catalog of its own
+-- a tenant's view after a run, by the tenant's own events from another catalog
 pub record Follows (content : Text → Text) (t : ℕ) (C' D : Catalog) (es : List Event) : Type 0 where
-  pub told : replies es ≡ replies_alone D (commands es)
-  pub alike : Alike t C' (left_alone D (commands es))
+  pub told : replies es ≡ isolated_replies D (commands_of es)
+  pub alike : Alike t C' (isolated_catalog D (commands_of es))
   pub consistent : Consistent content C'
-  pub consistent_alone : Consistent content (left_alone D (commands es))
+  pub consistent_alone : Consistent content (isolated_catalog D (commands_of es))
 
 module _ (content : Text → Text) (tenants : List Tenant) (t : ℕ) where
-  -- the rest of a run follows, from any catalogs that are alike
+  -- the rest of a run, from any catalogs that are equivalent for the tenant
   abbrev Onward : Catalog → Catalog → List Event → Type 0
-  Onward mid C' es = (D : Catalog) → Alike t mid D → Consistent content D → AllByRecursion IsUncrowded (events_of tenants t es) → Follows content t C' D (events_of tenants t es)
+  Onward mid C' es = (D : Catalog) → Alike t mid D → Consistent content D → AllByRecursion IsUnaffectedByOthers (events_of tenants t es) → Follows content t C' D (events_of tenants t es)
 
-  called : (C D mid C' : Catalog) (command : Command) (r : Result Answer Refusal) (es : List Event) → C.tenants ≡ tenants → IsCase C command r mid → Fits content (brought_by C command) →
-      Alike t C D → Consistent content C → Consistent content D → Onward mid C' es → (b : Bool) → is_of C t (repo_of command) ≡ b →
-      AllByRecursion IsUncrowded (if b then Called command r ∷ events_of tenants t es else events_of tenants t es) →
-      Follows content t C' D (if b then Called command r ∷ events_of tenants t es else events_of tenants t es)
+  called : (C D mid C' : Catalog) (command : Command) (r : Result Answer Refusal) (es : List Event) → C.tenants ≡ tenants → IsCommandCase C command r mid → Fits content (uploads_of_command C command) →
+      Alike t C D → Consistent content C → Consistent content D → Onward mid C' es → (b : Bool) → is_repo_of C t (repo_of command) ≡ b →
+      AllByRecursion IsUnaffectedByOthers (if b then CommandEvent command r ∷ events_of tenants t es else events_of tenants t es) →
+      Follows content t C' D (if b then CommandEvent command r ∷ events_of tenants t es else events_of tenants t es)
   called C D mid C' command r es are h fits alike c d rest false other free = rest D (alike_through t mid C D (unseen_called content t C mid command r h other) alike) d free
   called C D mid C' command r es are h fits alike c d rest true own free =
       let k = own_called content t C D mid command r h free.0 own alike c d fits (subst (λ x. Fits content x) (brought_same t C D alike command own) fits) in
-      let f = rest (left D (outcome_alone D command)) k.alike k.consistent free.1 in
+      let f = rest (catalog_after D (isolated_outcome D command)) k.alike k.consistent free.1 in
       record { told = λ i. k.told i ∷ f.told i; alike = f.alike; consistent = f.consistent; consistent_alone = f.consistent_alone }
 
-  pub follows : (es : List Event) (C C' D : Catalog) → C.tenants ≡ tenants → (run : IsRun C es C') → Fits content (brought_in es C C' run) → Alike t C D → Consistent content C → Consistent content D →
-      AllByRecursion IsUncrowded (events_of tenants t es) → Follows content t C' D (events_of tenants t es)
+  pub follows : (es : List Event) (C C' D : Catalog) → C.tenants ≡ tenants → (run : IsRun C es C') → Fits content (uploads_of_run es C C' run) → Alike t C D → Consistent content C → Consistent content D →
+      AllByRecursion IsUnaffectedByOthers (events_of tenants t es) → Follows content t C' D (events_of tenants t es)
   follows [] C C' D are run fits alike c d free = record { told = refl; alike = subst (λ X. Alike t X D) (sym run) alike; consistent = subst (λ X. Consistent content X) (sym run) c; consistent_alone = d }
-  follows (Swept swept ∷ es) C C' D are run fits alike c d free =
+  follows (SweepEvent swept ∷ es) C C' D are run fits alike c d free =
       let unseen = unseen_sweep t C run.0 swept run.1 in
       follows es run.0 C' D (unseen.tenants ∙ are) run.2 fits (alike_through t run.0 C D unseen alike) (consistent_sweep content C run.0 swept c run.1) d free
-  follows (Called command r ∷ es) C C' D are run fits alike c d free =
-      let both = fits_both content (brought_by C command) (brought_in es run.0 C' run.2) fits in
-      let s = consistent_event content C run.0 (Called command r) c run.1 both.0 in
+  follows (CommandEvent command r ∷ es) C C' D are run fits alike c d free =
+      let both = fits_both content (uploads_of_command C command) (uploads_of_run es run.0 C' run.2) fits in
+      let s = consistent_event content C run.0 (CommandEvent command r) c run.1 both.0 in
       called C D run.0 C' command r es are run.1 both.0 alike c d
       (λ E a e f. follows es run.0 C' E (same_tenants C run.0 command r run.1 ∙ are) run.2 both.1 a s e f)
-      (is_tenants tenants t (repo_of command)) (ap (λ ts. is_tenants ts t (repo_of command)) are) free
+      (is_repo_of_tenant tenants t (repo_of command)) (ap (λ ts. is_repo_of_tenant ts t (repo_of command)) are) free
     where
-      same_tenants : (C mid : Catalog) (command : Command) (r : Result Answer Refusal) → IsCase C command r mid → mid.tenants ≡ C.tenants
+      same_tenants : (C mid : Catalog) (command : Command) (r : Result Answer Refusal) → IsCommandCase C command r mid → mid.tenants ≡ C.tenants
       same_tenants C mid command (Ok a) h = subst (λ x. Leaves (λ X. X.tenants ≡ C.tenants) x) h (tenants_stay C command)
       same_tenants C mid command (Err e) h = ap (λ X. X.tenants) h.1
 
--- ---- parts
+-- ---- views
 
 module _ {K X : Type 0} {R : K → K → Ordering} (o : IsTotalOrder R) (same : IsAntisymmetric R) where
   retain_agree : (p : K → Bool) (m n : FinMap R X) → AgreeOn p m n → retain_keys m p ≡ retain_keys n p
   retain_agree p m n agree = same_map o same (retain_keys m p) (retain_keys n p) (λ q.
       get-retain_keys m p q (λ x tie. ap p (sym (same q x tie))) ∙ as_passes o same (p q) (get m q) (get n q) (agree q) ∙ sym (get-retain_keys n p q (λ x tie. ap p (sym (same q x tie)))))
 
--- catalogs that are alike to a tenant have the same part of it
-pub same_part : (content : Text → Text) (t : ℕ) (C D : Catalog) → Alike t C D → Consistent content C → Consistent content D → part C t ≡ part D t
+-- catalogs that are equivalent for a tenant have the same view of it
+pub same_part : (content : Text → Text) (t : ℕ) (C D : Catalog) → Alike t C D → Consistent content C → Consistent content D → tenant_view C t ≡ tenant_view D t
 same_part content t C D a c d =
-    let repos = retain_agree nat_list_cmp_total exact_bytes (is_of C t) C.repos D.repos a.repos ∙ ap (λ ts. retain_keys D.repos (is_tenants ts t)) a.tenants in
-    let links = retain_agree link_cmp_total exact_link (λ l. is_of C t l.0) C.links D.links a.links ∙ ap (λ ts. retain_keys D.links (λ l. is_tenants ts t l.0)) a.tenants in
-    let manifests = retain_agree link_cmp_total exact_link (λ l. is_of C t l.0) C.manifests D.manifests a.manifests ∙ ap (λ ts. retain_keys D.manifests (λ l. is_tenants ts t l.0)) a.tenants in
+    let repos = retain_agree nat_list_cmp_total exact_bytes (is_repo_of C t) C.repos D.repos a.repos ∙ ap (λ ts. retain_keys D.repos (is_repo_of_tenant ts t)) a.tenants in
+    let links = retain_agree link_cmp_total exact_link (λ l. is_repo_of C t l.0) C.links D.links a.links ∙ ap (λ ts. retain_keys D.links (λ l. is_repo_of_tenant ts t l.0)) a.tenants in
+    let manifests = retain_agree link_cmp_total exact_link (λ l. is_repo_of C t l.0) C.manifests D.manifests a.manifests ∙ ap (λ ts. retain_keys D.manifests (λ l. is_repo_of_tenant ts t l.0)) a.tenants in
     let sessions = retain_agree number_cmp_total exact_number (λ n. n.0 == t) C.sessions D.sessions a.sessions in
     let blobs = blobs_same t C D a content c d in
     λ i. record { repos = repos i; links = links i; manifests = manifests i; sessions = sessions i; next = a.next i; blobs = blobs i }
 
--- ---- the whole that was brought with a digest
+-- ---- the content that was uploaded with a digest
 
 abbrev pub content_of : List (Text × Text) → Text → Text
 content_of pairs d = option_map_or (λ w. w) (find_key text_cmp d pairs) []
@@ -207,14 +207,14 @@ consistent_opening content tenants slots max_blob = record {
   links = λ l h. no_member (get-empty link_cmp l) h;
   kept = λ l h. no_member (get-empty link_cmp l) h;
   manifests = λ l b h. nothing (get-empty link_cmp l) h;
-  sessions = λ k s h. nothing (get-empty number_cmp k) h;
+  sessions = λ k s h. nothing (get-empty session_number_cmp k) h;
   bytes = λ d b h. nothing (get-empty text_cmp d) h;
 }
 
-abbrev pub pairs_of : (tenants : List Tenant) (slots max_blob : ℕ) (es : List Event) (C' : Catalog) → IsFair tenants slots max_blob es C' → List (Text × Text)
-pairs_of tenants slots max_blob es C' f = brought_in es (opening tenants slots max_blob) C' f.run
+abbrev pub pairs_of : (tenants : List Tenant) (slots max_blob : ℕ) (es : List Event) (C' : Catalog) → IsCollisionFreeRun tenants slots max_blob es C' → List (Text × Text)
+pairs_of tenants slots max_blob es C' f = uploads_of_run es (opening tenants slots max_blob) C' f.run
 
-pub followed : (tenants : List Tenant) (slots max_blob t : ℕ) (es : List Event) (C' : Catalog) (f : IsFair tenants slots max_blob es C') → AllByRecursion IsUncrowded (events_of tenants t es) →
+pub followed : (tenants : List Tenant) (slots max_blob t : ℕ) (es : List Event) (C' : Catalog) (f : IsCollisionFreeRun tenants slots max_blob es C') → AllByRecursion IsUnaffectedByOthers (events_of tenants t es) →
     Follows (content_of (pairs_of tenants slots max_blob es C' f)) t C' (opening tenants slots max_blob) (events_of tenants t es)
 followed tenants slots max_blob t es C' f free =
     let start : Catalog = opening tenants slots max_blob in
@@ -222,7 +222,7 @@ followed tenants slots max_blob t es C' f free =
     let s = consistent_opening content tenants slots max_blob in
     follows content tenants t es start C' start refl f.run (fits_content (pairs_of tenants slots max_blob es C' f) f.no_collision) (alike_itself t start) s s free
 
-pub isolated : TenantsAreAlone
+pub isolated : TenantsAreIsolated
 isolated tenants slots max_blob t es C' f free =
     let h = followed tenants slots max_blob t es C' f free in
-    record { replies = h.told; part = same_part (content_of (pairs_of tenants slots max_blob es C' f)) t C' (left_alone (opening tenants slots max_blob) (commands (events_of tenants t es))) h.alike h.consistent h.consistent_alone }
+    record { replies = h.told; tenant_view = same_part (content_of (pairs_of tenants slots max_blob es C' f)) t C' (isolated_catalog (opening tenants slots max_blob) (commands_of (events_of tenants t es))) h.alike h.consistent h.consistent_alone }

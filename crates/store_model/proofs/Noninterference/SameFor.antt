@@ -1,4 +1,4 @@
--- Two catalogs that are alike to a tenant, and what a tenant can't tell them apart by.
+-- Two catalogs that are equivalent for a tenant, and the facts that are equal in both.
 use Rattle.std.proofs.Common.{T, ◌≡◌, ℕ, ◌+◌, Bool, true, false, cond, not, List, [], ◌∷◌, ◌++◌, length, map, Option, Some, None, is_some, refl, sym, ap, ◌∙◌, subst, arith}
 use Rattle.std.specs.Prelude.{◌==◌, ◌&&◌, nat_le, slice_get, slice_index}
 use Rattle.std.specs.Option.{option_map, option_map_or}
@@ -10,19 +10,19 @@ use Rattle.std.proofs.lemmas.Bool.{true≢false, false≢true, eq-eqb, and_left,
 use Rattle.std.proofs.lemmas.List.Sums.{sum_by-cons}
 use Rattle.std.proofs.lemmas.Map.Lookups.{exact_bytes}
 use Rattle.blob_digest.specs.declared.range.ByteRange.{ByteRange}
-use Rattle.finite_maps.specs.Sets as set
-use Rattle.finite_maps.specs.Texts.{Text, text_cmp, same_text}
-use Rattle.store_model.specs.Catalog.{Link, Number, Session, Resident, Catalog, tenant_of, is_tenants, is_of, quota_of, holds, tenant_holds, session_charge, session_charges_of, blob_share, used, open_sessions, repos_of, manifests_of, received, Tenant, link_cmp, number_cmp}
+use Rattle.spec_lib.specs.Sets as set
+use Rattle.spec_lib.specs.Texts.{Text, text_cmp, same_text}
+use Rattle.store_model.specs.Catalog.{Link, SessionNumber, Session, Resident, Catalog, tenant_of, is_repo_of_tenant, is_repo_of, quota_of, holds, tenant_holds, session_charge, session_charges_of, blob_share, used_bytes, open_sessions, repos_of, manifests_of, received_length, Tenant, link_cmp, session_number_cmp}
 use Rattle.store_model.specs.Sessions.{at_home}
-use Rattle.finite_maps.specs.Outcomes.{◌>>=◌}
-use Rattle.store_model.specs.Commands.{whole_in, session, session_in, not_busy, check, length_after, lacks_room_for, referrer, refers}
+use Rattle.spec_lib.specs.Outcomes.{◌>>=◌}
+use Rattle.store_model.specs.Commands.{content_in, session, session_in, not_busy, chunk_length_check, length_after, lacks_room_for, referrer, refers}
 use Rattle.store_model.specs.Noninterference.{blobs_of}
 use Rattle.blob_digest.proofs.KeyOrders.{number_cmp_total, exact_number, link_cmp_total, exact_link}
-use Rattle.finite_maps.proofs.Lists.{list_any_same, witness}
-use Rattle.finite_maps.proofs.Mapped.{find-over, sorted-over, map_none}
-use Rattle.finite_maps.proofs.Agreement.{AgreeOn, sum_agree, find_agree, any_agree, count_agree}
+use Rattle.spec_lib.proofs.Lists.{list_any_same, witness}
+use Rattle.spec_lib.proofs.Mapped.{find-over, sorted-over, map_none}
+use Rattle.spec_lib.proofs.Agreement.{AgreeOn, sum_agree, find_agree, any_agree, count_agree}
 
--- what a tenant can see something of: all but the blobs and the slots
+-- the fields that a tenant's view depends on: all but the blobs and the slots
 pub record Visible : Type 0 where
   pub tenants : List Tenant
   pub max_blob : ℕ
@@ -30,48 +30,48 @@ pub record Visible : Type 0 where
   pub repos : set.Set text_cmp
   pub links : set.Set link_cmp
   pub manifests : FinMap link_cmp Text
-  pub sessions : FinMap number_cmp Session
+  pub sessions : FinMap session_number_cmp Session
 
 abbrev pub visible : Catalog → Visible
 visible C = record { tenants = C.tenants; max_blob = C.max_blob; next = C.next; repos = C.repos; links = C.links; manifests = C.manifests; sessions = C.sessions }
 
--- Alike to a tenant: all that is its own is the same.
+-- Catalogs are equivalent for a tenant: all that belongs to it is equal.
 pub record AreAlike (t : ℕ) (C D : Visible) : Type 0 where
   pub tenants : C.tenants ≡ D.tenants
   pub max_blob : C.max_blob ≡ D.max_blob
   pub numbers : length C.next ≡ length D.next
   pub next : slice_index C.next t ≡ slice_index D.next t
-  pub repos : AgreeOn (is_tenants C.tenants t) C.repos D.repos
-  pub links : AgreeOn (λ l. is_tenants C.tenants t l.0) C.links D.links
-  pub manifests : AgreeOn (λ l. is_tenants C.tenants t l.0) C.manifests D.manifests
+  pub repos : AgreeOn (is_repo_of_tenant C.tenants t) C.repos D.repos
+  pub links : AgreeOn (λ l. is_repo_of_tenant C.tenants t l.0) C.links D.links
+  pub manifests : AgreeOn (λ l. is_repo_of_tenant C.tenants t l.0) C.manifests D.manifests
   pub sessions : AgreeOn (λ n. n.0 == t) C.sessions D.sessions
 
--- Two catalogs are alike to a tenant. What is kept of blobs isn't compared.
+-- Two catalogs are equivalent for a tenant; stored blobs are not compared.
 abbrev pub Alike : ℕ → Catalog → Catalog → Type 0
 Alike t C D = AreAlike t (visible C) (visible D)
 
--- ---- a part that is changed on both sides
+-- ---- a field that changes in both catalogs
 
 module _ (t : ℕ) (C D : Visible) (alike : AreAlike t C D) where
-  pub with_repos : (r s : set.Set text_cmp) → AgreeOn (is_tenants C.tenants t) r s → AreAlike t (record C { repos = r }) (record D { repos = s })
+  pub with_repos : (r s : set.Set text_cmp) → AgreeOn (is_repo_of_tenant C.tenants t) r s → AreAlike t (record C { repos = r }) (record D { repos = s })
   with_repos r s agree = record { tenants = alike.tenants; max_blob = alike.max_blob; numbers = alike.numbers; next = alike.next; repos = agree; links = alike.links; manifests = alike.manifests; sessions = alike.sessions }
 
-  pub with_links : (r s : set.Set link_cmp) → AgreeOn (λ l. is_tenants C.tenants t l.0) r s → AreAlike t (record C { links = r }) (record D { links = s })
+  pub with_links : (r s : set.Set link_cmp) → AgreeOn (λ l. is_repo_of_tenant C.tenants t l.0) r s → AreAlike t (record C { links = r }) (record D { links = s })
   with_links r s agree = record { tenants = alike.tenants; max_blob = alike.max_blob; numbers = alike.numbers; next = alike.next; repos = alike.repos; links = agree; manifests = alike.manifests; sessions = alike.sessions }
 
-  pub with_manifests : (r s : FinMap link_cmp Text) → AgreeOn (λ l. is_tenants C.tenants t l.0) r s → AreAlike t (record C { manifests = r }) (record D { manifests = s })
+  pub with_manifests : (r s : FinMap link_cmp Text) → AgreeOn (λ l. is_repo_of_tenant C.tenants t l.0) r s → AreAlike t (record C { manifests = r }) (record D { manifests = s })
   with_manifests r s agree = record { tenants = alike.tenants; max_blob = alike.max_blob; numbers = alike.numbers; next = alike.next; repos = alike.repos; links = alike.links; manifests = agree; sessions = alike.sessions }
 
-  pub with_sessions : (r s : FinMap number_cmp Session) → AgreeOn (λ n. n.0 == t) r s → AreAlike t (record C { sessions = r }) (record D { sessions = s })
+  pub with_sessions : (r s : FinMap session_number_cmp Session) → AgreeOn (λ n. n.0 == t) r s → AreAlike t (record C { sessions = r }) (record D { sessions = s })
   with_sessions r s agree = record { tenants = alike.tenants; max_blob = alike.max_blob; numbers = alike.numbers; next = alike.next; repos = alike.repos; links = alike.links; manifests = alike.manifests; sessions = agree }
 
--- What holds of each catalog of a run, where `content` gives the whole that was brought with a digest.
-pub record AreConsistent (content : Text → Text) (ts : List Tenant) (rs : set.Set text_cmp) (ls : set.Set link_cmp) (blobs : FinMap text_cmp Resident) (ms : FinMap link_cmp Text) (ss : FinMap number_cmp Session) : Type 0 where
+-- The invariant of each catalog of a run, if `content` is the content that was uploaded with a digest.
+pub record AreConsistent (content : Text → Text) (ts : List Tenant) (rs : set.Set text_cmp) (ls : set.Set link_cmp) (blobs : FinMap text_cmp Resident) (ms : FinMap link_cmp Text) (ss : FinMap session_number_cmp Session) : Type 0 where
   pub repos : (r : Text) → set.contains rs r ≡ true → is_some (tenant_of ts r) ≡ true
   pub links : (l : Link) → set.contains ls l ≡ true → set.contains rs l.0 ≡ true
   pub kept : (l : Link) → set.contains ls l ≡ true → is_some (get blobs l.1) ≡ true
   pub manifests : (l : Link) (b : Text) → get ms l ≡ Some b → set.contains rs l.0 ≡ true
-  pub sessions : (k : Number) (s : Session) → get ss k ≡ Some s → set.contains rs s.repo ≡ true
+  pub sessions : (k : SessionNumber) (s : Session) → get ss k ≡ Some s → set.contains rs s.repo ≡ true
   pub bytes : (d : Text) (b : Resident) → get blobs d ≡ Some b → b.bytes ≡ content d
 
 abbrev pub Consistent : (Text → Text) → Catalog → Type 0
@@ -79,7 +79,7 @@ Consistent content C = AreConsistent content C.tenants C.repos C.links C.residen
 
 -- ---- lists of blobs
 
--- the bytes of a blob that a tenant holds
+-- the bytes of a tenant's blob
 pub find-blobs : (C : Catalog) (t : ℕ) (q : Text) → find_key text_cmp q (blobs_of C t) ≡ cond (tenant_holds C t q) (option_map (λ b. b.bytes) (get C.residents q)) None
 find-blobs C t q =
     find-over text_cmp (λ (b : Resident). b.bytes) q (where_key text_cmp (tenant_holds C t) (entries C.residents))
@@ -99,14 +99,14 @@ sum-blobs C t (e ∷ es) =
       | false ↦ λ h. (let term : blob_share C t e ≡ 0 = rw h refl in let all = sum_by-cons (blob_share C t) e es in let rest = sum-blobs C t es in omega arith)
     ] refl
 
--- a tenant's use is what its blobs and its sessions come to
-pub used-blobs : (C : Catalog) (t : ℕ) → used C t ≡ sum_by (λ (e : Text × Text). length e.1) (blobs_of C t) + session_charges_of C t
-used-blobs C t = ap (λ n. n + session_charges_of C t) (sym (sum-blobs C t (entries C.residents)))
+-- a tenant's use is the sum over its blobs and its sessions
+pub used_bytes-blobs : (C : Catalog) (t : ℕ) → used_bytes C t ≡ sum_by (λ (e : Text × Text). length e.1) (blobs_of C t) + session_charges_of C t
+used_bytes-blobs C t = ap (λ n. n + session_charges_of C t) (sym (sum-blobs C t (entries C.residents)))
 
 module _ (content : Text → Text) (C : Catalog) (consistent : Consistent content C) where
-  -- what a tenant holds is kept, with the bytes that were brought
+  -- a tenant's blob is stored with the bytes that were uploaded
   pub held_kept : (t : ℕ) (q : Text) → tenant_holds C t q ≡ true → is_some (get C.residents q) ≡ true
-  held_kept t q h = let w = witness (λ r. is_of C t r && holds C r q) (set.items C.repos) h in consistent.kept (w.0, q) (and_parts (is_of C t w.0) (holds C w.0 q) w.1).1
+  held_kept t q h = let w = witness (λ r. is_repo_of C t r && holds C r q) (set.items C.repos) h in consistent.kept (w.0, q) (and_parts (is_repo_of C t w.0) (holds C w.0 q) w.1).1
 
   bytes_at : (t : ℕ) (q : Text) (x : Option Resident) (b : Bool) → get C.residents q ≡ x → (b ≡ true → is_some x ≡ true) → cond b (option_map (λ b. b.bytes) x) None ≡ cond b (Some (content q)) None
   bytes_at t q x false found there = refl
@@ -116,33 +116,33 @@ module _ (content : Text → Text) (C : Catalog) (consistent : Consistent conten
   pub blobs_are : (t : ℕ) (q : Text) → find_key text_cmp q (blobs_of C t) ≡ cond (tenant_holds C t q) (Some (content q)) None
   blobs_are t q = find-blobs C t q ∙ bytes_at t q (get C.residents q) (tenant_holds C t q) refl (held_kept t q)
 
--- ---- what is the same in catalogs that are alike
+-- ---- facts that are equal in equivalent catalogs
 
 module _ (t : ℕ) (C D : Catalog) (alike : Alike t C D) where
-  pub of_same : (r : Text) → is_of C t r ≡ is_of D t r
-  of_same r = ap (λ ts. is_tenants ts t r) alike.tenants
+  pub of_same : (r : Text) → is_repo_of C t r ≡ is_repo_of D t r
+  of_same r = ap (λ ts. is_repo_of_tenant ts t r) alike.tenants
 
-  pub holds_same : (r d : Text) → is_of C t r ≡ true → holds C r d ≡ holds D r d
+  pub holds_same : (r d : Text) → is_repo_of C t r ≡ true → holds C r d ≡ holds D r d
   holds_same r d own = ap is_some (alike.links (r, d) own)
 
-  both_hold : (r d : Text) (b : Bool) → is_of C t r ≡ b → (b && holds C r d) ≡ (b && holds D r d)
+  both_hold : (r d : Text) (b : Bool) → is_repo_of C t r ≡ b → (b && holds C r d) ≡ (b && holds D r d)
   both_hold r d true own = holds_same r d own
   both_hold r d false other = refl
 
-  pub own_holds_same : (r d : Text) → (is_of C t r && holds C r d) ≡ (is_of D t r && holds D r d)
-  own_holds_same r d = both_hold r d (is_of C t r) refl ∙ ap (λ b. b && holds D r d) (of_same r)
+  pub own_holds_same : (r d : Text) → (is_repo_of C t r && holds C r d) ≡ (is_repo_of D t r && holds D r d)
+  own_holds_same r d = both_hold r d (is_repo_of C t r) refl ∙ ap (λ b. b && holds D r d) (of_same r)
 
   pub tenant_holds_same : (d : Text) → tenant_holds C t d ≡ tenant_holds D t d
   tenant_holds_same d =
-      any_agree nat_list_cmp_total exact_bytes (is_of C t) (λ r. is_of C t r && holds C r d) C.repos D.repos alike.repos (λ r off. and_left (is_of C t r) (holds C r d) off)
-      ∙ list_any_same (λ r. is_of C t r && holds C r d) (λ r. is_of D t r && holds D r d) (λ r. own_holds_same r d) (set.items D.repos)
+      any_agree nat_list_cmp_total exact_bytes (is_repo_of C t) (λ r. is_repo_of C t r && holds C r d) C.repos D.repos alike.repos (λ r off. and_left (is_repo_of C t r) (holds C r d) off)
+      ∙ list_any_same (λ r. is_repo_of C t r && holds C r d) (λ r. is_repo_of D t r && holds D r d) (λ r. own_holds_same r d) (set.items D.repos)
 
   pub repos_same : repos_of C t ≡ repos_of D t
   repos_same =
-      count_agree nat_list_cmp_total exact_bytes (is_of C t) (is_of C t) C.repos D.repos alike.repos (λ r off. off)
+      count_agree nat_list_cmp_total exact_bytes (is_repo_of C t) (is_repo_of C t) C.repos D.repos alike.repos (λ r off. off)
       ∙ ap (λ ts. repos_of (record D { tenants = ts }) t) alike.tenants
 
-  pub room_same : (r : Text) → is_of C t r ≡ true → lacks_room_for C t r ≡ lacks_room_for D t r
+  pub room_same : (r : Text) → is_repo_of C t r ≡ true → lacks_room_for C t r ≡ lacks_room_for D t r
   room_same r own = λ i. not (is_some (alike.repos r own i)) && nat_le 1024 (repos_same i)
 
   pub open_same : open_sessions C t ≡ open_sessions D t
@@ -157,27 +157,27 @@ module _ (t : ℕ) (C D : Catalog) (alike : Alike t C D) where
   pub session_same : (r : Text) (n : ℕ) → session C t r n ≡ session D t r n
   session_same r n = ap (λ s. session_in s r) (session_found n)
 
-  pub check_same : (r : Text) (n : ℕ) (g : Option ByteRange) (len : ℕ) → check C t r n g len ≡ check D t r n g len
-  check_same r n g len = λ i. (session_in (session_found n i) r >>= λ s. not_busy s.chunks >>= λ _. length_after (alike.max_blob i) (received s) g len)
+  pub check_same : (r : Text) (n : ℕ) (g : Option ByteRange) (len : ℕ) → chunk_length_check C t r n g len ≡ chunk_length_check D t r n g len
+  check_same r n g len = λ i. (session_in (session_found n i) r >>= λ s. not_busy s.chunks >>= λ _. length_after (alike.max_blob i) (received_length s) g len)
 
-  pub whole_same : (n : ℕ) (last : Text) → whole_in C.sessions (t, n) last ≡ whole_in D.sessions (t, n) last
+  pub whole_same : (n : ℕ) (last : Text) → content_in C.sessions (t, n) last ≡ content_in D.sessions (t, n) last
   whole_same n last = ap (λ o. concat (option_map_or (λ s. at_home s.chunks) o []) ++ last) (session_found n)
 
   pub quota_same : quota_of C t ≡ quota_of D t
   quota_same = ap (λ ts. option_map_or (λ x. x.quota) (slice_get ts t) 0) alike.tenants
 
-  other_repo : (r q : Text) → is_of C t r ≡ true → (b : Bool) → same_text q r ≡ b → is_of C t q ≡ false → b ≡ false
-  other_repo r q own true is off = absurd (true≢false (sym own ∙ ap (is_of C t) (sym (text_is q r (sym is))) ∙ off))
+  other_repo : (r q : Text) → is_repo_of C t r ≡ true → (b : Bool) → same_text q r ≡ b → is_repo_of C t q ≡ false → b ≡ false
+  other_repo r q own true is off = absurd (true≢false (sym own ∙ ap (is_repo_of C t) (sym (text_is q r (sym is))) ∙ off))
   other_repo r q own false is off = refl
 
-  pub manifests_same : (r : Text) → is_of C t r ≡ true → manifests_of C r ≡ manifests_of D r
+  pub manifests_same : (r : Text) → is_repo_of C t r ≡ true → manifests_of C r ≡ manifests_of D r
   manifests_same r own =
-      sum_agree link_cmp_total exact_link (λ l. is_of C t l.0) (λ e. cond (same_text e.0.0 r) 1 0) C.manifests D.manifests alike.manifests
+      sum_agree link_cmp_total exact_link (λ l. is_repo_of C t l.0) (λ e. cond (same_text e.0.0 r) 1 0) C.manifests D.manifests alike.manifests
       (λ e off. ap (λ b. cond b 1 0) (other_repo r e.0.0 own (same_text e.0.0 r) refl off))
 
-  pub referrer_same : (r d : Text) → is_of C t r ≡ true → referrer C r d ≡ referrer D r d
+  pub referrer_same : (r d : Text) → is_repo_of C t r ≡ true → referrer C r d ≡ referrer D r d
   referrer_same r d own =
-      ap (option_map (λ e. e.0.1)) (find_agree link_cmp_total exact_link (λ l. is_of C t l.0) (λ e. same_text e.0.0 r && refers e.1 d) C.manifests D.manifests alike.manifests
+      ap (option_map (λ e. e.0.1)) (find_agree link_cmp_total exact_link (λ l. is_repo_of C t l.0) (λ e. same_text e.0.0 r && refers e.1 d) C.manifests D.manifests alike.manifests
       (λ e off. and_left (same_text e.0.0 r) (refers e.1 d) (other_repo r e.0.0 own (same_text e.0.0 r) refl off)))
 
   module _ (content : Text → Text) (consistent_C : Consistent content C) (consistent_D : Consistent content D) where
@@ -191,5 +191,5 @@ module _ (t : ℕ) (C D : Catalog) (alike : Alike t C D) where
             subst T (sym (sorted-over text_cmp (λ (b : Resident). b.bytes) (where_key text_cmp (tenant_holds X t) (entries X.residents))))
             (is_sorted-where_key text_cmp (tenant_holds X t) (entries X.residents) (entries_sorted X.residents))
 
-    pub used_same : used C t ≡ used D t
-    used_same = used-blobs C t ∙ (λ i. sum_by (λ (e : Text × Text). length e.1) (blobs_same i) + in_sessions_same i) ∙ sym (used-blobs D t)
+    pub used_same : used_bytes C t ≡ used_bytes D t
+    used_same = used_bytes-blobs C t ∙ (λ i. sum_by (λ (e : Text × Text). length e.1) (blobs_same i) + in_sessions_same i) ∙ sym (used_bytes-blobs D t)

@@ -1,4 +1,4 @@
--- A tenant's own command, among others and alone: from catalogs that are alike to it, the same reply, and catalogs that are alike again.
+-- A tenant's own command, from catalogs that are equivalent for it: the same reply, and again equivalent catalogs.
 use Rattle.std.proofs.Common.{◌≡◌, ℕ, ◌+◌, Bool, true, false, not, List, [], ◌∷◌, length, set, get_or, Option, Some, None, is_some, Result, Ok, Err, refl, sym, ap, ◌∙◌, subst, arith}
 use Prim.Native.Nat.{zero, suc}
 use Rattle.std.specs.Prelude.{◌==◌, ◌&&◌, ◌||◌, ◌^◌, nat_lt, nat_le, if◌then◌else◌}
@@ -14,31 +14,31 @@ use Rattle.blob_digest.specs.declared.refusal.Refusal.{Refusal}
 use Rattle.blob_digest.specs.declared.refusal.Refusal.TheVariants.{NameUnknown, DigestInvalid, SizeInvalid, BlobUnknown, ManifestInvalid, ManifestUnknown, ManifestBlobUnknown, Quota, StoreFull, LimitReached}
 use Rattle.blob_digest.specs.Digests.{sha256_text, is_digest_of}
 use Rattle.oci_manifest.specs.Manifests.{refs_of}
-use Rattle.finite_maps.specs.Texts.{Text, same_text}
-use Rattle.store_model.specs.Catalog.{Number, Home, Session, Resident, Catalog, number_cmp, tenant_of, is_of, holds, next_of, received}
+use Rattle.spec_lib.specs.Texts.{Text, same_text}
+use Rattle.store_model.specs.Catalog.{SessionNumber, CheckedIn, Session, Resident, Catalog, session_number_cmp, tenant_of, is_repo_of, holds, next_number_of, received_length}
 use Rattle.store_model.specs.Commands
-use Rattle.finite_maps.specs.Outcomes.{◌>>=◌, refuse}
-use Rattle.store_model.specs.Commands.{Outcome, tenant, session_in, not_busy, length_after, new_session, whole_in, same_bytes, is_digest_accepted, is_full_for, stored, all_linked, has_source, with_link, with_manifest, with_lent, linked_blob, unreferenced, is_full_of_manifests, within_quota, lacks_room_for, cannot_open}
+use Rattle.spec_lib.specs.Outcomes.{◌>>=◌, refuse}
+use Rattle.store_model.specs.Commands.{Outcome, tenant, session_in, not_busy, length_after, with_new_session, content_in, has_same_bytes, is_digest_accepted, is_full_for, with_stored_blob, check_all_links, has_source, with_link, with_manifest, with_leased, linked_blob, check_no_referrer, is_full_of_manifests, check_quota, lacks_room_for, cannot_open}
 use Rattle.store_model.specs.Sessions.{at_home, with_chunk}
 use Rattle.store_model.specs.declared.mount.Mount.TheVariants as mounting
 use Rattle.store_model.specs.Runs as runs
-use Rattle.store_model.specs.Runs.{Command, Answer, answered, reading, outcome, repo_of}
-use Rattle.store_model.specs.Noninterference.{unhoused, outcome_alone, whole_of, named, brought_by}
+use Rattle.store_model.specs.Runs.{Command, Answer, map_outcome, reading_outcome, outcome, repo_of}
+use Rattle.store_model.specs.Noninterference.{always_has_slot, isolated_outcome, close_content, uploaded_pair, uploads_of_command}
 use Rattle.blob_digest.proofs.KeyOrders.{number_cmp_total, exact_number, link_cmp_total, exact_link}
-use Rattle.finite_maps.proofs.Texts.{same_itself}
-use Rattle.finite_maps.proofs.Options.{option_eq_some}
-use Rattle.finite_maps.proofs.Outcomes.{bound_ok}
-use Rattle.finite_maps.proofs.Agreement.{AgreeOn, agree_insert, agree_remove}
+use Rattle.spec_lib.proofs.Texts.{same_itself}
+use Rattle.spec_lib.proofs.Options.{option_eq_some}
+use Rattle.spec_lib.proofs.Outcomes.{bound_ok}
+use Rattle.spec_lib.proofs.Agreement.{AgreeOn, agree_insert, agree_remove}
 use Rattle.store_model.proofs.Noninterference.SameFor.{Alike, visible, with_repos, with_links, with_manifests, with_sessions, Consistent, of_same, holds_same, own_holds_same, tenant_holds_same, room_same, open_same, session_found, session_same, check_same, whole_same, quota_same, manifests_same, referrer_same, used_same}
 
--- The outcomes among others and alone: the same answer and catalogs that are alike, or the same refusal. Only among others the store can be full.
+-- Two outcomes agree: equal results with equivalent catalogs, equal errors, or `StoreFull` with other tenants present.
 abbrev pub Matches : {A : Type 0} → ℕ → Outcome A → Outcome A → Type 0
 Matches t (Ok x) (Ok y) = (x.0 ≡ y.0) × Alike t x.1 y.1
 Matches t (Ok x) (Err f) = ⊥
 Matches t (Err e) (Ok y) = e ≡ StoreFull
 Matches t (Err e) (Err f) = e ≡ f
 
--- whether the pairs that were brought are those of `content`
+-- the uploaded pairs of digests and contents are those of `content`
 abbrev pub Fits : (Text → Text) → List (Text × Text) → Type 0
 Fits content pairs = AllByRecursion (λ x. content x.0 ≡ x.1) pairs
 
@@ -55,15 +55,15 @@ same_if : {A : Type 0} (t : ℕ) (b c : Bool) → b ≡ c → (x y x' y' : Outco
 same_if t true c e x y x' y' at_true at_false = subst (λ c. Matches t x (if c then x' else y')) e (at_true refl)
 same_if t false c e x y x' y' at_true at_false = subst (λ c. Matches t y (if c then x' else y')) e (at_false refl)
 
-pub answers_match : {A : Type 0} (t : ℕ) (f : A → Answer) (x y : Outcome A) → Matches t x y → Matches t (answered f x) (answered f y)
+pub answers_match : {A : Type 0} (t : ℕ) (f : A → Answer) (x y : Outcome A) → Matches t x y → Matches t (map_outcome f x) (map_outcome f y)
 answers_match t f (Ok x) (Ok y) m = (ap f m.0, m.1)
 answers_match t f (Ok x) (Err e) m = m
 answers_match t f (Err e) (Ok y) m = m
 answers_match t f (Err e) (Err d) m = m
 
-reading_match : {A : Type 0} (t : ℕ) (f : A → Answer) (C D : Catalog) (x y : Result A Refusal) → x ≡ y → Alike t C D → Matches t (reading f C x) (reading f D y)
-reading_match t f C D (Ok a) y e alike = subst (λ y. Matches t (Ok (f a, C)) (reading f D y)) e (refl, alike)
-reading_match t f C D (Err r) y e alike = subst (λ y. Matches t (Err r) (reading f D y)) e refl
+reading_match : {A : Type 0} (t : ℕ) (f : A → Answer) (C D : Catalog) (x y : Result A Refusal) → x ≡ y → Alike t C D → Matches t (reading_outcome f C x) (reading_outcome f D y)
+reading_match t f C D (Ok a) y e alike = subst (λ y. Matches t (Ok (f a, C)) (reading_outcome f D y)) e (refl, alike)
+reading_match t f C D (Err r) y e alike = subst (λ y. Matches t (Err r) (reading_outcome f D y)) e refl
 
 started_match : (t : ℕ) (x y : Outcome ℕ) → Matches t x y → Matches t (x >>= λ s. Ok (mounting.Session s.0, s.1)) (y >>= λ s. Ok (mounting.Session s.0, s.1))
 started_match t (Ok x) (Ok y) m = (ap mounting.Session m.0, m.1)
@@ -71,15 +71,15 @@ started_match t (Ok x) (Err e) m = m
 started_match t (Err e) (Ok y) m = m
 started_match t (Err e) (Err d) m = m
 
--- ---- the tenant is there
+-- ---- the tenant exists
 
-pub is_tenant : (C : Catalog) (t : ℕ) (r : Text) → is_of C t r ≡ true → tenant_of C.tenants r ≡ Some t
+pub is_tenant : (C : Catalog) (t : ℕ) (r : Text) → is_repo_of C t r ≡ true → tenant_of C.tenants r ≡ Some t
 is_tenant C t r own = option_eq_some (tenant_of C.tenants r) t own
 
-pub known : (C : Catalog) (t : ℕ) (r : Text) → is_of C t r ≡ true → tenant C r ≡ Ok t
+pub known : (C : Catalog) (t : ℕ) (r : Text) → is_repo_of C t r ≡ true → tenant C r ≡ Ok t
 known C t r own = ap (λ o. ok_or o NameUnknown) (is_tenant C t r own)
 
--- ---- what one write leaves alike
+-- ---- equivalence after one write
 
 next_alike : (xs ys : List ℕ) (t v w : ℕ) → length xs ≡ length ys → v ≡ w → get_or (set xs t v) t 0 ≡ get_or (set ys t w) t 0
 next_alike [] [] t v w e same = refl
@@ -89,10 +89,10 @@ next_alike (x ∷ xs) (y ∷ ys) zero v w e same = same
 next_alike (x ∷ xs) (y ∷ ys) (suc t) v w e same = next_alike xs ys t v w (omega arith) same
 
 abbrev pub longer : Text → Session → Session
-longer b s = record s { chunks = Home (with_chunk (at_home s.chunks) b) }
+longer b s = record s { chunks = CheckedIn (with_chunk (at_home s.chunks) b) }
 
--- a session under a key is changed, where there is one
-pub agree_changed : (p : Number → Bool) (m n : FinMap number_cmp Session) (k : Number) (f : Session → Session) → AgreeOn p m n → get m k ≡ get n k →
+-- the session under a key, if there is one, is changed
+pub agree_changed : (p : SessionNumber → Bool) (m n : FinMap session_number_cmp Session) (k : SessionNumber) (f : Session → Session) → AgreeOn p m n → get m k ≡ get n k →
     AgreeOn p (option_map_or (λ s. insert m k (f s)) (get m k) m) (option_map_or (λ s. insert n k (f s)) (get n k) n)
 agree_changed p m n k f agree found =
     subst (λ o. AgreeOn p (option_map_or (λ s. insert m k (f s)) (get m k) m) (option_map_or (λ s. insert n k (f s)) o n)) found (at (get m k))
@@ -101,61 +101,61 @@ agree_changed p m n k f agree found =
     at None = agree
     at (Some s) = agree_insert number_cmp_total exact_number p m n k (f s) agree
 
--- ---- what a close brings
+-- ---- the content of a close
 
 whole_found : (f : Session → Result ℕ Refusal) (x : Result Session Refusal) (after : ℕ) (w : Text) → (x >>= f) ≡ Ok after → (x >>= λ _. Ok w) ≡ Ok w
 whole_found f x after w h = let a = bound_ok x f after h in ap (λ x. x >>= λ _. Ok w) a.1
 
--- a whole that is brought with its digest is what `content` says
-pub fits_named : (content : Text → Text) (d w : Text) → Fits content (named d (Ok w)) → is_digest_of d w ≡ true → content d ≡ w
+-- a content that is uploaded with its digest is that of `content`
+pub fits_named : (content : Text → Text) (d w : Text) → Fits content (uploaded_pair d (Ok w)) → is_digest_of d w ≡ true → content d ≡ w
 fits_named content d w fits is = (subst (λ b. Fits content (if b then (d, w) ∷ [] else [])) is fits).0
 
--- what a close that passed its check brings is the whole that is compared
-pub fits_whole : (content : Text → Text) (C : Catalog) (t : ℕ) (r d last : Text) (n len after : ℕ) (g : Option ByteRange) → tenant C r ≡ Ok t → Commands.check C t r n g len ≡ Ok after →
-    Fits content (named d (whole_of C r n last)) → is_digest_of d (whole_in C.sessions (t, n) last) ≡ true → content d ≡ whole_in C.sessions (t, n) last
+-- the content of a close that passed its check is the one compared
+pub fits_whole : (content : Text → Text) (C : Catalog) (t : ℕ) (r d last : Text) (n len after : ℕ) (g : Option ByteRange) → tenant C r ≡ Ok t → Commands.chunk_length_check C t r n g len ≡ Ok after →
+    Fits content (uploaded_pair d (close_content C r n last)) → is_digest_of d (content_in C.sessions (t, n) last) ≡ true → content d ≡ content_in C.sessions (t, n) last
 fits_whole content C t r d last n len after g there checked fits is =
-    let brings : whole_of C r n last ≡ Ok (whole_in C.sessions (t, n) last) =
-    ap (λ x. x >>= λ t. Commands.session C t r n >>= λ _. Ok (whole_in C.sessions (t, n) last)) there ∙ whole_found _ (Commands.session C t r n) after (whole_in C.sessions (t, n) last) checked in
-    fits_named content d (whole_in C.sessions (t, n) last) (subst (λ x. Fits content (named d x)) brings fits) is
+    let brings : close_content C r n last ≡ Ok (content_in C.sessions (t, n) last) =
+    ap (λ x. x >>= λ t. Commands.session C t r n >>= λ _. Ok (content_in C.sessions (t, n) last)) there ∙ whole_found _ (Commands.session C t r n) after (content_in C.sessions (t, n) last) checked in
+    fits_named content d (content_in C.sessions (t, n) last) (subst (λ x. Fits content (uploaded_pair d x)) brings fits) is
 
--- where it fits, what is kept under the digest is the same
+-- if the content fits, the blob stored under the digest is the same
 pub names_alone : (content : Text → Text) (C : Catalog) (d w : Text) → Consistent content C → (is_digest_of d w ≡ true → content d ≡ w) → is_digest_accepted C d w ≡ is_digest_of d w
 names_alone content C d w consistent fits = by (is_digest_of d w) refl
   where
-    kept : (o : Option Resident) → get C.residents d ≡ o → content d ≡ w → same_bytes o w ≡ true
+    kept : (o : Option Resident) → get C.residents d ≡ o → content d ≡ w → has_same_bytes o w ≡ true
     kept None found is = refl
     kept (Some x) found is = subst (λ y. same_text x.bytes y ≡ true) (consistent.bytes d x found ∙ is) (same_itself x.bytes)
 
-    by : (b : Bool) → is_digest_of d w ≡ b → (b && same_bytes (get C.residents d) w) ≡ b
+    by : (b : Bool) → is_digest_of d w ≡ b → (b && has_same_bytes (get C.residents d) w) ≡ b
     by false is = refl
     by true is = kept (get C.residents d) refl (fits is)
 
 -- ---- the commands
 
-module _ (content : Text → Text) (t : ℕ) (C D : Catalog) (alike : Alike t C D) (consistent_C : Consistent content C) (consistent_D : Consistent content D) (r : Text) (own : is_of C t r ≡ true) where
-  own_D : is_of D t r ≡ true
+module _ (content : Text → Text) (t : ℕ) (C D : Catalog) (alike : Alike t C D) (consistent_C : Consistent content C) (consistent_D : Consistent content D) (r : Text) (own : is_repo_of C t r ≡ true) where
+  own_D : is_repo_of D t r ≡ true
   own_D = sym (of_same t C D alike r) ∙ own
 
   pub with_tenant : {A : Type 0} (f g : ℕ → Outcome A) → Matches t (f t) (g t) → Matches t (tenant C r >>= f) (tenant D r >>= g)
   with_tenant f g m = at_ok t t (tenant C r) (tenant D r) (known C t r own) (known D t r own_D) f g m
 
-  pub quota_alike : (n : ℕ) → within_quota C t n ≡ within_quota D t n
+  pub quota_alike : (n : ℕ) → check_quota C t n ≡ check_quota D t n
   quota_alike n =
       let q = quota_same t C D alike in
       let u = used_same t C D alike content consistent_C consistent_D in
       λ i. refuse (nat_lt (q i) (u i + n)) (Quota (u i) (q i))
 
-  new_alike : Alike t (new_session C t r) (new_session D t r)
+  new_alike : Alike t (with_new_session C t r) (with_new_session D t r)
   new_alike = record {
     tenants = alike.tenants;
     max_blob = alike.max_blob;
-    numbers = length-set C.next t (next_of C t + 1) ∙ alike.numbers ∙ sym (length-set D.next t (next_of D t + 1));
-    next = next_alike C.next D.next t (next_of C t + 1) (next_of D t + 1) alike.numbers (ap (λ n. n + 1) alike.next);
-    repos = agree_insert nat_list_cmp_total exact_bytes (is_of C t) C.repos D.repos r tt alike.repos;
+    numbers = length-set C.next t (next_number_of C t + 1) ∙ alike.numbers ∙ sym (length-set D.next t (next_number_of D t + 1));
+    next = next_alike C.next D.next t (next_number_of C t + 1) (next_number_of D t + 1) alike.numbers (ap (λ n. n + 1) alike.next);
+    repos = agree_insert nat_list_cmp_total exact_bytes (is_repo_of C t) C.repos D.repos r tt alike.repos;
     links = alike.links;
     manifests = alike.manifests;
-    sessions = subst (λ n. AgreeOn (λ k. k.0 == t) (insert C.sessions (t, next_of C t) (record { repo = r; chunks = Home [] })) (insert D.sessions (t, n) (record { repo = r; chunks = Home [] }))) alike.next
-        (agree_insert number_cmp_total exact_number (λ k. k.0 == t) C.sessions D.sessions (t, next_of C t) (record { repo = r; chunks = Home [] }) alike.sessions);
+    sessions = subst (λ n. AgreeOn (λ k. k.0 == t) (insert C.sessions (t, next_number_of C t) (record { repo = r; chunks = CheckedIn [] })) (insert D.sessions (t, n) (record { repo = r; chunks = CheckedIn [] }))) alike.next
+        (agree_insert number_cmp_total exact_number (λ k. k.0 == t) C.sessions D.sessions (t, next_number_of C t) (record { repo = r; chunks = CheckedIn [] }) alike.sessions);
   }
 
   pub own_start : Matches t (Commands.start C r) (Commands.start D r)
@@ -165,12 +165,12 @@ module _ (content : Text → Text) (t : ℕ) (C D : Catalog) (alike : Alike t C 
       (λ i. refuse (nat_le 64 (open_same t C D alike i) || nat_le (2 ^ 32) (alike.next i)) LimitReached) _ _ (λ _ _.
       (alike.next, new_alike))))
 
-  -- what is read of a tenant
+  -- the values that are read of a tenant
   read_same : {A : Type 0} (f g : ℕ → Result A Refusal) → f t ≡ g t → (tenant C r >>= f) ≡ (tenant D r >>= g)
   read_same f g e = ap (λ x. x >>= f) (known C t r own) ∙ e ∙ sym (ap (λ x. x >>= g) (known D t r own_D))
 
-  pub own_status : (n : ℕ) → Matches t (reading runs.Number C (Commands.status C r n)) (reading runs.Number D (Commands.status D r n))
-  own_status n = reading_match t runs.Number C D _ _ (read_same _ _ (ap (λ x. x >>= λ s. Ok (received s)) (session_same t C D alike r n))) alike
+  pub own_status : (n : ℕ) → Matches t (reading_outcome runs.Number C (Commands.status C r n)) (reading_outcome runs.Number D (Commands.status D r n))
+  own_status n = reading_match t runs.Number C D _ _ (read_same _ _ (ap (λ x. x >>= λ s. Ok (received_length s)) (session_same t C D alike r n))) alike
 
   pub own_append : (n : ℕ) (g : Option ByteRange) (b : Text) → Matches t (Commands.append C r n g b) (Commands.append D r n g b)
   own_append n g b = with_tenant _ _ (
@@ -197,24 +197,24 @@ module _ (content : Text → Text) (t : ℕ) (C D : Catalog) (alike : Alike t C 
       same_if t (has_source C t d from) (has_source D t d from) (source_same d from) _ _ _ _
       (λ _. same_check t (refuse (lacks_room_for C t r) LimitReached) (refuse (lacks_room_for D t r) LimitReached) (ap (λ b. refuse b LimitReached) (room_same t C D alike r own)) _ _ (λ _ _. (
         refl,
-        with_links t _ _ (with_repos t (visible C) (visible D) alike _ _ (agree_insert nat_list_cmp_total exact_bytes (is_of C t) C.repos D.repos r tt alike.repos)) _ _ (agree_insert link_cmp_total exact_link (λ l. is_of C t l.0) C.links D.links (r, d) tt alike.links),
+        with_links t _ _ (with_repos t (visible C) (visible D) alike _ _ (agree_insert nat_list_cmp_total exact_bytes (is_repo_of C t) C.repos D.repos r tt alike.repos)) _ _ (agree_insert link_cmp_total exact_link (λ l. is_repo_of C t l.0) C.links D.links (r, d) tt alike.links),
       )))
       (λ _. started_match t _ _ own_start))
 
-  linked_same : (d : Text) → Commands.linked C r d ≡ Commands.linked D r d
+  linked_same : (d : Text) → Commands.check_link C r d ≡ Commands.check_link D r d
   linked_same d = ap (λ b. refuse (not b) BlobUnknown) (holds_same t C D alike r d own)
 
   pub own_delete : (d : Text) → Matches t (Commands.delete C r d) (Commands.delete D r d)
   own_delete d = with_tenant _ _ (
       same_check t _ _ (linked_same d) _ _ (λ _ _.
-      same_check t (unreferenced (Commands.referrer C r d)) (unreferenced (Commands.referrer D r d)) (ap unreferenced (referrer_same t C D alike r d own)) _ _ (λ _ _. (
+      same_check t (check_no_referrer (Commands.referrer C r d)) (check_no_referrer (Commands.referrer D r d)) (ap check_no_referrer (referrer_same t C D alike r d own)) _ _ (λ _ _. (
         refl,
-        with_links t (visible C) (visible D) alike _ _ (agree_remove link_cmp_total exact_link (λ l. is_of C t l.0) C.links D.links (r, d) alike.links),
+        with_links t (visible C) (visible D) alike _ _ (agree_remove link_cmp_total exact_link (λ l. is_repo_of C t l.0) C.links D.links (r, d) alike.links),
       ))))
 
   -- ---- manifests
 
-  all_linked_same : (ds : List Text) → all_linked C r ds ≡ all_linked D r ds
+  all_linked_same : (ds : List Text) → check_all_links C r ds ≡ check_all_links D r ds
   all_linked_same [] = refl
   all_linked_same (d ∷ ds) = λ i. if holds_same t C D alike r d own i then all_linked_same ds i else Err (ManifestBlobUnknown d)
 
@@ -225,22 +225,22 @@ module _ (content : Text → Text) (t : ℕ) (C D : Catalog) (alike : Alike t C 
   own_put b = with_tenant _ _ (
       same_check t (refuse (nat_lt 4194304 (length b)) SizeInvalid) (refuse (nat_lt 4194304 (length b)) SizeInvalid) refl _ _ (λ _ _.
       same_check t (ok_or (refs_of b) ManifestInvalid) (ok_or (refs_of b) ManifestInvalid) refl _ _ (λ refs _.
-      same_check t (all_linked C r refs) (all_linked D r refs) (all_linked_same refs) _ _ (λ _ _.
+      same_check t (check_all_links C r refs) (check_all_links D r refs) (all_linked_same refs) _ _ (λ _ _.
       same_if t (contains_key C.manifests (r, sha256_text b)) (contains_key D.manifests (r, sha256_text b)) (ap is_some (found_same (sha256_text b))) _ _ _ _
       (λ _. (refl, alike))
       (λ _. same_check t (refuse (lacks_room_for C t r) LimitReached) (refuse (lacks_room_for D t r) LimitReached) (ap (λ b. refuse b LimitReached) (room_same t C D alike r own)) _ _ (λ _ _.
       same_check t (refuse (is_full_of_manifests C r) LimitReached) (refuse (is_full_of_manifests D r) LimitReached) (λ i. refuse (nat_le 1024 (manifests_same t C D alike r own i)) LimitReached) _ _ (λ _ _. (
         refl,
-        with_manifests t _ _ (with_repos t (visible C) (visible D) alike _ _ (agree_insert nat_list_cmp_total exact_bytes (is_of C t) C.repos D.repos r tt alike.repos)) _ _ (agree_insert link_cmp_total exact_link (λ l. is_of C t l.0) C.manifests D.manifests (r, sha256_text b) b alike.manifests),
+        with_manifests t _ _ (with_repos t (visible C) (visible D) alike _ _ (agree_insert nat_list_cmp_total exact_bytes (is_repo_of C t) C.repos D.repos r tt alike.repos)) _ _ (agree_insert link_cmp_total exact_link (λ l. is_repo_of C t l.0) C.manifests D.manifests (r, sha256_text b) b alike.manifests),
       ))))))))
 
-  pub own_get : (m : Text) → Matches t (reading runs.Bytes C (Commands.get_manifest C r m)) (reading runs.Bytes D (Commands.get_manifest D r m))
+  pub own_get : (m : Text) → Matches t (reading_outcome runs.Bytes C (Commands.get_manifest C r m)) (reading_outcome runs.Bytes D (Commands.get_manifest D r m))
   own_get m = reading_match t runs.Bytes C D _ _ (read_same _ _ (ap (λ o. ok_or o ManifestUnknown) (found_same m))) alike
 
   pub own_delete_manifest : (m : Text) → Matches t (Commands.delete_manifest C r m) (Commands.delete_manifest D r m)
   own_delete_manifest m = with_tenant _ _ (same_check t _ _ (ap (λ o. ok_or o ManifestUnknown) (found_same m)) _ _ (λ b _. (
     refl,
-    with_manifests t (visible C) (visible D) alike _ _ (agree_remove link_cmp_total exact_link (λ l. is_of C t l.0) C.manifests D.manifests (r, m) alike.manifests),
+    with_manifests t (visible C) (visible D) alike _ _ (agree_remove link_cmp_total exact_link (λ l. is_repo_of C t l.0) C.manifests D.manifests (r, m) alike.manifests),
   )))
 
   -- ---- leases and closes
@@ -249,7 +249,7 @@ module _ (content : Text → Text) (t : ℕ) (C D : Catalog) (alike : Alike t C 
   own_lease d = with_tenant _ _ (by (holds C r d) (holds D r d) refl (sym (holds_same t C D alike r d own)))
     where
       lent : Text → Catalog → Resident → Outcome Text
-      lent d X b = Ok (b.bytes, with_lent X d b)
+      lent d X b = Ok (b.bytes, with_leased X d b)
 
       leased : (x y : Option Resident) → get C.residents d ≡ x → get D.residents d ≡ y → is_some x ≡ true → is_some y ≡ true → Matches t (ok_or x BlobUnknown >>= lent d C) (ok_or y BlobUnknown >>= lent d D)
       leased None y e f p q = absurd (false≢true p)
@@ -266,31 +266,31 @@ module _ (content : Text → Text) (t : ℕ) (C D : Catalog) (alike : Alike t C 
       by false true held same = absurd (false≢true (sym same))
       by false false held same = refl
 
-  pub own_close : (n : ℕ) (d : Text) (g : Option ByteRange) (b : Text) → Fits content (named d (whole_of C r n b)) →
-      Matches t (Commands.close C r n d g b) (Commands.close_by unhoused D r n d g b)
+  pub own_close : (n : ℕ) (d : Text) (g : Option ByteRange) (b : Text) → Fits content (uploaded_pair d (close_content C r n b)) →
+      Matches t (Commands.close C r n d g b) (Commands.close_by always_has_slot D r n d g b)
   own_close n d g b fits = with_tenant _ _ (
       same_check t _ _ (check_same t C D alike r n g (length b)) _ _ (λ after checked.
       same_check t _ _ (quota_alike (length b)) _ _ (λ _ _.
       let here = fits_whole content C t r d b n (length b) after g (known C t r own) checked fits in
-      same_check t (refuse (not (is_digest_accepted C d (whole_in C.sessions (t, n) b))) DigestInvalid) (refuse (not (is_digest_accepted D d (whole_in D.sessions (t, n) b))) DigestInvalid)
+      same_check t (refuse (not (is_digest_accepted C d (content_in C.sessions (t, n) b))) DigestInvalid) (refuse (not (is_digest_accepted D d (content_in D.sessions (t, n) b))) DigestInvalid)
       (ap (λ x. refuse (not x) DigestInvalid) (
-      names_alone content C d (whole_in C.sessions (t, n) b) consistent_C here
+      names_alone content C d (content_in C.sessions (t, n) b) consistent_C here
       ∙ ap (is_digest_of d) (whole_same t C D alike n b)
-      ∙ sym (names_alone content D d (whole_in D.sessions (t, n) b) consistent_D (λ is. here (ap (is_digest_of d) (whole_same t C D alike n b) ∙ is) ∙ whole_same t C D alike n b)))) _ _ (λ _ _.
+      ∙ sym (names_alone content D d (content_in D.sessions (t, n) b) consistent_D (λ is. here (ap (is_digest_of d) (whole_same t C D alike n b) ∙ is) ∙ whole_same t C D alike n b)))) _ _ (λ _ _.
       full (is_full_for C d)))))
     where
-      full : (x : Bool) → Matches t (refuse x StoreFull >>= λ _. Ok (length (whole_in C.sessions (t, n) b), stored C t r n d (whole_in C.sessions (t, n) b)))
-          (Ok (length (whole_in D.sessions (t, n) b), stored D t r n d (whole_in D.sessions (t, n) b)))
+      full : (x : Bool) → Matches t (refuse x StoreFull >>= λ _. Ok (length (content_in C.sessions (t, n) b), with_stored_blob C t r n d (content_in C.sessions (t, n) b)))
+          (Ok (length (content_in D.sessions (t, n) b), with_stored_blob D t r n d (content_in D.sessions (t, n) b)))
       full true = refl
       full false = (
         ap length (whole_same t C D alike n b),
-        with_sessions t _ _ (with_links t (visible C) (visible D) alike _ _ (agree_insert link_cmp_total exact_link (λ l. is_of C t l.0) C.links D.links (r, d) tt alike.links)) _ _ (agree_remove number_cmp_total exact_number (λ k. k.0 == t) C.sessions D.sessions (t, n) alike.sessions),
+        with_sessions t _ _ (with_links t (visible C) (visible D) alike _ _ (agree_insert link_cmp_total exact_link (λ l. is_repo_of C t l.0) C.links D.links (r, d) tt alike.links)) _ _ (agree_remove number_cmp_total exact_number (λ k. k.0 == t) C.sessions D.sessions (t, n) alike.sessions),
       )
 
 -- ---- any of them
 
-pub own_command : (content : Text → Text) (t : ℕ) (C D : Catalog) → Alike t C D → Consistent content C → Consistent content D → (command : Command) → is_of C t (repo_of command) ≡ true →
-    Fits content (brought_by C command) → Matches t (outcome false C command) (outcome_alone D command)
+pub own_command : (content : Text → Text) (t : ℕ) (C D : Catalog) → Alike t C D → Consistent content C → Consistent content D → (command : Command) → is_repo_of C t (repo_of command) ≡ true →
+    Fits content (uploads_of_command C command) → Matches t (outcome false C command) (isolated_outcome D command)
 own_command content t C D a c d (runs.Start r) own fits = answers_match t runs.Number _ _ (own_start content t C D a c d r own)
 own_command content t C D a c d (runs.Status r n) own fits = own_status content t C D a c d r own n
 own_command content t C D a c d (runs.Append r n g b) own fits = answers_match t runs.Number _ _ (own_append content t C D a c d r own n g b)

@@ -1,4 +1,4 @@
--- The book's text after two runs that have the same commands for each tenant.
+-- The store's text after two runs in which each tenant makes the same commands.
 use Rattle.std.proofs.Common.{◌≡◌, ℕ, ◌+◌, Bool, true, false, cond, List, [], ◌∷◌, ◌++◌, length, Option, Some, None, is_some, refl, sym, ap, ◌∙◌, subst}
 use Rattle.std.specs.Prelude.{◌==◌, ◌&&◌, ◌||◌, if◌then◌else◌}
 use Rattle.std.specs.Option.{option_map, option_map_or}
@@ -11,18 +11,18 @@ use Rattle.std.specs.FinMap.{get, entries, same_map, contains_key-keys}
 use Rattle.std.specs.FinMap.Entries.{find as find_key}
 use Rattle.std.proofs.lemmas.Bool.{false≢true, eq-eqb, or_right}
 use Rattle.std.proofs.lemmas.Map.Lookups.{exact_bytes}
-use Rattle.finite_maps.specs.Sets as kept_set
-use Rattle.finite_maps.specs.Texts.{Text, text_cmp, same_text}
-use Rattle.store_model.specs.Catalog.{Tenant, Link, Resident, Catalog, link_cmp, tenant_of, is_of, tenant_holds, size, count, used, opening, is_tenants}
-use Rattle.store_model.specs.Runs.{Event, Called, Swept, repo_of}
-use Rattle.store_model.specs.Noninterference.{events_of, commands, blobs_of, left_alone, IsUncrowded, TextsAreTheSame}
+use Rattle.spec_lib.specs.Sets as kept_set
+use Rattle.spec_lib.specs.Texts.{Text, text_cmp, same_text}
+use Rattle.store_model.specs.Catalog.{Tenant, Link, Resident, Catalog, link_cmp, tenant_of, is_repo_of, tenant_holds, blob_length, link_count, used_bytes, opening, is_repo_of_tenant}
+use Rattle.store_model.specs.Runs.{Event, CommandEvent, SweepEvent, repo_of}
+use Rattle.store_model.specs.Noninterference.{events_of, commands_of, blobs_of, isolated_catalog, IsUnaffectedByOthers, TextsAreTheSame}
 use Rattle.store_model.specs.BookText.{blob_line, book_line, end_line, repository_line, tenant_line, blob_text, manifest_text, session_text, repo_text, tenant_text, book_text}
 use Rattle.blob_digest.proofs.KeyOrders.{number_cmp_total, exact_number, link_cmp_total, exact_link}
-use Rattle.finite_maps.proofs.Lists.{all_weaker, flat_map-same, all_same}
-use Rattle.finite_maps.proofs.Options.{not_some}
+use Rattle.spec_lib.proofs.Lists.{all_weaker, flat_map-same, all_same}
+use Rattle.spec_lib.proofs.Options.{not_some}
 use Rattle.store_model.proofs.Invariant.Repos.{is_own}
 use Rattle.store_model.proofs.Invariant.Links.{is_held}
-use Rattle.store_model.proofs.Noninterference.SameFor.{Alike, Consistent, of_same, find-blobs, used-blobs, tenant_holds_same, in_sessions_same}
+use Rattle.store_model.proofs.Noninterference.SameFor.{Alike, Consistent, of_same, find-blobs, used_bytes-blobs, tenant_holds_same, in_sessions_same}
 use Rattle.store_model.proofs.Noninterference.LocalRespect.{alike_through}
 use Rattle.store_model.proofs.Noninterference.Runs.{content_of, pairs_of, followed, isolated}
 
@@ -46,7 +46,7 @@ module _ {K : Type 0} (R : K → K → Ordering) (o : IsTotalOrder R) where
   members : (s : kept_set.Set R) → AllByRecursion (λ x. kept_set.contains s x ≡ true) (kept_set.items s)
   members s = all_weaker (λ x. list_any (eq_by_cmp R x) (kept_set.items s) ≡ true) (λ x. kept_set.contains s x ≡ true) (λ x h. contains_key-keys s x ∙ h) (kept_set.items s) (each_found (kept_set.items s))
 
--- ---- from the parts of all tenants to the whole
+-- ---- from the views of all tenants to the text
 
 pub alike_back : (t : ℕ) (C D : Catalog) → Alike t C D → Alike t D C
 alike_back t C D a = record {
@@ -94,10 +94,10 @@ module _ (b c : Text → Text) (C D : Catalog) (consistent_C : Consistent b C) (
   same_sessions : C.sessions ≡ D.sessions
   same_sessions = same_map number_cmp_total exact_number C.sessions D.sessions (λ n. (alike n.0).sessions n (eq-eqb n.0 n.0 refl))
 
-  same_used : (t : ℕ) → used C t ≡ used D t
-  same_used t = used-blobs C t ∙ (λ i. sum_by (λ (e : Text × Text). length e.1) (blobs t i) + in_sessions_same t C D (alike t) i) ∙ sym (used-blobs D t)
+  same_used : (t : ℕ) → used_bytes C t ≡ used_bytes D t
+  same_used t = used_bytes-blobs C t ∙ (λ i. sum_by (λ (e : Text × Text). length e.1) (blobs t i) + in_sessions_same t C D (alike t) i) ∙ sym (used_bytes-blobs D t)
 
-  same_count : (d : Text) → count C d ≡ count D d
+  same_count : (d : Text) → link_count C d ≡ link_count D d
   same_count d = λ i. count_by (λ r. kept_set.contains (same_links i) (r, d)) (kept_set.items (same_repos i))
 
   -- ---- the size of a linked blob
@@ -112,10 +112,10 @@ module _ (b c : Text → Text) (C D : Catalog) (consistent_C : Consistent b C) (
   size_of None = refl
   size_of (Some x) = refl
 
-  same_size : (l : Link) → kept_set.contains C.links l ≡ true → size C l.1 ≡ size D l.1
+  same_size : (l : Link) → kept_set.contains C.links l ≡ true → blob_length C l.1 ≡ blob_length D l.1
   same_size l there = at (tenant_of C.tenants l.0) refl
     where
-      at : (o : Option ℕ) → tenant_of C.tenants l.0 ≡ o → size C l.1 ≡ size D l.1
+      at : (o : Option ℕ) → tenant_of C.tenants l.0 ≡ o → blob_length C l.1 ≡ blob_length D l.1
       at None none = absurd (absent l.0 none (consistent_C.links l there))
       at (Some t) known = size_of (get C.residents l.1) ∙ ap (λ o. option_map_or length o 0) (bytes_same t l.1 (is_held C t l.0 l.1 (consistent_C.links l there) (is_own C t l.0 known) there)) ∙ sym (size_of (get D.residents l.1))
 
@@ -137,9 +137,9 @@ module _ (b c : Text → Text) (C D : Catalog) (consistent_C : Consistent b C) (
 
   same_tenant_text : (e : ℕ × Tenant) → tenant_text C e ≡ tenant_text D e
   same_tenant_text e =
-      let repos_here : flat_map (repo_text C e.0) (filter (is_of C e.0) (kept_set.items C.repos)) ≡ flat_map (repo_text D e.0) (filter (is_of D e.0) (kept_set.items D.repos)) =
-      flat_map-same (repo_text C e.0) (repo_text D e.0) (filter (is_of C e.0) (kept_set.items C.repos)) (all_same (λ r. repo_text C e.0 r ≡ repo_text D e.0 r) (same_repo_text e.0) (filter (is_of C e.0) (kept_set.items C.repos)))
-      ∙ (λ i. flat_map (repo_text D e.0) (filter (is_tenants ((alike 0).tenants i) e.0) (kept_set.items (same_repos i)))) in
+      let repos_here : flat_map (repo_text C e.0) (filter (is_repo_of C e.0) (kept_set.items C.repos)) ≡ flat_map (repo_text D e.0) (filter (is_repo_of D e.0) (kept_set.items D.repos)) =
+      flat_map-same (repo_text C e.0) (repo_text D e.0) (filter (is_repo_of C e.0) (kept_set.items C.repos)) (all_same (λ r. repo_text C e.0 r ≡ repo_text D e.0 r) (same_repo_text e.0) (filter (is_repo_of C e.0) (kept_set.items C.repos)))
+      ∙ (λ i. flat_map (repo_text D e.0) (filter (is_repo_of_tenant ((alike 0).tenants i) e.0) (kept_set.items (same_repos i)))) in
       λ i. tenant_line e.1.name (same_used e.0 i) e.1.quota ((alike e.0).next i) ++ repos_here i
 
   pub same_text_of : book_text C ≡ book_text D
@@ -150,11 +150,11 @@ module _ (b c : Text → Text) (C D : Catalog) (consistent_C : Consistent b C) (
 
 -- ---- the theorem
 
-uncrowded_of : (tenants : List Tenant) (t : ℕ) (es : List Event) → AllByRecursion IsUncrowded es → AllByRecursion IsUncrowded (events_of tenants t es)
+uncrowded_of : (tenants : List Tenant) (t : ℕ) (es : List Event) → AllByRecursion IsUnaffectedByOthers es → AllByRecursion IsUnaffectedByOthers (events_of tenants t es)
 uncrowded_of tenants t [] h = tt
-uncrowded_of tenants t (Swept swept ∷ es) h = uncrowded_of tenants t es h.1
-uncrowded_of tenants t (Called command r ∷ es) h =
-    elim (is_tenants tenants t (repo_of command)) as (λ b. AllByRecursion IsUncrowded (if b then Called command r ∷ events_of tenants t es else events_of tenants t es)) [
+uncrowded_of tenants t (SweepEvent swept ∷ es) h = uncrowded_of tenants t es h.1
+uncrowded_of tenants t (CommandEvent command r ∷ es) h =
+    elim (is_repo_of_tenant tenants t (repo_of command)) as (λ b. AllByRecursion IsUnaffectedByOthers (if b then CommandEvent command r ∷ events_of tenants t es else events_of tenants t es)) [
       | true ↦ (h.0, uncrowded_of tenants t es h.1)
       | false ↦ uncrowded_of tenants t es h.1
     ]
@@ -163,12 +163,12 @@ pub same_texts : TextsAreTheSame
 same_texts tenants slots max_blob es fs C D run_es free_es run_fs free_fs same =
     let a : (t : ℕ) → _ = λ t. followed tenants slots max_blob t es C run_es (uncrowded_of tenants t es free_es) in
     let b : (t : ℕ) → _ = λ t. followed tenants slots max_blob t fs D run_fs (uncrowded_of tenants t fs free_fs) in
-    let alone_a : (t : ℕ) → Catalog = λ t. left_alone (opening tenants slots max_blob) (commands (events_of tenants t es)) in
-    let alone_b : (t : ℕ) → Catalog = λ t. left_alone (opening tenants slots max_blob) (commands (events_of tenants t fs)) in
-    let alone_same : (t : ℕ) → alone_a t ≡ alone_b t = λ t. ap (left_alone (opening tenants slots max_blob)) (same t) in
+    let alone_a : (t : ℕ) → Catalog = λ t. isolated_catalog (opening tenants slots max_blob) (commands_of (events_of tenants t es)) in
+    let alone_b : (t : ℕ) → Catalog = λ t. isolated_catalog (opening tenants slots max_blob) (commands_of (events_of tenants t fs)) in
+    let alone_same : (t : ℕ) → alone_a t ≡ alone_b t = λ t. ap (isolated_catalog (opening tenants slots max_blob)) (same t) in
     let alike : (t : ℕ) → Alike t C D = λ t. alike_through t C (alone_a t) D (a t).alike (subst (λ X. Alike t X D) (sym (alone_same t)) (alike_back t D (alone_b t) (b t).alike)) in
     let blobs : (t : ℕ) → blobs_of C t ≡ blobs_of D t = λ t.
-    ap (λ p. p.blobs) (isolated tenants slots max_blob t es C run_es (uncrowded_of tenants t es free_es)).part
+    ap (λ p. p.blobs) (isolated tenants slots max_blob t es C run_es (uncrowded_of tenants t es free_es)).tenant_view
     ∙ ap (λ X. blobs_of X t) (alone_same t)
-    ∙ sym (ap (λ p. p.blobs) (isolated tenants slots max_blob t fs D run_fs (uncrowded_of tenants t fs free_fs)).part) in
+    ∙ sym (ap (λ p. p.blobs) (isolated tenants slots max_blob t fs D run_fs (uncrowded_of tenants t fs free_fs)).tenant_view) in
     same_text_of (content_of (pairs_of tenants slots max_blob es C run_es)) (content_of (pairs_of tenants slots max_blob fs D run_fs)) C D (a 0).consistent (b 0).consistent alike blobs

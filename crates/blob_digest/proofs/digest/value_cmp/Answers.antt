@@ -2,7 +2,7 @@ use Rattle.std.proofs.Common.{Equal, Greater, Less, ◌∙◌, arith, sym}
 use Rattle.std.proofs.lemmas.List.{take_rest}
 use Rattle.std.specs.Ordering.{nat_cmp}
 use Rattle.std.specs.Cmp.Lexicographic.{slice_cmp}
-use Rattle.finite_maps.proofs.Sorted.{nat_cmp-equal, nat_cmp-greater, nat_cmp-less}
+use Rattle.spec_lib.proofs.Sorted.{nat_cmp-equal, nat_cmp-greater, nat_cmp-less}
 use Rattle.blob_digest.proofs.WordOrder.{words_cmp}
 use Rattle.blob_digest.proofs.digest.value_cmp.Goals as goal
 

@@ -1,12 +1,12 @@
 use Rattle.std.proofs.Common.{◌≡◌, ◌∙◌, ap, arith, length, refl, subst, sym, vec_capacity}
-use Rattle.locked_book.specs.History.{AreFresh}
+use Rattle.locked_book.specs.History.{AreFreshDesks}
 use Rattle.blob_store.specs.Jobs.{IsReadyAt, IsRoomOfWorker}
-use Rattle.blob_store.specs.Seats.{work_of}
+use Rattle.blob_store.specs.StoreBackends.{work_of}
 use Rattle.blob_store.specs.Workers.{AllAt}
 use Rattle.blob_store.proofs.Settlings.{fresh_work}
 use Rattle.blob_store.proofs.Places.{at_first, at_last, at_pushed}
 use Rattle.locked_book.proofs.Sums.{fresh_left}
-use Rattle.row_player.specs.Shares.{own_rows}
+use Rattle.script_player.specs.Shares.{own_rows}
 use Rattle.blob_store.proofs.playing.jobs_of.Goals as goal
 
 pub loop-desk-preserved : goal.loop-desk-preserved
@@ -15,7 +15,7 @@ loop-desk-preserved g c =
     let n = c.len-workers.result in
     let lines = g.L.RowList.lines c.args.rows.now in
     let replies = c.in-Some-pop.replies in
-    let left = fresh_left c.pop.new.self.items c.in-Some.desk (subst AreFresh c.in-Some.ensures.items was.fresh) in
+    let left = fresh_left c.pop.new.self.items c.in-Some.desk (subst AreFreshDesks c.in-Some.ensures.items was.fresh) in
     let lists = subst (AllAt (IsRoomOfWorker n lines)) c.in-Some-pop.ensures.items was.lists in
     let mine = at_last (IsRoomOfWorker n lines) c.pop-in-Some.new.self.items replies lists in
     let desk_count = c.in-Some.ensures.len in

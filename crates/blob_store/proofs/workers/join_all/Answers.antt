@@ -1,5 +1,5 @@
 use Rattle.std.proofs.Common.{◌≡◌, ◌+◌, arith, length, rules, subst, sym, vec_len}
-use Rattle.blob_store.specs.Jobs.{HasPlayedIfComplete, IsOutcomeAt, IsPromisedAt}
+use Rattle.blob_store.specs.Jobs.{HasPlayedIfComplete, IsWorkerResultAt, IsThreadOfWorkerAt}
 use Rattle.blob_store.specs.Workers.{AllAt}
 use Rattle.blob_store.proofs.Places.{at_first, at_last, at_pushed}
 use Rattle.blob_store.proofs.workers.join_all.Goals as goal
@@ -14,8 +14,8 @@ loop-child-preserved g c =
     let left = c.pop.new.self in
     let worker = c.in-Some.child.promise.worker in
     let done = c.join.result in
-    let children = subst (AllAt (IsPromisedAt n rows)) c.in-Some.ensures.items was.children in
-    let here = at_last (IsPromisedAt n rows) left.items c.in-Some.child children in
+    let children = subst (AllAt (IsThreadOfWorkerAt n rows)) c.in-Some.ensures.items was.children in
+    let here = at_last (IsThreadOfWorkerAt n rows) left.items c.in-Some.child children in
     let of_rows = subst (λ r. HasPlayedIfComplete C worker.workers worker.number (g.L.RowList.lines r) done) here.of_rows c.join.ensures in
     let of_all = subst (λ k. HasPlayedIfComplete C k worker.number lines done) here.among of_rows in
     let of_one = subst (λ k. HasPlayedIfComplete C n k lines done) here.turn of_all in
@@ -23,9 +23,9 @@ loop-child-preserved g c =
     let more = c.push_reserved.ensures.len in
     record {
       all = omega (arith, was.all, count, more);
-      children = at_first (IsPromisedAt n rows) left.items c.in-Some.child children;
-      outcomes = subst (AllAt (IsOutcomeAt C n lines)) (sym c.push_reserved.ensures.items)
-          (at_pushed (IsOutcomeAt C n lines) c.loop-child.outcomes.items done was.outcomes
+      children = at_first (IsThreadOfWorkerAt n rows) left.items c.in-Some.child children;
+      outcomes = subst (AllAt (IsWorkerResultAt C n lines)) (sym c.push_reserved.ensures.items)
+          (at_pushed (IsWorkerResultAt C n lines) c.loop-child.outcomes.items done was.outcomes
           (λ w at. let number : length left.items + 1 ≡ w = omega (arith, at, was.all, count, left.ok.0, c.loop-child.outcomes.ok.0) in subst (λ k. HasPlayedIfComplete C n k lines done) number of_one));
       room = omega (arith, was.room, c.push_reserved.ensures.capacity);
     }
@@ -41,7 +41,7 @@ returns g c =
     let more = c.push_reserved-2.ensures.len in
     record {
       len = omega (arith, was.all, none, more);
-      each = subst (AllAt (IsOutcomeAt C n lines)) (sym c.push_reserved-2.ensures.items)
-          (at_pushed (IsOutcomeAt C n lines) c.loop-child.outcomes.items first was.outcomes
+      each = subst (AllAt (IsWorkerResultAt C n lines)) (sym c.push_reserved-2.ensures.items)
+          (at_pushed (IsWorkerResultAt C n lines) c.loop-child.outcomes.items first was.outcomes
           (λ w at. let zero : 0 ≡ w = omega (arith, at, was.all, none, c.loop-child.outcomes.ok.0) in subst (λ k. HasPlayedIfComplete C n k lines first) zero c.requires.first));
     }

@@ -1,5 +1,5 @@
 use Rattle.std.proofs.Common.{◌≡◌, ◌+◌, ◌∙◌, ap, arith, length, rules, subst, sym, vec_len}
-use Rattle.blob_store.specs.Jobs.{IsOutcomeAt, IsPromisedAt, IsReady, IsReadyAt}
+use Rattle.blob_store.specs.Jobs.{IsWorkerResultAt, IsThreadOfWorkerAt, IsReady, IsReadyAt}
 use Rattle.blob_store.specs.Workers.{AllAt}
 use Rattle.blob_store.proofs.Places.{at_first, at_last, at_pushed}
 use Rattle.blob_store.proofs.workers.start_all.Goals as goal
@@ -25,8 +25,8 @@ loop-job-preserved g c =
     let number : c.in-Some.job.worker.number ≡ length c.loop-job.children.items + 1 = omega (arith, mine.turn, was.all, count, c.pop.new.self.ok.0, c.loop-job.children.ok.0) in
     record {
       jobs = at_first (IsReadyAt n (g.L.RowList.lines rows)) c.pop.new.self.items c.in-Some.job jobs;
-      children = subst (AllAt (IsPromisedAt n rows)) (sym c.push_reserved.ensures.items)
-          (at_pushed (IsPromisedAt n rows) c.loop-job.children.items c.in-Ok.child was.children
+      children = subst (AllAt (IsThreadOfWorkerAt n rows)) (sym c.push_reserved.ensures.items)
+          (at_pushed (IsThreadOfWorkerAt n rows) c.loop-job.children.items c.in-Ok.child was.children
           (record { of_rows = ap (λ p. p.rows.now) promised; among = ap (λ p. p.worker.workers) promised ∙ mine.among; turn = ap (λ p. p.worker.number) promised ∙ number }));
       all = omega (arith, was.all, count, c.push_reserved.ensures.len);
       room = omega (arith, was.room, c.push_reserved.ensures.capacity);
@@ -60,8 +60,8 @@ returns-in-Err g c =
     record {
       all = omega (arith, was.all, c.in-Some.ensures.len, others.ensures.len, pushed.ensures.len);
       children = was.children;
-      outcomes = subst (AllAt (IsOutcomeAt C n lines)) (sym pushed.ensures.items)
-          (at_pushed (IsOutcomeAt C n lines) others.result.items c.incomplete.result
+      outcomes = subst (AllAt (IsWorkerResultAt C n lines)) (sym pushed.ensures.items)
+          (at_pushed (IsWorkerResultAt C n lines) others.result.items c.incomplete.result
           (λ k d lt w at done. absurd (cc (others.ensures.none k d lt, done)))
           (λ w at done. absurd (cc (c.incomplete.ensures, done))));
       room = omega (arith, was.outcomes.1, others.ensures.capacity, pushed.ensures.capacity);

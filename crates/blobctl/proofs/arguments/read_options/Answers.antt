@@ -5,8 +5,8 @@ use Rattle.clap.specs.Kinds.{HasKind}
 use Rattle.clap.specs.Matches.{found_of}
 use Rattle.clap.specs.Simple.{App, is_simple, matches_of}
 use Rattle.clap.specs.Walk.{Row, rows_of}
-use Rattle.finite_maps.specs.Texts.{Text}
-use Rattle.blobctl.specs.Arguments.{AreFound, program}
+use Rattle.spec_lib.specs.Texts.{Text}
+use Rattle.blobctl.specs.Arguments.{AreOptionsOf, program}
 use Rattle.blobctl.proofs.CommandLines.{program_is_free, program_is_simple, refused_found, refused_words}
 use Rattle.blobctl.proofs.arguments.read_options.Goals as goal
 
@@ -16,7 +16,7 @@ returns-in-Ok-clause-spelled c =
     let app = c.in_ok-command.ensures in
     let rows : rows_of (found_of c.in-Ok.matches) ≡ matches_of program words = (c.in-Ok.ensures.matches (ap is_simple app ∙ program_is_simple)).0 ∙ ap (λ (a : App). matches_of a words) app in
     let taken : fault_of program words ≡ [] = ap (λ (a : App). fault_of a words) (sym app) ∙ c.in-Ok.ensures.kinds (ap is_simple_and_free app ∙ program_is_free) in
-    IfOk-weaker c.options_of.result _ _ (λ options found. record { taken = taken; found = subst (λ (r : List Row). AreFound r options) rows found }) c.options_of.ensures.found
+    IfOk-weaker c.options_of.result _ _ (λ options found. record { taken = taken; found = subst (λ (r : List Row). AreOptionsOf r options) rows found }) c.options_of.ensures.found
 
 pub returns-in-Ok-clause-refused : goal.returns-in-Ok-clause-refused
 returns-in-Ok-clause-refused c =
@@ -30,4 +30,4 @@ pub returns-in-Err-clause-refused : goal.returns-in-Err-clause-refused
 returns-in-Err-clause-refused c =
     let words : List Text = map string_bytes c.args.words.now in
     let app = c.in_ok-command.ensures in
-    refused_words words c.in-Err.error c.stopped.result c.stopped.ensures (subst (λ (a : App). HasKind (fault_of a words) c.in-Err.error) app (c.in-Err.ensures.kinds (ap is_simple_and_free app ∙ program_is_free)))
+    refused_words words c.in-Err.error c.stop_of.result c.stop_of.ensures (subst (λ (a : App). HasKind (fault_of a words) c.in-Err.error) app (c.in-Err.ensures.kinds (ap is_simple_and_free app ∙ program_is_free)))

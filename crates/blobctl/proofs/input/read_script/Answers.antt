@@ -13,9 +13,9 @@ returns-then-len-gt-MAX_SCRIPT-clause-most g c =
     let inv = c.loop-turn.invariant in
     let added = c.in_ok-count.ensures.added in
     let piece = take c.in_ok-count.count c.add_one_read.new.buffer in
-    let all = one_more _ _ _ c.loop-turn.script piece c.add_one_read.new.script inv.taken added.1 added.0 in
+    let all = one_more _ _ _ c.loop-turn.script piece c.add_one_read.new.script inv.taken c.in_ok-count.ensures.taken added in
     let same : length c.add_one_read.new.buffer ≡ length (take c.min-wanted.result c.loop-turn.buffer) = search rules in
-    let size : length c.add_one_read.new.script ≡ length c.loop-turn.script + length piece = rw added.0 (length-append c.loop-turn.script piece) in
+    let size : length c.add_one_read.new.script ≡ length c.loop-turn.script + length piece = rw added (length-append c.loop-turn.script piece) in
     (c.add_one_read.new.script, all, omega (arith, same, size, length-take c.in_ok-count.count c.add_one_read.new.buffer, length-take c.min-wanted.result c.loop-turn.buffer, c.min-wanted.ensures, inv.size, inv.fits))
 
 pub returns-then-len-gt-MAX_SCRIPT-clause-refused : goal.returns-then-len-gt-MAX_SCRIPT-clause-refused
@@ -23,18 +23,18 @@ returns-then-len-gt-MAX_SCRIPT-clause-refused g c =
     let inv = c.loop-turn.invariant in
     let added = c.in_ok-count.ensures.added in
     let piece = take c.in_ok-count.count c.add_one_read.new.buffer in
-    let all = one_more _ _ _ c.loop-turn.script piece c.add_one_read.new.script inv.taken added.1 added.0 in
-    let size : length c.add_one_read.new.script ≡ length c.loop-turn.script + length piece = rw added.0 (length-append c.loop-turn.script piece) in
-    inr (refl, inr (c.add_one_read.new.script, all, omega (arith, size, length-take c.in_ok-count.count c.add_one_read.new.buffer, added.2, inv.size, c.if-len-gt-MAX_SCRIPT.true)))
+    let all = one_more _ _ _ c.loop-turn.script piece c.add_one_read.new.script inv.taken c.in_ok-count.ensures.taken added in
+    let size : length c.add_one_read.new.script ≡ length c.loop-turn.script + length piece = rw added (length-append c.loop-turn.script piece) in
+    inr (refl, inr (c.add_one_read.new.script, all, omega (arith, size, length-take c.in_ok-count.count c.add_one_read.new.buffer, c.in_ok-count.ensures.few, inv.size, c.if-len-gt-MAX_SCRIPT.true)))
 
 pub loop-turn-preserved : goal.loop-turn-preserved
 loop-turn-preserved g c =
     let inv = c.loop-turn.invariant in
     let added = c.in_ok-count.ensures.added in
     let piece = take c.in_ok-count.count c.add_one_read.new.buffer in
-    let all = one_more _ _ _ c.loop-turn.script piece c.add_one_read.new.script inv.taken added.1 added.0 in
-    let grown : length c.add_one_read.new.script ≡ length c.loop-turn.script + length piece = rw added.0 (length-append c.loop-turn.script piece) in
-    let size : c.loop-turn.len + c.in_ok-count.count ≡ length c.add_one_read.new.script = omega (arith, grown, length-take c.in_ok-count.count c.add_one_read.new.buffer, added.2, inv.size) in
+    let all = one_more _ _ _ c.loop-turn.script piece c.add_one_read.new.script inv.taken c.in_ok-count.ensures.taken added in
+    let grown : length c.add_one_read.new.script ≡ length c.loop-turn.script + length piece = rw added (length-append c.loop-turn.script piece) in
+    let size : c.loop-turn.len + c.in_ok-count.count ≡ length c.add_one_read.new.script = omega (arith, grown, length-take c.in_ok-count.count c.add_one_read.new.buffer, c.in_ok-count.ensures.few, inv.size) in
     record {
       taken = all;
       size = size;

@@ -3,7 +3,7 @@ use Rattle.std.specs.Io.KnownBytes.{Consumes}
 use Rattle.watched_reader.specs.Watching.{HasNotFailed, inner_of}
 use Rattle.blobctl.proofs.input.read_script.Given as goal
 
--- what was read so far is the front of what the reader had, no read failed, and each turn took a byte at least
+-- the bytes read so far are the first that the reader had, no read failed, and each turn read at least one byte
 abbrev pub invariant-loop-turn : goal.invariant-loop-turn
 invariant-loop-turn g l = record {
   taken : Consumes (g.R.Read.remaining (inner_of l.fn.reader)) (g.R.Read.remaining (inner_of l.reader)) l.script;

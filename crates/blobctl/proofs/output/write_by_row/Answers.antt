@@ -2,7 +2,7 @@ use Rattle.std.proofs.Common.{◌≡◌, ◌+◌, ◌<◌, ◌∙◌, ap, arith,
 use Rattle.std.proofs.KnownBytes.{Appends-trans}
 use Rattle.std.proofs.lemmas.List.{length-drop}
 use Rattle.store_api.specs.Answers.{answer_of}
-use Rattle.row_player.specs.Replies.{replies_text, reply_line}
+use Rattle.script_player.specs.Replies.{replies_text, reply_line}
 use Rattle.blobctl.proofs.Replies.{next_left}
 use Rattle.blobctl.proofs.output.write_by_row.Goals as goal
 

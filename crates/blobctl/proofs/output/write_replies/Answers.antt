@@ -1,7 +1,7 @@
 use Rattle.std.proofs.Common.{◌+◌, take}
 use Rattle.std.proofs.KnownBytes.{Appends-trans}
 use Rattle.store_api.specs.Answers.{answer_of, answers_of}
-use Rattle.row_player.specs.Replies.{replies_text, reply_line}
+use Rattle.script_player.specs.Replies.{replies_text, reply_line}
 use Rattle.blobctl.proofs.Replies.{replies_more}
 use Rattle.blobctl.proofs.output.write_replies.Goals as goal
 

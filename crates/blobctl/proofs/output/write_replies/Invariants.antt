@@ -1,7 +1,7 @@
 use Rattle.std.proofs.Common.{take}
 use Rattle.std.specs.Io.KnownBytes.{Appends}
 use Rattle.store_api.specs.Answers.{answers_of}
-use Rattle.row_player.specs.Replies.{replies_text}
+use Rattle.script_player.specs.Replies.{replies_text}
 use Rattle.blobctl.proofs.output.write_replies.Given as goal
 
 -- the replies so far were written

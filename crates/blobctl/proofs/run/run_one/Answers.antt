@@ -1,7 +1,7 @@
 use Rattle.std.proofs.Common.{◌++◌, refl}
 use Rattle.store_model.specs.BookText.{book_text}
 use Rattle.store_api.specs.Answers.{answers_of}
-use Rattle.row_player.specs.Replies.{replies_text}
+use Rattle.script_player.specs.Replies.{replies_text}
 use Rattle.blobctl.proofs.run.run_one.Goals as goal
 
 pub returns-clause-played : goal.returns-clause-played

@@ -4,7 +4,7 @@ use Rattle.store_model.specs.BookText.{book_text}
 use Rattle.store_model.specs.Catalog.{Catalog}
 use Rattle.blob_store.specs.Workers.{IsInterleaved}
 use Rattle.locked_book.specs.Names.{StoreNames}
-use Rattle.row_player.specs.Replies.{replies_text}
+use Rattle.script_player.specs.Replies.{replies_text}
 use Rattle.blobctl.proofs.workers.play_on_store.Goals as goal
 
 pub returns-clause-played : goal.returns-clause-played

@@ -1,5 +1,5 @@
 use Rattle.std.proofs.Common.{◌∙◌, refl, sym}
-use Rattle.lease_table.proofs.Tables.{get_is, insert_is}
+use Rattle.lease_table.proofs.Tables.{get-tree, insert-tree}
 use Rattle.lease_table.proofs.table.keep_under.Goals as goal
 
 pub returns-in-Ok-None : goal.returns-in-Ok-None
@@ -7,6 +7,6 @@ returns-in-Ok-None g c = record {
   lease = c.args.lease;
   given = refl;
   positive = c.requires.positive;
-  free = sym (get_is c.args.leases.now c.args.number) ∙ c.requires.free;
-  kept = insert_is c.args.leases.now c.insert.new.self c.args.number c.args.lease c.in-Ok-None.ensures.updates;
+  free = sym (get-tree c.args.leases.now c.args.number) ∙ c.requires.free;
+  kept = insert-tree c.args.leases.now c.insert.new.self c.args.number c.args.lease c.in-Ok-None.ensures.updates;
 }

@@ -2,8 +2,8 @@ use Rattle.std.proofs.Common.{◌≡◌, ◌+◌, ◌-◌, ◌∙◌, None, Some
 use Rattle.std.specs.Prelude.{unwrap_or}
 use Rattle.std.specs.BTreeMap.Entry.{entry_value, map_with_value, map_without_entry}
 use Rattle.std.proofs.lemmas.Bool.Decides.{nat_tests}
-use Rattle.finite_maps.specs.Trees.{map_of}
-use Rattle.finite_maps.proofs.Trees.{get_is}
+use Rattle.spec_lib.specs.Trees.{map_of}
+use Rattle.spec_lib.proofs.Trees.{get_is}
 use Rattle.link_table.specs.Holders.{count_in}
 use Rattle.link_table.proofs.HolderCounts.{changed_at, counts_less, left_at, no_zero, none_not_zero, not_zero, uncounted}
 use Rattle.link_table.proofs.holders.decrement.Goals as goal

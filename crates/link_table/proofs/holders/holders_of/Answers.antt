@@ -1,8 +1,8 @@
 use Rattle.std.proofs.Common.{rules, ◌≡◌, ap, ◌∙◌}
 use Rattle.std.specs.Prelude.{unwrap_or}
 use Rattle.std.specs.BTreeMap as tree
-use Rattle.finite_maps.specs.Texts.{text_cmp}
-use Rattle.finite_maps.proofs.Trees.{get_is}
+use Rattle.spec_lib.specs.Texts.{text_cmp}
+use Rattle.spec_lib.proofs.Trees.{get_is}
 use Rattle.link_table.specs.Holders.{count_in}
 use Rattle.link_table.proofs.holders.holders_of.Goals as goal
 

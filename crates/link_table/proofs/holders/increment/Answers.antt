@@ -1,8 +1,8 @@
 use Rattle.std.proofs.Common.{◌≡◌, ◌+◌, ◌∙◌, Some, ap, arith}
 use Rattle.std.specs.Prelude.{unwrap_or}
 use Rattle.std.specs.BTreeMap.Entry.{map_with_value}
-use Rattle.finite_maps.specs.Trees.{map_of}
-use Rattle.finite_maps.proofs.Trees.{get_is}
+use Rattle.spec_lib.specs.Trees.{map_of}
+use Rattle.spec_lib.proofs.Trees.{get_is}
 use Rattle.link_table.specs.Holders.{count_in}
 use Rattle.link_table.proofs.HolderCounts.{changed_at, no_zero, not_zero, counts_more}
 use Rattle.link_table.proofs.holders.increment.Goals as goal

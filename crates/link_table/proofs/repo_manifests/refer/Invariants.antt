@@ -1,7 +1,7 @@
 use Rattle.std.proofs.Common.{◌≡◌, take}
 use Rattle.std.specs.Prelude.{◌||◌, Option}
 use Rattle.std.specs.BTreeSet.{contains}
-use Rattle.finite_maps.specs.Texts.{Text}
+use Rattle.spec_lib.specs.Texts.{Text}
 use Rattle.link_table.specs.Manifests.{refer_cmp, is_pair}
 use Rattle.link_table.proofs.repo_manifests.refer.Given as goal
 

@@ -1,7 +1,7 @@
 use Rattle.std.proofs.Common.{rules, string_bytes}
 use Rattle.std.specs.Ordering.{is_lt}
 use Rattle.std.proofs.lemmas.List.Sorted.{answers_always}
-use Rattle.finite_maps.specs.Texts.{text_cmp}
+use Rattle.spec_lib.specs.Texts.{text_cmp}
 use Rattle.link_table.proofs.tenants.names_rise.Goals as goal
 
 pub returns : goal.returns

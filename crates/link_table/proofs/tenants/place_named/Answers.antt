@@ -1,7 +1,7 @@
 use Rattle.std.proofs.Common.{rules}
 use Rattle.std.specs.Prelude.{string_bytes}
 use Rattle.std.proofs.lemmas.Fn.{always_returns_same}
-use Rattle.finite_maps.specs.Texts.{text_cmp}
+use Rattle.spec_lib.specs.Texts.{text_cmp}
 use Rattle.link_table.proofs.tenants.place_named.Goals as goal
 
 pub returns-clause-place : goal.returns-clause-place

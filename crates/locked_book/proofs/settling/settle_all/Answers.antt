@@ -1,8 +1,8 @@
 use Rattle.std.proofs.Common.{◌≡◌, ◌++◌, ◌∷◌, ◌∙◌, [], ap, arith, length, subst}
 use Rattle.std.proofs.lemmas.Bool.{and_parts}
 use Rattle.std.proofs.lemmas.List.{append_assoc}
-use Rattle.shared_log.specs.Entries.{events_by}
-use Rattle.store_model.specs.Amounts.{plus, sum_of}
+use Rattle.ghost_log.specs.Entries.{events_by}
+use Rattle.store_model.specs.Amounts.{add_amounts, sum_of}
 use Rattle.locked_book.specs.History.{DeskView, amounts_of}
 use Rattle.locked_book.proofs.Sums.{desk_pushed, taken_in}
 use Rattle.locked_book.proofs.Wholes.{has_more}
@@ -16,7 +16,7 @@ loop-desk-preserved g c =
     let all = c.args.desks in
     let order = c.args.history.now in
     let count = c.in-Some.ensures.len in
-    let settled = c.settle.ensures.settled ∙ ap (λ (d : DeskView). plus c.loop-desk.kept.counts.settled d.amounts) c.desk.view_is in
+    let settled = c.settle.ensures.settled ∙ ap (λ (d : DeskView). add_amounts c.loop-desk.kept.counts.settled d.amounts) c.desk.view_is in
     let sums = ap (λ ds. sum_of (amounts_of ds)) c.in-Some.ensures.items ∙ desk_pushed left.items desk in
     let split : all.items ≡ left.items ++ desk ∷ was.split.0 = was.split.1 ∙ ap (λ ds. ds ++ was.split.0) c.in-Some.ensures.items ∙ append_assoc left.items (desk ∷ []) was.split.0 in
     let place : c.len.result ≡ length left.items = omega (arith, c.len.ensures, left.ok.0) in

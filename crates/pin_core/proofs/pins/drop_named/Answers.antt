@@ -1,7 +1,7 @@
 use Rattle.std.proofs.Common.{sym, ◌∙◌, ap, add-one, eqb-true, is_some, List}
 use Rattle.std.specs.Prelude.{◌==◌}
 use Rattle.std.proofs.lemmas.List.Quantifiers.{position-Some}
-use Rattle.finite_maps.proofs.Rows.{is_some-position}
+use Rattle.spec_lib.proofs.Rows.{is_some-position}
 use Rattle.pin_core.specs.declared.world.PinEntry.{PinEntry}
 use Rattle.pin_core.proofs.Names.{removed, others_all}
 use Rattle.pin_core.proofs.pins.drop_named.Goals as goal

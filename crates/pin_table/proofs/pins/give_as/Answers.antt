@@ -6,4 +6,4 @@ use Rattle.pin_table.proofs.pins.give_as.Goals as goal
 pub fetch_or-requires : goal.fetch_or-requires
 fetch_or-requires g c =
     let k = c.requires.keeper in
-    (c.requires.table.0, c.requires.table.1, give_allowed _ _ _ g.D.Given.digest _ _ _ k.0 k.1 k.2 k.3 k.4 (subst (λ d. IsNew d k.0.rows) c.requires.digest k.5))
+    (c.requires.table, c.requires.within, give_allowed _ _ _ g.D.Given.digest _ _ _ k.0 k.1 k.2 k.3 k.4 (subst (λ d. IsNew d k.0.rows) c.requires.digest k.5))

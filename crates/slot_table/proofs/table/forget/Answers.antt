@@ -1,6 +1,6 @@
 use Rattle.std.proofs.Common.{None, Some, cond, ap, ◌∙◌, sym}
 use Rattle.std.specs.BTreeMap as tree
-use Rattle.finite_maps.specs.Texts.{text_cmp}
+use Rattle.spec_lib.specs.Texts.{text_cmp}
 use Rattle.slot_table.proofs.Indexing.{has_digest-shown}
 use Rattle.slot_table.proofs.table.forget.Goals as goal
 

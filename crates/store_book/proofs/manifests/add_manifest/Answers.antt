@@ -1,5 +1,5 @@
 use Rattle.std.proofs.Common.{ap, ◌∙◌}
-use Rattle.finite_maps.specs.Sets as set
+use Rattle.spec_lib.specs.Sets as set
 use Rattle.link_table.specs.Linked.{Linked, vanish}
 use Rattle.link_table.proofs.Accepted.{appear-contains}
 use Rattle.store_book.proofs.Refine.Manifests.{appeared_put}

@@ -1,5 +1,5 @@
 use Rattle.store_book.specs.Internal.Lines.{blob_row}
-use Rattle.finite_maps.proofs.Writing.{Appends-step}
+use Rattle.spec_lib.proofs.Writing.{Appends-step}
 use Rattle.store_book.proofs.print.print_blobs.Goals as goal
 
 pub loop-blob-preserved : goal.loop-blob-preserved

@@ -3,7 +3,7 @@ use Rattle.std.specs.Io.KnownBytes.{Appends}
 use Rattle.std.specs.List.{flat_map, enumerate_from}
 use Rattle.store_book.specs.Internal.Lines.{tenant_in, tenant_rows}
 use Rattle.store_model.specs.BookText.{book_line, end_line}
-use Rattle.finite_maps.proofs.Writing.{Appends-after, Appends-then}
+use Rattle.spec_lib.proofs.Writing.{Appends-after, Appends-then}
 use Rattle.store_book.proofs.Refine.Tenants.{all_numbered, numbered}
 use Rattle.store_book.proofs.print.print_book.Goals as goal
 

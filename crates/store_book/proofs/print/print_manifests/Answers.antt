@@ -1,5 +1,5 @@
 use Rattle.store_model.specs.BookText.{manifest_row}
-use Rattle.finite_maps.proofs.Writing.{Appends-step}
+use Rattle.spec_lib.proofs.Writing.{Appends-step}
 use Rattle.store_book.proofs.print.print_manifests.Goals as goal
 
 pub loop-digest-preserved : goal.loop-digest-preserved

@@ -6,6 +6,6 @@ use Rattle.link_table.specs.ManifestTable.{manifests_on}
 use Rattle.store_model.specs.BookText.{manifest_row}
 use Rattle.store_book.proofs.print.print_manifests.Given as goal
 
--- whoever writes the manifests that are left has written them all
+-- after the remaining manifests are written, all are written
 abbrev pub invariant-loop-digest : goal.invariant-loop-digest
 invariant-loop-digest g l = (whole : Option (List ℕ)) → Appends (g.W.Write.contents l.writer) whole (flat_map manifest_row l.digest-iterator) → Appends (g.W.Write.contents l.fn.writer) whole (flat_map manifest_row (manifests_on l.links.manifests l.repo))

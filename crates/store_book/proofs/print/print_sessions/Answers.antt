@@ -1,5 +1,5 @@
 use Rattle.store_book.specs.Internal.Lines.{session_row}
-use Rattle.finite_maps.proofs.Writing.{Appends-step}
+use Rattle.spec_lib.proofs.Writing.{Appends-step}
 use Rattle.store_book.proofs.print.print_sessions.Goals as goal
 
 pub loop-number-preserved : goal.loop-number-preserved

@@ -7,5 +7,5 @@ invariant_of-result g c =
     let made = c.writer-writer.ensures.writer in record {
       named = ap (λ w. w.name) made ∙ c.self.invariant;
       legal = subst (λ w. IsLegal (events_of w.seen)) (sym made) (subst (λ es. IsLegal (events_of es)) (sym c.self.view_is) c.requires);
-      own = c.audit.ensures;
+      own = c.reveal_invariant.ensures;
     }

@@ -1,5 +1,5 @@
 use Rattle.std.proofs.Common.{subst, sym}
-use Rattle.lease_table.specs.Tables.{IsTableStep, keep_event, lent_of}
+use Rattle.lease_table.specs.Tables.{IsTableStep, keep_event, lease_view_of}
 use Rattle.lease_table.proofs.locked.LockedLeaseTable.keep.Goals as goal
 
 pub add-requires : goal.add-requires
@@ -9,5 +9,5 @@ add-requires g c =
       old,
       new,
       c.self.invariant,
-      subst (λ l. IsTableStep old (keep_event (lent_of l) c.keep-number.result) new) (sym c.of-given.ensures) c.keep-number.ensures,
+      subst (λ l. IsTableStep old (keep_event (lease_view_of l) c.keep-number.result) new) (sym c.of-given.ensures) c.keep-number.ensures,
     )

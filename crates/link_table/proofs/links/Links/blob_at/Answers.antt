@@ -1,6 +1,6 @@
 use Rattle.std.proofs.Common.{sym, ap, ◌∙◌, slice_get}
-use Rattle.finite_maps.proofs.Iterators.{nth_is}
-use Rattle.finite_maps.proofs.Options.{option_map-itself}
+use Rattle.spec_lib.proofs.Iterators.{nth_is}
+use Rattle.spec_lib.proofs.Options.{option_map-itself}
 use Rattle.link_table.proofs.links.Links.blob_at.Goals as goal
 
 pub returns : goal.returns

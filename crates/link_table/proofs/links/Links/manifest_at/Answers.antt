@@ -1,5 +1,5 @@
 use Rattle.std.proofs.Common.{ap, ◌∙◌, slice_get}
-use Rattle.finite_maps.proofs.Iterators.{nth_is}
+use Rattle.spec_lib.proofs.Iterators.{nth_is}
 use Rattle.link_table.proofs.links.Links.manifest_at.Goals as goal
 
 pub returns : goal.returns

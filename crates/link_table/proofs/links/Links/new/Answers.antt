@@ -3,7 +3,7 @@ use Rattle.std.specs.Prelude.{replicate}
 use Rattle.std.specs.FinMap.{entries}
 use Rattle.std.proofs.lemmas.List.{length-map}
 use Rattle.blob_digest.specs.Keys.{link_cmp}
-use Rattle.finite_maps.proofs.Rows.{entries-empty}
+use Rattle.spec_lib.proofs.Rows.{entries-empty}
 use Rattle.link_table.specs.TenantRepos.{links_shown, repos_shown}
 use Rattle.link_table.specs.Tenancy.{tenant_shown, tenants_shown}
 use Rattle.link_table.proofs.HolderCounts.{Counts-initial}

@@ -1,9 +1,9 @@
 use Rattle.std.proofs.Common.{◌∙◌, ap, sym, set, is_some}
 use Rattle.std.specs.FinMap.{remove, contains_key}
 use Rattle.blob_digest.proofs.KeyOrders.{link_cmp_total, exact_link}
-use Rattle.finite_maps.proofs.Parts.{remove_absent}
+use Rattle.spec_lib.proofs.Parts.{remove_absent}
 use Rattle.link_table.specs.Linked.{Linked}
-use Rattle.link_table.specs.TenantRepos.{Owned, links_shown}
+use Rattle.link_table.specs.TenantRepos.{OwnRepos, links_shown}
 use Rattle.link_table.specs.Tenancy.{tenants_shown}
 use Rattle.link_table.proofs.HolderCounts.{holders_at, held-counted, slice_get-set_same, some_counted, Counts-remove}
 use Rattle.link_table.proofs.TenantRepos.{links-there, links-remove, repos-same}
@@ -55,7 +55,7 @@ invariant_of-self c =
     let holders = set c.self.inside.holders.items c.args.tenant c.decrement-held.new.holders in
     let after = slice_get-set_same c.self.inside.holders.items c.args.tenant c.index_mut-in-Some.result.now c.decrement-held.new.holders before in
     let held = c.decrement-held.ensures.held ∙ held-counted tenants without holders counts c.args.tenant c.decrement-held.new.holders after c.args.digest.now ∙ sym (contains-blob tenants c.args.tenant c.args.digest.now without) in
-    let links = links-remove tenants by_tenant c.self.invariant.1 c.args.tenant s at c.args.repo.now own c.args.digest.now c.unlink.new.self (ap (λ (x : Owned). x.links) c.in-Some.ensures.gone) in (
+    let links = links-remove tenants by_tenant c.self.invariant.1 c.args.tenant s at c.args.repo.now own c.args.digest.now c.unlink.new.self (ap (λ (x : OwnRepos). x.links) c.in-Some.ensures.gone) in (
       rw links (KeepsUsage-unlink tenants (links_shown by_tenant) c.self.inside.blob_bytes.items c.self.inside.charges.items c.self.invariant.0 c.args.tenant lt c.args.repo.now c.args.digest.now c.in-Some.size own there c.decrement-held.result held
           c.index.result.now c.index.ensures c.bytes_without.result c.bytes_without.ensures),
       IsOwned-unlink tenants by_tenant c.self.invariant.1 c.self.inside.manifests c.self.inside.charges.items c.args.tenant s at c.args.repo.now own c.unlink.new.self c.args.digest.now c.in-Some.ensures.gone,
@@ -72,7 +72,7 @@ invariant_of-self-in-None c =
     let s = c.index_mut.result.now in
     let at = owned_at tenants by_tenant c.self.invariant.1 c.args.tenant lt s c.index_mut.ensures.value in
     let none = links-there tenants by_tenant c.self.invariant.1 c.args.tenant s at c.args.repo.now own c.args.digest.now ∙ sym c.in-None.ensures.value in
-    let links = links-remove tenants by_tenant c.self.invariant.1 c.args.tenant s at c.args.repo.now own c.args.digest.now c.unlink.new.self (ap (λ (x : Owned). x.links) c.in-None.ensures.gone)
+    let links = links-remove tenants by_tenant c.self.invariant.1 c.args.tenant s at c.args.repo.now own c.args.digest.now c.unlink.new.self (ap (λ (x : OwnRepos). x.links) c.in-None.ensures.gone)
     ∙ remove_absent link_cmp_total exact_link (links_shown by_tenant) (c.args.repo.now, c.args.digest.now) none in (
       rw links c.self.invariant.0,
       IsOwned-unlink tenants by_tenant c.self.invariant.1 c.self.inside.manifests c.self.inside.charges.items c.args.tenant s at c.args.repo.now own c.unlink.new.self c.args.digest.now c.in-None.ensures.gone,
@@ -106,8 +106,8 @@ returns-in-Some-clause-gone c =
     let own = rw (← c.self.view_is) at c.requires.own in
     let s = c.index_mut.result.now in
     let at = owned_at tenants by_tenant c.self.invariant.1 c.args.tenant (rw (← c.self.view_is) at c.requires.there) s c.index_mut.ensures.value in
-    let links = links-remove tenants by_tenant c.self.invariant.1 c.args.tenant s at c.args.repo.now own c.args.digest.now c.unlink.new.self (ap (λ (x : Owned). x.links) c.in-Some.ensures.gone) in
-    let repos = repos-same tenants by_tenant c.self.invariant.1 c.args.tenant s at c.unlink.new.self (ap (λ (x : Owned). x.repos) c.in-Some.ensures.gone) in
+    let links = links-remove tenants by_tenant c.self.invariant.1 c.args.tenant s at c.args.repo.now own c.args.digest.now c.unlink.new.self (ap (λ (x : OwnRepos). x.links) c.in-Some.ensures.gone) in
+    let repos = repos-same tenants by_tenant c.self.invariant.1 c.args.tenant s at c.unlink.new.self (ap (λ (x : OwnRepos). x.repos) c.in-Some.ensures.gone) in
     rw (← c.self.view_is) (λ i. record { tenants = tenants; repos = repos i; links = links i; manifests = c.self.inside.manifests; charges = c.self.inside.charges.items })
 
 pub returns-in-None-clause-gone : goal.returns-in-None-clause-gone
@@ -117,6 +117,6 @@ returns-in-None-clause-gone c =
     let own = rw (← c.self.view_is) at c.requires.own in
     let s = c.index_mut.result.now in
     let at = owned_at tenants by_tenant c.self.invariant.1 c.args.tenant (rw (← c.self.view_is) at c.requires.there) s c.index_mut.ensures.value in
-    let links = links-remove tenants by_tenant c.self.invariant.1 c.args.tenant s at c.args.repo.now own c.args.digest.now c.unlink.new.self (ap (λ (x : Owned). x.links) c.in-None.ensures.gone) in
-    let repos = repos-same tenants by_tenant c.self.invariant.1 c.args.tenant s at c.unlink.new.self (ap (λ (x : Owned). x.repos) c.in-None.ensures.gone) in
+    let links = links-remove tenants by_tenant c.self.invariant.1 c.args.tenant s at c.args.repo.now own c.args.digest.now c.unlink.new.self (ap (λ (x : OwnRepos). x.links) c.in-None.ensures.gone) in
+    let repos = repos-same tenants by_tenant c.self.invariant.1 c.args.tenant s at c.unlink.new.self (ap (λ (x : OwnRepos). x.repos) c.in-None.ensures.gone) in
     rw (← c.self.view_is) (λ i. record { tenants = tenants; repos = repos i; links = links i; manifests = c.self.inside.manifests; charges = c.self.inside.charges.items })

@@ -1,6 +1,6 @@
 use Rattle.std.proofs.Common.{ap, sym, ◌∙◌, is_some, arith}
 use Rattle.link_table.specs.Tenancy.{tenants_shown}
-use Rattle.link_table.specs.TenantRepos.{Owned}
+use Rattle.link_table.specs.TenantRepos.{OwnRepos}
 use Rattle.link_table.proofs.TenantRepos.{links-same, repos-there, repos-remove}
 use Rattle.link_table.proofs.Tables.{owned_at, no_links, IsOwned-vanish}
 use Rattle.link_table.proofs.TenantLists.{own_within}
@@ -32,7 +32,7 @@ invariant_of-self c =
     let s = c.index_mut.result.now in
     let at = owned_at tenants c.self.inside.repos.items c.self.invariant.1 c.args.tenant (own_within tenants c.args.tenant c.args.repo.now own) s c.index_mut.ensures.value in
     let none = no_links tenants c.self.inside.repos.items c.self.invariant.1 c.self.inside.manifests c.self.inside.charges.items c.args.tenant s at c.args.repo.now own (rw (← c.self.view_is) at c.requires.unlinked) in
-    let links = links-same tenants c.self.inside.repos.items c.self.invariant.1 c.args.tenant s at c.vanish.new.self (ap (λ (x : Owned). x.links) c.vanish.ensures) in (
+    let links = links-same tenants c.self.inside.repos.items c.self.invariant.1 c.args.tenant s at c.vanish.new.self (ap (λ (x : OwnRepos). x.links) c.vanish.ensures) in (
       rw links c.self.invariant.0,
       IsOwned-vanish tenants c.self.inside.repos.items c.self.invariant.1 c.self.inside.manifests c.self.inside.charges.items c.args.tenant s at c.args.repo.now own c.vanish.new.self none c.vanish.ensures,
       rw links c.self.invariant.2,
@@ -45,6 +45,6 @@ returns c =
     let own = rw (← c.self.view_is) at c.requires.own in
     let s = c.index_mut.result.now in
     let at = owned_at tenants by_tenant c.self.invariant.1 c.args.tenant (own_within tenants c.args.tenant c.args.repo.now own) s c.index_mut.ensures.value in
-    let repos = repos-remove tenants by_tenant c.self.invariant.1 c.args.tenant s at c.args.repo.now own c.vanish.new.self (ap (λ (x : Owned). x.repos) c.vanish.ensures) in
-    let links = links-same tenants by_tenant c.self.invariant.1 c.args.tenant s at c.vanish.new.self (ap (λ (x : Owned). x.links) c.vanish.ensures) in
+    let repos = repos-remove tenants by_tenant c.self.invariant.1 c.args.tenant s at c.args.repo.now own c.vanish.new.self (ap (λ (x : OwnRepos). x.repos) c.vanish.ensures) in
+    let links = links-same tenants by_tenant c.self.invariant.1 c.args.tenant s at c.vanish.new.self (ap (λ (x : OwnRepos). x.links) c.vanish.ensures) in
     rw (← c.self.view_is) (λ i. record { tenants = tenants; repos = repos i; links = links i; manifests = c.self.inside.manifests; charges = c.self.inside.charges.items })

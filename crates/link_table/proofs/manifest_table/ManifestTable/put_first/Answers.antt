@@ -1,6 +1,6 @@
 use Rattle.std.proofs.Common.{sym, ap, ◌∙◌, Ok}
 use Rattle.std.specs.FinMap.{get}
-use Rattle.finite_maps.proofs.Trees.{insert_is}
+use Rattle.spec_lib.proofs.Trees.{insert_is}
 use Rattle.link_table.specs.ManifestTable.{ManifestBytes}
 use Rattle.link_table.proofs.ManifestTableRows.{bare, put_there, put_refused}
 use Rattle.link_table.proofs.manifest_table.ManifestTable.put_first.Goals as goal

@@ -2,12 +2,12 @@ use Rattle.std.proofs.Common.{ap, not, sym, ◌∙◌, Some, is_some, set}
 use Rattle.std.proofs.lemmas.Bool.{false≢true}
 use Rattle.std.proofs.lemmas.Result.{IfOk-weaker}
 use Rattle.std.specs.FinMap.{contains_key, from_entries}
-use Rattle.finite_maps.specs.Texts.{text_cmp}
+use Rattle.spec_lib.specs.Texts.{text_cmp}
 use Rattle.blob_digest.specs.Keys.{link_cmp}
 use Rattle.blob_digest.proofs.KeyOrders.{link_cmp_total, exact_link}
-use Rattle.link_table.specs.TenantRepos.{Owned}
-use Rattle.link_table.specs.Rows.{owned_shown, links_in}
-use Rattle.finite_maps.proofs.Parts.{insert_by, flat_map-same}
+use Rattle.link_table.specs.TenantRepos.{OwnRepos}
+use Rattle.link_table.specs.Rows.{own_repos_shown, links_in}
+use Rattle.spec_lib.proofs.Parts.{insert_by, flat_map-same}
 use Rattle.link_table.proofs.TenantRepoCalls.{on_ok, on_err}
 use Rattle.link_table.proofs.TenantRepoRows.{AreRepos-set, absent, few-rows, names-set, row_found, links-changed, links-there, same_links}
 use Rattle.link_table.proofs.tenant_repos.TenantRepos.link.Goals as goal
@@ -29,7 +29,7 @@ returns-clause-ok c =
     let found = row_found rows c.args.repo.now c.in-Ok.place row (rw c.as_slice.ensures.value at c.in-Ok.ensures.within) (rw c.as_slice.ensures.value at c.in-Ok.ensures.place) c.index_mut.ensures.value in
     let names = names-set rows c.in-Ok.place row c.insert_blob.new.repo found.0 c.insert_blob.ensures.name in
     on_ok c.insert_blob.result (λ is.
-    let links = insert_by link_cmp_total exact_link (owned_shown rows).links (owned_shown (set rows c.in-Ok.place c.insert_blob.new.repo)).links (c.args.repo.now, c.args.digest.now) c.args.size
+    let links = insert_by link_cmp_total exact_link (own_repos_shown rows).links (own_repos_shown (set rows c.in-Ok.place c.insert_blob.new.repo)).links (c.args.repo.now, c.args.digest.now) c.args.size
     (links-changed rows c.self.invariant.order c.in-Ok.place row found.0 c.args.repo.now found.1 c.insert_blob.new.repo c.args.digest.now (Some c.args.size) c.insert_blob.ensures.name is) in
     rw (← c.self.view_is) (λ j. record { repos = from_entries {R = text_cmp} (names j); links = links j })) c.insert_blob.ensures.ok
 
@@ -50,7 +50,7 @@ returns-clause-new c =
     let found = row_found rows c.args.repo.now c.in-Ok.place row (rw c.as_slice.ensures.value at c.in-Ok.ensures.within) (rw c.as_slice.ensures.value at c.in-Ok.ensures.place) c.index_mut.ensures.value in
     IfOk-weaker c.insert_blob.result _ _ (λ b is.
     is ∙ ap (λ o. not (is_some o)) (sym (links-there rows c.self.invariant.order c.in-Ok.place row found.0 c.args.digest.now))
-    ∙ ap (λ q. not (contains_key (owned_shown rows).links (q, c.args.digest.now))) found.1 ∙ ap (λ (s : Owned). not (contains_key s.links (c.args.repo.now, c.args.digest.now))) c.self.view_is) c.insert_blob.ensures.new
+    ∙ ap (λ q. not (contains_key (own_repos_shown rows).links (q, c.args.digest.now))) found.1 ∙ ap (λ (s : OwnRepos). not (contains_key s.links (c.args.repo.now, c.args.digest.now))) c.self.view_is) c.insert_blob.ensures.new
 
 pub returns-clause-few : goal.returns-clause-few
 returns-clause-few c = rw (← c.self.view_is) (few-rows c.self.inside.repos.items c.self.invariant)

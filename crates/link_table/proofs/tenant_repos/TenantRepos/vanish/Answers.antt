@@ -3,7 +3,7 @@ use Rattle.std.proofs.lemmas.List.Edits.{length-remove}
 use Rattle.std.proofs.lemmas.Bool.{false≢true}
 use Rattle.std.specs.FinMap.{from_entries, get}
 use Rattle.blob_digest.specs.Keys.{link_cmp}
-use Rattle.link_table.specs.Rows.{owned_shown}
+use Rattle.link_table.specs.Rows.{own_repos_shown}
 use Rattle.link_table.proofs.TenantRepoRows.{absent, repos-remove, order-remove, row_found, unlinked, flat_map-remove}
 use Rattle.link_table.proofs.tenant_repos.TenantRepos.vanish.Goals as goal
 
@@ -27,6 +27,6 @@ returns c =
     let within = rw c.as_slice.ensures.value at c.in-Ok.ensures.within in
     let found = row_found rows c.args.repo.now c.in-Ok.place c.remove.result within is c.remove.ensures.value in
     let repos = repos-remove rows c.self.invariant.order c.args.repo.now c.in-Ok.place c.remove.result within is in
-    let none = unlinked rows c.self.invariant.order c.in-Ok.place c.remove.result found.0 (λ d. ap (λ q. get (owned_shown rows).links (q, d)) found.1 ∙ (rw (← c.self.view_is) at c.requires.unlinked) d) in
+    let none = unlinked rows c.self.invariant.order c.in-Ok.place c.remove.result found.0 (λ d. ap (λ q. get (own_repos_shown rows).links (q, d)) found.1 ∙ (rw (← c.self.view_is) at c.requires.unlinked) d) in
     let links = flat_map-remove rows c.in-Ok.place c.remove.result found.0 none in
     rw (c.remove.ensures.items, ← c.self.view_is) (λ j. record { repos = repos j; links = from_entries {R = link_cmp} (links j) })

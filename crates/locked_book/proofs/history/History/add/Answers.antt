@@ -1,8 +1,8 @@
 use Rattle.std.proofs.Common.{◌≡◌, IfSome, subst, sym}
-use Rattle.shared_log.specs.Entries.{events_by}
+use Rattle.ghost_log.specs.Entries.{events_by}
 use Rattle.store_model.specs.Histories.{IsLegal}
 use Rattle.locked_book.specs.Calls.{step_of}
-use Rattle.locked_book.specs.History.{Adds, Leaves, steps_of}
+use Rattle.locked_book.specs.History.{Adds, LogLeadsTo, steps_of}
 use Rattle.locked_book.proofs.Additions.{adds, leaves_on, legal_after, own_steps, trace_of}
 use Rattle.locked_book.proofs.history.History.add.Goals as goal
 
@@ -13,7 +13,7 @@ invariant_of-writer g c =
     let writer = c.writer.inside.writer in
     let step = step_of c.args.call in
     let way = c.requires in
-    let run = subst (λ es. Leaves opening es way.0) (sym c.self.view_is) way.2 in
+    let run = subst (λ es. LogLeadsTo opening es way.0) (sym c.self.view_is) way.2 in
     subst (λ w. (w.name ≡ g.S.Naming.names.log) × (events_by w.number w.seen ≡ w.own) × IsLegal opening (steps_of w.seen) × IfSome c.writer.inside.number (λ n. n ≡ w.number)) (sym c.append.ensures.writer) (
       c.writer.invariant.0,
       own_steps opening log writer step way.0 way.1 c.append.ensures.agrees run way.3,
@@ -25,12 +25,12 @@ pub returns-clause-adds : goal.returns-clause-adds
 returns-clause-adds g c =
     let opening = g.S.Naming.names.opening in
     let way = c.requires in
-    let run = subst (λ es. Leaves opening es way.0) (sym c.self.view_is) way.2 in
+    let run = subst (λ es. LogLeadsTo opening es way.0) (sym c.self.view_is) way.2 in
     subst (λ w. Adds opening c.args.writer.now (step_of c.args.call) (trace_of w)) (sym c.append.ensures.writer)
     (adds opening c.self.inside.log c.writer.inside.writer (step_of c.args.call) way.0 way.1 c.append.ensures.agrees run way.3 c.args.writer.now c.writer.view_is)
 
 pub returns-clause-leads : goal.returns-clause-leads
 returns-clause-leads g c = λ s s' run last.
     let opening = g.S.Naming.names.opening in
-    subst (λ l. Leaves opening l.entries s') (sym c.append.ensures.log)
-    (leaves_on opening c.self.inside.log.entries c.writer.inside.writer.number (step_of c.args.call) s s' (subst (λ es. Leaves opening es s) (sym c.self.view_is) run) last)
+    subst (λ l. LogLeadsTo opening l.entries s') (sym c.append.ensures.log)
+    (leaves_on opening c.self.inside.log.entries c.writer.inside.writer.number (step_of c.args.call) s s' (subst (λ es. LogLeadsTo opening es s) (sym c.self.view_is) run) last)

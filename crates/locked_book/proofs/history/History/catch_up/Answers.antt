@@ -1,5 +1,5 @@
 use Rattle.std.proofs.Common.{◌≡◌, IfSome, subst, sym}
-use Rattle.shared_log.specs.Entries.{events_by}
+use Rattle.ghost_log.specs.Entries.{events_by}
 use Rattle.store_model.specs.Histories.{IsLegal}
 use Rattle.locked_book.specs.History.{SeesAll, steps_of}
 use Rattle.locked_book.proofs.Additions.{trace_of}

@@ -1,7 +1,7 @@
 use Rattle.std.proofs.Common.{ap, arith, ◌∙◌}
 use Rattle.store_model.specs.Catalog.{Catalog}
 use Rattle.locked_book.specs.Names.{setting_of}
-use Rattle.store_model.specs.Amounts.{one}
+use Rattle.store_model.specs.Amounts.{command_amounts_of}
 use Rattle.locked_book.proofs.SessionSums.{finish_sums, full_is, refused_sums, still_sums, unknown_stays}
 use Rattle.locked_book.proofs.Rooms.{added}
 use Rattle.locked_book.proofs.kept.Kept.finish.Goals as goal
@@ -60,7 +60,7 @@ invariant_of-self g c =
     let hands = sums.hands in
     let reserve = sums.reserve in
     let bytes = sums.bytes in
-    let totals = added c.self.inside.counters c.add.new.self (one c.reserved-reserved.result c.in-Ok.size 0) c.add.ensures.totals in (
+    let totals = added c.self.inside.counters c.add.new.self (command_amounts_of c.reserved-reserved.result c.in-Ok.size 0) c.add.ensures.totals in (
       omega (arith, was.0, hands),
       omega (arith, was.1, reserve, value),
       omega (arith, was.0, was.2, hands, totals.commands),

@@ -1,6 +1,6 @@
 use Rattle.std.specs.Arc.{arc_value}
 use Rattle.store_book.specs.Pinned.{blob_bytes}
-use Rattle.store_book.specs.SlotSteps.{EachSlot, IsStill}
+use Rattle.store_book.specs.SlotSteps.{EachSlot, IsUnchanged}
 use Rattle.locked_book.proofs.Answered.{lent_content, on_err}
 use Rattle.locked_book.proofs.SessionSums.{lease_sums}
 use Rattle.locked_book.proofs.Keeping.{counted_kept}
@@ -15,7 +15,7 @@ invariant_of-self-2 g c =
 pub returns-clause-content : goal.returns-clause-content
 returns-clause-content g c =
     let lent = c.in_ok-lent.ensures.does in
-    lent_content c.self.inside.book.catalog c.lease.new.self.catalog lent.crowded c.args.repo.now c.args.digest.now (blob_bytes (arc_value c.in_ok-lent.lent.1)) c.audit.ensures.lawful lent.does
+    lent_content c.self.inside.book.catalog c.lease.new.self.catalog lent.crowded c.args.repo.now c.args.digest.now (blob_bytes (arc_value c.in_ok-lent.lent.1)) c.reveal_invariant.ensures.lawful lent.does
 
 pub returns-clause-slots : goal.returns-clause-slots
 returns-clause-slots g c = rw (← c.self.view_is) c.lease.ensures.slots.1
@@ -24,4 +24,4 @@ pub returns-in_err-lent-clause-slots : goal.returns-in_err-lent-clause-slots
 returns-in_err-lent-clause-slots g c = rw (← c.self.view_is) c.lease.ensures.slots.1
 
 pub returns-in_err-lent-clause-refused : goal.returns-in_err-lent-clause-refused
-returns-in_err-lent-clause-refused g c = on_err {P = EachSlot IsStill c.args.self.now.book.slots c.lease.new.self.slots} c.from_residual-in_err-lent.result (rw (← c.self.view_is) c.in_err-lent.ensures.refused)
+returns-in_err-lent-clause-refused g c = on_err {P = EachSlot IsUnchanged c.args.self.now.book.slots c.lease.new.self.slots} c.from_residual-in_err-lent.result (rw (← c.self.view_is) c.in_err-lent.ensures.refused)

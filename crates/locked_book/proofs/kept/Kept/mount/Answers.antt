@@ -6,5 +6,5 @@ use Rattle.locked_book.proofs.kept.Kept.mount.Goals as goal
 
 pub invariant_of-self-2 : goal.invariant_of-self-2
 invariant_of-self-2 g c =
-    let sums = mount_sums c.self.inside.book.catalog c.mount.new.self.catalog c.args.repo.now c.args.digest.now (option_copied c.args.from) c.in_ok-mounted.mounted c.audit.ensures.lawful c.in_ok-mounted.ensures.does in
+    let sums = mount_sums c.self.inside.book.catalog c.mount.new.self.catalog c.args.repo.now c.args.digest.now (option_copied c.args.from) c.in_ok-mounted.mounted c.reveal_invariant.ensures.lawful c.in_ok-mounted.ensures.does in
     counted_kept g.S.Naming.names c.self.inside.book c.mount.new.self c.self.inside.counters c.add.new.self c.args.self.now c.self.inside.hands c.self.inside.reserve 0 c.in_ok-room.field-0 c.self.invariant sums c.add.ensures.totals c.self.view_is c.in_ok-room.ensures c.mount.ensures.slots.0 (ap length c.mount.ensures.slots.1)

@@ -1,6 +1,6 @@
 use Rattle.std.proofs.Common.{ap, arith}
-use Rattle.store_model.specs.Sessions.{received, reserved_of}
-use Rattle.store_model.specs.Hands.{hand_of}
+use Rattle.store_model.specs.Sessions.{received_length, reserved_of}
+use Rattle.store_model.specs.Hands.{checked_out_count_of}
 use Rattle.locked_book.specs.Totals.{Counts}
 use Rattle.locked_book.proofs.SessionSums.{no_sessions}
 use Rattle.locked_book.proofs.kept.Kept.new.Goals as goal
@@ -8,12 +8,12 @@ use Rattle.locked_book.proofs.kept.Kept.new.Goals as goal
 pub invariant_of-result : goal.invariant_of-result
 invariant_of-result g c =
     let none = c.requires.book in
-    let bytes = no_sessions c.args.book.catalog.sessions (λ e. received e.1) none in
+    let bytes = no_sessions c.args.book.catalog.sessions (λ e. received_length e.1) none in
     let commands = ap (λ (k : Counts). k.totals.commands) c.requires.counters in
     let received = ap (λ (k : Counts). k.totals.received) c.requires.counters in
     let closed = ap (λ (k : Counts). k.totals.closed) c.requires.counters in
     let abandoned = ap (λ (k : Counts). k.totals.abandoned) c.requires.counters in (
-      no_sessions c.args.book.catalog.sessions hand_of none,
+      no_sessions c.args.book.catalog.sessions checked_out_count_of none,
       no_sessions c.args.book.catalog.sessions (λ e. reserved_of e.1.chunks) none,
       omega arith,
       omega arith,

@@ -1,5 +1,5 @@
 use Rattle.std.proofs.Common.{ap, arith, length, ◌∙◌}
-use Rattle.store_model.specs.Amounts.{one}
+use Rattle.store_model.specs.Amounts.{command_amounts_of}
 use Rattle.locked_book.proofs.SessionSums.{filled_is, put_back_sums}
 use Rattle.locked_book.proofs.Rooms.{added}
 use Rattle.locked_book.proofs.kept.Kept.put_back.Goals as goal
@@ -43,7 +43,7 @@ invariant_of-self-2 g c =
     let hands = sums.hands in
     let reserve = sums.reserve in
     let bytes = sums.bytes in
-    let totals = added c.self.inside.counters c.add.new.self (one c.reserved-reserved.result 0 0) c.add.ensures.totals in (
+    let totals = added c.self.inside.counters c.add.new.self (command_amounts_of c.reserved-reserved.result 0 0) c.add.ensures.totals in (
       omega (arith, was.0, hands),
       omega (arith, was.1, reserve, value),
       omega (arith, was.0, was.2, hands, totals.commands),

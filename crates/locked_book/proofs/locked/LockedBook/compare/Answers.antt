@@ -1,5 +1,5 @@
 use Rattle.std.proofs.Common.{ap, sym, subst}
-use Rattle.locked_book.specs.History.{DeskView, Leaves, SeesAll, state_of}
+use Rattle.locked_book.specs.History.{DeskView, LogLeadsTo, SeesAll, state_of}
 use Rattle.locked_book.proofs.Views.{in_one_history, one_begins}
 use Rattle.locked_book.proofs.locked.LockedBook.compare.Goals as goal
 
@@ -7,7 +7,7 @@ pub catch_up-requires : goal.catch_up-requires
 catch_up-requires g c = (state_of c.self.inside.kept, c.self.invariant)
 
 pub catch_up-requires-2 : goal.catch_up-requires-2
-catch_up-requires-2 g c = (state_of c.self.inside.kept, subst (λ h. Leaves g.S.Naming.names.opening h (state_of c.self.inside.kept)) (sym c.catch_up.ensures.same) c.self.invariant)
+catch_up-requires-2 g c = (state_of c.self.inside.kept, subst (λ h. LogLeadsTo g.S.Naming.names.opening h (state_of c.self.inside.kept)) (sym c.catch_up.ensures.same) c.self.invariant)
 
 pub returns-clause-one_history : goal.returns-clause-one_history
 returns-clause-one_history g c =

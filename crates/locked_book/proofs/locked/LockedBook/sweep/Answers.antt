@@ -1,5 +1,5 @@
 use Rattle.std.proofs.Common.{sym, subst}
-use Rattle.locked_book.specs.History.{Leaves, state_of}
+use Rattle.locked_book.specs.History.{LogLeadsTo, state_of}
 use Rattle.locked_book.proofs.Counted.{cleans}
 use Rattle.locked_book.proofs.locked.LockedBook.sweep.Goals as goal
 
@@ -8,10 +8,10 @@ writer-nobody-requires g c = (state_of c.self.inside.kept, c.self.invariant)
 
 pub add-requires : goal.add-requires
 add-requires g c =
-    let run = subst (λ h. Leaves g.S.Naming.names.opening h (state_of c.self.inside.kept)) (sym c.writer-nobody.ensures.same) c.self.invariant in
+    let run = subst (λ h. LogLeadsTo g.S.Naming.names.opening h (state_of c.self.inside.kept)) (sym c.writer-nobody.ensures.same) c.self.invariant in
     (state_of c.self.inside.kept, state_of c.sweep-result.new.self, run, cleans c.self.inside.kept c.sweep-result.new.self c.sweep-result.result c.sweep-result.ensures.sweeps c.sweep-result.ensures.counts)
 
 pub invariant_of-self : goal.invariant_of-self
 invariant_of-self g c =
-    let run = subst (λ h. Leaves g.S.Naming.names.opening h (state_of c.self.inside.kept)) (sym c.writer-nobody.ensures.same) c.self.invariant in
+    let run = subst (λ h. LogLeadsTo g.S.Naming.names.opening h (state_of c.self.inside.kept)) (sym c.writer-nobody.ensures.same) c.self.invariant in
     c.add.ensures.leads (state_of c.self.inside.kept) (state_of c.sweep-result.new.self) run (cleans c.self.inside.kept c.sweep-result.new.self c.sweep-result.result c.sweep-result.ensures.sweeps c.sweep-result.ensures.counts)

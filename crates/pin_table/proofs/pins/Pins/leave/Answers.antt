@@ -2,7 +2,7 @@ use Rattle.std.proofs.Common.{◌≡◌, refl, sym, ap, ◌∙◌, arith}
 use mathlib.Core.Option.{none}
 use Rattle.atomic_table.specs.Table.{step}
 use Rattle.pin_table.specs.declared.view.View.TheVariants.{Left}
-use Rattle.pin_table.specs.Rule.{gone}
+use Rattle.pin_table.specs.Rule.{released_pin}
 use Rattle.pin_table.specs.Calls.{seat_value}
 use Rattle.pin_table.proofs.StepResults.{left_at}
 use Rattle.pin_table.proofs.RuleKept.{leave_allowed}
@@ -22,4 +22,4 @@ returns c =
     let table = f.0 ∙ ap (λ s. s.table) c.pin.view_is ∙ c.requires.table in
     let hold : c.pin.inside.hold ≡ c.args.pin.hold = ap (λ s. s.hold) c.pin.view_is in
     let has = left_at (step c.self.inside.table.shared.table_id.slots c.pin.inside.hold.slot c.from.result 0 none) c.pin.inside.hold _ _ _ c.pin.invariant.0 f.2 in
-    (has.0, (λ i. seat_value (table i) (has.1 i).0) ∙ ap (λ h. seat_value c.args.self.now (Left (gone h has.0))) hold)
+    (has.0, (λ i. seat_value (table i) (has.1 i).0) ∙ ap (λ h. seat_value c.args.self.now (Left (released_pin h has.0))) hold)

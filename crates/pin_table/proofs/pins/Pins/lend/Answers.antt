@@ -1,7 +1,7 @@
 use Rattle.std.proofs.Common.{◌≡◌, ◌+◌, ap, sym, ◌∙◌, arith}
 use Rattle.pin_core.specs.World.{row}
 use Rattle.pin_core.specs.Events.{new_weight}
-use Rattle.pin_table.specs.Calls.{KeeperValue, lent_on, lent_pin}
+use Rattle.pin_table.specs.Calls.{KeeperValue, after_lend, lent_pin}
 use Rattle.pin_table.proofs.Bits.{one_sum}
 use Rattle.pin_table.proofs.pins.Pins.lend.Goals as goal
 
@@ -17,7 +17,7 @@ returns c =
       weight = l.weight;
       within = l.within;
       room = omega arith;
-      after = c.add_pin.ensures.bound ∙ ap (λ n. lent_on k (n + new_weight) c.look.new.keeper) l.bound ∙ ap (lent_on k (l.weight + new_weight)) l.after;
+      after = c.add_pin.ensures.bound ∙ ap (λ n. after_lend k (n + new_weight) c.look.new.keeper) l.bound ∙ ap (after_lend k (l.weight + new_weight)) l.after;
       pin = c.add_pin.ensures.pin ∙ ap (lent_pin k) l.after;
       digest = ap (λ (x : KeeperValue). (row x.rows k).digest) (sym l.after) ∙ c.add_pin.ensures.digest;
     }

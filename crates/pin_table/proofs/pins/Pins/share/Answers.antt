@@ -20,7 +20,7 @@ split_seat-second-requires c =
     let within = i.1 in
     (table, omega arith, share_allowed _ _ _ _ c.pin.inside.hold (ap (λ m. m.0) i.0) (above_one c.pin.inside.hold c.if-pin-eq1.false i.2))
 
--- what a half keeps, on a seat of the same table
+-- the invariant of a half, on a seat of the same table
 halved_pin : (h g : PinRecord) (z t : TableId) (me : Seated) → g ≡ half h → t ≡ z → me ≡ (Pin (half h), []) → h.slot < z.words → 1 < h.weight → IsWeight h → (me ≡ (Pin g, [])) × (g.slot < t.words) × IsWeight g
 halved_pin h g z t me is same seat l big w =
     let made : (me ≡ (Pin (half h), [])) × (h.slot < t.words) × IsWeight (half h) = (seat, subst (λ (x : TableId). h.slot < x.words) (sym same) l, (half_weight h w big).0) in

@@ -4,7 +4,7 @@ use mathlib.Core.Option.{none}
 use Rattle.atomic_table.specs.Table.{step}
 use Rattle.pin_core.specs.World.{IsValidPin, row}
 use Rattle.pin_table.specs.Rule.{keeper_view, lent_by, looks_by}
-use Rattle.pin_table.specs.Plays.{without_transit, taken_in}
+use Rattle.pin_table.specs.Plays.{without_transit, with_pin_taken}
 use Rattle.pin_table.specs.declared.view.View.TheVariants.{Keeper}
 use Rattle.pin_table.proofs.Seats.{keeper_is, verified}
 use Rattle.pin_table.proofs.Bits.{one_sum}
@@ -33,7 +33,7 @@ load-found-requires c =
     let count = ap (λ z. z.words) table in
     let within = p.1 in
     let len = i.2 in
-    let has = j.2 ∙ ap (λ m. (taken_in m.0 c.pin.inside.seat.me.0, m.1)) i.1 ∙ ap (λ m. (taken_in (Keeper (keeper_view c.keeper.inside.rows.items c.keeper.inside.bounds.items (looks_by c.keeper.inside.seat.me.0) (lent_by c.keeper.inside.seat.me.0) None)) m.0, [])) p.0 in
+    let has = j.2 ∙ ap (λ m. (with_pin_taken m.0 c.pin.inside.seat.me.0, m.1)) i.1 ∙ ap (λ m. (with_pin_taken (Keeper (keeper_view c.keeper.inside.rows.items c.keeper.inside.bounds.items (looks_by c.keeper.inside.seat.me.0) (lent_by c.keeper.inside.seat.me.0) None)) m.0, [])) p.0 in
     (j.0 ∙ table, omega arith, look_allowed _ _ _ _ _ _ (keeper_view c.keeper.inside.rows.items c.keeper.inside.bounds.items (looks_by c.keeper.inside.seat.me.0) (lent_by c.keeper.inside.seat.me.0) (Some c.pin.inside.hold)) (j.1 ∙ i.0) has (omega arith))
 
 pub split_seat-seat-requires : goal.split_seat-seat-requires
@@ -46,7 +46,7 @@ split_seat-seat-requires c =
     let pinned : c.pin.inside.seat.table_id ≡ c.self.inside.table.shared.table_id = ap (λ s. s.table) c.pin.view_is ∙ c.requires.pin ∙ sym c.self.view_is in
     let words = ap (λ z. z.words) pinned in
     let within = p.1 in
-    let has = j.2 ∙ ap (λ m. (taken_in m.0 c.pin.inside.seat.me.0, m.1)) i.1 ∙ ap (λ m. (taken_in (Keeper (keeper_view c.keeper.inside.rows.items c.keeper.inside.bounds.items (looks_by c.keeper.inside.seat.me.0) (lent_by c.keeper.inside.seat.me.0) None)) m.0, [])) p.0 in
+    let has = j.2 ∙ ap (λ m. (with_pin_taken m.0 c.pin.inside.seat.me.0, m.1)) i.1 ∙ ap (λ m. (with_pin_taken (Keeper (keeper_view c.keeper.inside.rows.items c.keeper.inside.bounds.items (looks_by c.keeper.inside.seat.me.0) (lent_by c.keeper.inside.seat.me.0) None)) m.0, [])) p.0 in
     let saw = looked_at (step c.self.inside.table.shared.table_id.slots c.pin.inside.hold.slot 0 0 none) (keeper_view c.keeper.inside.rows.items c.keeper.inside.bounds.items (looks_by c.keeper.inside.seat.me.0) (lent_by c.keeper.inside.seat.me.0) (Some c.pin.inside.hold)) _ _ _ has l.2 in
     (l.0 ∙ j.0 ∙ table, omega arith, transit_allowed _ _ _ _ _ (l.1 ∙ j.1 ∙ i.0) (ap (λ m. m.0) saw.3))
 
@@ -58,7 +58,7 @@ returns-clause-kept c =
     let l = c.load-found.ensures in
     let t = c.split_seat-seat.ensures in
     let v = c.keeper.view_is in
-    let has = j.2 ∙ ap (λ m. (taken_in m.0 c.pin.inside.seat.me.0, m.1)) i.1 ∙ ap (λ m. (taken_in (Keeper (keeper_view c.keeper.inside.rows.items c.keeper.inside.bounds.items (looks_by c.keeper.inside.seat.me.0) (lent_by c.keeper.inside.seat.me.0) None)) m.0, [])) p.0 in
+    let has = j.2 ∙ ap (λ m. (with_pin_taken m.0 c.pin.inside.seat.me.0, m.1)) i.1 ∙ ap (λ m. (with_pin_taken (Keeper (keeper_view c.keeper.inside.rows.items c.keeper.inside.bounds.items (looks_by c.keeper.inside.seat.me.0) (lent_by c.keeper.inside.seat.me.0) None)) m.0, [])) p.0 in
     let saw = looked_at (step c.self.inside.table.shared.table_id.slots c.pin.inside.hold.slot 0 0 none) (keeper_view c.keeper.inside.rows.items c.keeper.inside.bounds.items (looks_by c.keeper.inside.seat.me.0) (lent_by c.keeper.inside.seat.me.0) (Some c.pin.inside.hold)) _ _ _ has l.2 in
     let u = c.unpack.ensures in
     let r = row c.keeper.inside.rows.items c.pin.inside.hold.slot in

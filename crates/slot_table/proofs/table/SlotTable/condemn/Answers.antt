@@ -1,7 +1,7 @@
 use Rattle.std.proofs.Common.{refl, sym, ◌∙◌, ap, true}
 use Rattle.std.specs.Option.{option_map_or}
 use Rattle.std.specs.Vec.{vec_capacity}
-use Rattle.slot_table.specs.Slots.{on_held, mark}
+use Rattle.slot_table.specs.Slots.{on_stored_blob, mark}
 use Rattle.slot_table.proofs.Finding.{live_within}
 use Rattle.slot_table.proofs.Writes.{with_slot-set}
 use Rattle.slot_table.proofs.Changes.{changed}
@@ -13,7 +13,7 @@ invariant_of-self c =
     let found = rw (← c.self.view_is) at c.requires.live in
     let kept = changed c.self.inside.rows.items c.args.slot c.index_mut.result.now (mark true) c.self.inside.index c.self.inside.free.items (vec_capacity c.self.inside.free)
     c.self.invariant.0 c.self.invariant.1 (live_within c.self.inside.rows.items c.args.slot found) c.index_mut.ensures.value (λ h. refl) (λ h at_k is. sym (ap (λ o. option_map_or (λ x. x.links) o 0) at_k) ∙ (rw (← c.self.view_is) at c.requires.unlinked)) in
-    rw c.mark.ensures (kept.0, kept.1, orphans-kept c.self.inside.rows.items c.args.slot c.index_mut.result.now (on_held (mark true) c.index_mut.result.now) c.self.inside.orphans (live_within c.self.inside.rows.items c.args.slot found) c.index_mut.ensures.value (orphan-held (mark true) c.index_mut.result.now.content (λ h. refl)) c.self.invariant.2)
+    rw c.mark.ensures (kept.0, kept.1, orphans-kept c.self.inside.rows.items c.args.slot c.index_mut.result.now (on_stored_blob (mark true) c.index_mut.result.now) c.self.inside.orphans (live_within c.self.inside.rows.items c.args.slot found) c.index_mut.ensures.value (orphan-held (mark true) c.index_mut.result.now.content (λ h. refl)) c.self.invariant.2)
 
 pub returns : goal.returns
-returns c = rw (← c.self.view_is) (with_slot-set c.self.inside.rows.items c.args.slot c.index_mut.result.now c.mark.new.self (on_held (mark true)) (live_within c.self.inside.rows.items c.args.slot (rw c.self.view_is c.requires.live)) c.index_mut.ensures.value c.mark.ensures)
+returns c = rw (← c.self.view_is) (with_slot-set c.self.inside.rows.items c.args.slot c.index_mut.result.now c.mark.new.self (on_stored_blob (mark true)) (live_within c.self.inside.rows.items c.args.slot (rw c.self.view_is c.requires.live)) c.index_mut.ensures.value c.mark.ensures)

@@ -1,6 +1,6 @@
 use Rattle.std.proofs.Common.{◌≡◌, ◌<◌, ◌≤◌, length, false, refl, arith}
 use Rattle.std.specs.Vec.{vec_capacity}
-use Rattle.slot_table.specs.Slots.{emptied, free_slots}
+use Rattle.slot_table.specs.Slots.{freed_slot, free_slots}
 use Rattle.slot_table.proofs.Finding.{condemned_within}
 use Rattle.slot_table.proofs.Writes.{with_slot-set}
 use Rattle.slot_table.proofs.Stacking.{condemned-used, not_all_free}
@@ -26,9 +26,9 @@ invariant_of-self c =
     rw (c.free.ensures, c.in-Ok.ensures.items) (
       kept.0,
       kept.1,
-      orphans-set c.self.inside.rows.items c.args.slot (emptied c.index_mut-row.result.now) false c.self.inside.orphans c.set.new.self
+      orphans-set c.self.inside.rows.items c.args.slot (freed_slot c.index_mut-row.result.now) false c.self.inside.orphans c.set.new.self
           (condemned_within c.self.inside.rows.items c.args.slot (rw c.self.view_is c.requires.condemned)) refl c.set.ensures.each c.set.ensures.len c.self.invariant.2,
     )
 
 pub returns : goal.returns
-returns c = rw (← c.self.view_is) (with_slot-set c.self.inside.rows.items c.args.slot c.index_mut-row.result.now c.free.new.self emptied (condemned_within c.self.inside.rows.items c.args.slot (rw c.self.view_is c.requires.condemned)) c.index_mut-row.ensures.value c.free.ensures)
+returns c = rw (← c.self.view_is) (with_slot-set c.self.inside.rows.items c.args.slot c.index_mut-row.result.now c.free.new.self freed_slot (condemned_within c.self.inside.rows.items c.args.slot (rw c.self.view_is c.requires.condemned)) c.index_mut-row.ensures.value c.free.ensures)

@@ -1,6 +1,6 @@
 use Rattle.std.proofs.Common.{refl}
 use Rattle.std.specs.Vec.{vec_capacity}
-use Rattle.slot_table.specs.Slots.{on_held, lend}
+use Rattle.slot_table.specs.Slots.{on_stored_blob, lend}
 use Rattle.slot_table.proofs.Finding.{live_within, live-marked, not_marked}
 use Rattle.slot_table.proofs.Writes.{with_slot-set}
 use Rattle.slot_table.proofs.Changes.{changed}
@@ -12,7 +12,7 @@ invariant_of-self c =
     let found = rw (← c.self.view_is) at c.requires in
     let kept = changed c.self.inside.rows.items c.args.slot c.index_mut.result.now lend c.self.inside.index c.self.inside.free.items (vec_capacity c.self.inside.free)
     c.self.invariant.0 c.self.invariant.1 (live_within c.self.inside.rows.items c.args.slot found) c.index_mut.ensures.value (λ h. refl) (λ h at_k mark. not_marked (live-marked c.self.inside.rows.items c.args.slot h found at_k) mark) in
-    rw c.lend.ensures (kept.0, kept.1, orphans-kept c.self.inside.rows.items c.args.slot c.index_mut.result.now (on_held lend c.index_mut.result.now) c.self.inside.orphans (live_within c.self.inside.rows.items c.args.slot found) c.index_mut.ensures.value (orphan-held lend c.index_mut.result.now.content (λ h. refl)) c.self.invariant.2)
+    rw c.lend.ensures (kept.0, kept.1, orphans-kept c.self.inside.rows.items c.args.slot c.index_mut.result.now (on_stored_blob lend c.index_mut.result.now) c.self.inside.orphans (live_within c.self.inside.rows.items c.args.slot found) c.index_mut.ensures.value (orphan-held lend c.index_mut.result.now.content (λ h. refl)) c.self.invariant.2)
 
 pub returns : goal.returns
-returns c = rw (← c.self.view_is) (with_slot-set c.self.inside.rows.items c.args.slot c.index_mut.result.now c.lend.new.self (on_held lend) (live_within c.self.inside.rows.items c.args.slot (rw c.self.view_is c.requires)) c.index_mut.ensures.value c.lend.ensures)
+returns c = rw (← c.self.view_is) (with_slot-set c.self.inside.rows.items c.args.slot c.index_mut.result.now c.lend.new.self (on_stored_blob lend) (live_within c.self.inside.rows.items c.args.slot (rw c.self.view_is c.requires)) c.index_mut.ensures.value c.lend.ensures)

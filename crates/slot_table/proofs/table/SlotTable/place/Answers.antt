@@ -3,7 +3,7 @@ use Rattle.std.specs.Prelude.{slice_get}
 use Rattle.std.specs.Result.{is_err, OnOk}
 use Rattle.std.specs.Vec.{vec_len, vec_capacity}
 use Rattle.slot_table.specs.Slots.{fill}
-use Rattle.slot_table.specs.Indexes.{IsIndexed}
+use Rattle.slot_table.specs.Indexes.{IsSlotIndex}
 use Rattle.slot_table.proofs.Stacking.{stacked_free, free_within, free_at-phase, popped}
 use Rattle.slot_table.proofs.Writes.{with_slot-set}
 use Rattle.slot_table.proofs.Changes.{placed, taken_back}
@@ -48,7 +48,7 @@ invariant_of-self-in-Ok c =
     let items : stack ≡ c.pop.new.self.items ++ slot ∷ [] = popped stack c.pop.new.self.items (vec_len c.self.inside.free) slot c.pop.result (omega arith) top c.pop.ensures.value c.pop.ensures.items in
     let put = (is_done c.insert.result (sym c.is_err.ensures.value ∙ c.if-is_err.false) c.insert.ensures.updates).0 in
     let filled : c.fill.new.self ≡ fill c.args.blob c.index_mut.result.now = c.fill.ensures ∙ ap (λ b. fill b c.index_mut.result.now) c.in-Ok.ensures.ok in
-    let kept : IsIndexed slots c.self.inside.index (c.pop.new.self.items ++ slot ∷ []) (vec_capacity c.pop.new.self) = rw (← items, c.pop.ensures.capacity) c.self.invariant.1 in
+    let kept : IsSlotIndex slots c.self.inside.index (c.pop.new.self.items ++ slot ∷ []) (vec_capacity c.pop.new.self) = rw (← items, c.pop.ensures.capacity) c.self.invariant.1 in
     let table = placed slots slot c.index_mut.result.now c.args.blob c.self.inside.index c.insert.new.self c.pop.new.self.items (vec_capacity c.pop.new.self)
     c.self.invariant.0 kept (rw c.self.view_is c.requires) free c.index_mut.ensures.value (rw c.digest-digest.ensures.value at put) in
     rw filled (table.0, table.1, orphans-set slots slot (fill c.args.blob c.index_mut.result.now) true c.self.inside.orphans c.set.new.self (free_within slots slot free) refl c.set.ensures.each c.set.ensures.len c.self.invariant.2)

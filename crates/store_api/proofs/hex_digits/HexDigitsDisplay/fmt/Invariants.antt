@@ -4,7 +4,7 @@ use Rattle.std.specs.Slice.Iter.{chunks_rest, chunks_size}
 use Rattle.hex.specs.Hex.{encode_lower}
 use Rattle.store_api.proofs.hex_digits.HexDigitsDisplay.fmt.Given as goal
 
--- the digits of the blocks so far were written, and those of the blocks that are left are to come
+-- the digits of the blocks so far were written, and those of the remaining blocks were not
 abbrev pub invariant-loop-block : goal.invariant-loop-block
 invariant-loop-block g l =
     (goal.iterator-loop-block g).can_next l.block-iterator

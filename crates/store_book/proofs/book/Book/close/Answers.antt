@@ -1,6 +1,6 @@
 use Rattle.std.proofs.Common.{refl, List, OnOk, subst}
-use Rattle.store_book.specs.BookState.{SlotSeen}
-use Rattle.store_book.specs.SlotSteps.{EachSlot, IsHousing}
+use Rattle.store_book.specs.BookState.{SlotView}
+use Rattle.store_book.specs.SlotSteps.{EachSlot, MayPlace}
 use Rattle.store_model.proofs.Commands.ByHand.{close_does, undone}
 use Rattle.store_book.proofs.book.Book.close.Goals as goal
 
@@ -14,4 +14,4 @@ returns-in-Err-clause-does c = (
 )
 
 pub returns-in-Ok-clause-housed : goal.returns-in-Ok-clause-housed
-returns-in-Ok-clause-housed c = subst (λ (xs : List SlotSeen). OnOk c.finish.result (EachSlot (IsHousing c.args.digest.now) xs c.finish.new.self.slots)) c.in_ok-hand.ensures.slots.1 c.finish.ensures.housed
+returns-in-Ok-clause-housed c = subst (λ (xs : List SlotView). OnOk c.finish.result (EachSlot (MayPlace c.args.digest.now) xs c.finish.new.self.slots)) c.in_ok-hand.ensures.slots.1 c.finish.ensures.housed

@@ -10,7 +10,7 @@ use Rattle.store_book.proofs.book.Book.delete.Goals as goal
 pub returns-in-Some-clause-does : goal.returns-in-Some-clause-does
 returns-in-Some-clause-does c = (rw (← c.self.view_is) (delete_referenced (layers c.self.inside) c.in_ok-tenant.tenant c.args.repo.now c.args.digest.now c.self.invariant (sym c.in_ok-tenant.ensures.known) c.in-Some.manifest (sym c.in-Some.ensures)), refl)
 
--- the digest wasn't linked, and nothing was taken out
+-- the digest was not linked, and nothing was removed
 pub invariant_of-self : goal.invariant_of-self
 invariant_of-self c =
     let L = layers c.self.inside in
@@ -38,7 +38,7 @@ invariant_of-self-in-Some-find c =
     IsBook-delete (layers c.self.inside) c.in_ok-tenant.tenant c.args.repo.now c.args.digest.now c.self.invariant (sym c.in_ok-tenant.ensures.known) c.in-Some-find.slot (sym c.if-not-unlink.ensures.was) (rw c.table.ensures at (sym c.in-Some-find.ensures.slot))
     (sym c.in_default.ensures) c.unlink.new.self c.link_down.new.self.slots c.unlink.ensures.gone (ap (λ (p : Pinned). p.slots) c.link_down.ensures)
 
--- what is linked has a slot
+-- a linked digest has a slot
 pub unreachable-requires : goal.unreachable-requires
 unreachable-requires c = has_slot (layers c.self.inside) c.self.invariant c.args.repo.now c.args.digest.now (sym c.if-not-unlink.ensures.was) (rw c.table.ensures at (sym c.in-None.ensures.slot))
 

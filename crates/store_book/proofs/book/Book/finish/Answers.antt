@@ -1,19 +1,19 @@
 use Rattle.std.proofs.Common.{◌≡◌, [], Option, is_ok, length, ap, ◌∙◌, arith, subst}
 use Rattle.std.specs.Option.{option_map_or}
 use Rattle.std.specs.FinMap.{remove}
-use Rattle.finite_maps.specs.Texts.{Text}
+use Rattle.spec_lib.specs.Texts.{Text}
 use Rattle.store_model.specs.Sessions.{Session}
-use Rattle.upload_table.specs.Uploaded.{repo_at, reopened, with_sessions}
+use Rattle.upload_table.specs.Uploaded.{repo_at, reopened_table, with_sessions}
 use Rattle.store_book.specs.BookState.{BookState}
-use Rattle.store_book.specs.Pinned.{Pinned, shown}
-use Rattle.store_book.specs.SlotSteps.{EachSlot, IsHousing}
-use Rattle.store_book.proofs.Slots.Housed.{EachSlot-housed}
-use Rattle.store_book.specs.Internal.Keeping.{IsKept, IsUnkept}
+use Rattle.store_book.specs.Pinned.{Pinned, slot_views_of}
+use Rattle.store_book.specs.SlotSteps.{EachSlot, MayPlace}
+use Rattle.store_book.proofs.Slots.Placement.{EachSlot-is_placed}
+use Rattle.store_book.specs.Internal.Storing.{IsStored, CannotStore}
 use Rattle.store_book.specs.Layers.{book_catalog}
 use Rattle.store_model.specs.Commands.{after_cancel}
-use Rattle.store_book.proofs.Refine.Finish.{found, finish_charged, finish_ok, finish_other_digest, finish_unkept, after_cancel_is, layer_finished, layer_refused, layer_unknown, reserve_charged, same_tenants, CanKeep-finished, IsBook-finish, IsBook-after_cancel}
+use Rattle.store_book.proofs.Refine.Finish.{found, finish_charged, finish_ok, finish_other_digest, finish_unkept, after_cancel_is, layer_finished, layer_refused, layer_unknown, reserve_charged, same_tenants, CanStore-finished, IsBook-finish, IsBook-after_cancel}
 use Rattle.store_book.proofs.Refine.PutBack.{here_tenant}
-use Rattle.store_book.proofs.Slots.Shown.{Quietly-shown}
+use Rattle.store_book.proofs.Slots.Shown.{KeepsGenerations-slot_views_of}
 use Rattle.store_book.specs.BookFields.{layers}
 use Rattle.store_book.proofs.book.Book.finish.Goals as goal
 
@@ -35,14 +35,14 @@ keep-requires-clause-can c =
     let p = layer_finished c.self.inside.uploads c.args.hand c.args.digest.now c.in-Ok.both.0 c.finish.new.self c.in-Ok.ensures.does in
     let at = found (layers c.self.inside) c.args.hand c.args.digest.now c.self.invariant (record { pieces = c.reserved-reserved.ensures.pieces; last = c.reserved-reserved.ensures.last }) c.requires.full p.0 p.1 in
     let repo : c.repo_of-repo.result.now ≡ p.0.repo = c.repo_of-repo.ensures ∙ (λ i. repo_at (p.4 i) (c.in-Ok.ensures.key i)) ∙ ap (λ (o : Option Session). option_map_or (λ (s : Session). s.repo) o []) at in
-    rw (c.tenant-tenant.ensures, repo) (CanKeep-finished (layers c.self.inside) c.args.hand c.args.digest.now c.self.invariant (record { pieces = c.reserved-reserved.ensures.pieces; last = c.reserved-reserved.ensures.last }) c.requires.full p.0 p.1 c.in-Ok.both.0 p.3)
+    rw (c.tenant-tenant.ensures, repo) (CanStore-finished (layers c.self.inside) c.args.hand c.args.digest.now c.self.invariant (record { pieces = c.reserved-reserved.ensures.pieces; last = c.reserved-reserved.ensures.last }) c.requires.full p.0 p.1 c.in-Ok.both.0 p.3)
 
 pub discharge-requires-in-Ok-keep-clause-there : goal.discharge-requires-in-Ok-keep-clause-there
 discharge-requires-in-Ok-keep-clause-there c =
     let p = layer_finished c.self.inside.uploads c.args.hand c.args.digest.now c.in-Ok.both.0 c.finish.new.self c.in-Ok.ensures.does in
     let at = found (layers c.self.inside) c.args.hand c.args.digest.now c.self.invariant (record { pieces = c.reserved-reserved.ensures.pieces; last = c.reserved-reserved.ensures.last }) c.requires.full p.0 p.1 in
     let repo : c.repo_of-repo.result.now ≡ p.0.repo = c.repo_of-repo.ensures ∙ (λ i. repo_at (p.4 i) (c.in-Ok.ensures.key i)) ∙ ap (λ (o : Option Session). option_map_or (λ (s : Session). s.repo) o []) at in
-    let kept = subst (λ (b : Text × Text). IsKept c.self.inside.links c.self.inside.slots.slots p.0.repo b c.keep.new.links c.keep.new.slots.slots) p.3 (subst (λ (r : Text). IsKept c.self.inside.links c.self.inside.slots.slots r c.in-Ok.both.0 c.keep.new.links c.keep.new.slots.slots) repo c.in-Ok-keep.ensures.ok) in
+    let kept = subst (λ (b : Text × Text). IsStored c.self.inside.links c.self.inside.slots.slots p.0.repo b c.keep.new.links c.keep.new.slots.slots) p.3 (subst (λ (r : Text). IsStored c.self.inside.links c.self.inside.slots.slots r c.in-Ok.both.0 c.keep.new.links c.keep.new.slots.slots) repo c.in-Ok-keep.ensures.ok) in
     let tenants = same_tenants (layers c.self.inside) c.args.hand c.args.digest.now c.self.invariant (record { pieces = c.reserved-reserved.ensures.pieces; last = c.reserved-reserved.ensures.last }) c.requires.full p.0 p.1 p.2 c.keep.new.links c.keep.new.slots.slots kept in
     let there = here_tenant (layers c.self.inside) c.args.hand c.self.invariant (record { pieces = c.reserved-reserved.ensures.pieces; last = c.reserved-reserved.ensures.last }) p.0 p.1 in
     rw c.tenant-tenant.ensures (omega (arith, tenants, there))
@@ -52,7 +52,7 @@ discharge-requires-in-Ok-keep-clause-charged c =
     let p = layer_finished c.self.inside.uploads c.args.hand c.args.digest.now c.in-Ok.both.0 c.finish.new.self c.in-Ok.ensures.does in
     let at = found (layers c.self.inside) c.args.hand c.args.digest.now c.self.invariant (record { pieces = c.reserved-reserved.ensures.pieces; last = c.reserved-reserved.ensures.last }) c.requires.full p.0 p.1 in
     let repo : c.repo_of-repo.result.now ≡ p.0.repo = c.repo_of-repo.ensures ∙ (λ i. repo_at (p.4 i) (c.in-Ok.ensures.key i)) ∙ ap (λ (o : Option Session). option_map_or (λ (s : Session). s.repo) o []) at in
-    let kept = subst (λ (b : Text × Text). IsKept c.self.inside.links c.self.inside.slots.slots p.0.repo b c.keep.new.links c.keep.new.slots.slots) p.3 (subst (λ (r : Text). IsKept c.self.inside.links c.self.inside.slots.slots r c.in-Ok.both.0 c.keep.new.links c.keep.new.slots.slots) repo c.in-Ok-keep.ensures.ok) in
+    let kept = subst (λ (b : Text × Text). IsStored c.self.inside.links c.self.inside.slots.slots p.0.repo b c.keep.new.links c.keep.new.slots.slots) p.3 (subst (λ (r : Text). IsStored c.self.inside.links c.self.inside.slots.slots r c.in-Ok.both.0 c.keep.new.links c.keep.new.slots.slots) repo c.in-Ok-keep.ensures.ok) in
     let size = ap length (c.bytes.ensures.value ∙ ap (λ (b : Text × Text). b.1) p.3) in
     rw (c.tenant-tenant.ensures, size) (finish_charged (layers c.self.inside) c.args.hand c.args.digest.now c.self.invariant (record { pieces = c.reserved-reserved.ensures.pieces; last = c.reserved-reserved.ensures.last }) c.requires.full p.0 p.1 p.2 c.keep.new.links c.keep.new.slots.slots kept)
 
@@ -61,7 +61,7 @@ invariant_of-self-in-Ok-keep c =
     let p = layer_finished c.self.inside.uploads c.args.hand c.args.digest.now c.in-Ok.both.0 c.finish.new.self c.in-Ok.ensures.does in
     let at = found (layers c.self.inside) c.args.hand c.args.digest.now c.self.invariant (record { pieces = c.reserved-reserved.ensures.pieces; last = c.reserved-reserved.ensures.last }) c.requires.full p.0 p.1 in
     let repo : c.repo_of-repo.result.now ≡ p.0.repo = c.repo_of-repo.ensures ∙ (λ i. repo_at (p.4 i) (c.in-Ok.ensures.key i)) ∙ ap (λ (o : Option Session). option_map_or (λ (s : Session). s.repo) o []) at in
-    let kept = subst (λ (b : Text × Text). IsKept c.self.inside.links c.self.inside.slots.slots p.0.repo b c.keep.new.links c.keep.new.slots.slots) p.3 (subst (λ (r : Text). IsKept c.self.inside.links c.self.inside.slots.slots r c.in-Ok.both.0 c.keep.new.links c.keep.new.slots.slots) repo c.in-Ok-keep.ensures.ok) in
+    let kept = subst (λ (b : Text × Text). IsStored c.self.inside.links c.self.inside.slots.slots p.0.repo b c.keep.new.links c.keep.new.slots.slots) p.3 (subst (λ (r : Text). IsStored c.self.inside.links c.self.inside.slots.slots r c.in-Ok.both.0 c.keep.new.links c.keep.new.slots.slots) repo c.in-Ok-keep.ensures.ok) in
     let size = ap length (c.bytes.ensures.value ∙ ap (λ (b : Text × Text). b.1) p.3) in
     let links = rw (c.tenant-tenant.ensures, size) at c.discharge-in-Ok-keep.ensures in
     let uploads = c.forget.ensures ∙ (λ i. with_sessions (p.4 i) (remove (p.4 i).sessions (c.in-Ok.ensures.key i))) in
@@ -81,7 +81,7 @@ pub invariant_of-self-in-Err-keep : goal.invariant_of-self-in-Err-keep
 invariant_of-self-in-Err-keep c =
     let p = layer_finished c.self.inside.uploads c.args.hand c.args.digest.now c.in-Ok.both.0 c.finish.new.self c.in-Ok.ensures.does in
     let links = rw (c.tenant-tenant.ensures, c.in-Err-keep.ensures.err.0, c.reserved-reserved.ensures.value) at c.discharge-in-Err-keep.ensures in
-    let uploads = c.reopen.ensures ∙ ap (λ (b : Text × Text). reopened c.finish.new.self c.in-Ok.both.1 b.1) c.in-Err-keep.ensures.back ∙ c.in-Ok.ensures.restores.1 in
+    let uploads = c.reopen.ensures ∙ ap (λ (b : Text × Text). reopened_table c.finish.new.self c.in-Ok.both.1 b.1) c.in-Err-keep.ensures.back ∙ c.in-Ok.ensures.restores.1 in
     rw (ap (λ (p : Pinned). p.slots) c.in-Err-keep.ensures.err.1) (IsBook-after_cancel (layers c.self.inside) c.args.hand c.args.digest.now c.self.invariant (record { pieces = c.reserved-reserved.ensures.pieces; last = c.reserved-reserved.ensures.last }) c.requires.full p.0 p.1 c.discharge-in-Err-keep.new.self c.reopen.new.self links uploads)
 
 pub returns-in-Ok-keep-clause-does : goal.returns-in-Ok-keep-clause-does
@@ -89,21 +89,21 @@ returns-in-Ok-keep-clause-does c =
     let p = layer_finished c.self.inside.uploads c.args.hand c.args.digest.now c.in-Ok.both.0 c.finish.new.self c.in-Ok.ensures.does in
     let at = found (layers c.self.inside) c.args.hand c.args.digest.now c.self.invariant (record { pieces = c.reserved-reserved.ensures.pieces; last = c.reserved-reserved.ensures.last }) c.requires.full p.0 p.1 in
     let repo : c.repo_of-repo.result.now ≡ p.0.repo = c.repo_of-repo.ensures ∙ (λ i. repo_at (p.4 i) (c.in-Ok.ensures.key i)) ∙ ap (λ (o : Option Session). option_map_or (λ (s : Session). s.repo) o []) at in
-    let kept = subst (λ (b : Text × Text). IsKept c.self.inside.links c.self.inside.slots.slots p.0.repo b c.keep.new.links c.keep.new.slots.slots) p.3 (subst (λ (r : Text). IsKept c.self.inside.links c.self.inside.slots.slots r c.in-Ok.both.0 c.keep.new.links c.keep.new.slots.slots) repo c.in-Ok-keep.ensures.ok) in
+    let kept = subst (λ (b : Text × Text). IsStored c.self.inside.links c.self.inside.slots.slots p.0.repo b c.keep.new.links c.keep.new.slots.slots) p.3 (subst (λ (r : Text). IsStored c.self.inside.links c.self.inside.slots.slots r c.in-Ok.both.0 c.keep.new.links c.keep.new.slots.slots) repo c.in-Ok-keep.ensures.ok) in
     let size = ap length (c.bytes.ensures.value ∙ ap (λ (b : Text × Text). b.1) p.3) in
     let links = rw (c.tenant-tenant.ensures, size) at c.discharge-in-Ok-keep.ensures in
     let uploads = c.forget.ensures ∙ (λ i. with_sessions (p.4 i) (remove (p.4 i).sessions (c.in-Ok.ensures.key i))) in
     rw (← c.self.view_is, size) (finish_ok (layers c.self.inside) c.args.hand c.args.digest.now c.self.invariant (record { pieces = c.reserved-reserved.ensures.pieces; last = c.reserved-reserved.ensures.last }) c.requires.full p.0 p.1 p.2 c.keep.new.links c.keep.new.slots.slots kept c.discharge-in-Ok-keep.new.self c.forget.new.self links uploads)
 
 pub returns-in-Ok-keep-clause-slots : goal.returns-in-Ok-keep-clause-slots
-returns-in-Ok-keep-clause-slots c = rw (← c.self.view_is) (Quietly-shown c.self.inside.slots c.keep.new.slots c.in-Ok-keep.ensures.quiet)
+returns-in-Ok-keep-clause-slots c = rw (← c.self.view_is) (KeepsGenerations-slot_views_of c.self.inside.slots c.keep.new.slots c.in-Ok-keep.ensures.quiet)
 
 pub returns-in-Err-keep-clause-does : goal.returns-in-Err-keep-clause-does
 returns-in-Err-keep-clause-does c =
     let p = layer_finished c.self.inside.uploads c.args.hand c.args.digest.now c.in-Ok.both.0 c.finish.new.self c.in-Ok.ensures.does in
     let links = rw (c.tenant-tenant.ensures, c.in-Err-keep.ensures.err.0, c.reserved-reserved.ensures.value) at c.discharge-in-Err-keep.ensures in
-    let uploads = c.reopen.ensures ∙ ap (λ (b : Text × Text). reopened c.finish.new.self c.in-Ok.both.1 b.1) c.in-Err-keep.ensures.back ∙ c.in-Ok.ensures.restores.1 in (
-      (λ other. rw (← c.self.view_is) (finish_unkept (layers c.self.inside) c.args.hand c.args.digest.now c.self.invariant (record { pieces = c.reserved-reserved.ensures.pieces; last = c.reserved-reserved.ensures.last }) c.requires.full p.0 p.1 p.2 c.in-Err-keep.refusal (subst (λ (b : Text × Text). IsUnkept c.self.inside.slots.slots b c.in-Err-keep.refusal) p.3 (c.in-Err-keep.ensures.refused other)))),
+    let uploads = c.reopen.ensures ∙ ap (λ (b : Text × Text). reopened_table c.finish.new.self c.in-Ok.both.1 b.1) c.in-Err-keep.ensures.back ∙ c.in-Ok.ensures.restores.1 in (
+      (λ other. rw (← c.self.view_is) (finish_unkept (layers c.self.inside) c.args.hand c.args.digest.now c.self.invariant (record { pieces = c.reserved-reserved.ensures.pieces; last = c.reserved-reserved.ensures.last }) c.requires.full p.0 p.1 p.2 c.in-Err-keep.refusal (subst (λ (b : Text × Text). CannotStore c.self.inside.slots.slots b c.in-Err-keep.refusal) p.3 (c.in-Err-keep.ensures.refused other)))),
       ap (λ s. book_catalog (record (layers c.self.inside) { links = c.discharge-in-Err-keep.new.self; uploads = c.reopen.new.self; slots = s })) (ap (λ (p : Pinned). p.slots) c.in-Err-keep.ensures.err.1) ∙ after_cancel_is (layers c.self.inside) c.args.hand c.args.digest.now c.discharge-in-Err-keep.new.self c.reopen.new.self c.args.hand.reserved links uploads ∙ ap (λ (s : BookState). after_cancel s.catalog c.args.hand) c.self.view_is,
     )
 
@@ -120,8 +120,8 @@ returns-in_default-clause-does c =
 pub returns-in-Ok-keep-clause-housed : goal.returns-in-Ok-keep-clause-housed
 returns-in-Ok-keep-clause-housed c =
     let p = layer_finished c.self.inside.uploads c.args.hand c.args.digest.now c.in-Ok.both.0 c.finish.new.self c.in-Ok.ensures.does in
-    rw (← c.self.view_is) (subst (λ (b : Text × Text). EachSlot (IsHousing b.0) (shown c.self.inside.slots) (shown c.keep.new.slots)) p.3
-    (EachSlot-housed c.self.inside.slots c.keep.new.slots c.self.inside.links c.keep.new.links c.repo_of-repo.result.now c.in-Ok.both.0 c.in-Ok-keep.ensures.quiet c.in-Ok-keep.ensures.ok))
+    rw (← c.self.view_is) (subst (λ (b : Text × Text). EachSlot (MayPlace b.0) (slot_views_of c.self.inside.slots) (slot_views_of c.keep.new.slots)) p.3
+    (EachSlot-is_placed c.self.inside.slots c.keep.new.slots c.self.inside.links c.keep.new.links c.repo_of-repo.result.now c.in-Ok.both.0 c.in-Ok-keep.ensures.quiet c.in-Ok-keep.ensures.ok))
 
 pub returns-in_default-clause-taken : goal.returns-in_default-clause-taken
 returns-in_default-clause-taken c =

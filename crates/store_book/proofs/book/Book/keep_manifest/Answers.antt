@@ -3,7 +3,7 @@ use Rattle.std.proofs.lemmas.Result.{err_from_is_err_and}
 use Rattle.std.specs.FinMap.{get}
 use Rattle.blob_digest.specs.Digests.{sha256_text}
 use Rattle.store_book.specs.BookState.{BookState}
-use Rattle.store_book.specs.Internal.Keeping.{with_manifest_on}
+use Rattle.store_book.specs.Internal.Storing.{add_manifest_outcome}
 use Rattle.store_book.specs.Layers.{book_catalog}
 use Rattle.store_book.proofs.Refine.Manifests.{is_some-of, read_from, put_unlinked, put_there, put_refused, put_ok, IsBook-put_manifest}
 use Rattle.store_book.proofs.Refine.Start.{absent_unlinked}
@@ -41,7 +41,7 @@ returns-in_err-add_manifest-clause-does c =
     let name = c.digest-digest.result in
     let read = read_from bytes _ c.refs.result.now name c.manifest.view_is c.manifest.invariant.fits c.refs.ensures c.digest-digest.ensures in
     let absent = is_some-of (λ x. x.now.value) c.manifest-2.result (get i.links.manifests (repo, name)) _ c.manifest-2.ensures (sym c.is_some.ensures ∙ c.if-is_some.false) in
-    let put : with_manifest_on i.links c.in_ok-tenant.tenant repo c.in_ok-manifest.manifest.value ≡ with_manifest_on i.links c.in_ok-tenant.tenant repo bytes = ap (with_manifest_on i.links c.in_ok-tenant.tenant repo) c.in_ok-manifest.ensures.ok in
+    let put : add_manifest_outcome i.links c.in_ok-tenant.tenant repo c.in_ok-manifest.manifest.value ≡ add_manifest_outcome i.links c.in_ok-tenant.tenant repo bytes = ap (add_manifest_outcome i.links c.in_ok-tenant.tenant repo) c.in_ok-manifest.ensures.ok in
     let p = err_from_is_err_and c.from_residual-in_err-add_manifest.result c.from_residual-in_err-add_manifest.ensures.1 in
     rw (p.1, p.2) (
       (λ other. rw (← c.self.view_is) (put_refused (layers i) c.in_ok-tenant.tenant repo bytes c.refs.result.now name c.self.invariant (sym c.in_ok-tenant.ensures.known) read (sym c.in_ok-check_linked.ensures) absent _ (sym put ∙ c.in_err-add_manifest.ensures.0 other))),
@@ -56,7 +56,7 @@ invariant_of-self-2 c =
     let name = c.digest-digest.result in
     let read = read_from bytes _ c.refs.result.now name c.manifest.view_is c.manifest.invariant.fits c.refs.ensures c.digest-digest.ensures in
     let absent = is_some-of (λ x. x.now.value) c.manifest-2.result (get i.links.manifests (repo, name)) _ c.manifest-2.ensures (sym c.is_some.ensures ∙ c.if-is_some.false) in
-    let put : with_manifest_on i.links c.in_ok-tenant.tenant repo c.in_ok-manifest.manifest.value ≡ with_manifest_on i.links c.in_ok-tenant.tenant repo bytes = ap (with_manifest_on i.links c.in_ok-tenant.tenant repo) c.in_ok-manifest.ensures.ok in
+    let put : add_manifest_outcome i.links c.in_ok-tenant.tenant repo c.in_ok-manifest.manifest.value ≡ add_manifest_outcome i.links c.in_ok-tenant.tenant repo bytes = ap (add_manifest_outcome i.links c.in_ok-tenant.tenant repo) c.in_ok-manifest.ensures.ok in
     IsBook-put_manifest (layers i) c.in_ok-tenant.tenant repo bytes c.refs.result.now name c.self.invariant (sym c.in_ok-tenant.ensures.known) read (sym c.in_ok-check_linked.ensures) absent c.add_manifest.new.links (sym put ∙ c.in_ok-add_manifest.ensures) c.in_ok-tenant.ensures.short
 
 pub returns-clause-does : goal.returns-clause-does
@@ -67,5 +67,5 @@ returns-clause-does c =
     let name = c.digest-digest.result in
     let read = read_from bytes _ c.refs.result.now name c.manifest.view_is c.manifest.invariant.fits c.refs.ensures c.digest-digest.ensures in
     let absent = is_some-of (λ x. x.now.value) c.manifest-2.result (get i.links.manifests (repo, name)) _ c.manifest-2.ensures (sym c.is_some.ensures ∙ c.if-is_some.false) in
-    let put : with_manifest_on i.links c.in_ok-tenant.tenant repo c.in_ok-manifest.manifest.value ≡ with_manifest_on i.links c.in_ok-tenant.tenant repo bytes = ap (with_manifest_on i.links c.in_ok-tenant.tenant repo) c.in_ok-manifest.ensures.ok in
+    let put : add_manifest_outcome i.links c.in_ok-tenant.tenant repo c.in_ok-manifest.manifest.value ≡ add_manifest_outcome i.links c.in_ok-tenant.tenant repo bytes = ap (add_manifest_outcome i.links c.in_ok-tenant.tenant repo) c.in_ok-manifest.ensures.ok in
     rw (← c.self.view_is) (put_ok (layers i) c.in_ok-tenant.tenant repo bytes c.refs.result.now name c.self.invariant (sym c.in_ok-tenant.ensures.known) read (sym c.in_ok-check_linked.ensures) absent c.add_manifest.new.links (sym put ∙ c.in_ok-add_manifest.ensures))

@@ -1,7 +1,7 @@
 use Rattle.std.proofs.Common.{ap, sym, ◌∙◌, subst, refl}
 use Rattle.std.specs.Option.{option_copied}
 use Rattle.std.proofs.lemmas.Result.{err_from_is_err_and}
-use Rattle.finite_maps.specs.Sets as set
+use Rattle.spec_lib.specs.Sets as set
 use Rattle.link_table.proofs.Accepted.{appear-contains}
 use Rattle.link_table.specs.Linked.{Linked, HasNoLinks, vanish}
 use Rattle.store_book.specs.BookState.{BookState}

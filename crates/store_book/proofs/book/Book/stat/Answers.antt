@@ -1,6 +1,6 @@
 use Rattle.std.proofs.Common.{Ok, length, sym, ap, ◌∙◌}
 use Rattle.store_book.specs.BookFields.{layers}
-use Rattle.store_book.specs.Internal.Keeping.{bytes_at}
+use Rattle.store_book.specs.Internal.Storing.{bytes_at}
 use Rattle.store_book.proofs.Refine.Queries.{stat_is, stat_unknown}
 use Rattle.store_book.proofs.book.Book.stat.Goals as goal
 

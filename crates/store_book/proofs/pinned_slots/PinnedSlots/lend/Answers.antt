@@ -2,7 +2,7 @@ use Rattle.std.proofs.Common.{◌+◌, ap, sym, ◌∙◌, arith}
 use Rattle.std.proofs.lemmas.List.{set-set}
 use Rattle.pin_core.specs.declared.world.PinRow.{PinRow}
 use Rattle.std.specs.Prelude.{List}
-use Rattle.slot_table.specs.Slots.{lend, on_held}
+use Rattle.slot_table.specs.Slots.{lend, on_stored_blob}
 use Rattle.pin_core.specs.Events.{new_weight, lent_hold}
 use Rattle.pin_core.specs.World.{row}
 use Rattle.pin_table.specs.Calls.{KeeperValue}
@@ -13,7 +13,7 @@ pub invariant_of-self-2 : goal.invariant_of-self-2
 invariant_of-self-2 c =
     let e = c.in_ok-pin.ensures in
     rw (c.lend-2.ensures, e.after, set-set c.self.inside.keeper.bounds c.args.slot e.weight (e.weight + new_weight))
-    (IsPinned-lent c.self.inside.slots c.self.inside.keeper.rows c.self.inside.keeper.bounds c.self.invariant.0 c.args.slot (e.weight + new_weight), one_each-looked c.self.inside.slots c.self.inside.keeper.looks c.args.slot (on_held lend) c.self.invariant.1)
+    (IsPinned-lent c.self.inside.slots c.self.inside.keeper.rows c.self.inside.keeper.bounds c.self.invariant.0 c.args.slot (e.weight + new_weight), one_each-looked c.self.inside.slots c.self.inside.keeper.looks c.args.slot (on_stored_blob lend) c.self.invariant.1)
 
 pub returns : goal.returns
 returns c =

@@ -1,6 +1,6 @@
 use Rattle.std.proofs.Common.{◌≡◌, ◌+◌, ◌<◌, ◌^◌, ap, ◌∙◌, arith}
 use Rattle.slot_table.specs.declared.phase.Phase.TheVariants as phase
-use Rattle.slot_table.specs.Slots.{emptied, generation_at, phase_at, retire}
+use Rattle.slot_table.specs.Slots.{freed_slot, generation_at, phase_at, retire}
 use Rattle.store_book.specs.Pinned.{Pinned}
 use Rattle.store_book.proofs.Slots.Pinned.{one_each-looked}
 use Rattle.store_book.proofs.Slots.Reclaimed.{generation_row, IsPinned-freed, IsPinned-retired}
@@ -10,7 +10,7 @@ pub invariant_of-self : goal.invariant_of-self
 invariant_of-self c =
     let e = c.in-Freed.ensures.answer in
     let is : phase_at c.self.inside.slots c.args.slot ≡ phase.Condemned = ap (λ (p : Pinned). phase_at p.slots c.args.slot) c.self.view_is ∙ c.requires.condemned in
-    rw (c.free.ensures, e.1) (IsPinned-freed c.self.inside.slots c.self.inside.keeper.rows c.self.inside.keeper.bounds c.self.invariant.0 c.args.slot is e.0, one_each-looked c.self.inside.slots c.self.inside.keeper.looks c.args.slot emptied c.self.invariant.1)
+    rw (c.free.ensures, e.1) (IsPinned-freed c.self.inside.slots c.self.inside.keeper.rows c.self.inside.keeper.bounds c.self.invariant.0 c.args.slot is e.0, one_each-looked c.self.inside.slots c.self.inside.keeper.looks c.args.slot freed_slot c.self.invariant.1)
 
 pub invariant_of-self-in-Retired : goal.invariant_of-self-in-Retired
 invariant_of-self-in-Retired c =

@@ -1,15 +1,15 @@
 use Rattle.std.proofs.Common.{Some, ap, ◌∙◌, ◌++◌}
 use Rattle.std.specs.Vec.{vec_capacity}
-use Rattle.store_model.specs.Sessions.{Taken}
-use Rattle.upload_table.specs.Rows.{taken}
+use Rattle.store_model.specs.Sessions.{HandRecord}
+use Rattle.upload_table.specs.Rows.{hand_shown}
 use Rattle.upload_table.specs.declared.upload.ChunkBuffer.{ChunkBuffer}
 use Rattle.upload_table.proofs.HandChunks.{hand_fill}
 use Rattle.upload_table.proofs.hand.Hand.fill_by.Goals as goal
 
 pub returns-in-Ok-clause-ok : goal.returns-in-Ok-clause-ok
 returns-in-Ok-clause-ok c =
-    let empty = ap (λ (h : Taken). h.last) c.self.view_is ∙ c.requires.empty in
-    ap (λ w. taken c.self.inside.tenant c.self.inside.number c.self.inside.received c.self.inside.reserved c.extend-filled.new.pieces w) c.in-Ok.ensures.hash.1
+    let empty = ap (λ (h : HandRecord). h.last) c.self.view_is ∙ c.requires.empty in
+    ap (λ w. hand_shown c.self.inside.tenant c.self.inside.number c.self.inside.received c.self.inside.reserved c.extend-filled.new.pieces w) c.in-Ok.ensures.hash.1
     ∙ hand_fill c.self.inside.received c.self.inside.reserved c.self.inside.pieces.value (vec_capacity c.self.inside.pieces.value.lens) c.self.inside.pieces.value.whole c.self.invariant
     c.self.inside.tenant c.self.inside.number c.extend-filled.new.pieces c.in-Ok.ensures.hash.0 c.args.bytes.now empty (c.extend-filled.ensures.lens ∙ ap (λ (p : ChunkBuffer). p.lens.items) c.deref_mut.ensures.value) (c.in-Ok.ensures.bytes ∙ ap (λ (p : ChunkBuffer). p.bytes.items ++ c.args.bytes.now) c.deref_mut.ensures.value)
-    ∙ ap (λ (h : Taken). record h { last = Some c.args.bytes.now }) c.self.view_is
+    ∙ ap (λ (h : HandRecord). record h { last = Some c.args.bytes.now }) c.self.view_is

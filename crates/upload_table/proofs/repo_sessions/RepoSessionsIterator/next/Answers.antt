@@ -1,12 +1,12 @@
 use Rattle.std.proofs.Common.{◌≡◌, ◌+◌, ◌-◌, suc, [], ◌∷◌, length, map, take, drop, arith, sym, ap, ◌∙◌, add-one}
 use Rattle.std.proofs.lemmas.List.{take_rest}
-use Rattle.finite_maps.specs.Texts.{same_text}
+use Rattle.spec_lib.specs.Texts.{same_text}
 use Rattle.upload_table.specs.Rows.{row_listed, rows_listed}
-use Rattle.finite_maps.proofs.Filters.{filter-from, filter-nothing}
+use Rattle.spec_lib.proofs.Filters.{filter-from, filter-nothing}
 use Rattle.upload_table.proofs.repo_sessions.RepoSessionsIterator.next.Goals.{After-received_of}
 use Rattle.upload_table.proofs.repo_sessions.RepoSessionsIterator.next.Goals as goal
 
--- the first session for the repository, and those behind it
+-- the first session for the repository, and those after it
 first : (c : After-received_of) → c.args.self.now ≡ (c.index-self-place.result.number, c.received_of.result) ∷ rows_listed c.self.inside.repo.now (take (length c.self.inside.rest.now - (c.in_ok-place.place + 1)) (drop (c.in_ok-place.place + 1) c.self.inside.rest.now))
 first c =
     let rows = c.self.inside.rest.now in

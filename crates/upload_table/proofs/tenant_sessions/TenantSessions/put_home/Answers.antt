@@ -1,9 +1,9 @@
 use Rattle.std.proofs.Common.{ap, sym, ◌∙◌, arith, length, is_some, ◌-◌}
 use Rattle.std.proofs.lemmas.Bool.{false≢true}
 use Rattle.upload_table.specs.Rows.{chunks_shown}
-use Rattle.upload_table.specs.Tenants.{Numbered, with_chunks_here}
+use Rattle.upload_table.specs.Tenants.{SessionsByNumber, with_chunks_here}
 use Rattle.upload_table.specs.declared.upload.ChunkBuffer.{ChunkBuffer}
-use Rattle.upload_table.specs.declared.upload.Content.TheVariants.{Home}
+use Rattle.upload_table.specs.declared.upload.SessionContent.TheVariants.{Home}
 use Rattle.upload_table.proofs.TenantRows.{absent, charge-le, sound-set, view-set, within_charge}
 use Rattle.upload_table.proofs.tenant_sessions.TenantSessions.put_home.Goals as goal
 
@@ -27,4 +27,4 @@ unreachable-requires c =
 pub returns-clause-home : goal.returns-clause-home
 returns-clause-home c =
     view-set c.self.inside.next c.self.inside.charged c.self.inside.rows.items c.self.invariant c.args.number c.in-Ok.i c.index_mut-row.result.now (rw c.as_slice.ensures.value at c.in-Ok.ensures.within) (rw c.as_slice.ensures.value at c.in-Ok.ensures.place) c.index_mut-row.ensures.value (Home c.args.pieces)
-    ∙ ap (λ (s : Numbered). with_chunks_here s c.args.number (chunks_shown (Home c.args.pieces))) c.self.view_is
+    ∙ ap (λ (s : SessionsByNumber). with_chunks_here s c.args.number (chunks_shown (Home c.args.pieces))) c.self.view_is

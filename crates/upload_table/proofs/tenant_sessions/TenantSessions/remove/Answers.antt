@@ -1,6 +1,6 @@
 use Rattle.std.proofs.Common.{ap, sym, ◌∙◌, arith, is_some, ◌-◌}
 use Rattle.std.proofs.lemmas.Bool.{false≢true}
-use Rattle.upload_table.specs.Tenants.{Numbered, without}
+use Rattle.upload_table.specs.Tenants.{SessionsByNumber, without_number}
 use Rattle.upload_table.proofs.TenantRows.{absent, charge-le, map_of, shown-remove, sound-remove}
 use Rattle.upload_table.proofs.tenant_sessions.TenantSessions.remove.Goals as goal
 
@@ -17,4 +17,4 @@ unreachable-requires c =
 pub returns : goal.returns
 returns c =
     (λ j. record { next = c.self.inside.next; sessions = map_of (c.remove.ensures.items j) }) ∙ (λ j. record { next = c.self.inside.next; sessions = shown-remove c.self.inside.next c.self.inside.charged c.self.inside.rows.items c.self.invariant c.args.number c.in-Ok.i c.index.result.now (rw c.as_slice.ensures.value at c.in-Ok.ensures.within) (rw c.as_slice.ensures.value at c.in-Ok.ensures.place) c.index.ensures j })
-    ∙ ap (λ (s : Numbered). without s c.args.number) c.self.view_is
+    ∙ ap (λ (s : SessionsByNumber). without_number s c.args.number) c.self.view_is

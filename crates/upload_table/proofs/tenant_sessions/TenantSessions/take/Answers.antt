@@ -1,11 +1,11 @@
 use Rattle.std.proofs.Common.{◌≡◌, ◌+◌, Some, ap, sym, ◌∙◌, arith, set, subst}
 use Rattle.std.specs.Option.{option_map}
 use Rattle.std.specs.FinMap.{get}
-use Rattle.store_model.specs.Sessions.{Session, is_home}
+use Rattle.store_model.specs.Sessions.{Session, is_checked_in}
 use Rattle.store_model.specs.Sessions as shown
-use Rattle.upload_table.specs.Rows.{chunks_shown, content_charge, content_received, shown_by, AreWhole}
-use Rattle.upload_table.specs.Tenants.{Numbered, charged_in, with_chunks_here}
-use Rattle.upload_table.specs.declared.upload.Content.TheVariants.{InHand}
+use Rattle.upload_table.specs.Rows.{chunks_shown, content_charge, content_received, sessions_shown, HasConsistentBuffer}
+use Rattle.upload_table.specs.Tenants.{SessionsByNumber, charged_in, with_chunks_here}
+use Rattle.upload_table.specs.declared.upload.SessionContent.TheVariants.{InHand}
 use Rattle.upload_table.specs.declared.upload.Upload.{Upload}
 use Rattle.std.proofs.lemmas.Bool.{false≢true}
 use Rattle.upload_table.proofs.TenantRows.{absent, charge-le, charged_kept, found, home_row, sound-set, view-set, whole_row}
@@ -28,10 +28,10 @@ invariant_of-self c =
 pub unreachable-requires : goal.unreachable-requires
 unreachable-requires c =
     let none = absent c.self.inside.next c.self.inside.charged c.self.inside.rows.items c.self.invariant c.args.number c.in-Err.field-0 (rw c.as_slice.ensures.value at c.in-Err.ensures.place) in
-    false≢true (sym (ap is_home none) ∙ (rw (← c.self.view_is) at c.requires.home))
+    false≢true (sym (ap is_checked_in none) ∙ (rw (← c.self.view_is) at c.requires.home))
 
 pub returns-clause-whole : goal.returns-clause-whole
-returns-clause-whole c = subst AreWhole c.take_chunks.ensures.pieces (whole_row c.self.inside.next c.self.inside.charged c.self.inside.rows.items c.self.invariant c.args.number c.in-Ok.i c.index_mut.result.now (rw c.as_slice.ensures.value at c.in-Ok.ensures.within) (rw c.as_slice.ensures.value at c.in-Ok.ensures.place) c.index_mut.ensures.value)
+returns-clause-whole c = subst HasConsistentBuffer c.take_chunks.ensures.pieces (whole_row c.self.inside.next c.self.inside.charged c.self.inside.rows.items c.self.invariant c.args.number c.in-Ok.i c.index_mut.result.now (rw c.as_slice.ensures.value at c.in-Ok.ensures.within) (rw c.as_slice.ensures.value at c.in-Ok.ensures.place) c.index_mut.ensures.value)
 
 pub returns-clause-fits : goal.returns-clause-fits
 returns-clause-fits c =
@@ -41,12 +41,12 @@ returns-clause-fits c =
 
 pub returns-clause-chunks : goal.returns-clause-chunks
 returns-clause-chunks c =
-    ap (λ (s : Numbered). option_map (λ (x : Session). x.chunks) (get s.sessions c.args.number)) (sym c.self.view_is)
+    ap (λ (s : SessionsByNumber). option_map (λ (x : Session). x.chunks) (get s.sessions c.args.number)) (sym c.self.view_is)
     ∙ ap (option_map (λ (x : Session). x.chunks)) (found c.self.inside.next c.self.inside.charged c.self.inside.rows.items c.self.invariant c.args.number c.in-Ok.i c.index_mut.result.now (rw c.as_slice.ensures.value at c.in-Ok.ensures.within) (rw c.as_slice.ensures.value at c.in-Ok.ensures.place) c.index_mut.ensures.value) ∙ ap (λ k. Some (chunks_shown k)) c.take_chunks.ensures.pieces
 
 pub returns-clause-taken : goal.returns-clause-taken
 returns-clause-taken c =
     let row = c.index_mut.result.now in
-    ap (λ (u : Upload). shown_by c.self.inside.next (set c.self.inside.rows.items c.in-Ok.i u)) c.take_chunks.ensures.row
+    ap (λ (u : Upload). sessions_shown c.self.inside.next (set c.self.inside.rows.items c.in-Ok.i u)) c.take_chunks.ensures.row
     ∙ view-set c.self.inside.next c.self.inside.charged c.self.inside.rows.items c.self.invariant c.args.number c.in-Ok.i c.index_mut.result.now (rw c.as_slice.ensures.value at c.in-Ok.ensures.within) (rw c.as_slice.ensures.value at c.in-Ok.ensures.place) c.index_mut.ensures.value (InHand (content_received row.content) c.args.len)
-    ∙ (λ j. with_chunks_here (c.self.view_is j) c.args.number (shown.InHand (content_received (c.take_chunks.ensures.pieces j)) c.args.len))
+    ∙ (λ j. with_chunks_here (c.self.view_is j) c.args.number (shown.CheckedOutWith (content_received (c.take_chunks.ensures.pieces j)) c.args.len))

@@ -1,8 +1,8 @@
 use Rattle.std.proofs.Common.{◌≡◌, length, ap, sym, ◌∙◌, arith, is_some}
 use Rattle.std.specs.List.{sum_by}
 use Rattle.std.specs.FinMap.{get}
-use Rattle.finite_maps.proofs.Options.{some_same}
-use Rattle.store_model.specs.Sessions.{Home, with_chunks}
+use Rattle.spec_lib.proofs.Options.{some_same}
+use Rattle.store_model.specs.Sessions.{CheckedIn, with_chunks}
 use Rattle.upload_table.specs.Uploaded.{with_sessions}
 use Rattle.upload_table.proofs.HandCalls.{brought, can-reopen, finish_other, found_as, given, put_fits, reopens, taken_value}
 use Rattle.upload_table.proofs.uploads.Uploads.finish.Goals as goal
@@ -37,5 +37,5 @@ returns-in-Err-clause-does c =
     let h = c.args.hand in
     let x = taken_value (get v.sessions h.key) h (sym c.in-Some.ensures) in
     let key : (c.tenant-tenant.result, c.number-number.result) ≡ h.key = (λ j. (c.tenant-tenant.ensures j, c.number-number.ensures j)) in
-    let after = c.bring_home.ensures.home ∙ brought v h x.0 x.1 _ _ key ∙ (λ j. with_sessions v (with_chunks v.sessions h.key x.0 (Home (c.in-Err.ensures.chunks j)))) in
+    let after = c.bring_home.ensures.home ∙ brought v h x.0 x.1 _ _ key ∙ (λ j. with_sessions v (with_chunks v.sessions h.key x.0 (CheckedIn (c.in-Err.ensures.chunks j)))) in
     (finish_other v h x.0 x.1 c.args.digest.now c.in-Err.ensures.other, after ∙ ap (with_sessions v) (sym (given v h x.0 x.1)))

@@ -1,6 +1,6 @@
 use Rattle.std.proofs.Common.{ap, arith, is_some}
 use Rattle.std.specs.FinMap.{get}
-use Rattle.upload_table.proofs.TableCalls.{after-without, found_here, home_value, within}
+use Rattle.upload_table.proofs.TableCalls.{after-without_number, found_here, home_value, within}
 use Rattle.upload_table.proofs.uploads.Uploads.remove.Goals as goal
 
 pub index_mut-requires : goal.index_mut-requires
@@ -22,4 +22,4 @@ returns c =
     let tenants = c.self.inside.tenants.items in
     let v = c.args.self.now in
     let x = home_value (get v.sessions (c.args.tenant, c.args.number)) c.requires in
-    after-without tenants v c.self.view_is c.args.tenant c.args.number x.0 x.1 c.index_mut.result.now c.index_mut.ensures.value c.remove.new.self c.remove.ensures
+    after-without_number tenants v c.self.view_is c.args.tenant c.args.number x.0 x.1 c.index_mut.result.now c.index_mut.ensures.value c.remove.new.self c.remove.ensures

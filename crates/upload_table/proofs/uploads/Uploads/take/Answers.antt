@@ -1,7 +1,7 @@
 use Rattle.std.proofs.Common.{ap, sym, ◌∙◌, arith}
 use Rattle.std.specs.Option.{option_map}
 use Rattle.std.specs.FinMap.{get}
-use Rattle.store_model.specs.Sessions.{Session, is_home}
+use Rattle.store_model.specs.Sessions.{Session, is_checked_in}
 use Rattle.upload_table.proofs.HandCalls.{hand_is, take_is}
 use Rattle.upload_table.proofs.TableCalls.{after-chunks, charged_here, found_here, home_value, within}
 use Rattle.upload_table.proofs.uploads.Uploads.take.Goals as goal
@@ -18,7 +18,7 @@ take-pieces-requires-clause-home c =
     let tenants = c.self.inside.tenants.items in
     let v = c.args.self.now in
     let x = home_value (get v.sessions (c.args.tenant, c.args.number)) c.requires.home in
-    ap is_home (found_here tenants v c.self.view_is c.args.tenant c.args.number x.0 x.1 c.index_mut.result.now c.index_mut.ensures.value ∙ sym x.1) ∙ c.requires.home
+    ap is_checked_in (found_here tenants v c.self.view_is c.args.tenant c.args.number x.0 x.1 c.index_mut.result.now c.index_mut.ensures.value ∙ sym x.1) ∙ c.requires.home
 
 pub take-pieces-requires-clause-room : goal.take-pieces-requires-clause-room
 take-pieces-requires-clause-room c =

@@ -1,4 +1,0 @@
-pub mod Frames
-pub mod Laws
-pub mod Lines
-pub mod Replies

@@ -1,9 +1,0 @@
-use Rattle.std.proofs.Common.{add-zero, refl}
-use Rattle.store_model.specs.Runs.{Done}
-use Rattle.store_api.specs.Answers.{Deleted}
-use Rattle.store_api.specs.Commands.{DeleteManifest}
-use Rattle.blob_store.proofs.Seated.{made}
-use Rattle.blob_store.proofs.seat.SeatBackend.delete_manifest.Goals as goal
-
-pub returns : goal.returns
-returns g c = made g.S.Naming.names _ _ (DeleteManifest c.args.repo.now c.args.digest.now) (λ _. Done) (λ _. Deleted) c.delete_manifest.result (λ r. (r, refl, refl)) (λ a. refl) (λ a. record { commands = refl; received = refl; closed = refl; abandoned = λ _. add-zero _ }) c.delete_manifest.ensures

@@ -1,0 +1,14 @@
+pub mod Counts
+pub mod LeaseCalls
+pub mod LeaseNames
+pub mod LeaseTables
+pub mod Leases
+pub mod RowPlaces
+pub mod RowViews
+pub mod Plays
+pub mod Replies
+pub mod RowCommands
+pub mod Rows
+pub mod JoinedRows
+pub mod Shares
+pub mod Workers

@@ -1,0 +1,26 @@
+-- Leases as contracts see them.
+use Rattle.std.specs.Prelude.{ℕ, ◌+◌, ◌-◌, ◌/◌, take, drop}
+use Rattle.std.specs.Coded.{Coded, code_by, coded×, coded_ℕ}
+use Rattle.std.proofs.Common.{refl}
+use Rattle.spec_lib.specs.Texts.{Text, coded_text}
+
+-- a lease: its blob's bytes, and its weight
+pub record LeaseView : Type 0 where
+  pub bytes : Text
+  pub weight : ℕ
+
+-- a new lease of a blob of these bytes
+abbrev pub new_lease : Text → LeaseView
+new_lease bytes = record { bytes = bytes; weight = 1024 }
+
+-- a lease of half the weight
+abbrev pub half_lease : LeaseView → LeaseView
+half_lease lease = record { bytes = lease.bytes; weight = lease.weight / 2 }
+
+-- the bytes from `start` to `end`, both included, or to the end of all bytes
+abbrev pub bytes_between : Text → ℕ → ℕ → Text
+bytes_between bytes start end = take (end - start + 1) (drop start bytes)
+
+-- the code by which proofs compare leases
+abbrev pub coded_lease_view : Coded LeaseView
+coded_lease_view = code_by (Text × ℕ) (coded× coded_text coded_ℕ) (λ l. (l.bytes, l.weight)) (λ p. record { bytes = p.0; weight = p.1 }) (λ _. refl)

@@ -1,5 +1,0 @@
-use Rattle.store_book.proofs.Refine.Take.{use_is}
-use Rattle.store_book.proofs.laws.uses_are_kept.Goals as goal
-
-pub returns : goal.returns
-returns c = λ L book t there. use_is L t book there

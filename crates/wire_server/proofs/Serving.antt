@@ -1,0 +1,163 @@
+-- Lists of requests that are served one after another.
+use Rattle.std.proofs.Common.{◌≡◌, ◌+◌, ◌∙◌, ◌++◌, ◌∷◌, [], ℕ, List, Option, ap, arith, inl, length, length-append, append-nil, refl, subst, sym}
+use Rattle.std.proofs.lemmas.Grind.{flat_map-append}
+use Rattle.std.proofs.lemmas.List.Concat.{flat_map-cons}
+use Rattle.std.proofs.KnownBytes.{Appends-nil, Appends-trans, Consumes-nil, Consumes-trans}
+use Rattle.std.specs.Io.KnownBytes.{Appends, Consumes}
+use Rattle.wire_format.specs.Frames.{request_bytes}
+use Rattle.blob_digest.specs.declared.refusal.Refusal.{Refusal}
+use Rattle.blob_digest.specs.declared.refusal.Refusal.TheVariants.{NameInvalid, DigestInvalid, NameUnknown, UploadUnknown, SizeInvalid, RangeInvalid, BlobUnknown, ManifestInvalid, ManifestUnknown, ManifestBlobUnknown, Quota, Referenced, StoreFull, TooManyReaders, LimitReached, WeightSpent, Memory, Busy}
+use Rattle.wire_format.specs.Replies.{Reply, ReportsRefusal, refusal_reply, reply_bytes}
+use Rattle.store_api.specs.Answers.{Answer}
+use Rattle.store_api.specs.Answers as answers
+use Rattle.store_api.specs.Commands.{StoreRequest}
+use Rattle.store_model.specs.Catalog.{Catalog}
+use Rattle.watched_reader.specs.Watching.{HasNotFailed}
+use Rattle.watched_reader.specs.declared.watched.Watched.{Watched}
+use Rattle.wire_server.specs.LeaseEvents.{TableEvent}
+use Rattle.wire_server.specs.Outcomes.{RequestResult, Answered, NewLease, Fetched, QueryNumbers, NoCommand, ReportsOutcome, ReportsAnswer, answer_reply}
+use Rattle.wire_server.specs.Connections.{IsEndReason, EndsByRead, Frame, FrameStep, ServesRequests, ServesFrames, frames_bytes, replies_bytes}
+use Rattle.wire_server.specs.declared.ending.Ending.{Ending}
+use Rattle.wire_server.specs.declared.ending.Ending.TheVariants.{Closed, CutOff, ReadFailed, Malformed, WriteFailed}
+
+module _ {S T : Type 0} (acts : S → StoreRequest → Answer → S → Type 0) (finds : S → Catalog → Type 0) (does : T → TableEvent → T → Type 0) where
+  -- requests that are served after others are served with them
+  pub serves_append : (old mid new : S × T) (fs gs : List Frame) (rs ss : List Reply) → ServesFrames acts finds does old fs rs mid → ServesFrames acts finds does mid gs ss new → ServesFrames acts finds does old (fs ++ gs) (rs ++ ss) new
+  serves_append old mid new [] gs [] ss p q = subst (λ s. ServesFrames acts finds does s gs ss new) p q
+  serves_append old mid new [] gs (r ∷ rs) ss p q = absurd p
+  serves_append old mid new (f ∷ fs) gs [] ss p q = absurd p
+  serves_append old mid new (f ∷ fs) gs (r ∷ rs) ss p q = (p.0, p.1, serves_append p.0 mid new fs gs rs ss p.2 q)
+
+  -- a served request is a list of one
+  pub serves_one : (old new : S × T) (frame : Frame) (reply : Reply) → FrameStep acts finds does old frame reply new → ServesFrames acts finds does old (frame ∷ []) (reply ∷ []) new
+  serves_one old new frame reply step = (new, step, refl)
+
+-- the reason of an end holds after more requests too
+pub ends_later : (ending : Ending) (m n : ℕ) (rest : Option (List ℕ)) → IsEndReason ending n rest → IsEndReason ending (m + n) rest
+ends_later Closed m n rest h = h
+ends_later CutOff m n rest h = h
+ends_later ReadFailed m n rest h = h
+ends_later Malformed m n rest h = h
+ends_later WriteFailed m n rest h = omega (arith, h)
+
+-- the reason of an end holds of a longer part of the connection, if no read failed in the first part
+pub ends_by_read_later : {R : Type 0} (ending : Ending) (old mid new : Watched R) → HasNotFailed old mid → EndsByRead ending mid new → EndsByRead ending old new
+ends_by_read_later Closed old mid new kept h = h ∙ kept
+ends_by_read_later CutOff old mid new kept h = h ∙ kept
+ends_by_read_later ReadFailed old mid new kept h = h
+ends_by_read_later Malformed old mid new kept h = h ∙ kept
+ends_by_read_later WriteFailed old mid new kept h = h ∙ kept
+
+-- each refusal has a reply
+reports_refusal : (refusal : Refusal) → ReportsRefusal refusal (refusal_reply refusal)
+reports_refusal NameInvalid = refl
+reports_refusal DigestInvalid = refl
+reports_refusal NameUnknown = refl
+reports_refusal UploadUnknown = refl
+reports_refusal SizeInvalid = refl
+reports_refusal (RangeInvalid received) = refl
+reports_refusal BlobUnknown = refl
+reports_refusal ManifestInvalid = refl
+reports_refusal ManifestUnknown = refl
+reports_refusal (ManifestBlobUnknown digest) = inl refl
+reports_refusal (Quota used quota) = refl
+reports_refusal (Referenced manifest) = inl refl
+reports_refusal StoreFull = refl
+reports_refusal TooManyReaders = refl
+reports_refusal LimitReached = refl
+reports_refusal WeightSpent = refl
+reports_refusal Memory = refl
+reports_refusal Busy = refl
+
+-- each answer has a reply
+reports_answer : (answer : Answer) → ReportsAnswer answer (answer_reply answer)
+reports_answer (answers.Manifest digest) = inl refl
+reports_answer (answers.Refused refusal) = reports_refusal refusal
+reports_answer (answers.Session n) = refl
+reports_answer (answers.Received n) = refl
+reports_answer (answers.Stored n) = refl
+reports_answer answers.Abandoned = refl
+reports_answer answers.Mounted = refl
+reports_answer answers.Deleted = refl
+reports_answer (answers.Body bytes) = refl
+reports_answer (answers.Leased n) = refl
+reports_answer (answers.Bytes bytes) = refl
+reports_answer answers.Shared = refl
+reports_answer (answers.Verified n) = refl
+reports_answer answers.GivenBack = refl
+reports_answer (answers.Swept swept) = refl
+reports_answer answers.NoLease = refl
+reports_answer answers.NameTaken = refl
+
+-- each outcome has a reply
+pub outcome_has_reply : (outcome : RequestResult) → (reply : Reply) × ReportsOutcome outcome reply
+outcome_has_reply (Answered answer) = (answer_reply answer, reports_answer answer)
+outcome_has_reply (NewLease size number) = (_, refl)
+outcome_has_reply (Fetched size piece) = (_, refl)
+outcome_has_reply (QueryNumbers first second) = (_, refl)
+outcome_has_reply NoCommand = (_, refl)
+
+-- the bytes of a list of one request
+frames_bytes-one : (frame : Frame) → frames_bytes (frame ∷ []) ≡ request_bytes frame.head frame.payload
+frames_bytes-one frame = flat_map-cons (λ (f : Frame). request_bytes f.head f.payload) frame [] ∙ append-nil (request_bytes frame.head frame.payload)
+
+-- the bytes of a list of one reply
+replies_bytes-one : (reply : Reply) → replies_bytes (reply ∷ []) ≡ reply_bytes reply
+replies_bytes-one reply = flat_map-cons reply_bytes reply [] ∙ append-nil (reply_bytes reply)
+
+-- the bytes of two lists of requests are those of both
+frames_bytes-append : (fs gs : List Frame) → frames_bytes (fs ++ gs) ≡ frames_bytes fs ++ frames_bytes gs
+frames_bytes-append fs gs = flat_map-append (λ (f : Frame). request_bytes f.head f.payload) fs gs
+
+-- the bytes of two lists of replies are those of both
+replies_bytes-append : (rs ss : List Reply) → replies_bytes (rs ++ ss) ≡ replies_bytes rs ++ replies_bytes ss
+replies_bytes-append rs ss = flat_map-append reply_bytes rs ss
+
+module _ {S T : Type 0} (acts : S → StoreRequest → Answer → S → Type 0) (finds : S → Catalog → Type 0) (does : T → TableEvent → T → Type 0) where
+  -- a connection that ends at once is served
+  pub served_at_once : (old : S × T) (line held : Option (List ℕ)) (ending : Ending) → IsEndReason ending 0 line → ServesRequests acts finds does old old line held held ending
+  served_at_once old line held ending h = record {
+    frames = [];
+    replies = [];
+    served = refl;
+    rest = line;
+    read = Consumes-nil line;
+    written = λ _. Appends-nil held;
+    ends = h;
+  }
+
+  -- a connection whose reply cannot be written is served
+  pub served_unwritten : (old new : S × T) (line rest held holds : Option (List ℕ)) (frame : Frame) (reply : Reply) → FrameStep acts finds does old frame reply new → Consumes line rest (request_bytes frame.head frame.payload) → ServesRequests acts finds does old new line held holds WriteFailed
+  served_unwritten old new line rest held holds frame reply step read = record {
+    frames = frame ∷ [];
+    replies = reply ∷ [];
+    served = serves_one acts finds does old new frame reply step;
+    rest = rest;
+    read = subst (Consumes line rest) (sym (frames_bytes-one frame)) read;
+    written = λ h. absurd (h refl);
+    ends = omega arith;
+  }
+
+  -- a connection is served if its first requests are, and then the rest
+  pub then_served : (old mid new : S × T) (line behind held middle holds : Option (List ℕ)) (frames : List Frame) (replies : List Reply) (ending : Ending)
+      → ServesFrames acts finds does old frames replies mid → Consumes line behind (frames_bytes frames) → Appends held middle (replies_bytes replies) → ServesRequests acts finds does mid new behind middle holds ending → ServesRequests acts finds does old new line held holds ending
+  then_served old mid new line behind held middle holds frames replies ending served read written last = record {
+    frames = frames ++ last.frames;
+    replies = replies ++ last.replies;
+    served = serves_append acts finds does old mid new frames last.frames replies last.replies served last.served;
+    rest = last.rest;
+    read = subst (Consumes line last.rest) (sym (frames_bytes-append frames last.frames)) (Consumes-trans line behind last.rest (frames_bytes frames) (frames_bytes last.frames) read last.read);
+    written = λ h. subst (Appends held holds) (sym (replies_bytes-append replies last.replies)) (Appends-trans held middle holds (replies_bytes replies) (replies_bytes last.replies) written (last.written h));
+    ends = subst (λ n. IsEndReason ending n last.rest) (sym (length-append frames last.frames)) (ends_later ending (length frames) (length last.frames) last.rest last.ends);
+  }
+
+  -- a list of served requests grows by one
+  pub serves_push : (old mid new : S × T) (line behind rest held middle holds : Option (List ℕ)) (frames : List Frame) (replies : List Reply) (frame : Frame) (reply : Reply)
+      → ServesFrames acts finds does old frames replies mid → Consumes line behind (frames_bytes frames) → Appends held middle (replies_bytes replies)
+      → FrameStep acts finds does mid frame reply new → Consumes behind rest (request_bytes frame.head frame.payload) → Appends middle holds (reply_bytes reply)
+      → ServesFrames acts finds does old (frames ++ frame ∷ []) (replies ++ reply ∷ []) new × Consumes line rest (frames_bytes (frames ++ frame ∷ [])) × Appends held holds (replies_bytes (replies ++ reply ∷ []))
+  serves_push old mid new line behind rest held middle holds frames replies frame reply served read written step more told = (
+    serves_append acts finds does old mid new frames (frame ∷ []) replies (reply ∷ []) served (serves_one acts finds does mid new frame reply step),
+    subst (Consumes line rest) (sym (frames_bytes-append frames (frame ∷ []) ∙ ap (λ l. frames_bytes frames ++ l) (frames_bytes-one frame))) (Consumes-trans line behind rest (frames_bytes frames) (request_bytes frame.head frame.payload) read more),
+    subst (Appends held holds) (sym (replies_bytes-append replies (reply ∷ []) ∙ ap (λ l. replies_bytes replies ++ l) (replies_bytes-one reply))) (Appends-trans held middle holds (replies_bytes replies) (reply_bytes reply) written told),
+  )

@@ -1,0 +1,6 @@
+pub mod LeaseEvents
+pub mod Outcomes
+pub mod Queries
+pub mod Requests
+pub mod Connections
+pub mod Steps

@@ -1,0 +1,77 @@
+-- The outcomes of requests, and their replies.
+use Rattle.std.specs.Prelude.{◌≡◌, ◌⊎◌, ℕ, [], List, Option, Result, MatchResult, OnOk}
+use Rattle.std.specs.Io.KnownBytes.{Appends}
+use Rattle.blob_digest.specs.declared.refusal.Refusal.{Refusal as RefusalCode}
+use Rattle.wire_format.specs.Replies.{Reply, ReportsRefusal, digest_reply, memory_reply, numbers_reply, refusal_reply, reply_bytes}
+use Rattle.spec_lib.specs.Texts.{Text}
+use Rattle.store_api.specs.Answers.{Answer, Session, Received, Stored, Manifest, Body, Leased, Bytes, Verified, Swept, NoLease, NameTaken, Refused, answer_of}
+use Rattle.store_api.specs.declared.reply.Reply.{Reply as StoreReply}
+use Rattle.wire_server.specs.declared.outcome.RequestResult.{RequestResult as Code}
+use Rattle.wire_server.specs.declared.outcome.RequestResult.TheVariants as code
+
+-- the outcome of a request: an answer, a lease of a blob of this size under this number, a piece of a blob of this size, the two numbers of a
+-- query, or no command
+pub data RequestResult : Type 0 where
+  Answered : Answer → RequestResult
+  NewLease : ℕ → ℕ → RequestResult
+  Fetched : ℕ → Text → RequestResult
+  QueryNumbers : ℕ → ℕ → RequestResult
+  NoCommand : RequestResult
+
+-- the outcome that the code returns, as contracts see it
+abbrev pub outcome_of : Code → RequestResult
+outcome_of (code.Answered reply) = Answered (answer_of reply)
+outcome_of (code.NewLease size number) = NewLease size number
+outcome_of (code.Fetched size piece) = Fetched size piece
+outcome_of (code.QueryNumbers first second) = QueryNumbers first second
+outcome_of code.NoCommand = NoCommand
+
+-- the reply of status 0 with a number and these bytes
+abbrev pub body_reply : ℕ → Text → Reply
+body_reply first bytes = record { status = 0; first = first; second = 0; digest = []; body = bytes }
+
+-- the reply that reports an answer
+abbrev pub answer_reply : Answer → Reply
+answer_reply (Session number) = numbers_reply 0 number 0
+answer_reply (Received length) = numbers_reply 0 length 0
+answer_reply (Stored size) = numbers_reply 0 size 0
+answer_reply (Manifest digest) = digest_reply 0 digest
+answer_reply (Body bytes) = body_reply 0 bytes
+answer_reply (Leased size) = numbers_reply 0 size 0
+answer_reply (Bytes bytes) = body_reply 0 bytes
+answer_reply (Verified size) = numbers_reply 0 size 0
+answer_reply (Swept swept) = numbers_reply 0 swept.freed swept.held
+answer_reply NoLease = numbers_reply 254 0 0
+answer_reply NameTaken = numbers_reply 254 0 0
+answer_reply (Refused refusal) = refusal_reply refusal
+answer_reply answer = numbers_reply 0 0 0
+
+-- the reply reports the answer, or is `Memory` in place of a digest
+abbrev pub ReportsAnswer : Answer → Reply → Type 0
+ReportsAnswer (Manifest digest) reply = (reply ≡ answer_reply (Manifest digest)) ⊎ (reply ≡ memory_reply)
+ReportsAnswer (Refused refusal) reply = ReportsRefusal refusal reply
+ReportsAnswer answer reply = reply ≡ answer_reply answer
+
+-- the reply reports the outcome
+abbrev pub ReportsOutcome : RequestResult → Reply → Type 0
+ReportsOutcome (Answered answer) reply = ReportsAnswer answer reply
+ReportsOutcome (NewLease size number) reply = reply ≡ numbers_reply 0 size number
+ReportsOutcome (Fetched size piece) reply = reply ≡ body_reply size piece
+ReportsOutcome (QueryNumbers first second) reply = reply ≡ numbers_reply 0 first second
+ReportsOutcome NoCommand reply = reply ≡ numbers_reply 255 0 0
+
+-- the outcome is the result of the call
+abbrev pub IsResultOf : Result StoreReply RefusalCode → RequestResult → Type 0
+IsResultOf result outcome = MatchResult result (λ reply. outcome ≡ Answered (answer_of reply)) (λ e. outcome ≡ Answered (Refused e))
+
+-- a call that succeeds wrote this reply
+abbrev pub Sends : {W A E : Type 0} → (W → Option (List ℕ)) → Result A E → W → W → Reply → Type 0
+Sends contents result old new reply = OnOk result (Appends (contents old) (contents new) (reply_bytes reply))
+
+-- a call that succeeds wrote one reply, which reports the answer
+abbrev pub SendsAnswer : {W A E : Type 0} → (W → Option (List ℕ)) → Result A E → W → W → Answer → Type 0
+SendsAnswer contents result old new answer = OnOk result ((reply : Reply) × ReportsAnswer answer reply × Appends (contents old) (contents new) (reply_bytes reply))
+
+-- a call that succeeds wrote one reply, which reports the outcome
+abbrev pub SendsOutcome : {W A E : Type 0} → (W → Option (List ℕ)) → Result A E → W → W → RequestResult → Type 0
+SendsOutcome contents result old new outcome = OnOk result ((reply : Reply) × ReportsOutcome outcome reply × Appends (contents old) (contents new) (reply_bytes reply))

@@ -1,0 +1,116 @@
+//! The outcome of a request, and its reply.
+ghost use Rattle.std.specs.Prelude.{◌≡◌, ◌⊎◌, ◌<◌, ◌^◌};
+ghost use Rattle.wire_format.specs.Replies.{numbers_reply};
+ghost use Rattle.wire_server.specs.Outcomes.{Sends, SendsAnswer, SendsOutcome, body_reply, outcome_of};
+ghost use Rattle.store_api.specs.Answers.{answer_of};
+
+use std::alloc::Global;
+use std::io::{self, Write};
+use store_api::{Piece, Reply};
+use wire_format::{write_digest, write_refusal, write_reply};
+
+/// The outcome of a request.
+#[derive(Drop)]
+pub enum RequestResult {
+    /// A reply of the store or of the table of leases.
+    Answered(Reply),
+    /// A new lease of a blob.
+    NewLease {
+        /// The blob's size in bytes.
+        size: u64,
+        /// The number of the lease.
+        number: u32,
+    },
+    /// A short piece of a blob, whose lease has ended.
+    Fetched {
+        /// The size of the blob in bytes.
+        size: u64,
+        /// The piece.
+        piece: Piece,
+    },
+    /// The result of a query.
+    QueryNumbers {
+        /// A size in bytes, a number of slots, or a tenant's use in bytes.
+        first: u64,
+        /// The tenant's quota in bytes, or 0.
+        second: u64,
+    },
+    /// The request's first byte names no command.
+    NoCommand,
+}
+
+/// The status of a request that names a lease which does not exist.
+const NO_LEASE: u32 = 254;
+
+/// The status of a request whose first byte names no command.
+const NO_COMMAND: u32 = 255;
+
+/// Writes the reply of a status and two numbers.
+fn write_numbers<W: Write>(output: &mut W, status: u32, first: u64, second: u64) -> io::Result<()>
+    ensures { Sends W.contents result output.old output.new (numbers_reply status first second) }
+{
+    write_reply(output, status, first, second, b"", b"")
+}
+
+/// Writes the reply of a number and a body, without a copy of the body.
+fn write_body<W: Write>(output: &mut W, first: u64, body: &[u8]) -> io::Result<()>
+    ensures { Sends W.contents result output.old output.new (body_reply first body.now) }
+{
+    write_reply(output, 0, first, 0, b"", body)
+}
+
+/// Writes the reply that reports an answer of the store or of the table of leases.
+fn write_answer<W: Write>(alloc: Global, output: &mut W, reply: &Reply) -> io::Result<()>
+    ensures { SendsAnswer W.contents result output.old output.new (answer_of reply.now) }
+{
+    match reply {
+        Reply::Session(number) => write_numbers(output, 0, u64::from(*number), 0),
+        Reply::Received(length) => write_numbers(output, 0, *length, 0),
+        Reply::Stored(size) | Reply::Leased(size) | Reply::Verified(size) => {
+            write_numbers(output, 0, *size, 0)
+        }
+        Reply::Abandoned | Reply::Mounted | Reply::Deleted | Reply::Shared | Reply::GivenBack =>
+            write_numbers(output, 0, 0, 0),
+        Reply::Manifest(digest) => write_digest(alloc, output, 0, digest),
+        Reply::Body(manifest) => write_body(output, 0, manifest.bytes()),
+        Reply::Bytes(piece) => write_body(output, 0, piece.bytes()),
+        Reply::Swept(swept) => write_numbers(
+            output,
+            0,
+            u64::from(swept.freed),
+            u64::from(swept.held),
+        ),
+        Reply::NoLease | Reply::NameTaken => write_numbers(output, NO_LEASE, 0, 0),
+        Reply::Refused(refusal) => write_refusal(alloc, output, refusal),
+    }
+}
+
+/// Writes the reply that reports an outcome. If memory runs out for the text of a digest, it writes `Memory` instead.
+///
+/// # Errors
+///
+/// A write failed. Then a part of the reply may have been written.
+///
+/// # Cost
+///
+/// Linear in the reply's length. It allocates only the text of a digest, and does not copy bytes of a blob or a manifest.
+pub fn write_outcome<W: Write>(
+    alloc: Global,
+    output: &mut W,
+    outcome: &RequestResult,
+) -> io::Result<()>
+    ensures { SendsOutcome W.contents result output.old output.new (outcome_of outcome.now) }
+{
+    match outcome {
+        RequestResult::Answered(reply) => write_answer(alloc, output, reply),
+        RequestResult::NewLease { size, number } => write_numbers(
+            output,
+            0,
+            *size,
+            u64::from(*number),
+        ),
+        RequestResult::Fetched { size, piece } => write_body(output, *size, piece.bytes()),
+        RequestResult::QueryNumbers { first, second } => write_numbers(output, 0, *first, *second),
+        RequestResult::NoCommand => write_numbers(output, NO_COMMAND, 0, 0),
+    }
+}
