@@ -1,0 +1,372 @@
+//! The connections of clients: their number, and the event that each waits for.
+use std::collections::HashMap;
+use std::io::{self, IoSlice};
+use std::net::SocketAddr;
+use std::pin::Pin;
+use std::sync::{Arc, Mutex, MutexGuard};
+use std::task::{Context, Poll};
+use std::time::{Duration, Instant};
+use tokio::io::{AsyncRead, AsyncWrite, ReadBuf};
+use tokio::net::TcpStream;
+use tokio::sync::Notify;
+
+/// The wait for a client after which its connection may be closed to admit a new one.
+const YIELD_TIME: Duration = Duration::from_secs(5);
+
+/// Pause between two checks of the connections' deadlines.
+const WATCH_REST: Duration = Duration::from_millis(100);
+
+/// The bounds on connections.
+#[derive(Clone, Copy, Debug)]
+pub struct Limits {
+    /// The number of connections at once.
+    pub most: usize,
+    /// The time for a request's head, from its first byte.
+    pub head: Duration,
+    /// The time without a byte: between requests, within a body, and while a client takes no bytes of a response.
+    pub idle: Duration,
+}
+
+/// The event that a connection waits for.
+#[derive(Debug)]
+struct State {
+    /// The number of requests that are being served.
+    requests: usize,
+    /// If no request is being served: the time at which the last one ended, or the next head began.
+    since: Instant,
+    has_head: bool,
+    /// The time since which the server waits for a request's body.
+    awaited: Option<Instant>,
+    /// The time since which the client takes no bytes.
+    stalled: Option<Instant>,
+    is_closing: bool,
+}
+
+/// A connection of a client.
+#[derive(Debug)]
+pub struct Connection {
+    /// The client's address.
+    pub client: SocketAddr,
+    /// The time without a byte.
+    pub idle: Duration,
+    state: Mutex<State>,
+    closing: Notify,
+}
+
+impl Connection {
+    /// Makes the state of a connection on which nothing was received.
+    pub fn new(client: SocketAddr, idle: Duration) -> Connection {
+        let since = Instant::now();
+        let state = State { requests: 0, since, has_head: false, awaited: None, stalled: None, is_closing: false };
+        Connection { client, idle, state: Mutex::new(state), closing: Notify::new() }
+    }
+
+    fn state(&self) -> MutexGuard<'_, State> {
+        self.state.lock().unwrap_or_else(|poisoned| poisoned.into_inner())
+    }
+
+    /// Notes that a request's head was read.
+    pub fn begin_request(&self) {
+        let mut state = self.state();
+        state.requests += 1;
+        state.has_head = false;
+    }
+
+    /// Notes that a response was sent.
+    pub fn end_request(&self) {
+        let mut state = self.state();
+        state.requests -= 1;
+        state.since = Instant::now();
+    }
+
+    /// Notes whether a request waits for more of its body.
+    pub fn await_body(&self, is_awaited: bool) {
+        self.state().awaited = is_awaited.then(Instant::now);
+    }
+
+    /// Notes that bytes were received.
+    fn heard(&self) {
+        let mut state = self.state();
+        if state.requests == 0 && !state.has_head {
+            state.has_head = true;
+            state.since = Instant::now();
+        }
+    }
+
+    /// Notes whether the client took bytes.
+    fn wrote(&self, is_taken: bool) {
+        let mut state = self.state();
+        let now = Instant::now();
+        match is_taken {
+            true => {
+                state.stalled = None;
+                if state.requests == 0 && !state.has_head {
+                    state.since = now;
+                }
+            }
+            false => {
+                state.stalled.get_or_insert(now);
+            }
+        }
+    }
+
+    /// Signals the connection's task to close it.
+    fn close(&self) {
+        self.state().is_closing = true;
+        self.closing.notify_one();
+    }
+
+    /// Returns whether no request is being served.
+    pub fn is_idle(&self) -> bool {
+        self.state().requests == 0
+    }
+
+    /// Waits until the connection has to be closed.
+    pub async fn closed(&self) {
+        self.closing.notified().await
+    }
+
+    /// Returns whether the client has exceeded a time limit.
+    fn is_overdue(&self, limits: &Limits, now: Instant) -> bool {
+        let state = self.state();
+        let is_over = |since: Instant, time| now.saturating_duration_since(since) >= time;
+        let rests = state.requests == 0 && is_over(state.since, if state.has_head { limits.head } else { limits.idle });
+        // A request that waits for its body fails by itself after the same time, with a response.
+        rests || state.stalled.map_or(false, |since| is_over(since, limits.idle))
+    }
+
+    /// Returns how early the connection is closed to admit another, or `None` if it has work to do. Connections without a
+    /// request come first, then those that wait for the client. The longest wait comes first.
+    fn readiness(&self, now: Instant) -> Option<(bool, Instant)> {
+        let state = self.state();
+        if state.is_closing {
+            None
+        } else if state.requests == 0 {
+            Some((false, state.since))
+        } else {
+            let waits = state.awaited.into_iter().chain(state.stalled).min();
+            waits.filter(|since| now.saturating_duration_since(*since) >= YIELD_TIME).map(|since| (true, since))
+        }
+    }
+}
+
+/// The table of connections, by number.
+#[derive(Debug, Default)]
+struct Open {
+    next: u64,
+    by_number: HashMap<u64, Arc<Connection>>,
+}
+
+/// The open connections.
+#[derive(Debug)]
+pub struct Connections {
+    limits: Limits,
+    open: Mutex<Open>,
+    place_freed: Notify,
+}
+
+/// A connection's place in the table. Dropping it frees the place.
+#[derive(Debug)]
+pub struct Admitted {
+    number: u64,
+    pub connection: Arc<Connection>,
+    table: Arc<Connections>,
+}
+
+impl Drop for Admitted {
+    fn drop(&mut self) {
+        self.table.open().by_number.remove(&self.number);
+        self.table.place_freed.notify_one();
+    }
+}
+
+impl Connections {
+    /// Makes an empty table.
+    pub fn new(limits: Limits) -> Arc<Connections> {
+        Arc::new(Connections { limits, open: Mutex::default(), place_freed: Notify::new() })
+    }
+
+    fn open(&self) -> MutexGuard<'_, Open> {
+        self.open.lock().unwrap_or_else(|poisoned| poisoned.into_inner())
+    }
+
+    /// The number of open connections.
+    pub fn len(&self) -> usize {
+        self.open().by_number.len()
+    }
+
+    /// Gives a connection a place. If no place is free, it closes the connection that has waited longest for its client. If
+    /// none waits, it waits until a connection ends.
+    pub async fn admit(self: &Arc<Self>, client: SocketAddr) -> Admitted {
+        loop {
+            if let Some(admitted) = self.try_admit(client) {
+                return admitted;
+            }
+            let _ = tokio::time::timeout(WATCH_REST, self.place_freed.notified()).await;
+        }
+    }
+
+    fn try_admit(self: &Arc<Self>, client: SocketAddr) -> Option<Admitted> {
+        let mut open = self.open();
+        if open.by_number.len() < self.limits.most {
+            let connection = Arc::new(Connection::new(client, self.limits.idle));
+            let number = open.next;
+            open.next += 1;
+            open.by_number.insert(number, connection.clone());
+            return Some(Admitted { number, connection, table: self.clone() });
+        }
+        let now = Instant::now();
+        let ready = open.by_number.values().filter_map(|one| one.readiness(now).map(|readiness| (readiness, one)));
+        if let Some((_, longest)) = ready.min_by_key(|(readiness, _)| *readiness) {
+            longest.close();
+        }
+        None
+    }
+
+    /// Closes connections whose clients exceed a time limit. It never returns.
+    pub async fn watch(&self) {
+        loop {
+            tokio::time::sleep(WATCH_REST).await;
+            let now = Instant::now();
+            for connection in self.open().by_number.values() {
+                if connection.is_overdue(&self.limits, now) {
+                    connection.close();
+                }
+            }
+        }
+    }
+
+    /// Waits until no connection is open.
+    pub async fn emptied(&self) {
+        while self.len() > 0 {
+            let _ = tokio::time::timeout(WATCH_REST, self.place_freed.notified()).await;
+        }
+    }
+
+    /// Closes all connections.
+    pub fn close_all(&self) {
+        for connection in self.open().by_number.values() {
+            connection.close();
+        }
+    }
+}
+
+/// A client's stream that reports its reads and writes to the connection.
+pub struct WatchedStream {
+    stream: TcpStream,
+    connection: Arc<Connection>,
+}
+
+impl WatchedStream {
+    /// Wraps a stream.
+    pub fn new(stream: TcpStream, connection: Arc<Connection>) -> WatchedStream {
+        WatchedStream { stream, connection }
+    }
+
+    fn note(&self, written: Poll<io::Result<usize>>) -> Poll<io::Result<usize>> {
+        match written {
+            Poll::Pending => self.connection.wrote(false),
+            Poll::Ready(Ok(count)) if count > 0 => self.connection.wrote(true),
+            Poll::Ready(_) => {}
+        }
+        written
+    }
+}
+
+impl AsyncRead for WatchedStream {
+    fn poll_read(mut self: Pin<&mut Self>, context: &mut Context<'_>, buffer: &mut ReadBuf<'_>) -> Poll<io::Result<()>> {
+        let before = buffer.filled().len();
+        let read = Pin::new(&mut self.stream).poll_read(context, buffer);
+        if buffer.filled().len() > before {
+            self.connection.heard();
+        }
+        read
+    }
+}
+
+impl AsyncWrite for WatchedStream {
+    fn poll_write(mut self: Pin<&mut Self>, context: &mut Context<'_>, bytes: &[u8]) -> Poll<io::Result<usize>> {
+        let written = Pin::new(&mut self.stream).poll_write(context, bytes);
+        self.note(written)
+    }
+
+    fn poll_write_vectored(
+        mut self: Pin<&mut Self>,
+        context: &mut Context<'_>,
+        slices: &[IoSlice<'_>],
+    ) -> Poll<io::Result<usize>> {
+        let written = Pin::new(&mut self.stream).poll_write_vectored(context, slices);
+        self.note(written)
+    }
+
+    fn is_write_vectored(&self) -> bool {
+        self.stream.is_write_vectored()
+    }
+
+    fn poll_flush(mut self: Pin<&mut Self>, context: &mut Context<'_>) -> Poll<io::Result<()>> {
+        Pin::new(&mut self.stream).poll_flush(context)
+    }
+
+    fn poll_shutdown(mut self: Pin<&mut Self>, context: &mut Context<'_>) -> Poll<io::Result<()>> {
+        Pin::new(&mut self.stream).poll_shutdown(context)
+    }
+}
+
+#[cfg(test)]
+mod tests {
+    use super::*;
+
+    const LIMITS: Limits = Limits { most: 2, head: Duration::from_secs(1), idle: Duration::from_secs(9) };
+
+    fn client() -> SocketAddr {
+        ([127, 0, 0, 1], 1).into()
+    }
+
+    fn later(seconds: u64) -> Instant {
+        Instant::now() + Duration::from_secs(seconds)
+    }
+
+    #[test]
+    fn a_head_and_a_pause_have_their_times() {
+        let connection = Connection::new(client(), LIMITS.idle);
+        assert!(!connection.is_overdue(&LIMITS, later(8)));
+        assert!(connection.is_overdue(&LIMITS, later(10)));
+        connection.heard();
+        assert!(connection.is_overdue(&LIMITS, later(2)));
+        connection.begin_request();
+        assert!(!connection.is_overdue(&LIMITS, later(100)));
+        connection.wrote(false);
+        assert!(connection.is_overdue(&LIMITS, later(10)));
+        connection.wrote(true);
+        connection.end_request();
+        assert!(!connection.is_overdue(&LIMITS, later(8)));
+        assert!(connection.is_overdue(&LIMITS, later(10)));
+    }
+
+    #[test]
+    fn those_without_a_request_are_closed_first() {
+        let (busy, idle) = (Connection::new(client(), LIMITS.idle), Connection::new(client(), LIMITS.idle));
+        busy.begin_request();
+        assert_eq!(busy.readiness(later(100)), None);
+        busy.await_body(true);
+        assert_eq!(busy.readiness(later(1)), None);
+        assert!(idle.readiness(later(6)) < busy.readiness(later(6)));
+        idle.close();
+        assert_eq!(idle.readiness(later(6)), None);
+    }
+
+    #[tokio::test]
+    async fn a_new_client_takes_the_place_of_the_oldest_idle_one() {
+        let table = Connections::new(LIMITS);
+        let first = table.admit(client()).await;
+        let second = table.admit(client()).await;
+        first.connection.begin_request();
+        assert!(table.try_admit(client()).is_none());
+        second.connection.closed().await;
+        drop(second);
+        let third = table.admit(client()).await;
+        assert_eq!(table.len(), 2);
+        drop((first, third));
+        table.emptied().await;
+    }
+}

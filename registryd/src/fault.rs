@@ -1,0 +1,199 @@
+//! Failures of requests: a status, a code, and the details in the JSON body (OCI Distribution Specification 1.1, "Error
+//! Codes").
+use crate::frames::{Reason, Refusal};
+use crate::limits::{tenant_of, Limit, MAX_MANIFESTS, MAX_REPOSITORIES, MAX_UPLOADS};
+use crate::store::StoreUnavailable;
+use hyper::header::{HeaderValue, CONTENT_TYPE};
+use hyper::{Body, Response, StatusCode};
+use serde_json::{json, Value};
+
+/// A failure of a request.
+#[derive(Debug)]
+pub struct Fault {
+    status: StatusCode,
+    code: &'static str,
+    message: String,
+    detail: Value,
+    header: Option<(&'static str, String)>,
+}
+
+impl Fault {
+    pub fn new(status: StatusCode, code: &'static str, message: impl Into<String>) -> Fault {
+        Fault { status, code, message: message.into(), detail: Value::Null, header: None }
+    }
+
+    fn with_header(self, name: &'static str, value: impl Into<String>) -> Fault {
+        Fault { header: Some((name, value.into())), ..self }
+    }
+
+    fn with_detail(self, detail: Value) -> Fault {
+        Fault { detail, ..self }
+    }
+
+    /// The path does not support the method.
+    pub fn method(allowed: &'static str) -> Fault {
+        Fault::new(StatusCode::METHOD_NOT_ALLOWED, "UNSUPPORTED", "the path does not support the method")
+            .with_header("Allow", allowed)
+    }
+
+    /// The blob would exceed the maximum length.
+    pub fn too_long(most: u64) -> Fault {
+        Fault::new(StatusCode::PAYLOAD_TOO_LARGE, "SIZE_INVALID", format!("a blob may have at most {most} bytes"))
+    }
+
+    /// The path matches no endpoint of the specification.
+    pub fn path() -> Fault {
+        Fault::new(StatusCode::NOT_FOUND, "NAME_UNKNOWN", "the path matches no endpoint")
+    }
+
+    pub fn upload_unknown() -> Fault {
+        Fault::new(StatusCode::NOT_FOUND, "BLOB_UPLOAD_UNKNOWN", "there is no such upload")
+    }
+
+    pub fn manifest_unknown() -> Fault {
+        Fault::new(StatusCode::NOT_FOUND, "MANIFEST_UNKNOWN", "the repository has no such manifest")
+    }
+
+    /// Each look-up of the tag found a manifest that was deleted before it was read.
+    pub fn tag_changing() -> Fault {
+        Fault::new(StatusCode::SERVICE_UNAVAILABLE, "MANIFEST_UNKNOWN", "the tag changed too often while it was read")
+            .with_header("Retry-After", "1")
+    }
+
+    /// The content is not a manifest, or differs from its description in the request.
+    pub fn manifest_invalid(message: impl Into<String>) -> Fault {
+        Fault::new(StatusCode::BAD_REQUEST, "MANIFEST_INVALID", message)
+    }
+
+    /// The range of a chunk differs from the range of its bytes.
+    pub fn content_range() -> Fault {
+        Fault::new(StatusCode::BAD_REQUEST, "SIZE_INVALID", "Content-Range is not `<start>-<end>` of the content")
+    }
+
+    /// A chunk does not begin at the end of the upload.
+    pub fn out_of_order(received: u64) -> Fault {
+        Fault::new(StatusCode::RANGE_NOT_SATISFIABLE, "BLOB_UPLOAD_INVALID", format!("{received} bytes were received"))
+            .with_header("Range", range_text(received))
+            .with_detail(json!({ "received": received }))
+    }
+
+    /// The client disconnected or stopped sending.
+    pub fn cut_off() -> Fault {
+        Fault::new(StatusCode::REQUEST_TIMEOUT, "SIZE_INVALID", "the content is incomplete")
+    }
+
+    /// A bug in this program stopped the request.
+    pub fn internal() -> Fault {
+        Fault::new(StatusCode::INTERNAL_SERVER_ERROR, "UNSUPPORTED", "the server failed while it served the request")
+    }
+
+    /// The server is overloaded; the client may retry soon.
+    pub fn unavailable(message: &str) -> Fault {
+        Fault::new(StatusCode::SERVICE_UNAVAILABLE, "TOOMANYREQUESTS", message).with_header("Retry-After", "1")
+    }
+
+    /// The request names no user, or the password is wrong.
+    pub fn unauthorized() -> Fault {
+        Fault::new(StatusCode::UNAUTHORIZED, "UNAUTHORIZED", "a user and a password are required")
+            .with_header("WWW-Authenticate", "Basic realm=\"registry\", charset=\"UTF-8\"")
+    }
+
+    /// The user is not the repository's tenant.
+    pub fn denied(user: &str) -> Fault {
+        Fault::new(StatusCode::FORBIDDEN, "DENIED", format!("{user} may use only repositories of tenant {user}"))
+    }
+
+    /// A call on a repository has reached a limit. The status is 403 because clients do not show the message of a 507.
+    pub fn limit(limit: Limit, repo: &str) -> Fault {
+        let tenant = tenant_of(repo);
+        let (code, name, most) = match limit {
+            Limit::Uploads => ("TOOMANYREQUESTS", "uploads", MAX_UPLOADS),
+            Limit::Repositories => ("DENIED", "repositories", MAX_REPOSITORIES),
+            Limit::Manifests => ("DENIED", "manifests", MAX_MANIFESTS),
+        };
+        let message = match limit {
+            Limit::Uploads => {
+                format!("tenant {tenant} has {most} open uploads, which is the maximum: finish or delete one")
+            }
+            Limit::Repositories => {
+                format!("tenant {tenant} has {most} repositories, which is the maximum: none is removed before the exit")
+            }
+            Limit::Manifests => {
+                format!("repository {repo} has {most} manifests, which is the maximum: delete one")
+            }
+        };
+        Fault::new(StatusCode::FORBIDDEN, code, message).with_detail(json!({ "limit": name, "most": most }))
+    }
+
+    /// Returns the response, with the failure as JSON.
+    pub fn into_response(self) -> Response<Body> {
+        let Fault { status, code, message, detail, header } = self;
+        let text = json!({ "errors": [{ "code": code, "message": message, "detail": detail }] }).to_string();
+        let mut response = Response::new(Body::from(text + "\n"));
+        *response.status_mut() = status;
+        response.headers_mut().insert(CONTENT_TYPE, HeaderValue::from_static("application/json"));
+        if let Some((name, value)) = header {
+            if let Ok(value) = HeaderValue::from_str(&value) {
+                response.headers_mut().insert(name, value);
+            }
+        }
+        response
+    }
+}
+
+/// Returns the header value for the range of the bytes received. An empty upload has `0-0`, as in other registries, because
+/// the header has no form for an empty range.
+pub fn range_text(received: u64) -> String {
+    format!("0-{}", received.saturating_sub(1))
+}
+
+impl From<StoreUnavailable> for Fault {
+    fn from(_: StoreUnavailable) -> Fault {
+        Fault::new(StatusCode::SERVICE_UNAVAILABLE, "UNSUPPORTED", "the store has ended, or does not reply in time")
+            .with_header("Retry-After", "1")
+    }
+}
+
+impl From<Refusal> for Fault {
+    fn from(refusal: Refusal) -> Fault {
+        let Refusal { reason, first, second, digest } = refusal;
+        let soon = |code, message: &str| {
+            Fault::new(StatusCode::TOO_MANY_REQUESTS, code, message).with_header("Retry-After", "1")
+        };
+        match reason {
+            Reason::NameInvalid => Fault::new(StatusCode::BAD_REQUEST, "NAME_INVALID", "the repository name is invalid"),
+            Reason::DigestInvalid => {
+                Fault::new(StatusCode::BAD_REQUEST, "DIGEST_INVALID", "the digest is invalid, or differs from the content's")
+            }
+            Reason::NameUnknown => Fault::new(StatusCode::NOT_FOUND, "NAME_UNKNOWN", "there is no such tenant"),
+            Reason::UploadUnknown => Fault::upload_unknown(),
+            Reason::SizeInvalid => {
+                Fault::new(StatusCode::PAYLOAD_TOO_LARGE, "SIZE_INVALID", "the content is longer than the maximum of a blob")
+            }
+            Reason::RangeInvalid => Fault::out_of_order(first),
+            Reason::BlobUnknown => Fault::new(StatusCode::NOT_FOUND, "BLOB_UNKNOWN", "the repository has no such blob"),
+            Reason::ManifestInvalid => Fault::manifest_invalid("the content is not a manifest"),
+            Reason::ManifestUnknown => Fault::manifest_unknown(),
+            Reason::ManifestBlobUnknown => {
+                Fault::new(StatusCode::NOT_FOUND, "MANIFEST_BLOB_UNKNOWN", "the repository lacks a blob of the manifest")
+                    .with_detail(json!({ "digest": digest }))
+            }
+            Reason::Quota => Fault::new(StatusCode::FORBIDDEN, "DENIED", "the tenant's quota is exceeded")
+                .with_detail(json!({ "used": first, "quota": second })),
+            Reason::Referenced => Fault::new(StatusCode::FORBIDDEN, "DENIED", "a manifest refers to the blob")
+                .with_detail(json!({ "manifest": digest })),
+            Reason::StoreFull => {
+                Fault::new(StatusCode::INSUFFICIENT_STORAGE, "UNSUPPORTED", "the store has no free slot")
+                    .with_header("Retry-After", "1")
+            }
+            Reason::TooManyReaders => soon("TOOMANYREQUESTS", "the blob has too many readers"),
+            Reason::LimitReached => Fault::new(StatusCode::FORBIDDEN, "DENIED", "a count of the store has reached its limit"),
+            Reason::Memory => Fault::new(StatusCode::SERVICE_UNAVAILABLE, "UNSUPPORTED", "out of memory")
+                .with_header("Retry-After", "1"),
+            Reason::Busy => soon("TOOMANYREQUESTS", "another request is appending to the upload"),
+            Reason::WeightSpent | Reason::Other(_) => {
+                Fault::new(StatusCode::INTERNAL_SERVER_ERROR, "UNSUPPORTED", "the store sent an unexpected reply")
+            }
+        }
+    }
+}

@@ -1,0 +1,121 @@
+//! The metrics for Prometheus.
+use hyper::{Method, StatusCode};
+use prometheus::{Encoder, HistogramOpts, HistogramVec, IntCounter, IntCounterVec, IntGauge, IntGaugeVec, Opts, Registry, TextEncoder};
+use std::sync::Arc;
+use std::time::Duration;
+
+use crate::store::{StoreUnavailable, Store, SweepResult};
+
+/// The counters and gauges. Clones share them.
+#[derive(Clone)]
+pub struct Metrics(Arc<Inner>);
+
+struct Inner {
+    registry: Registry,
+    requests: IntCounterVec,
+    seconds: HistogramVec,
+    received: IntCounter,
+    sent: IntCounter,
+    sweeps: IntCounter,
+    freed: IntCounter,
+    held: IntGauge,
+    uploads: IntGauge,
+    free_slots: IntGauge,
+    slots: IntGauge,
+    used: IntGaugeVec,
+    quota: IntGaugeVec,
+}
+
+impl Metrics {
+    pub fn new() -> Metrics {
+        let registry = Registry::new();
+        let counter = |name, help| IntCounter::new(name, help).expect("a counter's name");
+        let gauge = |name, help| IntGauge::new(name, help).expect("a gauge's name");
+        let by_tenant = |name, help| IntGaugeVec::new(Opts::new(name, help), &["tenant"]).expect("a gauge's name");
+        let requests = Opts::new("registryd_requests_total", "Requests served, by method and status.");
+        let seconds = HistogramOpts::new("registryd_request_seconds", "Time until the response begins, in seconds.");
+        let inner = Inner {
+            requests: IntCounterVec::new(requests, &["method", "status"]).expect("a counter's name"),
+            seconds: HistogramVec::new(seconds, &["method"]).expect("a histogram's name"),
+            received: counter("registryd_received_bytes_total", "Bytes of content received from clients."),
+            sent: counter("registryd_sent_bytes_total", "Bytes of blobs sent to clients."),
+            sweeps: counter("registryd_sweeps_total", "Sweeps of the garbage collector."),
+            freed: counter("registryd_freed_slots_total", "Slots freed by sweeps."),
+            held: gauge("registryd_held_slots", "Unlinked slots that the last sweep did not free because of readers."),
+            uploads: gauge("registryd_uploads", "Open uploads."),
+            free_slots: gauge("registryd_free_slots", "Slots available to new blobs without a sweep."),
+            slots: gauge("registryd_slots", "Slots of the store."),
+            used: by_tenant("registryd_tenant_used_bytes", "Bytes of a tenant's quota used by its blobs and uploads."),
+            quota: by_tenant("registryd_tenant_quota_bytes", "Quota of a tenant, in bytes."),
+            registry,
+        };
+        let all: [Box<dyn prometheus::core::Collector>; 12] = [
+            Box::new(inner.requests.clone()),
+            Box::new(inner.seconds.clone()),
+            Box::new(inner.received.clone()),
+            Box::new(inner.sent.clone()),
+            Box::new(inner.sweeps.clone()),
+            Box::new(inner.freed.clone()),
+            Box::new(inner.held.clone()),
+            Box::new(inner.uploads.clone()),
+            Box::new(inner.free_slots.clone()),
+            Box::new(inner.slots.clone()),
+            Box::new(inner.used.clone()),
+            Box::new(inner.quota.clone()),
+        ];
+        for collector in all {
+            inner.registry.register(collector).expect("each name is registered once");
+        }
+        Metrics(Arc::new(inner))
+    }
+
+    /// Counts a request that was served.
+    pub fn count_request(&self, method: &Method, status: StatusCode, took: Duration) {
+        // A client may invent methods, and each label would be kept for ever.
+        let method = match *method {
+            Method::GET | Method::HEAD | Method::POST | Method::PUT | Method::PATCH | Method::DELETE => method.as_str(),
+            _ => "other",
+        };
+        self.0.requests.with_label_values(&[method, status.as_str()]).inc();
+        self.0.seconds.with_label_values(&[method]).observe(took.as_secs_f64());
+    }
+
+    pub fn received(&self, bytes: usize) {
+        self.0.received.inc_by(bytes as u64);
+    }
+
+    pub fn sent(&self, bytes: usize) {
+        self.0.sent.inc_by(bytes as u64);
+    }
+
+    pub fn count_sweep(&self, swept: &SweepResult) {
+        self.0.sweeps.inc();
+        self.0.freed.inc_by(swept.freed);
+        self.0.held.set(swept.held as i64);
+    }
+
+    /// Returns the text of all metrics. It asks the store for the free slots and for each tenant's use and quota.
+    pub async fn text(
+        &self,
+        store: &Store,
+        tenants: &[String],
+        slots: u32,
+        uploads: usize,
+    ) -> Result<String, StoreUnavailable> {
+        let Inner { registry, free_slots, used, quota, .. } = &*self.0;
+        self.0.uploads.set(uploads as i64);
+        self.0.slots.set(i64::from(slots));
+        if let Ok(count) = store.free_slots().await? {
+            free_slots.set(count as i64);
+        }
+        for tenant in tenants {
+            if let Ok(usage) = store.usage(tenant).await? {
+                used.with_label_values(&[tenant]).set(usage.0 as i64);
+                quota.with_label_values(&[tenant]).set(usage.1 as i64);
+            }
+        }
+        let mut text = Vec::new();
+        TextEncoder::new().encode(&registry.gather(), &mut text).expect("writing to memory succeeds");
+        Ok(String::from_utf8_lossy(&text).into_owned())
+    }
+}

@@ -1,0 +1,141 @@
+//! The options and arguments of the command line.
+use crate::registry::MetricsAccess;
+use crate::tenants::{self, tenant_word};
+use crate::uploads::UploadTimeouts;
+use clap::Parser;
+use std::net::SocketAddr;
+use std::path::PathBuf;
+use std::time::Duration;
+
+/// Container registry (OCI Distribution Specification 1.1). All data is in memory and is lost when the program exits.
+#[derive(Debug, Parser)]
+#[command(name = "registryd", version)]
+pub struct Options {
+    /// Listen on this address
+    #[arg(long, value_name = "ADDR:PORT", default_value = "127.0.0.1:5000")]
+    pub listen: SocketAddr,
+    /// Set the maximum number of different blobs
+    #[arg(long, value_name = "N", default_value_t = 4096, value_parser = clap::value_parser!(u32).range(1..=65536))]
+    pub slots: u32,
+    /// Limit the length of a blob
+    #[arg(long, value_name = "BYTES", default_value_t = 1 << 32)]
+    pub max_blob: u64,
+    /// Open N connections to the store; a large read takes two
+    #[arg(long, value_name = "N", default_value_t = 32, value_parser = clap::value_parser!(u16).range(1..=1024))]
+    pub lines: u16,
+    /// Limit the time of a call to the store
+    #[arg(long, value_name = "S", default_value_t = 60, value_parser = clap::value_parser!(u64).range(1..=86400))]
+    pub call_s: u64,
+    /// Limit the memory of requests and responses in progress
+    #[arg(long, value_name = "BYTES", default_value_t = 1 << 29, value_parser = clap::value_parser!(u64).range(8 << 20..))]
+    pub memory_in_flight: u64,
+    /// Limit the number of client connections
+    #[arg(long, value_name = "N", default_value_t = 2048, value_parser = clap::value_parser!(u32).range(1..=1 << 20))]
+    pub connections: u32,
+    /// Close a connection if a request head takes longer
+    #[arg(long, value_name = "S", default_value_t = 30, value_parser = clap::value_parser!(u64).range(1..=86400))]
+    pub head_s: u64,
+    /// Close a connection after this time without a byte
+    #[arg(long, value_name = "S", default_value_t = 120, value_parser = clap::value_parser!(u64).range(1..=86400))]
+    pub idle_s: u64,
+    /// Pause between garbage-collection sweeps
+    #[arg(long, value_name = "MS", default_value_t = 1000)]
+    pub sweep_ms: u64,
+    /// Abandon an upload after this time without a request
+    #[arg(long, value_name = "S", default_value_t = 3600)]
+    pub session_s: u64,
+    /// Abandon an upload without bytes after this time
+    #[arg(long, value_name = "S", default_value_t = 60)]
+    pub empty_session_s: u64,
+    /// Require a user and password of this htpasswd file
+    #[arg(long, value_name = "FILE")]
+    pub htpasswd: Option<PathBuf>,
+    /// Serve without passwords on non-loopback addresses
+    #[arg(long)]
+    pub let_anybody_in: bool,
+    /// Serve the metrics only to this user
+    #[arg(long, value_name = "USER", requires = "htpasswd")]
+    pub metrics_user: Option<String>,
+    /// Serve the metrics only on this address, to everybody
+    #[arg(long, value_name = "ADDR:PORT", conflicts_with = "metrics_user")]
+    pub metrics_listen: Option<SocketAddr>,
+    /// Run this program as the store
+    #[arg(long, value_name = "PATH", default_value = "blobd")]
+    pub blobd: PathBuf,
+    /// Serve this tenant with a quota in bytes
+    #[arg(value_name = "TENANT=QUOTA", required = true, value_parser = tenant_word)]
+    pub tenants: Vec<String>,
+}
+
+impl Options {
+    /// Returns why the options contradict each other, if they do.
+    pub fn conflict(&self) -> Option<String> {
+        let open = self.htpasswd.is_none() && !self.listen.ip().is_loopback() && !self.let_anybody_in;
+        let text = format!("cannot listen: {}: give --htpasswd or --let-anybody-in", self.listen);
+        open.then_some(text).or_else(|| tenants::conflict(&self.tenants))
+    }
+
+    /// Returns the times after which unused uploads are abandoned.
+    pub fn patience(&self) -> UploadTimeouts {
+        let (begun, empty) = (Duration::from_secs(self.session_s), Duration::from_secs(self.empty_session_s));
+        UploadTimeouts { begun, empty }
+    }
+
+    /// Returns the rule that decides who may read the metrics.
+    pub fn metrics_access(&self) -> MetricsAccess {
+        match (&self.metrics_listen, &self.metrics_user, &self.htpasswd) {
+            (Some(_), _, _) => MetricsAccess::Elsewhere,
+            (None, Some(user), _) => MetricsAccess::User(user.clone()),
+            (None, None, Some(_)) => MetricsAccess::Nobody,
+            (None, None, None) => MetricsAccess::Anybody,
+        }
+    }
+
+    /// Returns the names of the tenants.
+    pub fn tenant_names(&self) -> Vec<String> {
+        self.tenants.iter().filter_map(|word| word.split_once('=')).map(|(name, _)| name.to_string()).collect()
+    }
+}
+
+#[cfg(test)]
+mod tests {
+    use super::*;
+
+    fn parsed(words: &[&str]) -> Options {
+        let words = [&["registryd"], words].concat();
+        Options::parse_from(words)
+    }
+
+    #[test]
+    fn the_defaults_are_for_this_machine_alone() {
+        let options = parsed(&["acme=1000"]);
+        assert_eq!(options.listen.to_string(), "127.0.0.1:5000");
+        assert_eq!(options.tenant_names(), ["acme"]);
+        assert!(options.conflict().is_none());
+    }
+
+    #[test]
+    fn other_addresses_want_users_or_a_word() {
+        assert!(parsed(&["--listen", "0.0.0.0:80", "a=1"]).conflict().is_some());
+        assert!(parsed(&["--listen", "0.0.0.0:80", "--htpasswd", "users", "a=1"]).conflict().is_none());
+        assert!(parsed(&["--listen", "0.0.0.0:80", "--let-anybody-in", "a=1"]).conflict().is_none());
+    }
+
+    #[test]
+    fn the_metrics_have_one_place() {
+        assert_eq!(parsed(&["a=1"]).metrics_access(), MetricsAccess::Anybody);
+        assert_eq!(parsed(&["--htpasswd", "users", "a=1"]).metrics_access(), MetricsAccess::Nobody);
+        let named = parsed(&["--htpasswd", "users", "--metrics-user", "prometheus", "a=1"]);
+        assert_eq!(named.metrics_access(), MetricsAccess::User("prometheus".to_string()));
+        assert_eq!(parsed(&["--metrics-listen", "127.0.0.1:1", "a=1"]).metrics_access(), MetricsAccess::Elsewhere);
+        assert!(Options::try_parse_from(["registryd", "--metrics-user", "prometheus", "a=1"]).is_err());
+    }
+
+    #[test]
+    fn words_that_are_no_tenants_are_refused() {
+        for word in ["acme", "acme=", "=1", "acme=-1", "acme=x"] {
+            assert!(Options::try_parse_from(["registryd", word]).is_err(), "{word}");
+        }
+        assert!(Options::try_parse_from(["registryd"]).is_err());
+    }
+}

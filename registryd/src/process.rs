@@ -1,0 +1,42 @@
+//! The process of `blobd`.
+use std::io;
+use std::process::Stdio;
+use std::time::Duration;
+use tokio::process::{Child, Command};
+
+/// The time that `blobd` has to end after its connections are closed.
+const END_TIME: Duration = Duration::from_secs(8);
+
+/// Starts `blobd` in a process group of its own, ignoring the signals that stop this program. So a signal to all processes
+/// of a terminal or service does not stop the store before the requests. Closing its connections stops it, and SIGKILL does.
+pub fn spawn(mut command: Command) -> io::Result<Child> {
+    command.stdin(Stdio::null()).kill_on_drop(true);
+    // SAFETY: the closure makes only calls that are permitted between `fork` and `exec` (POSIX, 2.4.3).
+    unsafe {
+        command.pre_exec(|| {
+            for number in [libc::SIGINT, libc::SIGTERM] {
+                libc::signal(number, libc::SIG_IGN);
+            }
+            match libc::setpgid(0, 0) {
+                0 => Ok(()),
+                _ => Err(io::Error::last_os_error()),
+            }
+        });
+    }
+    command.spawn()
+}
+
+/// Waits until `blobd` has ended. Fails if its status is not 0, or if it does not end in time. Then it is killed.
+pub async fn wait_for(mut child: Child) -> io::Result<()> {
+    let text = match tokio::time::timeout(END_TIME, child.wait()).await {
+        Ok(status) => match status? {
+            status if status.success() => return Ok(()),
+            status => format!("blobd ended: {status}"),
+        },
+        Err(_) => {
+            child.kill().await?;
+            format!("blobd did not end within {} s, and was killed", END_TIME.as_secs())
+        }
+    };
+    Err(io::Error::new(io::ErrorKind::Other, text))
+}

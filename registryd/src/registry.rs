@@ -1,0 +1,325 @@
+//! The registry: dispatches requests to the store and to the tables of this process.
+use crate::access::Access;
+use crate::content::{RequestContent, MAX_MANIFEST};
+use crate::exchange::Exchange;
+use crate::fault::Fault;
+use crate::frames::{Reason, Refusal};
+use crate::limits::{Limit, Repositories};
+use crate::memory::{Memory, Reserved};
+use crate::metrics::Metrics;
+use crate::path::{decoded, query_value, Target};
+use crate::store::{StoreUnavailable, Store};
+use crate::tags::Tags;
+use crate::turns::Turns;
+use crate::uploads::{UploadTimeouts, Upload, Uploads};
+use crate::{blobs, manifests, uploading};
+use hyper::body::HttpBody;
+use hyper::header::{CONTENT_TYPE, EXPECT, HOST};
+use hyper::http::request::Parts;
+use hyper::http::uri::Authority;
+use hyper::{Body, Method, Request, Response, StatusCode, Version};
+use std::sync::Arc;
+use std::time::{Duration, Instant};
+use uuid::Uuid;
+
+/// The minimum pause after a sweep that freed nothing. A sweep that follows at once frees nothing either, and competes with
+/// the requests for a processor and the store's lock.
+const NOTHING_FREED_REST: Duration = Duration::from_millis(10);
+
+/// The state of the registry.
+pub struct Registry {
+    pub store: Store,
+    pub access: Access,
+    pub uploads: Uploads,
+    pub repositories: Repositories,
+    pub tags: Tags,
+    /// The writers of a manifest take turns, each for the time of its call to the store. Readers take no turn.
+    pub turns: Turns,
+    pub metrics: Metrics,
+    pub memory: Arc<Memory>,
+    pub metrics_access: MetricsAccess,
+    pub tenants: Vec<String>,
+    pub slots: u32,
+    /// The maximum length of a blob, in bytes.
+    pub max_blob: u64,
+}
+
+/// The rule that decides which requests may read the metrics of all tenants.
+#[derive(Clone, Debug, PartialEq, Eq)]
+pub enum MetricsAccess {
+    /// All requests.
+    Anybody,
+    /// Requests of one user.
+    User(String),
+    /// No requests.
+    Nobody,
+    /// Requests on another address.
+    Elsewhere,
+}
+
+impl MetricsAccess {
+    /// Fails if the user may not read the metrics.
+    fn check(&self, user: &Option<String>) -> Result<(), Fault> {
+        match self {
+            MetricsAccess::Anybody => Ok(()),
+            MetricsAccess::User(reader) if user.as_ref() == Some(reader) => Ok(()),
+            _ => Err(Fault::new(StatusCode::FORBIDDEN, "DENIED", "only the user of --metrics-user may read the metrics")),
+        }
+    }
+}
+
+/// Returns whether a text is a host, with or without a port (RFC 9110, 7.2).
+fn is_host(text: &[u8]) -> bool {
+    !text.contains(&b'@') && Authority::try_from(text).is_ok()
+}
+
+/// Fails if a request has no host or several (RFC 9112, 3.2).
+fn check_host(head: &Parts) -> Result<(), Fault> {
+    let mut hosts = head.headers.get_all(HOST).iter();
+    let is_good = match (hosts.next(), hosts.next()) {
+        (Some(host), None) => host.is_empty() || is_host(host.as_bytes()),
+        (None, _) => head.version < Version::HTTP_11,
+        (Some(_), Some(_)) => false,
+    };
+    match is_good {
+        true => Ok(()),
+        false => Err(Fault::new(StatusCode::BAD_REQUEST, "UNSUPPORTED", "the request needs one valid header Host")),
+    }
+}
+
+/// A request without its content, and its repository.
+pub struct Call {
+    pub registry: Arc<Registry>,
+    pub head: Parts,
+    pub repo: String,
+}
+
+/// The result of a request.
+pub type HandlerResult = Result<Response<Body>, Fault>;
+
+impl Call {
+    /// Returns the first value of a name in the query.
+    pub fn query(&self, name: &str) -> Option<String> {
+        query_value(self.head.uri.query(), name)
+    }
+
+    /// Returns the result of a call that may have created the repository. A limit that the call has reached is named in the
+    /// failure.
+    pub fn check_limit<T>(&self, answer: Result<T, Refusal>, own: Limit) -> Result<T, Fault> {
+        let repositories = &self.registry.repositories;
+        match answer {
+            Ok(answer) => {
+                repositories.add(&self.repo);
+                Ok(answer)
+            }
+            Err(Refusal { reason: Reason::LimitReached, .. }) => {
+                Err(Fault::limit(repositories.reached(&self.repo, own), &self.repo))
+            }
+            Err(refusal) => Err(refusal.into()),
+        }
+    }
+
+    /// Admits the content of a request before it is read.
+    ///
+    /// # Errors
+    ///
+    /// - The content is charged to the tenant and longer than a blob may be.
+    /// - The tenant is unknown.
+    /// - The content is charged and exceeds the rest of the tenant's quota.
+    /// - The limit on bytes in flight is reached.
+    async fn admit(&self, content: &mut RequestContent, is_charged: bool) -> Result<(), Fault> {
+        if is_charged {
+            uploading::check_len(self, 0, content.len)?;
+        }
+        let (used, quota) = self.registry.store.usage(&self.repo).await??;
+        // A request that closes an upload may have an empty body in chunked coding.
+        let least = content.len.unwrap_or(u64::from(self.head.method != Method::PUT));
+        if is_charged && least > quota.saturating_sub(used) {
+            return Err(Refusal { reason: Reason::Quota, first: used, second: quota, digest: String::new() }.into());
+        }
+        content.reserve(&self.registry.memory, self.registry.store.sharer(&self.repo))
+    }
+
+    /// Reserves memory for the response.
+    pub fn reserve(&self, bytes: u64) -> Result<Reserved, Fault> {
+        self.registry.memory.reserve(self.registry.store.sharer(&self.repo), bytes)
+    }
+
+    /// Returns the text of a header.
+    pub fn header(&self, name: &str) -> Option<&str> {
+        self.head.headers.get(name)?.to_str().ok()
+    }
+}
+
+/// Returns a response without content.
+pub fn empty(status: StatusCode, headers: &[(&str, &str)]) -> HandlerResult {
+    with_body(status, headers, Body::empty())
+}
+
+/// Returns a response with headers and content.
+pub fn with_body(status: StatusCode, headers: &[(&str, &str)], body: Body) -> HandlerResult {
+    let mut response = Response::builder().status(status);
+    for (name, value) in headers {
+        response = response.header(*name, *value);
+    }
+    let fault = |_| Fault::new(StatusCode::BAD_REQUEST, "UNSUPPORTED", "a header has an invalid value");
+    response.body(body).map_err(fault)
+}
+
+impl Registry {
+    /// Serves a request in a task of its own, so that a client that disconnects interrupts no call to the store.
+    pub async fn serve(self: Arc<Self>, request: Request<Body>) -> Response<Body> {
+        let begun = Instant::now();
+        let method = request.method().clone();
+        let metrics = self.metrics.clone();
+        let response = tokio::spawn(self.answer(request)).await.unwrap_or_else(|_| {
+            Fault::internal().into_response()
+        });
+        metrics.count_request(&method, response.status(), begun.elapsed());
+        response
+    }
+
+    async fn answer(self: Arc<Self>, request: Request<Body>) -> Response<Body> {
+        let (head, body) = request.into_parts();
+        let is_awaited = head.headers.contains_key(EXPECT);
+        let exchange = head.extensions.get::<Arc<Exchange>>().cloned();
+        let mut content = RequestContent::new(body, is_awaited, self.metrics.clone()).of(exchange);
+        self.route(head, &mut content).await.unwrap_or_else(|fault| {
+            let fault = if content.is_short { Fault::unavailable("out of memory") } else { fault };
+            let mut answer = fault.into_response();
+            content.drain(&mut answer);
+            answer
+        })
+    }
+
+    async fn route(self: Arc<Self>, head: Parts, content: &mut RequestContent) -> HandlerResult {
+        let path = head.uri.path().to_string();
+        check_host(&head)?;
+        if path == "/healthz" {
+            return self.probe(&[]).await;
+        }
+        let user = self.access.user(&head.headers).await?;
+        if let (Some(exchange), Some(user)) = (&content.exchange, &user) {
+            exchange.set_user(user);
+        }
+        if path == "/metrics" && self.metrics_access != MetricsAccess::Elsewhere {
+            self.metrics_access.check(&user)?;
+            return self.metrics().await;
+        }
+        let path = decoded(&path).ok_or_else(Fault::path)?;
+        let target = Target::of(&path).ok_or_else(Fault::path)?;
+        let allowed = target.methods();
+        if !allowed.split(", ").any(|method| method == head.method.as_str()) {
+            return Err(Fault::method(allowed));
+        }
+        let repo = match target.repo() {
+            Some(repo) => repo.to_string(),
+            None => return self.probe(&[("Docker-Distribution-API-Version", "registry/2.0")]).await,
+        };
+        Access::check(&user, &repo)?;
+        let method = head.method.clone();
+        let call = Call { registry: self, head, repo };
+        if content.is_any() {
+            let is_charged = matches!(target, Target::Uploads { .. } | Target::Upload { .. });
+            call.admit(content, is_charged).await?;
+        }
+        match (&method, target) {
+            (&Method::GET, Target::Tags { .. }) => manifests::tags(&call).await,
+            (&Method::GET, Target::Manifest { reference, .. }) => {
+                let mut reserved = call.reserve(MAX_MANIFEST as u64)?;
+                let mut answer = manifests::get(&call, reference).await?;
+                reserved.shrink(answer.size_hint().lower());
+                answer.extensions_mut().insert(reserved);
+                Ok(answer)
+            }
+            (&Method::HEAD, Target::Manifest { reference, .. }) => manifests::head(&call, reference).await,
+            (&Method::PUT, Target::Manifest { reference, .. }) => manifests::put(&call, reference, content).await,
+            (&Method::DELETE, Target::Manifest { reference, .. }) => manifests::delete(&call, reference).await,
+            (&Method::POST, Target::Uploads { .. }) => uploading::open(&call, content).await,
+            (&Method::GET, Target::Upload { name, .. }) => uploading::status(&call, name).await,
+            (&Method::PATCH, Target::Upload { name, .. }) => uploading::append(&call, name, content).await,
+            (&Method::PUT, Target::Upload { name, .. }) => uploading::close(&call, name, content).await,
+            (&Method::DELETE, Target::Upload { name, .. }) => uploading::abandon(&call, name).await,
+            (&Method::GET, Target::Blob { digest, .. }) => blobs::get(&call, digest).await,
+            (&Method::HEAD, Target::Blob { digest, .. }) => blobs::head(&call, digest).await,
+            (&Method::DELETE, Target::Blob { digest, .. }) => blobs::delete(&call, digest).await,
+            _ => Err(Fault::method(allowed)),
+        }
+    }
+
+    /// Serves a request on the metrics address.
+    pub async fn serve_metrics(self: Arc<Self>, request: Request<Body>) -> Response<Body> {
+        let answered = tokio::spawn(async move {
+            match (request.method(), request.uri().path()) {
+                (&Method::GET, "/metrics") => self.metrics().await,
+                (&Method::GET, "/healthz") => self.probe(&[]).await,
+                _ => Err(Fault::path()),
+            }
+        });
+        answered.await.unwrap_or_else(|_| Err(Fault::internal())).unwrap_or_else(Fault::into_response)
+    }
+
+    /// Returns the metrics of all tenants.
+    async fn metrics(&self) -> HandlerResult {
+        let text = self.metrics.text(&self.store, &self.tenants, self.slots, self.uploads.len()).await?;
+        with_body(StatusCode::OK, &[(CONTENT_TYPE.as_str(), "text/plain; version=0.0.4")], text.into())
+    }
+
+    /// Returns a response without content if the store replies.
+    async fn probe(&self, headers: &[(&str, &str)]) -> HandlerResult {
+        match self.store.replies().await {
+            true => empty(StatusCode::OK, headers),
+            false => Err(StoreUnavailable.into()),
+        }
+    }
+
+    /// Sweeps the store at intervals until the store ends.
+    pub async fn sweep(&self, rest: Duration) {
+        while !self.store.has_ended() {
+            let mut least = NOTHING_FREED_REST;
+            if let Ok(Ok(swept)) = self.store.sweep().await {
+                self.metrics.count_sweep(&swept);
+                if swept.freed > 0 {
+                    tracing::info!(freed = swept.freed, held = swept.held, "swept");
+                    least = Duration::ZERO;
+                }
+            }
+            tokio::time::sleep(rest.max(least)).await;
+        }
+    }
+
+    /// Abandons unused uploads at intervals until the store ends.
+    pub async fn expire(&self, patience: UploadTimeouts) {
+        let rest = (patience.least() / 10).clamp(Duration::from_millis(100), Duration::from_secs(60));
+        while !self.store.has_ended() {
+            let _ = self.expire_once(patience).await;
+            tokio::time::sleep(rest).await;
+        }
+    }
+
+    async fn expire_once(&self, patience: UploadTimeouts) -> Result<(), StoreUnavailable> {
+        for name in self.uploads.unused(patience) {
+            if let Some(upload) = self.uploads.take_unused(&name, patience) {
+                self.abandon(name, upload).await?;
+            }
+        }
+        Ok(())
+    }
+
+    /// Abandons an upload. If the store fails to, the upload is tried again later.
+    async fn abandon(&self, name: Uuid, upload: Upload) -> Result<(), StoreUnavailable> {
+        let repo = &upload.repo;
+        match self.store.abandon(repo, upload.session).await {
+            Ok(Ok(())) => tracing::info!(repo, "abandoned an unused upload"),
+            Ok(Err(Refusal { reason: Reason::UploadUnknown, .. })) => {
+                tracing::warn!(repo, "dropped an upload that the store does not know");
+            }
+            Ok(Err(_)) => self.uploads.put_back(name, upload),
+            Err(error) => {
+                self.uploads.put_back(name, upload);
+                return Err(error);
+            }
+        }
+        Ok(())
+    }
+}

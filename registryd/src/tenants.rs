@@ -1,0 +1,82 @@
+//! The arguments `TENANT=QUOTA` of the command line, by the rules of the store.
+use std::collections::HashSet;
+
+/// The maximum number of tenants.
+const MAX_TENANTS: usize = 256;
+
+/// The maximum quota, in bytes.
+const MAX_QUOTA: u64 = 1 << 50;
+
+/// The maximum length of a repository's name, and so of a tenant's, in bytes.
+const MAX_NAME: usize = 255;
+
+/// Checks an argument of the form `TENANT=QUOTA`, and returns it.
+///
+/// # Errors
+///
+/// Fails with a message that quotes the argument.
+pub fn tenant_word(word: &str) -> Result<String, String> {
+    let (name, quota) = word.split_once('=').ok_or_else(|| format!("`{word}` is not TENANT=QUOTA"))?;
+    if !is_component(name) {
+        return Err(format!("invalid tenant `{name}` in `{word}`: write a name such as acme or acme-2"));
+    }
+    let is_number = !quota.is_empty() && quota.bytes().all(|byte| byte.is_ascii_digit());
+    match quota.parse::<u64>() {
+        Ok(count) if is_number && count <= MAX_QUOTA => Ok(word.to_string()),
+        _ => Err(format!("invalid quota `{quota}` in `{word}`: write a number of bytes from 0 to {MAX_QUOTA}")),
+    }
+}
+
+/// Returns why a store cannot have these tenants, if it cannot.
+pub fn conflict(words: &[String]) -> Option<String> {
+    if words.len() > MAX_TENANTS {
+        return Some(format!("too many tenants: {}: the maximum is {MAX_TENANTS}", words.len()));
+    }
+    let mut names = HashSet::new();
+    let twice = words.iter().find(|word| !names.insert(word.split('=').next()))?;
+    Some(format!("duplicate tenant: `{twice}`"))
+}
+
+/// Returns whether a text is one component of a repository's name (OCI Distribution Specification 1.1, "Pulling manifests").
+fn is_component(text: &str) -> bool {
+    let is_letter = |byte: u8| byte.is_ascii_lowercase() || byte.is_ascii_digit();
+    let bytes = text.as_bytes();
+    let has_ends = bytes.first().map_or(false, |byte| is_letter(*byte)) && bytes.last().map_or(false, |byte| is_letter(*byte));
+    let is_separator = |run: &str| matches!(run, "." | "_" | "__") || run.bytes().all(|byte| byte == b'-');
+    let mut runs = text.split(|letter: char| letter.is_ascii_lowercase() || letter.is_ascii_digit());
+    has_ends && bytes.len() <= MAX_NAME && runs.all(is_separator)
+}
+
+#[cfg(test)]
+mod tests {
+    use super::*;
+
+    /// The examples of docs/SEMANTICS.md, and others.
+    #[test]
+    fn names_are_components() {
+        for name in ["a", "a__b", "a---b", "a.b", "0", &"a".repeat(255)] {
+            assert!(is_component(name), "{name}");
+        }
+        for name in ["", "a___b", "a._b", "a/b", "-a", "a-", "A", "ä", "a b", &"a".repeat(256)] {
+            assert!(!is_component(name), "{name}");
+        }
+    }
+
+    #[test]
+    fn a_message_names_the_word() {
+        assert_eq!(tenant_word("acme=0"), Ok("acme=0".to_string()));
+        assert_eq!(tenant_word("acme=1125899906842624"), Ok("acme=1125899906842624".to_string()));
+        for word in ["acme", "acme=", "=1", "acme=-1", "acme=+1", "acme=x", "acme=1125899906842625", "A=1", "a/b=1"] {
+            assert!(tenant_word(word).unwrap_err().contains(&format!("`{word}`")), "{word}");
+        }
+    }
+
+    #[test]
+    fn tenants_differ_and_are_bounded() {
+        let words = |count: usize| (0..count).map(|number| format!("t{number}=1")).collect::<Vec<_>>();
+        assert_eq!(conflict(&words(MAX_TENANTS)), None);
+        assert!(conflict(&words(MAX_TENANTS + 1)).is_some());
+        let twice = ["a=1".to_string(), "b=1".to_string(), "a=2".to_string()];
+        assert_eq!(conflict(&twice), Some("duplicate tenant: `a=2`".to_string()));
+    }
+}

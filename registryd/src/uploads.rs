@@ -1,0 +1,306 @@
+//! The open uploads. Clients know an upload by a name that cannot be guessed. Each upload has a session in the store.
+use crate::fault::Fault;
+use std::collections::HashMap;
+use std::sync::Mutex;
+use std::time::{Duration, Instant};
+use uuid::Uuid;
+
+/// An upload: its repository, its session, its length, and its use.
+#[derive(Clone, Debug, PartialEq, Eq)]
+pub struct Upload {
+    pub repo: String,
+    pub session: u32,
+    length: Length,
+    /// The time at which its last request ended, or it was opened.
+    used: Instant,
+    /// The number of requests that use it.
+    requests: u32,
+    /// Whether a client has sent a byte of it.
+    is_begun: bool,
+}
+
+/// The length of an upload: the number of bytes that the store has received, by its replies.
+#[derive(Clone, Debug, PartialEq, Eq)]
+struct Length {
+    /// The length, if no request is appending and the last reply contained it.
+    known: Option<u64>,
+    /// The number of requests that are appending.
+    adding: u32,
+    /// Whether two of them overlapped. Then it is unknown which one the store served last.
+    have_overlapped: bool,
+}
+
+/// The times after which unused uploads are abandoned.
+#[derive(Clone, Copy, Debug)]
+pub struct UploadTimeouts {
+    /// The time for an upload with bytes.
+    pub begun: Duration,
+    /// The time for an upload without bytes.
+    pub empty: Duration,
+}
+
+impl UploadTimeouts {
+    /// Returns the shorter of both times.
+    pub fn least(&self) -> Duration {
+        self.begun.min(self.empty)
+    }
+}
+
+/// The open uploads.
+#[derive(Default)]
+pub struct Uploads {
+    by_name: Mutex<HashMap<Uuid, Upload>>,
+}
+
+/// An upload that a request is using. It is not abandoned before this is dropped.
+pub struct UploadInUse<'u> {
+    uploads: &'u Uploads,
+    pub name: Uuid,
+    pub session: u32,
+}
+
+/// A request that is appending to an upload, until this is dropped.
+pub struct AppendingRequest<'u> {
+    pub upload: UploadInUse<'u>,
+    length: Option<u64>,
+}
+
+impl Length {
+    /// Returns the length of an upload without bytes.
+    fn empty() -> Length {
+        Length { known: Some(0), adding: 0, have_overlapped: false }
+    }
+
+    /// Notes that a request begins to append. Returns the length, which is unknown to other requests until this one ends.
+    fn begin(&mut self) -> Option<u64> {
+        self.have_overlapped |= self.adding > 0;
+        self.adding += 1;
+        self.known.take()
+    }
+
+    /// Notes that a request has stopped appending. `given` is the length in its last reply, if any.
+    fn end(&mut self, given: Option<u64>) {
+        self.adding -= 1;
+        self.known = given.filter(|_| !self.have_overlapped);
+        self.have_overlapped &= self.adding > 0;
+    }
+}
+
+impl Upload {
+    fn is_unused(&self, patience: UploadTimeouts) -> bool {
+        let time = if self.is_begun { patience.begun } else { patience.least() };
+        self.requests == 0 && self.used.elapsed() >= time
+    }
+}
+
+impl Uploads {
+    /// Gives a session a name: a random UUID (RFC 4122, version 4).
+    pub fn add(&self, repo: &str, session: u32) -> Uuid {
+        let name = Uuid::new_v4();
+        let upload = Upload {
+            repo: repo.to_string(),
+            session,
+            length: Length::empty(),
+            used: Instant::now(),
+            requests: 0,
+            is_begun: false,
+        };
+        self.by_name.lock().unwrap().insert(name, upload);
+        name
+    }
+
+    /// Begins to use an upload of a repository.
+    pub fn enter(&self, repo: &str, name: Uuid) -> Result<UploadInUse<'_>, Fault> {
+        match self.by_name.lock().unwrap().get_mut(&name) {
+            Some(upload) if upload.repo == repo => {
+                upload.requests += 1;
+                Ok(UploadInUse { uploads: self, name, session: upload.session })
+            }
+            _ => Err(Fault::upload_unknown()),
+        }
+    }
+
+    /// Removes an upload that has ended.
+    pub fn remove(&self, name: &Uuid) {
+        self.by_name.lock().unwrap().remove(name);
+    }
+
+    pub fn len(&self) -> usize {
+        self.by_name.lock().unwrap().len()
+    }
+
+    /// Returns the names of the uploads to abandon.
+    pub fn unused(&self, patience: UploadTimeouts) -> Vec<Uuid> {
+        let uploads = self.by_name.lock().unwrap();
+        let unused = uploads.iter().filter(|(_, upload)| upload.is_unused(patience));
+        unused.map(|(name, _)| *name).collect()
+    }
+
+    /// Removes an upload if it is still unused.
+    pub fn take_unused(&self, name: &Uuid, patience: UploadTimeouts) -> Option<Upload> {
+        let mut uploads = self.by_name.lock().unwrap();
+        uploads.get(name).filter(|upload| upload.is_unused(patience))?;
+        uploads.remove(name)
+    }
+
+    /// Puts back an upload that the store could not abandon. It counts as used now.
+    pub fn put_back(&self, name: Uuid, upload: Upload) {
+        self.by_name.lock().unwrap().insert(name, Upload { used: Instant::now(), ..upload });
+    }
+}
+
+impl<'u> UploadInUse<'u> {
+    /// Begins to append to it.
+    pub fn add(self) -> AppendingRequest<'u> {
+        let mut uploads = self.uploads.by_name.lock().unwrap();
+        let length = uploads.get_mut(&self.name).and_then(|upload| upload.length.begin());
+        drop(uploads);
+        AppendingRequest { upload: self, length }
+    }
+
+    /// Notes that a client sent a byte of it.
+    pub fn begin(&self) {
+        if let Some(upload) = self.uploads.by_name.lock().unwrap().get_mut(&self.name) {
+            upload.is_begun = true;
+        }
+    }
+}
+
+impl AppendingRequest<'_> {
+    /// Returns the upload's length, if it is known. The store decides: it rejects bytes at any other offset.
+    pub fn length(&self) -> Option<u64> {
+        self.length
+    }
+
+    /// Notes that bytes are sent to the store. The length is unknown until the store has accepted all of them.
+    pub fn send(&mut self) {
+        self.length = None;
+    }
+
+    /// Notes that the store accepted all bytes sent, and returned the length.
+    pub fn accepted(&mut self, length: u64) {
+        self.length = Some(length);
+    }
+}
+
+impl Drop for AppendingRequest<'_> {
+    fn drop(&mut self) {
+        let UploadInUse { uploads, name, .. } = &self.upload;
+        if let Some(upload) = uploads.by_name.lock().unwrap().get_mut(name) {
+            upload.length.end(self.length);
+        }
+    }
+}
+
+impl Drop for UploadInUse<'_> {
+    fn drop(&mut self) {
+        if let Some(upload) = self.uploads.by_name.lock().unwrap().get_mut(&self.name) {
+            upload.requests -= 1;
+            upload.used = Instant::now();
+        }
+    }
+}
+
+#[cfg(test)]
+mod tests {
+    use super::*;
+
+    const NOW: UploadTimeouts = UploadTimeouts { begun: Duration::ZERO, empty: Duration::ZERO };
+
+    #[test]
+    fn an_upload_is_known_in_its_repository_until_it_is_over() {
+        let uploads = Uploads::default();
+        let name = uploads.add("acme/web", 7);
+        assert_eq!(uploads.enter("acme/web", name).unwrap().session, 7);
+        assert!(uploads.enter("acme/other", name).is_err());
+        assert!(uploads.enter("acme/web", Uuid::new_v4()).is_err());
+        uploads.remove(&name);
+        assert!(uploads.enter("acme/web", name).is_err());
+        assert_eq!(uploads.len(), 0);
+    }
+
+    #[test]
+    fn an_upload_in_use_is_not_given_up() {
+        let uploads = Uploads::default();
+        let name = uploads.add("acme/web", 7);
+        let (first, second) = (uploads.enter("acme/web", name).unwrap(), uploads.enter("acme/web", name).unwrap());
+        assert!(uploads.unused(NOW).is_empty());
+        drop(first);
+        assert!(uploads.take_unused(&name, NOW).is_none());
+        drop(second);
+        assert_eq!(uploads.unused(NOW), [name]);
+        let upload = uploads.take_unused(&name, NOW).unwrap();
+        assert_eq!((&*upload.repo, upload.session), ("acme/web", 7));
+        assert_eq!(uploads.len(), 0);
+        uploads.put_back(name, upload);
+        assert_eq!(uploads.unused(NOW), [name]);
+    }
+
+    #[test]
+    fn the_length_is_that_of_the_last_accepted_bytes() {
+        let uploads = Uploads::default();
+        let name = uploads.add("acme/web", 7);
+        let add = || uploads.enter("acme/web", name).unwrap().add();
+        let mut adding = add();
+        assert_eq!(adding.length(), Some(0));
+        adding.send();
+        assert_eq!(adding.length(), None);
+        adding.accepted(10);
+        drop(adding);
+        // A request that sends nothing does not change it.
+        assert_eq!(add().length(), Some(10));
+        assert_eq!(add().length(), Some(10));
+        // If its bytes are rejected or its reply is late, the length is unknown until other bytes are accepted.
+        add().send();
+        assert_eq!(add().length(), None);
+        let mut adding = add();
+        adding.send();
+        adding.accepted(15);
+        drop(adding);
+        assert_eq!(add().length(), Some(15));
+    }
+
+    #[test]
+    fn the_length_is_unknown_while_and_after_two_requests_add_at_once() {
+        let uploads = Uploads::default();
+        let name = uploads.add("acme/web", 7);
+        let add = || uploads.enter("acme/web", name).unwrap().add();
+        let accept = |mut adding: AppendingRequest<'_>, length| {
+            adding.send();
+            adding.accepted(length);
+        };
+        let (first, second) = (add(), add());
+        assert_eq!((first.length(), second.length()), (Some(0), None));
+        accept(second, 20);
+        assert_eq!(add().length(), None);
+        // The reply for the bytes that the store appended first arrives late.
+        accept(first, 10);
+        assert_eq!(add().length(), None);
+        accept(add(), 30);
+        assert_eq!(add().length(), Some(30));
+    }
+
+    #[test]
+    fn an_upload_that_is_over_has_no_length() {
+        let uploads = Uploads::default();
+        let name = uploads.add("acme/web", 7);
+        let upload = uploads.enter("acme/web", name).unwrap();
+        let mut adding = uploads.enter("acme/web", name).unwrap().add();
+        uploads.remove(&name);
+        assert_eq!(upload.add().length(), None);
+        adding.accepted(10);
+        drop(adding);
+        assert_eq!(uploads.len(), 0);
+    }
+
+    #[test]
+    fn an_upload_without_bytes_is_given_up_earlier() {
+        let uploads = Uploads::default();
+        let (empty, begun) = (uploads.add("acme/web", 7), uploads.add("acme/web", 8));
+        uploads.enter("acme/web", begun).unwrap().begin();
+        let hour = Duration::from_secs(3600);
+        assert_eq!(uploads.unused(UploadTimeouts { begun: hour, empty: Duration::ZERO }), [empty]);
+        assert_eq!(uploads.unused(UploadTimeouts { begun: Duration::ZERO, empty: hour }).len(), 2);
+        assert!(uploads.unused(UploadTimeouts { begun: hour, empty: hour }).is_empty());
+    }
+}

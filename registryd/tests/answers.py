@@ -1,0 +1,133 @@
+#!/usr/bin/env python3
+"""Tests rarely used names, limits, methods and conditions of requests."""
+import json, subprocess
+
+from playing import play, serving_stub
+from server import MANIFEST, manifest_of, serving, sha256
+
+PATCH = {"Content-Type": "application/octet-stream"}
+KIND = {"Content-Type": MANIFEST}
+
+
+def every_valid_name_can_be_used(server):
+    """Plays each flow in repositories with names like the parts of the paths (OCI Distribution Specification 1.1)."""
+    client = server.client()
+    for name in ("manifests", "blobs", "blobs/uploads", "tags/list", "tags", "v2", "manifests/blobs/uploads/manifests"):
+        base = f"/v2/acme/{name}"
+        body = manifest_of(b"{}", [])
+        def ask(method, path, status, *words):
+            answer = client.ask(method, f"{base}/{path}" if not path.startswith("/") else path, *words)
+            assert answer.status == status, (method, name, path, answer.status, answer.body[:200])
+            return answer
+        assert ask("POST", f"blobs/uploads/?digest={sha256(b'{}')}", 201, b"{}", PATCH)["Location"] == f"{base}/blobs/{sha256(b'{}')}"
+        at = ask("POST", "blobs/uploads/", 202)["Location"]
+        ask("PATCH", at, 202, b"abc", PATCH)
+        ask("GET", at, 204)
+        ask("PUT", f"{at}?digest={sha256(b'abc')}", 201)
+        assert ask("GET", f"blobs/{sha256(b'abc')}", 200).body == b"abc"
+        ask("PUT", "manifests/list", 201, body, KIND)
+        assert ask("GET", "manifests/list", 200).body == body
+        assert json.loads(ask("GET", "tags/list", 200).body) == {"name": f"acme/{name}", "tags": ["list"]}
+        ask("DELETE", f"manifests/{sha256(body)}", 202)
+        ask("DELETE", f"blobs/{sha256(b'abc')}", 202)
+
+
+def paths_are_decoded_once(server):
+    client = server.client()
+    assert client.ask("POST", f"/v2/acme/coded/blobs/uploads/?digest={sha256(b'abc')}", b"abc", PATCH).status == 201
+    coded = sha256(b"abc").replace(":", "%3A")
+    for path in (f"/v2/acme/coded/blobs/{coded}", f"/v2/acme%2Fcoded/blobs/{coded.lower()}", f"/v2/%61cme/coded/blobs/{sha256(b'abc')}"):
+        answer = client.ask("GET", path)
+        assert (answer.status, answer.body) == (200, b"abc"), (path, answer.status)
+    twice = client.ask("GET", f"/v2/acme%252Fcoded/blobs/{sha256(b'abc')}")
+    assert (twice.status, twice.code()) == (400, "NAME_INVALID"), twice.status
+    assert client.ask("GET", f"/v2/acme/%ff/blobs/{sha256(b'abc')}").status == 404
+
+
+def each_limit_is_named():
+    """Reaches each limit of docs/SEMANTICS.md that a tenant can reach, and checks its name in the response."""
+    with serving("--slots", "8", "--sweep-ms", "1000000", tenants=["acme=1000000", "other=1000000"]) as server:
+        client = server.client()
+        def refused(answer, status, code, limit, most, word):
+            reported = json.loads(answer.body)["errors"][0]
+            assert (answer.status, reported["code"], reported["detail"]) == (status, code, {"limit": limit, "most": most}), (answer.status, reported)
+            assert word in reported["message"] and str(most) in reported["message"], reported
+        opened = [client.ask("POST", "/v2/acme/one/blobs/uploads/") for _ in range(64)]
+        assert {answer.status for answer in opened} == {202}
+        refused(client.ask("POST", "/v2/acme/one/blobs/uploads/"), 403, "TOOMANYREQUESTS", "uploads", 64, "acme")
+        refused(client.ask("POST", f"/v2/acme/one/blobs/uploads/?mount={sha256(b'no')}"), 403, "TOOMANYREQUESTS", "uploads", 64, "acme")
+        assert client.ask("DELETE", opened[0]["Location"]).status == 204
+        assert client.ask("POST", f"/v2/acme/one/blobs/uploads/?digest={sha256(b'{}')}", b"{}", PATCH).status == 201
+        for number in range(1023):
+            answer = client.ask("POST", f"/v2/acme/r{number}/blobs/uploads/?mount={sha256(b'{}')}")
+            assert answer.status == 201, (number, answer.status)
+        denied = (403, "DENIED", "repositories", 1024, "acme")
+        refused(client.ask("POST", f"/v2/acme/more/blobs/uploads/?mount={sha256(b'{}')}"), *denied)
+        refused(client.ask("POST", "/v2/acme/more/blobs/uploads/"), *denied)
+        index = lambda number: b'{"schemaVersion":2,"manifests":[],"annotations":{"n":"%d"}}' % number
+        refused(client.ask("PUT", "/v2/acme/more/manifests/v1", index(0)), *denied)
+        assert client.ask("POST", "/v2/acme/one/blobs/uploads/").status == 202
+        for number in range(1024):
+            answer = client.ask("PUT", f"/v2/other/one/manifests/{sha256(index(number))}", index(number))
+            assert answer.status == 201, (number, answer.status, answer.body[:200])
+        refused(client.ask("PUT", "/v2/other/one/manifests/v1", index(1024)), 403, "DENIED", "manifests", 1024, "other/one")
+        assert client.ask("DELETE", f"/v2/other/one/manifests/{sha256(index(0))}").status == 202
+        assert client.ask("PUT", "/v2/other/one/manifests/v1", index(1024)).status == 201
+
+
+def unsupported_methods_are_rejected():
+    """Checks that a 405 lists the methods of the path in Allow (RFC 9110, 15.5.6)."""
+    some = "5bd5e3a4-0c7b-4a79-b7a6-d5ae4cd1b3a5"
+    cases = {"/v2/": "GET, HEAD", "/v2/acme/one/tags/list": "GET", "/v2/acme/one/manifests/v1": "GET, HEAD, PUT, DELETE",
+             f"/v2/acme/one/blobs/{sha256(b'')}": "GET, HEAD, DELETE", "/v2/acme/one/blobs/uploads/": "POST",
+             f"/v2/acme/one/blobs/uploads/{some}": "GET, PATCH, PUT, DELETE"}
+    with serving_stub({}) as server:
+        client = server.client()
+        for path, methods in cases.items():
+            for method in ("GET", "HEAD", "POST", "PUT", "PATCH", "DELETE", "OPTIONS", "LINK"):
+                answer = client.ask(method, path)
+                if method in methods.split(", "):
+                    assert answer.status != 405, (method, path)
+                else:
+                    assert (answer.status, answer["Allow"]) == (405, methods), (method, path, answer.status, answer["Allow"])
+
+
+def content_that_a_client_has_is_not_sent_again(server):
+    """Checks If-None-Match and If-Range (RFC 9110, 13.1.2 and 13.1.5)."""
+    client, body = server.client(), manifest_of(b"{}", [])
+    for data in (b"{}", b"abcdef"):
+        assert client.ask("POST", f"/v2/acme/etags/blobs/uploads/?digest={sha256(data)}", data, PATCH).status == 201
+    assert client.ask("PUT", "/v2/acme/etags/manifests/v1", body, KIND).status == 201
+    for path, data in ((f"blobs/{sha256(b'abcdef')}", b"abcdef"), ("manifests/v1", body), (f"manifests/{sha256(body)}", body)):
+        tag, path = f'"{sha256(data)}"', f"/v2/acme/etags/{path}"
+        for method in ("GET", "HEAD"):
+            ask = lambda condition, **more: client.ask(method, path, None, {"If-None-Match": condition, **more})
+            for condition in (tag, f"W/{tag}", f'"x", {tag}', "*"):
+                answer = ask(condition)
+                assert (answer.status, answer.body, answer["ETag"]) == (304, b"", tag), (method, path, condition, answer.status)
+            answer = ask(f'"{sha256(b"other")}"')
+            assert (answer.status, answer["ETag"], answer["Content-Length"]) == (200, tag, str(len(data))), (method, path, answer.status)
+    missing = client.ask("GET", f"/v2/acme/etags/blobs/{sha256(b'none')}", None, {"If-None-Match": "*"})
+    assert missing.status == 404, missing.status
+    blob, part = f"/v2/acme/etags/blobs/{sha256(b'abcdef')}", {"Range": "bytes=1-2"}
+    assert client.ask("GET", blob, None, {**part, "If-Range": f'"{sha256(b"abcdef")}"'}).body == b"bc"
+    assert client.ask("GET", blob, None, {**part, "If-Range": f'"{sha256(b"other")}"'}).body == b"abcdef"
+
+
+def bad_tenants_are_named():
+    from server import BLOBD, REGISTRYD
+    for words, named in ((["acme=1", "Acme=1"], "Acme=1"), (["acme=1", "b=1125899906842625"], "b=1125899906842625"),
+                         (["a=1", "b"], "b"), (["a=1", "b=x"], "b=x"), (["a=1", "b=2", "a=3"], "a=3")):
+        ended = subprocess.run([REGISTRYD, "--listen", "127.0.0.1:0", "--blobd", BLOBD, *words], stderr=subprocess.PIPE, text=True, timeout=20)
+        assert ended.returncode == 2 and f"`{named}`" in ended.stderr, (words, ended)
+
+
+def main():
+    with serving("--slots", "64") as server:
+        play("answers", [
+            (every_valid_name_can_be_used, server), (paths_are_decoded_once, server), each_limit_is_named,
+            unsupported_methods_are_rejected, (content_that_a_client_has_is_not_sent_again, server), bad_tenants_are_named])
+
+
+if __name__ == "__main__":
+    main()

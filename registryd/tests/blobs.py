@@ -1,0 +1,146 @@
+#!/usr/bin/env python3
+"""Counts the calls to the store that a GET of a blob makes, for the full content and for ranges."""
+from hardships import head_of
+from playing import calls, play, serving_stub, until
+from server import serving, sha256
+
+PATCH = {"Content-Type": "application/octet-stream"}
+LEASE, READ, GIVE_BACK, STAT, FETCH = "11", "12", "13", "17", "21"
+MIB = 1 << 20
+# The longest piece that one read of a leased blob returns: it fits into a pipe of 1 MiB with the pages of its head.
+PIECE = MIB - (8 << 10)
+
+
+def pushed(client, data):
+    """Pushes a new blob, and returns its path."""
+    assert client.ask("POST", f"/v2/acme/one/blobs/uploads/?digest={sha256(data)}", data, PATCH).status == 201
+    return f"/v2/acme/one/blobs/{sha256(data)}"
+
+
+def counts(server):
+    """Returns the number of calls of each command that reads blobs, without those never called."""
+    return {name: count for name, count in calls(server).items() if name in (LEASE, READ, GIVE_BACK, STAT, FETCH)}
+
+
+def a_short_blob_takes_one_call():
+    with serving_stub({}) as server:
+        client = server.client()
+        for number, length in enumerate((0, 1, PIECE, PIECE + 1, MIB), 1):
+            at = pushed(client, b"x" * length)
+            answer = client.ask("GET", at)
+            assert (answer.status, answer.body, answer["Content-Length"]) == (200, b"x" * length, str(length)), length
+            assert counts(server) == {FETCH: number}, (length, counts(server))
+
+
+def a_long_blob_takes_a_fetch_in_place_of_a_lease():
+    for length in (MIB + 1, 2 * PIECE, 2 * MIB + 3):
+        with serving_stub({}) as server:
+            client = server.client()
+            answer = client.ask("GET", pushed(client, b"x" * length))
+            assert (answer.status, answer.body) == (200, b"x" * length), length
+            assert until(lambda: GIVE_BACK in counts(server)), "the lease is not given back"
+            assert counts(server) == {FETCH: 1, READ: -(-length // PIECE), GIVE_BACK: 1}, (length, counts(server))
+
+
+def a_short_part_takes_one_call():
+    data = bytes(range(256)) * (MIB // 64) + b"the end"
+    size = len(data)
+    cases = [("0-0", 0, 1), (f"5-{MIB + 4}", 5, MIB + 5), (f"{size - 7}-", size - 7, size), (f"{size - 1}-{size + 9}", size - 1, size),
+             (f"{size - 3}-{2 ** 64 - 1}", size - 3, size)]
+    with serving_stub({}) as server:
+        client = server.client()
+        at = pushed(client, data)
+        for number, (text, start, end) in enumerate(cases, 1):
+            answer = client.ask("GET", at, headers={"Range": f"bytes={text}"})
+            assert (answer.status, answer.body) == (206, data[start:end]), (text, answer.status)
+            assert answer["Content-Range"] == f"bytes {start}-{end - 1}/{size}", (text, answer["Content-Range"])
+            assert counts(server) == {FETCH: number}, (text, counts(server))
+
+
+def a_part_that_is_not_there_takes_one_call():
+    with serving_stub({}) as server:
+        client = server.client()
+        at = pushed(client, b"abc")
+        for number, start in enumerate((3, 2 ** 63 - 1, 2 ** 63, 2 ** 64 - 1), 1):
+            answer = client.ask("GET", at, headers={"Range": f"bytes={start}-"})
+            assert (answer.status, answer["Content-Range"]) == (416, "bytes */3"), (start, answer.status)
+            assert counts(server) == {FETCH: number}, (start, counts(server))
+
+
+def a_part_whose_place_depends_on_the_size_takes_a_lease():
+    with serving_stub({}) as server:
+        client = server.client()
+        at = pushed(client, b"abcde")
+        for text, status, body in (("-2", 206, b"de"), ("-9", 206, b"abcde"), ("-0", 416, None)):
+            answer = client.ask("GET", at, headers={"Range": f"bytes={text}"})
+            assert answer.status == status and body in (None, answer.body), (text, answer.status)
+        assert counts(server) == {LEASE: 3, READ: 2, GIVE_BACK: 3}, counts(server)
+
+
+def a_part_that_is_not_wanted_is_not_fetched():
+    with serving_stub({}) as server:
+        client = server.client()
+        at = pushed(client, b"abc")
+        assert client.ask("GET", at, headers={"If-None-Match": f'"{sha256(b"abc")}"'}).status == 304
+        assert client.ask("HEAD", at).status == 200
+        assert counts(server) == {STAT: 2}, counts(server)
+        answer = client.ask("GET", at, headers={"Range": "bytes=0-0", "If-Range": '"other"'})
+        assert (answer.status, answer.body) == (200, b"abc") and counts(server) == {STAT: 2, FETCH: 1}, counts(server)
+
+
+def a_blob_that_is_not_there_takes_one_call():
+    with serving_stub({}) as server:
+        answer = server.client().ask("GET", f"/v2/acme/one/blobs/{sha256(b'abc')}")
+        assert (answer.status, answer.code()) == (404, "BLOB_UNKNOWN") and counts(server) == {FETCH: 1}, counts(server)
+
+
+def without_memory_for_a_fetch_the_size_is_asked_for_first():
+    """An upload holds so much memory that less than 1 MiB and a few bytes is left for its tenant."""
+    with serving_stub({}, "--memory-in-flight", str(8 * MIB)) as server:
+        client = server.client()
+        at = pushed(client, b"abc")
+        line = server.socket()
+        line.sendall(head_of("POST", f"acme/one/blobs/uploads/?digest={sha256(b'')}", Content_Length=6 * MIB) + b"x")
+        assert until(lambda: calls(server)["1"] == 2), "the upload did not begin"
+        assert client.ask("GET", at).body == b"abc"
+        assert counts(server) == {LEASE: 1, READ: 1, GIVE_BACK: 1}, counts(server)
+        line.close()
+
+
+def a_fetch_that_came_too_late_leaves_no_lease():
+    with serving_stub({FETCH: {"late": 1.5}}, "--call-s", "1", "--lines", "4") as server:
+        client = server.client()
+        short, long = pushed(client, b"abc"), pushed(client, b"x" * (MIB + 1))
+        assert [client.ask("GET", at).status for at in (short, long)] == [503, 503]
+        assert until(lambda: GIVE_BACK in counts(server)), "the lease is not given back"
+        assert counts(server) == {FETCH: 2, GIVE_BACK: 1}, counts(server)
+
+
+def parts_are_those_of_the_content():
+    """Compares ranges of blobs around the maximum length of a fetch with those of the stub and of a real store."""
+    with serving() as server:
+        client = server.client()
+        for size in (0, 3, MIB - 1, MIB, MIB + 1, 3 * MIB):
+            data = (b"0123456789" * (size // 10 + 1))[:size]
+            at = pushed(client, data)
+            assert client.ask("GET", at).body == data, size
+            for start, end in ((0, 1), (0, MIB), (1, MIB + 1), (0, MIB + 1), (size - 1, size), (size, size + 1), (2, 2 * size)):
+                if 0 <= start < end:
+                    answer = client.ask("GET", at, headers={"Range": f"bytes={start}-{end - 1}"})
+                    wanted = (206, data[start:end]) if start < size else (416, b"")
+                    assert (answer.status, answer.body) == wanted, (size, start, end, answer.status)
+            assert client.ask("DELETE", at).status == 202
+        assert not server.left(), server.left()
+
+
+def main():
+    play("blobs", [
+        a_short_blob_takes_one_call, a_long_blob_takes_a_fetch_in_place_of_a_lease, a_short_part_takes_one_call,
+        a_part_that_is_not_there_takes_one_call, a_part_whose_place_depends_on_the_size_takes_a_lease,
+        a_part_that_is_not_wanted_is_not_fetched, a_blob_that_is_not_there_takes_one_call,
+        without_memory_for_a_fetch_the_size_is_asked_for_first, a_fetch_that_came_too_late_leaves_no_lease,
+        parts_are_those_of_the_content])
+
+
+if __name__ == "__main__":
+    main()

@@ -1,0 +1,98 @@
+#!/usr/bin/env python3
+"""skopeo pushes an image, pulls it by tag and by digest, copies it within the registry and deletes it. The image pulled has
+to equal the one pushed, and after a sweep the store has to be empty."""
+import filecmp, gzip, io, json, os, random, shutil, subprocess, tarfile, tempfile
+
+from server import MANIFEST, serving, sha256
+
+
+def layer(name, size, seed):
+    """Returns a compressed layer of random bytes, which clients send unchanged, and the digest of its content."""
+    plain, packed = io.BytesIO(), io.BytesIO()
+    with tarfile.open(fileobj=plain, mode="w") as tar:
+        info = tarfile.TarInfo(name)
+        info.size = size
+        tar.addfile(info, io.BytesIO(random.Random(seed).randbytes(size)))
+    with gzip.GzipFile(fileobj=packed, mode="wb", compresslevel=0, mtime=0) as out:
+        out.write(plain.getvalue())
+    return packed.getvalue(), sha256(plain.getvalue())
+
+
+def image(top, sizes, seed, tag="latest"):
+    """Writes the OCI layout of an image with layers of these sizes, and returns its manifest's digest."""
+    os.makedirs(f"{top}/blobs/sha256")
+
+    def keep(media_type, data):
+        with open(f"{top}/blobs/sha256/{sha256(data)[7:]}", "wb") as file:
+            file.write(data)
+        return {"mediaType": media_type, "digest": sha256(data), "size": len(data)}
+
+    layers = [layer(f"file-{n}", size, seed + n) for n, size in enumerate(sizes)]
+    kept = [keep("application/vnd.oci.image.layer.v1.tar+gzip", data) for data, _ in layers]
+    config = {"architecture": "amd64", "os": "linux", "config": {"Cmd": ["/file-0"]},
+              "rootfs": {"type": "layers", "diff_ids": [plain for _, plain in layers]}}
+    config = keep("application/vnd.oci.image.config.v1+json", json.dumps(config).encode())
+    manifest = {"schemaVersion": 2, "mediaType": MANIFEST, "config": config, "layers": kept}
+    manifest = keep(MANIFEST, json.dumps(manifest).encode())
+    index = {"schemaVersion": 2, "manifests": [{**manifest, "annotations": {"org.opencontainers.image.ref.name": tag}}]}
+    for name, value in (("index.json", index), ("oci-layout", {"imageLayoutVersion": "1.0.0"})):
+        with open(f"{top}/{name}", "w") as file:
+            json.dump(value, file)
+    return manifest["digest"]
+
+
+def skopeo(*words):
+    policy = ["--insecure-policy"]
+    ended = subprocess.run(["skopeo", *policy, *words], stdout=subprocess.PIPE, stderr=subprocess.PIPE, text=True, timeout=120)
+    assert ended.returncode == 0, f"skopeo {' '.join(words)}: {ended.stderr[-500:]}"
+    return ended.stdout
+
+
+def same_blobs(one, other):
+    names = sorted(os.listdir(f"{one}/blobs/sha256"))
+    assert names == sorted(os.listdir(f"{other}/blobs/sha256")), f"{other} has other blobs"
+    for name in names:
+        assert filecmp.cmp(f"{one}/blobs/sha256/{name}", f"{other}/blobs/sha256/{name}", False), f"blob {name} differs"
+
+
+def play(server, folder):
+    at = f"docker://{server.address}/acme"
+    plain, to, of = ["--dest-tls-verify=false"], ["--dest-tls-verify=false", "--src-tls-verify=false"], ["--src-tls-verify=false"]
+    for name, sizes in (("tiny", [1000]), ("many", [3000 + n for n in range(20)]), ("big", [5_000_000, 20_000_000])):
+        digest = image(f"{folder}/{name}", sizes, len(sizes))
+        skopeo("copy", *plain, f"oci:{folder}/{name}:latest", f"{at}/{name}:v1")
+        for reference in (":v1", f"@{digest}"):
+            back = f"{folder}/back"
+            skopeo("copy", *of, f"{at}/{name}{reference}", f"oci:{back}:latest")
+            same_blobs(f"{folder}/{name}", back)
+            shutil.rmtree(back)
+        assert json.loads(skopeo("inspect", "--tls-verify=false", f"{at}/{name}:v1"))["Digest"] == digest
+        # Within one tenant the blobs are mounted and not sent.
+        received = server.metric("registryd_received_bytes_total")
+        skopeo("copy", *to, f"{at}/{name}:v1", f"{at}/copy-of-{name}:v2")
+        assert server.metric("registryd_received_bytes_total") - received < 10_000
+        assert json.loads(skopeo("list-tags", "--tls-verify=false", f"{at}/copy-of-{name}"))["Tags"] == ["v2"]
+        for reference in (f"{name}:v1", f"copy-of-{name}:v2"):
+            skopeo("delete", "--tls-verify=false", f"{at}/{reference}")
+
+
+def delete_blobs(server, folder):
+    """Deletes the blobs. skopeo deletes only manifests; a client of the specification deletes the blobs too."""
+    client = server.client()
+    for name in ("tiny", "many", "big"):
+        for blob in os.listdir(f"{folder}/{name}/blobs/sha256"):
+            for repo in (name, f"copy-of-{name}"):
+                client.ask("DELETE", f"/v2/acme/{repo}/blobs/sha256:{blob}")
+    assert not server.left(), server.left()
+
+
+def main():
+    with tempfile.TemporaryDirectory() as folder, serving("--slots", "128", "--sweep-ms", "20") as server:
+        play(server, folder)
+        delete_blobs(server, folder)
+        assert server.end() == 0
+    print("images: three were pushed, pulled by tag and by digest, copied and deleted; the store is empty")
+
+
+if __name__ == "__main__":
+    main()
