@@ -1,9 +1,9 @@
 #!/usr/bin/env python3
-"""What a row costs as the store grows.
+"""Measures the cost of a row as the store grows.
 
-Each workload is a script of at most 65,536 rows, made at a quarter, a half and its full size, and played on
-blobctl. A line tells the processor time of a row in microseconds at the three sizes, and the last as a multiple
-of the first: a store whose cost doesn't grow stays near 1.
+Each workload is a script of at most 65,536 rows, generated at a quarter, a half and its full size, and run by
+blobctl. The output has the processor time of a row in microseconds at the three sizes, and the ratio of the last
+to the first. The ratio is near 1 if the cost does not grow.
 
     bench/growth.py [--runs N] [WORKLOAD..]
 """
@@ -19,7 +19,7 @@ def content(number):
 
 
 def upload(repo, session, number):
-    """Two rows that store one small blob of its own number."""
+    """Returns two rows that store one small blob made of this number."""
     body = content(number)
     return row("start", repo) + row("close", repo, session, sha256(body), "", body.decode())
 
@@ -36,17 +36,17 @@ class Sessions:
 
 
 def blobs(count):
-    """So many blobs into one repository."""
+    """Stores `count` blobs in one repository."""
     return ["acme"], [upload("acme/one", i + 1, i) for i in range(count)]
 
 
 def spread(count):
-    """So many blobs over 1,000 repositories of one tenant."""
+    """Stores `count` blobs in 1,000 repositories of one tenant."""
     return ["acme"], [upload(f"acme/r{i % 1000}", i + 1, i) for i in range(count)]
 
 
 def mounts(count):
-    """So many blobs, each mounted into a second repository, and half of the mounts deleted."""
+    """Stores `count` blobs, mounts each into a second repository, and deletes half of the mounts."""
     rows = [upload("acme/one", i + 1, i) for i in range(count)]
     rows += [row("mount", "acme/two", "acme/one", sha256(content(i))) for i in range(count)]
     rows += [row("delete", "acme/two", "", sha256(content(i))) for i in range(0, count, 2)]
@@ -54,7 +54,7 @@ def mounts(count):
 
 
 def sessions(count):
-    """64 open sessions of each of count / 64 tenants, then three times as many calls of `status`."""
+    """Opens 64 sessions of each of `count / 64` tenants, and calls `status` three times for each session."""
     tenants = [f"t{i}" for i in range(count // 64)]
     rows = [row("start", f"{tenant}/r") for tenant in tenants for _ in range(64)]
     names = [(tenant, number) for number in range(1, 65) for tenant in tenants]
@@ -63,7 +63,7 @@ def sessions(count):
 
 
 def repos(count):
-    """So many repositories of 128 tenants, each by `start` and `abandon`."""
+    """Makes `count` repositories of 128 tenants, each by `start` and `abandon`."""
     tenants = [f"t{i}" for i in range(128)]
     numbers, rows = Sessions(), []
     for i in range(count):
@@ -74,7 +74,7 @@ def repos(count):
 
 
 def mixed(count):
-    """So many turns of 256 tenants: an upload, a mount, and the delete of an older mount."""
+    """Takes `count` turns of 256 tenants: an upload, a mount, and the delete of an older mount."""
     tenants = [f"t{i}" for i in range(256)]
     numbers, rows = Sessions(), []
     for i in range(count):
@@ -88,7 +88,7 @@ def mixed(count):
 
 
 def image(numbers):
-    """An image manifest whose config and layers are the blobs of these numbers."""
+    """Returns an image manifest whose config and layers are the blobs with these numbers."""
     names = [f'{{"digest":"{sha256(content(i))}"}}' for i in numbers]
     return f'{{"schemaVersion":2,"config":{names[0]},"layers":[{",".join(names[1:])}]}}'
 
@@ -98,8 +98,8 @@ def quoted(text):
 
 
 def manifests(count):
-    """So many manifests of nine references, 1,000 in a repository; each is asked for, and a blob that it names
-    is asked to be deleted, which is refused."""
+    """Puts `count` manifests of nine references, 1,000 in a repository. Each is read, and the delete of one of its
+    blobs fails."""
     numbers, rows = Sessions(), []
     for first in range(0, count, 1000):
         repo = f"acme/r{first // 1000}"
@@ -134,7 +134,7 @@ def microseconds(make, count, runs):
 
 def main():
     words = argparse.ArgumentParser(description=__doc__, formatter_class=argparse.RawDescriptionHelpFormatter)
-    words.add_argument("--runs", type=int, default=3, help="the least of so many runs counts (3)")
+    words.add_argument("--runs", type=int, default=3, help="number of runs; the minimum counts (3)")
     words.add_argument("workload", nargs="*", default=list(WORKLOADS))
     options = words.parse_args()
     print(f"{'workload':<10} {'quarter':>8} {'half':>8} {'full':>8}   full / quarter")

@@ -1,9 +1,9 @@
 #!/usr/bin/env python3
-"""What a MiB of upload takes.
+"""Measures the cost of uploading a MiB.
 
-Each line is the processor time of a MiB in milliseconds: of chunks of a MiB each that are read and refused before
-anything is hashed, and of such that are added by `append`, for a close by either algorithm; and of an upload that is
-sent whole with its close, refused unhashed, and closed by each algorithm.
+Each output line is the processor time of a MiB in milliseconds. The first two are of chunks of a MiB each: chunks that
+fail before anything is hashed, and chunks added by `append`, for a close by either algorithm. The others are of an
+upload sent entirely with its close: one that fails unhashed, and one closed by each algorithm.
 
     bench/hashes.py [--mib N] [--runs N]
 """
@@ -15,7 +15,7 @@ CHUNK = 1 << 20
 
 
 def script(kind, mib):
-    """A session of so many MiB: in chunks, or all in its close. Session 2 isn't there."""
+    """Returns the rows of a session of `mib` MiB, in chunks or all in its close. Session 2 does not exist."""
     whole = b"x" * (CHUNK * mib)
     rows = [row("start", "acme/one").encode()]
     if kind in ("refused chunks", "appended"):
@@ -31,7 +31,7 @@ def script(kind, mib):
 def main():
     words = argparse.ArgumentParser(description=__doc__, formatter_class=argparse.RawDescriptionHelpFormatter)
     words.add_argument("--mib", type=int, default=64, help="the length of the upload in MiB (64)")
-    words.add_argument("--runs", type=int, default=3, help="the least of so many runs counts (3)")
+    words.add_argument("--runs", type=int, default=3, help="number of runs; the minimum counts (3)")
     options = words.parse_args()
     limits = ["--max-blob", str(1 << 30), f"acme={1 << 40}"]
     for kind, says in {

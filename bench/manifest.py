@@ -1,12 +1,12 @@
 #!/usr/bin/env python3
-"""What a reference costs of a manifest that is as long as one may be, also of one that is made to cost much.
+"""Measures the cost of a reference in the longest manifest, also in manifests made to be expensive.
 
-A manifest of 4 MiB names some 49,000 digests. It is put into a repository that holds none of its blobs, so that it is
-read and refused. A line tells the processor time of a reference in microseconds, and how many times as much as that of
-an ordinary manifest it is, whose digests are those of some blobs. The others have digests that a client picked: such
-as differ in their last bytes alone, in rising order; and such as std's hasher, whose seed is fixed, puts into one place
-of a table, which takes some minutes to find. What the script itself takes to read is measured by the same rows for a tenant
-that isn't there, and taken off.
+A manifest of 4 MiB has about 49,000 digests. It is put into a repository that has none of its blobs, so that it is
+read and the put fails. The output has the processor time of a reference in microseconds, and its ratio to that of an
+ordinary manifest with the digests of some blobs. The other manifests have digests chosen by a client: digests that
+differ only in their last bytes, in ascending order; and digests that std's hasher, whose seed is fixed, puts into one
+group of a table, which takes some minutes to find. The time to read the script is measured with the same rows for an
+unknown tenant, and subtracted.
 
     bench/manifest.py [--rows N] [--runs N]
 """
@@ -28,22 +28,22 @@ COUNT = (LONGEST - len(HEAD) - len(',"layers":[') - len(TAIL) + 1) // (len(descr
 
 
 def ordinary():
-    """The digests of some blobs."""
+    """Returns the digests of some blobs."""
     return [sha256(str(number).encode()) for number in range(COUNT)]
 
 
 def alike():
-    """Digests that differ in their last bytes alone."""
+    """Returns digests that differ only in their last bytes."""
     return [f"sha256:{number:064x}" for number in range(COUNT)]
 
 
-# std's hasher takes in a number or a byte by a multiplication to 128 bits, whose halves it joins.
+# std's hasher adds a number or a byte by a multiplication to 128 bits, and combines the halves.
 LOW = (1 << 64) - 1
 SEED, FACTOR = 0x243F6A8885A308D3, 0x9E3779B97F4A7C15
 SPREAD = 0x010101
-# A table for so many entries has 8,192 groups, which the lowest 13 bits of a hash choose among.
+# A table for COUNT entries has 8,192 groups. The lowest 13 bits of a hash select the group.
 GROUP_BITS = 13
-# The last two bytes of a digest are tried all at once, in lanes of 128 bits of one number.
+# All values of the last two bytes of a digest are tried at once, in lanes of 128 bits of one number.
 LANES = 1 << 16
 LANE = sum(1 << (128 * lane) for lane in range(256))
 LAST_BYTES = sum(LANE * (byte * SPREAD) << (128 * 256 * byte) for byte in range(256))
@@ -63,7 +63,7 @@ def byte_in(state, byte):
 
 
 def state_after(head):
-    """The hasher's state after the algorithm, the length, and the first bytes of a value of SHA-256."""
+    """Returns the hasher's state after the algorithm, the length, and the first bytes of a SHA-256 value."""
     state = taken_in(taken_in(SEED, 0, FACTOR ^ 16), 32, FACTOR ^ 16)
     for byte in head:
         state = byte_in(state, byte)
@@ -71,7 +71,7 @@ def state_after(head):
 
 
 def in_one_group(head):
-    """The values that begin with these 30 bytes and whose hashes choose the first group."""
+    """Yields the values that begin with these 30 bytes and whose hashes select the first group."""
     state = state_after(head)
     packed = b"".join(byte_in(state, byte).to_bytes(16, "little") for byte in range(256))
     product = (int.from_bytes(packed * 256, "little") ^ LAST_BYTES) * (FACTOR ^ 2)
@@ -83,7 +83,7 @@ def in_one_group(head):
 
 
 def colliding():
-    """Digests that std's hasher puts into one group of a table."""
+    """Returns digests that std's hasher puts into one group of a table."""
     found, number = [], 0
     while len(found) < COUNT:
         number += 1
@@ -103,15 +103,15 @@ def script(repo, text, rows):
 
 def main():
     words = argparse.ArgumentParser(description=__doc__, formatter_class=argparse.RawDescriptionHelpFormatter)
-    words.add_argument("--rows", type=int, default=4, help="how often each manifest is put (4)")
-    words.add_argument("--runs", type=int, default=3, help="the least of so many runs counts (3)")
+    words.add_argument("--rows", type=int, default=4, help="number of puts of each manifest (4)")
+    words.add_argument("--runs", type=int, default=3, help="number of runs; the minimum counts (3)")
     options = words.parse_args()
     print(f"{COUNT} references")
     first = None
     for says, make in {
         "digests of blobs": ordinary,
-        "alike but for their last bytes": alike,
-        "in one place of a hash table": colliding,
+        "different only in their last bytes": alike,
+        "in one group of a hash table": colliding,
     }.items():
         text = manifest(make())
         assert len(text) <= LONGEST

@@ -1,14 +1,14 @@
 #!/usr/bin/env python3
-"""What blobctl takes beside a program in ordinary Rust that does the same.
+"""Compares blobctl with a program in ordinary Rust that does the same.
 
 bench/ordinary is that program: HashMaps, BTreeMaps, a Mutex, atomics. It is built by cargo, from Debian's packages
-librust-csv-dev, librust-hex-dev, librust-serde-json-dev and librust-sha2-dev where they are there. Each workload is a
-script that both play in turn, so many times, after one run in which their outputs are compared byte for byte. A line
-tells the medians of the processor times in milliseconds, their ratio, and the ratio of the least ones. Where the
-processor has instructions for SHA-256 the ordinary program hashes by them, which the kit's `sha2` doesn't.
+librust-csv-dev, librust-hex-dev, librust-serde-json-dev and librust-sha2-dev if they are installed. Each workload is a
+script. Both programs run it once, and their outputs are compared byte for byte. Then they run it in turn. The output has
+the medians of the processor times in milliseconds, their ratio, and the ratio of the minima. If the processor has
+instructions for SHA-256, the ordinary program uses them; the kit's `sha2` does not.
 
-With --both-hashes the ordinary program hashes each chunk by both algorithms as it comes, as a program does that has no
-other way to let a close ask for either.
+With --both-hashes the ordinary program hashes each chunk by both algorithms on arrival. A program without hashing at
+close needs this, because a close may use either algorithm.
 
     bench/ordinary.py [--runs N] [--both-hashes] [WORKLOAD..]
 """
@@ -37,7 +37,7 @@ def build():
         source = 'source.crates-io.replace-with="debian"', f'source.debian.directory="{DEBIAN}"'
         command += ["--offline", "--config", source[0], "--config", source[1]]
     if subprocess.run(command, cwd=FOLDER).returncode:
-        sys.exit("bench/ordinary was not built: it wants cargo and the packages named in `bench/ordinary.py --help`")
+        sys.exit("bench/ordinary.py: cannot build bench/ordinary: install cargo and the packages of `bench/ordinary.py --help`")
 
 
 def words_of(tenants, *options):
@@ -45,14 +45,14 @@ def words_of(tenants, *options):
 
 
 def grown(name):
-    """A workload of bench/growth.py at its full size."""
+    """Returns a workload of bench/growth.py at its full size."""
     make, full = growth.WORKLOADS[name]
     tenants, rows = make(full)
     return words_of(tenants), "".join(rows).encode()
 
 
 def small():
-    """60,000 small rows in one lane: blobs stored, mounted and deleted from where they came."""
+    """Runs 60,000 small rows in one lane: blobs are stored, mounted, and deleted from the first repository."""
     return words_of(threads.TENANTS), threads.small(60000).encode()
 
 
@@ -62,7 +62,7 @@ def small_by_four():
 
 
 def uploads():
-    """200 MiB in 50 blobs, each in chunks of a MiB."""
+    """Uploads 200 MiB in 50 blobs, each in chunks of a MiB."""
     rows = []
     for number in range(1, 51):
         body = f"{number:02d}" * (MIB // 2)
@@ -72,7 +72,7 @@ def uploads():
 
 
 def sweeps():
-    """5,000 times a blob that is stored, deleted and swept, in a store of 65,536 slots."""
+    """Stores, deletes and sweeps a blob 5,000 times in a store of 65,536 slots."""
     rows = []
     for number in range(1, 5001):
         digest = sha256(f"s{number}".encode())
@@ -82,7 +82,7 @@ def sweeps():
 
 
 def leases():
-    """10,000 times a blob of 4 KiB that is leased, shared, read twice and given back twice."""
+    """Leases a blob of 4 KiB, shares the lease, reads twice and releases both halves, 10,000 times."""
     body = "l" * 4096
     digest = sha256(body.encode())
     rows = [row("start", "acme/one"), row("close", "acme/one", 1, digest, "", body)]
@@ -94,7 +94,7 @@ def leases():
 
 
 def refused_closes():
-    """A session of a MiB that 2,000 closes don't fit, each with a last chunk of 16 KiB; then one does."""
+    """Closes a session of a MiB 2,000 times with a wrong digest and a last chunk of 16 KiB, then with the right one."""
     body, last = "r" * MIB, "q" * 16384
     rows = [row("start", "acme/one"), row("append", "acme/one", 1, body=body)]
     rows += [row("close", "acme/one", 1, sha256(str(n).encode()), "", last) for n in range(2000)]
@@ -114,7 +114,7 @@ WORKLOADS = {
 
 
 class Figures:
-    """What the runs of a workload took, of blobctl and of the ordinary program, which may have words of its own."""
+    """The times of a workload's runs, of blobctl and of the ordinary program, which may have arguments of its own."""
 
     def __init__(self, words, script, runs, its_words=()):
         self.times = [], []
@@ -129,7 +129,7 @@ class Figures:
                     if turn:
                         times.append((usage.ru_utime + usage.ru_stime) * 1000)
                 if not turn and not filecmp.cmp(*outs, shallow=False):
-                    sys.exit("the two programs don't write the same")
+                    sys.exit("bench/ordinary.py: the outputs of the two programs differ")
 
     def medians(self):
         return [statistics.median(times) for times in self.times]
@@ -140,9 +140,9 @@ class Figures:
 
 def main():
     words = argparse.ArgumentParser(description=__doc__, formatter_class=argparse.RawDescriptionHelpFormatter)
-    words.add_argument("--runs", type=int, default=9, help="how many runs of each (9)")
-    words.add_argument("--both-hashes", action="store_true", help="the ordinary program hashes chunks by both algorithms")
-    words.add_argument("workload", nargs="*", help="all, if none is named")
+    words.add_argument("--runs", type=int, default=9, help="number of runs of each program (9)")
+    words.add_argument("--both-hashes", action="store_true", help="hash chunks by both algorithms in the ordinary program")
+    words.add_argument("workload", nargs="*", help="workloads to run (all)")
     options = words.parse_args()
     build()
     print(f"{'workload':<24}{'blobctl':>9}{'ordinary':>10}{'ratio':>7}{'least':>7}")

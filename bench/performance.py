@@ -1,8 +1,7 @@
 #!/usr/bin/env python3
-"""Measures what users of the store would ask for, prints each figure beside that of the last time, and writes
-docs/PERFORMANCE.md, up to what is written there by hand, and docs/performance.svg. It wants a built blobctl, what
-bench/ordinary.py wants, and Debian's `time`; and, for the reads under leases, bench/reads.py. The figures are kept in
-bench/figures.json.
+"""Measures the store, prints each figure next to the last one, and writes the generated part of docs/PERFORMANCE.md (from GENERATED to
+BY_HAND) and docs/performance.svg. Needs a built blobctl, what bench/ordinary.py needs, and Debian's `time`; and bench/reads.py for the
+reads under leases. bench/figures.json keeps the figures.
 
     bench/performance.py [--runs N] [--without-reads]
 """
@@ -24,23 +23,24 @@ TOP = os.path.join(os.path.dirname(os.path.abspath(__file__)), "..")
 FIGURES = f"{TOP}/bench/figures.json"
 DOCUMENT = f"{TOP}/docs/PERFORMANCE.md"
 PICTURE = f"{TOP}/docs/performance.svg"
-BY_HAND = "\n## Measured apart\n"
+GENERATED = "## Next to an ordinary program\n"
+BY_HAND = "\n## The registry\n"
 PARTS = (8, 4, 2, 1)
 WORKERS = (1, 2, 4, 8)
 
 
 def peak(program, words, script):
-    """The most memory that a run of a program had, in MiB. Python's own would count with it if it asked by itself."""
-    with tempfile.NamedTemporaryFile(suffix=".csv") as file, tempfile.NamedTemporaryFile("r") as told:
+    """Returns the peak memory of a run of a program, in MiB. `time` measures it, so that Python's own memory does not count."""
+    with tempfile.NamedTemporaryFile(suffix=".csv") as file, tempfile.NamedTemporaryFile("r") as measured:
         file.write(script)
         file.flush()
-        command = ["/usr/bin/time", "-f", "%M", "-o", told.name, program, *words]
+        command = ["/usr/bin/time", "-f", "%M", "-o", measured.name, program, *words]
         subprocess.run(command, stdin=open(file.name), stdout=subprocess.DEVNULL, check=True)
-        return int(told.read()) / 1024
+        return int(measured.read()) / 1024
 
 
-def beside_ordinary(runs):
-    """For each workload: the processor time in milliseconds of blobctl and of the ordinary program, the ratio of the
+def next_to_ordinary(runs):
+    """Returns for each workload: the processor time in milliseconds of blobctl and of the ordinary program, the ratio of the
     least times, and the peak of memory of each in MiB."""
     ordinary.build()
     found = {}
@@ -55,7 +55,7 @@ def beside_ordinary(runs):
 
 
 def by_size(runs):
-    """For each workload of bench/growth.py: the microseconds of a row by the number of rows."""
+    """Returns for each workload of bench/growth.py: the microseconds of a row by the number of rows."""
     found = {}
     for name, (make, full) in growth.WORKLOADS.items():
         rows = [[len("".join(make(full // part)[1]).splitlines()), growth.microseconds(make, full // part, runs)] for part in PARTS]
@@ -65,7 +65,7 @@ def by_size(runs):
 
 
 def by_workers(runs):
-    """For uploads and small commands: the wall time and the processor time in milliseconds by the number of workers."""
+    """Returns for uploads and small commands: the wall time and the processor time in milliseconds by the number of workers."""
     limits = ["--slots", "65536", "--max-blob", str(1 << 30), *(f"{tenant}={1 << 40}" for tenant in threads.TENANTS)]
     found = {}
     for name, make in (("160 MiB of uploads", lambda: threads.uploads(160)), ("65,000 small rows", lambda: threads.small(65000))):
@@ -80,21 +80,21 @@ def by_workers(runs):
 
 
 def by_readers(runs):
-    """The wall time in milliseconds of reading 8 GiB under leases, by the number of threads."""
+    """Returns the wall time in milliseconds of reading 8 GiB under leases, by the number of threads."""
     with tempfile.TemporaryDirectory() as copy:
         program = reads.build(copy)
         found = [reads.times(program) for _ in range(runs)]
     return [[count, min(run[count] for run in found)] for count in found[0]]
 
 
-def beside(now, before, places=1):
-    """A figure, and the last one where it is another."""
+def with_last(now, before, places=1):
+    """Returns a figure as text, and the last one in brackets if it differs."""
     text = f"{now:,.{places}f}"
     return text if before is None or f"{before:,.{places}f}" == text else f"{text} ({before:,.{places}f})"
 
 
 def last(before, *path):
-    """A figure of the last time, if there was one."""
+    """Returns a figure of the last time, if there was one."""
     for name in path:
         try:
             before = before[name]
@@ -104,15 +104,15 @@ def last(before, *path):
 
 
 class Chart:
-    """A line chart in an SVG, of so many points wide and high at a place."""
+    """A line chart in an SVG, 330 points wide, with its left edge at `left`."""
 
     COLOURS = ("#4e79a7", "#f28e2b", "#e15759", "#76b7b2", "#59a14f", "#edc948", "#b07aa1", "#9c755f")
 
-    def __init__(self, left, title, under, beside):
+    def __init__(self, left, title, x_axis, y_axis):
         self.left, self.parts = left, []
         self.parts.append(f'<text x="{left + 150}" y="20" class="title">{title}</text>')
-        self.parts.append(f'<text x="{left + 170}" y="290" class="axis">{under}</text>')
-        self.parts.append(f'<text x="{left + 12}" y="150" class="axis" transform="rotate(-90 {left + 12} 150)">{beside}</text>')
+        self.parts.append(f'<text x="{left + 170}" y="290" class="axis">{x_axis}</text>')
+        self.parts.append(f'<text x="{left + 12}" y="150" class="axis" transform="rotate(-90 {left + 12} 150)">{y_axis}</text>')
 
     def draw(self, lines):
         xs = sorted({x for points in lines.values() for x, _ in points})
@@ -149,30 +149,29 @@ def picture(figures):
 
 
 def document(figures, before):
-    lines = ["# Performance", "", "Written by `bench/performance.py`, on " + figures["machine"] + ". In brackets: the figures of the commit",
-             "before, where they are others. Each is a median, of runs taken in turn.", "", "![Time by size, workers and readers](performance.svg)", "",
-             "## Beside an ordinary program", "",
-             "`bench/ordinary` is a program in ordinary Rust that keeps the same rules with maps, a mutex and atomics, and whose output is the",
-             "same byte for byte. Processor time in milliseconds, with the ratio of the medians and that of the least times, and the most",
-             "memory in MiB:", "",
-             "| Script | blobctl | ordinary | ratio | of the least | memory | ordinary | ratio |", "|---|---|---|---|---|---|---|---|"]
-    for name, found in figures["beside_ordinary"].items():
+    lines = [GENERATED, "This section and the next three are written by `bench/performance.py`. Machine: " + figures["machine"] + ".",
+             "In brackets: the figures of the commit before, if they differ. Each figure is a median of runs taken in turn.", "",
+             "![Time by size, workers and readers](performance.svg)", "",
+             "`bench/ordinary` is a program in ordinary Rust that follows the same rules with maps, a mutex and atomics. Its output is the same",
+             "byte for byte. Processor time in milliseconds, with the ratio of the medians and that of the minima, and peak memory in MiB:", "",
+             "| Script | blobctl | ordinary | ratio | of the minima | memory | ordinary | ratio |", "|---|---|---|---|---|---|---|---|"]
+    for name, found in figures["next_to_ordinary"].items():
         (ours, theirs), (mine, its) = found["ms"], found["mib"]
-        old = last(before, "beside_ordinary", name, "ms")
-        lines.append(f"| {name} | {beside(ours, old and old[0])} | {theirs:,.1f} | {beside(ours / theirs, old and old[0] / old[1], 2)} | {found['least']:.2f} | {mine:,.0f} | {its:,.0f} | {mine / its:.2f} |")
+        old = last(before, "next_to_ordinary", name, "ms")
+        lines.append(f"| {name} | {with_last(ours, old and old[0])} | {theirs:,.1f} | {with_last(ours / theirs, old and old[0] / old[1], 2)} | {found['least']:.2f} | {mine:,.0f} | {its:,.0f} | {mine / its:.2f} |")
     lines += ["", "## As the store grows", "", "Microseconds of processor time a row, of scripts of an eighth of 65,536 rows to all of them (`bench/growth.py`):", "",
               "| Script | eighth | quarter | half | full |", "|---|---|---|---|---|"]
     for name, points in figures["by_size"].items():
-        row = [beside(time, last(before, "by_size", name, n, 1), 2) for n, (_, time) in enumerate(points)]
+        row = [with_last(time, last(before, "by_size", name, n, 1), 2) for n, (_, time) in enumerate(points)]
         lines.append(f"| {name} | " + " | ".join(row) + " |")
     lines += ["", "## By workers", "", "Wall time and processor time in milliseconds, over four lanes of a tenant each (`bench/threads.py`):", "",
               "| Script | " + " | ".join(f"{n} worker{'s' * (n > 1)}" for n in WORKERS) + " |", "|---" * (len(WORKERS) + 1) + "|"]
     for name, points in figures["by_workers"].items():
-        row = [f"{beside(wall, last(before, 'by_workers', name, n, 1), 0)}, {cpu:,.0f}" for n, (_, wall, cpu) in enumerate(points)]
+        row = [f"{with_last(wall, last(before, 'by_workers', name, n, 1), 0)}, {cpu:,.0f}" for n, (_, wall, cpu) in enumerate(points)]
         lines.append(f"| {name} | " + " | ".join(row) + " |")
     if figures.get("by_readers"):
         lines += ["", "## Reads under leases", "", "8 GiB in pieces of 64 KiB, without the lock (`bench/reads.py`): "
-                  + ", ".join(f"{beside(took, last(before, 'by_readers', n, 1), 0)} ms by {count}" for n, (count, took) in enumerate(figures["by_readers"])) + "."]
+                  + ", ".join(f"{with_last(took, last(before, 'by_readers', n, 1), 0)} ms by {count}" for n, (count, took) in enumerate(figures["by_readers"])) + "."]
     return "\n".join(lines) + "\n"
 
 
@@ -184,22 +183,22 @@ def machine():
 
 def main():
     words = argparse.ArgumentParser(description=__doc__, formatter_class=argparse.RawDescriptionHelpFormatter)
-    words.add_argument("--runs", type=int, default=11, help="how many runs of each (11)")
-    words.add_argument("--without-reads", action="store_true", help="leaves the reads under leases as they were")
+    words.add_argument("--runs", type=int, default=11, help="runs of each workload (11)")
+    words.add_argument("--without-reads", action="store_true", help="keep the last figures of reads under leases")
     options = words.parse_args()
     before = {}
     if os.path.exists(FIGURES):
         with open(FIGURES) as file:
             before = json.load(file)
     figures = {"machine": machine()}
-    figures["beside_ordinary"] = beside_ordinary(options.runs)
+    figures["next_to_ordinary"] = next_to_ordinary(options.runs)
     figures["by_size"] = by_size(options.runs)
     figures["by_workers"] = by_workers(options.runs)
     figures["by_readers"] = before.get("by_readers") if options.without_reads else by_readers(options.runs)
     with open(DOCUMENT) as file:
-        _, mark, rest = file.read().partition(BY_HAND)
+        text = file.read()
     with open(DOCUMENT, "w") as file:
-        file.write(document(figures, before) + mark + rest)
+        file.write(text[:text.index(GENERATED)] + document(figures, before) + text[text.index(BY_HAND):])
     with open(PICTURE, "w") as file:
         file.write(picture(figures))
     with open(FIGURES, "w") as file:

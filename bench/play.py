@@ -1,6 +1,6 @@
-"""Plays scripts on the built blobctl and tells the processor time, or the wall time, that they took.
+"""Runs scripts on the built blobctl and measures their processor time or wall time.
 
-The program is the one that `rt run` leaves in crates/blobctl/out/blobctl.
+The program is crates/blobctl/out/blobctl, which `rt run` builds.
 """
 import hashlib
 import os
@@ -25,19 +25,19 @@ def row(command, repo="", key="", digest="", place="", body="", lane=0):
 
 
 def seconds(words, script, runs):
-    """The least processor time, in seconds, of so many runs of the program on a script."""
+    """Returns the minimum processor time of `runs` runs of the program on a script, in seconds."""
     return min(processor for _, processor in times(words, script, runs))
 
 
 def wall_seconds(words, script, runs):
-    """The least time from the start to the end, in seconds, of so many runs of the program on a script."""
+    """Returns the minimum wall time of `runs` runs of the program on a script, in seconds."""
     return min(wall for wall, _ in times(words, script, runs))
 
 
 def times(words, script, runs):
-    """The wall time and the processor time of each of so many runs."""
+    """Returns the wall time and the processor time of each run."""
     if not os.path.exists(PROGRAM):
-        sys.exit("build the program first: cd crates/blobctl && rt run -- acme=1 < /dev/null")
+        sys.exit("bench: cannot find blobctl: build it: cd crates/blobctl && rt run -- acme=1 < /dev/null")
     with tempfile.NamedTemporaryFile(suffix=".csv") as file:
         file.write(script)
         file.flush()
@@ -50,7 +50,7 @@ def one_run(words, path):
 
 
 def measured(program, words, path, out):
-    """The wall time of one run of a program on the script of a file, and what it used; its output goes to a file."""
+    """Runs a program on a script file, and writes its output to a file. Returns the wall time and the resource usage."""
     with open(path, "rb") as script, open(out, "wb") as text, tempfile.TemporaryFile() as says:
         start = time.monotonic()
         child = subprocess.Popen([program, *words], stdin=script, stdout=text, stderr=says)
@@ -59,5 +59,5 @@ def measured(program, words, path, out):
         child.returncode = os.waitstatus_to_exitcode(status)
         if child.returncode:
             says.seek(0)
-            sys.exit(f"{os.path.basename(program)} ended with {child.returncode}: {says.read().decode()}")
+            sys.exit(f"bench: {os.path.basename(program)} failed: status {child.returncode}: {says.read().decode()}")
     return wall, usage

@@ -1,10 +1,10 @@
 #!/usr/bin/env python3
-"""What several threads gain that read a blob under leases.
+"""Measures the speedup of several threads that read a blob under leases.
 
-The program in bench/reads is built in a copy of the crates, since it is none of them: the gate neither proves nor
-runs it. It reads a blob of 16 MiB in pieces of 64 KiB, 8 GiB in all, in 1, 2 and 4 threads; each thread has a desk,
-and again and again leases the blob, reads it and gives it back. A line tells the wall time in milliseconds for each
-number of threads, and how many times as fast as one thread that is.
+The program in bench/reads is built in a copy of the crates, because it is not one of them: the gate neither proves nor
+runs it. It reads a blob of 16 MiB in pieces of 64 KiB, 8 GiB in total, in 1, 2 and 4 threads. Each thread has a desk,
+and repeatedly leases the blob, reads it and releases the lease. The output has the wall time in milliseconds for each
+number of threads, and the speedup over one thread.
 
     bench/reads.py [--runs N]
 """
@@ -21,7 +21,7 @@ FILES = {"main.rt.txt": "src/main.rt", "Invariants.antt.txt": "proofs/main/Invar
 
 
 def build(copy):
-    """The program, built in a copy of the crates, with what earlier checks of them left."""
+    """Builds the program in a copy of the crates and of the results of their earlier checks, and returns its path."""
     shutil.copytree(f"{TOP}/crates", f"{copy}/crates", ignore=shutil.ignore_patterns("blobctl", "must-fail"))
     shutil.copy(f"{TOP}/HANDLES", copy)
     shutil.copy(f"{TOP}/crates.txt", copy)
@@ -36,19 +36,19 @@ def build(copy):
     folder = f"{copy}/crates/{NAME}"
     done = subprocess.run(["rt", "run"], cwd=folder, stdout=subprocess.PIPE, stderr=subprocess.STDOUT, text=True)
     if done.returncode:
-        sys.exit(f"the program was not built or failed:\n{done.stdout[-4000:]}")
+        sys.exit(f"bench/reads.py: cannot build or run the program:\n{done.stdout[-4000:]}")
     return f"{folder}/out/{NAME}"
 
 
 def times(program):
-    """The wall time in milliseconds by the number of threads, of one run."""
+    """Runs the program once. Returns the wall time in milliseconds for each number of threads."""
     done = subprocess.run([program], stdout=subprocess.PIPE, text=True, check=True)
     return {int(threads): int(took) for threads, took in map(str.split, done.stdout.splitlines())}
 
 
 def main():
     words = argparse.ArgumentParser(description=__doc__, formatter_class=argparse.RawDescriptionHelpFormatter)
-    words.add_argument("--runs", type=int, default=3, help="the least of so many runs counts (3)")
+    words.add_argument("--runs", type=int, default=3, help="number of runs; the minimum counts (3)")
     options = words.parse_args()
     with tempfile.TemporaryDirectory() as copy:
         program = build(copy)

@@ -1,15 +1,15 @@
 #!/usr/bin/env python3
-"""What pushes, pulls and small requests take of registryd, and of Debian's docker-registry beside it, by the same clients
-in turn: bench/registry.py [--runs N] [--beside-unswept | --beside-least] [MEASURE..]. It wants a built blobd, and the packages skopeo and
-docker-registry. The collector sweeps all the time. For each measure: the wall time of the clients in seconds (median), the
-ratio of it to docker-registry's, and the processor time of each server's programs. With --beside-unswept the other is a
-registryd that doesn't sweep; with --beside-least, of one blob alone, a program that does the least with it: what no server that
-hashes a blob and keeps it in memory falls below, with these clients."""
+"""Measures pushes, pulls and small requests of registryd and of Debian's docker-registry, with the same clients in turn:
+bench/registry.py [--runs N] [--with-unswept | --with-least] [MEASURE..]. It needs a built blobd, and the packages skopeo
+and docker-registry. The collector sweeps without a pause. The output has for each measure the median wall time of the
+clients in seconds, its ratio to docker-registry's, and the processor time of each server's programs. With --with-unswept
+the other server is a registryd that does not sweep. With --with-least it is a minimal program, and the measure is one blob:
+with these clients, no server that hashes a blob and keeps it in memory is faster."""
 import argparse, hashlib, http.client, json, os, random, shutil, signal, socket, statistics, subprocess, sys, tempfile, time
 from concurrent.futures import ThreadPoolExecutor
 
 TOP = os.path.dirname(os.path.dirname(os.path.abspath(__file__)))
-sys.path.insert(0, f"{TOP}/registry/tests")
+sys.path.insert(0, f"{TOP}/registryd/tests")
 from images import image
 from server import Server, free_port, sha256
 
@@ -26,7 +26,7 @@ http: {addr: "%s"}
 
 
 class Ours:
-    """registryd over blobd, fresh."""
+    """A new registryd over blobd."""
     rest = "0"
 
     def __init__(self, folder):
@@ -39,12 +39,12 @@ class Ours:
 
 
 class Unswept(Ours):
-    """registryd over blobd, fresh, whose collector rests."""
+    """A new registryd over blobd that does not sweep during a measure."""
     rest = "1000000"
 
 
 class Theirs:
-    """docker-registry over files, fresh."""
+    """A new docker-registry over files."""
 
     def __init__(self, folder):
         self.address = f"127.0.0.1:{free_port()}"
@@ -68,7 +68,7 @@ class Theirs:
 
 
 class Least:
-    """A process that takes a PUT's bytes into memory and hashes them by OpenSSL meanwhile, and sends them to a GET."""
+    """A process that reads a PUT's bytes into memory while OpenSSL hashes them, and sends them to a GET."""
 
     def __init__(self, folder):
         listener = socket.create_server(("127.0.0.1", 0))
@@ -132,7 +132,7 @@ def peak(pids):
 
 
 def together(*commands):
-    """Runs commands side by side, each of which has to end well."""
+    """Runs commands at the same time. Each has to succeed."""
     running = [subprocess.Popen(words, stdout=subprocess.DEVNULL, stderr=subprocess.PIPE) for words in commands]
     for child in running:
         error = child.communicate()[1]
@@ -148,7 +148,7 @@ def pull(server, name, folder):
 
 
 def of_images(sizes, count=1):
-    """Pushes so many images with layers of these sizes at once, and pulls them."""
+    """Pushes `count` images with layers of these sizes at the same time, and pulls them."""
     def play(server, folder, timed):
         names = [f"i{n}" for n in range(count)]
         for n, name in enumerate(names):
@@ -172,7 +172,7 @@ def of_one_put(size):
         at += ("&" if "?" in at else "?") + f"digest={sha256(data)}"
         timed("PUT", lambda: together(["curl", "-sSf", "-H", "Content-Type: application/octet-stream", "-H", "Expect:", "-X", "PUT", "-T", path, at]))
         get = ["curl", "-sSf", "-o", "/dev/null", f"http://{server.address}/v2/acme/a/blobs/{sha256(data)}"]
-        # (the first takes either server a second, of which its own programs have less than a third)
+        # The first GET takes either server a second, of which its own programs use less than a third.
         together(get)
         timed("GET", lambda: together(get))
     return play
@@ -205,13 +205,13 @@ MEASURES = {
 
 
 def measured(make, play):
-    """The wall and processor time of each part of a measure, and the server's peak of memory."""
+    """Returns the wall time and the processor time of each part of a measure, and the server's peak memory."""
     parts = {}
     with tempfile.TemporaryDirectory() as folder:
         server = make(folder)
 
         def timed(name, part):
-            # (the disk is done with what came before, on whose account no part is to wait)
+            # Earlier writes reach the disk here, so that no part waits for them.
             os.sync()
             before, begun = processor_time(server.pids), time.time()
             part()
@@ -227,17 +227,17 @@ def measured(make, play):
 def main():
     options = argparse.ArgumentParser(description=__doc__)
     options.add_argument("--runs", type=int, default=3)
-    besides = options.add_mutually_exclusive_group()
-    besides.add_argument("--beside-unswept", action="store_true")
-    besides.add_argument("--beside-least", action="store_true")
+    others = options.add_mutually_exclusive_group()
+    others.add_argument("--with-unswept", action="store_true")
+    others.add_argument("--with-least", action="store_true")
     options.add_argument("measures", nargs="*", metavar="MEASURE", help=" | ".join(MEASURES))
     options = options.parse_args()
-    other = Unswept if options.beside_unswept else Least if options.beside_least else Theirs
-    if options.beside_least:
+    other = Unswept if options.with_unswept else Least if options.with_least else Theirs
+    if options.with_least:
         options.measures = ["a blob of 200 MiB"]
     for program in ("skopeo", "docker-registry"):
         if not shutil.which(program):
-            sys.exit(f"there is no {program}: apt-get install {program}")
+            sys.exit(f"bench/registry.py: cannot find {program}: run apt-get install {program}")
     print(f"{'':44} {'ours':>8} {'theirs':>8} {'ratio':>6}   {'processor time':>16}   memory, MiB")
     for name in options.measures or MEASURES:
         runs = [(measured(Ours, MEASURES[name]), measured(other, MEASURES[name])) for _ in range(options.runs)]

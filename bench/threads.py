@@ -1,10 +1,10 @@
 #!/usr/bin/env python3
-"""What several workers gain.
+"""Measures the speedup of several workers.
 
-Each workload is one script, played with 1, 2 and 4 workers. It has four lanes, each of a tenant of its own, so that
-the workers share nothing but the store. The lines of a workload tell the median and the least of the wall times, in
-milliseconds, for each number of workers, and how many times as fast as one worker the most are. The whole script is
-read and parsed by one thread before it is played; the line "read and refused" is what that takes of an upload.
+Each workload is one script, run with 1, 2 and 4 workers. It has four lanes, each with a tenant of its own, so that the
+workers share only the store. The output has the median and the minimum of the wall times in milliseconds for each
+number of workers, and the speedup of the largest number. One thread reads and parses the entire script before it is
+run. The workload "read and refused" measures this time for an upload.
 
     bench/threads.py [--mib N] [--runs N] [WORKLOAD..]
 """
@@ -21,12 +21,12 @@ TENANTS = [f"t{lane}" for lane in range(LANES)]
 
 
 def lanes_in_turn(rows_of):
-    """The rows of each lane, one of each lane in turn."""
+    """Returns the rows of the lanes, one of each lane in turn."""
     return "".join(row for turn in zip(*(rows_of(lane) for lane in range(LANES))) for row in turn)
 
 
 def uploads(mib, session=1):
-    """So many MiB over the lanes, each a session of chunks of a MiB that is closed. Session 2 isn't there."""
+    """Uploads `mib` MiB in all lanes, each a session of chunks of a MiB that is closed. Session 2 does not exist."""
 
     def rows_of(lane):
         repo, body = f"{TENANTS[lane]}/one", "abcd"[lane] * CHUNK
@@ -40,7 +40,7 @@ def uploads(mib, session=1):
 
 
 def small(count):
-    """So many rows: small blobs stored, mounted, and deleted from where they came."""
+    """Returns `count` rows: small blobs are stored, mounted, and deleted from the first repository."""
 
     def rows_of(lane):
         one, two = f"{TENANTS[lane]}/one", f"{TENANTS[lane]}/two"
@@ -66,9 +66,9 @@ def workloads(mib):
 
 def main():
     words = argparse.ArgumentParser(description=__doc__, formatter_class=argparse.RawDescriptionHelpFormatter)
-    words.add_argument("--mib", type=int, default=160, help="the length of all uploads in MiB (160)")
-    words.add_argument("--runs", type=int, default=9, help="how many runs of each, taken in turn (9)")
-    words.add_argument("workload", nargs="*", help="refused, uploads, small (all)")
+    words.add_argument("--mib", type=int, default=160, help="total length of the uploads in MiB (160)")
+    words.add_argument("--runs", type=int, default=9, help="number of runs of each, in turn (9)")
+    words.add_argument("workload", nargs="*", help="workloads: refused, uploads, small (all)")
     options = words.parse_args()
     known = workloads(options.mib)
     limits = ["--slots", "65536", "--max-blob", str(1 << 30), *(f"{tenant}={1 << 40}" for tenant in TENANTS)]

@@ -1,4 +1,4 @@
-//! The book: tenants, repositories, links, manifests, sessions and slots.
+//! The state of the store: tenants, repositories, links, manifests, sessions and slots.
 
 use crate::digest::{Digest, Hashes};
 use crate::manifest::Manifest;
@@ -60,7 +60,7 @@ impl fmt::Display for Refusal {
     }
 }
 
-/// What a session has received.
+/// The bytes that a session has received.
 #[derive(Default)]
 pub struct Upload {
     pub bytes: Vec<u8>,
@@ -71,7 +71,7 @@ struct Session {
     repo: String,
     received: u64,
     reserved: u64,
-    /// Nothing while it is in hand.
+    /// None while the session is checked out.
     upload: Option<Upload>,
 }
 
@@ -110,7 +110,7 @@ pub enum Mount {
     Session(u32),
 }
 
-/// A reader's hold: the bytes, and a share of the weight on its slot.
+/// A lease: the bytes, and a share of the slot's weight.
 pub struct Lease {
     pub blob: Arc<Vec<u8>>,
     weights: Arc<Vec<AtomicU64>>,
@@ -149,7 +149,7 @@ pub struct Book {
 }
 
 impl Tenant {
-    /// A repository, which appears where it isn't there yet.
+    /// Returns a repository, and creates it first if it does not exist.
     fn appear(&mut self, repo: &str) -> Result<&mut Repo, Refusal> {
         if !self.repos.contains_key(repo) {
             if self.repos.len() >= MAX_REPOS {
@@ -184,7 +184,7 @@ impl Tenant {
         }
     }
 
-    /// Links a blob, and answers whether the link is new.
+    /// Links a blob, and returns whether the link is new.
     fn link(&mut self, repo: &str, digest: Digest, size: u64) -> Result<bool, Refusal> {
         if self.appear(repo)?.blobs.insert(digest, size).is_some() {
             return Ok(false);
@@ -234,7 +234,7 @@ impl Book {
         Ok(self.tenant(repo)?.session(repo, number)?.received)
     }
 
-    /// Takes a session in hand for a chunk.
+    /// Checks out a session for a chunk.
     pub fn take(&mut self, repo: &str, number: u32, range: Option<(u64, u64)>, len: u64) -> Result<Upload, Refusal> {
         let max_blob = self.max_blob;
         let tenant = self.tenant(repo)?;
@@ -258,7 +258,7 @@ impl Book {
         Ok(upload)
     }
 
-    /// Brings a session home, with what it received meanwhile.
+    /// Checks in a session, with the bytes that it received meanwhile.
     pub fn put_back(&mut self, repo: &str, number: u32, upload: Upload) -> u64 {
         let tenant = self.tenant(repo).ok().expect("the tenant stays");
         let session = tenant.sessions.get_mut(&number).expect("who has it in hand keeps it");
@@ -272,7 +272,7 @@ impl Book {
         received
     }
 
-    /// Ends a session in hand: its bytes and the last chunk are kept under a digest that they have.
+    /// Ends a checked-out session: its bytes and the last chunk are stored under their digest.
     pub fn finish(
         &mut self,
         repo: &str,

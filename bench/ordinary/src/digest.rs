@@ -3,14 +3,14 @@
 use sha2::{Digest as _, Sha256, Sha512};
 use std::fmt;
 
-/// A digest; those by SHA-256 come first in the order of the texts.
+/// A digest. In the order of the texts, SHA-256 comes before SHA-512.
 #[derive(Clone, Copy, PartialEq, Eq, PartialOrd, Ord, Hash)]
 pub enum Digest {
     Sha256([u8; 32]),
     Sha512([u8; 64]),
 }
 
-/// The bytes that lower-case hexadecimal digits spell.
+/// Decodes lower-case hexadecimal digits.
 fn bytes<const N: usize>(text: &str) -> Option<[u8; N]> {
     if text.bytes().any(|c| c.is_ascii_uppercase()) {
         return None;
@@ -42,16 +42,16 @@ impl fmt::Display for Digest {
     }
 }
 
-/// Which algorithms hash a chunk as it comes.
+/// The algorithms that hash a chunk when it arrives.
 #[derive(Clone, Copy, PartialEq)]
 pub enum Hashing {
-    /// Both, so that a close by either has nothing left to hash.
+    /// Both, so that a close by either algorithm hashes only its last chunk.
     Both,
-    /// SHA-256 alone; SHA-512 where a close asks for it.
+    /// Only SHA-256. SHA-512 is computed if a close uses it.
     Late,
 }
 
-/// The hash of a session's bytes: by SHA-256 of all as they come, by SHA-512 of all or of as many as a close asked for.
+/// The hash of a session's bytes: SHA-256 of all, and SHA-512 of all or of those that a close has hashed.
 #[derive(Clone, Default)]
 pub struct Hashes {
     sha256: Sha256,
@@ -68,7 +68,7 @@ impl Hashes {
         }
     }
 
-    /// The digest, of the algorithm of the wanted one, of the session's bytes and a last chunk.
+    /// Returns the digest of the session's bytes and a last chunk, by the algorithm of `wanted`.
     pub fn digest(&mut self, session: &[u8], last: &[u8], wanted: &Digest, hashing: Hashing) -> Digest {
         if hashing == Hashing::Both {
             let mut whole = self.clone();

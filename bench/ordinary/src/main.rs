@@ -1,8 +1,7 @@
-//! The program of `docs/FORMATS.md` as one would write it in ordinary Rust: `HashMap`s and `BTreeMap`s, one `Mutex`
-//! around the book, an atomic word for each slot, and no use in giving memory back at the end. Nothing of it is proved.
-//! It is what `bench/ordinary.py` compares the processor time of `blobctl` with. With `--both-hashes` it hashes each chunk
-//! by SHA-256 and by SHA-512 as it comes, since a close may ask for either; else by SHA-512 only where a close does, as
-//! `blobctl` does.
+//! The program of `docs/SCRIPT.md` in ordinary Rust: `HashMap`s and `BTreeMap`s, one `Mutex` around the state, an atomic
+//! word for each slot. It does not free its memory at the end. Nothing of it is proved. `bench/ordinary.py` compares its
+//! processor time with that of `blobctl`. With `--both-hashes` it hashes each chunk by SHA-256 and SHA-512 on arrival,
+//! because a close may use either. Otherwise it uses SHA-512 only if a close does, as `blobctl` does.
 
 mod book;
 mod digest;
@@ -15,7 +14,7 @@ use digest::Hashing;
 use std::io::{self, Read, Write};
 use std::process::exit;
 
-/// What the command line says.
+/// The options and arguments of the command line.
 pub struct Options {
     pub slots: usize,
     pub max_blob: u64,
@@ -50,7 +49,7 @@ fn options() -> Option<Options> {
 
 fn main() {
     let Some(options) = options() else {
-        eprintln!("ordinary: wrong arguments");
+        eprintln!("ordinary: cannot read the arguments: not --slots, --max-blob, --both-hashes, --workers or TENANT=QUOTA");
         exit(2);
     };
     let mut script = Vec::new();
@@ -60,7 +59,7 @@ fn main() {
     let rows = match script::rows(&script) {
         Ok(rows) => rows,
         Err(number) => {
-            eprintln!("ordinary: bad row {number}");
+            eprintln!("ordinary: cannot read the script: bad row {number}");
             exit(1);
         }
     };

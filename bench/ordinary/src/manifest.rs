@@ -1,4 +1,4 @@
-//! Which bytes are a manifest, and what it refers to.
+//! Parses manifests and their references.
 
 use crate::digest::Digest;
 use serde_json::Value;
@@ -16,7 +16,7 @@ fn descriptor(value: &Value) -> Option<Digest> {
     Digest::parse(value.as_object()?.get("digest")?.as_str()?)
 }
 
-/// The digest of a layer, or nothing for one that is fetched from elsewhere.
+/// Returns the digest of a layer, or `Some(None)` for a layer that is fetched from elsewhere.
 fn layer(value: &Value) -> Option<Option<Digest>> {
     let urls = value.as_object().and_then(|layer| layer.get("urls")).and_then(Value::as_array);
     if urls.map_or(false, |urls| !urls.is_empty()) {

@@ -1,6 +1,6 @@
 //! Names of repositories and tenants.
 
-/// Whether a text is one or more runs of `a-z0-9`, joined by `.`, `_`, `__` or dashes.
+/// Returns whether a text consists of runs of `a-z0-9`, joined by `.`, `_`, `__` or dashes.
 pub fn is_component(text: &str) -> bool {
     let bytes = text.as_bytes();
     let is_plain = |c: u8| c.is_ascii_lowercase() || c.is_ascii_digit();

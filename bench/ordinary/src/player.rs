@@ -1,4 +1,4 @@
-//! Plays rows, by one worker or by several.
+//! Runs rows with one worker or several.
 
 use crate::book::{Book, Lease, Mount, Refusal, Swept};
 use crate::digest::{Digest, Hashing};
@@ -58,7 +58,7 @@ impl Reply {
     }
 }
 
-/// A number of a range: decimal digits of a value below 2^63.
+/// Parses an offset of a range: decimal digits of a value below 2^63.
 fn place(text: &str) -> Option<u64> {
     if text.is_empty() || !text.bytes().all(|c| c.is_ascii_digit()) {
         return None;
@@ -81,7 +81,7 @@ fn digest(text: &str) -> Result<Digest, Refusal> {
     Digest::parse(text).ok_or(Refusal::DigestInvalid)
 }
 
-/// A worker: the book that all share, and the leases of its lanes.
+/// A worker: the shared state, and the leases of its lanes.
 struct Worker<'a> {
     book: &'a Mutex<Book>,
     hashing: Hashing,
@@ -230,7 +230,7 @@ impl Worker<'_> {
         })
     }
 
-    /// The replies to the rows of this worker's lanes, each with its row's place.
+    /// Runs the rows of this worker's lanes, and returns each reply with the place of its row.
     fn play(mut self, rows: &[Row], number: usize, workers: usize) -> Vec<(usize, Reply)> {
         let mut replies = Vec::new();
         for (i, row) in rows.iter().enumerate() {
@@ -243,7 +243,7 @@ impl Worker<'_> {
     }
 }
 
-/// The replies to all rows, in their order, and the book after them.
+/// Runs all rows, and returns the replies in order and the state after them.
 pub fn play(rows: &[Row], book: Book, workers: usize, hashing: Hashing) -> (Vec<Reply>, Book) {
     let book = Mutex::new(book);
     let worker = || Worker {

@@ -1,6 +1,6 @@
-//! Reads a script's rows.
+//! Parses the rows of a script.
 
-/// What a row asks for.
+/// The command of a row.
 #[derive(Clone, Copy, PartialEq, Eq)]
 pub enum Verb {
     Start,
@@ -67,7 +67,7 @@ fn is_lease(text: &[u8]) -> bool {
     (1..=32).contains(&text.len()) && text.iter().all(|c| c.is_ascii_lowercase() || c.is_ascii_digit())
 }
 
-/// A field as text; what isn't UTF-8 is neither a name nor a digest nor a range, so it may as well be replaced.
+/// Returns a field as text. A field that is not UTF-8 is no valid name, digest or range, so invalid bytes are replaced.
 fn text(field: &[u8]) -> String {
     String::from_utf8_lossy(field).into_owned()
 }
@@ -109,7 +109,7 @@ fn row(record: &csv::ByteRecord) -> Option<Row> {
     })
 }
 
-/// The rows of a script, or the number of the first bad one.
+/// Returns the rows of a script, or the number of the first malformed one.
 pub fn rows(script: &[u8]) -> Result<Vec<Row>, usize> {
     let script = script.strip_prefix(b"\xef\xbb\xbf").unwrap_or(script);
     let mut reader = csv::ReaderBuilder::new().has_headers(false).flexible(true).from_reader(script);
