@@ -1,6 +1,7 @@
 -- The definitions on small literals.
 pub mod Commands
 pub mod Digests
+pub mod Durable
 pub mod Hands
 pub mod Histories
 pub mod Isolation

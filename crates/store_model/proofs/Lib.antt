@@ -1,4 +1,5 @@
 pub mod Commands
+pub mod Durable
 pub mod Examples
 pub mod Invariant
 pub mod Noninterference

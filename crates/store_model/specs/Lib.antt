@@ -2,12 +2,17 @@ pub mod Amounts
 pub mod BookText
 pub mod Catalog
 pub mod Commands
+pub mod Durable
 pub mod Hands
 pub mod Histories
 pub mod HistoryIsolation
 pub mod Invariant
+pub mod Lanes
 pub mod Noninterference
 pub mod Queries
+pub mod Recovery
+pub mod Replaying
+pub mod Restarts
 pub mod Runs
 pub mod Sessions
 pub mod Sweep

@@ -1,11 +1,22 @@
 //! States the theorems about the definitions. Each theorem is the contract of a function with an empty body.
 
+ghost use Rattle.store_model.specs.Durable.{LogsAgree, LogsGoOn, TornLogsAgree, WholeCommandsAreGenuine};
 ghost use Rattle.store_model.specs.HistoryIsolation.{
   HistoriesLeaveTheSameText,
   TenantsAreIsolatedInHistories,
 };
 ghost use Rattle.store_model.specs.Invariant.{CountsAreLinks, ReferencedStays, UsesAreDistinct};
+ghost use Rattle.store_model.specs.Lanes.{LanesAreGenuine};
 ghost use Rattle.store_model.specs.Noninterference.{TenantsAreIsolated, TextsAreTheSame};
+ghost use Rattle.store_model.specs.Recovery.{
+  FirstLogsAgree,
+  LogsAreWrittenAnew,
+  StoresLiveOn,
+  StoresRestart,
+  StoresRestartOtherwise,
+};
+ghost use Rattle.store_model.specs.Replaying.{ChangesAreReplayed, LogsRunAgain};
+ghost use Rattle.store_model.specs.Restarts.{HistoriesAreRunsFrom, TenantsAreAloneFrom};
 ghost use Rattle.store_model.specs.Runs.{RunsExist, RunsStaySound};
 ghost use Rattle.store_model.specs.WholeCommands.{HistoriesAreRuns};
 
@@ -76,4 +87,30 @@ pub fn isolation_of_histories()
 /// - Repository names have at most 255 bytes.
 pub fn whole_commands()
     ensures runs { HistoriesAreRuns }
+{}
+
+/// States what a log keeps of a history.
+pub fn durability()
+    ensures agree { LogsAgree }
+    ensures go_on { LogsGoOn }
+    ensures torn { TornLogsAgree }
+    ensures genuine { WholeCommandsAreGenuine }
+    ensures lanes { LanesAreGenuine }
+{}
+
+/// States what a store is after a restart.
+pub fn recovery()
+    ensures first { FirstLogsAgree }
+    ensures restart { StoresRestart }
+    ensures otherwise { StoresRestartOtherwise }
+    ensures live_on { StoresLiveOn }
+    ensures anew { LogsAreWrittenAnew }
+    ensures again { ChangesAreReplayed }
+    ensures runs { LogsRunAgain }
+{}
+
+/// States the theorems about histories of a store that was restarted.
+pub fn restarts()
+    ensures runs { HistoriesAreRunsFrom }
+    ensures alone { TenantsAreAloneFrom }
 {}

@@ -15,10 +15,10 @@ use Rattle.store_model.specs.declared.swept.Swept.{Swept}
 use Rattle.store_model.proofs.Examples.Digests.{abc, abc_bytes, abc_named}
 use Rattle.store_model.proofs.Examples.Sweeps.{is_only}
 
-abbrev repo : Text
+abbrev pub repo : Text
 repo = codes "acme/one"
 
-abbrev empty_store : Catalog
+abbrev pub empty_store : Catalog
 empty_store = opening (record { name = codes "acme"; quota = 9 } ∷ []) 1 10
 
 abbrev opened : Catalog
@@ -34,16 +34,16 @@ taken = with opened (CheckedOutWith 0 3)
 abbrev appended : Catalog
 appended = with taken (CheckedIn (abc_bytes ∷ []))
 
-abbrev taken_again : Catalog
+abbrev pub taken_again : Catalog
 taken_again = with appended (CheckedOutWith 3 0)
 
-abbrev closed : Catalog
+abbrev pub closed : Catalog
 closed = with_stored_blob taken_again 0 repo 1 abc abc_bytes
 
-abbrev first_hand : HandRecord
+abbrev pub first_hand : HandRecord
 first_hand = record { key = (0, 1); chunks = []; reserved = 3; last = None }
 
-abbrev second_hand : HandRecord
+abbrev pub second_hand : HandRecord
 second_hand = record { key = (0, 1); chunks = abc_bytes ∷ []; reserved = 0; last = None }
 
 started : start empty_store repo ≡ Ok (1, opened)
@@ -82,15 +82,15 @@ swept = record {
 }
 
 -- the steps of the history
-abbrev steps : List Step
+abbrev pub steps : List Step
 steps = CommandCall (Start repo) (Ok (Number 1)) ∷ TakeCall repo 1 None 3 (Ok first_hand) ∷ PutBackCall (record first_hand { last = Some abc_bytes }) (Ok 3) ∷ TakeCall repo 1 None 0 (Ok second_hand)
     ∷ FinishCall (record second_hand { last = Some [] }) abc (Ok 3) ∷ SweepCall none_swept ∷ []
 
-abbrev state : Catalog → ℕ → ℕ → ℕ → State
+abbrev pub state : Catalog → ℕ → ℕ → ℕ → State
 state C commands received closed = record { catalog = C; totals = record { commands = commands; received = received; closed = closed; abandoned = 0 } }
 
 -- It leads to one blob of three bytes, with three commands counted.
-legal : LeadsTo empty_store steps (state closed 3 3 3)
+pub legal : LeadsTo empty_store steps (state closed 3 3 3)
 legal = (state opened 1 0 0, record { leaves = rw started refl; counts = refl }, by_chunk)
   where
     by_sweep : AreSteps (state closed 3 3 3) (SweepCall none_swept ∷ []) (state closed 3 3 3)

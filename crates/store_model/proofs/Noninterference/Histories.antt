@@ -171,11 +171,11 @@ module _ (content : Text → Text) (t : ℕ) where
 -- ---- a history
 
 -- a tenant's view after a history, by its own steps from another catalog
-record Follows (content : Text → Text) (t : ℕ) (C' D : Catalog) (own : List Step) : Type 0 where
-  replies : isolated_steps D (requests_of own) ≡ own
-  alike : Alike t C' (catalog_after_requests D (requests_of own))
-  consistent : Consistent content C'
-  consistent_alone : Consistent content (catalog_after_requests D (requests_of own))
+pub record Follows (content : Text → Text) (t : ℕ) (C' D : Catalog) (own : List Step) : Type 0 where
+  pub replies : isolated_steps D (requests_of own) ≡ own
+  pub alike : Alike t C' (catalog_after_requests D (requests_of own))
+  pub consistent : Consistent content C'
+  pub consistent_alone : Consistent content (catalog_after_requests D (requests_of own))
 
 module _ (content : Text → Text) (tenants : List Tenant) (t : ℕ) where
   -- the rest of the tenant's steps, from any catalogs that are equivalent for it
@@ -206,7 +206,7 @@ module _ (content : Text → Text) (tenants : List Tenant) (t : ℕ) where
     and_any owned are step leaves free fits false is =
         rest D (alike_through t mid s.catalog D (leaves_of (λ X. Alike t X s.catalog) s step mid leaves (unseen_step t s.catalog owned step (ap (λ ts. is_step_of ts t step) are ∙ is))) alike) d
 
-  follows : (steps : List Step) (s s' : State) (D : Catalog) → s.catalog.tenants ≡ tenants → (run : AreSteps s steps s') → Fits content (uploads_of_history s steps s' run) → Alike t s.catalog D → Consistent content s.catalog → Owned s.catalog →
+  pub follows : (steps : List Step) (s s' : State) (D : Catalog) → s.catalog.tenants ≡ tenants → (run : AreSteps s steps s') → Fits content (uploads_of_history s steps s' run) → Alike t s.catalog D → Consistent content s.catalog → Owned s.catalog →
       Consistent content D → AreOwnReplies tenants t s steps s' run → Follows content t s'.catalog D (steps_of tenants t steps)
   follows [] s s' D are run fits alike c owned d free = record {
     replies = refl;

@@ -314,7 +314,7 @@ all_home hands C m home none = λ i. record C { sessions = sessions_same i }
     sessions_same : C.sessions ≡ m
     sessions_same = same_map number_cmp_total exact_number C.sessions m (λ k. at k (get C.sessions k) (get hands k) (get m k) (ap (λ x. get x k) none ∙ get-empty session_number_cmp k) (home k))
 
-whole : (steps : List Step) (s s' : State) (hands : CheckedOutSessions) (m : Sessions) (events : List Event) → AtHome hands s.catalog m → Sound s.catalog → (run : AreSteps s steps s') → AreContentionFree s steps s' run → AreWholeCommands hands steps events →
+pub whole : (steps : List Step) (s s' : State) (hands : CheckedOutSessions) (m : Sessions) (events : List Event) → AtHome hands s.catalog m → Sound s.catalog → (run : AreSteps s steps s') → AreContentionFree s steps s' run → AreWholeCommands hands steps events →
     AllByRecursion HasShortName events → IsRun (record s.catalog { sessions = m }) events s'.catalog
 whole [] s s' hands m events home sound run calm are named =
     subst (λ es. IsRun (record s.catalog { sessions = m }) es s'.catalog) (sym are.1) (ap (λ (x : State). x.catalog) run ∙ all_home hands s.catalog m home are.0)

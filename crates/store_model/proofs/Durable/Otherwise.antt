@@ -1,0 +1,126 @@
+-- A store that is restored with another setting is sound where what a restart looks at holds.
+use Rattle.std.proofs.Common.{◌≡◌, ℕ, ◌<◌, ◌≤◌, ◌^◌, List, length, map, Some, refl, sym, ap, ◌∙◌, subst, arith}
+use Rattle.std.specs.Prelude.{IsSome, count_by, nat_eq, position}
+use Rattle.std.specs.Option.{option_eq}
+use Rattle.std.specs.List.{AllByRecursion}
+use Rattle.std.specs.List.Sorted.{IsStrictlySortedBy}
+use Rattle.std.specs.FinMap.{empty, get}
+use Rattle.std.proofs.lemmas.List.{length-map}
+use Rattle.spec_lib.specs.Sets as set
+use Rattle.spec_lib.specs.Texts.{Text, same_text, text_cmp}
+use Rattle.spec_lib.proofs.Rows.{position-map}
+use Rattle.store_model.specs.Catalog.{Catalog, SessionNumber, Session, Tenant, charged_length, is_repo_of_tenant, tenant_name, tenant_of}
+use Rattle.store_model.specs.Durable.{Agrees, Durable, Takings}
+use Rattle.store_model.specs.Invariant.{AreWellFormedNumbers, AreWellFormedRepositories, AreWithinLimits, WellFormed, WellFormedSession, Sound}
+use Rattle.store_model.specs.Recovery.{CanRestore, StoresRestartOtherwise, blobs_of, resident_of, restored, with_quotas}
+use Rattle.store_model.proofs.Durable.Restored.{agrees as agrees_there, content, kept_blob}
+use Rattle.store_model.proofs.Durable.Uses.{open_less, was_open}
+
+-- ---- tenants of the same names
+
+module _ (ts us : List Tenant) (names : map (λ t. t.name) ts ≡ map (λ t. t.name) us) where
+  same_tenant : (r : Text) → tenant_of ts r ≡ tenant_of us r
+  same_tenant r =
+      sym (position-map (λ n. same_text n (tenant_name r)) (λ (t : Tenant). t.name) ts) ∙ ap (position (λ n. same_text n (tenant_name r))) names
+      ∙ position-map (λ n. same_text n (tenant_name r)) (λ (t : Tenant). t.name) us
+
+  same_owner : (t : ℕ) (r : Text) → is_repo_of_tenant ts t r ≡ is_repo_of_tenant us t r
+  same_owner t r = ap (λ o. option_eq nat_eq o (Some t)) (same_tenant r)
+
+  same_length : length ts ≡ length us
+  same_length = sym (length-map ts (λ (t : Tenant). t.name)) ∙ ap length names ∙ length-map us (λ (t : Tenant). t.name)
+
+  repositories : (present : set.Set text_cmp) → AreWellFormedRepositories us present → AreWellFormedRepositories ts present
+  repositories present all = record {
+    owned = λ r there. subst (λ o. IsSome o) (sym (same_tenant r)) (all.owned r there);
+    few = λ t. subst (λ n. n ≤ 1024) (sym (λ i. count_by (λ r. same_owner t r i) (set.items present))) (all.few t);
+    short_names = all.short_names;
+  }
+
+  numbers : (next : List ℕ) → AreWellFormedNumbers us next → AreWellFormedNumbers ts next
+  numbers next all = record {
+    one_each = all.one_each ∙ sym same_length;
+    from_one = λ t there. all.from_one t (subst (λ n. t < n) same_length there);
+    few = all.few;
+  }
+
+  limits : (longest longer : ℕ) → longer ≤ 2 ^ 40 → AllByRecursion (λ t. t.quota ≤ 2 ^ 50) ts → AreWithinLimits us longest → AreWithinLimits ts longer
+  limits longest longer small quotas all = record {
+    tenants = subst (λ n. (0 < n) × (n ≤ 256)) (sym same_length) all.tenants;
+    names_rise = subst (λ ns. IsStrictlySortedBy text_cmp ns) (sym names) all.names_rise;
+    max_blob = small;
+    quotas = quotas;
+  }
+
+-- ---- what is restored
+
+module _ (taken : Takings) (D : Durable) (C : Catalog) (a : Agrees taken D C) (lawful : WellFormed C) (tenants : List Tenant) (slots max_blob : ℕ) (can : CanRestore D tenants slots max_blob) where
+  abbrev R : Catalog
+  R = record C { tenants = tenants; slots = slots; max_blob = max_blob; sessions = D.sessions; residents = blobs_of D; retired = 0 }
+
+  is_restored : R ≡ restored (with_quotas D tenants) slots max_blob
+  is_restored = λ i. record {
+    tenants = tenants;
+    slots = slots;
+    max_blob = max_blob;
+    repos = sym a.repos i;
+    links = sym a.links i;
+    manifests = sym a.manifests i;
+    sessions = D.sessions;
+    next = sym a.next i;
+    residents = blobs_of D;
+    retired = 0;
+  }
+
+  names : map (λ t. t.name) tenants ≡ map (λ t. t.name) C.tenants
+  names = can.names ∙ ap (λ ts. map (λ (t : Tenant). t.name) ts) a.tenants
+
+  agrees : Agrees empty (with_quotas D tenants) R
+  agrees = let there = agrees_there taken D C a slots max_blob in record {
+    tenants = refl;
+    repos = there.repos;
+    links = there.links;
+    manifests = there.manifests;
+    next = there.next;
+    sessions = there.sessions;
+    contents = there.contents;
+    linked_in = there.linked_in;
+    uploaded_to = there.uploaded_to;
+  }
+
+  session : (key : SessionNumber) (s : Session) → get D.sessions key ≡ Some s → WellFormedSession R key s
+  session key s found =
+      let was = was_open taken D C a key s found in
+      let old = lawful.sessions key was.0 was.2 in
+      subst (λ (x : Session). WellFormedSession R key x) (sym was.3) (record {
+        repo = old.repo;
+        tenant = same_owner tenants C.tenants names key.0 was.0.repo ∙ old.tenant;
+        chunks = was.4;
+        small = subst (λ (x : Session). charged_length x ≤ max_blob) was.3 (can.small key s found);
+        positive = old.positive;
+        number = old.number;
+      })
+
+  is_lawful : WellFormed R
+  is_lawful = record {
+    content = content taken D C a slots max_blob lawful;
+    links = λ l h. let k = kept_blob taken D C a l h in record { repo = a.linked_in l h; kept = (resident_of k.0.bytes, k.3, refl) };
+    manifests = lawful.manifests;
+    sessions = session;
+    repositories = repositories tenants C.tenants names C.repos lawful.repositories;
+    numbering = numbers tenants C.tenants names C.next lawful.numbering;
+    limits = limits tenants C.tenants names C.max_blob max_blob can.limit can.quotas lawful.limits;
+    few_sessions = λ t. let less = open_less taken D C a t in let few = lawful.few_sessions t in omega arith;
+    few_manifests = lawful.few_manifests;
+  }
+
+  is_sound : Sound (restored (with_quotas D tenants) slots max_blob)
+  is_sound = record {
+    lawful = subst (λ X. WellFormed X) is_restored is_lawful;
+    quotas = can.uses;
+    slots = (let fit = can.fit in record { some = can.some.0; few = can.some.1; fit = omega arith });
+  }
+
+pub stores_restart_otherwise : StoresRestartOtherwise
+stores_restart_otherwise taken D C a lawful tenants slots max_blob can =
+    (is_sound taken D C a lawful tenants slots max_blob can, subst (λ X. Agrees empty (with_quotas D tenants) X) (is_restored taken D C a lawful tenants slots max_blob can) (agrees taken D C a lawful tenants slots max_blob can))

@@ -1,0 +1,74 @@
+-- The laws of histories from any sound catalog: what they were proved with, begun there.
+use Rattle.std.proofs.Common.{◌≡◌, Bool, true, false, cond, List, [], ◌∷◌, ◌++◌, map, Option, Some, None, is_some, refl, sym, ap, ◌∙◌, subst}
+use Rattle.std.specs.Cmp.{Equal-is}
+use Rattle.std.specs.Ordering.{eq_by_cmp}
+use Rattle.std.specs.FinMap.{empty, entries, find, get, get-empty, get-entries}
+use Rattle.std.proofs.lemmas.Map.Lookups.{exact_bytes}
+use Rattle.spec_lib.specs.Texts.{Text, text_cmp}
+use Rattle.spec_lib.proofs.Options.{nothing, some_none, some_same}
+use Rattle.store_model.specs.Catalog.{Catalog, Chunks, CheckedIn, CheckedOutWith, SessionNumber, Resident, Session, session_number_cmp}
+use Rattle.store_model.specs.Durable.{Agrees, Durable, HasChunks, IsSession}
+use Rattle.store_model.specs.Histories.{initial_state}
+use Rattle.store_model.specs.HistoryIsolation.{uploads_of_history, catalog_after_requests, requests_of, steps_of}
+use Rattle.store_model.specs.Invariant.{WellFormed}
+use Rattle.store_model.specs.Restarts.{HistoriesAreRunsFrom, TenantsAreAloneFrom, blobs_with}
+use Rattle.store_model.specs.Sessions.{are_checked_in}
+use Rattle.store_model.proofs.Invariant.SessionTenants.{session_owner}
+use Rattle.store_model.proofs.Noninterference.Hands.{Owned}
+use Rattle.store_model.proofs.Noninterference.Histories.{Follows, follows}
+use Rattle.store_model.proofs.Noninterference.LocalRespect.{alike_itself}
+use Rattle.store_model.proofs.Noninterference.Runs.{content_of, fits_both, fits_content, same_part}
+use Rattle.store_model.proofs.Noninterference.SameFor.{Consistent}
+use Rattle.store_model.proofs.Noninterference.StepConsistency.{Fits}
+use Rattle.store_model.proofs.WholeCommands.AtHome.{AreOne, AtHome}
+use Rattle.store_model.proofs.WholeCommands.Histories.{whole}
+
+-- ---- whole commands
+
+module _ (D : Durable) (C : Catalog) (a : Agrees empty D C) where
+  home : (k : SessionNumber) (x : Chunks) (chunks : List Text) → HasChunks (get {R = session_number_cmp} empty k) x chunks → are_checked_in x ≡ true
+  home k (CheckedIn cs) chunks is = refl
+  home k (CheckedOutWith n m) chunks is = nothing (get-empty session_number_cmp k) is.1
+
+  all_home : AtHome empty C C.sessions
+  all_home k = subst (λ o. AreOne C.tenants C.max_blob k (get C.sessions k) o (get C.sessions k)) (sym (get-empty session_number_cmp k)) (by (get C.sessions k) (a.sessions k))
+    where
+      by : (o : Option Session) → IsSession (get {R = session_number_cmp} empty k) (get D.sessions k) o → AreOne C.tenants C.max_blob k o None o
+      by None is = refl
+      by (Some s) is = (home k s.chunks is.0 is.3, refl)
+
+pub histories_are_runs_from : HistoriesAreRunsFrom
+histories_are_runs_from D C steps s events a sound run calm are named = whole steps (initial_state C) s empty C.sessions events (all_home D C a) sound run calm are named
+
+-- ---- tenants alone
+
+-- what fits each entry fits each that is found
+fits_found : (content : Text → Text) (es : List (Text × Resident)) → Fits content (map {B = Text × Text} (λ e. (e.0, e.1.bytes)) es) → (d : Text) (b : Resident) → find text_cmp d es ≡ Some b → b.bytes ≡ content d
+fits_found content [] fits d b found = some_none (sym found)
+fits_found content (e ∷ es) fits d b found = by (eq_by_cmp text_cmp d e.0) refl found (fits_found content es fits.1 d b)
+  where
+    by : (x : Bool) → eq_by_cmp text_cmp d e.0 ≡ x → cond x (Some e.1) (find text_cmp d es) ≡ Some b → (find text_cmp d es ≡ Some b → b.bytes ≡ content d) → b.bytes ≡ content d
+    by true tie is later = ap (λ (y : Resident). y.bytes) (sym (some_same is)) ∙ sym fits.0 ∙ ap content (sym (exact_bytes d e.0 ((Equal-is (text_cmp d e.0)).0 tie)))
+    by false tie is later = later is
+
+consistent_from : (content : Text → Text) (C : Catalog) → WellFormed C → Fits content (blobs_with C) → Consistent content C
+consistent_from content C lawful fits = record {
+  repos = lawful.repositories.owned;
+  links = λ l has. (lawful.links l has).repo;
+  kept = λ l has. ap is_some (lawful.links l has).kept.1;
+  manifests = λ l b found. (lawful.manifests l b found).repo;
+  sessions = λ k s found. (lawful.sessions k s found).repo;
+  bytes = λ d b found. fits_found content (entries C.residents) fits d b (sym (get-entries C.residents d) ∙ found);
+}
+
+owned_from : (C : Catalog) → WellFormed C → Owned C
+owned_from C lawful k s found = session_owner C lawful k s found
+
+pub tenants_are_alone_from : TenantsAreAloneFrom
+tenants_are_alone_from C t steps s sound fair free =
+    let pairs = blobs_with C ++ uploads_of_history (initial_state C) steps s fair.run in
+    let content : Text → Text = content_of pairs in
+    let both = fits_both content (blobs_with C) (uploads_of_history (initial_state C) steps s fair.run) (fits_content pairs fair.no_collision) in
+    let c = consistent_from content C sound.lawful both.0 in
+    let h : Follows content t s.catalog C (steps_of C.tenants t steps) = follows content C.tenants t steps (initial_state C) s C refl fair.run both.1 (alike_itself t C) c (owned_from C sound.lawful) c free in
+    record { replies = h.replies; tenant_view = same_part content t s.catalog (catalog_after_requests C (requests_of (steps_of C.tenants t steps))) h.alike h.consistent h.consistent_alone }

@@ -1,0 +1,261 @@
+-- A history's log is run again by commands and sweeps: what was accepted finds room.
+use Rattle.std.proofs.Common.{◌≡◌, ◌≢◌, ℕ, ◌+◌, ◌-◌, ◌<◌, ◌≤◌, Bool, true, false, cond, not, List, [], ◌∷◌, ◌++◌, length, Option, Some, None, Ok, Err, refl, sym, ap, ◌∙◌, subst, arith}
+use Rattle.std.specs.Prelude.{◌&&◌, nat_le}
+use Rattle.std.specs.Option.{option_map_or}
+use Rattle.std.specs.List.{AllByRecursion, concat, cons_option, list_any, sum_by}
+use Rattle.std.specs.Cmp.Lexicographic.{nat_list_cmp_total}
+use Rattle.std.specs.FinMap.{contains_key, empty, entries, get, get-retain_keys, len, len-entries, len-remove, remove}
+use Rattle.std.proofs.lemmas.Bool.{and_parts, eqb-false, leb-false, lt-leb, lt-ltb, not-false}
+use Rattle.std.proofs.lemmas.Map.Lookups.{exact_bytes}
+use Rattle.blob_digest.specs.declared.range.ByteRange.{ByteRange}
+use Rattle.blob_digest.specs.declared.refusal.Refusal.TheVariants.{DigestInvalid, NameUnknown, StoreFull}
+use Rattle.blob_digest.specs.Digests.{is_digest_of}
+use Rattle.spec_lib.specs.Outcomes.{refuse}
+use Rattle.spec_lib.specs.Sets as set
+use Rattle.spec_lib.specs.Texts.{Text, same_text}
+use Rattle.spec_lib.proofs.Lists.{list_any_count, sum_by-ones, witness}
+use Rattle.spec_lib.proofs.Maps.{get-remove_other, term}
+use Rattle.spec_lib.proofs.Options.{nothing, some_none, some_same}
+use Rattle.spec_lib.proofs.Outcomes.{bound_ok, not_refused, some_of_ok}
+use Rattle.store_model.specs.Catalog.{Catalog, CheckedIn, SessionNumber, Resident, HandRecord, Tenant, link_count, holds, opening, tenant_of}
+use Rattle.store_model.specs.Commands.{chunk_length_check, close, finish, has_slot, is_digest_accepted, is_full_for, mount, has_same_bytes, start, session_of_hand, tenant, check_quota}
+use Rattle.store_model.specs.Durable.{Agrees, AreGenuine, Change, Durable, IsGenuine, Sealed, Takings, apply, blank, change_of, changes_of, chunk_change, command_change, filled_in, key_of, mount_change, taken_after}
+use Rattle.store_model.specs.Histories.{AreSteps, SweepCall, FinishCall, MayLeadTo, CommandCall, PutBackCall, State, Step, TakeCall, initial_state}
+use Rattle.store_model.specs.Invariant.{Sound}
+use Rattle.store_model.specs.Recovery.{IsProperStep}
+use Rattle.store_model.specs.Replaying.{HasRoom, IsReplayed, LogsRunAgain, RunsAgain, commands_for}
+use Rattle.store_model.specs.Runs as runs
+use Rattle.store_model.specs.Runs.{Answer, CommandEvent, Command, SweepEvent, outcome}
+use Rattle.store_model.specs.Sessions.{at_home, content_in, hand_content}
+use Rattle.store_model.specs.declared.mount.Mount.{Mount}
+use Rattle.store_model.specs.declared.mount.Mount.TheVariants as mounting
+use Rattle.store_model.specs.Sweep.{is_orphan}
+use Rattle.store_model.proofs.Commands.SomeSweep.{after, kept, some_sweep, swept}
+use Rattle.store_model.proofs.Commands.Sweep.{Sound-sweep}
+use Rattle.store_model.proofs.Commands.Hands.{checked_home}
+use Rattle.store_model.proofs.Durable.Agreement.{recorded}
+use Rattle.store_model.proofs.Durable.Commands.{answered_ok, kept_home}
+use Rattle.store_model.proofs.Durable.Histories.{blank_agrees, kept_hand, recorded_tenants, step_agrees, sweeps}
+use Rattle.store_model.proofs.Durable.LivesOn.{SameSetting, SameSlots, command_setting, left_ok, step_setting, step_sound}
+use Rattle.store_model.proofs.Durable.Replaying.{changes_are_replayed}
+use Rattle.store_model.proofs.Durable.Uses.{sum_within}
+
+-- ---- after a sweep
+
+module _ (taken : Takings) (D : Durable) (C : Catalog) (a : Agrees taken D C) (sound : Sound C) (R : Catalog) (b : Agrees empty D R) where
+  -- what a sweep leaves is linked
+  still_linked : (d : Text) (x : Resident) → get (kept R) d ≡ Some x → (is_orphan R d ≡ false) × (get R.residents d ≡ Some x)
+  still_linked d x found = by (is_orphan R d) refl
+    where
+      at : get (kept R) d ≡ cond (not (is_orphan R d)) (get R.residents d) None
+      at = get-retain_keys R.residents (λ q. not (is_orphan R q)) d (λ y tie. ap (λ (q : Text). not (is_orphan R q)) (sym (exact_bytes d y tie)))
+
+      by : (o : Bool) → is_orphan R d ≡ o → (is_orphan R d ≡ false) × (get R.residents d ≡ Some x)
+      by false is = (is, sym (at ∙ ap (λ o. cond (not o) (get R.residents d) None) is) ∙ found)
+      by true is = nothing (at ∙ ap (λ o. cond (not o) (get R.residents d) None) is) found
+
+  -- so it was there, with the same bytes
+  same_blob : (d : Text) (x : Resident) → get (kept R) d ≡ Some x → (y : Resident) × (get C.residents d ≡ Some y) × (x.bytes ≡ y.bytes)
+  same_blob d x found =
+      let here = still_linked d x found in
+      let some : list_any (λ r. holds R r d) (set.items R.repos) ≡ true = list_any_count (λ r. holds R r d) (set.items R.repos) ∙ lt-ltb 0 (link_count R d) (counted here.0) in
+      let w = witness (λ r. holds R r d) (set.items R.repos) some in
+      let there = b.contents (w.0, d) w.1 in
+      let was = a.contents (w.0, d) (ap (λ l. set.contains l (w.0, d)) (sym a.links ∙ b.links) ∙ w.1) in
+      (was.0, was.1, ap (λ (z : Resident). z.bytes) (some_same (sym here.1 ∙ there.1)) ∙ some_same (sym there.2 ∙ was.2))
+    where
+      counted : is_orphan R d ≡ false → 0 < link_count R d
+      counted linked = let some = eqb-false (link_count R d) 0 linked in omega (arith, some)
+
+  -- a blob that found a slot finds one again
+  fewer : (digest : Text) → get (kept R) digest ≡ None → len (kept R) ≤ len (remove C.residents digest)
+  fewer digest none =
+      let less = sum_within nat_list_cmp_total exact_bytes (λ (_ : Text × Resident). 1) (λ (_ : Text × Resident). 1) (kept R) (remove C.residents digest) (λ d. by d (get (kept R) d) refl) in
+      let one : len (kept R) ≡ sum_by (λ _. 1) (entries (kept R)) = len-entries (kept R) ∙ sym (sum_by-ones (entries (kept R))) in
+      let two : len (remove C.residents digest) ≡ sum_by (λ _. 1) (entries (remove C.residents digest)) = len-entries (remove C.residents digest) ∙ sym (sum_by-ones (entries (remove C.residents digest))) in
+      omega arith
+    where
+      by : (d : Text) (o : Option Resident) → get (kept R) d ≡ o → term (λ (_ : Text × Resident). 1) d o ≤ term (λ (_ : Text × Resident). 1) d (get (remove C.residents digest) d)
+      by d None found = omega arith
+      by d (Some x) found =
+          let was = same_blob d x found in
+          let other : d ≢ digest = (λ e. nothing none (ap (get (kept R)) (sym e) ∙ found)) in
+          let there : get (remove C.residents digest) d ≡ Some was.0 = get-remove_other nat_list_cmp_total exact_bytes C.residents digest d other ∙ was.1 in
+          subst (λ o. 1 ≤ term (λ (_ : Text × Resident). 1) d o) (sym there) (omega arith)
+
+  module _ (slots_are : R.slots ≡ C.slots) (none_retired : R.retired ≡ 0) (digest : Text) where
+    -- where a blob has a slot or finds one, there is one without it
+    left_over : is_full_for C digest ≡ false → len (remove C.residents digest) < C.slots
+    left_over free = by (contains_key C.residents digest) refl free
+      where
+        by : (x : Bool) → contains_key C.residents digest ≡ x → (not x && nat_le C.slots (len C.residents + C.retired)) ≡ false → len (remove C.residents digest) < C.slots
+        by true is free =
+            let less : len (remove C.residents digest) ≡ len C.residents - 1 = len-remove nat_list_cmp_total C.residents digest ∙ ap (λ x. cond x (len C.residents - 1) (len C.residents)) is in
+            let fit = sound.slots.fit in
+            let some = sound.slots.some in
+            omega arith
+        by false is free =
+            let same : len (remove C.residents digest) ≡ len C.residents = len-remove nat_list_cmp_total C.residents digest ∙ ap (λ x. cond x (len C.residents - 1) (len C.residents)) is in
+            let more = leb-false C.slots (len C.residents + C.retired) free in
+            omega arith
+
+    slot_again : is_full_for C digest ≡ false → has_slot (after R) digest ≡ Ok tt
+    slot_again free = ap (λ x. refuse x StoreFull) (by (get (kept R) digest) refl)
+      where
+        by : (o : Option Resident) → get (kept R) digest ≡ o → is_full_for (after R) digest ≡ false
+        by (Some x) found = rw found refl
+        by None found =
+            let less = fewer digest found in
+            let left = left_over free in
+            rw found (lt-leb R.slots (len (kept R) + (R.retired + 0)) (omega arith))
+
+    bytes_again : (whole : Text) → has_same_bytes (get C.residents digest) whole ≡ true → has_same_bytes (get (kept R) digest) whole ≡ true
+    bytes_again whole same = by (get (kept R) digest) refl
+      where
+        by : (o : Option Resident) → get (kept R) digest ≡ o → has_same_bytes o whole ≡ true
+        by None found = refl
+        by (Some x) found =
+            let was = same_blob digest x found in
+            ap (λ (y : Text). same_text y whole) was.2 ∙ ap (λ o. has_same_bytes o whole) (sym was.1) ∙ same
+
+-- ---- each change finds room after a sweep
+
+module _ (taken : Takings) (D : Durable) (s : State) (a : Agrees taken D s.catalog) (sound : Sound s.catalog) (R : Catalog) (b : Agrees empty D R) (slots_are : R.slots ≡ s.catalog.slots) (none_retired : R.retired ≡ 0) where
+  abbrev C : Catalog
+  C = s.catalog
+
+  -- what was sealed, of these chunks
+  sealed_room : (key : SessionNumber) (repo : Text) (chunks : List Text) (d last : Text) → get D.sessions key ≡ Some (record { repo = repo; chunks = CheckedIn chunks }) → has_slot C d ≡ Ok tt → has_same_bytes (get C.residents d) (concat chunks ++ last) ≡ true →
+      HasRoom D (after R) (Sealed key d last)
+  sealed_room key repo chunks d last found free same =
+      let whole : content_in D.sessions key last ≡ concat chunks ++ last = ap (λ o. concat (option_map_or (λ x. at_home x.chunks) o []) ++ last) found in
+      (slot_again taken D C a sound R b slots_are none_retired d (not_refused _ _ _ free), bytes_again taken D C a sound R b slots_are none_retired d (content_in D.sessions key last) (ap (has_same_bytes (get C.residents d)) whole ∙ same))
+
+  close_room : (r : Text) (n : ℕ) (d : Text) (g : Option ByteRange) (bytes : Text) (m : ℕ) (X : Catalog) → close C r n d g bytes ≡ Ok (m, X) → HasRoom D (after R) (Sealed (key_of D.tenants r n) d bytes)
+  close_room r n d g bytes m X is =
+      let t = bound_ok (tenant C r) _ (m, X) is in
+      let c = bound_ok (chunk_length_check C t.0 r n g (length bytes)) _ (m, X) t.2 in
+      let q = bound_ok (check_quota C t.0 (length bytes)) _ (m, X) c.2 in
+      let e = bound_ok (refuse (not (is_digest_accepted C d (content_in C.sessions (t.0, n) bytes))) DigestInvalid) _ (m, X) q.2 in
+      let f = bound_ok (has_slot C d) _ (m, X) e.2 in
+      let known = some_of_ok (tenant_of C.tenants r) NameUnknown t.0 t.1 in
+      let k = checked_home C t.0 n r g (length bytes) c.0 c.1 in
+      let kept_is = kept_home taken D C a t.0 n r (length bytes) k in
+      let same = (and_parts (is_digest_of d (content_in C.sessions (t.0, n) bytes)) (has_same_bytes (get C.residents d) (content_in C.sessions (t.0, n) bytes)) (not-false _ (not_refused _ _ _ e.1))).1 in
+      let whole : content_in C.sessions (t.0, n) bytes ≡ concat k.chunks ++ bytes = ap (λ o. concat (option_map_or (λ x. at_home x.chunks) o []) ++ bytes) k.found ∙ ap (λ x. concat (at_home x) ++ bytes) k.home in
+      named t.0 known (sealed_room (t.0, n) k.s.repo k.chunks d bytes kept_is.0 f.1 (ap (has_same_bytes (get C.residents d)) (sym whole) ∙ same))
+    where
+      named : (t : ℕ) → tenant_of C.tenants r ≡ Some t → HasRoom D (after R) (Sealed (t, n) d bytes) → HasRoom D (after R) (Sealed (key_of D.tenants r n) d bytes)
+      named t known room = subst (λ key. HasRoom D (after R) (Sealed key d bytes)) (sym (ap (λ o. (option_map_or (λ x. x) o 0, n)) (ap (λ ts. tenant_of ts r) a.tenants ∙ known))) room
+
+  finish_room : (h : HandRecord) → get taken h.key ≡ Some h.chunks → (d : Text) (n : ℕ) (X : Catalog) → finish C h d ≡ Ok (n, X) → HasRoom D (after R) (Sealed h.key d (filled_in h))
+  finish_room h genuine d n X is =
+      let c = bound_ok (session_of_hand (get C.sessions h.key) h) _ (n, X) is in
+      let e = bound_ok (refuse (not (is_digest_accepted C d (hand_content h))) DigestInvalid) _ (n, X) c.2 in
+      let f = bound_ok (has_slot C d) _ (n, X) e.2 in
+      let kept_is = kept_hand taken D C a h genuine c.0 c.1 in
+      let same = (and_parts (is_digest_of d (hand_content h)) (has_same_bytes (get C.residents d) (hand_content h)) (not-false _ (not_refused _ _ _ e.1))).1 in
+      sealed_room h.key c.0.repo h.chunks d (filled_in h) kept_is.1 f.1 same
+
+  -- no other change wants any
+  chunk_room : (key : SessionNumber) (bytes : Text) (change : Change) → chunk_change key bytes ≡ Some change → HasRoom D (after R) change
+  chunk_room key [] change is = some_none (sym is)
+  chunk_room key (x ∷ bytes) change is = subst (λ y. HasRoom D (after R) y) (some_same is) tt
+
+  mount_room : (r d : Text) (m : Mount) → HasRoom D (after R) (mount_change D.tenants r d m)
+  mount_room r d mounting.Mounted = tt
+  mount_room r d (mounting.Session n) = tt
+
+  command_room : (command : Command) (x : Answer) (X : Catalog) → outcome false C command ≡ Ok (x, X) → (change : Change) → command_change D.tenants command x ≡ Some change → HasRoom D (after R) change
+  command_room (runs.Start r) x X is change records =
+      let h = answered_ok runs.Number (start C r) x X is in
+      subst (λ y. command_change D.tenants (runs.Start r) y ≡ Some change → HasRoom D (after R) change) h.2 (λ e. subst (λ y. HasRoom D (after R) y) (some_same e) tt) records
+  command_room (runs.Status r n) x X is change records = some_none (sym records)
+  command_room (runs.Append r n g bytes) x X is change records = chunk_room (key_of D.tenants r n) bytes change records
+  command_room (runs.Close r n d g bytes) x X is change records =
+      let h = answered_ok runs.Number (close C r n d g bytes) x X is in
+      subst (λ y. HasRoom D (after R) y) (some_same records) (close_room r n d g bytes h.0 X h.1)
+  command_room (runs.Abandon r n) x X is change records = subst (λ y. HasRoom D (after R) y) (some_same records) tt
+  command_room (runs.Mount r d from) x X is change records =
+      let h = answered_ok runs.Mounting (mount C r d from) x X is in
+      subst (λ y. command_change D.tenants (runs.Mount r d from) y ≡ Some change → HasRoom D (after R) change) h.2 (λ e. subst (λ y. HasRoom D (after R) y) (some_same e) (mount_room r d h.0)) records
+  command_room (runs.Delete r d) x X is change records = subst (λ y. HasRoom D (after R) y) (some_same records) tt
+  command_room (runs.PutManifest r bytes) x X is change records = subst (λ y. HasRoom D (after R) y) (some_same records) tt
+  command_room (runs.GetManifest r m) x X is change records = some_none (sym records)
+  command_room (runs.DeleteManifest r m) x X is change records = subst (λ y. HasRoom D (after R) y) (some_same records) tt
+  command_room (runs.Lease r d) x X is change records = some_none (sym records)
+
+  step_room : (step : Step) (X : Catalog) → MayLeadTo s step X → IsGenuine taken step → (change : Change) → change_of D.tenants step ≡ Some change → HasRoom D (after R) change
+  step_room (CommandCall command (Ok x)) X leaves genuine change records = command_room command x X leaves change records
+  step_room (PutBackCall h (Ok n)) X leaves genuine change records = chunk_room h.key (filled_in h) change records
+  step_room (FinishCall h d (Ok n)) X leaves genuine change records = subst (λ y. HasRoom D (after R) y) (some_same records) (finish_room h genuine d n X leaves)
+  step_room (CommandCall command (Err e)) X leaves genuine change records = some_none (sym records)
+  step_room (SweepCall counts) X leaves genuine change records = some_none (sym records)
+  step_room (TakeCall r n g len reply) X leaves genuine change records = some_none (sym records)
+  step_room (PutBackCall h (Err e)) X leaves genuine change records = some_none (sym records)
+  step_room (FinishCall h d (Err e)) X leaves genuine change records = some_none (sym records)
+
+-- ---- a whole log
+
+-- a store that has what the log says, as one that never leased anything
+record IsAlike (D : Durable) (C R : Catalog) : Type 0 where
+  agrees : Agrees empty D R
+  sound : Sound R
+  slots : R.slots ≡ C.slots
+  limit : R.max_blob ≡ C.max_blob
+  retired : R.retired ≡ 0
+
+-- a sweep, the command for a change, and then the others
+first_again : (D : Durable) (R : Catalog) (change : Change) (changes : List Change) → (one : IsReplayed D (after R) change) → RunsAgain (apply D change) one.left changes → RunsAgain D R (change ∷ changes)
+first_again D R change changes one rest = record {
+  events = SweepEvent (swept R) ∷ CommandEvent one.command (Ok one.answer) ∷ rest.events;
+  left = rest.left;
+  run = (after R, some_sweep R, (one.left, one.accepted, rest.run));
+  asks = (λ i. one.command ∷ rest.asks i) ∙ ap (λ o. cons_option o (commands_for (apply D change) changes)) (sym one.names);
+  accepts = (refl, rest.accepts);
+  agrees = rest.agrees;
+  sound = rest.sound;
+}
+
+steps_again : (tenants : List Tenant) (steps : List Step) (taken : Takings) (D : Durable) (s s' : State) → Agrees taken D s.catalog → D.tenants ≡ tenants → Sound s.catalog → AreSteps s steps s' → AreGenuine taken steps → AllByRecursion IsProperStep steps →
+    (R : Catalog) → IsAlike D s.catalog R → RunsAgain D R (changes_of tenants steps)
+steps_again tenants [] taken D s s' a known sound run genuine right R alike = record { events = []; left = R; run = refl; asks = refl; accepts = tt; agrees = alike.agrees; sound = alike.sound }
+steps_again tenants (step ∷ steps) taken D s s' a known sound run genuine right R alike =
+    by (change_of tenants step) refl (steps_again tenants steps (taken_after taken step) (recorded D (change_of tenants step)) mid s' moved (recorded_tenants D (change_of tenants step) ∙ known) there run.2 genuine.1 right.1)
+  where
+    mid : State
+    mid = run.0
+
+    moved : Agrees (taken_after taken step) (recorded D (change_of tenants step)) mid.catalog
+    moved = subst (λ ts. Agrees (taken_after taken step) (recorded D (change_of ts step)) mid.catalog) (sym a.tenants ∙ known) (step_agrees taken D s step mid.catalog a run.1.leaves genuine.0)
+
+    there : Sound mid.catalog
+    there = step_sound taken D s step mid.catalog a run.1.leaves genuine.0 right.0 sound
+
+    setting : SameSetting s.catalog mid.catalog
+    setting = step_setting s step mid.catalog run.1.leaves
+
+    by : (o : Option Change) → change_of tenants step ≡ o → ((R' : Catalog) → IsAlike (recorded D (change_of tenants step)) mid.catalog R' → RunsAgain (recorded D (change_of tenants step)) R' (changes_of tenants steps)) →
+        RunsAgain D R (cons_option (change_of tenants step) (changes_of tenants steps))
+    by None is rest =
+        subst (λ o. RunsAgain D R (cons_option o (changes_of tenants steps))) (sym is)
+        (subst (λ o. ((R' : Catalog) → IsAlike (recorded D o) mid.catalog R' → RunsAgain (recorded D o) R' (changes_of tenants steps))) is rest R
+        (record { agrees = alike.agrees; sound = alike.sound; slots = alike.slots ∙ sym setting.0; limit = alike.limit ∙ sym setting.1; retired = alike.retired }))
+    by (Some change) is rest =
+        let records : change_of D.tenants step ≡ Some change = ap (λ ts. change_of ts step) known ∙ is in
+        let clean : Agrees empty D (after R) = sweeps empty D R (after R) (swept R) alike.agrees (some_sweep R) in
+        let clean_sound : Sound (after R) = Sound-sweep R (after R) (swept R) (some_sweep R) alike.sound.lawful alike.sound.quotas alike.sound.slots in
+        let free = step_room taken D s a sound R alike.agrees alike.slots alike.retired step mid.catalog run.1.leaves genuine.0 change records in
+        let one : IsReplayed D (after R) change = changes_are_replayed taken D s step mid.catalog change (after R) a sound run.1.leaves genuine.0 right.0 records clean clean_sound alike.limit free in
+        let same = left_ok (SameSlots (after R)) (outcome false (after R) one.command) one.answer one.left (command_setting (after R) one.command) one.accepted in
+        let none : R.retired ≡ 0 = alike.retired in
+        let retired_is : one.left.retired ≡ R.retired + 0 = same.2 in
+        subst (λ o. RunsAgain D R (cons_option o (changes_of tenants steps))) (sym is)
+        (first_again D R change (changes_of tenants steps) one
+        (subst (λ o. ((R' : Catalog) → IsAlike (recorded D o) mid.catalog R' → RunsAgain (recorded D o) R' (changes_of tenants steps))) is rest one.left
+        (record { agrees = one.agrees; sound = one.sound; slots = same.0 ∙ alike.slots ∙ sym setting.0; limit = same.1 ∙ alike.limit ∙ sym setting.1; retired = omega arith })))
+
+pub logs_run_again : LogsRunAgain
+logs_run_again tenants slots max_blob steps s sound run genuine right =
+    steps_again tenants steps empty (blank tenants) (initial_state (opening tenants slots max_blob)) s (blank_agrees tenants slots max_blob) refl sound run genuine right (opening tenants slots max_blob)
+    (record { agrees = blank_agrees tenants slots max_blob; sound = sound; slots = refl; limit = refl; retired = refl })
