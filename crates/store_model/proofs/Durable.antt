@@ -1,16 +1,17 @@
--- What a log records of a history: replayed, it agrees with the catalog that the history leaves.
+-- The changes of a history, applied to a durable state, keep its agreement with the catalog.
 pub mod Agreement
-pub mod Anew
 pub mod Commands
+pub mod Crashes
 pub mod Folds
-pub mod Genuine
 pub mod Histories
 pub mod Lanes
-pub mod LivesOn
-pub mod Otherwise
+pub mod LogReplays
+pub mod OtherSettings
+pub mod Pairing
 pub mod Replaying
 pub mod Restarts
 pub mod Restored
-pub mod RunsAgain
+pub mod Rewriting
 pub mod Torn
 pub mod Uses
+pub mod WholeCommands

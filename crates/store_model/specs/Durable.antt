@@ -1,4 +1,4 @@
--- What of a store's history survives a restart: the durable state, the changes that a log records of it, and what they give when they are replayed.
+-- The durable state of a store, the changes of it that a log records, and the theorems about a log and the history that it records.
 use Rattle.std.specs.Prelude.{◌≡◌, ◌≢◌, ℕ, ◌+◌, true, Option, Some, None, Ok, List, [], ◌∷◌, ◌++◌, length, map, sum_by, fold, filter_map, slice_set, if◌then◌else◌}
 use Rattle.std.specs.Option.{option_map_or}
 use Rattle.std.specs.FinMap as fmap
@@ -6,203 +6,242 @@ use Rattle.std.specs.List.{AllByRecursion}
 use Rattle.blob_digest.specs.Digests.{sha256_text}
 use Rattle.spec_lib.specs.Sets as set
 use Rattle.spec_lib.specs.Texts.{Text, text_cmp}
-use Rattle.store_model.specs.Catalog.{Catalog, Chunks, CheckedIn, CheckedOutWith, Link, SessionNumber, Resident, Session, HandRecord, Tenant, link_cmp, session_number_cmp, opening, tenant_of}
-use Rattle.store_model.specs.Histories.{AreSteps, FinishCall, LeadsTo, CommandCall, PutBackCall, State, Step, TakeCall}
-use Rattle.store_model.specs.Runs.{Abandon, Answer, Append, Close, Command, Delete, DeleteManifest, Event, Mount, Mounting, Number as Numeral, PutManifest, Start}
+use Rattle.store_model.specs.Catalog.{Catalog, CheckedIn, CheckedOutWith, Chunks, HandRecord, Link, Resident, Session, SessionNumber, Tenant, link_cmp, opening, session_number_cmp, tenant_of}
+use Rattle.store_model.specs.Histories.{AreSteps, CommandCall, FinishCall, LeadsTo, PutBackCall, State, Step, TakeCall}
+use Rattle.store_model.specs.Runs.{Abandon, Answer, Append, Close, Command, Delete, DeleteManifest, Event, Mount, Mounting, Number, PutManifest, Start}
 use Rattle.store_model.specs.Sessions.{Sessions, after_append_in, content_in}
 use Rattle.store_model.specs.WholeCommands.{AreWholeCommands}
-use Rattle.store_model.specs.declared.mount.Mount.{Mount as Mounted}
-use Rattle.store_model.specs.declared.mount.Mount.TheVariants as mounting
+use Rattle.store_model.specs.declared.mount.Mount.{Mount as MountResult}
+use Rattle.store_model.specs.declared.mount.Mount.TheVariants as mount
 
--- ---- what survives
+-- ---- the durable state
 
--- What a log keeps of a store: tenants, repositories, links, manifests, each tenant's next session number, the open sessions with all that they have
--- received, whether in hand or not, and bytes by digest, of which those that are linked count. Not kept is what is lent, condemned, retired or reserved.
-pub record Durable : Type 0 where
+-- the durable state of a store: all that a restart restores
+pub record DurableState : Type 0 where
+  -- the tenants, in the order of their names
   pub tenants : List Tenant
+  -- the repositories
   pub repos : set.Set text_cmp
+  -- the links: pairs of a repository and a digest that it contains
   pub links : set.Set link_cmp
+  -- the manifests, by repository and digest
   pub manifests : fmap.FinMap link_cmp Text
+  -- the open sessions with all chunks that they received, also those that are checked out
   pub sessions : Sessions
+  -- each tenant's next session number
   pub next : List ℕ
+  -- the contents of blobs, by digest; a content without a link has no meaning
   pub contents : fmap.FinMap text_cmp Text
 
--- that of a store in which nothing was done
-abbrev pub blank : List Tenant → Durable
-blank tenants = record { tenants = tenants; repos = set.empty_set; links = set.empty_set; manifests = fmap.empty; sessions = fmap.empty; next = map (λ _. 1) tenants; contents = fmap.empty }
+-- the durable state of a new store
+abbrev pub initial_durable : List Tenant → DurableState
+initial_durable tenants = record {
+  tenants = tenants;
+  repos = set.empty_set;
+  links = set.empty_set;
+  manifests = fmap.empty;
+  sessions = fmap.empty;
+  next = map (λ _. 1) tenants;
+  contents = fmap.empty;
+}
 
 -- ---- changes
 
--- What one record of a log says. A step records at most one, so that a log cut off between two records is that of some of its first steps. The last
--- three are of a log that was written anew: a repository in which nothing is left, a tenant's next number, and bytes that are linked.
+-- a change of the durable state, which one record of a log describes; only a rewritten log has the last three kinds
 pub data Change : Type 0 where
-  Opened : Text → SessionNumber → Change
-  Received : SessionNumber → Text → Change
-  Sealed : SessionNumber → Text → Text → Change
-  Dropped : SessionNumber → Change
-  Linked : Text → Text → Change
-  Unlinked : Text → Text → Change
-  Described : Text → Text → Change
-  Forgotten : Text → Text → Change
-  Appeared : Text → Change
-  Counted : ℕ → ℕ → Change
-  Stored : Text → Text → Change
+  -- a session of a repository was opened under a key
+  SessionOpened : Text → SessionNumber → Change
+  -- a session received a chunk
+  ChunkReceived : SessionNumber → Text → Change
+  -- a session became a blob with this digest, and its repository links it; the last chunk is given
+  SessionSealed : SessionNumber → Text → Text → Change
+  -- a session was abandoned
+  SessionDropped : SessionNumber → Change
+  -- a repository linked a stored blob
+  BlobLinked : Text → Text → Change
+  -- a repository removed its link to a blob
+  BlobUnlinked : Text → Text → Change
+  -- a manifest was put into a repository
+  ManifestPut : Text → Text → Change
+  -- the manifest with this digest was deleted from a repository
+  ManifestDeleted : Text → Text → Change
+  -- a repository exists
+  RepoAdded : Text → Change
+  -- a tenant has this next session number
+  NumberSet : ℕ → ℕ → Change
+  -- a digest has this content
+  BlobStored : Text → Text → Change
 
--- a session of this repository becomes a blob that is linked there: its chunks, and then the last one
-abbrev pub sealed : Durable → SessionNumber → Text → Text → Session → Durable
-sealed D key digest last s = record D {
+-- the durable state after a repository's session became a blob that the repository links
+abbrev pub after_seal : DurableState → SessionNumber → Text → Text → Session → DurableState
+after_seal D key digest last s = record D {
   links = set.insert D.links (s.repo, digest);
   sessions = fmap.remove D.sessions key;
   contents = fmap.insert D.contents digest (content_in D.sessions key last);
 }
 
--- what a change leaves
-abbrev pub apply : Durable → Change → Durable
-apply D (Opened repo key) = record D {
+-- the durable state after a repository and a manifest in it were added
+abbrev pub with_new_manifest : DurableState → Text → Text → DurableState
+with_new_manifest D repo bytes = record D {
+  repos = set.insert D.repos repo;
+  manifests = fmap.insert D.manifests (repo, sha256_text bytes) bytes;
+}
+
+-- the durable state after a change
+abbrev pub after_change : DurableState → Change → DurableState
+after_change D (SessionOpened repo key) = record D {
   repos = set.insert D.repos repo;
   sessions = fmap.insert D.sessions key (record { repo = repo; chunks = CheckedIn [] });
   next = slice_set D.next key.0 (key.1 + 1);
 }
-apply D (Received key bytes) = record D { sessions = after_append_in D.sessions key bytes }
-apply D (Sealed key digest last) = option_map_or (sealed D key digest last) (fmap.get D.sessions key) D
-apply D (Dropped key) = record D { sessions = fmap.remove D.sessions key }
-apply D (Linked repo digest) = record D { repos = set.insert D.repos repo; links = set.insert D.links (repo, digest) }
-apply D (Unlinked repo digest) = record D { links = set.remove D.links (repo, digest) }
-apply D (Described repo bytes) =
-    if fmap.contains_key D.manifests (repo, sha256_text bytes) then D
-    else record D { repos = set.insert D.repos repo; manifests = fmap.insert D.manifests (repo, sha256_text bytes) bytes }
-apply D (Forgotten repo name) = record D { manifests = fmap.remove D.manifests (repo, name) }
-apply D (Appeared repo) = record D { repos = set.insert D.repos repo }
-apply D (Counted t n) = record D { next = slice_set D.next t n }
-apply D (Stored digest bytes) = record D { contents = fmap.insert D.contents digest bytes }
+after_change D (ChunkReceived key bytes) = record D { sessions = after_append_in D.sessions key bytes }
+after_change D (SessionSealed key digest last) = option_map_or (after_seal D key digest last) (fmap.get D.sessions key) D
+after_change D (SessionDropped key) = record D { sessions = fmap.remove D.sessions key }
+after_change D (BlobLinked repo digest) = record D {
+  repos = set.insert D.repos repo;
+  links = set.insert D.links (repo, digest);
+}
+after_change D (BlobUnlinked repo digest) = record D { links = set.remove D.links (repo, digest) }
+after_change D (ManifestPut repo bytes) = if fmap.contains_key D.manifests (repo, sha256_text bytes) then D else with_new_manifest D repo bytes
+after_change D (ManifestDeleted repo digest) = record D { manifests = fmap.remove D.manifests (repo, digest) }
+after_change D (RepoAdded repo) = record D { repos = set.insert D.repos repo }
+after_change D (NumberSet t n) = record D { next = slice_set D.next t n }
+after_change D (BlobStored digest bytes) = record D { contents = fmap.insert D.contents digest bytes }
 
--- what changes in turn leave
-abbrev pub replayed : Durable → List Change → Durable
-replayed D changes = fold apply D changes
+-- the durable state after a list of changes, one after another
+abbrev pub after_changes : DurableState → List Change → DurableState
+after_changes D changes = fold after_change D changes
 
--- ---- what a step records
+-- ---- the changes of a history
 
--- the key of a repository's session
-abbrev pub key_of : List Tenant → Text → ℕ → SessionNumber
-key_of tenants repo number = (option_map_or (λ t. t) (tenant_of tenants repo) 0, number)
+-- the key of a repository's session with this number
+abbrev pub session_key : List Tenant → Text → ℕ → SessionNumber
+session_key tenants repo number = (option_map_or (λ t. t) (tenant_of tenants repo) 0, number)
 
--- a chunk without bytes is not recorded
+-- the change of an append, or none if its chunk is empty
 abbrev pub chunk_change : SessionNumber → Text → Option Change
 chunk_change key [] = None
-chunk_change key (b ∷ bytes) = Some (Received key (b ∷ bytes))
+chunk_change key (b ∷ bytes) = Some (ChunkReceived key (b ∷ bytes))
 
--- a link, or a session in its place
-abbrev pub mount_change : List Tenant → Text → Text → Mounted → Change
-mount_change tenants repo digest mounting.Mounted = Linked repo digest
-mount_change tenants repo digest (mounting.Session number) = Opened repo (key_of tenants repo number)
+-- the change of a mount: a link, or a new session if the blob was not found
+abbrev pub mount_change : List Tenant → Text → Text → MountResult → Change
+mount_change tenants repo digest mount.Mounted = BlobLinked repo digest
+mount_change tenants repo digest (mount.Session number) = SessionOpened repo (session_key tenants repo number)
 
--- what an accepted command records
+-- the change of an accepted command, or none if it changes nothing durable
 abbrev pub command_change : List Tenant → Command → Answer → Option Change
-command_change tenants (Start r) (Numeral n) = Some (Opened r (key_of tenants r n))
-command_change tenants (Append r n g b) a = chunk_change (key_of tenants r n) b
-command_change tenants (Close r n d g b) a = Some (Sealed (key_of tenants r n) d b)
-command_change tenants (Abandon r n) a = Some (Dropped (key_of tenants r n))
+command_change tenants (Start r) (Number n) = Some (SessionOpened r (session_key tenants r n))
+command_change tenants (Append r n g b) a = chunk_change (session_key tenants r n) b
+command_change tenants (Close r n d g b) a = Some (SessionSealed (session_key tenants r n) d b)
+command_change tenants (Abandon r n) a = Some (SessionDropped (session_key tenants r n))
 command_change tenants (Mount r d from) (Mounting m) = Some (mount_change tenants r d m)
-command_change tenants (Delete r d) a = Some (Unlinked r d)
-command_change tenants (PutManifest r b) a = Some (Described r b)
-command_change tenants (DeleteManifest r m) a = Some (Forgotten r m)
+command_change tenants (Delete r d) a = Some (BlobUnlinked r d)
+command_change tenants (PutManifest r b) a = Some (ManifestPut r b)
+command_change tenants (DeleteManifest r m) a = Some (ManifestDeleted r m)
 command_change tenants command a = None
 
--- the chunk that was filled into a hand, if any
-abbrev pub filled_in : HandRecord → Text
-filled_in h = option_map_or (λ b. b) h.last []
+-- the chunk that was filled into a hand, or the empty one
+abbrev pub filled_chunk : HandRecord → Text
+filled_chunk h = option_map_or (λ b. b) h.last []
 
--- What a step records. What is refused, read, lent, taken in hand or swept records nothing.
+-- the change of a step, or none: a failed step, a query, a lease, a sweep and a check-out change nothing durable
 abbrev pub change_of : List Tenant → Step → Option Change
 change_of tenants (CommandCall command (Ok a)) = command_change tenants command a
-change_of tenants (PutBackCall h (Ok n)) = chunk_change h.key (filled_in h)
-change_of tenants (FinishCall h d (Ok n)) = Some (Sealed h.key d (filled_in h))
+change_of tenants (PutBackCall h (Ok n)) = chunk_change h.key (filled_chunk h)
+change_of tenants (FinishCall h d (Ok n)) = Some (SessionSealed h.key d (filled_chunk h))
 change_of tenants step = None
 
--- what a history records
+-- the changes of a list of steps
 abbrev pub changes_of : List Tenant → List Step → List Change
 changes_of tenants steps = filter_map (change_of tenants) steps
 
--- ---- hands
+-- ---- hands that are returned as they were taken
 
--- the chunks with which each session was taken in hand last
-abbrev pub Takings : Type 0
-Takings = fmap.FinMap session_number_cmp (List Text)
+-- the chunks that each session had when it was checked out last
+abbrev pub TakenChunks : Type 0
+TakenChunks = fmap.FinMap session_number_cmp (List Text)
 
-abbrev pub taken_after : Takings → Step → Takings
-taken_after taken (TakeCall r n g len (Ok h)) = fmap.insert taken h.key h.chunks
-taken_after taken step = taken
+-- the taken chunks after a step
+abbrev pub taken_after_step : TakenChunks → Step → TakenChunks
+taken_after_step taken (TakeCall r n g len (Ok h)) = fmap.insert taken h.key h.chunks
+taken_after_step taken step = taken
 
-abbrev pub taken_along : Takings → List Step → Takings
-taken_along taken steps = fold taken_after taken steps
+-- the taken chunks after a list of steps
+abbrev pub taken_after_steps : TakenChunks → List Step → TakenChunks
+taken_after_steps taken steps = fold taken_after_step taken steps
 
--- a hand that is put back or finished has the chunks with which its session was taken
-abbrev pub IsGenuine : Takings → Step → Type 0
-IsGenuine taken (PutBackCall h reply) = fmap.get taken h.key ≡ Some h.chunks
-IsGenuine taken (FinishCall h d reply) = fmap.get taken h.key ≡ Some h.chunks
-IsGenuine taken step = Unit {0}
+-- a hand that is checked in or finished has the chunks with which its session was checked out
+abbrev pub IsReturnedAsTaken : TakenChunks → Step → Type 0
+IsReturnedAsTaken taken (PutBackCall h reply) = fmap.get taken h.key ≡ Some h.chunks
+IsReturnedAsTaken taken (FinishCall h d reply) = fmap.get taken h.key ≡ Some h.chunks
+IsReturnedAsTaken taken step = Unit {0}
 
-abbrev pub AreGenuine : Takings → List Step → Type 0
-AreGenuine taken [] = Unit {0}
-AreGenuine taken (step ∷ steps) = IsGenuine taken step × AreGenuine (taken_after taken step) steps
+-- every hand of a list of steps is returned as it was taken
+abbrev pub AreReturnedAsTaken : TakenChunks → List Step → Type 0
+AreReturnedAsTaken taken [] = Unit {0}
+AreReturnedAsTaken taken (step ∷ steps) = IsReturnedAsTaken taken step × AreReturnedAsTaken (taken_after_step taken step) steps
 
--- ---- what the log agrees with
+-- ---- agreement of a durable state and a catalog
 
--- the chunks at home are these; those in hand have this length, and are the ones with which the session was taken
-abbrev pub HasChunks : Option (List Text) → Chunks → List Text → Type 0
-HasChunks taken (CheckedIn chunks) kept = chunks ≡ kept
-HasChunks taken (CheckedOutWith received reserved) kept = (received ≡ sum_by length kept) × (taken ≡ Some kept)
+-- the durable chunks are those of the session: its own if it is checked in, else those with which it was taken
+abbrev pub AgreesOnChunks : Option (List Text) → Chunks → List Text → Type 0
+AgreesOnChunks taken (CheckedIn chunks) durable = chunks ≡ durable
+AgreesOnChunks taken (CheckedOutWith received reserved) durable = (received ≡ sum_by length durable) × (taken ≡ Some durable)
 
--- a session as it is kept, with no empty chunk, and as it is
-abbrev pub IsSession : Option (List Text) → Option Session → Option Session → Type 0
-IsSession taken kept None = kept ≡ None
-IsSession taken kept (Some s) = (chunks : List Text) × (kept ≡ Some (record { repo = s.repo; chunks = CheckedIn chunks })) × AllByRecursion (λ c. c ≢ []) chunks × HasChunks taken s.chunks chunks
+-- the durable session and the catalog's have the same repository and chunks, none of which is empty, or neither exists
+abbrev pub AgreesOnSession : Option (List Text) → Option Session → Option Session → Type 0
+AgreesOnSession taken durable None = durable ≡ None
+AgreesOnSession taken durable (Some s) =
+    (chunks : List Text) × (durable ≡ Some (record { repo = s.repo; chunks = CheckedIn chunks })) × AllByRecursion (λ c. c ≢ []) chunks × AgreesOnChunks taken s.chunks chunks
 
--- a digest's blob is kept, with the bytes that the log has
-abbrev pub HasContent : fmap.FinMap text_cmp Text → fmap.FinMap text_cmp Resident → Text → Type 0
-HasContent contents residents digest = (b : Resident) × (fmap.get residents digest ≡ Some b) × (fmap.get contents digest ≡ Some b.bytes)
+-- a digest has a stored blob, whose bytes are the durable content
+abbrev pub AgreesOnContent : fmap.FinMap text_cmp Text → fmap.FinMap text_cmp Resident → Text → Type 0
+AgreesOnContent contents residents digest = (b : Resident) × (fmap.get residents digest ≡ Some b) × (fmap.get contents digest ≡ Some b.bytes)
 
--- What a log has is a catalog's: the same repositories, links, manifests and numbers; each session, with its chunks; the bytes of each linked digest. What
--- is linked or uploaded is in a repository that is there.
-pub record Agrees (taken : Takings) (D : Durable) (C : Catalog) : Type 0 where
+-- A durable state agrees with a catalog, whose checked-out sessions were taken with these chunks.
+pub record Agrees (taken : TakenChunks) (D : DurableState) (C : Catalog) : Type 0 where
   pub tenants : D.tenants ≡ C.tenants
   pub repos : D.repos ≡ C.repos
   pub links : D.links ≡ C.links
   pub manifests : D.manifests ≡ C.manifests
   pub next : D.next ≡ C.next
-  pub sessions : (key : SessionNumber) → IsSession (fmap.get taken key) (fmap.get D.sessions key) (fmap.get C.sessions key)
-  pub contents : (l : Link) → set.contains C.links l ≡ true → HasContent D.contents C.residents l.1
+  pub sessions : (key : SessionNumber) → AgreesOnSession (fmap.get taken key) (fmap.get D.sessions key) (fmap.get C.sessions key)
+  -- of each linked digest the content is the stored blob's
+  pub contents : (l : Link) → set.contains C.links l ≡ true → AgreesOnContent D.contents C.residents l.1
+  -- each link is of an existing repository
   pub linked_in : (l : Link) → set.contains C.links l ≡ true → set.contains C.repos l.0 ≡ true
+  -- each session is of an existing repository
   pub uploaded_to : (key : SessionNumber) (s : Session) → fmap.get C.sessions key ≡ Some s → set.contains C.repos s.repo ≡ true
 
--- ---- the laws
+-- ---- the theorems
 
--- A log that agrees with a state goes on with the changes of the steps from there, and agrees with the state that they leave.
-abbrev pub LogsGoOn : Type 0
-LogsGoOn = (taken : Takings) (D : Durable) (s : State) (steps : List Step) (s' : State) → Agrees taken D s.catalog → AreSteps s steps s' → AreGenuine taken steps →
-    Agrees (taken_along taken steps) (replayed D (changes_of D.tenants steps)) s'.catalog
+-- A durable state that agrees with a state agrees with it after further steps, if their changes are applied to it.
+abbrev pub LogsExtend : Type 0
+LogsExtend = (taken : TakenChunks) (D : DurableState) (s : State) (steps : List Step) (s' : State) → Agrees taken D s.catalog → AreSteps s steps s' → AreReturnedAsTaken taken steps →
+    Agrees (taken_after_steps taken steps) (after_changes D (changes_of D.tenants steps)) s'.catalog
 
--- So what a history records, replayed from nothing, agrees with the catalog that the history leaves.
+-- The changes of a legal history of a new store, applied to the initial durable state, agree with the catalog at the end.
 abbrev pub LogsAgree : Type 0
-LogsAgree = (tenants : List Tenant) (slots max_blob : ℕ) (steps : List Step) (s : State) → LeadsTo (opening tenants slots max_blob) steps s → AreGenuine fmap.empty steps →
-    Agrees (taken_along fmap.empty steps) (replayed (blank tenants) (changes_of tenants steps)) s.catalog
+LogsAgree = (tenants : List Tenant) (slots max_blob : ℕ) (steps : List Step) (s : State) →
+    LeadsTo (opening tenants slots max_blob) steps s → AreReturnedAsTaken fmap.empty steps →
+    Agrees (taken_after_steps fmap.empty steps) (after_changes (initial_durable tenants) (changes_of tenants steps)) s.catalog
 
--- A log that was cut off is that of the steps up to some state of the history, and agrees with it: of the steps that come later it has these. The store
--- opened with a catalog with which its log agreed, nothing in hand.
-pub record IsCutOff (D : Durable) (C : Catalog) (done later : List Step) (kept : List Change) : Type 0 where
+-- The kept changes are those of the first later steps, and the durable state after them agrees with the catalog after these steps.
+pub record IsTornLog (D : DurableState) (C : Catalog) (done later : List Step) (kept : List Change) : Type 0 where
   pub first : List Step
   pub rest : List Step
   pub at : State
   pub split : later ≡ first ++ rest
   pub records : changes_of D.tenants first ≡ kept
   pub leads : LeadsTo C (done ++ first) at
-  pub agrees : Agrees (taken_along fmap.empty (done ++ first)) (replayed D (changes_of D.tenants done ++ kept)) at.catalog
+  pub agrees : Agrees (taken_after_steps fmap.empty (done ++ first)) (after_changes D (changes_of D.tenants done ++ kept)) at.catalog
 
--- Whatever of the records is lost from the end on, the log is that of some first steps of the history: of all those at least whose records were kept.
+-- If a log loses its last records, it is the log of the first steps of its history: at least of all steps whose records were kept.
 abbrev pub TornLogsAgree : Type 0
-TornLogsAgree = (D : Durable) (C : Catalog) (done later : List Step) (s : State) (kept lost : List Change) → Agrees fmap.empty D C → LeadsTo C (done ++ later) s →
-    AreGenuine fmap.empty (done ++ later) → changes_of D.tenants later ≡ kept ++ lost → IsCutOff D C done later kept
+TornLogsAgree = (D : DurableState) (C : Catalog) (done later : List Step) (s : State) (kept lost : List Change) →
+    Agrees fmap.empty D C → LeadsTo C (done ++ later) s → AreReturnedAsTaken fmap.empty (done ++ later) →
+    changes_of D.tenants later ≡ kept ++ lost → IsTornLog D C done later kept
 
--- Hands that come back as the appends and closes that they were taken for have the chunks with which their sessions were taken, also before all are back.
-abbrev pub WholeCommandsAreGenuine : Type 0
-WholeCommandsAreGenuine = (steps later : List Step) (events : List Event) → AreWholeCommands fmap.empty (steps ++ later) events → AreGenuine fmap.empty steps
+-- In a beginning of a history of whole commands every hand is returned as it was taken.
+abbrev pub WholeCommandsReturnHands : Type 0
+WholeCommandsReturnHands = (steps later : List Step) (events : List Event) → AreWholeCommands fmap.empty (steps ++ later) events → AreReturnedAsTaken fmap.empty steps

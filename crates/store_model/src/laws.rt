@@ -1,22 +1,22 @@
 //! States the theorems about the definitions. Each theorem is the contract of a function with an empty body.
 
-ghost use Rattle.store_model.specs.Durable.{LogsAgree, LogsGoOn, TornLogsAgree, WholeCommandsAreGenuine};
+ghost use Rattle.store_model.specs.Durable.{LogsAgree, LogsExtend, TornLogsAgree, WholeCommandsReturnHands};
 ghost use Rattle.store_model.specs.HistoryIsolation.{
   HistoriesLeaveTheSameText,
   TenantsAreIsolatedInHistories,
 };
 ghost use Rattle.store_model.specs.Invariant.{CountsAreLinks, ReferencedStays, UsesAreDistinct};
-ghost use Rattle.store_model.specs.Lanes.{LanesAreGenuine};
+ghost use Rattle.store_model.specs.Lanes.{LanesReturnHands};
 ghost use Rattle.store_model.specs.Noninterference.{TenantsAreIsolated, TextsAreTheSame};
 ghost use Rattle.store_model.specs.Recovery.{
-  FirstLogsAgree,
-  LogsAreWrittenAnew,
-  StoresLiveOn,
+  NewStoresAgree,
+  RewrittenLogsAgree,
+  StoresSurviveCrashes,
   StoresRestart,
-  StoresRestartOtherwise,
+  StoresRestartWithOtherSettings,
 };
-ghost use Rattle.store_model.specs.Replaying.{ChangesAreReplayed, LogsRunAgain};
-ghost use Rattle.store_model.specs.Restarts.{HistoriesAreRunsFrom, TenantsAreAloneFrom};
+ghost use Rattle.store_model.specs.Replaying.{ChangesHaveReplays, LogsHaveReplays};
+ghost use Rattle.store_model.specs.Restarts.{RestartedHistoriesAreRuns, TenantsAreIsolatedFrom};
 ghost use Rattle.store_model.specs.Runs.{RunsExist, RunsStaySound};
 ghost use Rattle.store_model.specs.WholeCommands.{HistoriesAreRuns};
 
@@ -92,25 +92,25 @@ pub fn whole_commands()
 /// States what a log keeps of a history.
 pub fn durability()
     ensures agree { LogsAgree }
-    ensures go_on { LogsGoOn }
+    ensures extend { LogsExtend }
     ensures torn { TornLogsAgree }
-    ensures genuine { WholeCommandsAreGenuine }
-    ensures lanes { LanesAreGenuine }
+    ensures whole_commands { WholeCommandsReturnHands }
+    ensures lanes { LanesReturnHands }
 {}
 
 /// States what a store is after a restart.
 pub fn recovery()
-    ensures first { FirstLogsAgree }
+    ensures new_store { NewStoresAgree }
     ensures restart { StoresRestart }
-    ensures otherwise { StoresRestartOtherwise }
-    ensures live_on { StoresLiveOn }
-    ensures anew { LogsAreWrittenAnew }
-    ensures again { ChangesAreReplayed }
-    ensures runs { LogsRunAgain }
+    ensures other_settings { StoresRestartWithOtherSettings }
+    ensures crashes { StoresSurviveCrashes }
+    ensures rewrite { RewrittenLogsAgree }
+    ensures replay { ChangesHaveReplays }
+    ensures replay_log { LogsHaveReplays }
 {}
 
 /// States the theorems about histories of a store that was restarted.
 pub fn restarts()
-    ensures runs { HistoriesAreRunsFrom }
-    ensures alone { TenantsAreAloneFrom }
+    ensures runs { RestartedHistoriesAreRuns }
+    ensures alone { TenantsAreIsolatedFrom }
 {}

@@ -17,7 +17,7 @@ use Rattle.spec_lib.proofs.Options.{no_member}
 use Rattle.spec_lib.proofs.Outcomes.{bound_ok, ok_pair}
 use Rattle.store_model.specs.Catalog.{Catalog, Chunks, CheckedIn, CheckedOutWith, SessionNumber, Resident, Session, HandRecord, Tenant, link_cmp, session_number_cmp, opening, received_length}
 use Rattle.store_model.specs.Commands.{after_cancel, finish, has_slot, is_digest_accepted, put_back, with_stored_blob, take, was_leased}
-use Rattle.store_model.specs.Durable.{Agrees, AreGenuine, Change, Described, Durable, HasChunks, IsGenuine, IsSession, LogsAgree, LogsGoOn, Sealed, Takings, apply, blank, change_of, changes_of, chunk_change, filled_in, replayed, sealed, taken_after, taken_along}
+use Rattle.store_model.specs.Durable.{Agrees, AreReturnedAsTaken, Change, ManifestPut, DurableState, AgreesOnChunks, IsReturnedAsTaken, AgreesOnSession, LogsAgree, LogsExtend, SessionSealed, TakenChunks, after_change, initial_durable, change_of, changes_of, chunk_change, filled_chunk, after_changes, after_seal, taken_after_step, taken_after_steps}
 use Rattle.store_model.specs.Histories.{AreSteps, SweepCall, FinishCall, MayLeadTo, CommandCall, PutBackCall, State, Step, TakeCall, initial_state}
 use Rattle.store_model.specs.Sessions.{with_old_chunks, chunks_of, put_back_outcome_in, session_of_hand, hand_content, with_chunk, with_chunks}
 use Rattle.store_model.specs.Sweep.{IsAfterSweep, IsSweep}
@@ -25,19 +25,19 @@ use Rattle.store_model.specs.declared.swept.Swept.{Swept}
 use Rattle.store_model.proofs.Commands.Accepted.{left_by}
 use Rattle.store_model.proofs.Commands.ByHand.{taken_hand, taken_leaves, taken_received}
 use Rattle.store_model.proofs.Commands.Hands.{TookIn, taken_found, took}
-use Rattle.store_model.proofs.Durable.Agreement.{kept_of, received as comes_home, recorded, same_session, sealed_agrees}
+use Rattle.store_model.proofs.Durable.Agreement.{durable_session, Agrees-receive as comes_home, after_record, Agrees-same_session, Agrees-seal}
 use Rattle.store_model.proofs.Durable.Commands.{command_agrees}
 use Rattle.store_model.proofs.Noninterference.Consistency.{no_orphan}
 
 -- ---- hands
 
-module _ (taken : Takings) (D : Durable) (C X : Catalog) (a : Agrees taken D C) where
+module _ (taken : TakenChunks) (D : DurableState) (C X : Catalog) (a : Agrees taken D C) where
   -- a session that is taken in hand stays in the log as it was
   takes : (r : Text) (n len : ℕ) (g : Option ByteRange) (h : HandRecord) → take C r n g len ≡ Ok (h, X) → Agrees (insert taken h.key h.chunks) D X
   takes r n len g h is =
       subst (λ (y : HandRecord). Agrees (insert taken y.key y.chunks) D X) (taken_hand C X r n len g h is)
       (subst (λ (Y : Catalog). Agrees (insert taken key p.checked.chunks) D Y) (taken_leaves C X r n len g h is)
-      (same_session taken D C a key (record p.checked.s { chunks = CheckedOutWith (received_length p.checked.s) len }) (insert taken key p.checked.chunks)
+      (Agrees-same_session taken D C a key (record p.checked.s { chunks = CheckedOutWith (received_length p.checked.s) len }) (insert taken key p.checked.chunks)
       (λ q other. get-insert_other number_cmp_total exact_number taken key p.checked.chunks q other) (a.uploaded_to key p.checked.s p.checked.found)
       (p.checked.chunks, has.1 ∙ ap (λ cs. Some (record { repo = p.checked.s.repo; chunks = CheckedIn cs })) (sym same), subst (λ cs. AllByRecursion (λ x. x ≢ []) cs) (sym same) has.2, (taken_received C X r n len g h is, get-insert_at number_cmp_total exact_number taken key p.checked.chunks))))
     where
@@ -47,47 +47,47 @@ module _ (taken : Takings) (D : Durable) (C X : Catalog) (a : Agrees taken D C) 
       key : SessionNumber
       key = (p.t, n)
 
-      has : IsSession (get taken key) (get D.sessions key) (Some p.checked.s)
-      has = kept_of taken D C a key p.checked.s p.checked.found
+      has : AgreesOnSession (get taken key) (get D.sessions key) (Some p.checked.s)
+      has = durable_session taken D C a key p.checked.s p.checked.found
 
       same : p.checked.chunks ≡ has.0
-      same = subst (λ (y : Chunks). HasChunks (get taken key) y has.0) p.checked.home has.3
+      same = subst (λ (y : Chunks). AgreesOnChunks (get taken key) y has.0) p.checked.home has.3
 
-module _ (taken : Takings) (D : Durable) (C : Catalog) (a : Agrees taken D C) (h : HandRecord) (genuine : get taken h.key ≡ Some h.chunks) where
+module _ (taken : TakenChunks) (D : DurableState) (C : Catalog) (a : Agrees taken D C) (h : HandRecord) (returned : get taken h.key ≡ Some h.chunks) where
   -- the log has the chunks of a hand
-  pub kept_hand : (s : Session) → session_of_hand (get C.sessions h.key) h ≡ Ok s →
+  pub durable_hand : (s : Session) → session_of_hand (get C.sessions h.key) h ≡ Ok s →
       (get C.sessions h.key ≡ Some s) × (get D.sessions h.key ≡ Some (record { repo = s.repo; chunks = CheckedIn h.chunks })) × AllByRecursion (λ c. c ≢ []) h.chunks
-  kept_hand s here =
+  durable_hand s here =
       let f = taken_found (get C.sessions h.key) h s here in
-      let has = kept_of taken D C a h.key s f.0 in
-      let in_hand : HasChunks (get taken h.key) (CheckedOutWith (sum_by length h.chunks) h.reserved) has.0 = subst (λ (y : Chunks). HasChunks (get taken h.key) y has.0) f.1 has.3 in
-      let same : has.0 ≡ h.chunks = (let e : Some has.0 ≡ Some h.chunks = sym in_hand.1 ∙ genuine in cc) in
+      let has = durable_session taken D C a h.key s f.0 in
+      let in_hand : AgreesOnChunks (get taken h.key) (CheckedOutWith (sum_by length h.chunks) h.reserved) has.0 = subst (λ (y : Chunks). AgreesOnChunks (get taken h.key) y has.0) f.1 has.3 in
+      let same : has.0 ≡ h.chunks = (let e : Some has.0 ≡ Some h.chunks = sym in_hand.1 ∙ returned in cc) in
       (f.0, has.1 ∙ ap (λ cs. Some (record { repo = s.repo; chunks = CheckedIn cs })) same, subst (λ cs. AllByRecursion (λ c. c ≢ []) cs) same has.2)
 
-  pub puts_back : (n : ℕ) (X : Catalog) → put_back C h ≡ Ok (n, X) → Agrees taken (recorded D (chunk_change h.key (filled_in h))) X
+  pub puts_back : (n : ℕ) (X : Catalog) → put_back C h ≡ Ok (n, X) → Agrees taken (after_record D (chunk_change h.key (filled_chunk h))) X
   puts_back n X is =
       let b = bound_ok (put_back_outcome_in C.sessions h) _ (n, X) is in
       let c = bound_ok (session_of_hand (get C.sessions h.key) h) _ b.0 b.1 in
       let home : with_chunks C.sessions h.key c.0 (CheckedIn (chunks_of h)) ≡ b.0.1 = (ok_pair c.2).1 in
-      let has = kept_hand c.0 c.1 in
-      subst (λ (Y : Catalog). Agrees taken (recorded D (chunk_change h.key (filled_in h))) Y) ((λ i. record C { sessions = home i }) ∙ left_by b.2)
-      (subst (λ cs. Agrees taken (recorded D (chunk_change h.key (filled_in h))) (record C { sessions = with_chunks C.sessions h.key c.0 (CheckedIn cs) })) (all_of h.last)
-      (comes_home taken D C a h.key c.0 h.chunks (filled_in h) has.0 has.1 has.2))
+      let has = durable_hand c.0 c.1 in
+      subst (λ (Y : Catalog). Agrees taken (after_record D (chunk_change h.key (filled_chunk h))) Y) ((λ i. record C { sessions = home i }) ∙ left_by b.2)
+      (subst (λ cs. Agrees taken (after_record D (chunk_change h.key (filled_chunk h))) (record C { sessions = with_chunks C.sessions h.key c.0 (CheckedIn cs) })) (all_of h.last)
+      (comes_home taken D C a h.key c.0 h.chunks (filled_chunk h) has.0 has.1 has.2))
     where
-      all_of : (last : Option Text) → with_chunk h.chunks (filled_in (record h { last = last })) ≡ chunks_of (record h { last = last })
+      all_of : (last : Option Text) → with_chunk h.chunks (filled_chunk (record h { last = last })) ≡ chunks_of (record h { last = last })
       all_of None = refl
       all_of (Some b) = refl
 
-  finishes : (d : Text) (n : ℕ) (X : Catalog) → finish C h d ≡ Ok (n, X) → Agrees taken (apply D (Sealed h.key d (filled_in h))) X
+  finishes : (d : Text) (n : ℕ) (X : Catalog) → finish C h d ≡ Ok (n, X) → Agrees taken (after_change D (SessionSealed h.key d (filled_chunk h))) X
   finishes d n X is =
       let b = bound_ok (session_of_hand (get C.sessions h.key) h) _ (n, X) is in
       let c = bound_ok (refuse (not (is_digest_accepted C d (hand_content h))) DigestInvalid) _ (n, X) b.2 in
       let e = bound_ok (has_slot C d) _ (n, X) c.2 in
       let left : with_stored_blob C h.key.0 b.0.repo h.key.1 d (hand_content h) ≡ X = left_by e.2 in
-      let has = kept_hand b.0 b.1 in
+      let has = durable_hand b.0 b.1 in
       let blob : Resident = record { bytes = hand_content h; condemned = false; lent = was_leased (get C.residents d) } in
-      subst (λ (Y : Catalog). Agrees taken (apply D (Sealed h.key d (filled_in h))) Y) left
-      (sealed_agrees taken D C a h.key b.0 h.chunks d (filled_in h) blob has.0 has.1 refl)
+      subst (λ (Y : Catalog). Agrees taken (after_change D (SessionSealed h.key d (filled_chunk h))) Y) left
+      (Agrees-seal taken D C a h.key b.0 h.chunks d (filled_chunk h) blob has.0 has.1 refl)
 
   -- a hand whose finish is refused: its session is at home again
   gives_up : Agrees taken D (after_cancel C h)
@@ -95,13 +95,13 @@ module _ (taken : Takings) (D : Durable) (C : Catalog) (a : Agrees taken D C) (h
     where
       by : (o : Result Session Refusal) → session_of_hand (get C.sessions h.key) h ≡ o → Agrees taken D (record C { sessions = with_old_chunks C.sessions h o })
       by (Ok s) here =
-          let has = kept_hand s here in
-          same_session taken D C a h.key (record s { chunks = CheckedIn h.chunks }) taken (λ q other. refl) (a.uploaded_to h.key s has.0) (h.chunks, has.1, has.2, refl)
+          let has = durable_hand s here in
+          Agrees-same_session taken D C a h.key (record s { chunks = CheckedIn h.chunks }) taken (λ q other. refl) (a.uploaded_to h.key s has.0) (h.chunks, has.1, has.2, refl)
       by (Err e) here = a
 
 -- ---- sweeps
 
-pub sweeps : (taken : Takings) (D : Durable) (C X : Catalog) (swept : Swept) → Agrees taken D C → IsSweep C swept X → Agrees taken D X
+pub sweeps : (taken : TakenChunks) (D : DurableState) (C X : Catalog) (swept : Swept) → Agrees taken D C → IsSweep C swept X → Agrees taken D X
 sweeps taken D C X swept a sweep = subst (λ (Y : Catalog). Agrees taken D Y) (sym sweep.rest) (record {
   tenants = a.tenants;
   repos = a.repos;
@@ -117,72 +117,72 @@ sweeps taken D C X swept a sweep = subst (λ (Y : Catalog). Agrees taken D Y) (s
 
 -- ---- any step
 
-pub step_agrees : (taken : Takings) (D : Durable) (s : State) (step : Step) (X : Catalog) → Agrees taken D s.catalog → MayLeadTo s step X → IsGenuine taken step →
-    Agrees (taken_after taken step) (recorded D (change_of s.catalog.tenants step)) X
-step_agrees taken D s (CommandCall command (Ok x)) X a leaves genuine = command_agrees taken D s.catalog a command x X leaves
-step_agrees taken D s (CommandCall command (Err e)) X a leaves genuine = subst (λ (Y : Catalog). Agrees taken D Y) (sym (⊎_elim (λ y. y.1) (λ y. y.1) leaves)) a
-step_agrees taken D s (SweepCall swept) X a leaves genuine = sweeps taken D s.catalog X swept a leaves
-step_agrees taken D s (TakeCall r n g len (Ok h)) X a leaves genuine = takes taken D s.catalog X a r n len g h leaves
-step_agrees taken D s (TakeCall r n g len (Err e)) X a leaves genuine = subst (λ (Y : Catalog). Agrees taken D Y) (sym leaves.1) a
-step_agrees taken D s (PutBackCall h (Ok n)) X a leaves genuine = puts_back taken D s.catalog a h genuine n X leaves
-step_agrees taken D s (PutBackCall h (Err e)) X a leaves genuine = subst (λ (Y : Catalog). Agrees taken D Y) (sym leaves.1) a
-step_agrees taken D s (FinishCall h d (Ok n)) X a leaves genuine = finishes taken D s.catalog a h genuine d n X leaves
-step_agrees taken D s (FinishCall h d (Err e)) X a leaves genuine = subst (λ (Y : Catalog). Agrees taken D Y) (sym leaves.1) (gives_up taken D s.catalog a h genuine)
+pub step_agrees : (taken : TakenChunks) (D : DurableState) (s : State) (step : Step) (X : Catalog) → Agrees taken D s.catalog → MayLeadTo s step X → IsReturnedAsTaken taken step →
+    Agrees (taken_after_step taken step) (after_record D (change_of s.catalog.tenants step)) X
+step_agrees taken D s (CommandCall command (Ok x)) X a leaves returned = command_agrees taken D s.catalog a command x X leaves
+step_agrees taken D s (CommandCall command (Err e)) X a leaves returned = subst (λ (Y : Catalog). Agrees taken D Y) (sym (⊎_elim (λ y. y.1) (λ y. y.1) leaves)) a
+step_agrees taken D s (SweepCall swept) X a leaves returned = sweeps taken D s.catalog X swept a leaves
+step_agrees taken D s (TakeCall r n g len (Ok h)) X a leaves returned = takes taken D s.catalog X a r n len g h leaves
+step_agrees taken D s (TakeCall r n g len (Err e)) X a leaves returned = subst (λ (Y : Catalog). Agrees taken D Y) (sym leaves.1) a
+step_agrees taken D s (PutBackCall h (Ok n)) X a leaves returned = puts_back taken D s.catalog a h returned n X leaves
+step_agrees taken D s (PutBackCall h (Err e)) X a leaves returned = subst (λ (Y : Catalog). Agrees taken D Y) (sym leaves.1) a
+step_agrees taken D s (FinishCall h d (Ok n)) X a leaves returned = finishes taken D s.catalog a h returned d n X leaves
+step_agrees taken D s (FinishCall h d (Err e)) X a leaves returned = subst (λ (Y : Catalog). Agrees taken D Y) (sym leaves.1) (gives_up taken D s.catalog a h returned)
 
 -- ---- a history
 
 -- a change leaves the tenants as they are
-apply_tenants : (D : Durable) (c : Change) → (apply D c).tenants ≡ D.tenants
-apply_tenants D (Sealed key digest last) = by (get D.sessions key)
+after_change_tenants : (D : DurableState) (c : Change) → (after_change D c).tenants ≡ D.tenants
+after_change_tenants D (SessionSealed key digest last) = by (get D.sessions key)
   where
-    by : (o : Option Session) → (option_map_or (sealed D key digest last) o D).tenants ≡ D.tenants
+    by : (o : Option Session) → (option_map_or (after_seal D key digest last) o D).tenants ≡ D.tenants
     by None = refl
     by (Some s) = refl
-apply_tenants D (Described repo bytes) = by (contains_key D.manifests (repo, sha256_text bytes))
+after_change_tenants D (ManifestPut repo bytes) = by (contains_key D.manifests (repo, sha256_text bytes))
   where
     by : (b : Bool) → (if b then D else record D { repos = set.insert D.repos repo; manifests = insert D.manifests (repo, sha256_text bytes) bytes }).tenants ≡ D.tenants
     by true = refl
     by false = refl
-apply_tenants D c = refl
+after_change_tenants D c = refl
 
-pub recorded_tenants : (D : Durable) (o : Option Change) → (recorded D o).tenants ≡ D.tenants
-recorded_tenants D None = refl
-recorded_tenants D (Some c) = apply_tenants D c
+pub after_record_tenants : (D : DurableState) (o : Option Change) → (after_record D o).tenants ≡ D.tenants
+after_record_tenants D None = refl
+after_record_tenants D (Some c) = after_change_tenants D c
 
 -- a record of a log is replayed before the rest
-pub replayed_first : (D : Durable) (step : Step) (steps : List Step) (tenants : List Tenant) → replayed (recorded D (change_of tenants step)) (changes_of tenants steps) ≡ replayed D (changes_of tenants (step ∷ steps))
-replayed_first D step steps tenants = by (change_of tenants step)
+pub after_changes_first : (D : DurableState) (step : Step) (steps : List Step) (tenants : List Tenant) → after_changes (after_record D (change_of tenants step)) (changes_of tenants steps) ≡ after_changes D (changes_of tenants (step ∷ steps))
+after_changes_first D step steps tenants = by (change_of tenants step)
   where
-    by : (o : Option Change) → replayed (recorded D o) (changes_of tenants steps) ≡ replayed D (cons_option o (changes_of tenants steps))
+    by : (o : Option Change) → after_changes (after_record D o) (changes_of tenants steps) ≡ after_changes D (cons_option o (changes_of tenants steps))
     by None = refl
     by (Some c) = refl
 
-steps_agree : (tenants : List Tenant) (steps : List Step) (taken : Takings) (D : Durable) (s s' : State) → Agrees taken D s.catalog → D.tenants ≡ tenants → AreSteps s steps s' → AreGenuine taken steps →
-    Agrees (taken_along taken steps) (replayed D (changes_of tenants steps)) s'.catalog
-steps_agree tenants [] taken D s s' a known run genuine = subst (λ (x : State). Agrees taken D x.catalog) (sym run) a
-steps_agree tenants (step ∷ steps) taken D s s' a known run genuine =
+steps_agree : (tenants : List Tenant) (steps : List Step) (taken : TakenChunks) (D : DurableState) (s s' : State) → Agrees taken D s.catalog → D.tenants ≡ tenants → AreSteps s steps s' → AreReturnedAsTaken taken steps →
+    Agrees (taken_after_steps taken steps) (after_changes D (changes_of tenants steps)) s'.catalog
+steps_agree tenants [] taken D s s' a known run returned = subst (λ (x : State). Agrees taken D x.catalog) (sym run) a
+steps_agree tenants (step ∷ steps) taken D s s' a known run returned =
     let mid : State = run.0 in
-    let moved : Agrees (taken_after taken step) (recorded D (change_of tenants step)) mid.catalog =
-    subst (λ ts. Agrees (taken_after taken step) (recorded D (change_of ts step)) mid.catalog) (sym a.tenants ∙ known) (step_agrees taken D s step mid.catalog a run.1.leaves genuine.0) in
-    subst (λ E. Agrees (taken_along taken (step ∷ steps)) E s'.catalog) (replayed_first D step steps tenants)
-    (steps_agree tenants steps (taken_after taken step) (recorded D (change_of tenants step)) mid s' moved (recorded_tenants D (change_of tenants step) ∙ known) run.2 genuine.1)
+    let moved : Agrees (taken_after_step taken step) (after_record D (change_of tenants step)) mid.catalog =
+    subst (λ ts. Agrees (taken_after_step taken step) (after_record D (change_of ts step)) mid.catalog) (sym a.tenants ∙ known) (step_agrees taken D s step mid.catalog a run.1.leaves returned.0) in
+    subst (λ E. Agrees (taken_after_steps taken (step ∷ steps)) E s'.catalog) (after_changes_first D step steps tenants)
+    (steps_agree tenants steps (taken_after_step taken step) (after_record D (change_of tenants step)) mid s' moved (after_record_tenants D (change_of tenants step) ∙ known) run.2 returned.1)
 
 -- nothing is in a store in which nothing was done
-pub blank_agrees : (tenants : List Tenant) (slots max_blob : ℕ) → Agrees empty (blank tenants) (opening tenants slots max_blob)
-blank_agrees tenants slots max_blob = record {
+pub new_stores_agree : (tenants : List Tenant) (slots max_blob : ℕ) → Agrees empty (initial_durable tenants) (opening tenants slots max_blob)
+new_stores_agree tenants slots max_blob = record {
   tenants = refl;
   repos = refl;
   links = refl;
   manifests = refl;
   next = refl;
-  sessions = λ key. subst (λ o. IsSession (get {R = session_number_cmp} empty key) (get {R = session_number_cmp} empty key) o) (sym (get-empty session_number_cmp key)) (get-empty session_number_cmp key);
+  sessions = λ key. subst (λ o. AgreesOnSession (get {R = session_number_cmp} empty key) (get {R = session_number_cmp} empty key) o) (sym (get-empty session_number_cmp key)) (get-empty session_number_cmp key);
   contents = λ l h. no_member (get-empty link_cmp l) h;
   linked_in = λ l h. no_member (get-empty link_cmp l) h;
   uploaded_to = λ key s h. absurd (let none : None ≡ Some s = sym (get-empty session_number_cmp key) ∙ h in cc);
 }
 
-pub logs_go_on : LogsGoOn
-logs_go_on taken D s steps s' a run genuine = steps_agree D.tenants steps taken D s s' a refl run genuine
+pub logs_extend : LogsExtend
+logs_extend taken D s steps s' a run returned = steps_agree D.tenants steps taken D s s' a refl run returned
 
 pub logs_agree : LogsAgree
-logs_agree tenants slots max_blob steps s run genuine = logs_go_on empty (blank tenants) (initial_state (opening tenants slots max_blob)) steps s (blank_agrees tenants slots max_blob) run genuine
+logs_agree tenants slots max_blob steps s run returned = logs_extend empty (initial_durable tenants) (initial_state (opening tenants slots max_blob)) steps s (new_stores_agree tenants slots max_blob) run returned

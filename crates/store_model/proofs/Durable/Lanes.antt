@@ -13,20 +13,20 @@ use Rattle.spec_lib.proofs.Options.{nothing, some_none, some_same}
 use Rattle.store_model.specs.Catalog.{Catalog, CheckedIn, CheckedOutWith, SessionNumber, Session, HandRecord, next_number_of, received_length}
 use Rattle.store_model.specs.Commands
 use Rattle.store_model.specs.Commands.{Outcome, after_cancel, after_append_in, chunk_length_check, finish, has_slot, not_busy, put_back, session, take, check_quota}
-use Rattle.store_model.specs.Durable.{Agrees, AreGenuine, Durable, IsGenuine, Takings, change_of, taken_after}
+use Rattle.store_model.specs.Durable.{Agrees, AreReturnedAsTaken, DurableState, IsReturnedAsTaken, TakenChunks, change_of, taken_after_step}
 use Rattle.store_model.specs.Histories.{AreSteps, SweepCall, FinishCall, MayLeadTo, CommandCall, PutBackCall, State, Step, TakeCall, initial_state}
 use Rattle.store_model.specs.Invariant.{WellFormed, Sound}
-use Rattle.store_model.specs.Lanes.{IsPaired, LanesAreGenuine, Made, steps_by, steps_made}
-use Rattle.store_model.specs.Recovery.{IsProperStep}
+use Rattle.store_model.specs.Lanes.{IsHeldHand, IsPaired, LaneSteps, LanesReturnHands, all_steps, hand_after, steps_by}
+use Rattle.store_model.specs.Recovery.{IsWellFormedStep}
 use Rattle.store_model.specs.Runs as runs
 use Rattle.store_model.specs.Runs.{Command, outcome}
 use Rattle.store_model.specs.Sessions.{Sessions, are_checked_in, at_home, with_chunk, with_chunks}
 use Rattle.store_model.proofs.Commands.Accepted.{session_found}
 use Rattle.store_model.proofs.Commands.ByHand.{taken_hand, taken_leaves}
 use Rattle.store_model.proofs.Commands.Hands.{TookIn, checked_home, home_chunks, took}
-use Rattle.store_model.proofs.Durable.Agreement.{recorded}
+use Rattle.store_model.proofs.Durable.Agreement.{after_record}
 use Rattle.store_model.proofs.Durable.Histories.{step_agrees}
-use Rattle.store_model.proofs.Durable.LivesOn.{left_ok, step_sound}
+use Rattle.store_model.proofs.Durable.Crashes.{left_ok, step_sound}
 use Rattle.store_model.proofs.Invariant.Sessions.{fresh}
 use Rattle.store_model.proofs.Noninterference.Hands.{cancel_leaves, finish_leaves, put_back_leaves}
 use Rattle.store_model.proofs.Noninterference.LocalRespect.{Leaves, answers_leave, close_leaves, delete_leaves, delete_manifest_leaves, lease_leaves, mount_leaves, of_tenant, past, put_leaves, reading_leave, start_leaves}
@@ -114,7 +114,7 @@ stays_out s (FinishCall h d (Err e)) X lawful leaves k out other = subst (λ (Y 
 -- ---- the hands that are out
 
 -- each lane's hand has the chunks with which its session was taken, which is out; no two lanes have a session's
-record Known (taken : Takings) (C : Catalog) (hands : ℕ → Option HandRecord) : Type 0 where
+record Known (taken : TakenChunks) (C : Catalog) (hands : ℕ → Option HandRecord) : Type 0 where
   held : (w : ℕ) (h : HandRecord) → hands w ≡ Some h → (get taken h.key ≡ Some h.chunks) × IsOut C h.key
   apart : (w v : ℕ) (h g : HandRecord) → hands w ≡ Some h → hands v ≡ Some g → h.key ≡ g.key → w ≡ v
 
@@ -144,7 +144,7 @@ module _ (w : ℕ) (hands : ℕ → Option HandRecord) where
       by true e is = inl (eqb-true v w e, some_same is)
       by false e is = inr (is, e)
 
-  paired_rest : (o : Option HandRecord) (rest : Made) → IsPaired o (steps_by w rest) → ((v : ℕ) → (w == v) ≡ false → IsPaired (hands v) (steps_by v rest)) → (v : ℕ) → IsPaired (put_at o v) (steps_by v rest)
+  paired_rest : (o : Option HandRecord) (rest : LaneSteps) → IsPaired o (steps_by w rest) → ((v : ℕ) → (w == v) ≡ false → IsPaired (hands v) (steps_by v rest)) → (v : ℕ) → IsPaired (put_at o v) (steps_by v rest)
   paired_rest o rest own others v = by (v == w) refl
     where
       by : (b : Bool) → (v == w) ≡ b → IsPaired (if b then o else hands v) (steps_by v rest)
@@ -154,13 +154,13 @@ module _ (w : ℕ) (hands : ℕ → Option HandRecord) where
   -- ---- a step of a lane
 
   -- what it has in hand after a step, which is genuine
-  record Next (taken : Takings) (step : Step) (X : Catalog) (own : List Step) : Type 0 where
+  record Next (taken : TakenChunks) (step : Step) (X : Catalog) (own : List Step) : Type 0 where
     out : Option HandRecord
-    genuine : IsGenuine taken step
-    known : Known (taken_after taken step) X (put_at out)
+    returned : IsReturnedAsTaken taken step
+    known : Known (taken_after_step taken step) X (put_at out)
     paired : IsPaired out own
 
-  module _ (taken : Takings) (s : State) (known : Known taken s.catalog hands) (lawful : WellFormed s.catalog) (X : Catalog) where
+  module _ (taken : TakenChunks) (s : State) (known : Known taken s.catalog hands) (lawful : WellFormed s.catalog) (X : Catalog) where
     -- the hands stay as they are
     same_hands : (step : Step) → MayLeadTo s step X → ((k : SessionNumber) → IsOther k step) → Known taken X (put_at (hands w))
     same_hands step leaves other = record {
@@ -211,33 +211,46 @@ module _ (w : ℕ) (hands : ℕ → Option HandRecord) where
         here = subst (λ (q : SessionNumber). IsOut X q) key_is (subst (λ (Y : Catalog). IsOut Y (p.t, n)) (taken_leaves s.catalog X r n len g h is)
             (record p.checked.s { chunks = CheckedOutWith (received_length p.checked.s) len }, get-insert_at number_cmp_total exact_number s.catalog.sessions (p.t, n) _, refl))
 
+    own_hand : (h : HandRecord) → IsHeldHand (hands w) h → get taken h.key ≡ Some h.chunks
+    own_hand h hand = let held = known.held w hand.0 hand.1 in ap (get taken) hand.2 ∙ held.0 ∙ ap Some (sym hand.3)
+
     next : (step : Step) (own : List Step) → MayLeadTo s step X → IsPaired (hands w) (step ∷ own) → Next taken step X own
-    next (CommandCall command reply) own leaves paired = record { out = hands w; genuine = tt; known = same_hands (CommandCall command reply) leaves (λ k. tt); paired = paired }
-    next (SweepCall counts) own leaves paired = record { out = hands w; genuine = tt; known = same_hands (SweepCall counts) leaves (λ k. tt); paired = paired }
-    next (TakeCall r n g len (Ok h)) own leaves paired = record { out = Some h; genuine = tt; known = takes r n g len h leaves; paired = paired.1 }
-    next (TakeCall r n g len (Err e)) own leaves paired = record { out = hands w; genuine = tt; known = same_hands (TakeCall r n g len (Err e)) leaves (λ k. tt); paired = paired }
+    next (CommandCall command reply) own leaves paired = record { out = hands w; returned = tt; known = same_hands (CommandCall command reply) leaves (λ k. tt); paired = paired.1 }
+    next (SweepCall counts) own leaves paired = record { out = hands w; returned = tt; known = same_hands (SweepCall counts) leaves (λ k. tt); paired = paired.1 }
+    next (TakeCall r n g len (Ok h)) own leaves paired = record { out = Some h; returned = tt; known = takes r n g len h leaves; paired = paired.1 }
+    next (TakeCall r n g len (Err e)) own leaves paired = record { out = hands w; returned = tt; known = same_hands (TakeCall r n g len (Err e)) leaves (λ k. tt); paired = paired.1 }
     next (PutBackCall h reply) own leaves paired =
-        let held = known.held w paired.0 paired.1 in
-        record { out = None; genuine = ap (get taken) paired.2.0 ∙ held.0 ∙ ap Some (sym paired.2.1); known = back (PutBackCall h reply) leaves paired.0 paired.1 (λ k other e. other (e ∙ paired.2.0)); paired = paired.3 }
+        let hand = paired.0 in
+        record {
+          out = None;
+          returned = own_hand h hand;
+          known = back (PutBackCall h reply) leaves hand.0 hand.1 (λ k other e. other (e ∙ hand.2));
+          paired = paired.1;
+        }
     next (FinishCall h d reply) own leaves paired =
-        let held = known.held w paired.0 paired.1 in
-        record { out = None; genuine = ap (get taken) paired.2.0 ∙ held.0 ∙ ap Some (sym paired.2.1); known = back (FinishCall h d reply) leaves paired.0 paired.1 (λ k other e. other (e ∙ paired.2.0)); paired = paired.3 }
+        let hand = paired.0 in
+        record {
+          out = None;
+          returned = own_hand h hand;
+          known = back (FinishCall h d reply) leaves hand.0 hand.1 (λ k other e. other (e ∙ hand.2));
+          paired = paired.1;
+        }
 
 -- ---- a history
 
-all_genuine : (made : Made) (taken : Takings) (D : Durable) (s s' : State) (hands : ℕ → Option HandRecord) → Agrees taken D s.catalog → Sound s.catalog → AreSteps s (steps_made made) s' → AllByRecursion IsProperStep (steps_made made) →
-    Known taken s.catalog hands → ((lane : ℕ) → IsPaired (hands lane) (steps_by lane made)) → AreGenuine taken (steps_made made)
-all_genuine [] taken D s s' hands a sound run right known paired = tt
-all_genuine (e ∷ made) taken D s s' hands a sound run right known paired =
+all_returned : (entries : LaneSteps) (taken : TakenChunks) (D : DurableState) (s s' : State) (hands : ℕ → Option HandRecord) → Agrees taken D s.catalog → Sound s.catalog → AreSteps s (all_steps entries) s' → AllByRecursion IsWellFormedStep (all_steps entries) →
+    Known taken s.catalog hands → ((lane : ℕ) → IsPaired (hands lane) (steps_by lane entries)) → AreReturnedAsTaken taken (all_steps entries)
+all_returned [] taken D s s' hands a sound run right known paired = tt
+all_returned (e ∷ entries) taken D s s' hands a sound run right known paired =
     let mid : State = run.0 in
-    let own : IsPaired (hands e.0) (e.1 ∷ steps_by e.0 made) = subst (λ b. IsPaired (hands e.0) (if b then e.1 ∷ steps_by e.0 made else steps_by e.0 made)) (eq-eqb e.0 e.0 refl) (paired e.0) in
-    let n : Next e.0 hands taken e.1 mid.catalog (steps_by e.0 made) = next e.0 hands taken s known sound.lawful mid.catalog e.1 (steps_by e.0 made) run.1.leaves own in (
-      n.genuine,
-      all_genuine made (taken_after taken e.1) (recorded D (change_of s.catalog.tenants e.1)) mid s' (put_at e.0 hands n.out) (step_agrees taken D s e.1 mid.catalog a run.1.leaves n.genuine)
-          (step_sound taken D s e.1 mid.catalog a run.1.leaves n.genuine right.0 sound) run.2 right.1 n.known
-          (paired_rest e.0 hands n.out made n.paired (λ v other. subst (λ b. IsPaired (hands v) (if b then e.1 ∷ steps_by v made else steps_by v made)) other (paired v))),
+    let own : IsPaired (hands e.0) (e.1 ∷ steps_by e.0 entries) = subst (λ b. IsPaired (hands e.0) (if b then e.1 ∷ steps_by e.0 entries else steps_by e.0 entries)) (eq-eqb e.0 e.0 refl) (paired e.0) in
+    let n : Next e.0 hands taken e.1 mid.catalog (steps_by e.0 entries) = next e.0 hands taken s known sound.lawful mid.catalog e.1 (steps_by e.0 entries) run.1.leaves own in (
+      n.returned,
+      all_returned entries (taken_after_step taken e.1) (after_record D (change_of s.catalog.tenants e.1)) mid s' (put_at e.0 hands n.out) (step_agrees taken D s e.1 mid.catalog a run.1.leaves n.returned)
+          (step_sound taken D s e.1 mid.catalog a run.1.leaves n.returned right.0 sound) run.2 right.1 n.known
+          (paired_rest e.0 hands n.out entries n.paired (λ v other. subst (λ b. IsPaired (hands v) (if b then e.1 ∷ steps_by v entries else steps_by v entries)) other (paired v))),
     )
 
-pub lanes_are_genuine : LanesAreGenuine
-lanes_are_genuine D C made s opens sound run right paired =
-    all_genuine made empty D (initial_state C) s (λ _. None) opens sound run right (record { held = λ w h is. some_none (sym is); apart = λ w v h g a b same. some_none (sym a) }) paired
+pub lanes_return_hands : LanesReturnHands
+lanes_return_hands D C entries s opens sound run right paired =
+    all_returned entries empty D (initial_state C) s (λ _. None) opens sound run right (record { held = λ w h is. some_none (sym is); apart = λ w v h g a b same. some_none (sym a) }) paired

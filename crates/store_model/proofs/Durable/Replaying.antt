@@ -20,10 +20,11 @@ use Rattle.spec_lib.proofs.Texts.{same_itself}
 use Rattle.store_model.specs.Catalog.{Catalog, CheckedIn, SessionNumber, Resident, Session, HandRecord, charged_length, next_number_of, open_sessions, quota_of, received_length, tenant_holds, tenant_of, used_bytes}
 use Rattle.store_model.specs.Commands
 use Rattle.store_model.specs.Commands.{add_manifest, check_all_links, append, after_append_in, cannot_open, chunk_length_check, close, delete, finish, has_manifest, has_slot, has_source, is_digest_accepted, is_full_of_manifests, lacks_room_for, mounted_outcome, check_link, manifest, with_new_session, not_busy, put_back, put_back_outcome_in, referrer, has_same_bytes, session, session_in, start, started_outcome, with_stored_blob, session_of_hand, tenant, check_no_referrer, content_in, with_link, with_manifest, check_quota, without_session}
-use Rattle.store_model.specs.Durable.{Agrees, Change, Described, Dropped, Durable, Forgotten, Linked, Opened, Sealed, Takings, Unlinked, chunk_change, command_change, filled_in, key_of, mount_change}
-use Rattle.store_model.specs.Histories.{SweepCall, FinishCall, CommandCall, PutBackCall, State, TakeCall}
+use Rattle.store_model.specs.Durable.{change_of, IsReturnedAsTaken, Agrees, Change, ManifestPut, SessionDropped, DurableState, ManifestDeleted, BlobLinked, SessionOpened, SessionSealed, TakenChunks, BlobUnlinked, chunk_change, command_change, filled_chunk, session_key, mount_change}
+use Rattle.store_model.specs.Histories.{MayLeadTo, Step, SweepCall, FinishCall, CommandCall, PutBackCall, State, TakeCall}
 use Rattle.store_model.specs.Invariant.{Sound}
-use Rattle.store_model.specs.Replaying.{ChangesAreReplayed, HasRoom, IsReplayed, replaying}
+use Rattle.store_model.specs.Recovery.{IsWellFormedStep}
+use Rattle.store_model.specs.Replaying.{ChangesHaveReplays, HasRoomFor, HasReplay, replay_command}
 use Rattle.store_model.specs.Runs as runs
 use Rattle.store_model.specs.Runs.{Answer, Command, map_outcome, outcome, repo_of}
 use Rattle.store_model.specs.Sessions.{at_home, chunks_of, length_after, with_chunk, with_chunks, hand_content}
@@ -34,28 +35,28 @@ use Rattle.store_model.proofs.Commands.Mount.{source_of}
 use Rattle.store_model.proofs.Invariant.Links.{is_held}
 use Rattle.store_model.proofs.Commands.Hands.{checked_home, received_length-with_chunk}
 use Rattle.store_model.proofs.Commands.Runs.{Sound-case}
-use Rattle.store_model.proofs.Durable.Agreement.{kept_of, received as comes_home, recorded}
-use Rattle.store_model.proofs.Durable.Commands.{answered_ok, command_agrees, kept_home}
-use Rattle.store_model.proofs.Durable.Histories.{kept_hand, puts_back, recorded_tenants}
-use Rattle.store_model.proofs.Durable.LivesOn.{sound_put_back, step_setting}
+use Rattle.store_model.proofs.Durable.Agreement.{durable_session, Agrees-receive as comes_home, after_record}
+use Rattle.store_model.proofs.Durable.Commands.{answered_ok, command_agrees, durable_checked_in}
+use Rattle.store_model.proofs.Durable.Histories.{durable_hand, puts_back, after_record_tenants}
+use Rattle.store_model.proofs.Durable.Crashes.{sound_put_back, step_setting}
 use Rattle.store_model.proofs.Durable.Uses.{as_was, as_was_is, open_less, sessions_are, used_within, was_open}
 use Rattle.store_model.proofs.Invariant.Chunks.{used_bytes-chunks}
 use Rattle.store_model.proofs.Invariant.SessionTenants.{session_owner, session_tenant}
 
 -- ---- what a command in such a store meets
 
-module _ (D : Durable) (R : Catalog) (b : Agrees empty D R) (sound : Sound R) where
+module _ (D : DurableState) (R : Catalog) (b : Agrees empty D R) (sound : Sound R) where
   -- a command that is accepted, and records this change
-  done : (change : Change) (command : Command) (x : Answer) (left : Catalog) → replaying D change ≡ Some command → outcome false R command ≡ Ok (x, left) → command_change D.tenants command x ≡ Some change →
-      length (repo_of command) ≤ 255 → IsReplayed D R change
+  done : (change : Change) (command : Command) (x : Answer) (left : Catalog) → replay_command D change ≡ Some command → outcome false R command ≡ Ok (x, left) → command_change D.tenants command x ≡ Some change →
+      length (repo_of command) ≤ 255 → HasReplay D R change
   done change command x left names accepted records short = record {
     command = command;
     answer = x;
-    left = left;
+    catalog = left;
     names = names;
     accepted = accepted;
     records = records;
-    agrees = subst (λ o. Agrees empty (recorded D o) left) (ap (λ ts. command_change ts command x) (sym b.tenants) ∙ records) (command_agrees empty D R b command x left accepted);
+    agrees = subst (λ o. Agrees empty (after_record D o) left) (ap (λ ts. command_change ts command x) (sym b.tenants) ∙ records) (command_agrees empty D R b command x left accepted);
     sound = Sound-case R left command (Ok x) short accepted sound;
   }
 
@@ -74,7 +75,7 @@ module _ (D : Durable) (R : Catalog) (b : Agrees empty D R) (sound : Sound R) wh
     known : tenant_of D.tenants repo ≡ Some key.0
     known = ap (λ ts. tenant_of ts repo) b.tenants ∙ owner
 
-    key_is : key_of D.tenants repo key.1 ≡ key
+    key_is : session_key D.tenants repo key.1 ≡ key
     key_is = ap (λ o. (option_map_or (λ t. t) o 0, key.1)) known
 
     short : length repo ≤ 255
@@ -86,19 +87,19 @@ module _ (D : Durable) (R : Catalog) (b : Agrees empty D R) (sound : Sound R) wh
     session_ok : session_in (get R.sessions key) repo ≡ Ok s
     session_ok = rw here (rw (same_itself repo) refl)
 
-    dropped : IsReplayed D R (Dropped key)
-    dropped = done (Dropped key) (runs.Abandon repo key.1) (runs.Number (received_length s)) (without_session R key.0 key.1) (ap (option_map (λ x. runs.Abandon x.repo key.1)) found)
-        (ap (map_outcome runs.Number) accepted) (ap (λ k. Some (Dropped k)) key_is) short
+    dropped : HasReplay D R (SessionDropped key)
+    dropped = done (SessionDropped key) (runs.Abandon repo key.1) (runs.Number (received_length s)) (without_session R key.0 key.1) (ap (option_map (λ x. runs.Abandon x.repo key.1)) found)
+        (ap (map_outcome runs.Number) accepted) (ap (λ k. Some (SessionDropped k)) key_is) short
       where
         accepted : Commands.abandon R repo key.1 ≡ Ok (received_length s, without_session R key.0 key.1)
         accepted = rw (tenant_ok, session_ok) refl
 
-    chunk_names : (bytes : Text) (change : Change) → chunk_change key bytes ≡ Some change → replaying D change ≡ Some (runs.Append repo key.1 None bytes)
+    chunk_names : (bytes : Text) (change : Change) → chunk_change key bytes ≡ Some change → replay_command D change ≡ Some (runs.Append repo key.1 None bytes)
     chunk_names [] change is = some_none (sym is)
-    chunk_names (x ∷ bytes) change is = subst (λ c. replaying D c ≡ Some (runs.Append repo key.1 None (x ∷ bytes))) (some_same is) (ap (option_map (λ y. runs.Append y.repo key.1 None (x ∷ bytes))) found)
+    chunk_names (x ∷ bytes) change is = subst (λ c. replay_command D c ≡ Some (runs.Append repo key.1 None (x ∷ bytes))) (some_same is) (ap (option_map (λ y. runs.Append y.repo key.1 None (x ∷ bytes))) found)
 
     -- What has room for a chunk where the log goes on with it has room for it here.
-    room : (taken : Takings) (X : Catalog) (bytes : Text) → AllByRecursion (λ c. c ≢ []) chunks → Agrees taken (recorded D (chunk_change key bytes)) X → Sound X →
+    room : (taken : TakenChunks) (X : Catalog) (bytes : Text) → AllByRecursion (λ c. c ≢ []) chunks → Agrees taken (after_record D (chunk_change key bytes)) X → Sound X →
         (sum_by length chunks + length bytes ≤ X.max_blob) × (used_bytes R key.0 + length bytes ≤ quota_of R key.0)
     room taken X bytes pieces a sound_there =
         let small = (sound_there.lawful.sessions key was.0 was.2).small in
@@ -107,7 +108,7 @@ module _ (D : Durable) (R : Catalog) (b : Agrees empty D R) (sound : Sound R) wh
         let keeps = sound_there.quotas key.0 (session_tenant X sound_there.lawful key was.0 was.2) in
         let less : used_bytes R2 key.0 ≤ used_bytes X key.0 = used_within taken E X a R2 agrees key.0 in
         let change : used_bytes R2 key.0 + charged_length s ≡ used_bytes R key.0 + charged_length longer = used_bytes-chunks R key s (CheckedIn (with_chunk chunks bytes)) here in
-        let same : quota_of X key.0 ≡ quota_of R key.0 = ap (λ ts. option_map_or (λ x. x.quota) (slice_get ts key.0) 0) (sym a.tenants ∙ recorded_tenants D (chunk_change key bytes) ∙ b.tenants) in
+        let same : quota_of X key.0 ≡ quota_of R key.0 = ap (λ ts. option_map_or (λ x. x.quota) (slice_get ts key.0) 0) (sym a.tenants ∙ after_record_tenants D (chunk_change key bytes) ∙ b.tenants) in
         let counts : charged_length s ≡ sum_by length chunks = omega arith in
         let counts_more : charged_length longer ≡ sum_by length (with_chunk chunks bytes) = omega arith in
         (omega arith, omega arith)
@@ -115,8 +116,8 @@ module _ (D : Durable) (R : Catalog) (b : Agrees empty D R) (sound : Sound R) wh
         longer : Session
         longer = record { repo = repo; chunks = CheckedIn (with_chunk chunks bytes) }
 
-        E : Durable
-        E = recorded D (chunk_change key bytes)
+        E : DurableState
+        E = after_record D (chunk_change key bytes)
 
         R2 : Catalog
         R2 = record R { sessions = with_chunks R.sessions key s (CheckedIn (with_chunk chunks bytes)) }
@@ -145,13 +146,13 @@ module _ (D : Durable) (R : Catalog) (b : Agrees empty D R) (sound : Sound R) wh
       append_ok : append R repo key.1 None bytes ≡ Ok (received_length s + length bytes, record R { sessions = after_append_in R.sessions key bytes })
       append_ok = rw (tenant_ok, check_ok, quota_ok) refl
 
-      chunk_replayed : (change : Change) → chunk_change key bytes ≡ Some change → IsReplayed D R change
+      chunk_replayed : (change : Change) → chunk_change key bytes ≡ Some change → HasReplay D R change
       chunk_replayed change is = done change (runs.Append repo key.1 None bytes) (runs.Number (received_length s + length bytes)) (record R { sessions = after_append_in R.sessions key bytes }) (chunk_names bytes change is)
           (ap (map_outcome runs.Number) append_ok) (ap (λ k. chunk_change k bytes) key_is ∙ is) short
 
-      seal_replayed : (digest : Text) → is_digest_of digest (content_in D.sessions key bytes) ≡ true → HasRoom D R (Sealed key digest bytes) → IsReplayed D R (Sealed key digest bytes)
-      seal_replayed digest named room = done (Sealed key digest bytes) (runs.Close repo key.1 digest None bytes) (runs.Number (length whole)) (with_stored_blob R key.0 repo key.1 digest whole)
-          (ap (option_map (λ x. runs.Close x.repo key.1 digest None bytes)) found) (ap (map_outcome runs.Number) accepted) (ap (λ k. Some (Sealed k digest bytes)) key_is) short
+      seal_replayed : (digest : Text) → is_digest_of digest (content_in D.sessions key bytes) ≡ true → HasRoomFor D R (SessionSealed key digest bytes) → HasReplay D R (SessionSealed key digest bytes)
+      seal_replayed digest named room = done (SessionSealed key digest bytes) (runs.Close repo key.1 digest None bytes) (runs.Number (length whole)) (with_stored_blob R key.0 repo key.1 digest whole)
+          (ap (option_map (λ x. runs.Close x.repo key.1 digest None bytes)) found) (ap (map_outcome runs.Number) accepted) (ap (λ k. Some (SessionSealed k digest bytes)) key_is) short
         where
           whole : Text
           whole = content_in R.sessions key bytes
@@ -167,14 +168,14 @@ module _ (D : Durable) (R : Catalog) (b : Agrees empty D R) (sound : Sound R) wh
 
     -- ---- where the log goes on with a chunk, the chunk or the blob that ends with it is accepted here
 
-    module _ (taken : Takings) (X : Catalog) (bytes : Text) (pieces : AllByRecursion (λ c. c ≢ []) chunks) (a : Agrees taken (recorded D (chunk_change key bytes)) X) (sound_there : Sound X) (limit : X.max_blob ≡ R.max_blob) where
+    module _ (taken : TakenChunks) (X : Catalog) (bytes : Text) (pieces : AllByRecursion (λ c. c ≢ []) chunks) (a : Agrees taken (after_record D (chunk_change key bytes)) X) (sound_there : Sound X) (limit : X.max_blob ≡ R.max_blob) where
       has_room : (sum_by length chunks + length bytes ≤ R.max_blob) × (used_bytes R key.0 + length bytes ≤ quota_of R key.0)
       has_room = let r = room taken X bytes pieces a sound_there in (subst (λ n. sum_by length chunks + length bytes ≤ n) limit r.0, r.1)
 
-      pub chunk_again : (change : Change) → chunk_change key bytes ≡ Some change → IsReplayed D R change
+      pub chunk_again : (change : Change) → chunk_change key bytes ≡ Some change → HasReplay D R change
       chunk_again change is = chunk_replayed bytes has_room.0 has_room.1 change is
 
-      pub seal_again : (digest : Text) → is_digest_of digest (concat chunks ++ bytes) ≡ true → HasRoom D R (Sealed key digest bytes) → IsReplayed D R (Sealed key digest bytes)
+      pub seal_again : (digest : Text) → is_digest_of digest (concat chunks ++ bytes) ≡ true → HasRoomFor D R (SessionSealed key digest bytes) → HasReplay D R (SessionSealed key digest bytes)
       seal_again digest named free = seal_replayed bytes has_room.0 has_room.1 digest (ap (λ o. is_digest_of digest (concat (option_map_or (λ x. at_home x.chunks) o []) ++ bytes)) found ∙ named) free
 
 -- ---- repositories, links and manifests
@@ -186,18 +187,18 @@ few n m less is = by (nat_le 64 m) refl
     by false e = refl
     by true e = absurd (let more = leb-true 64 m e in let small = leb-false 64 n is in omega arith)
 
-module _ (taken : Takings) (D : Durable) (C : Catalog) (a : Agrees taken D C) (slots max_blob retired : ℕ) (residents : FinMap text_cmp Resident) where
+module _ (taken : TakenChunks) (D : DurableState) (C : Catalog) (a : Agrees taken D C) (slots max_blob retired : ℕ) (residents : FinMap text_cmp Resident) where
   abbrev R0 : Catalog
   R0 = record C { slots = slots; max_blob = max_blob; sessions = D.sessions; residents = residents; retired = retired }
 
   module _ (b : Agrees empty D R0) (sound : Sound R0) where
-    again : (change : Change) (command : Command) (x : Answer) (left : Catalog) → replaying D change ≡ Some command → outcome false R0 command ≡ Ok (x, left) → command_change D.tenants command x ≡ Some change →
-        length (repo_of command) ≤ 255 → IsReplayed D R0 change
+    again : (change : Change) (command : Command) (x : Answer) (left : Catalog) → replay_command D change ≡ Some command → outcome false R0 command ≡ Ok (x, left) → command_change D.tenants command x ≡ Some change →
+        length (repo_of command) ≤ 255 → HasReplay D R0 change
     again = done D R0 b sound
 
-    start_again : (r : Text) (t : ℕ) → tenant C r ≡ Ok t → lacks_room_for C t r ≡ false → cannot_open C t ≡ false → length r ≤ 255 → IsReplayed D R0 (Opened r (key_of D.tenants r (next_number_of C t)))
+    start_again : (r : Text) (t : ℕ) → tenant C r ≡ Ok t → lacks_room_for C t r ≡ false → cannot_open C t ≡ false → length r ≤ 255 → HasReplay D R0 (SessionOpened r (session_key D.tenants r (next_number_of C t)))
     start_again r t known room_ok opens short_name =
-        again (Opened r (key_of D.tenants r (next_number_of C t))) (runs.Start r) (runs.Number (next_number_of C t)) (with_new_session R0 t r) refl (ap (map_outcome runs.Number) accepted) refl short_name
+        again (SessionOpened r (session_key D.tenants r (next_number_of C t))) (runs.Start r) (runs.Number (next_number_of C t)) (with_new_session R0 t r) refl (ap (map_outcome runs.Number) accepted) refl short_name
       where
         tenant_is : tenant R0 r ≡ Ok t
         tenant_is = known
@@ -213,16 +214,16 @@ module _ (taken : Takings) (D : Durable) (C : Catalog) (a : Agrees taken D C) (s
         accepted : start R0 r ≡ Ok (next_number_of C t, with_new_session R0 t r)
         accepted = rw (tenant_is, room_is, opens_is) refl
 
-    starts : (r : Text) (n : ℕ) (X : Catalog) → start C r ≡ Ok (n, X) → length r ≤ 255 → IsReplayed D R0 (Opened r (key_of D.tenants r n))
+    starts : (r : Text) (n : ℕ) (X : Catalog) → start C r ≡ Ok (n, X) → length r ≤ 255 → HasReplay D R0 (SessionOpened r (session_key D.tenants r n))
     starts r n X is short_name =
         let t = bound_ok (tenant C r) _ (n, X) is in
         let c = bound_ok (refuse (lacks_room_for C t.0 r) LimitReached) _ (n, X) t.2 in
         let d = bound_ok (refuse (cannot_open C t.0) LimitReached) _ (n, X) c.2 in
-        subst (λ m. IsReplayed D R0 (Opened r (key_of D.tenants r m))) (answer_by d.2) (start_again r t.0 t.1 (not_refused _ _ _ c.1) (not_refused _ _ _ d.1) short_name)
+        subst (λ m. HasReplay D R0 (SessionOpened r (session_key D.tenants r m))) (answer_by d.2) (start_again r t.0 t.1 (not_refused _ _ _ c.1) (not_refused _ _ _ d.1) short_name)
 
-    mounts : (r d : Text) (t : ℕ) → tenant C r ≡ Ok t → tenant_holds C t d ≡ true → lacks_room_for C t r ≡ false → length r ≤ 255 → IsReplayed D R0 (Linked r d)
+    mounts : (r d : Text) (t : ℕ) → tenant C r ≡ Ok t → tenant_holds C t d ≡ true → lacks_room_for C t r ≡ false → length r ≤ 255 → HasReplay D R0 (BlobLinked r d)
     mounts r d t known has room_ok short_name =
-        again (Linked r d) (runs.Mount r d None) (runs.Mounting mounting.Mounted) (with_link R0 r d) refl (ap (map_outcome runs.Mounting) accepted) refl short_name
+        again (BlobLinked r d) (runs.Mount r d None) (runs.Mounting mounting.Mounted) (with_link R0 r d) refl (ap (map_outcome runs.Mounting) accepted) refl short_name
       where
         tenant_is : tenant R0 r ≡ Ok t
         tenant_is = known
@@ -236,23 +237,23 @@ module _ (taken : Takings) (D : Durable) (C : Catalog) (a : Agrees taken D C) (s
         accepted : Commands.mount R0 r d None ≡ Ok (mounting.Mounted, with_link R0 r d)
         accepted = rw (tenant_is, has_is, room_is) refl
 
-    mounted : (r d : Text) (from : Option Text) (m : Mount) (X : Catalog) → Commands.mount C r d from ≡ Ok (m, X) → length r ≤ 255 → IsReplayed D R0 (mount_change D.tenants r d m)
+    mounted : (r d : Text) (from : Option Text) (m : Mount) (X : Catalog) → Commands.mount C r d from ≡ Ok (m, X) → length r ≤ 255 → HasReplay D R0 (mount_change D.tenants r d m)
     mounted r d from m X is short_name =
         let t = bound_ok (tenant C r) _ (m, X) is in
-        elim (has_source C t.0 d from) as (λ x. has_source C t.0 d from ≡ x → (if x then mounted_outcome C t.0 r d else started_outcome C r) ≡ Ok (m, X) → IsReplayed D R0 (mount_change D.tenants r d m)) [
+        elim (has_source C t.0 d from) as (λ x. has_source C t.0 d from ≡ x → (if x then mounted_outcome C t.0 r d else started_outcome C r) ≡ Ok (m, X) → HasReplay D R0 (mount_change D.tenants r d m)) [
           | true ↦ λ has h.
               let c = bound_ok (refuse (lacks_room_for C t.0 r) LimitReached) _ (m, X) h in
               let source = source_of C t.0 d from has in
               let answer : mounting.Mounted ≡ m = answer_by c.2 in
               let held = is_held C t.0 source.0 d (a.linked_in (source.0, d) source.2) source.1 source.2 in
-              subst (λ (y : Mount). IsReplayed D R0 (mount_change D.tenants r d y)) answer (mounts r d t.0 t.1 held (not_refused _ _ _ c.1) short_name)
+              subst (λ (y : Mount). HasReplay D R0 (mount_change D.tenants r d y)) answer (mounts r d t.0 t.1 held (not_refused _ _ _ c.1) short_name)
           | false ↦ λ has h.
               let c = bound_ok (start C r) _ (m, X) h in
               let answer : mounting.Session c.0.0 ≡ m = answer_by c.2 in
-              subst (λ (y : Mount). IsReplayed D R0 (mount_change D.tenants r d y)) answer (starts r c.0.0 c.0.1 c.1 short_name)
+              subst (λ (y : Mount). HasReplay D R0 (mount_change D.tenants r d y)) answer (starts r c.0.0 c.0.1 c.1 short_name)
         ] refl t.2
 
-    deletes : (r d : Text) (X : Catalog) → delete C r d ≡ Ok (tt, X) → length r ≤ 255 → IsReplayed D R0 (Unlinked r d)
+    deletes : (r d : Text) (X : Catalog) → delete C r d ≡ Ok (tt, X) → length r ≤ 255 → HasReplay D R0 (BlobUnlinked r d)
     deletes r d X is short_name =
         let t = bound_ok (tenant C r) _ (tt, X) is in
         let c = bound_ok (check_link C r d) _ (tt, X) t.2 in
@@ -261,9 +262,9 @@ module _ (taken : Takings) (D : Durable) (C : Catalog) (a : Agrees taken D C) (s
         let linked_is : check_link R0 r d ≡ Ok tt = c.1 in
         let free_is : check_no_referrer (referrer R0 r d) ≡ Ok tt = e.1 in
         let accepted : delete R0 r d ≡ Ok (tt, record R0 { links = set.remove C.links (r, d) }) = rw (tenant_is, linked_is, free_is) refl in
-        again (Unlinked r d) (runs.Delete r d) runs.Done (record R0 { links = set.remove C.links (r, d) }) refl (ap (map_outcome (λ _. runs.Done)) accepted) refl short_name
+        again (BlobUnlinked r d) (runs.Delete r d) runs.Done (record R0 { links = set.remove C.links (r, d) }) refl (ap (map_outcome (λ _. runs.Done)) accepted) refl short_name
 
-    describes : (r bytes : Text) (x : Text) (X : Catalog) → Commands.put_manifest C r bytes ≡ Ok (x, X) → length r ≤ 255 → IsReplayed D R0 (Described r bytes)
+    describes : (r bytes : Text) (x : Text) (X : Catalog) → Commands.put_manifest C r bytes ≡ Ok (x, X) → length r ≤ 255 → HasReplay D R0 (ManifestPut r bytes)
     describes r bytes x X is short_name =
         let t = bound_ok (tenant C r) _ (x, X) is in
         let c = bound_ok (refuse (nat_lt max_manifest (length bytes)) SizeInvalid) _ (x, X) t.2 in
@@ -272,8 +273,8 @@ module _ (taken : Takings) (D : Durable) (C : Catalog) (a : Agrees taken D C) (s
         by t.0 e.0 t.1 c.1 e.1 l.1 (has_manifest C r (sha256_text bytes)) refl l.2
       where
         by : (t : ℕ) (refs : List Text) → tenant C r ≡ Ok t → refuse (nat_lt max_manifest (length bytes)) SizeInvalid ≡ Ok tt → ok_or (refs_of bytes) ManifestInvalid ≡ Ok refs → check_all_links C r refs ≡ Ok tt →
-            (y : Bool) → has_manifest C r (sha256_text bytes) ≡ y → (if y then Ok (sha256_text bytes, C) else add_manifest C t r bytes) ≡ Ok (x, X) → IsReplayed D R0 (Described r bytes)
-        by t refs known small read all true has h = again (Described r bytes) (runs.PutManifest r bytes) (runs.Bytes (sha256_text bytes)) R0 refl (ap (map_outcome runs.Bytes) accepted) refl short_name
+            (y : Bool) → has_manifest C r (sha256_text bytes) ≡ y → (if y then Ok (sha256_text bytes, C) else add_manifest C t r bytes) ≡ Ok (x, X) → HasReplay D R0 (ManifestPut r bytes)
+        by t refs known small read all true has h = again (ManifestPut r bytes) (runs.PutManifest r bytes) (runs.Bytes (sha256_text bytes)) R0 refl (ap (map_outcome runs.Bytes) accepted) refl short_name
           where
             tenant_is : tenant R0 r ≡ Ok t
             tenant_is = known
@@ -286,7 +287,7 @@ module _ (taken : Takings) (D : Durable) (C : Catalog) (a : Agrees taken D C) (s
 
             accepted : Commands.put_manifest R0 r bytes ≡ Ok (sha256_text bytes, R0)
             accepted = rw (tenant_is, small, read, all_is, has_is) refl
-        by t refs known small read all false has h = again (Described r bytes) (runs.PutManifest r bytes) (runs.Bytes (sha256_text bytes)) (with_manifest R0 r bytes) refl (ap (map_outcome runs.Bytes) accepted) refl short_name
+        by t refs known small read all false has h = again (ManifestPut r bytes) (runs.PutManifest r bytes) (runs.Bytes (sha256_text bytes)) (with_manifest R0 r bytes) refl (ap (map_outcome runs.Bytes) accepted) refl short_name
           where
             tenant_is : tenant R0 r ≡ Ok t
             tenant_is = known
@@ -308,47 +309,47 @@ module _ (taken : Takings) (D : Durable) (C : Catalog) (a : Agrees taken D C) (s
             accepted : Commands.put_manifest R0 r bytes ≡ Ok (sha256_text bytes, with_manifest R0 r bytes)
             accepted = rw (tenant_is, small, read, all_is, has_is) added
 
-    forgets : (r name : Text) (X : Catalog) → Commands.delete_manifest C r name ≡ Ok (tt, X) → length r ≤ 255 → IsReplayed D R0 (Forgotten r name)
+    forgets : (r name : Text) (X : Catalog) → Commands.delete_manifest C r name ≡ Ok (tt, X) → length r ≤ 255 → HasReplay D R0 (ManifestDeleted r name)
     forgets r name X is short_name =
         let t = bound_ok (tenant C r) _ (tt, X) is in
         let c = bound_ok (manifest C r name) _ (tt, X) t.2 in
         let tenant_is : tenant R0 r ≡ Ok t.0 = t.1 in
         let there_is : manifest R0 r name ≡ Ok c.0 = c.1 in
         let accepted : Commands.delete_manifest R0 r name ≡ Ok (tt, record R0 { manifests = remove C.manifests (r, name) }) = rw (tenant_is, there_is) refl in
-        again (Forgotten r name) (runs.DeleteManifest r name) runs.Done (record R0 { manifests = remove C.manifests (r, name) }) refl (ap (map_outcome (λ _. runs.Done)) accepted) refl short_name
+        again (ManifestDeleted r name) (runs.DeleteManifest r name) runs.Done (record R0 { manifests = remove C.manifests (r, name) }) refl (ap (map_outcome (λ _. runs.Done)) accepted) refl short_name
 
 -- ---- any step
 
 -- the settings of two stores that are alike
-module _ (taken : Takings) (D : Durable) (s : State) (a : Agrees taken D s.catalog) (sound : Sound s.catalog) (R : Catalog) (b : Agrees empty D R) (sound_here : Sound R) (limit : R.max_blob ≡ s.catalog.max_blob) where
+module _ (taken : TakenChunks) (D : DurableState) (s : State) (a : Agrees taken D s.catalog) (sound : Sound s.catalog) (R : Catalog) (b : Agrees empty D R) (sound_here : Sound R) (limit : R.max_blob ≡ s.catalog.max_blob) where
   abbrev C : Catalog
   C = s.catalog
 
   -- by the catalog as it was, but for slots, sessions and blobs
-  by_parts : (change : Change) → ((b0 : Agrees empty D (as_was taken D C a R b)) → Sound (as_was taken D C a R b) → IsReplayed D (as_was taken D C a R b) change) → IsReplayed D R change
+  by_parts : (change : Change) → ((b0 : Agrees empty D (as_was taken D C a R b)) → Sound (as_was taken D C a R b) → HasReplay D (as_was taken D C a R b) change) → HasReplay D R change
   by_parts change one =
       let is = as_was_is taken D C a R b in
-      subst (λ X. IsReplayed D X change) is (one (subst (λ X. Agrees empty D X) (sym is) b) (subst (λ X. Sound X) (sym is) sound_here))
+      subst (λ X. HasReplay D X change) is (one (subst (λ X. Agrees empty D X) (sym is) b) (subst (λ X. Sound X) (sym is) sound_here))
 
-  key_there : (r : Text) (t n : ℕ) → tenant_of C.tenants r ≡ Some t → key_of D.tenants r n ≡ (t, n)
+  key_there : (r : Text) (t n : ℕ) → tenant_of C.tenants r ≡ Some t → session_key D.tenants r n ≡ (t, n)
   key_there r t n known = ap (λ o. (option_map_or (λ x. x) o 0, n)) (ap (λ ts. tenant_of ts r) a.tenants ∙ known)
 
-  appended : (r : Text) (n : ℕ) (g : Option ByteRange) (bytes : Text) (m : ℕ) (X : Catalog) → append C r n g bytes ≡ Ok (m, X) → length r ≤ 255 → (change : Change) → chunk_change (key_of D.tenants r n) bytes ≡ Some change → IsReplayed D R change
+  appended : (r : Text) (n : ℕ) (g : Option ByteRange) (bytes : Text) (m : ℕ) (X : Catalog) → append C r n g bytes ≡ Ok (m, X) → length r ≤ 255 → (change : Change) → chunk_change (session_key D.tenants r n) bytes ≡ Some change → HasReplay D R change
   appended r n g bytes m X is short_name change records =
       let t = bound_ok (tenant C r) _ (m, X) is in
       let c = bound_ok (chunk_length_check C t.0 r n g (length bytes)) _ (m, X) t.2 in
       let known = some_of_ok (tenant_of C.tenants r) NameUnknown t.0 t.1 in
       let k = checked_home C t.0 n r g (length bytes) c.0 c.1 in
-      let kept = kept_home taken D C a t.0 n r (length bytes) k in
+      let kept = durable_checked_in taken D C a t.0 n r (length bytes) k in
       let accepted : outcome false C (runs.Append r n g bytes) ≡ Ok (runs.Number m, X) = ap (map_outcome runs.Number) is in
-      let there : Agrees taken (recorded D (chunk_change (t.0, n) bytes)) X =
-      subst (λ key. Agrees taken (recorded D (chunk_change key bytes)) X) (ap (λ ts. key_of ts r n) (sym a.tenants) ∙ key_there r t.0 n known) (command_agrees taken D C a (runs.Append r n g bytes) (runs.Number m) X accepted) in
+      let there : Agrees taken (after_record D (chunk_change (t.0, n) bytes)) X =
+      subst (λ key. Agrees taken (after_record D (chunk_change key bytes)) X) (ap (λ ts. session_key ts r n) (sym a.tenants) ∙ key_there r t.0 n known) (command_agrees taken D C a (runs.Append r n g bytes) (runs.Number m) X accepted) in
       let setting = step_setting s (CommandCall (runs.Append r n g bytes) (Ok (runs.Number m))) X accepted in
       chunk_again D R b sound_here (t.0, n) k.s.repo k.chunks kept.0 taken X bytes kept.1 there (Sound-case C X (runs.Append r n g bytes) (Ok (runs.Number m)) short_name accepted sound) (setting.1 ∙ sym limit) change
       (ap (λ key. chunk_change key bytes) (sym (key_there r t.0 n known)) ∙ records)
 
-  closed : (r : Text) (n : ℕ) (d : Text) (g : Option ByteRange) (bytes : Text) (m : ℕ) (X : Catalog) → close C r n d g bytes ≡ Ok (m, X) → length r ≤ 255 → HasRoom D R (Sealed (key_of D.tenants r n) d bytes) →
-      IsReplayed D R (Sealed (key_of D.tenants r n) d bytes)
+  closed : (r : Text) (n : ℕ) (d : Text) (g : Option ByteRange) (bytes : Text) (m : ℕ) (X : Catalog) → close C r n d g bytes ≡ Ok (m, X) → length r ≤ 255 → HasRoomFor D R (SessionSealed (session_key D.tenants r n) d bytes) →
+      HasReplay D R (SessionSealed (session_key D.tenants r n) d bytes)
   closed r n d g bytes m X is short_name free =
       let t = bound_ok (tenant C r) _ (m, X) is in
       let c = bound_ok (chunk_length_check C t.0 r n g (length bytes)) _ (m, X) t.2 in
@@ -356,96 +357,101 @@ module _ (taken : Takings) (D : Durable) (s : State) (a : Agrees taken D s.catal
       let e = bound_ok (refuse (not (is_digest_accepted C d (content_in C.sessions (t.0, n) bytes))) DigestInvalid) _ (m, X) q.2 in
       let known = some_of_ok (tenant_of C.tenants r) NameUnknown t.0 t.1 in
       let k = checked_home C t.0 n r g (length bytes) c.0 c.1 in
-      let kept = kept_home taken D C a t.0 n r (length bytes) k in
+      let kept = durable_checked_in taken D C a t.0 n r (length bytes) k in
       let X2 : Catalog = record C { sessions = after_append_in C.sessions (t.0, n) bytes } in
       let accepted : outcome false C (runs.Append r n g bytes) ≡ Ok (runs.Number c.0, X2) = ap (map_outcome runs.Number) (append_is t.0 c.0 r n g bytes t.1 c.1 q.1) in
-      let there : Agrees taken (recorded D (chunk_change (t.0, n) bytes)) X2 =
-      subst (λ key. Agrees taken (recorded D (chunk_change key bytes)) X2) (ap (λ ts. key_of ts r n) (sym a.tenants) ∙ key_there r t.0 n known) (command_agrees taken D C a (runs.Append r n g bytes) (runs.Number c.0) X2 accepted) in
+      let there : Agrees taken (after_record D (chunk_change (t.0, n) bytes)) X2 =
+      subst (λ key. Agrees taken (after_record D (chunk_change key bytes)) X2) (ap (λ ts. session_key ts r n) (sym a.tenants) ∙ key_there r t.0 n known) (command_agrees taken D C a (runs.Append r n g bytes) (runs.Number c.0) X2 accepted) in
       let named = (and_parts (is_digest_of d (content_in C.sessions (t.0, n) bytes)) (has_same_bytes (get C.residents d) (content_in C.sessions (t.0, n) bytes)) (not-false _ (not_refused _ _ _ e.1))).0 in
       let whole : content_in C.sessions (t.0, n) bytes ≡ concat k.chunks ++ bytes = ap (λ o. concat (option_map_or (λ x. at_home x.chunks) o []) ++ bytes) k.found ∙ ap (λ x. concat (at_home x) ++ bytes) k.home in
-      subst (λ key. IsReplayed D R (Sealed key d bytes)) (sym (key_there r t.0 n known))
+      subst (λ key. HasReplay D R (SessionSealed key d bytes)) (sym (key_there r t.0 n known))
       (seal_again D R b sound_here (t.0, n) k.s.repo k.chunks kept.0 taken X2 bytes kept.1 there (Sound-case C X2 (runs.Append r n g bytes) (Ok (runs.Number c.0)) short_name accepted sound) (sym limit) d
-      (ap (is_digest_of d) (sym whole) ∙ named) (subst (λ key. HasRoom D R (Sealed key d bytes)) (key_there r t.0 n known) free))
+      (ap (is_digest_of d) (sym whole) ∙ named) (subst (λ key. HasRoomFor D R (SessionSealed key d bytes)) (key_there r t.0 n known) free))
     where
       append_is : (t after : ℕ) (r : Text) (n : ℕ) (g : Option ByteRange) (bytes : Text) → tenant C r ≡ Ok t → chunk_length_check C t r n g (length bytes) ≡ Ok after → check_quota C t (length bytes) ≡ Ok tt →
           append C r n g bytes ≡ Ok (after, record C { sessions = after_append_in C.sessions (t, n) bytes })
       append_is t after r n g bytes tenant_is check_is quota_is = rw (tenant_is, check_is, quota_is) refl
 
-  given_up : (r : Text) (n m : ℕ) (X : Catalog) → Commands.abandon C r n ≡ Ok (m, X) → IsReplayed D R (Dropped (key_of D.tenants r n))
+  given_up : (r : Text) (n m : ℕ) (X : Catalog) → Commands.abandon C r n ≡ Ok (m, X) → HasReplay D R (SessionDropped (session_key D.tenants r n))
   given_up r n m X is =
       let t = bound_ok (tenant C r) _ (m, X) is in
       let x = bound_ok (session C t.0 r n) _ (m, X) t.2 in
       let found = (session_found (get C.sessions (t.0, n)) r x.0 x.1).0 in
-      let kept = kept_of taken D C a (t.0, n) x.0 found in
-      subst (λ key. IsReplayed D R (Dropped key)) (sym (key_there r t.0 n (some_of_ok (tenant_of C.tenants r) NameUnknown t.0 t.1))) (dropped D R b sound_here (t.0, n) x.0.repo kept.0 kept.1)
+      let kept = durable_session taken D C a (t.0, n) x.0 found in
+      subst (λ key. HasReplay D R (SessionDropped key)) (sym (key_there r t.0 n (some_of_ok (tenant_of C.tenants r) NameUnknown t.0 t.1))) (dropped D R b sound_here (t.0, n) x.0.repo kept.0 kept.1)
 
   -- ---- hands
 
-  module _ (h : HandRecord) (genuine : get taken h.key ≡ Some h.chunks) (fills : IfSome h.last (λ b. length b ≡ h.reserved)) where
-    returned : (n : ℕ) (X : Catalog) → put_back C h ≡ Ok (n, X) → (change : Change) → chunk_change h.key (filled_in h) ≡ Some change → IsReplayed D R change
-    returned n X is change records =
+  module _ (h : HandRecord) (returned : get taken h.key ≡ Some h.chunks) (fills : IfSome h.last (λ b. length b ≡ h.reserved)) where
+    put_back_replayed : (n : ℕ) (X : Catalog) → put_back C h ≡ Ok (n, X) → (change : Change) → chunk_change h.key (filled_chunk h) ≡ Some change → HasReplay D R change
+    put_back_replayed n X is change records =
         let p = bound_ok (put_back_outcome_in C.sessions h) _ (n, X) is in
         let c = bound_ok (session_of_hand (get C.sessions h.key) h) _ p.0 p.1 in
-        let kept = kept_hand taken D C a h genuine c.0 c.1 in
+        let kept = durable_hand taken D C a h returned c.0 c.1 in
         let setting = step_setting s (PutBackCall h (Ok n)) X is in
-        chunk_again D R b sound_here h.key c.0.repo h.chunks kept.1 taken X (filled_in h) kept.2 (puts_back taken D C a h genuine n X is) (sound_put_back taken D C a sound h genuine fills n X is) (setting.1 ∙ sym limit) change records
+        chunk_again D R b sound_here h.key c.0.repo h.chunks kept.1 taken X (filled_chunk h) kept.2 (puts_back taken D C a h returned n X is) (sound_put_back taken D C a sound h returned fills n X is) (setting.1 ∙ sym limit) change records
 
-    finished : (d : Text) (n : ℕ) (X : Catalog) → finish C h d ≡ Ok (n, X) → HasRoom D R (Sealed h.key d (filled_in h)) → IsReplayed D R (Sealed h.key d (filled_in h))
+    finished : (d : Text) (n : ℕ) (X : Catalog) → finish C h d ≡ Ok (n, X) → HasRoomFor D R (SessionSealed h.key d (filled_chunk h)) → HasReplay D R (SessionSealed h.key d (filled_chunk h))
     finished d n X is free =
         let c = bound_ok (session_of_hand (get C.sessions h.key) h) _ (n, X) is in
         let e = bound_ok (refuse (not (is_digest_accepted C d (hand_content h))) DigestInvalid) _ (n, X) c.2 in
-        let kept = kept_hand taken D C a h genuine c.0 c.1 in
+        let kept = durable_hand taken D C a h returned c.0 c.1 in
         let X2 : Catalog = record C { sessions = with_chunks C.sessions h.key c.0 (CheckedIn (chunks_of h)) } in
         let back : put_back C h ≡ Ok (sum_by length (chunks_of h), X2) = back_is c.0 c.1 in
         let named = (and_parts (is_digest_of d (hand_content h)) (has_same_bytes (get C.residents d) (hand_content h)) (not-false _ (not_refused _ _ _ e.1))).0 in
-        seal_again D R b sound_here h.key c.0.repo h.chunks kept.1 taken X2 (filled_in h) kept.2 (puts_back taken D C a h genuine (sum_by length (chunks_of h)) X2 back)
-        (sound_put_back taken D C a sound h genuine fills (sum_by length (chunks_of h)) X2 back) (sym limit) d named free
+        seal_again D R b sound_here h.key c.0.repo h.chunks kept.1 taken X2 (filled_chunk h) kept.2 (puts_back taken D C a h returned (sum_by length (chunks_of h)) X2 back)
+        (sound_put_back taken D C a sound h returned fills (sum_by length (chunks_of h)) X2 back) (sym limit) d named free
       where
         back_is : (x : Session) → session_of_hand (get C.sessions h.key) h ≡ Ok x → put_back C h ≡ Ok (sum_by length (chunks_of h), record C { sessions = with_chunks C.sessions h.key x (CheckedIn (chunks_of h)) })
         back_is x here = rw here refl
 
   -- ---- commands
 
-  command_replayed : (command : Command) (x : Answer) (X : Catalog) → outcome false C command ≡ Ok (x, X) → length (repo_of command) ≤ 255 → (change : Change) → command_change D.tenants command x ≡ Some change → HasRoom D R change → IsReplayed D R change
+  command_replayed : (command : Command) (x : Answer) (X : Catalog) → outcome false C command ≡ Ok (x, X) → length (repo_of command) ≤ 255 → (change : Change) → command_change D.tenants command x ≡ Some change → HasRoomFor D R change → HasReplay D R change
   command_replayed (runs.Start r) x X is short_name change records free =
       let h = answered_ok runs.Number (start C r) x X is in
-      subst (λ y. command_change D.tenants (runs.Start r) y ≡ Some change → IsReplayed D R change) h.2
-      (λ e. subst (λ y. IsReplayed D R y) (some_same e)
-      (by_parts (Opened r (key_of D.tenants r h.0)) (λ b0 sound0. starts taken D C a R.slots R.max_blob R.retired R.residents b0 sound0 r h.0 X h.1 short_name))) records
+      subst (λ y. command_change D.tenants (runs.Start r) y ≡ Some change → HasReplay D R change) h.2
+      (λ e. subst (λ y. HasReplay D R y) (some_same e)
+      (by_parts (SessionOpened r (session_key D.tenants r h.0)) (λ b0 sound0. starts taken D C a R.slots R.max_blob R.retired R.residents b0 sound0 r h.0 X h.1 short_name))) records
   command_replayed (runs.Status r n) x X is short_name change records free = some_none (sym records)
   command_replayed (runs.Append r n g bytes) x X is short_name change records free = let h = answered_ok runs.Number (append C r n g bytes) x X is in appended r n g bytes h.0 X h.1 short_name change records
   command_replayed (runs.Close r n d g bytes) x X is short_name change records free =
       let h = answered_ok runs.Number (close C r n d g bytes) x X is in
-      subst (λ y. HasRoom D R y → IsReplayed D R y) (some_same records) (closed r n d g bytes h.0 X h.1 short_name) free
+      subst (λ y. HasRoomFor D R y → HasReplay D R y) (some_same records) (closed r n d g bytes h.0 X h.1 short_name) free
   command_replayed (runs.Abandon r n) x X is short_name change records free =
       let h = answered_ok runs.Number (Commands.abandon C r n) x X is in
-      subst (λ y. IsReplayed D R y) (some_same records) (given_up r n h.0 X h.1)
+      subst (λ y. HasReplay D R y) (some_same records) (given_up r n h.0 X h.1)
   command_replayed (runs.Mount r d from) x X is short_name change records free =
       let h = answered_ok runs.Mounting (Commands.mount C r d from) x X is in
-      subst (λ y. command_change D.tenants (runs.Mount r d from) y ≡ Some change → IsReplayed D R change) h.2
-      (λ e. subst (λ y. IsReplayed D R y) (some_same e)
+      subst (λ y. command_change D.tenants (runs.Mount r d from) y ≡ Some change → HasReplay D R change) h.2
+      (λ e. subst (λ y. HasReplay D R y) (some_same e)
       (by_parts (mount_change D.tenants r d h.0) (λ b0 sound0. mounted taken D C a R.slots R.max_blob R.retired R.residents b0 sound0 r d from h.0 X h.1 short_name))) records
   command_replayed (runs.Delete r d) x X is short_name change records free =
       let h = answered_ok (λ _. runs.Done) (delete C r d) x X is in
-      subst (λ y. IsReplayed D R y) (some_same records) (by_parts (Unlinked r d) (λ b0 sound0. deletes taken D C a R.slots R.max_blob R.retired R.residents b0 sound0 r d X h.1 short_name))
+      subst (λ y. HasReplay D R y) (some_same records) (by_parts (BlobUnlinked r d) (λ b0 sound0. deletes taken D C a R.slots R.max_blob R.retired R.residents b0 sound0 r d X h.1 short_name))
   command_replayed (runs.PutManifest r bytes) x X is short_name change records free =
       let h = answered_ok runs.Bytes (Commands.put_manifest C r bytes) x X is in
-      subst (λ y. IsReplayed D R y) (some_same records) (by_parts (Described r bytes) (λ b0 sound0. describes taken D C a R.slots R.max_blob R.retired R.residents b0 sound0 r bytes h.0 X h.1 short_name))
+      subst (λ y. HasReplay D R y) (some_same records) (by_parts (ManifestPut r bytes) (λ b0 sound0. describes taken D C a R.slots R.max_blob R.retired R.residents b0 sound0 r bytes h.0 X h.1 short_name))
   command_replayed (runs.GetManifest r m) x X is short_name change records free = some_none (sym records)
   command_replayed (runs.DeleteManifest r m) x X is short_name change records free =
       let h = answered_ok (λ _. runs.Done) (Commands.delete_manifest C r m) x X is in
-      subst (λ y. IsReplayed D R y) (some_same records) (by_parts (Forgotten r m) (λ b0 sound0. forgets taken D C a R.slots R.max_blob R.retired R.residents b0 sound0 r m X h.1 short_name))
+      subst (λ y. HasReplay D R y) (some_same records) (by_parts (ManifestDeleted r m) (λ b0 sound0. forgets taken D C a R.slots R.max_blob R.retired R.residents b0 sound0 r m X h.1 short_name))
   command_replayed (runs.Lease r d) x X is short_name change records free = some_none (sym records)
 
-pub changes_are_replayed : ChangesAreReplayed
-changes_are_replayed taken D s (CommandCall command (Ok x)) X change R a sound leaves genuine right records b sound_here limit free =
+step_replayed : (taken : TakenChunks) (D : DurableState) (s : State) (step : Step) (X : Catalog) (change : Change) (R : Catalog) → Agrees taken D s.catalog → Sound s.catalog → MayLeadTo s step X →
+    IsReturnedAsTaken taken step → IsWellFormedStep step → change_of D.tenants step ≡ Some change → Agrees empty D R → Sound R → R.max_blob ≡ s.catalog.max_blob → HasRoomFor D R change → HasReplay D R change
+step_replayed taken D s (CommandCall command (Ok x)) X change R a sound leaves returned right records b sound_here limit free =
     command_replayed taken D s a sound R b sound_here limit command x X leaves right change records free
-changes_are_replayed taken D s (PutBackCall h (Ok n)) X change R a sound leaves genuine right records b sound_here limit free =
-    returned taken D s a sound R b sound_here limit h genuine right n X leaves change records
-changes_are_replayed taken D s (FinishCall h d (Ok n)) X change R a sound leaves genuine right records b sound_here limit free =
-    subst (λ y. HasRoom D R y → IsReplayed D R y) (some_same records) (finished taken D s a sound R b sound_here limit h genuine right.0 d n X leaves) free
-changes_are_replayed taken D s (CommandCall command (Err e)) X change R a sound leaves genuine right records b sound_here limit free = some_none (sym records)
-changes_are_replayed taken D s (SweepCall swept) X change R a sound leaves genuine right records b sound_here limit free = some_none (sym records)
-changes_are_replayed taken D s (TakeCall r n g len reply) X change R a sound leaves genuine right records b sound_here limit free = some_none (sym records)
-changes_are_replayed taken D s (PutBackCall h (Err e)) X change R a sound leaves genuine right records b sound_here limit free = some_none (sym records)
-changes_are_replayed taken D s (FinishCall h d (Err e)) X change R a sound leaves genuine right records b sound_here limit free = some_none (sym records)
+step_replayed taken D s (PutBackCall h (Ok n)) X change R a sound leaves returned right records b sound_here limit free =
+    put_back_replayed taken D s a sound R b sound_here limit h returned right n X leaves change records
+step_replayed taken D s (FinishCall h d (Ok n)) X change R a sound leaves returned right records b sound_here limit free =
+    subst (λ y. HasRoomFor D R y → HasReplay D R y) (some_same records) (finished taken D s a sound R b sound_here limit h returned right.0 d n X leaves) free
+step_replayed taken D s (CommandCall command (Err e)) X change R a sound leaves returned right records b sound_here limit free = some_none (sym records)
+step_replayed taken D s (SweepCall swept) X change R a sound leaves returned right records b sound_here limit free = some_none (sym records)
+step_replayed taken D s (TakeCall r n g len reply) X change R a sound leaves returned right records b sound_here limit free = some_none (sym records)
+step_replayed taken D s (PutBackCall h (Err e)) X change R a sound leaves returned right records b sound_here limit free = some_none (sym records)
+step_replayed taken D s (FinishCall h d (Err e)) X change R a sound leaves returned right records b sound_here limit free = some_none (sym records)
+
+pub changes_have_replays : ChangesHaveReplays
+changes_have_replays taken D s step X change is R b sound_here limit free =
+    step_replayed taken D s step X change R is.agrees is.sound is.leaves is.returned is.proper is.records b sound_here limit free

@@ -7,11 +7,11 @@ use Rattle.std.proofs.lemmas.Map.Lookups.{exact_bytes}
 use Rattle.spec_lib.specs.Texts.{Text, text_cmp}
 use Rattle.spec_lib.proofs.Options.{nothing, some_none, some_same}
 use Rattle.store_model.specs.Catalog.{Catalog, Chunks, CheckedIn, CheckedOutWith, SessionNumber, Resident, Session, session_number_cmp}
-use Rattle.store_model.specs.Durable.{Agrees, Durable, HasChunks, IsSession}
+use Rattle.store_model.specs.Durable.{Agrees, DurableState, AgreesOnChunks, AgreesOnSession}
 use Rattle.store_model.specs.Histories.{initial_state}
 use Rattle.store_model.specs.HistoryIsolation.{uploads_of_history, catalog_after_requests, requests_of, steps_of}
 use Rattle.store_model.specs.Invariant.{WellFormed}
-use Rattle.store_model.specs.Restarts.{HistoriesAreRunsFrom, TenantsAreAloneFrom, blobs_with}
+use Rattle.store_model.specs.Restarts.{RestartedHistoriesAreRuns, TenantsAreIsolatedFrom, stored_contents}
 use Rattle.store_model.specs.Sessions.{are_checked_in}
 use Rattle.store_model.proofs.Invariant.SessionTenants.{session_owner}
 use Rattle.store_model.proofs.Noninterference.Hands.{Owned}
@@ -25,20 +25,20 @@ use Rattle.store_model.proofs.WholeCommands.Histories.{whole}
 
 -- ---- whole commands
 
-module _ (D : Durable) (C : Catalog) (a : Agrees empty D C) where
-  home : (k : SessionNumber) (x : Chunks) (chunks : List Text) → HasChunks (get {R = session_number_cmp} empty k) x chunks → are_checked_in x ≡ true
+module _ (D : DurableState) (C : Catalog) (a : Agrees empty D C) where
+  home : (k : SessionNumber) (x : Chunks) (chunks : List Text) → AgreesOnChunks (get {R = session_number_cmp} empty k) x chunks → are_checked_in x ≡ true
   home k (CheckedIn cs) chunks is = refl
   home k (CheckedOutWith n m) chunks is = nothing (get-empty session_number_cmp k) is.1
 
   all_home : AtHome empty C C.sessions
   all_home k = subst (λ o. AreOne C.tenants C.max_blob k (get C.sessions k) o (get C.sessions k)) (sym (get-empty session_number_cmp k)) (by (get C.sessions k) (a.sessions k))
     where
-      by : (o : Option Session) → IsSession (get {R = session_number_cmp} empty k) (get D.sessions k) o → AreOne C.tenants C.max_blob k o None o
+      by : (o : Option Session) → AgreesOnSession (get {R = session_number_cmp} empty k) (get D.sessions k) o → AreOne C.tenants C.max_blob k o None o
       by None is = refl
       by (Some s) is = (home k s.chunks is.0 is.3, refl)
 
-pub histories_are_runs_from : HistoriesAreRunsFrom
-histories_are_runs_from D C steps s events a sound run calm are named = whole steps (initial_state C) s empty C.sessions events (all_home D C a) sound run calm are named
+pub restarted_histories_are_runs : RestartedHistoriesAreRuns
+restarted_histories_are_runs D C steps s events a sound run calm are named = whole steps (initial_state C) s empty C.sessions events (all_home D C a) sound run calm are named
 
 -- ---- tenants alone
 
@@ -51,7 +51,7 @@ fits_found content (e ∷ es) fits d b found = by (eq_by_cmp text_cmp d e.0) ref
     by true tie is later = ap (λ (y : Resident). y.bytes) (sym (some_same is)) ∙ sym fits.0 ∙ ap content (sym (exact_bytes d e.0 ((Equal-is (text_cmp d e.0)).0 tie)))
     by false tie is later = later is
 
-consistent_from : (content : Text → Text) (C : Catalog) → WellFormed C → Fits content (blobs_with C) → Consistent content C
+consistent_from : (content : Text → Text) (C : Catalog) → WellFormed C → Fits content (stored_contents C) → Consistent content C
 consistent_from content C lawful fits = record {
   repos = lawful.repositories.owned;
   links = λ l has. (lawful.links l has).repo;
@@ -64,11 +64,11 @@ consistent_from content C lawful fits = record {
 owned_from : (C : Catalog) → WellFormed C → Owned C
 owned_from C lawful k s found = session_owner C lawful k s found
 
-pub tenants_are_alone_from : TenantsAreAloneFrom
-tenants_are_alone_from C t steps s sound fair free =
-    let pairs = blobs_with C ++ uploads_of_history (initial_state C) steps s fair.run in
+pub tenants_are_isolated_from : TenantsAreIsolatedFrom
+tenants_are_isolated_from C t steps s sound fair free =
+    let pairs = stored_contents C ++ uploads_of_history (initial_state C) steps s fair.run in
     let content : Text → Text = content_of pairs in
-    let both = fits_both content (blobs_with C) (uploads_of_history (initial_state C) steps s fair.run) (fits_content pairs fair.no_collision) in
+    let both = fits_both content (stored_contents C) (uploads_of_history (initial_state C) steps s fair.run) (fits_content pairs fair.no_collision) in
     let c = consistent_from content C sound.lawful both.0 in
     let h : Follows content t s.catalog C (steps_of C.tenants t steps) = follows content C.tenants t steps (initial_state C) s C refl fair.run both.1 (alike_itself t C) c (owned_from C sound.lawful) c free in
     record { replies = h.replies; tenant_view = same_part content t s.catalog (catalog_after_requests C (requests_of (steps_of C.tenants t steps))) h.alike h.consistent h.consistent_alone }

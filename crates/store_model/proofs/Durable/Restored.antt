@@ -15,57 +15,57 @@ use Rattle.spec_lib.proofs.Maps.{term}
 use Rattle.spec_lib.proofs.Options.{nothing, some_same}
 use Rattle.spec_lib.proofs.Texts.{tied_text}
 use Rattle.store_model.specs.Catalog.{Catalog, Link, SessionNumber, Resident, Session, charged_length, session_number_cmp, used_bytes}
-use Rattle.store_model.specs.Durable.{Agrees, Durable, IsSession, Takings}
+use Rattle.store_model.specs.Durable.{Agrees, DurableState, AgreesOnSession, TakenChunks}
 use Rattle.store_model.specs.Invariant.{WellFormed, WellFormedSession, Sound}
 use Rattle.store_model.proofs.Durable.Uses.{open_less, sum_within, used_within, was_open}
-use Rattle.store_model.specs.Recovery.{StoresRestart, blobs_of, is_linked, linked_contents, resident_of, restored}
+use Rattle.store_model.specs.Recovery.{StoresRestart, restored_blobs, is_linked, linked_contents, restored_blob, restored_catalog}
 
 -- ---- what a log has of blobs
 
 -- a digest that a repository links is linked
-pub linked_here : (D : Durable) (r d : Text) → set.contains D.repos r ≡ true → set.contains D.links (r, d) ≡ true → is_linked D d ≡ true
+pub linked_here : (D : DurableState) (r d : Text) → set.contains D.repos r ≡ true → set.contains D.links (r, d) ≡ true → is_linked D d ≡ true
 linked_here D r d there has =
     list_any_weaker (eq_by_cmp text_cmp r) (λ q. set.contains D.links (q, d)) (λ q tie. subst (λ (x : Text). set.contains D.links (x, d) ≡ true) (tied_text r q tie) has)
     (set.items D.repos) (sym (contains_key-keys D.repos r) ∙ there)
 
-pub get-linked : (D : Durable) (d : Text) → get (linked_contents D) d ≡ cond (is_linked D d) (get D.contents d) None
+pub get-linked : (D : DurableState) (d : Text) → get (linked_contents D) d ≡ cond (is_linked D d) (get D.contents d) None
 get-linked D d = get-retain_keys D.contents (is_linked D) d (λ x tie. ap (is_linked D) (sym (exact_bytes d x tie)))
 
-get-blobs : (D : Durable) (d : Text) → get (blobs_of D) d ≡ cond (is_linked D d) (option_map resident_of (get D.contents d)) None
+get-blobs : (D : DurableState) (d : Text) → get (restored_blobs D) d ≡ cond (is_linked D d) (option_map restored_blob (get D.contents d)) None
 get-blobs D d =
-    get-from_entries nat_list_cmp_total (map {B = Text × Resident} (λ e. (e.0, resident_of e.1)) (entries (linked_contents D))) d
-    ∙ find-over text_cmp resident_of d (entries (linked_contents D))
-    ∙ ap (option_map resident_of) (sym (get-entries (linked_contents D) d) ∙ get-linked D d)
-    ∙ map_none resident_of (is_linked D d) (get D.contents d)
+    get-from_entries nat_list_cmp_total (map {B = Text × Resident} (λ e. (e.0, restored_blob e.1)) (entries (linked_contents D))) d
+    ∙ find-over text_cmp restored_blob d (entries (linked_contents D))
+    ∙ ap (option_map restored_blob) (sym (get-entries (linked_contents D) d) ∙ get-linked D d)
+    ∙ map_none restored_blob (is_linked D d) (get D.contents d)
 
 -- ---- what is restored
 
-module _ (taken : Takings) (D : Durable) (C : Catalog) (a : Agrees taken D C) where
+module _ (taken : TakenChunks) (D : DurableState) (C : Catalog) (a : Agrees taken D C) where
   -- the blob of a digest that is linked
-  pub kept_blob : (l : Link) → set.contains C.links l ≡ true → (b : Resident) × (get C.residents l.1 ≡ Some b) × (get D.contents l.1 ≡ Some b.bytes) × (get (blobs_of D) l.1 ≡ Some (resident_of b.bytes))
+  pub kept_blob : (l : Link) → set.contains C.links l ≡ true → (b : Resident) × (get C.residents l.1 ≡ Some b) × (get D.contents l.1 ≡ Some b.bytes) × (get (restored_blobs D) l.1 ≡ Some (restored_blob b.bytes))
   kept_blob l h =
       let has = a.contents l h in
       let is : is_linked D l.1 ≡ true = linked_here D l.0 l.1 (ap (λ x. set.contains x l.0) a.repos ∙ a.linked_in l h) (ap (λ x. set.contains x l) a.links ∙ h) in
-      (has.0, has.1, has.2, get-blobs D l.1 ∙ (λ i. cond (is i) (option_map resident_of (has.2 i)) None))
+      (has.0, has.1, has.2, get-blobs D l.1 ∙ (λ i. cond (is i) (option_map restored_blob (has.2 i)) None))
 
   -- a blob that is restored was there, with the same bytes
-  was_kept : (d : Text) (x : Resident) → get (blobs_of D) d ≡ Some x → (r : Text) × (b : Resident) × (set.contains C.links (r, d) ≡ true) × (get C.residents d ≡ Some b) × (resident_of b.bytes ≡ x)
+  was_kept : (d : Text) (x : Resident) → get (restored_blobs D) d ≡ Some x → (r : Text) × (b : Resident) × (set.contains C.links (r, d) ≡ true) × (get C.residents d ≡ Some b) × (restored_blob b.bytes ≡ x)
   was_kept d x found = by (is_linked D d) refl
     where
-      by : (b : Bool) → is_linked D d ≡ b → (r : Text) × (b : Resident) × (set.contains C.links (r, d) ≡ true) × (get C.residents d ≡ Some b) × (resident_of b.bytes ≡ x)
+      by : (b : Bool) → is_linked D d ≡ b → (r : Text) × (b : Resident) × (set.contains C.links (r, d) ≡ true) × (get C.residents d ≡ Some b) × (restored_blob b.bytes ≡ x)
       by true is =
           let w = witness (λ r. set.contains D.links (r, d)) (set.items D.repos) is in
           let here : set.contains C.links (w.0, d) ≡ true = ap (λ y. set.contains y (w.0, d)) (sym a.links) ∙ w.1 in
           let k = kept_blob (w.0, d) here in
           (w.0, k.0, here, k.1, some_same (sym k.3 ∙ found))
-      by false is = nothing (get-blobs D d ∙ ap (λ b. cond b (option_map resident_of (get D.contents d)) None) is) found
+      by false is = nothing (get-blobs D d ∙ ap (λ b. cond b (option_map restored_blob (get D.contents d)) None) is) found
 
   module _ (slots max_blob : ℕ) where
     -- the catalog as it was, with what is restored of the rest
     abbrev R : Catalog
-    R = record C { slots = slots; max_blob = max_blob; sessions = D.sessions; residents = blobs_of D; retired = 0 }
+    R = record C { slots = slots; max_blob = max_blob; sessions = D.sessions; residents = restored_blobs D; retired = 0 }
 
-    is_restored : R ≡ restored D slots max_blob
+    is_restored : R ≡ restored_catalog D slots max_blob
     is_restored = λ i. record {
       tenants = sym a.tenants i;
       slots = slots;
@@ -75,7 +75,7 @@ module _ (taken : Takings) (D : Durable) (C : Catalog) (a : Agrees taken D C) wh
       manifests = sym a.manifests i;
       sessions = D.sessions;
       next = sym a.next i;
-      residents = blobs_of D;
+      residents = restored_blobs D;
       retired = 0;
     }
 
@@ -87,36 +87,36 @@ module _ (taken : Takings) (D : Durable) (C : Catalog) (a : Agrees taken D C) wh
       manifests = a.manifests;
       next = a.next;
       sessions = λ key. itself key (get D.sessions key) refl;
-      contents = λ l h. let k = kept_blob l h in (resident_of k.0.bytes, k.3, k.2);
+      contents = λ l h. let k = kept_blob l h in (restored_blob k.0.bytes, k.3, k.2);
       linked_in = a.linked_in;
       uploaded_to = λ key s h. let was = was_open taken D C a key s h in subst (λ (x : Session). set.contains C.repos x.repo ≡ true) (sym was.3) (a.uploaded_to key was.0 was.2);
     }
       where
-        itself : (key : SessionNumber) (o : Option Session) → get D.sessions key ≡ o → IsSession (get {R = session_number_cmp} empty key) o o
+        itself : (key : SessionNumber) (o : Option Session) → get D.sessions key ≡ o → AgreesOnSession (get {R = session_number_cmp} empty key) o o
         itself key None found = refl
         itself key (Some s) found =
             let was = was_open taken D C a key s found in
-            subst (λ (x : Session). IsSession (get {R = session_number_cmp} empty key) (Some x) (Some x)) (sym was.3) (was.1, refl, was.4, refl)
+            subst (λ (x : Session). AgreesOnSession (get {R = session_number_cmp} empty key) (Some x) (Some x)) (sym was.3) (was.1, refl, was.4, refl)
 
     -- ---- uses
 
     used_less : (t : ℕ) → used_bytes R t ≤ used_bytes C t
     used_less t = used_within taken D C a R agrees t
 
-    len_less : len (blobs_of D) ≤ len C.residents
+    len_less : len (restored_blobs D) ≤ len C.residents
     len_less =
-        let less = sum_within nat_list_cmp_total exact_bytes (λ (_ : Text × Resident). 1) (λ (_ : Text × Resident). 1) (blobs_of D) C.residents (λ d. by d (get (blobs_of D) d) refl) in
-        let one : len (blobs_of D) ≡ sum_by (λ _. 1) (entries (blobs_of D)) = len-entries (blobs_of D) ∙ sym (sum_by-ones (entries (blobs_of D))) in
+        let less = sum_within nat_list_cmp_total exact_bytes (λ (_ : Text × Resident). 1) (λ (_ : Text × Resident). 1) (restored_blobs D) C.residents (λ d. by d (get (restored_blobs D) d) refl) in
+        let one : len (restored_blobs D) ≡ sum_by (λ _. 1) (entries (restored_blobs D)) = len-entries (restored_blobs D) ∙ sym (sum_by-ones (entries (restored_blobs D))) in
         let two : len C.residents ≡ sum_by (λ _. 1) (entries C.residents) = len-entries C.residents ∙ sym (sum_by-ones (entries C.residents)) in
         omega arith
       where
-        by : (d : Text) (o : Option Resident) → get (blobs_of D) d ≡ o → term (λ (_ : Text × Resident). 1) d o ≤ term (λ (_ : Text × Resident). 1) d (get C.residents d)
+        by : (d : Text) (o : Option Resident) → get (restored_blobs D) d ≡ o → term (λ (_ : Text × Resident). 1) d o ≤ term (λ (_ : Text × Resident). 1) d (get C.residents d)
         by d None found = omega arith
         by d (Some x) found = let was = was_kept d x found in subst (λ o. 1 ≤ term (λ (_ : Text × Resident). 1) d o) (sym was.3) (omega arith)
 
     -- ---- the laws of a catalog
 
-    pub content : WellFormed C → (d : Text) (x : Resident) → get (blobs_of D) d ≡ Some x → is_digest_of d x.bytes ≡ true
+    pub content : WellFormed C → (d : Text) (x : Resident) → get (restored_blobs D) d ≡ Some x → is_digest_of d x.bytes ≡ true
     content lawful d x found = let was = was_kept d x found in subst (λ (y : Resident). is_digest_of d y.bytes ≡ true) was.4 (lawful.content d was.1 was.3)
 
     module _ (sound : Sound C) (more_slots : C.slots ≤ slots) (few_slots : slots ≤ 65536) (more_bytes : C.max_blob ≤ max_blob) (few_bytes : max_blob ≤ 2 ^ 40) where
@@ -141,7 +141,7 @@ module _ (taken : Takings) (D : Durable) (C : Catalog) (a : Agrees taken D C) wh
       is_lawful : WellFormed R
       is_lawful = record {
         content = content lawful;
-        links = λ l h. let k = kept_blob l h in record { repo = a.linked_in l h; kept = (resident_of k.0.bytes, k.3, refl) };
+        links = λ l h. let k = kept_blob l h in record { repo = a.linked_in l h; kept = (restored_blob k.0.bytes, k.3, refl) };
         manifests = lawful.manifests;
         sessions = session;
         repositories = lawful.repositories;

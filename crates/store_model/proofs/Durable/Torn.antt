@@ -4,18 +4,18 @@ use Rattle.std.specs.List.{cons_option}
 use Rattle.std.specs.FinMap.{empty}
 use Rattle.std.proofs.lemmas.List.Elements.{filter_map-append}
 use Rattle.store_model.specs.Catalog.{Tenant}
-use Rattle.store_model.specs.Durable.{Agrees, AreGenuine, Change, Takings, TornLogsAgree, change_of, changes_of, replayed, taken_after, taken_along}
+use Rattle.store_model.specs.Durable.{Agrees, AreReturnedAsTaken, Change, TakenChunks, TornLogsAgree, change_of, changes_of, after_changes, taken_after_step, taken_after_steps}
 use Rattle.store_model.specs.Histories.{AreSteps, State, Step, initial_state}
-use Rattle.store_model.proofs.Durable.Histories.{logs_go_on}
+use Rattle.store_model.proofs.Durable.Histories.{logs_extend}
 
 -- steps that go on are first some, and then the others
 pub first_steps : (first rest : List Step) (s s' : State) → AreSteps s (first ++ rest) s' → (mid : State) × AreSteps s first mid × AreSteps mid rest s'
 first_steps [] rest s s' run = (s, refl, run)
 first_steps (step ∷ first) rest s s' run = let later = first_steps first rest run.0 s' run.2 in (later.0, (run.0, run.1, later.1), later.2)
 
-pub first_genuine : (first rest : List Step) (taken : Takings) → AreGenuine taken (first ++ rest) → AreGenuine taken first
-first_genuine [] rest taken all = tt
-first_genuine (step ∷ first) rest taken all = (all.0, first_genuine first rest (taken_after taken step) all.1)
+pub first_returned : (first rest : List Step) (taken : TakenChunks) → AreReturnedAsTaken taken (first ++ rest) → AreReturnedAsTaken taken first
+first_returned [] rest taken all = tt
+first_returned (step ∷ first) rest taken all = (all.0, first_returned first rest (taken_after_step taken step) all.1)
 
 -- the steps whose records are the first ones
 abbrev Cut : List Tenant → List Step → List Change → Type 0
@@ -39,7 +39,7 @@ cut tenants (step ∷ steps) [] lost is = ([], step ∷ steps, refl, refl)
 cut tenants (step ∷ steps) (c ∷ kept) lost is = one_more tenants step steps c kept lost (λ xs e. cut tenants steps xs lost e) (change_of tenants step) refl is
 
 pub torn_logs_agree : TornLogsAgree
-torn_logs_agree D C done later s kept lost opens run genuine is =
+torn_logs_agree D C done later s kept lost opens run returned is =
     let c = cut D.tenants later kept lost is in
     let both : done ++ later ≡ (done ++ c.0) ++ c.1 = ap (λ xs. done ++ xs) c.2 ∙ sym (append_assoc done c.0 c.1) in
     let steps = first_steps (done ++ c.0) c.1 (initial_state C) s (subst (λ xs. AreSteps (initial_state C) xs s) both run) in
@@ -51,6 +51,6 @@ torn_logs_agree D C done later s kept lost opens run genuine is =
       split = c.2;
       records = c.3;
       leads = steps.1;
-      agrees = subst (λ xs. Agrees (taken_along empty (done ++ c.0)) (replayed D xs) steps.0.catalog) records
-          (logs_go_on empty D (initial_state C) (done ++ c.0) steps.0 opens steps.1 (first_genuine (done ++ c.0) c.1 empty (subst (λ xs. AreGenuine empty xs) both genuine)));
+      agrees = subst (λ xs. Agrees (taken_after_steps empty (done ++ c.0)) (after_changes D xs) steps.0.catalog) records
+          (logs_extend empty D (initial_state C) (done ++ c.0) steps.0 opens steps.1 (first_returned (done ++ c.0) c.1 empty (subst (λ xs. AreReturnedAsTaken empty xs) both returned)));
     }

@@ -18,7 +18,7 @@ use Rattle.spec_lib.proofs.Rows.{entries-empty}
 use Rattle.spec_lib.proofs.Sums.{sum_new}
 use Rattle.store_model.specs.Sessions.{session_charges}
 use Rattle.store_model.specs.Catalog.{holds, is_repo_of, open_count_in, tenant_holds, Catalog, Chunks, CheckedIn, CheckedOutWith, SessionNumber, Resident, Session, blob_share, charged_length, session_number_cmp, open_sessions, session_charge, session_charges_of, used_bytes}
-use Rattle.store_model.specs.Durable.{Agrees, Durable, HasChunks, IsSession, Takings}
+use Rattle.store_model.specs.Durable.{Agrees, DurableState, AgreesOnChunks, AgreesOnSession, TakenChunks}
 
 -- ---- sums
 
@@ -42,17 +42,17 @@ module _ {K : Type 0} {R : K → K → Ordering} (o : IsTotalOrder R) (same : Is
 
 -- ---- sessions and uses
 
-module _ (taken : Takings) (D : Durable) (C : Catalog) (a : Agrees taken D C) where
+module _ (taken : TakenChunks) (D : DurableState) (C : Catalog) (a : Agrees taken D C) where
   -- a session of the log is there, with no fewer bytes
   pub was_open : (key : SessionNumber) (s : Session) → get D.sessions key ≡ Some s →
       (x : Session) × (chunks : List Text) × (get C.sessions key ≡ Some x) × (s ≡ record { repo = x.repo; chunks = CheckedIn chunks }) × AllByRecursion (λ c. c ≢ []) chunks × (charged_length s ≤ charged_length x)
   was_open key s found = by (get C.sessions key) refl (a.sessions key)
     where
-      no_fewer : (x : Chunks) (chunks : List Text) → HasChunks (get taken key) x chunks → charged_length (record { repo = []; chunks = CheckedIn chunks }) ≤ charged_length (record { repo = []; chunks = x })
+      no_fewer : (x : Chunks) (chunks : List Text) → AgreesOnChunks (get taken key) x chunks → charged_length (record { repo = []; chunks = CheckedIn chunks }) ≤ charged_length (record { repo = []; chunks = x })
       no_fewer (CheckedIn cs) chunks is = subst (λ c. charged_length (record { repo = []; chunks = CheckedIn chunks }) ≤ charged_length (record { repo = []; chunks = CheckedIn c })) (sym is) (omega arith)
       no_fewer (CheckedOutWith n m) chunks is = let len = is.0 in omega arith
 
-      by : (o : Option Session) → get C.sessions key ≡ o → IsSession (get taken key) (get D.sessions key) o →
+      by : (o : Option Session) → get C.sessions key ≡ o → AgreesOnSession (get taken key) (get D.sessions key) o →
           (x : Session) × (chunks : List Text) × (get C.sessions key ≡ Some x) × (s ≡ record { repo = x.repo; chunks = CheckedIn chunks }) × AllByRecursion (λ c. c ≢ []) chunks × (charged_length s ≤ charged_length x)
       by None here is = nothing is found
       by (Some x) here is =
@@ -84,11 +84,11 @@ module _ (taken : Takings) (D : Durable) (C : Catalog) (a : Agrees taken D C) wh
     pub sessions_are : R.sessions ≡ D.sessions
     sessions_are = same_map number_cmp_total exact_number R.sessions D.sessions (λ q. by q (get R.sessions q) (b.sessions q))
       where
-        home : (q : SessionNumber) (x : Chunks) (chunks : List Text) → HasChunks (get {R = session_number_cmp} empty q) x chunks → x ≡ CheckedIn chunks
+        home : (q : SessionNumber) (x : Chunks) (chunks : List Text) → AgreesOnChunks (get {R = session_number_cmp} empty q) x chunks → x ≡ CheckedIn chunks
         home q (CheckedIn cs) chunks is = ap CheckedIn is
         home q (CheckedOutWith n m) chunks is = nothing (get-empty session_number_cmp q) is.1
 
-        by : (q : SessionNumber) (o : Option Session) → IsSession (get {R = session_number_cmp} empty q) (get D.sessions q) o → o ≡ get D.sessions q
+        by : (q : SessionNumber) (o : Option Session) → AgreesOnSession (get {R = session_number_cmp} empty q) (get D.sessions q) o → o ≡ get D.sessions q
         by q None is = sym is
         by q (Some s) is = (λ i. Some (record { repo = s.repo; chunks = home q s.chunks is.0 is.3 i })) ∙ sym is.1
 

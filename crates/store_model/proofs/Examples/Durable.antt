@@ -8,7 +8,7 @@ use Rattle.spec_lib.specs.Sets as set
 use Rattle.spec_lib.specs.Texts.{Text}
 use Rattle.store_model.specs.Catalog.{Catalog, CheckedIn, Session, HandRecord, Tenant}
 use Rattle.store_model.specs.Commands.{put_back}
-use Rattle.store_model.specs.Durable.{Agrees, AreGenuine, Durable, Opened, Received, Sealed, blank, changes_of, replayed, taken_along}
+use Rattle.store_model.specs.Durable.{Agrees, AreReturnedAsTaken, DurableState, SessionOpened, ChunkReceived, SessionSealed, initial_durable, changes_of, after_changes, taken_after_steps}
 use Rattle.store_model.proofs.Examples.Digests.{abc, abc_bytes}
 use Rattle.store_model.proofs.Examples.Histories.{closed, legal, repo, second_hand, steps, taken_again}
 use Rattle.store_model.proofs.Durable.Histories.{logs_agree}
@@ -17,26 +17,26 @@ abbrev tenants : List Tenant
 tenants = record { name = codes "acme"; quota = 9 } ∷ []
 
 -- three of the six steps are recorded
-records : changes_of tenants steps ≡ Opened repo (0, 1) ∷ Received (0, 1) abc_bytes ∷ Sealed (0, 1) abc [] ∷ []
+records : changes_of tenants steps ≡ SessionOpened repo (0, 1) ∷ ChunkReceived (0, 1) abc_bytes ∷ SessionSealed (0, 1) abc [] ∷ []
 records = refl
 
-genuine : AreGenuine empty steps
-genuine = (tt, (tt, (simp (get-insert {X = List Text} number_cmp_total) refl, (tt, (simp (get-insert {X = List Text} number_cmp_total) refl, (tt, tt))))))
+returned : AreReturnedAsTaken empty steps
+returned = (tt, (tt, (simp (get-insert {X = List Text} number_cmp_total) refl, (tt, (simp (get-insert {X = List Text} number_cmp_total) refl, (tt, tt))))))
 
 -- the law, of a history that there is
-agrees : Agrees (taken_along empty steps) (replayed (blank tenants) (Opened repo (0, 1) ∷ Received (0, 1) abc_bytes ∷ Sealed (0, 1) abc [] ∷ [])) closed
-agrees = logs_agree tenants 1 10 steps (record { catalog = closed; totals = record { commands = 3; received = 3; closed = 3; abandoned = 0 } }) legal genuine
+agrees : Agrees (taken_after_steps empty steps) (after_changes (initial_durable tenants) (SessionOpened repo (0, 1) ∷ ChunkReceived (0, 1) abc_bytes ∷ SessionSealed (0, 1) abc [] ∷ [])) closed
+agrees = logs_agree tenants 1 10 steps (record { catalog = closed; totals = record { commands = 3; received = 3; closed = 3; abandoned = 0 } }) legal returned
 
 -- where the last record is lost, the session has its bytes still
-abbrev cut_off : Durable
-cut_off = replayed (blank tenants) (Opened repo (0, 1) ∷ Received (0, 1) abc_bytes ∷ [])
+abbrev cut_off : DurableState
+cut_off = after_changes (initial_durable tenants) (SessionOpened repo (0, 1) ∷ ChunkReceived (0, 1) abc_bytes ∷ [])
 
 still_open : get cut_off.sessions (0, 1) ≡ Some (record { repo = repo; chunks = CheckedIn (abc_bytes ∷ []) })
 still_open = simp (get-insert {X = Session} number_cmp_total) refl
 
 -- the whole log has the blob
-abbrev whole : Durable
-whole = replayed cut_off (Sealed (0, 1) abc [] ∷ [])
+abbrev whole : DurableState
+whole = after_changes cut_off (SessionSealed (0, 1) abc [] ∷ [])
 
 blob_there : get whole.contents abc ≡ Some abc_bytes
 blob_there = simp (get-insert {X = Session} number_cmp_total, get-insert {X = Text} nat_list_cmp_total) refl

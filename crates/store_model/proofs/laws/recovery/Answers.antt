@@ -1,29 +1,29 @@
-use Rattle.store_model.proofs.Durable.Anew.{logs_are_written_anew}
-use Rattle.store_model.proofs.Durable.Histories.{blank_agrees}
-use Rattle.store_model.proofs.Durable.LivesOn.{stores_live_on}
-use Rattle.store_model.proofs.Durable.Otherwise.{stores_restart_otherwise}
-use Rattle.store_model.proofs.Durable.Replaying.{changes_are_replayed}
+use Rattle.store_model.proofs.Durable.Rewriting.{rewritten_logs_agree}
+use Rattle.store_model.proofs.Durable.Histories.{new_stores_agree}
+use Rattle.store_model.proofs.Durable.Crashes.{stores_survive_crashes}
+use Rattle.store_model.proofs.Durable.OtherSettings.{stores_restart_with_other_settings}
+use Rattle.store_model.proofs.Durable.Replaying.{changes_have_replays}
 use Rattle.store_model.proofs.Durable.Restored.{stores_restart}
-use Rattle.store_model.proofs.Durable.RunsAgain.{logs_run_again}
+use Rattle.store_model.proofs.Durable.LogReplays.{logs_have_replays}
 use Rattle.store_model.proofs.laws.recovery.Goals as goal
 
-pub returns-clause-first : goal.returns-clause-first
-returns-clause-first c = blank_agrees
+pub returns-clause-new_store : goal.returns-clause-new_store
+returns-clause-new_store c = new_stores_agree
 
 pub returns-clause-restart : goal.returns-clause-restart
 returns-clause-restart c = stores_restart
 
-pub returns-clause-live_on : goal.returns-clause-live_on
-returns-clause-live_on c = stores_live_on
+pub returns-clause-crashes : goal.returns-clause-crashes
+returns-clause-crashes c = stores_survive_crashes
 
-pub returns-clause-anew : goal.returns-clause-anew
-returns-clause-anew c = logs_are_written_anew
+pub returns-clause-rewrite : goal.returns-clause-rewrite
+returns-clause-rewrite c = rewritten_logs_agree
 
-pub returns-clause-again : goal.returns-clause-again
-returns-clause-again c = changes_are_replayed
+pub returns-clause-replay : goal.returns-clause-replay
+returns-clause-replay c = changes_have_replays
 
-pub returns-clause-runs : goal.returns-clause-runs
-returns-clause-runs c = logs_run_again
+pub returns-clause-replay_log : goal.returns-clause-replay_log
+returns-clause-replay_log c = logs_have_replays
 
-pub returns-clause-otherwise : goal.returns-clause-otherwise
-returns-clause-otherwise c = stores_restart_otherwise
+pub returns-clause-other_settings : goal.returns-clause-other_settings
+returns-clause-other_settings c = stores_restart_with_other_settings

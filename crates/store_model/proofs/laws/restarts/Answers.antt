@@ -1,8 +1,8 @@
-use Rattle.store_model.proofs.Durable.Restarts.{histories_are_runs_from, tenants_are_alone_from}
+use Rattle.store_model.proofs.Durable.Restarts.{restarted_histories_are_runs, tenants_are_isolated_from}
 use Rattle.store_model.proofs.laws.restarts.Goals as goal
 
 pub returns-clause-runs : goal.returns-clause-runs
-returns-clause-runs c = histories_are_runs_from
+returns-clause-runs c = restarted_histories_are_runs
 
 pub returns-clause-alone : goal.returns-clause-alone
-returns-clause-alone c = tenants_are_alone_from
+returns-clause-alone c = tenants_are_isolated_from

@@ -10,9 +10,9 @@ use Rattle.spec_lib.specs.Sets as set
 use Rattle.spec_lib.specs.Texts.{Text, same_text, text_cmp}
 use Rattle.spec_lib.proofs.Rows.{position-map}
 use Rattle.store_model.specs.Catalog.{Catalog, SessionNumber, Session, Tenant, charged_length, is_repo_of_tenant, tenant_name, tenant_of}
-use Rattle.store_model.specs.Durable.{Agrees, Durable, Takings}
+use Rattle.store_model.specs.Durable.{Agrees, DurableState, TakenChunks}
 use Rattle.store_model.specs.Invariant.{AreWellFormedNumbers, AreWellFormedRepositories, AreWithinLimits, WellFormed, WellFormedSession, Sound}
-use Rattle.store_model.specs.Recovery.{CanRestore, StoresRestartOtherwise, blobs_of, resident_of, restored, with_quotas}
+use Rattle.store_model.specs.Recovery.{CanRestore, StoresRestartWithOtherSettings, restored_blobs, restored_blob, restored_catalog, with_tenants}
 use Rattle.store_model.proofs.Durable.Restored.{agrees as agrees_there, content, kept_blob}
 use Rattle.store_model.proofs.Durable.Uses.{open_less, was_open}
 
@@ -54,11 +54,11 @@ module _ (ts us : List Tenant) (names : map (λ t. t.name) ts ≡ map (λ t. t.n
 
 -- ---- what is restored
 
-module _ (taken : Takings) (D : Durable) (C : Catalog) (a : Agrees taken D C) (lawful : WellFormed C) (tenants : List Tenant) (slots max_blob : ℕ) (can : CanRestore D tenants slots max_blob) where
+module _ (taken : TakenChunks) (D : DurableState) (C : Catalog) (a : Agrees taken D C) (lawful : WellFormed C) (tenants : List Tenant) (slots max_blob : ℕ) (can : CanRestore D tenants slots max_blob) where
   abbrev R : Catalog
-  R = record C { tenants = tenants; slots = slots; max_blob = max_blob; sessions = D.sessions; residents = blobs_of D; retired = 0 }
+  R = record C { tenants = tenants; slots = slots; max_blob = max_blob; sessions = D.sessions; residents = restored_blobs D; retired = 0 }
 
-  is_restored : R ≡ restored (with_quotas D tenants) slots max_blob
+  is_restored : R ≡ restored_catalog (with_tenants D tenants) slots max_blob
   is_restored = λ i. record {
     tenants = tenants;
     slots = slots;
@@ -68,14 +68,14 @@ module _ (taken : Takings) (D : Durable) (C : Catalog) (a : Agrees taken D C) (l
     manifests = sym a.manifests i;
     sessions = D.sessions;
     next = sym a.next i;
-    residents = blobs_of D;
+    residents = restored_blobs D;
     retired = 0;
   }
 
   names : map (λ t. t.name) tenants ≡ map (λ t. t.name) C.tenants
   names = can.names ∙ ap (λ ts. map (λ (t : Tenant). t.name) ts) a.tenants
 
-  agrees : Agrees empty (with_quotas D tenants) R
+  agrees : Agrees empty (with_tenants D tenants) R
   agrees = let there = agrees_there taken D C a slots max_blob in record {
     tenants = refl;
     repos = there.repos;
@@ -104,7 +104,7 @@ module _ (taken : Takings) (D : Durable) (C : Catalog) (a : Agrees taken D C) (l
   is_lawful : WellFormed R
   is_lawful = record {
     content = content taken D C a slots max_blob lawful;
-    links = λ l h. let k = kept_blob taken D C a l h in record { repo = a.linked_in l h; kept = (resident_of k.0.bytes, k.3, refl) };
+    links = λ l h. let k = kept_blob taken D C a l h in record { repo = a.linked_in l h; kept = (restored_blob k.0.bytes, k.3, refl) };
     manifests = lawful.manifests;
     sessions = session;
     repositories = repositories tenants C.tenants names C.repos lawful.repositories;
@@ -114,13 +114,13 @@ module _ (taken : Takings) (D : Durable) (C : Catalog) (a : Agrees taken D C) (l
     few_manifests = lawful.few_manifests;
   }
 
-  is_sound : Sound (restored (with_quotas D tenants) slots max_blob)
+  is_sound : Sound (restored_catalog (with_tenants D tenants) slots max_blob)
   is_sound = record {
     lawful = subst (λ X. WellFormed X) is_restored is_lawful;
     quotas = can.uses;
     slots = (let fit = can.fit in record { some = can.some.0; few = can.some.1; fit = omega arith });
   }
 
-pub stores_restart_otherwise : StoresRestartOtherwise
-stores_restart_otherwise taken D C a lawful tenants slots max_blob can =
-    (is_sound taken D C a lawful tenants slots max_blob can, subst (λ X. Agrees empty (with_quotas D tenants) X) (is_restored taken D C a lawful tenants slots max_blob can) (agrees taken D C a lawful tenants slots max_blob can))
+pub stores_restart_with_other_settings : StoresRestartWithOtherSettings
+stores_restart_with_other_settings taken D C a lawful tenants slots max_blob can =
+    (is_sound taken D C a lawful tenants slots max_blob can, subst (λ X. Agrees empty (with_tenants D tenants) X) (is_restored taken D C a lawful tenants slots max_blob can) (agrees taken D C a lawful tenants slots max_blob can))

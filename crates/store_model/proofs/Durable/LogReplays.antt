@@ -19,11 +19,11 @@ use Rattle.spec_lib.proofs.Options.{nothing, some_none, some_same}
 use Rattle.spec_lib.proofs.Outcomes.{bound_ok, not_refused, some_of_ok}
 use Rattle.store_model.specs.Catalog.{Catalog, CheckedIn, SessionNumber, Resident, HandRecord, Tenant, link_count, holds, opening, tenant_of}
 use Rattle.store_model.specs.Commands.{chunk_length_check, close, finish, has_slot, is_digest_accepted, is_full_for, mount, has_same_bytes, start, session_of_hand, tenant, check_quota}
-use Rattle.store_model.specs.Durable.{Agrees, AreGenuine, Change, Durable, IsGenuine, Sealed, Takings, apply, blank, change_of, changes_of, chunk_change, command_change, filled_in, key_of, mount_change, taken_after}
+use Rattle.store_model.specs.Durable.{Agrees, AreReturnedAsTaken, Change, DurableState, IsReturnedAsTaken, SessionSealed, TakenChunks, after_change, initial_durable, change_of, changes_of, chunk_change, command_change, filled_chunk, session_key, mount_change, taken_after_step}
 use Rattle.store_model.specs.Histories.{AreSteps, SweepCall, FinishCall, MayLeadTo, CommandCall, PutBackCall, State, Step, TakeCall, initial_state}
 use Rattle.store_model.specs.Invariant.{Sound}
-use Rattle.store_model.specs.Recovery.{IsProperStep}
-use Rattle.store_model.specs.Replaying.{HasRoom, IsReplayed, LogsRunAgain, RunsAgain, commands_for}
+use Rattle.store_model.specs.Recovery.{IsWellFormedStep}
+use Rattle.store_model.specs.Replaying.{HasRoomFor, HasReplay, LogsHaveReplays, HasLogReplay, replay_commands}
 use Rattle.store_model.specs.Runs as runs
 use Rattle.store_model.specs.Runs.{Answer, CommandEvent, Command, SweepEvent, outcome}
 use Rattle.store_model.specs.Sessions.{at_home, content_in, hand_content}
@@ -33,16 +33,16 @@ use Rattle.store_model.specs.Sweep.{is_orphan}
 use Rattle.store_model.proofs.Commands.SomeSweep.{after, kept, some_sweep, swept}
 use Rattle.store_model.proofs.Commands.Sweep.{Sound-sweep}
 use Rattle.store_model.proofs.Commands.Hands.{checked_home}
-use Rattle.store_model.proofs.Durable.Agreement.{recorded}
-use Rattle.store_model.proofs.Durable.Commands.{answered_ok, kept_home}
-use Rattle.store_model.proofs.Durable.Histories.{blank_agrees, kept_hand, recorded_tenants, step_agrees, sweeps}
-use Rattle.store_model.proofs.Durable.LivesOn.{SameSetting, SameSlots, command_setting, left_ok, step_setting, step_sound}
-use Rattle.store_model.proofs.Durable.Replaying.{changes_are_replayed}
+use Rattle.store_model.proofs.Durable.Agreement.{after_record}
+use Rattle.store_model.proofs.Durable.Commands.{answered_ok, durable_checked_in}
+use Rattle.store_model.proofs.Durable.Histories.{new_stores_agree, durable_hand, after_record_tenants, step_agrees, sweeps}
+use Rattle.store_model.proofs.Durable.Crashes.{SameSetting, SameSlots, command_setting, left_ok, step_setting, step_sound}
+use Rattle.store_model.proofs.Durable.Replaying.{changes_have_replays}
 use Rattle.store_model.proofs.Durable.Uses.{sum_within}
 
 -- ---- after a sweep
 
-module _ (taken : Takings) (D : Durable) (C : Catalog) (a : Agrees taken D C) (sound : Sound C) (R : Catalog) (b : Agrees empty D R) where
+module _ (taken : TakenChunks) (D : DurableState) (C : Catalog) (a : Agrees taken D C) (sound : Sound C) (R : Catalog) (b : Agrees empty D R) where
   -- what a sweep leaves is linked
   still_linked : (d : Text) (x : Resident) → get (kept R) d ≡ Some x → (is_orphan R d ≡ false) × (get R.residents d ≡ Some x)
   still_linked d x found = by (is_orphan R d) refl
@@ -120,18 +120,18 @@ module _ (taken : Takings) (D : Durable) (C : Catalog) (a : Agrees taken D C) (s
 
 -- ---- each change finds room after a sweep
 
-module _ (taken : Takings) (D : Durable) (s : State) (a : Agrees taken D s.catalog) (sound : Sound s.catalog) (R : Catalog) (b : Agrees empty D R) (slots_are : R.slots ≡ s.catalog.slots) (none_retired : R.retired ≡ 0) where
+module _ (taken : TakenChunks) (D : DurableState) (s : State) (a : Agrees taken D s.catalog) (sound : Sound s.catalog) (R : Catalog) (b : Agrees empty D R) (slots_are : R.slots ≡ s.catalog.slots) (none_retired : R.retired ≡ 0) where
   abbrev C : Catalog
   C = s.catalog
 
   -- what was sealed, of these chunks
   sealed_room : (key : SessionNumber) (repo : Text) (chunks : List Text) (d last : Text) → get D.sessions key ≡ Some (record { repo = repo; chunks = CheckedIn chunks }) → has_slot C d ≡ Ok tt → has_same_bytes (get C.residents d) (concat chunks ++ last) ≡ true →
-      HasRoom D (after R) (Sealed key d last)
+      HasRoomFor D (after R) (SessionSealed key d last)
   sealed_room key repo chunks d last found free same =
       let whole : content_in D.sessions key last ≡ concat chunks ++ last = ap (λ o. concat (option_map_or (λ x. at_home x.chunks) o []) ++ last) found in
       (slot_again taken D C a sound R b slots_are none_retired d (not_refused _ _ _ free), bytes_again taken D C a sound R b slots_are none_retired d (content_in D.sessions key last) (ap (has_same_bytes (get C.residents d)) whole ∙ same))
 
-  close_room : (r : Text) (n : ℕ) (d : Text) (g : Option ByteRange) (bytes : Text) (m : ℕ) (X : Catalog) → close C r n d g bytes ≡ Ok (m, X) → HasRoom D (after R) (Sealed (key_of D.tenants r n) d bytes)
+  close_room : (r : Text) (n : ℕ) (d : Text) (g : Option ByteRange) (bytes : Text) (m : ℕ) (X : Catalog) → close C r n d g bytes ≡ Ok (m, X) → HasRoomFor D (after R) (SessionSealed (session_key D.tenants r n) d bytes)
   close_room r n d g bytes m X is =
       let t = bound_ok (tenant C r) _ (m, X) is in
       let c = bound_ok (chunk_length_check C t.0 r n g (length bytes)) _ (m, X) t.2 in
@@ -140,65 +140,65 @@ module _ (taken : Takings) (D : Durable) (s : State) (a : Agrees taken D s.catal
       let f = bound_ok (has_slot C d) _ (m, X) e.2 in
       let known = some_of_ok (tenant_of C.tenants r) NameUnknown t.0 t.1 in
       let k = checked_home C t.0 n r g (length bytes) c.0 c.1 in
-      let kept_is = kept_home taken D C a t.0 n r (length bytes) k in
+      let kept_is = durable_checked_in taken D C a t.0 n r (length bytes) k in
       let same = (and_parts (is_digest_of d (content_in C.sessions (t.0, n) bytes)) (has_same_bytes (get C.residents d) (content_in C.sessions (t.0, n) bytes)) (not-false _ (not_refused _ _ _ e.1))).1 in
       let whole : content_in C.sessions (t.0, n) bytes ≡ concat k.chunks ++ bytes = ap (λ o. concat (option_map_or (λ x. at_home x.chunks) o []) ++ bytes) k.found ∙ ap (λ x. concat (at_home x) ++ bytes) k.home in
       named t.0 known (sealed_room (t.0, n) k.s.repo k.chunks d bytes kept_is.0 f.1 (ap (has_same_bytes (get C.residents d)) (sym whole) ∙ same))
     where
-      named : (t : ℕ) → tenant_of C.tenants r ≡ Some t → HasRoom D (after R) (Sealed (t, n) d bytes) → HasRoom D (after R) (Sealed (key_of D.tenants r n) d bytes)
-      named t known room = subst (λ key. HasRoom D (after R) (Sealed key d bytes)) (sym (ap (λ o. (option_map_or (λ x. x) o 0, n)) (ap (λ ts. tenant_of ts r) a.tenants ∙ known))) room
+      named : (t : ℕ) → tenant_of C.tenants r ≡ Some t → HasRoomFor D (after R) (SessionSealed (t, n) d bytes) → HasRoomFor D (after R) (SessionSealed (session_key D.tenants r n) d bytes)
+      named t known room = subst (λ key. HasRoomFor D (after R) (SessionSealed key d bytes)) (sym (ap (λ o. (option_map_or (λ x. x) o 0, n)) (ap (λ ts. tenant_of ts r) a.tenants ∙ known))) room
 
-  finish_room : (h : HandRecord) → get taken h.key ≡ Some h.chunks → (d : Text) (n : ℕ) (X : Catalog) → finish C h d ≡ Ok (n, X) → HasRoom D (after R) (Sealed h.key d (filled_in h))
-  finish_room h genuine d n X is =
+  finish_room : (h : HandRecord) → get taken h.key ≡ Some h.chunks → (d : Text) (n : ℕ) (X : Catalog) → finish C h d ≡ Ok (n, X) → HasRoomFor D (after R) (SessionSealed h.key d (filled_chunk h))
+  finish_room h returned d n X is =
       let c = bound_ok (session_of_hand (get C.sessions h.key) h) _ (n, X) is in
       let e = bound_ok (refuse (not (is_digest_accepted C d (hand_content h))) DigestInvalid) _ (n, X) c.2 in
       let f = bound_ok (has_slot C d) _ (n, X) e.2 in
-      let kept_is = kept_hand taken D C a h genuine c.0 c.1 in
+      let kept_is = durable_hand taken D C a h returned c.0 c.1 in
       let same = (and_parts (is_digest_of d (hand_content h)) (has_same_bytes (get C.residents d) (hand_content h)) (not-false _ (not_refused _ _ _ e.1))).1 in
-      sealed_room h.key c.0.repo h.chunks d (filled_in h) kept_is.1 f.1 same
+      sealed_room h.key c.0.repo h.chunks d (filled_chunk h) kept_is.1 f.1 same
 
   -- no other change wants any
-  chunk_room : (key : SessionNumber) (bytes : Text) (change : Change) → chunk_change key bytes ≡ Some change → HasRoom D (after R) change
+  chunk_room : (key : SessionNumber) (bytes : Text) (change : Change) → chunk_change key bytes ≡ Some change → HasRoomFor D (after R) change
   chunk_room key [] change is = some_none (sym is)
-  chunk_room key (x ∷ bytes) change is = subst (λ y. HasRoom D (after R) y) (some_same is) tt
+  chunk_room key (x ∷ bytes) change is = subst (λ y. HasRoomFor D (after R) y) (some_same is) tt
 
-  mount_room : (r d : Text) (m : Mount) → HasRoom D (after R) (mount_change D.tenants r d m)
+  mount_room : (r d : Text) (m : Mount) → HasRoomFor D (after R) (mount_change D.tenants r d m)
   mount_room r d mounting.Mounted = tt
   mount_room r d (mounting.Session n) = tt
 
-  command_room : (command : Command) (x : Answer) (X : Catalog) → outcome false C command ≡ Ok (x, X) → (change : Change) → command_change D.tenants command x ≡ Some change → HasRoom D (after R) change
+  command_room : (command : Command) (x : Answer) (X : Catalog) → outcome false C command ≡ Ok (x, X) → (change : Change) → command_change D.tenants command x ≡ Some change → HasRoomFor D (after R) change
   command_room (runs.Start r) x X is change records =
       let h = answered_ok runs.Number (start C r) x X is in
-      subst (λ y. command_change D.tenants (runs.Start r) y ≡ Some change → HasRoom D (after R) change) h.2 (λ e. subst (λ y. HasRoom D (after R) y) (some_same e) tt) records
+      subst (λ y. command_change D.tenants (runs.Start r) y ≡ Some change → HasRoomFor D (after R) change) h.2 (λ e. subst (λ y. HasRoomFor D (after R) y) (some_same e) tt) records
   command_room (runs.Status r n) x X is change records = some_none (sym records)
-  command_room (runs.Append r n g bytes) x X is change records = chunk_room (key_of D.tenants r n) bytes change records
+  command_room (runs.Append r n g bytes) x X is change records = chunk_room (session_key D.tenants r n) bytes change records
   command_room (runs.Close r n d g bytes) x X is change records =
       let h = answered_ok runs.Number (close C r n d g bytes) x X is in
-      subst (λ y. HasRoom D (after R) y) (some_same records) (close_room r n d g bytes h.0 X h.1)
-  command_room (runs.Abandon r n) x X is change records = subst (λ y. HasRoom D (after R) y) (some_same records) tt
+      subst (λ y. HasRoomFor D (after R) y) (some_same records) (close_room r n d g bytes h.0 X h.1)
+  command_room (runs.Abandon r n) x X is change records = subst (λ y. HasRoomFor D (after R) y) (some_same records) tt
   command_room (runs.Mount r d from) x X is change records =
       let h = answered_ok runs.Mounting (mount C r d from) x X is in
-      subst (λ y. command_change D.tenants (runs.Mount r d from) y ≡ Some change → HasRoom D (after R) change) h.2 (λ e. subst (λ y. HasRoom D (after R) y) (some_same e) (mount_room r d h.0)) records
-  command_room (runs.Delete r d) x X is change records = subst (λ y. HasRoom D (after R) y) (some_same records) tt
-  command_room (runs.PutManifest r bytes) x X is change records = subst (λ y. HasRoom D (after R) y) (some_same records) tt
+      subst (λ y. command_change D.tenants (runs.Mount r d from) y ≡ Some change → HasRoomFor D (after R) change) h.2 (λ e. subst (λ y. HasRoomFor D (after R) y) (some_same e) (mount_room r d h.0)) records
+  command_room (runs.Delete r d) x X is change records = subst (λ y. HasRoomFor D (after R) y) (some_same records) tt
+  command_room (runs.PutManifest r bytes) x X is change records = subst (λ y. HasRoomFor D (after R) y) (some_same records) tt
   command_room (runs.GetManifest r m) x X is change records = some_none (sym records)
-  command_room (runs.DeleteManifest r m) x X is change records = subst (λ y. HasRoom D (after R) y) (some_same records) tt
+  command_room (runs.DeleteManifest r m) x X is change records = subst (λ y. HasRoomFor D (after R) y) (some_same records) tt
   command_room (runs.Lease r d) x X is change records = some_none (sym records)
 
-  step_room : (step : Step) (X : Catalog) → MayLeadTo s step X → IsGenuine taken step → (change : Change) → change_of D.tenants step ≡ Some change → HasRoom D (after R) change
-  step_room (CommandCall command (Ok x)) X leaves genuine change records = command_room command x X leaves change records
-  step_room (PutBackCall h (Ok n)) X leaves genuine change records = chunk_room h.key (filled_in h) change records
-  step_room (FinishCall h d (Ok n)) X leaves genuine change records = subst (λ y. HasRoom D (after R) y) (some_same records) (finish_room h genuine d n X leaves)
-  step_room (CommandCall command (Err e)) X leaves genuine change records = some_none (sym records)
-  step_room (SweepCall counts) X leaves genuine change records = some_none (sym records)
-  step_room (TakeCall r n g len reply) X leaves genuine change records = some_none (sym records)
-  step_room (PutBackCall h (Err e)) X leaves genuine change records = some_none (sym records)
-  step_room (FinishCall h d (Err e)) X leaves genuine change records = some_none (sym records)
+  step_room : (step : Step) (X : Catalog) → MayLeadTo s step X → IsReturnedAsTaken taken step → (change : Change) → change_of D.tenants step ≡ Some change → HasRoomFor D (after R) change
+  step_room (CommandCall command (Ok x)) X leaves returned change records = command_room command x X leaves change records
+  step_room (PutBackCall h (Ok n)) X leaves returned change records = chunk_room h.key (filled_chunk h) change records
+  step_room (FinishCall h d (Ok n)) X leaves returned change records = subst (λ y. HasRoomFor D (after R) y) (some_same records) (finish_room h returned d n X leaves)
+  step_room (CommandCall command (Err e)) X leaves returned change records = some_none (sym records)
+  step_room (SweepCall counts) X leaves returned change records = some_none (sym records)
+  step_room (TakeCall r n g len reply) X leaves returned change records = some_none (sym records)
+  step_room (PutBackCall h (Err e)) X leaves returned change records = some_none (sym records)
+  step_room (FinishCall h d (Err e)) X leaves returned change records = some_none (sym records)
 
 -- ---- a whole log
 
 -- a store that has what the log says, as one that never leased anything
-record IsAlike (D : Durable) (C R : Catalog) : Type 0 where
+record IsAlike (D : DurableState) (C R : Catalog) : Type 0 where
   agrees : Agrees empty D R
   sound : Sound R
   slots : R.slots ≡ C.slots
@@ -206,56 +206,57 @@ record IsAlike (D : Durable) (C R : Catalog) : Type 0 where
   retired : R.retired ≡ 0
 
 -- a sweep, the command for a change, and then the others
-first_again : (D : Durable) (R : Catalog) (change : Change) (changes : List Change) → (one : IsReplayed D (after R) change) → RunsAgain (apply D change) one.left changes → RunsAgain D R (change ∷ changes)
+first_again : (D : DurableState) (R : Catalog) (change : Change) (changes : List Change) → (one : HasReplay D (after R) change) → HasLogReplay (after_change D change) one.catalog changes → HasLogReplay D R (change ∷ changes)
 first_again D R change changes one rest = record {
   events = SweepEvent (swept R) ∷ CommandEvent one.command (Ok one.answer) ∷ rest.events;
-  left = rest.left;
-  run = (after R, some_sweep R, (one.left, one.accepted, rest.run));
-  asks = (λ i. one.command ∷ rest.asks i) ∙ ap (λ o. cons_option o (commands_for (apply D change) changes)) (sym one.names);
+  catalog = rest.catalog;
+  run = (after R, some_sweep R, (one.catalog, one.accepted, rest.run));
+  asks = (λ i. one.command ∷ rest.asks i) ∙ ap (λ o. cons_option o (replay_commands (after_change D change) changes)) (sym one.names);
   accepts = (refl, rest.accepts);
   agrees = rest.agrees;
   sound = rest.sound;
 }
 
-steps_again : (tenants : List Tenant) (steps : List Step) (taken : Takings) (D : Durable) (s s' : State) → Agrees taken D s.catalog → D.tenants ≡ tenants → Sound s.catalog → AreSteps s steps s' → AreGenuine taken steps → AllByRecursion IsProperStep steps →
-    (R : Catalog) → IsAlike D s.catalog R → RunsAgain D R (changes_of tenants steps)
-steps_again tenants [] taken D s s' a known sound run genuine right R alike = record { events = []; left = R; run = refl; asks = refl; accepts = tt; agrees = alike.agrees; sound = alike.sound }
-steps_again tenants (step ∷ steps) taken D s s' a known sound run genuine right R alike =
-    by (change_of tenants step) refl (steps_again tenants steps (taken_after taken step) (recorded D (change_of tenants step)) mid s' moved (recorded_tenants D (change_of tenants step) ∙ known) there run.2 genuine.1 right.1)
+steps_again : (tenants : List Tenant) (steps : List Step) (taken : TakenChunks) (D : DurableState) (s s' : State) → Agrees taken D s.catalog → D.tenants ≡ tenants → Sound s.catalog → AreSteps s steps s' → AreReturnedAsTaken taken steps → AllByRecursion IsWellFormedStep steps →
+    (R : Catalog) → IsAlike D s.catalog R → HasLogReplay D R (changes_of tenants steps)
+steps_again tenants [] taken D s s' a known sound run returned right R alike = record { events = []; catalog = R; run = refl; asks = refl; accepts = tt; agrees = alike.agrees; sound = alike.sound }
+steps_again tenants (step ∷ steps) taken D s s' a known sound run returned right R alike =
+    by (change_of tenants step) refl (steps_again tenants steps (taken_after_step taken step) (after_record D (change_of tenants step)) mid s' moved (after_record_tenants D (change_of tenants step) ∙ known) there run.2 returned.1 right.1)
   where
     mid : State
     mid = run.0
 
-    moved : Agrees (taken_after taken step) (recorded D (change_of tenants step)) mid.catalog
-    moved = subst (λ ts. Agrees (taken_after taken step) (recorded D (change_of ts step)) mid.catalog) (sym a.tenants ∙ known) (step_agrees taken D s step mid.catalog a run.1.leaves genuine.0)
+    moved : Agrees (taken_after_step taken step) (after_record D (change_of tenants step)) mid.catalog
+    moved = subst (λ ts. Agrees (taken_after_step taken step) (after_record D (change_of ts step)) mid.catalog) (sym a.tenants ∙ known) (step_agrees taken D s step mid.catalog a run.1.leaves returned.0)
 
     there : Sound mid.catalog
-    there = step_sound taken D s step mid.catalog a run.1.leaves genuine.0 right.0 sound
+    there = step_sound taken D s step mid.catalog a run.1.leaves returned.0 right.0 sound
 
     setting : SameSetting s.catalog mid.catalog
     setting = step_setting s step mid.catalog run.1.leaves
 
-    by : (o : Option Change) → change_of tenants step ≡ o → ((R' : Catalog) → IsAlike (recorded D (change_of tenants step)) mid.catalog R' → RunsAgain (recorded D (change_of tenants step)) R' (changes_of tenants steps)) →
-        RunsAgain D R (cons_option (change_of tenants step) (changes_of tenants steps))
+    by : (o : Option Change) → change_of tenants step ≡ o → ((R' : Catalog) → IsAlike (after_record D (change_of tenants step)) mid.catalog R' → HasLogReplay (after_record D (change_of tenants step)) R' (changes_of tenants steps)) →
+        HasLogReplay D R (cons_option (change_of tenants step) (changes_of tenants steps))
     by None is rest =
-        subst (λ o. RunsAgain D R (cons_option o (changes_of tenants steps))) (sym is)
-        (subst (λ o. ((R' : Catalog) → IsAlike (recorded D o) mid.catalog R' → RunsAgain (recorded D o) R' (changes_of tenants steps))) is rest R
+        subst (λ o. HasLogReplay D R (cons_option o (changes_of tenants steps))) (sym is)
+        (subst (λ o. ((R' : Catalog) → IsAlike (after_record D o) mid.catalog R' → HasLogReplay (after_record D o) R' (changes_of tenants steps))) is rest R
         (record { agrees = alike.agrees; sound = alike.sound; slots = alike.slots ∙ sym setting.0; limit = alike.limit ∙ sym setting.1; retired = alike.retired }))
     by (Some change) is rest =
         let records : change_of D.tenants step ≡ Some change = ap (λ ts. change_of ts step) known ∙ is in
         let clean : Agrees empty D (after R) = sweeps empty D R (after R) (swept R) alike.agrees (some_sweep R) in
         let clean_sound : Sound (after R) = Sound-sweep R (after R) (swept R) (some_sweep R) alike.sound.lawful alike.sound.quotas alike.sound.slots in
-        let free = step_room taken D s a sound R alike.agrees alike.slots alike.retired step mid.catalog run.1.leaves genuine.0 change records in
-        let one : IsReplayed D (after R) change = changes_are_replayed taken D s step mid.catalog change (after R) a sound run.1.leaves genuine.0 right.0 records clean clean_sound alike.limit free in
-        let same = left_ok (SameSlots (after R)) (outcome false (after R) one.command) one.answer one.left (command_setting (after R) one.command) one.accepted in
+        let free = step_room taken D s a sound R alike.agrees alike.slots alike.retired step mid.catalog run.1.leaves returned.0 change records in
+        let one : HasReplay D (after R) change = changes_have_replays taken D s step mid.catalog change
+        (record { agrees = a; sound = sound; leaves = run.1.leaves; returned = returned.0; proper = right.0; records = records }) (after R) clean clean_sound alike.limit free in
+        let same = left_ok (SameSlots (after R)) (outcome false (after R) one.command) one.answer one.catalog (command_setting (after R) one.command) one.accepted in
         let none : R.retired ≡ 0 = alike.retired in
-        let retired_is : one.left.retired ≡ R.retired + 0 = same.2 in
-        subst (λ o. RunsAgain D R (cons_option o (changes_of tenants steps))) (sym is)
+        let retired_is : one.catalog.retired ≡ R.retired + 0 = same.2 in
+        subst (λ o. HasLogReplay D R (cons_option o (changes_of tenants steps))) (sym is)
         (first_again D R change (changes_of tenants steps) one
-        (subst (λ o. ((R' : Catalog) → IsAlike (recorded D o) mid.catalog R' → RunsAgain (recorded D o) R' (changes_of tenants steps))) is rest one.left
+        (subst (λ o. ((R' : Catalog) → IsAlike (after_record D o) mid.catalog R' → HasLogReplay (after_record D o) R' (changes_of tenants steps))) is rest one.catalog
         (record { agrees = one.agrees; sound = one.sound; slots = same.0 ∙ alike.slots ∙ sym setting.0; limit = same.1 ∙ alike.limit ∙ sym setting.1; retired = omega arith })))
 
-pub logs_run_again : LogsRunAgain
-logs_run_again tenants slots max_blob steps s sound run genuine right =
-    steps_again tenants steps empty (blank tenants) (initial_state (opening tenants slots max_blob)) s (blank_agrees tenants slots max_blob) refl sound run genuine right (opening tenants slots max_blob)
-    (record { agrees = blank_agrees tenants slots max_blob; sound = sound; slots = refl; limit = refl; retired = refl })
+pub logs_have_replays : LogsHaveReplays
+logs_have_replays tenants slots max_blob steps s sound run returned right =
+    steps_again tenants steps empty (initial_durable tenants) (initial_state (opening tenants slots max_blob)) s (new_stores_agree tenants slots max_blob) refl sound run returned right (opening tenants slots max_blob)
+    (record { agrees = new_stores_agree tenants slots max_blob; sound = sound; slots = refl; limit = refl; retired = refl })

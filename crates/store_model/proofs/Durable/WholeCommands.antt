@@ -5,17 +5,17 @@ use Rattle.blob_digest.proofs.KeyOrders.{number_cmp_total, exact_number}
 use Rattle.spec_lib.proofs.Maps.{cases_key, get-insert_at, get-insert_other, got-remove}
 use Rattle.spec_lib.proofs.Options.{nothing, some_same}
 use Rattle.store_model.specs.Catalog.{SessionNumber, HandRecord, session_number_cmp}
-use Rattle.store_model.specs.Durable.{AreGenuine, IsGenuine, Takings, WholeCommandsAreGenuine, taken_after}
+use Rattle.store_model.specs.Durable.{AreReturnedAsTaken, IsReturnedAsTaken, TakenChunks, WholeCommandsReturnHands, taken_after_step}
 use Rattle.store_model.specs.Histories.{SweepCall, FinishCall, CommandCall, PutBackCall, Step, TakeCall}
 use Rattle.store_model.specs.Runs.{Event}
 use Rattle.store_model.specs.WholeCommands.{AreWholeCommands, CorrespondsTo, CheckedOutSessions, CheckedOut}
-use Rattle.store_model.proofs.Durable.Torn.{first_genuine}
+use Rattle.store_model.proofs.Durable.Torn.{first_returned}
 
 -- each hand that is out has the chunks with which its session was taken
-abbrev Known : Takings → CheckedOutSessions → Type 0
+abbrev Known : TakenChunks → CheckedOutSessions → Type 0
 Known taken hands = (k : SessionNumber) (out : CheckedOut) → get hands k ≡ Some out → get taken k ≡ Some out.hand.chunks
 
-module _ (taken : Takings) (hands : CheckedOutSessions) (known : Known taken hands) where
+module _ (taken : TakenChunks) (hands : CheckedOutSessions) (known : Known taken hands) where
   same_hands : (after : CheckedOutSessions) → after ≡ hands → Known taken after
   same_hands after is = subst (λ x. Known taken x) (sym is) known
 
@@ -27,32 +27,32 @@ module _ (taken : Takings) (hands : CheckedOutSessions) (known : Known taken han
     | inr other ↦ get-insert_other number_cmp_total exact_number taken h.key h.chunks k other ∙ known k x (sym (get-insert_other number_cmp_total exact_number hands h.key out k other) ∙ found)
   ]
 
-  returned : (key : SessionNumber) → Known taken (remove hands key)
-  returned key k x found = known k x (got-remove number_cmp_total exact_number hands key k x found)
+  after_return : (key : SessionNumber) → Known taken (remove hands key)
+  after_return key k x found = known k x (got-remove number_cmp_total exact_number hands key k x found)
 
   hand_is : (h : HandRecord) (out : CheckedOut) → get hands h.key ≡ Some out → h.chunks ≡ out.hand.chunks → get taken h.key ≡ Some h.chunks
   hand_is h out found same = known h.key out found ∙ ap Some (sym same)
 
-step_genuine : (taken : Takings) (hands : CheckedOutSessions) (step : Step) (events : List Event) (after : CheckedOutSessions) → Known taken hands → CorrespondsTo hands step events after → IsGenuine taken step × Known (taken_after taken step) after
-step_genuine taken hands (CommandCall command reply) events after known comes = (tt, same_hands taken hands known after comes.1)
-step_genuine taken hands (SweepCall swept) events after known comes = (tt, same_hands taken hands known after comes.1)
-step_genuine taken hands (TakeCall r n g len (Ok h)) events after known comes =
+step_returns : (taken : TakenChunks) (hands : CheckedOutSessions) (step : Step) (events : List Event) (after : CheckedOutSessions) → Known taken hands → CorrespondsTo hands step events after → IsReturnedAsTaken taken step × Known (taken_after_step taken step) after
+step_returns taken hands (CommandCall command reply) events after known comes = (tt, same_hands taken hands known after comes.1)
+step_returns taken hands (SweepCall swept) events after known comes = (tt, same_hands taken hands known after comes.1)
+step_returns taken hands (TakeCall r n g len (Ok h)) events after known comes =
     (tt, subst (λ x. Known (insert taken h.key h.chunks) x) (sym comes.1) (lent taken hands known h (record { hand = h; repo = r; range = g }) refl))
-step_genuine taken hands (TakeCall r n g len (Err e)) events after known comes = (tt, same_hands taken hands known after comes.1)
-step_genuine taken hands (PutBackCall h reply) events after known comes =
+step_returns taken hands (TakeCall r n g len (Err e)) events after known comes = (tt, same_hands taken hands known after comes.1)
+step_returns taken hands (PutBackCall h reply) events after known comes =
     let out : CheckedOut = comes.0 in
     let same : h.chunks ≡ out.hand.chunks = ⊎_elim (λ filled. ap (λ (y : HandRecord). y.chunks) filled.1.1) (λ unfilled. ap (λ (y : HandRecord). y.chunks) unfilled.0) comes.2 in
-    (hand_is taken hands known h out comes.1 same, subst (λ x. Known taken x) (sym comes.3) (returned taken hands known h.key))
-step_genuine taken hands (FinishCall h d reply) events after known comes =
+    (hand_is taken hands known h out comes.1 same, subst (λ x. Known taken x) (sym comes.3) (after_return taken hands known h.key))
+step_returns taken hands (FinishCall h d reply) events after known comes =
     let out : CheckedOut = comes.0 in
     let same : h.chunks ≡ out.hand.chunks = ap (λ (y : HandRecord). y.chunks) comes.2.1.1 in
-    (hand_is taken hands known h out comes.1 same, subst (λ x. Known taken x) (sym comes.3) (returned taken hands known h.key))
+    (hand_is taken hands known h out comes.1 same, subst (λ x. Known taken x) (sym comes.3) (after_return taken hands known h.key))
 
-steps_genuine : (steps : List Step) (taken : Takings) (hands : CheckedOutSessions) (events : List Event) → Known taken hands → AreWholeCommands hands steps events → AreGenuine taken steps
-steps_genuine [] taken hands events known are = tt
-steps_genuine (step ∷ steps) taken hands events known are =
-    let one = step_genuine taken hands step are.0 are.2 known are.3 in
-    (one.0, steps_genuine steps (taken_after taken step) are.2 are.1 one.1 are.5)
+steps_return : (steps : List Step) (taken : TakenChunks) (hands : CheckedOutSessions) (events : List Event) → Known taken hands → AreWholeCommands hands steps events → AreReturnedAsTaken taken steps
+steps_return [] taken hands events known are = tt
+steps_return (step ∷ steps) taken hands events known are =
+    let one = step_returns taken hands step are.0 are.2 known are.3 in
+    (one.0, steps_return steps (taken_after_step taken step) are.2 are.1 one.1 are.5)
 
-pub whole_commands_are_genuine : WholeCommandsAreGenuine
-whole_commands_are_genuine steps later events are = first_genuine steps later empty (steps_genuine (steps ++ later) empty empty events (λ k out found. nothing (get-empty session_number_cmp k) found) are)
+pub whole_commands_return_hands : WholeCommandsReturnHands
+whole_commands_return_hands steps later events are = first_returned steps later empty (steps_return (steps ++ later) empty empty events (λ k out found. nothing (get-empty session_number_cmp k) found) are)

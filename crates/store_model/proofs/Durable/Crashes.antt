@@ -9,10 +9,10 @@ use Rattle.spec_lib.proofs.Outcomes.{bound_ok}
 use Rattle.store_model.specs.Catalog.{Catalog, Session, HandRecord}
 use Rattle.store_model.specs.Commands
 use Rattle.store_model.specs.Commands.{Outcome, after_cancel, finish, has_slot, put_back, put_back_outcome_in, take, session_of_hand}
-use Rattle.store_model.specs.Durable.{Agrees, AreGenuine, Durable, IsGenuine, Takings, change_of, changes_of, replayed, taken_after, taken_along}
+use Rattle.store_model.specs.Durable.{Agrees, AreReturnedAsTaken, DurableState, IsReturnedAsTaken, TakenChunks, change_of, changes_of, after_changes, taken_after_step, taken_after_steps}
 use Rattle.store_model.specs.Histories.{AreSteps, SweepCall, FinishCall, MayLeadTo, CommandCall, PutBackCall, State, Step, TakeCall, initial_state}
 use Rattle.store_model.specs.Invariant.{Sound}
-use Rattle.store_model.specs.Recovery.{IsProperStep, StoresLiveOn}
+use Rattle.store_model.specs.Recovery.{IsWellFormedStep, StoresSurviveCrashes}
 use Rattle.store_model.specs.Runs as runs
 use Rattle.store_model.specs.Runs.{Command, outcome}
 use Rattle.store_model.specs.Sessions.{HasNoOpenReserve, with_old_chunks}
@@ -20,10 +20,10 @@ use Rattle.store_model.proofs.Commands.Finish.{Sound-after_finish}
 use Rattle.store_model.proofs.Commands.Hands.{IsProper, Sound-after_put_back, Sound-after_take, Sound-home}
 use Rattle.store_model.proofs.Commands.Runs.{Sound-case}
 use Rattle.store_model.proofs.Commands.Sweep.{Sound-sweep}
-use Rattle.store_model.proofs.Durable.Agreement.{recorded}
-use Rattle.store_model.proofs.Durable.Histories.{kept_hand, step_agrees}
+use Rattle.store_model.proofs.Durable.Agreement.{after_record}
+use Rattle.store_model.proofs.Durable.Histories.{durable_hand, step_agrees}
 use Rattle.store_model.proofs.Durable.Restored.{stores_restart}
-use Rattle.store_model.proofs.Durable.Torn.{first_genuine, torn_logs_agree}
+use Rattle.store_model.proofs.Durable.Torn.{first_returned, torn_logs_agree}
 use Rattle.store_model.proofs.Noninterference.Hands.{cancel_leaves, finish_leaves, put_back_leaves, take_leaves}
 use Rattle.store_model.proofs.Noninterference.LocalRespect.{Leaves, abandon_leaves, answers_leave, append_leaves, close_leaves, delete_leaves, delete_manifest_leaves, lease_leaves, mount_leaves, put_leaves, reading_leave, start_leaves}
 
@@ -66,9 +66,9 @@ step_setting s (FinishCall h d (Err e)) X leaves =
 
 -- ---- sound catalogs
 
-module _ (taken : Takings) (D : Durable) (C : Catalog) (a : Agrees taken D C) (sound : Sound C) (h : HandRecord) (genuine : get taken h.key ≡ Some h.chunks) (fills : IfSome h.last (λ b. length b ≡ h.reserved)) where
+module _ (taken : TakenChunks) (D : DurableState) (C : Catalog) (a : Agrees taken D C) (sound : Sound C) (h : HandRecord) (returned : get taken h.key ≡ Some h.chunks) (fills : IfSome h.last (λ b. length b ≡ h.reserved)) where
   proper : (s : Session) → session_of_hand (get C.sessions h.key) h ≡ Ok s → IsProper h
-  proper s here = record { pieces = (kept_hand taken D C a h genuine s here).2; last = fills }
+  proper s here = record { pieces = (durable_hand taken D C a h returned s here).2; last = fills }
 
   pub sound_put_back : (n : ℕ) (X : Catalog) → put_back C h ≡ Ok (n, X) → Sound X
   sound_put_back n X is =
@@ -88,43 +88,43 @@ module _ (taken : Takings) (D : Durable) (C : Catalog) (a : Agrees taken D C) (s
       by (Ok s) here = let p = proper s here in Sound-home C h p s here h.chunks p.pieces (omega arith) sound
       by (Err e) here = sound
 
-pub step_sound : (taken : Takings) (D : Durable) (s : State) (step : Step) (X : Catalog) → Agrees taken D s.catalog → MayLeadTo s step X → IsGenuine taken step → IsProperStep step → Sound s.catalog → Sound X
-step_sound taken D s (CommandCall command (Ok x)) X a leaves genuine right sound = Sound-case s.catalog X command (Ok x) right leaves sound
-step_sound taken D s (CommandCall command (Err e)) X a leaves genuine right sound = subst (λ (Y : Catalog). Sound Y) (sym (⊎_elim (λ y. y.1) (λ y. y.1) leaves)) sound
-step_sound taken D s (SweepCall swept) X a leaves genuine right sound = Sound-sweep s.catalog X swept leaves sound.lawful sound.quotas sound.slots
-step_sound taken D s (TakeCall r n g len (Ok h)) X a leaves genuine right sound = Sound-after_take s.catalog X r n len g h leaves sound
-step_sound taken D s (TakeCall r n g len (Err e)) X a leaves genuine right sound = subst (λ (Y : Catalog). Sound Y) (sym leaves.1) sound
-step_sound taken D s (PutBackCall h (Ok n)) X a leaves genuine right sound = sound_put_back taken D s.catalog a sound h genuine right n X leaves
-step_sound taken D s (PutBackCall h (Err e)) X a leaves genuine right sound = subst (λ (Y : Catalog). Sound Y) (sym leaves.1) sound
-step_sound taken D s (FinishCall h d (Ok n)) X a leaves genuine right sound = sound_finish taken D s.catalog a sound h genuine right.0 right.1 d n X leaves
-step_sound taken D s (FinishCall h d (Err e)) X a leaves genuine right sound = subst (λ (Y : Catalog). Sound Y) (sym leaves.1) (sound_cancel taken D s.catalog a sound h genuine right.0)
+pub step_sound : (taken : TakenChunks) (D : DurableState) (s : State) (step : Step) (X : Catalog) → Agrees taken D s.catalog → MayLeadTo s step X → IsReturnedAsTaken taken step → IsWellFormedStep step → Sound s.catalog → Sound X
+step_sound taken D s (CommandCall command (Ok x)) X a leaves returned right sound = Sound-case s.catalog X command (Ok x) right leaves sound
+step_sound taken D s (CommandCall command (Err e)) X a leaves returned right sound = subst (λ (Y : Catalog). Sound Y) (sym (⊎_elim (λ y. y.1) (λ y. y.1) leaves)) sound
+step_sound taken D s (SweepCall swept) X a leaves returned right sound = Sound-sweep s.catalog X swept leaves sound.lawful sound.quotas sound.slots
+step_sound taken D s (TakeCall r n g len (Ok h)) X a leaves returned right sound = Sound-after_take s.catalog X r n len g h leaves sound
+step_sound taken D s (TakeCall r n g len (Err e)) X a leaves returned right sound = subst (λ (Y : Catalog). Sound Y) (sym leaves.1) sound
+step_sound taken D s (PutBackCall h (Ok n)) X a leaves returned right sound = sound_put_back taken D s.catalog a sound h returned right n X leaves
+step_sound taken D s (PutBackCall h (Err e)) X a leaves returned right sound = subst (λ (Y : Catalog). Sound Y) (sym leaves.1) sound
+step_sound taken D s (FinishCall h d (Ok n)) X a leaves returned right sound = sound_finish taken D s.catalog a sound h returned right.0 right.1 d n X leaves
+step_sound taken D s (FinishCall h d (Err e)) X a leaves returned right sound = subst (λ (Y : Catalog). Sound Y) (sym leaves.1) (sound_cancel taken D s.catalog a sound h returned right.0)
 
 -- ---- a history
 
-steps_sound : (steps : List Step) (taken : Takings) (D : Durable) (s s' : State) → Agrees taken D s.catalog → Sound s.catalog → AreSteps s steps s' → AreGenuine taken steps → AllByRecursion IsProperStep steps →
+steps_sound : (steps : List Step) (taken : TakenChunks) (D : DurableState) (s s' : State) → Agrees taken D s.catalog → Sound s.catalog → AreSteps s steps s' → AreReturnedAsTaken taken steps → AllByRecursion IsWellFormedStep steps →
     Sound s'.catalog × SameSetting s.catalog s'.catalog
-steps_sound [] taken D s s' a sound run genuine right = subst (λ (x : State). Sound x.catalog × SameSetting s.catalog x.catalog) (sym run) (sound, (refl, refl))
-steps_sound (step ∷ steps) taken D s s' a sound run genuine right =
+steps_sound [] taken D s s' a sound run returned right = subst (λ (x : State). Sound x.catalog × SameSetting s.catalog x.catalog) (sym run) (sound, (refl, refl))
+steps_sound (step ∷ steps) taken D s s' a sound run returned right =
     let mid : State = run.0 in
     let same = step_setting s step mid.catalog run.1.leaves in
-    let later = steps_sound steps (taken_after taken step) (recorded D (change_of s.catalog.tenants step)) mid s' (step_agrees taken D s step mid.catalog a run.1.leaves genuine.0)
-    (step_sound taken D s step mid.catalog a run.1.leaves genuine.0 right.0 sound) run.2 genuine.1 right.1 in
+    let later = steps_sound steps (taken_after_step taken step) (after_record D (change_of s.catalog.tenants step)) mid s' (step_agrees taken D s step mid.catalog a run.1.leaves returned.0)
+    (step_sound taken D s step mid.catalog a run.1.leaves returned.0 right.0 sound) run.2 returned.1 right.1 in
     (later.0, (later.1.0 ∙ same.0, later.1.1 ∙ same.1))
 
-first_right : (first rest : List Step) → AllByRecursion IsProperStep (first ++ rest) → AllByRecursion IsProperStep first
+first_right : (first rest : List Step) → AllByRecursion IsWellFormedStep (first ++ rest) → AllByRecursion IsWellFormedStep first
 first_right [] rest all = tt
 first_right (step ∷ first) rest all = (all.0, first_right first rest all.1)
 
-pub stores_live_on : StoresLiveOn
-stores_live_on D C done later s kept lost opens sound run genuine right is =
-    let cut = torn_logs_agree D C done later s kept lost opens run genuine is in
+pub stores_survive_crashes : StoresSurviveCrashes
+stores_survive_crashes D C done later s kept lost opens sound run returned right is =
+    let cut = torn_logs_agree D C done later s kept lost opens run returned is in
     let both : done ++ later ≡ (done ++ cut.first) ++ cut.rest = ap (λ xs. done ++ xs) cut.split ∙ sym (append_assoc done cut.first cut.rest) in
     let there = steps_sound (done ++ cut.first) empty D (initial_state C) cut.at opens sound cut.leads
-    (first_genuine (done ++ cut.first) cut.rest empty (subst (λ xs. AreGenuine empty xs) both genuine)) (first_right (done ++ cut.first) cut.rest (subst (λ xs. AllByRecursion IsProperStep xs) both right)) in
+    (first_returned (done ++ cut.first) cut.rest empty (subst (λ xs. AreReturnedAsTaken empty xs) both returned)) (first_right (done ++ cut.first) cut.rest (subst (λ xs. AllByRecursion IsWellFormedStep xs) both right)) in
     let slots_are : cut.at.catalog.slots ≡ C.slots = there.1.0 in
     let limit_is : cut.at.catalog.max_blob ≡ C.max_blob = there.1.1 in
     record {
       cut = cut;
-      restored = stores_restart (taken_along empty (done ++ cut.first)) (replayed D (changes_of D.tenants done ++ kept)) cut.at.catalog cut.agrees there.0 C.slots C.max_blob
+      restored = stores_restart (taken_after_steps empty (done ++ cut.first)) (after_changes D (changes_of D.tenants done ++ kept)) cut.at.catalog cut.agrees there.0 C.slots C.max_blob
           (omega arith) sound.slots.few (omega arith) sound.lawful.limits.max_blob;
     }
