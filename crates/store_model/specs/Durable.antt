@@ -47,7 +47,7 @@ initial_durable tenants = record {
 
 -- ---- changes
 
--- a change of the durable state, which one record of a log describes; only a rewritten log has the last three kinds
+-- a change of the durable state: the meaning of one record of a log; only rewritten logs have the last three
 pub data Change : Type 0 where
   -- a session of a repository was opened under a key
   SessionOpened : Text → SessionNumber → Change
@@ -72,6 +72,10 @@ pub data Change : Type 0 where
   -- a digest has this content
   BlobStored : Text → Text → Change
 
+-- a checked-in session of a repository
+abbrev pub checked_in_session : Text → List Text → Session
+checked_in_session repo chunks = record { repo = repo; chunks = CheckedIn chunks }
+
 -- the durable state after a repository's session became a blob that the repository links
 abbrev pub after_seal : DurableState → SessionNumber → Text → Text → Session → DurableState
 after_seal D key digest last s = record D {
@@ -91,18 +95,20 @@ with_new_manifest D repo bytes = record D {
 abbrev pub after_change : DurableState → Change → DurableState
 after_change D (SessionOpened repo key) = record D {
   repos = set.insert D.repos repo;
-  sessions = fmap.insert D.sessions key (record { repo = repo; chunks = CheckedIn [] });
+  sessions = fmap.insert D.sessions key (checked_in_session repo []);
   next = slice_set D.next key.0 (key.1 + 1);
 }
 after_change D (ChunkReceived key bytes) = record D { sessions = after_append_in D.sessions key bytes }
-after_change D (SessionSealed key digest last) = option_map_or (after_seal D key digest last) (fmap.get D.sessions key) D
+after_change D (SessionSealed key digest last) =
+    option_map_or (after_seal D key digest last) (fmap.get D.sessions key) D
 after_change D (SessionDropped key) = record D { sessions = fmap.remove D.sessions key }
 after_change D (BlobLinked repo digest) = record D {
   repos = set.insert D.repos repo;
   links = set.insert D.links (repo, digest);
 }
 after_change D (BlobUnlinked repo digest) = record D { links = set.remove D.links (repo, digest) }
-after_change D (ManifestPut repo bytes) = if fmap.contains_key D.manifests (repo, sha256_text bytes) then D else with_new_manifest D repo bytes
+after_change D (ManifestPut repo bytes) =
+    if fmap.contains_key D.manifests (repo, sha256_text bytes) then D else with_new_manifest D repo bytes
 after_change D (ManifestDeleted repo digest) = record D { manifests = fmap.remove D.manifests (repo, digest) }
 after_change D (RepoAdded repo) = record D { repos = set.insert D.repos repo }
 after_change D (NumberSet t n) = record D { next = slice_set D.next t n }
@@ -179,54 +185,74 @@ IsReturnedAsTaken taken step = Unit {0}
 -- every hand of a list of steps is returned as it was taken
 abbrev pub AreReturnedAsTaken : TakenChunks → List Step → Type 0
 AreReturnedAsTaken taken [] = Unit {0}
-AreReturnedAsTaken taken (step ∷ steps) = IsReturnedAsTaken taken step × AreReturnedAsTaken (taken_after_step taken step) steps
+AreReturnedAsTaken taken (step ∷ steps) =
+    IsReturnedAsTaken taken step × AreReturnedAsTaken (taken_after_step taken step) steps
 
 -- ---- agreement of a durable state and a catalog
 
--- the durable chunks are those of the session: its own if it is checked in, else those with which it was taken
+-- the durable chunks are those of the checked-in session, or those with which the session was checked out
 abbrev pub AgreesOnChunks : Option (List Text) → Chunks → List Text → Type 0
 AgreesOnChunks taken (CheckedIn chunks) durable = chunks ≡ durable
-AgreesOnChunks taken (CheckedOutWith received reserved) durable = (received ≡ sum_by length durable) × (taken ≡ Some durable)
+AgreesOnChunks taken (CheckedOutWith received reserved) durable =
+    (received ≡ sum_by length durable) × (taken ≡ Some durable)
 
--- the durable session and the catalog's have the same repository and chunks, none of which is empty, or neither exists
+-- the durable session is the catalog's, with no empty chunk, or neither exists
 abbrev pub AgreesOnSession : Option (List Text) → Option Session → Option Session → Type 0
 AgreesOnSession taken durable None = durable ≡ None
 AgreesOnSession taken durable (Some s) =
-    (chunks : List Text) × (durable ≡ Some (record { repo = s.repo; chunks = CheckedIn chunks })) × AllByRecursion (λ c. c ≢ []) chunks × AgreesOnChunks taken s.chunks chunks
+    (chunks : List Text) × (durable ≡ Some (checked_in_session s.repo chunks))
+    × AllByRecursion (λ c. c ≢ []) chunks × AgreesOnChunks taken s.chunks chunks
 
 -- a digest has a stored blob, whose bytes are the durable content
 abbrev pub AgreesOnContent : fmap.FinMap text_cmp Text → fmap.FinMap text_cmp Resident → Text → Type 0
-AgreesOnContent contents residents digest = (b : Resident) × (fmap.get residents digest ≡ Some b) × (fmap.get contents digest ≡ Some b.bytes)
+AgreesOnContent contents residents digest =
+    (b : Resident) × (fmap.get residents digest ≡ Some b) × (fmap.get contents digest ≡ Some b.bytes)
 
--- A durable state agrees with a catalog, whose checked-out sessions were taken with these chunks.
+-- the durable state and the catalog have the same session under a key, or none
+abbrev pub AgreesOnKey : TakenChunks → DurableState → Catalog → SessionNumber → Type 0
+AgreesOnKey taken D C key = AgreesOnSession (fmap.get taken key) (fmap.get D.sessions key) (fmap.get C.sessions key)
+
+-- a repository of the catalog
+abbrev pub IsRepo : Catalog → Text → Type 0
+IsRepo C repo = set.contains C.repos repo ≡ true
+
+-- a link of the catalog
+abbrev pub IsLink : Catalog → Link → Type 0
+IsLink C l = set.contains C.links l ≡ true
+
+-- A durable state agrees with a catalog whose checked-out sessions were taken with these chunks.
 pub record Agrees (taken : TakenChunks) (D : DurableState) (C : Catalog) : Type 0 where
   pub tenants : D.tenants ≡ C.tenants
   pub repos : D.repos ≡ C.repos
   pub links : D.links ≡ C.links
   pub manifests : D.manifests ≡ C.manifests
   pub next : D.next ≡ C.next
-  pub sessions : (key : SessionNumber) → AgreesOnSession (fmap.get taken key) (fmap.get D.sessions key) (fmap.get C.sessions key)
+  pub sessions : (key : SessionNumber) → AgreesOnKey taken D C key
   -- of each linked digest the content is the stored blob's
-  pub contents : (l : Link) → set.contains C.links l ≡ true → AgreesOnContent D.contents C.residents l.1
+  pub contents : (l : Link) → IsLink C l → AgreesOnContent D.contents C.residents l.1
   -- each link is of an existing repository
-  pub linked_in : (l : Link) → set.contains C.links l ≡ true → set.contains C.repos l.0 ≡ true
+  pub linked_in : (l : Link) → IsLink C l → IsRepo C l.0
   -- each session is of an existing repository
-  pub uploaded_to : (key : SessionNumber) (s : Session) → fmap.get C.sessions key ≡ Some s → set.contains C.repos s.repo ≡ true
+  pub uploaded_to : (key : SessionNumber) (s : Session) → fmap.get C.sessions key ≡ Some s → IsRepo C s.repo
 
 -- ---- the theorems
 
--- A durable state that agrees with a state agrees with it after further steps, if their changes are applied to it.
+-- the durable state after the changes of the steps agrees with a catalog
+abbrev pub AgreesAfter : TakenChunks → DurableState → List Step → Catalog → Type 0
+AgreesAfter taken D steps C = Agrees (taken_after_steps taken steps) (after_changes D (changes_of D.tenants steps)) C
+
+-- A durable state that agrees with a state also agrees with it after further steps, if their changes are applied to it.
 abbrev pub LogsExtend : Type 0
-LogsExtend = (taken : TakenChunks) (D : DurableState) (s : State) (steps : List Step) (s' : State) → Agrees taken D s.catalog → AreSteps s steps s' → AreReturnedAsTaken taken steps →
-    Agrees (taken_after_steps taken steps) (after_changes D (changes_of D.tenants steps)) s'.catalog
+LogsExtend = (taken : TakenChunks) (D : DurableState) (s : State) (steps : List Step) (s' : State) →
+    Agrees taken D s.catalog → AreSteps s steps s' → AreReturnedAsTaken taken steps → AgreesAfter taken D steps s'.catalog
 
 -- The changes of a legal history of a new store, applied to the initial durable state, agree with the catalog at the end.
 abbrev pub LogsAgree : Type 0
 LogsAgree = (tenants : List Tenant) (slots max_blob : ℕ) (steps : List Step) (s : State) →
     LeadsTo (opening tenants slots max_blob) steps s → AreReturnedAsTaken fmap.empty steps →
-    Agrees (taken_after_steps fmap.empty steps) (after_changes (initial_durable tenants) (changes_of tenants steps)) s.catalog
+    AgreesAfter fmap.empty (initial_durable tenants) steps s.catalog
 
--- The kept changes are those of the first later steps, and the durable state after them agrees with the catalog after these steps.
+-- The kept changes are those of some first steps, and the durable state after them agrees with the catalog after these steps.
 pub record IsTornLog (D : DurableState) (C : Catalog) (done later : List Step) (kept : List Change) : Type 0 where
   pub first : List Step
   pub rest : List Step
@@ -238,10 +264,12 @@ pub record IsTornLog (D : DurableState) (C : Catalog) (done later : List Step) (
 
 -- If a log loses its last records, it is the log of the first steps of its history: at least of all steps whose records were kept.
 abbrev pub TornLogsAgree : Type 0
-TornLogsAgree = (D : DurableState) (C : Catalog) (done later : List Step) (s : State) (kept lost : List Change) →
-    Agrees fmap.empty D C → LeadsTo C (done ++ later) s → AreReturnedAsTaken fmap.empty (done ++ later) →
+TornLogsAgree = (D : DurableState) (C : Catalog) (done later : List Step) (s : State)
+    (kept lost : List Change) → Agrees fmap.empty D C → LeadsTo C (done ++ later) s →
+    AreReturnedAsTaken fmap.empty (done ++ later) →
     changes_of D.tenants later ≡ kept ++ lost → IsTornLog D C done later kept
 
 -- In a beginning of a history of whole commands every hand is returned as it was taken.
 abbrev pub WholeCommandsReturnHands : Type 0
-WholeCommandsReturnHands = (steps later : List Step) (events : List Event) → AreWholeCommands fmap.empty (steps ++ later) events → AreReturnedAsTaken fmap.empty steps
+WholeCommandsReturnHands = (steps later : List Step) (events : List Event) →
+    AreWholeCommands fmap.empty (steps ++ later) events → AreReturnedAsTaken fmap.empty steps

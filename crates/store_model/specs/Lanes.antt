@@ -21,7 +21,8 @@ all_steps entries = map (λ e. e.1) entries
 -- the steps of one lane, in order
 abbrev pub steps_by : ℕ → LaneSteps → List Step
 steps_by lane [] = []
-steps_by lane (e ∷ entries) = if e.0 == lane then e.1 ∷ steps_by lane entries else steps_by lane entries
+steps_by lane (e ∷ entries) =
+    if e.0 == lane then e.1 ∷ steps_by lane entries else steps_by lane entries
 
 -- ---- the hand that a lane holds
 
@@ -38,7 +39,8 @@ held_hand steps = fold hand_after None steps
 
 -- the hand has the key and the chunks of the held one
 abbrev pub IsHeldHand : Option HandRecord → HandRecord → Type 0
-IsHeldHand held hand = (taken : HandRecord) × (held ≡ Some taken) × (hand.key ≡ taken.key) × (hand.chunks ≡ taken.chunks)
+IsHeldHand held hand =
+    (taken : HandRecord) × (held ≡ Some taken) × (hand.key ≡ taken.key) × (hand.chunks ≡ taken.chunks)
 
 -- a lane with these steps holds the hand
 abbrev pub IsHeld : HandRecord → List Step → Type 0
@@ -65,6 +67,7 @@ IsPaired held (step ∷ steps) = ReturnsHeldHand held step × IsPaired (hand_aft
 
 -- If the steps of each lane are paired, then in their common history every hand is returned as it was taken.
 abbrev pub LanesReturnHands : Type 0
-LanesReturnHands = (D : DurableState) (C : Catalog) (entries : LaneSteps) (s : State) → Agrees fmap.empty D C → Sound C →
-    LeadsTo C (all_steps entries) s → AllByRecursion IsWellFormedStep (all_steps entries) →
+LanesReturnHands = (D : DurableState) (C : Catalog) (entries : LaneSteps) (s : State) →
+    Agrees fmap.empty D C → Sound C → LeadsTo C (all_steps entries) s →
+    AllByRecursion IsWellFormedStep (all_steps entries) →
     ((lane : ℕ) → IsPaired None (steps_by lane entries)) → AreReturnedAsTaken fmap.empty (all_steps entries)

@@ -4,7 +4,7 @@ use Rattle.std.specs.List.{AllByRecursion, enumerate_from, list_any}
 use Rattle.std.specs.FinMap as fmap
 use Rattle.spec_lib.specs.Sets as set
 use Rattle.spec_lib.specs.Texts.{Text, text_cmp}
-use Rattle.store_model.specs.Catalog.{Catalog, Resident, Session, SessionNumber, Tenant, charged_length, opening, quota_of, used_bytes}
+use Rattle.store_model.specs.Catalog.{Catalog, HandRecord, Resident, Session, SessionNumber, Tenant, charged_length, opening, quota_of, used_bytes}
 use Rattle.store_model.specs.Durable.{Agrees, AreReturnedAsTaken, BlobLinked, BlobStored, Change, ChunkReceived, DurableState, IsTornLog, ManifestPut, NumberSet, RepoAdded, SessionOpened, TakenChunks, after_changes, changes_of, initial_durable}
 use Rattle.store_model.specs.Histories.{CommandCall, FinishCall, LeadsTo, PutBackCall, State, Step}
 use Rattle.store_model.specs.Invariant.{Sound, WellFormed}
@@ -27,7 +27,8 @@ restored_blob bytes = record { bytes = bytes; condemned = false; lent = false }
 
 -- the stored blobs of a restarted store: those of the linked digests
 abbrev pub restored_blobs : DurableState → fmap.FinMap text_cmp Resident
-restored_blobs D = fmap.from_entries (map {B = Text × Resident} (λ e. (e.0, restored_blob e.1)) (fmap.entries (linked_contents D)))
+restored_blobs D =
+    fmap.from_entries (map {B = Text × Resident} (λ e. (e.0, restored_blob e.1)) (fmap.entries (linked_contents D)))
 
 -- the catalog of a store that was restarted with this number of slots and this limit on blobs
 abbrev pub restored_catalog : DurableState → ℕ → ℕ → Catalog
@@ -53,7 +54,8 @@ pub record IsRestored (D : DurableState) (C : Catalog) (slots max_blob : ℕ) : 
 -- A store restarts with a durable state that agrees with a sound catalog, if neither the slots nor the limit on blobs are lowered.
 abbrev pub StoresRestart : Type 0
 StoresRestart = (taken : TakenChunks) (D : DurableState) (C : Catalog) → Agrees taken D C → Sound C →
-    (slots max_blob : ℕ) → C.slots ≤ slots → slots ≤ 65536 → C.max_blob ≤ max_blob → max_blob ≤ 2 ^ 40 → IsRestored D C slots max_blob
+    (slots max_blob : ℕ) → C.slots ≤ slots → slots ≤ 65536 → C.max_blob ≤ max_blob → max_blob ≤ 2 ^ 40 →
+    IsRestored D C slots max_blob
 
 -- ---- other settings
 
@@ -63,7 +65,8 @@ with_tenants D tenants = record D { tenants = tenants }
 
 -- the tenant's restored use is within its quota
 abbrev pub FitsQuota : DurableState → ℕ → ℕ → ℕ → Type 0
-FitsQuota D slots max_blob t = used_bytes (restored_catalog D slots max_blob) t ≤ quota_of (restored_catalog D slots max_blob) t
+FitsQuota D slots max_blob t =
+    used_bytes (restored_catalog D slots max_blob) t ≤ quota_of (restored_catalog D slots max_blob) t
 
 -- A durable state fits these tenants, slots and limit on blobs.
 pub record CanRestore (D : DurableState) (tenants : List Tenant) (slots max_blob : ℕ) : Type 0 where
@@ -75,23 +78,33 @@ pub record CanRestore (D : DurableState) (tenants : List Tenant) (slots max_blob
   pub fit : fmap.len (restored_blobs D) ≤ slots
   pub limit : max_blob ≤ 2 ^ 40
   -- each open session is within the limit on blobs
-  pub small : (key : SessionNumber) (s : Session) → fmap.get D.sessions key ≡ Some s → charged_length s ≤ max_blob
+  pub small : (key : SessionNumber) (s : Session) →
+      fmap.get D.sessions key ≡ Some s → charged_length s ≤ max_blob
   -- no tenant exceeds its quota
   pub uses : (t : ℕ) → t < length tenants → FitsQuota (with_tenants D tenants) slots max_blob t
 
+-- the restored catalog is sound and agrees with the durable state
+abbrev pub IsSoundRestart : DurableState → ℕ → ℕ → Type 0
+IsSoundRestart D slots max_blob =
+    Sound (restored_catalog D slots max_blob) × Agrees fmap.empty D (restored_catalog D slots max_blob)
+
 -- A store restarts with other settings that its durable state fits.
 abbrev pub StoresRestartWithOtherSettings : Type 0
-StoresRestartWithOtherSettings = (taken : TakenChunks) (D : DurableState) (C : Catalog) → Agrees taken D C → WellFormed C →
-    (tenants : List Tenant) (slots max_blob : ℕ) → CanRestore D tenants slots max_blob →
-    Sound (restored_catalog (with_tenants D tenants) slots max_blob) × Agrees fmap.empty (with_tenants D tenants) (restored_catalog (with_tenants D tenants) slots max_blob)
+StoresRestartWithOtherSettings = (taken : TakenChunks) (D : DurableState) (C : Catalog) →
+    Agrees taken D C → WellFormed C → (tenants : List Tenant) (slots max_blob : ℕ) →
+    CanRestore D tenants slots max_blob → IsSoundRestart (with_tenants D tenants) slots max_blob
 
 -- ---- crashes
 
--- the repository name of a command has at most 255 bytes, and a hand that is returned has a chunk of the reserved length or, if it is put back, none
+-- a chunk that was filled into the hand has the reserved length
+abbrev pub FillsReserve : HandRecord → Type 0
+FillsReserve h = IfSome h.last (λ b. length b ≡ h.reserved)
+
+-- the repository name of a command has at most 255 bytes, and a returned hand's chunk has the reserved length
 abbrev pub IsWellFormedStep : Step → Type 0
 IsWellFormedStep (CommandCall command reply) = length (repo_of command) ≤ 255
-IsWellFormedStep (PutBackCall h reply) = IfSome h.last (λ b. length b ≡ h.reserved)
-IsWellFormedStep (FinishCall h d reply) = IfSome h.last (λ b. length b ≡ h.reserved) × HasNoOpenReserve h
+IsWellFormedStep (PutBackCall h reply) = FillsReserve h
+IsWellFormedStep (FinishCall h d reply) = FillsReserve h × HasNoOpenReserve h
 IsWellFormedStep step = Unit {0}
 
 -- A store whose log kept these changes restarts with its state after some first steps of the history.
@@ -101,14 +114,15 @@ pub record SurvivesCrash (D : DurableState) (C : Catalog) (done later : List Ste
 
 -- A store that opened with a sound catalog and an agreeing durable state survives a crash in which its log lost its last records.
 abbrev pub StoresSurviveCrashes : Type 0
-StoresSurviveCrashes = (D : DurableState) (C : Catalog) (done later : List Step) (s : State) (kept lost : List Change) →
-    Agrees fmap.empty D C → Sound C → LeadsTo C (done ++ later) s →
+StoresSurviveCrashes = (D : DurableState) (C : Catalog) (done later : List Step) (s : State)
+    (kept lost : List Change) → Agrees fmap.empty D C → Sound C → LeadsTo C (done ++ later) s →
     AreReturnedAsTaken fmap.empty (done ++ later) → AllByRecursion IsWellFormedStep (done ++ later) →
     changes_of D.tenants later ≡ kept ++ lost → SurvivesCrash D C done later kept
 
 -- The initial durable state agrees with the catalog of a new store.
 abbrev pub NewStoresAgree : Type 0
-NewStoresAgree = (tenants : List Tenant) (slots max_blob : ℕ) → Agrees fmap.empty (initial_durable tenants) (opening tenants slots max_blob)
+NewStoresAgree = (tenants : List Tenant) (slots max_blob : ℕ) →
+    Agrees fmap.empty (initial_durable tenants) (opening tenants slots max_blob)
 
 -- ---- rewritten logs
 
@@ -137,4 +151,5 @@ pub record IsRewritten (taken : TakenChunks) (D : DurableState) (C : Catalog) : 
 
 -- If a durable state agrees with a well-formed catalog, so does its rewritten log.
 abbrev pub RewrittenLogsAgree : Type 0
-RewrittenLogsAgree = (taken : TakenChunks) (D : DurableState) (C : Catalog) → Agrees taken D C → WellFormed C → IsRewritten taken D C
+RewrittenLogsAgree = (taken : TakenChunks) (D : DurableState) (C : Catalog) →
+    Agrees taken D C → WellFormed C → IsRewritten taken D C

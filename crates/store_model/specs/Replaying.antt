@@ -18,8 +18,10 @@ use Rattle.store_model.specs.Sessions.{content_in}
 -- the command that makes a change again in a store with this durable state; the changes of rewritten logs have none
 abbrev pub replay_command : DurableState → Change → Option Command
 replay_command D (SessionOpened repo key) = Some (Start repo)
-replay_command D (ChunkReceived key bytes) = option_map (λ s. Append s.repo key.1 None bytes) (fmap.get D.sessions key)
-replay_command D (SessionSealed key digest last) = option_map (λ s. Close s.repo key.1 digest None last) (fmap.get D.sessions key)
+replay_command D (ChunkReceived key bytes) =
+    option_map (λ s. Append s.repo key.1 None bytes) (fmap.get D.sessions key)
+replay_command D (SessionSealed key digest last) =
+    option_map (λ s. Close s.repo key.1 digest None last) (fmap.get D.sessions key)
 replay_command D (SessionDropped key) = option_map (λ s. Abandon s.repo key.1) (fmap.get D.sessions key)
 replay_command D (BlobLinked repo digest) = Some (Mount repo digest None)
 replay_command D (BlobUnlinked repo digest) = Some (Delete repo digest)
@@ -29,10 +31,11 @@ replay_command D change = None
 
 -- if the change seals a session, there is a slot for its blob, and no stored blob of its digest has other bytes
 abbrev pub HasRoomFor : DurableState → Catalog → Change → Type 0
-HasRoomFor D C (SessionSealed key digest last) = (has_slot C digest ≡ Ok tt) × (has_same_bytes (fmap.get C.residents digest) (content_in D.sessions key last) ≡ true)
+HasRoomFor D C (SessionSealed key digest last) =
+    (has_slot C digest ≡ Ok tt) × (has_same_bytes (fmap.get C.residents digest) (content_in D.sessions key last) ≡ true)
 HasRoomFor D C change = Unit {0}
 
--- the command of the change succeeds, records the same change, and leads to a sound catalog that agrees with the durable state after it
+-- the command of the change succeeds, records the same change, and leads to a sound, agreeing catalog
 pub record HasReplay (D : DurableState) (C : Catalog) (change : Change) : Type 0 where
   pub command : Command
   pub answer : Answer
@@ -49,22 +52,25 @@ pub record IsRecordedStep (taken : TakenChunks) (D : DurableState) (s : State) (
   pub sound : Sound s.catalog
   pub leaves : MayLeadTo s step X
   pub returned : IsReturnedAsTaken taken step
-  pub proper : IsWellFormedStep step
+  pub well_formed : IsWellFormedStep step
   pub records : change_of D.tenants step ≡ Some change
 
 -- The change of a step has a replay in every store that agrees with the durable state before the step and has room.
 abbrev pub ChangesHaveReplays : Type 0
-ChangesHaveReplays = (taken : TakenChunks) (D : DurableState) (s : State) (step : Step) (X : Catalog) (change : Change) → IsRecordedStep taken D s step X change →
-    (C : Catalog) → Agrees fmap.empty D C → Sound C → C.max_blob ≡ s.catalog.max_blob → HasRoomFor D C change → HasReplay D C change
+ChangesHaveReplays = (taken : TakenChunks) (D : DurableState) (s : State) (step : Step) (X : Catalog)
+    (change : Change) → IsRecordedStep taken D s step X change →
+    (C : Catalog) → Agrees fmap.empty D C → Sound C → C.max_blob ≡ s.catalog.max_blob →
+    HasRoomFor D C change → HasReplay D C change
 
 -- ---- a whole log
 
 -- the commands that make a list of changes again
 abbrev pub replay_commands : DurableState → List Change → List Command
 replay_commands D [] = []
-replay_commands D (change ∷ changes) = cons_option (replay_command D change) (replay_commands (after_change D change) changes)
+replay_commands D (change ∷ changes) =
+    cons_option (replay_command D change) (replay_commands (after_change D change) changes)
 
--- A run of the commands of these changes, which all succeed, and of sweeps leads to a sound catalog that agrees with the durable state after the changes.
+-- A run of the commands of these changes, which all succeed, and of sweeps leads to a sound, agreeing catalog.
 pub record HasLogReplay (D : DurableState) (C : Catalog) (changes : List Change) : Type 0 where
   pub events : List Event
   pub catalog : Catalog
@@ -74,7 +80,7 @@ pub record HasLogReplay (D : DurableState) (C : Catalog) (changes : List Change)
   pub agrees : Agrees fmap.empty (after_changes D changes) catalog
   pub sound : Sound catalog
 
--- The log of a legal history of a new store has a replay in a new store with the same settings.
+-- The log of a legal history of a sound new store has a replay in a new store with the same settings.
 abbrev pub LogsHaveReplays : Type 0
 LogsHaveReplays = (tenants : List Tenant) (slots max_blob : ℕ) (steps : List Step) (s : State) →
     Sound (opening tenants slots max_blob) → LeadsTo (opening tenants slots max_blob) steps s →

@@ -89,7 +89,25 @@ pub fn whole_commands()
     ensures runs { HistoriesAreRuns }
 {}
 
-/// States what a log keeps of a history.
+/// States that a log of changes keeps the durable state of a store.
+///
+/// A step of a history records at most one change, which depends on the step alone. The changes are applied to the
+/// durable state of a new store.
+///
+/// - `agree`: the changes of a legal history give a durable state that agrees with the catalog at the end. Both have
+///   the same repositories, links, manifests, session numbers, open sessions and linked contents.
+/// - `extend`: a durable state that agrees with a state also agrees after further steps, if it gets their changes.
+/// - `torn`: if a log loses its last records, it is the log of the first steps of its history: at least of all steps
+///   whose records were kept.
+///
+/// Each has one premise:
+///
+/// - A hand that is checked in or finished has the chunks with which its session was checked out.
+///
+/// Two clauses state when the premise holds:
+///
+/// - `whole_commands`: every check-in and finish belongs to an append or close that checked its session out.
+/// - `lanes`: each lane returns only the hand that it took last, from a sound catalog with no session checked out.
 pub fn durability()
     ensures agree { LogsAgree }
     ensures extend { LogsExtend }
@@ -98,7 +116,24 @@ pub fn durability()
     ensures lanes { LanesReturnHands }
 {}
 
-/// States what a store is after a restart.
+/// States that a store can be restored from its durable state, after any crash.
+///
+/// - `new_store`: the initial durable state agrees with the catalog of a new store.
+/// - `restart`: if a durable state agrees with a sound catalog, the restored catalog is sound, agrees with it, and no
+///   tenant uses more than before. Neither the slots nor the limit on blobs are lowered.
+/// - `other_settings`: a store restarts with other quotas, fewer slots or a lower limit, if its durable state fits them.
+/// - `crashes`: a store that opened with a sound catalog and an agreeing durable state restarts after a crash, in which
+///   its log may lose its last records. It then has its state after some first steps of the history, as in `torn` of
+///   `durability`.
+/// - `rewrite`: a rewritten log gives the same durable state, except for contents without a link.
+/// - `replay`: the change of a step is made again by one command, in every store that agrees with the durable state
+///   before it. The store has the same limit on blobs and, for a close, a slot and no other bytes with the digest.
+/// - `replay_log`: the log of a legal history is made again by commands that all succeed, and sweeps, in a new store
+///   with the same settings.
+///
+/// `crashes`, `replay` and `replay_log` have the premise of `durability` and a second one:
+///
+/// - Repository names have at most 255 bytes, and a chunk that was filled into a hand has the reserved length.
 pub fn recovery()
     ensures new_store { NewStoresAgree }
     ensures restart { StoresRestart }
@@ -109,7 +144,12 @@ pub fn recovery()
     ensures replay_log { LogsHaveReplays }
 {}
 
-/// States the theorems about histories of a store that was restarted.
+/// States the theorems about histories for a restarted store, which opens with any sound catalog.
+///
+/// - `runs`: `whole_commands`, if no session is checked out at the start. The run begins with that catalog.
+/// - `alone`: the clause `alone` of `isolation_of_histories`. The tenant's isolated history begins with that catalog.
+///
+/// The premises are those of these two laws. The premise about contents then includes those of the stored blobs.
 pub fn restarts()
     ensures runs { RestartedHistoriesAreRuns }
     ensures alone { TenantsAreIsolatedFrom }

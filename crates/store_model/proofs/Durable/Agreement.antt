@@ -1,4 +1,4 @@
--- A change of the catalog and the record of it keep the log's agreement with the catalog.
+-- A change of the catalog and its change of the durable state keep their agreement.
 use Rattle.std.proofs.Common.{◌≡◌, ◌≢◌, ℕ, true, List, [], ◌∷◌, ◌++◌, length, Option, Some, refl, sym, ap, ◌∙◌, subst, inl, inr, ⊎_elim}
 use Rattle.std.specs.Option.{option_map_or}
 use Rattle.std.specs.Cmp.Lexicographic.{nat_list_cmp_total}
@@ -17,7 +17,7 @@ use Rattle.store_model.specs.Durable.{Agrees, Change, DurableState, AgreesOnCont
 use Rattle.store_model.proofs.Commands.Hands.{all_chunks}
 use Rattle.store_model.specs.Sessions.{Sessions, at_home, content_in, with_chunk, with_chunks}
 
--- what a step that may record a change leaves
+-- the durable state after an optional change
 abbrev pub after_record : DurableState → Option Change → DurableState
 after_record D change = option_map_or (after_change D) change D
 
@@ -79,7 +79,7 @@ module _ (taken : TakenChunks) (D : DurableState) (C : Catalog) (a : Agrees take
     | inr other ↦ let same = elsewhere q other in as_found same.0 same.1 same.2 (a.sessions q)
   ]
 
-  -- a session in a repository that is there
+  -- a session of an existing repository is inserted
   put_session : (key : SessionNumber) (kept now : Session) (taken' : TakenChunks) → ((q : SessionNumber) → q ≢ key → get taken' q ≡ get taken q) → set.contains C.repos now.repo ≡ true → AgreesOnSession (get taken' key) (Some kept) (Some now) →
       Agrees taken' (record D { sessions = insert D.sessions key kept }) (record C { sessions = insert C.sessions key now })
   put_session key kept now taken' others there is = with_sessions taken' (insert D.sessions key kept) (insert C.sessions key now)
@@ -88,7 +88,7 @@ module _ (taken : TakenChunks) (D : DurableState) (C : Catalog) (a : Agrees take
       (as_found refl (get-insert_at number_cmp_total exact_number D.sessions key kept) (get-insert_at number_cmp_total exact_number C.sessions key now) is))
       (λ k s h. ⊎_elim (λ e. subst (λ (x : Session). set.contains C.repos x.repo ≡ true) e.1 there) (a.uploaded_to k s) (got-insert number_cmp_total exact_number C.sessions key now k s h))
 
-  -- a session whose chunks alone change, and of which the log has what it had
+  -- only the chunks of a session change, and the durable session is as before
   pub Agrees-same_session : (key : SessionNumber) (now : Session) (taken' : TakenChunks) → ((q : SessionNumber) → q ≢ key → get taken' q ≡ get taken q) → set.contains C.repos now.repo ≡ true → AgreesOnSession (get taken' key) (get D.sessions key) (Some now) →
       Agrees taken' D (record C { sessions = insert C.sessions key now })
   Agrees-same_session key now taken' others there is = with_sessions taken' D.sessions (insert C.sessions key now)
@@ -108,11 +108,11 @@ module _ (taken : TakenChunks) (D : DurableState) (C : Catalog) (a : Agrees take
       (as_found refl refl (get-remove_same number_cmp_total exact_number C.sessions key) (get-remove_same number_cmp_total exact_number D.sessions key)))
       (λ k s h. a.uploaded_to k s (got-remove number_cmp_total exact_number C.sessions key k s h))
 
-  -- what the log has of a session
+  -- the durable session of an open session
   pub durable_session : (key : SessionNumber) (s : Session) → get C.sessions key ≡ Some s → AgreesOnSession (get taken key) (get D.sessions key) (Some s)
   durable_session key s found = as_found refl refl (sym found) (a.sessions key)
 
-  -- a session comes home with a chunk more, which is recorded where it has bytes
+  -- a session is checked in with one more chunk, which is recorded if it is not empty
   pub Agrees-receive : (key : SessionNumber) (s : Session) (chunks : List Text) (bytes : Text) → get C.sessions key ≡ Some s → get D.sessions key ≡ Some (record { repo = s.repo; chunks = CheckedIn chunks }) → AllByRecursion (λ c. c ≢ []) chunks →
       Agrees taken (after_record D (chunk_change key bytes)) (record C { sessions = with_chunks C.sessions key s (CheckedIn (with_chunk chunks bytes)) })
   Agrees-receive key s chunks [] found kept pieces = Agrees-same_session key (record s { chunks = CheckedIn chunks }) taken (λ q other. refl) (a.uploaded_to key s found) (chunks, kept, pieces, refl)
@@ -148,7 +148,7 @@ module _ (taken : TakenChunks) (D : DurableState) (C : Catalog) (a : Agrees take
       (λ l h. ⊎_elim (λ (e : l ≡ (repo, digest)). subst (λ (x : Link). AgreesOnContent D.contents C.residents x.1 × (set.contains C.repos x.0 ≡ true)) (sym e) (has, there)) (λ h. (a.contents l h, a.linked_in l h))
       (member link_cmp_total exact_link C.links (repo, digest) l h))
 
-  -- a blob is kept anew, or as it was
+  -- a blob is stored
   pub Agrees-store : (digest : Text) (b : Resident) → Agrees taken (record D { contents = insert D.contents digest b.bytes }) (record C { residents = insert C.residents digest b })
   Agrees-store digest b = with_links D.links C.links (insert D.contents digest b.bytes) (insert C.residents digest b) a.links (λ l h. (
     elim (cases_key nat_list_cmp_total exact_bytes l.1 digest) [
@@ -187,7 +187,7 @@ module _ (taken : TakenChunks) (D : DurableState) (C : Catalog) (a : Agrees take
     uploaded_to = a.uploaded_to;
   }
 
--- a session of which the log has these chunks becomes a blob
+-- a session with these durable chunks becomes a blob
 pub Agrees-seal : (taken : TakenChunks) (D : DurableState) (C : Catalog) → Agrees taken D C → (key : SessionNumber) (s : Session) (chunks : List Text) (digest last : Text) (b : Resident) → get C.sessions key ≡ Some s →
     get D.sessions key ≡ Some (record { repo = s.repo; chunks = CheckedIn chunks }) → b.bytes ≡ concat chunks ++ last →
     Agrees taken (option_map_or (after_seal D key digest last) (get D.sessions key) D)

@@ -1,4 +1,4 @@
--- An accepted command and its record keep the log's agreement with the catalog.
+-- An accepted command and its change keep the agreement of the durable state with the catalog.
 use Rattle.std.proofs.Common.{◌≡◌, ◌≢◌, ℕ, ◌+◌, Bool, true, false, List, [], ◌++◌, length, Option, Some, Result, Ok, Err, refl, sym, ap, ◌∙◌, subst}
 use Rattle.std.specs.Prelude.{nat_lt, slice_set, if◌then◌else◌}
 use Rattle.std.specs.Option.{ok_or, option_map_or}
@@ -31,7 +31,7 @@ use Rattle.store_model.proofs.Commands.Mount.{source_of}
 use Rattle.store_model.proofs.Durable.Agreement.{Agrees-add_repo, Agrees-drop, durable_session, Agrees-link, Agrees-mark, Agrees-set_next, Agrees-open, Agrees-receive, after_record, Agrees-seal, Agrees-unlink, Agrees-manifests}
 use Rattle.store_model.proofs.Noninterference.LocalRespect.{Leaves, abandon_leaves, close_leaves, delete_leaves, delete_manifest_leaves, lease_leaves, of_tenant, past}
 
--- what an accepted outcome left
+-- a property of the catalog after an accepted outcome
 left_ok : {A : Type 0} (P : Catalog → Type 0) (x : Outcome A) (a : A) (X : Catalog) → Leaves P x → x ≡ Ok (a, X) → P X
 left_ok P x a X leaves is = subst (λ y. Leaves P y) is leaves
 
@@ -43,7 +43,7 @@ reading_ok : {A : Type 0} (f : A → Answer) (C : Catalog) (x : Result A Refusal
 reading_ok f C (Ok x) b X is = (ok_pair is).1
 reading_ok f C (Err e) b X is = absurd cc
 
--- the key of a session of a known tenant
+-- the key of a known tenant's session
 key_is : (C : Catalog) (r : Text) (t n : ℕ) → tenant_of C.tenants r ≡ Some t → session_key C.tenants r n ≡ (t, n)
 key_is C r t n known = ap (λ o. (option_map_or (λ t. t) o 0, n)) known
 
@@ -68,7 +68,7 @@ module _ (taken : TakenChunks) (D : DurableState) (C : Catalog) (a : Agrees take
       subst (λ (k : SessionNumber). Agrees taken (after_change D (SessionOpened r k)) X) (sym (key_is C r b.0 n known ∙ ap (λ (m : ℕ). (b.0, m)) (sym number)))
       (subst (λ (Y : Catalog). Agrees taken (after_change D (SessionOpened r (b.0, next_number_of C b.0))) Y) left (opens b.0 r))
 
-  -- what a checked session at home has in the log
+  -- the durable chunks of a checked-in session
   pub durable_checked_in : (t n : ℕ) (r : Text) (len : ℕ) (c : Checked C t n r len) → (get D.sessions (t, n) ≡ Some (record { repo = c.s.repo; chunks = CheckedIn c.chunks })) × AllByRecursion (λ x. x ≢ []) c.chunks
   durable_checked_in t n r len c =
       let is = durable_session taken D C a (t, n) c.s c.found in

@@ -1,4 +1,4 @@
--- A store that opened sound comes back sound. Steps keep a catalog sound, and its slots and its limit on blobs as they are.
+-- Steps keep a catalog sound, and its slots and its limit on blobs; so a store survives a crash.
 use Rattle.std.proofs.Common.{◌≡◌, ℕ, false, List, [], ◌∷◌, ◌++◌, length, Some, Result, Ok, Err, refl, sym, ap, ◌∙◌, subst, append_assoc, arith, ⊎_elim}
 use Rattle.std.specs.Prelude.{IfSome}
 use Rattle.std.specs.List.{AllByRecursion}
@@ -32,7 +32,7 @@ use Rattle.store_model.proofs.Noninterference.LocalRespect.{Leaves, abandon_leav
 abbrev pub SameSetting : Catalog → Catalog → Type 0
 SameSetting C X = (X.slots ≡ C.slots) × (X.max_blob ≡ C.max_blob)
 
--- and a command retires no slot
+-- a command also retires no slot
 abbrev pub SameSlots : Catalog → Catalog → Type 0
 SameSlots C X = (X.slots ≡ C.slots) × (X.max_blob ≡ C.max_blob) × (X.retired ≡ C.retired)
 

@@ -1,4 +1,4 @@
--- A map, a set or a list of numbers that is built anew, entry by entry, is the one whose entries they are.
+-- Inserting all entries of a map, a set or a list of numbers in order rebuilds it.
 use Rattle.std.proofs.Common.{◌≡◌, ℕ, ◌+◌, Bool, true, false, cond, List, [], ◌∷◌, ◌++◌, map, length, Option, Some, None, is_some, refl, sym, ap, ◌∙◌, arith, append_assoc, length-append}
 use Rattle.std.specs.Prelude.{◌||◌, fold, if◌then◌else◌, slice_set}
 use Rattle.std.specs.Option.{option_or}
@@ -18,7 +18,7 @@ use Rattle.spec_lib.proofs.Sorted.{IsApart-sorted, rising}
 abbrev pub put : {K X : Type 0} {R : K → K → Ordering} → FinMap R X → K × X → FinMap R X
 put m e = insert m e.0 e.1
 
--- the same of a key that isn't there
+-- the map with one more entry, if its key is new
 abbrev pub keep : {K X : Type 0} {R : K → K → Ordering} → FinMap R X → K × X → FinMap R X
 keep m e = if contains_key m e.0 then m else insert m e.0 e.1
 
@@ -70,7 +70,7 @@ module _ {K X : Type 0} {R : K → K → Ordering} (o : IsTotalOrder R) (same : 
   fold_keep-entries m = same_map o same (fold keep empty (entries m)) m (λ q.
       get-fold_keep (entries m) empty q ∙ ap (λ x. option_or x (find R q (entries m))) (get-empty R q) ∙ sym (get-entries m q))
 
-  -- what holds of each value that is found holds of each entry
+  -- a property of every value that is found is one of every entry
   all_found : (P : K × X → Type 0) (es : List (K × X)) → IsApart R es → ((q : K) (v : X) → find R q es ≡ Some v → P (q, v)) → AllByRecursion P es
   all_found P [] apart each = tt
   all_found P (e ∷ es) apart each = (each e.0 e.1 (ap (λ b. cond b (Some e.1) (find R e.0 es)) (tied o same e.0)), all_found P es apart.1 (λ q v found. each q v (by q v found (eq_by_cmp R q e.0) refl)))
@@ -113,7 +113,7 @@ module _ {K : Type 0} {R : K → K → Ordering} (o : IsTotalOrder R) (same : Is
 
 -- ---- numbers
 
--- each place of a list is written in turn
+-- writing every position of a list in order gives the new list
 pub fold-places : {A : Type 0} (written : List A) (old new : List A) → length old ≡ length new →
     fold (λ (xs : List A) (e : ℕ × A). slice_set xs e.0 e.1) (written ++ old) (enumerate_from (length written) new) ≡ written ++ new
 fold-places written [] [] alike = refl

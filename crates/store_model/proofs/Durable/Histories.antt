@@ -1,4 +1,4 @@
--- A history and its log agree: the induction over the steps.
+-- A history's changes, applied to a durable state, keep its agreement with the catalog: the induction over the steps.
 use Rattle.std.proofs.Common.{◌≡◌, ◌≢◌, ℕ, Bool, true, false, not, List, [], ◌∷◌, length, Option, Some, None, Result, Ok, Err, refl, sym, ap, ◌∙◌, subst, ⊎_elim}
 use Rattle.std.specs.Prelude.{if◌then◌else◌}
 use Rattle.std.specs.Option.{option_map_or}
@@ -32,7 +32,7 @@ use Rattle.store_model.proofs.Noninterference.Consistency.{no_orphan}
 -- ---- hands
 
 module _ (taken : TakenChunks) (D : DurableState) (C X : Catalog) (a : Agrees taken D C) where
-  -- a session that is taken in hand stays in the log as it was
+  -- a session that is checked out keeps its durable chunks
   takes : (r : Text) (n len : ℕ) (g : Option ByteRange) (h : HandRecord) → take C r n g len ≡ Ok (h, X) → Agrees (insert taken h.key h.chunks) D X
   takes r n len g h is =
       subst (λ (y : HandRecord). Agrees (insert taken y.key y.chunks) D X) (taken_hand C X r n len g h is)
@@ -54,7 +54,7 @@ module _ (taken : TakenChunks) (D : DurableState) (C X : Catalog) (a : Agrees ta
       same = subst (λ (y : Chunks). AgreesOnChunks (get taken key) y has.0) p.checked.home has.3
 
 module _ (taken : TakenChunks) (D : DurableState) (C : Catalog) (a : Agrees taken D C) (h : HandRecord) (returned : get taken h.key ≡ Some h.chunks) where
-  -- the log has the chunks of a hand
+  -- the durable chunks are the hand's
   pub durable_hand : (s : Session) → session_of_hand (get C.sessions h.key) h ≡ Ok s →
       (get C.sessions h.key ≡ Some s) × (get D.sessions h.key ≡ Some (record { repo = s.repo; chunks = CheckedIn h.chunks })) × AllByRecursion (λ c. c ≢ []) h.chunks
   durable_hand s here =
@@ -89,7 +89,7 @@ module _ (taken : TakenChunks) (D : DurableState) (C : Catalog) (a : Agrees take
       subst (λ (Y : Catalog). Agrees taken (after_change D (SessionSealed h.key d (filled_chunk h))) Y) left
       (Agrees-seal taken D C a h.key b.0 h.chunks d (filled_chunk h) blob has.0 has.1 refl)
 
-  -- a hand whose finish is refused: its session is at home again
+  -- a failed finish checks the session in again
   gives_up : Agrees taken D (after_cancel C h)
   gives_up = by (session_of_hand (get C.sessions h.key) h) refl
     where
@@ -115,7 +115,7 @@ sweeps taken D C X swept a sweep = subst (λ (Y : Catalog). Agrees taken D Y) (s
   uploaded_to = a.uploaded_to;
 })
 
--- ---- any step
+-- ---- steps
 
 pub step_agrees : (taken : TakenChunks) (D : DurableState) (s : State) (step : Step) (X : Catalog) → Agrees taken D s.catalog → MayLeadTo s step X → IsReturnedAsTaken taken step →
     Agrees (taken_after_step taken step) (after_record D (change_of s.catalog.tenants step)) X
@@ -129,9 +129,9 @@ step_agrees taken D s (PutBackCall h (Err e)) X a leaves returned = subst (λ (Y
 step_agrees taken D s (FinishCall h d (Ok n)) X a leaves returned = finishes taken D s.catalog a h returned d n X leaves
 step_agrees taken D s (FinishCall h d (Err e)) X a leaves returned = subst (λ (Y : Catalog). Agrees taken D Y) (sym leaves.1) (gives_up taken D s.catalog a h returned)
 
--- ---- a history
+-- ---- histories
 
--- a change leaves the tenants as they are
+-- a change keeps the tenants
 after_change_tenants : (D : DurableState) (c : Change) → (after_change D c).tenants ≡ D.tenants
 after_change_tenants D (SessionSealed key digest last) = by (get D.sessions key)
   where
@@ -149,7 +149,7 @@ pub after_record_tenants : (D : DurableState) (o : Option Change) → (after_rec
 after_record_tenants D None = refl
 after_record_tenants D (Some c) = after_change_tenants D c
 
--- a record of a log is replayed before the rest
+-- the change of the first step is applied before those of the rest
 pub after_changes_first : (D : DurableState) (step : Step) (steps : List Step) (tenants : List Tenant) → after_changes (after_record D (change_of tenants step)) (changes_of tenants steps) ≡ after_changes D (changes_of tenants (step ∷ steps))
 after_changes_first D step steps tenants = by (change_of tenants step)
   where
@@ -167,7 +167,7 @@ steps_agree tenants (step ∷ steps) taken D s s' a known run returned =
     subst (λ E. Agrees (taken_after_steps taken (step ∷ steps)) E s'.catalog) (after_changes_first D step steps tenants)
     (steps_agree tenants steps (taken_after_step taken step) (after_record D (change_of tenants step)) mid s' moved (after_record_tenants D (change_of tenants step) ∙ known) run.2 returned.1)
 
--- nothing is in a store in which nothing was done
+-- the initial durable state agrees with the catalog of a new store
 pub new_stores_agree : (tenants : List Tenant) (slots max_blob : ℕ) → Agrees empty (initial_durable tenants) (opening tenants slots max_blob)
 new_stores_agree tenants slots max_blob = record {
   tenants = refl;

@@ -1,4 +1,4 @@
--- Lanes that bring back what they took have genuine hands: no two of them have a session's hand at once.
+-- Lanes whose steps are paired return every hand as it was taken: no two of them hold hands of one session.
 use Rattle.std.proofs.Common.{◌≡◌, ◌≢◌, ℕ, Bool, true, false, List, [], ◌∷◌, length, Option, Some, None, Ok, Err, refl, sym, ap, ◌∙◌, subst, inl, inr, ⊎_elim}
 use Rattle.std.specs.Prelude.{◌==◌, ◌⊎◌, if◌then◌else◌}
 use Rattle.std.specs.Option.{option_map_or}
@@ -31,12 +31,12 @@ use Rattle.store_model.proofs.Invariant.Sessions.{fresh}
 use Rattle.store_model.proofs.Noninterference.Hands.{cancel_leaves, finish_leaves, put_back_leaves}
 use Rattle.store_model.proofs.Noninterference.LocalRespect.{Leaves, answers_leave, close_leaves, delete_leaves, delete_manifest_leaves, lease_leaves, mount_leaves, of_tenant, past, put_leaves, reading_leave, start_leaves}
 
--- ---- a session that is in hand
+-- ---- a checked-out session
 
 abbrev IsOut : Catalog → SessionNumber → Type 0
 IsOut C k = (s : Session) × (get C.sessions k ≡ Some s) × (are_checked_in s.chunks ≡ false)
 
--- it is another than one at home
+-- a checked-out session is not a checked-in one
 not_home : (C : Catalog) (k q : SessionNumber) (s : Session) (chunks : List Text) → IsOut C k → get C.sessions q ≡ Some s → s.chunks ≡ CheckedIn chunks → k ≢ q
 not_home C k q s chunks out found home e =
     let same : out.0 ≡ s = some_same (sym out.1 ∙ ap (get C.sessions) e ∙ found) in
@@ -52,7 +52,7 @@ module _ (C : Catalog) (lawful : WellFormed C) (k : SessionNumber) (out : IsOut 
   abbrev P : Catalog → Type 0
   P X = IsOut X k
 
-  -- no command touches it
+  -- no command changes it
   new_leaves : (t : ℕ) (r : Text) → P (Commands.with_new_session C t r)
   new_leaves t r = with_other C k (t, next_number_of C t) (record { repo = r; chunks = CheckedIn [] }) out (λ e. nothing (fresh C t r lawful) (ap (get C.sessions) (sym e) ∙ out.1))
 
@@ -81,7 +81,7 @@ module _ (C : Catalog) (lawful : WellFormed C) (k : SessionNumber) (out : IsOut 
   command_leaves_it (runs.DeleteManifest r m) = answers_leave P (λ _. runs.Done) _ (delete_manifest_leaves P C r m out)
   command_leaves_it (runs.Lease r d) = answers_leave P runs.Bytes _ (lease_leaves P C r false d (λ b _. out))
 
-  -- nor does another session's hand
+  -- the return of another session's hand does not change it
   put_back_leaves_it : (h : HandRecord) → k ≢ h.key → Leaves P (put_back C h)
   put_back_leaves_it h other = put_back_leaves P C h (λ s _. with_other C k h.key _ out other)
 
@@ -91,7 +91,7 @@ module _ (C : Catalog) (lawful : WellFormed C) (k : SessionNumber) (out : IsOut 
   cancel_leaves_it : (h : HandRecord) → k ≢ h.key → P (after_cancel C h)
   cancel_leaves_it h other = cancel_leaves P C h out (λ s _. with_other C k h.key _ out other)
 
--- the session whose hand a step brings back
+-- the step returns no hand of this session
 abbrev IsOther : SessionNumber → Step → Type 0
 IsOther k (PutBackCall h reply) = k ≢ h.key
 IsOther k (FinishCall h d reply) = k ≢ h.key
@@ -111,15 +111,15 @@ stays_out s (PutBackCall h (Err e)) X lawful leaves k out other = subst (λ (Y :
 stays_out s (FinishCall h d (Ok n)) X lawful leaves k out other = left_ok (λ Y. IsOut Y k) _ n X (finish_leaves_it s.catalog lawful k out h d other) leaves
 stays_out s (FinishCall h d (Err e)) X lawful leaves k out other = subst (λ (Y : Catalog). IsOut Y k) (sym leaves.1) (cancel_leaves_it s.catalog lawful k out h other)
 
--- ---- the hands that are out
+-- ---- the hands of all lanes
 
--- each lane's hand has the chunks with which its session was taken, which is out; no two lanes have a session's
+-- each lane's hand has the chunks with which its session was taken, its session is checked out, and no two lanes hold hands of one session
 record Known (taken : TakenChunks) (C : Catalog) (hands : ℕ → Option HandRecord) : Type 0 where
   held : (w : ℕ) (h : HandRecord) → hands w ≡ Some h → (get taken h.key ≡ Some h.chunks) × IsOut C h.key
   apart : (w v : ℕ) (h g : HandRecord) → hands w ≡ Some h → hands v ≡ Some g → h.key ≡ g.key → w ≡ v
 
 module _ (w : ℕ) (hands : ℕ → Option HandRecord) where
-  -- the hands after a step of a lane
+  -- the hands of all lanes after a step of one lane
   abbrev put_at : Option HandRecord → ℕ → Option HandRecord
   put_at o v = if v == w then o else hands v
 
@@ -153,7 +153,7 @@ module _ (w : ℕ) (hands : ℕ → Option HandRecord) where
 
   -- ---- a step of a lane
 
-  -- what it has in hand after a step, which is genuine
+  -- a step returns a hand as it was taken, and the lane's further steps are paired with the hand that it then holds
   record Next (taken : TakenChunks) (step : Step) (X : Catalog) (own : List Step) : Type 0 where
     out : Option HandRecord
     returned : IsReturnedAsTaken taken step
@@ -161,14 +161,14 @@ module _ (w : ℕ) (hands : ℕ → Option HandRecord) where
     paired : IsPaired out own
 
   module _ (taken : TakenChunks) (s : State) (known : Known taken s.catalog hands) (lawful : WellFormed s.catalog) (X : Catalog) where
-    -- the hands stay as they are
+    -- the step changes no hand
     same_hands : (step : Step) → MayLeadTo s step X → ((k : SessionNumber) → IsOther k step) → Known taken X (put_at (hands w))
     same_hands step leaves other = record {
       held = λ v h is. let old = known.held v h (as_before v h is) in (old.0, stays_out s step X lawful leaves h.key old.1 (other h.key));
       apart = λ v u h g a b. known.apart v u h g (as_before v h a) (as_before u g b);
     }
 
-    -- the lane's own comes back
+    -- the lane returns its hand
     back : (step : Step) → MayLeadTo s step X → (t : HandRecord) → hands w ≡ Some t → ((k : SessionNumber) → k ≢ t.key → IsOther k step) → Known taken X (put_at None)
     back step leaves t is other = record {
       held = λ v h a.
@@ -178,7 +178,7 @@ module _ (w : ℕ) (hands : ℕ → Option HandRecord) where
       apart = λ v u h g a b. known.apart v u h g (another v h a).0 (another u g b).0;
     }
 
-    -- a session is taken that was at home
+    -- the lane takes a hand of a checked-in session
     takes : (r : Text) (n : ℕ) (g : Option ByteRange) (len : ℕ) (h : HandRecord) → take s.catalog r n g len ≡ Ok (h, X) → Known (insert taken h.key h.chunks) X (put_at (Some h))
     takes r n g len h is = record {
       held = λ v x a. elim (new_or_old h v x a) [
@@ -236,7 +236,7 @@ module _ (w : ℕ) (hands : ℕ → Option HandRecord) where
           paired = paired.1;
         }
 
--- ---- a history
+-- ---- histories
 
 all_returned : (entries : LaneSteps) (taken : TakenChunks) (D : DurableState) (s s' : State) (hands : ℕ → Option HandRecord) → Agrees taken D s.catalog → Sound s.catalog → AreSteps s (all_steps entries) s' → AllByRecursion IsWellFormedStep (all_steps entries) →
     Known taken s.catalog hands → ((lane : ℕ) → IsPaired (hands lane) (steps_by lane entries)) → AreReturnedAsTaken taken (all_steps entries)

@@ -1,4 +1,4 @@
--- A history's log is run again by commands and sweeps: what was accepted finds room.
+-- The log of a history has a replay by commands and sweeps: after a sweep each change has room.
 use Rattle.std.proofs.Common.{◌≡◌, ◌≢◌, ℕ, ◌+◌, ◌-◌, ◌<◌, ◌≤◌, Bool, true, false, cond, not, List, [], ◌∷◌, ◌++◌, length, Option, Some, None, Ok, Err, refl, sym, ap, ◌∙◌, subst, arith}
 use Rattle.std.specs.Prelude.{◌&&◌, nat_le}
 use Rattle.std.specs.Option.{option_map_or}
@@ -40,10 +40,10 @@ use Rattle.store_model.proofs.Durable.Crashes.{SameSetting, SameSlots, command_s
 use Rattle.store_model.proofs.Durable.Replaying.{changes_have_replays}
 use Rattle.store_model.proofs.Durable.Uses.{sum_within}
 
--- ---- after a sweep
+-- ---- the catalog after a sweep
 
 module _ (taken : TakenChunks) (D : DurableState) (C : Catalog) (a : Agrees taken D C) (sound : Sound C) (R : Catalog) (b : Agrees empty D R) where
-  -- what a sweep leaves is linked
+  -- a blob that a sweep keeps is linked
   still_linked : (d : Text) (x : Resident) → get (kept R) d ≡ Some x → (is_orphan R d ≡ false) × (get R.residents d ≡ Some x)
   still_linked d x found = by (is_orphan R d) refl
     where
@@ -54,7 +54,7 @@ module _ (taken : TakenChunks) (D : DurableState) (C : Catalog) (a : Agrees take
       by false is = (is, sym (at ∙ ap (λ o. cond (not o) (get R.residents d) None) is) ∙ found)
       by true is = nothing (at ∙ ap (λ o. cond (not o) (get R.residents d) None) is) found
 
-  -- so it was there, with the same bytes
+  -- it is stored in the original catalog with the same bytes
   same_blob : (d : Text) (x : Resident) → get (kept R) d ≡ Some x → (y : Resident) × (get C.residents d ≡ Some y) × (x.bytes ≡ y.bytes)
   same_blob d x found =
       let here = still_linked d x found in
@@ -67,7 +67,7 @@ module _ (taken : TakenChunks) (D : DurableState) (C : Catalog) (a : Agrees take
       counted : is_orphan R d ≡ false → 0 < link_count R d
       counted linked = let some = eqb-false (link_count R d) 0 linked in omega (arith, some)
 
-  -- a blob that found a slot finds one again
+  -- if the swept catalog lacks a blob, it has at most as many blobs as the original one without it
   fewer : (digest : Text) → get (kept R) digest ≡ None → len (kept R) ≤ len (remove C.residents digest)
   fewer digest none =
       let less = sum_within nat_list_cmp_total exact_bytes (λ (_ : Text × Resident). 1) (λ (_ : Text × Resident). 1) (kept R) (remove C.residents digest) (λ d. by d (get (kept R) d) refl) in
@@ -84,7 +84,7 @@ module _ (taken : TakenChunks) (D : DurableState) (C : Catalog) (a : Agrees take
           subst (λ o. 1 ≤ term (λ (_ : Text × Resident). 1) d o) (sym there) (omega arith)
 
   module _ (slots_are : R.slots ≡ C.slots) (none_retired : R.retired ≡ 0) (digest : Text) where
-    -- where a blob has a slot or finds one, there is one without it
+    -- if a blob has or finds a slot, there is a slot in addition to those of the others
     left_over : is_full_for C digest ≡ false → len (remove C.residents digest) < C.slots
     left_over free = by (contains_key C.residents digest) refl free
       where
@@ -118,13 +118,13 @@ module _ (taken : TakenChunks) (D : DurableState) (C : Catalog) (a : Agrees take
             let was = same_blob digest x found in
             ap (λ (y : Text). same_text y whole) was.2 ∙ ap (λ o. has_same_bytes o whole) (sym was.1) ∙ same
 
--- ---- each change finds room after a sweep
+-- ---- each change has room after a sweep
 
 module _ (taken : TakenChunks) (D : DurableState) (s : State) (a : Agrees taken D s.catalog) (sound : Sound s.catalog) (R : Catalog) (b : Agrees empty D R) (slots_are : R.slots ≡ s.catalog.slots) (none_retired : R.retired ≡ 0) where
   abbrev C : Catalog
   C = s.catalog
 
-  -- what was sealed, of these chunks
+  -- a seal of a session with these chunks has room
   sealed_room : (key : SessionNumber) (repo : Text) (chunks : List Text) (d last : Text) → get D.sessions key ≡ Some (record { repo = repo; chunks = CheckedIn chunks }) → has_slot C d ≡ Ok tt → has_same_bytes (get C.residents d) (concat chunks ++ last) ≡ true →
       HasRoomFor D (after R) (SessionSealed key d last)
   sealed_room key repo chunks d last found free same =
@@ -157,7 +157,7 @@ module _ (taken : TakenChunks) (D : DurableState) (s : State) (a : Agrees taken 
       let same = (and_parts (is_digest_of d (hand_content h)) (has_same_bytes (get C.residents d) (hand_content h)) (not-false _ (not_refused _ _ _ e.1))).1 in
       sealed_room h.key c.0.repo h.chunks d (filled_chunk h) kept_is.1 f.1 same
 
-  -- no other change wants any
+  -- every other change has room
   chunk_room : (key : SessionNumber) (bytes : Text) (change : Change) → chunk_change key bytes ≡ Some change → HasRoomFor D (after R) change
   chunk_room key [] change is = some_none (sym is)
   chunk_room key (x ∷ bytes) change is = subst (λ y. HasRoomFor D (after R) y) (some_same is) tt
@@ -197,7 +197,7 @@ module _ (taken : TakenChunks) (D : DurableState) (s : State) (a : Agrees taken 
 
 -- ---- a whole log
 
--- a store that has what the log says, as one that never leased anything
+-- a store that replays the log of another one: it agrees with the durable state, and has the same settings and no retired slot
 record IsAlike (D : DurableState) (C R : Catalog) : Type 0 where
   agrees : Agrees empty D R
   sound : Sound R
@@ -205,7 +205,7 @@ record IsAlike (D : DurableState) (C R : Catalog) : Type 0 where
   limit : R.max_blob ≡ C.max_blob
   retired : R.retired ≡ 0
 
--- a sweep, the command for a change, and then the others
+-- the replay of a log: a sweep, the command of the first change, and the replay of the rest
 first_again : (D : DurableState) (R : Catalog) (change : Change) (changes : List Change) → (one : HasReplay D (after R) change) → HasLogReplay (after_change D change) one.catalog changes → HasLogReplay D R (change ∷ changes)
 first_again D R change changes one rest = record {
   events = SweepEvent (swept R) ∷ CommandEvent one.command (Ok one.answer) ∷ rest.events;
@@ -247,7 +247,7 @@ steps_again tenants (step ∷ steps) taken D s s' a known sound run returned rig
         let clean_sound : Sound (after R) = Sound-sweep R (after R) (swept R) (some_sweep R) alike.sound.lawful alike.sound.quotas alike.sound.slots in
         let free = step_room taken D s a sound R alike.agrees alike.slots alike.retired step mid.catalog run.1.leaves returned.0 change records in
         let one : HasReplay D (after R) change = changes_have_replays taken D s step mid.catalog change
-        (record { agrees = a; sound = sound; leaves = run.1.leaves; returned = returned.0; proper = right.0; records = records }) (after R) clean clean_sound alike.limit free in
+        (record { agrees = a; sound = sound; leaves = run.1.leaves; returned = returned.0; well_formed = right.0; records = records }) (after R) clean clean_sound alike.limit free in
         let same = left_ok (SameSlots (after R)) (outcome false (after R) one.command) one.answer one.catalog (command_setting (after R) one.command) one.accepted in
         let none : R.retired ≡ 0 = alike.retired in
         let retired_is : one.catalog.retired ≡ R.retired + 0 = same.2 in

@@ -1,4 +1,4 @@
--- A store that is restored with another setting is sound where what a restart looks at holds.
+-- A store that restarts with other settings is sound if its durable state fits them.
 use Rattle.std.proofs.Common.{◌≡◌, ℕ, ◌<◌, ◌≤◌, ◌^◌, List, length, map, Some, refl, sym, ap, ◌∙◌, subst, arith}
 use Rattle.std.specs.Prelude.{IsSome, count_by, nat_eq, position}
 use Rattle.std.specs.Option.{option_eq}
@@ -16,7 +16,7 @@ use Rattle.store_model.specs.Recovery.{CanRestore, StoresRestartWithOtherSetting
 use Rattle.store_model.proofs.Durable.Restored.{agrees as agrees_there, content, kept_blob}
 use Rattle.store_model.proofs.Durable.Uses.{open_less, was_open}
 
--- ---- tenants of the same names
+-- ---- tenants with the same names
 
 module _ (ts us : List Tenant) (names : map (λ t. t.name) ts ≡ map (λ t. t.name) us) where
   same_tenant : (r : Text) → tenant_of ts r ≡ tenant_of us r
@@ -52,7 +52,7 @@ module _ (ts us : List Tenant) (names : map (λ t. t.name) ts ≡ map (λ t. t.n
     quotas = quotas;
   }
 
--- ---- what is restored
+-- ---- the restored catalog
 
 module _ (taken : TakenChunks) (D : DurableState) (C : Catalog) (a : Agrees taken D C) (lawful : WellFormed C) (tenants : List Tenant) (slots max_blob : ℕ) (can : CanRestore D tenants slots max_blob) where
   abbrev R : Catalog

@@ -1,4 +1,4 @@
--- One more step keeps a lane's steps paired; the hand that the lane then holds.
+-- One more step keeps a lane's steps paired, and the hand that the lane holds after it.
 use Rattle.std.proofs.Common.{◌≡◌, ℕ, List, [], ◌∷◌, ◌++◌, Option, Some, None, Result, Ok, refl, sym, ap, ◌∙◌}
 use Rattle.std.specs.Prelude.{fold}
 use Rattle.std.proofs.lemmas.List.Sums.{fold-append}
@@ -24,7 +24,7 @@ returns_nothing held step never = tt
 pub IsPaired-append_other : (steps : List Step) (step : Step) → IsPaired None steps → ReturnsNothing step → IsPaired None (steps ++ step ∷ [])
 IsPaired-append_other steps step paired nothing = IsPaired-append_one None steps step paired (returns_nothing (held_hand steps) step nothing)
 
--- so does the return of the held hand
+-- the return of the held hand keeps the steps paired
 pub IsPaired-append_put_back : (steps : List Step) (h : HandRecord) (reply : Result ℕ Refusal) → IsPaired None steps → IsHeld h steps → IsPaired None (steps ++ PutBackCall h reply ∷ [])
 IsPaired-append_put_back steps h reply paired held = IsPaired-append_one None steps (PutBackCall h reply) paired held
 
@@ -40,7 +40,7 @@ held_hand-append_one steps step = fold-append hand_after None steps (step ∷ []
 pub IsHeld-take : (steps : List Step) (r : Text) (n : ℕ) (g : Option ByteRange) (len : ℕ) (h : HandRecord) → IsHeld h (steps ++ TakeCall r n g len (Ok h) ∷ [])
 IsHeld-take steps r n g len h = (h, held_hand-append_one steps (TakeCall r n g len (Ok h)), refl, refl)
 
--- a step that changes the held hand of no lane
+-- a step that neither takes nor returns a hand keeps the held one
 pub IsHeld-append_one : (h : HandRecord) (steps : List Step) (step : Step) → hand_after (held_hand steps) step ≡ held_hand steps → IsHeld h steps → IsHeld h (steps ++ step ∷ [])
 IsHeld-append_one h steps step same held = (held.0, held_hand-append_one steps step ∙ same ∙ held.1, held.2, held.3)
 

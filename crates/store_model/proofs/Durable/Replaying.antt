@@ -1,4 +1,4 @@
--- A command does again what a step recorded, in a store that has what the log says.
+-- The change of a step has a replay in every store that agrees with the durable state and has room.
 use Rattle.std.proofs.Common.{◌≡◌, ◌≢◌, ℕ, ◌+◌, ◌≤◌, Bool, true, false, not, List, [], ◌∷◌, ◌++◌, length, Option, Some, None, Ok, Err, refl, sym, ap, ◌∙◌, subst, arith}
 use Rattle.std.specs.Prelude.{◌^◌, nat_le, nat_lt, slice_get, IfSome, if◌then◌else◌}
 use Rattle.std.specs.Option.{ok_or, option_map, option_map_or}
@@ -43,10 +43,10 @@ use Rattle.store_model.proofs.Durable.Uses.{as_was, as_was_is, open_less, sessio
 use Rattle.store_model.proofs.Invariant.Chunks.{used_bytes-chunks}
 use Rattle.store_model.proofs.Invariant.SessionTenants.{session_owner, session_tenant}
 
--- ---- what a command in such a store meets
+-- ---- commands of a store that agrees with the durable state
 
 module _ (D : DurableState) (R : Catalog) (b : Agrees empty D R) (sound : Sound R) where
-  -- a command that is accepted, and records this change
+  -- a command that is accepted and records the change is its replay
   done : (change : Change) (command : Command) (x : Answer) (left : Catalog) → replay_command D change ≡ Some command → outcome false R command ≡ Ok (x, left) → command_change D.tenants command x ≡ Some change →
       length (repo_of command) ≤ 255 → HasReplay D R change
   done change command x left names accepted records short = record {
@@ -98,7 +98,7 @@ module _ (D : DurableState) (R : Catalog) (b : Agrees empty D R) (sound : Sound 
     chunk_names [] change is = some_none (sym is)
     chunk_names (x ∷ bytes) change is = subst (λ c. replay_command D c ≡ Some (runs.Append repo key.1 None (x ∷ bytes))) (some_same is) (ap (option_map (λ y. runs.Append y.repo key.1 None (x ∷ bytes))) found)
 
-    -- What has room for a chunk where the log goes on with it has room for it here.
+    -- a chunk with which the durable state agrees with a sound catalog is within its limit on blobs, and within the quota
     room : (taken : TakenChunks) (X : Catalog) (bytes : Text) → AllByRecursion (λ c. c ≢ []) chunks → Agrees taken (after_record D (chunk_change key bytes)) X → Sound X →
         (sum_by length chunks + length bytes ≤ X.max_blob) × (used_bytes R key.0 + length bytes ≤ quota_of R key.0)
     room taken X bytes pieces a sound_there =
@@ -131,7 +131,7 @@ module _ (D : DurableState) (R : Catalog) (b : Agrees empty D R) (sound : Sound 
         was : (x : Session) × (chunks : List Text) × (get X.sessions key ≡ Some x) × (longer ≡ record { repo = x.repo; chunks = CheckedIn chunks }) × AllByRecursion (λ c. c ≢ []) chunks × (charged_length longer ≤ charged_length x)
         was = was_open taken E X a key longer at
 
-    -- ---- with room for a chunk
+    -- ---- commands with a chunk that has room
 
     module _ (bytes : Text) (fits : sum_by length chunks + length bytes ≤ R.max_blob) (within : used_bytes R key.0 + length bytes ≤ quota_of R key.0) where
       length_ok : length_after R.max_blob (received_length s) None (length bytes) ≡ Ok (received_length s + length bytes)
@@ -166,7 +166,7 @@ module _ (D : DurableState) (R : Catalog) (b : Agrees empty D R) (sound : Sound 
           accepted : close R repo key.1 digest None bytes ≡ Ok (length whole, with_stored_blob R key.0 repo key.1 digest whole)
           accepted = rw (tenant_ok, check_ok, quota_ok, digest_ok, room.0) refl
 
-    -- ---- where the log goes on with a chunk, the chunk or the blob that ends with it is accepted here
+    -- ---- a chunk that is accepted in one store is accepted in the other
 
     module _ (taken : TakenChunks) (X : Catalog) (bytes : Text) (pieces : AllByRecursion (λ c. c ≢ []) chunks) (a : Agrees taken (after_record D (chunk_change key bytes)) X) (sound_there : Sound X) (limit : X.max_blob ≡ R.max_blob) where
       has_room : (sum_by length chunks + length bytes ≤ R.max_blob) × (used_bytes R key.0 + length bytes ≤ quota_of R key.0)
@@ -318,14 +318,14 @@ module _ (taken : TakenChunks) (D : DurableState) (C : Catalog) (a : Agrees take
         let accepted : Commands.delete_manifest R0 r name ≡ Ok (tt, record R0 { manifests = remove C.manifests (r, name) }) = rw (tenant_is, there_is) refl in
         again (ManifestDeleted r name) (runs.DeleteManifest r name) runs.Done (record R0 { manifests = remove C.manifests (r, name) }) refl (ap (map_outcome (λ _. runs.Done)) accepted) refl short_name
 
--- ---- any step
+-- ---- steps
 
--- the settings of two stores that are alike
+-- the two stores have the same tenants and limits
 module _ (taken : TakenChunks) (D : DurableState) (s : State) (a : Agrees taken D s.catalog) (sound : Sound s.catalog) (R : Catalog) (b : Agrees empty D R) (sound_here : Sound R) (limit : R.max_blob ≡ s.catalog.max_blob) where
   abbrev C : Catalog
   C = s.catalog
 
-  -- by the catalog as it was, but for slots, sessions and blobs
+  -- the catalog of one store from that of the other
   by_parts : (change : Change) → ((b0 : Agrees empty D (as_was taken D C a R b)) → Sound (as_was taken D C a R b) → HasReplay D (as_was taken D C a R b) change) → HasReplay D R change
   by_parts change one =
       let is = as_was_is taken D C a R b in
@@ -454,4 +454,4 @@ step_replayed taken D s (FinishCall h d (Err e)) X change R a sound leaves retur
 
 pub changes_have_replays : ChangesHaveReplays
 changes_have_replays taken D s step X change is R b sound_here limit free =
-    step_replayed taken D s step X change R is.agrees is.sound is.leaves is.returned is.proper is.records b sound_here limit free
+    step_replayed taken D s step X change R is.agrees is.sound is.leaves is.returned is.well_formed is.records b sound_here limit free

@@ -1,4 +1,4 @@
--- The laws of histories from any sound catalog: what they were proved with, begun there.
+-- The theorems about histories from any sound catalog.
 use Rattle.std.proofs.Common.{◌≡◌, Bool, true, false, cond, List, [], ◌∷◌, ◌++◌, map, Option, Some, None, is_some, refl, sym, ap, ◌∙◌, subst}
 use Rattle.std.specs.Cmp.{Equal-is}
 use Rattle.std.specs.Ordering.{eq_by_cmp}
@@ -40,9 +40,9 @@ module _ (D : DurableState) (C : Catalog) (a : Agrees empty D C) where
 pub restarted_histories_are_runs : RestartedHistoriesAreRuns
 restarted_histories_are_runs D C steps s events a sound run calm are named = whole steps (initial_state C) s empty C.sessions events (all_home D C a) sound run calm are named
 
--- ---- tenants alone
+-- ---- isolation
 
--- what fits each entry fits each that is found
+-- a property of every entry is one of every value that is found
 fits_found : (content : Text → Text) (es : List (Text × Resident)) → Fits content (map {B = Text × Text} (λ e. (e.0, e.1.bytes)) es) → (d : Text) (b : Resident) → find text_cmp d es ≡ Some b → b.bytes ≡ content d
 fits_found content [] fits d b found = some_none (sym found)
 fits_found content (e ∷ es) fits d b found = by (eq_by_cmp text_cmp d e.0) refl found (fits_found content es fits.1 d b)

@@ -1,4 +1,4 @@
--- A store that is restored from its log is sound, agrees with the log, and uses no more than before.
+-- The restored catalog is sound, agrees with the durable state, and no tenant uses more than before.
 use Rattle.std.proofs.Common.{◌≡◌, ℕ, ◌≤◌, ◌^◌, Bool, true, false, cond, map, Option, Some, None, refl, sym, ap, ◌∙◌, subst, arith}
 use Rattle.std.specs.Option.{option_map}
 use Rattle.std.specs.Ordering.{eq_by_cmp}
@@ -20,9 +20,9 @@ use Rattle.store_model.specs.Invariant.{WellFormed, WellFormedSession, Sound}
 use Rattle.store_model.proofs.Durable.Uses.{open_less, sum_within, used_within, was_open}
 use Rattle.store_model.specs.Recovery.{StoresRestart, restored_blobs, is_linked, linked_contents, restored_blob, restored_catalog}
 
--- ---- what a log has of blobs
+-- ---- linked contents
 
--- a digest that a repository links is linked
+-- a digest that an existing repository links is linked
 pub linked_here : (D : DurableState) (r d : Text) → set.contains D.repos r ≡ true → set.contains D.links (r, d) ≡ true → is_linked D d ≡ true
 linked_here D r d there has =
     list_any_weaker (eq_by_cmp text_cmp r) (λ q. set.contains D.links (q, d)) (λ q tie. subst (λ (x : Text). set.contains D.links (x, d) ≡ true) (tied_text r q tie) has)
@@ -38,17 +38,17 @@ get-blobs D d =
     ∙ ap (option_map restored_blob) (sym (get-entries (linked_contents D) d) ∙ get-linked D d)
     ∙ map_none restored_blob (is_linked D d) (get D.contents d)
 
--- ---- what is restored
+-- ---- the restored catalog
 
 module _ (taken : TakenChunks) (D : DurableState) (C : Catalog) (a : Agrees taken D C) where
-  -- the blob of a digest that is linked
+  -- a linked blob is stored, durable and restored
   pub kept_blob : (l : Link) → set.contains C.links l ≡ true → (b : Resident) × (get C.residents l.1 ≡ Some b) × (get D.contents l.1 ≡ Some b.bytes) × (get (restored_blobs D) l.1 ≡ Some (restored_blob b.bytes))
   kept_blob l h =
       let has = a.contents l h in
       let is : is_linked D l.1 ≡ true = linked_here D l.0 l.1 (ap (λ x. set.contains x l.0) a.repos ∙ a.linked_in l h) (ap (λ x. set.contains x l) a.links ∙ h) in
       (has.0, has.1, has.2, get-blobs D l.1 ∙ (λ i. cond (is i) (option_map restored_blob (has.2 i)) None))
 
-  -- a blob that is restored was there, with the same bytes
+  -- a restored blob was stored with the same bytes
   was_kept : (d : Text) (x : Resident) → get (restored_blobs D) d ≡ Some x → (r : Text) × (b : Resident) × (set.contains C.links (r, d) ≡ true) × (get C.residents d ≡ Some b) × (restored_blob b.bytes ≡ x)
   was_kept d x found = by (is_linked D d) refl
     where
@@ -61,7 +61,7 @@ module _ (taken : TakenChunks) (D : DurableState) (C : Catalog) (a : Agrees take
       by false is = nothing (get-blobs D d ∙ ap (λ b. cond b (option_map restored_blob (get D.contents d)) None) is) found
 
   module _ (slots max_blob : ℕ) where
-    -- the catalog as it was, with what is restored of the rest
+    -- the original catalog with the restored settings, sessions and blobs
     abbrev R : Catalog
     R = record C { slots = slots; max_blob = max_blob; sessions = D.sessions; residents = restored_blobs D; retired = 0 }
 
@@ -114,7 +114,7 @@ module _ (taken : TakenChunks) (D : DurableState) (C : Catalog) (a : Agrees take
         by d None found = omega arith
         by d (Some x) found = let was = was_kept d x found in subst (λ o. 1 ≤ term (λ (_ : Text × Resident). 1) d o) (sym was.3) (omega arith)
 
-    -- ---- the laws of a catalog
+    -- ---- soundness
 
     pub content : WellFormed C → (d : Text) (x : Resident) → get (restored_blobs D) d ≡ Some x → is_digest_of d x.bytes ≡ true
     content lawful d x found = let was = was_kept d x found in subst (λ (y : Resident). is_digest_of d y.bytes ≡ true) was.4 (lawful.content d was.1 was.3)

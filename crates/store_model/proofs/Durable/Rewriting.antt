@@ -1,4 +1,4 @@
--- A log that is written anew says what the old one said, but for bytes that are not linked.
+-- The rewritten log rebuilds the durable state except for contents without a link.
 use Rattle.std.proofs.Common.{◌≡◌, ◌≢◌, ℕ, ◌+◌, Bool, true, false, cond, List, [], ◌∷◌, ◌++◌, map, length, None, refl, sym, ap, ◌∙◌, subst, append-nil, append_assoc}
 use Rattle.std.specs.Prelude.{flat_map, fold, if◌then◌else◌, slice_set}
 use Rattle.std.specs.Cmp.Lexicographic.{nat_list_cmp_total}
@@ -23,7 +23,7 @@ use Rattle.store_model.proofs.Durable.Folds.{all_entries, all_items, fold-entrie
 use Rattle.store_model.proofs.Durable.Restored.{get-linked, linked_here}
 use Rattle.store_model.proofs.Durable.Uses.{was_open}
 
--- ---- one kind of change after another
+-- ---- changes of one kind
 
 repos_appear : (rs : List Text) (D : DurableState) → after_changes D (map RepoAdded rs) ≡ record D { repos = fold set.insert D.repos rs }
 repos_appear [] D = refl
@@ -37,7 +37,7 @@ contents_stored : (es : List (Text × Text)) (D : DurableState) → after_change
 contents_stored [] D = refl
 contents_stored (e ∷ es) D = contents_stored es (after_change D (BlobStored e.0 e.1))
 
--- a repository that is there doesn't appear again
+-- inserting an existing repository changes nothing
 known : (s : set.Set text_cmp) (r : Text) → set.contains s r ≡ true → set.insert s r ≡ s
 known s r there = insert_there nat_list_cmp_total exact_bytes s r there
 
@@ -68,14 +68,14 @@ manifests_described (e ∷ es) D all =
 
 -- ---- sessions
 
--- a session of a repository that is there, with all chunks at home
+-- a session of an existing repository, checked in with no empty chunk
 record IsKept (repos : set.Set text_cmp) (s : Session) : Type 0 where
   there : set.contains repos s.repo ≡ true
   chunks : List Text
   home : s.chunks ≡ CheckedIn chunks
   pieces : AllByRecursion (λ c. c ≢ []) chunks
 
--- a chunk that isn't empty is the last
+-- a chunk that is not empty is appended
 is_more : (chunks : List Text) (c : Text) → c ≢ [] → with_chunk chunks c ≡ chunks ++ c ∷ []
 is_more chunks [] some = absurd (some refl)
 is_more chunks (b ∷ c) some = refl
@@ -95,7 +95,7 @@ module _ (D : DurableState) (key : SessionNumber) (repo : Text) where
   chunks_received (c ∷ cs) m chunks all =
       ap (λ E. after_changes E (map (ChunkReceived key) cs)) (one_received m chunks c all.0) ∙ chunks_received cs m (chunks ++ c ∷ []) all.1 ∙ ap (with m) (append_assoc chunks (c ∷ []) cs)
 
--- a session's number is given
+-- the next numbers after a session's number was used
 abbrev given : List ℕ → SessionNumber × Session → List ℕ
 given next e = slice_set next e.0.0 (e.0.1 + 1)
 
@@ -117,9 +117,9 @@ length-given : (es : List (SessionNumber × Session)) (next : List ℕ) → leng
 length-given [] next = refl
 length-given (e ∷ es) next = length-given es (given next e) ∙ length-set next e.0.0 (e.0.1 + 1)
 
--- ---- the whole
+-- ---- the whole log
 
--- some changes, and then others
+-- changes followed by other changes
 both : (D : DurableState) (xs ys : List Change) {Y Z : DurableState} → after_changes D xs ≡ Y → after_changes Y ys ≡ Z → after_changes D (xs ++ ys) ≡ Z
 both D xs ys first second = fold-append after_change D xs ys ∙ ap (λ E. after_changes E ys) first ∙ second
 

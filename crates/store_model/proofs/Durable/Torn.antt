@@ -1,4 +1,4 @@
--- A log from whose end records are lost is the log of some first steps of the history.
+-- A log that lost its last records is the log of the first steps of its history.
 use Rattle.std.proofs.Common.{◌≡◌, List, [], ◌∷◌, ◌++◌, Option, Some, None, refl, sym, ap, ◌∙◌, subst, append_assoc}
 use Rattle.std.specs.List.{cons_option}
 use Rattle.std.specs.FinMap.{empty}
@@ -8,7 +8,7 @@ use Rattle.store_model.specs.Durable.{Agrees, AreReturnedAsTaken, Change, TakenC
 use Rattle.store_model.specs.Histories.{AreSteps, State, Step, initial_state}
 use Rattle.store_model.proofs.Durable.Histories.{logs_extend}
 
--- steps that go on are first some, and then the others
+-- a list of steps splits in two
 pub first_steps : (first rest : List Step) (s s' : State) → AreSteps s (first ++ rest) s' → (mid : State) × AreSteps s first mid × AreSteps mid rest s'
 first_steps [] rest s s' run = (s, refl, run)
 first_steps (step ∷ first) rest s s' run = let later = first_steps first rest run.0 s' run.2 in (later.0, (run.0, run.1, later.1), later.2)
@@ -17,7 +17,7 @@ pub first_returned : (first rest : List Step) (taken : TakenChunks) → AreRetur
 first_returned [] rest taken all = tt
 first_returned (step ∷ first) rest taken all = (all.0, first_returned first rest (taken_after_step taken step) all.1)
 
--- the steps whose records are the first ones
+-- the first steps, whose changes are the kept ones
 abbrev Cut : List Tenant → List Step → List Change → Type 0
 Cut tenants steps kept = (first : List Step) × (rest : List Step) × (steps ≡ first ++ rest) × (changes_of tenants first ≡ kept)
 

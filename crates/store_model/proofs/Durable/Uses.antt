@@ -1,4 +1,4 @@
--- What a store with nothing in hand has and uses, beside another that agrees with the same log.
+-- Two catalogs that agree with one durable state: the one with no session checked out uses no more than the other.
 use Rattle.std.proofs.Common.{◌≡◌, ◌≢◌, ℕ, ◌≤◌, Bool, true, false, cond, List, [], Option, Some, None, refl, sym, ap, ◌∙◌, subst, arith, inl, inr, length}
 use Rattle.std.specs.Prelude.{◌&&◌, ◌==◌, if◌then◌else◌}
 use Rattle.std.specs.declared.cmp.Ordering.{Ordering}
@@ -22,7 +22,7 @@ use Rattle.store_model.specs.Durable.{Agrees, DurableState, AgreesOnChunks, Agre
 
 -- ---- sums
 
--- where each key adds no more, the sum is no more
+-- if each key adds no more, the sum is no more
 module _ {K : Type 0} {R : K → K → Ordering} (o : IsTotalOrder R) (same : IsAntisymmetric R) where
   pub sum_within : {X Y : Type 0} (f : K × X → ℕ) (g : K × Y → ℕ) (m : FinMap R X) (n : FinMap R Y) → ((q : K) → term f q (get m q) ≤ term g q (get n q)) → sum_by f (entries m) ≤ sum_by g (entries n)
   sum_within {X} {Y} f g m =
@@ -43,7 +43,7 @@ module _ {K : Type 0} {R : K → K → Ordering} (o : IsTotalOrder R) (same : Is
 -- ---- sessions and uses
 
 module _ (taken : TakenChunks) (D : DurableState) (C : Catalog) (a : Agrees taken D C) where
-  -- a session of the log is there, with no fewer bytes
+  -- a durable session is open, with no fewer bytes
   pub was_open : (key : SessionNumber) (s : Session) → get D.sessions key ≡ Some s →
       (x : Session) × (chunks : List Text) × (get C.sessions key ≡ Some x) × (s ≡ record { repo = x.repo; chunks = CheckedIn chunks }) × AllByRecursion (λ c. c ≢ []) chunks × (charged_length s ≤ charged_length x)
   was_open key s found = by (get C.sessions key) refl (a.sessions key)
@@ -77,10 +77,10 @@ module _ (taken : TakenChunks) (D : DurableState) (C : Catalog) (a : Agrees take
       by q None found = omega arith
       by q (Some s) found = let was = was_open q s found in subst (λ o. session_charge t (q, s) ≤ term (session_charge t) q o) (sym was.2) (either (q.0 == t) (charged_length s) (charged_length was.0) was.5)
 
-  -- ---- a store with nothing in hand
+  -- ---- a catalog with no session checked out
 
   module _ (R : Catalog) (b : Agrees empty D R) where
-    -- its sessions are those of the log
+    -- its sessions are the durable ones
     pub sessions_are : R.sessions ≡ D.sessions
     sessions_are = same_map number_cmp_total exact_number R.sessions D.sessions (λ q. by q (get R.sessions q) (b.sessions q))
       where
@@ -92,7 +92,7 @@ module _ (taken : TakenChunks) (D : DurableState) (C : Catalog) (a : Agrees take
         by q None is = sym is
         by q (Some s) is = (λ i. Some (record { repo = s.repo; chunks = home q s.chunks is.0 is.3 i })) ∙ sym is.1
 
-    -- the catalog as it was, but for slots, sessions and blobs
+    -- the other catalog with the slots, limit, sessions and blobs of this one
     abbrev pub as_was : Catalog
     as_was = record C { slots = R.slots; max_blob = R.max_blob; sessions = D.sessions; residents = R.residents; retired = R.retired }
 
@@ -110,7 +110,7 @@ module _ (taken : TakenChunks) (D : DurableState) (C : Catalog) (a : Agrees take
       retired = R.retired;
     }
 
-    -- a blob that a tenant holds is the same
+    -- a tenant's blob is the same in both
     share_less : (t : ℕ) (d : Text) (o : Option Resident) → get R.residents d ≡ o → term (blob_share as_was t) d o ≤ term (blob_share C t) d (get C.residents d)
     share_less t d None found = omega arith
     share_less t d (Some x) found = by (tenant_holds C t d) refl

@@ -1,4 +1,4 @@
--- Hands that come back as whole commands have the chunks with which their sessions were taken.
+-- A history of whole commands returns every hand as it was taken.
 use Rattle.std.proofs.Common.{◌≡◌, List, [], ◌∷◌, ◌++◌, Some, Ok, Err, refl, sym, ap, ◌∙◌, subst, inl, inr, ⊎_elim}
 use Rattle.std.specs.FinMap.{empty, get, get-empty, insert, remove}
 use Rattle.blob_digest.proofs.KeyOrders.{number_cmp_total, exact_number}
@@ -11,7 +11,7 @@ use Rattle.store_model.specs.Runs.{Event}
 use Rattle.store_model.specs.WholeCommands.{AreWholeCommands, CorrespondsTo, CheckedOutSessions, CheckedOut}
 use Rattle.store_model.proofs.Durable.Torn.{first_returned}
 
--- each hand that is out has the chunks with which its session was taken
+-- each checked-out hand has the chunks with which its session was taken
 abbrev Known : TakenChunks → CheckedOutSessions → Type 0
 Known taken hands = (k : SessionNumber) (out : CheckedOut) → get hands k ≡ Some out → get taken k ≡ Some out.hand.chunks
 
