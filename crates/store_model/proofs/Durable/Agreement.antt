@@ -12,8 +12,8 @@ use Rattle.spec_lib.proofs.Maps.{cases_key, get-insert_at, get-insert_other, get
 use Rattle.spec_lib.proofs.Options.{some_same}
 use Rattle.spec_lib.proofs.Sets.{member, now, still, was_member}
 use Rattle.spec_lib.proofs.Sums.{get-remove_same}
-use Rattle.store_model.specs.Catalog.{Catalog, CheckedIn, Link, SessionNumber, Resident, Session, link_cmp}
-use Rattle.store_model.specs.Durable.{Agrees, Change, DurableState, AgreesOnContent, AgreesOnSession, TakenChunks, after_change, chunk_change, after_seal}
+use Rattle.store_model.specs.Catalog.{Catalog, CheckedIn, Link, Resident, Session, SessionNumber, link_cmp}
+use Rattle.store_model.specs.Durable.{Agrees, AgreesOnContent, AgreesOnSession, Change, DurableState, TakenChunks, after_change, after_seal, chunk_change}
 use Rattle.store_model.proofs.Commands.Hands.{all_chunks}
 use Rattle.store_model.specs.Sessions.{Sessions, at_home, content_in, with_chunk, with_chunks}
 

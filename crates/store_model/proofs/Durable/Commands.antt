@@ -16,10 +16,10 @@ use Rattle.spec_lib.specs.Sets as set
 use Rattle.spec_lib.specs.Texts.{Text}
 use Rattle.spec_lib.proofs.Outcomes.{bound_ok, ok_pair, some_of_ok}
 use Rattle.spec_lib.proofs.Sets.{now}
-use Rattle.store_model.specs.Catalog.{Catalog, Chunks, CheckedIn, SessionNumber, Resident, holds, next_number_of, tenant_of}
+use Rattle.store_model.specs.Catalog.{Catalog, CheckedIn, Chunks, Resident, SessionNumber, holds, next_number_of, tenant_of}
 use Rattle.store_model.specs.Commands
-use Rattle.store_model.specs.Commands.{Outcome, add_manifest, check_all_links, cannot_open, chunk_length_check, has_manifest, has_slot, has_source, is_full_of_manifests, lacks_room_for, mounted_outcome, with_new_session, start, started_outcome, with_stored_blob, tenant, was_leased, with_link, with_manifest, check_quota}
-use Rattle.store_model.specs.Durable.{Agrees, ManifestPut, DurableState, ManifestDeleted, AgreesOnChunks, BlobLinked, SessionOpened, SessionSealed, TakenChunks, BlobUnlinked, after_change, chunk_change, command_change, session_key, mount_change}
+use Rattle.store_model.specs.Commands.{Outcome, add_manifest, cannot_open, check_all_links, check_quota, chunk_length_check, has_manifest, has_slot, has_source, is_full_of_manifests, lacks_room_for, mounted_outcome, start, started_outcome, tenant, was_leased, with_link, with_manifest, with_new_session, with_stored_blob}
+use Rattle.store_model.specs.Durable.{Agrees, AgreesOnChunks, BlobLinked, BlobUnlinked, DurableState, ManifestDeleted, ManifestPut, SessionOpened, SessionSealed, TakenChunks, after_change, chunk_change, command_change, mount_change, session_key}
 use Rattle.store_model.specs.Runs as runs
 use Rattle.store_model.specs.Runs.{Answer, Command, map_outcome, outcome, reading_outcome}
 use Rattle.store_model.specs.Sessions.{Sessions, after_append_in, at_home, content_in, with_chunk, with_chunks}
@@ -28,7 +28,7 @@ use Rattle.store_model.specs.declared.mount.Mount.TheVariants as mounting
 use Rattle.store_model.proofs.Commands.Accepted.{answer_by, left_by}
 use Rattle.store_model.proofs.Commands.Hands.{Checked, checked_home}
 use Rattle.store_model.proofs.Commands.Mount.{source_of}
-use Rattle.store_model.proofs.Durable.Agreement.{Agrees-add_repo, Agrees-drop, durable_session, Agrees-link, Agrees-mark, Agrees-set_next, Agrees-open, Agrees-receive, after_record, Agrees-seal, Agrees-unlink, Agrees-manifests}
+use Rattle.store_model.proofs.Durable.Agreement.{Agrees-add_repo, Agrees-drop, Agrees-link, Agrees-manifests, Agrees-mark, Agrees-open, Agrees-receive, Agrees-seal, Agrees-set_next, Agrees-unlink, after_record, durable_session}
 use Rattle.store_model.proofs.Noninterference.LocalRespect.{Leaves, abandon_leaves, close_leaves, delete_leaves, delete_manifest_leaves, lease_leaves, of_tenant, past}
 
 -- a property of the catalog after an accepted outcome

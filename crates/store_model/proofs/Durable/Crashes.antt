@@ -6,11 +6,11 @@ use Rattle.std.specs.FinMap.{empty, get}
 use Rattle.blob_digest.specs.declared.refusal.Refusal.{Refusal}
 use Rattle.spec_lib.specs.Texts.{Text}
 use Rattle.spec_lib.proofs.Outcomes.{bound_ok}
-use Rattle.store_model.specs.Catalog.{Catalog, Session, HandRecord}
+use Rattle.store_model.specs.Catalog.{Catalog, HandRecord, Session}
 use Rattle.store_model.specs.Commands
-use Rattle.store_model.specs.Commands.{Outcome, after_cancel, finish, has_slot, put_back, put_back_outcome_in, take, session_of_hand}
-use Rattle.store_model.specs.Durable.{Agrees, AreReturnedAsTaken, DurableState, IsReturnedAsTaken, TakenChunks, change_of, changes_of, after_changes, taken_after_step, taken_after_steps}
-use Rattle.store_model.specs.Histories.{AreSteps, SweepCall, FinishCall, MayLeadTo, CommandCall, PutBackCall, State, Step, TakeCall, initial_state}
+use Rattle.store_model.specs.Commands.{Outcome, after_cancel, finish, has_slot, put_back, put_back_outcome_in, session_of_hand, take}
+use Rattle.store_model.specs.Durable.{Agrees, AreReturnedAsTaken, DurableState, IsReturnedAsTaken, TakenChunks, after_changes, change_of, changes_of, taken_after_step, taken_after_steps}
+use Rattle.store_model.specs.Histories.{AreSteps, CommandCall, FinishCall, MayLeadTo, PutBackCall, State, Step, SweepCall, TakeCall, initial_state}
 use Rattle.store_model.specs.Invariant.{Sound}
 use Rattle.store_model.specs.Recovery.{IsWellFormedStep, StoresSurviveCrashes}
 use Rattle.store_model.specs.Runs as runs

@@ -15,17 +15,17 @@ use Rattle.spec_lib.specs.Texts.{Text}
 use Rattle.spec_lib.proofs.Maps.{get-insert_at, get-insert_other}
 use Rattle.spec_lib.proofs.Options.{no_member}
 use Rattle.spec_lib.proofs.Outcomes.{bound_ok, ok_pair}
-use Rattle.store_model.specs.Catalog.{Catalog, Chunks, CheckedIn, CheckedOutWith, SessionNumber, Resident, Session, HandRecord, Tenant, link_cmp, session_number_cmp, opening, received_length}
-use Rattle.store_model.specs.Commands.{after_cancel, finish, has_slot, is_digest_accepted, put_back, with_stored_blob, take, was_leased}
-use Rattle.store_model.specs.Durable.{Agrees, AreReturnedAsTaken, Change, ManifestPut, DurableState, AgreesOnChunks, IsReturnedAsTaken, AgreesOnSession, LogsAgree, LogsExtend, SessionSealed, TakenChunks, after_change, initial_durable, change_of, changes_of, chunk_change, filled_chunk, after_changes, after_seal, taken_after_step, taken_after_steps}
-use Rattle.store_model.specs.Histories.{AreSteps, SweepCall, FinishCall, MayLeadTo, CommandCall, PutBackCall, State, Step, TakeCall, initial_state}
-use Rattle.store_model.specs.Sessions.{with_old_chunks, chunks_of, put_back_outcome_in, session_of_hand, hand_content, with_chunk, with_chunks}
+use Rattle.store_model.specs.Catalog.{Catalog, CheckedIn, CheckedOutWith, Chunks, HandRecord, Resident, Session, SessionNumber, Tenant, link_cmp, opening, received_length, session_number_cmp}
+use Rattle.store_model.specs.Commands.{after_cancel, finish, has_slot, is_digest_accepted, put_back, take, was_leased, with_stored_blob}
+use Rattle.store_model.specs.Durable.{Agrees, AgreesOnChunks, AgreesOnSession, AreReturnedAsTaken, Change, DurableState, IsReturnedAsTaken, LogsAgree, LogsExtend, ManifestPut, SessionSealed, TakenChunks, after_change, after_changes, after_seal, change_of, changes_of, chunk_change, filled_chunk, initial_durable, taken_after_step, taken_after_steps}
+use Rattle.store_model.specs.Histories.{AreSteps, CommandCall, FinishCall, MayLeadTo, PutBackCall, State, Step, SweepCall, TakeCall, initial_state}
+use Rattle.store_model.specs.Sessions.{chunks_of, hand_content, put_back_outcome_in, session_of_hand, with_chunk, with_chunks, with_old_chunks}
 use Rattle.store_model.specs.Sweep.{IsAfterSweep, IsSweep}
 use Rattle.store_model.specs.declared.swept.Swept.{Swept}
 use Rattle.store_model.proofs.Commands.Accepted.{left_by}
 use Rattle.store_model.proofs.Commands.ByHand.{taken_hand, taken_leaves, taken_received}
 use Rattle.store_model.proofs.Commands.Hands.{TookIn, taken_found, took}
-use Rattle.store_model.proofs.Durable.Agreement.{durable_session, Agrees-receive as comes_home, after_record, Agrees-same_session, Agrees-seal}
+use Rattle.store_model.proofs.Durable.Agreement.{Agrees-receive as comes_home, Agrees-same_session, Agrees-seal, after_record, durable_session}
 use Rattle.store_model.proofs.Durable.Commands.{command_agrees}
 use Rattle.store_model.proofs.Noninterference.Consistency.{no_orphan}
 

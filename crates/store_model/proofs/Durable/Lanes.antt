@@ -10,13 +10,13 @@ use Rattle.blob_digest.proofs.KeyOrders.{number_cmp_total, exact_number}
 use Rattle.spec_lib.specs.Texts.{Text}
 use Rattle.spec_lib.proofs.Maps.{get-insert_at, get-insert_other, get-remove_other}
 use Rattle.spec_lib.proofs.Options.{nothing, some_none, some_same}
-use Rattle.store_model.specs.Catalog.{Catalog, CheckedIn, CheckedOutWith, SessionNumber, Session, HandRecord, next_number_of, received_length}
+use Rattle.store_model.specs.Catalog.{Catalog, CheckedIn, CheckedOutWith, HandRecord, Session, SessionNumber, next_number_of, received_length}
 use Rattle.store_model.specs.Commands
-use Rattle.store_model.specs.Commands.{Outcome, after_cancel, after_append_in, chunk_length_check, finish, has_slot, not_busy, put_back, session, take, check_quota}
+use Rattle.store_model.specs.Commands.{Outcome, after_append_in, after_cancel, check_quota, chunk_length_check, finish, has_slot, not_busy, put_back, session, take}
 use Rattle.store_model.specs.Durable.{Agrees, AreReturnedAsTaken, DurableState, IsReturnedAsTaken, TakenChunks, change_of, taken_after_step}
-use Rattle.store_model.specs.Histories.{AreSteps, SweepCall, FinishCall, MayLeadTo, CommandCall, PutBackCall, State, Step, TakeCall, initial_state}
-use Rattle.store_model.specs.Invariant.{WellFormed, Sound}
-use Rattle.store_model.specs.Lanes.{IsHeldHand, IsPaired, LaneSteps, LanesReturnHands, all_steps, hand_after, steps_by}
+use Rattle.store_model.specs.Histories.{AreSteps, CommandCall, FinishCall, MayLeadTo, PutBackCall, State, Step, SweepCall, TakeCall, initial_state}
+use Rattle.store_model.specs.Invariant.{Sound, WellFormed}
+use Rattle.store_model.specs.Lanes.{IsHeldHand, IsPaired, LaneSteps, LanesReturnHands, all_steps, steps_by}
 use Rattle.store_model.specs.Recovery.{IsWellFormedStep}
 use Rattle.store_model.specs.Runs as runs
 use Rattle.store_model.specs.Runs.{Command, outcome}

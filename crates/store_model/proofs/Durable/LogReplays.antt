@@ -17,15 +17,15 @@ use Rattle.spec_lib.proofs.Lists.{list_any_count, sum_by-ones, witness}
 use Rattle.spec_lib.proofs.Maps.{get-remove_other, term}
 use Rattle.spec_lib.proofs.Options.{nothing, some_none, some_same}
 use Rattle.spec_lib.proofs.Outcomes.{bound_ok, not_refused, some_of_ok}
-use Rattle.store_model.specs.Catalog.{Catalog, CheckedIn, SessionNumber, Resident, HandRecord, Tenant, link_count, holds, opening, tenant_of}
-use Rattle.store_model.specs.Commands.{chunk_length_check, close, finish, has_slot, is_digest_accepted, is_full_for, mount, has_same_bytes, start, session_of_hand, tenant, check_quota}
-use Rattle.store_model.specs.Durable.{Agrees, AreReturnedAsTaken, Change, DurableState, IsReturnedAsTaken, SessionSealed, TakenChunks, after_change, initial_durable, change_of, changes_of, chunk_change, command_change, filled_chunk, session_key, mount_change, taken_after_step}
-use Rattle.store_model.specs.Histories.{AreSteps, SweepCall, FinishCall, MayLeadTo, CommandCall, PutBackCall, State, Step, TakeCall, initial_state}
+use Rattle.store_model.specs.Catalog.{Catalog, CheckedIn, HandRecord, Resident, SessionNumber, Tenant, holds, link_count, opening, tenant_of}
+use Rattle.store_model.specs.Commands.{check_quota, chunk_length_check, close, finish, has_same_bytes, has_slot, is_digest_accepted, is_full_for, mount, session_of_hand, start, tenant}
+use Rattle.store_model.specs.Durable.{Agrees, AreReturnedAsTaken, Change, DurableState, IsReturnedAsTaken, SessionSealed, TakenChunks, after_change, change_of, changes_of, chunk_change, command_change, filled_chunk, initial_durable, mount_change, session_key, taken_after_step}
+use Rattle.store_model.specs.Histories.{AreSteps, CommandCall, FinishCall, MayLeadTo, PutBackCall, State, Step, SweepCall, TakeCall, initial_state}
 use Rattle.store_model.specs.Invariant.{Sound}
 use Rattle.store_model.specs.Recovery.{IsWellFormedStep}
-use Rattle.store_model.specs.Replaying.{HasRoomFor, HasReplay, LogsHaveReplays, HasLogReplay, replay_commands}
+use Rattle.store_model.specs.Replaying.{HasLogReplay, HasReplay, HasRoomFor, LogsHaveReplays, replay_commands}
 use Rattle.store_model.specs.Runs as runs
-use Rattle.store_model.specs.Runs.{Answer, CommandEvent, Command, SweepEvent, outcome}
+use Rattle.store_model.specs.Runs.{Answer, Command, CommandEvent, SweepEvent, outcome}
 use Rattle.store_model.specs.Sessions.{at_home, content_in, hand_content}
 use Rattle.store_model.specs.declared.mount.Mount.{Mount}
 use Rattle.store_model.specs.declared.mount.Mount.TheVariants as mounting
@@ -35,7 +35,7 @@ use Rattle.store_model.proofs.Commands.Sweep.{Sound-sweep}
 use Rattle.store_model.proofs.Commands.Hands.{checked_home}
 use Rattle.store_model.proofs.Durable.Agreement.{after_record}
 use Rattle.store_model.proofs.Durable.Commands.{answered_ok, durable_checked_in}
-use Rattle.store_model.proofs.Durable.Histories.{new_stores_agree, durable_hand, after_record_tenants, step_agrees, sweeps}
+use Rattle.store_model.proofs.Durable.Histories.{after_record_tenants, durable_hand, new_stores_agree, step_agrees, sweeps}
 use Rattle.store_model.proofs.Durable.Crashes.{SameSetting, SameSlots, command_setting, left_ok, step_setting, step_sound}
 use Rattle.store_model.proofs.Durable.Replaying.{changes_have_replays}
 use Rattle.store_model.proofs.Durable.Uses.{sum_within}

@@ -9,10 +9,10 @@ use Rattle.std.proofs.lemmas.List.{length-map}
 use Rattle.spec_lib.specs.Sets as set
 use Rattle.spec_lib.specs.Texts.{Text, same_text, text_cmp}
 use Rattle.spec_lib.proofs.Rows.{position-map}
-use Rattle.store_model.specs.Catalog.{Catalog, SessionNumber, Session, Tenant, charged_length, is_repo_of_tenant, tenant_name, tenant_of}
+use Rattle.store_model.specs.Catalog.{Catalog, Session, SessionNumber, Tenant, charged_length, is_repo_of_tenant, tenant_name, tenant_of}
 use Rattle.store_model.specs.Durable.{Agrees, DurableState, TakenChunks}
-use Rattle.store_model.specs.Invariant.{AreWellFormedNumbers, AreWellFormedRepositories, AreWithinLimits, WellFormed, WellFormedSession, Sound}
-use Rattle.store_model.specs.Recovery.{CanRestore, StoresRestartWithOtherSettings, restored_blobs, restored_blob, restored_catalog, with_tenants}
+use Rattle.store_model.specs.Invariant.{AreWellFormedNumbers, AreWellFormedRepositories, AreWithinLimits, Sound, WellFormed, WellFormedSession}
+use Rattle.store_model.specs.Recovery.{CanRestore, StoresRestartWithOtherSettings, restored_blob, restored_blobs, restored_catalog, with_tenants}
 use Rattle.store_model.proofs.Durable.Restored.{agrees as agrees_there, content, kept_blob}
 use Rattle.store_model.proofs.Durable.Uses.{open_less, was_open}
 

@@ -17,17 +17,17 @@ use Rattle.spec_lib.proofs.Maps.{get-insert_at}
 use Rattle.spec_lib.proofs.Options.{some_none, some_same}
 use Rattle.spec_lib.proofs.Outcomes.{bound_ok, not_refused, some_of_ok}
 use Rattle.spec_lib.proofs.Texts.{same_itself}
-use Rattle.store_model.specs.Catalog.{Catalog, CheckedIn, SessionNumber, Resident, Session, HandRecord, charged_length, next_number_of, open_sessions, quota_of, received_length, tenant_holds, tenant_of, used_bytes}
+use Rattle.store_model.specs.Catalog.{Catalog, CheckedIn, HandRecord, Resident, Session, SessionNumber, charged_length, next_number_of, open_sessions, quota_of, received_length, tenant_holds, tenant_of, used_bytes}
 use Rattle.store_model.specs.Commands
-use Rattle.store_model.specs.Commands.{add_manifest, check_all_links, append, after_append_in, cannot_open, chunk_length_check, close, delete, finish, has_manifest, has_slot, has_source, is_digest_accepted, is_full_of_manifests, lacks_room_for, mounted_outcome, check_link, manifest, with_new_session, not_busy, put_back, put_back_outcome_in, referrer, has_same_bytes, session, session_in, start, started_outcome, with_stored_blob, session_of_hand, tenant, check_no_referrer, content_in, with_link, with_manifest, check_quota, without_session}
-use Rattle.store_model.specs.Durable.{change_of, IsReturnedAsTaken, Agrees, Change, ManifestPut, SessionDropped, DurableState, ManifestDeleted, BlobLinked, SessionOpened, SessionSealed, TakenChunks, BlobUnlinked, chunk_change, command_change, filled_chunk, session_key, mount_change}
-use Rattle.store_model.specs.Histories.{MayLeadTo, Step, SweepCall, FinishCall, CommandCall, PutBackCall, State, TakeCall}
+use Rattle.store_model.specs.Commands.{add_manifest, after_append_in, append, cannot_open, check_all_links, check_link, check_no_referrer, check_quota, chunk_length_check, close, content_in, delete, finish, has_manifest, has_same_bytes, has_slot, has_source, is_digest_accepted, is_full_of_manifests, lacks_room_for, manifest, mounted_outcome, not_busy, put_back, put_back_outcome_in, referrer, session, session_in, session_of_hand, start, started_outcome, tenant, with_link, with_manifest, with_new_session, with_stored_blob, without_session}
+use Rattle.store_model.specs.Durable.{Agrees, BlobLinked, BlobUnlinked, Change, DurableState, IsReturnedAsTaken, ManifestDeleted, ManifestPut, SessionDropped, SessionOpened, SessionSealed, TakenChunks, change_of, chunk_change, command_change, filled_chunk, mount_change, session_key}
+use Rattle.store_model.specs.Histories.{CommandCall, FinishCall, MayLeadTo, PutBackCall, State, Step, SweepCall, TakeCall}
 use Rattle.store_model.specs.Invariant.{Sound}
 use Rattle.store_model.specs.Recovery.{IsWellFormedStep}
-use Rattle.store_model.specs.Replaying.{ChangesHaveReplays, HasRoomFor, HasReplay, replay_command}
+use Rattle.store_model.specs.Replaying.{ChangesHaveReplays, HasReplay, HasRoomFor, replay_command}
 use Rattle.store_model.specs.Runs as runs
 use Rattle.store_model.specs.Runs.{Answer, Command, map_outcome, outcome, repo_of}
-use Rattle.store_model.specs.Sessions.{at_home, chunks_of, length_after, with_chunk, with_chunks, hand_content}
+use Rattle.store_model.specs.Sessions.{at_home, chunks_of, hand_content, length_after, with_chunk, with_chunks}
 use Rattle.store_model.specs.declared.mount.Mount.{Mount}
 use Rattle.store_model.specs.declared.mount.Mount.TheVariants as mounting
 use Rattle.store_model.proofs.Commands.Accepted.{answer_by, session_found}
@@ -35,9 +35,9 @@ use Rattle.store_model.proofs.Commands.Mount.{source_of}
 use Rattle.store_model.proofs.Invariant.Links.{is_held}
 use Rattle.store_model.proofs.Commands.Hands.{checked_home, received_length-with_chunk}
 use Rattle.store_model.proofs.Commands.Runs.{Sound-case}
-use Rattle.store_model.proofs.Durable.Agreement.{durable_session, Agrees-receive as comes_home, after_record}
+use Rattle.store_model.proofs.Durable.Agreement.{Agrees-receive as comes_home, after_record, durable_session}
 use Rattle.store_model.proofs.Durable.Commands.{answered_ok, command_agrees, durable_checked_in}
-use Rattle.store_model.proofs.Durable.Histories.{durable_hand, puts_back, after_record_tenants}
+use Rattle.store_model.proofs.Durable.Histories.{after_record_tenants, durable_hand, puts_back}
 use Rattle.store_model.proofs.Durable.Crashes.{sound_put_back, step_setting}
 use Rattle.store_model.proofs.Durable.Uses.{as_was, as_was_is, open_less, sessions_are, used_within, was_open}
 use Rattle.store_model.proofs.Invariant.Chunks.{used_bytes-chunks}

@@ -6,10 +6,10 @@ use Rattle.std.specs.FinMap.{empty, entries, find, get, get-empty, get-entries}
 use Rattle.std.proofs.lemmas.Map.Lookups.{exact_bytes}
 use Rattle.spec_lib.specs.Texts.{Text, text_cmp}
 use Rattle.spec_lib.proofs.Options.{nothing, some_none, some_same}
-use Rattle.store_model.specs.Catalog.{Catalog, Chunks, CheckedIn, CheckedOutWith, SessionNumber, Resident, Session, session_number_cmp}
-use Rattle.store_model.specs.Durable.{Agrees, DurableState, AgreesOnChunks, AgreesOnSession}
+use Rattle.store_model.specs.Catalog.{Catalog, CheckedIn, CheckedOutWith, Chunks, Resident, Session, SessionNumber, session_number_cmp}
+use Rattle.store_model.specs.Durable.{Agrees, AgreesOnChunks, AgreesOnSession, DurableState}
 use Rattle.store_model.specs.Histories.{initial_state}
-use Rattle.store_model.specs.HistoryIsolation.{uploads_of_history, catalog_after_requests, requests_of, steps_of}
+use Rattle.store_model.specs.HistoryIsolation.{catalog_after_requests, requests_of, steps_of, uploads_of_history}
 use Rattle.store_model.specs.Invariant.{WellFormed}
 use Rattle.store_model.specs.Restarts.{RestartedHistoriesAreRuns, TenantsAreIsolatedFrom, stored_contents}
 use Rattle.store_model.specs.Sessions.{are_checked_in}

@@ -14,11 +14,11 @@ use Rattle.spec_lib.proofs.Mapped.{find-over, map_none}
 use Rattle.spec_lib.proofs.Maps.{term}
 use Rattle.spec_lib.proofs.Options.{nothing, some_same}
 use Rattle.spec_lib.proofs.Texts.{tied_text}
-use Rattle.store_model.specs.Catalog.{Catalog, Link, SessionNumber, Resident, Session, charged_length, session_number_cmp, used_bytes}
-use Rattle.store_model.specs.Durable.{Agrees, DurableState, AgreesOnSession, TakenChunks}
-use Rattle.store_model.specs.Invariant.{WellFormed, WellFormedSession, Sound}
+use Rattle.store_model.specs.Catalog.{Catalog, Link, Resident, Session, SessionNumber, charged_length, session_number_cmp, used_bytes}
+use Rattle.store_model.specs.Durable.{Agrees, AgreesOnSession, DurableState, TakenChunks}
+use Rattle.store_model.specs.Invariant.{Sound, WellFormed, WellFormedSession}
 use Rattle.store_model.proofs.Durable.Uses.{open_less, sum_within, used_within, was_open}
-use Rattle.store_model.specs.Recovery.{StoresRestart, restored_blobs, is_linked, linked_contents, restored_blob, restored_catalog}
+use Rattle.store_model.specs.Recovery.{StoresRestart, is_linked, linked_contents, restored_blob, restored_blobs, restored_catalog}
 
 -- ---- linked contents
 

@@ -13,10 +13,10 @@ use Rattle.spec_lib.specs.Sets as set
 use Rattle.spec_lib.specs.Texts.{Text, text_cmp}
 use Rattle.spec_lib.proofs.Maps.{get-insert_at}
 use Rattle.spec_lib.proofs.Sets.{insert_there}
-use Rattle.store_model.specs.Catalog.{Catalog, CheckedIn, Link, SessionNumber, Session, Tenant}
-use Rattle.store_model.specs.Durable.{Agrees, RepoAdded, Change, NumberSet, ManifestPut, DurableState, BlobLinked, ChunkReceived, BlobStored, TakenChunks, after_change, initial_durable, after_changes}
+use Rattle.store_model.specs.Catalog.{Catalog, CheckedIn, Link, Session, SessionNumber, Tenant}
+use Rattle.store_model.specs.Durable.{Agrees, BlobLinked, BlobStored, Change, ChunkReceived, DurableState, ManifestPut, NumberSet, RepoAdded, TakenChunks, after_change, after_changes, initial_durable}
 use Rattle.store_model.specs.Invariant.{WellFormed}
-use Rattle.store_model.specs.Recovery.{RewrittenLogsAgree, rewritten_log, linked_contents, session_changes}
+use Rattle.store_model.specs.Recovery.{RewrittenLogsAgree, linked_contents, rewritten_log, session_changes}
 use Rattle.store_model.specs.Sessions.{Sessions, after_append_in, at_home, with_chunk, with_chunks}
 use Rattle.store_model.proofs.Commands.ByHand.{insert_twice}
 use Rattle.store_model.proofs.Durable.Folds.{all_entries, all_items, fold-entries, fold-items, fold-places, fold_keep-entries, keep, put}

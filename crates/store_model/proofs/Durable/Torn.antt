@@ -4,7 +4,7 @@ use Rattle.std.specs.List.{cons_option}
 use Rattle.std.specs.FinMap.{empty}
 use Rattle.std.proofs.lemmas.List.Elements.{filter_map-append}
 use Rattle.store_model.specs.Catalog.{Tenant}
-use Rattle.store_model.specs.Durable.{Agrees, AreReturnedAsTaken, Change, TakenChunks, TornLogsAgree, change_of, changes_of, after_changes, taken_after_step, taken_after_steps}
+use Rattle.store_model.specs.Durable.{Agrees, AreReturnedAsTaken, Change, TakenChunks, TornLogsAgree, after_changes, change_of, changes_of, taken_after_step, taken_after_steps}
 use Rattle.store_model.specs.Histories.{AreSteps, State, Step, initial_state}
 use Rattle.store_model.proofs.Durable.Histories.{logs_extend}
 

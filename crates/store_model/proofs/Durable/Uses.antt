@@ -17,8 +17,8 @@ use Rattle.spec_lib.proofs.Options.{nothing, some_same}
 use Rattle.spec_lib.proofs.Rows.{entries-empty}
 use Rattle.spec_lib.proofs.Sums.{sum_new}
 use Rattle.store_model.specs.Sessions.{session_charges}
-use Rattle.store_model.specs.Catalog.{holds, is_repo_of, open_count_in, tenant_holds, Catalog, Chunks, CheckedIn, CheckedOutWith, SessionNumber, Resident, Session, blob_share, charged_length, session_number_cmp, open_sessions, session_charge, session_charges_of, used_bytes}
-use Rattle.store_model.specs.Durable.{Agrees, DurableState, AgreesOnChunks, AgreesOnSession, TakenChunks}
+use Rattle.store_model.specs.Catalog.{Catalog, CheckedIn, CheckedOutWith, Chunks, Resident, Session, SessionNumber, blob_share, charged_length, holds, is_repo_of, open_count_in, open_sessions, session_charge, session_charges_of, session_number_cmp, tenant_holds, used_bytes}
+use Rattle.store_model.specs.Durable.{Agrees, AgreesOnChunks, AgreesOnSession, DurableState, TakenChunks}
 
 -- ---- sums
 

@@ -4,11 +4,11 @@ use Rattle.std.specs.FinMap.{empty, get, get-empty, insert, remove}
 use Rattle.blob_digest.proofs.KeyOrders.{number_cmp_total, exact_number}
 use Rattle.spec_lib.proofs.Maps.{cases_key, get-insert_at, get-insert_other, got-remove}
 use Rattle.spec_lib.proofs.Options.{nothing, some_same}
-use Rattle.store_model.specs.Catalog.{SessionNumber, HandRecord, session_number_cmp}
+use Rattle.store_model.specs.Catalog.{HandRecord, SessionNumber, session_number_cmp}
 use Rattle.store_model.specs.Durable.{AreReturnedAsTaken, IsReturnedAsTaken, TakenChunks, WholeCommandsReturnHands, taken_after_step}
-use Rattle.store_model.specs.Histories.{SweepCall, FinishCall, CommandCall, PutBackCall, Step, TakeCall}
+use Rattle.store_model.specs.Histories.{CommandCall, FinishCall, PutBackCall, Step, SweepCall, TakeCall}
 use Rattle.store_model.specs.Runs.{Event}
-use Rattle.store_model.specs.WholeCommands.{AreWholeCommands, CorrespondsTo, CheckedOutSessions, CheckedOut}
+use Rattle.store_model.specs.WholeCommands.{AreWholeCommands, CheckedOut, CheckedOutSessions, CorrespondsTo}
 use Rattle.store_model.proofs.Durable.Torn.{first_returned}
 
 -- each checked-out hand has the chunks with which its session was taken

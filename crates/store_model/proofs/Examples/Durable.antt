@@ -6,9 +6,9 @@ use Rattle.std.specs.Cmp.Lexicographic.{nat_list_cmp_total}
 use Rattle.blob_digest.proofs.KeyOrders.{number_cmp_total, link_cmp_total}
 use Rattle.spec_lib.specs.Sets as set
 use Rattle.spec_lib.specs.Texts.{Text}
-use Rattle.store_model.specs.Catalog.{Catalog, CheckedIn, Session, HandRecord, Tenant}
+use Rattle.store_model.specs.Catalog.{Catalog, CheckedIn, HandRecord, Session, Tenant}
 use Rattle.store_model.specs.Commands.{put_back}
-use Rattle.store_model.specs.Durable.{Agrees, AreReturnedAsTaken, DurableState, SessionOpened, ChunkReceived, SessionSealed, initial_durable, changes_of, after_changes, taken_after_steps}
+use Rattle.store_model.specs.Durable.{Agrees, AreReturnedAsTaken, ChunkReceived, DurableState, SessionOpened, SessionSealed, after_changes, changes_of, initial_durable, taken_after_steps}
 use Rattle.store_model.specs.Histories.{TakeCall}
 use Rattle.store_model.specs.Lanes.{IsPaired, held_hand}
 use Rattle.store_model.proofs.Examples.Digests.{abc, abc_bytes}

@@ -1,7 +1,7 @@
-use Rattle.store_model.proofs.Durable.WholeCommands.{whole_commands_return_hands}
 use Rattle.store_model.proofs.Durable.Histories.{logs_agree, logs_extend}
 use Rattle.store_model.proofs.Durable.Lanes.{lanes_return_hands}
 use Rattle.store_model.proofs.Durable.Torn.{torn_logs_agree}
+use Rattle.store_model.proofs.Durable.WholeCommands.{whole_commands_return_hands}
 use Rattle.store_model.proofs.laws.durability.Goals as goal
 
 pub returns-clause-agree : goal.returns-clause-agree

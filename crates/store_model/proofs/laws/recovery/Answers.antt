@@ -1,10 +1,10 @@
-use Rattle.store_model.proofs.Durable.Rewriting.{rewritten_logs_agree}
-use Rattle.store_model.proofs.Durable.Histories.{new_stores_agree}
 use Rattle.store_model.proofs.Durable.Crashes.{stores_survive_crashes}
+use Rattle.store_model.proofs.Durable.Histories.{new_stores_agree}
+use Rattle.store_model.proofs.Durable.LogReplays.{logs_have_replays}
 use Rattle.store_model.proofs.Durable.OtherSettings.{stores_restart_with_other_settings}
 use Rattle.store_model.proofs.Durable.Replaying.{changes_have_replays}
 use Rattle.store_model.proofs.Durable.Restored.{stores_restart}
-use Rattle.store_model.proofs.Durable.LogReplays.{logs_have_replays}
+use Rattle.store_model.proofs.Durable.Rewriting.{rewritten_logs_agree}
 use Rattle.store_model.proofs.laws.recovery.Goals as goal
 
 pub returns-clause-new_store : goal.returns-clause-new_store
