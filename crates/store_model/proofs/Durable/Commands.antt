@@ -32,7 +32,7 @@ use Rattle.store_model.proofs.Durable.Agreement.{Agrees-add_repo, Agrees-drop, A
 use Rattle.store_model.proofs.Noninterference.LocalRespect.{Leaves, abandon_leaves, close_leaves, delete_leaves, delete_manifest_leaves, lease_leaves, of_tenant, past}
 
 -- a property of the catalog after an accepted outcome
-left_ok : {A : Type 0} (P : Catalog → Type 0) (x : Outcome A) (a : A) (X : Catalog) → Leaves P x → x ≡ Ok (a, X) → P X
+pub left_ok : {A : Type 0} (P : Catalog → Type 0) (x : Outcome A) (a : A) (X : Catalog) → Leaves P x → x ≡ Ok (a, X) → P X
 left_ok P x a X leaves is = subst (λ y. Leaves P y) is leaves
 
 pub answered_ok : {A B : Type 0} (f : A → B) (x : Outcome A) (b : B) (X : Catalog) → map_outcome f x ≡ Ok (b, X) → (a : A) × (x ≡ Ok (a, X)) × (f a ≡ b)

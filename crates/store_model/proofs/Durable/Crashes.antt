@@ -21,6 +21,7 @@ use Rattle.store_model.proofs.Commands.Hands.{IsProper, Sound-after_put_back, So
 use Rattle.store_model.proofs.Commands.Runs.{Sound-case}
 use Rattle.store_model.proofs.Commands.Sweep.{Sound-sweep}
 use Rattle.store_model.proofs.Durable.Agreement.{after_record}
+use Rattle.store_model.proofs.Durable.Commands.{left_ok}
 use Rattle.store_model.proofs.Durable.Histories.{durable_hand, step_agrees}
 use Rattle.store_model.proofs.Durable.Restored.{stores_restart}
 use Rattle.store_model.proofs.Durable.Torn.{first_returned, torn_logs_agree}
@@ -48,9 +49,6 @@ command_setting C (runs.PutManifest r b) = answers_leave (SameSlots C) runs.Byte
 command_setting C (runs.GetManifest r m) = reading_leave (SameSlots C) runs.Bytes C (Commands.get_manifest C r m) (refl, refl, refl)
 command_setting C (runs.DeleteManifest r m) = answers_leave (SameSlots C) (λ _. runs.Done) _ (delete_manifest_leaves (SameSlots C) C r m (refl, refl, refl))
 command_setting C (runs.Lease r d) = answers_leave (SameSlots C) runs.Bytes _ (lease_leaves (SameSlots C) C r false d (λ b _. (refl, refl, refl)))
-
-pub left_ok : {A : Type 0} (P : Catalog → Type 0) (x : Outcome A) (a : A) (X : Catalog) → Leaves P x → x ≡ Ok (a, X) → P X
-left_ok P x a X leaves is = subst (λ y. Leaves P y) is leaves
 
 pub step_setting : (s : State) (step : Step) (X : Catalog) → MayLeadTo s step X → SameSetting s.catalog X
 step_setting s (CommandCall command (Ok x)) X leaves = let same = left_ok (SameSlots s.catalog) (outcome false s.catalog command) x X (command_setting s.catalog command) leaves in (same.0, same.1)

@@ -26,7 +26,8 @@ use Rattle.store_model.proofs.Commands.ByHand.{taken_hand, taken_leaves}
 use Rattle.store_model.proofs.Commands.Hands.{TookIn, checked_home, home_chunks, took}
 use Rattle.store_model.proofs.Durable.Agreement.{after_record}
 use Rattle.store_model.proofs.Durable.Histories.{step_agrees}
-use Rattle.store_model.proofs.Durable.Crashes.{left_ok, step_sound}
+use Rattle.store_model.proofs.Durable.Commands.{left_ok}
+use Rattle.store_model.proofs.Durable.Crashes.{step_sound}
 use Rattle.store_model.proofs.Invariant.Sessions.{fresh}
 use Rattle.store_model.proofs.Noninterference.Hands.{cancel_leaves, finish_leaves, put_back_leaves}
 use Rattle.store_model.proofs.Noninterference.LocalRespect.{Leaves, answers_leave, close_leaves, delete_leaves, delete_manifest_leaves, lease_leaves, mount_leaves, of_tenant, past, put_leaves, reading_leave, start_leaves}

@@ -34,9 +34,9 @@ use Rattle.store_model.proofs.Commands.SomeSweep.{after, kept, some_sweep, swept
 use Rattle.store_model.proofs.Commands.Sweep.{Sound-sweep}
 use Rattle.store_model.proofs.Commands.Hands.{checked_home}
 use Rattle.store_model.proofs.Durable.Agreement.{after_record}
-use Rattle.store_model.proofs.Durable.Commands.{answered_ok, durable_checked_in}
+use Rattle.store_model.proofs.Durable.Commands.{answered_ok, durable_checked_in, left_ok}
 use Rattle.store_model.proofs.Durable.Histories.{after_record_tenants, durable_hand, new_stores_agree, step_agrees, sweeps}
-use Rattle.store_model.proofs.Durable.Crashes.{SameSetting, SameSlots, command_setting, left_ok, step_setting, step_sound}
+use Rattle.store_model.proofs.Durable.Crashes.{SameSetting, SameSlots, command_setting, step_setting, step_sound}
 use Rattle.store_model.proofs.Durable.Replaying.{changes_have_replays}
 use Rattle.store_model.proofs.Durable.Uses.{sum_within}
 
@@ -99,8 +99,8 @@ module _ (taken : TakenChunks) (D : DurableState) (C : Catalog) (a : Agrees take
             let more = leb-false C.slots (len C.residents + C.retired) free in
             omega arith
 
-    slot_again : is_full_for C digest ≡ false → has_slot (after R) digest ≡ Ok tt
-    slot_again free = ap (λ x. refuse x StoreFull) (by (get (kept R) digest) refl)
+    slot_remains : is_full_for C digest ≡ false → has_slot (after R) digest ≡ Ok tt
+    slot_remains free = ap (λ x. refuse x StoreFull) (by (get (kept R) digest) refl)
       where
         by : (o : Option Resident) → get (kept R) digest ≡ o → is_full_for (after R) digest ≡ false
         by (Some x) found = rw found refl
@@ -109,8 +109,8 @@ module _ (taken : TakenChunks) (D : DurableState) (C : Catalog) (a : Agrees take
             let left = left_over free in
             rw found (lt-leb R.slots (len (kept R) + (R.retired + 0)) (omega arith))
 
-    bytes_again : (whole : Text) → has_same_bytes (get C.residents digest) whole ≡ true → has_same_bytes (get (kept R) digest) whole ≡ true
-    bytes_again whole same = by (get (kept R) digest) refl
+    bytes_remain : (whole : Text) → has_same_bytes (get C.residents digest) whole ≡ true → has_same_bytes (get (kept R) digest) whole ≡ true
+    bytes_remain whole same = by (get (kept R) digest) refl
       where
         by : (o : Option Resident) → get (kept R) digest ≡ o → has_same_bytes o whole ≡ true
         by None found = refl
@@ -129,7 +129,7 @@ module _ (taken : TakenChunks) (D : DurableState) (s : State) (a : Agrees taken 
       HasRoomFor D (after R) (SessionSealed key d last)
   sealed_room key repo chunks d last found free same =
       let whole : content_in D.sessions key last ≡ concat chunks ++ last = ap (λ o. concat (option_map_or (λ x. at_home x.chunks) o []) ++ last) found in
-      (slot_again taken D C a sound R b slots_are none_retired d (not_refused _ _ _ free), bytes_again taken D C a sound R b slots_are none_retired d (content_in D.sessions key last) (ap (has_same_bytes (get C.residents d)) whole ∙ same))
+      (slot_remains taken D C a sound R b slots_are none_retired d (not_refused _ _ _ free), bytes_remain taken D C a sound R b slots_are none_retired d (content_in D.sessions key last) (ap (has_same_bytes (get C.residents d)) whole ∙ same))
 
   close_room : (r : Text) (n : ℕ) (d : Text) (g : Option ByteRange) (bytes : Text) (m : ℕ) (X : Catalog) → close C r n d g bytes ≡ Ok (m, X) → HasRoomFor D (after R) (SessionSealed (session_key D.tenants r n) d bytes)
   close_room r n d g bytes m X is =
@@ -206,8 +206,8 @@ record IsAlike (D : DurableState) (C R : Catalog) : Type 0 where
   retired : R.retired ≡ 0
 
 -- the replay of a log: a sweep, the command of the first change, and the replay of the rest
-first_again : (D : DurableState) (R : Catalog) (change : Change) (changes : List Change) → (one : HasReplay D (after R) change) → HasLogReplay (after_change D change) one.catalog changes → HasLogReplay D R (change ∷ changes)
-first_again D R change changes one rest = record {
+first_replayed : (D : DurableState) (R : Catalog) (change : Change) (changes : List Change) → (one : HasReplay D (after R) change) → HasLogReplay (after_change D change) one.catalog changes → HasLogReplay D R (change ∷ changes)
+first_replayed D R change changes one rest = record {
   events = SweepEvent (swept R) ∷ CommandEvent one.command (Ok one.answer) ∷ rest.events;
   catalog = rest.catalog;
   run = (after R, some_sweep R, (one.catalog, one.accepted, rest.run));
@@ -217,11 +217,11 @@ first_again D R change changes one rest = record {
   sound = rest.sound;
 }
 
-steps_again : (tenants : List Tenant) (steps : List Step) (taken : TakenChunks) (D : DurableState) (s s' : State) → Agrees taken D s.catalog → D.tenants ≡ tenants → Sound s.catalog → AreSteps s steps s' → AreReturnedAsTaken taken steps → AllByRecursion IsWellFormedStep steps →
+steps_replayed : (tenants : List Tenant) (steps : List Step) (taken : TakenChunks) (D : DurableState) (s s' : State) → Agrees taken D s.catalog → D.tenants ≡ tenants → Sound s.catalog → AreSteps s steps s' → AreReturnedAsTaken taken steps → AllByRecursion IsWellFormedStep steps →
     (R : Catalog) → IsAlike D s.catalog R → HasLogReplay D R (changes_of tenants steps)
-steps_again tenants [] taken D s s' a known sound run returned right R alike = record { events = []; catalog = R; run = refl; asks = refl; accepts = tt; agrees = alike.agrees; sound = alike.sound }
-steps_again tenants (step ∷ steps) taken D s s' a known sound run returned right R alike =
-    by (change_of tenants step) refl (steps_again tenants steps (taken_after_step taken step) (after_record D (change_of tenants step)) mid s' moved (after_record_tenants D (change_of tenants step) ∙ known) there run.2 returned.1 right.1)
+steps_replayed tenants [] taken D s s' a known sound run returned right R alike = record { events = []; catalog = R; run = refl; asks = refl; accepts = tt; agrees = alike.agrees; sound = alike.sound }
+steps_replayed tenants (step ∷ steps) taken D s s' a known sound run returned right R alike =
+    by (change_of tenants step) refl (steps_replayed tenants steps (taken_after_step taken step) (after_record D (change_of tenants step)) mid s' moved (after_record_tenants D (change_of tenants step) ∙ known) there run.2 returned.1 right.1)
   where
     mid : State
     mid = run.0
@@ -252,11 +252,11 @@ steps_again tenants (step ∷ steps) taken D s s' a known sound run returned rig
         let none : R.retired ≡ 0 = alike.retired in
         let retired_is : one.catalog.retired ≡ R.retired + 0 = same.2 in
         subst (λ o. HasLogReplay D R (cons_option o (changes_of tenants steps))) (sym is)
-        (first_again D R change (changes_of tenants steps) one
+        (first_replayed D R change (changes_of tenants steps) one
         (subst (λ o. ((R' : Catalog) → IsAlike (after_record D o) mid.catalog R' → HasLogReplay (after_record D o) R' (changes_of tenants steps))) is rest one.catalog
         (record { agrees = one.agrees; sound = one.sound; slots = same.0 ∙ alike.slots ∙ sym setting.0; limit = same.1 ∙ alike.limit ∙ sym setting.1; retired = omega arith })))
 
 pub logs_have_replays : LogsHaveReplays
 logs_have_replays tenants slots max_blob steps s sound run returned right =
-    steps_again tenants steps empty (initial_durable tenants) (initial_state (opening tenants slots max_blob)) s (new_stores_agree tenants slots max_blob) refl sound run returned right (opening tenants slots max_blob)
+    steps_replayed tenants steps empty (initial_durable tenants) (initial_state (opening tenants slots max_blob)) s (new_stores_agree tenants slots max_blob) refl sound run returned right (opening tenants slots max_blob)
     (record { agrees = new_stores_agree tenants slots max_blob; sound = sound; slots = refl; limit = refl; retired = refl })

@@ -172,11 +172,11 @@ module _ (D : DurableState) (R : Catalog) (b : Agrees empty D R) (sound : Sound 
       has_room : (sum_by length chunks + length bytes ≤ R.max_blob) × (used_bytes R key.0 + length bytes ≤ quota_of R key.0)
       has_room = let r = room taken X bytes pieces a sound_there in (subst (λ n. sum_by length chunks + length bytes ≤ n) limit r.0, r.1)
 
-      pub chunk_again : (change : Change) → chunk_change key bytes ≡ Some change → HasReplay D R change
-      chunk_again change is = chunk_replayed bytes has_room.0 has_room.1 change is
+      pub chunk_accepted : (change : Change) → chunk_change key bytes ≡ Some change → HasReplay D R change
+      chunk_accepted change is = chunk_replayed bytes has_room.0 has_room.1 change is
 
-      pub seal_again : (digest : Text) → is_digest_of digest (concat chunks ++ bytes) ≡ true → HasRoomFor D R (SessionSealed key digest bytes) → HasReplay D R (SessionSealed key digest bytes)
-      seal_again digest named free = seal_replayed bytes has_room.0 has_room.1 digest (ap (λ o. is_digest_of digest (concat (option_map_or (λ x. at_home x.chunks) o []) ++ bytes)) found ∙ named) free
+      pub seal_accepted : (digest : Text) → is_digest_of digest (concat chunks ++ bytes) ≡ true → HasRoomFor D R (SessionSealed key digest bytes) → HasReplay D R (SessionSealed key digest bytes)
+      seal_accepted digest named free = seal_replayed bytes has_room.0 has_room.1 digest (ap (λ o. is_digest_of digest (concat (option_map_or (λ x. at_home x.chunks) o []) ++ bytes)) found ∙ named) free
 
 -- ---- repositories, links and manifests
 
@@ -192,13 +192,13 @@ module _ (taken : TakenChunks) (D : DurableState) (C : Catalog) (a : Agrees take
   R0 = record C { slots = slots; max_blob = max_blob; sessions = D.sessions; residents = residents; retired = retired }
 
   module _ (b : Agrees empty D R0) (sound : Sound R0) where
-    again : (change : Change) (command : Command) (x : Answer) (left : Catalog) → replay_command D change ≡ Some command → outcome false R0 command ≡ Ok (x, left) → command_change D.tenants command x ≡ Some change →
+    replayed : (change : Change) (command : Command) (x : Answer) (left : Catalog) → replay_command D change ≡ Some command → outcome false R0 command ≡ Ok (x, left) → command_change D.tenants command x ≡ Some change →
         length (repo_of command) ≤ 255 → HasReplay D R0 change
-    again = done D R0 b sound
+    replayed = done D R0 b sound
 
-    start_again : (r : Text) (t : ℕ) → tenant C r ≡ Ok t → lacks_room_for C t r ≡ false → cannot_open C t ≡ false → length r ≤ 255 → HasReplay D R0 (SessionOpened r (session_key D.tenants r (next_number_of C t)))
-    start_again r t known room_ok opens short_name =
-        again (SessionOpened r (session_key D.tenants r (next_number_of C t))) (runs.Start r) (runs.Number (next_number_of C t)) (with_new_session R0 t r) refl (ap (map_outcome runs.Number) accepted) refl short_name
+    start_replayed : (r : Text) (t : ℕ) → tenant C r ≡ Ok t → lacks_room_for C t r ≡ false → cannot_open C t ≡ false → length r ≤ 255 → HasReplay D R0 (SessionOpened r (session_key D.tenants r (next_number_of C t)))
+    start_replayed r t known room_ok opens short_name =
+        replayed (SessionOpened r (session_key D.tenants r (next_number_of C t))) (runs.Start r) (runs.Number (next_number_of C t)) (with_new_session R0 t r) refl (ap (map_outcome runs.Number) accepted) refl short_name
       where
         tenant_is : tenant R0 r ≡ Ok t
         tenant_is = known
@@ -219,11 +219,11 @@ module _ (taken : TakenChunks) (D : DurableState) (C : Catalog) (a : Agrees take
         let t = bound_ok (tenant C r) _ (n, X) is in
         let c = bound_ok (refuse (lacks_room_for C t.0 r) LimitReached) _ (n, X) t.2 in
         let d = bound_ok (refuse (cannot_open C t.0) LimitReached) _ (n, X) c.2 in
-        subst (λ m. HasReplay D R0 (SessionOpened r (session_key D.tenants r m))) (answer_by d.2) (start_again r t.0 t.1 (not_refused _ _ _ c.1) (not_refused _ _ _ d.1) short_name)
+        subst (λ m. HasReplay D R0 (SessionOpened r (session_key D.tenants r m))) (answer_by d.2) (start_replayed r t.0 t.1 (not_refused _ _ _ c.1) (not_refused _ _ _ d.1) short_name)
 
     mounts : (r d : Text) (t : ℕ) → tenant C r ≡ Ok t → tenant_holds C t d ≡ true → lacks_room_for C t r ≡ false → length r ≤ 255 → HasReplay D R0 (BlobLinked r d)
     mounts r d t known has room_ok short_name =
-        again (BlobLinked r d) (runs.Mount r d None) (runs.Mounting mounting.Mounted) (with_link R0 r d) refl (ap (map_outcome runs.Mounting) accepted) refl short_name
+        replayed (BlobLinked r d) (runs.Mount r d None) (runs.Mounting mounting.Mounted) (with_link R0 r d) refl (ap (map_outcome runs.Mounting) accepted) refl short_name
       where
         tenant_is : tenant R0 r ≡ Ok t
         tenant_is = known
@@ -262,7 +262,7 @@ module _ (taken : TakenChunks) (D : DurableState) (C : Catalog) (a : Agrees take
         let linked_is : check_link R0 r d ≡ Ok tt = c.1 in
         let free_is : check_no_referrer (referrer R0 r d) ≡ Ok tt = e.1 in
         let accepted : delete R0 r d ≡ Ok (tt, record R0 { links = set.remove C.links (r, d) }) = rw (tenant_is, linked_is, free_is) refl in
-        again (BlobUnlinked r d) (runs.Delete r d) runs.Done (record R0 { links = set.remove C.links (r, d) }) refl (ap (map_outcome (λ _. runs.Done)) accepted) refl short_name
+        replayed (BlobUnlinked r d) (runs.Delete r d) runs.Done (record R0 { links = set.remove C.links (r, d) }) refl (ap (map_outcome (λ _. runs.Done)) accepted) refl short_name
 
     describes : (r bytes : Text) (x : Text) (X : Catalog) → Commands.put_manifest C r bytes ≡ Ok (x, X) → length r ≤ 255 → HasReplay D R0 (ManifestPut r bytes)
     describes r bytes x X is short_name =
@@ -274,7 +274,7 @@ module _ (taken : TakenChunks) (D : DurableState) (C : Catalog) (a : Agrees take
       where
         by : (t : ℕ) (refs : List Text) → tenant C r ≡ Ok t → refuse (nat_lt max_manifest (length bytes)) SizeInvalid ≡ Ok tt → ok_or (refs_of bytes) ManifestInvalid ≡ Ok refs → check_all_links C r refs ≡ Ok tt →
             (y : Bool) → has_manifest C r (sha256_text bytes) ≡ y → (if y then Ok (sha256_text bytes, C) else add_manifest C t r bytes) ≡ Ok (x, X) → HasReplay D R0 (ManifestPut r bytes)
-        by t refs known small read all true has h = again (ManifestPut r bytes) (runs.PutManifest r bytes) (runs.Bytes (sha256_text bytes)) R0 refl (ap (map_outcome runs.Bytes) accepted) refl short_name
+        by t refs known small read all true has h = replayed (ManifestPut r bytes) (runs.PutManifest r bytes) (runs.Bytes (sha256_text bytes)) R0 refl (ap (map_outcome runs.Bytes) accepted) refl short_name
           where
             tenant_is : tenant R0 r ≡ Ok t
             tenant_is = known
@@ -287,7 +287,7 @@ module _ (taken : TakenChunks) (D : DurableState) (C : Catalog) (a : Agrees take
 
             accepted : Commands.put_manifest R0 r bytes ≡ Ok (sha256_text bytes, R0)
             accepted = rw (tenant_is, small, read, all_is, has_is) refl
-        by t refs known small read all false has h = again (ManifestPut r bytes) (runs.PutManifest r bytes) (runs.Bytes (sha256_text bytes)) (with_manifest R0 r bytes) refl (ap (map_outcome runs.Bytes) accepted) refl short_name
+        by t refs known small read all false has h = replayed (ManifestPut r bytes) (runs.PutManifest r bytes) (runs.Bytes (sha256_text bytes)) (with_manifest R0 r bytes) refl (ap (map_outcome runs.Bytes) accepted) refl short_name
           where
             tenant_is : tenant R0 r ≡ Ok t
             tenant_is = known
@@ -316,7 +316,7 @@ module _ (taken : TakenChunks) (D : DurableState) (C : Catalog) (a : Agrees take
         let tenant_is : tenant R0 r ≡ Ok t.0 = t.1 in
         let there_is : manifest R0 r name ≡ Ok c.0 = c.1 in
         let accepted : Commands.delete_manifest R0 r name ≡ Ok (tt, record R0 { manifests = remove C.manifests (r, name) }) = rw (tenant_is, there_is) refl in
-        again (ManifestDeleted r name) (runs.DeleteManifest r name) runs.Done (record R0 { manifests = remove C.manifests (r, name) }) refl (ap (map_outcome (λ _. runs.Done)) accepted) refl short_name
+        replayed (ManifestDeleted r name) (runs.DeleteManifest r name) runs.Done (record R0 { manifests = remove C.manifests (r, name) }) refl (ap (map_outcome (λ _. runs.Done)) accepted) refl short_name
 
 -- ---- steps
 
@@ -345,7 +345,7 @@ module _ (taken : TakenChunks) (D : DurableState) (s : State) (a : Agrees taken 
       let there : Agrees taken (after_record D (chunk_change (t.0, n) bytes)) X =
       subst (λ key. Agrees taken (after_record D (chunk_change key bytes)) X) (ap (λ ts. session_key ts r n) (sym a.tenants) ∙ key_there r t.0 n known) (command_agrees taken D C a (runs.Append r n g bytes) (runs.Number m) X accepted) in
       let setting = step_setting s (CommandCall (runs.Append r n g bytes) (Ok (runs.Number m))) X accepted in
-      chunk_again D R b sound_here (t.0, n) k.s.repo k.chunks kept.0 taken X bytes kept.1 there (Sound-case C X (runs.Append r n g bytes) (Ok (runs.Number m)) short_name accepted sound) (setting.1 ∙ sym limit) change
+      chunk_accepted D R b sound_here (t.0, n) k.s.repo k.chunks kept.0 taken X bytes kept.1 there (Sound-case C X (runs.Append r n g bytes) (Ok (runs.Number m)) short_name accepted sound) (setting.1 ∙ sym limit) change
       (ap (λ key. chunk_change key bytes) (sym (key_there r t.0 n known)) ∙ records)
 
   closed : (r : Text) (n : ℕ) (d : Text) (g : Option ByteRange) (bytes : Text) (m : ℕ) (X : Catalog) → close C r n d g bytes ≡ Ok (m, X) → length r ≤ 255 → HasRoomFor D R (SessionSealed (session_key D.tenants r n) d bytes) →
@@ -365,7 +365,7 @@ module _ (taken : TakenChunks) (D : DurableState) (s : State) (a : Agrees taken 
       let named = (and_parts (is_digest_of d (content_in C.sessions (t.0, n) bytes)) (has_same_bytes (get C.residents d) (content_in C.sessions (t.0, n) bytes)) (not-false _ (not_refused _ _ _ e.1))).0 in
       let whole : content_in C.sessions (t.0, n) bytes ≡ concat k.chunks ++ bytes = ap (λ o. concat (option_map_or (λ x. at_home x.chunks) o []) ++ bytes) k.found ∙ ap (λ x. concat (at_home x) ++ bytes) k.home in
       subst (λ key. HasReplay D R (SessionSealed key d bytes)) (sym (key_there r t.0 n known))
-      (seal_again D R b sound_here (t.0, n) k.s.repo k.chunks kept.0 taken X2 bytes kept.1 there (Sound-case C X2 (runs.Append r n g bytes) (Ok (runs.Number c.0)) short_name accepted sound) (sym limit) d
+      (seal_accepted D R b sound_here (t.0, n) k.s.repo k.chunks kept.0 taken X2 bytes kept.1 there (Sound-case C X2 (runs.Append r n g bytes) (Ok (runs.Number c.0)) short_name accepted sound) (sym limit) d
       (ap (is_digest_of d) (sym whole) ∙ named) (subst (λ key. HasRoomFor D R (SessionSealed key d bytes)) (key_there r t.0 n known) free))
     where
       append_is : (t after : ℕ) (r : Text) (n : ℕ) (g : Option ByteRange) (bytes : Text) → tenant C r ≡ Ok t → chunk_length_check C t r n g (length bytes) ≡ Ok after → check_quota C t (length bytes) ≡ Ok tt →
@@ -389,7 +389,7 @@ module _ (taken : TakenChunks) (D : DurableState) (s : State) (a : Agrees taken 
         let c = bound_ok (session_of_hand (get C.sessions h.key) h) _ p.0 p.1 in
         let kept = durable_hand taken D C a h returned c.0 c.1 in
         let setting = step_setting s (PutBackCall h (Ok n)) X is in
-        chunk_again D R b sound_here h.key c.0.repo h.chunks kept.1 taken X (filled_chunk h) kept.2 (puts_back taken D C a h returned n X is) (sound_put_back taken D C a sound h returned fills n X is) (setting.1 ∙ sym limit) change records
+        chunk_accepted D R b sound_here h.key c.0.repo h.chunks kept.1 taken X (filled_chunk h) kept.2 (puts_back taken D C a h returned n X is) (sound_put_back taken D C a sound h returned fills n X is) (setting.1 ∙ sym limit) change records
 
     finished : (d : Text) (n : ℕ) (X : Catalog) → finish C h d ≡ Ok (n, X) → HasRoomFor D R (SessionSealed h.key d (filled_chunk h)) → HasReplay D R (SessionSealed h.key d (filled_chunk h))
     finished d n X is free =
@@ -399,7 +399,7 @@ module _ (taken : TakenChunks) (D : DurableState) (s : State) (a : Agrees taken 
         let X2 : Catalog = record C { sessions = with_chunks C.sessions h.key c.0 (CheckedIn (chunks_of h)) } in
         let back : put_back C h ≡ Ok (sum_by length (chunks_of h), X2) = back_is c.0 c.1 in
         let named = (and_parts (is_digest_of d (hand_content h)) (has_same_bytes (get C.residents d) (hand_content h)) (not-false _ (not_refused _ _ _ e.1))).0 in
-        seal_again D R b sound_here h.key c.0.repo h.chunks kept.1 taken X2 (filled_chunk h) kept.2 (puts_back taken D C a h returned (sum_by length (chunks_of h)) X2 back)
+        seal_accepted D R b sound_here h.key c.0.repo h.chunks kept.1 taken X2 (filled_chunk h) kept.2 (puts_back taken D C a h returned (sum_by length (chunks_of h)) X2 back)
         (sound_put_back taken D C a sound h returned fills (sum_by length (chunks_of h)) X2 back) (sym limit) d named free
       where
         back_is : (x : Session) → session_of_hand (get C.sessions h.key) h ≡ Ok x → put_back C h ≡ Ok (sum_by length (chunks_of h), record C { sessions = with_chunks C.sessions h.key x (CheckedIn (chunks_of h)) })
