@@ -1,0 +1,4 @@
+pub mod Apart
+pub mod Filling
+pub mod Puts
+pub mod Sums

@@ -1,0 +1,17 @@
+//! The outer layer of the store's log on disk: a header, and frames that carry opaque payloads. Each frame states where it
+//! begins and how far the file was synced, and its sum continues the sum of the frame before it.
+#![tactic(auto)]
+
+mod cursor;
+mod fault;
+mod fill;
+mod head;
+mod put;
+mod sum;
+mod words;
+mod write;
+
+pub use cursor::Cursor;
+pub use fault::ReadFault;
+pub use head::{FrameHead, MAX_PAYLOAD, frame_head};
+pub use write::{cursor_after, frame_sum, write_frame};
