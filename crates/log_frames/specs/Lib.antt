@@ -1,4 +1,5 @@
 pub mod Frames
+pub mod Headers
 pub mod Heads
 pub mod Reads
 pub mod Sums
