@@ -1,6 +1,8 @@
 pub mod Apart
 pub mod Filling
 pub mod Headers
+pub mod NextFrames
 pub mod Puts
-pub mod Reading
+pub mod Scanning
 pub mod Sums
+pub mod Taking

@@ -2,7 +2,7 @@ use Rattle.std.proofs.Common.{◌≡◌, ◌≤◌, ◌∙◌, ap, refl, sym, su
 use Rattle.std.proofs.lemmas.Result.{IfOk-weaker}
 use Rattle.std.specs.Io.KnownBytes.{Consumes}
 use Rattle.log_frames.specs.Heads.{HasNoHead, IsHeadOf}
-use Rattle.log_frames.proofs.Reading.{cut_head, goes_on, other_head, other_place, room_then}
+use Rattle.log_frames.proofs.NextFrames.{cut_head, goes_on, other_head, other_place, room_then}
 use Rattle.log_frames.proofs.next.read_next_frame.Goals as goal
 
 pub returns-then-count-lt32-clause-next : goal.returns-then-count-lt32-clause-next

@@ -4,7 +4,7 @@ use Rattle.std.specs.Int.{w64, to_le_bytes}
 use Rattle.std.specs.Io.KnownBytes.{Consumes}
 use Rattle.log_frames.specs.Reads.{rest_sum}
 use Rattle.log_frames.specs.Sums.{sum_words}
-use Rattle.log_frames.proofs.Reading.{behind_len, cut_rest, other_rest, parts, payload_len, summed, whole_rest}
+use Rattle.log_frames.proofs.NextFrames.{behind_len, cut_rest, other_rest, parts, payload_len, summed, whole_rest}
 use Rattle.log_frames.proofs.next.read_rest.Goals as goal
 
 pub returns-then-count-summed-clause-rest : goal.returns-then-count-summed-clause-rest

@@ -1,0 +1,15 @@
+-- The frames so far were taken in their order.
+use Rattle.std.specs.Prelude.{◌≡◌, List}
+use Rattle.std.specs.Io.KnownBytes.{Consumes}
+use Rattle.log_frames.specs.Endings.{Takes, largest_synced}
+use Rattle.log_frames.specs.Frames.{AreFrames, Frame, end_of, frames_bytes}
+use Rattle.log_frames.proofs.reading.read_frames.Given as goal
+
+abbrev pub invariant-loop-turn : goal.invariant-loop-turn
+invariant-loop-turn g l =
+    (frames : List Frame)
+    × AreFrames l.id l.fn.start frames
+    × Takes g.S.FrameSink.takes l.fn.sink frames l.sink
+    × Consumes (g.R.Read.remaining l.fn.input) (g.R.Read.remaining l.input) (frames_bytes l.id l.fn.start frames)
+    × (l.cursor ≡ end_of l.id l.fn.start frames)
+    × (l.synced ≡ largest_synced frames)
