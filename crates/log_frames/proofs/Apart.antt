@@ -19,7 +19,7 @@ apart (x ∷ xs) (y ∷ ys) us vs n e =
     (rw (first, rest.0) refl, rest.1)
 
 -- numbers of eight bytes
-field : (m n : ℕ) (us vs : List ℕ) → m < 2 ^ 64 → n < 2 ^ 64 → to_le_bytes w64 m ++ us ≡ to_le_bytes w64 n ++ vs → (m ≡ n) × (us ≡ vs)
+pub field : (m n : ℕ) (us vs : List ℕ) → m < 2 ^ 64 → n < 2 ^ 64 → to_le_bytes w64 m ++ us ≡ to_le_bytes w64 n ++ vs → (m ≡ n) × (us ≡ vs)
 field m n us vs lm ln e =
     let both = apart (to_le_bytes w64 m) (to_le_bytes w64 n) us vs refl e in
     (sym (from_le_bytes-to_le_bytes_8 m lm) ∙ ap (from_le_bytes w64) both.0 ∙ from_le_bytes-to_le_bytes_8 n ln, both.1)

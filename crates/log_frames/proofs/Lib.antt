@@ -1,4 +1,7 @@
 pub mod Apart
+pub mod Bytes
+pub mod Cuts
+pub mod Damage
 pub mod Filling
 pub mod Headers
 pub mod NextFrames

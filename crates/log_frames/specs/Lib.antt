@@ -2,6 +2,7 @@ pub mod Endings
 pub mod Frames
 pub mod Headers
 pub mod Heads
+pub mod Laws
 pub mod Reads
 pub mod Scans
 pub mod Sums

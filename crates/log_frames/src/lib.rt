@@ -7,6 +7,7 @@ mod fault;
 mod fill;
 mod head;
 mod header;
+pub mod laws;
 mod next;
 mod put;
 mod reading;

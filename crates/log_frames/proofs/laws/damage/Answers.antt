@@ -1,0 +1,8 @@
+use Rattle.log_frames.proofs.Damage.{damage_told, one_byte}
+use Rattle.log_frames.proofs.laws.damage.Goals as goal
+
+pub returns-clause-one_byte : goal.returns-clause-one_byte
+returns-clause-one_byte c = one_byte
+
+pub returns-clause-told : goal.returns-clause-told
+returns-clause-told c = damage_told
