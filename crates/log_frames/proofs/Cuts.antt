@@ -76,7 +76,7 @@ later_in_more id p bytes more h w = record {
 cut_unforged : (id p n : ℕ) (bytes : List ℕ) → HasNoLaterHead id p p bytes → HasNoLaterHead id p p (take n bytes)
 cut_unforged id p n bytes none = λ h w. none h (subst (λ (t : List ℕ). IsLaterHead id p p t h) (take-append-drop n bytes) (later_in_more id p (take n bytes) (drop n bytes) h w))
 
-none_in_nothing : (id p : ℕ) → HasNoLaterHead id p p []
+pub none_in_nothing : (id p : ℕ) → HasNoLaterHead id p p []
 none_in_nothing id p = λ h w. omega (arith, ap length w.whole, length-append w.front (head_bytes id h ++ w.rest), length-append (head_bytes id h) w.rest, head_len id h)
 
 -- ---- what is whole

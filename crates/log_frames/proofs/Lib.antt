@@ -6,6 +6,7 @@ pub mod Filling
 pub mod Headers
 pub mod NextFrames
 pub mod Puts
+pub mod Recovery
 pub mod Scanning
 pub mod Sums
 pub mod Taking

@@ -69,3 +69,6 @@ judged_sink refuses s id c a b buffer count ending.Refused read none is = absurd
 judged_sink refuses s id c a b buffer count (ending.Failed kind) read none is = (tt, refl)
 judged_sink refuses s id c a b buffer count ending.Memory read none is = (tt, refl)
 judged_sink refuses s id c a b buffer count ending.TooLong read none is = (tt, refl)
+
+pub still_taken : {S : Type 0} (takes : S → List ℕ → S → Type 0) (old mid new : S) (frames : List Frame) → Takes takes old frames mid → new ≡ mid → Takes takes old frames new
+still_taken takes old mid new frames taken same = subst (λ s. Takes takes old frames s) (sym same) taken

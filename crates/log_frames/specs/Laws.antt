@@ -1,7 +1,7 @@
 -- How the bytes of a log are read, whatever became of them.
 use Rattle.std.specs.Prelude.{◌≡◌, ◌≢◌, ◌⊎◌, ◌<◌, ◌≤◌, ◌+◌, ◌^◌, ⊤, ℕ, List, [], ◌∷◌, ◌++◌, Option, Some, length, take}
 use Rattle.std.specs.List.{AllByRecursion}
-use Rattle.log_frames.specs.Endings.{IsDamaged, IsTorn, Takes}
+use Rattle.log_frames.specs.Endings.{EndsAt, IsDamaged, IsTorn, Takes}
 use Rattle.log_frames.specs.Frames.{AreFrames, Frame, IsFrame, cursor_after, end_of, frame_bytes, frames_bytes}
 use Rattle.log_frames.specs.Headers.{log_bytes, start_of}
 use Rattle.log_frames.specs.Reads.{BeginsNoFrame}
@@ -10,6 +10,7 @@ use Rattle.log_frames.specs.declared.cursor.Cursor.{Cursor}
 use Rattle.log_frames.specs.declared.head.FrameHead.{FrameHead}
 use Rattle.log_frames.specs.declared.reading.Ending.{Ending}
 use Rattle.log_frames.specs.declared.reading.Ending.TheVariants as ending
+use Rattle.log_frames.specs.declared.reading.FramesRead.{FramesRead}
 
 -- The bytes are these frames from a cursor on, and a rest that begins with no frame.
 pub record IsReading (id : ℕ) (c : Cursor) (bytes : List ℕ) (frames : List Frame) (rest : List ℕ) : Type 0 where
@@ -101,6 +102,11 @@ IsFinished ending.Refused = ⊥
 IsFinished (ending.Failed kind) = ⊥
 IsFinished ending.Memory = ⊥
 IsFinished ending.TooLong = ⊥
+
+-- A finished reading took the frames of the bytes, all of them, and its ending is that of the rest.
+abbrev pub ReadsExactly : {S : Type 0} → (S → List ℕ → S → Type 0) → S → S → ℕ → Cursor → List ℕ → FramesRead → Type 0
+ReadsExactly takes old new id c bytes read = IsFinished read.ending
+    → (frames : List Frame) × (rest : List ℕ) × IsReading id c bytes frames rest × Takes takes old frames new × (read.cursor ≡ end_of id c frames) × EndsAt id (end_of id c frames) (Some rest) read.ending
 
 -- an ending at which the file may be cut
 abbrev pub MayBeCut : Ending → Type 0

@@ -1,6 +1,7 @@
 //! Reads the frames of a log.
-ghost use Rattle.std.specs.Prelude.{ℕ, ◌≤◌, IfErr, IfOk, List, OnErr, OnOk, take, vec_len};
+ghost use Rattle.std.specs.Prelude.{ℕ, ◌≤◌, IfErr, IfOk, IfSome, List, OnErr, OnOk, take, vec_len};
 ghost use Rattle.log_frames.specs.Endings.{EndsFrames, FramesAreRead, Judges, TakesFrame};
+ghost use Rattle.log_frames.specs.Laws.{ReadsExactly, Recovers};
 
 use crate::cursor::Cursor;
 use crate::fault::ReadFault;
@@ -109,6 +110,21 @@ fn take_next_frame<S: FrameSink, R: Read>(
 /// Reads the frames of a log with this id from a cursor on, and has each taken. It stops at the first place at which no
 /// frame begins, or whose frame the sink refuses. The buffer grows with the longest frame.
 pub fn read_frames<S: FrameSink, R: Read>(
+    sink: &mut S,
+    input: &mut R,
+    buffer: &mut Vec<u8>,
+    id: u64,
+    start: Cursor,
+) -> FramesRead
+    ensures read { FramesAreRead S.takes S.refuses sink.old sink.new id start (R.remaining input.old) result }
+    ensures exact { IfSome (R.remaining input.old) (λ bytes. ReadsExactly S.takes sink.old sink.new id start bytes result) }
+    ensures recovers { IfSome (R.remaining input.old) (λ bytes. Recovers S.takes sink.old sink.new id start bytes result.ending) }
+{
+    take_frames(sink, input, buffer, id, start)
+}
+
+/// Reads frames and has each taken, as `read_frames`.
+fn take_frames<S: FrameSink, R: Read>(
     sink: &mut S,
     input: &mut R,
     buffer: &mut Vec<u8>,

@@ -3,7 +3,7 @@ use Rattle.std.specs.Prelude.{◌≡◌, List}
 use Rattle.std.specs.Io.KnownBytes.{Consumes}
 use Rattle.log_frames.specs.Endings.{Takes, largest_synced}
 use Rattle.log_frames.specs.Frames.{AreFrames, Frame, end_of, frames_bytes}
-use Rattle.log_frames.proofs.reading.read_frames.Given as goal
+use Rattle.log_frames.proofs.reading.take_frames.Given as goal
 
 abbrev pub invariant-loop-turn : goal.invariant-loop-turn
 invariant-loop-turn g l =
