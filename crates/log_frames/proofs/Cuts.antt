@@ -171,5 +171,8 @@ past_the_cut id c written n more fit =
       read.many,
       read.rest,
       record { bytes = read.reading.whole; within = read.all },
-      λ nothing. (record { fit = read.reading.fit; whole = joined; none = nothing.none }, ended id (end_of id c (take read.many written)) (read.rest ++ more) nothing.none nothing.no_later),
+      λ nothing. record {
+        reading = record { fit = read.reading.fit; whole = joined; none = nothing.none };
+        cut = ended id (end_of id c (take read.many written)) (read.rest ++ more) nothing.none nothing.no_later;
+      },
     )

@@ -21,7 +21,8 @@ pub fn fill<R: Read>(
     ensures length { length buffer.new ≡ length buffer.old }
     ensures before { take start buffer.new ≡ take start buffer.old }
     ensures place { IfOk result (λ place. (start ≤ place) × (place ≤ end)) }
-    ensures filled { IfOk result (λ place. Consumes (R.remaining input.old) (R.remaining input.new) (drop start (take place buffer.new))) }
+    ensures filled { IfOk result (λ place.
+        Consumes (R.remaining input.old) (R.remaining input.new) (drop start (take place buffer.new))) }
     ensures ended { IfOk result (λ place. place < end → IsAtEnd (R.remaining input.new)) }
 {
     let mut at = start;
@@ -37,7 +38,8 @@ pub fn fill<R: Read>(
 
 /// Makes a buffer at least `len` bytes long.
 fn lengthen(buffer: &mut Vec<u8>, len: usize) -> Result<(), ReadFault>
-    ensures same { (n : ℕ) → n ≤ vec_len buffer.old → take n buffer.new.items ≡ take n buffer.old.items }
+    ensures same { (n : ℕ) → n ≤ vec_len buffer.old
+        → take n buffer.new.items ≡ take n buffer.old.items }
     ensures long { OnOk result (len ≤ vec_len buffer.new) }
     ensures no_longer { vec_len buffer.new ≤ max (vec_len buffer.old) len }
 {
@@ -56,11 +58,14 @@ pub fn gather<R: Read>(
     len: usize,
 ) -> Result<usize, ReadFault>
     requires { (start ≤ len) × (start ≤ vec_len buffer.old) }
-    ensures count { IfOk result (λ count. (start ≤ count) × (count ≤ len) × (count ≤ vec_len buffer.new)) }
+    ensures count { IfOk result (λ count.
+        (start ≤ count) × (count ≤ len) × (count ≤ vec_len buffer.new)) }
     ensures before { OnOk result (take start buffer.new.items ≡ take start buffer.old.items) }
-    ensures gathered { IfOk result (λ count. Consumes (R.remaining input.old) (R.remaining input.new) (drop start (take count buffer.new.items))) }
+    ensures gathered { IfOk result (λ count. Consumes
+        (R.remaining input.old) (R.remaining input.new) (drop start (take count buffer.new.items))) }
     ensures ended { IfOk result (λ count. count < len → IsAtEnd (R.remaining input.new)) }
-    ensures memory { HasRoomFor start (R.remaining input.old) (vec_len buffer.old) (vec_len buffer.new) }
+    ensures memory { HasRoomFor start (R.remaining input.old)
+        (vec_len buffer.old) (vec_len buffer.new) }
 {
     let mut count = start;
     while count < len {

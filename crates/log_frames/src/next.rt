@@ -31,8 +31,10 @@ fn read_rest<R: Read>(
     sum: u64,
 ) -> Result<NextFrame, ReadFault>
     requires { IsHead head × (32 ≤ vec_len buffer.old) }
-    ensures rest { IfOk result (Completes head sum (take 32 buffer.old.items) (R.remaining input.old) (R.remaining input.new) buffer.new.items) }
-    ensures memory { HasRoomFor 32 (R.remaining input.old) (vec_len buffer.old) (vec_len buffer.new) }
+    ensures rest { IfOk result (Completes head sum (take 32 buffer.old.items)
+        (R.remaining input.old) (R.remaining input.new) buffer.new.items) }
+    ensures memory { HasRoomFor 32 (R.remaining input.old)
+        (vec_len buffer.old) (vec_len buffer.new) }
 {
     let summed = 32 + head.length as usize;
     let count = gather(input, buffer, 32, summed + 8)?;
@@ -62,8 +64,10 @@ pub fn read_next_frame<R: Read>(
     id: u64,
     cursor: Cursor,
 ) -> Result<NextFrame, ReadFault>
-    ensures next { IfOk result (GoesOn id cursor (R.remaining input.old) (R.remaining input.new) buffer.new.items) }
-    ensures memory { HasRoomFor 0 (R.remaining input.old) (vec_len buffer.old) (vec_len buffer.new) }
+    ensures next { IfOk result (GoesOn id cursor
+        (R.remaining input.old) (R.remaining input.new) buffer.new.items) }
+    ensures memory { HasRoomFor 0 (R.remaining input.old)
+        (vec_len buffer.old) (vec_len buffer.new) }
 {
     let count = gather(input, buffer, 0, 32)?;
     if count == 0 {

@@ -87,8 +87,10 @@ fn take_next_frame<S: FrameSink, R: Read>(
     id: u64,
     cursor: Cursor,
 ) -> Result<(u64, Cursor), Ending>
-    ensures taken { IfOk result (TakesFrame S.takes sink.old sink.new id cursor (R.remaining input.old) (R.remaining input.new)) }
-    ensures ended { IfErr result (EndsFrames S.refuses sink.old sink.new id cursor (R.remaining input.old)) }
+    ensures taken { IfOk result (TakesFrame S.takes sink.old sink.new id cursor
+        (R.remaining input.old) (R.remaining input.new)) }
+    ensures ended { IfErr result (EndsFrames S.refuses sink.old sink.new id cursor
+        (R.remaining input.old)) }
 {
     match read_next_frame(input, buffer, id, cursor) {
         Ok(NextFrame::Frame(head, next)) => {
@@ -116,9 +118,12 @@ pub fn read_frames<S: FrameSink, R: Read>(
     id: u64,
     start: Cursor,
 ) -> FramesRead
-    ensures read { FramesAreRead S.takes S.refuses sink.old sink.new id start (R.remaining input.old) result }
-    ensures exact { IfSome (R.remaining input.old) (λ bytes. ReadsExactly S.takes sink.old sink.new id start bytes result) }
-    ensures recovers { IfSome (R.remaining input.old) (λ bytes. Recovers S.takes sink.old sink.new id start bytes result.ending) }
+    ensures read { FramesAreRead S.takes S.refuses sink.old sink.new id start
+        (R.remaining input.old) result }
+    ensures exact { IfSome (R.remaining input.old) (λ bytes.
+        ReadsExactly S.takes sink.old sink.new id start bytes result) }
+    ensures recovers { IfSome (R.remaining input.old) (λ bytes.
+        Recovers S.takes sink.old sink.new id start bytes result.ending) }
 {
     take_frames(sink, input, buffer, id, start)
 }
@@ -131,7 +136,8 @@ fn take_frames<S: FrameSink, R: Read>(
     id: u64,
     start: Cursor,
 ) -> FramesRead
-    ensures { FramesAreRead S.takes S.refuses sink.old sink.new id start (R.remaining input.old) result }
+    ensures { FramesAreRead S.takes S.refuses sink.old sink.new id start
+        (R.remaining input.old) result }
 {
     let mut cursor = start;
     let mut synced: u64 = 0;

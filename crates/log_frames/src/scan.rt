@@ -70,8 +70,10 @@ pub fn find_later_head<R: Read>(
     place: u64,
 ) -> Result<Option<FrameHead>, ReadFault>
     requires { count ≤ vec_len buffer.old }
-    ensures found { IfOk result (FindsIn id place (take count buffer.old.items) (R.remaining input.old)) }
-    ensures memory { HasRoomFor count (R.remaining input.old) (vec_len buffer.old) (vec_len buffer.new) }
+    ensures found { IfOk result (FindsIn id place (take count buffer.old.items)
+        (R.remaining input.old)) }
+    ensures memory { HasRoomFor count (R.remaining input.old)
+        (vec_len buffer.old) (vec_len buffer.new) }
 {
     let mut filled = count;
     let mut at = place;

@@ -17,7 +17,8 @@ pub fn three_words(a: u64, b: u64, c: u64) -> [u8; 24]
 
 /// Returns the bytes of four numbers.
 pub fn four_words(a: u64, b: u64, c: u64, d: u64) -> [u8; 32]
-    ensures { result ≡ to_le_bytes w64 a ++ to_le_bytes w64 b ++ to_le_bytes w64 c ++ to_le_bytes w64 d }
+    ensures { result ≡ to_le_bytes w64 a ++ to_le_bytes w64 b
+        ++ to_le_bytes w64 c ++ to_le_bytes w64 d }
 {
     let a = a.to_le_bytes();
     let b = b.to_le_bytes();

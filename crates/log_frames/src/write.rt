@@ -43,8 +43,10 @@ pub fn write_frame<W: Write>(
     payload: &[u8],
 ) -> io::Result<Cursor>
     requires { IsFrame cursor (frame_of synced payload.now) }
-    ensures bytes { Puts result (W.contents output.old) (W.contents output.new) (frame_bytes id cursor (frame_of synced payload.now)) }
-    ensures after { IfOk result (λ after. after ≡ cursor_after id cursor (frame_of synced payload.now)) }
+    ensures bytes { Puts result (W.contents output.old) (W.contents output.new)
+        (frame_bytes id cursor (frame_of synced payload.now)) }
+    ensures after { IfOk result (λ after.
+        after ≡ cursor_after id cursor (frame_of synced payload.now)) }
 {
     let length = payload.len() as u64;
     let head = frame_head(id, cursor, synced, length);
