@@ -1,0 +1,4 @@
+pub mod Prefixes
+pub mod Encodings
+pub mod Devices
+pub mod Marks

@@ -1,0 +1,4 @@
+pub mod Names
+pub mod Encoding
+pub mod Views
+pub mod Invariants
