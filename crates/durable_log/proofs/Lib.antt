@@ -1,4 +1,6 @@
 pub mod Prefixes
 pub mod Encodings
-pub mod Devices
+pub mod SegmentBytes
+pub mod Writers
 pub mod Marks
+pub mod Devices

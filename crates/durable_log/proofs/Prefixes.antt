@@ -1,7 +1,6 @@
--- Beginnings of lists.
-use Rattle.std.proofs.Common.{◌≡◌, ℕ, ◌≤◌, List, [], ◌∷◌, ◌++◌, length, drop, refl, sym, ap, ◌∙◌, append_assoc, arith}
+-- Prefixes of lists.
+use Rattle.std.proofs.Common.{◌≡◌, ◌≤◌, List, [], ◌∷◌, ◌++◌, length, refl, sym, ap, ◌∙◌, append_assoc, arith}
 use Rattle.std.proofs.lemmas.List.{append-nil}
-use Rattle.std.proofs.Math.Seq.{drop-append_seam}
 use mathlib.Core.List.{IsPrefix}
 
 module _ {A : Type 0} where
@@ -11,11 +10,11 @@ module _ {A : Type 0} where
   pub prefix_trans : (xs ys zs : List A) → IsPrefix xs ys → IsPrefix ys zs → IsPrefix xs zs
   prefix_trans xs ys zs p q = (p.0 ++ q.0, sym (append_assoc xs p.0 q.0) ∙ (ap (λ w. w ++ q.0) p.1 ∙ q.1))
 
-  -- the same behind a common beginning
-  pub prefix_behind : (bs xs ys : List A) → IsPrefix xs ys → IsPrefix (bs ++ xs) (bs ++ ys)
-  prefix_behind bs xs ys p = (p.0, append_assoc bs xs p.0 ∙ ap (λ w. bs ++ w) p.1)
+  -- the same after a common prefix
+  pub prefix_after : (bs xs ys : List A) → IsPrefix xs ys → IsPrefix (bs ++ xs) (bs ++ ys)
+  prefix_after bs xs ys p = (p.0, append_assoc bs xs p.0 ∙ ap (λ w. bs ++ w) p.1)
 
-  -- of two beginnings of a list the shorter begins the longer
+  -- of two prefixes of a list the shorter is a prefix of the longer
   pub prefix_of_longer : (xs ys zs : List A) → IsPrefix xs zs → IsPrefix ys zs → length xs ≤ length ys → IsPrefix xs ys
   prefix_of_longer [] ys zs p q le = (ys, refl)
   prefix_of_longer (x ∷ xs) [] zs p q le = absurd (omega arith)
@@ -25,7 +24,3 @@ module _ {A : Type 0} where
       let ys_of : ys ++ q.0 ≡ zs = cc in
       let t : IsPrefix xs ys = prefix_of_longer xs ys zs (p.0, xs_of) (q.0, ys_of) (omega arith) in
       let tail : xs ++ t.0 ≡ ys = t.1 in (t.0, (cc))
-
-  -- a beginning, and what is left behind so many
-  pub prefix_rest : (xs zs : List A) (n : ℕ) → IsPrefix xs zs → length xs ≡ n → xs ++ drop n zs ≡ zs
-  prefix_rest xs zs n p e = ap (λ k. xs ++ drop k zs) (sym e) ∙ (ap (λ w. xs ++ drop (length xs) w) (sym p.1) ∙ (ap (λ w. xs ++ w) (drop-append_seam xs p.0) ∙ p.1))

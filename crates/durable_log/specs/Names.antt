@@ -1,20 +1,18 @@
--- What a store's type parameter says of it.
+-- The names of a durable log, which its type parameter carries.
 use Rattle.std.specs.Prelude.{ℕ, List, []}
 use Rattle.atomic_table.specs.Seated.{TableId}
 
--- A durable log: the log of its history, the log of what was noted as durable, the ledger of the bytes that its disk took over, with the number of its
--- parts, and what was on its disk when it was opened.
+-- a durable log: the log of its events, the logs of its marks, and the bytes on its disk in front of those of its history
 pub record Names : Type 0 where
   pub history : TableId
-  pub marks : TableId
-  pub ledger : ℕ
-  pub parts : ℕ
+  pub durable_marks : TableId
+  pub taken_marks : TableId
   pub base : List ℕ
 
 -- a table of no words
 abbrev pub no_table : TableId
 no_table = record { words = 0; slots = 0; views_name = 0; atom = 0; block = 0; offset = 0; slot_names = [] }
 
--- names of no log
-abbrev pub unnamed : Names
-unnamed = record { history = no_table; marks = no_table; ledger = 0; parts = 0; base = [] }
+-- the names of no log
+abbrev pub no_names : Names
+no_names = record { history = no_table; durable_marks = no_table; taken_marks = no_table; base = [] }

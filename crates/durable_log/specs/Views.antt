@@ -1,57 +1,105 @@
--- What contracts see of a writer, of the backlog under its lock and of the device under its own, and what the calls tell of them.
-use Rattle.std.specs.Prelude.{◌≡◌, ℕ, Bool, List, [], ◌∷◌, ◌++◌}
+-- Writers, the backlog and the device, as contracts see them, and how calls change them.
+use Rattle.std.specs.Prelude.{◌≡◌, ℕ, ◌+◌, ◌<◌, ◌≤◌, ◌^◌, Bool, true, false, List, [], ◌∷◌, ◌++◌, All, length}
 use Rattle.ghost_log.specs.declared.view.Entry.{Entry}
 use Rattle.ghost_log.specs.Entries.{IsPrefix, entry, events_by}
+use Rattle.ghost_log.specs.Calls as calls
+use Rattle.durable_log.specs.Encoding.{encode}
+use Rattle.durable_log.specs.Names.{Names}
 
--- A writer: its number, the beginning of the history that it has seen, its own events, and a beginning of the history that it knows to be durable.
+-- a writer: its number, the prefix of the history that it has seen, its own events, and a prefix of the history that it knows to be durable
 pub record Trace (E : Type 0) : Type 0 where
   pub number : ℕ
   pub seen : List (Entry E)
   pub own : List E
   pub durable : List (Entry E)
 
--- The backlog under its lock: the history, how many of its bytes the device took over, the bytes that it didn't yet, and how many are durable.
+-- bytes in segments, the number of bytes that fit into the last segment, and the number of segments that fit
+pub record SegmentsView : Type 0 where
+  pub bytes : List ℕ
+  pub room : ℕ
+  pub slots : ℕ
+
+-- whether the log records, the number of bytes of its history, and those of them that the device has not taken over
+pub record PendingView : Type 0 where
+  pub recording : Bool
+  pub position : ℕ
+  pub segments : SegmentsView
+
+-- the backlog: the history, the number of its writers, the prefix of it that the device took over, the bytes of the rest, and the number of durable bytes
 pub record BacklogView (E : Type 0) : Type 0 where
   pub history : List (Entry E)
-  pub taken : ℕ
-  pub pending : List ℕ
+  pub writers : ℕ
+  pub taken : List (Entry E)
+  pub pending : PendingView
   pub synced : ℕ
 
--- The device under its lock: the beginning of the history that it has seen, how many of its bytes it took over, how many of these are synced, those
--- that it has yet to write, what is on the disk, what is durable there, and whether a call on the disk has failed.
+-- the device: the prefix of the history that it took over, its bytes that are not written yet, the bytes on the disk, those of them that are durable, and
+-- whether a call on the disk has failed
 pub record DeviceView (E : Type 0) : Type 0 where
-  pub seen : List (Entry E)
-  pub given : ℕ
-  pub synced : ℕ
+  pub taken : List (Entry E)
   pub buffer : List ℕ
   pub written : List ℕ
   pub durable : List ℕ
   pub failed : Bool
 
--- the last of the lists, or the first one where there is no other
+-- ---- a record has room
+
+-- a record of n bytes fits into the last segment, and the history stays below 2 ^ 64 bytes
+pub record HasRoom (p : PendingView) (n : ℕ) : Type 0 where
+  pub memory : n ≤ p.segments.room
+  pub position : p.position + n < 2 ^ 64
+
+-- a segment of n bytes can be added, and the history stays below 2 ^ 64 bytes
+pub record HasSlot (p : PendingView) (n : ℕ) : Type 0 where
+  pub memory : 0 < p.segments.slots
+  pub position : p.position + n < 2 ^ 64
+
+-- the log recorded these bytes
+pub record Records (old : PendingView) (bytes : List ℕ) (new : PendingView) : Type 0 where
+  pub recording : old.recording ≡ true
+  pub bytes_after : new.segments.bytes ≡ old.segments.bytes ++ bytes
+  pub position : new.position ≡ old.position + length bytes
+
+-- ---- what calls do
+
+-- the last of the lists, or the first list if there is no other
 abbrev pub last_of : {A : Type 0} → List A → List (List A) → List A
 last_of d [] = d
 last_of d (x ∷ xs) = last_of x xs
 
--- Just this event was added, at the end of a history that goes on from all that the writer had seen; what it knows to be durable stays.
-pub record Adds {E : Type 0} (old : Trace E) (event : E) (new : Trace E) : Type 0 where
-  pub between : List (Entry E)
-  pub seen : new.seen ≡ (old.seen ++ between) ++ entry old.number event ∷ []
-  pub own : new.own ≡ old.own ++ event ∷ []
-  pub number : new.number ≡ old.number
-  pub durable : new.durable ≡ old.durable
+-- the history as its ghost log
+abbrev pub log_of : {E : Type 0} → Names → BacklogView E → calls.Log E
+log_of names b = record { name = names.history; entries = b.history; writers = b.writers }
 
--- the writer has added nothing, and has seen no less of the history
+-- the writer as a writer of the ghost log
+abbrev pub writer_of : {E : Type 0} → Names → Trace E → calls.Writer E
+writer_of names t = record { name = names.history; number = t.number; seen = t.seen; own = t.own }
+
+-- the writer after it added one event to this history
+abbrev pub trace_with : {E : Type 0} → E → List (Entry E) → Trace E → Trace E
+trace_with event history t = record { number = t.number; seen = history ++ entry t.number event ∷ []; own = t.own ++ event ∷ []; durable = t.durable }
+
+-- the writer after it has seen this whole history
+abbrev pub trace_seeing : {E : Type 0} → List (Entry E) → Trace E → Trace E
+trace_seeing history t = record { number = t.number; seen = history; own = t.own; durable = t.durable }
+
+-- the writer has added nothing, and has seen at least what it had seen
 pub record Waits {E : Type 0} (old new : Trace E) : Type 0 where
   pub seen : IsPrefix old.seen new.seen
   pub own : new.own ≡ old.own
   pub number : new.number ≡ old.number
 
--- All that the writer knew when it called is durable, and its own events are, each once and in order.
+-- all that the writer had seen is durable, and so are its own events, each once and in order
 pub record Commits {E : Type 0} (old new : Trace E) : Type 0 where
   pub covers : IsPrefix old.seen new.durable
   pub own : events_by new.number new.durable ≡ new.own
 
--- the writer's own events are durable, each once and in order: what may be told to others
-abbrev pub IsCommitted : {E : Type 0} → Trace E → Type 0
-IsCommitted t = events_by t.number t.durable ≡ t.own
+-- The writer's own events are those that are durable, in order, and then some that the log does not promise to be durable.
+pub record IsCommitted {E : Type 0} (promises : E → Bool) (t : Trace E) : Type 0 where
+  pub rest : List E
+  pub own : t.own ≡ events_by t.number t.durable ++ rest
+  pub unpromised : All (λ e. promises e ≡ false) rest
+
+-- all that the device took over is durable
+abbrev pub IsSynced : {E : Type 0} → (E → List ℕ) → List ℕ → DeviceView E → Type 0
+IsSynced bytes base d = IsPrefix (base ++ encode bytes d.taken) d.durable

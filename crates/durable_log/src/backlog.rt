@@ -1,137 +1,239 @@
-//! The history, the bytes of it that the device has yet to take over, and what is known to be durable. It lies under the lock of
-//! what the history tells of.
+//! The history, with the bytes of it that the device has not taken over.
 
-ghost use Rattle.std.specs.Prelude.{◌≡◌, ◌+◌, ◌++◌, ◌∷◌, ◌<◌, ◌≤◌, ◌^◌, [], length, true, false, IfSome, OnErr, OnOk};
+ghost use Rattle.std.specs.Prelude.{◌≡◌, ◌+◌, ◌++◌, ◌∷◌, ◌≤◌, [], length, true, false, IfSome, OnOk};
 ghost use Rattle.ghost_log.specs.Entries.{entry};
+ghost use Rattle.ghost_log.specs.Calls.{Agrees};
 ghost use Rattle.durable_log.specs.Encoding.{encode};
-ghost use Rattle.durable_log.specs.Views.{Adds, Commits, Waits};
+ghost use Rattle.durable_log.specs.Views.{Commits, HasRoom, HasSlot, IsCommitted, Records, Waits, log_of, trace_seeing, trace_with, writer_of};
 
-use crate::mark::{DurableMark, append_mark};
-use crate::names::{Given, Naming};
+use crate::mark::{HistoryMark, mark_seen};
+use crate::names::Naming;
+use crate::opening::UnopenedDevice;
+use crate::pending::Pending;
+use crate::segments::NoRoom;
 use crate::writer::LogWriter;
 use ghost_log::{Event, SharedLog};
+use std::alloc::Global;
 use std::marker::{Model, PhantomData};
-use std::sync::ledger::Share;
 
-/// The history with its backlog. Contracts see it as a `BacklogView`.
+/// The history of a durable log, which is stored under a lock next to the value that the history describes.
+///
+/// A log records once a device is opened. It ends to record if memory runs out, if its history would have 2^64 bytes,
+/// or if its disk fails. Then no more of the history becomes durable, and commits fail. A log without a device costs no
+/// more than its ghost log.
 #[derive(Drop)]
 pub struct Backlog<E, N: Naming<E>> {
     pub(crate) history: SharedLog<E>,
-    /// How many bytes of the history the device took over.
-    pub(crate) taken: u64,
-    pub(crate) share: Share<Given<E, N>>,
-    /// Those that it didn't.
-    pub(crate) pending: Vec<u8>,
-    /// How many are durable.
+    pub(crate) pending: Pending,
+    /// The number of bytes of the history that are durable.
     pub(crate) synced: u64,
-    /// What was told to be durable.
-    pub(crate) marks: SharedLog<DurableMark<E>>,
+    /// What is known to be durable.
+    pub(crate) durable_marks: SharedLog<HistoryMark<E>>,
+    /// What the device took over.
+    pub(crate) taken_marks: SharedLog<HistoryMark<E>>,
     pub(crate) of: PhantomData<N>,
 }
 
 impl<E, N: Naming<E>> Model for Backlog<E, N> {
     ghost use Rattle.std.specs.Prelude.{◌≡◌, ◌<◌};
-    ghost use Rattle.durable_log.specs.Invariants.{IsBacklog, IsMarked};
+    ghost use Rattle.durable_log.specs.Invariants.{IsBacklog, IsMarked, last_mark};
     ghost use Rattle.durable_log.specs.Views.{BacklogView};
 
     ghost Value = { BacklogView E };
 
-    ghost view = { λ b. record { history = b.history.entries; taken = b.taken; pending = b.pending.items; synced = b.synced } };
+    ghost view = { λ b. record { history = b.history.entries; writers = b.history.writers; taken = last_mark b.taken_marks.entries; pending = b.pending; synced = b.synced } };
 
-    ghost invariant = { λ b. (b.history.name ≡ N.names.history) × (b.share.parts ≡ N.names.parts) × (0 < N.names.parts) × (b.share.amount ≡ b.taken) × IsBacklog N.bytes b.history.entries b.taken b.pending.items × (b.marks.name ≡ N.names.marks) × (0 < b.marks.writers) × IsMarked N.bytes b.history.entries b.synced b.marks.entries };
+    ghost invariant = { λ b. (b.history.name ≡ N.names.history) × (b.durable_marks.name ≡ N.names.durable_marks) × (b.taken_marks.name ≡ N.names.taken_marks) × (0 < b.durable_marks.writers) × IsBacklog N.bytes b.history.entries (last_mark b.taken_marks.entries) b.pending × IsMarked N.bytes b.history.entries b.synced b.durable_marks.entries };
 }
 
-/// The log would be too long, or memory ran out.
-#[derive(Clone, Copy, PartialEq, Eq, Debug)]
-pub struct NoRoom;
-
 impl<E, N: Naming<E>> Backlog<E, N> {
-    /// A writer that has added nothing.
-    pub fn writer(&mut self) -> LogWriter<E, N>
-        ensures same { self.new ≡ self.old }
-        ensures writer { (result.own ≡ []) × (result.durable ≡ []) }
+    /// Creates a log that does not record, with the right to open its device.
+    ///
+    /// Without a device the log is one in memory alone.
+    pub fn new(
+        alloc: Global,
+        history: SharedLog<E>,
+        mut durable_marks: SharedLog<HistoryMark<E>>,
+        mut taken_marks: SharedLog<HistoryMark<E>>,
+    ) -> (Backlog<E, N>, UnopenedDevice<E, N>)
+        requires history { history.name ≡ N.names.history }
+        requires durable { (durable_marks.name ≡ N.names.durable_marks) × (durable_marks.entries ≡ []) × (durable_marks.writers ≡ 0) }
+        requires taken { (taken_marks.name ≡ N.names.taken_marks) × (taken_marks.entries ≡ []) × (taken_marks.writers ≡ 0) }
+        ensures history { (result.0).history ≡ history.entries }
+        ensures writers { (result.0).writers ≡ history.writers }
+        ensures closed { (result.0).pending.recording ≡ false }
     {
+        let marker = durable_marks.writer();
+        let taker = taken_marks.writer();
+        let backlog = Backlog {
+            history,
+            pending: Pending::new(alloc),
+            synced: 0,
+            durable_marks,
+            taken_marks,
+            of: PhantomData,
+        };
+        (
+            backlog,
+            UnopenedDevice {
+                marker,
+                taker,
+                of: PhantomData,
+            },
+        )
+    }
+
+    /// Creates a writer with the next number, which has seen the whole history and added no event.
+    pub fn writer(&mut self) -> LogWriter<E, N>
+        ensures same { self.new ≡ record self.old { writers = self.old.writers + 1 } }
+        ensures writer { result ≡ record { number = self.old.writers; seen = self.old.history; own = []; durable = [] } }
+    {
+        let position = self.pending.position();
         LogWriter {
             writer: self.history.writer(),
-            position: self.position(),
-            marker: self.marks.writer(),
+            position,
+            unconfirmed: false,
+            marker: self.durable_marks.writer(),
             of: PhantomData,
         }
     }
 
-    /// How many bytes the history has with so many more.
-    fn position_after(&self, more: u64) -> Option<u64>
-        ensures { IfSome result (λ n. (n ≡ length (encode N.bytes self.now.history) + more) × (n < 2 ^ 64)) }
+    /// Returns whether the log records.
+    pub fn is_recording(&self) -> bool
+        ensures { result ≡ self.now.pending.recording }
     {
-        self.taken
-            .checked_add(self.pending.len() as u64)?
-            .checked_add(more)
+        self.pending.is_recording()
     }
 
-    /// How many bytes the history has.
-    pub(crate) fn position(&self) -> u64
-        ensures { result ≡ length (encode N.bytes self.now.history) }
+    /// Returns the number of recorded bytes that the device has not taken over.
+    pub fn pending_len(&self) -> u64
+        ensures { result ≡ length self.now.pending.segments.bytes }
     {
-        self.taken + self.pending.len() as u64
+        self.pending.len()
     }
 
-    /// Adds the event that `D` names, with the bytes that are recorded of it. Refused for want of room, and then nothing is added.
+    /// Makes room for a record of this number of bytes, if the log records.
+    ///
+    /// A call of `append` with a record of at most `bytes` bytes, or of `append_owned`, right after it does not allocate.
+    ///
+    /// # Errors
+    ///
+    /// `NoRoom` if memory runs out, or if the history would have 2^64 bytes.
+    pub fn reserve(&mut self, bytes: usize) -> Result<(), NoRoom>
+        ensures history { (self.new.history ≡ self.old.history) × (self.new.writers ≡ self.old.writers) }
+        ensures device { (self.new.taken ≡ self.old.taken) × (self.new.synced ≡ self.old.synced) }
+        ensures recording { self.new.pending.recording ≡ self.old.pending.recording }
+        ensures bytes { self.new.pending.segments.bytes ≡ self.old.pending.segments.bytes }
+        ensures ok { OnOk result (self.old.pending.recording ≡ true → HasRoom self.new.pending bytes × HasSlot self.new.pending bytes) }
+    {
+        self.pending.reserve(bytes)
+    }
+
+    /// Adds the event that `D` names, and records its bytes. If they have no room, the log is closed.
     pub fn append<D: Event<E>>(
         &mut self,
         writer: &mut LogWriter<E, N>,
-        record: &[u8],
-    ) -> Result<(), NoRoom>
-        requires { record.now ≡ N.bytes D.event }
-        ensures ok { OnOk result (Adds writer.old D.event writer.new × (self.new.history ≡ self.old.history ++ entry writer.old.number D.event ∷ [])) }
-        ensures err { OnErr result ((writer.new ≡ writer.old) × (self.new ≡ self.old)) }
+        bytes: &[u8],
+        promised: bool,
+    )
+        requires bytes { bytes.now ≡ N.bytes D.event }
+        requires promised { promised ≡ N.promises D.event }
+        ensures agrees { Agrees (log_of N.names self.old) (writer_of N.names writer.old) }
+        ensures history { self.new.history ≡ self.old.history ++ entry writer.old.number D.event ∷ [] }
+        ensures writers { self.new.writers ≡ self.old.writers }
+        ensures device { (self.new.taken ≡ self.old.taken) × (self.new.synced ≡ self.old.synced) }
+        ensures writer { writer.new ≡ trace_with D.event self.old.history writer.old }
+        ensures recorded { self.new.pending.recording ≡ true → Records self.old.pending bytes.now self.new.pending }
+        ensures room { HasRoom self.old.pending (length bytes.now) → self.new.pending.recording ≡ self.old.pending.recording }
     {
-        let Some(position) = self.position_after(record.len() as u64) else {
-            return Err(NoRoom);
-        };
-        let Ok(()) = self.pending.extend_from_slice(record) else {
-            return Err(NoRoom);
-        };
-        self.history.append::<D>(&mut writer.writer);
-        writer.position = position;
-        Ok(())
+        self.pending.append(bytes);
+        let position = self.pending.position();
+        writer.add::<D>(&mut self.history, position, promised);
+    }
+
+    /// Adds the event that `D` names, and records its bytes without a copy. If they have no room, the log is closed.
+    pub fn append_owned<D: Event<E>>(
+        &mut self,
+        writer: &mut LogWriter<E, N>,
+        bytes: Vec<u8>,
+        promised: bool,
+    )
+        requires bytes { bytes.items ≡ N.bytes D.event }
+        requires promised { promised ≡ N.promises D.event }
+        ensures agrees { Agrees (log_of N.names self.old) (writer_of N.names writer.old) }
+        ensures history { self.new.history ≡ self.old.history ++ entry writer.old.number D.event ∷ [] }
+        ensures writers { self.new.writers ≡ self.old.writers }
+        ensures device { (self.new.taken ≡ self.old.taken) × (self.new.synced ≡ self.old.synced) }
+        ensures writer { writer.new ≡ trace_with D.event self.old.history writer.old }
+        ensures recorded { self.new.pending.recording ≡ true → Records self.old.pending bytes.items self.new.pending }
+        ensures room { HasSlot self.old.pending (length bytes.items) → self.new.pending.recording ≡ self.old.pending.recording }
+    {
+        self.pending.append_owned(bytes);
+        let position = self.pending.position();
+        writer.add::<D>(&mut self.history, position, promised);
     }
 
     /// Adds the event that `D` names, of which nothing is recorded.
-    pub fn append_unrecorded<D: Event<E>>(&mut self, writer: &mut LogWriter<E, N>)
-        requires { N.bytes D.event ≡ [] }
-        ensures adds { Adds writer.old D.event writer.new }
+    pub fn append_unrecorded<D: Event<E>>(&mut self, writer: &mut LogWriter<E, N>, promised: bool)
+        requires bytes { N.bytes D.event ≡ [] }
+        requires promised { promised ≡ N.promises D.event }
+        ensures agrees { Agrees (log_of N.names self.old) (writer_of N.names writer.old) }
         ensures history { self.new.history ≡ self.old.history ++ entry writer.old.number D.event ∷ [] }
+        ensures same { (self.new.writers ≡ self.old.writers) × (self.new.pending ≡ self.old.pending) }
+        ensures device { (self.new.taken ≡ self.old.taken) × (self.new.synced ≡ self.old.synced) }
+        ensures writer { writer.new ≡ trace_with D.event self.old.history writer.old }
     {
-        let position = self.position();
-        self.history.append::<D>(&mut writer.writer);
-        writer.position = position;
+        let position = self.pending.position();
+        writer.add::<D>(&mut self.history, position, promised);
     }
 
-    /// Notes for a writer that all that it had seen is durable.
+    /// Shows a writer the whole history, of which it had seen a prefix.
+    pub fn catch_up(&mut self, writer: &mut LogWriter<E, N>)
+        ensures agrees { Agrees (log_of N.names self.old) (writer_of N.names writer.old) }
+        ensures same { self.new ≡ self.old }
+        ensures writer { writer.new ≡ trace_seeing self.old.history writer.old }
+    {
+        let position = self.pending.position();
+        writer.catch_up(&mut self.history, position);
+    }
+
+    /// Marks for a writer that all that it has seen is durable, and shows it the whole history.
     pub(crate) fn mark_durable(&mut self, writer: &mut LogWriter<E, N>)
         requires { length (encode N.bytes writer.old.seen) ≤ self.old.synced }
-        ensures writer { Waits writer.old writer.new }
-        ensures durable { Commits writer.old writer.new }
-        ensures history { self.new.history ≡ self.old.history }
+        ensures waits { Waits writer.old writer.new }
+        ensures durable { Commits writer.old writer.new × IsCommitted N.promises writer.new }
+        ensures same { self.new ≡ self.old }
     {
         writer.reveal_invariant();
-        let upto = writer.seen();
+        mark_seen(&mut self.durable_marks, &mut writer.marker, &writer.writer);
         self.history.catch_up(&mut writer.writer);
-        writer.position = self.position();
-        append_mark(&mut self.marks, &mut writer.marker, &upto);
+        writer.position = self.pending.position();
+        writer.unconfirmed = false;
     }
 
-    /// Whether all that the writer has seen is durable. Then that is noted.
+    /// Returns whether all that the writer has seen is durable. If so, the writer then knows it.
     pub fn confirm(&mut self, writer: &mut LogWriter<E, N>) -> bool
-        ensures writer { Waits writer.old writer.new }
-        ensures durable { result ≡ true → Commits writer.old writer.new }
-        ensures same { result ≡ false → writer.new ≡ writer.old }
-        ensures history { self.new.history ≡ self.old.history }
+        ensures waits { Waits writer.old writer.new }
+        ensures durable { result ≡ true → Commits writer.old writer.new × IsCommitted N.promises writer.new }
+        ensures same { self.new ≡ self.old }
+        ensures kept { result ≡ false → writer.new ≡ writer.old }
     {
-        if writer.position() > self.synced {
+        let Some(position) = writer.position() else {
+            return false;
+        };
+        if position > self.synced {
             return false;
         }
         self.mark_durable(writer);
         true
+    }
+
+    /// Ends the recording: no more of the history becomes durable, and commits fail.
+    pub fn close(&mut self)
+        ensures history { (self.new.history ≡ self.old.history) × (self.new.writers ≡ self.old.writers) }
+        ensures device { (self.new.taken ≡ self.old.taken) × (self.new.synced ≡ self.old.synced) }
+        ensures closed { self.new.pending.recording ≡ false }
+    {
+        self.pending.close();
     }
 }

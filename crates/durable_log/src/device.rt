@@ -1,120 +1,144 @@
 //! The device: what it took over of the history, and what of that is on its disk.
 
-ghost use Rattle.std.specs.Prelude.{◌≡◌, ◌≤◌, ◌++◌, ℕ, List, [], Bool, true, false, length, OnOk, OnErr};
-ghost use Rattle.ghost_log.specs.Entries.{IsPrefix, events_by};
+ghost use Rattle.std.specs.Prelude.{◌≡◌, ◌++◌, [], length, true, false, IfOk, OnOk, OnErr};
+ghost use Rattle.ghost_log.specs.Entries.{IsPrefix};
 ghost use Rattle.durable_log.specs.Encoding.{encode};
-ghost use Rattle.durable_log.specs.Views.{Waits, Commits, DeviceView};
 ghost use Rattle.durable_log.specs.Invariants.{IsInOrder, IsWhole};
+ghost use Rattle.durable_log.specs.Views.{Commits, IsCommitted, IsSynced, Waits};
 
 use crate::backlog::Backlog;
 use crate::commit_error::CommitError;
-use crate::leader_cell::LeaderCell;
-use crate::mark::{DurableMark, append_mark};
-use crate::names::{Given, Naming};
+use crate::mark::{HistoryMark, mark_all, mark_last};
+use crate::names::Naming;
+use crate::segments::Segments;
 use crate::writer::LogWriter;
 use ghost_log::Writer;
 use log_disk::{Disk, DiskError};
 use std::marker::{Model, PhantomData};
-use std::mem;
-use std::snapshot::Snapshot;
-use std::sync::ledger::Book;
-use std::sync::{Mutex, Wait};
 
-/// What lies under the device's lock. Contracts see it as a `DeviceView`.
+/// The device of a log, which writes and syncs the history while no lock of the log is held.
+///
+/// Contracts see the prefix of the history that it took over, its bytes that are not written yet, the bytes on the disk,
+/// those of them that are durable, and whether a call on the disk has failed.
 #[derive(Drop)]
 pub struct LogDevice<E, N: Naming<E>, D: Disk> {
     pub(crate) disk: D,
-    /// Has seen the history as far as the device took it over, or further.
-    pub(crate) reader: Writer<E>,
-    /// How many bytes of the history the device took over.
+    /// The marker of what the device took over.
+    pub(crate) taker: Writer<HistoryMark<E>>,
+    /// The number of bytes that the device took over.
     pub(crate) given: u64,
-    pub(crate) ledger: Book<Given<E, N>>,
-    /// Those that are not written yet.
-    pub(crate) buffer: Vec<u8>,
-    /// How many of them are synced.
-    pub(crate) synced: u64,
-    /// Whether a call on the disk has failed. From then on nothing is written.
+    /// Those of them that are not written yet.
+    pub(crate) buffer: Segments,
+    /// The first marker of what is durable. The marks of the others depend on its marks.
+    pub(crate) marker: Writer<HistoryMark<E>>,
+    /// Whether a call on the disk has failed. After it nothing is written.
     pub(crate) failed: bool,
     /// The error of that call. It has no meaning before.
     pub(crate) failure: DiskError,
-    /// The first of the writers of marks, on whose marks those of the others rest.
-    pub(crate) marker: Writer<DurableMark<E>>,
     pub(crate) of: PhantomData<N>,
 }
 
 impl<E, N: Naming<E>, D: Disk> Model for LogDevice<E, N, D> {
     ghost use Rattle.std.specs.Prelude.{◌≡◌, []};
-    ghost use Rattle.durable_log.specs.Invariants.{IsDevice, IsSafe};
+    ghost use Rattle.durable_log.specs.Invariants.{IsDevice};
     ghost use Rattle.durable_log.specs.Views.{DeviceView, last_of};
 
     ghost Value = { DeviceView E };
 
-    ghost view = { λ d. record { seen = d.reader.seen; given = d.given; synced = d.synced; buffer = d.buffer.items; written = D.written d.disk; durable = D.synced d.disk; failed = d.failed } };
+    ghost view = { λ d. record { taken = last_of [] d.taker.own; buffer = d.buffer.bytes; written = D.written d.disk; durable = D.synced d.disk; failed = d.failed } };
 
-    ghost invariant = { λ d. (d.reader.name ≡ N.names.history) × (d.marker.name ≡ N.names.marks) × (d.marker.number ≡ 0) × (d.ledger.total ≡ d.given) × IsDevice N.bytes N.names.base d.reader.seen d.given d.synced d.buffer.items (D.written d.disk) (D.synced d.disk) d.failed × IsSafe N.bytes N.names.base d.reader.seen (D.synced d.disk) (last_of [] d.marker.own) };
+    ghost invariant = { λ d. (d.taker.name ≡ N.names.taken_marks) × (d.taker.number ≡ 0) × (d.marker.name ≡ N.names.durable_marks) × (d.marker.number ≡ 0) × IsDevice N.bytes N.names.base (last_of [] d.taker.own) (last_of [] d.marker.own) d.given d.buffer.bytes (D.written d.disk) (D.synced d.disk) d.failed };
 }
 
 impl<E, N: Naming<E>, D: Disk> LogDevice<E, N, D> {
-    /// Whether a call on the disk has failed.
-    pub fn has_failed(&self) -> bool
-        ensures { result ≡ self.now.failed }
+    /// Fails if a call on the disk has failed.
+    ///
+    /// # Errors
+    ///
+    /// The error of that call.
+    pub fn check(&self) -> Result<(), DiskError>
+        ensures ok { OnOk result (self.now.failed ≡ false) }
+        ensures err { OnErr result (self.now.failed ≡ true) }
     {
-        self.failed
+        if self.failed {
+            return Err(self.failure);
+        }
+        Ok(())
     }
 
-    /// Takes over what the backlog has pending. The writer has seen all of the history then.
-    pub fn take(&mut self, backlog: &mut Backlog<E, N>, writer: &mut LogWriter<E, N>)
+    /// Takes over the pending bytes, if the log records. Returns whether it does.
+    ///
+    /// # Cost
+    ///
+    /// Constant: no byte is copied.
+    pub fn take_over(&mut self, backlog: &mut Backlog<E, N>) -> bool
         requires { (self.old.failed ≡ false) × (self.old.buffer ≡ []) }
-        ensures writer { Waits writer.old writer.new × (writer.new.durable ≡ writer.old.durable) }
-        ensures all { (self.new.seen ≡ writer.new.seen) × (self.new.given ≡ length (encode N.bytes writer.new.seen)) }
-        ensures same { (self.new.failed ≡ false) × (self.new.synced ≡ self.old.synced) }
-        ensures history { backlog.new.history ≡ backlog.old.history }
+        ensures recording { result ≡ backlog.old.pending.recording }
+        ensures history { (backlog.new.history ≡ backlog.old.history) × (backlog.new.writers ≡ backlog.old.writers) }
+        ensures synced { (backlog.new.pending.recording ≡ backlog.old.pending.recording) × (backlog.new.synced ≡ backlog.old.synced) }
+        ensures disk { (self.new.written ≡ self.old.written) × (self.new.durable ≡ self.old.durable) × (self.new.failed ≡ false) }
+        ensures taken { result ≡ true → (self.new.taken ≡ backlog.old.history) × (self.new.buffer ≡ backlog.old.pending.segments.bytes) }
+        ensures rest { result ≡ true → (backlog.new.taken ≡ backlog.old.history) × (backlog.new.pending.segments.bytes ≡ []) }
+        ensures kept { result ≡ false → (self.new ≡ self.old) × (backlog.new ≡ backlog.old) }
     {
-        backlog.history.catch_up(&mut self.reader);
-        backlog.history.catch_up(&mut writer.writer);
-        self.ledger.audit(&mut backlog.share);
-        let more = backlog.pending.len() as u64;
-        self.ledger.add(&mut backlog.share, more);
-        mem::swap(&mut self.buffer, &mut backlog.pending);
-        backlog.taken += more;
-        self.given = backlog.taken;
-        writer.position = backlog.taken;
+        let Some(position) = backlog.pending.position() else {
+            return false;
+        };
+        mark_all(&mut backlog.taken_marks, &mut self.taker, &backlog.history);
+        backlog.pending.move_into(&mut self.buffer);
+        self.given = position;
+        true
     }
 
-    /// Settles a writer where all that it has seen is durable, and answers whether; else takes over what the backlog has pending.
+    /// Returns whether all that the writer has seen is durable. If not, takes over the pending bytes, and shows the writer
+    /// the whole history.
+    ///
+    /// # Errors
+    ///
+    /// `Closed` if the log does not record.
     pub fn confirm_or_take(
         &mut self,
         backlog: &mut Backlog<E, N>,
         writer: &mut LogWriter<E, N>,
-    ) -> bool
+    ) -> Result<bool, CommitError>
         requires { (self.old.failed ≡ false) × (self.old.buffer ≡ []) }
-        ensures writer { Waits writer.old writer.new }
+        ensures waits { Waits writer.old writer.new }
         ensures sound { self.new.failed ≡ false }
-        ensures history { backlog.new.history ≡ backlog.old.history }
-        ensures settled { result ≡ true → Commits writer.old writer.new × (self.new.buffer ≡ []) }
-        ensures taken { result ≡ false → (writer.new.durable ≡ writer.old.durable) × (self.new.seen ≡ writer.new.seen) × (self.new.given ≡ length (encode N.bytes writer.new.seen)) }
+        ensures history { (backlog.new.history ≡ backlog.old.history) × (backlog.new.writers ≡ backlog.old.writers) }
+        ensures confirmed { IfOk result (λ done. done ≡ true → Commits writer.old writer.new × IsCommitted N.promises writer.new × (self.new.buffer ≡ [])) }
+        ensures taken { IfOk result (λ done. done ≡ false → (writer.new.durable ≡ writer.old.durable) × (self.new.taken ≡ writer.new.seen)) }
+        ensures err { OnErr result ((writer.new ≡ writer.old) × (self.new ≡ self.old)) }
     {
         if backlog.confirm(writer) {
-            return true;
+            return Ok(true);
         }
-        self.take(backlog, writer);
-        false
+        if !self.take_over(backlog) {
+            return Err(CommitError::Closed);
+        }
+        backlog.catch_up(writer);
+        Ok(false)
     }
 
     /// Writes what was taken over.
+    ///
+    /// # Errors
+    ///
+    /// That of the disk. Nothing is written after it.
     pub fn write(&mut self) -> Result<(), DiskError>
         requires { self.old.failed ≡ false }
-        ensures same { (self.new.seen ≡ self.old.seen) × (self.new.given ≡ self.old.given) × (self.new.synced ≡ self.old.synced) }
-        ensures ok { OnOk result ((self.new.failed ≡ false) × (self.new.buffer ≡ [])) }
+        ensures same { (self.new.taken ≡ self.old.taken) × (self.new.durable ≡ self.old.durable) }
+        ensures buffer { self.new.buffer ≡ [] }
+        ensures ok { OnOk result ((self.new.failed ≡ false) × (self.new.written ≡ self.old.written ++ self.old.buffer)) }
         ensures err { OnErr result (self.new.failed ≡ true) }
     {
-        match self.disk.write(self.buffer.as_slice()) {
+        match self.buffer.write_to(&mut self.disk) {
             Ok(()) => {
                 self.buffer.clear();
                 Ok(())
             }
             Err(error) => {
-                self.failed = true; // What is there of the buffer isn't known.
+                self.buffer.clear();
+                self.failed = true;
                 self.failure = error;
                 Err(error)
             }
@@ -122,17 +146,19 @@ impl<E, N: Naming<E>, D: Disk> LogDevice<E, N, D> {
     }
 
     /// Waits until all that was taken over is durable.
+    ///
+    /// # Errors
+    ///
+    /// That of the disk. Nothing is written after it.
     pub fn sync(&mut self) -> Result<(), DiskError>
         requires { (self.old.failed ≡ false) × (self.old.buffer ≡ []) }
-        ensures same { (self.new.seen ≡ self.old.seen) × (self.new.given ≡ self.old.given) }
-        ensures ok { OnOk result ((self.new.synced ≡ self.new.given) × (self.new.failed ≡ false) × (self.new.buffer ≡ [])) }
-        ensures err { OnErr result (self.new.failed ≡ true) }
+        ensures same { (self.new.taken ≡ self.old.taken) × (self.new.written ≡ self.old.written) }
+        ensures buffer { self.new.buffer ≡ [] }
+        ensures ok { OnOk result ((self.new.failed ≡ false) × IsSynced N.bytes N.names.base self.new) }
+        ensures err { OnErr result ((self.new.failed ≡ true) × (self.new.durable ≡ self.old.durable)) }
     {
         match self.disk.sync() {
-            Ok(()) => {
-                self.synced = self.given;
-                Ok(())
-            }
+            Ok(()) => Ok(()),
             Err(error) => {
                 self.failed = true;
                 self.failure = error;
@@ -141,51 +167,82 @@ impl<E, N: Naming<E>, D: Disk> LogDevice<E, N, D> {
         }
     }
 
-    /// Tells the backlog that all that the device has seen is synced.
-    fn publish_synced(&mut self, backlog: &mut Backlog<E, N>)
-        requires { length (encode N.bytes self.old.seen) ≡ self.old.synced }
-        ensures same { (self.new.buffer ≡ self.old.buffer) × (self.new.failed ≡ self.old.failed) }
-        ensures backlog { backlog.new ≡ record backlog.old { synced = self.old.synced } }
+    /// Writes what was taken over, and waits until it is durable.
+    ///
+    /// # Errors
+    ///
+    /// That of the disk. Nothing is written after it.
+    pub fn write_and_sync(&mut self) -> Result<(), DiskError>
+        requires { self.old.failed ≡ false }
+        ensures same { self.new.taken ≡ self.old.taken }
+        ensures buffer { self.new.buffer ≡ [] }
+        ensures ok { OnOk result ((self.new.failed ≡ false) × IsSynced N.bytes N.names.base self.new) }
+        ensures err { OnErr result (self.new.failed ≡ true) }
     {
-        let upto = Snapshot::of(&self.reader);
-        backlog.history.catch_up(&mut self.reader);
-        append_mark(&mut backlog.marks, &mut self.marker, &upto);
-        backlog.synced = self.synced;
+        self.write()?;
+        self.sync()
     }
 
-    /// Tells the backlog that all that the device has seen is synced, and marks for a writer that has seen no more that all of that is durable.
+    /// Gives the backlog the number of bytes that are durable.
+    fn publish_synced(&mut self, backlog: &mut Backlog<E, N>)
+        requires { IsSynced N.bytes N.names.base self.old }
+        ensures device { self.new ≡ self.old }
+        ensures history { (backlog.new.history ≡ backlog.old.history) × (backlog.new.writers ≡ backlog.old.writers) }
+        ensures pending { (backlog.new.pending ≡ backlog.old.pending) × (backlog.new.taken ≡ backlog.old.taken) }
+        ensures synced { backlog.new.synced ≡ length (encode N.bytes self.old.taken) }
+    {
+        backlog.taken_marks.catch_up(&mut self.taker);
+        mark_last(&mut backlog.durable_marks, &mut self.marker, &self.taker);
+        backlog.synced = self.given;
+    }
+
+    /// Makes known that all that the device took over is durable: to the backlog, and to a writer that has seen no more.
     pub fn publish(&mut self, backlog: &mut Backlog<E, N>, writer: &mut LogWriter<E, N>)
-        requires synced { length (encode N.bytes self.old.seen) ≡ self.old.synced }
-        requires seen { writer.old.seen ≡ self.old.seen }
-        ensures same { (self.new.buffer ≡ self.old.buffer) × (self.new.failed ≡ self.old.failed) }
-        ensures history { backlog.new.history ≡ backlog.old.history }
-        ensures writer { Waits writer.old writer.new }
-        ensures durable { Commits writer.old writer.new }
+        requires synced { IsSynced N.bytes N.names.base self.old }
+        requires seen { writer.old.seen ≡ self.old.taken }
+        ensures device { self.new ≡ self.old }
+        ensures history { (backlog.new.history ≡ backlog.old.history) × (backlog.new.writers ≡ backlog.old.writers) }
+        ensures pending { (backlog.new.pending ≡ backlog.old.pending) × (backlog.new.taken ≡ backlog.old.taken) }
+        ensures waits { Waits writer.old writer.new }
+        ensures durable { Commits writer.old writer.new × IsCommitted N.promises writer.new }
     {
         self.publish_synced(backlog);
         backlog.mark_durable(writer);
     }
 
-    /// What a writer was told to be durable is so.
+    /// Does nothing at run time: it states that what a writer knows to be durable is durable on the disk.
     pub fn reveal_durable(&mut self, backlog: &mut Backlog<E, N>, writer: &mut LogWriter<E, N>)
         ensures same { (self.new ≡ self.old) × (backlog.new ≡ backlog.old) × (writer.new ≡ writer.old) }
         ensures history { IsPrefix writer.old.durable backlog.old.history }
         ensures durable { IsPrefix (N.names.base ++ encode N.bytes writer.old.durable) self.old.durable }
     {
-        backlog.marks.catch_up(&mut writer.marker);
-        backlog.marks.catch_up(&mut self.marker);
+        backlog.durable_marks.catch_up(&mut writer.marker);
+        backlog.durable_marks.catch_up(&mut self.marker);
     }
 
-    /// Whatever a crash leaves of the disk, if only it is a beginning of what was written and has all that was synced: it has all that a writer was
-    /// told to be durable, and it is a beginning of the bytes of the history.
+    /// Does nothing at run time: it states the order of the bytes on the disk, in the buffer and in the backlog.
+    pub fn reveal_order(&mut self, backlog: &mut Backlog<E, N>)
+        ensures same { (self.new ≡ self.old) × (backlog.new ≡ backlog.old) }
+        ensures whole { IsWhole N.bytes N.names.base self.old backlog.old }
+    {
+        backlog.taken_marks.catch_up(&mut self.taker);
+    }
+
+    /// Does nothing at run time: it states what a crash leaves.
+    ///
+    /// `left` is what the disk has after a crash: a prefix of what was written, with all that was synced. It has all that
+    /// the writer knows to be durable, and it is a prefix of the log's base with the bytes of the history.
     pub fn reveal_survivors(
         &mut self,
         backlog: &mut Backlog<E, N>,
         writer: &mut LogWriter<E, N>,
         left: &[u8],
     )
-        requires { IsPrefix self.old.durable left.now × IsPrefix left.now self.old.written }
-        ensures told { IsPrefix writer.old.durable backlog.old.history × IsPrefix (N.names.base ++ encode N.bytes writer.old.durable) left.now }
+        requires synced { IsPrefix self.old.durable left.now }
+        requires written { IsPrefix left.now self.old.written }
+        ensures same { (self.new ≡ self.old) × (backlog.new ≡ backlog.old) × (writer.new ≡ writer.old) }
+        ensures history { IsPrefix writer.old.durable backlog.old.history }
+        ensures durable { IsPrefix (N.names.base ++ encode N.bytes writer.old.durable) left.now }
         ensures in_order { IsPrefix left.now (N.names.base ++ encode N.bytes backlog.old.history) }
     {
         let _ = left;
@@ -193,112 +250,27 @@ impl<E, N: Naming<E>, D: Disk> LogDevice<E, N, D> {
         self.reveal_order(backlog);
     }
 
-    /// Tells how the disk stands to the backlog: the bytes that are on the disk, those in the buffer and those that are pending are those of
-    /// the history, in this order and without a gap, where no call on the disk has failed.
-    pub fn reveal_order(&mut self, backlog: &mut Backlog<E, N>)
-        ensures same { (backlog.new ≡ backlog.old) × (self.new.written ≡ self.old.written) × (self.new.durable ≡ self.old.durable) × (self.new.buffer ≡ self.old.buffer) × (self.new.failed ≡ self.old.failed) }
-        ensures whole { IsWhole N.bytes N.names.base self.new backlog.new }
-    {
-        backlog.history.catch_up(&mut self.reader);
-        self.ledger.audit(&mut backlog.share);
-    }
-
-    /// What is so at all times: what is on the disk are the bytes of a beginning of the history, in their order; where no call on the
-    /// disk has failed, all of them but those in the buffer.
+    /// Does nothing at run time: it gives the caller the invariant of devices as a fact.
     pub fn reveal_invariant(&self)
         ensures { IsInOrder N.bytes N.names.base self.now }
     {
         let _ = &self.disk;
     }
 
-    /// The disk, after the device's use.
+    /// Returns the disk.
     pub fn into_disk(self) -> D
         ensures { (D.written result ≡ self.written) × (D.synced result ≡ self.durable) }
     {
         let LogDevice {
             disk,
-            reader: _,
+            taker: _,
             given: _,
-            ledger: _,
             buffer: _,
-            synced: _,
+            marker: _,
             failed: _,
             failure: _,
-            marker: _,
             of: _,
         } = self;
         disk
-    }
-}
-
-/// A device that nobody uses: what it took over is written, unless its disk failed.
-#[derive(Drop)]
-pub struct IdleDevice<E, N: Naming<E>, D: Disk> {
-    pub(crate) device: LogDevice<E, N, D>,
-}
-
-impl<E, N: Naming<E>, D: Disk> Model for IdleDevice<E, N, D> {
-    ghost use Rattle.std.specs.Prelude.{◌≡◌, [], false};
-    ghost use Rattle.durable_log.specs.Views.{DeviceView};
-
-    ghost Value = { DeviceView E };
-
-    ghost view = { λ d. d.device };
-
-    ghost invariant = { λ d. d.device.failed ≡ false → d.device.buffer ≡ [] };
-}
-
-impl<E, N: Naming<E>, D: Disk> IdleDevice<E, N, D> {
-    /// Returns once all that the writer has seen is durable: another may have seen to that while this one waited for the device, or it takes
-    /// over what the backlog has pending, writes it, syncs and tells the backlog. The backlog's lock is held before and after that alone. Where
-    /// the disk fails nothing is told, and from then on nothing more is written.
-    pub fn commit(
-        &mut self,
-        rt: &impl Wait,
-        backlog: &Mutex<Backlog<E, N>>,
-        writer: &mut LogWriter<E, N>,
-    ) -> Result<(), CommitError>
-        ensures writer { Waits writer.old writer.new }
-        ensures ok { OnOk result (Commits writer.old writer.new) }
-        ensures err { OnErr result (writer.new.durable ≡ writer.old.durable) }
-    {
-        if self.device.has_failed() {
-            return Err(CommitError::Disk(self.device.failure));
-        }
-        let settled = self.device.confirm_or_take(&mut *backlog.lock(rt), writer);
-        if settled {
-            return Ok(());
-        }
-        self.device.write()?;
-        self.device.sync()?;
-        self.device.publish(&mut *backlog.lock(rt), writer);
-        Ok(())
-    }
-}
-
-impl<E, N: Naming<E>, D: Disk> LeaderCell<IdleDevice<E, N, D>> {
-    /// Returns once all that the writer has seen is durable: whoever finds the device here takes it out, and writes and syncs for all that came
-    /// so far; the others wait until it is put back, and look again.
-    pub fn commit(
-        &self,
-        rt: &impl Wait,
-        backlog: &Mutex<Backlog<E, N>>,
-        writer: &mut LogWriter<E, N>,
-    ) -> Result<(), CommitError>
-        ensures writer { Waits writer.old writer.new }
-        ensures ok { OnOk result (Commits writer.old writer.new) }
-        ensures err { OnErr result (writer.new.durable ≡ writer.old.durable) }
-    {
-        for _ in rt.forever() {
-            if backlog.lock(rt).confirm(writer) {
-                return Ok(());
-            }
-            if let Some(mut device) = self.take_or_wait(rt) {
-                let done = device.commit(rt, backlog, writer);
-                self.put_back(rt, device);
-                return done;
-            }
-        }
-        Err(CommitError::Closed)
     }
 }

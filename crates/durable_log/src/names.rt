@@ -1,31 +1,26 @@
 //! The names of a durable log, and how its events are recorded.
 
-ghost use Rattle.std.specs.Prelude.{ℕ, List, []};
-ghost use Rattle.durable_log.specs.Names.{Names, unnamed};
+ghost use Rattle.std.specs.Prelude.{ℕ, List, [], Bool, false};
+ghost use Rattle.durable_log.specs.Names.{Names, no_names};
 
-use std::marker::{Brand, PhantomData};
-use std::sync::ledger::Ledger;
+use std::marker::Brand;
 
-/// Which durable log, and the bytes that are recorded of each event. It has no values, and no code.
+/// The names of a durable log, the bytes that are recorded of each event, and whether the log promises that an event is
+/// durable before anybody is told of it.
+///
+/// A type with such a parameter belongs to the log of these names. They exist in the proof alone.
 pub trait Naming<E> {
     ghost names: { Names };
 
     ghost bytes: { E → List ℕ };
+
+    ghost promises: { E → Bool };
 }
 
 impl<E> Naming<E> for Brand {
-    ghost names = { unnamed };
+    ghost names = { no_names };
 
     ghost bytes = { λ _. [] };
-}
 
-/// The ledger of the bytes that a log's disk took over.
-pub struct Given<E, N: Naming<E>> {
-    of: PhantomData<(E, N)>,
-}
-
-impl<E, N: Naming<E>> Ledger for Given<E, N> {
-    ghost name = { N.names.ledger };
-
-    ghost parts = { N.names.parts };
+    ghost promises = { λ _. false };
 }

@@ -1,56 +1,95 @@
-//! What one who uses a durable log has of it.
+//! The writers of the history.
 
-ghost use Rattle.std.specs.Prelude.{◌≡◌, length};
-ghost use Rattle.ghost_log.specs.Entries.{events_by};
+ghost use Rattle.std.specs.Prelude.{◌≡◌, ◌++◌, ◌∷◌, [], length, true, IfSome};
+ghost use Rattle.ghost_log.specs.Entries.{entry, events_by};
+ghost use Rattle.ghost_log.specs.Calls.{Agrees, with_entry};
 ghost use Rattle.durable_log.specs.Encoding.{encode};
+ghost use Rattle.durable_log.specs.Views.{IsCommitted, trace_seeing, trace_with, writer_of};
 
-use crate::mark::DurableMark;
+use crate::mark::HistoryMark;
 use crate::names::Naming;
-use ghost_log::Writer;
+use ghost_log::{Event, SharedLog, Writer};
 use std::marker::{Model, PhantomData};
-use std::snapshot::Snapshot;
 
-/// The right to add events under a number. Contracts see it as a `Trace`.
+/// The right to add events to a durable log under a number.
+///
+/// Contracts see the number, the prefix of the history that the writer has seen, its own events, and a prefix of the
+/// history that it knows to be durable.
 #[derive(Drop)]
 pub struct LogWriter<E, N: Naming<E>> {
     pub(crate) writer: Writer<E>,
-    /// How many bytes the history has that the writer has seen.
-    pub(crate) position: u64,
-    pub(crate) marker: Writer<DurableMark<E>>,
+    /// The number of bytes of what the writer has seen, or `None` if the log did not record.
+    pub(crate) position: Option<u64>,
+    /// Whether an own promised event is not known to be durable.
+    pub(crate) unconfirmed: bool,
+    pub(crate) marker: Writer<HistoryMark<E>>,
     pub(crate) of: PhantomData<N>,
 }
 
 impl<E, N: Naming<E>> Model for LogWriter<E, N> {
-    ghost use Rattle.std.specs.Prelude.{◌≡◌, ◌<◌, [], length};
+    ghost use Rattle.std.specs.Prelude.{◌≡◌, ◌<◌, [], false, length, IfSome};
     ghost use Rattle.durable_log.specs.Encoding.{encode};
-    ghost use Rattle.durable_log.specs.Views.{Trace, last_of};
+    ghost use Rattle.durable_log.specs.Views.{IsCommitted, Trace, last_of};
 
     ghost Value = { Trace E };
 
-    ghost view = { λ r. record { number = r.writer.number; seen = r.writer.seen; own = r.writer.own; durable = last_of [] r.marker.own } };
+    ghost view = { λ w. record { number = w.writer.number; seen = w.writer.seen; own = w.writer.own; durable = last_of [] w.marker.own } };
 
-    ghost invariant = { λ r. (r.writer.name ≡ N.names.history) × (r.marker.name ≡ N.names.marks) × (0 < r.marker.number) × (length (encode N.bytes r.writer.seen) ≡ r.position) };
+    ghost invariant = { λ w. (w.writer.name ≡ N.names.history) × (w.marker.name ≡ N.names.durable_marks) × (0 < w.marker.number) × IfSome w.position (λ n. n ≡ length (encode N.bytes w.writer.seen)) × (w.unconfirmed ≡ false → IsCommitted N.promises (record { number = w.writer.number; seen = w.writer.seen; own = w.writer.own; durable = last_of [] w.marker.own })) };
 }
 
 impl<E, N: Naming<E>> LogWriter<E, N> {
-    /// How many bytes the history has that the writer has seen.
-    pub fn position(&self) -> u64
-        ensures { result ≡ length (encode N.bytes self.now.seen) }
+    /// Returns whether all own promised events are known to be durable.
+    pub fn is_committed(&self) -> bool
+        ensures { result ≡ true → IsCommitted N.promises self.now }
     {
-        self.position
+        !self.unconfirmed
     }
 
-    /// Tells what is so of every writer: what it has seen has its own events, each once and in order. It does nothing.
+    /// Does nothing at run time: it gives the caller the invariant of writers as a fact.
+    ///
+    /// The events under the writer's number in what it has seen are its own events, in order.
     pub fn reveal_invariant(&self)
         ensures { events_by self.now.number self.now.seen ≡ self.now.own }
     {
         self.writer.reveal_invariant();
     }
 
-    /// What it has seen.
-    pub(crate) fn seen(&self) -> Snapshot<Writer<E>>
-        ensures { result.value.seen ≡ self.now.seen }
+    /// Returns the number of bytes of what the writer has seen, or `None` if the log did not record.
+    pub(crate) fn position(&self) -> Option<u64>
+        ensures { IfSome result (λ n. n ≡ length (encode N.bytes self.now.seen)) }
     {
-        Snapshot::of(&self.writer)
+        self.position
+    }
+
+    /// Adds an event to the history, which has then `position` bytes.
+    pub(crate) fn add<D: Event<E>>(
+        &mut self,
+        history: &mut SharedLog<E>,
+        position: Option<u64>,
+        promised: bool,
+    )
+        requires name { history.old.name ≡ N.names.history }
+        requires position { IfSome position (λ n. n ≡ length (encode N.bytes (history.old.entries ++ entry self.old.number D.event ∷ []))) }
+        requires promised { promised ≡ N.promises D.event }
+        ensures agrees { Agrees history.old (writer_of N.names self.old) }
+        ensures history { history.new ≡ with_entry self.old.number D.event history.old }
+        ensures writer { self.new ≡ trace_with D.event history.old.entries self.old }
+    {
+        history.append::<D>(&mut self.writer);
+        self.position = position;
+        self.unconfirmed = self.unconfirmed || promised;
+    }
+
+    /// Shows the writer the whole history, which has `position` bytes.
+    pub(crate) fn catch_up(&mut self, history: &mut SharedLog<E>, position: Option<u64>)
+        requires name { history.old.name ≡ N.names.history }
+        requires position { IfSome position (λ n. n ≡ length (encode N.bytes history.old.entries)) }
+        ensures agrees { Agrees history.old (writer_of N.names self.old) }
+        ensures history { history.new ≡ history.old }
+        ensures writer { self.new ≡ trace_seeing history.old.entries self.old }
+    {
+        history.catch_up(&mut self.writer);
+        self.position = position;
     }
 }

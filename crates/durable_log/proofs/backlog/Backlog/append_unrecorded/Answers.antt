@@ -1,37 +1,26 @@
-use Rattle.std.proofs.Common.{◌≡◌, ℕ, List, [], ◌++◌, ◌∙◌, ap, sym, arith, length}
-use Rattle.std.proofs.lemmas.List.{append-nil}
-use Rattle.durable_log.specs.Encoding.{encode}
+use Rattle.std.proofs.Common.{ap, sym, ◌∙◌}
+use Rattle.durable_log.specs.Invariants.{last_mark}
+use Rattle.durable_log.proofs.Encodings.{backlog_after, position_after, records_nothing}
 use Rattle.durable_log.proofs.Marks.{marked_later}
-use Rattle.durable_log.proofs.Encodings.{backlog_after, length_more}
 use Rattle.durable_log.proofs.backlog.Backlog.append_unrecorded.Goals as goal
+
+pub add-requires-clause-position : goal.add-requires-clause-position
+add-requires-clause-position g c =
+    let f = g.N.Naming.bytes in
+    let b = c.self.inside in
+    position_after f b.history.entries (last_mark b.taken_marks.entries) b.pending b.pending c.args.writer.now.number g.D.Event.event c.position-position.result (records_nothing f b.pending g.D.Event.event c.requires.bytes) c.self.invariant.4 c.position-position.ensures.some
 
 pub invariant_of-self : goal.invariant_of-self
 invariant_of-self g c =
     let f = g.N.Naming.bytes in
-    let event = g.D.Event.event in
-    let inv = c.self.invariant in
     let b = c.self.inside in
-    let at = ap (λ l. l.entries) c.append.ensures.log in
-    let pending : List ℕ = b.pending.items in
-    let none : f event ≡ [] = c.requires in (
-      ap (λ l. l.name) c.append.ensures.log ∙ inv.0,
+    let inv = c.self.invariant in
+    let log = c.add.ensures.history in
+    let at = ap (λ l. l.entries) log in (
+      ap (λ l. l.name) log ∙ inv.0,
       inv.1,
       inv.2,
       inv.3,
-      backlog_after f b.history.entries c.append.new.self.entries b.taken pending pending c.writer.inside.writer.number event at (sym (append-nil pending) ∙ ap (λ w. pending ++ w) (sym none)) (omega (arith, inv.4.short, ap length none)) inv.4,
-      inv.5,
-      inv.6,
-      marked_later f b.history.entries c.append.new.self.entries b.synced b.marks.entries (_, sym at) inv.7,
-    )
-
-pub invariant_of-writer : goal.invariant_of-writer
-invariant_of-writer g c =
-    let f = g.N.Naming.bytes in
-    let event = g.D.Event.event in
-    let w = c.append.ensures.writer in
-    let none : f event ≡ [] = c.requires in (
-      ap (λ l. l.name) w ∙ c.writer.invariant.0,
-      c.writer.invariant.1,
-      c.writer.invariant.2,
-      omega (arith, length_more f c.self.inside.history.entries c.append.new.writer.seen c.writer.inside.writer.number event (ap (λ l. l.seen) w), c.position-position.ensures, ap length none, ap (λ v. length (encode f v.history)) c.self.view_is),
+      backlog_after f b.history.entries c.add.new.history.entries (last_mark b.taken_marks.entries) b.pending b.pending c.args.writer.now.number g.D.Event.event at (records_nothing f b.pending g.D.Event.event c.requires.bytes) inv.4,
+      marked_later f b.history.entries c.add.new.history.entries b.synced b.durable_marks.entries (_, sym at) inv.5,
     )

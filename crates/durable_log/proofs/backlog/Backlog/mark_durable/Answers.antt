@@ -1,42 +1,56 @@
-use Rattle.std.proofs.Common.{◌≡◌, ◌∙◌, ◌≤◌, ◌<◌, ap, sym, subst, length, arith, []}
-use Rattle.ghost_log.specs.Entries.{IsPrefix, events_by}
+use Rattle.std.proofs.Common.{◌≡◌, ◌≤◌, ◌<◌, ap, sym, subst, ◌∙◌, length, arith, [], IfSome}
 use Rattle.durable_log.specs.Encoding.{encode}
-use Rattle.durable_log.specs.Views.{Commits, last_of}
-use Rattle.durable_log.specs.Invariants.{IsBacklog, IsMarked}
-use Rattle.durable_log.proofs.Prefixes.{prefix_self}
-use Rattle.durable_log.proofs.Marks.{marked_by_writer, last_of-snoc}
+use Rattle.durable_log.specs.Views.{Trace, last_of}
+use Rattle.durable_log.specs.Invariants.{IsBacklog, IsMarked, last_mark}
+use Rattle.durable_log.proofs.Encodings.{position_now}
+use Rattle.durable_log.proofs.Marks.{last_of-snoc, marked_by_writer}
+use Rattle.durable_log.proofs.Writers.{commits, committed}
 use Rattle.durable_log.proofs.backlog.Backlog.mark_durable.Goals as goal
 
-pub invariant_of-self-2 : goal.invariant_of-self-2
-invariant_of-self-2 g c =
+pub invariant_of-self : goal.invariant_of-self
+invariant_of-self g c =
     let f = g.N.Naming.bytes in
     let inv = c.self.invariant in
     let b = c.self.inside in
-    let h = c.seen-upto.result.value.seen in
+    let w = c.writer.inside in
     let stays = ap (λ l. l.entries) c.catch_up.ensures.log in
-    let log = c.append_mark.ensures.log in
-    let is : h ≡ c.writer.inside.writer.seen = c.seen-upto.ensures ∙ sym (ap (λ t. t.seen) c.writer.view_is) in
-    let p : IsPrefix h b.history.entries = subst (λ k. IsPrefix k b.history.entries) (sym is) c.catch_up.ensures.agrees.seen in
-    let short : length (encode f h) ≤ b.synced = omega (arith, c.requires, ap (λ k. length (encode f k)) c.seen-upto.ensures, ap (λ v. v.synced) c.self.view_is) in
-    let noted = marked_by_writer f b.history.entries b.synced b.marks.entries c.append_mark.new.log.entries c.writer.inside.marker.number h (ap (λ l. l.entries) log) c.writer.invariant.2 p short inv.7 in (
+    let log = c.mark_seen.ensures.log in
+    let short : length (encode f w.writer.seen) ≤ b.synced = omega (arith, c.requires, ap (λ t. length (encode f t.seen)) c.writer.view_is, ap (λ v. v.synced) c.self.view_is) in
+    let marked = marked_by_writer f b.history.entries b.synced b.durable_marks.entries c.mark_seen.new.marks.entries w.marker.number w.writer.seen (ap (λ l. l.entries) log) c.writer.invariant.2 c.catch_up.ensures.agrees.seen short inv.5 in (
       ap (λ l. l.name) c.catch_up.ensures.log ∙ inv.0,
-      inv.1,
+      ap (λ l. l.name) log ∙ inv.1,
       inv.2,
-      inv.3,
-      subst (λ es. IsBacklog f es b.taken b.pending.items) (sym stays) inv.4,
-      ap (λ l. l.name) log ∙ inv.5,
-      subst (λ l. 0 < l.writers) (sym log) inv.6,
-      subst (λ es. IsMarked f es b.synced c.append_mark.new.log.entries) (sym stays) noted,
+      subst (λ l. 0 < l.writers) (sym log) inv.3,
+      subst (λ es. IsBacklog f es (last_mark b.taken_marks.entries) b.pending) (sym stays) inv.4,
+      subst (λ es. IsMarked f es b.synced c.mark_seen.new.marks.entries) (sym stays) marked,
+    )
+
+pub invariant_of-writer : goal.invariant_of-writer
+invariant_of-writer g c =
+    let f = g.N.Naming.bytes in
+    let b = c.self.inside in
+    let w = c.writer.inside in
+    let caught = c.catch_up.ensures.writer in
+    let marked = c.mark_seen.ensures.writer in
+    let now : Trace _ = record { number = c.catch_up.new.writer.number; seen = c.catch_up.new.writer.seen; own = c.catch_up.new.writer.own; durable = last_of [] c.mark_seen.new.marker.own } in
+    let durable : now.durable ≡ c.args.writer.now.seen = ap (λ m. last_of [] m.own) marked ∙ (last_of-snoc [] w.writer.seen w.marker.own ∙ ap (λ t. t.seen) c.writer.view_is) in
+    let number : now.number ≡ c.args.writer.now.number = ap (λ m. m.number) caught ∙ ap (λ t. t.number) c.writer.view_is in
+    let own : now.own ≡ c.args.writer.now.own = ap (λ m. m.own) caught ∙ ap (λ t. t.own) c.writer.view_is in (
+      ap (λ m. m.name) caught ∙ c.writer.invariant.0,
+      ap (λ m. m.name) marked ∙ c.writer.invariant.1,
+      subst (λ m. 0 < m.number) (sym marked) c.writer.invariant.2,
+      subst (λ es. IfSome c.position-writer-inside.result (λ n. n ≡ length (encode f es))) (ap (λ m. m.seen) (sym caught)) (position_now f b.history.entries (last_mark b.taken_marks.entries) b.pending c.position-writer-inside.result c.self.invariant.4 c.position-writer-inside.ensures.some),
+      λ _. committed g.N.Naming.promises now (commits c.args.writer.now now durable number own c.reveal_invariant.ensures).own,
     )
 
 pub returns-clause-durable : goal.returns-clause-durable
 returns-clause-durable g c =
-    let old = c.args.writer.now in
-    let h = c.seen-upto.result.value.seen in
-    let last : last_of [] c.append_mark.new.writer.own ≡ old.seen =
-    ap (λ w. last_of [] w.own) c.append_mark.ensures.writer ∙ (last_of-snoc [] h c.writer.inside.marker.own ∙ c.seen-upto.ensures) in
-    let number : c.catch_up.new.writer.number ≡ old.number = ap (λ w. w.number) c.catch_up.ensures.writer ∙ ap (λ t. t.number) c.writer.view_is in
-    let own : c.catch_up.new.writer.own ≡ old.own = ap (λ w. w.own) c.catch_up.ensures.writer ∙ ap (λ t. t.own) c.writer.view_is in record {
-      covers = subst (λ k. IsPrefix old.seen k) (sym last) (prefix_self old.seen);
-      own = ap (λ n. events_by n (last_of [] c.append_mark.new.writer.own)) number ∙ (ap (events_by old.number) last ∙ (c.reveal_invariant.ensures ∙ sym own));
-    }
+    let w = c.writer.inside in
+    let caught = c.catch_up.ensures.writer in
+    let marked = c.mark_seen.ensures.writer in
+    let now : Trace _ = record { number = c.catch_up.new.writer.number; seen = c.catch_up.new.writer.seen; own = c.catch_up.new.writer.own; durable = last_of [] c.mark_seen.new.marker.own } in
+    let durable : now.durable ≡ c.args.writer.now.seen = ap (λ m. last_of [] m.own) marked ∙ (last_of-snoc [] w.writer.seen w.marker.own ∙ ap (λ t. t.seen) c.writer.view_is) in
+    let number : now.number ≡ c.args.writer.now.number = ap (λ m. m.number) caught ∙ ap (λ t. t.number) c.writer.view_is in
+    let own : now.own ≡ c.args.writer.now.own = ap (λ m. m.own) caught ∙ ap (λ t. t.own) c.writer.view_is in
+    let done = commits c.args.writer.now now durable number own c.reveal_invariant.ensures in
+    (done, committed g.N.Naming.promises now done.own)

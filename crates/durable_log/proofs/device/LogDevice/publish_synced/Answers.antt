@@ -1,37 +1,31 @@
-use Rattle.std.proofs.Common.{◌≡◌, ◌∙◌, ◌≤◌, ◌<◌, ◌++◌, ◌∷◌, ap, sym, subst, length, arith, []}
-use Rattle.ghost_log.specs.Entries.{IsPrefix, entry, events_by}
+use Rattle.std.proofs.Common.{◌≡◌, ◌<◌, ◌++◌, ◌∷◌, ap, sym, subst, ◌∙◌, []}
+use Rattle.ghost_log.specs.Entries.{IsPrefix, entry}
 use Rattle.durable_log.specs.Encoding.{encode}
 use Rattle.durable_log.specs.Views.{last_of}
-use Rattle.durable_log.specs.Invariants.{IsBacklog, IsMarked, IsDevice, IsSafe, kept_in}
-use Rattle.durable_log.proofs.Prefixes.{prefix_self}
-use Rattle.durable_log.proofs.Devices.{device_sees, safe_upto, safe_more}
-use Rattle.durable_log.proofs.Marks.{marked_by_device, last_of-snoc}
+use Rattle.durable_log.specs.Invariants.{IsBacklog, IsDevice, last_mark}
+use Rattle.durable_log.proofs.Devices.{device_marks}
+use Rattle.durable_log.proofs.Marks.{last_mark_known, last_of-snoc, marked_by_device}
 use Rattle.durable_log.proofs.device.LogDevice.publish_synced.Goals as goal
 
 pub invariant_of-self : goal.invariant_of-self
 invariant_of-self g c =
-    let inv = c.self.invariant in
-    let d = c.self.inside in
-    let b = c.backlog.inside in
     let f = g.N.Naming.bytes in
     let base = g.N.Naming.names.base in
+    let inv = c.self.invariant in
+    let d = c.self.inside in
+    let caught = c.catch_up.ensures.writer in
+    let made = c.mark_last.ensures.writer in
     let written = g.D.Disk.written d.disk in
     let durable = g.D.Disk.synced d.disk in
-    let sees = c.catch_up.ensures.writer in
-    let p = c.catch_up.ensures.agrees.seen in
-    let h = c.of-upto.result.value.seen in
-    let is : h ≡ d.reader.seen = ap (λ w. w.seen) c.of-upto.ensures in
-    let long = subst (λ v. length (encode f v.seen) ≡ v.synced) (sym c.self.view_is) c.requires in
-    let safe = safe_upto f base d.reader.seen d.given d.synced d.buffer.items written durable d.failed d.reader.seen (prefix_self d.reader.seen) (omega arith) inv.4 in
-    let safe' = safe_more f base d.reader.seen b.history.entries durable durable d.reader.seen p (prefix_self durable) safe in
-    let own = c.append_mark.new.writer.own in
-    let last : last_of [] own ≡ d.reader.seen = ap (λ w. last_of [] w.own) c.append_mark.ensures.writer ∙ (last_of-snoc [] h d.marker.own ∙ is) in (
-      ap (λ w. w.name) sees ∙ inv.0,
-      ap (λ w. w.name) c.append_mark.ensures.writer ∙ inv.1,
-      ap (λ w. w.number) c.append_mark.ensures.writer ∙ inv.2,
-      inv.3,
-      subst (λ w. IsDevice f base w.seen d.given d.synced d.buffer.items written durable d.failed) (sym sees) (device_sees f base d.reader.seen b.history.entries d.given d.synced d.buffer.items written durable d.failed p inv.4),
-      subst (λ w. IsSafe f base w.seen durable (last_of [] own)) (sym sees) (subst (λ k. IsSafe f base b.history.entries durable k) (sym last) safe'),
+    let same : last_of [] c.catch_up.new.writer.own ≡ last_of [] d.taker.own = ap (λ w. last_of [] w.own) caught in
+    let last : last_of [] c.mark_last.new.marker.own ≡ last_of [] d.taker.own = ap (λ w. last_of [] w.own) made ∙ (last_of-snoc [] (last_of [] c.catch_up.new.writer.own) d.marker.own ∙ same) in
+    let safe = subst (λ v. IsPrefix (base ++ encode f v.taken) v.durable) (sym c.self.view_is) c.requires in
+    let after = device_marks f base (last_of [] d.taker.own) (last_of [] d.marker.own) (last_of [] c.mark_last.new.marker.own) d.given d.buffer.bytes written durable d.failed last safe inv.4 in (
+      ap (λ w. w.name) caught ∙ inv.0,
+      ap (λ w. w.number) caught ∙ inv.1,
+      ap (λ w. w.name) made ∙ inv.2,
+      ap (λ w. w.number) made ∙ inv.3,
+      subst (λ k. IsDevice f base k (last_of [] c.mark_last.new.marker.own) d.given d.buffer.bytes written durable d.failed) (sym same) after,
     )
 
 pub invariant_of-backlog : goal.invariant_of-backlog
@@ -40,24 +34,21 @@ invariant_of-backlog g c =
     let inv = c.backlog.invariant in
     let d = c.self.inside in
     let b = c.backlog.inside in
-    let marks = b.marks.entries in
-    let first = c.self.invariant.2 in
-    let stays = ap (λ l. l.entries) c.catch_up.ensures.log in
-    let log = c.append_mark.ensures.log in
-    let h = c.of-upto.result.value.seen in
-    let is : h ≡ d.reader.seen = ap (λ w. w.seen) c.of-upto.ensures in
-    let long = subst (λ v. length (encode f v.seen) ≡ v.synced) (sym c.self.view_is) c.requires in
-    let grown : c.append_mark.new.log.entries ≡ marks ++ entry 0 d.reader.seen ∷ [] =
-    ap (λ l. l.entries) log ∙ (ap (λ n. marks ++ entry n h ∷ []) first ∙ ap (λ k. marks ++ entry 0 k ∷ []) is) in
-    let kept : kept_in marks ≡ last_of [] d.marker.own = ap (λ n. last_of [] (events_by n marks)) (sym first) ∙ ap (last_of []) c.append_mark.ensures.agrees.own in
-    let more : IsPrefix (kept_in marks) d.reader.seen = subst (λ k. IsPrefix k d.reader.seen) (sym kept) c.self.invariant.5.of in
-    let noted = marked_by_device f b.history.entries b.synced d.synced marks c.append_mark.new.log.entries d.reader.seen grown c.catch_up.ensures.agrees.seen more long inv.7 in (
-      ap (λ l. l.name) c.catch_up.ensures.log ∙ inv.0,
-      inv.1,
-      inv.2,
-      inv.3,
-      subst (λ es. IsBacklog f es b.taken b.pending.items) (sym stays) inv.4,
-      ap (λ l. l.name) log ∙ inv.5,
-      subst (λ l. 0 < l.writers) (sym log) inv.6,
-      subst (λ es. IsMarked f es d.synced c.append_mark.new.log.entries) (sym stays) noted,
+    let stays = c.catch_up.ensures.log in
+    let log = c.mark_last.ensures.log in
+    let marks = b.durable_marks.entries in
+    let taken = last_of [] d.taker.own in
+    let h = last_of [] c.catch_up.new.writer.own in
+    let same : h ≡ taken = ap (λ w. last_of [] w.own) c.catch_up.ensures.writer in
+    let took = last_mark_known b.taken_marks.entries d.taker.number d.taker.own c.self.invariant.1 c.catch_up.ensures.agrees.own in
+    let kept = last_mark_known marks d.marker.number d.marker.own c.self.invariant.3 c.mark_last.ensures.agrees.own in
+    let grown = ap (λ l. l.entries) log ∙ (ap (λ n. marks ++ entry n h ∷ []) c.self.invariant.3 ∙ ap (λ k. marks ++ entry 0 k ∷ []) same) in
+    let within : IsPrefix taken b.history.entries = subst (λ k. IsPrefix k b.history.entries) took inv.4.of in
+    let more : IsPrefix (last_mark marks) taken = subst (λ k. IsPrefix k taken) (sym kept) c.self.invariant.4.marked_of in (
+      inv.0,
+      ap (λ l. l.name) log ∙ inv.1,
+      ap (λ l. l.name) stays ∙ inv.2,
+      subst (λ l. 0 < l.writers) (sym log) inv.3,
+      subst (λ l. IsBacklog f b.history.entries (last_mark l.entries) b.pending) (sym stays) inv.4,
+      marked_by_device f b.history.entries b.synced d.given marks c.mark_last.new.marks.entries taken grown within more c.self.invariant.4.length_of inv.5,
     )
