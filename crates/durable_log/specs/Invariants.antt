@@ -1,9 +1,12 @@
 -- What holds of the backlog and of the device between calls.
-use Rattle.std.specs.Prelude.{◌≡◌, ℕ, Bool, true, false, List, [], ◌∷◌, ◌++◌, length}
+use Rattle.std.specs.Prelude.{◌≡◌, ◌<◌, ℕ, Bool, Option, IfSome, true, false, List, [], ◌∷◌, ◌++◌, length}
+use Rattle.atomic_table.specs.Seated.{TableId}
+use Rattle.ghost_log.specs.Calls as calls
 use Rattle.ghost_log.specs.declared.view.Entry.{Entry}
 use Rattle.ghost_log.specs.Entries.{IsPrefix, events_by}
 use Rattle.durable_log.specs.Encoding.{encode}
-use Rattle.durable_log.specs.Views.{BacklogView, DeviceView, PendingView, last_of}
+use Rattle.durable_log.specs.Names.{Names}
+use Rattle.durable_log.specs.Views.{BacklogView, DeviceView, IsCommitted, PendingView, Trace, last_of}
 
 -- the last prefix of the history that the device marked
 abbrev pub last_mark : {E : Type 0} → List (Entry (List (Entry E))) → List (Entry E)
@@ -53,3 +56,32 @@ pub record IsWhole {E : Type 0} (bytes : E → List ℕ) (base : List ℕ) (d : 
   pub of : IsPrefix d.taken b.history
   pub in_order : IsPrefix d.written (base ++ encode bytes d.taken)
   pub exact : d.failed ≡ false → b.pending.recording ≡ true → (d.written ++ d.buffer) ++ b.pending.segments.bytes ≡ base ++ encode bytes b.history
+
+-- ---- the invariants of the types
+
+-- a backlog is of its logs, and agrees with its marks
+abbrev pub HoldsBacklog : {E : Type 0} → Names → (E → List ℕ) → calls.Log E → PendingView → ℕ → calls.Log (List (Entry E)) → calls.Log (List (Entry E)) → Type 0
+HoldsBacklog names bytes history pending synced durable taken =
+    (history.name ≡ names.history) × (durable.name ≡ names.durable_marks) × (taken.name ≡ names.taken_marks) × (0 < durable.writers)
+    × IsBacklog bytes history.entries (last_mark taken.entries) pending × IsMarked bytes history.entries synced durable.entries
+
+-- a device is of its logs, with their first markers, and agrees with its disk
+abbrev pub HoldsDevice : {E : Type 0} → Names → (E → List ℕ) → calls.Writer (List (Entry E)) → calls.Writer (List (Entry E)) → ℕ → List ℕ → List ℕ → List ℕ → Bool → Type 0
+HoldsDevice names bytes taker marker given buffer written durable failed =
+    (taker.name ≡ names.taken_marks) × (taker.number ≡ 0) × (marker.name ≡ names.durable_marks) × (marker.number ≡ 0)
+    × IsDevice bytes names.base (last_of [] taker.own) (last_of [] marker.own) given buffer written durable failed
+
+-- the markers of a device that is not opened are the first ones of its logs, and have marked nothing
+abbrev pub HoldsUnopened : {E : Type 0} → Names → calls.Writer (List (Entry E)) → calls.Writer (List (Entry E)) → Type 0
+HoldsUnopened names marker taker =
+    (marker.name ≡ names.durable_marks) × (marker.number ≡ 0) × (marker.own ≡ []) × (taker.name ≡ names.taken_marks) × (taker.number ≡ 0) × (taker.own ≡ [])
+
+-- what a writer and its marker know
+abbrev pub trace_of : {E : Type 0} → calls.Writer E → calls.Writer (List (Entry E)) → Trace E
+trace_of writer marker = record { number = writer.number; seen = writer.seen; own = writer.own; durable = last_of [] marker.own }
+
+-- a writer is of its logs, its position is that of what it has seen, and it is committed unless it is marked as unconfirmed
+abbrev pub HoldsWriter : {E : Type 0} → Names → (E → List ℕ) → (E → Bool) → calls.Writer E → Option ℕ → Bool → calls.Writer (List (Entry E)) → Type 0
+HoldsWriter names bytes promises writer position unconfirmed marker =
+    (writer.name ≡ names.history) × (marker.name ≡ names.durable_marks) × (0 < marker.number)
+    × IfSome position (λ n. n ≡ length (encode bytes writer.seen)) × (unconfirmed ≡ false → IsCommitted promises (trace_of writer marker))

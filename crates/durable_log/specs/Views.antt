@@ -1,5 +1,6 @@
 -- Writers, the backlog and the device, as contracts see them, and how calls change them.
 use Rattle.std.specs.Prelude.{◌≡◌, ℕ, ◌+◌, ◌<◌, ◌≤◌, ◌^◌, Bool, true, false, List, [], ◌∷◌, ◌++◌, All, length}
+use Rattle.atomic_table.specs.Seated.{TableId}
 use Rattle.ghost_log.specs.declared.view.Entry.{Entry}
 use Rattle.ghost_log.specs.Entries.{IsPrefix, entry, events_by}
 use Rattle.ghost_log.specs.Calls as calls
@@ -24,6 +25,10 @@ pub record PendingView : Type 0 where
   pub recording : Bool
   pub position : ℕ
   pub segments : SegmentsView
+
+-- the pending bytes are counted, they are among the bytes of the history, and there are none if the log does not record
+abbrev pub HoldsPending : Bool → ℕ → ℕ → List ℕ → Type 0
+HoldsPending recording position count bytes = (count ≡ length bytes) × (count ≤ position) × (recording ≡ false → bytes ≡ [])
 
 -- the backlog: the history, the number of its writers, the prefix of it that the device took over, the bytes of the rest, and the number of durable bytes
 pub record BacklogView (E : Type 0) : Type 0 where
@@ -60,7 +65,51 @@ pub record Records (old : PendingView) (bytes : List ℕ) (new : PendingView) : 
   pub bytes_after : new.segments.bytes ≡ old.segments.bytes ++ bytes
   pub position : new.position ≡ old.position + length bytes
 
+-- the log recorded these bytes, or it does not record
+abbrev pub RecordsIfOpen : PendingView → List ℕ → PendingView → Type 0
+RecordsIfOpen old bytes new = new.recording ≡ true → Records old bytes new
+
 -- ---- what calls do
+
+-- the pending bytes are unchanged, and the device took over nothing
+abbrev pub KeepsPending : {E : Type 0} → BacklogView E → BacklogView E → Type 0
+KeepsPending old new = (new.pending ≡ old.pending) × (new.taken ≡ old.taken)
+
+-- the log records if it did
+abbrev pub StaysOpen : {E : Type 0} → BacklogView E → BacklogView E → Type 0
+StaysOpen old new = new.pending.recording ≡ old.pending.recording
+
+-- a new ghost log of this name
+abbrev pub IsNewLog : {E : Type 0} → calls.Log E → TableId → Type 0
+IsNewLog log name = (log.name ≡ name) × (log.entries ≡ []) × (log.writers ≡ 0)
+
+-- no event and no writer was added
+abbrev pub KeepsHistory : {E : Type 0} → BacklogView E → BacklogView E → Type 0
+KeepsHistory old new = (new.history ≡ old.history) × (new.writers ≡ old.writers)
+
+-- the device took over nothing, and no more bytes became durable
+abbrev pub KeepsProgress : {E : Type 0} → BacklogView E → BacklogView E → Type 0
+KeepsProgress old new = (new.taken ≡ old.taken) × (new.synced ≡ old.synced)
+
+-- nothing was recorded, and the log records if it did
+abbrev pub KeepsBytes : PendingView → PendingView → Type 0
+KeepsBytes old new = (new.recording ≡ old.recording) × (new.position ≡ old.position) × (new.segments.bytes ≡ old.segments.bytes)
+
+-- one event was added at the end
+abbrev pub AddsEvent : {E : Type 0} → ℕ → E → BacklogView E → BacklogView E → Type 0
+AddsEvent number event old new = (new.history ≡ old.history ++ entry number event ∷ []) × (new.writers ≡ old.writers)
+
+-- all pending bytes of a history moved into the device's buffer
+abbrev pub TakesAll : {E : Type 0} → BacklogView E → DeviceView E → BacklogView E → Type 0
+TakesAll old device new = (device.taken ≡ old.history) × (device.buffer ≡ old.pending.segments.bytes) × (new.taken ≡ old.history) × (new.pending.segments.bytes ≡ [])
+
+-- the disk has the same bytes
+abbrev pub KeepsDisk : {E : Type 0} → DeviceView E → DeviceView E → Type 0
+KeepsDisk old new = (new.written ≡ old.written) × (new.durable ≡ old.durable)
+
+-- no call on the disk has failed, and nothing is left to write
+abbrev pub IsReady : {E : Type 0} → DeviceView E → Type 0
+IsReady d = (d.failed ≡ false) × (d.buffer ≡ [])
 
 -- the last of the lists, or the first list if there is no other
 abbrev pub last_of : {A : Type 0} → List A → List (List A) → List A
@@ -103,3 +152,7 @@ pub record IsCommitted {E : Type 0} (promises : E → Bool) (t : Trace E) : Type
 -- all that the device took over is durable
 abbrev pub IsSynced : {E : Type 0} → (E → List ℕ) → List ℕ → DeviceView E → Type 0
 IsSynced bytes base d = IsPrefix (base ++ encode bytes d.taken) d.durable
+
+-- all that the writer had seen is durable, and it is committed
+abbrev pub Confirms : {E : Type 0} → (E → Bool) → Trace E → Trace E → Type 0
+Confirms promises old new = Commits old new × IsCommitted promises new

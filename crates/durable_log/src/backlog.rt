@@ -1,10 +1,9 @@
 //! The history, with the bytes of it that the device has not taken over.
 
-ghost use Rattle.std.specs.Prelude.{◌≡◌, ◌+◌, ◌++◌, ◌∷◌, ◌≤◌, [], length, true, false, IfSome, OnOk};
-ghost use Rattle.ghost_log.specs.Entries.{entry};
+ghost use Rattle.std.specs.Prelude.{◌≡◌, ◌+◌, ◌≤◌, [], length, true, false, OnOk};
 ghost use Rattle.ghost_log.specs.Calls.{Agrees};
 ghost use Rattle.durable_log.specs.Encoding.{encode};
-ghost use Rattle.durable_log.specs.Views.{Commits, HasRoom, HasSlot, IsCommitted, Records, Waits, log_of, trace_seeing, trace_with, writer_of};
+ghost use Rattle.durable_log.specs.Views.{AddsEvent, Confirms, HasRoom, HasSlot, IsNewLog, KeepsBytes, KeepsHistory, KeepsProgress, RecordsIfOpen, StaysOpen, Waits, log_of, trace_seeing, trace_with, writer_of};
 
 use crate::mark::{HistoryMark, mark_seen};
 use crate::names::Naming;
@@ -35,15 +34,14 @@ pub struct Backlog<E, N: Naming<E>> {
 }
 
 impl<E, N: Naming<E>> Model for Backlog<E, N> {
-    ghost use Rattle.std.specs.Prelude.{◌≡◌, ◌<◌};
-    ghost use Rattle.durable_log.specs.Invariants.{IsBacklog, IsMarked, last_mark};
+    ghost use Rattle.durable_log.specs.Invariants.{HoldsBacklog, last_mark};
     ghost use Rattle.durable_log.specs.Views.{BacklogView};
 
     ghost Value = { BacklogView E };
 
     ghost view = { λ b. record { history = b.history.entries; writers = b.history.writers; taken = last_mark b.taken_marks.entries; pending = b.pending; synced = b.synced } };
 
-    ghost invariant = { λ b. (b.history.name ≡ N.names.history) × (b.durable_marks.name ≡ N.names.durable_marks) × (b.taken_marks.name ≡ N.names.taken_marks) × (0 < b.durable_marks.writers) × IsBacklog N.bytes b.history.entries (last_mark b.taken_marks.entries) b.pending × IsMarked N.bytes b.history.entries b.synced b.durable_marks.entries };
+    ghost invariant = { λ b. HoldsBacklog N.names N.bytes b.history b.pending b.synced b.durable_marks b.taken_marks };
 }
 
 impl<E, N: Naming<E>> Backlog<E, N> {
@@ -57,8 +55,8 @@ impl<E, N: Naming<E>> Backlog<E, N> {
         mut taken_marks: SharedLog<HistoryMark<E>>,
     ) -> (Backlog<E, N>, UnopenedDevice<E, N>)
         requires history { history.name ≡ N.names.history }
-        requires durable { (durable_marks.name ≡ N.names.durable_marks) × (durable_marks.entries ≡ []) × (durable_marks.writers ≡ 0) }
-        requires taken { (taken_marks.name ≡ N.names.taken_marks) × (taken_marks.entries ≡ []) × (taken_marks.writers ≡ 0) }
+        requires durable { IsNewLog durable_marks N.names.durable_marks }
+        requires taken { IsNewLog taken_marks N.names.taken_marks }
         ensures history { (result.0).history ≡ history.entries }
         ensures writers { (result.0).writers ≡ history.writers }
         ensures closed { (result.0).pending.recording ≡ false }
@@ -120,11 +118,11 @@ impl<E, N: Naming<E>> Backlog<E, N> {
     ///
     /// `NoRoom` if memory runs out, or if the history would have 2^64 bytes.
     pub fn reserve(&mut self, bytes: usize) -> Result<(), NoRoom>
-        ensures history { (self.new.history ≡ self.old.history) × (self.new.writers ≡ self.old.writers) }
-        ensures device { (self.new.taken ≡ self.old.taken) × (self.new.synced ≡ self.old.synced) }
-        ensures recording { self.new.pending.recording ≡ self.old.pending.recording }
-        ensures bytes { self.new.pending.segments.bytes ≡ self.old.pending.segments.bytes }
-        ensures ok { OnOk result (self.old.pending.recording ≡ true → HasRoom self.new.pending bytes × HasSlot self.new.pending bytes) }
+        ensures history { KeepsHistory self.old self.new }
+        ensures device { KeepsProgress self.old self.new }
+        ensures bytes { KeepsBytes self.old.pending self.new.pending }
+        ensures room { OnOk result (self.old.pending.recording ≡ true → HasRoom self.new.pending bytes) }
+        ensures slot { OnOk result (self.old.pending.recording ≡ true → HasSlot self.new.pending bytes) }
     {
         self.pending.reserve(bytes)
     }
@@ -139,12 +137,11 @@ impl<E, N: Naming<E>> Backlog<E, N> {
         requires bytes { bytes.now ≡ N.bytes D.event }
         requires promised { promised ≡ N.promises D.event }
         ensures agrees { Agrees (log_of N.names self.old) (writer_of N.names writer.old) }
-        ensures history { self.new.history ≡ self.old.history ++ entry writer.old.number D.event ∷ [] }
-        ensures writers { self.new.writers ≡ self.old.writers }
-        ensures device { (self.new.taken ≡ self.old.taken) × (self.new.synced ≡ self.old.synced) }
+        ensures history { AddsEvent writer.old.number D.event self.old self.new }
+        ensures device { KeepsProgress self.old self.new }
         ensures writer { writer.new ≡ trace_with D.event self.old.history writer.old }
-        ensures recorded { self.new.pending.recording ≡ true → Records self.old.pending bytes.now self.new.pending }
-        ensures room { HasRoom self.old.pending (length bytes.now) → self.new.pending.recording ≡ self.old.pending.recording }
+        ensures bytes { RecordsIfOpen self.old.pending bytes.now self.new.pending }
+        ensures room { HasRoom self.old.pending (length bytes.now) → StaysOpen self.old self.new }
     {
         self.pending.append(bytes);
         let position = self.pending.position();
@@ -161,12 +158,11 @@ impl<E, N: Naming<E>> Backlog<E, N> {
         requires bytes { bytes.items ≡ N.bytes D.event }
         requires promised { promised ≡ N.promises D.event }
         ensures agrees { Agrees (log_of N.names self.old) (writer_of N.names writer.old) }
-        ensures history { self.new.history ≡ self.old.history ++ entry writer.old.number D.event ∷ [] }
-        ensures writers { self.new.writers ≡ self.old.writers }
-        ensures device { (self.new.taken ≡ self.old.taken) × (self.new.synced ≡ self.old.synced) }
+        ensures history { AddsEvent writer.old.number D.event self.old self.new }
+        ensures device { KeepsProgress self.old self.new }
         ensures writer { writer.new ≡ trace_with D.event self.old.history writer.old }
-        ensures recorded { self.new.pending.recording ≡ true → Records self.old.pending bytes.items self.new.pending }
-        ensures room { HasSlot self.old.pending (length bytes.items) → self.new.pending.recording ≡ self.old.pending.recording }
+        ensures bytes { RecordsIfOpen self.old.pending bytes.items self.new.pending }
+        ensures room { HasSlot self.old.pending (length bytes.items) → StaysOpen self.old self.new }
     {
         self.pending.append_owned(bytes);
         let position = self.pending.position();
@@ -178,9 +174,9 @@ impl<E, N: Naming<E>> Backlog<E, N> {
         requires bytes { N.bytes D.event ≡ [] }
         requires promised { promised ≡ N.promises D.event }
         ensures agrees { Agrees (log_of N.names self.old) (writer_of N.names writer.old) }
-        ensures history { self.new.history ≡ self.old.history ++ entry writer.old.number D.event ∷ [] }
-        ensures same { (self.new.writers ≡ self.old.writers) × (self.new.pending ≡ self.old.pending) }
-        ensures device { (self.new.taken ≡ self.old.taken) × (self.new.synced ≡ self.old.synced) }
+        ensures history { AddsEvent writer.old.number D.event self.old self.new }
+        ensures same { self.new.pending ≡ self.old.pending }
+        ensures device { KeepsProgress self.old self.new }
         ensures writer { writer.new ≡ trace_with D.event self.old.history writer.old }
     {
         let position = self.pending.position();
@@ -201,7 +197,7 @@ impl<E, N: Naming<E>> Backlog<E, N> {
     pub(crate) fn mark_durable(&mut self, writer: &mut LogWriter<E, N>)
         requires { length (encode N.bytes writer.old.seen) ≤ self.old.synced }
         ensures waits { Waits writer.old writer.new }
-        ensures durable { Commits writer.old writer.new × IsCommitted N.promises writer.new }
+        ensures durable { Confirms N.promises writer.old writer.new }
         ensures same { self.new ≡ self.old }
     {
         writer.reveal_invariant();
@@ -214,7 +210,7 @@ impl<E, N: Naming<E>> Backlog<E, N> {
     /// Returns whether all that the writer has seen is durable. If so, the writer then knows it.
     pub fn confirm(&mut self, writer: &mut LogWriter<E, N>) -> bool
         ensures waits { Waits writer.old writer.new }
-        ensures durable { result ≡ true → Commits writer.old writer.new × IsCommitted N.promises writer.new }
+        ensures durable { result ≡ true → Confirms N.promises writer.old writer.new }
         ensures same { self.new ≡ self.old }
         ensures kept { result ≡ false → writer.new ≡ writer.old }
     {
@@ -230,8 +226,8 @@ impl<E, N: Naming<E>> Backlog<E, N> {
 
     /// Ends the recording: no more of the history becomes durable, and commits fail.
     pub fn close(&mut self)
-        ensures history { (self.new.history ≡ self.old.history) × (self.new.writers ≡ self.old.writers) }
-        ensures device { (self.new.taken ≡ self.old.taken) × (self.new.synced ≡ self.old.synced) }
+        ensures history { KeepsHistory self.old self.new }
+        ensures device { KeepsProgress self.old self.new }
         ensures closed { self.new.pending.recording ≡ false }
     {
         self.pending.close();

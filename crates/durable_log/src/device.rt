@@ -4,7 +4,7 @@ ghost use Rattle.std.specs.Prelude.{◌≡◌, ◌++◌, [], length, true, false
 ghost use Rattle.ghost_log.specs.Entries.{IsPrefix};
 ghost use Rattle.durable_log.specs.Encoding.{encode};
 ghost use Rattle.durable_log.specs.Invariants.{IsInOrder, IsWhole};
-ghost use Rattle.durable_log.specs.Views.{Commits, IsCommitted, IsSynced, Waits};
+ghost use Rattle.durable_log.specs.Views.{Confirms, IsReady, IsSynced, KeepsDisk, KeepsHistory, KeepsPending, StaysOpen, TakesAll, Waits};
 
 use crate::backlog::Backlog;
 use crate::commit_error::CommitError;
@@ -39,15 +39,15 @@ pub struct LogDevice<E, N: Naming<E>, D: Disk> {
 }
 
 impl<E, N: Naming<E>, D: Disk> Model for LogDevice<E, N, D> {
-    ghost use Rattle.std.specs.Prelude.{◌≡◌, []};
-    ghost use Rattle.durable_log.specs.Invariants.{IsDevice};
+    ghost use Rattle.std.specs.Prelude.{[]};
+    ghost use Rattle.durable_log.specs.Invariants.{HoldsDevice};
     ghost use Rattle.durable_log.specs.Views.{DeviceView, last_of};
 
     ghost Value = { DeviceView E };
 
     ghost view = { λ d. record { taken = last_of [] d.taker.own; buffer = d.buffer.bytes; written = D.written d.disk; durable = D.synced d.disk; failed = d.failed } };
 
-    ghost invariant = { λ d. (d.taker.name ≡ N.names.taken_marks) × (d.taker.number ≡ 0) × (d.marker.name ≡ N.names.durable_marks) × (d.marker.number ≡ 0) × IsDevice N.bytes N.names.base (last_of [] d.taker.own) (last_of [] d.marker.own) d.given d.buffer.bytes (D.written d.disk) (D.synced d.disk) d.failed };
+    ghost invariant = { λ d. HoldsDevice N.names N.bytes d.taker d.marker d.given d.buffer.bytes (D.written d.disk) (D.synced d.disk) d.failed };
 }
 
 impl<E, N: Naming<E>, D: Disk> LogDevice<E, N, D> {
@@ -72,13 +72,13 @@ impl<E, N: Naming<E>, D: Disk> LogDevice<E, N, D> {
     ///
     /// Constant: no byte is copied.
     pub fn take_over(&mut self, backlog: &mut Backlog<E, N>) -> bool
-        requires { (self.old.failed ≡ false) × (self.old.buffer ≡ []) }
+        requires { IsReady self.old }
         ensures recording { result ≡ backlog.old.pending.recording }
-        ensures history { (backlog.new.history ≡ backlog.old.history) × (backlog.new.writers ≡ backlog.old.writers) }
-        ensures synced { (backlog.new.pending.recording ≡ backlog.old.pending.recording) × (backlog.new.synced ≡ backlog.old.synced) }
-        ensures disk { (self.new.written ≡ self.old.written) × (self.new.durable ≡ self.old.durable) × (self.new.failed ≡ false) }
-        ensures taken { result ≡ true → (self.new.taken ≡ backlog.old.history) × (self.new.buffer ≡ backlog.old.pending.segments.bytes) }
-        ensures rest { result ≡ true → (backlog.new.taken ≡ backlog.old.history) × (backlog.new.pending.segments.bytes ≡ []) }
+        ensures history { KeepsHistory backlog.old backlog.new }
+        ensures open { StaysOpen backlog.old backlog.new }
+        ensures synced { backlog.new.synced ≡ backlog.old.synced }
+        ensures disk { KeepsDisk self.old self.new × (self.new.failed ≡ false) }
+        ensures taken { result ≡ true → TakesAll backlog.old self.new backlog.new }
         ensures kept { result ≡ false → (self.new ≡ self.old) × (backlog.new ≡ backlog.old) }
     {
         let Some(position) = backlog.pending.position() else {
@@ -101,12 +101,14 @@ impl<E, N: Naming<E>, D: Disk> LogDevice<E, N, D> {
         backlog: &mut Backlog<E, N>,
         writer: &mut LogWriter<E, N>,
     ) -> Result<bool, CommitError>
-        requires { (self.old.failed ≡ false) × (self.old.buffer ≡ []) }
+        requires { IsReady self.old }
         ensures waits { Waits writer.old writer.new }
         ensures sound { self.new.failed ≡ false }
-        ensures history { (backlog.new.history ≡ backlog.old.history) × (backlog.new.writers ≡ backlog.old.writers) }
-        ensures confirmed { IfOk result (λ done. done ≡ true → Commits writer.old writer.new × IsCommitted N.promises writer.new × (self.new.buffer ≡ [])) }
-        ensures taken { IfOk result (λ done. done ≡ false → (writer.new.durable ≡ writer.old.durable) × (self.new.taken ≡ writer.new.seen)) }
+        ensures history { KeepsHistory backlog.old backlog.new }
+        ensures confirmed { IfOk result (λ done. done ≡ true → Confirms N.promises writer.old writer.new) }
+        ensures idle { IfOk result (λ done. done ≡ true → self.new.buffer ≡ []) }
+        ensures taken { IfOk result (λ done. done ≡ false → self.new.taken ≡ writer.new.seen) }
+        ensures durable { IfOk result (λ done. done ≡ false → writer.new.durable ≡ writer.old.durable) }
         ensures err { OnErr result ((writer.new ≡ writer.old) × (self.new ≡ self.old)) }
     {
         if backlog.confirm(writer) {
@@ -138,7 +140,7 @@ impl<E, N: Naming<E>, D: Disk> LogDevice<E, N, D> {
             }
             Err(error) => {
                 self.buffer.clear();
-                self.failed = true;
+                self.failed = true; // The disk may have any prefix of the buffer.
                 self.failure = error;
                 Err(error)
             }
@@ -151,7 +153,7 @@ impl<E, N: Naming<E>, D: Disk> LogDevice<E, N, D> {
     ///
     /// That of the disk. Nothing is written after it.
     pub fn sync(&mut self) -> Result<(), DiskError>
-        requires { (self.old.failed ≡ false) × (self.old.buffer ≡ []) }
+        requires { IsReady self.old }
         ensures same { (self.new.taken ≡ self.old.taken) × (self.new.written ≡ self.old.written) }
         ensures buffer { self.new.buffer ≡ [] }
         ensures ok { OnOk result ((self.new.failed ≡ false) × IsSynced N.bytes N.names.base self.new) }
@@ -160,7 +162,7 @@ impl<E, N: Naming<E>, D: Disk> LogDevice<E, N, D> {
         match self.disk.sync() {
             Ok(()) => Ok(()),
             Err(error) => {
-                self.failed = true;
+                self.failed = true; // The disk may have lost what was written since the last sync.
                 self.failure = error;
                 Err(error)
             }
@@ -187,8 +189,8 @@ impl<E, N: Naming<E>, D: Disk> LogDevice<E, N, D> {
     fn publish_synced(&mut self, backlog: &mut Backlog<E, N>)
         requires { IsSynced N.bytes N.names.base self.old }
         ensures device { self.new ≡ self.old }
-        ensures history { (backlog.new.history ≡ backlog.old.history) × (backlog.new.writers ≡ backlog.old.writers) }
-        ensures pending { (backlog.new.pending ≡ backlog.old.pending) × (backlog.new.taken ≡ backlog.old.taken) }
+        ensures history { KeepsHistory backlog.old backlog.new }
+        ensures pending { KeepsPending backlog.old backlog.new }
         ensures synced { backlog.new.synced ≡ length (encode N.bytes self.old.taken) }
     {
         backlog.taken_marks.catch_up(&mut self.taker);
@@ -201,10 +203,10 @@ impl<E, N: Naming<E>, D: Disk> LogDevice<E, N, D> {
         requires synced { IsSynced N.bytes N.names.base self.old }
         requires seen { writer.old.seen ≡ self.old.taken }
         ensures device { self.new ≡ self.old }
-        ensures history { (backlog.new.history ≡ backlog.old.history) × (backlog.new.writers ≡ backlog.old.writers) }
-        ensures pending { (backlog.new.pending ≡ backlog.old.pending) × (backlog.new.taken ≡ backlog.old.taken) }
+        ensures history { KeepsHistory backlog.old backlog.new }
+        ensures pending { KeepsPending backlog.old backlog.new }
         ensures waits { Waits writer.old writer.new }
-        ensures durable { Commits writer.old writer.new × IsCommitted N.promises writer.new }
+        ensures durable { Confirms N.promises writer.old writer.new }
     {
         self.publish_synced(backlog);
         backlog.mark_durable(writer);

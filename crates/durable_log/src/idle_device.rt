@@ -2,7 +2,7 @@
 
 ghost use Rattle.std.specs.Prelude.{◌≡◌, [], false, OnOk, OnErr};
 ghost use Rattle.ghost_log.specs.Entries.{IsPrefix};
-ghost use Rattle.durable_log.specs.Views.{Commits, IsCommitted, Waits};
+ghost use Rattle.durable_log.specs.Views.{Confirms, Waits};
 
 use crate::backlog::Backlog;
 use crate::commit_error::CommitError;
@@ -63,7 +63,7 @@ impl<E, N: Naming<E>, D: Disk> IdleDevice<E, N, D> {
         writer: &mut LogWriter<E, N>,
     ) -> Result<(), CommitError>
         ensures waits { Waits writer.old writer.new }
-        ensures ok { OnOk result (Commits writer.old writer.new × IsCommitted N.promises writer.new) }
+        ensures ok { OnOk result (Confirms N.promises writer.old writer.new) }
         ensures err { OnErr result (writer.new.durable ≡ writer.old.durable) }
     {
         if let Err(error) = self.device.check() {
@@ -127,7 +127,7 @@ impl<E, N: Naming<E>, D: Disk> LeaderCell<IdleDevice<E, N, D>> {
         writer: &mut LogWriter<E, N>,
     ) -> Result<(), CommitError>
         ensures waits { Waits writer.old writer.new }
-        ensures ok { OnOk result (Commits writer.old writer.new × IsCommitted N.promises writer.new) }
+        ensures ok { OnOk result (Confirms N.promises writer.old writer.new) }
         ensures err { OnErr result (writer.new.durable ≡ writer.old.durable) }
     {
         for _ in rt.forever() {
@@ -151,11 +151,12 @@ impl<E, N: Naming<E>, D: Disk> LeaderCell<IdleDevice<E, N, D>> {
     /// - `Closed`: the log does not record.
     pub fn flush(&self, rt: &impl Wait, backlog: &Mutex<Backlog<E, N>>) -> Result<(), CommitError> {
         for _ in rt.forever() {
-            if let Some(mut device) = self.take_or_wait(rt) {
-                let done = device.flush(rt, backlog);
-                self.put_back(rt, device);
-                return done;
-            }
+            let Some(mut device) = self.take_or_wait(rt) else {
+                continue;
+            };
+            let done = device.flush(rt, backlog);
+            self.put_back(rt, device);
+            return done;
         }
         Err(CommitError::Closed)
     }

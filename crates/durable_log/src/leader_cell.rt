@@ -1,71 +1,81 @@
-//! Where threads take something out and put it back: a device, which is used while no lock is held.
+//! A cell from which one thread at a time takes a value out, to use it while no lock is held.
 
 use std::sync::{Condvar, Mutex, Wait};
 use std::thread;
 
-/// What was put there, unless someone has taken it out.
+/// How often a leader yields before it uses the value, if other threads have waited.
+const YIELDS: u32 = 20;
+
+/// The value, unless a thread has taken it out.
 #[derive(Drop)]
 struct Place<T: Drop> {
-    content: Option<T>,
-    /// How often it was put back.
+    value: Option<T>,
+    /// How often the value was put back.
     rounds: u64,
-    /// Whether others have waited since it was last taken out.
+    /// Whether other threads have waited since it was last taken out.
     waited: bool,
 }
 
-/// Where threads take something out and put it back. Its own lock is held for that alone.
+/// A cell from which one thread at a time, the leader, takes the value out. The other threads wait until it is put back.
+///
+/// The lock of the cell is held only to take the value out, to put it back and to begin to wait.
 #[derive(Drop)]
 pub struct LeaderCell<T: Drop> {
     place: Mutex<Place<T>>,
-    back: Condvar,
+    put_back: Condvar,
 }
 
 impl<T: Drop> LeaderCell<T> {
-    pub fn new(content: T) -> LeaderCell<T> {
+    /// Creates a cell with this value.
+    pub fn new(value: T) -> LeaderCell<T> {
         LeaderCell {
             place: Mutex::new(Place {
-                content: Some(content),
+                value: Some(value),
                 rounds: 0,
                 waited: false,
             }),
-            back: Condvar::new(),
+            put_back: Condvar::new(),
         }
     }
 
-    /// Takes it out; where another has it, waits until that one has put it back, and takes nothing. Where others have waited it rests a moment
-    /// with what it took, so that those who were just served can come with more: else they and those who waited take turns, half of them each.
+    /// Takes the value out. If another thread has it, waits until it is put back, and returns `None`.
+    ///
+    /// If other threads have waited, the new leader first yields a few times, so that the threads of the last round can
+    /// take part in this one. Otherwise those threads and the waiting ones take turns, half of them in each round.
     pub fn take_or_wait(&self, rt: &impl Wait) -> Option<T> {
         let mut place = self.place.lock(rt);
-        let content = place.content.take();
-        if content.is_some() {
+        let value = place.value.take();
+        if value.is_some() {
             let waited = place.waited;
             place.waited = false;
             drop(place);
             if waited {
-                for _ in 0..20u32 {
+                for _ in 0..YIELDS {
                     thread::yield_now();
                 }
             }
-            return content;
+            return value;
         }
         place.waited = true;
         let rounds = place.rounds;
-        let _ = self.back.wait_while(rt, place, |now| now.rounds == rounds);
+        let _ = self
+            .put_back
+            .wait_while(rt, place, |now| now.rounds == rounds);
         None
     }
 
-    /// Puts it back, and wakes all that wait.
-    pub fn put_back(&self, rt: &impl Wait, content: T) {
+    /// Puts the value back, and wakes all waiting threads.
+    pub fn put_back(&self, rt: &impl Wait, value: T) {
         let mut place = self.place.lock(rt);
-        place.content = Some(content);
+        place.value = Some(value);
         place.rounds = place.rounds.wrapping_add(1);
         drop(place);
-        self.back.notify_all();
+        self.put_back.notify_all();
     }
 
-    /// What is there, unless whoever took it out never put it back.
+    /// Returns the value, unless the thread that took it out has not put it back.
     pub fn into_inner(self) -> Option<T> {
-        let LeaderCell { place, back: _ } = self;
-        place.into_inner().content
+        let LeaderCell { place, put_back: _ } = self;
+        place.into_inner().value
     }
 }

@@ -2,6 +2,7 @@
 
 ghost use Rattle.std.specs.Prelude.{◌≡◌, ◌++◌, [], true, false, length};
 ghost use Rattle.durable_log.specs.Encoding.{encode};
+ghost use Rattle.durable_log.specs.Views.{IsReady, KeepsHistory};
 
 use crate::backlog::Backlog;
 use crate::device::LogDevice;
@@ -22,13 +23,13 @@ pub struct UnopenedDevice<E, N: Naming<E>> {
 }
 
 impl<E, N: Naming<E>> Model for UnopenedDevice<E, N> {
-    ghost use Rattle.std.specs.Prelude.{◌≡◌, []};
+    ghost use Rattle.durable_log.specs.Invariants.{HoldsUnopened};
 
     ghost Value = { Unit {0} };
 
     ghost view = { λ _. tt };
 
-    ghost invariant = { λ d. (d.marker.name ≡ N.names.durable_marks) × (d.marker.number ≡ 0) × (d.marker.own ≡ []) × (d.taker.name ≡ N.names.taken_marks) × (d.taker.number ≡ 0) × (d.taker.own ≡ []) };
+    ghost invariant = { λ d. HoldsUnopened N.names d.marker d.taker };
 }
 
 impl<E, N: Naming<E>> UnopenedDevice<E, N> {
@@ -45,11 +46,13 @@ impl<E, N: Naming<E>> UnopenedDevice<E, N> {
         requires written { D.written disk ≡ N.names.base ++ encode N.bytes backlog.old.history }
         requires synced { D.synced disk ≡ N.names.base ++ encode N.bytes backlog.old.history }
         requires position { length (encode N.bytes backlog.old.history) ≡ position }
-        ensures history { (backlog.new.history ≡ backlog.old.history) × (backlog.new.writers ≡ backlog.old.writers) }
+        ensures history { KeepsHistory backlog.old backlog.new }
         ensures recording { backlog.new.pending.recording ≡ true }
         ensures pending { backlog.new.pending.segments.bytes ≡ [] }
         ensures durable { (backlog.new.taken ≡ backlog.old.history) × (backlog.new.synced ≡ position) }
-        ensures device { result ≡ record { taken = backlog.old.history; buffer = []; written = D.written disk; durable = D.synced disk; failed = false } }
+        ensures taken { result.taken ≡ backlog.old.history }
+        ensures ready { IsReady result }
+        ensures disk { (result.written ≡ D.written disk) × (result.durable ≡ D.synced disk) }
     {
         let UnopenedDevice {
             mut marker,

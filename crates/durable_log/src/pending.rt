@@ -1,7 +1,7 @@
 //! The recorded bytes that the device has not taken over.
 
 ghost use Rattle.std.specs.Prelude.{◌≡◌, ◌≤◌, [], length, true, false, IfSome, Some, OnOk};
-ghost use Rattle.durable_log.specs.Views.{HasRoom, HasSlot, Records};
+ghost use Rattle.durable_log.specs.Views.{HasRoom, HasSlot, KeepsBytes, RecordsIfOpen};
 
 use crate::segments::{NoRoom, Segments};
 use std::alloc::Global;
@@ -20,14 +20,13 @@ pub struct Pending {
 }
 
 impl Model for Pending {
-    ghost use Rattle.std.specs.Prelude.{◌≡◌, ◌≤◌, [], false, length};
-    ghost use Rattle.durable_log.specs.Views.{PendingView};
+    ghost use Rattle.durable_log.specs.Views.{HoldsPending, PendingView};
 
     ghost Value = { PendingView };
 
     ghost view = { λ p. record { recording = p.recording; position = p.position; segments = p.segments } };
 
-    ghost invariant = { λ p. (p.bytes ≡ length p.segments.bytes) × (p.bytes ≤ p.position) × (p.recording ≡ false → p.segments.bytes ≡ []) };
+    ghost invariant = { λ p. HoldsPending p.recording p.position p.bytes p.segments.bytes };
 }
 
 impl Pending {
@@ -93,7 +92,7 @@ impl Pending {
 
     /// Makes room for a record of this number of bytes, if the log records.
     pub fn reserve(&mut self, bytes: usize) -> Result<(), NoRoom>
-        ensures same { (self.new.recording ≡ self.old.recording) × (self.new.position ≡ self.old.position) × (self.new.segments.bytes ≡ self.old.segments.bytes) }
+        ensures same { KeepsBytes self.old self.new }
         ensures ok { OnOk result (self.old.recording ≡ true → HasRoom self.new bytes × HasSlot self.new bytes) }
     {
         if !self.recording {
@@ -107,7 +106,7 @@ impl Pending {
 
     /// Records these bytes, if the log records. If they have no room, the log is closed.
     pub fn append(&mut self, bytes: &[u8])
-        ensures recorded { self.new.recording ≡ true → Records self.old bytes.now self.new }
+        ensures recorded { RecordsIfOpen self.old bytes.now self.new }
         ensures room { HasRoom self.old (length bytes.now) → self.new.recording ≡ self.old.recording }
     {
         if !self.recording {
@@ -127,7 +126,7 @@ impl Pending {
 
     /// Records these bytes as a segment of their own, if the log records. If they have no room, the log is closed.
     pub fn append_owned(&mut self, bytes: Vec<u8>)
-        ensures recorded { self.new.recording ≡ true → Records self.old bytes.items self.new }
+        ensures recorded { RecordsIfOpen self.old bytes.items self.new }
         ensures room { HasSlot self.old (length bytes.items) → self.new.recording ≡ self.old.recording }
     {
         if !self.recording {

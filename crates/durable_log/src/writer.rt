@@ -27,15 +27,14 @@ pub struct LogWriter<E, N: Naming<E>> {
 }
 
 impl<E, N: Naming<E>> Model for LogWriter<E, N> {
-    ghost use Rattle.std.specs.Prelude.{◌≡◌, ◌<◌, [], false, length, IfSome};
-    ghost use Rattle.durable_log.specs.Encoding.{encode};
-    ghost use Rattle.durable_log.specs.Views.{IsCommitted, Trace, last_of};
+    ghost use Rattle.durable_log.specs.Invariants.{HoldsWriter, trace_of};
+    ghost use Rattle.durable_log.specs.Views.{Trace};
 
     ghost Value = { Trace E };
 
-    ghost view = { λ w. record { number = w.writer.number; seen = w.writer.seen; own = w.writer.own; durable = last_of [] w.marker.own } };
+    ghost view = { λ w. trace_of w.writer w.marker };
 
-    ghost invariant = { λ w. (w.writer.name ≡ N.names.history) × (w.marker.name ≡ N.names.durable_marks) × (0 < w.marker.number) × IfSome w.position (λ n. n ≡ length (encode N.bytes w.writer.seen)) × (w.unconfirmed ≡ false → IsCommitted N.promises (record { number = w.writer.number; seen = w.writer.seen; own = w.writer.own; durable = last_of [] w.marker.own })) };
+    ghost invariant = { λ w. HoldsWriter N.names N.bytes N.promises w.writer w.position w.unconfirmed w.marker };
 }
 
 impl<E, N: Naming<E>> LogWriter<E, N> {

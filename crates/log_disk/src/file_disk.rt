@@ -12,9 +12,10 @@ use std::marker::Model;
 
 /// A file that is written at its end.
 ///
-/// Contracts see the bytes that were written and those that are synced. No contract can say what a file holds. So it is
-/// a premise that the file holds the bytes that `new` names, then those that were passed to `write_all`, and that it
-/// keeps after a crash what was there when `sync_data` or `sync_all` last returned `Ok`.
+/// Contracts see the bytes that were written and those that are synced. No contract can state what a file holds. So this
+/// is a premise: the file holds the bytes that `new` names, and then those that were passed to `write_all`, of the last
+/// ones perhaps only a prefix if that call failed. After a crash it holds at least the bytes that it held when
+/// `sync_data` or `sync_all` last returned `Ok`.
 #[derive(Drop)]
 pub struct FileDisk {
     file: File,

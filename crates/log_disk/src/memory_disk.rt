@@ -40,6 +40,18 @@ impl MemoryDisk {
         }
     }
 
+    /// Creates a disk that holds these bytes, all of them synced, and takes this number of calls. Each later one fails.
+    pub fn from_bytes(bytes: Vec<u8>, calls: u64) -> MemoryDisk
+        ensures { result ≡ (bytes.items, bytes.items) }
+    {
+        let synced = bytes.len();
+        MemoryDisk {
+            bytes,
+            synced,
+            calls_left: calls,
+        }
+    }
+
     /// Returns the bytes that were written.
     pub fn bytes(&self) -> &[u8]
         ensures { result.now ≡ (self.now).0 }

@@ -40,12 +40,13 @@ invariant_of-backlog g c =
 
 pub returns-clause-taken : goal.returns-clause-taken
 returns-clause-taken g c = λ _.
-    let h = c.backlog.inside.history.entries in
-    let all : last_of [] c.mark_all.new.marker.own ≡ h = ap (λ w. last_of [] w.own) c.mark_all.ensures.writer ∙ last_of-snoc [] h c.self.inside.taker.own in
-    (all ∙ ap (λ v. v.history) c.backlog.view_is, c.move_into.ensures.bytes.1 ∙ ap (λ v. v.pending.segments.bytes) c.backlog.view_is)
-
-pub returns-clause-rest : goal.returns-clause-rest
-returns-clause-rest g c = λ _.
     let b = c.backlog.inside in
-    let all = last_mark_added b.taken_marks.entries c.mark_all.new.marks.entries c.self.inside.taker.number b.history.entries c.self.invariant.1 (ap (λ l. l.entries) c.mark_all.ensures.log) in
-    (all ∙ ap (λ v. v.history) c.backlog.view_is, c.move_into.ensures.bytes.0)
+    let h = b.history.entries in
+    let whole = ap (λ v. v.history) c.backlog.view_is in
+    let all : last_of [] c.mark_all.new.marker.own ≡ h = ap (λ w. last_of [] w.own) c.mark_all.ensures.writer ∙ last_of-snoc [] h c.self.inside.taker.own in
+    let marked = last_mark_added b.taken_marks.entries c.mark_all.new.marks.entries c.self.inside.taker.number h c.self.invariant.1 (ap (λ l. l.entries) c.mark_all.ensures.log) in (
+      all ∙ whole,
+      c.move_into.ensures.bytes.1 ∙ ap (λ v. v.pending.segments.bytes) c.backlog.view_is,
+      marked ∙ whole,
+      c.move_into.ensures.bytes.0,
+    )
