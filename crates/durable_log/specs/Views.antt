@@ -5,7 +5,6 @@ use Rattle.ghost_log.specs.declared.view.Entry.{Entry}
 use Rattle.ghost_log.specs.Entries.{IsPrefix, entry, events_by}
 use Rattle.ghost_log.specs.Calls as calls
 use Rattle.durable_log.specs.Encoding.{encode}
-use Rattle.durable_log.specs.Names.{Names}
 
 -- a writer: its number, the prefix of the history that it has seen, its own events, and a prefix of the history that it knows to be durable
 pub record Trace (E : Type 0) : Type 0 where
@@ -116,13 +115,17 @@ abbrev pub last_of : {A : Type 0} → List A → List (List A) → List A
 last_of d [] = d
 last_of d (x ∷ xs) = last_of x xs
 
--- the history as its ghost log
-abbrev pub log_of : {E : Type 0} → Names → BacklogView E → calls.Log E
-log_of names b = record { name = names.history; entries = b.history; writers = b.writers }
+-- the history as a ghost log of this name
+abbrev pub log_of : {E : Type 0} → TableId → BacklogView E → calls.Log E
+log_of name b = record { name = name; entries = b.history; writers = b.writers }
 
--- the writer as a writer of the ghost log
-abbrev pub writer_of : {E : Type 0} → Names → Trace E → calls.Writer E
-writer_of names t = record { name = names.history; number = t.number; seen = t.seen; own = t.own }
+-- the writer as a writer of the ghost log of this name
+abbrev pub writer_of : {E : Type 0} → TableId → Trace E → calls.Writer E
+writer_of name t = record { name = name; number = t.number; seen = t.seen; own = t.own }
+
+-- The writer has seen a prefix of the history, its own events are those under its number, in order, and no event has a number that no writer has.
+abbrev pub AgreesWith : {E : Type 0} → TableId → BacklogView E → Trace E → Type 0
+AgreesWith name b t = calls.Agrees (log_of name b) (writer_of name t)
 
 -- the writer after it added one event to this history
 abbrev pub trace_with : {E : Type 0} → E → List (Entry E) → Trace E → Trace E

@@ -1,9 +1,8 @@
 //! The history, with the bytes of it that the device has not taken over.
 
 ghost use Rattle.std.specs.Prelude.{◌≡◌, ◌+◌, ◌≤◌, [], length, true, false, OnOk};
-ghost use Rattle.ghost_log.specs.Calls.{Agrees};
 ghost use Rattle.durable_log.specs.Encoding.{encode};
-ghost use Rattle.durable_log.specs.Views.{AddsEvent, Confirms, HasRoom, HasSlot, IsNewLog, KeepsBytes, KeepsHistory, KeepsProgress, RecordsIfOpen, StaysOpen, Waits, log_of, trace_seeing, trace_with, writer_of};
+ghost use Rattle.durable_log.specs.Views.{AddsEvent, AgreesWith, Confirms, HasRoom, HasSlot, IsNewLog, KeepsBytes, KeepsHistory, KeepsProgress, RecordsIfOpen, StaysOpen, Waits, trace_seeing, trace_with};
 
 use crate::mark::{HistoryMark, mark_seen};
 use crate::names::Naming;
@@ -136,7 +135,7 @@ impl<E, N: Naming<E>> Backlog<E, N> {
     )
         requires bytes { bytes.now ≡ N.bytes D.event }
         requires promised { promised ≡ N.promises D.event }
-        ensures agrees { Agrees (log_of N.names self.old) (writer_of N.names writer.old) }
+        ensures agrees { AgreesWith N.names.history self.old writer.old }
         ensures history { AddsEvent writer.old.number D.event self.old self.new }
         ensures device { KeepsProgress self.old self.new }
         ensures writer { writer.new ≡ trace_with D.event self.old.history writer.old }
@@ -157,7 +156,7 @@ impl<E, N: Naming<E>> Backlog<E, N> {
     )
         requires bytes { bytes.items ≡ N.bytes D.event }
         requires promised { promised ≡ N.promises D.event }
-        ensures agrees { Agrees (log_of N.names self.old) (writer_of N.names writer.old) }
+        ensures agrees { AgreesWith N.names.history self.old writer.old }
         ensures history { AddsEvent writer.old.number D.event self.old self.new }
         ensures device { KeepsProgress self.old self.new }
         ensures writer { writer.new ≡ trace_with D.event self.old.history writer.old }
@@ -173,7 +172,7 @@ impl<E, N: Naming<E>> Backlog<E, N> {
     pub fn append_unrecorded<D: Event<E>>(&mut self, writer: &mut LogWriter<E, N>, promised: bool)
         requires bytes { N.bytes D.event ≡ [] }
         requires promised { promised ≡ N.promises D.event }
-        ensures agrees { Agrees (log_of N.names self.old) (writer_of N.names writer.old) }
+        ensures agrees { AgreesWith N.names.history self.old writer.old }
         ensures history { AddsEvent writer.old.number D.event self.old self.new }
         ensures same { self.new.pending ≡ self.old.pending }
         ensures device { KeepsProgress self.old self.new }
@@ -185,7 +184,7 @@ impl<E, N: Naming<E>> Backlog<E, N> {
 
     /// Shows a writer the whole history, of which it had seen a prefix.
     pub fn catch_up(&mut self, writer: &mut LogWriter<E, N>)
-        ensures agrees { Agrees (log_of N.names self.old) (writer_of N.names writer.old) }
+        ensures agrees { AgreesWith N.names.history self.old writer.old }
         ensures same { self.new ≡ self.old }
         ensures writer { writer.new ≡ trace_seeing self.old.history writer.old }
     {

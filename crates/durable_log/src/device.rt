@@ -130,7 +130,8 @@ impl<E, N: Naming<E>, D: Disk> LogDevice<E, N, D> {
         requires { self.old.failed ≡ false }
         ensures same { (self.new.taken ≡ self.old.taken) × (self.new.durable ≡ self.old.durable) }
         ensures buffer { self.new.buffer ≡ [] }
-        ensures ok { OnOk result ((self.new.failed ≡ false) × (self.new.written ≡ self.old.written ++ self.old.buffer)) }
+        ensures ok { OnOk result (self.new.failed ≡ false) }
+        ensures written { OnOk result (self.new.written ≡ self.old.written ++ self.old.buffer) }
         ensures err { OnErr result (self.new.failed ≡ true) }
     {
         match self.buffer.write_to(&mut self.disk) {
@@ -156,8 +157,10 @@ impl<E, N: Naming<E>, D: Disk> LogDevice<E, N, D> {
         requires { IsReady self.old }
         ensures same { (self.new.taken ≡ self.old.taken) × (self.new.written ≡ self.old.written) }
         ensures buffer { self.new.buffer ≡ [] }
-        ensures ok { OnOk result ((self.new.failed ≡ false) × IsSynced N.bytes N.names.base self.new) }
-        ensures err { OnErr result ((self.new.failed ≡ true) × (self.new.durable ≡ self.old.durable)) }
+        ensures ok { OnOk result (self.new.failed ≡ false) }
+        ensures synced { OnOk result (IsSynced N.bytes N.names.base self.new) }
+        ensures err { OnErr result (self.new.failed ≡ true) }
+        ensures kept { OnErr result (self.new.durable ≡ self.old.durable) }
     {
         match self.disk.sync() {
             Ok(()) => Ok(()),
@@ -178,7 +181,8 @@ impl<E, N: Naming<E>, D: Disk> LogDevice<E, N, D> {
         requires { self.old.failed ≡ false }
         ensures same { self.new.taken ≡ self.old.taken }
         ensures buffer { self.new.buffer ≡ [] }
-        ensures ok { OnOk result ((self.new.failed ≡ false) × IsSynced N.bytes N.names.base self.new) }
+        ensures ok { OnOk result (self.new.failed ≡ false) }
+        ensures synced { OnOk result (IsSynced N.bytes N.names.base self.new) }
         ensures err { OnErr result (self.new.failed ≡ true) }
     {
         self.write()?;

@@ -71,7 +71,7 @@ impl<E, N: Naming<E>> LogWriter<E, N> {
         requires name { history.old.name ≡ N.names.history }
         requires position { IfSome position (λ n. n ≡ length (encode N.bytes (history.old.entries ++ entry self.old.number D.event ∷ []))) }
         requires promised { promised ≡ N.promises D.event }
-        ensures agrees { Agrees history.old (writer_of N.names self.old) }
+        ensures agrees { Agrees history.old (writer_of N.names.history self.old) }
         ensures history { history.new ≡ with_entry self.old.number D.event history.old }
         ensures writer { self.new ≡ trace_with D.event history.old.entries self.old }
     {
@@ -84,7 +84,7 @@ impl<E, N: Naming<E>> LogWriter<E, N> {
     pub(crate) fn catch_up(&mut self, history: &mut SharedLog<E>, position: Option<u64>)
         requires name { history.old.name ≡ N.names.history }
         requires position { IfSome position (λ n. n ≡ length (encode N.bytes history.old.entries)) }
-        ensures agrees { Agrees history.old (writer_of N.names self.old) }
+        ensures agrees { Agrees history.old (writer_of N.names.history self.old) }
         ensures history { history.new ≡ history.old }
         ensures writer { self.new ≡ trace_seeing history.old.entries self.old }
     {
