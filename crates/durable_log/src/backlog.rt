@@ -16,9 +16,9 @@ use std::marker::{Model, PhantomData};
 
 /// The history of a durable log, which is stored under a lock next to the value that the history describes.
 ///
-/// A log records once a device is opened. It ends to record if memory runs out, if its history would have 2^64 bytes,
-/// or if its disk fails. Then no more of the history becomes durable, and commits fail. A log without a device costs no
-/// more than its ghost log.
+/// A log records after its device was opened. It stops recording if memory runs out, if its history would have 2^64
+/// bytes, or if its disk fails. Then no more of the history becomes durable, and commits fail. A log without a device
+/// costs no more than its ghost log.
 #[derive(Drop)]
 pub struct Backlog<E, N: Naming<E>> {
     pub(crate) history: SharedLog<E>,
@@ -223,7 +223,7 @@ impl<E, N: Naming<E>> Backlog<E, N> {
         true
     }
 
-    /// Ends the recording: no more of the history becomes durable, and commits fail.
+    /// Stops recording: no more of the history becomes durable, and commits fail.
     pub fn close(&mut self)
         ensures history { KeepsHistory self.old self.new }
         ensures device { KeepsProgress self.old self.new }

@@ -68,7 +68,7 @@ impl Pending {
         self.bytes
     }
 
-    /// Begins to record after a history of this number of bytes.
+    /// Starts recording after a history of this number of bytes.
     pub fn start(&mut self, position: u64)
         ensures recording { self.new.recording ≡ true }
         ensures position { self.new.position ≡ position }
@@ -80,7 +80,7 @@ impl Pending {
         self.recording = true;
     }
 
-    /// Ends the recording. The pending bytes are dropped.
+    /// Stops recording. The pending bytes are dropped.
     pub fn close(&mut self)
         ensures recording { self.new.recording ≡ false }
         ensures bytes { self.new.segments.bytes ≡ [] }

@@ -6,14 +6,22 @@ ghost use Rattle.log_disk.specs.Torn.{IsTorn};
 use log_disk::{Disk, DiskError};
 use std::alloc::Global;
 use std::marker::Model;
-use std::mem;
+use std::{fmt, mem};
 
 /// The capacity of a segment for small records.
 const SEGMENT_BYTES: usize = 65536;
 
-/// Memory ran out.
+/// A record has no room: memory ran out, or the history would have 2^64 bytes.
 #[derive(Clone, Copy, PartialEq, Eq, Debug)]
 pub struct NoRoom;
+
+impl fmt::Display for NoRoom {
+    fn fmt<W: fmt::Write>(&self, f: &mut fmt::Formatter<W>) -> fmt::Result {
+        write!(f, "no room for a record")
+    }
+}
+
+impl std::error::Error for NoRoom {}
 
 /// Bytes in segments. A byte that was added is never copied again.
 #[derive(Drop)]
