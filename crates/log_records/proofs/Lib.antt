@@ -1,0 +1,4 @@
+pub mod Apart
+pub mod Cuts
+pub mod Nexts
+pub mod Reading

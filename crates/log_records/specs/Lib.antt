@@ -1,0 +1,5 @@
+pub mod Changes
+pub mod Decoding
+pub mod Kinds
+pub mod Laws
+pub mod Records
