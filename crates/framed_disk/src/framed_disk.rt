@@ -1,0 +1,181 @@
+//! A disk of frames.
+
+ghost use Rattle.std.specs.Prelude.{◌≡◌, ◌⊎◌, ◌++◌, [], IfOk, OnOk, OnErr, true, false, length};
+ghost use Rattle.log_disk.specs.Torn.{IsTorn};
+ghost use Rattle.log_frames.specs.Frames.{AreFrames, IsHead, end_of, head_of, payloads};
+ghost use Rattle.log_frames.specs.Headers.{log_bytes, start_of};
+ghost use Rattle.framed_disk.specs.Views.{AddsFrame, opened};
+
+use crate::deed::{FrameDeed, FramesName, NoFrames, Syncs, add_frame, add_named};
+use crate::put::{TOGETHER, write_frame};
+use ghost_log::{SharedLog, Writer};
+use log_disk::{Disk, DiskError};
+use log_frames::{Cursor, MAX_PAYLOAD, header_bytes, start_of};
+use std::alloc::Global;
+use std::io::{self, ErrorKind};
+use std::marker::Model;
+
+/// A disk that writes each payload as one frame on another disk.
+///
+/// As a `Disk`, contracts see the payloads, one after another: those whose write was attempted, and those that are synced.
+/// Each frame states how far the other disk is known to be synced. After a call has failed, nothing more is written.
+#[derive(Drop)]
+pub struct FramedDisk<D: Disk> {
+    raw: D,
+    id: u64,
+    /// The cursor after the last frame.
+    cursor: Cursor,
+    /// The other disk is synced up to this offset.
+    synced: u64,
+    /// The last frame states this offset. It is 0 if this disk has written no frame.
+    stated: u64,
+    /// The error of the call that failed.
+    failure: Option<DiskError>,
+    /// Has room for a frame that is written by one call.
+    buffer: Vec<u8>,
+    deeds: SharedLog<FrameDeed>,
+    writer: Writer<FrameDeed>,
+}
+
+impl<D: Disk> Model for FramedDisk<D> {
+    ghost use Rattle.std.specs.Prelude.{◌≡◌, ◌≤◌, [], is_some, vec_capacity};
+    ghost use Rattle.framed_disk.specs.Deeds.{after_deeds};
+    ghost use Rattle.framed_disk.specs.Invariants.{IsFramed};
+    ghost use Rattle.framed_disk.specs.Views.{FramedView, framed};
+
+    ghost Value = { FramedView };
+
+    ghost view = { λ d. framed d.id (after_deeds ([], []) d.deeds.entries) (D.written d.raw) (D.synced d.raw) (is_some d.failure) };
+
+    ghost invariant = { λ d. (d.writer.name ≡ d.deeds.name) × (65536 ≤ vec_capacity d.buffer) × IsFramed (framed d.id (after_deeds ([], []) d.deeds.entries) (D.written d.raw) (D.synced d.raw) (is_some d.failure)) d.cursor d.synced };
+}
+
+/// Returns whether a frame of this length has room in a log.
+fn has_room(cursor: Cursor, synced: u64, length: u64) -> bool
+    ensures { result ≡ true → IsHead (head_of cursor synced length) }
+{
+    length <= MAX_PAYLOAD && synced <= cursor.place && cursor.place <= u64::MAX - 40 - length
+}
+
+impl<D: Disk> FramedDisk<D> {
+    /// Creates a log with this id on a disk that is empty, and syncs it.
+    ///
+    /// # Errors
+    ///
+    /// - The error of a call on the disk.
+    /// - `Memory`
+    pub fn create(alloc: Global, mut raw: D, id: u64) -> Result<FramedDisk<D>, DiskError>
+        requires { D.written raw ≡ [] }
+        ensures { IfOk result (λ d. d ≡ opened id []) }
+    {
+        raw.write(&header_bytes(id))?;
+        raw.sync()?;
+        FramedDisk::open::<NoFrames>(alloc, raw, id, start_of(id))
+    }
+
+    /// Continues a log with this id on a disk that holds the frames which `P` names, and whose content is synced.
+    ///
+    /// # Errors
+    ///
+    /// - `Memory`
+    pub fn open<P: FramesName>(
+        alloc: Global,
+        raw: D,
+        id: u64,
+        cursor: Cursor,
+    ) -> Result<FramedDisk<D>, DiskError>
+        requires frames { AreFrames id (start_of id) P.frames }
+        requires cursor { cursor ≡ end_of id (start_of id) P.frames }
+        requires written { D.written raw ≡ log_bytes id P.frames }
+        requires synced { D.synced raw ≡ D.written raw }
+        ensures { IfOk result (λ d. d ≡ opened id P.frames) }
+    {
+        let Ok(buffer) = Vec::with_capacity(alloc, TOGETHER) else {
+            return Err(DiskError::Memory);
+        };
+        let Ok(mut deeds) = SharedLog::new(alloc) else {
+            return Err(DiskError::Memory);
+        };
+        let mut writer = deeds.writer();
+        add_named::<P>(&mut deeds, &mut writer);
+        deeds.append::<Syncs>(&mut writer);
+        Ok(FramedDisk {
+            raw,
+            id,
+            cursor,
+            synced: cursor.place,
+            stated: 0,
+            failure: None,
+            buffer,
+            deeds,
+            writer,
+        })
+    }
+
+    /// Writes a frame with this payload.
+    ///
+    /// # Errors
+    ///
+    /// - The error of the call that has failed, now or before.
+    /// - `FileTooLarge` if a log has no room for the frame. Then nothing is written.
+    fn write_payload(&mut self, payload: &[u8]) -> Result<(), DiskError>
+        ensures ok { OnOk result (AddsFrame self.old payload.now self.new) }
+        ensures err { OnErr result (AddsFrame self.old payload.now self.new ⊎ (self.new ≡ self.old)) }
+    {
+        if let Some(error) = self.failure {
+            return Err(error);
+        }
+        if !has_room(self.cursor, self.synced, payload.len() as u64) {
+            return Err(DiskError::Io(io::Error::from(ErrorKind::FileTooLarge)));
+        }
+        add_frame(&mut self.deeds, &mut self.writer, self.synced, payload);
+        let written = write_frame(
+            &mut self.raw,
+            &mut self.buffer,
+            self.id,
+            self.cursor,
+            self.synced,
+            payload,
+        );
+        match written {
+            Ok(cursor) => {
+                self.cursor = cursor;
+                self.stated = self.synced;
+                Ok(())
+            }
+            Err(error) => {
+                self.failure = Some(error);
+                Err(error)
+            }
+        }
+    }
+}
+
+impl<D: Disk> Disk for FramedDisk<D> {
+    ghost use Rattle.log_frames.specs.Frames.{payloads};
+
+    ghost written = { λ d. payloads d.frames };
+
+    ghost synced = { λ d. payloads d.synced_frames };
+
+    fn write(&mut self, bytes: &[u8]) -> Result<(), DiskError> {
+        self.write_payload(bytes)
+    }
+
+    fn sync(&mut self) -> Result<(), DiskError> {
+        if let Some(error) = self.failure {
+            return Err(error);
+        }
+        match self.raw.sync() {
+            Ok(()) => {
+                self.deeds.append::<Syncs>(&mut self.writer);
+                self.synced = self.cursor.place;
+                Ok(())
+            }
+            Err(error) => {
+                self.failure = Some(error);
+                Err(error)
+            }
+        }
+    }
+}
