@@ -1,3 +1,4 @@
 pub mod Framing
 pub mod Steps
+pub mod Survivors
 pub mod Torn

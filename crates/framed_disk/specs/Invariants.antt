@@ -23,3 +23,13 @@ pub record IsFramed (v : FramedView) (cursor : Cursor) (offset : ℕ) : Type 0 w
   pub down : IsPrefix v.synced v.written
   pub known : offset ≤ length v.synced
   pub stated : AllByRecursion (StatesAtMost (length v.synced)) v.frames
+
+-- the same without what only the code sees
+pub record IsInOrder (v : FramedView) : Type 0 where
+  pub are : AreFrames v.id (start_of v.id) v.frames
+  pub in_order : IsPrefix v.written (log_bytes v.id v.frames)
+  pub exact : v.failed ≡ false → v.written ≡ log_bytes v.id v.frames
+  pub synced_of : IsPrefix v.synced_frames v.frames
+  pub safe : IsPrefix (log_bytes v.id v.synced_frames) v.synced
+  pub down : IsPrefix v.synced v.written
+  pub stated : AllByRecursion (StatesAtMost (length v.synced)) v.frames

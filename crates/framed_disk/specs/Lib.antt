@@ -1,3 +1,4 @@
 pub mod Deeds
 pub mod Invariants
+pub mod Survivors
 pub mod Views

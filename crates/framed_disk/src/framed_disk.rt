@@ -4,7 +4,9 @@ ghost use Rattle.std.specs.Prelude.{◌≡◌, ◌⊎◌, ◌++◌, [], IfOk, On
 ghost use Rattle.log_disk.specs.Torn.{IsTorn};
 ghost use Rattle.log_frames.specs.Frames.{AreFrames, IsHead, end_of, head_of, payloads};
 ghost use Rattle.log_frames.specs.Headers.{log_bytes, start_of};
-ghost use Rattle.framed_disk.specs.Views.{AddsFrame, opened};
+ghost use Rattle.framed_disk.specs.Invariants.{IsInOrder};
+ghost use Rattle.framed_disk.specs.Survivors.{CompletesNoFrame, IsReadable, MayBeLeft, Preserves};
+ghost use Rattle.framed_disk.specs.Views.{AddsFrame, KeepsPayloads, opened};
 
 use crate::deed::{FrameDeed, FramesName, NoFrames, Syncs, add_frame, add_named};
 use crate::put::{TOGETHER, write_frame};
@@ -110,6 +112,63 @@ impl<D: Disk> FramedDisk<D> {
             deeds,
             writer,
         })
+    }
+
+    /// Returns the disk on which the frames are.
+    pub fn raw(&self) -> &D
+        ensures written { D.written result.now ≡ (self.now).written }
+        ensures synced { D.synced result.now ≡ (self.now).synced }
+    {
+        &self.raw
+    }
+
+    /// Writes a frame without a payload if more is synced than the last frame states.
+    ///
+    /// If nothing is written after it, no damage in front of it can be taken for a write that was cut off.
+    ///
+    /// # Errors
+    ///
+    /// - The error of the call that has failed, now or before.
+    pub fn mark(&mut self) -> Result<(), DiskError>
+        ensures { KeepsPayloads self.old self.new }
+    {
+        if self.stated == self.synced {
+            return Ok(());
+        }
+        self.write_payload(b"")
+    }
+
+    /// Does nothing at run time: it gives the caller the invariant as facts.
+    ///
+    /// What was written is a prefix of the log, and all of it unless a call has failed. What is synced contains the synced frames, and no frame
+    /// states that more is synced.
+    pub fn reveal_invariant(&self)
+        ensures { IsInOrder self.now }
+    {
+        let _ = &self.raw;
+    }
+
+    /// Does nothing at run time: whatever a crash leaves of the other disk can be read as a log, and the payloads that are read contain all that
+    /// are synced and are a prefix of those that were written.
+    pub fn reveal_survivors(&self, left: &[u8])
+        requires { MayBeLeft self.now left.now }
+        ensures readable { IsReadable (self.now).id left.now }
+        ensures preserved { Preserves self.now left.now }
+    {
+        let _ = left;
+        let _ = &self.raw;
+    }
+
+    /// Does nothing at run time: the same if other bytes follow what a crash leaves, as zeros or garbage, that complete no frame.
+    pub fn reveal_survivors_before(&self, left: &[u8], behind: &[u8])
+        requires left { MayBeLeft self.now left.now }
+        requires behind { CompletesNoFrame (self.now).id left.now behind.now }
+        ensures readable { IsReadable (self.now).id (left.now ++ behind.now) }
+        ensures preserved { Preserves self.now (left.now ++ behind.now) }
+    {
+        let _ = left;
+        let _ = behind;
+        let _ = &self.raw;
     }
 
     /// Writes a frame with this payload.

@@ -1,0 +1,209 @@
+-- The frames in what a crash leaves.
+use Rattle.std.proofs.Common.{◌≡◌, ◌<◌, ◌≤◌, ◌+◌, ◌-◌, ℕ, zero, suc, List, [], ◌∷◌, ◌++◌, ◌∙◌, ap, refl, sym, subst, arith, inl, inr, length, take, drop, append_assoc, append-nil}
+use Rattle.std.proofs.lemmas.Bool.{cases_lt}
+use Rattle.std.proofs.lemmas.Grind.{flat_map-append}
+use Rattle.std.proofs.lemmas.List.{append_cancel_left, length-append, take-append-drop, take_at}
+use mathlib.Core.List.{IsPrefix}
+use Rattle.log_frames.specs.Frames.{AreFrames, Frame, IsFrame, cursor_after, end_of, frame_bytes, frames_bytes, payloads}
+use Rattle.log_frames.specs.Headers.{header_bytes, log_bytes, start_of}
+use Rattle.log_frames.specs.Reads.{BeginsNoFrame}
+use Rattle.log_frames.specs.declared.cursor.Cursor.{Cursor}
+use Rattle.log_frames.proofs.Apart.{frames_apart}
+use Rattle.framed_disk.specs.Invariants.{IsFramed}
+use Rattle.framed_disk.specs.Survivors.{AreFramesIn, ArePreserved, CompletesNoFrame, IsReadable, MayBeLeft, Preserves}
+use Rattle.framed_disk.specs.Views.{FramedView}
+use Rattle.framed_disk.proofs.Framing.{frame_bytes-length}
+
+-- ---- prefixes
+
+module _ {A : Type 0} where
+  prefix_trans : (xs ys zs : List A) → IsPrefix xs ys → IsPrefix ys zs → IsPrefix xs zs
+  prefix_trans xs ys zs p q = (p.0 ++ q.0, sym (append_assoc xs p.0 q.0) ∙ ap (λ w. w ++ q.0) p.1 ∙ q.1)
+
+  -- the shorter of two prefixes of a list is a prefix of the longer
+  shorter : (xs ys zs : List A) → IsPrefix xs zs → IsPrefix ys zs → length xs ≤ length ys → IsPrefix xs ys
+  shorter [] ys zs p q le = (ys, refl)
+  shorter (x ∷ xs) [] zs p q le = absurd (omega arith)
+  shorter (x ∷ xs) (y ∷ ys) [] p q le = cc
+  shorter (x ∷ xs) (y ∷ ys) (z ∷ zs) p q le =
+      let xs_of : xs ++ p.0 ≡ zs = cc in
+      let ys_of : ys ++ q.0 ≡ zs = cc in
+      let t : IsPrefix xs ys = shorter xs ys zs (p.0, xs_of) (q.0, ys_of) (omega arith) in
+      let tail : xs ++ t.0 ≡ ys = t.1 in
+      (t.0, (cc))
+
+  prefix_length : (xs ys : List A) → IsPrefix xs ys → length xs ≤ length ys
+  prefix_length xs ys p = omega (arith, ap length p.1, length-append xs p.0)
+
+  -- a prefix is what the list begins with
+  prefix_take : (xs ys : List A) → IsPrefix xs ys → take (length xs) ys ≡ xs
+  prefix_take xs ys p = ap (take (length xs)) (sym p.1) ∙ take_at xs p.0 (length xs) refl
+
+  take_prefix : (n : ℕ) (xs : List A) → IsPrefix (take n xs) xs
+  take_prefix n xs = (drop n xs, take-append-drop n xs)
+
+  take_more : (m n : ℕ) (xs : List A) → m ≤ n → IsPrefix (take m xs) (take n xs)
+  take_more zero n xs le = (take n xs, refl)
+  take_more (suc m) zero xs le = absurd (omega arith)
+  take_more (suc m) (suc n) [] le = ([], refl)
+  take_more (suc m) (suc n) (x ∷ xs) le =
+      let t : IsPrefix (take m xs) (take n xs) = take_more m n xs (omega arith) in
+      (t.0, ap (λ w. x ∷ w) t.1)
+
+-- behind the same front
+behind : (front xs ys : List ℕ) → IsPrefix (front ++ xs) (front ++ ys) → IsPrefix xs ys
+behind front xs ys p = (p.0, append_cancel_left front (xs ++ p.0) ys (sym (append_assoc front xs p.0) ∙ p.1))
+
+payloads_prefix : (xs ys : List Frame) → IsPrefix xs ys → IsPrefix (payloads xs) (payloads ys)
+payloads_prefix xs ys p = (payloads p.0, sym (flat_map-append (λ (f : Frame). f.payload) xs p.0) ∙ ap payloads p.1)
+
+-- ---- frames that are cut off
+
+-- a prefix of frames' bytes: some frames, all that are complete, and a rest that begins with no frame
+record Cut (id : ℕ) (c : Cursor) (frames : List Frame) (bytes : List ℕ) : Type 0 where
+  count : ℕ
+  rest : List ℕ
+  fit : AreFrames id c (take count frames)
+  whole : bytes ≡ frames_bytes id c (take count frames) ++ rest
+  longest : BeginsNoFrame id (end_of id c (take count frames)) rest
+  complete : (k : ℕ) → k ≤ length frames → length (frames_bytes id c (take k frames)) ≤ length bytes → k ≤ count
+
+nothing : (id : ℕ) (c : Cursor) → BeginsNoFrame id c []
+nothing id c f rest fits e = omega (arith, ap length e, length-append (frame_bytes id c f) rest, frame_bytes-length id c f)
+
+cut_none : (id : ℕ) (c : Cursor) (bytes : List ℕ) → IsPrefix bytes [] → Cut id c [] bytes
+cut_none id c [] p = record { count = 0; rest = []; fit = tt; whole = refl; longest = nothing id c; complete = λ k le fits. le }
+cut_none id c (b ∷ bytes) p = absurd (omega (arith, ap length p.1))
+
+too_many : (id : ℕ) (c : Cursor) (f : Frame) (fs : List Frame) (bytes : List ℕ) → length bytes < length (frame_bytes id c f) → (k : ℕ) → k ≤ length (f ∷ fs) → length (frames_bytes id c (take k (f ∷ fs))) ≤ length bytes → k ≤ 0
+too_many id c f fs bytes short zero le fits = omega arith
+too_many id c f fs bytes short (suc k) le fits = omega (arith, short, fits, length-append (frame_bytes id c f) (frames_bytes id (cursor_after id c f) (take k fs)))
+
+-- the first frame is cut off
+cut_first : (id : ℕ) (c : Cursor) (f : Frame) (fs : List Frame) (bytes : List ℕ) → IsFrame c f → IsPrefix bytes (frames_bytes id c (f ∷ fs)) → length bytes < length (frame_bytes id c f) → Cut id c (f ∷ fs) bytes
+cut_first id c f fs bytes is p short = record {
+  count = 0;
+  rest = bytes;
+  fit = tt;
+  whole = refl;
+  longest = λ g rest fits e.
+    let more : frame_bytes id c g ++ (rest ++ p.0) ≡ frame_bytes id c f ++ frames_bytes id (cursor_after id c f) fs =
+    sym (append_assoc (frame_bytes id c g) rest p.0) ∙ ap (λ t. t ++ p.0) (sym e) ∙ p.1 in
+    let same = (frames_apart id c g f _ _ fits is more).0 in
+    omega (arith, short, ap length e, length-append (frame_bytes id c g) rest, ap (λ (h : Frame). length (frame_bytes id c h)) same);
+  complete = too_many id c f fs bytes short;
+}
+
+one_more : (id : ℕ) (c : Cursor) (f : Frame) (fs : List Frame) (bytes later : List ℕ) (count : ℕ) → length bytes ≡ length (frame_bytes id c f) + length later
+    → ((k : ℕ) → k ≤ length fs → length (frames_bytes id (cursor_after id c f) (take k fs)) ≤ length later → k ≤ count)
+    → (k : ℕ) → k ≤ length (f ∷ fs) → length (frames_bytes id c (take k (f ∷ fs))) ≤ length bytes → k ≤ suc count
+one_more id c f fs bytes later count len all zero le fits = omega arith
+one_more id c f fs bytes later count len all (suc k) le fits =
+    let before = all k (omega (arith, le)) (omega (arith, len, fits, length-append (frame_bytes id c f) (frames_bytes id (cursor_after id c f) (take k fs)))) in
+    omega (arith, before)
+
+cut : (id : ℕ) (c : Cursor) (frames : List Frame) (bytes : List ℕ) → AreFrames id c frames → IsPrefix bytes (frames_bytes id c frames) → Cut id c frames bytes
+cut id c [] bytes are p = cut_none id c bytes p
+cut id c (f ∷ fs) bytes are p =
+    let first : List ℕ = frame_bytes id c f in
+    let after : Cursor = cursor_after id c f in
+    elim (cases_lt (length bytes) (length first)) [
+      | inl short ↦ cut_first id c f fs bytes are.0 p short
+      | inr long ↦
+          let split = shorter first bytes (frames_bytes id c (f ∷ fs)) (frames_bytes id after fs, refl) p long in
+          let later = cut id after fs split.0 are.1 (behind first split.0 (frames_bytes id after fs) (p.0, ap (λ t. t ++ p.0) split.1 ∙ p.1)) in
+          record {
+            count = suc later.count;
+            rest = later.rest;
+            fit = (are.0, later.fit);
+            whole = sym split.1 ∙ ap (λ t. first ++ t) later.whole ∙ sym (append_assoc first (frames_bytes id after (take later.count fs)) later.rest);
+            longest = later.longest;
+            complete = one_more id c f fs bytes split.0 later.count (omega (arith, ap length split.1, length-append first split.0)) later.complete;
+          }
+    ]
+
+-- ---- one reading
+
+one_reading : (id : ℕ) (c : Cursor) (fs gs : List Frame) (r q : List ℕ) → AreFrames id c fs → AreFrames id c gs
+    → BeginsNoFrame id (end_of id c fs) r → BeginsNoFrame id (end_of id c gs) q → frames_bytes id c fs ++ r ≡ frames_bytes id c gs ++ q → fs ≡ gs
+one_reading id c [] [] r q a b none_r none_q e = refl
+one_reading id c [] (g ∷ gs) r q a b none_r none_q e = absurd (none_r g (frames_bytes id (cursor_after id c g) gs ++ q) b.0 (e ∙ append_assoc (frame_bytes id c g) _ q))
+one_reading id c (f ∷ fs) [] r q a b none_r none_q e = absurd (none_q f (frames_bytes id (cursor_after id c f) fs ++ r) a.0 (sym e ∙ append_assoc (frame_bytes id c f) _ r))
+one_reading id c (f ∷ fs) (g ∷ gs) r q a b none_r none_q e =
+    let both = frames_apart id c f g (frames_bytes id (cursor_after id c f) fs ++ r) (frames_bytes id (cursor_after id c g) gs ++ q) a.0 b.0 (sym (append_assoc (frame_bytes id c f) _ r) ∙ e ∙ append_assoc (frame_bytes id c g) _ q) in
+    let fits : AreFrames id (cursor_after id c f) gs = subst (λ (h : Frame). AreFrames id (cursor_after id c h) gs) (sym both.0) b.1 in
+    let none : BeginsNoFrame id (end_of id (cursor_after id c f) gs) q = subst (λ (h : Frame). BeginsNoFrame id (end_of id (cursor_after id c h) gs) q) (sym both.0) none_q in
+    let rest : frames_bytes id (cursor_after id c f) fs ++ r ≡ frames_bytes id (cursor_after id c f) gs ++ q = both.1 ∙ ap (λ (h : Frame). frames_bytes id (cursor_after id c h) gs ++ q) (sym both.0) in
+    let later = one_reading id (cursor_after id c f) fs gs r q a.1 fits none_r none rest in
+    rw (both.0, later) refl
+
+pub one_way : (id : ℕ) (bytes : List ℕ) (fs gs : List Frame) (r q : List ℕ) → AreFramesIn id bytes fs r → AreFramesIn id bytes gs q → fs ≡ gs
+one_way id bytes fs gs r q a b =
+    let e : frames_bytes id (start_of id) fs ++ r ≡ frames_bytes id (start_of id) gs ++ q =
+    append_cancel_left (header_bytes id) _ _ (sym (append_assoc (header_bytes id) (frames_bytes id (start_of id) fs) r) ∙ sym a.whole ∙ b.whole ∙ append_assoc (header_bytes id) (frames_bytes id (start_of id) gs) q) in
+    one_reading id (start_of id) fs gs r q a.fit b.fit a.longest b.longest e
+
+-- ---- what a crash leaves
+
+record Left (v : FramedView) (left : List ℕ) : Type 0 where
+  frames : List Frame
+  rest : List ℕ
+  read : AreFramesIn v.id left frames rest
+  kept : IsPrefix v.synced_frames frames
+  made : IsPrefix frames v.frames
+
+left_of : (v : FramedView) (cursor : Cursor) (offset : ℕ) (left : List ℕ) → IsFramed v cursor offset → MayBeLeft v left → Left v left
+left_of v cursor offset left is may =
+    let id = v.id in
+    let kept = prefix_trans (log_bytes id v.synced_frames) v.synced left is.safe may.kept in
+    let header : IsPrefix (header_bytes id) left = prefix_trans (header_bytes id) (log_bytes id v.synced_frames) left (frames_bytes id (start_of id) v.synced_frames, refl) kept in
+    let made = prefix_trans left v.written (log_bytes id v.frames) may.made is.in_order in
+    let part : IsPrefix header.0 (frames_bytes id (start_of id) v.frames) = behind (header_bytes id) header.0 (frames_bytes id (start_of id) v.frames) (made.0, ap (λ t. t ++ made.0) header.1 ∙ made.1) in
+    let found = cut id (start_of id) v.frames header.0 is.are part in
+    let synced : IsPrefix (frames_bytes id (start_of id) v.synced_frames) header.0 = behind (header_bytes id) (frames_bytes id (start_of id) v.synced_frames) header.0 (kept.0, kept.1 ∙ sym header.1) in
+    let k : ℕ = length v.synced_frames in
+    let first : take k v.frames ≡ v.synced_frames = prefix_take v.synced_frames v.frames is.synced_of in
+    let long : length (frames_bytes id (start_of id) (take k v.frames)) ≤ length header.0 =
+    subst (λ (fs : List Frame). length (frames_bytes id (start_of id) fs) ≤ length header.0) (sym first) (prefix_length (frames_bytes id (start_of id) v.synced_frames) header.0 synced) in
+    let many : k ≤ found.count = found.complete k (prefix_length v.synced_frames v.frames is.synced_of) long in
+    record {
+      frames = take found.count v.frames;
+      rest = found.rest;
+      read = record {
+        fit = found.fit;
+        whole = sym header.1 ∙ ap (λ t. header_bytes id ++ t) found.whole ∙ sym (append_assoc (header_bytes id) (frames_bytes id (start_of id) (take found.count v.frames)) found.rest);
+        longest = found.longest;
+      };
+      kept = subst (λ (fs : List Frame). IsPrefix fs (take found.count v.frames)) first (take_more k found.count v.frames many);
+      made = take_prefix found.count v.frames;
+    }
+
+preserved : (v : FramedView) (left : List ℕ) (l : Left v left) (frames : List Frame) → l.frames ≡ frames → ArePreserved v frames
+preserved v left l frames same =
+    let kept : IsPrefix v.synced_frames frames = subst (λ (fs : List Frame). IsPrefix v.synced_frames fs) same l.kept in
+    let made : IsPrefix frames v.frames = subst (λ (fs : List Frame). IsPrefix fs v.frames) same l.made in
+    record { kept = kept; made = made; kept_payloads = payloads_prefix v.synced_frames frames kept; made_payloads = payloads_prefix frames v.frames made }
+
+pub readable : (v : FramedView) (cursor : Cursor) (offset : ℕ) (left : List ℕ) → IsFramed v cursor offset → MayBeLeft v left → IsReadable v.id left
+readable v cursor offset left is may = let l = left_of v cursor offset left is may in (l.frames, l.rest, l.read)
+
+pub preserves : (v : FramedView) (cursor : Cursor) (offset : ℕ) (left : List ℕ) → IsFramed v cursor offset → MayBeLeft v left → Preserves v left
+preserves v cursor offset left is may frames rest read =
+    let l = left_of v cursor offset left is may in
+    preserved v left l frames (one_way v.id left l.frames frames l.rest rest l.read read)
+
+-- bytes behind that complete no frame
+with_behind : (v : FramedView) (left more : List ℕ) (l : Left v left) → CompletesNoFrame v.id left more → AreFramesIn v.id (left ++ more) l.frames (l.rest ++ more)
+with_behind v left more l none = record {
+  fit = l.read.fit;
+  whole = ap (λ t. t ++ more) l.read.whole ∙ append_assoc (log_bytes v.id l.frames) l.rest more;
+  longest = none l.frames l.rest l.read;
+}
+
+pub readable_behind : (v : FramedView) (cursor : Cursor) (offset : ℕ) (left more : List ℕ) → IsFramed v cursor offset → MayBeLeft v left → CompletesNoFrame v.id left more → IsReadable v.id (left ++ more)
+readable_behind v cursor offset left more is may none = let l = left_of v cursor offset left is may in (l.frames, l.rest ++ more, with_behind v left more l none)
+
+pub preserves_behind : (v : FramedView) (cursor : Cursor) (offset : ℕ) (left more : List ℕ) → IsFramed v cursor offset → MayBeLeft v left → CompletesNoFrame v.id left more → Preserves v (left ++ more)
+preserves_behind v cursor offset left more is may none frames rest read =
+    let l = left_of v cursor offset left is may in
+    preserved v left l frames (one_way v.id (left ++ more) l.frames frames (l.rest ++ more) rest (with_behind v left more l none) read)
