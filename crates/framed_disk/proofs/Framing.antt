@@ -17,7 +17,7 @@ tagged-length : (sum : ℕ) (bytes : List ℕ) → length (tagged sum bytes) ≡
 unfolding tagged
 tagged-length sum bytes = length-append bytes (to_le_bytes w64 sum)
 
-header_bytes-length : (id : ℕ) → length (header_bytes id) ≡ 32
+pub header_bytes-length : (id : ℕ) → length (header_bytes id) ≡ 32
 unfolding header_front tagged
 header_bytes-length id = refl
 

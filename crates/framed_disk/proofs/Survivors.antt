@@ -152,8 +152,8 @@ record Left (v : FramedView) (left : List ℕ) : Type 0 where
   kept : IsPrefix v.synced_frames frames
   made : IsPrefix frames v.frames
 
-left_of : (v : FramedView) (cursor : Cursor) (offset : ℕ) (left : List ℕ) → IsFramed v cursor offset → MayBeLeft v left → Left v left
-left_of v cursor offset left is may =
+left_of : (v : FramedView) (cursor : Cursor) (offset stated : ℕ) (left : List ℕ) → IsFramed v cursor offset stated → MayBeLeft v left → Left v left
+left_of v cursor offset stated left is may =
     let id = v.id in
     let kept = prefix_trans (log_bytes id v.synced_frames) v.synced left is.safe may.kept in
     let header : IsPrefix (header_bytes id) left = prefix_trans (header_bytes id) (log_bytes id v.synced_frames) left (frames_bytes id (start_of id) v.synced_frames, refl) kept in
@@ -184,12 +184,12 @@ preserved v left l frames same =
     let made : IsPrefix frames v.frames = subst (λ (fs : List Frame). IsPrefix fs v.frames) same l.made in
     record { kept = kept; made = made; kept_payloads = payloads_prefix v.synced_frames frames kept; made_payloads = payloads_prefix frames v.frames made }
 
-pub readable : (v : FramedView) (cursor : Cursor) (offset : ℕ) (left : List ℕ) → IsFramed v cursor offset → MayBeLeft v left → IsReadable v.id left
-readable v cursor offset left is may = let l = left_of v cursor offset left is may in (l.frames, l.rest, l.read)
+pub readable : (v : FramedView) (cursor : Cursor) (offset stated : ℕ) (left : List ℕ) → IsFramed v cursor offset stated → MayBeLeft v left → IsReadable v.id left
+readable v cursor offset stated left is may = let l = left_of v cursor offset stated left is may in (l.frames, l.rest, l.read)
 
-pub preserves : (v : FramedView) (cursor : Cursor) (offset : ℕ) (left : List ℕ) → IsFramed v cursor offset → MayBeLeft v left → Preserves v left
-preserves v cursor offset left is may frames rest read =
-    let l = left_of v cursor offset left is may in
+pub preserves : (v : FramedView) (cursor : Cursor) (offset stated : ℕ) (left : List ℕ) → IsFramed v cursor offset stated → MayBeLeft v left → Preserves v left
+preserves v cursor offset stated left is may frames rest read =
+    let l = left_of v cursor offset stated left is may in
     preserved v left l frames (one_way v.id left l.frames frames l.rest rest l.read read)
 
 -- bytes behind that complete no frame
@@ -200,10 +200,10 @@ with_behind v left more l none = record {
   longest = none l.frames l.rest l.read;
 }
 
-pub readable_behind : (v : FramedView) (cursor : Cursor) (offset : ℕ) (left more : List ℕ) → IsFramed v cursor offset → MayBeLeft v left → CompletesNoFrame v.id left more → IsReadable v.id (left ++ more)
-readable_behind v cursor offset left more is may none = let l = left_of v cursor offset left is may in (l.frames, l.rest ++ more, with_behind v left more l none)
+pub readable_behind : (v : FramedView) (cursor : Cursor) (offset stated : ℕ) (left more : List ℕ) → IsFramed v cursor offset stated → MayBeLeft v left → CompletesNoFrame v.id left more → IsReadable v.id (left ++ more)
+readable_behind v cursor offset stated left more is may none = let l = left_of v cursor offset stated left is may in (l.frames, l.rest ++ more, with_behind v left more l none)
 
-pub preserves_behind : (v : FramedView) (cursor : Cursor) (offset : ℕ) (left more : List ℕ) → IsFramed v cursor offset → MayBeLeft v left → CompletesNoFrame v.id left more → Preserves v (left ++ more)
-preserves_behind v cursor offset left more is may none frames rest read =
-    let l = left_of v cursor offset left is may in
+pub preserves_behind : (v : FramedView) (cursor : Cursor) (offset stated : ℕ) (left more : List ℕ) → IsFramed v cursor offset stated → MayBeLeft v left → CompletesNoFrame v.id left more → Preserves v (left ++ more)
+preserves_behind v cursor offset stated left more is may none frames rest read =
+    let l = left_of v cursor offset stated left is may in
     preserved v left l frames (one_way v.id (left ++ more) l.frames frames (l.rest ++ more) rest (with_behind v left more l none) read)

@@ -1,5 +1,5 @@
 -- A framed disk, as contracts see it.
-use Rattle.std.specs.Prelude.{◌≡◌, ℕ, Bool, false, List, [], ◌∷◌, ◌++◌}
+use Rattle.std.specs.Prelude.{◌≡◌, ℕ, Bool, false, List, [], ◌∷◌, ◌++◌, length}
 use Rattle.log_frames.specs.Frames.{Frame, frame_of, payloads}
 use Rattle.log_frames.specs.Headers.{log_bytes}
 
@@ -20,10 +20,13 @@ framed id frames written synced failed = record { id = id; frames = frames.0; sy
 abbrev pub opened : ℕ → List Frame → FramedView
 opened id frames = framed id (frames, frames) (log_bytes id frames) (log_bytes id frames) false
 
--- a frame with this payload was added, and nothing was synced
+-- the offset in the log up to which it is known to be synced: the end of the synced frames
+abbrev pub synced_offset : FramedView → ℕ
+synced_offset v = length (log_bytes v.id v.synced_frames)
+
+-- a frame with this payload was added, which states the synced offset; nothing was synced
 pub record AddsFrame (old : FramedView) (payload : List ℕ) (new : FramedView) : Type 0 where
-  pub stated : ℕ
-  pub frames : new.frames ≡ old.frames ++ frame_of stated payload ∷ []
+  pub frames : new.frames ≡ old.frames ++ frame_of (synced_offset old) payload ∷ []
   pub id : new.id ≡ old.id
   pub synced_frames : new.synced_frames ≡ old.synced_frames
   pub synced : new.synced ≡ old.synced
@@ -33,3 +36,14 @@ pub record KeepsPayloads (old new : FramedView) : Type 0 where
   pub id : new.id ≡ old.id
   pub all : payloads new.frames ≡ payloads old.frames
   pub synced_frames : new.synced_frames ≡ old.synced_frames
+
+-- the last of the frames states this offset
+pub record LastStates (offset : ℕ) (frames : List Frame) : Type 0 where
+  pub before : List Frame
+  pub last : Frame
+  pub whole : frames ≡ before ++ last ∷ []
+  pub states : last.synced ≡ offset
+
+-- the last frame states the synced offset
+abbrev pub IsMarked : FramedView → Type 0
+IsMarked v = LastStates (synced_offset v) v.frames

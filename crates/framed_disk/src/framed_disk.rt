@@ -6,7 +6,7 @@ ghost use Rattle.log_frames.specs.Frames.{AreFrames, IsHead, end_of, head_of, pa
 ghost use Rattle.log_frames.specs.Headers.{log_bytes, start_of};
 ghost use Rattle.framed_disk.specs.Invariants.{IsInOrder};
 ghost use Rattle.framed_disk.specs.Survivors.{CompletesNoFrame, IsReadable, MayBeLeft, Preserves};
-ghost use Rattle.framed_disk.specs.Views.{AddsFrame, KeepsPayloads, opened};
+ghost use Rattle.framed_disk.specs.Views.{AddsFrame, IsMarked, KeepsPayloads, opened};
 
 use crate::deed::{FrameDeed, FramesName, NoFrames, Syncs, add_frame, add_named};
 use crate::put::{TOGETHER, write_frame};
@@ -49,7 +49,7 @@ impl<D: Disk> Model for FramedDisk<D> {
 
     ghost view = { λ d. framed d.id (after_deeds ([], []) d.deeds.entries) (D.written d.raw) (D.synced d.raw) (is_some d.failure) };
 
-    ghost invariant = { λ d. (d.writer.name ≡ d.deeds.name) × (65536 ≤ vec_capacity d.buffer) × IsFramed (framed d.id (after_deeds ([], []) d.deeds.entries) (D.written d.raw) (D.synced d.raw) (is_some d.failure)) d.cursor d.synced };
+    ghost invariant = { λ d. (d.writer.name ≡ d.deeds.name) × (65536 ≤ vec_capacity d.buffer) × IsFramed (framed d.id (after_deeds ([], []) d.deeds.entries) (D.written d.raw) (D.synced d.raw) (is_some d.failure)) d.cursor d.synced d.stated };
 }
 
 /// Returns whether a frame of this length has room in a log.
@@ -130,9 +130,10 @@ impl<D: Disk> FramedDisk<D> {
     ///
     /// - The error of the call that has failed, now or before.
     pub fn mark(&mut self) -> Result<(), DiskError>
-        ensures { KeepsPayloads self.old self.new }
+        ensures payloads { KeepsPayloads self.old self.new }
+        ensures marked { OnOk result (IsMarked self.new) }
     {
-        if self.stated == self.synced {
+        if self.failure.is_none() && self.stated == self.synced {
             return Ok(());
         }
         self.write_payload(b"")
@@ -222,19 +223,15 @@ impl<D: Disk> Disk for FramedDisk<D> {
     }
 
     fn sync(&mut self) -> Result<(), DiskError> {
-        if let Some(error) = self.failure {
+        if let Some(failure) = self.failure {
+            return Err(failure);
+        }
+        if let Err(error) = self.raw.sync() {
+            self.failure = Some(error);
             return Err(error);
         }
-        match self.raw.sync() {
-            Ok(()) => {
-                self.deeds.append::<Syncs>(&mut self.writer);
-                self.synced = self.cursor.place;
-                Ok(())
-            }
-            Err(error) => {
-                self.failure = Some(error);
-                Err(error)
-            }
-        }
+        self.deeds.append::<Syncs>(&mut self.writer);
+        self.synced = self.cursor.place;
+        Ok(())
     }
 }

@@ -7,9 +7,9 @@ use Rattle.framed_disk.proofs.framed_disk.FramedDisk.reveal_survivors_before.Goa
 pub returns-clause-readable : goal.returns-clause-readable
 returns-clause-readable g c =
     let d = c.self.inside in
-    readable_behind c.args.self.now d.cursor d.synced c.args.left.now c.args.behind.now (subst (λ (v : FramedView). IsFramed v d.cursor d.synced) c.self.view_is c.self.invariant.2) c.requires.left c.requires.behind
+    readable_behind c.args.self.now d.cursor d.synced d.stated c.args.left.now c.args.behind.now (subst (λ (v : FramedView). IsFramed v d.cursor d.synced d.stated) c.self.view_is c.self.invariant.2) c.requires.left c.requires.behind
 
 pub returns-clause-preserved : goal.returns-clause-preserved
 returns-clause-preserved g c =
     let d = c.self.inside in
-    preserves_behind c.args.self.now d.cursor d.synced c.args.left.now c.args.behind.now (subst (λ (v : FramedView). IsFramed v d.cursor d.synced) c.self.view_is c.self.invariant.2) c.requires.left c.requires.behind
+    preserves_behind c.args.self.now d.cursor d.synced d.stated c.args.left.now c.args.behind.now (subst (λ (v : FramedView). IsFramed v d.cursor d.synced d.stated) c.self.view_is c.self.invariant.2) c.requires.left c.requires.behind
