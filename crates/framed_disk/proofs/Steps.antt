@@ -17,10 +17,6 @@ pub after_deeds-snoc : (at : List Frame × List Frame) (es : List (Entry (Option
 after_deeds-snoc at [] n deed = refl
 after_deeds-snoc at (e ∷ es) n deed = after_deeds-snoc (after_deed at e.event) es n deed
 
--- the offset lies within what is synced
-within : (v : FramedView) (cursor : Cursor) (offset stated : ℕ) → IsFramed v cursor offset stated → offset ≤ length v.synced
-within v cursor offset stated is = omega (arith, is.known, ap length is.safe.1, length-append (log_bytes v.id v.synced_frames) is.safe.0)
-
 prefix_more : {A : Type 0} (xs ys zs : List A) → IsPrefix xs ys → IsPrefix xs (ys ++ zs)
 prefix_more xs ys zs p = (p.0 ++ zs, sym (append_assoc xs p.0 zs) ∙ ap (λ t. t ++ zs) p.1)
 
@@ -44,7 +40,7 @@ adds id at w s more b cursor after offset stated payload is sound fits wrote nex
       down = subst (λ (t : List ℕ). IsPrefix s t) (sym wrote) (prefix_more s w (frame_bytes id cursor f) is.down);
       known = is.known;
       last = λ _. inr (record { before = at.0; last = f; whole = refl; states = refl });
-      all = stated-snoc (length s) at.0 f is.all (within (framed id at w s b) cursor offset stated is);
+      all = stated-snoc (length (log_bytes id at.1)) at.0 f is.all (omega (arith, is.known));
     }
 
 -- a prefix of a frame was written
@@ -68,7 +64,7 @@ adds_part id at w s more b cursor offset stated payload is sound fits torn =
       down = subst (λ (t : List ℕ). IsPrefix s t) (sym torn.ends) (prefix_more s w torn.part is.down);
       known = is.known;
       last = λ e. cc;
-      all = stated-snoc (length s) at.0 f is.all (within (framed id at w s b) cursor offset stated is);
+      all = stated-snoc (length (log_bytes id at.1)) at.0 f is.all (omega (arith, is.known));
     }
 
 -- a log whose frames are all synced
@@ -77,18 +73,17 @@ pub opens : (id : ℕ) (frames : List Frame) (w s : List ℕ) (b : Bool) (cursor
     → IsFramed (framed id (frames, frames) w s b) cursor cursor.place stated
 opens id frames w s b cursor stated last are ends wrote synced =
     let whole : s ≡ log_bytes id frames = synced ∙ wrote in
-    let long : length s ≡ (end_of id (start_of id) frames).place = ap length whole ∙ log_bytes-length id frames in
     record {
       are = are;
       in_order = ([], append-nil w ∙ wrote);
       exact = λ _. wrote;
       at_end = λ _. ends;
       synced_of = ([], append-nil frames);
-      safe = ([], append-nil (log_bytes id frames) ∙ sym whole);
+      safe = whole;
       down = ([], append-nil s ∙ synced);
       known = ap (λ (c : Cursor). c.place) ends ∙ sym (log_bytes-length id frames);
       last = last;
-      all = stated-more (end_of id (start_of id) frames).place (length s) frames (omega (arith, long)) (stated-end id (start_of id) frames are);
+      all = stated-more (end_of id (start_of id) frames).place (length (log_bytes id frames)) frames (omega (arith, log_bytes-length id frames)) (stated-end id (start_of id) frames are);
     }
 
 -- all frames were synced
@@ -107,8 +102,8 @@ pub adds_now : (id : ℕ) (at now : List Frame × List Frame) (w s more t : List
     → IsFramed (framed id now more t b) after offset offset
 adds_now id at now w s more t b cursor after offset stated payload added same is sound fits wrote next =
     subst (λ (p : List Frame × List Frame). IsFramed (framed id p more t b) after offset offset) (sym added)
-      (subst (λ (u : List ℕ). IsFramed (framed id (at.0 ++ frame_of offset payload ∷ [], at.1) more u b) after offset offset) (sym same)
-        (adds id at w s more b cursor after offset stated payload is sound fits wrote next))
+    (subst (λ (u : List ℕ). IsFramed (framed id (at.0 ++ frame_of offset payload ∷ [], at.1) more u b) after offset offset) (sym same)
+    (adds id at w s more b cursor after offset stated payload is sound fits wrote next))
 
 pub adds_part_now : (id : ℕ) (at now : List Frame × List Frame) (w s more t : List ℕ) (b : Bool) (cursor : Cursor) (offset stated : ℕ) (payload : List ℕ)
     → now ≡ after_deed at (Some (frame_of offset payload ∷ [])) → t ≡ s
@@ -117,8 +112,8 @@ pub adds_part_now : (id : ℕ) (at now : List Frame × List Frame) (w s more t :
     → IsFramed (framed id now more t true) cursor offset stated
 adds_part_now id at now w s more t b cursor offset stated payload added same is sound fits torn =
     subst (λ (p : List Frame × List Frame). IsFramed (framed id p more t true) cursor offset stated) (sym added)
-      (subst (λ (u : List ℕ). IsFramed (framed id (at.0 ++ frame_of offset payload ∷ [], at.1) more u true) cursor offset stated) (sym same)
-        (adds_part id at w s more b cursor offset stated payload is sound fits torn))
+    (subst (λ (u : List ℕ). IsFramed (framed id (at.0 ++ frame_of offset payload ∷ [], at.1) more u true) cursor offset stated) (sym same)
+    (adds_part id at w s more b cursor offset stated payload is sound fits torn))
 
 pub syncs_now : (id : ℕ) (at after : List Frame × List Frame) (w s now synced : List ℕ) (b : Bool) (cursor : Cursor) (offset stated : ℕ)
     → after ≡ after_deed at None
@@ -148,8 +143,8 @@ pub adds_frame : (v : FramedView) (id : ℕ) (at now : List Frame × List Frame)
     → AddsFrame v payload (framed id now w' s' b')
 adds_frame v id at now w s w' s' b b' offset payload is known more same = record {
   frames =
-    ap (λ (p : List Frame × List Frame). p.0) more ∙ ap (λ n. at.0 ++ frame_of n payload ∷ []) known
-    ∙ ap (λ (u : FramedView). u.frames ++ frame_of (synced_offset u) payload ∷ []) is;
+      ap (λ (p : List Frame × List Frame). p.0) more ∙ ap (λ n. at.0 ++ frame_of n payload ∷ []) known
+      ∙ ap (λ (u : FramedView). u.frames ++ frame_of (synced_offset u) payload ∷ []) is;
   id = ap (λ (u : FramedView). u.id) is;
   synced_frames = ap (λ (p : List Frame × List Frame). p.1) more ∙ ap (λ (u : FramedView). u.synced_frames) is;
   synced = same ∙ ap (λ (u : FramedView). u.synced) is;

@@ -4,13 +4,16 @@ use Rattle.std.proofs.lemmas.Bool.{cases_lt}
 use Rattle.std.proofs.lemmas.Grind.{flat_map-append}
 use Rattle.std.proofs.lemmas.List.{append_cancel_left, length-append, take-append-drop, take_at}
 use mathlib.Core.List.{IsPrefix}
+use Rattle.log_frames.specs.Endings.{IsTorn}
 use Rattle.log_frames.specs.Frames.{AreFrames, Frame, IsFrame, cursor_after, end_of, frame_bytes, frames_bytes, payloads}
 use Rattle.log_frames.specs.Headers.{header_bytes, log_bytes, start_of}
+use Rattle.log_frames.specs.Laws.{AreUnforged, CompletesNothing, IsCut, IsReading}
 use Rattle.log_frames.specs.Reads.{BeginsNoFrame}
 use Rattle.log_frames.specs.declared.cursor.Cursor.{Cursor}
 use Rattle.log_frames.proofs.Apart.{frames_apart}
+use Rattle.log_frames.proofs.Cuts.{no_frame_in_nothing, one_way, what_is_whole}
 use Rattle.framed_disk.specs.Invariants.{IsFramed}
-use Rattle.framed_disk.specs.Survivors.{AreFramesIn, ArePreserved, CompletesNoFrame, IsReadable, MayBeLeft, Preserves}
+use Rattle.framed_disk.specs.Survivors.{AreHarmless, ArePreserved, IsLogReading, IsReadable, IsUnforged, LeavesCut, MayBeLeft, Preserves}
 use Rattle.framed_disk.specs.Views.{FramedView}
 use Rattle.framed_disk.proofs.Framing.{frame_bytes-length}
 
@@ -68,11 +71,8 @@ record Cut (id : ℕ) (c : Cursor) (frames : List Frame) (bytes : List ℕ) : Ty
   longest : BeginsNoFrame id (end_of id c (take count frames)) rest
   complete : (k : ℕ) → k ≤ length frames → length (frames_bytes id c (take k frames)) ≤ length bytes → k ≤ count
 
-nothing : (id : ℕ) (c : Cursor) → BeginsNoFrame id c []
-nothing id c f rest fits e = omega (arith, ap length e, length-append (frame_bytes id c f) rest, frame_bytes-length id c f)
-
 cut_none : (id : ℕ) (c : Cursor) (bytes : List ℕ) → IsPrefix bytes [] → Cut id c [] bytes
-cut_none id c [] p = record { count = 0; rest = []; fit = tt; whole = refl; longest = nothing id c; complete = λ k le fits. le }
+cut_none id c [] p = record { count = 0; rest = []; fit = tt; whole = refl; longest = no_frame_in_nothing id c; complete = λ k le fits. le }
 cut_none id c (b ∷ bytes) p = absurd (omega (arith, ap length p.1))
 
 too_many : (id : ℕ) (c : Cursor) (f : Frame) (fs : List Frame) (bytes : List ℕ) → length bytes < length (frame_bytes id c f) → (k : ℕ) → k ≤ length (f ∷ fs) → length (frames_bytes id c (take k (f ∷ fs))) ≤ length bytes → k ≤ 0
@@ -87,10 +87,10 @@ cut_first id c f fs bytes is p short = record {
   fit = tt;
   whole = refl;
   longest = λ g rest fits e.
-    let more : frame_bytes id c g ++ (rest ++ p.0) ≡ frame_bytes id c f ++ frames_bytes id (cursor_after id c f) fs =
-    sym (append_assoc (frame_bytes id c g) rest p.0) ∙ ap (λ t. t ++ p.0) (sym e) ∙ p.1 in
-    let same = (frames_apart id c g f _ _ fits is more).0 in
-    omega (arith, short, ap length e, length-append (frame_bytes id c g) rest, ap (λ (h : Frame). length (frame_bytes id c h)) same);
+      let more : frame_bytes id c g ++ (rest ++ p.0) ≡ frame_bytes id c f ++ frames_bytes id (cursor_after id c f) fs =
+      sym (append_assoc (frame_bytes id c g) rest p.0) ∙ ap (λ t. t ++ p.0) (sym e) ∙ p.1 in
+      let same = (frames_apart id c g f _ _ fits is more).0 in
+      omega (arith, short, ap length e, length-append (frame_bytes id c g) rest, ap (λ (h : Frame). length (frame_bytes id c h)) same);
   complete = too_many id c f fs bytes short;
 }
 
@@ -122,40 +122,23 @@ cut id c (f ∷ fs) bytes are p =
           }
     ]
 
--- ---- one reading
-
-one_reading : (id : ℕ) (c : Cursor) (fs gs : List Frame) (r q : List ℕ) → AreFrames id c fs → AreFrames id c gs
-    → BeginsNoFrame id (end_of id c fs) r → BeginsNoFrame id (end_of id c gs) q → frames_bytes id c fs ++ r ≡ frames_bytes id c gs ++ q → fs ≡ gs
-one_reading id c [] [] r q a b none_r none_q e = refl
-one_reading id c [] (g ∷ gs) r q a b none_r none_q e = absurd (none_r g (frames_bytes id (cursor_after id c g) gs ++ q) b.0 (e ∙ append_assoc (frame_bytes id c g) _ q))
-one_reading id c (f ∷ fs) [] r q a b none_r none_q e = absurd (none_q f (frames_bytes id (cursor_after id c f) fs ++ r) a.0 (sym e ∙ append_assoc (frame_bytes id c f) _ r))
-one_reading id c (f ∷ fs) (g ∷ gs) r q a b none_r none_q e =
-    let both = frames_apart id c f g (frames_bytes id (cursor_after id c f) fs ++ r) (frames_bytes id (cursor_after id c g) gs ++ q) a.0 b.0 (sym (append_assoc (frame_bytes id c f) _ r) ∙ e ∙ append_assoc (frame_bytes id c g) _ q) in
-    let fits : AreFrames id (cursor_after id c f) gs = subst (λ (h : Frame). AreFrames id (cursor_after id c h) gs) (sym both.0) b.1 in
-    let none : BeginsNoFrame id (end_of id (cursor_after id c f) gs) q = subst (λ (h : Frame). BeginsNoFrame id (end_of id (cursor_after id c h) gs) q) (sym both.0) none_q in
-    let rest : frames_bytes id (cursor_after id c f) fs ++ r ≡ frames_bytes id (cursor_after id c f) gs ++ q = both.1 ∙ ap (λ (h : Frame). frames_bytes id (cursor_after id c h) gs ++ q) (sym both.0) in
-    let later = one_reading id (cursor_after id c f) fs gs r q a.1 fits none_r none rest in
-    rw (both.0, later) refl
-
-pub one_way : (id : ℕ) (bytes : List ℕ) (fs gs : List Frame) (r q : List ℕ) → AreFramesIn id bytes fs r → AreFramesIn id bytes gs q → fs ≡ gs
-one_way id bytes fs gs r q a b =
-    let e : frames_bytes id (start_of id) fs ++ r ≡ frames_bytes id (start_of id) gs ++ q =
-    append_cancel_left (header_bytes id) _ _ (sym (append_assoc (header_bytes id) (frames_bytes id (start_of id) fs) r) ∙ sym a.whole ∙ b.whole ∙ append_assoc (header_bytes id) (frames_bytes id (start_of id) gs) q) in
-    one_reading id (start_of id) fs gs r q a.fit b.fit a.longest b.longest e
-
 -- ---- what a crash leaves
 
+-- a reading of what a crash left
 record Left (v : FramedView) (left : List ℕ) : Type 0 where
   frames : List Frame
   rest : List ℕ
-  read : AreFramesIn v.id left frames rest
+  body : List ℕ
+  whole : left ≡ header_bytes v.id ++ body
+  read : IsReading v.id (start_of v.id) body frames rest
+  of : IsPrefix body (frames_bytes v.id (start_of v.id) v.frames)
   kept : IsPrefix v.synced_frames frames
   made : IsPrefix frames v.frames
 
 left_of : (v : FramedView) (cursor : Cursor) (offset stated : ℕ) (left : List ℕ) → IsFramed v cursor offset stated → MayBeLeft v left → Left v left
 left_of v cursor offset stated left is may =
     let id = v.id in
-    let kept = prefix_trans (log_bytes id v.synced_frames) v.synced left is.safe may.kept in
+    let kept : IsPrefix (log_bytes id v.synced_frames) left = subst (λ (t : List ℕ). IsPrefix t left) is.safe may.kept in
     let header : IsPrefix (header_bytes id) left = prefix_trans (header_bytes id) (log_bytes id v.synced_frames) left (frames_bytes id (start_of id) v.synced_frames, refl) kept in
     let made = prefix_trans left v.written (log_bytes id v.frames) may.made is.in_order in
     let part : IsPrefix header.0 (frames_bytes id (start_of id) v.frames) = behind (header_bytes id) header.0 (frames_bytes id (start_of id) v.frames) (made.0, ap (λ t. t ++ made.0) header.1 ∙ made.1) in
@@ -169,14 +152,19 @@ left_of v cursor offset stated left is may =
     record {
       frames = take found.count v.frames;
       rest = found.rest;
-      read = record {
-        fit = found.fit;
-        whole = sym header.1 ∙ ap (λ t. header_bytes id ++ t) found.whole ∙ sym (append_assoc (header_bytes id) (frames_bytes id (start_of id) (take found.count v.frames)) found.rest);
-        longest = found.longest;
-      };
+      body = header.0;
+      whole = sym header.1;
+      read = record { fit = found.fit; whole = found.whole; none = found.longest };
+      of = part;
       kept = subst (λ (fs : List Frame). IsPrefix fs (take found.count v.frames)) first (take_more k found.count v.frames many);
       made = take_prefix found.count v.frames;
     }
+
+-- a log is read in one way
+one_reading : (id : ℕ) (bytes body : List ℕ) (fs gs : List Frame) (r q : List ℕ) → bytes ≡ header_bytes id ++ body → IsReading id (start_of id) body fs r → IsLogReading id bytes gs q → (fs ≡ gs) × (r ≡ q)
+one_reading id bytes body fs gs r q whole a b =
+    let same : b.body ≡ body = append_cancel_left (header_bytes id) b.body body (sym b.whole ∙ whole) in
+    one_way id (start_of id) body fs gs r q a (subst (λ (t : List ℕ). IsReading id (start_of id) t gs q) same b.read)
 
 preserved : (v : FramedView) (left : List ℕ) (l : Left v left) (frames : List Frame) → l.frames ≡ frames → ArePreserved v frames
 preserved v left l frames same =
@@ -185,25 +173,55 @@ preserved v left l frames same =
     record { kept = kept; made = made; kept_payloads = payloads_prefix v.synced_frames frames kept; made_payloads = payloads_prefix frames v.frames made }
 
 pub readable : (v : FramedView) (cursor : Cursor) (offset stated : ℕ) (left : List ℕ) → IsFramed v cursor offset stated → MayBeLeft v left → IsReadable v.id left
-readable v cursor offset stated left is may = let l = left_of v cursor offset stated left is may in (l.frames, l.rest, l.read)
+readable v cursor offset stated left is may =
+    let l = left_of v cursor offset stated left is may in
+    (l.frames, l.rest, record { body = l.body; whole = l.whole; read = l.read })
 
 pub preserves : (v : FramedView) (cursor : Cursor) (offset stated : ℕ) (left : List ℕ) → IsFramed v cursor offset stated → MayBeLeft v left → Preserves v left
 preserves v cursor offset stated left is may frames rest read =
     let l = left_of v cursor offset stated left is may in
-    preserved v left l frames (one_way v.id left l.frames frames l.rest rest l.read read)
+    preserved v left l frames (one_reading v.id left l.body l.frames frames l.rest rest l.whole l.read read).0
 
--- bytes behind that complete no frame
-with_behind : (v : FramedView) (left more : List ℕ) (l : Left v left) → CompletesNoFrame v.id left more → AreFramesIn v.id (left ++ more) l.frames (l.rest ++ more)
-with_behind v left more l none = record {
+-- what is left after the frames is nothing or torn
+pub leaves_cut : (v : FramedView) (cursor : Cursor) (offset stated : ℕ) (left : List ℕ) → IsFramed v cursor offset stated → MayBeLeft v left → IsUnforged v → LeavesCut v.id left
+leaves_cut v cursor offset stated left is may unforged frames rest read =
+    let l = left_of v cursor offset stated left is may in
+    let id = v.id in
+    let all : List ℕ = frames_bytes id (start_of id) v.frames in
+    let same : read.body ≡ l.body = append_cancel_left (header_bytes id) read.body l.body (sym read.whole ∙ l.whole) in
+    let first : read.body ≡ take (length l.body) all = same ∙ sym (prefix_take l.body all l.of) in
+    (what_is_whole id (start_of id) v.frames frames rest (length l.body) is.are (subst (λ (t : List ℕ). IsReading id (start_of id) t frames rest) first read.read)).2 unforged
+
+-- ---- other bytes behind
+
+with_behind : (v : FramedView) (left more : List ℕ) (l : Left v left) → AreHarmless v.id left more → IsReading v.id (start_of v.id) (l.body ++ more) l.frames (l.rest ++ more)
+with_behind v left more l harmless = record {
   fit = l.read.fit;
-  whole = ap (λ t. t ++ more) l.read.whole ∙ append_assoc (log_bytes v.id l.frames) l.rest more;
-  longest = none l.frames l.rest l.read;
+  whole = ap (λ t. t ++ more) l.read.whole ∙ append_assoc (frames_bytes v.id (start_of v.id) l.frames) l.rest more;
+  none = (harmless l.frames l.rest (record { body = l.body; whole = l.whole; read = l.read })).none;
 }
 
-pub readable_behind : (v : FramedView) (cursor : Cursor) (offset stated : ℕ) (left more : List ℕ) → IsFramed v cursor offset stated → MayBeLeft v left → CompletesNoFrame v.id left more → IsReadable v.id (left ++ more)
-readable_behind v cursor offset stated left more is may none = let l = left_of v cursor offset stated left is may in (l.frames, l.rest ++ more, with_behind v left more l none)
+whole_behind : (v : FramedView) (left more : List ℕ) (l : Left v left) → left ++ more ≡ header_bytes v.id ++ (l.body ++ more)
+whole_behind v left more l = ap (λ t. t ++ more) l.whole ∙ append_assoc (header_bytes v.id) l.body more
 
-pub preserves_behind : (v : FramedView) (cursor : Cursor) (offset stated : ℕ) (left more : List ℕ) → IsFramed v cursor offset stated → MayBeLeft v left → CompletesNoFrame v.id left more → Preserves v (left ++ more)
-preserves_behind v cursor offset stated left more is may none frames rest read =
+pub readable_behind : (v : FramedView) (cursor : Cursor) (offset stated : ℕ) (left more : List ℕ) → IsFramed v cursor offset stated → MayBeLeft v left → AreHarmless v.id left more → IsReadable v.id (left ++ more)
+readable_behind v cursor offset stated left more is may harmless =
     let l = left_of v cursor offset stated left is may in
-    preserved v left l frames (one_way v.id (left ++ more) l.frames frames (l.rest ++ more) rest (with_behind v left more l none) read)
+    (l.frames, l.rest ++ more, record { body = l.body ++ more; whole = whole_behind v left more l; read = with_behind v left more l harmless })
+
+pub preserves_behind : (v : FramedView) (cursor : Cursor) (offset stated : ℕ) (left more : List ℕ) → IsFramed v cursor offset stated → MayBeLeft v left → AreHarmless v.id left more → Preserves v (left ++ more)
+preserves_behind v cursor offset stated left more is may harmless frames rest read =
+    let l = left_of v cursor offset stated left is may in
+    preserved v left l frames (one_reading v.id (left ++ more) (l.body ++ more) l.frames frames (l.rest ++ more) rest (whole_behind v left more l) (with_behind v left more l harmless) read).0
+
+ended : (id : ℕ) (c : Cursor) (rest : List ℕ) → CompletesNothing id c rest → IsCut id c rest
+ended id c [] nothing = inl refl
+ended id c (b ∷ rest) nothing = inr (record { some = omega arith; none = nothing.none; no_later = nothing.no_later })
+
+pub leaves_cut_behind : (v : FramedView) (cursor : Cursor) (offset stated : ℕ) (left more : List ℕ) → IsFramed v cursor offset stated → MayBeLeft v left → AreHarmless v.id left more → LeavesCut v.id (left ++ more)
+leaves_cut_behind v cursor offset stated left more is may harmless frames rest read =
+    let l = left_of v cursor offset stated left is may in
+    let nothing = harmless l.frames l.rest (record { body = l.body; whole = l.whole; read = l.read }) in
+    let same = one_reading v.id (left ++ more) (l.body ++ more) l.frames frames (l.rest ++ more) rest (whole_behind v left more l) (with_behind v left more l harmless) read in
+    subst (λ (fs : List Frame). IsCut v.id (end_of v.id (start_of v.id) fs) rest) same.0
+    (subst (λ (t : List ℕ). IsCut v.id (end_of v.id (start_of v.id) l.frames) t) same.1 (ended v.id (end_of v.id (start_of v.id) l.frames) (l.rest ++ more) nothing))

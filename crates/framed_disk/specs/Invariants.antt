@@ -12,18 +12,18 @@ abbrev pub StatesAtMost : ℕ → Frame → Type 0
 StatesAtMost n f = f.synced ≤ n
 
 -- The bytes that were written are those of the frames, in order. A call that failed may have lost the end of them. The cursor is after the frames.
--- The synced frames lie within the bytes that are synced, no frame states that more is synced, and the offset is the end of the synced frames.
+-- The bytes that are synced are those of the synced frames, no frame states that more is synced, and the offset is the end of the synced frames.
 pub record IsFramed (v : FramedView) (cursor : Cursor) (offset stated : ℕ) : Type 0 where
   pub are : AreFrames v.id (start_of v.id) v.frames
   pub in_order : IsPrefix v.written (log_bytes v.id v.frames)
   pub exact : v.failed ≡ false → v.written ≡ log_bytes v.id v.frames
   pub at_end : v.failed ≡ false → cursor ≡ end_of v.id (start_of v.id) v.frames
   pub synced_of : IsPrefix v.synced_frames v.frames
-  pub safe : IsPrefix (log_bytes v.id v.synced_frames) v.synced
+  pub safe : v.synced ≡ log_bytes v.id v.synced_frames
   pub down : IsPrefix v.synced v.written
   pub known : offset ≡ synced_offset v
   pub last : v.failed ≡ false → (stated ≡ 0) ⊎ LastStates stated v.frames
-  pub all : AllByRecursion (StatesAtMost (length v.synced)) v.frames
+  pub all : AllByRecursion (StatesAtMost (synced_offset v)) v.frames
 
 -- the same without what only the code sees
 pub record IsInOrder (v : FramedView) : Type 0 where
@@ -31,6 +31,6 @@ pub record IsInOrder (v : FramedView) : Type 0 where
   pub in_order : IsPrefix v.written (log_bytes v.id v.frames)
   pub exact : v.failed ≡ false → v.written ≡ log_bytes v.id v.frames
   pub synced_of : IsPrefix v.synced_frames v.frames
-  pub safe : IsPrefix (log_bytes v.id v.synced_frames) v.synced
+  pub safe : v.synced ≡ log_bytes v.id v.synced_frames
   pub down : IsPrefix v.synced v.written
-  pub all : AllByRecursion (StatesAtMost (length v.synced)) v.frames
+  pub all : AllByRecursion (StatesAtMost (synced_offset v)) v.frames

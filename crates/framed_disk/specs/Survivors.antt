@@ -1,18 +1,22 @@
 -- What a crash leaves of a framed disk.
 use Rattle.std.specs.Prelude.{◌≡◌, ℕ, List, ◌++◌}
 use mathlib.Core.List.{IsPrefix}
-use Rattle.log_frames.specs.Frames.{AreFrames, Frame, end_of, payloads}
-use Rattle.log_frames.specs.Headers.{log_bytes, start_of}
-use Rattle.log_frames.specs.Reads.{BeginsNoFrame}
+use Rattle.log_frames.specs.Frames.{Frame, end_of, payloads}
+use Rattle.log_frames.specs.Headers.{header_bytes, start_of}
+use Rattle.log_frames.specs.Laws.{AreUnforged, CompletesNothing, IsCut, IsReading}
 use Rattle.framed_disk.specs.Views.{FramedView}
 
--- the bytes are a log of these frames, and a rest that begins with no further frame
-pub record AreFramesIn (id : ℕ) (bytes : List ℕ) (frames : List Frame) (rest : List ℕ) : Type 0 where
-  pub fit : AreFrames id (start_of id) frames
-  pub whole : bytes ≡ log_bytes id frames ++ rest
-  pub longest : BeginsNoFrame id (end_of id (start_of id) frames) rest
+-- the bytes are a header, and what follows it is read as these frames and a rest
+pub record IsLogReading (id : ℕ) (bytes : List ℕ) (frames : List Frame) (rest : List ℕ) : Type 0 where
+  pub body : List ℕ
+  pub whole : bytes ≡ header_bytes id ++ body
+  pub read : IsReading id (start_of id) body frames rest
 
--- these bytes are what a crash may leave: they have all bytes that are synced, and are a prefix of those that were written
+-- the bytes can be read as a log
+abbrev pub IsReadable : ℕ → List ℕ → Type 0
+IsReadable id bytes = (frames : List Frame) × (rest : List ℕ) × IsLogReading id bytes frames rest
+
+-- a crash may leave these bytes: they have all that are synced, and are a prefix of those that were written
 pub record MayBeLeft (v : FramedView) (left : List ℕ) : Type 0 where
   pub kept : IsPrefix v.synced left
   pub made : IsPrefix left v.written
@@ -24,15 +28,19 @@ pub record ArePreserved (v : FramedView) (frames : List Frame) : Type 0 where
   pub kept_payloads : IsPrefix (payloads v.synced_frames) (payloads frames)
   pub made_payloads : IsPrefix (payloads frames) (payloads v.frames)
 
--- the bytes can be read as a log
-abbrev pub IsReadable : ℕ → List ℕ → Type 0
-IsReadable id bytes = (frames : List Frame) × (rest : List ℕ) × AreFramesIn id bytes frames rest
-
 -- however the bytes are read as a log, the frames are preserved
 abbrev pub Preserves : FramedView → List ℕ → Type 0
-Preserves v bytes = (frames : List Frame) (rest : List ℕ) → AreFramesIn v.id bytes frames rest → ArePreserved v frames
+Preserves v bytes = (frames : List Frame) (rest : List ℕ) → IsLogReading v.id bytes frames rest → ArePreserved v frames
 
--- bytes after what was left complete no frame
-abbrev pub CompletesNoFrame : ℕ → List ℕ → List ℕ → Type 0
-CompletesNoFrame id left behind =
-    (frames : List Frame) (rest : List ℕ) → AreFramesIn id left frames rest → BeginsNoFrame id (end_of id (start_of id) frames) (rest ++ behind)
+-- however the bytes are read as a log, nothing is left after the frames, or what is left is torn
+abbrev pub LeavesCut : ℕ → List ℕ → Type 0
+LeavesCut id bytes = (frames : List Frame) (rest : List ℕ) → IsLogReading id bytes frames rest → IsCut id (end_of id (start_of id) frames) rest
+
+-- no payload of the disk contains a forged head
+abbrev pub IsUnforged : FramedView → Type 0
+IsUnforged v = AreUnforged v.id (start_of v.id) v.frames
+
+-- the bytes behind complete nothing of what a crash left
+abbrev pub AreHarmless : ℕ → List ℕ → List ℕ → Type 0
+AreHarmless id left behind =
+    (frames : List Frame) (rest : List ℕ) → IsLogReading id left frames rest → CompletesNothing id (end_of id (start_of id) frames) (rest ++ behind)

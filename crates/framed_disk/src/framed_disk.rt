@@ -5,7 +5,7 @@ ghost use Rattle.log_disk.specs.Torn.{IsTorn};
 ghost use Rattle.log_frames.specs.Frames.{AreFrames, IsHead, end_of, head_of, payloads};
 ghost use Rattle.log_frames.specs.Headers.{log_bytes, start_of};
 ghost use Rattle.framed_disk.specs.Invariants.{IsInOrder};
-ghost use Rattle.framed_disk.specs.Survivors.{CompletesNoFrame, IsReadable, MayBeLeft, Preserves};
+ghost use Rattle.framed_disk.specs.Survivors.{AreHarmless, IsReadable, IsUnforged, LeavesCut, MayBeLeft, Preserves};
 ghost use Rattle.framed_disk.specs.Views.{AddsFrame, IsMarked, KeepsPayloads, opened};
 
 use crate::deed::{FrameDeed, FramesName, NoFrames, Syncs, add_frame, add_named};
@@ -141,31 +141,35 @@ impl<D: Disk> FramedDisk<D> {
 
     /// Does nothing at run time: it gives the caller the invariant as facts.
     ///
-    /// What was written is a prefix of the log, and all of it unless a call has failed. What is synced contains the synced frames, and no frame
-    /// states that more is synced.
+    /// What was written is a prefix of the log, and all of it unless a call has failed. What is synced are the synced frames, and
+    /// no frame states that more is synced.
     pub fn reveal_invariant(&self)
         ensures { IsInOrder self.now }
     {
         let _ = &self.raw;
     }
 
-    /// Does nothing at run time: whatever a crash leaves of the other disk can be read as a log, and the payloads that are read contain all that
-    /// are synced and are a prefix of those that were written.
+    /// Does nothing at run time: whatever a crash leaves of the other disk can be read as a log. The payloads that are read contain
+    /// all that are synced, and are a prefix of those that were written. The log is not damaged, if no payload contains a forged
+    /// head.
     pub fn reveal_survivors(&self, left: &[u8])
         requires { MayBeLeft self.now left.now }
         ensures readable { IsReadable (self.now).id left.now }
         ensures preserved { Preserves self.now left.now }
+        ensures cut { IsUnforged self.now → LeavesCut (self.now).id left.now }
     {
         let _ = left;
         let _ = &self.raw;
     }
 
-    /// Does nothing at run time: the same if other bytes follow what a crash leaves, as zeros or garbage, that complete no frame.
+    /// Does nothing at run time: the same if other bytes, as zeros or garbage, are behind those that a crash leaves and complete
+    /// nothing.
     pub fn reveal_survivors_before(&self, left: &[u8], behind: &[u8])
         requires left { MayBeLeft self.now left.now }
-        requires behind { CompletesNoFrame (self.now).id left.now behind.now }
+        requires behind { AreHarmless (self.now).id left.now behind.now }
         ensures readable { IsReadable (self.now).id (left.now ++ behind.now) }
         ensures preserved { Preserves self.now (left.now ++ behind.now) }
+        ensures cut { LeavesCut (self.now).id (left.now ++ behind.now) }
     {
         let _ = left;
         let _ = behind;
