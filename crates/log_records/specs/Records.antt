@@ -2,8 +2,9 @@
 use Rattle.std.specs.Prelude.{◌≡◌, ◌<◌, ◌≤◌, ◌+◌, ◌^◌, ◌++◌, ℕ, List, false, length, take, drop}
 use Rattle.std.specs.Int.{w16, w32, w64, to_le_bytes}
 use Rattle.std.specs.List.{flat_map}
-use Rattle.log_records.specs.Changes.{Change, Parts, max_body, parts, parts_of}
+use Rattle.log_records.specs.Changes.{Change, Parts, change_view, max_body, parts, parts_of}
 use Rattle.log_records.specs.Kinds.{kind_number, uses_body, uses_digest, uses_name, uses_number}
+use Rattle.log_records.specs.declared.change.Change.{Change as BorrowedChange}
 use Rattle.log_records.specs.declared.head.Head.{Head}
 use Rattle.log_records.specs.declared.kind.Kind.{Kind}
 
@@ -49,6 +50,13 @@ head_for c = head_of (parts_of c)
 -- the record of a change: a head, a name, a digest's text and a body
 abbrev pub record_bytes : Change → List ℕ
 record_bytes c = head_bytes (head_for c) ++ payload_of (parts_of c)
+
+-- the record of a borrowed change, and its length
+abbrev pub record_for : BorrowedChange → List ℕ
+record_for c = record_bytes (change_view c)
+
+abbrev pub record_length : BorrowedChange → ℕ
+record_length c = length (record_for c)
 
 -- the records of changes, one after another
 abbrev pub records_bytes : List Change → List ℕ

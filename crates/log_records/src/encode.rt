@@ -1,7 +1,7 @@
 //! Appends records to a vector.
 ghost use Rattle.std.specs.Prelude.{◌≡◌, ◌≤◌, ◌+◌, ◌++◌, IsOk, OnErr, OnOk, length, vec_capacity, vec_len};
 ghost use Rattle.log_records.specs.Changes.{IsChange, change_view};
-ghost use Rattle.log_records.specs.Records.{record_bytes};
+ghost use Rattle.log_records.specs.Records.{record_for, record_length};
 
 use crate::change::Change;
 use crate::head::{HEAD_LEN, Head, head_bytes};
@@ -11,7 +11,7 @@ use std::alloc::AllocError;
 /// Returns the length of a change's record, in bytes.
 pub fn record_len(change: &Change<'_>) -> u64
     requires { IsChange (change_view change.now) }
-    ensures { result ≡ length (record_bytes (change_view change.now)) }
+    ensures { result ≡ record_length change.now }
 {
     let parts = parts_of(change);
     HEAD_LEN as u64 + parts.name.len() as u64 + parts.digest.len() as u64 + parts.body.len() as u64
@@ -36,8 +36,8 @@ fn put(out: &mut Vec<u8>, bytes: &[u8])
 /// The call never allocates.
 pub fn append_reserved(out: &mut Vec<u8>, change: &Change<'_>)
     requires change { IsChange (change_view change.now) }
-    requires room { vec_len out.old + length (record_bytes (change_view change.now)) ≤ vec_capacity out.old }
-    ensures items { out.new.items ≡ out.old.items ++ record_bytes (change_view change.now) }
+    requires room { vec_len out.old + record_length change.now ≤ vec_capacity out.old }
+    ensures items { out.new.items ≡ out.old.items ++ record_for change.now }
     ensures capacity { vec_capacity out.old ≤ vec_capacity out.new }
 {
     let Parts {
@@ -71,10 +71,10 @@ pub fn append_reserved(out: &mut Vec<u8>, change: &Change<'_>)
 /// The call reserves room for the record once. It allocates only if the vector has less room than that.
 pub fn append_record(out: &mut Vec<u8>, change: &Change<'_>) -> Result<(), AllocError>
     requires { IsChange (change_view change.now) }
-    ensures ok { OnOk result (out.new.items ≡ out.old.items ++ record_bytes (change_view change.now)) }
+    ensures ok { OnOk result (out.new.items ≡ out.old.items ++ record_for change.now) }
     ensures err { OnErr result (out.new.items ≡ out.old.items) }
     ensures capacity { vec_capacity out.old ≤ vec_capacity out.new }
-    ensures succeeds { vec_len out.old + length (record_bytes (change_view change.now)) ≤ vec_capacity out.old → IsOk result }
+    ensures succeeds { vec_len out.old + record_length change.now ≤ vec_capacity out.old → IsOk result }
 {
     out.reserve(record_len(change) as usize)?;
     append_reserved(out, change);
