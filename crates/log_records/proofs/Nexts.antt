@@ -5,7 +5,7 @@ use Rattle.log_records.specs.declared.head.Head.{Head}
 use Rattle.log_records.specs.Changes.{Change, IsChange, parts_of}
 use Rattle.log_records.specs.Decoding.{CutOff, End, IsCutOff, IsMalformed, IsNext, IsOfUnknownKind, IsPartOfRecord, Malformed, Next, Record, UnknownKind}
 use Rattle.log_records.specs.Kinds.{IsUnknown}
-use Rattle.log_records.specs.Laws.{BytesHaveOneNext, HasNoRecord}
+use Rattle.log_records.specs.Laws.{BytesHaveOneNext, HasNoRecord, RecordsAreReadBack}
 use Rattle.log_records.specs.Records.{IsHead, head_bytes, head_for, payload_of, record_bytes}
 use Rattle.log_records.proofs.Apart.{head_fits, head_len, heads_apart, known, record_bytes-length, record_split, records_apart}
 
@@ -107,3 +107,6 @@ one_next bytes CutOff (Record c rest) a b = absurd (cut_off-no_record bytes a c 
 one_next bytes CutOff (UnknownKind kind) a b = absurd (cut_off-known kind bytes b a)
 one_next bytes CutOff Malformed a b = absurd (cut_off-well_formed bytes b a)
 one_next bytes CutOff CutOff a b = refl
+
+pub read_back : RecordsAreReadBack
+read_back c rest n is next = one_next (record_bytes c ++ rest) n (Record c rest) next (is, refl)

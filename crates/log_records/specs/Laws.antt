@@ -2,12 +2,16 @@
 use Rattle.std.specs.Prelude.{◌≡◌, ◌⊎◌, ◌≤◌, ℕ, List, [], ◌++◌, length, take}
 use Rattle.std.specs.List.{AllByRecursion}
 use Rattle.log_records.specs.Changes.{Change, IsChange}
-use Rattle.log_records.specs.Decoding.{IsCutOff, IsNext, Next}
+use Rattle.log_records.specs.Decoding.{IsCutOff, IsNext, Next, Record}
 use Rattle.log_records.specs.Records.{record_bytes, records_bytes}
 
 -- no record is another, or a proper beginning of another
 abbrev pub RecordsAreApart : Type 0
 RecordsAreApart = (a b : Change) (x y : List ℕ) → IsChange a → IsChange b → record_bytes a ++ x ≡ record_bytes b ++ y → (a ≡ b) × (x ≡ y)
+
+-- whatever is read at the front of a record's bytes is the record's change, and the bytes after it are left
+abbrev pub RecordsAreReadBack : Type 0
+RecordsAreReadBack = (c : Change) (rest : List ℕ) (n : Next) → IsChange c → IsNext (record_bytes c ++ rest) n → n ≡ Record c rest
 
 -- bytes begin with one thing only
 abbrev pub BytesHaveOneNext : Type 0

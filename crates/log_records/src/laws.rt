@@ -1,8 +1,9 @@
 //! Laws of the bytes of records. Each is the contract of a function that does nothing.
-ghost use Rattle.log_records.specs.Laws.{BytesHaveOneNext, ChangesAreReadInOneWay, CutsKeepFirstChanges, ListsAreReadBack, RecordsAreApart};
+ghost use Rattle.log_records.specs.Laws.{BytesHaveOneNext, ChangesAreReadInOneWay, CutsKeepFirstChanges, ListsAreReadBack, RecordsAreApart, RecordsAreReadBack};
 
 /// A record is read back as its change, and bytes begin with at most one record.
 pub fn records()
+    ensures read_back { RecordsAreReadBack }
     ensures apart { RecordsAreApart }
     ensures one_next { BytesHaveOneNext }
 {}
