@@ -1,5 +1,5 @@
 -- A framed disk, as contracts see it.
-use Rattle.std.specs.Prelude.{◌≡◌, ℕ, Bool, false, List, [], ◌∷◌, ◌++◌, length}
+use Rattle.std.specs.Prelude.{◌≡◌, ℕ, Bool, false, true, List, [], ◌∷◌, ◌++◌, IsErr, Result, length}
 use Rattle.log_frames.specs.Frames.{Frame, frame_of, payloads}
 use Rattle.log_frames.specs.Headers.{log_bytes}
 
@@ -23,6 +23,17 @@ opened id frames = framed id (frames, frames) (log_bytes id frames) (log_bytes i
 -- the offset in the log up to which it is known to be synced: the end of the synced frames
 abbrev pub synced_offset : FramedView → ℕ
 synced_offset v = length (log_bytes v.id v.synced_frames)
+
+-- the payloads whose write was attempted, and those that are synced
+abbrev pub attempted : FramedView → List ℕ
+attempted v = payloads v.frames
+
+abbrev pub durable : FramedView → List ℕ
+durable v = payloads v.synced_frames
+
+-- after a call has failed, a call fails and changes nothing
+abbrev pub FailsAfterFailure : {A E : Type 0} → Result A E → FramedView → FramedView → Type 0
+FailsAfterFailure result old new = old.failed ≡ true → IsErr result × (new ≡ old)
 
 -- a frame with this payload was added, which states the synced offset; nothing was synced
 pub record AddsFrame (old : FramedView) (payload : List ℕ) (new : FramedView) : Type 0 where

@@ -1,12 +1,12 @@
 //! A disk of frames.
 
-ghost use Rattle.std.specs.Prelude.{◌≡◌, ◌⊎◌, ◌++◌, [], IfOk, OnOk, OnErr, true, false, length};
+ghost use Rattle.std.specs.Prelude.{◌≡◌, ◌⊎◌, ◌++◌, [], IfOk, OnOk, OnErr, true};
 ghost use Rattle.log_disk.specs.Torn.{IsTorn};
-ghost use Rattle.log_frames.specs.Frames.{AreFrames, IsHead, end_of, head_of, payloads};
+ghost use Rattle.log_frames.specs.Frames.{AreFrames, IsHead, end_of, head_of};
 ghost use Rattle.log_frames.specs.Headers.{log_bytes, start_of};
 ghost use Rattle.framed_disk.specs.Invariants.{IsInOrder};
 ghost use Rattle.framed_disk.specs.Survivors.{AreHarmless, IsReadable, IsUnforged, LeavesCut, MayBeLeft, Preserves};
-ghost use Rattle.framed_disk.specs.Views.{AddsFrame, IsMarked, KeepsPayloads, opened};
+ghost use Rattle.framed_disk.specs.Views.{AddsFrame, FailsAfterFailure, IsMarked, KeepsPayloads, attempted, durable, opened};
 
 use crate::deed::{FrameDeed, FramesName, NoFrames, Syncs, add_frame, add_named};
 use crate::put::{TOGETHER, write_frame};
@@ -132,6 +132,7 @@ impl<D: Disk> FramedDisk<D> {
     pub fn mark(&mut self) -> Result<(), DiskError>
         ensures payloads { KeepsPayloads self.old self.new }
         ensures marked { OnOk result (IsMarked self.new) }
+        ensures stuck { FailsAfterFailure result self.old self.new }
     {
         if self.failure.is_none() && self.stated == self.synced {
             return Ok(());
@@ -185,6 +186,7 @@ impl<D: Disk> FramedDisk<D> {
     fn write_payload(&mut self, payload: &[u8]) -> Result<(), DiskError>
         ensures ok { OnOk result (AddsFrame self.old payload.now self.new) }
         ensures err { OnErr result (AddsFrame self.old payload.now self.new ⊎ (self.new ≡ self.old)) }
+        ensures stuck { FailsAfterFailure result self.old self.new }
     {
         if let Some(error) = self.failure {
             return Err(error);
@@ -216,23 +218,46 @@ impl<D: Disk> FramedDisk<D> {
 }
 
 impl<D: Disk> Disk for FramedDisk<D> {
-    ghost use Rattle.log_frames.specs.Frames.{payloads};
+    ghost use Rattle.framed_disk.specs.Views.{attempted, durable};
 
-    ghost written = { λ d. payloads d.frames };
+    ghost written = { attempted };
 
-    ghost synced = { λ d. payloads d.synced_frames };
+    ghost synced = { durable };
 
-    fn write(&mut self, bytes: &[u8]) -> Result<(), DiskError> {
+    /// Writes a frame with these bytes as its payload. It states how far the log is synced.
+    ///
+    /// # Errors
+    ///
+    /// - The error of the call that has failed, now or before.
+    /// - `FileTooLarge` if a log has no room for the frame. Then nothing is written.
+    fn write(&mut self, bytes: &[u8]) -> Result<(), DiskError>
+        ensures ok { OnOk result (attempted self.new ≡ attempted self.old ++ bytes.now) }
+        ensures err { OnErr result (IsTorn (attempted self.old) bytes.now (attempted self.new)) }
+        ensures kept { durable self.new ≡ durable self.old }
+        ensures frame { OnOk result (AddsFrame self.old bytes.now self.new) }
+        ensures stuck { FailsAfterFailure result self.old self.new }
+    {
         self.write_payload(bytes)
     }
 
-    fn sync(&mut self) -> Result<(), DiskError> {
+    /// Waits until all frames are durable.
+    ///
+    /// # Errors
+    ///
+    /// - The error of the call that has failed, now or before.
+    fn sync(&mut self) -> Result<(), DiskError>
+        ensures same { attempted self.new ≡ attempted self.old }
+        ensures ok { OnOk result (durable self.new ≡ attempted self.old) }
+        ensures err { OnErr result (durable self.new ≡ durable self.old) }
+        ensures frames { OnOk result ((self.new).synced_frames ≡ (self.new).frames) }
+        ensures stuck { FailsAfterFailure result self.old self.new }
+    {
         if let Some(failure) = self.failure {
             return Err(failure);
         }
-        if let Err(error) = self.raw.sync() {
-            self.failure = Some(error);
-            return Err(error);
+        if let Err(cause) = self.raw.sync() {
+            self.failure = Some(cause);
+            return Err(cause);
         }
         self.deeds.append::<Syncs>(&mut self.writer);
         self.synced = self.cursor.place;

@@ -1,4 +1,4 @@
-use Rattle.std.proofs.Common.{◌≡◌, ◌∙◌, [], List, ap, rules, None, Option}
+use Rattle.std.proofs.Common.{◌≡◌, ◌∙◌, [], List, ap, rules, sym, None, Option}
 use Rattle.std.specs.Option.{is_some}
 use Rattle.log_frames.specs.Frames.{Frame, payloads}
 use Rattle.framed_disk.specs.Deeds.{after_deed, after_deeds}
@@ -25,3 +25,9 @@ returns-clause-ok g c =
     let old = c.self.inside in
     let all : after_deeds ([], []) c.append.new.self.entries ≡ after_deed (after_deeds ([], []) old.deeds.entries) None = ap (λ l. after_deeds ([], []) l.entries) c.append.ensures.log ∙ after_deeds-snoc ([], []) old.deeds.entries old.writer.number None in
     ap (λ (p : List Frame × List Frame). payloads p.1) all ∙ ap (λ (v : FramedView). payloads v.frames) c.self.view_is
+
+pub returns-clause-frames : goal.returns-clause-frames
+returns-clause-frames g c =
+    let old = c.self.inside in
+    let all : after_deeds ([], []) c.append.new.self.entries ≡ after_deed (after_deeds ([], []) old.deeds.entries) None = ap (λ l. after_deeds ([], []) l.entries) c.append.ensures.log ∙ after_deeds-snoc ([], []) old.deeds.entries old.writer.number None in
+    ap (λ (p : List Frame × List Frame). p.1) all ∙ sym (ap (λ (p : List Frame × List Frame). p.0) all)
