@@ -131,3 +131,8 @@ pub room_then : (n : ℕ) (a b : Option (List ℕ)) (bytes : List ℕ) (old mid 
 room_then n None b bytes old mid new gave len first second = tt
 room_then n (Some xs) None bytes old mid new gave len first second = absurd gave
 room_then n (Some xs) (Some ys) bytes old mid new gave len first second = omega (arith, len, ap length gave, length-append bytes ys, first, second)
+
+pub room_later : (a b : Option (List ℕ)) (bytes : List ℕ) (old mid new : ℕ) → Consumes a b bytes → HasRoomFor 0 a old mid → HasRoomFor 0 b mid new → HasRoomFor 0 a old new
+room_later None b bytes old mid new gave first second = tt
+room_later (Some xs) None bytes old mid new gave first second = absurd gave
+room_later (Some xs) (Some ys) bytes old mid new gave first second = omega (arith, ap length gave, length-append bytes ys, first, second)

@@ -2,6 +2,7 @@
 ghost use Rattle.std.specs.Prelude.{ℕ, ◌≤◌, IfErr, IfOk, IfSome, List, OnErr, OnOk, take, vec_len};
 ghost use Rattle.log_frames.specs.Endings.{EndsFrames, FramesAreRead, Judges, TakesFrame};
 ghost use Rattle.log_frames.specs.Laws.{ReadsExactly, Recovers};
+ghost use Rattle.log_frames.specs.Reads.{HasRoomFor};
 
 use crate::cursor::Cursor;
 use crate::fault::ReadFault;
@@ -67,7 +68,9 @@ fn judge_rest<R: Read>(
     place: u64,
 ) -> Ending
     requires { count ≤ vec_len buffer.old }
-    ensures { Judges id place (take count buffer.old.items) (R.remaining input.old) result }
+    ensures rest { Judges id place (take count buffer.old.items) (R.remaining input.old) result }
+    ensures memory { HasRoomFor count (R.remaining input.old)
+        (vec_len buffer.old) (vec_len buffer.new) }
 {
     match find_later_head(input, buffer, count, id, place) {
         Ok(Some(head)) => Ending::Damaged(head),
@@ -91,6 +94,8 @@ fn take_next_frame<S: FrameSink, R: Read>(
         (R.remaining input.old) (R.remaining input.new)) }
     ensures ended { IfErr result (EndsFrames S.refuses sink.old sink.new id cursor
         (R.remaining input.old)) }
+    ensures memory { HasRoomFor 0 (R.remaining input.old)
+        (vec_len buffer.old) (vec_len buffer.new) }
 {
     match read_next_frame(input, buffer, id, cursor) {
         Ok(NextFrame::Frame(head, next)) => {
@@ -124,6 +129,8 @@ pub fn read_frames<S: FrameSink, R: Read>(
         ReadsExactly S.takes sink.old sink.new id start bytes result) }
     ensures recovers { IfSome (R.remaining input.old) (λ bytes.
         Recovers S.takes sink.old sink.new id start bytes result.ending) }
+    ensures memory { HasRoomFor 0 (R.remaining input.old)
+        (vec_len buffer.old) (vec_len buffer.new) }
 {
     take_frames(sink, input, buffer, id, start)
 }
@@ -136,8 +143,10 @@ fn take_frames<S: FrameSink, R: Read>(
     id: u64,
     start: Cursor,
 ) -> FramesRead
-    ensures { FramesAreRead S.takes S.refuses sink.old sink.new id start
+    ensures read { FramesAreRead S.takes S.refuses sink.old sink.new id start
         (R.remaining input.old) result }
+    ensures memory { HasRoomFor 0 (R.remaining input.old)
+        (vec_len buffer.old) (vec_len buffer.new) }
 {
     let mut cursor = start;
     let mut synced: u64 = 0;

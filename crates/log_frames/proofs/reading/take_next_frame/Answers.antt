@@ -1,5 +1,6 @@
-use Rattle.std.proofs.Common.{◌≡◌, ◌∙◌, ap, refl, subst, take, drop, List, ℕ}
+use Rattle.std.proofs.Common.{◌≡◌, ◌∙◌, ap, refl, subst, length-take-le, take, drop, List, ℕ, vec_len}
 use Rattle.log_frames.specs.Reads.{frame_in, payload_in}
+use Rattle.log_frames.proofs.NextFrames.{room_then}
 use Rattle.log_frames.proofs.Taking.{judged_sink}
 use Rattle.log_frames.proofs.reading.take_next_frame.Goals as goal
 
@@ -24,4 +25,10 @@ returns-in-Err-clause-ended g c =
 pub returns-in-Ok-NoFrame-clause-ended : goal.returns-in-Ok-NoFrame-clause-ended
 returns-in-Ok-NoFrame-clause-ended g c =
     let next = rw c.in-Ok-NoFrame.field-0-is at c.in-Ok-NoFrame.ensures.next in
-    judged_sink g.S.FrameSink.refuses _ c.args.id c.args.cursor _ _ _ c.in-Ok-NoFrame.count c.judge_rest.result next.0 next.1 c.judge_rest.ensures
+    judged_sink g.S.FrameSink.refuses _ c.args.id c.args.cursor _ _ _ c.in-Ok-NoFrame.count c.judge_rest.result next.0 next.1 c.judge_rest.ensures.rest
+
+pub returns-in-Ok-NoFrame-clause-memory : goal.returns-in-Ok-NoFrame-clause-memory
+returns-in-Ok-NoFrame-clause-memory g c =
+    let next = rw c.in-Ok-NoFrame.field-0-is at c.in-Ok-NoFrame.ensures.next in
+    let buffer = c.read_next_frame.new.buffer.items in
+    room_then c.in-Ok-NoFrame.count (g.R.Read.remaining c.args.input.now) (g.R.Read.remaining c.read_next_frame.new.input) (take c.in-Ok-NoFrame.count buffer) (vec_len c.args.buffer.now) (vec_len c.read_next_frame.new.buffer) (vec_len c.judge_rest.new.buffer) next.0.read (length-take-le c.in-Ok-NoFrame.count buffer next.0.held) c.read_next_frame.ensures.memory c.judge_rest.ensures.memory
