@@ -1,7 +1,7 @@
 -- A framed disk, as contracts see it.
-use Rattle.std.specs.Prelude.{◌≡◌, ℕ, Bool, false, true, List, [], ◌∷◌, ◌++◌, IsErr, Result, length}
-use Rattle.log_frames.specs.Frames.{Frame, frame_of, payloads}
-use Rattle.log_frames.specs.Headers.{log_bytes}
+use Rattle.std.specs.Prelude.{◌≡◌, ◌⊎◌, ℕ, Bool, false, true, List, [], ◌∷◌, ◌++◌, IsErr, OnErr, Result, length}
+use Rattle.log_frames.specs.Frames.{Frame, IsFrame, end_of, frame_of, payloads}
+use Rattle.log_frames.specs.Headers.{log_bytes, start_of}
 
 -- the id of the log, the frames whose write was attempted, those that are synced, the bytes that were written to the other disk and those that
 -- are synced there, and whether a call has failed
@@ -58,3 +58,11 @@ pub record LastStates (offset : ℕ) (frames : List Frame) : Type 0 where
 -- the last frame states the synced offset
 abbrev pub IsMarked : FramedView → Type 0
 IsMarked v = LastStates (synced_offset v) v.frames
+
+-- a log has no room for a frame with this payload after the frames
+abbrev pub HasNoRoom : FramedView → List ℕ → Type 0
+HasNoRoom v payload = IsFrame (end_of v.id (start_of v.id) v.frames) (frame_of (synced_offset v) payload) → ⊥
+
+-- an error: a call on the other disk has failed, now or before, or there is no room for the frame
+abbrev pub FailsOrHasNoRoom : {A E : Type 0} → Result A E → FramedView → List ℕ → FramedView → Type 0
+FailsOrHasNoRoom result old payload new = OnErr result ((new.failed ≡ true) ⊎ HasNoRoom old payload)

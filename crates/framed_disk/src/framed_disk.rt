@@ -1,12 +1,12 @@
 //! A disk of frames.
 
-ghost use Rattle.std.specs.Prelude.{◌≡◌, ◌⊎◌, ◌++◌, [], IfOk, OnOk, OnErr, true};
+ghost use Rattle.std.specs.Prelude.{◌≡◌, ◌⊎◌, ◌++◌, [], IfOk, OnOk, OnErr, true, false};
 ghost use Rattle.log_disk.specs.Torn.{IsTorn};
 ghost use Rattle.log_frames.specs.Frames.{AreFrames, IsHead, end_of, head_of};
 ghost use Rattle.log_frames.specs.Headers.{log_bytes, start_of};
 ghost use Rattle.framed_disk.specs.Invariants.{IsInOrder};
 ghost use Rattle.framed_disk.specs.Survivors.{AreHarmless, IsReadable, IsUnforged, LeavesCut, MayBeLeft, Preserves};
-ghost use Rattle.framed_disk.specs.Views.{AddsFrame, FailsAfterFailure, IsMarked, KeepsPayloads, attempted, durable, opened};
+ghost use Rattle.framed_disk.specs.Views.{AddsFrame, FailsAfterFailure, FailsOrHasNoRoom, IsMarked, KeepsPayloads, attempted, durable, opened};
 
 use crate::deed::{FrameDeed, FramesName, NoFrames, Syncs, add_frame, add_named};
 use crate::put::{TOGETHER, write_frame};
@@ -54,7 +54,8 @@ impl<D: Disk> Model for FramedDisk<D> {
 
 /// Returns whether a frame of this length has room in a log.
 fn has_room(cursor: Cursor, synced: u64, length: u64) -> bool
-    ensures { result ≡ true → IsHead (head_of cursor synced length) }
+    ensures yes { result ≡ true → IsHead (head_of cursor synced length) }
+    ensures no { result ≡ false → IsHead (head_of cursor synced length) → ⊥ }
 {
     length <= MAX_PAYLOAD && synced <= cursor.place && cursor.place <= u64::MAX - 40 - length
 }
@@ -133,6 +134,7 @@ impl<D: Disk> FramedDisk<D> {
         ensures payloads { KeepsPayloads self.old self.new }
         ensures marked { OnOk result (IsMarked self.new) }
         ensures stuck { FailsAfterFailure result self.old self.new }
+        ensures cause { FailsOrHasNoRoom result self.old [] self.new }
     {
         if self.failure.is_none() && self.stated == self.synced {
             return Ok(());
@@ -187,6 +189,7 @@ impl<D: Disk> FramedDisk<D> {
         ensures ok { OnOk result (AddsFrame self.old payload.now self.new) }
         ensures err { OnErr result (AddsFrame self.old payload.now self.new ⊎ (self.new ≡ self.old)) }
         ensures stuck { FailsAfterFailure result self.old self.new }
+        ensures cause { FailsOrHasNoRoom result self.old payload.now self.new }
     {
         if let Some(error) = self.failure {
             return Err(error);
@@ -236,6 +239,7 @@ impl<D: Disk> Disk for FramedDisk<D> {
         ensures kept { durable self.new ≡ durable self.old }
         ensures frame { OnOk result (AddsFrame self.old bytes.now self.new) }
         ensures stuck { FailsAfterFailure result self.old self.new }
+        ensures cause { FailsOrHasNoRoom result self.old bytes.now self.new }
     {
         self.write_payload(bytes)
     }
@@ -251,6 +255,7 @@ impl<D: Disk> Disk for FramedDisk<D> {
         ensures err { OnErr result (durable self.new ≡ durable self.old) }
         ensures frames { OnOk result ((self.new).synced_frames ≡ (self.new).frames) }
         ensures stuck { FailsAfterFailure result self.old self.new }
+        ensures cause { OnErr result ((self.new).failed ≡ true) }
     {
         if let Some(failure) = self.failure {
             return Err(failure);

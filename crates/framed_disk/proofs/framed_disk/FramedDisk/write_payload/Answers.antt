@@ -12,7 +12,7 @@ invariant_of-self g c =
     let at : List Frame × List Frame = after_deeds ([], []) old.deeds.entries in
     let deed : Option (List Frame) = Some (frame_of old.synced c.args.payload.now ∷ []) in
     let more : after_deeds ([], []) c.add_frame.new.log.entries ≡ after_deed at deed = ap (λ l. after_deeds ([], []) l.entries) c.add_frame.ensures.log ∙ after_deeds-snoc ([], []) old.deeds.entries old.writer.number deed in
-    let next = adds_now old.id at _ (g.D.Disk.written old.raw) (g.D.Disk.synced old.raw) (g.D.Disk.written c.write_frame-written.new.disk) (g.D.Disk.synced c.write_frame-written.new.disk) (is_some old.failure) old.cursor c.in-Ok.cursor old.synced old.stated c.args.payload.now more c.in-Ok.ensures.kept c.self.invariant.2 (ap is_some c.in_default.is) (c.has_room.ensures c.if-not-has_room.false) c.in-Ok.ensures.ok c.in-Ok.ensures.after in
+    let next = adds_now old.id at _ (g.D.Disk.written old.raw) (g.D.Disk.synced old.raw) (g.D.Disk.written c.write_frame-written.new.disk) (g.D.Disk.synced c.write_frame-written.new.disk) (is_some old.failure) old.cursor c.in-Ok.cursor old.synced old.stated c.args.payload.now more c.in-Ok.ensures.kept c.self.invariant.2 (ap is_some c.in_default.is) (c.has_room.ensures.yes c.if-not-has_room.false) c.in-Ok.ensures.ok c.in-Ok.ensures.after in
     (search rules, omega arith, next)
 
 pub invariant_of-self-in-Err : goal.invariant_of-self-in-Err
@@ -21,7 +21,7 @@ invariant_of-self-in-Err g c =
     let at : List Frame × List Frame = after_deeds ([], []) old.deeds.entries in
     let deed : Option (List Frame) = Some (frame_of old.synced c.args.payload.now ∷ []) in
     let more : after_deeds ([], []) c.add_frame.new.log.entries ≡ after_deed at deed = ap (λ l. after_deeds ([], []) l.entries) c.add_frame.ensures.log ∙ after_deeds-snoc ([], []) old.deeds.entries old.writer.number deed in
-    let next = adds_part_now old.id at _ (g.D.Disk.written old.raw) (g.D.Disk.synced old.raw) (g.D.Disk.written c.write_frame-written.new.disk) (g.D.Disk.synced c.write_frame-written.new.disk) (is_some old.failure) old.cursor old.synced old.stated c.args.payload.now more c.in-Err.ensures.kept c.self.invariant.2 (ap is_some c.in_default.is) (c.has_room.ensures c.if-not-has_room.false) c.in-Err.ensures.err in
+    let next = adds_part_now old.id at _ (g.D.Disk.written old.raw) (g.D.Disk.synced old.raw) (g.D.Disk.written c.write_frame-written.new.disk) (g.D.Disk.synced c.write_frame-written.new.disk) (is_some old.failure) old.cursor old.synced old.stated c.args.payload.now more c.in-Err.ensures.kept c.self.invariant.2 (ap is_some c.in_default.is) (c.has_room.ensures.yes c.if-not-has_room.false) c.in-Err.ensures.err in
     (search rules, omega arith, next)
 
 pub returns-in-Ok-clause-ok : goal.returns-in-Ok-clause-ok
