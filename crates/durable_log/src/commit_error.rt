@@ -1,5 +1,8 @@
 //! Why a commit failed.
 
+ghost use Rattle.std.specs.Prelude.{◌≡◌};
+ghost use Rattle.durable_log.specs.declared.commit_error.CommitError.TheVariants.{Disk};
+
 use log_disk::DiskError;
 use std::fmt;
 
@@ -24,6 +27,8 @@ impl fmt::Display for CommitError {
 impl std::error::Error for CommitError {}
 
 impl From<DiskError> for CommitError {
+    ghost from_gives = { λ error e. e ≡ Disk error };
+
     fn from(error: DiskError) -> CommitError {
         CommitError::Disk(error)
     }

@@ -1,8 +1,9 @@
 //! The device: what it took over of the history, and what of that is on its disk.
 
-ghost use Rattle.std.specs.Prelude.{◌≡◌, ◌++◌, [], length, true, false, IfOk, OnOk, OnErr};
+ghost use Rattle.std.specs.Prelude.{◌≡◌, ◌++◌, [], length, true, false, IfErr, IfOk, OnOk, OnErr};
 ghost use Rattle.ghost_log.specs.Entries.{IsPrefix};
 ghost use Rattle.durable_log.specs.Encoding.{encode};
+ghost use Rattle.durable_log.specs.declared.commit_error.CommitError.TheVariants.{Closed};
 ghost use Rattle.durable_log.specs.Invariants.{IsInOrder, IsWhole};
 ghost use Rattle.durable_log.specs.Views.{Confirms, IsReady, IsSynced, KeepsDisk, KeepsHistory, KeepsPending, StaysOpen, TakesAll, Waits};
 
@@ -109,6 +110,7 @@ impl<E, N: Naming<E>, D: Disk> LogDevice<E, N, D> {
         ensures idle { IfOk result (λ done. done ≡ true → self.new.buffer ≡ []) }
         ensures taken { IfOk result (λ done. done ≡ false → self.new.taken ≡ writer.new.seen) }
         ensures durable { IfOk result (λ done. done ≡ false → writer.new.durable ≡ writer.old.durable) }
+        ensures closed { IfErr result (λ e. (e ≡ Closed) × (backlog.old.pending.recording ≡ false)) }
         ensures err { OnErr result ((writer.new ≡ writer.old) × (self.new ≡ self.old)) }
     {
         if backlog.confirm(writer) {
