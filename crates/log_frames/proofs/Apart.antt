@@ -1,11 +1,11 @@
 -- Bytes begin with one frame at most.
-use Rattle.std.proofs.Common.{◌≡◌, ◌<◌, ◌≤◌, ◌+◌, ◌^◌, ℕ, List, [], ◌∷◌, ◌++◌, ◌∙◌, ap, refl, sym, arith, length, take, take_at, append_assoc}
+use Rattle.std.proofs.Common.{◌≡◌, ◌<◌, ◌+◌, ◌^◌, ℕ, List, [], ◌∷◌, ◌++◌, ◌∙◌, ap, refl, sym, arith, length, take, take_at, append_assoc}
 use Rattle.std.proofs.lemmas.List.{length-append}
 use Rattle.std.proofs.lemmas.Nat.{from_le_bytes-to_le_bytes_8}
 use Rattle.std.specs.Int.{w64, from_le_bytes, to_le_bytes}
 use Rattle.log_frames.specs.declared.cursor.Cursor.{Cursor}
 use Rattle.log_frames.specs.declared.head.FrameHead.{FrameHead}
-use Rattle.log_frames.specs.Frames.{Frame, IsFrame, IsHead, cursor_after, frame_bytes, frame_sum, head_at, head_bytes, head_fields, head_sum, summed_bytes}
+use Rattle.log_frames.specs.Frames.{Frame, IsFrame, IsHead, frame_bytes, frame_sum, head_at, head_bytes, head_fields, head_sum, summed_bytes}
 use Rattle.log_frames.specs.Sums.{tagged}
 
 -- fronts of one length are the same, and so is what follows

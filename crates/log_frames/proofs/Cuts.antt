@@ -1,20 +1,18 @@
 -- Logs that were cut off anywhere.
-use Rattle.std.proofs.Common.{◌≡◌, ◌⊎◌, ◌<◌, ◌≤◌, ◌+◌, ◌-◌, ◌^◌, ℕ, zero, suc, List, [], ◌∷◌, ◌++◌, ◌∙◌, ap, refl, sym, subst, arith, length, length-take-le, take, drop, take-append-drop, append_assoc, append-nil, inl, inr}
+use Rattle.std.proofs.Common.{◌≡◌, ◌<◌, ◌≤◌, ◌+◌, ◌-◌, ◌^◌, ℕ, zero, suc, List, [], ◌∷◌, ◌++◌, ◌∙◌, ap, refl, sym, subst, arith, length, length-take-le, take, drop, take-append-drop, append_assoc, append-nil, inl, inr}
 use Rattle.std.proofs.lemmas.Bool.{cases_lt}
 use Rattle.std.proofs.lemmas.List.{length-append, length-drop, length-take, take-append-le, nil_from_length}
 use Rattle.std.proofs.Math.Seq.{take-append-add}
 use Rattle.std.specs.Int.{w64, to_le_bytes}
-use Rattle.log_frames.specs.Endings.{IsTorn}
 use Rattle.log_frames.specs.Frames.{AreFrames, Frame, IsFrame, cursor_after, end_of, frame_bytes, frames_bytes, head_bytes}
-use Rattle.log_frames.specs.Headers.{header_bytes, header_front, header_sum, log_bytes, magic, start_of}
-use Rattle.log_frames.specs.Laws.{AreUnforged, CompletesNothing, HasAllWithin, IsCut, IsFirstBytes, IsReading, LogsAreUnique, ReadsInOneWay, ReadsPastTheCut, ReadsWhatIsWhole}
+use Rattle.log_frames.specs.Headers.{header_bytes, header_front, header_sum, magic, start_of}
+use Rattle.log_frames.specs.Laws.{AreUnforged, HasAllWithin, IsCut, IsReading, LogsAreUnique, ReadsInOneWay, ReadsPastTheCut, ReadsWhatIsWhole}
 use Rattle.log_frames.specs.Reads.{BeginsNoFrame}
 use Rattle.log_frames.specs.Scans.{HasNoLaterHead, IsLaterHead}
-use Rattle.log_frames.specs.Sums.{tagged}
 use Rattle.log_frames.specs.declared.cursor.Cursor.{Cursor}
 use Rattle.log_frames.specs.declared.head.FrameHead.{FrameHead}
 use Rattle.log_frames.proofs.Apart.{apart, field, frame_len, frames_apart, head_len, tagged_apart}
-use Rattle.log_frames.proofs.Headers.{front_len, header_len}
+use Rattle.log_frames.proofs.Headers.{front_len}
 
 more_frames : (id : ℕ) (c : Cursor) (f : Frame) (fs : List Frame) (rest : List ℕ) → frames_bytes id c (f ∷ fs) ++ rest ≡ frame_bytes id c f ++ (frames_bytes id (cursor_after id c f) fs ++ rest)
 more_frames id c f fs rest = append_assoc (frame_bytes id c f) (frames_bytes id (cursor_after id c f) fs) rest

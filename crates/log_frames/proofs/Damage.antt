@@ -1,9 +1,9 @@
 -- A changed byte is told.
-use Rattle.std.proofs.Common.{◌≡◌, ◌≢◌, ◌<◌, ◌≤◌, ◌+◌, ◌^◌, ℕ, List, [], ◌∷◌, ◌++◌, ◌∙◌, ap, refl, sym, subst, arith, length, take, drop, append_assoc, inl, inr}
+use Rattle.std.proofs.Common.{◌≡◌, ◌≢◌, ◌<◌, ◌≤◌, ◌+◌, ℕ, List, [], ◌∷◌, ◌++◌, ◌∙◌, ap, refl, sym, subst, arith, length, take, append_assoc, inl, inr}
 use Rattle.std.specs.Int.{w64, to_le_bytes}
 use Rattle.std.proofs.lemmas.Bool.{cases_lt}
 use Rattle.std.proofs.lemmas.List.{length-append}
-use Rattle.log_frames.specs.Frames.{AreFrames, Frame, IsFrame, cursor_after, end_of, frame_bytes, frame_sum, frames_bytes, head_at, head_bytes, head_fields, head_sum, summed_bytes}
+use Rattle.log_frames.specs.Frames.{Frame, IsFrame, cursor_after, end_of, frame_bytes, frame_sum, head_at, head_bytes, head_fields, head_sum, summed_bytes}
 use Rattle.log_frames.specs.Laws.{AreBytes, AreSums, IsChanged, TellsDamage, TellsOneByte}
 use Rattle.log_frames.specs.Reads.{BeginsNoFrame}
 use Rattle.log_frames.specs.Scans.{IsLaterHead}

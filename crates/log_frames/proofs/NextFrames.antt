@@ -1,6 +1,5 @@
 -- What a log goes on with, by what was read of it.
-use Rattle.std.proofs.Common.{◌≡◌, ◌≢◌, ◌<◌, ◌≤◌, ◌+◌, ◌*◌, ℕ, List, [], ◌∷◌, ◌++◌, ◌∙◌, ap, refl, sym, subst, arith, length, length-take, length-take-le, take, drop, drop_at, take-append-drop, append_assoc, append-nil, Option, Some, None, IfSome}
-use Rattle.std.specs.Prelude.{max}
+use Rattle.std.proofs.Common.{◌≡◌, ◌<◌, ◌≤◌, ◌+◌, ℕ, List, ◌++◌, ◌∙◌, ap, refl, sym, subst, arith, length, length-take-le, take, drop, drop_at, take-append-drop, append_assoc, Option, Some, None, IfSome}
 use Rattle.std.proofs.lemmas.List.{length-append, length-drop, take-take}
 use Rattle.std.specs.Int.{w64, to_le_bytes}
 use Rattle.std.specs.Io.KnownBytes.{Consumes, IsAtEnd}
@@ -10,9 +9,9 @@ use Rattle.log_frames.specs.declared.cursor.Cursor.{Cursor}
 use Rattle.log_frames.specs.declared.head.FrameHead.{FrameHead}
 use Rattle.log_frames.specs.declared.next.NextFrame.{NextFrame}
 use Rattle.log_frames.specs.declared.next.NextFrame.TheVariants as next
-use Rattle.log_frames.specs.Frames.{Frame, IsFrame, IsHead, frame_bytes, frame_sum, head_at, head_bytes}
+use Rattle.log_frames.specs.Frames.{Frame, IsHead, frame_bytes, frame_sum, head_at, head_bytes}
 use Rattle.log_frames.specs.Heads.{HasNoHead, IsHeadOf}
-use Rattle.log_frames.specs.Reads.{BeginsNoFrame, Completes, GoesOn, HasMore, HasNoFrame, HasNoRest, HasRead, HasReadFrame, HasRest, HasRoomFor, frame_in, payload_in, rest_bytes, rest_sum}
+use Rattle.log_frames.specs.Reads.{Completes, GoesOn, HasMore, HasNoFrame, HasNoRest, HasRead, HasReadFrame, HasRest, HasRoomFor, frame_in, payload_in, rest_bytes, rest_sum}
 use Rattle.log_frames.specs.Sums.{sum_words, tagged}
 use Rattle.log_frames.proofs.Apart.{apart, frame_len, frame_split, head_len, heads_apart, not_tagged, tagged_len}
 use Rattle.log_frames.proofs.Puts.{tagged_after}

@@ -1,15 +1,14 @@
 -- What a reading took, by the laws.
-use Rattle.std.proofs.Common.{◌≡◌, ◌⊎◌, ℕ, List, [], ◌∷◌, ◌++◌, ◌∙◌, ap, refl, sym, subst, length, take, Option, Some, None, IfSome, inl, inr}
+use Rattle.std.proofs.Common.{◌≡◌, ℕ, List, sym, subst, length, Option, Some, None, IfSome, inl, inr}
 use Rattle.std.specs.Io.KnownBytes.{Consumes}
-use Rattle.log_frames.specs.Endings.{EndsAt, FramesAreRead, IsDamaged, IsTorn, LeavesSink, Takes}
+use Rattle.log_frames.specs.Endings.{EndsAt, FramesAreRead, LeavesSink, Takes}
 use Rattle.log_frames.specs.Frames.{AreFrames, Frame, end_of, frames_bytes}
-use Rattle.log_frames.specs.Laws.{AreUnforged, IsCut, IsFinished, IsReading, MayBeCut, ReadsExactly, Recovers}
+use Rattle.log_frames.specs.Laws.{IsCut, IsFinished, IsReading, MayBeCut, ReadsExactly, Recovers}
 use Rattle.log_frames.specs.declared.cursor.Cursor.{Cursor}
 use Rattle.log_frames.specs.declared.reading.Ending.{Ending}
 use Rattle.log_frames.specs.declared.reading.Ending.TheVariants as ending
 use Rattle.log_frames.specs.declared.reading.FramesRead.{FramesRead}
 use Rattle.log_frames.specs.Reads.{BeginsNoFrame}
-use Rattle.log_frames.specs.Scans.{HasNoLaterHead}
 use Rattle.log_frames.proofs.Cuts.{no_frame_in_nothing, none_in_nothing, what_is_whole}
 use Rattle.log_frames.proofs.Taking.{still_taken}
 

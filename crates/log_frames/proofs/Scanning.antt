@@ -1,6 +1,5 @@
 -- Heads of later frames, by what was searched.
-use Rattle.std.proofs.Common.{◌≡◌, ◌⊎◌, ◌<◌, ◌≤◌, ◌+◌, ◌*◌, ◌^◌, ◌-◌, ℕ, Bool, true, false, List, [], ◌∷◌, ◌++◌, ◌∙◌, ap, refl, sym, subst, arith, length, length-take, length-take-le, take, drop, take_at, drop_at, take-append-drop, append_assoc, append-nil, Option, Some, None, IfSome, inl, inr}
-use Rattle.std.specs.Prelude.{max}
+use Rattle.std.proofs.Common.{◌≡◌, ◌<◌, ◌≤◌, ◌+◌, ◌^◌, ◌-◌, ℕ, true, false, List, [], ◌++◌, ◌∙◌, ap, refl, sym, subst, arith, length, length-take-le, take, drop, take_at, drop_at, take-append-drop, append_assoc, append-nil, Option, Some, None, inl, inr}
 use Rattle.std.proofs.lemmas.Bool.{cases_lt}
 use Rattle.std.proofs.lemmas.List.{length-append, length-drop, take-append-le, take-take}
 use Rattle.std.proofs.lemmas.Nat.{from_le_bytes-to_le_bytes_8}
@@ -10,7 +9,7 @@ use Rattle.std.proofs.KnownBytes.{Consumes-nil, Consumes-trans}
 use Rattle.std.specs.Option.{is_some}
 use Rattle.std.specs.List.{copy_within}
 use lib.Seq.{take-add, take-paste}
-use Rattle.log_frames.specs.Frames.{IsHead, head_bytes, head_fields, head_sum}
+use Rattle.log_frames.specs.Frames.{head_bytes, head_fields}
 use Rattle.log_frames.specs.Heads.{HasNoHead, IsHeadOf}
 use Rattle.log_frames.specs.Reads.{HasRoomFor}
 use Rattle.log_frames.specs.Scans.{Finds, FindsAtFront, FindsIn, HasNoLaterHead, IsFrontHead, IsLaterHead}

@@ -1,5 +1,5 @@
 -- Sums, piece by piece.
-use Rattle.std.proofs.Common.{◌≡◌, ◌≤◌, ◌<◌, ◌+◌, ◌*◌, ◌∙◌, ℕ, zero, suc, List, [], ◌∷◌, ◌++◌, ap, refl, arith, length, take, drop}
+use Rattle.std.proofs.Common.{◌≡◌, ◌≤◌, ◌<◌, ◌*◌, ℕ, zero, suc, List, [], ◌∷◌, ◌++◌, refl, arith, length, take, drop}
 use Rattle.std.specs.Int.{w64, from_le_bytes}
 use Rattle.log_frames.specs.Sums.{sum_from, sum_step, sum_words, word_step}
 

@@ -1,13 +1,12 @@
 -- Frames that are taken, one after the other.
-use Rattle.std.proofs.Common.{◌≡◌, ◌<◌, ◌≤◌, ◌+◌, ℕ, List, [], ◌∷◌, ◌++◌, ◌∙◌, ap, refl, sym, subst, arith, length, length-take, take, append-nil, append_assoc, Option, Some, None, IfSome}
+use Rattle.std.proofs.Common.{◌≡◌, ◌<◌, ℕ, List, [], ◌∷◌, ◌++◌, ◌∙◌, ap, refl, sym, subst, arith, length, length-take, take, append-nil, append_assoc, Option, Some, None, IfSome}
 use Rattle.std.specs.Prelude.{max}
 use Rattle.std.proofs.lemmas.List.{length-append}
 use Rattle.std.specs.Io.KnownBytes.{Consumes}
 use Rattle.std.proofs.KnownBytes.{Consumes-trans}
-use Rattle.log_frames.specs.Endings.{EndsAt, EndsFrames, IsDamaged, IsTorn, Judges, Takes, largest_synced}
+use Rattle.log_frames.specs.Endings.{EndsAt, EndsFrames, Judges, Takes, largest_synced}
 use Rattle.log_frames.specs.Frames.{AreFrames, Frame, IsFrame, cursor_after, end_of, frame_bytes, frames_bytes}
 use Rattle.log_frames.specs.Reads.{HasNoFrame, HasRead}
-use Rattle.log_frames.specs.Scans.{FindsIn}
 use Rattle.log_frames.specs.declared.cursor.Cursor.{Cursor}
 use Rattle.log_frames.specs.declared.reading.Ending.{Ending}
 use Rattle.log_frames.specs.declared.reading.Ending.TheVariants as ending

@@ -1,4 +1,4 @@
-use Rattle.std.proofs.Common.{◌≡◌, ◌++◌, ◌∙◌, ap}
+use Rattle.std.proofs.Common.{◌++◌, ◌∙◌, ap}
 use Rattle.std.specs.Int.{w64, to_le_bytes}
 use Rattle.log_frames.specs.Headers.{header_front}
 use Rattle.log_frames.specs.Sums.{basis, sum_words, tagged}

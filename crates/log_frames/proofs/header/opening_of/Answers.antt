@@ -1,4 +1,4 @@
-use Rattle.std.proofs.Common.{◌≡◌, ◌++◌, ◌∙◌, ap, arith}
+use Rattle.std.proofs.Common.{◌++◌, ◌∙◌, ap, arith}
 use Rattle.std.specs.Int.{w64, to_le_bytes}
 use Rattle.log_frames.specs.Headers.{magic}
 use Rattle.log_frames.specs.declared.cursor.Cursor.{Cursor}

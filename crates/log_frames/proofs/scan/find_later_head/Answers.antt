@@ -1,5 +1,4 @@
-use Rattle.std.proofs.Common.{◌≡◌, ◌≤◌, ◌<◌, ◌+◌, ◌-◌, ◌++◌, ◌∙◌, [], ap, sym, subst, arith, length, length-take, length-take-le, take, drop, List, ℕ, vec_len}
-use Rattle.log_frames.specs.Reads.{HasRoomFor}
+use Rattle.std.proofs.Common.{◌≤◌, ◌-◌, ◌++◌, ◌∙◌, [], sym, subst, arith, length, length-take, length-take-le, take, drop, List, ℕ, vec_len}
 use Rattle.log_frames.specs.Scans.{Finds}
 use Rattle.log_frames.proofs.Scanning.{first_window, found_there, moved_window, none_found, none_of, room_first, room_on}
 use Rattle.log_frames.proofs.scan.find_later_head.Goals as goal

@@ -1,4 +1,4 @@
-use Rattle.std.proofs.Common.{◌≡◌, ◌∙◌, ap, sym, arith, length}
+use Rattle.std.proofs.Common.{◌∙◌, ap, sym, arith}
 use Rattle.log_frames.specs.Sums.{sum_words}
 use Rattle.log_frames.proofs.Sums.{words_append}
 use Rattle.log_frames.proofs.write.frame_sum.Goals as goal

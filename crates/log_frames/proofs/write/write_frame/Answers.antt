@@ -1,7 +1,7 @@
-use Rattle.std.proofs.Common.{◌≡◌, ◌++◌, ◌∙◌, ap, sym, List, ℕ}
+use Rattle.std.proofs.Common.{◌≡◌, ◌++◌, ◌∙◌, ap, List, ℕ}
 use Rattle.std.proofs.lemmas.Result.{err_from_is_err_and}
-use Rattle.log_frames.specs.Frames.{frame_of, frame_sum, head_bytes, head_of}
-use Rattle.log_frames.specs.Sums.{sum_words, tagged}
+use Rattle.log_frames.specs.Frames.{frame_of, frame_sum}
+use Rattle.log_frames.specs.Sums.{sum_words}
 use Rattle.log_frames.proofs.Puts.{err_puts, part_of_more, tagged_after, then_part}
 use Rattle.std.proofs.KnownBytes.{Appends-trans}
 use Rattle.log_frames.proofs.write.write_frame.Goals as goal
