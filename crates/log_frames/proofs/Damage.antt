@@ -4,10 +4,11 @@ use Rattle.std.specs.Int.{w64, to_le_bytes}
 use Rattle.std.proofs.lemmas.Bool.{cases_lt}
 use Rattle.std.proofs.lemmas.List.{length-append}
 use Rattle.log_frames.specs.Frames.{Frame, IsFrame, cursor_after, end_of, frame_bytes, frame_sum, head_at, head_bytes, head_fields, head_sum, summed_bytes}
-use Rattle.log_frames.specs.Laws.{AreBytes, AreSums, IsChanged, TellsDamage, TellsOneByte}
+use Rattle.log_frames.specs.Laws.{AreBytes, AreSums, IsChanged, StartHasSums, TellsDamage, TellsOneByte}
 use Rattle.log_frames.specs.Reads.{BeginsNoFrame}
 use Rattle.log_frames.specs.Scans.{IsLaterHead}
-use Rattle.log_frames.specs.Sums.{sum_words, tagged}
+use Rattle.log_frames.specs.Headers.{header_front}
+use Rattle.log_frames.specs.Sums.{basis, sum_words, tagged}
 use Rattle.log_frames.specs.declared.cursor.Cursor.{Cursor}
 use Rattle.log_frames.specs.declared.head.FrameHead.{FrameHead}
 use Rattle.log_frames.proofs.Apart.{fields_len, frame_len, frame_split, head_len, heads_apart, summed_len}
@@ -87,3 +88,6 @@ damage_told id c before f damaged behind h sums fit is af ad ab w later =
       record { fit = fit; whole = refl; none = none },
       record { none = none; later = later_behind id here.place damaged behind h _ (omega (arith, changed_len id here f damaged w)) later },
     )
+
+pub start_sums : StartHasSums
+start_sums id low = (low, words_below basis (header_front id) (omega arith))

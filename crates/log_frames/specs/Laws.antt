@@ -87,6 +87,10 @@ AreBytes bytes = AllByRecursion (λ b. b < 256) bytes
 abbrev pub AreSums : ℕ → Cursor → Type 0
 AreSums id c = (id < 2 ^ 64) × (c.sum < 2 ^ 64)
 
+-- The cursor after the header of a log has a sum of 64 bits.
+abbrev pub StartHasSums : Type 0
+StartHasSums = (id : ℕ) → id < 2 ^ 64 → AreSums id (start_of id)
+
 -- No two frames at one cursor differ in one byte: if one byte of a frame is changed, no frame begins there.
 abbrev pub TellsOneByte : Type 0
 TellsOneByte = (id : ℕ) (c : Cursor) (f other : Frame) (front back rest more : List ℕ) (x y : ℕ)

@@ -1,5 +1,5 @@
 //! Laws of the bytes of a log. Each is the contract of a function that does nothing.
-ghost use Rattle.log_frames.specs.Laws.{LogsAreUnique, ReadsInOneWay, ReadsPastTheCut, ReadsWhatIsWhole, TellsDamage, TellsOneByte};
+ghost use Rattle.log_frames.specs.Laws.{LogsAreUnique, ReadsInOneWay, ReadsPastTheCut, ReadsWhatIsWhole, StartHasSums, TellsDamage, TellsOneByte};
 
 /// Bytes are read in one way, and logs with the same bytes have the same id and the same frames.
 pub fn uniqueness()
@@ -19,4 +19,5 @@ pub fn cuts()
 pub fn damage()
     ensures one_byte { TellsOneByte }
     ensures told { TellsDamage }
+    ensures start { StartHasSums }
 {}
