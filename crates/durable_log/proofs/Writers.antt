@@ -1,9 +1,9 @@
 -- What a writer knows of its own events.
-use Rattle.std.proofs.Common.{◌≡◌, Bool, false, List, [], ◌∷◌, ◌++◌, sym, ap, subst, ◌∙◌, append_assoc}
+use Rattle.std.proofs.Common.{◌≡◌, Bool, true, false, List, [], ◌∷◌, ◌++◌, sym, ap, subst, ◌∙◌, append_assoc}
 use Rattle.std.proofs.lemmas.List.{append-nil}
-use Rattle.std.proofs.lemmas.List.Elements.{All-append, All-cons, All-nil}
+use Rattle.std.proofs.lemmas.List.Elements.{All-append, All-cons, All-nil, Contains-append_left, Contains-push}
 use Rattle.ghost_log.specs.Entries.{IsPrefix, events_by}
-use Rattle.durable_log.specs.Views.{Trace, Commits, IsCommitted, trace_with}
+use Rattle.durable_log.specs.Views.{Trace, Commits, IsCommitted, IsUnconfirmed, trace_with}
 use Rattle.durable_log.proofs.Prefixes.{prefix_self}
 use Rattle.ghost_log.specs.declared.view.Entry.{Entry}
 
@@ -33,4 +33,24 @@ module _ {E : Type 0} (promises : E → Bool) where
     rest = c.rest;
     own = own ∙ (c.own ∙ ap (λ w. w ++ c.rest) (ap (λ n. events_by n t.durable) (sym number) ∙ ap (events_by u.number) (sym durable)));
     unpromised = c.unpromised;
+  }
+
+  -- an own promised event stays unconfirmed after another event
+  pub still_unconfirmed : (t : Trace E) (event : E) (history : List (Entry E)) → IsUnconfirmed promises t → IsUnconfirmed promises (trace_with event history t)
+  still_unconfirmed t event history u = record {
+    rest = u.rest ++ event ∷ [];
+    own = ap (λ w. w ++ event ∷ []) u.own ∙ append_assoc (events_by t.number t.durable) u.rest (event ∷ []);
+    event = u.event;
+    among = Contains-append_left u.rest (event ∷ []) u.event u.among;
+    promised = u.promised;
+  }
+
+  -- a promised event was added
+  pub now_unconfirmed : (t : Trace E) (event : E) (history : List (Entry E)) → promises event ≡ true → IsCommitted promises t → IsUnconfirmed promises (trace_with event history t)
+  now_unconfirmed t event history promised c = record {
+    rest = c.rest ++ event ∷ [];
+    own = ap (λ w. w ++ event ∷ []) c.own ∙ append_assoc (events_by t.number t.durable) c.rest (event ∷ []);
+    event = event;
+    among = Contains-push c.rest event;
+    promised = promised;
   }

@@ -6,7 +6,7 @@ use Rattle.ghost_log.specs.declared.view.Entry.{Entry}
 use Rattle.ghost_log.specs.Entries.{IsPrefix, events_by}
 use Rattle.durable_log.specs.Encoding.{encode}
 use Rattle.durable_log.specs.Names.{Names}
-use Rattle.durable_log.specs.Views.{BacklogView, DeviceView, IsCommitted, PendingView, Trace, last_of}
+use Rattle.durable_log.specs.Views.{BacklogView, DeviceView, IsCommitted, IsUnconfirmed, PendingView, Trace, last_of}
 
 -- the last prefix of the history that the device marked
 abbrev pub last_mark : {E : Type 0} → List (Entry (List (Entry E))) → List (Entry E)
@@ -85,3 +85,4 @@ abbrev pub HoldsWriter : {E : Type 0} → Names → (E → List ℕ) → (E → 
 HoldsWriter names bytes promises writer position unconfirmed marker =
     (writer.name ≡ names.history) × (marker.name ≡ names.durable_marks) × (0 < marker.number)
     × IfSome position (λ n. n ≡ length (encode bytes writer.seen)) × (unconfirmed ≡ false → IsCommitted promises (trace_of writer marker))
+    × (unconfirmed ≡ true → IsUnconfirmed promises (trace_of writer marker))

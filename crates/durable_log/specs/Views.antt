@@ -1,5 +1,5 @@
 -- Writers, the backlog and the device, as contracts see them, and how calls change them.
-use Rattle.std.specs.Prelude.{◌≡◌, ℕ, ◌+◌, ◌<◌, ◌≤◌, ◌^◌, Bool, true, false, List, [], ◌∷◌, ◌++◌, All, length}
+use Rattle.std.specs.Prelude.{◌≡◌, ℕ, ◌+◌, ◌<◌, ◌≤◌, ◌^◌, Bool, true, false, List, [], ◌∷◌, ◌++◌, All, Contains, length}
 use Rattle.atomic_table.specs.Seated.{TableId}
 use Rattle.ghost_log.specs.declared.view.Entry.{Entry}
 use Rattle.ghost_log.specs.Entries.{IsPrefix, entry, events_by}
@@ -151,6 +151,14 @@ pub record IsCommitted {E : Type 0} (promises : E → Bool) (t : Trace E) : Type
   pub rest : List E
   pub own : t.own ≡ events_by t.number t.durable ++ rest
   pub unpromised : All (λ e. promises e ≡ false) rest
+
+-- After the durable ones, the writer has an own event that the log promises to be durable.
+pub record IsUnconfirmed {E : Type 0} (promises : E → Bool) (t : Trace E) : Type 0 where
+  pub rest : List E
+  pub own : t.own ≡ events_by t.number t.durable ++ rest
+  pub event : E
+  pub among : Contains rest event
+  pub promised : promises event ≡ true
 
 -- all that the device took over is durable
 abbrev pub IsSynced : {E : Type 0} → (E → List ℕ) → List ℕ → DeviceView E → Type 0

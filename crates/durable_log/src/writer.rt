@@ -1,10 +1,10 @@
 //! The writers of the history.
 
-ghost use Rattle.std.specs.Prelude.{◌≡◌, ◌++◌, ◌∷◌, [], length, true, IfSome};
+ghost use Rattle.std.specs.Prelude.{◌≡◌, ◌++◌, ◌∷◌, [], length, true, false, IfSome};
 ghost use Rattle.ghost_log.specs.Entries.{entry, events_by};
 ghost use Rattle.ghost_log.specs.Calls.{Agrees, with_entry};
 ghost use Rattle.durable_log.specs.Encoding.{encode};
-ghost use Rattle.durable_log.specs.Views.{IsCommitted, trace_seeing, trace_with, writer_of};
+ghost use Rattle.durable_log.specs.Views.{IsCommitted, IsUnconfirmed, trace_seeing, trace_with, writer_of};
 
 use crate::mark::HistoryMark;
 use crate::names::Naming;
@@ -40,7 +40,8 @@ impl<E, N: Naming<E>> Model for LogWriter<E, N> {
 impl<E, N: Naming<E>> LogWriter<E, N> {
     /// Returns whether all own promised events are known to be durable.
     pub fn is_committed(&self) -> bool
-        ensures { result ≡ true → IsCommitted N.promises self.now }
+        ensures committed { result ≡ true → IsCommitted N.promises self.now }
+        ensures unconfirmed { result ≡ false → IsUnconfirmed N.promises self.now }
     {
         !self.unconfirmed
     }

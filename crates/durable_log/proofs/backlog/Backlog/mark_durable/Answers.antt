@@ -1,4 +1,4 @@
-use Rattle.std.proofs.Common.{◌≡◌, ◌≤◌, ◌<◌, ap, sym, subst, ◌∙◌, length, arith, [], IfSome}
+use Rattle.std.proofs.Common.{true, false, ◌≡◌, ◌≤◌, ◌<◌, ap, sym, subst, ◌∙◌, length, arith, [], IfSome}
 use Rattle.durable_log.specs.Encoding.{encode}
 use Rattle.durable_log.specs.Views.{Trace, last_of}
 use Rattle.durable_log.specs.Invariants.{IsBacklog, IsMarked, last_mark}
@@ -41,6 +41,7 @@ invariant_of-writer g c =
       subst (λ m. 0 < m.number) (sym marked) c.writer.invariant.2,
       subst (λ es. IfSome c.position-writer-inside.result (λ n. n ≡ length (encode f es))) (ap (λ m. m.seen) (sym caught)) (position_now f b.history.entries (last_mark b.taken_marks.entries) b.pending c.position-writer-inside.result c.self.invariant.4 c.position-writer-inside.ensures.some),
       λ _. committed g.N.Naming.promises now (commits c.args.writer.now now durable number own c.reveal_invariant.ensures).own,
+      λ (on : false ≡ true). cc,
     )
 
 pub returns-clause-durable : goal.returns-clause-durable
