@@ -1,6 +1,7 @@
 -- Lists of requests that are served one after another.
 use Rattle.std.proofs.Common.{◌≡◌, ◌+◌, ◌∙◌, ◌++◌, ◌∷◌, [], ℕ, List, Option, ap, arith, inl, length, length-append, append-nil, refl, subst, sym}
 use Rattle.std.proofs.lemmas.Grind.{flat_map-append}
+use Rattle.std.proofs.lemmas.List.{append_assoc}
 use Rattle.std.proofs.lemmas.List.Concat.{flat_map-cons}
 use Rattle.std.proofs.KnownBytes.{Appends-nil, Appends-trans, Consumes-nil, Consumes-trans}
 use Rattle.std.specs.Io.KnownBytes.{Appends, Consumes}
@@ -12,13 +13,14 @@ use Rattle.store_api.specs.Answers.{Answer}
 use Rattle.store_api.specs.Answers as answers
 use Rattle.store_api.specs.Commands.{StoreRequest}
 use Rattle.store_model.specs.Catalog.{Catalog}
-use Rattle.watched_reader.specs.Watching.{HasNotFailed}
+use Rattle.watched_reader.specs.Watching.{HasNotFailed, inner_of}
 use Rattle.watched_reader.specs.declared.watched.Watched.{Watched}
 use Rattle.wire_server.specs.LeaseEvents.{TableEvent}
-use Rattle.wire_server.specs.Outcomes.{RequestResult, Answered, NewLease, Fetched, QueryNumbers, NoCommand, ReportsOutcome, ReportsAnswer, answer_reply}
-use Rattle.wire_server.specs.Connections.{IsEndReason, EndsByRead, Frame, FrameStep, ServesRequests, ServesFrames, frames_bytes, replies_bytes}
+use Rattle.wire_server.specs.Outcomes.{RequestResult, Answered, NewLease, Fetched, QueryNumbers, NoCommand, ReportsOutcome, ReportsAnswer, answer_reply, outcome_of}
+use Rattle.wire_server.specs.declared.outcome.RequestResult.{RequestResult as Code}
+use Rattle.wire_server.specs.Connections.{IsEndReason, EndsByRead, Frame, FrameStep, PlaysNext, ServesRequests, ServesFrames, WritesReplies, frames_bytes, replies_bytes}
 use Rattle.wire_server.specs.declared.ending.Ending.{Ending}
-use Rattle.wire_server.specs.declared.ending.Ending.TheVariants.{Closed, CutOff, ReadFailed, Malformed, WriteFailed}
+use Rattle.wire_server.specs.declared.ending.Ending.TheVariants.{Closed, CutOff, ReadFailed, Malformed, WriteFailed, NotDurable}
 
 module _ {S T : Type 0} (acts : S → StoreRequest → Answer → S → Type 0) (finds : S → Catalog → Type 0) (does : T → TableEvent → T → Type 0) where
   -- requests that are served after others are served with them
@@ -39,6 +41,7 @@ ends_later CutOff m n rest h = h
 ends_later ReadFailed m n rest h = h
 ends_later Malformed m n rest h = h
 ends_later WriteFailed m n rest h = omega (arith, h)
+ends_later NotDurable m n rest h = omega (arith, h)
 
 -- the reason of an end holds of a longer part of the connection, if no read failed in the first part
 pub ends_by_read_later : {R : Type 0} (ending : Ending) (old mid new : Watched R) → HasNotFailed old mid → EndsByRead ending mid new → EndsByRead ending old new
@@ -47,6 +50,7 @@ ends_by_read_later CutOff old mid new kept h = h ∙ kept
 ends_by_read_later ReadFailed old mid new kept h = h
 ends_by_read_later Malformed old mid new kept h = h ∙ kept
 ends_by_read_later WriteFailed old mid new kept h = h ∙ kept
+ends_by_read_later NotDurable old mid new kept h = h ∙ kept
 
 -- each refusal has a reply
 reports_refusal : (refusal : Refusal) → ReportsRefusal refusal (refusal_reply refusal)
@@ -113,6 +117,29 @@ frames_bytes-append fs gs = flat_map-append (λ (f : Frame). request_bytes f.hea
 replies_bytes-append : (rs ss : List Reply) → replies_bytes (rs ++ ss) ≡ replies_bytes rs ++ replies_bytes ss
 replies_bytes-append rs ss = flat_map-append reply_bytes rs ss
 
+-- replies that are written after others are written with them
+appends_replies : (held middle holds : Option (List ℕ)) (rs ss : List Reply) → Appends held middle (replies_bytes rs) → Appends middle holds (replies_bytes ss) → Appends held holds (replies_bytes (rs ++ ss))
+appends_replies held middle holds rs ss p q = subst (Appends held holds) (sym (replies_bytes-append rs ss)) (Appends-trans held middle holds (replies_bytes rs) (replies_bytes ss) p q)
+
+-- nothing is written on a connection that ends before its first request
+nothing_written : (ending : Ending) (line held : Option (List ℕ)) → IsEndReason ending 0 line → WritesReplies ending [] held held
+nothing_written Closed line held h = Appends-nil held
+nothing_written CutOff line held h = Appends-nil held
+nothing_written ReadFailed line held h = Appends-nil held
+nothing_written Malformed line held h = Appends-nil held
+nothing_written WriteFailed line held h = tt
+nothing_written NotDurable line held h = absurd (omega (arith, h))
+
+-- the replies that an ending leaves are written after others, which are all written
+writes_later : (ending : Ending) (held middle holds : Option (List ℕ)) (rs ss : List Reply) → Appends held middle (replies_bytes rs) → WritesReplies ending ss middle holds → WritesReplies ending (rs ++ ss) held holds
+writes_later Closed held middle holds rs ss p q = appends_replies held middle holds rs ss p q
+writes_later CutOff held middle holds rs ss p q = appends_replies held middle holds rs ss p q
+writes_later ReadFailed held middle holds rs ss p q = appends_replies held middle holds rs ss p q
+writes_later Malformed held middle holds rs ss p q = appends_replies held middle holds rs ss p q
+writes_later WriteFailed held middle holds rs ss p q = tt
+writes_later NotDurable held middle holds rs ss p q =
+    (rs ++ q.0, q.1, ap (λ l. rs ++ l) q.2 ∙ sym (append_assoc rs q.0 (q.1 ∷ [])), appends_replies held middle holds rs q.0 p q.3)
+
 module _ {S T : Type 0} (acts : S → StoreRequest → Answer → S → Type 0) (finds : S → Catalog → Type 0) (does : T → TableEvent → T → Type 0) where
   -- a connection that ends at once is served
   pub served_at_once : (old : S × T) (line held : Option (List ℕ)) (ending : Ending) → IsEndReason ending 0 line → ServesRequests acts finds does old old line held held ending
@@ -122,21 +149,24 @@ module _ {S T : Type 0} (acts : S → StoreRequest → Answer → S → Type 0) 
     served = refl;
     rest = line;
     read = Consumes-nil line;
-    written = λ _. Appends-nil held;
+    written = nothing_written ending line held h;
     ends = h;
   }
 
-  -- a connection whose reply cannot be written is served
-  pub served_unwritten : (old new : S × T) (line rest held holds : Option (List ℕ)) (frame : Frame) (reply : Reply) → FrameStep acts finds does old frame reply new → Consumes line rest (request_bytes frame.head frame.payload) → ServesRequests acts finds does old new line held holds WriteFailed
-  served_unwritten old new line rest held holds frame reply step read = record {
-    frames = frame ∷ [];
-    replies = reply ∷ [];
-    served = serves_one acts finds does old new frame reply step;
-    rest = rest;
-    read = subst (Consumes line rest) (sym (frames_bytes-one frame)) read;
-    written = λ h. absurd (h refl);
-    ends = omega arith;
-  }
+  -- a connection that ends after a request, without a whole reply, is served
+  pub served_unreplied : {R : Type 0} (remaining : R → Option (List ℕ)) (old new : S × T) (from to : Watched R) (held holds : Option (List ℕ)) (outcome : Code) (ending : Ending)
+      → PlaysNext acts finds does remaining (old.0, old.1, from) (new.0, new.1, to) outcome → ((reply : Reply) → WritesReplies ending (reply ∷ []) held holds) → IsEndReason ending 1 (remaining (inner_of to))
+      → ServesRequests acts finds does old new (remaining (inner_of from)) held holds ending
+  served_unreplied remaining old new from to held holds outcome ending played written ends =
+      let told = outcome_has_reply (outcome_of outcome) in record {
+        frames = played.0 ∷ [];
+        replies = told.0 ∷ [];
+        served = serves_one acts finds does old new played.0 told.0 (_, played.1, told.1);
+        rest = remaining (inner_of to);
+        read = subst (Consumes (remaining (inner_of from)) (remaining (inner_of to))) (sym (frames_bytes-one played.0)) played.2;
+        written = written told.0;
+        ends = ends;
+      }
 
   -- a connection is served if its first requests are, and then the rest
   pub then_served : (old mid new : S × T) (line behind held middle holds : Option (List ℕ)) (frames : List Frame) (replies : List Reply) (ending : Ending)
@@ -147,7 +177,7 @@ module _ {S T : Type 0} (acts : S → StoreRequest → Answer → S → Type 0) 
     served = serves_append acts finds does old mid new frames last.frames replies last.replies served last.served;
     rest = last.rest;
     read = subst (Consumes line last.rest) (sym (frames_bytes-append frames last.frames)) (Consumes-trans line behind last.rest (frames_bytes frames) (frames_bytes last.frames) read last.read);
-    written = λ h. subst (Appends held holds) (sym (replies_bytes-append replies last.replies)) (Appends-trans held middle holds (replies_bytes replies) (replies_bytes last.replies) written (last.written h));
+    written = writes_later ending held middle holds replies last.replies written last.written;
     ends = subst (λ n. IsEndReason ending n last.rest) (sym (length-append frames last.frames)) (ends_later ending (length frames) (length last.frames) last.rest last.ends);
   }
 

@@ -1,5 +1,5 @@
 -- A connection that is served.
-use Rattle.std.specs.Prelude.{true, ◌≡◌, ◌≢◌, ◌⊎◌, ◌<◌, ℕ, ⊤, List, [], ◌∷◌, Option, IfSome, MatchOption, MatchResult, Result, length}
+use Rattle.std.specs.Prelude.{true, ◌≡◌, ◌≢◌, ◌⊎◌, ◌<◌, ℕ, ⊤, List, [], ◌∷◌, ◌++◌, Option, IfSome, MatchOption, MatchResult, Result, length}
 use Rattle.std.specs.List.{flat_map}
 use Rattle.std.specs.Io.KnownBytes.{Appends, Consumes, IsAtEnd}
 use Rattle.wire_format.specs.Frames.{greeting, head_bytes, max_body, request_bytes}
@@ -17,7 +17,7 @@ use Rattle.wire_server.specs.Outcomes.{RequestResult, ReportsOutcome, outcome_of
 use Rattle.wire_server.specs.Steps.{RequestStep}
 use Rattle.wire_server.specs.declared.outcome.RequestResult.{RequestResult as Code}
 use Rattle.wire_server.specs.declared.ending.Ending.{Ending}
-use Rattle.wire_server.specs.declared.ending.Ending.TheVariants.{Closed, CutOff, ReadFailed, Malformed, WriteFailed}
+use Rattle.wire_server.specs.declared.ending.Ending.TheVariants.{Closed, CutOff, ReadFailed, Malformed, WriteFailed, NotDurable}
 
 -- a request frame: its head and its payload
 pub record Frame : Type 0 where
@@ -82,16 +82,23 @@ IsEndReason CutOff count rest = IfSome rest IsPartial
 IsEndReason ReadFailed count rest = ⊤
 IsEndReason Malformed count rest = (h : Head) × (behind : Option (List ℕ)) × Consumes rest behind (head_bytes h) × (max_body < h.body_len)
 IsEndReason WriteFailed count rest = 0 < count
+IsEndReason NotDurable count rest = 0 < count
 
--- After the greetings, the first requests of the connection were played in order and replied to, unless a write failed, until the connection
--- ended.
+-- how many of the replies were written: all; or all but the last, if it was not durable; after a failed write the output is unknown
+abbrev pub WritesReplies : Ending → List Reply → (held holds : Option (List ℕ)) → Type 0
+WritesReplies WriteFailed replies held holds = ⊤
+WritesReplies NotDurable replies held holds = (before : List Reply) × (last : Reply) × (replies ≡ before ++ last ∷ []) × Appends held holds (replies_bytes before)
+WritesReplies ending replies held holds = Appends held holds (replies_bytes replies)
+
+-- After the greetings, the first requests of the connection were played in order and replied to, until the connection ended. The last has no
+-- reply if it was not durable or a write failed.
 pub record ServesRequests {S T : Type 0} (acts : S → StoreRequest → Answer → S → Type 0) (finds : S → Catalog → Type 0) (does : T → TableEvent → T → Type 0) (old new : S × T) (line held holds : Option (List ℕ)) (ending : Ending) : Type 0 where
   pub frames : List Frame
   pub replies : List Reply
   pub served : ServesFrames acts finds does old frames replies new
   pub rest : Option (List ℕ)
   pub read : Consumes line rest (frames_bytes frames)
-  pub written : ending ≢ WriteFailed → Appends held holds (replies_bytes replies)
+  pub written : WritesReplies ending replies held holds
   pub ends : IsEndReason ending (length frames) rest
 
 -- why a connection ends before the greetings are exchanged (a failed read: `EndsByRead`)
@@ -101,6 +108,7 @@ EndsBeforeGreeting CutOff line = IsCutOff line 8
 EndsBeforeGreeting ReadFailed line = ⊤
 EndsBeforeGreeting Malformed line = (bytes : List ℕ) × (length bytes ≡ 8) × (bytes ≢ greeting) × (rest : Option (List ℕ)) × Consumes line rest bytes
 EndsBeforeGreeting WriteFailed line = (rest : Option (List ℕ)) × Consumes line rest greeting
+EndsBeforeGreeting NotDurable line = ⊥
 
 -- the greetings were exchanged and then requests served, or the connection ended before with nothing played
 abbrev pub ServesConnection : {S T : Type 0} → (S → StoreRequest → Answer → S → Type 0) → (S → Catalog → Type 0) → (T → TableEvent → T → Type 0) → S × T → S × T → (line held holds : Option (List ℕ)) → Ending → Type 0

@@ -1,37 +1,33 @@
 //! Serves a connection.
-ghost use Rattle.std.specs.Prelude.{◌≡◌, ◌⊎◌, IfErr, IfOk, IfSome, IsNone, OnErr, OnOk};
-ghost use Rattle.std.specs.Io.KnownBytes.{Appends};
+ghost use Rattle.std.specs.Prelude.{◌≡◌, ◌≢◌, ◌⊎◌, IfErr, IfOk, IfSome, IsNone, OnErr};
 ghost use Rattle.wire_format.specs.Frames.{greeting};
-ghost use Rattle.wire_server.specs.Outcomes.{SendsOutcome, outcome_of};
+ghost use Rattle.wire_server.specs.ReplyStreams.{output_of};
 ghost use Rattle.wire_server.specs.Connections.{IsEndReason, EndsByRead, EndsBeforeGreeting, ErrEndsByRead, ServesConnection, ServesRequests, MayEndByRead, PlaysNext, ReadsBytes, ServesNext, WritesBytes};
+ghost use Rattle.wire_server.specs.declared.ending.Ending.TheVariants.{NotDurable};
 ghost use Rattle.watched_reader.specs.Watching.{inner_of};
 
 use crate::ending::Ending;
 use crate::lease_store::LeaseStore;
-use crate::outcome::{RequestResult, write_outcome};
+use crate::outcome::RequestResult;
+use crate::reply_guard::ReplyGuard;
+use crate::reply_stream::ReplyStream;
 use crate::step::execute_request;
 use blob_digest::Refusal;
 use std::alloc::Global;
-use std::io::{self, Read, Write};
+use std::io::{Read, Write};
 use std::sync::Wait;
 use store_api::{Backend, Queries, Reply};
 use watched_reader::Watched;
-use wire_format::{
-    FrameFault, Incoming, RequestFrame, read_greeting, read_request, write_greeting,
-};
-
-/// Sends the greeting.
-fn send_greeting<O: Write>(output: &mut O) -> io::Result<()>
-    ensures { OnOk result (Appends (O.contents output.old) (O.contents output.new) greeting) }
-{
-    write_greeting(output)?;
-    output.flush()
-}
+use wire_format::{FrameFault, Incoming, RequestFrame, read_greeting, read_request};
 
 /// Exchanges the greetings. Returns why the connection ended, or `None` if it continues.
-fn exchange_greetings<I: Read, O: Write>(input: &mut Watched<I>, output: &mut O) -> Option<Ending>
+fn exchange_greetings<G, I: Read, O: Write>(
+    input: &mut Watched<I>,
+    output: &mut ReplyStream<G, O>,
+) -> Option<Ending>
     ensures greeted { IsNone result → ReadsBytes I.remaining input.old input.new greeting }
-    ensures answered { IsNone result → WritesBytes O.contents output.old output.new greeting }
+    ensures answered { IsNone result →
+        WritesBytes O.contents (output_of output.old) (output_of output.new) greeting }
     ensures ended { IfSome result (λ e. EndsBeforeGreeting e (I.remaining (inner_of input.old))) }
     ensures failed { MayEndByRead result input.old input.new }
 {
@@ -42,18 +38,10 @@ fn exchange_greetings<I: Read, O: Write>(input: &mut Watched<I>, output: &mut O)
         Err(FrameFault::Failed) => return Some(Ending::ReadFailed),
         Err(FrameFault::Malformed) => return Some(Ending::Malformed),
     }
-    match send_greeting(output) {
+    match output.greet() {
         Ok(()) => None,
         Err(_) => Some(Ending::WriteFailed),
     }
-}
-
-/// Sends the reply that reports an outcome.
-fn send<O: Write>(alloc: Global, output: &mut O, outcome: &RequestResult) -> io::Result<()>
-    ensures { SendsOutcome O.contents result output.old output.new (outcome_of outcome.now) }
-{
-    write_outcome(alloc, output, outcome)?;
-    output.flush()
 }
 
 /// Reads a request and plays it. `Err` says why the connection has no further request.
@@ -83,50 +71,75 @@ fn execute_next<B: Backend + Queries, L: LeaseStore<B>, I: Read>(
     }
 }
 
-/// Reads a request, plays it, and sends its reply. Returns why the connection ended, or `None` if it continues.
-fn serve_next<B: Backend + Queries, L: LeaseStore<B>, I: Read, O: Write>(
+/// Reads a request, plays it, makes its effects durable, and sends its reply. Returns why the connection ended, or `None` if
+/// it continues.
+fn serve_next<B: Backend + Queries, G: ReplyGuard<B>, L: LeaseStore<B>, I: Read, O: Write>(
     alloc: Global,
+    guard: &mut G,
     backend: &mut B,
     leases: &mut L,
     input: &mut Watched<I>,
-    output: &mut O,
+    output: &mut ReplyStream<G, O>,
     buffer: &mut Vec<u8>,
 ) -> Option<Ending>
+    requires { G.durable backend.old }
     ensures served { IsNone result → ServesNext B.acts B.finds L.does I.remaining O.contents
-        (backend.old, leases.old, input.old, output.old)
-        (backend.new, leases.new, input.new, output.new) }
+        (backend.old, leases.old, input.old, output_of output.old)
+        (backend.new, leases.new, input.new, output_of output.new) }
     ensures ended { IfSome result (ServesRequests B.acts B.finds L.does (backend.old, leases.old)
         (backend.new, leases.new) (I.remaining (inner_of input.old))
-        (O.contents output.old) (O.contents output.new)) }
+        (O.contents (output_of output.old)) (O.contents (output_of output.new))) }
     ensures failed { MayEndByRead result input.old input.new }
+    ensures durable { result ≢ Some NotDurable → G.durable backend.new }
 {
     let outcome = match execute_next(alloc, backend, leases, input, buffer) {
         Ok(outcome) => outcome,
         Err(ending) => return Some(ending),
     };
-    match send(alloc, output, &outcome) {
+    if !guard.commit(backend) {
+        return Some(Ending::NotDurable);
+    }
+    match output.send(alloc, backend, &outcome) {
         Ok(()) => None,
         Err(_) => Some(Ending::WriteFailed),
     }
 }
 
-/// Serves requests until the connection ends.
-fn serve_requests<W: Wait, B: Backend + Queries, L: LeaseStore<B>, I: Read, O: Write>(
+/// Serves requests until the connection ends. Between two requests the backend is durable.
+fn serve_requests<
+    W: Wait,
+    B: Backend + Queries,
+    G: ReplyGuard<B>,
+    L: LeaseStore<B>,
+    I: Read,
+    O: Write,
+>(
     rt: &W,
     alloc: Global,
+    guard: &mut G,
     backend: &mut B,
     leases: &mut L,
     input: &mut Watched<I>,
-    output: &mut O,
+    output: &mut ReplyStream<G, O>,
 ) -> Ending
+    requires { G.durable backend.old }
     ensures served { ServesRequests B.acts B.finds L.does (backend.old, leases.old)
         (backend.new, leases.new) (I.remaining (inner_of input.old))
-        (O.contents output.old) (O.contents output.new) result }
+        (O.contents (output_of output.old)) (O.contents (output_of output.new)) result }
     ensures failed { EndsByRead result input.old input.new }
+    ensures durable { result ≢ NotDurable → G.durable backend.new }
 {
     let mut buffer = Vec::new(alloc);
     for _ in rt.forever() {
-        if let Some(ending) = serve_next(alloc, backend, leases, input, output, &mut buffer) {
+        if let Some(ending) = serve_next(
+            alloc,
+            guard,
+            backend,
+            leases,
+            input,
+            output,
+            &mut buffer,
+        ) {
             return ending;
         }
     }
@@ -135,29 +148,33 @@ fn serve_requests<W: Wait, B: Backend + Queries, L: LeaseStore<B>, I: Read, O: W
 
 /// Serves a connection until it ends, and returns why it ended.
 ///
-/// It exchanges the greetings. Then it reads, plays and replies to one request after another. Each reply is flushed
-/// before the next request is read. If memory runs out for a request, the reply is `Memory`, and the connection
-/// continues. The call does not return while the client sends requests.
+/// It exchanges the greetings. Then it reads, plays and replies to one request after another. Before each reply the guard
+/// makes the backend durable, and each reply is flushed before the next request is read. If the guard fails, the reply is not
+/// written, and the connection ends with `NotDurable`. If memory runs out for a request, the reply is `Memory`, and the
+/// connection continues. The call does not return while the client sends requests.
 ///
 /// # Cost
 ///
-/// Linear in the bytes that are read and written, in addition to the calls of the store and the table. It allocates one
-/// buffer for the longest request, at most 4,390,910 bytes. It does not copy the bytes of a blob or a manifest.
-pub fn serve<W: Wait, B: Backend + Queries, L: LeaseStore<B>, I: Read, O: Write>(
+/// Linear in the bytes that are read and written, in addition to the calls of the store, the table and the guard. It allocates
+/// one buffer for the longest request, at most 4,390,910 bytes. It does not copy the bytes of a blob or a manifest.
+pub fn serve<W: Wait, B: Backend + Queries, G: ReplyGuard<B>, L: LeaseStore<B>, I: Read, O: Write>(
     rt: &W,
     alloc: Global,
+    guard: &mut G,
     backend: &mut B,
     leases: &mut L,
     input: &mut Watched<I>,
-    output: &mut O,
+    output: &mut ReplyStream<G, O>,
 ) -> Ending
+    requires { G.durable backend.old }
     ensures served { ServesConnection B.acts B.finds L.does (backend.old, leases.old)
         (backend.new, leases.new) (I.remaining (inner_of input.old))
-        (O.contents output.old) (O.contents output.new) result }
+        (O.contents (output_of output.old)) (O.contents (output_of output.new)) result }
     ensures failed { EndsByRead result input.old input.new }
+    ensures durable { result ≢ NotDurable → G.durable backend.new }
 {
     match exchange_greetings(input, output) {
         Some(ending) => ending,
-        None => serve_requests(rt, alloc, backend, leases, input, output),
+        None => serve_requests(rt, alloc, guard, backend, leases, input, output),
     }
 }

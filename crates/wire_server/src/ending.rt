@@ -13,4 +13,6 @@ pub enum Ending {
     Malformed,
     /// A write failed.
     WriteFailed,
+    /// The last request was executed, but its effects could not be made durable. Its reply was not written.
+    NotDurable,
 }

@@ -12,6 +12,7 @@
 //! - A fetch returns a short piece of a lent blob and leaves no lease, or it has the lease of a longer piece kept.
 //! - A query returns the result of a catalog that the store finds, and changes nothing.
 //! - The result of `serve` is the reason of the end. A request that was not read whole was not played.
+//! - A reply is written only after a `ReplyGuard` made the store durable.
 #![tactic(auto)]
 
 mod command;
@@ -20,6 +21,8 @@ mod ending;
 mod lease_store;
 mod outcome;
 mod query;
+mod reply_guard;
+mod reply_stream;
 mod step;
 
 pub use command::{request_command, verb_of};
@@ -28,4 +31,6 @@ pub use ending::Ending;
 pub use lease_store::LeaseStore;
 pub use outcome::{RequestResult, write_outcome};
 pub use query::request_query;
+pub use reply_guard::{NoLog, ReplyGuard};
+pub use reply_stream::ReplyStream;
 pub use step::execute_request;
