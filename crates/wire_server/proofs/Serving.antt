@@ -1,5 +1,5 @@
 -- Lists of requests that are served one after another.
-use Rattle.std.proofs.Common.{◌≡◌, ◌+◌, ◌∙◌, ◌++◌, ◌∷◌, [], ℕ, List, Option, ap, arith, inl, length, length-append, append-nil, refl, subst, sym}
+use Rattle.std.proofs.Common.{◌≡◌, ◌≢◌, ◌+◌, ◌∙◌, ◌++◌, ◌∷◌, [], ℕ, List, Option, ap, arith, inl, length, length-append, append-nil, refl, subst, sym}
 use Rattle.std.proofs.lemmas.Grind.{flat_map-append}
 use Rattle.std.proofs.lemmas.List.{append_assoc}
 use Rattle.std.proofs.lemmas.List.Concat.{flat_map-cons}
@@ -120,6 +120,10 @@ replies_bytes-append rs ss = flat_map-append reply_bytes rs ss
 -- replies that are written after others are written with them
 appends_replies : (held middle holds : Option (List ℕ)) (rs ss : List Reply) → Appends held middle (replies_bytes rs) → Appends middle holds (replies_bytes ss) → Appends held holds (replies_bytes (rs ++ ss))
 appends_replies held middle holds rs ss p q = subst (Appends held holds) (sym (replies_bytes-append rs ss)) (Appends-trans held middle holds (replies_bytes rs) (replies_bytes ss) p q)
+
+-- a connection that ends before its first request ends with another reason than `NotDurable`
+pub not_lost_at_once : (ending : Ending) (rest : Option (List ℕ)) → IsEndReason ending 0 rest → ending ≢ NotDurable
+not_lost_at_once ending rest h is = absurd (omega (arith, subst (λ e. IsEndReason e 0 rest) is h))
 
 -- nothing is written on a connection that ends before its first request
 nothing_written : (ending : Ending) (line held : Option (List ℕ)) → IsEndReason ending 0 line → WritesReplies ending [] held held

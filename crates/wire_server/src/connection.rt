@@ -91,6 +91,7 @@ fn serve_next<B: Backend + Queries, G: ReplyGuard<B>, L: LeaseStore<B>, I: Read,
         (O.contents (output_of output.old)) (O.contents (output_of output.new))) }
     ensures failed { MayEndByRead result input.old input.new }
     ensures durable { result ≢ Some NotDurable → G.durable backend.new }
+    ensures lost { result ≡ Some NotDurable → G.log_failed guard.new }
 {
     let outcome = match execute_next(alloc, backend, leases, input, buffer) {
         Ok(outcome) => outcome,
@@ -105,7 +106,7 @@ fn serve_next<B: Backend + Queries, G: ReplyGuard<B>, L: LeaseStore<B>, I: Read,
     }
 }
 
-/// Serves requests until the connection ends. Between two requests the backend is durable.
+/// Serves requests until the connection ends. The backend is durable between two requests.
 fn serve_requests<
     W: Wait,
     B: Backend + Queries,
@@ -128,6 +129,7 @@ fn serve_requests<
         (O.contents (output_of output.old)) (O.contents (output_of output.new)) result }
     ensures failed { EndsByRead result input.old input.new }
     ensures durable { result ≢ NotDurable → G.durable backend.new }
+    ensures lost { result ≡ NotDurable → G.log_failed guard.new }
 {
     let mut buffer = Vec::new(alloc);
     for _ in rt.forever() {
@@ -172,6 +174,7 @@ pub fn serve<W: Wait, B: Backend + Queries, G: ReplyGuard<B>, L: LeaseStore<B>, 
         (O.contents (output_of output.old)) (O.contents (output_of output.new)) result }
     ensures failed { EndsByRead result input.old input.new }
     ensures durable { result ≢ NotDurable → G.durable backend.new }
+    ensures lost { result ≡ NotDurable → G.log_failed guard.new }
 {
     match exchange_greetings(input, output) {
         Some(ending) => ending,

@@ -1,14 +1,18 @@
 use Rattle.std.proofs.Common.{[], arith, refl}
+use Rattle.std.proofs.lemmas.Option.{same_Some}
 use Rattle.std.proofs.KnownBytes.{Appends-nil}
 use Rattle.wire_server.specs.declared.ending.Ending.TheVariants.{NotDurable, WriteFailed}
 use Rattle.wire_server.proofs.Commits.{plays_committed}
-use Rattle.wire_server.proofs.Serving.{served_at_once, served_unreplied}
+use Rattle.wire_server.proofs.Serving.{not_lost_at_once, served_at_once, served_unreplied}
 use Rattle.wire_server.proofs.connection.serve_next.Goals as goal
 
 pub returns-in-Err-clause-ended : goal.returns-in-Err-clause-ended
 returns-in-Err-clause-ended g c =
     let same = c.in-Err.ensures.same in
     rw (same.0, same.1) (served_at_once g.B.Backend.acts g.B.Queries.finds g.L.LeaseStore.does _ _ _ _ c.in-Err.ensures.ended)
+
+pub returns-in-Err-clause-lost : goal.returns-in-Err-clause-lost
+returns-in-Err-clause-lost g c = λ is. absurd (not_lost_at_once _ _ c.in-Err.ensures.ended (same_Some _ _ is))
 
 pub returns-then-not-commit-clause-ended : goal.returns-then-not-commit-clause-ended
 returns-then-not-commit-clause-ended g c =
