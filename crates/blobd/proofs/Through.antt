@@ -1,5 +1,5 @@
 -- A connection that is served on a store and a table is served on each view of them.
-use Rattle.std.proofs.Common.{◌≡◌, ◌∷◌, [], ℕ, Bool, true, false, List, Option, Some, None, Result, Ok, Err, ap, inl, inr, subst}
+use Rattle.std.proofs.Common.{◌≡◌, ◌≢◌, ◌∷◌, [], ℕ, Bool, true, false, List, Option, Some, None, Result, Ok, Err, ap, inl, inr, subst}
 use Rattle.blob_digest.specs.declared.range.ByteRange.{ByteRange}
 use Rattle.blob_digest.specs.declared.refusal.Refusal.{Refusal}
 use Rattle.wire_format.specs.Replies.{Reply}
@@ -27,6 +27,7 @@ use Rattle.blob_store.specs.StoreBackends.{IsFound, Work, WorkActs, work_of}
 use Rattle.blob_store.specs.Workers.{zero_work}
 use Rattle.blobd.specs.Connections.{IsServedConnection, AddsTableEvent}
 use Rattle.wire_server.specs.declared.ending.Ending.{Ending}
+use Rattle.wire_server.specs.declared.ending.Ending.TheVariants.{NotDurable}
 
 module _ {S T U V : Type 0} (shown : S → U) (lent : T → V)
     (acts : S → StoreRequest → Answer → S → Type 0) (finds : S → Catalog → Type 0) (does : T → TableEvent → T → Type 0)
@@ -144,11 +145,12 @@ module _ {S T U V : Type 0} (shown : S → U) (lent : T → V)
 -- a connection that is served with a new desk and a new writer
 pub served_at : (names : StoreNames) (log : TableId) (old new : DeskView) (was is : LeaseTrace) (line held holds : Option (List ℕ)) (ending : Ending) → work_of old ≡ zero_work → was.own ≡ []
     → ServesConnection WorkActs (λ _ catalog. IsFound names catalog) AddsTableEvent (work_of old, was.own) (work_of new, is.own) line held holds ending
-    → IsPart names.opening new.trace → leased.IsLeaseHistoryPart log is → IsServedConnection names log line held holds ending
-served_at names log old new was is line held holds ending fresh unwritten served part leases_part = record {
+    → IsPart names.opening new.trace → leased.IsLeaseHistoryPart log is → ending ≢ NotDurable → IsServedConnection names log line held holds ending
+served_at names log old new was is line held holds ending fresh unwritten served part leases_part committed = record {
   desk = new;
   leases = is;
   served = subst (λ (from : Work × List TableEvent). ServesConnection WorkActs (λ _ catalog. IsFound names catalog) AddsTableEvent from (work_of new, is.own) line held holds ending) (λ i. (fresh i, unwritten i)) served;
   part = part;
   leases_part = leases_part;
+  committed = committed;
 }

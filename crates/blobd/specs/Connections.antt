@@ -1,5 +1,5 @@
 -- Connections that are served at the same time on one store.
-use Rattle.std.specs.Prelude.{◌≡◌, ◌⊎◌, ◌<◌, ℕ, Some, false, List, [], ◌∷◌, ◌++◌, Option, None, IfSome, IsSomeAnd, MatchResult, length, slice_index_or}
+use Rattle.std.specs.Prelude.{◌≡◌, ◌≢◌, ◌⊎◌, ◌<◌, ℕ, Some, false, List, [], ◌∷◌, ◌++◌, Option, None, IfSome, IsSomeAnd, MatchResult, length, slice_index_or}
 use Rattle.blob_digest.specs.declared.refusal.Refusal.TheVariants.{LimitReached, Memory}
 use Rattle.atomic_table.specs.Seated.{TableId}
 use Rattle.wire_server.specs.LeaseEvents.{TableEvent}
@@ -7,6 +7,7 @@ use Rattle.lease_table.specs.Histories.{LeaseTrace}
 use Rattle.lease_table.specs.Histories as leased
 use Rattle.wire_server.specs.Connections.{EndsByRead, ServesConnection}
 use Rattle.wire_server.specs.declared.ending.Ending.{Ending}
+use Rattle.wire_server.specs.declared.ending.Ending.TheVariants.{NotDurable}
 use Rattle.locked_book.specs.History.{DeskView, IsPart}
 use Rattle.locked_book.specs.Names.{StoreNames}
 use Rattle.blob_store.specs.Parts.{PartsView, names_of}
@@ -25,14 +26,15 @@ AddsTableEvent old event new = new ≡ old ++ event ∷ []
 abbrev pub IsOpen : {I O : Type 0} → Connection I O → I → O → Type 0
 IsOpen {I} line input output = (watched : Watched I) × (line.ends ≡ Some (watched, output)) × (inner_of watched ≡ input) × (has_failed watched ≡ false)
 
--- A connection was served by a new desk. The steps of its requests are the desk's part in a legal history of the store, and their events of leases
--- are its part in the history of this log.
+-- A connection was served by a new desk, and no commit failed. The steps of its requests are the desk's part in a legal history of the store, and
+-- their events of leases are its part in the history of this log.
 pub record IsServedConnection (names : StoreNames) (log : TableId) (line held holds : Option (List ℕ)) (ending : Ending) : Type 0 where
   pub desk : DeskView
   pub leases : LeaseTrace
   pub served : ServesConnection WorkActs (λ _ catalog. IsFound names catalog) AddsTableEvent (zero_work, []) (work_of desk, leases.own) line held holds ending
   pub part : IsPart names.opening desk.trace
   pub leases_part : leased.IsLeaseHistoryPart log leases
+  pub committed : ending ≢ NotDurable
 
 -- the connection was served from its old output to the new one, and ended so
 abbrev pub ServesStreams : {I O : Type 0} → StoreNames → TableId → (I → Option (List ℕ)) → (O → Option (List ℕ)) → Watched I → O → O → Ending → Type 0

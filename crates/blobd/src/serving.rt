@@ -6,6 +6,7 @@ ghost use Rattle.blob_store.specs.StoreBackends.{work_of};
 ghost use Rattle.blob_store.specs.Workers.{zero_work};
 ghost use Rattle.blobd.specs.Connections.{AreServed, AreServedOn, IsClosedConnection, ServesStreams};
 ghost use Rattle.wire_server.specs.Connections.{EndsByRead};
+ghost use Rattle.wire_server.specs.ReplyStreams.{output_of};
 
 use crate::connection::{Connection, EndedConnection};
 use crate::shared::SharedLeases;
@@ -20,10 +21,10 @@ use std::marker::Brand;
 use std::sync::{Mutex, Wait};
 use std::thread::{self, Threads};
 use watched_reader::Watched;
-use wire_server::{Ending, serve};
+use wire_server::{Ending, NoLog, ReplyStream, serve};
 
 /// Serves a connection with a new desk and a new writer of the table's history. Returns why the connection ended, and the
-/// desk.
+/// desk. The store is in memory, so no commit fails and no connection ends with `NotDurable`.
 fn serve_with_desk<'s, W: Wait, S: Naming, L: LeaseNaming, I: Read, O: Write>(
     rt: &'s W,
     alloc: Global,
@@ -32,17 +33,25 @@ fn serve_with_desk<'s, W: Wait, S: Naming, L: LeaseNaming, I: Read, O: Write>(
     desk: Desk<S>,
     writer: LeaseWriter<L>,
     input: &mut Watched<I>,
-    output: &mut O,
+    output: &mut ReplyStream<NoLog, O>,
 ) -> (Ending, Desk<S>)
     requires fresh { work_of desk ≡ zero_work }
     requires unwritten { writer.own ≡ [] }
     ensures served { ServesStreams S.names L.log I.remaining O.contents
-        input.old output.old output.new result.0 }
+        input.old (output_of output.old) (output_of output.new) result.0 }
     ensures failed { EndsByRead result.0 input.old input.new }
 {
     let mut backend = StoreBackend { rt, store, desk };
     let mut leases = SharedLeases { rt, table, writer };
-    let ending = serve(rt, alloc, &mut backend, &mut leases, input, output);
+    let ending = serve(
+        rt,
+        alloc,
+        &mut NoLog,
+        &mut backend,
+        &mut leases,
+        input,
+        output,
+    );
     let StoreBackend {
         rt: _,
         store: _,
@@ -67,10 +76,10 @@ pub fn serve_streams<'s, W: Wait, S: Naming, L: LeaseNaming, I: Read, O: Write>(
     store: &'s Store<S>,
     table: &Mutex<LockedLeaseTable<'s, StorePins<S>, L>>,
     input: &mut Watched<I>,
-    output: &mut O,
+    output: &mut ReplyStream<NoLog, O>,
 ) -> Result<Ending, Refusal>
     ensures served { IfOk result (ServesStreams S.names L.log I.remaining O.contents
-        input.old output.old output.new) }
+        input.old (output_of output.old) (output_of output.new)) }
     ensures failed { IfOk result (λ e. EndsByRead e input.old input.new) }
     ensures same { OnErr result ((input.new ≡ input.old) × (output.new ≡ output.old)) }
     ensures refused { IfErr result (λ e. (e ≡ LimitReached) ⊎ (e ≡ Memory)) }
@@ -96,8 +105,10 @@ fn serve_connection<'s, W: Wait, S: Naming, L: LeaseNaming, I: Read + Drop, O: W
 )
     ensures { IsClosedConnection S.names L.log I.remaining O.contents line.old line.new }
 {
-    if let Some((mut input, mut output)) = line.ends.take() {
-        let served = serve_streams(rt, alloc, store, table, &mut input, &mut output);
+    if let Some((mut input, output)) = line.ends.take() {
+        let mut replies = ReplyStream::new(output);
+        let served = serve_streams(rt, alloc, store, table, &mut input, &mut replies);
+        let output = replies.into_output();
         line.ended = Some(EndedConnection::new(input, output, served));
     }
 }

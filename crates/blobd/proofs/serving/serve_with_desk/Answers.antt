@@ -12,4 +12,4 @@ returns-clause-served g c =
     (λ old request answer new. DeskActs names old.desk request answer new.desk) (λ _ catalog. IsFound names catalog) (λ old event new. AddsEvent old.writer event new.writer)
     WorkActs (λ _ catalog. IsFound names catalog) AddsTableEvent
     (λ old request answer new acts. acts.work) (λ _ _ found. found) (λ old event new adds. adds.own) _ _ _ _ _ _ c.serve-ending.ensures.served)
-    c.reveal_invariant.ensures c.reveal_invariant-2.ensures
+    c.reveal_invariant.ensures c.reveal_invariant-2.ensures c.serve-ending.ensures.lost
