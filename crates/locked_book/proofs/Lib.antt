@@ -8,3 +8,4 @@ pub mod Counted
 pub mod Unread
 pub mod Wholes
 pub mod Views
+pub mod Returns

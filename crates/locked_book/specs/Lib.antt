@@ -6,3 +6,4 @@ pub mod History
 pub mod Calls
 pub mod Performing
 pub mod Results
+pub mod Returns

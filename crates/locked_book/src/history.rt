@@ -5,6 +5,7 @@ ghost use Rattle.ghost_log.specs.Entries.{events_by};
 ghost use Rattle.store_model.specs.Histories.{IsLegal};
 ghost use Rattle.locked_book.specs.Calls.{step_of};
 ghost use Rattle.locked_book.specs.History.{Adds, Allows, IsPart, LeadsOn, SeesAll, steps_of};
+ghost use Rattle.locked_book.specs.Returns.{AreReturned, MayReturn};
 
 use crate::call::Call;
 use crate::names::Naming;
@@ -32,7 +33,9 @@ impl<S: Naming> Model for History<S> {
 
     ghost view = { λ h. h.log.entries };
 
-    ghost invariant = { λ h. (h.log.name ≡ S.names.log) × IfSome h.writers (λ n. n ≡ h.log.writers) };
+    ghost use Rattle.locked_book.specs.Returns.{AreReturned};
+
+    ghost invariant = { λ h. (h.log.name ≡ S.names.log) × IfSome h.writers (λ n. n ≡ h.log.writers) × AreReturned h.log.entries };
 }
 
 /// The right to add steps to a store's history under a number of its own.
@@ -104,9 +107,19 @@ impl<S: Naming> History<S> {
         }
     }
 
+    /// Does nothing at run time: it gives the caller the invariant of histories as a fact.
+    pub fn reveal_invariant(&self)
+        ensures { AreReturned self.now }
+    {
+        let _ = &self.log;
+    }
+
     /// Adds the step that this call is, under the writer's number. The writer has then seen the whole history.
+    ///
+    /// If the step returns a hand, the writer took it last.
     pub fn add(&mut self, writer: &mut HistoryWriter<S>, call: Call<'_>)
-        requires { Allows S.names.opening self.old (step_of call) }
+        requires allows { Allows S.names.opening self.old (step_of call) }
+        requires returns { MayReturn writer.old.own (step_of call) }
         ensures adds { Adds S.names.opening writer.old (step_of call.entry) writer.new }
         ensures all { writer.new.seen ≡ self.new }
         ensures leads { LeadsOn S.names.opening self.old (step_of call.entry) self.new }

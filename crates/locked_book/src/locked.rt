@@ -9,6 +9,7 @@ ghost use Rattle.store_model.specs.Amounts.{zero_amounts};
 ghost use Rattle.store_model.specs.Hands.{filled_length};
 ghost use Rattle.store_model.specs.Histories.{SweepCall, PutBackCall, FinishCall};
 ghost use Rattle.store_model.specs.Runs.{Start, Status, Abandon, Mount as MountCommand, Delete, PutManifest, GetManifest, DeleteManifest, Lease, Number, Mounting, Bytes, Done};
+ghost use Rattle.store_model.specs.Lanes.{IsHeld};
 ghost use Rattle.store_model.specs.Sessions.{HasNoOpenReserve};
 ghost use Rattle.store_model.specs.Sweep.{IsSweep};
 ghost use Rattle.store_book.specs.Pinned.{blob_bytes, blob_digest};
@@ -290,6 +291,7 @@ impl<S: Naming> LockedBook<S> {
     /// Checks a session in with its new chunk by `Kept::put_back`.
     pub fn put_back(&mut self, desk: &mut Desk<S>, hand: Hand) -> Result<u64, Refusal>
         requires filled { hand.last ≢ None }
+        requires held { IsHeld hand desk.old.trace.own }
         ensures does { ChecksIn hand result self.old self.new }
         ensures length { IfOk result (λ n. n ≡ sum_by length hand.chunks + filled_length hand) }
         ensures makes { Makes S.names.opening (PutBackCall hand result) desk.old desk.new }
@@ -304,6 +306,7 @@ impl<S: Naming> LockedBook<S> {
     /// Checks a session in unchanged by `Kept::cancel`.
     pub fn cancel(&mut self, desk: &mut Desk<S>, hand: Hand) -> Result<u64, Refusal>
         requires unfilled { hand.last ≡ None }
+        requires held { IsHeld hand desk.old.trace.own }
         ensures does { ChecksInUnchanged hand result self.old self.new }
         ensures makes { Makes S.names.opening (PutBackCall hand result) desk.old desk.new }
     {
@@ -324,6 +327,7 @@ impl<S: Naming> LockedBook<S> {
     ) -> Result<u64, Refusal>
         requires table { pins.now ≡ S.names.table }
         requires full { HasNoOpenReserve hand }
+        requires held { IsHeld hand desk.old.trace.own }
         ensures does { Finishes hand digest.now result self.old self.new }
         ensures length { IfOk result (λ n. n ≡ sum_by length hand.chunks + filled_length hand) }
         ensures makes { Makes S.names.opening (FinishCall hand digest.now result)

@@ -1,8 +1,10 @@
-use Rattle.std.proofs.Common.{◌≡◌, IfSome, subst, sym}
+use Rattle.std.proofs.Common.{◌≡◌, ◌∙◌, IfSome, ap, subst, sym}
 use Rattle.ghost_log.specs.Entries.{events_by}
 use Rattle.store_model.specs.Histories.{IsLegal}
 use Rattle.locked_book.specs.Calls.{step_of}
 use Rattle.locked_book.specs.History.{Adds, LogLeadsTo, steps_of}
+use Rattle.locked_book.specs.Returns.{AreReturned, MayReturn}
+use Rattle.locked_book.proofs.Returns.{returned_after}
 use Rattle.locked_book.proofs.Additions.{adds, leaves_on, legal_after, own_steps, trace_of}
 use Rattle.locked_book.proofs.history.History.add.Goals as goal
 
@@ -12,7 +14,7 @@ invariant_of-writer g c =
     let log = c.self.inside.log in
     let writer = c.writer.inside.writer in
     let step = step_of c.args.call in
-    let way = c.requires in
+    let way = c.requires.allows in
     let run = subst (λ es. LogLeadsTo opening es way.0) (sym c.self.view_is) way.2 in
     subst (λ w. (w.name ≡ g.S.Naming.names.log) × (events_by w.number w.seen ≡ w.own) × IsLegal opening (steps_of w.seen) × IfSome c.writer.inside.number (λ n. n ≡ w.number)) (sym c.append.ensures.writer) (
       c.writer.invariant.0,
@@ -21,10 +23,22 @@ invariant_of-writer g c =
       c.writer.invariant.3,
     )
 
+pub invariant_of-self : goal.invariant_of-self
+invariant_of-self g c =
+    let l = c.self.inside.log in
+    let w = c.writer.inside.writer in
+    let step = step_of c.args.call in
+    let made = c.append.ensures.log in (
+      ap (λ l. l.name) made ∙ c.self.invariant.0,
+      subst (λ l. IfSome c.self.inside.writers (λ n. n ≡ l.writers)) (sym made) c.self.invariant.1,
+      subst (λ l. AreReturned l.entries) (sym made)
+          (returned_after l w step c.append.ensures.agrees c.self.invariant.2 (subst (λ t. MayReturn t.own step) (sym c.writer.view_is) c.requires.returns)),
+    )
+
 pub returns-clause-adds : goal.returns-clause-adds
 returns-clause-adds g c =
     let opening = g.S.Naming.names.opening in
-    let way = c.requires in
+    let way = c.requires.allows in
     let run = subst (λ es. LogLeadsTo opening es way.0) (sym c.self.view_is) way.2 in
     subst (λ w. Adds opening c.args.writer.now (step_of c.args.call) (trace_of w)) (sym c.append.ensures.writer)
     (adds opening c.self.inside.log c.writer.inside.writer (step_of c.args.call) way.0 way.1 c.append.ensures.agrees run way.3 c.args.writer.now c.writer.view_is)

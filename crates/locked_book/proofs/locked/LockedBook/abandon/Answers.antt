@@ -4,8 +4,8 @@ use Rattle.locked_book.specs.History.{state_of}
 use Rattle.locked_book.proofs.Counted.{is_step}
 use Rattle.locked_book.proofs.locked.LockedBook.abandon.Goals as goal
 
-pub add-requires : goal.add-requires
-add-requires g c =
+pub add-requires-clause-allows : goal.add-requires-clause-allows
+add-requires-clause-allows g c =
     (state_of c.self.inside.kept, state_of c.abandon-result.new.self, c.self.invariant, is_step c.self.inside.kept c.abandon-result.new.self (Abandon c.args.repo.now c.args.number) (reply Number c.abandon-result.result) c.abandon-result.ensures.does.does)
 
 pub invariant_of-self : goal.invariant_of-self

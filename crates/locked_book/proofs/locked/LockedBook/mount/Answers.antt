@@ -5,8 +5,8 @@ use Rattle.locked_book.specs.History.{state_of}
 use Rattle.locked_book.proofs.Counted.{is_step}
 use Rattle.locked_book.proofs.locked.LockedBook.mount.Goals as goal
 
-pub add-requires : goal.add-requires
-add-requires g c =
+pub add-requires-clause-allows : goal.add-requires-clause-allows
+add-requires-clause-allows g c =
     (state_of c.self.inside.kept, state_of c.mount-result.new.self, c.self.invariant, is_step c.self.inside.kept c.mount-result.new.self (Mount c.args.repo.now c.args.digest.now (option_copied c.args.from)) (reply Mounting c.mount-result.result) c.mount-result.ensures.does.does)
 
 pub invariant_of-self : goal.invariant_of-self

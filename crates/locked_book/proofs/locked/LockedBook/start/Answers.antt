@@ -4,8 +4,8 @@ use Rattle.locked_book.specs.History.{state_of}
 use Rattle.locked_book.proofs.Counted.{is_step}
 use Rattle.locked_book.proofs.locked.LockedBook.start.Goals as goal
 
-pub add-requires : goal.add-requires
-add-requires g c =
+pub add-requires-clause-allows : goal.add-requires-clause-allows
+add-requires-clause-allows g c =
     (state_of c.self.inside.kept, state_of c.start-result.new.self, c.self.invariant, is_step c.self.inside.kept c.start-result.new.self (Start c.args.repo.now) (reply Number c.start-result.result) c.start-result.ensures.does.does)
 
 pub invariant_of-self : goal.invariant_of-self

@@ -1,0 +1,34 @@
+-- Hands come back as they were checked out, also after one more step.
+use Rattle.std.proofs.Common.{◌≡◌, ◌≢◌, ◌∙◌, ◌++◌, ◌∷◌, [], ℕ, List, Option, None, Some, Ok, Result, ap, refl, subst, sym, ⊎_elim}
+use Rattle.std.proofs.lemmas.Bool.Decides.{eqb_tells}
+use Rattle.std.proofs.lemmas.List.Sums.{fold-append}
+use Rattle.std.specs.Prelude.{fold}
+use Rattle.ghost_log.specs.Calls as shared
+use Rattle.ghost_log.specs.Entries.{entry, events_by}
+use Rattle.ghost_log.proofs.Lists.{events_other, events_own}
+use Rattle.blob_digest.specs.declared.range.ByteRange.{ByteRange}
+use Rattle.spec_lib.specs.Texts.{Text}
+use Rattle.store_model.specs.Catalog.{HandRecord}
+use Rattle.store_model.specs.Histories.{Step, TakeCall}
+use Rattle.store_model.specs.Lanes.{IsHeld, IsPaired, ReturnsHeldHand, hand_after, held_hand}
+use Rattle.locked_book.specs.Returns.{AreReturned, MayReturn}
+
+-- paired steps stay paired with one more that returns the held hand or none
+paired_push : (held : Option HandRecord) (steps : List Step) (step : Step) → IsPaired held steps → ReturnsHeldHand (fold hand_after held steps) step → IsPaired held (steps ++ step ∷ [])
+paired_push held [] step paired returns = (returns, tt)
+paired_push held (s ∷ steps) step paired returns = (paired.0, paired_push (hand_after held s) steps step paired.1 returns)
+
+-- a writer that may return what the step returns adds it
+pub returned_after : (l : shared.Log Step) (w : shared.Writer Step) (step : Step) → shared.Agrees l w → AreReturned l.entries → MayReturn w.own step → AreReturned (l.entries ++ entry w.number step ∷ [])
+returned_after l w step agrees returned may = λ n. ⊎_elim
+    (λ same. subst (λ m. IsPaired None (events_by m (l.entries ++ entry w.number step ∷ []))) same.1
+        (subst (IsPaired None) (sym (events_own w.number l.entries (step ∷ [])))
+            (paired_push None (events_by w.number l.entries) step (returned w.number) (subst (λ own. MayReturn own step) (sym agrees.own) may))))
+    (λ other. subst (IsPaired None) (sym (events_other w.number n l.entries (step ∷ []) other.1)) (returned n))
+    (eqb_tells w.number n)
+
+-- a desk holds the hand that it has just checked out, whatever was filled in
+pub holds_taken : (own own' : List Step) (repo : Text) (number : ℕ) (range : Option ByteRange) (len : ℕ) (taken hand : HandRecord) →
+    own' ≡ own ++ TakeCall repo number range len (Ok taken) ∷ [] → hand.key ≡ taken.key → hand.chunks ≡ taken.chunks → IsHeld hand own'
+holds_taken own own' repo number range len taken hand made key chunks =
+    (taken, ap held_hand made ∙ fold-append hand_after None own (TakeCall repo number range len (Ok taken) ∷ []), key, chunks)
