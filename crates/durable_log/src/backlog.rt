@@ -133,7 +133,7 @@ impl<E, N: Naming<E>> Backlog<E, N> {
         bytes: &[u8],
         promised: bool,
     )
-        requires bytes { bytes.now ≡ N.bytes D.event }
+        requires bytes { self.old.pending.recording ≡ true → bytes.now ≡ N.bytes D.event }
         requires promised { promised ≡ N.promises D.event }
         ensures agrees { AgreesWith N.names.history self.old writer.old }
         ensures history { AddsEvent writer.old.number D.event self.old self.new }
@@ -154,7 +154,7 @@ impl<E, N: Naming<E>> Backlog<E, N> {
         bytes: Vec<u8>,
         promised: bool,
     )
-        requires bytes { bytes.items ≡ N.bytes D.event }
+        requires bytes { self.old.pending.recording ≡ true → bytes.items ≡ N.bytes D.event }
         requires promised { promised ≡ N.promises D.event }
         ensures agrees { AgreesWith N.names.history self.old writer.old }
         ensures history { AddsEvent writer.old.number D.event self.old self.new }
@@ -197,6 +197,7 @@ impl<E, N: Naming<E>> Backlog<E, N> {
         requires { length (encode N.bytes writer.old.seen) ≤ self.old.synced }
         ensures waits { Waits writer.old writer.new }
         ensures durable { Confirms N.promises writer.old writer.new }
+        ensures sees { writer.new.seen ≡ self.old.history }
         ensures same { self.new ≡ self.old }
     {
         writer.reveal_invariant();
@@ -210,6 +211,7 @@ impl<E, N: Naming<E>> Backlog<E, N> {
     pub fn confirm(&mut self, writer: &mut LogWriter<E, N>) -> bool
         ensures waits { Waits writer.old writer.new }
         ensures durable { result ≡ true → Confirms N.promises writer.old writer.new }
+        ensures sees { result ≡ true → writer.new.seen ≡ self.old.history }
         ensures same { self.new ≡ self.old }
         ensures kept { result ≡ false → writer.new ≡ writer.old }
     {

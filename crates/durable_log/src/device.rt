@@ -104,6 +104,7 @@ impl<E, N: Naming<E>, D: Disk> LogDevice<E, N, D> {
     ) -> Result<bool, CommitError>
         requires { IsReady self.old }
         ensures waits { Waits writer.old writer.new }
+        ensures sees { OnOk result (writer.new.seen ≡ backlog.old.history) }
         ensures sound { self.new.failed ≡ false }
         ensures history { KeepsHistory backlog.old backlog.new }
         ensures confirmed { IfOk result (λ done. done ≡ true → Confirms N.promises writer.old writer.new) }
@@ -212,6 +213,7 @@ impl<E, N: Naming<E>, D: Disk> LogDevice<E, N, D> {
         ensures history { KeepsHistory backlog.old backlog.new }
         ensures pending { KeepsPending backlog.old backlog.new }
         ensures waits { Waits writer.old writer.new }
+        ensures sees { writer.new.seen ≡ backlog.old.history }
         ensures durable { Confirms N.promises writer.old writer.new }
     {
         self.publish_synced(backlog);
