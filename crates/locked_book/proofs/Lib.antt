@@ -9,3 +9,6 @@ pub mod Unread
 pub mod Wholes
 pub mod Views
 pub mod Returns
+pub mod Logging
+pub mod TenantNames
+pub mod SeenHistories

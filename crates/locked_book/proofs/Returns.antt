@@ -10,21 +10,20 @@ use Rattle.blob_digest.specs.declared.range.ByteRange.{ByteRange}
 use Rattle.spec_lib.specs.Texts.{Text}
 use Rattle.store_model.specs.Catalog.{HandRecord}
 use Rattle.store_model.specs.Histories.{Step, TakeCall}
-use Rattle.store_model.specs.Lanes.{IsHeld, IsPaired, ReturnsHeldHand, hand_after, held_hand}
+use Rattle.store_model.specs.Lanes.{IsHeld, IsPaired, hand_after, held_hand}
+use Rattle.store_model.proofs.Durable.Pairing.{IsPaired-append_one}
+use Rattle.atomic_table.specs.Seated.{TableId}
+use Rattle.durable_log.specs.Views as durable
+use Rattle.durable_log.specs.Views.{BacklogView, log_of, writer_of}
 use Rattle.locked_book.specs.Returns.{AreReturned, MayReturn}
 
--- paired steps stay paired with one more that returns the held hand or none
-paired_push : (held : Option HandRecord) (steps : List Step) (step : Step) → IsPaired held steps → ReturnsHeldHand (fold hand_after held steps) step → IsPaired held (steps ++ step ∷ [])
-paired_push held [] step paired returns = (returns, tt)
-paired_push held (s ∷ steps) step paired returns = (paired.0, paired_push (hand_after held s) steps step paired.1 returns)
-
 -- a writer that may return what the step returns adds it
-pub returned_after : (l : shared.Log Step) (w : shared.Writer Step) (step : Step) → shared.Agrees l w → AreReturned l.entries → MayReturn w.own step → AreReturned (l.entries ++ entry w.number step ∷ [])
-returned_after l w step agrees returned may = λ n. ⊎_elim
-    (λ same. subst (λ m. IsPaired None (events_by m (l.entries ++ entry w.number step ∷ []))) same.1
-        (subst (IsPaired None) (sym (events_own w.number l.entries (step ∷ [])))
-            (paired_push None (events_by w.number l.entries) step (returned w.number) (subst (λ own. MayReturn own step) (sym agrees.own) may))))
-    (λ other. subst (IsPaired None) (sym (events_other w.number n l.entries (step ∷ []) other.1)) (returned n))
+pub returned_after : (name : TableId) (b : BacklogView Step) (w : durable.Trace Step) (step : Step) → shared.Agrees (log_of name b) (writer_of name w) → AreReturned b.history → MayReturn w.own step → AreReturned (b.history ++ entry w.number step ∷ [])
+returned_after name b w step agrees returned may = λ n. ⊎_elim
+    (λ same. subst (λ m. IsPaired None (events_by m (b.history ++ entry w.number step ∷ []))) same.1
+    (subst (IsPaired None) (sym (events_own w.number b.history (step ∷ [])))
+    (IsPaired-append_one None (events_by w.number b.history) step (returned w.number) (subst (λ own. MayReturn own step) (sym agrees.own) may))))
+    (λ other. subst (IsPaired None) (sym (events_other w.number n b.history (step ∷ []) other.1)) (returned n))
     (eqb_tells w.number n)
 
 -- a desk holds the hand that it has just checked out, whatever was filled in

@@ -3,21 +3,26 @@ use Rattle.std.proofs.Common.{◌≡◌, ◌⊎◌, ap, List, [], ◌∷◌, ref
 use Rattle.ghost_log.specs.declared.view.Entry.{Entry}
 use Rattle.ghost_log.specs.Entries.{IsPrefix}
 use Rattle.ghost_log.specs.Calls as shared
+use Rattle.atomic_table.specs.Seated.{TableId}
+use Rattle.durable_log.specs.Views as durable
+use Rattle.durable_log.specs.Views.{BacklogView, log_of, trace_seeing, writer_of}
 use Rattle.store_model.specs.Catalog.{Catalog}
 use Rattle.store_model.specs.Histories.{IsLegal, Step}
 use Rattle.locked_book.specs.History.{AreInOneHistory, OneBegins, SeesAll, Trace, steps_of}
 use Rattle.locked_book.proofs.Additions.{trace_of}
 
 -- a writer of a log sees all of it
-pub sees_all : (l : shared.Log Step) (w : shared.Writer Step) (entries : List (Entry Step)) (was : Trace) → shared.Agrees l w → l.entries ≡ entries → trace_of w ≡ was → SeesAll entries was (trace_of (shared.writer_after_catch_up l.entries w))
-sees_all l w entries was agrees all same =
-    subst (λ (es : List (Entry Step)). SeesAll es was (trace_of (shared.writer_after_catch_up l.entries w))) all
-    (subst (λ (t : Trace). SeesAll l.entries t (trace_of (shared.writer_after_catch_up l.entries w))) same (record {
+pub sees_all : (name : TableId) (b : BacklogView Step) (w : durable.Trace Step) (entries : List (Entry Step)) (was : Trace) → shared.Agrees (log_of name b) (writer_of name w) → b.history ≡ entries → trace_of w ≡ was →
+    SeesAll entries was (trace_of (trace_seeing b.history w))
+sees_all name b w entries was agrees all same =
+    subst (λ (es : List (Entry Step)). SeesAll es was (trace_of (trace_seeing b.history w))) all
+    (subst (λ (t : Trace). SeesAll b.history t (trace_of (trace_seeing b.history w))) same (record {
       began = agrees.seen;
       seen = refl;
       agrees = agrees.own;
       number = refl;
       own = refl;
+      durable = refl;
     }))
 
 module _ {A : Type 0} where

@@ -36,11 +36,12 @@ Allows C entries step = (s : State) × (s' : State) × LogLeadsTo C entries s ×
 abbrev pub LeadsOn : Catalog → List (Entry Step) → Step → List (Entry Step) → Type 0
 LeadsOn C old step new = (s s' : State) → LogLeadsTo C old s → IsStep s step s' → LogLeadsTo C new s'
 
--- a desk's part of the history: its number, the prefix of the history that it has seen, and its own steps
+-- a desk's part of the history: its number, the prefix of the history that it has seen, its own steps, and the prefix that it knows to be durable
 pub record Trace : Type 0 where
   pub number : ℕ
   pub seen : List (Entry Step)
   pub own : List Step
+  pub durable : List (Entry Step)
 
 -- The prefix that was seen is a legal history, and its steps under this number are exactly the desk's own steps, in order.
 pub record IsPart (C : Catalog) (trace : Trace) : Type 0 where
@@ -94,6 +95,7 @@ pub record Adds (C : Catalog) (old : Trace) (step : Step) (new : Trace) : Type 0
   pub seen : new.seen ≡ (old.seen ++ between) ++ entry old.number step ∷ []
   pub own : new.own ≡ old.own ++ step ∷ []
   pub number : new.number ≡ old.number
+  pub durable : new.durable ≡ old.durable
   pub agrees : events_by new.number new.seen ≡ new.own
   pub legal : IsLegal C (steps_of new.seen)
 
@@ -136,6 +138,7 @@ pub record SeesAll (whole : List (Entry Step)) (old new : Trace) : Type 0 where
   pub agrees : events_by old.number whole ≡ old.own
   pub number : new.number ≡ old.number
   pub own : new.own ≡ old.own
+  pub durable : new.durable ≡ old.durable
 
 -- two desks have seen all of one legal history
 pub record AreInOneHistory (C : Catalog) (one one_new other other_new : Trace) : Type 0 where

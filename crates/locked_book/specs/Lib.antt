@@ -7,3 +7,6 @@ pub mod Calls
 pub mod Performing
 pub mod Results
 pub mod Returns
+pub mod Logging
+pub mod Recording
+pub mod Durability

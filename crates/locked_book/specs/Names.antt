@@ -1,7 +1,10 @@
 -- The names of a store, which its type parameter carries.
 use Rattle.std.specs.Prelude.{◌≡◌, ℕ, List, [], length}
 use Rattle.atomic_table.specs.Seated.{TableId}
+use Rattle.durable_log.specs.Names as durable
 use Rattle.locked_book.specs.Totals.{ledger_parts}
+use Rattle.locked_book.specs.declared.policy.LogPolicy.{LogPolicy}
+use Rattle.locked_book.specs.declared.policy.LogPolicy.TheVariants as policy
 use Rattle.store_book.specs.BookState.{BookState}
 use Rattle.store_model.specs.Catalog.{Catalog, Tenant, opening}
 
@@ -20,7 +23,7 @@ pub record LedgerName : Type 0 where
   pub name : ℕ
   pub parts : ℕ
 
--- a store: the table of its pins, its number of slots, its setting, its ledgers, its log, and its opening catalog
+-- a store: the table of its pins, its number of slots, its setting, its ledgers, its log with the policy of it, and its opening catalog
 pub record StoreNames : Type 0 where
   pub table : TableId
   pub slots : ℕ
@@ -29,7 +32,8 @@ pub record StoreNames : Type 0 where
   pub received : LedgerName
   pub closed : LedgerName
   pub abandoned : LedgerName
-  pub log : TableId
+  pub log : durable.Names
+  pub policy : LogPolicy
   pub opening : Catalog
 
 -- the book has the table, the slots and the setting of the store
@@ -54,6 +58,7 @@ no_names = record {
   received = record { name = 0; parts = 0 };
   closed = record { name = 0; parts = 0 };
   abandoned = record { name = 0; parts = 0 };
-  log = no_table;
+  log = durable.no_names;
+  policy = policy.NoLog;
   opening = opening [] 0 0;
 }

@@ -1,24 +1,37 @@
 //! The history of a store, and its writers.
 
-ghost use Rattle.std.specs.Prelude.{◌≡◌, ◌+◌, ◌≤◌, ℕ, [], IfSome, Some, true};
+ghost use Rattle.std.specs.Prelude.{◌≡◌, ◌+◌, ◌≤◌, ℕ, [], IfOk, IfSome, OnErr, Some, true, false};
 ghost use Rattle.ghost_log.specs.Entries.{events_by};
+ghost use Rattle.durable_log.specs.Views.{IsReady, IsSynced, Waits};
 ghost use Rattle.store_model.specs.Histories.{IsLegal};
 ghost use Rattle.locked_book.specs.Calls.{step_of};
 ghost use Rattle.locked_book.specs.History.{Adds, Allows, IsPart, LeadsOn, SeesAll, steps_of};
+ghost use Rattle.locked_book.specs.Durability.{IsConfirmed, log_trace};
+ghost use Rattle.locked_book.specs.Logging.{IsSmall, IsUnrecorded, NamesTenant, promises, recorded_bytes};
+ghost use Rattle.locked_book.specs.Recording.{IsRecord};
 ghost use Rattle.locked_book.specs.Returns.{AreReturned, MayReturn};
 
 use crate::call::Call;
-use crate::names::Naming;
-use crate::step::{Step, append};
-use ghost_log::{SharedLog, Writer};
+use crate::names::{Naming, StoreLog};
+use crate::policy::{LogPolicy, is_change};
+use crate::record::record_call;
+use crate::step::{Step, append, append_owned};
+use durable_log::{Backlog, CommitError, LogDevice, LogWriter};
+use log_disk::Disk;
+use std::alloc::Global;
 use std::marker::{Model, PhantomData};
 
-/// The history of a store: all steps made under its lock.
+/// The history of a store: all steps made under its lock, with the records of them that the log has not taken over.
 ///
-/// The steps exist in the proof alone. At run time it is one atomic word and the number of its writers.
+/// The steps exist in the proof alone. At run time a history without a log is three atomic words and the number of its
+/// writers.
 #[derive(Drop)]
 pub struct History<S: Naming> {
-    log: SharedLog<Step>,
+    alloc: Global,
+    pub(crate) backlog: Backlog<Step, StoreLog<S>>,
+    policy: LogPolicy,
+    /// Room for the record of a step, which is made before it is appended.
+    scratch: Vec<u8>,
     /// The number of writers, or `None` if it exceeded 64 bits.
     writers: Option<u64>,
     of: PhantomData<S>,
@@ -28,20 +41,19 @@ impl<S: Naming> Model for History<S> {
     ghost use Rattle.std.specs.Prelude.{◌≡◌, IfSome, List};
     ghost use Rattle.ghost_log.specs.declared.view.Entry.{Entry};
     ghost use Rattle.store_model.specs.Histories as histories;
+    ghost use Rattle.locked_book.specs.Returns.{AreReturned};
 
     ghost Value = { List (Entry histories.Step) };
 
-    ghost view = { λ h. h.log.entries };
+    ghost view = { λ h. h.backlog.history };
 
-    ghost use Rattle.locked_book.specs.Returns.{AreReturned};
-
-    ghost invariant = { λ h. (h.log.name ≡ S.names.log) × IfSome h.writers (λ n. n ≡ h.log.writers) × AreReturned h.log.entries };
+    ghost invariant = { λ h. IfSome h.writers (λ n. n ≡ h.backlog.writers) × AreReturned h.backlog.history × (h.policy ≡ S.names.policy) };
 }
 
 /// The right to add steps to a store's history under a number of its own.
 #[derive(Drop)]
 pub struct HistoryWriter<S: Naming> {
-    writer: Writer<Step>,
+    pub(crate) writer: LogWriter<Step, StoreLog<S>>,
     /// Its number, or `None` if that exceeded 64 bits.
     number: Option<u64>,
     of: PhantomData<S>,
@@ -55,9 +67,9 @@ impl<S: Naming> Model for HistoryWriter<S> {
 
     ghost Value = { Trace };
 
-    ghost view = { λ w. record { number = w.writer.number; seen = w.writer.seen; own = w.writer.own } };
+    ghost view = { λ w. record { number = w.writer.number; seen = w.writer.seen; own = w.writer.own; durable = w.writer.durable } };
 
-    ghost invariant = { λ w. (w.writer.name ≡ S.names.log) × (events_by w.writer.number w.writer.seen ≡ w.writer.own) × IsLegal S.names.opening (steps_of w.writer.seen) × IfSome w.number (λ n. n ≡ w.writer.number) };
+    ghost invariant = { λ w. (events_by w.writer.number w.writer.seen ≡ w.writer.own) × IsLegal S.names.opening (steps_of w.writer.seen) × IfSome w.number (λ n. n ≡ w.writer.number) };
 }
 
 impl<S: Naming> HistoryWriter<S> {
@@ -77,17 +89,27 @@ fn one_more(count: Option<u64>) -> Option<u64>
 }
 
 impl<S: Naming> History<S> {
-    /// Creates a history without steps and writers.
-    pub fn new(log: SharedLog<Step>) -> History<S>
-        requires name { log.name ≡ S.names.log }
-        requires empty { (log.entries ≡ []) × (log.writers ≡ 0) }
+    /// Creates a history without steps and writers, whose log does not record.
+    pub fn new(alloc: Global, policy: LogPolicy, backlog: Backlog<Step, StoreLog<S>>) -> History<S>
+        requires empty { (backlog.history ≡ []) × (backlog.writers ≡ 0) }
+        requires policy { policy ≡ S.names.policy }
         ensures { result ≡ [] }
     {
         History {
-            log,
+            alloc,
+            backlog,
+            policy,
+            scratch: Vec::new(alloc),
             writers: Some(0),
             of: PhantomData,
         }
+    }
+
+    /// Returns the policy of the log.
+    pub fn policy(&self) -> LogPolicy
+        ensures { result ≡ S.names.policy }
+    {
+        self.policy
     }
 
     /// Creates a writer with a number of its own, which has seen the whole history and made no step.
@@ -98,7 +120,7 @@ impl<S: Naming> History<S> {
     {
         let number = self.writers;
         self.writers = one_more(number);
-        let writer = self.log.writer();
+        let writer = self.backlog.writer();
         writer.reveal_invariant();
         HistoryWriter {
             writer,
@@ -111,20 +133,70 @@ impl<S: Naming> History<S> {
     pub fn reveal_invariant(&self)
         ensures { AreReturned self.now }
     {
-        let _ = &self.log;
+        let _ = &self.backlog;
     }
 
-    /// Adds the step that this call is, under the writer's number. The writer has then seen the whole history.
+    /// Adds the step that a call is, under the writer's number. The writer has then seen the whole history.
     ///
-    /// If the step returns a hand, the writer took it last.
+    /// The record is made from the call. If there is no memory for it, the log is closed.
     pub fn add(&mut self, writer: &mut HistoryWriter<S>, call: Call<'_>)
+        requires small { IsSmall call }
+        requires tenant { NamesTenant S.names.setting.tenants (step_of call) }
+        requires allows { Allows S.names.opening self.old (step_of call) }
+        ensures adds { Adds S.names.opening writer.old (step_of call.entry) writer.new }
+        ensures all { writer.new.seen ≡ self.new }
+        ensures leads { LeadsOn S.names.opening self.old (step_of call.entry) self.new }
+    {
+        let promised = self.policy.promises_changes() && is_change(&call);
+        record_call(
+            self.alloc,
+            self.policy,
+            &mut self.backlog,
+            &mut self.scratch,
+            &call,
+        );
+        append(
+            &mut self.backlog,
+            &mut writer.writer,
+            call,
+            self.scratch.as_slice(),
+            promised,
+        );
+    }
+
+    /// Adds the step that a call is, with its record. The writer has then seen the whole history.
+    ///
+    /// The record is not copied. If the step returns a hand, the writer took it last.
+    pub fn add_recorded(
+        &mut self,
+        writer: &mut HistoryWriter<S>,
+        call: Call<'_>,
+        bytes: Vec<u8>,
+        promised: bool,
+    )
+        requires bytes { IsRecord S.names bytes.items (step_of call) }
+        requires promised { promised ≡ promises S.names.policy (step_of call) }
         requires allows { Allows S.names.opening self.old (step_of call) }
         requires returns { MayReturn writer.old.own (step_of call) }
         ensures adds { Adds S.names.opening writer.old (step_of call.entry) writer.new }
         ensures all { writer.new.seen ≡ self.new }
         ensures leads { LeadsOn S.names.opening self.old (step_of call.entry) self.new }
     {
-        append(&mut self.log, &mut writer.writer, call);
+        append_owned(&mut self.backlog, &mut writer.writer, call, bytes, promised);
+    }
+
+    /// Adds the step that a call is, of which nothing is recorded. The writer has then seen the whole history.
+    ///
+    /// If the step returns a hand, the writer took it last.
+    pub fn add_unrecorded(&mut self, writer: &mut HistoryWriter<S>, call: Call<'_>)
+        requires unrecorded { IsUnrecorded call }
+        requires allows { Allows S.names.opening self.old (step_of call) }
+        requires returns { MayReturn writer.old.own (step_of call) }
+        ensures adds { Adds S.names.opening writer.old (step_of call.entry) writer.new }
+        ensures all { writer.new.seen ≡ self.new }
+        ensures leads { LeadsOn S.names.opening self.old (step_of call.entry) self.new }
+    {
+        append(&mut self.backlog, &mut writer.writer, call, &[], false);
     }
 
     /// Shows a writer the whole history, of which it had seen a prefix.
@@ -133,7 +205,7 @@ impl<S: Naming> History<S> {
         ensures same { self.new ≡ self.old }
         ensures sees { SeesAll self.old writer.old writer.new }
     {
-        self.log.catch_up(&mut writer.writer);
+        self.backlog.catch_up(&mut writer.writer);
     }
 
     /// Consumes a writer, and returns whether its number is `number` and exactly `writers` writers exist.
@@ -149,10 +221,64 @@ impl<S: Naming> History<S> {
             number: of_writer,
             of: _,
         } = writer;
-        self.log.catch_up(&mut writer);
+        self.backlog.catch_up(&mut writer);
         match (of_writer, self.writers) {
             (Some(its), Some(count)) => its == number && count == writers,
             _ => false,
         }
+    }
+
+    /// Returns whether all that the writer has seen is durable. If so, the writer then knows it.
+    pub fn confirm(&mut self, writer: &mut HistoryWriter<S>) -> bool
+        requires { IsLegal S.names.opening (steps_of self.old) }
+        ensures same { self.new ≡ self.old }
+        ensures waits { Waits (log_trace writer.old) (log_trace writer.new) }
+        ensures durable { result ≡ true → IsConfirmed S.names writer.old writer.new }
+        ensures kept { result ≡ false → writer.new ≡ writer.old }
+    {
+        let done = self.backlog.confirm(&mut writer.writer);
+        writer.writer.reveal_invariant();
+        done
+    }
+
+    /// Returns whether all that the writer has seen is durable. If not, gives the device the records that wait for it, and
+    /// shows the writer the whole history.
+    pub fn confirm_or_take<D: Disk>(
+        &mut self,
+        device: &mut LogDevice<Step, StoreLog<S>, D>,
+        writer: &mut HistoryWriter<S>,
+    ) -> Result<bool, CommitError>
+        requires legal { IsLegal S.names.opening (steps_of self.old) }
+        requires device { IsReady device.old }
+        ensures same { self.new ≡ self.old }
+        ensures waits { Waits (log_trace writer.old) (log_trace writer.new) }
+        ensures sound { device.new.failed ≡ false }
+        ensures confirmed { IfOk result (λ done. done ≡ true → IsConfirmed S.names writer.old writer.new) }
+        ensures idle { IfOk result (λ done. done ≡ true → device.new.buffer ≡ []) }
+        ensures taken { IfOk result (λ done. done ≡ false → device.new.taken ≡ writer.new.seen) }
+        ensures durable { IfOk result (λ done. done ≡ false → writer.new.durable ≡ writer.old.durable) }
+        ensures err { OnErr result ((writer.new ≡ writer.old) × (device.new ≡ device.old)) }
+    {
+        let done = device.confirm_or_take(&mut self.backlog, &mut writer.writer);
+        writer.writer.reveal_invariant();
+        done
+    }
+
+    /// Makes known that all that the device took over is durable: to the history, and to a writer that has seen no more.
+    pub fn publish<D: Disk>(
+        &mut self,
+        device: &mut LogDevice<Step, StoreLog<S>, D>,
+        writer: &mut HistoryWriter<S>,
+    )
+        requires legal { IsLegal S.names.opening (steps_of self.old) }
+        requires synced { IsSynced (recorded_bytes S.names.policy S.names.setting.tenants) S.names.log.base device.old }
+        requires seen { writer.old.seen ≡ device.old.taken }
+        ensures same { self.new ≡ self.old }
+        ensures device { device.new ≡ device.old }
+        ensures waits { Waits (log_trace writer.old) (log_trace writer.new) }
+        ensures durable { IsConfirmed S.names writer.old writer.new }
+    {
+        device.publish(&mut self.backlog, &mut writer.writer);
+        writer.writer.reveal_invariant();
     }
 }

@@ -18,6 +18,7 @@ ghost use Rattle.locked_book.specs.Calls.{reply};
 ghost use Rattle.locked_book.specs.Counting.{EachSlotOf, IsBalanced, KeepsCatalog, common_check};
 ghost use Rattle.locked_book.specs.Found.{IsBookOf, IsContentOf, IsSweepOf};
 ghost use Rattle.locked_book.specs.History.{IsUnread, KeepsAmounts, LogLeadsTo, Makes, MakesCheckOut, MakesFailedPut, OneBegins, SeeOneHistory, state_of};
+ghost use Rattle.locked_book.specs.Logging.{IsHandOf, bytes_if_ok, check_in_bytes, finish_bytes, manifest_bytes};
 ghost use Rattle.locked_book.specs.Names.{BelongsTo};
 ghost use Rattle.locked_book.specs.Performing.{ChecksIn, ChecksInUnchanged, ChecksOut, Finishes, Performs};
 ghost use Rattle.locked_book.specs.Results.{EndsWithRange, HashesTo, IsPinOf, PrintsBook};
@@ -27,10 +28,11 @@ use crate::counters::Counters;
 use crate::desk::Desk;
 use crate::history::History;
 use crate::kept::Kept;
-use crate::names::Naming;
+use crate::names::{Naming, StoreLog};
+use crate::policy::LogPolicy;
 use crate::step::Step;
 use blob_digest::{Blob, ByteRange, Digest, Refusal, RepoName};
-use ghost_log::SharedLog;
+use durable_log::Backlog;
 use oci_manifest::Manifest;
 use pin_table::{Pin, Pins};
 use std::alloc::Global;
@@ -72,9 +74,26 @@ impl<S: Naming> Model for LockedBook<S> {
     ghost invariant = { λ b. LogLeadsTo S.names.opening b.history (state_of b.kept) };
 }
 
+/// Returns the record of a call that succeeded, or an empty one.
+fn kept_if_ok<A>(bytes: Vec<u8>, called: &Result<A, Refusal>) -> Vec<u8>
+    ensures { result.items ≡ bytes_if_ok called.now bytes.items }
+{
+    let mut bytes = bytes;
+    if called.is_err() {
+        bytes.clear();
+    }
+    bytes
+}
+
 impl<S: Naming> LockedBook<S> {
     /// Creates the state of a store whose book has no sessions, with nothing counted and no step made.
-    pub fn new(book: Book, counters: Counters<S>, log: SharedLog<Step>) -> LockedBook<S>
+    pub fn new(
+        alloc: Global,
+        book: Book,
+        counters: Counters<S>,
+        policy: LogPolicy,
+        backlog: Backlog<Step, StoreLog<S>>,
+    ) -> LockedBook<S>
         requires book { book.catalog.sessions ≡ empty }
         requires named { BelongsTo book S.names }
         requires counters { counters ≡ record {
@@ -82,13 +101,14 @@ impl<S: Naming> LockedBook<S> {
           settled = zero_amounts;
           desks = 0;
         } }
-        requires log { (log.name ≡ S.names.log) × (log.entries ≡ []) × (log.writers ≡ 0) }
+        requires backlog { (backlog.history ≡ []) × (backlog.writers ≡ 0) }
+        requires policy { policy ≡ S.names.policy }
         requires opening { book.catalog ≡ S.names.opening }
         ensures { result ≡ record { book = book; counts = counters } }
     {
         LockedBook {
             kept: Kept::new(book, counters),
-            history: History::new(log),
+            history: History::new(alloc, policy, backlog),
         }
     }
 
@@ -135,7 +155,7 @@ impl<S: Naming> LockedBook<S> {
     {
         let result = self.kept.status(&mut desk.tally, repo, number);
         self.history
-            .add(&mut desk.writer, Call::Status(repo, number, &result));
+            .add_unrecorded(&mut desk.writer, Call::Status(repo, number, &result));
         result
     }
 
@@ -149,6 +169,7 @@ impl<S: Naming> LockedBook<S> {
         ensures does { Performs S.names.opening (Abandon repo.now number) (reply Number result)
             self.old self.new desk.old desk.new }
     {
+        self.kept.reveal_invariant();
         let result = self.kept.abandon(&mut desk.tally, repo, number);
         self.history
             .add(&mut desk.writer, Call::Abandon(repo, number, &result));
@@ -196,15 +217,23 @@ impl<S: Naming> LockedBook<S> {
         desk: &mut Desk<S>,
         repo: &RepoName,
         manifest: Manifest,
+        bytes: Vec<u8>,
     ) -> Result<Digest, Refusal>
+        requires bytes { bytes.items ≡ manifest_bytes S.names.policy repo.now manifest }
         ensures does { Performs S.names.opening (PutManifest repo.now manifest) (reply Bytes result)
             self.old self.new desk.old desk.new }
         ensures digest { IfOk result (λ d. d ≡ sha256_text manifest) }
     {
         let given = Snapshot::of(&manifest);
         let result = self.kept.keep_manifest(&mut desk.tally, repo, manifest);
-        self.history
-            .add(&mut desk.writer, Call::PutManifest(repo, &given, &result));
+        let promised = self.history.policy().promises_changes() && result.is_ok();
+        let bytes = kept_if_ok(bytes, &result);
+        self.history.add_recorded(
+            &mut desk.writer,
+            Call::PutManifest(repo, &given, &result),
+            bytes,
+            promised,
+        );
         result
     }
 
@@ -222,7 +251,7 @@ impl<S: Naming> LockedBook<S> {
     {
         let result = self.kept.get_manifest(&mut desk.tally, repo, digest);
         self.history
-            .add(&mut desk.writer, Call::GetManifest(repo, digest, &result));
+            .add_unrecorded(&mut desk.writer, Call::GetManifest(repo, digest, &result));
         result
     }
 
@@ -263,7 +292,7 @@ impl<S: Naming> LockedBook<S> {
     {
         let result = self.kept.lease(pins, &mut desk.tally, repo, digest);
         self.history
-            .add(&mut desk.writer, Call::Lease(repo, digest, &result));
+            .add_unrecorded(&mut desk.writer, Call::Lease(repo, digest, &result));
         result
     }
 
@@ -278,10 +307,12 @@ impl<S: Naming> LockedBook<S> {
     ) -> Result<Hand, Refusal>
         ensures does { ChecksOut repo.now number range len result self.old self.new }
         ensures ends { IfOk result (λ h. EndsWithRange h len range) }
+        ensures names { IfOk result (λ h. IsHandOf S.names.setting.tenants repo.now number h) }
         ensures makes { MakesCheckOut S.names repo.now number range len result desk.old desk.new }
     {
+        self.kept.reveal_invariant();
         let result = self.kept.take(repo, number, range, len);
-        self.history.add(
+        self.history.add_unrecorded(
             &mut desk.writer,
             Call::Take(repo, number, range, len, &result),
         );
@@ -289,7 +320,13 @@ impl<S: Naming> LockedBook<S> {
     }
 
     /// Checks a session in with its new chunk by `Kept::put_back`.
-    pub fn put_back(&mut self, desk: &mut Desk<S>, hand: Hand) -> Result<u64, Refusal>
+    pub fn put_back(
+        &mut self,
+        desk: &mut Desk<S>,
+        hand: Hand,
+        bytes: Vec<u8>,
+    ) -> Result<u64, Refusal>
+        requires bytes { bytes.items ≡ check_in_bytes S.names.policy S.names.setting.tenants hand }
         requires filled { hand.last ≢ None }
         requires held { IsHeld hand desk.old.trace.own }
         ensures does { ChecksIn hand result self.old self.new }
@@ -298,8 +335,14 @@ impl<S: Naming> LockedBook<S> {
     {
         let given = Snapshot::of(&hand);
         let result = self.kept.put_back(&mut desk.tally, hand);
-        self.history
-            .add(&mut desk.writer, Call::PutBack(&given, &result));
+        let promised = self.history.policy().promises_chunks() && result.is_ok();
+        let bytes = kept_if_ok(bytes, &result);
+        self.history.add_recorded(
+            &mut desk.writer,
+            Call::PutBack(&given, &result),
+            bytes,
+            promised,
+        );
         result
     }
 
@@ -313,7 +356,7 @@ impl<S: Naming> LockedBook<S> {
         let given = Snapshot::of(&hand);
         let result = self.kept.cancel(hand);
         self.history
-            .add(&mut desk.writer, Call::PutBack(&given, &result));
+            .add_unrecorded(&mut desk.writer, Call::PutBack(&given, &result));
         result
     }
 
@@ -324,7 +367,9 @@ impl<S: Naming> LockedBook<S> {
         desk: &mut Desk<S>,
         hand: Hand,
         digest: &Digest,
+        bytes: Vec<u8>,
     ) -> Result<u64, Refusal>
+        requires bytes { bytes.items ≡ finish_bytes S.names.policy S.names.setting.tenants hand digest.now }
         requires table { pins.now ≡ S.names.table }
         requires full { HasNoOpenReserve hand }
         requires held { IsHeld hand desk.old.trace.own }
@@ -335,8 +380,14 @@ impl<S: Naming> LockedBook<S> {
     {
         let given = Snapshot::of(&hand);
         let result = self.kept.finish(pins, &mut desk.tally, hand, digest);
-        self.history
-            .add(&mut desk.writer, Call::Finish(&given, digest, &result));
+        let promised = self.history.policy().promises_changes() && result.is_ok();
+        let bytes = kept_if_ok(bytes, &result);
+        self.history.add_recorded(
+            &mut desk.writer,
+            Call::Finish(&given, digest, &result),
+            bytes,
+            promised,
+        );
         result
     }
 
@@ -356,7 +407,7 @@ impl<S: Naming> LockedBook<S> {
         match self.kept.check_tenant(repo) {
             Ok(()) => Ok(()),
             Err(refusal) => {
-                self.history.add(
+                self.history.add_unrecorded(
                     &mut desk.writer,
                     Call::RefuseManifest(repo, bytes, &refusal),
                 );
@@ -383,7 +434,7 @@ impl<S: Naming> LockedBook<S> {
             Ok(()) => unread,
             Err(refusal) => refusal,
         };
-        self.history.add(
+        self.history.add_unrecorded(
             &mut desk.writer,
             Call::RefuseManifest(repo, bytes, &refusal),
         );
@@ -398,7 +449,8 @@ impl<S: Naming> LockedBook<S> {
         self.reveal_invariant();
         let result = self.kept.sweep(pins);
         let mut nobody = self.history.writer();
-        self.history.add(&mut nobody, Call::Sweep(&result));
+        self.history
+            .add_unrecorded(&mut nobody, Call::Sweep(&result));
         self.reveal_invariant();
         result
     }
@@ -411,7 +463,8 @@ impl<S: Naming> LockedBook<S> {
         ensures makes { Makes S.names.opening (SweepCall result) desk.old desk.new }
     {
         let result = self.kept.sweep(pins);
-        self.history.add(&mut desk.writer, Call::Sweep(&result));
+        self.history
+            .add_unrecorded(&mut desk.writer, Call::Sweep(&result));
         result
     }
 

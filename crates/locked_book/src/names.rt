@@ -2,6 +2,7 @@
 
 ghost use Rattle.locked_book.specs.Names.{StoreNames, no_names};
 
+use crate::step::Step;
 use std::marker::{Brand, PhantomData};
 use std::sync::ledger::Ledger;
 use store_book::PinsName;
@@ -24,6 +25,21 @@ pub struct StorePins<S: Naming> {
 
 impl<S: Naming> PinsName for StorePins<S> {
     ghost table = { S.names.table };
+}
+
+/// A name for the log of a store: what it records of each step, and which steps it promises to be durable.
+pub struct StoreLog<S: Naming> {
+    of: PhantomData<S>,
+}
+
+impl<S: Naming> durable_log::Naming<Step> for StoreLog<S> {
+    ghost use Rattle.locked_book.specs.Logging.{promises, recorded_bytes};
+
+    ghost names = { S.names.log };
+
+    ghost bytes = { recorded_bytes S.names.policy S.names.setting.tenants };
+
+    ghost promises = { promises S.names.policy };
 }
 
 /// A name for the ledger of accepted commands.

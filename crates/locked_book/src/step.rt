@@ -1,11 +1,15 @@
 //! The events of a store's log, which exist in the proof alone.
 
 ghost use Rattle.std.specs.Prelude.{◌≡◌};
-ghost use Rattle.ghost_log.specs.Calls.{Agrees, with_entry, writer_after_append};
+ghost use Rattle.durable_log.specs.Views.{AddsEvent, AgreesWith, trace_with};
 ghost use Rattle.locked_book.specs.Calls.{step_of};
+ghost use Rattle.locked_book.specs.Logging.{promises};
+ghost use Rattle.locked_book.specs.Recording.{IsRecordOf};
 
 use crate::call::Call;
-use ghost_log::{Event, SharedLog, Writer};
+use crate::names::{Naming, StoreLog};
+use durable_log::{Backlog, LogWriter};
+use ghost_log::Event;
 use std::marker::{Brand, Model, PhantomData};
 
 /// A step of a store's history. At run time it has no content.
@@ -44,24 +48,73 @@ impl<P: StepName> Event<Step> for Picked<P> {
 }
 
 // The proof chooses `P`, and with it the step.
-fn append_as<P: StepName>(log: &mut SharedLog<Step>, writer: &mut Writer<Step>, call: Call<'_>)
+fn append_as<S: Naming, P: StepName>(
+    backlog: &mut Backlog<Step, StoreLog<S>>,
+    writer: &mut LogWriter<Step, StoreLog<S>>,
+    call: Call<'_>,
+    bytes: &[u8],
+    promised: bool,
+)
     requires step { P.step ≡ step_of call }
-    requires name { writer.old.name ≡ log.old.name }
-    ensures agrees { Agrees log.old writer.old }
-    ensures log { log.new ≡ with_entry writer.old.number P.step log.old }
-    ensures writer { writer.new ≡ writer_after_append P.step log.old.entries writer.old }
+    requires bytes { IsRecordOf S.names backlog.old bytes.now P.step }
+    requires promised { promised ≡ promises S.names.policy P.step }
+    ensures agrees { AgreesWith S.names.log.history backlog.old writer.old }
+    ensures history { AddsEvent writer.old.number P.step backlog.old backlog.new }
+    ensures writer { writer.new ≡ trace_with P.step backlog.old.history writer.old }
 {
     let _ = call;
-    log.append::<Picked<P>>(writer);
+    backlog.append::<Picked<P>>(writer, bytes, promised);
 }
 
-/// Appends the step that a call is.
-pub fn append(log: &mut SharedLog<Step>, writer: &mut Writer<Step>, call: Call<'_>)
-    requires { writer.old.name ≡ log.old.name }
-    ensures agrees { Agrees log.old writer.old }
-    ensures log { log.new ≡ with_entry writer.old.number (step_of call.entry) log.old }
-    ensures writer { writer.new ≡ writer_after_append (step_of call.entry) log.old.entries
-        writer.old }
+/// Adds the step that a call is, with its record.
+pub fn append<S: Naming>(
+    backlog: &mut Backlog<Step, StoreLog<S>>,
+    writer: &mut LogWriter<Step, StoreLog<S>>,
+    call: Call<'_>,
+    bytes: &[u8],
+    promised: bool,
+)
+    requires bytes { IsRecordOf S.names backlog.old bytes.now (step_of call) }
+    requires promised { promised ≡ promises S.names.policy (step_of call) }
+    ensures agrees { AgreesWith S.names.log.history backlog.old writer.old }
+    ensures history { AddsEvent writer.old.number (step_of call.entry) backlog.old backlog.new }
+    ensures writer { writer.new ≡ trace_with (step_of call.entry) backlog.old.history writer.old }
 {
-    append_as::<Brand>(log, writer, call);
+    append_as::<S, Brand>(backlog, writer, call, bytes, promised);
+}
+
+// The proof chooses `P`, and with it the step.
+fn append_owned_as<S: Naming, P: StepName>(
+    backlog: &mut Backlog<Step, StoreLog<S>>,
+    writer: &mut LogWriter<Step, StoreLog<S>>,
+    call: Call<'_>,
+    bytes: Vec<u8>,
+    promised: bool,
+)
+    requires step { P.step ≡ step_of call }
+    requires bytes { IsRecordOf S.names backlog.old bytes.items P.step }
+    requires promised { promised ≡ promises S.names.policy P.step }
+    ensures agrees { AgreesWith S.names.log.history backlog.old writer.old }
+    ensures history { AddsEvent writer.old.number P.step backlog.old backlog.new }
+    ensures writer { writer.new ≡ trace_with P.step backlog.old.history writer.old }
+{
+    let _ = call;
+    backlog.append_owned::<Picked<P>>(writer, bytes, promised);
+}
+
+/// Adds the step that a call is, with its record, which is not copied.
+pub fn append_owned<S: Naming>(
+    backlog: &mut Backlog<Step, StoreLog<S>>,
+    writer: &mut LogWriter<Step, StoreLog<S>>,
+    call: Call<'_>,
+    bytes: Vec<u8>,
+    promised: bool,
+)
+    requires bytes { IsRecordOf S.names backlog.old bytes.items (step_of call) }
+    requires promised { promised ≡ promises S.names.policy (step_of call) }
+    ensures agrees { AgreesWith S.names.log.history backlog.old writer.old }
+    ensures history { AddsEvent writer.old.number (step_of call.entry) backlog.old backlog.new }
+    ensures writer { writer.new ≡ trace_with (step_of call.entry) backlog.old.history writer.old }
+{
+    append_owned_as::<S, Brand>(backlog, writer, call, bytes, promised);
 }

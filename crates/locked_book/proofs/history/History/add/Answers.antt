@@ -4,47 +4,48 @@ use Rattle.store_model.specs.Histories.{IsLegal}
 use Rattle.locked_book.specs.Calls.{step_of}
 use Rattle.locked_book.specs.History.{Adds, LogLeadsTo, steps_of}
 use Rattle.locked_book.specs.Returns.{AreReturned, MayReturn}
-use Rattle.locked_book.proofs.Returns.{returned_after}
 use Rattle.locked_book.proofs.Additions.{adds, leaves_on, legal_after, own_steps, trace_of}
+use Rattle.locked_book.proofs.Logging.{promised_change, small}
+use Rattle.locked_book.proofs.Returns.{returned_after}
 use Rattle.locked_book.proofs.history.History.add.Goals as goal
 
 pub invariant_of-writer : goal.invariant_of-writer
 invariant_of-writer g c =
     let opening = g.S.Naming.names.opening in
-    let log = c.self.inside.log in
+    let names = g.S.Naming.names.log.history in
+    let backlog = c.record_call.new.backlog in
     let writer = c.writer.inside.writer in
     let step = step_of c.args.call in
     let way = c.requires.allows in
-    let run = subst (λ es. LogLeadsTo opening es way.0) (sym c.self.view_is) way.2 in
-    subst (λ w. (w.name ≡ g.S.Naming.names.log) × (events_by w.number w.seen ≡ w.own) × IsLegal opening (steps_of w.seen) × IfSome c.writer.inside.number (λ n. n ≡ w.number)) (sym c.append.ensures.writer) (
-      c.writer.invariant.0,
-      own_steps opening log writer step way.0 way.1 c.append.ensures.agrees run way.3,
-      legal_after opening log writer step way.0 way.1 c.append.ensures.agrees run way.3,
-      c.writer.invariant.3,
+    let run = subst (λ es. LogLeadsTo opening es way.0) (sym (c.record_call.ensures.same.0 ∙ c.self.view_is)) way.2 in
+    subst (λ w. (events_by w.number w.seen ≡ w.own) × IsLegal opening (steps_of w.seen) × IfSome c.writer.inside.number (λ n. n ≡ w.number)) (sym c.append.ensures.writer) (
+      own_steps opening names backlog writer step way.0 way.1 c.append.ensures.agrees run way.3,
+      legal_after opening names backlog writer step way.0 way.1 c.append.ensures.agrees run way.3,
+      c.writer.invariant.2,
     )
 
 pub invariant_of-self : goal.invariant_of-self
 invariant_of-self g c =
-    let l = c.self.inside.log in
-    let w = c.writer.inside.writer in
-    let step = step_of c.args.call in
-    let made = c.append.ensures.log in (
-      ap (λ l. l.name) made ∙ c.self.invariant.0,
-      subst (λ l. IfSome c.self.inside.writers (λ n. n ≡ l.writers)) (sym made) c.self.invariant.1,
-      subst (λ l. AreReturned l.entries) (sym made)
-          (returned_after l w step c.append.ensures.agrees c.self.invariant.2 (subst (λ t. MayReturn t.own step) (sym c.writer.view_is) c.requires.returns)),
+    let names = g.S.Naming.names.log.history in
+    let backlog = c.record_call.new.backlog in
+    let writer = c.writer.inside.writer in
+    let step = step_of c.args.call in (
+      subst (λ n. IfSome c.self.inside.writers (λ m. m ≡ n)) (sym (c.append.ensures.history.1 ∙ c.record_call.ensures.same.1)) c.self.invariant.0,
+      subst AreReturned (sym c.append.ensures.history.0)
+          (returned_after names backlog writer step c.append.ensures.agrees (subst AreReturned (sym c.record_call.ensures.same.0) c.self.invariant.1) (small c.args.call c.requires.small writer.own).0),
+      c.self.invariant.2,
     )
 
 pub returns-clause-adds : goal.returns-clause-adds
 returns-clause-adds g c =
     let opening = g.S.Naming.names.opening in
     let way = c.requires.allows in
-    let run = subst (λ es. LogLeadsTo opening es way.0) (sym c.self.view_is) way.2 in
+    let run = subst (λ es. LogLeadsTo opening es way.0) (sym (c.record_call.ensures.same.0 ∙ c.self.view_is)) way.2 in
     subst (λ w. Adds opening c.args.writer.now (step_of c.args.call) (trace_of w)) (sym c.append.ensures.writer)
-    (adds opening c.self.inside.log c.writer.inside.writer (step_of c.args.call) way.0 way.1 c.append.ensures.agrees run way.3 c.args.writer.now c.writer.view_is)
+    (adds opening g.S.Naming.names.log.history c.record_call.new.backlog c.writer.inside.writer (step_of c.args.call) way.0 way.1 c.append.ensures.agrees run way.3 c.args.writer.now c.writer.view_is)
 
 pub returns-clause-leads : goal.returns-clause-leads
 returns-clause-leads g c = λ s s' run last.
     let opening = g.S.Naming.names.opening in
-    subst (λ l. LogLeadsTo opening l.entries s') (sym c.append.ensures.log)
-    (leaves_on opening c.self.inside.log.entries c.writer.inside.writer.number (step_of c.args.call) s s' (subst (λ es. LogLeadsTo opening es s) (sym c.self.view_is) run) last)
+    subst (λ es. LogLeadsTo opening es s') (sym c.append.ensures.history.0)
+    (leaves_on opening c.record_call.new.backlog.history c.writer.inside.writer.number (step_of c.args.call) s s' (subst (λ es. LogLeadsTo opening es s) (sym (c.record_call.ensures.same.0 ∙ c.self.view_is)) run) last)

@@ -1,0 +1,136 @@
+-- What the log records of calls, and which of them it promises.
+use Rattle.std.proofs.Common.{◌≡◌, ◌≢◌, ◌∙◌, ℕ, Bool, true, false, List, [], ◌∷◌, Option, None, Some, Result, Ok, Err, ap, refl, sym, subst}
+use Rattle.std.specs.Arc.{arc_value}
+use Rattle.std.specs.Option.{option_map_or}
+use Rattle.std.specs.Prelude.{◌&&◌, ◌||◌, is_ok, is_some}
+use Rattle.std.proofs.Math.Bool.{or-false}
+use Rattle.blob_digest.specs.declared.range.ByteRange.{ByteRange}
+use Rattle.blob_digest.specs.declared.refusal.Refusal.{Refusal}
+use Rattle.store_book.specs.Pinned.{blob_bytes}
+use Rattle.spec_lib.specs.Texts.{Text}
+use Rattle.store_model.specs.Catalog.{HandRecord, Tenant}
+use Rattle.store_model.specs.Durable.{chunk_change}
+use Rattle.store_model.specs.Histories.{CommandCall, FinishCall, PutBackCall, Step, SweepCall, TakeCall}
+use Rattle.store_model.specs.Runs.{Answer, Bytes, Command, GetManifest, Lease, Number, PutManifest, Status}
+use Rattle.locked_book.specs.Calls.{reply, step_of}
+use Rattle.locked_book.specs.Logging.{IsSmall, IsUnrecorded, bytes_if_ok, check_in_bytes, change_bytes, finish_bytes, is_change, is_changing, is_chunk, logged_by, manifest_bytes, promises, promises_changes, promises_chunks, recorded_bytes, step_bytes}
+use Rattle.locked_book.specs.Returns.{MayReturn}
+use Rattle.locked_book.specs.declared.call.Call.{Call}
+use Rattle.locked_book.specs.declared.call.Call.TheVariants as call
+use Rattle.locked_book.specs.declared.policy.LogPolicy.{LogPolicy}
+use Rattle.locked_book.specs.declared.policy.LogPolicy.TheVariants as policy
+
+-- ---- policies
+
+pub logged_by-nil : (p : LogPolicy) → logged_by p [] ≡ []
+logged_by-nil policy.NoLog = refl
+logged_by-nil policy.Never = refl
+logged_by-nil policy.Closes = refl
+logged_by-nil policy.Each = refl
+
+-- a step that changes nothing is not promised
+pub unpromised : (p : LogPolicy) (step : Step) → is_change step ≡ false → is_chunk step ≡ false → promises p step ≡ false
+unpromised policy.NoLog step a b = refl
+unpromised policy.Never step a b = refl
+unpromised policy.Closes step a b = ap (λ x. x || false) a
+unpromised policy.Each step a b = ap (λ x. x || is_chunk step) a ∙ b
+
+-- a step that adds no chunk is promised with the changes
+pub promised_change : (p : LogPolicy) (step : Step) → is_chunk step ≡ false → promises p step ≡ (promises_changes p && is_change step)
+promised_change policy.NoLog step b = refl
+promised_change policy.Never step b = refl
+promised_change policy.Closes step b = or-false (is_change step)
+promised_change policy.Each step b = ap (λ x. is_change step || x) b ∙ or-false (is_change step)
+
+-- ---- calls
+
+-- nothing is recorded of a step, and it is not promised
+abbrev pub RecordsNothing : LogPolicy → List Tenant → Step → Type 0
+RecordsNothing p tenants step = (recorded_bytes p tenants step ≡ []) × (promises p step ≡ false)
+
+nothing : (p : LogPolicy) (tenants : List Tenant) (step : Step) → step_bytes tenants step ≡ [] → is_change step ≡ false → is_chunk step ≡ false → RecordsNothing p tenants step
+nothing p tenants step bytes change chunk = (ap (logged_by p) bytes ∙ logged_by-nil p, unpromised p step change chunk)
+
+-- a command that only reads
+reads : {A : Type 0} (p : LogPolicy) (tenants : List Tenant) (command : Command) (f : A → Answer) (result : Result A Refusal) →
+    ((a : A) → step_bytes tenants (CommandCall command (Ok (f a))) ≡ []) → is_changing command ≡ false → RecordsNothing p tenants (CommandCall command (reply f result))
+reads p tenants command f (Ok a) bytes changing = nothing p tenants (CommandCall command (Ok (f a))) (bytes a) changing refl
+reads p tenants command f (Err e) bytes changing = nothing p tenants (CommandCall command (Err e)) refl refl refl
+
+taken : (p : LogPolicy) (tenants : List Tenant) (repo : Text) (number : ℕ) (range : Option ByteRange) (len : ℕ) (result : Result HandRecord Refusal) → RecordsNothing p tenants (TakeCall repo number range len result)
+taken p tenants repo number range len result = nothing p tenants (TakeCall repo number range len result) refl refl refl
+
+unfilled : (p : LogPolicy) (tenants : List Tenant) (hand : HandRecord) (result : Result ℕ Refusal) → hand.last ≡ None → RecordsNothing p tenants (PutBackCall hand result)
+unfilled p tenants hand (Ok n) none = nothing p tenants (PutBackCall hand (Ok n))
+    (ap (λ (last : Option Text). change_bytes tenants (chunk_change hand.key (option_map_or (λ b. b) last []))) none) refl (ap (λ (last : Option Text). is_some last) none)
+unfilled p tenants hand (Err e) none = nothing p tenants (PutBackCall hand (Err e)) refl refl refl
+
+pub unrecorded : (p : LogPolicy) (tenants : List Tenant) (c : Call) → IsUnrecorded c → RecordsNothing p tenants (step_of c)
+unrecorded p tenants (call.Start repo result) u = absurd u
+unrecorded p tenants (call.Status repo number result) u = reads p tenants (Status repo.now number) Number result.now (λ a. refl) refl
+unrecorded p tenants (call.Take repo number range len result) u = taken p tenants repo.now number range len result.now
+unrecorded p tenants (call.PutBack hand result) u = unfilled p tenants hand.now.value result.now u
+unrecorded p tenants (call.Finish hand digest result) u = absurd u
+unrecorded p tenants (call.Abandon repo number result) u = absurd u
+unrecorded p tenants (call.Mount repo digest from result) u = absurd u
+unrecorded p tenants (call.Delete repo digest result) u = absurd u
+unrecorded p tenants (call.PutManifest repo manifest result) u = absurd u
+unrecorded p tenants (call.RefuseManifest repo bytes e) u = nothing p tenants (CommandCall (PutManifest repo.now bytes.now) (Err e.now)) refl refl refl
+unrecorded p tenants (call.GetManifest repo digest result) u = reads p tenants (GetManifest repo.now digest.now) (λ m. Bytes (arc_value m)) result.now (λ a. refl) refl
+unrecorded p tenants (call.DeleteManifest repo digest result) u = absurd u
+unrecorded p tenants (call.Lease repo digest result) u = reads p tenants (Lease repo.now digest.now) (λ r. Bytes (blob_bytes (arc_value r.1))) result.now (λ a. refl) refl
+unrecorded p tenants (call.Sweep swept) u = nothing p tenants (SweepCall swept.now) refl refl refl
+
+-- a call without a body returns no hand, and adds no chunk
+pub small : (c : Call) → IsSmall c → (own : List Step) → MayReturn own (step_of c) × (is_chunk (step_of c) ≡ false)
+small (call.Start repo result) s own = (tt, refl)
+small (call.Status repo number result) s own = (tt, refl)
+small (call.Take repo number range len result) s own = (tt, refl)
+small (call.PutBack hand result) s own = absurd s
+small (call.Finish hand digest result) s own = absurd s
+small (call.Abandon repo number result) s own = (tt, refl)
+small (call.Mount repo digest from result) s own = (tt, refl)
+small (call.Delete repo digest result) s own = (tt, refl)
+small (call.PutManifest repo manifest result) s own = absurd s
+small (call.RefuseManifest repo bytes e) s own = (tt, refl)
+small (call.GetManifest repo digest result) s own = (tt, refl)
+small (call.DeleteManifest repo digest result) s own = (tt, refl)
+small (call.Lease repo digest result) s own = (tt, refl)
+small (call.Sweep swept) s own = (tt, refl)
+
+-- ---- records that are made before their steps
+
+pub check_in_record : (p : LogPolicy) (tenants : List Tenant) (hand : HandRecord) (result : Result ℕ Refusal) → bytes_if_ok result (check_in_bytes p tenants hand) ≡ recorded_bytes p tenants (PutBackCall hand result)
+check_in_record p tenants hand (Ok n) = refl
+check_in_record p tenants hand (Err e) = sym (logged_by-nil p)
+
+pub check_in_promise : (p : LogPolicy) (hand : HandRecord) (result : Result ℕ Refusal) → hand.last ≢ None → (promises_chunks p && is_ok result) ≡ promises p (PutBackCall hand result)
+check_in_promise p hand result filled = promised p hand.last result filled
+  where
+    promised : (p : LogPolicy) (last : Option Text) (result : Result ℕ Refusal) → last ≢ None → (promises_chunks p && is_ok result) ≡ promises p (PutBackCall (record hand { last = last }) result)
+    promised p None result filled = absurd (filled refl)
+    promised policy.NoLog (Some b) (Ok n) filled = refl
+    promised policy.Never (Some b) (Ok n) filled = refl
+    promised policy.Closes (Some b) (Ok n) filled = refl
+    promised policy.Each (Some b) (Ok n) filled = refl
+    promised policy.NoLog (Some b) (Err e) filled = refl
+    promised policy.Never (Some b) (Err e) filled = refl
+    promised policy.Closes (Some b) (Err e) filled = refl
+    promised policy.Each (Some b) (Err e) filled = refl
+
+pub finish_record : (p : LogPolicy) (tenants : List Tenant) (hand : HandRecord) (digest : Text) (result : Result ℕ Refusal) → bytes_if_ok result (finish_bytes p tenants hand digest) ≡ recorded_bytes p tenants (FinishCall hand digest result)
+finish_record p tenants hand digest (Ok n) = refl
+finish_record p tenants hand digest (Err e) = sym (logged_by-nil p)
+
+pub finish_promise : (p : LogPolicy) (hand : HandRecord) (digest : Text) (result : Result ℕ Refusal) → (promises_changes p && is_ok result) ≡ promises p (FinishCall hand digest result)
+finish_promise p hand digest (Ok n) = sym (promised_change p (FinishCall hand digest (Ok n)) refl)
+finish_promise p hand digest (Err e) = sym (promised_change p (FinishCall hand digest (Err e)) refl)
+
+pub manifest_record : {A : Type 0} (p : LogPolicy) (tenants : List Tenant) (repo bytes : Text) (f : A → Answer) (result : Result A Refusal) →
+    bytes_if_ok result (manifest_bytes p repo bytes) ≡ recorded_bytes p tenants (CommandCall (PutManifest repo bytes) (reply f result))
+manifest_record p tenants repo bytes f (Ok a) = refl
+manifest_record p tenants repo bytes f (Err e) = sym (logged_by-nil p)
+
+pub manifest_promise : {A : Type 0} (p : LogPolicy) (repo bytes : Text) (f : A → Answer) (result : Result A Refusal) → (promises_changes p && is_ok result) ≡ promises p (CommandCall (PutManifest repo bytes) (reply f result))
+manifest_promise p repo bytes f (Ok a) = sym (promised_change p (CommandCall (PutManifest repo bytes) (Ok (f a))) refl)
+manifest_promise p repo bytes f (Err e) = sym (promised_change p (CommandCall (PutManifest repo bytes) (Err e)) refl)

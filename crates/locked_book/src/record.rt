@@ -1,0 +1,258 @@
+//! The records of calls.
+
+ghost use Rattle.std.specs.Prelude.{◌≡◌, ◌++◌, ◌≤◌, ◌^◌, IfErr, IfOk, OnOk, [], length, string_bytes};
+ghost use Rattle.blob_digest.specs.Digests.{IsDigestText};
+ghost use Rattle.blob_digest.specs.Names.{tenant_name};
+ghost use Rattle.blob_digest.specs.declared.refusal.Refusal.TheVariants.{Memory};
+ghost use Rattle.log_records.specs.Changes as logged;
+ghost use Rattle.log_records.specs.Changes.{IsChange, change_view, max_body};
+ghost use Rattle.log_records.specs.Records.{record_bytes};
+ghost use Rattle.locked_book.specs.Calls.{step_of};
+ghost use Rattle.locked_book.specs.Logging.{IsSmall, NamesTenant, chunk_bytes, manifest_bytes, mount_bytes, seal_bytes, step_bytes};
+ghost use Rattle.locked_book.specs.Recording.{IsRecordOf};
+
+use crate::call::Call;
+use crate::names::{Naming, StoreLog};
+use crate::policy::LogPolicy;
+use crate::step::Step;
+use blob_digest::{Digest, Refusal, RepoName};
+use durable_log::Backlog;
+use log_records::{Change, MAX_BODY, append_record};
+use std::alloc::Global;
+use store_book::Mount;
+
+/// Returns the text of a digest.
+fn digest_text(alloc: Global, digest: &Digest) -> Result<String, Refusal>
+    ensures text { IfOk result (λ t. (string_bytes t ≡ digest.now) × IsDigestText digest.now) }
+    ensures refused { IfErr result (λ e. e ≡ Memory) }
+{
+    let mut text = String::new(alloc);
+    digest.write(&mut text)?;
+    Ok(text)
+}
+
+/// Fails with `Memory` if bytes are longer than the longest blob. No session has room for such a chunk.
+fn check_body(bytes: &[u8]) -> Result<(), Refusal>
+    ensures ok { OnOk result (length bytes.now ≤ max_body) }
+    ensures refused { IfErr result (λ e. e ≡ Memory) }
+{
+    if bytes.len() as u64 > MAX_BODY {
+        return Err(Refusal::Memory);
+    }
+    Ok(())
+}
+
+/// Appends the record of a change.
+fn append(out: &mut Vec<u8>, change: &Change<'_>) -> Result<(), Refusal>
+    requires { IsChange (change_view change.now) }
+    ensures ok { OnOk result (out.new.items ≡ out.old.items ++ record_bytes (change_view change.now)) }
+    ensures refused { IfErr result (λ e. e ≡ Memory) }
+{
+    append_record(out, change)?;
+    Ok(())
+}
+
+/// Appends the record of a session that was opened.
+fn append_opened(out: &mut Vec<u8>, repo: &RepoName, number: u32) -> Result<(), Refusal>
+    ensures ok { OnOk result (out.new.items ≡ out.old.items ++ record_bytes (logged.SessionOpened repo.now number)) }
+{
+    let change = Change::SessionOpened {
+        repo: repo.text().as_bytes(),
+        number: u64::from(number),
+    };
+    append(out, &change)
+}
+
+/// Appends the record of a session that was abandoned.
+fn append_dropped(out: &mut Vec<u8>, repo: &RepoName, number: u32) -> Result<(), Refusal>
+    ensures ok { OnOk result (out.new.items ≡ out.old.items ++ record_bytes (logged.SessionDropped (tenant_name repo.now) number)) }
+{
+    let change = Change::SessionDropped {
+        tenant: repo.tenant().as_bytes(),
+        number: u64::from(number),
+    };
+    append(out, &change)
+}
+
+/// Appends the record of a blob that was linked.
+fn append_linked(
+    alloc: Global,
+    out: &mut Vec<u8>,
+    repo: &RepoName,
+    digest: &Digest,
+) -> Result<(), Refusal>
+    ensures ok { OnOk result (out.new.items ≡ out.old.items ++ record_bytes (logged.BlobLinked repo.now digest.now)) }
+{
+    let text = digest_text(alloc, digest)?;
+    let change = Change::BlobLinked {
+        repo: repo.text().as_bytes(),
+        digest: text.as_str().as_bytes(),
+    };
+    append(out, &change)
+}
+
+/// Appends the record of a mount: of the link, or of the session that it opened.
+fn append_mounted(
+    alloc: Global,
+    out: &mut Vec<u8>,
+    repo: &RepoName,
+    digest: &Digest,
+    mount: &Mount,
+) -> Result<(), Refusal>
+    ensures ok { OnOk result (out.new.items ≡ out.old.items ++ mount_bytes repo.now digest.now mount.now) }
+{
+    match mount {
+        Mount::Mounted => append_linked(alloc, out, repo, digest),
+        Mount::Session(number) => append_opened(out, repo, *number),
+    }
+}
+
+/// Appends the record of a link that was removed.
+fn append_unlinked(
+    alloc: Global,
+    out: &mut Vec<u8>,
+    repo: &RepoName,
+    digest: &Digest,
+) -> Result<(), Refusal>
+    ensures ok { OnOk result (out.new.items ≡ out.old.items ++ record_bytes (logged.BlobUnlinked repo.now digest.now)) }
+{
+    let text = digest_text(alloc, digest)?;
+    let change = Change::BlobUnlinked {
+        repo: repo.text().as_bytes(),
+        digest: text.as_str().as_bytes(),
+    };
+    append(out, &change)
+}
+
+/// Appends the record of a manifest that was deleted.
+fn append_deleted(
+    alloc: Global,
+    out: &mut Vec<u8>,
+    repo: &RepoName,
+    digest: &Digest,
+) -> Result<(), Refusal>
+    ensures ok { OnOk result (out.new.items ≡ out.old.items ++ record_bytes (logged.ManifestDeleted repo.now digest.now)) }
+{
+    let text = digest_text(alloc, digest)?;
+    let change = Change::ManifestDeleted {
+        repo: repo.text().as_bytes(),
+        digest: text.as_str().as_bytes(),
+    };
+    append(out, &change)
+}
+
+/// Appends the record of a call without a body, if the call changed something durable.
+pub fn append_call<S: Naming>(
+    alloc: Global,
+    out: &mut Vec<u8>,
+    call: &Call<'_>,
+) -> Result<(), Refusal>
+    requires small { IsSmall call.now }
+    requires tenant { NamesTenant S.names.setting.tenants (step_of call.now) }
+    ensures ok { OnOk result (out.new.items ≡ out.old.items ++ step_bytes S.names.setting.tenants (step_of call.now)) }
+{
+    match call {
+        Call::Start(repo, Ok(number)) => append_opened(out, repo, *number),
+        Call::Abandon(repo, number, Ok(_)) => append_dropped(out, repo, *number),
+        Call::Mount(repo, digest, _, Ok(mount)) => append_mounted(alloc, out, repo, digest, mount),
+        Call::Delete(repo, digest, Ok(())) => append_unlinked(alloc, out, repo, digest),
+        Call::DeleteManifest(repo, digest, Ok(())) => append_deleted(alloc, out, repo, digest),
+        _ => Ok(()),
+    }
+}
+
+/// Makes the record of a call without a body, if the log records. If there is no memory for it, the log is closed.
+pub fn record_call<S: Naming>(
+    alloc: Global,
+    policy: LogPolicy,
+    backlog: &mut Backlog<Step, StoreLog<S>>,
+    bytes: &mut Vec<u8>,
+    call: &Call<'_>,
+)
+    requires policy { policy ≡ S.names.policy }
+    requires small { IsSmall call.now }
+    requires tenant { NamesTenant S.names.setting.tenants (step_of call.now) }
+    ensures same { (backlog.new.history ≡ backlog.old.history) × (backlog.new.writers ≡ backlog.old.writers) }
+    ensures bytes { IsRecordOf S.names backlog.new bytes.new.items (step_of call.now) }
+{
+    bytes.clear();
+    if !policy.has_log() || !backlog.is_recording() {
+        return;
+    }
+    if append_call::<S>(alloc, bytes, call).is_err() {
+        backlog.close();
+    }
+}
+
+/// Returns the record of a chunk that a session received. It is empty if the store has no log, or the chunk no bytes.
+pub fn chunk_record(
+    alloc: Global,
+    policy: LogPolicy,
+    repo: &RepoName,
+    number: u32,
+    bytes: &[u8],
+) -> Result<Vec<u8>, Refusal>
+    ensures made { IfOk result (λ r. r.items ≡ chunk_bytes policy (tenant_name repo.now) number bytes.now) }
+    ensures refused { IfErr result (λ e. e ≡ Memory) }
+{
+    let mut record = Vec::new(alloc);
+    if policy.has_log() && !bytes.is_empty() {
+        check_body(bytes)?;
+        let change = Change::ChunkReceived {
+            tenant: repo.tenant().as_bytes(),
+            number: u64::from(number),
+            bytes,
+        };
+        append(&mut record, &change)?;
+    }
+    Ok(record)
+}
+
+/// Returns the record of a session that was closed with a last chunk. It is empty if the store has no log.
+pub fn seal_record(
+    alloc: Global,
+    policy: LogPolicy,
+    repo: &RepoName,
+    number: u32,
+    digest: &Digest,
+    last: &[u8],
+) -> Result<Vec<u8>, Refusal>
+    ensures made { IfOk result (λ r. r.items ≡ seal_bytes policy (tenant_name repo.now) number digest.now last.now) }
+    ensures refused { IfErr result (λ e. e ≡ Memory) }
+{
+    let mut record = Vec::new(alloc);
+    if policy.has_log() {
+        check_body(last)?;
+        let text = digest_text(alloc, digest)?;
+        let change = Change::SessionSealed {
+            tenant: repo.tenant().as_bytes(),
+            number: u64::from(number),
+            digest: text.as_str().as_bytes(),
+            last,
+        };
+        append(&mut record, &change)?;
+    }
+    Ok(record)
+}
+
+/// Returns the record of a manifest that was put. It is empty if the store has no log.
+pub fn manifest_record(
+    alloc: Global,
+    policy: LogPolicy,
+    repo: &RepoName,
+    bytes: &[u8],
+) -> Result<Vec<u8>, Refusal>
+    ensures made { IfOk result (λ r. r.items ≡ manifest_bytes policy repo.now bytes.now) }
+    ensures refused { IfErr result (λ e. e ≡ Memory) }
+{
+    let mut record = Vec::new(alloc);
+    if policy.has_log() {
+        check_body(bytes)?;
+        let change = Change::ManifestPut {
+            repo: repo.text().as_bytes(),
+            bytes,
+        };
+        append(&mut record, &change)?;
+    }
+    Ok(record)
+}
