@@ -5,3 +5,4 @@ pub mod Settlings
 pub mod BackendSteps
 pub mod Interleavings
 pub mod OneText
+pub mod Commits

@@ -1,33 +1,74 @@
 -- A store's parts as contracts see them, and the names of the store that is made of them.
-use Rattle.std.specs.Prelude.{ℕ, length}
-use Rattle.std.proofs.Common.{refl}
+use Rattle.std.specs.Prelude.{◌≡◌, ℕ, List, [], length}
+use Rattle.std.proofs.Common.{refl, suc, zero}
 use Rattle.std.specs.Coded.{Coded, code_by, coded×, coded_ℕ}
 use Rattle.atomic_table.specs.Seated.{TableId, table_id_coded}
+use Rattle.durable_log.specs.Names as durable
+use Rattle.ghost_log.specs.Calls as calls
+use Rattle.ghost_log.specs.declared.view.Entry.{Entry}
+use Rattle.spec_lib.specs.Texts.{coded_text}
+use Rattle.store_model.specs.Histories.{Step}
 use Rattle.blob_digest.specs.declared.refusal.Refusal.{Refusal}
 use Rattle.store_book.specs.BookState.{BookState, coded_state}
 use Rattle.store_book.specs.Openings.{OpensBook, RefusesBook, tenants_shown}
 use Rattle.store_book.specs.declared.config.Config.{Config}
 use Rattle.locked_book.specs.Names.{LedgerName, StoreNames, setting_of}
+use Rattle.locked_book.specs.declared.policy.LogPolicy.{LogPolicy}
+use Rattle.locked_book.specs.declared.policy.LogPolicy.TheVariants as policy
 
--- a new book, four new ledgers, and an empty log
+-- a new book, four new ledgers, an empty history with its log, and the policy of the log
 pub record PartsView : Type 0 where
   pub book : BookState
   pub commands : LedgerName
   pub received : LedgerName
   pub closed : LedgerName
   pub abandoned : LedgerName
-  pub log : TableId
+  pub log : durable.Names
+  pub policy : LogPolicy
 
 -- a ledger's name as two numbers
 abbrev pub coded_ledger : Coded LedgerName
 coded_ledger = code_by (ℕ × ℕ) (coded× coded_ℕ coded_ℕ) (λ m. (m.name, m.parts)) (λ p. record { name = p.0; parts = p.1 }) (λ _. refl)
 
+-- the names of a log as a tuple of coded values
+abbrev pub coded_log : Coded durable.Names
+coded_log =
+    code_by ((TableId × TableId) × (TableId × List ℕ)) (coded× (coded× table_id_coded table_id_coded) (coded× table_id_coded coded_text))
+    (λ n. ((n.history, n.durable_marks), (n.taken_marks, n.base))) (λ p. record { history = p.0.0; durable_marks = p.0.1; taken_marks = p.1.0; base = p.1.1 }) (λ _. refl)
+
+-- a policy as a number, and the policy of a number
+abbrev pub number_of_policy : LogPolicy → ℕ
+number_of_policy policy.NoLog = 0
+number_of_policy policy.Never = 1
+number_of_policy policy.Closes = 2
+number_of_policy policy.Each = 3
+
+abbrev pub policy_of_number : ℕ → LogPolicy
+policy_of_number zero = policy.NoLog
+policy_of_number (suc zero) = policy.Never
+policy_of_number (suc (suc zero)) = policy.Closes
+policy_of_number (suc (suc (suc n))) = policy.Each
+
+-- a policy as a coded value
+abbrev pub coded_policy : Coded LogPolicy
+coded_policy = code_by ℕ coded_ℕ number_of_policy policy_of_number same
+  where
+    same : (p : LogPolicy) → policy_of_number (number_of_policy p) ≡ p
+    same policy.NoLog = refl
+    same policy.Never = refl
+    same policy.Closes = refl
+    same policy.Each = refl
+
+-- a log of marks that has none
+abbrev pub IsNewMarks : calls.Log (List (Entry Step)) → Type 0
+IsNewMarks l = (l.entries ≡ []) × (l.writers ≡ 0)
+
 -- the parts as a tuple of coded values
 abbrev pub coded_parts : Coded PartsView
 coded_parts =
-    code_by ((BookState × TableId) × ((LedgerName × LedgerName) × (LedgerName × LedgerName))) (coded× (coded× coded_state table_id_coded) (coded× (coded× coded_ledger coded_ledger) (coded× coded_ledger coded_ledger)))
-    (λ p. ((p.book, p.log), ((p.commands, p.received), (p.closed, p.abandoned))))
-    (λ q. record { book = q.0.0; log = q.0.1; commands = q.1.0.0; received = q.1.0.1; closed = q.1.1.0; abandoned = q.1.1.1 })
+    code_by ((BookState × (durable.Names × LogPolicy)) × ((LedgerName × LedgerName) × (LedgerName × LedgerName))) (coded× (coded× coded_state (coded× coded_log coded_policy)) (coded× (coded× coded_ledger coded_ledger) (coded× coded_ledger coded_ledger)))
+    (λ p. ((p.book, (p.log, p.policy)), ((p.commands, p.received), (p.closed, p.abandoned))))
+    (λ q. record { book = q.0.0; log = q.0.1.0; policy = q.0.1.1; commands = q.1.0.0; received = q.1.0.1; closed = q.1.1.0; abandoned = q.1.1.1 })
     (λ _. refl)
 
 -- the names of the store that is made of these parts
@@ -41,6 +82,7 @@ names_of p = record {
   closed = p.closed;
   abandoned = p.abandoned;
   log = p.log;
+  policy = p.policy;
   opening = p.book.catalog;
 }
 

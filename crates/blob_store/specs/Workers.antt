@@ -34,7 +34,7 @@ pub record HasPlayed (C : Catalog) (workers worker : ℕ) (rows : List RowView) 
 
 -- a desk without amounts, without steps, and with nothing seen
 abbrev pub empty_desk : DeskView
-empty_desk = record { amounts = zero_amounts; trace = record { number = 0; seen = []; own = [] } }
+empty_desk = record { amounts = zero_amounts; trace = record { number = 0; seen = []; own = []; durable = [] } }
 
 -- each worker has played its rows, with its desk and its replies
 pub record EachHasReplies (C : Catalog) (workers : ℕ) (rows : List RowView) (desks : List DeskView) (lists : List (List Answer)) : Type 0 where

@@ -7,6 +7,7 @@
 //! the lock. Workers reply to each row of a script once, and the replies have the order of the rows.
 #![tactic(auto)]
 
+mod commit;
 pub mod laws;
 mod lease;
 mod parts;
@@ -16,10 +17,11 @@ mod store;
 mod store_backend;
 mod workers;
 
+pub use commit::SharedLogDevice;
 pub use lease::Lease;
 pub use locked_book::{
-    Counters, Desk, DroppableDesk, Kept, LEDGER_PARTS, LockedBook, MAX_DESKS, Naming, Settled,
-    Totals,
+    Counters, Desk, DroppableDesk, Kept, LEDGER_PARTS, LockedBook, LogPolicy, MAX_DESKS, Naming,
+    Settled, Totals,
 };
 pub use parts::Parts;
 pub use playing::{MAX_WORKERS, Played, PlayedToEnd, play, play_to_end};

@@ -1,19 +1,20 @@
 //! The parts that a store is made of.
 
-ghost use Rattle.std.specs.Prelude.{IfOk, IfErr};
+ghost use Rattle.std.specs.Prelude.{◌≡◌, IfOk, IfErr};
 ghost use Rattle.blob_store.specs.Parts.{OpensParts, RefusesParts};
 
 use blob_digest::Refusal;
+use durable_log::HistoryMark;
 use ghost_log::SharedLog;
-use locked_book::{LEDGER_PARTS, Step};
+use locked_book::{LEDGER_PARTS, LogPolicy, Step};
 use pin_table::Pins;
 use std::alloc::Global;
 use std::marker::Model;
 use std::sync::ledger::Blank;
 use store_book::{Book, Config};
 
-/// The parts of a store: a new book with its pins, four new ledgers, and an empty log. `Store::new` gives them the
-/// names of a store.
+/// The parts of a store: a new book with its pins, four new ledgers, an empty history, and the policy of its log.
+/// `Store::new` gives them the names of a store.
 #[derive(Drop)]
 pub struct Parts {
     pub(crate) alloc: Global,
@@ -24,13 +25,16 @@ pub struct Parts {
     pub(crate) closed: Blank,
     pub(crate) abandoned: Blank,
     pub(crate) log: SharedLog<Step>,
+    pub(crate) durable_marks: SharedLog<HistoryMark<Step>>,
+    pub(crate) taken_marks: SharedLog<HistoryMark<Step>>,
+    pub(crate) policy: LogPolicy,
 }
 
 impl Model for Parts {
     ghost use Rattle.std.specs.Prelude.{◌≡◌, []};
     ghost use Rattle.std.specs.FinMap.{empty};
     ghost use Rattle.locked_book.specs.Totals.{ledger_parts};
-    ghost use Rattle.blob_store.specs.Parts.{PartsView, coded_parts};
+    ghost use Rattle.blob_store.specs.Parts.{IsNewMarks, PartsView, coded_parts};
 
     ghost Value = { PartsView };
 
@@ -42,25 +46,39 @@ impl Model for Parts {
       received = record { name = p.received.name; parts = p.received.parts };
       closed = record { name = p.closed.name; parts = p.closed.parts };
       abandoned = record { name = p.abandoned.name; parts = p.abandoned.parts };
-      log = p.log.name;
+      log = record { history = p.log.name; durable_marks = p.durable_marks.name; taken_marks = p.taken_marks.name; base = [] };
+      policy = p.policy;
     } };
 
-    ghost invariant = { λ p. (p.book.table ≡ p.pins) × (p.book.catalog.sessions ≡ empty) × (p.commands.parts ≡ ledger_parts) × (p.received.parts ≡ ledger_parts) × (p.closed.parts ≡ ledger_parts) × (p.abandoned.parts ≡ ledger_parts) × (p.log.entries ≡ []) × (p.log.writers ≡ 0) };
+    ghost invariant = { λ p. (p.book.table ≡ p.pins) × (p.book.catalog.sessions ≡ empty) × (p.commands.parts ≡ ledger_parts) × (p.received.parts ≡ ledger_parts) × (p.closed.parts ≡ ledger_parts) × (p.abandoned.parts ≡ ledger_parts) × (p.log.entries ≡ []) × (p.log.writers ≡ 0) × IsNewMarks p.durable_marks × IsNewMarks p.taken_marks };
 }
 
 impl Parts {
-    /// Makes the parts of a new store: its tenants in the order of their names, no repository, and every slot free.
+    /// Makes the parts of a new store in memory alone: its tenants in the order of their names, no repository, and every
+    /// slot free.
     ///
     /// # Errors
     ///
     /// - Those of `store_book::Book::new`, in their order.
-    /// - `Memory` if the log cannot be allocated.
+    /// - `Memory` if the history cannot be allocated.
     pub fn new(alloc: Global, config: &Config) -> Result<Parts, Refusal>
         ensures opened { IfOk result (λ p. OpensParts config.now p) }
+        ensures policy { IfOk result (λ p. p.policy ≡ LogPolicy.NoLog) }
+        ensures refused { IfErr result (λ e. RefusesParts config.now e) }
+    {
+        Parts::with_policy(alloc, config, LogPolicy::NoLog)
+    }
+
+    /// Makes the parts of a new store with a log of this policy, as `new` does.
+    pub fn with_policy(alloc: Global, config: &Config, policy: LogPolicy) -> Result<Parts, Refusal>
+        ensures opened { IfOk result (λ p. OpensParts config.now p) }
+        ensures policy { IfOk result (λ p. p.policy ≡ policy) }
         ensures refused { IfErr result (λ e. RefusesParts config.now e) }
     {
         let (book, pins) = Book::new(alloc, config)?;
         let log = SharedLog::new(alloc)?;
+        let durable_marks = SharedLog::new(alloc)?;
+        let taken_marks = SharedLog::new(alloc)?;
         Ok(Parts {
             alloc,
             book,
@@ -70,6 +88,9 @@ impl Parts {
             closed: Blank::new(LEDGER_PARTS),
             abandoned: Blank::new(LEDGER_PARTS),
             log,
+            durable_marks,
+            taken_marks,
+            policy,
         })
     }
 }

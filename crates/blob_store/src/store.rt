@@ -1,12 +1,13 @@
 //! The store that threads share.
 
-ghost use Rattle.std.specs.Prelude.{◌≡◌, ◌⊎◌, ◌+◌, ◌<◌, IfErr, IfOk, IfSome, OnErr, OnOk, length, true, vec_len};
+ghost use Rattle.std.specs.Prelude.{◌≡◌, ◌⊎◌, ◌+◌, ◌<◌, Err, IfErr, IfOk, IfSome, IsSome, OnErr, OnOk, length, true, vec_len};
 ghost use Rattle.std.specs.Arc.{arc_value};
 ghost use Rattle.blob_digest.specs.Digests.{is_digest_of, sha256_text};
-ghost use Rattle.oci_manifest.specs.Manifests.{max_manifest};
+ghost use Rattle.oci_manifest.specs.Manifests.{max_manifest, refs_of};
 ghost use Rattle.store_book.specs.SlotSteps.{HasPin};
 ghost use Rattle.store_model.specs.Histories.{SweepCall};
-ghost use Rattle.locked_book.specs.History.{AreFreshDesks, Makes, OneBegins};
+ghost use Rattle.locked_book.specs.History.{AreFreshDesks, IsUnread, Makes, OneBegins};
+ghost use Rattle.locked_book.specs.Logging.{manifest_bytes};
 ghost use Rattle.locked_book.specs.Found.{AreTotalsOfSome, InSomeBook, IsSweepOfSome};
 ghost use Rattle.blob_store.specs.Parts.{names_of};
 ghost use Rattle.blob_store.specs.StoreCalls.{AbandonsSession, AppendsTo, ClosesSession, DeletesBlob};
@@ -21,7 +22,12 @@ ghost use Rattle.blob_digest.specs.declared.refusal.Refusal.TheVariants.{LimitRe
 use crate::lease::Lease;
 use crate::parts::Parts;
 use blob_digest::{ByteRange, Digest, Refusal, RepoName};
-use locked_book::{Counters, Desk, LockedBook, Naming, Settled, Totals};
+use durable_log::{Backlog, IdleDevice};
+use locked_book::{
+    Counters, Desk, LockedBook, LogPolicy, Naming, Settled, Step, StoreLog, Totals, chunk_record,
+    manifest_record, seal_record,
+};
+use log_disk::Disk;
 use oci_manifest::{Manifest, read};
 use pin_table::Pins;
 use std::alloc::Global;
@@ -50,6 +56,7 @@ use store_book::{Mount, Swept};
 pub struct Store<S: Naming> {
     pins: Pins,
     book: Mutex<LockedBook<S>>,
+    policy: LogPolicy,
     /// Stays 0: a thread that waits for the lock sleeps on it until its pause is over.
     rest: AtomicU64,
     alloc: Global,
@@ -63,7 +70,7 @@ impl<S: Naming> Model for Store<S> {
 
     ghost view = { λ s. s.pins };
 
-    ghost invariant = { λ s. s.pins ≡ S.names.table };
+    ghost invariant = { λ s. (s.pins ≡ S.names.table) × (s.policy ≡ S.names.policy) };
 }
 
 /// Rounds that a thread waits for the lock before it sleeps until it is woken. In a round it tries the lock, spins,
@@ -89,7 +96,7 @@ fn spin_wait() {
 }
 
 impl<S: Naming> Store<S> {
-    /// Makes the store of these parts, whose names are those of the type parameter.
+    /// Makes the store of these parts, whose names are those of the type parameter. It is in memory alone.
     pub fn new(parts: Parts) -> Store<S>
         requires named { names_of parts ≡ S.names }
     {
@@ -102,11 +109,55 @@ impl<S: Naming> Store<S> {
             closed,
             abandoned,
             log,
+            durable_marks,
+            taken_marks,
+            policy,
         } = parts;
         let counters = Counters::new(commands, received, closed, abandoned);
+        let (backlog, _) = Backlog::new(alloc, log, durable_marks, taken_marks);
+        let book = LockedBook::new(alloc, book, counters, policy, backlog);
+        Store::of_book(alloc, pins, policy, book)
+    }
+
+    /// Makes the store of these parts, whose names are those of the type parameter, with an empty log on a disk.
+    ///
+    /// Also returns the device of its log, which `commit` shares among threads.
+    pub fn with_log<D: Disk>(parts: Parts, disk: D) -> (Store<S>, IdleDevice<Step, StoreLog<S>, D>)
+        requires named { names_of parts ≡ S.names }
+        requires written { D.written disk ≡ S.names.log.base }
+        requires synced { D.synced disk ≡ S.names.log.base }
+        ensures { (result.1.written ≡ D.written disk) × (result.1.durable ≡ D.synced disk) }
+    {
+        let Parts {
+            alloc,
+            book,
+            pins,
+            commands,
+            received,
+            closed,
+            abandoned,
+            log,
+            durable_marks,
+            taken_marks,
+            policy,
+        } = parts;
+        let counters = Counters::new(commands, received, closed, abandoned);
+        let (mut backlog, unopened) = Backlog::new(alloc, log, durable_marks, taken_marks);
+        let device = unopened.open(alloc, &mut backlog, disk, 0);
+        let book = LockedBook::new(alloc, book, counters, policy, backlog);
+        let store = Store::of_book(alloc, pins, policy, book);
+        (store, IdleDevice::new(device))
+    }
+
+    /// Makes the store of a book and its pins.
+    fn of_book(alloc: Global, pins: Pins, policy: LogPolicy, book: LockedBook<S>) -> Store<S>
+        requires table { pins ≡ S.names.table }
+        requires policy { policy ≡ S.names.policy }
+    {
         Store {
             pins,
-            book: Mutex::new(LockedBook::new(book, counters, log)),
+            book: Mutex::new(book),
+            policy,
             rest: AtomicU64::new(0),
             alloc,
         }
@@ -117,6 +168,7 @@ impl<S: Naming> Store<S> {
         let Store {
             pins: _,
             book,
+            policy: _,
             rest: _,
             alloc: _,
         } = self;
@@ -244,8 +296,15 @@ impl<S: Naming> Store<S> {
     {
         let len = bytes.len() as u64;
         let hand = self.locked(rt).take(desk, repo, number, range, len)?;
+        let record = match chunk_record(self.alloc, self.policy, repo, number, bytes) {
+            Ok(record) => record,
+            Err(refusal) => {
+                let _ = self.locked(rt).cancel(desk, hand);
+                return Err(refusal);
+            }
+        };
         match hand.fill(bytes) {
-            Ok(hand) => self.locked(rt).put_back(desk, hand),
+            Ok(hand) => self.locked(rt).put_back(desk, hand, record),
             Err(hand) => {
                 let _ = self.locked(rt).cancel(desk, hand);
                 Err(Refusal::Memory)
@@ -281,8 +340,17 @@ impl<S: Naming> Store<S> {
         let len = bytes.len() as u64;
         let algorithm = digest.algorithm();
         let hand = self.locked(rt).take(desk, repo, number, range, len)?;
+        let record = match seal_record(self.alloc, self.policy, repo, number, digest, bytes) {
+            Ok(record) => record,
+            Err(refusal) => {
+                let _ = self.locked(rt).cancel(desk, hand);
+                return Err(refusal);
+            }
+        };
         match hand.fill_last(bytes, algorithm) {
-            Ok(hand) => self.locked(rt).finish(&self.pins, desk, hand, digest),
+            Ok(hand) => self
+                .locked(rt)
+                .finish(&self.pins, desk, hand, digest, record),
             Err(hand) => {
                 let _ = self.locked(rt).cancel(desk, hand);
                 Err(Refusal::Memory)
@@ -340,6 +408,19 @@ impl<S: Naming> Store<S> {
         self.locked(rt).delete(desk, repo, digest)
     }
 
+    /// Parses a manifest, and makes the record of its put.
+    fn read_manifest(&self, repo: &RepoName, bytes: &[u8]) -> Result<(Manifest, Vec<u8>), Refusal>
+        ensures value { IfOk result (λ r. r.0 ≡ bytes.now) }
+        ensures accepted { IfOk result (λ _. IsSome (refs_of bytes.now)) }
+        ensures made { IfOk result (λ r. (r.1).items ≡ manifest_bytes S.names.policy repo.now bytes.now) }
+        ensures too_long { max_manifest < length bytes.now → result ≡ Err SizeInvalid }
+        ensures unread { IfErr result (IsUnread bytes.now) }
+    {
+        let manifest = read(self.alloc, bytes)?;
+        let record = manifest_record(self.alloc, self.policy, repo, bytes)?;
+        Ok((manifest, record))
+    }
+
     /// Stores a manifest under the SHA-256 digest of its bytes, and returns that digest (OCI Distribution Specification
     /// 1.1, "Pushing Manifests"). The repository appears with its first manifest.
     ///
@@ -362,8 +443,8 @@ impl<S: Naming> Store<S> {
         ensures invalid { IfErr result (λ e. e ≡ ManifestInvalid → IsNoManifest bytes.now) }
     {
         self.locked(rt).check_tenant(desk, repo, bytes)?;
-        match read(self.alloc, bytes) {
-            Ok(manifest) => self.locked(rt).keep_manifest(desk, repo, manifest),
+        match self.read_manifest(repo, bytes) {
+            Ok((manifest, record)) => self.locked(rt).keep_manifest(desk, repo, manifest, record),
             Err(unread) => Err(self.locked(rt).refuse_manifest(desk, repo, bytes, unread)),
         }
     }
