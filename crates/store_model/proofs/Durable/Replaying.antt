@@ -106,8 +106,8 @@ module _ (D : DurableState) (R : Catalog) (b : Agrees empty D R) (sound : Sound 
         let more : charged_length longer ≤ charged_length was.0 = was.5 in
         let long = received_length-with_chunk chunks bytes in
         let keeps = sound_there.quotas key.0 (session_tenant X sound_there.lawful key was.0 was.2) in
-        let less : used_bytes R2 key.0 ≤ used_bytes X key.0 = used_within taken E X a R2 agrees key.0 in
-        let change : used_bytes R2 key.0 + charged_length s ≡ used_bytes R key.0 + charged_length longer = used_bytes-chunks R key s (CheckedIn (with_chunk chunks bytes)) here in
+        let less : used_bytes grown key.0 ≤ used_bytes X key.0 = used_within taken E X a grown agrees key.0 in
+        let change : used_bytes grown key.0 + charged_length s ≡ used_bytes R key.0 + charged_length longer = used_bytes-chunks R key s (CheckedIn (with_chunk chunks bytes)) here in
         let same : quota_of X key.0 ≡ quota_of R key.0 = ap (λ ts. option_map_or (λ x. x.quota) (slice_get ts key.0) 0) (sym a.tenants ∙ after_record_tenants D (chunk_change key bytes) ∙ b.tenants) in
         let counts : charged_length s ≡ sum_by length chunks = omega arith in
         let counts_more : charged_length longer ≡ sum_by length (with_chunk chunks bytes) = omega arith in
@@ -119,14 +119,15 @@ module _ (D : DurableState) (R : Catalog) (b : Agrees empty D R) (sound : Sound 
         E : DurableState
         E = after_record D (chunk_change key bytes)
 
-        R2 : Catalog
-        R2 = record R { sessions = with_chunks R.sessions key s (CheckedIn (with_chunk chunks bytes)) }
+        -- the store in which the change is made again, after it
+        grown : Catalog
+        grown = record R { sessions = with_chunks R.sessions key s (CheckedIn (with_chunk chunks bytes)) }
 
-        agrees : Agrees empty E R2
+        agrees : Agrees empty E grown
         agrees = comes_home empty D R b key s chunks bytes here found pieces
 
         at : get E.sessions key ≡ Some longer
-        at = ap (λ m. get m key) (sym (sessions_are empty E R2 agrees R2 agrees)) ∙ get-insert_at number_cmp_total exact_number R.sessions key longer
+        at = ap (λ m. get m key) (sym (sessions_are empty E grown agrees grown agrees)) ∙ get-insert_at number_cmp_total exact_number R.sessions key longer
 
         was : (x : Session) × (chunks : List Text) × (get X.sessions key ≡ Some x) × (longer ≡ record { repo = x.repo; chunks = CheckedIn chunks }) × AllByRecursion (λ c. c ≢ []) chunks × (charged_length longer ≤ charged_length x)
         was = was_open taken E X a key longer at
@@ -188,83 +189,84 @@ few n m less is = by (nat_le 64 m) refl
     by true e = absurd (let more = leb-true 64 m e in let small = leb-false 64 n is in omega arith)
 
 module _ (taken : TakenChunks) (D : DurableState) (C : Catalog) (a : Agrees taken D C) (slots max_blob retired : ℕ) (residents : FinMap text_cmp Resident) where
-  abbrev R0 : Catalog
-  R0 = record C { slots = slots; max_blob = max_blob; sessions = D.sessions; residents = residents; retired = retired }
+  -- the store in which the change is made again
+  abbrev target : Catalog
+  target = record C { slots = slots; max_blob = max_blob; sessions = D.sessions; residents = residents; retired = retired }
 
-  module _ (b : Agrees empty D R0) (sound : Sound R0) where
-    replayed : (change : Change) (command : Command) (x : Answer) (left : Catalog) → replay_command D change ≡ Some command → outcome false R0 command ≡ Ok (x, left) → command_change D.tenants command x ≡ Some change →
-        length (repo_of command) ≤ 255 → HasReplay D R0 change
-    replayed = done D R0 b sound
+  module _ (b : Agrees empty D target) (sound : Sound target) where
+    replayed : (change : Change) (command : Command) (x : Answer) (left : Catalog) → replay_command D change ≡ Some command → outcome false target command ≡ Ok (x, left) → command_change D.tenants command x ≡ Some change →
+        length (repo_of command) ≤ 255 → HasReplay D target change
+    replayed = done D target b sound
 
-    start_replayed : (r : Text) (t : ℕ) → tenant C r ≡ Ok t → lacks_room_for C t r ≡ false → cannot_open C t ≡ false → length r ≤ 255 → HasReplay D R0 (SessionOpened r (session_key D.tenants r (next_number_of C t)))
+    start_replayed : (r : Text) (t : ℕ) → tenant C r ≡ Ok t → lacks_room_for C t r ≡ false → cannot_open C t ≡ false → length r ≤ 255 → HasReplay D target (SessionOpened r (session_key D.tenants r (next_number_of C t)))
     start_replayed r t known room_ok opens short_name =
-        replayed (SessionOpened r (session_key D.tenants r (next_number_of C t))) (runs.Start r) (runs.Number (next_number_of C t)) (with_new_session R0 t r) refl (ap (map_outcome runs.Number) accepted) refl short_name
+        replayed (SessionOpened r (session_key D.tenants r (next_number_of C t))) (runs.Start r) (runs.Number (next_number_of C t)) (with_new_session target t r) refl (ap (map_outcome runs.Number) accepted) refl short_name
       where
-        tenant_is : tenant R0 r ≡ Ok t
+        tenant_is : tenant target r ≡ Ok t
         tenant_is = known
 
-        room_is : lacks_room_for R0 t r ≡ false
+        room_is : lacks_room_for target t r ≡ false
         room_is = room_ok
 
-        opens_is : cannot_open R0 t ≡ false
+        opens_is : cannot_open target t ≡ false
         opens_is =
             let both = or_parts (nat_le 64 (open_sessions C t)) (nat_le (2 ^ 32) (next_number_of C t)) opens in
-            rw (few (open_sessions C t) (open_sessions R0 t) (open_less taken D C a t) both.0, both.1) refl
+            rw (few (open_sessions C t) (open_sessions target t) (open_less taken D C a t) both.0, both.1) refl
 
-        accepted : start R0 r ≡ Ok (next_number_of C t, with_new_session R0 t r)
+        accepted : start target r ≡ Ok (next_number_of C t, with_new_session target t r)
         accepted = rw (tenant_is, room_is, opens_is) refl
 
-    starts : (r : Text) (n : ℕ) (X : Catalog) → start C r ≡ Ok (n, X) → length r ≤ 255 → HasReplay D R0 (SessionOpened r (session_key D.tenants r n))
+    starts : (r : Text) (n : ℕ) (X : Catalog) → start C r ≡ Ok (n, X) → length r ≤ 255 → HasReplay D target (SessionOpened r (session_key D.tenants r n))
     starts r n X is short_name =
         let t = bound_ok (tenant C r) _ (n, X) is in
         let c = bound_ok (refuse (lacks_room_for C t.0 r) LimitReached) _ (n, X) t.2 in
         let d = bound_ok (refuse (cannot_open C t.0) LimitReached) _ (n, X) c.2 in
-        subst (λ m. HasReplay D R0 (SessionOpened r (session_key D.tenants r m))) (answer_by d.2) (start_replayed r t.0 t.1 (not_refused _ _ _ c.1) (not_refused _ _ _ d.1) short_name)
+        subst (λ m. HasReplay D target (SessionOpened r (session_key D.tenants r m))) (answer_by d.2) (start_replayed r t.0 t.1 (not_refused _ _ _ c.1) (not_refused _ _ _ d.1) short_name)
 
-    mounts : (r d : Text) (t : ℕ) → tenant C r ≡ Ok t → tenant_holds C t d ≡ true → lacks_room_for C t r ≡ false → length r ≤ 255 → HasReplay D R0 (BlobLinked r d)
+    mounts : (r d : Text) (t : ℕ) → tenant C r ≡ Ok t → tenant_holds C t d ≡ true → lacks_room_for C t r ≡ false → length r ≤ 255 → HasReplay D target (BlobLinked r d)
     mounts r d t known has room_ok short_name =
-        replayed (BlobLinked r d) (runs.Mount r d None) (runs.Mounting mounting.Mounted) (with_link R0 r d) refl (ap (map_outcome runs.Mounting) accepted) refl short_name
+        replayed (BlobLinked r d) (runs.Mount r d None) (runs.Mounting mounting.Mounted) (with_link target r d) refl (ap (map_outcome runs.Mounting) accepted) refl short_name
       where
-        tenant_is : tenant R0 r ≡ Ok t
+        tenant_is : tenant target r ≡ Ok t
         tenant_is = known
 
-        has_is : has_source R0 t d None ≡ true
+        has_is : has_source target t d None ≡ true
         has_is = has
 
-        room_is : lacks_room_for R0 t r ≡ false
+        room_is : lacks_room_for target t r ≡ false
         room_is = room_ok
 
-        accepted : Commands.mount R0 r d None ≡ Ok (mounting.Mounted, with_link R0 r d)
+        accepted : Commands.mount target r d None ≡ Ok (mounting.Mounted, with_link target r d)
         accepted = rw (tenant_is, has_is, room_is) refl
 
-    mounted : (r d : Text) (from : Option Text) (m : Mount) (X : Catalog) → Commands.mount C r d from ≡ Ok (m, X) → length r ≤ 255 → HasReplay D R0 (mount_change D.tenants r d m)
+    mounted : (r d : Text) (from : Option Text) (m : Mount) (X : Catalog) → Commands.mount C r d from ≡ Ok (m, X) → length r ≤ 255 → HasReplay D target (mount_change D.tenants r d m)
     mounted r d from m X is short_name =
         let t = bound_ok (tenant C r) _ (m, X) is in
-        elim (has_source C t.0 d from) as (λ x. has_source C t.0 d from ≡ x → (if x then mounted_outcome C t.0 r d else started_outcome C r) ≡ Ok (m, X) → HasReplay D R0 (mount_change D.tenants r d m)) [
+        elim (has_source C t.0 d from) as (λ x. has_source C t.0 d from ≡ x → (if x then mounted_outcome C t.0 r d else started_outcome C r) ≡ Ok (m, X) → HasReplay D target (mount_change D.tenants r d m)) [
           | true ↦ λ has h.
               let c = bound_ok (refuse (lacks_room_for C t.0 r) LimitReached) _ (m, X) h in
               let source = source_of C t.0 d from has in
               let answer : mounting.Mounted ≡ m = answer_by c.2 in
               let held = is_held C t.0 source.0 d (a.linked_in (source.0, d) source.2) source.1 source.2 in
-              subst (λ (y : Mount). HasReplay D R0 (mount_change D.tenants r d y)) answer (mounts r d t.0 t.1 held (not_refused _ _ _ c.1) short_name)
+              subst (λ (y : Mount). HasReplay D target (mount_change D.tenants r d y)) answer (mounts r d t.0 t.1 held (not_refused _ _ _ c.1) short_name)
           | false ↦ λ has h.
               let c = bound_ok (start C r) _ (m, X) h in
               let answer : mounting.Session c.0.0 ≡ m = answer_by c.2 in
-              subst (λ (y : Mount). HasReplay D R0 (mount_change D.tenants r d y)) answer (starts r c.0.0 c.0.1 c.1 short_name)
+              subst (λ (y : Mount). HasReplay D target (mount_change D.tenants r d y)) answer (starts r c.0.0 c.0.1 c.1 short_name)
         ] refl t.2
 
-    deletes : (r d : Text) (X : Catalog) → delete C r d ≡ Ok (tt, X) → length r ≤ 255 → HasReplay D R0 (BlobUnlinked r d)
+    deletes : (r d : Text) (X : Catalog) → delete C r d ≡ Ok (tt, X) → length r ≤ 255 → HasReplay D target (BlobUnlinked r d)
     deletes r d X is short_name =
         let t = bound_ok (tenant C r) _ (tt, X) is in
         let c = bound_ok (check_link C r d) _ (tt, X) t.2 in
         let e = bound_ok (check_no_referrer (referrer C r d)) _ (tt, X) c.2 in
-        let tenant_is : tenant R0 r ≡ Ok t.0 = t.1 in
-        let linked_is : check_link R0 r d ≡ Ok tt = c.1 in
-        let free_is : check_no_referrer (referrer R0 r d) ≡ Ok tt = e.1 in
-        let accepted : delete R0 r d ≡ Ok (tt, record R0 { links = set.remove C.links (r, d) }) = rw (tenant_is, linked_is, free_is) refl in
-        replayed (BlobUnlinked r d) (runs.Delete r d) runs.Done (record R0 { links = set.remove C.links (r, d) }) refl (ap (map_outcome (λ _. runs.Done)) accepted) refl short_name
+        let tenant_is : tenant target r ≡ Ok t.0 = t.1 in
+        let linked_is : check_link target r d ≡ Ok tt = c.1 in
+        let free_is : check_no_referrer (referrer target r d) ≡ Ok tt = e.1 in
+        let accepted : delete target r d ≡ Ok (tt, record target { links = set.remove C.links (r, d) }) = rw (tenant_is, linked_is, free_is) refl in
+        replayed (BlobUnlinked r d) (runs.Delete r d) runs.Done (record target { links = set.remove C.links (r, d) }) refl (ap (map_outcome (λ _. runs.Done)) accepted) refl short_name
 
-    describes : (r bytes : Text) (x : Text) (X : Catalog) → Commands.put_manifest C r bytes ≡ Ok (x, X) → length r ≤ 255 → HasReplay D R0 (ManifestPut r bytes)
+    describes : (r bytes : Text) (x : Text) (X : Catalog) → Commands.put_manifest C r bytes ≡ Ok (x, X) → length r ≤ 255 → HasReplay D target (ManifestPut r bytes)
     describes r bytes x X is short_name =
         let t = bound_ok (tenant C r) _ (x, X) is in
         let c = bound_ok (refuse (nat_lt max_manifest (length bytes)) SizeInvalid) _ (x, X) t.2 in
@@ -273,50 +275,50 @@ module _ (taken : TakenChunks) (D : DurableState) (C : Catalog) (a : Agrees take
         by t.0 e.0 t.1 c.1 e.1 l.1 (has_manifest C r (sha256_text bytes)) refl l.2
       where
         by : (t : ℕ) (refs : List Text) → tenant C r ≡ Ok t → refuse (nat_lt max_manifest (length bytes)) SizeInvalid ≡ Ok tt → ok_or (refs_of bytes) ManifestInvalid ≡ Ok refs → check_all_links C r refs ≡ Ok tt →
-            (y : Bool) → has_manifest C r (sha256_text bytes) ≡ y → (if y then Ok (sha256_text bytes, C) else add_manifest C t r bytes) ≡ Ok (x, X) → HasReplay D R0 (ManifestPut r bytes)
-        by t refs known small read all true has h = replayed (ManifestPut r bytes) (runs.PutManifest r bytes) (runs.Bytes (sha256_text bytes)) R0 refl (ap (map_outcome runs.Bytes) accepted) refl short_name
+            (y : Bool) → has_manifest C r (sha256_text bytes) ≡ y → (if y then Ok (sha256_text bytes, C) else add_manifest C t r bytes) ≡ Ok (x, X) → HasReplay D target (ManifestPut r bytes)
+        by t refs known small read all true has h = replayed (ManifestPut r bytes) (runs.PutManifest r bytes) (runs.Bytes (sha256_text bytes)) target refl (ap (map_outcome runs.Bytes) accepted) refl short_name
           where
-            tenant_is : tenant R0 r ≡ Ok t
+            tenant_is : tenant target r ≡ Ok t
             tenant_is = known
 
-            all_is : check_all_links R0 r refs ≡ Ok tt
+            all_is : check_all_links target r refs ≡ Ok tt
             all_is = all
 
-            has_is : has_manifest R0 r (sha256_text bytes) ≡ true
+            has_is : has_manifest target r (sha256_text bytes) ≡ true
             has_is = has
 
-            accepted : Commands.put_manifest R0 r bytes ≡ Ok (sha256_text bytes, R0)
+            accepted : Commands.put_manifest target r bytes ≡ Ok (sha256_text bytes, target)
             accepted = rw (tenant_is, small, read, all_is, has_is) refl
-        by t refs known small read all false has h = replayed (ManifestPut r bytes) (runs.PutManifest r bytes) (runs.Bytes (sha256_text bytes)) (with_manifest R0 r bytes) refl (ap (map_outcome runs.Bytes) accepted) refl short_name
+        by t refs known small read all false has h = replayed (ManifestPut r bytes) (runs.PutManifest r bytes) (runs.Bytes (sha256_text bytes)) (with_manifest target r bytes) refl (ap (map_outcome runs.Bytes) accepted) refl short_name
           where
-            tenant_is : tenant R0 r ≡ Ok t
+            tenant_is : tenant target r ≡ Ok t
             tenant_is = known
 
-            all_is : check_all_links R0 r refs ≡ Ok tt
+            all_is : check_all_links target r refs ≡ Ok tt
             all_is = all
 
-            has_is : has_manifest R0 r (sha256_text bytes) ≡ false
+            has_is : has_manifest target r (sha256_text bytes) ≡ false
             has_is = has
 
-            added : add_manifest R0 t r bytes ≡ Ok (sha256_text bytes, with_manifest R0 r bytes)
+            added : add_manifest target t r bytes ≡ Ok (sha256_text bytes, with_manifest target r bytes)
             added =
                 let c = bound_ok (refuse (lacks_room_for C t r) LimitReached) _ (x, X) h in
                 let d = bound_ok (refuse (is_full_of_manifests C r) LimitReached) _ (x, X) c.2 in
-                let room_is : refuse (lacks_room_for R0 t r) LimitReached ≡ Ok tt = c.1 in
-                let few_is : refuse (is_full_of_manifests R0 r) LimitReached ≡ Ok tt = d.1 in
+                let room_is : refuse (lacks_room_for target t r) LimitReached ≡ Ok tt = c.1 in
+                let few_is : refuse (is_full_of_manifests target r) LimitReached ≡ Ok tt = d.1 in
                 rw (room_is, few_is) refl
 
-            accepted : Commands.put_manifest R0 r bytes ≡ Ok (sha256_text bytes, with_manifest R0 r bytes)
+            accepted : Commands.put_manifest target r bytes ≡ Ok (sha256_text bytes, with_manifest target r bytes)
             accepted = rw (tenant_is, small, read, all_is, has_is) added
 
-    forgets : (r name : Text) (X : Catalog) → Commands.delete_manifest C r name ≡ Ok (tt, X) → length r ≤ 255 → HasReplay D R0 (ManifestDeleted r name)
+    forgets : (r name : Text) (X : Catalog) → Commands.delete_manifest C r name ≡ Ok (tt, X) → length r ≤ 255 → HasReplay D target (ManifestDeleted r name)
     forgets r name X is short_name =
         let t = bound_ok (tenant C r) _ (tt, X) is in
         let c = bound_ok (manifest C r name) _ (tt, X) t.2 in
-        let tenant_is : tenant R0 r ≡ Ok t.0 = t.1 in
-        let there_is : manifest R0 r name ≡ Ok c.0 = c.1 in
-        let accepted : Commands.delete_manifest R0 r name ≡ Ok (tt, record R0 { manifests = remove C.manifests (r, name) }) = rw (tenant_is, there_is) refl in
-        replayed (ManifestDeleted r name) (runs.DeleteManifest r name) runs.Done (record R0 { manifests = remove C.manifests (r, name) }) refl (ap (map_outcome (λ _. runs.Done)) accepted) refl short_name
+        let tenant_is : tenant target r ≡ Ok t.0 = t.1 in
+        let there_is : manifest target r name ≡ Ok c.0 = c.1 in
+        let accepted : Commands.delete_manifest target r name ≡ Ok (tt, record target { manifests = remove C.manifests (r, name) }) = rw (tenant_is, there_is) refl in
+        replayed (ManifestDeleted r name) (runs.DeleteManifest r name) runs.Done (record target { manifests = remove C.manifests (r, name) }) refl (ap (map_outcome (λ _. runs.Done)) accepted) refl short_name
 
 -- ---- steps
 
