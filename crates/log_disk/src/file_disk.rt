@@ -1,10 +1,10 @@
 //! A file as a disk.
 
-ghost use Rattle.std.specs.Prelude.{◌≡◌, ◌++◌, [], length, IfOk};
+ghost use Rattle.std.specs.Prelude.{◌≡◌, length, IfOk};
 
-use crate::deed::{BytesName, Deed, Syncs, add_named, add_write};
+use crate::deed::BytesName;
+use crate::deed_log::DeedLog;
 use crate::disk::{Disk, DiskError};
-use ghost_log::{SharedLog, Writer};
 use std::alloc::Global;
 use std::fs::File;
 use std::io::{Seek, SeekFrom, Write};
@@ -19,19 +19,15 @@ use std::marker::Model;
 #[derive(Drop)]
 pub struct FileDisk {
     file: File,
-    deeds: SharedLog<Deed>,
-    writer: Writer<Deed>,
+    deeds: DeedLog,
 }
 
 impl Model for FileDisk {
-    ghost use Rattle.std.specs.Prelude.{◌≡◌, ℕ, List, []};
-    ghost use Rattle.log_disk.specs.Deeds.{after_deeds};
+    ghost use Rattle.std.specs.Prelude.{ℕ, List};
 
     ghost Value = { List ℕ × List ℕ };
 
-    ghost view = { λ d. after_deeds ([], []) d.deeds.entries };
-
-    ghost invariant = { λ d. d.writer.name ≡ d.deeds.name };
+    ghost view = { λ d. d.deeds };
 }
 
 impl FileDisk {
@@ -55,31 +51,12 @@ impl FileDisk {
             return Err(DiskError::Length(end));
         }
         file.sync_all().map_err(DiskError::Io)?;
-        let Ok(mut deeds) = SharedLog::new(alloc) else {
+        let Ok(mut deeds) = DeedLog::new(alloc) else {
             return Err(DiskError::Memory);
         };
-        let mut writer = deeds.writer();
-        add_named::<P>(&mut deeds, &mut writer);
-        deeds.append::<Syncs>(&mut writer);
-        Ok(FileDisk {
-            file,
-            deeds,
-            writer,
-        })
-    }
-
-    /// Records in the proof that these bytes were passed to the file.
-    fn record_write(&mut self, bytes: &[u8])
-        ensures { self.new ≡ ((self.old).0 ++ bytes.now, (self.old).1) }
-    {
-        add_write(&mut self.deeds, &mut self.writer, bytes);
-    }
-
-    /// Records in the proof that all bytes are synced.
-    fn record_sync(&mut self)
-        ensures { self.new ≡ ((self.old).0, (self.old).0) }
-    {
-        self.deeds.append::<Syncs>(&mut self.writer);
+        deeds.add_named::<P>();
+        deeds.add_sync();
+        Ok(FileDisk { file, deeds })
     }
 }
 
@@ -89,13 +66,13 @@ impl Disk for FileDisk {
     ghost synced = { λ d. d.1 };
 
     fn write(&mut self, bytes: &[u8]) -> Result<(), DiskError> {
-        self.record_write(bytes);
+        self.deeds.add_write(bytes);
         self.file.write_all(bytes).map_err(DiskError::Io)
     }
 
     fn sync(&mut self) -> Result<(), DiskError> {
         self.file.sync_data().map_err(DiskError::Io)?;
-        self.record_sync();
+        self.deeds.add_sync();
         Ok(())
     }
 }

@@ -1,4 +1,4 @@
-use Rattle.std.proofs.Common.{◌≡◌, ◌∙◌, ◌++◌, ap}
+use Rattle.std.proofs.Common.{◌∙◌, ◌++◌, ap}
 use Rattle.std.proofs.lemmas.List.{take-append-drop}
 use Rattle.log_disk.proofs.memory_disk.MemoryDiskDisk.write.Goals as goal
 

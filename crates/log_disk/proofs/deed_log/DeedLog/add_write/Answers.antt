@@ -1,7 +1,7 @@
-use Rattle.std.proofs.Common.{◌≡◌, ◌∙◌, ap, [], Some, None}
+use Rattle.std.proofs.Common.{◌∙◌, ap, [], Some}
 use Rattle.log_disk.specs.Deeds.{after_deed, after_deeds}
 use Rattle.log_disk.proofs.Files.{after_deeds-snoc}
-use Rattle.log_disk.proofs.file_disk.FileDisk.record_write.Goals as goal
+use Rattle.log_disk.proofs.deed_log.DeedLog.add_write.Goals as goal
 
 pub returns : goal.returns
 returns c =

@@ -1,0 +1,9 @@
+use Rattle.std.proofs.Common.{◌∙◌, ap, [], Some}
+use Rattle.log_disk.specs.Deeds.{after_deed, after_deeds}
+use Rattle.log_disk.proofs.Files.{after_deeds-snoc}
+use Rattle.log_disk.proofs.deed_log.DeedLog.add_named.Goals as goal
+
+pub returns : goal.returns
+returns g c =
+    let deed = (Some g.P.BytesName.bytes) in
+    ap (λ l. after_deeds ([], []) l.entries) c.add_named.ensures.log ∙ (after_deeds-snoc ([], []) c.self.inside.deeds.entries c.self.inside.writer.number deed ∙ ap (λ at. after_deed at deed) c.self.view_is)
