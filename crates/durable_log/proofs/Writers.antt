@@ -1,7 +1,8 @@
 -- What a writer knows of its own events.
 use Rattle.std.proofs.Common.{◌≡◌, Bool, true, false, List, [], ◌∷◌, ◌++◌, sym, ap, subst, ◌∙◌, append_assoc}
-use Rattle.std.proofs.lemmas.List.{append-nil}
-use Rattle.std.proofs.lemmas.List.Elements.{All-append, All-cons, All-nil, Contains-append_left, Contains-push}
+use Rattle.std.proofs.lemmas.List.{append-nil, append_cancel_left}
+use Rattle.std.proofs.lemmas.List.Elements.{All-append, All-cons, All-contains, All-nil, Contains-append_left, Contains-push}
+use Rattle.std.specs.Prelude.{Contains}
 use Rattle.ghost_log.specs.Entries.{IsPrefix, events_by}
 use Rattle.durable_log.specs.Views.{Trace, Commits, IsCommitted, IsUnconfirmed, trace_with}
 use Rattle.durable_log.proofs.Prefixes.{prefix_self}
@@ -54,3 +55,10 @@ module _ {E : Type 0} (promises : E → Bool) where
     among = Contains-push c.rest event;
     promised = promised;
   }
+
+  -- a committed writer has no own promised event that is not known to be durable
+  pub committed_or_not : (t : Trace E) → IsUnconfirmed promises t → IsCommitted promises t → ⊥
+  committed_or_not t u c =
+      let same : u.rest ≡ c.rest = append_cancel_left (events_by t.number t.durable) u.rest c.rest (sym u.own ∙ c.own) in
+      let free : promises u.event ≡ false = All-contains (λ e. promises e ≡ false) c.rest u.event c.unpromised (subst (λ es. Contains es u.event) same u.among) in
+      let promised = u.promised in cc

@@ -1,5 +1,5 @@
 -- Writers, the backlog and the device, as contracts see them, and how calls change them.
-use Rattle.std.specs.Prelude.{◌≡◌, ℕ, ◌+◌, ◌<◌, ◌≤◌, ◌^◌, Bool, true, false, List, [], ◌∷◌, ◌++◌, All, Contains, length}
+use Rattle.std.specs.Prelude.{◌≡◌, ◌≢◌, ℕ, ◌+◌, ◌<◌, ◌≤◌, ◌^◌, Bool, true, false, List, [], ◌∷◌, ◌++◌, All, Contains, length}
 use Rattle.atomic_table.specs.Seated.{TableId}
 use Rattle.ghost_log.specs.declared.view.Entry.{Entry}
 use Rattle.ghost_log.specs.Entries.{IsPrefix, entry, events_by}
@@ -45,6 +45,10 @@ pub record DeviceView (E : Type 0) : Type 0 where
   pub written : List ℕ
   pub durable : List ℕ
   pub failed : Bool
+
+-- no list that begins with these bytes is this one
+abbrev pub BeginsNot : List ℕ → List ℕ → Type 0
+BeginsNot bytes front = (rest : List ℕ) → bytes ≢ front ++ rest
 
 -- ---- a record has room
 

@@ -1,6 +1,6 @@
 //! The device: what it took over of the history, and what of that is on its disk.
 
-ghost use Rattle.std.specs.Prelude.{◌≡◌, ◌++◌, [], length, true, false, IfErr, IfOk, OnOk, OnErr};
+ghost use Rattle.std.specs.Prelude.{◌≡◌, ◌++◌, [], length, true, false, Decides, IfErr, IfOk, OnOk, OnErr};
 ghost use Rattle.ghost_log.specs.Entries.{IsPrefix};
 ghost use Rattle.durable_log.specs.Encoding.{encode};
 ghost use Rattle.durable_log.specs.declared.commit_error.CommitError.TheVariants.{Closed};
@@ -65,6 +65,17 @@ impl<E, N: Naming<E>, D: Disk> LogDevice<E, N, D> {
             return Err(self.failure);
         }
         Ok(())
+    }
+
+    /// Returns whether exactly these bytes were taken over and are not written yet.
+    ///
+    /// # Cost
+    ///
+    /// Linear in the number of bytes. None is copied.
+    pub fn has_buffer(&self, bytes: &[u8]) -> bool
+        ensures { Decides result (self.now.buffer ≡ bytes.now) }
+    {
+        self.buffer.has_bytes(bytes)
     }
 
     /// Takes over the pending bytes, if the log records. Returns whether it does.
@@ -162,6 +173,7 @@ impl<E, N: Naming<E>, D: Disk> LogDevice<E, N, D> {
         ensures buffer { self.new.buffer ≡ [] }
         ensures ok { OnOk result (self.new.failed ≡ false) }
         ensures synced { OnOk result (IsSynced N.bytes N.names.base self.new) }
+        ensures all { OnOk result (self.new.durable ≡ self.new.written) }
         ensures err { OnErr result (self.new.failed ≡ true) }
         ensures kept { OnErr result (self.new.durable ≡ self.old.durable) }
     {
@@ -185,11 +197,25 @@ impl<E, N: Naming<E>, D: Disk> LogDevice<E, N, D> {
         ensures same { self.new.taken ≡ self.old.taken }
         ensures buffer { self.new.buffer ≡ [] }
         ensures ok { OnOk result (self.new.failed ≡ false) }
+        ensures written { OnOk result (self.new.written ≡ self.old.written ++ self.old.buffer) }
         ensures synced { OnOk result (IsSynced N.bytes N.names.base self.new) }
+        ensures all { OnOk result (self.new.durable ≡ self.new.written) }
         ensures err { OnErr result (self.new.failed ≡ true) }
     {
         self.write()?;
         self.sync()
+    }
+
+    /// Drops what was taken over and is not written, and ends the device with this error, as after a failed write.
+    pub fn fail(&mut self, error: DiskError)
+        ensures taken { self.new.taken ≡ self.old.taken }
+        ensures disk { KeepsDisk self.old self.new }
+        ensures buffer { self.new.buffer ≡ [] }
+        ensures failed { self.new.failed ≡ true }
+    {
+        self.buffer.clear();
+        self.failed = true; // As after a failed write.
+        self.failure = error;
     }
 
     /// Gives the backlog the number of bytes that are durable.
@@ -265,6 +291,34 @@ impl<E, N: Naming<E>, D: Disk> LogDevice<E, N, D> {
         ensures { IsInOrder N.bytes N.names.base self.now }
     {
         let _ = &self.disk;
+    }
+
+    /// Replaces the disk by another one that has the same bytes, of which the same are durable. The old one is dropped.
+    pub fn replace_disk<D2: Disk>(self, disk: D2) -> LogDevice<E, N, D2>
+        requires written { D2.written disk ≡ self.written }
+        requires synced { D2.synced disk ≡ self.durable }
+        ensures { result ≡ self }
+    {
+        let LogDevice {
+            disk: _,
+            taker,
+            given,
+            buffer,
+            marker,
+            failed,
+            failure,
+            of: _,
+        } = self;
+        LogDevice {
+            disk,
+            taker,
+            given,
+            buffer,
+            marker,
+            failed, // Another disk does not undo a failure.
+            failure,
+            of: PhantomData,
+        }
     }
 
     /// Returns the disk.

@@ -48,6 +48,18 @@ impl<E, N: Naming<E>, D: Disk> IdleDevice<E, N, D> {
         device
     }
 
+    /// Replaces the disk by another one that has the same bytes, of which the same are durable. The old one is dropped.
+    pub fn replace_disk<D2: Disk>(self, disk: D2) -> IdleDevice<E, N, D2>
+        requires written { D2.written disk ≡ self.written }
+        requires synced { D2.synced disk ≡ self.durable }
+        ensures { result ≡ self }
+    {
+        let IdleDevice { device } = self;
+        IdleDevice {
+            device: device.replace_disk(disk),
+        }
+    }
+
     /// Returns once all that the writer has seen is durable.
     ///
     /// The lock of the backlog is held twice for a short time, and not while the disk is written or synced.

@@ -1,7 +1,8 @@
 //! Bytes in segments, which are written one after another.
 
-ghost use Rattle.std.specs.Prelude.{◌≡◌, ◌<◌, ◌≤◌, ◌++◌, [], flat_map, length, IsOk, OnOk, OnErr};
+ghost use Rattle.std.specs.Prelude.{◌≡◌, ◌<◌, ◌≤◌, ◌++◌, [], flat_map, length, Decides, IsOk, MatchOption, OnOk, OnErr};
 ghost use Rattle.log_disk.specs.Torn.{IsTorn};
+ghost use Rattle.durable_log.specs.Views.{BeginsNot};
 
 use log_disk::{Disk, DiskError};
 use std::alloc::Global;
@@ -40,6 +41,21 @@ impl Model for Segments {
     ghost Value = { SegmentsView };
 
     ghost view = { λ s. record { bytes = flat_map (λ v. v.items) s.earlier.items ++ s.last.items; room = vec_capacity s.last - vec_len s.last; slots = vec_capacity s.earlier - vec_len s.earlier } };
+}
+
+/// Removes the segments from the front of the bytes, in order. Returns the rest, or `None` if the bytes do not begin with
+/// them.
+fn strip_each<'b>(segments: &[Vec<u8>], bytes: &'b [u8]) -> Option<&'b [u8]>
+    ensures { MatchOption result (BeginsNot bytes.now (flat_map (λ v. v.items) segments.now)) (λ rest. bytes.now ≡ flat_map (λ v. v.items) segments.now ++ rest.now) }
+{
+    let mut rest = bytes;
+    for segment in segments {
+        let Some(after) = rest.strip_prefix(segment.as_slice()) else {
+            return None;
+        };
+        rest = after;
+    }
+    Some(rest)
 }
 
 /// Writes segments in order.
@@ -145,6 +161,16 @@ impl Segments {
             self.last = Vec::new(self.alloc);
         } else {
             self.last.clear();
+        }
+    }
+
+    /// Returns whether the segments have exactly these bytes.
+    pub fn has_bytes(&self, bytes: &[u8]) -> bool
+        ensures { Decides result (self.now.bytes ≡ bytes.now) }
+    {
+        match strip_each(self.earlier.as_slice(), bytes) {
+            Some(rest) => rest == self.last.as_slice(),
+            None => false,
         }
     }
 

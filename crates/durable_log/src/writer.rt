@@ -39,9 +39,11 @@ impl<E, N: Naming<E>> Model for LogWriter<E, N> {
 
 impl<E, N: Naming<E>> LogWriter<E, N> {
     /// Returns whether all own promised events are known to be durable.
+    #[tactic(auto, using(crate::proofs::Writers::committed_or_not))]
     pub fn is_committed(&self) -> bool
         ensures committed { result ≡ true → IsCommitted N.promises self.now }
         ensures unconfirmed { result ≡ false → IsUnconfirmed N.promises self.now }
+        ensures excluded { result ≡ false → IsCommitted N.promises self.now → ⊥ }
     {
         !self.unconfirmed
     }
@@ -56,7 +58,7 @@ impl<E, N: Naming<E>> LogWriter<E, N> {
     }
 
     /// Returns the number of bytes of what the writer has seen, or `None` if the log did not record.
-    pub(crate) fn position(&self) -> Option<u64>
+    pub fn position(&self) -> Option<u64>
         ensures { IfSome result (λ n. n ≡ length (encode N.bytes self.now.seen)) }
     {
         self.position

@@ -12,6 +12,8 @@ pub enum DiskError {
     Io(io::Error),
     /// The file has another length than the bytes that it should hold.
     Length(u64),
+    /// The file has other bytes than it should hold.
+    Content,
     /// Memory ran out.
     Memory,
     /// The call was made to fail.
@@ -23,6 +25,7 @@ impl fmt::Display for DiskError {
         match self {
             DiskError::Io(error) => write!(f, "{error}"),
             DiskError::Length(length) => write!(f, "its length is {length} bytes"),
+            DiskError::Content => write!(f, "its content differs"),
             DiskError::Memory => write!(f, "out of memory"),
             DiskError::Injected => write!(f, "made to fail"),
         }
