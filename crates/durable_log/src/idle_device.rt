@@ -48,6 +48,14 @@ impl<E, N: Naming<E>, D: Disk> IdleDevice<E, N, D> {
         device
     }
 
+    /// Returns the disk.
+    pub fn into_disk(self) -> D
+        ensures { (D.written result ≡ self.written) × (D.synced result ≡ self.durable) }
+    {
+        let IdleDevice { device } = self;
+        device.into_disk()
+    }
+
     /// Replaces the disk by another one that has the same bytes, of which the same are durable. The old one is dropped.
     pub fn replace_disk<D2: Disk>(self, disk: D2) -> IdleDevice<E, N, D2>
         requires written { D2.written disk ≡ self.written }
@@ -163,7 +171,7 @@ impl<E, N: Naming<E>, D: Disk> LeaderCell<IdleDevice<E, N, D>> {
     /// - `Closed`: the log does not record.
     pub fn flush(&self, rt: &impl Wait, backlog: &Mutex<Backlog<E, N>>) -> Result<(), CommitError> {
         for _ in rt.forever() {
-            let Some(mut device) = self.take_or_wait(rt) else {
+            let Some(mut device) = self.take_at_once_or_wait(rt) else {
                 continue;
             };
             let done = device.flush(rt, backlog);
