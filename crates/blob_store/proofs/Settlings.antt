@@ -5,7 +5,7 @@ use Rattle.std.proofs.Math.Seq.{get_or-append_seam}
 use Rattle.std.proofs.lemmas.List.{get_or_append_left}
 use Rattle.std.proofs.lemmas.List.Sums.{sum_by-cons}
 use Rattle.blob_store.specs.StoreBackends.{Work, WorkActs, work_of}
-use Rattle.locked_book.specs.History.{DeskView, amounts_of}
+use Rattle.locked_book.specs.History.{DeskView, IsFreshDesk, amounts_of}
 use Rattle.store_model.specs.Catalog.{Catalog}
 use Rattle.store_model.specs.Amounts.{Amounts, zero_amounts, add_amounts, sum_of}
 use Rattle.blob_store.specs.Workers.{EachHasReplies, IsSettledFor, HasPlayed, empty_desk, zero_work}
@@ -23,7 +23,7 @@ use Rattle.script_player.proofs.PlayedRows.{one_each}
 use Rattle.script_player.proofs.Partitions.{sum_of_workers, worker_within}
 
 -- a fresh desk has no amounts and no steps
-pub fresh_work : (d : DeskView) → (d.amounts ≡ zero_amounts) × (d.trace.own ≡ []) → work_of d ≡ zero_work
+pub fresh_work : (d : DeskView) → IsFreshDesk d → work_of d ≡ zero_work
 fresh_work d fresh = λ i. record { amounts = fresh.0 i; steps = fresh.1 i }
 
 -- one worker more

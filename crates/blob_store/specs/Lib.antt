@@ -1,3 +1,4 @@
+pub mod Commits
 pub mod Jobs
 pub mod OneText
 pub mod Parts

@@ -1,6 +1,7 @@
 //! Commits: a thread waits until the steps of its desk are durable.
 
-ghost use Rattle.std.specs.Prelude.{◌≡◌, [], OnOk};
+ghost use Rattle.std.specs.Prelude.{◌≡◌, [], false, OnOk};
+ghost use Rattle.blob_store.specs.Commits.{WritesAll};
 ghost use Rattle.locked_book.specs.Durability.{LearnsDurable, OnlyLearns};
 
 use crate::store::Store;
@@ -85,11 +86,77 @@ impl<S: Naming> Store<S> {
         if confirmed {
             return Ok(());
         }
+        self.write_and_publish(rt, device, desk)?;
+        Ok(())
+    }
+
+    /// Writes and syncs what the device took over, and makes known that it is durable.
+    pub(crate) fn write_and_publish<D: Disk>(
+        &self,
+        rt: &impl Wait,
+        device: &mut LogDevice<Step, StoreLog<S>, D>,
+        desk: &mut Desk<S>,
+    ) -> Result<(), CommitError>
+        requires sound { device.old.failed ≡ false }
+        requires seen { desk.old.trace.seen ≡ device.old.taken }
+        ensures buffer { device.new.buffer ≡ [] }
+        ensures learns { OnlyLearns desk.old desk.new }
+        ensures ok { OnOk result (LearnsDurable S.names desk.old desk.new) }
+        ensures written { OnOk result (WritesAll device.old device.new) }
+    {
         if let Err(error) = device.write_and_sync() {
             self.locked(rt).close_log();
             return Err(CommitError::Disk(error));
         }
         self.locked(rt).publish(device, desk);
+        Ok(())
+    }
+
+    /// Writes the records that wait for the device, without a sync. No desk then knows more to be durable.
+    ///
+    /// # Errors
+    ///
+    /// - `Disk`: a call on the disk fails or has failed. No step is durable after it that is not durable yet.
+    /// - `Closed`: the log does not record.
+    pub fn flush<D: Disk>(
+        &self,
+        rt: &impl Wait,
+        device: &SharedLogDevice<S, D>,
+    ) -> Result<(), CommitError> {
+        for _ in rt.forever() {
+            let Some(idle) = device.take_at_once_or_wait(rt) else {
+                continue;
+            };
+            let mut taken = idle.into_device();
+            let done = self.flush_by(rt, &mut taken);
+            device.put_back(rt, IdleDevice::new(taken));
+            return done;
+        }
+        Err(CommitError::Closed)
+    }
+
+    /// Gives the device the records that wait for it, and writes them.
+    fn flush_by<D: Disk>(
+        &self,
+        rt: &impl Wait,
+        device: &mut LogDevice<Step, StoreLog<S>, D>,
+    ) -> Result<(), CommitError>
+        requires { device.old.buffer ≡ [] }
+        ensures buffer { device.new.buffer ≡ [] }
+        ensures durable { device.new.durable ≡ device.old.durable }
+        ensures ok { OnOk result (device.new.failed ≡ false) }
+    {
+        if let Err(error) = device.check() {
+            return Err(CommitError::Disk(error));
+        }
+        let taken = self.locked(rt).take_over(device);
+        if !taken {
+            return Err(CommitError::Closed);
+        }
+        if let Err(error) = device.write() {
+            self.locked(rt).close_log();
+            return Err(CommitError::Disk(error));
+        }
         Ok(())
     }
 }

@@ -13,6 +13,7 @@ mod lease;
 mod parts;
 mod playing;
 mod queries;
+mod replay;
 mod store;
 mod store_backend;
 mod workers;

@@ -1,8 +1,7 @@
 -- Hands come back as they were checked out, also after one more step.
-use Rattle.std.proofs.Common.{◌≡◌, ◌≢◌, ◌∙◌, ◌++◌, ◌∷◌, [], ℕ, List, Option, None, Some, Ok, Result, ap, refl, subst, sym, ⊎_elim}
+use Rattle.std.proofs.Common.{◌≡◌, ◌∙◌, ◌++◌, ◌∷◌, [], ℕ, List, Option, None, Ok, ap, subst, sym, ⊎_elim}
 use Rattle.std.proofs.lemmas.Bool.Decides.{eqb_tells}
 use Rattle.std.proofs.lemmas.List.Sums.{fold-append}
-use Rattle.std.specs.Prelude.{fold}
 use Rattle.ghost_log.specs.Calls as shared
 use Rattle.ghost_log.specs.Entries.{entry, events_by}
 use Rattle.ghost_log.proofs.Lists.{events_other, events_own}

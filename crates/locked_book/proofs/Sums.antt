@@ -1,8 +1,8 @@
 -- Sums of amounts.
 use Rattle.std.proofs.Common.{◌≡◌, List, [], ◌∷◌, ◌++◌, ap, ◌∙◌, arith}
 use Rattle.std.proofs.lemmas.List.{map-append}
-use Rattle.store_model.specs.Amounts.{Amounts, zero_amounts, add_amounts, sum_of}
-use Rattle.locked_book.specs.History.{AreFreshDesks, DeskView, amounts_of}
+use Rattle.store_model.specs.Amounts.{Amounts, add_amounts, sum_of}
+use Rattle.locked_book.specs.History.{AreFreshDesks, DeskView, IsFreshDesk, amounts_of}
 
 same_amounts : (a b : Amounts) → a.commands ≡ b.commands → a.received ≡ b.received → a.closed ≡ b.closed → a.abandoned ≡ b.abandoned → a ≡ b
 same_amounts a b p q r s = λ i. record { commands = p i; received = q i; closed = r i; abandoned = s i }
@@ -27,11 +27,11 @@ taken_in a b rest all x goal p q r =
 pub desk_pushed : (xs : List DeskView) (d : DeskView) → sum_of (amounts_of (xs ++ d ∷ [])) ≡ add_amounts (sum_of (amounts_of xs)) d.amounts
 desk_pushed xs d = ap sum_of (map-append (λ x. x.amounts) xs (d ∷ [])) ∙ sum_of_pushed (amounts_of xs) d.amounts
 
-pub fresh_pushed : (xs : List DeskView) (d : DeskView) → AreFreshDesks xs → (d.amounts ≡ zero_amounts) × (d.trace.own ≡ []) → AreFreshDesks (xs ++ d ∷ [])
-fresh_pushed [] d all here = (here.0, here.1, tt)
-fresh_pushed (x ∷ xs) d all here = (all.0, all.1, fresh_pushed xs d all.2 here)
+pub fresh_pushed : (xs : List DeskView) (d : DeskView) → AreFreshDesks xs → IsFreshDesk d → AreFreshDesks (xs ++ d ∷ [])
+fresh_pushed [] d all here = (here, tt)
+fresh_pushed (x ∷ xs) d all here = (all.0, fresh_pushed xs d all.1 here)
 
 -- if all desks are fresh, the last one is, and so are the others
-pub fresh_left : (xs : List DeskView) (d : DeskView) → AreFreshDesks (xs ++ d ∷ []) → ((d.amounts ≡ zero_amounts) × (d.trace.own ≡ [])) × AreFreshDesks xs
-fresh_left [] d all = ((all.0, all.1), tt)
-fresh_left (x ∷ xs) d all = let rest = fresh_left xs d all.2 in (rest.0, (all.0, all.1, rest.1))
+pub fresh_left : (xs : List DeskView) (d : DeskView) → AreFreshDesks (xs ++ d ∷ []) → IsFreshDesk d × AreFreshDesks xs
+fresh_left [] d all = (all.0, tt)
+fresh_left (x ∷ xs) d all = let rest = fresh_left xs d all.1 in (rest.0, (all.0, rest.1))

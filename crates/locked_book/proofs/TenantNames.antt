@@ -1,5 +1,5 @@
 -- The names of tenants in records are those of the repositories.
-use Rattle.std.proofs.Common.{◌≡◌, ◌∙◌, false, ℕ, [], IfOk, List, Option, Some, Result, Ok, Err, ap, refl, subst, sym}
+use Rattle.std.proofs.Common.{◌≡◌, ◌∙◌, false, ℕ, [], IfOk, List, Option, Some, Result, Ok, Err, ap, subst, sym}
 use Rattle.std.proofs.lemmas.List.Quantifiers.{position-Some}
 use Rattle.std.specs.Option.{option_map_or}
 use Rattle.blob_digest.specs.Names.{tenant_name}
@@ -11,14 +11,14 @@ use Rattle.spec_lib.proofs.Outcomes.{bound_ok, some_of_ok}
 use Rattle.blob_digest.specs.declared.refusal.Refusal.TheVariants.{NameUnknown}
 use Rattle.store_model.specs.Catalog.{Catalog, HandRecord, Tenant, tenant_of}
 use Rattle.store_model.specs.Commands as commands
-use Rattle.store_model.specs.Histories.{CommandCall, IsStep, Step, TakeCall}
+use Rattle.store_model.specs.Histories.{CommandCall, IsStep, TakeCall}
 use Rattle.store_model.specs.Runs.{Abandon, Answer, Number, outcome}
 use Rattle.store_model.proofs.Noninterference.LocalRespect.{Leaves, abandon_leaves, answers_leave}
 use Rattle.store_model.specs.Sessions.{hand_in}
 use Rattle.locked_book.specs.Counting.{StoreContent}
 use Rattle.locked_book.specs.History.{state_of}
 use Rattle.locked_book.proofs.Counted.{paired}
-use Rattle.locked_book.specs.Logging.{IsHandOf, NamesTenant, name_at, tenant_at}
+use Rattle.locked_book.specs.Logging.{IsHandOf, NamesTenant, name_at}
 
 -- the tenant of a repository has the name that the repository's name begins with
 pub known_name : (tenants : List Tenant) (repo : Text) (t : ℕ) → tenant_of tenants repo ≡ Some t → name_at tenants t ≡ tenant_name repo

@@ -83,10 +83,14 @@ pub record IsWholeHistory (C : Catalog) (s : State) (lists : List (List Step)) :
 abbrev pub IsMadeBy : Catalog → StoreContent → List DeskView → Type 0
 IsMadeBy C k desks = IsWholeHistory C (state_of k) (steps_of_each desks)
 
--- the desks have no amounts and no steps
+-- the desk has no amounts and no steps, and knows nothing to be durable
+abbrev pub IsFreshDesk : DeskView → Type 0
+IsFreshDesk d = (d.amounts ≡ zero_amounts) × (d.trace.own ≡ []) × (d.trace.durable ≡ [])
+
+-- each of these desks is fresh
 abbrev pub AreFreshDesks : List DeskView → Type 0
 AreFreshDesks [] = Unit {0}
-AreFreshDesks (d ∷ ds) = (d.amounts ≡ zero_amounts) × (d.trace.own ≡ []) × AreFreshDesks ds
+AreFreshDesks (d ∷ ds) = IsFreshDesk d × AreFreshDesks ds
 
 -- Exactly this step was added at the end of a legal history, which continues all that the desk had seen. The steps under the desk's number are
 -- exactly its own steps, in order, with this one as the last.

@@ -3,11 +3,10 @@
 ghost use Rattle.std.specs.Prelude.{◌≡◌, ◌⊎◌, ◌+◌, ◌<◌, ◌≤◌, IfErr, IfOk, [], true, vec_len, vec_capacity};
 ghost use Rattle.blob_digest.specs.Outcomes.{Does};
 ghost use Rattle.blob_digest.specs.declared.refusal.Refusal.TheVariants.{LimitReached};
-ghost use Rattle.store_model.specs.Amounts.{zero_amounts};
 ghost use Rattle.store_model.specs.Hands.{received_in_sessions};
 ghost use Rattle.locked_book.specs.Counting.{KeepsTotals, cannot_hand_out, hand_out_outcome, with_desks};
 ghost use Rattle.locked_book.specs.Found.{IsContentOf};
-ghost use Rattle.locked_book.specs.History.{AreFreshDesks, IsMadeBy, SettlesAll, total_of};
+ghost use Rattle.locked_book.specs.History.{AreFreshDesks, IsFreshDesk, IsMadeBy, SettlesAll, total_of};
 ghost use Rattle.locked_book.specs.Results.{FailsWith, HasSums, HasTotals};
 
 use crate::desk::{Desk, Settled};
@@ -23,7 +22,7 @@ impl<S: Naming> LockedBook<S> {
     fn issue(&mut self) -> Desk<S>
         requires { self.old.counts.desks + 1 < 1025 }
         ensures counts { self.new ≡ with_desks self.old 1 }
-        ensures fresh { (result.amounts ≡ zero_amounts) × (result.trace.own ≡ []) }
+        ensures fresh { IsFreshDesk result }
     {
         let tally = self.kept.issue();
         let writer = self.history.writer();

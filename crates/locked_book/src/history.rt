@@ -1,12 +1,12 @@
 //! The history of a store, and its writers.
 
-ghost use Rattle.std.specs.Prelude.{◌≡◌, ◌+◌, ◌≤◌, ℕ, [], IfOk, IfSome, OnErr, Some, true, false};
-ghost use Rattle.ghost_log.specs.Entries.{events_by};
-ghost use Rattle.durable_log.specs.Views.{IsReady, IsSynced, Waits};
+ghost use Rattle.std.specs.Prelude.{◌≡◌, ◌+◌, ◌≤◌, ◌++◌, ℕ, [], IfOk, IfSome, OnErr, Some, true, false};
+ghost use Rattle.ghost_log.specs.Entries.{IsPrefix, events_by};
+ghost use Rattle.durable_log.specs.Views.{IsReady, IsSynced, KeepsDisk, Waits};
 ghost use Rattle.store_model.specs.Histories.{IsLegal};
 ghost use Rattle.locked_book.specs.Calls.{step_of};
 ghost use Rattle.locked_book.specs.History.{Adds, Allows, IsPart, LeadsOn, SeesAll, steps_of};
-ghost use Rattle.locked_book.specs.Durability.{IsConfirmed, log_trace};
+ghost use Rattle.locked_book.specs.Durability.{IsConfirmed, log_trace, records_of};
 ghost use Rattle.locked_book.specs.Logging.{IsSmall, IsUnrecorded, NamesTenant, promises, recorded_bytes};
 ghost use Rattle.locked_book.specs.Recording.{IsRecord};
 ghost use Rattle.locked_book.specs.Returns.{AreReturned, MayReturn};
@@ -116,7 +116,7 @@ impl<S: Naming> History<S> {
     pub fn writer(&mut self) -> HistoryWriter<S>
         requires { IsLegal S.names.opening (steps_of self.old) }
         ensures same { self.new ≡ self.old }
-        ensures writer { (result.own ≡ []) × (result.seen ≡ self.old) }
+        ensures writer { (result.own ≡ []) × (result.seen ≡ self.old) × (result.durable ≡ []) }
     {
         let number = self.writers;
         self.writers = one_more(number);
@@ -264,6 +264,30 @@ impl<S: Naming> History<S> {
         done
     }
 
+    /// Gives the device the records that wait for it, and shows the writer the whole history, if the log records. Returns
+    /// whether it does.
+    #[tactic(auto, using(crate::proofs::SeenHistories::waits_seeing, crate::proofs::SeenHistories::waits_nothing))]
+    pub fn take_over_at<D: Disk>(
+        &mut self,
+        device: &mut LogDevice<Step, StoreLog<S>, D>,
+        writer: &mut HistoryWriter<S>,
+    ) -> bool
+        requires legal { IsLegal S.names.opening (steps_of self.old) }
+        requires device { IsReady device.old }
+        ensures same { self.new ≡ self.old }
+        ensures waits { Waits (log_trace writer.old) (log_trace writer.new) }
+        ensures sound { device.new.failed ≡ false }
+        ensures disk { KeepsDisk device.old device.new }
+        ensures taken { result ≡ true → device.new.taken ≡ writer.new.seen }
+        ensures kept { result ≡ false → (writer.new ≡ writer.old) × (device.new ≡ device.old) }
+    {
+        if !device.take_over(&mut self.backlog) {
+            return false;
+        }
+        self.catch_up(writer);
+        true
+    }
+
     /// Makes known that all that the device took over is durable: to the history, and to a writer that has seen no more.
     pub fn publish<D: Disk>(
         &mut self,
@@ -280,5 +304,25 @@ impl<S: Naming> History<S> {
     {
         device.publish(&mut self.backlog, &mut writer.writer);
         writer.writer.reveal_invariant();
+    }
+
+    /// Does nothing at run time: it states what a crash leaves of the history.
+    ///
+    /// `left` is what the disk has after a crash: a prefix of what was written, with all that was synced.
+    pub fn reveal_survivors<D: Disk>(
+        &mut self,
+        device: &mut LogDevice<Step, StoreLog<S>, D>,
+        writer: &mut HistoryWriter<S>,
+        left: &[u8],
+    )
+        requires synced { IsPrefix device.old.durable left.now }
+        requires written { IsPrefix left.now device.old.written }
+        ensures same { (self.new ≡ self.old) × (device.new ≡ device.old) × (writer.new ≡ writer.old) }
+        ensures returned { AreReturned self.old }
+        ensures known { IsPrefix writer.old.durable self.old }
+        ensures durable { IsPrefix (S.names.log.base ++ records_of S.names writer.old.durable) left.now }
+        ensures in_order { IsPrefix left.now (S.names.log.base ++ records_of S.names self.old) }
+    {
+        device.reveal_survivors(&mut self.backlog, &mut writer.writer, left);
     }
 }

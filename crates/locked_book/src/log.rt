@@ -1,9 +1,11 @@
 //! What is durable of the history, and the parts of a commit.
 
-ghost use Rattle.std.specs.Prelude.{◌≡◌, [], IfOk, OnErr, OnOk, true, false};
-ghost use Rattle.durable_log.specs.Views.{IsReady, IsSynced};
-ghost use Rattle.locked_book.specs.Durability.{IsDurable, LearnsDurable, OnlyLearns};
-ghost use Rattle.locked_book.specs.Logging.{recorded_bytes};
+ghost use Rattle.std.specs.Prelude.{◌≡◌, [], length, IfOk, IfSome, OnErr, OnOk, true, false};
+ghost use Rattle.ghost_log.specs.Entries.{IsPrefix};
+ghost use Rattle.durable_log.specs.Views.{IsReady, IsSynced, IsUnconfirmed, KeepsDisk};
+ghost use Rattle.locked_book.specs.Durability.{IsDurable, LearnsDurable, OnlyLearns, Survives, log_trace, records_of};
+ghost use Rattle.locked_book.specs.Found.{IsContentOf};
+ghost use Rattle.locked_book.specs.Logging.{promises, recorded_bytes};
 
 use crate::desk::Desk;
 use crate::locked::LockedBook;
@@ -15,9 +17,18 @@ use log_disk::Disk;
 impl<S: Naming> Desk<S> {
     /// Returns whether all own steps that the store promises to be durable are known to be so.
     pub fn is_durable(&self) -> bool
-        ensures { result ≡ true → IsDurable S.names self.now.trace }
+        ensures durable { result ≡ true → IsDurable S.names self.now.trace }
+        ensures waits { result ≡ false → IsDurable S.names self.now.trace → ⊥ }
+        ensures unconfirmed { result ≡ false → IsUnconfirmed (promises S.names.policy) (log_trace self.now.trace) }
     {
         self.writer.writer.is_committed()
+    }
+
+    /// Returns the number of bytes of the records of what the desk has seen, or `None` if the log did not record.
+    pub fn log_position(&self) -> Option<u64>
+        ensures { IfSome result (λ n. n ≡ length (records_of S.names self.now.trace.seen)) }
+    {
+        self.writer.writer.position()
     }
 }
 
@@ -76,6 +87,28 @@ impl<S: Naming> LockedBook<S> {
         self.history.publish(device, &mut desk.writer);
     }
 
+    /// Gives the device the records that wait for it, and shows the desk the whole history, if the log records. Returns
+    /// whether it does.
+    ///
+    /// # Cost
+    ///
+    /// Constant: no byte is copied.
+    pub fn take_over_at<D: Disk>(
+        &mut self,
+        device: &mut LogDevice<Step, StoreLog<S>, D>,
+        desk: &mut Desk<S>,
+    ) -> bool
+        requires { IsReady device.old }
+        ensures same { self.new ≡ self.old }
+        ensures learns { OnlyLearns desk.old desk.new }
+        ensures sound { device.new.failed ≡ false }
+        ensures disk { KeepsDisk device.old device.new }
+        ensures taken { result ≡ true → device.new.taken ≡ desk.new.trace.seen }
+        ensures kept { result ≡ false → (desk.new ≡ desk.old) × (device.new ≡ device.old) }
+    {
+        self.history.take_over_at(device, &mut desk.writer)
+    }
+
     /// Gives the device the records that wait for it, if the log records. Returns whether it does.
     pub fn take_over<D: Disk>(&mut self, device: &mut LogDevice<Step, StoreLog<S>, D>) -> bool
         requires { IsReady device.old }
@@ -85,6 +118,26 @@ impl<S: Naming> LockedBook<S> {
         ensures kept { result ≡ false → device.new ≡ device.old }
     {
         device.take_over(&mut self.history.backlog)
+    }
+
+    /// Does nothing at run time: it states what a crash leaves of the store's history.
+    ///
+    /// `left` is what the disk has after a crash: a prefix of what was written, with all that was synced.
+    pub fn reveal_survivors<D: Disk>(
+        &mut self,
+        device: &mut LogDevice<Step, StoreLog<S>, D>,
+        desk: &mut Desk<S>,
+        left: &[u8],
+    )
+        requires synced { IsPrefix device.old.durable left.now }
+        requires written { IsPrefix left.now device.old.written }
+        ensures same { (self.new ≡ self.old) × (device.new ≡ device.old) × (desk.new ≡ desk.old) }
+        ensures content { IsContentOf S.names self.old }
+        ensures survives { Survives S.names self.old desk.old.trace left.now }
+    {
+        self.reveal_invariant();
+        self.history
+            .reveal_survivors(device, &mut desk.writer, left);
     }
 
     /// Returns the number of bytes of records that the device has not taken over.

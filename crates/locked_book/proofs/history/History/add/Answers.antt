@@ -1,11 +1,11 @@
-use Rattle.std.proofs.Common.{◌≡◌, ◌∙◌, IfSome, ap, subst, sym}
+use Rattle.std.proofs.Common.{◌≡◌, ◌∙◌, IfSome, subst, sym}
 use Rattle.ghost_log.specs.Entries.{events_by}
 use Rattle.store_model.specs.Histories.{IsLegal}
 use Rattle.locked_book.specs.Calls.{step_of}
 use Rattle.locked_book.specs.History.{Adds, LogLeadsTo, steps_of}
-use Rattle.locked_book.specs.Returns.{AreReturned, MayReturn}
+use Rattle.locked_book.specs.Returns.{AreReturned}
 use Rattle.locked_book.proofs.Additions.{adds, leaves_on, legal_after, own_steps, trace_of}
-use Rattle.locked_book.proofs.Logging.{promised_change, small}
+use Rattle.locked_book.proofs.Logging.{small}
 use Rattle.locked_book.proofs.Returns.{returned_after}
 use Rattle.locked_book.proofs.history.History.add.Goals as goal
 

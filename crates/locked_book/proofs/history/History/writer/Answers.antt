@@ -1,4 +1,4 @@
-use Rattle.std.proofs.Common.{◌≡◌, ◌∙◌, IfSome, ap, subst, sym}
+use Rattle.std.proofs.Common.{◌≡◌, IfSome, subst, sym}
 use Rattle.store_model.specs.Histories.{IsLegal}
 use Rattle.locked_book.specs.History.{steps_of}
 use Rattle.locked_book.proofs.history.History.writer.Goals as goal
