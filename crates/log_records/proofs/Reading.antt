@@ -1,11 +1,11 @@
 -- The change that a head and the bytes after it describe.
-use Rattle.std.proofs.Common.{◌≡◌, ◌<◌, ◌≤◌, ◌+◌, ◌-◌, ℕ, List, [], ◌++◌, ◌∙◌, ap, refl, sym, subst, arith, inl, inr, length, take, drop, append_assoc, length-take-le, length-drop, replicate, false}
+use Rattle.std.proofs.Common.{◌≡◌, ◌<◌, ◌+◌, ◌-◌, ℕ, List, [], ◌++◌, ◌∙◌, ap, refl, sym, subst, arith, inr, length, take, drop, append_assoc, append-nil, length-take-le, length-drop, replicate, false}
 use Rattle.std.proofs.lemmas.List.{drop-drop, length-append, length-replicate, nil_from_length, take-append-drop}
 use Rattle.log_records.specs.declared.head.Head.{Head}
 use Rattle.log_records.specs.declared.kind.Kind.{Kind}
 use Rattle.log_records.specs.declared.kind.Kind.TheVariants as kind
-use Rattle.log_records.specs.Changes.{BlobLinked, BlobStored, BlobUnlinked, Change, ChunkReceived, HaveRoom, ManifestDeleted, ManifestPut, NumberSet, RepoAdded, SessionDropped, SessionOpened, SessionSealed, IsChange, Parts, change_of, change_with, max_body, parts, parts_of}
-use Rattle.log_records.specs.Decoding.{IsCutOff, IsMalformed, IsNext, IsOfUnknownKind, IsPartOfRecord, Record}
+use Rattle.log_records.specs.Changes.{BlobLinked, BlobStored, BlobUnlinked, Change, ChunkReceived, HaveRoom, ManifestDeleted, ManifestPut, NumberSet, RepoAdded, SessionDropped, SessionOpened, SessionSealed, IsChange, Parts, change_of, change_with, parts, parts_of}
+use Rattle.log_records.specs.Decoding.{AnnouncesRecord, IsCutOff, IsMalformed, IsNext, IsOfUnknownKind, Record}
 use Rattle.log_records.specs.Kinds.{IsUnknown, kind_number, uses_body, uses_digest, uses_name, uses_number}
 use Rattle.log_records.specs.Records.{IsHead, IsPlain, head_bytes, head_for, head_of, parts_in, payload_len, payload_of, record_bytes}
 use Rattle.log_records.proofs.Apart.{head_len, kinds_apart, known}
@@ -171,3 +171,17 @@ pub is_record : (k : Kind) (h : Head) (bytes payload rest : List ℕ) → IsHead
 is_record k h bytes payload rest fits starts same plain len =
     let whole = record_of k h payload fits same plain len in
     (whole.fits, starts ∙ sym (append_assoc (head_bytes h) payload rest) ∙ ap (λ t. t ++ rest) (sym whole.bytes))
+
+-- a head without bytes after it announces the length of its records
+pub announces : (k : Kind) (h : Head) (bytes rest : List ℕ) → IsHead h → bytes ≡ head_bytes h ++ rest → length bytes ≡ 24 → kind_number k ≡ h.kind → IsPlain k h → AnnouncesRecord bytes (24 + payload_len h)
+announces k h bytes rest fits starts short same plain =
+    let payload : List ℕ = replicate (payload_len h) 0 in
+    let many : length payload ≡ payload_len h = length-replicate (payload_len h) 0 in
+    let whole = record_of k h payload fits same plain many in
+    let none : rest ≡ [] = nil_from_length rest (omega (arith, ap length starts, short, length-append (head_bytes h) rest, head_len h)) in
+    record {
+      change = change_of (parts_in k h payload);
+      fits = whole.fits;
+      head = starts ∙ ap (λ t. head_bytes h ++ t) none ∙ append-nil (head_bytes h) ∙ ap head_bytes (sym whole.head);
+      length_is = omega (arith, ap length whole.bytes, length-append (head_bytes h) payload, head_len h, many);
+    }

@@ -68,3 +68,16 @@ next_view (Ok (Some (change, rest))) = Record (change_view change) rest.now
 next_view (Err (error.UnknownKind kind)) = UnknownKind kind
 next_view (Err error.Malformed) = Malformed
 next_view (Err error.CutOff) = CutOff
+
+-- an error of reading, without places in memory
+abbrev pub error_view : RecordError → Next
+error_view (error.UnknownKind kind) = UnknownKind kind
+error_view error.Malformed = Malformed
+error_view error.CutOff = CutOff
+
+-- the bytes are the head of a change's record, which has n bytes
+pub record AnnouncesRecord (bytes : List ℕ) (n : ℕ) : Type 0 where
+  pub change : Change
+  pub fits : IsChange change
+  pub head : bytes ≡ head_bytes (head_for change)
+  pub length_is : n ≡ length (record_bytes change)

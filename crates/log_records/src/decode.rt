@@ -1,6 +1,6 @@
 //! Reads records.
-ghost use Rattle.std.specs.Prelude.{◌≡◌};
-ghost use Rattle.log_records.specs.Decoding.{IsNext, Next, next_view};
+ghost use Rattle.std.specs.Prelude.{◌≡◌, IfErr, IfOk};
+ghost use Rattle.log_records.specs.Decoding.{AnnouncesRecord, IsNext, Next, error_view, next_view};
 
 use crate::change::Change;
 use crate::head::{HEAD_LEN, split_head};
@@ -19,6 +19,31 @@ pub enum RecordError {
     Malformed,
     /// The bytes end within a record.
     CutOff,
+}
+
+/// Returns the length of the record that begins with these bytes.
+///
+/// # Errors
+///
+/// - `UnknownKind` if the kind is of a later version.
+/// - `Malformed` if no change has a record with such a head.
+///
+/// # Memory
+///
+/// The call never allocates.
+pub fn announced_len(head: &[u8; HEAD_LEN]) -> Result<u64, RecordError>
+    ensures ok { IfOk result (AnnouncesRecord head.now) }
+    ensures err { IfErr result (λ e. IsNext head.now (error_view e)) }
+{
+    let (head, _) = split_head(head);
+    let kind = match Kind::from_number(head.kind) {
+        Some(kind) => kind,
+        None => return Err(RecordError::UnknownKind { kind: head.kind }),
+    };
+    if !head.is_plain(kind) {
+        return Err(RecordError::Malformed);
+    }
+    Ok(HEAD_LEN as u64 + head.payload_len() as u64)
 }
 
 /// Returns the change whose record begins the bytes, with the bytes after it, or `None` if there are no bytes.

@@ -10,6 +10,6 @@ pub mod laws;
 mod parts;
 
 pub use change::Change;
-pub use decode::{RecordError, next_record};
+pub use decode::{RecordError, announced_len, next_record};
 pub use encode::{append_record, append_reserved, record_len};
-pub use head::MAX_BODY;
+pub use head::{HEAD_LEN, MAX_BODY};
