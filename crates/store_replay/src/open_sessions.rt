@@ -1,0 +1,54 @@
+//! The open sessions of a store that replays a log.
+
+use blob_digest::RepoName;
+use std::alloc::{AllocError, Global};
+use std::collections::BTreeMap;
+
+/// The repository of each open session. A record of a session names only its tenant and its number.
+///
+/// # Cost
+///
+/// Each call is logarithmic in the numbers of tenants and of open sessions.
+#[derive(Drop)]
+pub(crate) struct OpenSessions {
+    alloc: Global,
+    /// The repository of each session by its number, by the name of the tenant.
+    tenants: BTreeMap<String, BTreeMap<u32, RepoName>>,
+}
+
+impl OpenSessions {
+    /// Creates an empty map.
+    pub fn new(alloc: Global) -> OpenSessions {
+        OpenSessions {
+            alloc,
+            tenants: BTreeMap::new(alloc),
+        }
+    }
+
+    /// Adds a session of a repository.
+    pub fn insert(&mut self, repo: RepoName, number: u32) -> Result<(), AllocError> {
+        if !self.tenants.contains_key(repo.tenant()) {
+            let tenant = String::from_str(self.alloc, repo.tenant())?;
+            self.tenants.insert(tenant, BTreeMap::new(self.alloc))?;
+        }
+        if let Some(sessions) = self.tenants.get_mut(repo.tenant()) {
+            sessions.insert(number, repo)?;
+        }
+        Ok(())
+    }
+
+    /// Returns the repository of a session.
+    pub fn get(&self, tenant: &str, number: u32) -> Option<&RepoName> {
+        match self.tenants.get(tenant) {
+            Some(sessions) => sessions.get(&number),
+            None => None,
+        }
+    }
+
+    /// Removes a session.
+    pub fn remove(&mut self, tenant: &str, number: u32) {
+        if let Some(sessions) = self.tenants.get_mut(tenant) {
+            let _ = sessions.remove(&number);
+        }
+    }
+}

@@ -1,0 +1,244 @@
+//! Plays the changes of records at a desk.
+
+use crate::fault::Cause;
+use crate::open_sessions::OpenSessions;
+use blob_digest::{Digest, Refusal, RepoName};
+use blob_store::{Desk, Naming, Store};
+use log_records::Change;
+use std::alloc::Global;
+use std::str;
+use std::sync::Wait;
+
+/// Plays the changes of a log in a store: each by a call of the store at the caller's desk.
+///
+/// It keeps the repository of each open session, since a record of a session names only its tenant and its number. The
+/// first change must be the first one of the log, and the store a new one.
+///
+/// # Cost
+///
+/// The call of the store, and a search among the tenants and the open sessions of one.
+#[derive(Drop)]
+pub struct Player<'s, W: Wait, S: Naming> {
+    rt: &'s W,
+    store: &'s Store<S>,
+    alloc: Global,
+    sessions: OpenSessions,
+}
+
+/// Returns the session's number, as a store numbers sessions.
+fn session_number(number: u64) -> Result<u32, Cause> {
+    match u32::try_from(number) {
+        Ok(number) => Ok(number),
+        Err(_) => Err(Cause::Malformed),
+    }
+}
+
+/// Returns the name of a tenant.
+fn tenant_name(tenant: &[u8]) -> Result<&str, Cause> {
+    match str::from_utf8(tenant) {
+        Ok(tenant) => Ok(tenant),
+        Err(_) => Err(Cause::Malformed),
+    }
+}
+
+/// Returns the digest that a record names.
+fn digest_of(text: &[u8]) -> Result<Digest, Cause> {
+    match Digest::parse(text) {
+        Ok(digest) => Ok(digest),
+        Err(_) => Err(Cause::Malformed),
+    }
+}
+
+impl<'s, W: Wait, S: Naming> Player<'s, W, S> {
+    /// Creates a player of a store's log, from its first change on.
+    pub fn new(rt: &'s W, store: &'s Store<S>, alloc: Global) -> Player<'s, W, S> {
+        Player {
+            rt,
+            store,
+            alloc,
+            sessions: OpenSessions::new(alloc),
+        }
+    }
+
+    /// Returns the repository that a record names.
+    fn repo_of(&self, text: &[u8]) -> Result<RepoName, Cause> {
+        match RepoName::parse(self.alloc, text) {
+            Ok(repo) => Ok(repo),
+            Err(Refusal::Memory) => Err(Cause::Memory),
+            Err(_) => Err(Cause::Malformed),
+        }
+    }
+
+    /// Returns the repository of an open session.
+    fn repo_of_session(&self, tenant: &str, number: u32) -> Result<&RepoName, Cause> {
+        match self.sessions.get(tenant, number) {
+            Some(repo) => Ok(repo),
+            None => Err(self.refused(tenant, Refusal::UploadUnknown)),
+        }
+    }
+
+    /// Returns the cause for a change that the store refused.
+    fn refused(&self, name: &str, refusal: Refusal) -> Cause {
+        Cause::refused(self.alloc, name, refusal)
+    }
+
+    /// Opens a session.
+    fn open(&mut self, desk: &mut Desk<S>, repo: &[u8]) -> Result<(), Cause> {
+        let repo = self.repo_of(repo)?;
+        match self.store.start(self.rt, desk, &repo) {
+            Ok(number) => {
+                self.sessions.insert(repo, number)?;
+                Ok(())
+            }
+            Err(refusal) => Err(self.refused(repo.text(), refusal)),
+        }
+    }
+
+    /// Adds a chunk to a session.
+    fn append(
+        &self,
+        desk: &mut Desk<S>,
+        tenant: &[u8],
+        number: u64,
+        bytes: &[u8],
+    ) -> Result<(), Cause> {
+        let tenant = tenant_name(tenant)?;
+        let number = session_number(number)?;
+        let repo = self.repo_of_session(tenant, number)?;
+        match self.store.append(self.rt, desk, repo, number, None, bytes) {
+            Ok(_) => Ok(()),
+            Err(refusal) => Err(self.refused(tenant, refusal)),
+        }
+    }
+
+    /// Closes a session with its last chunk. If the store is full, sweeps and tries again.
+    fn close_or_sweep(
+        &self,
+        desk: &mut Desk<S>,
+        repo: &RepoName,
+        number: u32,
+        digest: &Digest,
+        last: &[u8],
+    ) -> Result<u64, Refusal> {
+        let first = self
+            .store
+            .close(self.rt, desk, repo, number, digest, None, last);
+        if !matches!(first, Err(Refusal::StoreFull)) {
+            return first;
+        }
+        let _ = self.store.sweep_at(self.rt, desk);
+        self.store
+            .close(self.rt, desk, repo, number, digest, None, last)
+    }
+
+    /// Closes a session.
+    fn seal(
+        &mut self,
+        desk: &mut Desk<S>,
+        tenant: &[u8],
+        number: u64,
+        digest: &[u8],
+        last: &[u8],
+    ) -> Result<(), Cause> {
+        let tenant = tenant_name(tenant)?;
+        let number = session_number(number)?;
+        let digest = digest_of(digest)?;
+        let repo = self.repo_of_session(tenant, number)?;
+        match self.close_or_sweep(desk, repo, number, &digest, last) {
+            Ok(_) => {
+                self.sessions.remove(tenant, number);
+                Ok(())
+            }
+            Err(refusal) => Err(self.refused(tenant, refusal)),
+        }
+    }
+
+    /// Abandons a session.
+    fn abandon(&mut self, desk: &mut Desk<S>, tenant: &[u8], number: u64) -> Result<(), Cause> {
+        let tenant = tenant_name(tenant)?;
+        let number = session_number(number)?;
+        let repo = self.repo_of_session(tenant, number)?;
+        match self.store.abandon(self.rt, desk, repo, number) {
+            Ok(_) => {
+                self.sessions.remove(tenant, number);
+                Ok(())
+            }
+            Err(refusal) => Err(self.refused(tenant, refusal)),
+        }
+    }
+
+    /// Links a blob.
+    fn link(&self, desk: &mut Desk<S>, repo: &[u8], digest: &[u8]) -> Result<(), Cause> {
+        let repo = self.repo_of(repo)?;
+        let digest = digest_of(digest)?;
+        match self.store.mount(self.rt, desk, &repo, &digest, None) {
+            Ok(_) => Ok(()),
+            Err(refusal) => Err(self.refused(repo.text(), refusal)),
+        }
+    }
+
+    /// Removes the link of a blob, and sweeps, so that the store keeps no more than the log's store needed.
+    fn unlink(&self, desk: &mut Desk<S>, repo: &[u8], digest: &[u8]) -> Result<(), Cause> {
+        let repo = self.repo_of(repo)?;
+        let digest = digest_of(digest)?;
+        match self.store.delete(self.rt, desk, &repo, &digest) {
+            Ok(()) => {
+                let _ = self.store.sweep_at(self.rt, desk);
+                Ok(())
+            }
+            Err(refusal) => Err(self.refused(repo.text(), refusal)),
+        }
+    }
+
+    /// Stores a manifest.
+    fn put_manifest(&self, desk: &mut Desk<S>, repo: &[u8], bytes: &[u8]) -> Result<(), Cause> {
+        let repo = self.repo_of(repo)?;
+        match self.store.put_manifest(self.rt, desk, &repo, bytes) {
+            Ok(_) => Ok(()),
+            Err(refusal) => Err(self.refused(repo.text(), refusal)),
+        }
+    }
+
+    /// Deletes a manifest.
+    fn delete_manifest(&self, desk: &mut Desk<S>, repo: &[u8], digest: &[u8]) -> Result<(), Cause> {
+        let repo = self.repo_of(repo)?;
+        let digest = digest_of(digest)?;
+        match self.store.delete_manifest(self.rt, desk, &repo, &digest) {
+            Ok(()) => Ok(()),
+            Err(refusal) => Err(self.refused(repo.text(), refusal)),
+        }
+    }
+
+    /// Makes a change at the desk. After the removal of a link, and if the store is full, it sweeps.
+    ///
+    /// # Errors
+    ///
+    /// - `Rewritten` if only a rewritten log has such a record.
+    /// - `Malformed` if a name, a digest or a session's number is not one.
+    /// - `Refused` if no such session is open, or the store refuses the change.
+    /// - `Memory`
+    pub fn play(&mut self, desk: &mut Desk<S>, change: &Change<'_>) -> Result<(), Cause> {
+        match *change {
+            Change::SessionOpened { repo, number: _ } => self.open(desk, repo),
+            Change::ChunkReceived {
+                tenant,
+                number,
+                bytes,
+            } => self.append(desk, tenant, number, bytes),
+            Change::SessionSealed {
+                tenant,
+                number,
+                digest,
+                last,
+            } => self.seal(desk, tenant, number, digest, last),
+            Change::SessionDropped { tenant, number } => { self.abandon(desk, tenant, number) }
+            Change::BlobLinked { repo, digest } => self.link(desk, repo, digest),
+            Change::BlobUnlinked { repo, digest } => self.unlink(desk, repo, digest),
+            Change::ManifestPut { repo, bytes } => self.put_manifest(desk, repo, bytes),
+            Change::ManifestDeleted { repo, digest } => self.delete_manifest(desk, repo, digest),
+            Change::RepoAdded { .. } | Change::NumberSet { .. } | Change::BlobStored { .. } => {
+                Err(Cause::Rewritten)
+            }
+        }
+    }
+}
