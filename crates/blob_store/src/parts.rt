@@ -32,7 +32,7 @@ pub struct Parts {
 
 impl Model for Parts {
     ghost use Rattle.std.specs.Prelude.{◌≡◌, []};
-    ghost use Rattle.std.specs.FinMap.{empty};
+    ghost use Rattle.locked_book.specs.Names.{IsNewCatalog};
     ghost use Rattle.locked_book.specs.Totals.{ledger_parts};
     ghost use Rattle.blob_store.specs.Parts.{IsNewMarks, PartsView, coded_parts};
 
@@ -50,7 +50,7 @@ impl Model for Parts {
       policy = p.policy;
     } };
 
-    ghost invariant = { λ p. (p.book.table ≡ p.pins) × (p.book.catalog.sessions ≡ empty) × (p.commands.parts ≡ ledger_parts) × (p.received.parts ≡ ledger_parts) × (p.closed.parts ≡ ledger_parts) × (p.abandoned.parts ≡ ledger_parts) × (p.log.entries ≡ []) × (p.log.writers ≡ 0) × IsNewMarks p.durable_marks × IsNewMarks p.taken_marks };
+    ghost invariant = { λ p. (p.book.table ≡ p.pins) × IsNewCatalog p.book.catalog × (p.commands.parts ≡ ledger_parts) × (p.received.parts ≡ ledger_parts) × (p.closed.parts ≡ ledger_parts) × (p.abandoned.parts ≡ ledger_parts) × (p.log.entries ≡ []) × (p.log.writers ≡ 0) × IsNewMarks p.durable_marks × IsNewMarks p.taken_marks };
 }
 
 impl Parts {

@@ -9,6 +9,7 @@ pub mod Unread
 pub mod Wholes
 pub mod Views
 pub mod Returns
+pub mod Restoring
 pub mod Logging
 pub mod TenantNames
 pub mod SeenHistories

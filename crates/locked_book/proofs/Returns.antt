@@ -14,7 +14,12 @@ use Rattle.store_model.proofs.Durable.Pairing.{IsPaired-append_one}
 use Rattle.atomic_table.specs.Seated.{TableId}
 use Rattle.durable_log.specs.Views as durable
 use Rattle.durable_log.specs.Views.{BacklogView, log_of, writer_of}
-use Rattle.locked_book.specs.Returns.{AreReturned, MayReturn}
+use Rattle.std.specs.List.{AllByRecursion}
+use Rattle.ghost_log.specs.declared.view.Entry.{Entry}
+use Rattle.store_model.specs.Recovery.{IsWellFormedStep}
+use Rattle.locked_book.specs.History.{steps_of}
+use Rattle.locked_book.specs.Returns.{AreReturned, AreWellFormed, MayReturn}
+use Rattle.locked_book.proofs.Additions.{steps_of-push}
 
 -- a writer that may return what the step returns adds it
 pub returned_after : (name : TableId) (b : BacklogView Step) (w : durable.Trace Step) (step : Step) → shared.Agrees (log_of name b) (writer_of name w) → AreReturned b.history → MayReturn w.own step → AreReturned (b.history ++ entry w.number step ∷ [])
@@ -30,3 +35,13 @@ pub holds_taken : (own own' : List Step) (repo : Text) (number : ℕ) (range : O
     own' ≡ own ++ TakeCall repo number range len (Ok taken) ∷ [] → hand.key ≡ taken.key → hand.chunks ≡ taken.chunks → IsHeld hand own'
 holds_taken own own' repo number range len taken hand made key chunks =
     (taken, ap held_hand made ∙ fold-append hand_after None own (TakeCall repo number range len (Ok taken) ∷ []), key, chunks)
+
+-- ---- well-formed steps
+
+all_push : (steps : List Step) (step : Step) → AllByRecursion IsWellFormedStep steps → IsWellFormedStep step → AllByRecursion IsWellFormedStep (steps ++ step ∷ [])
+all_push [] step all last = (last, tt)
+all_push (s ∷ steps) step all last = (all.0, all_push steps step all.1 last)
+
+-- a well-formed step is added to well-formed ones
+pub formed_after : (entries : List (Entry Step)) (number : ℕ) (step : Step) → AreWellFormed entries → IsWellFormedStep step → AreWellFormed (entries ++ entry number step ∷ [])
+formed_after entries number step formed last = subst (AllByRecursion IsWellFormedStep) (sym (steps_of-push entries (entry number step))) (all_push (steps_of entries) step formed last)

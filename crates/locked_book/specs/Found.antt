@@ -1,5 +1,7 @@
 -- The content that a call through the lock finds. It has no name outside the lock, so contracts speak of some content of the store.
 use Rattle.std.specs.Prelude.{◌≡◌, List, length}
+use Rattle.std.specs.FinMap as fmap
+use Rattle.std.specs.List.{AllByRecursion}
 use Rattle.locked_book.specs.Counting.{StoreContent, IsBalanced}
 use Rattle.locked_book.specs.History.{AddsByNobody, state_of}
 use Rattle.locked_book.specs.Names.{StoreNames, setting_of}
@@ -7,9 +9,11 @@ use Rattle.locked_book.specs.declared.totals.Totals.{Totals}
 use Rattle.store_book.specs.BookState.{BookState}
 use Rattle.store_model.specs.Amounts.{Amounts}
 use Rattle.store_model.specs.Catalog.{Catalog}
+use Rattle.store_model.specs.Durable.{AreReturnedAsTaken}
 use Rattle.store_model.specs.Hands.{received_in_sessions}
 use Rattle.store_model.specs.Histories.{SweepCall, Step, LeadsTo}
 use Rattle.store_model.specs.Invariant.{Sound}
+use Rattle.store_model.specs.Recovery.{IsWellFormedStep}
 use Rattle.store_model.specs.Sweep.{IsSweep}
 use Rattle.store_model.specs.declared.swept.Swept.{Swept}
 
@@ -31,9 +35,12 @@ InSomeBook names P = (book : BookState) × IsBookOf names book × P book
 -- ---- the totals
 
 -- One legal history of the store leads to the book and the totals of this content, the book is one of the store's, and the totals are balanced.
+-- In the history every hand is returned as it was taken, and every step is well-formed.
 pub record IsContentOf (names : StoreNames) (k : StoreContent) : Type 0 where
   pub steps : List Step
   pub leads : LeadsTo names.opening steps (state_of k)
+  pub returned : AreReturnedAsTaken fmap.empty steps
+  pub formed : AllByRecursion IsWellFormedStep steps
   pub book : IsBookOf names k.book
   pub balanced : IsBalanced k
 

@@ -10,3 +10,4 @@ pub mod Returns
 pub mod Logging
 pub mod Recording
 pub mod Durability
+pub mod Restoring

@@ -7,6 +7,7 @@ use Rattle.locked_book.specs.declared.policy.LogPolicy.{LogPolicy}
 use Rattle.locked_book.specs.declared.policy.LogPolicy.TheVariants as policy
 use Rattle.store_book.specs.BookState.{BookState}
 use Rattle.store_model.specs.Catalog.{Catalog, Tenant, opening}
+use Rattle.store_model.specs.Invariant.{Sound}
 
 -- the setting of a store, which no command changes: its tenants with their quotas in the order of their names, its slots, and its blob size limit
 pub record Setting : Type 0 where
@@ -17,6 +18,14 @@ pub record Setting : Type 0 where
 -- the setting that a catalog has
 abbrev pub setting_of : Catalog → Setting
 setting_of C = record { tenants = C.tenants; slots = C.slots; max_blob = C.max_blob }
+
+-- the catalog of a new store with this setting
+abbrev pub new_catalog : Setting → Catalog
+new_catalog setting = opening setting.tenants setting.slots setting.max_blob
+
+-- the catalog is that of a new store
+abbrev pub IsNewCatalog : Catalog → Type 0
+IsNewCatalog C = C ≡ new_catalog (setting_of C)
 
 -- a ledger: its name, and the number of parts of all its shares
 pub record LedgerName : Type 0 where
@@ -39,6 +48,11 @@ pub record StoreNames : Type 0 where
 -- the book has the table, the slots and the setting of the store
 abbrev pub BelongsTo : BookState → StoreNames → Type 0
 BelongsTo book names = (book.table ≡ names.table) × (length book.slots ≡ names.slots) × (setting_of book.catalog ≡ names.setting)
+
+-- the store opens as a new one with its setting, and its opening catalog is sound
+pub record OpensNew (names : StoreNames) : Type 0 where
+  pub new : names.opening ≡ new_catalog names.setting
+  pub sound : Sound names.opening
 
 -- a new ledger of this name and these parts is the named one, with a part for each desk and one that stays
 abbrev pub IsLedger : ℕ → ℕ → LedgerName → Type 0

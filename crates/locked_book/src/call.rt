@@ -1,5 +1,9 @@
 //! A call made under the lock, with its arguments and its result.
 
+ghost use Rattle.locked_book.specs.Calls.{step_of};
+ghost use Rattle.locked_book.specs.Returns.{ReturnsFilledHand};
+ghost use Rattle.store_model.specs.Recovery.{IsWellFormedStep};
+
 use blob_digest::{Blob, ByteRange, Digest, Refusal, RepoName};
 use oci_manifest::Manifest;
 use pin_table::Pin;
@@ -27,4 +31,31 @@ pub enum Call<'a> {
     DeleteManifest(&'a RepoName, &'a Digest, &'a Result<(), Refusal>),
     Lease(&'a RepoName, &'a Digest, &'a Result<(Pin, Arc<Blob, Global>), Refusal>),
     Sweep(&'a Swept),
+}
+
+impl Call<'_> {
+    /// Does nothing at run time: it states that the step is well-formed, if a hand that it returns is filled.
+    pub(crate) fn reveal_form(&self)
+        requires { ReturnsFilledHand (step_of self.now) }
+        ensures { IsWellFormedStep (step_of self.now) }
+    {
+        match self {
+            Call::Start(repo, _)
+            | Call::Status(repo, _, _)
+            | Call::Abandon(repo, _, _)
+            | Call::Mount(repo, _, _, _)
+            | Call::Delete(repo, _, _)
+            | Call::PutManifest(repo, _, _)
+            | Call::RefuseManifest(repo, _, _)
+            | Call::GetManifest(repo, _, _)
+            | Call::DeleteManifest(repo, _, _)
+            | Call::Lease(repo, _, _) => {
+                let _ = repo.text();
+            }
+            Call::Take(_, _, _, _, _)
+            | Call::PutBack(_, _)
+            | Call::Finish(_, _, _)
+            | Call::Sweep(_) => {}
+        }
+    }
 }

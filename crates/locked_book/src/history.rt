@@ -1,15 +1,17 @@
 //! The history of a store, and its writers.
 
-ghost use Rattle.std.specs.Prelude.{◌≡◌, ◌+◌, ◌≤◌, ◌++◌, ℕ, [], IfOk, IfSome, OnErr, Some, true, false};
+ghost use Rattle.std.specs.Prelude.{◌≡◌, ◌+◌, ◌++◌, ◌≤◌, ℕ, [], IfOk, IfSome, OnErr, Some, true, false};
 ghost use Rattle.ghost_log.specs.Entries.{IsPrefix, events_by};
 ghost use Rattle.durable_log.specs.Views.{IsReady, IsSynced, KeepsDisk, Waits};
-ghost use Rattle.store_model.specs.Histories.{IsLegal};
+ghost use Rattle.store_model.specs.Histories.{IsLegal, State};
 ghost use Rattle.locked_book.specs.Calls.{step_of};
-ghost use Rattle.locked_book.specs.History.{Adds, Allows, IsPart, LeadsOn, SeesAll, steps_of};
+ghost use Rattle.locked_book.specs.History.{Adds, Allows, IsPart, LeadsOn, LogLeadsTo, SeesAll, steps_of};
 ghost use Rattle.locked_book.specs.Durability.{IsConfirmed, log_trace, records_of};
 ghost use Rattle.locked_book.specs.Logging.{IsSmall, IsUnrecorded, NamesTenant, promises, recorded_bytes};
+ghost use Rattle.locked_book.specs.Names.{OpensNew};
 ghost use Rattle.locked_book.specs.Recording.{IsRecord};
-ghost use Rattle.locked_book.specs.Returns.{AreReturned, MayReturn};
+ghost use Rattle.locked_book.specs.Restoring.{IsRestorable};
+ghost use Rattle.locked_book.specs.Returns.{AreReturned, AreWellFormed, MayReturn, ReturnsFilledHand};
 
 use crate::call::Call;
 use crate::names::{Naming, StoreLog};
@@ -41,13 +43,14 @@ impl<S: Naming> Model for History<S> {
     ghost use Rattle.std.specs.Prelude.{◌≡◌, IfSome, List};
     ghost use Rattle.ghost_log.specs.declared.view.Entry.{Entry};
     ghost use Rattle.store_model.specs.Histories as histories;
-    ghost use Rattle.locked_book.specs.Returns.{AreReturned};
+    ghost use Rattle.locked_book.specs.Names.{OpensNew};
+    ghost use Rattle.locked_book.specs.Returns.{AreReturned, AreWellFormed};
 
     ghost Value = { List (Entry histories.Step) };
 
     ghost view = { λ h. h.backlog.history };
 
-    ghost invariant = { λ h. IfSome h.writers (λ n. n ≡ h.backlog.writers) × AreReturned h.backlog.history × (h.policy ≡ S.names.policy) };
+    ghost invariant = { λ h. IfSome h.writers (λ n. n ≡ h.backlog.writers) × AreReturned h.backlog.history × (h.policy ≡ S.names.policy) × AreWellFormed h.backlog.history × OpensNew S.names };
 }
 
 /// The right to add steps to a store's history under a number of its own.
@@ -93,6 +96,7 @@ impl<S: Naming> History<S> {
     pub fn new(alloc: Global, policy: LogPolicy, backlog: Backlog<Step, StoreLog<S>>) -> History<S>
         requires empty { (backlog.history ≡ []) × (backlog.writers ≡ 0) }
         requires policy { policy ≡ S.names.policy }
+        requires opening { OpensNew S.names }
         ensures { result ≡ [] }
     {
         History {
@@ -131,9 +135,27 @@ impl<S: Naming> History<S> {
 
     /// Does nothing at run time: it gives the caller the invariant of histories as a fact.
     pub fn reveal_invariant(&self)
-        ensures { AreReturned self.now }
+        ensures returned { AreReturned self.now }
+        ensures formed { AreWellFormed self.now }
+        ensures opening { OpensNew S.names }
     {
         let _ = &self.backlog;
+    }
+
+    /// Does nothing at run time: it states that the log restores each state to which the history leads.
+    pub fn reveal_durable_state(&self)
+        ensures { (s : State) → LogLeadsTo S.names.opening self.now s → IsRestorable S.names self.now s }
+    {
+        self.reveal_invariant();
+    }
+
+    /// Does nothing at run time: it states what the disk has of the history's log.
+    pub fn reveal_disk<D: Disk>(&mut self, device: &mut LogDevice<Step, StoreLog<S>, D>)
+        ensures same { (self.new ≡ self.old) × (device.new ≡ device.old) }
+        ensures taken { IsPrefix device.old.taken self.old }
+        ensures written { IsPrefix device.old.written (S.names.log.base ++ records_of S.names self.old) }
+    {
+        device.reveal_order(&mut self.backlog);
     }
 
     /// Adds the step that a call is, under the writer's number. The writer has then seen the whole history.
@@ -147,6 +169,7 @@ impl<S: Naming> History<S> {
         ensures all { writer.new.seen ≡ self.new }
         ensures leads { LeadsOn S.names.opening self.old (step_of call.entry) self.new }
     {
+        call.reveal_form();
         let promised = self.policy.promises_changes() && is_change(&call);
         record_call(
             self.alloc,
@@ -178,10 +201,12 @@ impl<S: Naming> History<S> {
         requires promised { promised ≡ promises S.names.policy (step_of call) }
         requires allows { Allows S.names.opening self.old (step_of call) }
         requires returns { MayReturn writer.old.own (step_of call) }
+        requires filled { ReturnsFilledHand (step_of call) }
         ensures adds { Adds S.names.opening writer.old (step_of call.entry) writer.new }
         ensures all { writer.new.seen ≡ self.new }
         ensures leads { LeadsOn S.names.opening self.old (step_of call.entry) self.new }
     {
+        call.reveal_form();
         append_owned(&mut self.backlog, &mut writer.writer, call, bytes, promised);
     }
 
@@ -192,10 +217,12 @@ impl<S: Naming> History<S> {
         requires unrecorded { IsUnrecorded call }
         requires allows { Allows S.names.opening self.old (step_of call) }
         requires returns { MayReturn writer.old.own (step_of call) }
+        requires filled { ReturnsFilledHand (step_of call) }
         ensures adds { Adds S.names.opening writer.old (step_of call.entry) writer.new }
         ensures all { writer.new.seen ≡ self.new }
         ensures leads { LeadsOn S.names.opening self.old (step_of call.entry) self.new }
     {
+        call.reveal_form();
         append(&mut self.backlog, &mut writer.writer, call, &[], false);
     }
 

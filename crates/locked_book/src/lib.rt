@@ -17,6 +17,7 @@ mod counters;
 mod desk;
 mod desks;
 mod droppable_desk;
+mod durable_state;
 mod history;
 mod kept;
 mod locked;

@@ -2,7 +2,6 @@
 
 ghost use Rattle.std.specs.Prelude.{◌≡◌, ◌≢◌, ◌⊎◌, ◌+◌, ◌<◌, None, IfErr, IfOk, OnOk, Err, [], length, sum_by};
 ghost use Rattle.std.specs.Arc.{arc_value};
-ghost use Rattle.std.specs.FinMap.{empty};
 ghost use Rattle.std.specs.Option.{option_copied};
 ghost use Rattle.blob_digest.specs.Digests.{sha256_text};
 ghost use Rattle.store_model.specs.Amounts.{zero_amounts};
@@ -19,7 +18,7 @@ ghost use Rattle.locked_book.specs.Counting.{EachSlotOf, IsBalanced, KeepsCatalo
 ghost use Rattle.locked_book.specs.Found.{IsBookOf, IsContentOf, IsSweepOf};
 ghost use Rattle.locked_book.specs.History.{IsUnread, KeepsAmounts, LogLeadsTo, Makes, MakesCheckOut, MakesFailedPut, OneBegins, SeeOneHistory, state_of};
 ghost use Rattle.locked_book.specs.Logging.{IsHandOf, bytes_if_ok, check_in_bytes, finish_bytes, manifest_bytes};
-ghost use Rattle.locked_book.specs.Names.{BelongsTo};
+ghost use Rattle.locked_book.specs.Names.{BelongsTo, IsNewCatalog};
 ghost use Rattle.locked_book.specs.Performing.{ChecksIn, ChecksInUnchanged, ChecksOut, Finishes, Performs};
 ghost use Rattle.locked_book.specs.Results.{EndsWithRange, HashesTo, IsPinOf, PrintsBook};
 
@@ -86,7 +85,7 @@ fn kept_if_ok<A>(bytes: Vec<u8>, called: &Result<A, Refusal>) -> Vec<u8>
 }
 
 impl<S: Naming> LockedBook<S> {
-    /// Creates the state of a store whose book has no sessions, with nothing counted and no step made.
+    /// Creates the state of a store with a new book, with nothing counted and no step made.
     pub fn new(
         alloc: Global,
         book: Book,
@@ -94,7 +93,7 @@ impl<S: Naming> LockedBook<S> {
         policy: LogPolicy,
         backlog: Backlog<Step, StoreLog<S>>,
     ) -> LockedBook<S>
-        requires book { book.catalog.sessions ≡ empty }
+        requires book { IsNewCatalog book.catalog }
         requires named { BelongsTo book S.names }
         requires counters { counters ≡ record {
           totals = zero_amounts;
@@ -106,6 +105,7 @@ impl<S: Naming> LockedBook<S> {
         requires opening { book.catalog ≡ S.names.opening }
         ensures { result ≡ record { book = book; counts = counters } }
     {
+        book.reveal_invariant();
         LockedBook {
             kept: Kept::new(book, counters),
             history: History::new(alloc, policy, backlog),
@@ -114,12 +114,14 @@ impl<S: Naming> LockedBook<S> {
 
     /// Does nothing at run time: it gives the caller the invariant as a fact.
     ///
-    /// A legal history of the store leads to the book and the totals, the book is sound, and the totals are balanced.
+    /// A legal history of the store leads to the book and the totals, the book is sound, and the totals are balanced. In the
+    /// history every hand is returned as it was taken.
     pub fn reveal_invariant(&self)
         ensures found { IsBookOf S.names self.now.book }
         ensures balanced { IsBalanced self.now }
         ensures content { IsContentOf S.names self.now }
     {
+        self.history.reveal_durable_state();
         self.kept.reveal_invariant();
     }
 
@@ -333,6 +335,7 @@ impl<S: Naming> LockedBook<S> {
         ensures length { IfOk result (λ n. n ≡ sum_by length hand.chunks + filled_length hand) }
         ensures makes { Makes S.names.opening (PutBackCall hand result) desk.old desk.new }
     {
+        let _ = hand.reserved();
         let given = Snapshot::of(&hand);
         let result = self.kept.put_back(&mut desk.tally, hand);
         let promised = self.history.policy().promises_chunks() && result.is_ok();
@@ -378,6 +381,7 @@ impl<S: Naming> LockedBook<S> {
         ensures makes { Makes S.names.opening (FinishCall hand digest.now result)
             desk.old desk.new }
     {
+        let _ = hand.reserved();
         let given = Snapshot::of(&hand);
         let result = self.kept.finish(pins, &mut desk.tally, hand, digest);
         let promised = self.history.policy().promises_changes() && result.is_ok();

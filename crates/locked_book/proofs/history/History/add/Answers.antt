@@ -3,10 +3,10 @@ use Rattle.ghost_log.specs.Entries.{events_by}
 use Rattle.store_model.specs.Histories.{IsLegal}
 use Rattle.locked_book.specs.Calls.{step_of}
 use Rattle.locked_book.specs.History.{Adds, LogLeadsTo, steps_of}
-use Rattle.locked_book.specs.Returns.{AreReturned}
+use Rattle.locked_book.specs.Returns.{AreReturned, AreWellFormed}
 use Rattle.locked_book.proofs.Additions.{adds, leaves_on, legal_after, own_steps, trace_of}
 use Rattle.locked_book.proofs.Logging.{small}
-use Rattle.locked_book.proofs.Returns.{returned_after}
+use Rattle.locked_book.proofs.Returns.{formed_after, returned_after}
 use Rattle.locked_book.proofs.history.History.add.Goals as goal
 
 pub invariant_of-writer : goal.invariant_of-writer
@@ -34,6 +34,8 @@ invariant_of-self g c =
       subst AreReturned (sym c.append.ensures.history.0)
           (returned_after names backlog writer step c.append.ensures.agrees (subst AreReturned (sym c.record_call.ensures.same.0) c.self.invariant.1) (small c.args.call c.requires.small writer.own).0),
       c.self.invariant.2,
+      subst AreWellFormed (sym c.append.ensures.history.0) (formed_after backlog.history writer.number step (subst AreWellFormed (sym c.record_call.ensures.same.0) c.self.invariant.3) c.reveal_form.ensures),
+      c.self.invariant.4,
     )
 
 pub returns-clause-adds : goal.returns-clause-adds

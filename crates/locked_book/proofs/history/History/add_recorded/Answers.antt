@@ -3,9 +3,9 @@ use Rattle.ghost_log.specs.Entries.{events_by}
 use Rattle.store_model.specs.Histories.{IsLegal}
 use Rattle.locked_book.specs.Calls.{step_of}
 use Rattle.locked_book.specs.History.{Adds, LogLeadsTo, steps_of}
-use Rattle.locked_book.specs.Returns.{AreReturned, MayReturn}
+use Rattle.locked_book.specs.Returns.{AreReturned, AreWellFormed, MayReturn}
 use Rattle.locked_book.proofs.Additions.{adds, leaves_on, legal_after, own_steps, trace_of}
-use Rattle.locked_book.proofs.Returns.{returned_after}
+use Rattle.locked_book.proofs.Returns.{formed_after, returned_after}
 use Rattle.locked_book.proofs.history.History.add_recorded.Goals as goal
 
 pub invariant_of-writer : goal.invariant_of-writer
@@ -33,6 +33,8 @@ invariant_of-self g c =
       subst AreReturned (sym c.append_owned.ensures.history.0)
           (returned_after names backlog writer step c.append_owned.ensures.agrees c.self.invariant.1 (subst (λ t. MayReturn t.own step) (sym c.writer.view_is) c.requires.returns)),
       c.self.invariant.2,
+      subst AreWellFormed (sym c.append_owned.ensures.history.0) (formed_after backlog.history writer.number step c.self.invariant.3 c.reveal_form.ensures),
+      c.self.invariant.4,
     )
 
 pub returns-clause-adds : goal.returns-clause-adds

@@ -1,0 +1,49 @@
+-- What the log of a store restores.
+use Rattle.std.specs.Prelude.{◌≡◌, ◌++◌, ℕ, true, List, map}
+use Rattle.std.specs.FinMap as fmap
+use Rattle.ghost_log.specs.declared.view.Entry.{Entry}
+use Rattle.ghost_log.specs.Entries.{IsPrefix}
+use Rattle.durable_log.specs.Views.{DeviceView}
+use Rattle.log_records.specs.Changes as logged
+use Rattle.log_records.specs.Records.{records_bytes}
+use Rattle.store_model.specs.Catalog.{Tenant}
+use Rattle.store_model.specs.Durable.{Agrees, AgreesAfter, AreReturnedAsTaken, DurableState, changes_of, initial_durable}
+use Rattle.store_model.specs.Histories.{State, Step}
+use Rattle.locked_book.specs.Counting.{StoreContent}
+use Rattle.locked_book.specs.Durability.{records_of}
+use Rattle.locked_book.specs.History.{LogLeadsTo, state_of, steps_of}
+use Rattle.locked_book.specs.Logging.{has_log, logged_change}
+use Rattle.locked_book.specs.Names.{OpensNew, StoreNames}
+use Rattle.locked_book.specs.Returns.{AreWellFormed}
+
+-- the changes of steps, as the log describes them
+abbrev pub logged_changes : List Tenant → List Step → List logged.Change
+logged_changes tenants steps = map (logged_change tenants) (changes_of tenants steps)
+
+-- the durable state of a store before its first step
+abbrev pub opening_state : StoreNames → DurableState
+opening_state names = initial_durable names.setting.tenants
+
+-- A history leads to this state, and its log restores the state: the log has the records of the changes of its steps,
+-- and the durable state after these changes agrees with the catalog. The other fields are the premises under which a
+-- store survives crashes (`StoresSurviveCrashes`).
+pub record IsRestorable (names : StoreNames) (history : List (Entry Step)) (s : State) : Type 0 where
+  pub leads : LogLeadsTo names.opening history s
+  pub records : has_log names.policy ≡ true → records_of names history ≡ records_bytes (logged_changes names.setting.tenants (steps_of history))
+  pub agrees : AgreesAfter fmap.empty (opening_state names) (steps_of history) s.catalog
+  pub opens : OpensNew names
+  pub opening : Agrees fmap.empty (opening_state names) names.opening
+  pub returned : AreReturnedAsTaken fmap.empty (steps_of history)
+  pub formed : AreWellFormed history
+
+-- the log of some history restores this content
+abbrev pub HasDurableState : StoreNames → StoreContent → Type 0
+HasDurableState names k = (history : List (Entry Step)) × IsRestorable names history (state_of k)
+
+-- The log of a history restores this content. The device took over a first part of the history. Its disk has first
+-- bytes of the log, after those that it had before.
+pub record IsOnDisk (names : StoreNames) (k : StoreContent) (d : DeviceView Step) : Type 0 where
+  pub history : List (Entry Step)
+  pub restores : IsRestorable names history (state_of k)
+  pub taken : IsPrefix d.taken history
+  pub in_order : IsPrefix d.written (names.log.base ++ records_of names history)
