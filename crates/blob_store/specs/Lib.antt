@@ -1,4 +1,5 @@
 pub mod Commits
+pub mod DurableStates
 pub mod Jobs
 pub mod OneText
 pub mod Parts

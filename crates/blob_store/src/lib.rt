@@ -8,6 +8,7 @@
 #![tactic(auto)]
 
 mod commit;
+mod durable_state;
 pub mod laws;
 mod lease;
 mod parts;
