@@ -1,0 +1,314 @@
+//! The first pass: what of a log is still needed.
+
+use crate::blobs::{BlobKey, Blobs, Link, Session};
+use crate::empty_index::{EMPTY_INDEX, EMPTY_INDEX_DIGEST};
+use crate::error::InventoryError;
+use crate::filter::Filter;
+use crate::filter_maker::FilterMaker;
+use crate::lengths::{change_len, digest_len, record_len};
+use crate::names::{Names, Tenant};
+use blob_digest::{Algorithm, Digest};
+use log_records::Change;
+use std::alloc::{AllocError, Global};
+use std::collections::BTreeMap;
+
+/// An open session: the number of its tenant, and its own.
+pub type SessionKey = (usize, u64);
+
+/// A manifest that exists.
+#[derive(Clone, Copy, Debug)]
+pub struct Stored {
+    /// Offset of the record that put it.
+    pub offset: u64,
+    /// The bytes of that record.
+    pub len: u64,
+}
+
+/// Which records of a log are still needed: the state after the records that were noted, and the record that made each part of
+/// it.
+///
+/// # Memory
+///
+/// The inventory grows with the repositories, links, manifests and open sessions that exist at a time, and not with the length
+/// of the log.
+#[derive(Drop)]
+pub struct Inventory {
+    alloc: Global,
+    names: Names,
+    sessions: BTreeMap<SessionKey, Session>,
+    blobs: Blobs,
+    manifests: BTreeMap<(usize, Digest), Stored>,
+    total: u64,
+}
+
+/// Parses the text of a digest.
+fn parse(text: &[u8]) -> Result<Digest, InventoryError> {
+    match Digest::parse(text) {
+        Ok(digest) => Ok(digest),
+        Err(_) => Err(InventoryError::DigestInvalid),
+    }
+}
+
+impl Inventory {
+    /// Returns the inventory of an empty log. Allocates nothing.
+    pub fn new(alloc: Global) -> Inventory {
+        Inventory {
+            alloc,
+            names: Names::new(alloc),
+            sessions: BTreeMap::new(alloc),
+            blobs: Blobs::new(alloc),
+            manifests: BTreeMap::new(alloc),
+            total: 0,
+        }
+    }
+
+    /// Notes the next change of the log, whose record is at `offset`. Offsets increase.
+    ///
+    /// After an error the inventory is not to be used further: a part of the change may have been noted.
+    ///
+    /// # Errors
+    ///
+    /// - `KindUnexpected`: a store does not write such a record.
+    /// - `NameInvalid`, `DigestInvalid`: a text is no name of a repository, or no digest.
+    /// - `NumberInvalid`: a session is opened, but not with its tenant's next number.
+    /// - `SessionUnknown`: a chunk, a seal or an end of a session that is not open.
+    /// - `BlobUnknown`: a link to a blob that the tenant does not hold, or the end of a link that does not exist.
+    /// - `ManifestUnknown`: the end of a manifest that does not exist.
+    /// - `Memory`: out of memory.
+    ///
+    /// # Cost
+    ///
+    /// Some look-ups, each logarithmic. A manifest is hashed. Memory is allocated for what is new, and for nothing else.
+    pub fn note(&mut self, change: &Change<'_>, offset: u64) -> Result<(), InventoryError> {
+        let len = change_len(change);
+        self.total = self.total.saturating_add(len);
+        match *change {
+            Change::SessionOpened { repo, number } => self.note_opened(repo, number, offset),
+            Change::ChunkReceived { tenant, number, .. } => self.note_chunk(tenant, number, len),
+            Change::SessionSealed {
+                tenant,
+                number,
+                digest,
+                ..
+            } => self.note_sealed(tenant, number, digest, offset, len),
+            Change::SessionDropped { tenant, number } => self.note_dropped(tenant, number),
+            Change::BlobLinked { repo, digest } => self.note_linked(repo, digest, offset, len),
+            Change::BlobUnlinked { repo, digest } => self.note_unlinked(repo, digest),
+            Change::ManifestPut { repo, bytes } => self.note_put(repo, bytes, offset, len),
+            Change::ManifestDeleted { repo, digest } => self.note_deleted(repo, digest),
+            Change::RepoAdded { .. } | Change::NumberSet { .. } | Change::BlobStored { .. } => {
+                Err(InventoryError::KindUnexpected)
+            }
+        }
+    }
+
+    /// Returns the bytes of the records that were noted, or the greatest number if there are more.
+    pub fn total(&self) -> u64 {
+        self.total
+    }
+
+    /// Returns the bytes of the records of the rewritten log, or the greatest number if there are more.
+    ///
+    /// # Cost
+    ///
+    /// Linear in the repositories, links, manifests and open sessions that exist.
+    pub fn live(&self) -> u64 {
+        self.blobs
+            .live()
+            .saturating_add(sessions_live(&self.sessions))
+            .saturating_add(manifests_live(&self.manifests))
+            .saturating_add(repos_live(&self.names))
+    }
+
+    /// Returns the filter for the second pass.
+    ///
+    /// # Errors
+    ///
+    /// - `AllocError`: out of memory.
+    ///
+    /// # Cost
+    ///
+    /// Linear in the repositories, links, manifests and open sessions that exist, times a logarithm.
+    pub fn into_filter(self) -> Result<Filter, AllocError> {
+        let Inventory {
+            alloc,
+            names,
+            sessions,
+            blobs,
+            manifests,
+            total: _,
+        } = self;
+        let (repos, tenants) = names.into_parts();
+        let mut maker = FilterMaker::new(alloc);
+        maker.add_sessions(sessions)?;
+        maker.add_blobs(blobs.into_map())?;
+        maker.add_manifests(manifests)?;
+        maker.add_repos(alloc, repos)?;
+        Ok(maker.finish(tenants))
+    }
+
+    /// Notes a session that was opened.
+    fn note_opened(&mut self, name: &[u8], number: u64, offset: u64) -> Result<(), InventoryError> {
+        let repo = self.names.appear(self.alloc, name, offset)?;
+        self.names.open_session(name, number)?;
+        let session = Session {
+            repo: repo.id,
+            name_len: name.len(),
+            bytes: record_len(name.len(), 0, 0),
+            pair_len: repo.pair_len,
+        };
+        self.sessions.insert((repo.tenant, number), session)?;
+        Ok(())
+    }
+
+    /// Returns a tenant that has sessions.
+    fn known_tenant(&self, name: &[u8]) -> Result<Tenant, InventoryError> {
+        self.names
+            .tenant(name)
+            .ok_or(InventoryError::SessionUnknown)
+    }
+
+    /// Removes an open session and returns it with its tenant's number.
+    fn close_session(
+        &mut self,
+        tenant: &[u8],
+        number: u64,
+    ) -> Result<(usize, Session), InventoryError> {
+        let tenant = self.known_tenant(tenant)?.id;
+        match self.sessions.remove(&(tenant, number)) {
+            Some(session) => Ok((tenant, session)),
+            None => Err(InventoryError::SessionUnknown),
+        }
+    }
+
+    /// Notes a chunk.
+    fn note_chunk(&mut self, tenant: &[u8], number: u64, len: u64) -> Result<(), InventoryError> {
+        let tenant = self.known_tenant(tenant)?.id;
+        match self.sessions.get_mut(&(tenant, number)) {
+            Some(session) => {
+                session.bytes = session.bytes.saturating_add(len);
+                Ok(())
+            }
+            None => Err(InventoryError::SessionUnknown),
+        }
+    }
+
+    /// Notes a session that became a blob.
+    fn note_sealed(
+        &mut self,
+        tenant: &[u8],
+        number: u64,
+        digest: &[u8],
+        offset: u64,
+        len: u64,
+    ) -> Result<(), InventoryError> {
+        let digest = parse(digest)?;
+        let (tenant, mut session) = self.close_session(tenant, number)?;
+        session.bytes = session.bytes.saturating_add(len);
+        self.blobs
+            .seal(self.alloc, (tenant, digest), number, session, offset)
+    }
+
+    /// Notes a session that was abandoned.
+    fn note_dropped(&mut self, tenant: &[u8], number: u64) -> Result<(), InventoryError> {
+        let (_, session) = self.close_session(tenant, number)?;
+        self.blobs.drop_session(&session);
+        Ok(())
+    }
+
+    /// Notes a link without a session.
+    fn note_linked(
+        &mut self,
+        name: &[u8],
+        digest: &[u8],
+        offset: u64,
+        len: u64,
+    ) -> Result<(), InventoryError> {
+        let digest = parse(digest)?;
+        let repo = self.names.appear(self.alloc, name, offset)?;
+        let link = Link { offset, len };
+        if self.blobs.link((repo.tenant, digest), repo.id, link)? && !repo.has_sessions {
+            self.names.add_part(name);
+        }
+        Ok(())
+    }
+
+    /// Notes the end of a link.
+    fn note_unlinked(&mut self, name: &[u8], digest: &[u8]) -> Result<(), InventoryError> {
+        let digest = parse(digest)?;
+        let Some(repo) = self.names.repo(name) else {
+            return Err(InventoryError::BlobUnknown);
+        };
+        self.blobs.unlink((repo.tenant, digest), repo.id)?;
+        if !repo.has_sessions {
+            self.names.remove_part(name);
+        }
+        Ok(())
+    }
+
+    /// Notes a manifest that was put.
+    fn note_put(
+        &mut self,
+        name: &[u8],
+        bytes: &[u8],
+        offset: u64,
+        len: u64,
+    ) -> Result<(), InventoryError> {
+        let repo = self.names.appear(self.alloc, name, offset)?;
+        let key = (repo.id, Digest::of(Algorithm::Sha256, bytes));
+        if self.manifests.contains_key(&key) {
+            return Ok(());
+        }
+        self.manifests.insert(key, Stored { offset, len })?;
+        if !repo.has_sessions {
+            self.names.add_part(name);
+        }
+        Ok(())
+    }
+
+    /// Notes the end of a manifest.
+    fn note_deleted(&mut self, name: &[u8], digest: &[u8]) -> Result<(), InventoryError> {
+        let digest = parse(digest)?;
+        let Some(repo) = self.names.repo(name) else {
+            return Err(InventoryError::ManifestUnknown);
+        };
+        if self.manifests.remove(&(repo.id, digest)).is_none() {
+            return Err(InventoryError::ManifestUnknown);
+        }
+        if !repo.has_sessions {
+            self.names.remove_part(name);
+        }
+        Ok(())
+    }
+}
+
+/// Returns the bytes of the records of open sessions.
+fn sessions_live(sessions: &BTreeMap<SessionKey, Session>) -> u64 {
+    let mut live: u64 = 0;
+    for session in sessions.values() {
+        live = live.saturating_add(session.bytes);
+    }
+    live
+}
+
+/// Returns the bytes of the records of manifests.
+fn manifests_live(manifests: &BTreeMap<(usize, Digest), Stored>) -> u64 {
+    let mut live: u64 = 0;
+    for stored in manifests.values() {
+        live = live.saturating_add(stored.len);
+    }
+    live
+}
+
+/// Returns the bytes of the records of repositories that exist without content.
+fn repos_live(names: &Names) -> u64 {
+    let mut live: u64 = 0;
+    for (name, repo) in names.repos().iter() {
+        if !repo.is_made() {
+            live = live
+                .saturating_add(record_len(name.len(), 0, EMPTY_INDEX.len()))
+                .saturating_add(record_len(name.len(), EMPTY_INDEX_DIGEST.len(), 0));
+        }
+    }
+    live
+}

@@ -1,0 +1,22 @@
+//! Rewrites a log: finds which records are still needed, and gives the changes of a shorter log that has the same final
+//! state.
+//!
+//! The records of the log are read twice. An [`Inventory`] notes each change of the first pass. The [`Filter`] made of it gives, for
+//! each change of the second pass, those of the rewritten log.
+#![tactic(auto)]
+
+mod blobs;
+mod empty_index;
+mod error;
+mod filter;
+mod filter_maker;
+mod inventory;
+mod kept;
+mod lengths;
+mod names;
+mod place;
+
+pub use error::InventoryError;
+pub use filter::Filter;
+pub use inventory::Inventory;
+pub use kept::Kept;
