@@ -23,7 +23,7 @@ kept_view (kept.Two c d) = change_view c ∷ change_view d ∷ []
 abbrev pub is_kept : Filter → List ℕ → ℕ → Bool
 is_kept F tenant number =
     option_map_or
-    (λ t. tree_set.contains_by (λ k. ordering_then (nat_cmp t.id k.0) (nat_cmp number k.1)) F.sessions)
+    (λ t. tree_set.contains_by (λ k. ordering_then (nat_cmp t k.0) (nat_cmp number k.1)) F.sessions)
     (tree.get_by (λ k. slice_cmp nat_cmp tenant k.items) F.tenants) false
 
 -- what is kept in place of the record at an offset

@@ -7,7 +7,7 @@ use std::alloc::Global;
 use std::collections::BTreeMap;
 
 /// An open session, or the one whose seal made a blob.
-#[derive(Clone, Copy, Debug)]
+#[derive(Clone, Copy, Debug, PartialEq, Eq)]
 pub struct Session {
     /// Number of the session's repository.
     pub repo: usize,
@@ -66,9 +66,8 @@ impl Blobs {
     }
 
     /// Returns the blobs.
-    pub fn into_map(self) -> BTreeMap<BlobKey, Blob> {
-        let Blobs { blobs, dropped: _ } = self;
-        blobs
+    pub fn map(&self) -> &BTreeMap<BlobKey, Blob> {
+        &self.blobs
     }
 
     /// Notes the end of a session that is not kept.
@@ -95,8 +94,7 @@ impl Blobs {
         };
         if self.blobs.contains_key(&key) {
             self.drop_session(&session);
-            self.link(key, session.repo, link)?;
-            return Ok(());
+            return self.link(key, session.repo, link);
         }
         let mut links = BTreeMap::new(alloc);
         links.insert(session.repo, link)?;
@@ -109,41 +107,60 @@ impl Blobs {
         Ok(())
     }
 
-    /// Notes that a repository links a blob. Returns whether the link is new.
+    /// Notes that a repository links a blob. A link that exists stays as it is.
     ///
     /// # Errors
     ///
     /// - `BlobUnknown`: the tenant does not hold the blob.
     /// - `Memory`: out of memory.
-    pub fn link(&mut self, key: BlobKey, repo: usize, link: Link) -> Result<bool, InventoryError> {
+    pub fn link(&mut self, key: BlobKey, repo: usize, link: Link) -> Result<(), InventoryError> {
         let Some(blob) = self.blobs.get_mut(&key) else {
             return Err(InventoryError::BlobUnknown);
         };
-        if blob.links.contains_key(&repo) {
-            return Ok(false);
+        if !blob.links.contains_key(&repo) {
+            blob.links.insert(repo, link)?;
         }
-        blob.links.insert(repo, link)?;
-        Ok(true)
+        Ok(())
     }
 
-    /// Notes that a repository's link to a blob was removed.
+    /// Notes that a repository's link to a blob was removed, and returns the link.
     ///
     /// # Errors
     ///
     /// - `BlobUnknown`: there is no such link.
-    pub fn unlink(&mut self, key: BlobKey, repo: usize) -> Result<(), InventoryError> {
+    pub fn unlink(&mut self, key: BlobKey, repo: usize) -> Result<Link, InventoryError> {
         let Some(blob) = self.blobs.get_mut(&key) else {
             return Err(InventoryError::BlobUnknown);
         };
-        if blob.links.remove(&repo).is_none() {
+        let Some(link) = blob.links.remove(&repo) else {
             return Err(InventoryError::BlobUnknown);
-        }
+        };
         if blob.links.is_empty() {
             let session = blob.session;
             self.blobs.remove(&key);
             self.drop_session(&session);
         }
-        Ok(())
+        Ok(link)
+    }
+
+    /// Returns whether the tenants hold the same blobs, with the same links.
+    pub fn is_same(&self, other: &Blobs) -> bool {
+        self.blobs.len() == other.blobs.len()
+            && self
+                .blobs
+                .iter()
+                .all(|(key, blob)| other.has_links(key, &blob.links))
+    }
+
+    /// Returns whether a blob exists with these links.
+    fn has_links(&self, key: &BlobKey, links: &BTreeMap<usize, Link>) -> bool {
+        match self.blobs.get(key) {
+            Some(blob) => {
+                blob.links.len() == links.len()
+                    && links.keys().all(|repo| blob.links.contains_key(repo))
+            }
+            None => false,
+        }
     }
 
     /// Returns the bytes of the records that the rewritten log has for blobs, links, and sessions that are not kept.

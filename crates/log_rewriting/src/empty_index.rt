@@ -1,5 +1,5 @@
-//! A manifest that refers to nothing. A repository that has no content exists in a rewritten log because the manifest was
-//! put into it and deleted again.
+//! A manifest that refers to nothing. A rewritten log puts it into a repository and deletes it, in place of a record that
+//! created the repository and is not kept.
 
 /// An image index without manifests (OCI Image Specification 1.1, "Image Index").
 pub const EMPTY_INDEX: &[u8] =

@@ -6,12 +6,12 @@ ghost use Rattle.log_rewriting.specs.Keeping.{empty_repo, is_kept, kept_changes,
 use crate::empty_index::{EMPTY_INDEX, EMPTY_INDEX_DIGEST};
 use crate::inventory::SessionKey;
 use crate::kept::Kept;
-use crate::names::{Tenant, tenant_text};
+use crate::names::tenant_text;
 use crate::place::Place;
 use log_records::Change;
 use std::collections::{BTreeMap, BTreeSet};
 
-/// Gives the changes of the rewritten log. It is made by [`Inventory::into_filter`](crate::Inventory::into_filter).
+/// Gives the changes of the rewritten log. It is made by [`Inventory::filter`](crate::Inventory::filter).
 ///
 /// # Memory
 ///
@@ -19,7 +19,7 @@ use std::collections::{BTreeMap, BTreeSet};
 #[derive(Drop)]
 pub struct Filter {
     pub(crate) names: Vec<Vec<u8>>,
-    pub(crate) tenants: BTreeMap<Vec<u8>, Tenant>,
+    pub(crate) tenants: BTreeMap<Vec<u8>, usize>,
     pub(crate) sessions: BTreeSet<SessionKey>,
     pub(crate) places: BTreeMap<u64, Place>,
 }
@@ -37,7 +37,7 @@ impl Filter {
     ///
     /// - A session is kept if it is open at the end, or if its seal made a blob that the tenant holds from then to the end.
     /// - The repository of that session may not link the blob at the end. Then its link is removed after the first other link.
-    /// - A repository that no kept record creates gets an empty image index, which is deleted at once.
+    /// - A repository whose first record is not kept gets an empty image index, which is deleted at once.
     ///
     /// # Cost
     ///
@@ -88,7 +88,7 @@ impl Filter {
         ensures { result ≡ is_kept self.now tenant.now number }
     {
         match self.tenants.get(tenant) {
-            Some(tenant) => self.sessions.contains(&(tenant.id, number)),
+            Some(tenant) => self.sessions.contains(&(*tenant, number)),
             None => false,
         }
     }

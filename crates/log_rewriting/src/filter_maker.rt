@@ -13,6 +13,7 @@ use std::collections::{BTreeMap, BTreeSet};
 #[derive(Drop)]
 pub struct FilterMaker {
     names: Vec<Vec<u8>>,
+    tenants: BTreeMap<Vec<u8>, usize>,
     sessions: BTreeSet<SessionKey>,
     places: BTreeMap<u64, Place>,
 }
@@ -22,6 +23,7 @@ impl FilterMaker {
     pub fn new(alloc: Global) -> FilterMaker {
         FilterMaker {
             names: Vec::new(alloc),
+            tenants: BTreeMap::new(alloc),
             sessions: BTreeSet::new(alloc),
             places: BTreeMap::new(alloc),
         }
@@ -30,17 +32,17 @@ impl FilterMaker {
     /// Keeps open sessions.
     pub fn add_sessions(
         &mut self,
-        sessions: BTreeMap<SessionKey, Session>,
+        sessions: &BTreeMap<SessionKey, Session>,
     ) -> Result<(), AllocError> {
-        for (key, _) in sessions {
-            self.sessions.insert(key)?;
+        for key in sessions.keys() {
+            self.sessions.insert(*key)?;
         }
         Ok(())
     }
 
     /// Keeps blobs: their sessions, and their links.
-    pub fn add_blobs(&mut self, blobs: BTreeMap<BlobKey, Blob>) -> Result<(), AllocError> {
-        for (key, blob) in blobs {
+    pub fn add_blobs(&mut self, blobs: &BTreeMap<BlobKey, Blob>) -> Result<(), AllocError> {
+        for (key, blob) in blobs.iter() {
             self.sessions.insert((key.0, blob.number))?;
             self.add_links(&blob.links, blob.session.repo)?;
             if blob.is_moved() {
@@ -87,9 +89,9 @@ impl FilterMaker {
     /// Keeps manifests.
     pub fn add_manifests(
         &mut self,
-        manifests: BTreeMap<(usize, Digest), Stored>,
+        manifests: &BTreeMap<(usize, Digest), Stored>,
     ) -> Result<(), AllocError> {
-        for (_, stored) in manifests {
+        for stored in manifests.values() {
             self.places.insert(stored.offset, Place::Manifest)?;
         }
         Ok(())
@@ -99,26 +101,35 @@ impl FilterMaker {
     pub fn add_repos(
         &mut self,
         alloc: Global,
-        repos: BTreeMap<Vec<u8>, Repo>,
+        repos: &BTreeMap<Vec<u8>, Repo>,
     ) -> Result<(), AllocError> {
         for _ in 0..repos.len() {
             self.names.push(Vec::new(alloc))?;
         }
-        for (name, repo) in repos {
-            if !repo.is_made() {
+        for (name, repo) in repos.iter() {
+            if !repo.is_made {
                 self.places.insert(repo.offset, Place::Repo)?;
             }
             if let Some(place) = self.names.get_mut(repo.id) {
-                *place = name;
+                *place = name.clone()?;
             }
         }
         Ok(())
     }
 
+    /// Adds the numbers of tenants.
+    pub fn add_tenants(&mut self, tenants: &BTreeMap<Vec<u8>, Tenant>) -> Result<(), AllocError> {
+        for (name, tenant) in tenants.iter() {
+            self.tenants.insert(name.clone()?, tenant.id)?;
+        }
+        Ok(())
+    }
+
     /// Returns the filter.
-    pub fn finish(self, tenants: BTreeMap<Vec<u8>, Tenant>) -> Filter {
+    pub fn finish(self) -> Filter {
         let FilterMaker {
             names,
+            tenants,
             sessions,
             places,
         } = self;

@@ -129,22 +129,38 @@ impl Inventory {
     /// # Cost
     ///
     /// Linear in the repositories, links, manifests and open sessions that exist, times a logarithm.
-    pub fn into_filter(self) -> Result<Filter, AllocError> {
-        let Inventory {
-            alloc,
-            names,
-            sessions,
-            blobs,
-            manifests,
-            total: _,
-        } = self;
-        let (repos, tenants) = names.into_parts();
-        let mut maker = FilterMaker::new(alloc);
-        maker.add_sessions(sessions)?;
-        maker.add_blobs(blobs.into_map())?;
-        maker.add_manifests(manifests)?;
-        maker.add_repos(alloc, repos)?;
-        Ok(maker.finish(tenants))
+    pub fn filter(&self) -> Result<Filter, AllocError> {
+        let mut maker = FilterMaker::new(self.alloc);
+        maker.add_sessions(&self.sessions)?;
+        maker.add_blobs(self.blobs.map())?;
+        maker.add_manifests(&self.manifests)?;
+        maker.add_repos(self.alloc, self.names.repos())?;
+        maker.add_tenants(self.names.tenants())?;
+        Ok(maker.finish())
+    }
+
+    /// Returns whether another log leaves the same state: the same repositories, session numbers, links and manifests, and the
+    /// same open sessions with records of the same length.
+    ///
+    /// A rewritten log has the state of the old one. A caller can check it before it uses the new log: it notes the changes of the
+    /// new log in a second inventory. The contents of blobs need no check, because a replay computes their digests.
+    ///
+    /// # Cost
+    ///
+    /// Linear in the repositories, links, manifests and open sessions that exist, times a logarithm.
+    ///
+    /// # Memory
+    ///
+    /// The call does not allocate.
+    pub fn has_same_state(&self, other: &Inventory) -> bool {
+        self.names.is_same(&other.names)
+            && self.sessions == other.sessions
+            && self.blobs.is_same(&other.blobs)
+            && self.manifests.len() == other.manifests.len()
+            && self
+                .manifests
+                .keys()
+                .all(|key| other.manifests.contains_key(key))
     }
 
     /// Notes a session that was opened.
@@ -227,10 +243,7 @@ impl Inventory {
         let digest = parse(digest)?;
         let repo = self.names.appear(self.alloc, name, offset)?;
         let link = Link { offset, len };
-        if self.blobs.link((repo.tenant, digest), repo.id, link)? && !repo.has_sessions {
-            self.names.add_part(name);
-        }
-        Ok(())
+        self.blobs.link((repo.tenant, digest), repo.id, link)
     }
 
     /// Notes the end of a link.
@@ -239,9 +252,9 @@ impl Inventory {
         let Some(repo) = self.names.repo(name) else {
             return Err(InventoryError::BlobUnknown);
         };
-        self.blobs.unlink((repo.tenant, digest), repo.id)?;
-        if !repo.has_sessions {
-            self.names.remove_part(name);
+        let link = self.blobs.unlink((repo.tenant, digest), repo.id)?;
+        if link.offset == repo.offset {
+            self.names.unmake(name);
         }
         Ok(())
     }
@@ -260,9 +273,6 @@ impl Inventory {
             return Ok(());
         }
         self.manifests.insert(key, Stored { offset, len })?;
-        if !repo.has_sessions {
-            self.names.add_part(name);
-        }
         Ok(())
     }
 
@@ -272,11 +282,11 @@ impl Inventory {
         let Some(repo) = self.names.repo(name) else {
             return Err(InventoryError::ManifestUnknown);
         };
-        if self.manifests.remove(&(repo.id, digest)).is_none() {
+        let Some(stored) = self.manifests.remove(&(repo.id, digest)) else {
             return Err(InventoryError::ManifestUnknown);
-        }
-        if !repo.has_sessions {
-            self.names.remove_part(name);
+        };
+        if stored.offset == repo.offset {
+            self.names.unmake(name);
         }
         Ok(())
     }
@@ -300,11 +310,11 @@ fn manifests_live(manifests: &BTreeMap<(usize, Digest), Stored>) -> u64 {
     live
 }
 
-/// Returns the bytes of the records of repositories that exist without content.
+/// Returns the bytes of the records that create repositories whose first record is not kept.
 fn repos_live(names: &Names) -> u64 {
     let mut live: u64 = 0;
     for (name, repo) in names.repos().iter() {
-        if !repo.is_made() {
+        if !repo.is_made {
             live = live
                 .saturating_add(record_len(name.len(), 0, EMPTY_INDEX.len()))
                 .saturating_add(record_len(name.len(), EMPTY_INDEX_DIGEST.len(), 0));

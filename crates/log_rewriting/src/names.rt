@@ -9,7 +9,7 @@ use std::alloc::Global;
 use std::collections::BTreeMap;
 
 /// What an inventory knows of a tenant.
-#[derive(Clone, Copy, Debug)]
+#[derive(Clone, Copy, Debug, PartialEq, Eq)]
 pub struct Tenant {
     /// Number of the tenant, in the order of appearance.
     pub id: usize,
@@ -26,19 +26,10 @@ pub struct Repo {
     pub tenant: usize,
     /// Offset of the record that created the repository.
     pub offset: u64,
-    /// Whether a session was opened in it.
-    pub has_sessions: bool,
-    /// The number of its links and manifests, as long as no session was opened in it.
-    pub parts: u64,
+    /// Whether that record opened a session, or made a link or a manifest that still exists.
+    pub is_made: bool,
     /// The bytes of two records: a session of the repository is opened, and it is abandoned.
     pub pair_len: u64,
-}
-
-impl Repo {
-    /// Returns whether a record creates the repository that is kept for another reason.
-    pub fn is_made(&self) -> bool {
-        self.has_sessions || self.parts > 0
-    }
 }
 
 /// The repositories and tenants of a log.
@@ -66,15 +57,14 @@ impl Names {
         }
     }
 
-    /// Returns the names of repositories and tenants.
-    pub fn into_parts(self) -> (BTreeMap<Vec<u8>, Repo>, BTreeMap<Vec<u8>, Tenant>) {
-        let Names { repos, tenants } = self;
-        (repos, tenants)
-    }
-
     /// Returns the repositories with their names.
     pub fn repos(&self) -> &BTreeMap<Vec<u8>, Repo> {
         &self.repos
+    }
+
+    /// Returns the tenants with their names.
+    pub fn tenants(&self) -> &BTreeMap<Vec<u8>, Tenant> {
+        &self.tenants
     }
 
     /// Returns a repository, or `None` if it does not exist.
@@ -108,8 +98,7 @@ impl Names {
             id: self.repos.len(),
             tenant: self.tenant_appears(alloc, tenant)?,
             offset,
-            has_sessions: false,
-            parts: 0,
+            is_made: true,
             pair_len: record_len(name.len(), 0, 0).saturating_add(record_len(tenant.len(), 0, 0)),
         };
         self.repos.insert(Vec::from_slice(alloc, name)?, repo)?;
@@ -133,9 +122,6 @@ impl Names {
     ///
     /// - `NumberInvalid`: the number is another one.
     pub fn open_session(&mut self, name: &[u8], number: u64) -> Result<(), InventoryError> {
-        if let Some(repo) = self.repos.get_mut(name) {
-            repo.has_sessions = true;
-        }
         let Some(tenant) = self.tenants.get_mut(tenant_text(name)) else {
             return Err(InventoryError::NumberInvalid);
         };
@@ -149,17 +135,25 @@ impl Names {
         Ok(())
     }
 
-    /// Counts a link or a manifest that was added to a repository.
-    pub fn add_part(&mut self, name: &[u8]) {
+    /// Notes that the link or the manifest is gone whose record created a repository.
+    pub fn unmake(&mut self, name: &[u8]) {
         if let Some(repo) = self.repos.get_mut(name) {
-            repo.parts = repo.parts.saturating_add(1);
+            repo.is_made = false;
         }
     }
 
-    /// Counts a link or a manifest that was removed from a repository.
-    pub fn remove_part(&mut self, name: &[u8]) {
-        if let Some(repo) = self.repos.get_mut(name) {
-            repo.parts = repo.parts.saturating_sub(1);
+    /// Returns whether the repositories and the tenants are the same, in the same order of appearance, with the same numbers.
+    pub fn is_same(&self, other: &Names) -> bool {
+        self.tenants == other.tenants
+            && self.repos.len() == other.repos.len()
+            && self.repos.iter().all(|(name, repo)| other.has(name, repo))
+    }
+
+    /// Returns whether a repository of this name, number and tenant exists.
+    fn has(&self, name: &Vec<u8>, repo: &Repo) -> bool {
+        match self.repos.get(name) {
+            Some(found) => found.id == repo.id && found.tenant == repo.tenant,
+            None => false,
         }
     }
 }

@@ -12,6 +12,6 @@ pub enum Place {
         /// Number of the other repository.
         unlinked: Option<usize>,
     },
-    /// The repository of the record, which has no content.
+    /// The repository of the record, which it creates.
     Repo,
 }
