@@ -1,4 +1,9 @@
 //! The first pass: what of a log is still needed.
+ghost use Rattle.std.specs.Prelude.{◌≡◌, Err, false};
+ghost use Rattle.blob_digest.specs.Digests.{is_digest_text};
+ghost use Rattle.log_records.specs.Changes.{change_view};
+ghost use Rattle.log_rewriting.specs.Refused.{HasInvalidDigest, IsForeign};
+ghost use Rattle.log_rewriting.specs.declared.error.InventoryError.TheVariants.{DigestInvalid, KindUnexpected};
 
 use crate::blobs::{BlobKey, Blobs, Link, Session};
 use crate::empty_index::{EMPTY_INDEX, EMPTY_INDEX_DIGEST};
@@ -42,7 +47,9 @@ pub struct Inventory {
 }
 
 /// Parses the text of a digest.
-fn parse(text: &[u8]) -> Result<Digest, InventoryError> {
+fn parse(text: &[u8]) -> Result<Digest, InventoryError>
+    ensures { is_digest_text text.now ≡ false → result ≡ Err DigestInvalid }
+{
     match Digest::parse(text) {
         Ok(digest) => Ok(digest),
         Err(_) => Err(InventoryError::DigestInvalid),
@@ -79,7 +86,10 @@ impl Inventory {
     /// # Cost
     ///
     /// Some look-ups, each logarithmic. A manifest is hashed. Memory is allocated for what is new, and for nothing else.
-    pub fn note(&mut self, change: &Change<'_>, offset: u64) -> Result<(), InventoryError> {
+    pub fn note(&mut self, change: &Change<'_>, offset: u64) -> Result<(), InventoryError>
+        ensures kinds { IsForeign (change_view change.now) → result ≡ Err KindUnexpected }
+        ensures digests { HasInvalidDigest (change_view change.now) → result ≡ Err DigestInvalid }
+    {
         let len = change_len(change);
         self.total = self.total.saturating_add(len);
         match *change {
@@ -217,7 +227,9 @@ impl Inventory {
         digest: &[u8],
         offset: u64,
         len: u64,
-    ) -> Result<(), InventoryError> {
+    ) -> Result<(), InventoryError>
+        ensures { is_digest_text digest.now ≡ false → result ≡ Err DigestInvalid }
+    {
         let digest = parse(digest)?;
         let (tenant, mut session) = self.close_session(tenant, number)?;
         session.bytes = session.bytes.saturating_add(len);
@@ -239,7 +251,9 @@ impl Inventory {
         digest: &[u8],
         offset: u64,
         len: u64,
-    ) -> Result<(), InventoryError> {
+    ) -> Result<(), InventoryError>
+        ensures { is_digest_text digest.now ≡ false → result ≡ Err DigestInvalid }
+    {
         let digest = parse(digest)?;
         let repo = self.names.appear(self.alloc, name, offset)?;
         let link = Link { offset, len };
@@ -247,7 +261,9 @@ impl Inventory {
     }
 
     /// Notes the end of a link.
-    fn note_unlinked(&mut self, name: &[u8], digest: &[u8]) -> Result<(), InventoryError> {
+    fn note_unlinked(&mut self, name: &[u8], digest: &[u8]) -> Result<(), InventoryError>
+        ensures { is_digest_text digest.now ≡ false → result ≡ Err DigestInvalid }
+    {
         let digest = parse(digest)?;
         let Some(repo) = self.names.repo(name) else {
             return Err(InventoryError::BlobUnknown);
@@ -277,7 +293,9 @@ impl Inventory {
     }
 
     /// Notes the end of a manifest.
-    fn note_deleted(&mut self, name: &[u8], digest: &[u8]) -> Result<(), InventoryError> {
+    fn note_deleted(&mut self, name: &[u8], digest: &[u8]) -> Result<(), InventoryError>
+        ensures { is_digest_text digest.now ≡ false → result ≡ Err DigestInvalid }
+    {
         let digest = parse(digest)?;
         let Some(repo) = self.names.repo(name) else {
             return Err(InventoryError::ManifestUnknown);
