@@ -1,0 +1,293 @@
+"""What the clients of crash_tests do, and what they must find after a crash. Each client has a tenant of its own, so that what it finds
+depends on nobody else. The rules are those of docs/SEMANTICS.md."""
+import collections
+import hashlib
+import re
+import struct
+import sys
+
+sys.dont_write_bytecode = True
+import frames
+from data_folder import Ended
+from frames import ABANDON, APPEND, BLOB_UNKNOWN, CLOSE, DELETE, DELETE_MANIFEST, DIGEST_INVALID, FETCH, GET_MANIFEST, GIVE_BACK, LEASE
+from frames import MANIFEST_UNKNOWN, MOUNT, PUT_MANIFEST, READ, REFERENCED, START, STATUS, SWEEP, UPLOAD_UNKNOWN, USAGE, reply, request
+from frames import sha256
+
+MIB = 1 << 20
+QUOTA = 1 << 40
+REPOSITORIES = ("one", "two")
+
+# The number of links, of manifests and of sessions that a client keeps at most, and of removed ones that it still looks for.
+MOST_LINKS, MOST_MANIFESTS, MOST_SESSIONS, MOST_GONE = 30, 6, 8, 20
+
+# The kinds of a step: it changes nothing, it adds a chunk, or it changes something else.
+READS, CHUNK, CHANGE = "reads", "chunk", "change"
+
+Step = collections.namedtuple("Step", "request reply after kind")
+
+
+class Fault(Exception):
+    """The program did not do what it must."""
+
+
+def digests_in(manifest):
+    """Returns the digests in a manifest's text."""
+    return re.findall(rb'sha(?:256|512):[0-9a-f]+', manifest)
+
+
+class State:
+    """What a client may find in its tenant."""
+
+    def __init__(self, tenant, links=(), manifests=(), sessions=(), following=1):
+        self.tenant = tenant
+        self.links = dict(links)  # the content of each repository and digest
+        self.manifests = dict(manifests)  # the same
+        self.sessions = dict(sessions)  # the repository and the bytes of each number
+        self.following = following  # the number of the next session
+
+    def copy(self):
+        return State(self.tenant, self.links, self.manifests, self.sessions, self.following)
+
+    def use(self):
+        """Returns the tenant's use."""
+        blobs = {digest: data for (_, digest), data in self.links.items()}
+        return sum(map(len, blobs.values())) + sum(len(data) for _, data in self.sessions.values())
+
+    def starts(self, repository, kind=START, digest="", source=""):
+        """A session is opened, by a start or by a mount."""
+        after = self.copy()
+        after.sessions[self.following] = repository, b""
+        after.following += 1
+        return Step(request(kind, repository, digest, source), reply(first=self.following), after, CHANGE)
+
+    def appends(self, number, body):
+        repository, data = self.sessions[number]
+        after = self.copy()
+        after.sessions[number] = repository, data + body
+        sent = request(APPEND, repository, number=number, span=(len(data), len(data) + len(body) - 1), body=body)
+        return Step(sent, reply(first=len(data + body)), after, CHUNK)
+
+    def closes(self, number, body, algorithm="sha256"):
+        repository, data = self.sessions[number]
+        digest = f"{algorithm}:{hashlib.new(algorithm, data + body).hexdigest()}"
+        after = self.copy()
+        del after.sessions[number]
+        after.links[repository, digest] = data + body
+        return Step(request(CLOSE, repository, digest, number=number, body=body), reply(first=len(data + body)), after, CHANGE)
+
+    def closes_wrongly(self, number):
+        sent = request(CLOSE, self.sessions[number][0], sha256(b"something else"), number=number, body=b"last")
+        return Step(sent, reply(DIGEST_INVALID), self, READS)
+
+    def abandons(self, number):
+        after = self.copy()
+        repository, _ = after.sessions.pop(number)
+        return Step(request(ABANDON, repository, number=number), reply(), after, CHANGE)
+
+    def mounts(self, repository, digest, source):
+        sources = [source] if source else [f"{self.tenant}/{name}" for name in REPOSITORIES]
+        data = next((self.links[name, digest] for name in sources if (name, digest) in self.links), None)
+        if data is None:
+            return self.starts(repository, MOUNT, digest, source)
+        after = self.copy()
+        after.links[repository, digest] = data
+        kind = READS if (repository, digest) in self.links else CHANGE
+        return Step(request(MOUNT, repository, digest, source), reply(), after, kind)
+
+    def deletes(self, repository, digest):
+        sent = request(DELETE, repository, digest)
+        holders = [
+            name for (place, name), data in self.manifests.items() if place == repository and digest.encode() in digests_in(data)
+        ]
+        if holders:
+            return Step(sent, reply(REFERENCED, digest=min(holders)), self, READS)
+        after = self.copy()
+        del after.links[repository, digest]
+        return Step(sent, reply(), after, CHANGE)
+
+    def puts_manifest(self, repository, digests, note):
+        config, *layers = (f'{{"digest":"{digest}"}}' for digest in digests)
+        text = f'{{"schemaVersion":2,"config":{config},"layers":[{",".join(layers)}],"annotations":{{"note":"{note}"}}}}'.encode()
+        after = self.copy()
+        after.manifests[repository, sha256(text)] = text
+        return Step(request(PUT_MANIFEST, repository, body=text), reply(digest=sha256(text)), after, CHANGE)
+
+    def deletes_manifest(self, repository, digest):
+        after = self.copy()
+        del after.manifests[repository, digest]
+        return Step(request(DELETE_MANIFEST, repository, digest), reply(), after, CHANGE)
+
+    def fetches(self, repository, digest):
+        """Returns the steps that read a blob in pieces of at most a MiB. If there is no such blob, it is one piece."""
+        data = self.links.get((repository, digest))
+        if data is None:
+            return [Step(request(FETCH, repository, digest, span=(0, MIB - 1)), reply(BLOB_UNKNOWN), self, READS)]
+        return [
+            Step(
+                request(FETCH, repository, digest, span=(place, place + MIB - 1)),
+                reply(first=len(data), body=data[place:place + MIB]), self, READS,
+            )
+            for place in range(0, max(len(data), 1), MIB)
+        ]
+
+    def names(self):
+        """Returns the names of what is there."""
+        sessions = {("session", repository, number) for number, (repository, _) in self.sessions.items()}
+        return {("link", *key) for key in self.links} | {("manifest", *key) for key in self.manifests} | sessions
+
+    def finds(self, name):
+        """Returns the steps that read what has a name."""
+        kind, repository, key = name
+        if kind == "link":
+            return self.fetches(repository, key)
+        if kind == "manifest":
+            data = self.manifests.get((repository, key))
+            found = reply(MANIFEST_UNKNOWN) if data is None else reply(body=data)
+            return [Step(request(GET_MANIFEST, repository, key), found, self, READS)]
+        place, data = self.sessions.get(key, (None, b""))
+        found = reply(UPLOAD_UNKNOWN) if place is None else reply(first=len(data))
+        return [Step(request(STATUS, repository, number=key), found, self, READS)]
+
+    def counts_use(self):
+        return Step(request(USAGE, f"{self.tenant}/one"), reply(first=self.use(), second=QUOTA), self, READS)
+
+    def observed(self, names):
+        """Returns all steps that read what has these names, and the use."""
+        return [self.counts_use()] + [step for name in sorted(names, key=str) for step in self.finds(name)]
+
+
+def some_bytes(rng):
+    """Returns bytes of a random length: mostly few, sometimes more than a MiB, sometimes none."""
+    draw = rng.random()
+    most = 2 * MIB if draw < 0.004 else 100_000 if draw < 0.04 else 2000
+    return rng.randbytes(rng.randint(0 if draw > 0.95 else 1, most))
+
+
+class Client:
+    """Makes random calls in its tenant, and knows what may be there after a crash: one of `possible`, which are the state after the
+    last change that was promised, and those after each later call."""
+
+    def __init__(self, tenant, rng):
+        self.tenant, self.rng = tenant, rng
+        self.state = State(tenant)
+        self.possible = [self.state]
+        self.gone = collections.deque(maxlen=MOST_GONE)
+        self.counts = collections.Counter()
+        self.fault = None
+
+    def promises_all(self):
+        """Notes that all calls until now are durable."""
+        self.possible = [self.state]
+
+    def plays(self, connection, step, policy):
+        """Makes the call of a step, and compares its reply."""
+        if step.kind != READS:
+            self.possible.append(step.after)
+            self.gone.extend(self.state.names() - step.after.names())
+        found = connection.asks(step.request)
+        if found != step.reply:
+            raise Fault(f"{self.tenant}: the reply to {step.request[:80]!r} is {found[:80]!r}, and not {step.reply[:80]!r}")
+        self.state = step.after
+        if step.kind == CHANGE or policy == "each":
+            self.promises_all()
+
+    def repository(self):
+        return f"{self.tenant}/{self.rng.choice(REPOSITORIES)}"
+
+    def chosen(self):
+        """Returns the name and the step of a random call that is possible now."""
+        state, rng = self.state, self.rng
+        links, manifests, sessions = sorted(state.links), sorted(state.manifests), sorted(state.sessions)
+        draw = rng.random()
+        if sessions and (draw < 0.45 or len(sessions) >= MOST_SESSIONS):
+            number = rng.choice(sessions)
+            kind = rng.choices(["append", "close", "close sha512", "abandon", "wrong close"], [50, 35, 5, 7, 3])[0]
+            make = {
+                "append": lambda: state.appends(number, some_bytes(rng) or b"a"),
+                "close": lambda: state.closes(number, some_bytes(rng)),
+                "close sha512": lambda: state.closes(number, some_bytes(rng), "sha512"),
+                "abandon": lambda: state.abandons(number),
+                "wrong close": lambda: state.closes_wrongly(number),
+            }
+            return kind, make[kind]()
+        if len(links) > MOST_LINKS or links and draw < 0.55:
+            return "delete", state.deletes(*rng.choice(links))
+        if len(manifests) > MOST_MANIFESTS or manifests and draw < 0.59:
+            return "delete of a manifest", state.deletes_manifest(*rng.choice(manifests))
+        if links and draw < 0.66:
+            repository = rng.choice(links)[0]
+            digests = [digest for place, digest in links if place == repository]
+            return "manifest", state.puts_manifest(repository, rng.sample(digests, min(3, len(digests))), rng.random())
+        if links and draw < 0.75:
+            source, digest = rng.choice(links)
+            return "mount", state.mounts(self.repository(), digest, rng.choice([source, ""]))
+        if draw < 0.76:
+            return "mount of nothing", state.mounts(self.repository(), sha256(rng.randbytes(8)), "")
+        if links and draw < 0.84:
+            return "fetch", rng.choice(state.fetches(*rng.choice(links)))
+        return "start", state.starts(self.repository())
+
+    def leases(self, connection):
+        """Reads a part of a blob under a lease."""
+        (repository, digest), data = self.rng.choice(sorted(self.state.links.items()))
+        leased = connection.calls(LEASE, repository, digest)
+        place = self.rng.randint(0, len(data))
+        read = connection.calls(READ, digest=digest, number=leased.second, span=(place, place + 1000))
+        back = connection.calls(GIVE_BACK, number=leased.second)
+        if (leased.status, leased.first, read.body, back.status) != (0, len(data), data[place:place + 1001], 0):
+            raise Fault(f"{self.tenant}: a read of {digest} under a lease is wrong")
+
+    def works(self, connection, policy, calls=None):
+        """Makes calls until the connection ends, or this number of them. Keeps the first fault."""
+        try:
+            while calls is None or calls > 0:
+                draw = self.rng.random()
+                if draw < 0.02 and self.state.links:
+                    kind = "lease"
+                    self.leases(connection)
+                elif draw < 0.03:
+                    kind = "sweep"
+                    connection.calls(SWEEP)
+                else:
+                    kind, step = self.chosen()
+                    self.plays(connection, step, policy)
+                self.counts[kind] += 1
+                calls = None if calls is None else calls - 1
+        except Ended:
+            if calls is not None:
+                self.fault = f"{self.tenant}: the connection ends"
+        except (Fault, OSError) as error:
+            self.fault = str(error)
+
+    def looks(self, connection):
+        """Reads all that may be there, and finds out which of the possible states it is. Returns the number of comparisons."""
+        names = set(self.gone).union(*(state.names() for state in self.possible))
+        runs = [state.observed(names) for state in self.possible]
+        calls = list(dict.fromkeys(step.request for run in runs for step in run))
+        found = {sent: connection.asks(sent) for sent in calls}
+        for state, run in reversed(list(zip(self.possible, runs))):
+            if all(found[step.request] == step.reply for step in run):
+                self.state = state
+                self.promises_all()
+                self.numbers(connection)
+                return len(calls) + 1
+        raise Fault(f"{self.tenant}: {self.difference(found, runs[-1])}")
+
+    def difference(self, found, run):
+        """Describes how what was found differs from the last possible state."""
+        wrong = [step for step in run if found[step.request] != step.reply]
+        first = wrong[0] if wrong else run[0]
+        return (
+            f"{len(wrong)} of {len(run)} replies are those of none of {len(self.possible)} possible states, such as that to "
+            f"{first.request[:150]!r}: {found[first.request][:60]!r}, and not {first.reply[:60]!r}"
+        )
+
+    def numbers(self, connection):
+        """Opens a session, whose number must be the next one, and abandons it."""
+        self.plays(connection, self.state.starts(self.repository()), "closes")
+        self.plays(connection, self.state.abandons(self.state.following - 1), "closes")
+
+    def finishes(self, connection, count):
+        """Closes some of the sessions that an earlier run has left. Their bytes must be those that were sent."""
+        for number in sorted(self.state.sessions)[:count]:
+            self.plays(connection, self.state.closes(number, b"the last bytes"), "closes")

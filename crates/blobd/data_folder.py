@@ -1,0 +1,231 @@
+"""The folder of a `blobd --data`, for crash_tests and bench/durable.py: the bytes of its log by docs/LOG.md, the shim that watches the
+calls on it, and the program with its connections."""
+import collections
+import errno
+import os
+import pathlib
+import select
+import signal
+import struct
+import subprocess
+import sys
+import time
+
+sys.dont_write_bytecode = True
+import frames
+from frames import GREETING
+
+HERE = pathlib.Path(__file__).parent
+
+# The timeout for a start, for a reply, and for the end of the program, in seconds.
+PATIENCE = 60
+
+# Lengths in docs/LOG.md, in bytes: the header, and a frame without payload.
+HEADER, MARK = 32, 40
+
+FNV_PRIME = 1099511628211
+FNV_BASIS = 14695981039346656037
+WORD = (1 << 64) - 1
+
+
+class Ended(Exception):
+    """The connection or the program ended."""
+
+
+def log_sum(start, data):
+    """Returns the sum of docs/LOG.md over bytes, continued from another sum."""
+    found = start
+    whole = len(data) // 8 * 8
+    for (word,) in struct.iter_unpack("<Q", data[:whole]):
+        found = int.from_bytes(((found ^ word) * FNV_PRIME & WORD).to_bytes(8, "little"), "big")
+    for byte in data[whole:]:
+        found = (found ^ byte) * FNV_PRIME & WORD
+    return found
+
+
+def header(number, version=1):
+    """Returns the header of a log with this id."""
+    front = struct.pack("<8sQQ", b"bloblog\0", version, number)
+    return front + struct.pack("<Q", log_sum(FNV_BASIS, front))
+
+
+Frame = collections.namedtuple("Frame", "place synced length")
+
+
+class LogReading:
+    """What docs/LOG.md, "Reading", says of the bytes of a log: its frames, the place where they end, and whether the log has ended, is
+    torn, or is damaged there."""
+
+    def __init__(self, data):
+        self.frames = []
+        self.place = HEADER
+        if len(data) < HEADER or header(*struct.unpack_from("<Q", data, 16)) != data[:HEADER]:
+            self.place, self.ending = 0, "no log"
+            return
+        self.number, chained = struct.unpack_from("<QQ", data, 16)
+        while frame := self.head_at(data, self.place):
+            end = self.place + MARK + frame.length
+            chained = log_sum(chained, data[self.place:end - 8])
+            if data[end - 8:end] != struct.pack("<Q", chained):
+                break
+            self.frames.append(frame)
+            self.place = end
+        self.ending = self.ending_of(data)
+
+    def head_at(self, data, place):
+        """Returns the frame whose head is at a place, if there is one."""
+        head = data[place:place + 32]
+        if len(head) < 32 or struct.unpack_from("<Q", head)[0] != place:
+            return None
+        if struct.pack("<Q", log_sum(self.number, head[:24])) != head[24:]:
+            return None
+        return Frame(*struct.unpack_from("<QQQ", head))
+
+    def ending_of(self, data):
+        """Decides what follows from the bytes after the last frame."""
+        if self.place == len(data):
+            return "ended"
+        later = (self.head_at(data, place) for place in range(self.place, len(data)))
+        return "damaged" if any(head and head.synced > self.place for head in later) else "torn"
+
+    def payloads(self, since=0):
+        """Returns the number of bytes of records in the frames after a place."""
+        return sum(frame.length for frame in self.frames if frame.place >= since)
+
+
+def build_shim(room):
+    """Compiles crash_shim.c. Returns the path of the library."""
+    library = room / "crash_shim.so"
+    subprocess.run(["cc", "-O1", "-shared", "-fPIC", "-o", library, HERE / "crash_shim.c", "-ldl"], check=True)
+    return library
+
+
+class Trace:
+    """What the shim has written about the calls on a log."""
+
+    def __init__(self, path):
+        self.lines = [line.split() for line in path.read_text().splitlines()] if path.exists() else []
+
+    def syncs(self):
+        """Returns the lengths of the log at its syncs."""
+        return [int(line[2]) for line in self.lines if line[0] == "sync" and line[1] == "log"]
+
+
+Reply = collections.namedtuple("Reply", "status first second digest body")
+
+
+class Connection:
+    """The client's ends of a connection."""
+
+    def __init__(self, to, back):
+        self.to, self.back = to, back
+
+    def writes(self, data):
+        """Writes all bytes."""
+        try:
+            while data:
+                data = data[os.write(self.to, data):]
+        except BrokenPipeError:
+            raise Ended from None
+
+    def reads(self, count):
+        """Reads `count` bytes."""
+        data = b""
+        while len(data) < count:
+            if not select.select([self.back], [], [], PATIENCE)[0]:
+                raise TimeoutError(f"{count - len(data)} bytes of a reply do not arrive")
+            more = os.read(self.back, count - len(data))
+            if not more:
+                raise Ended
+            data += more
+        return data
+
+    def greets(self):
+        """Sends the greeting, and reads the server's."""
+        self.writes(GREETING)
+        return self.reads(len(GREETING)) == GREETING
+
+    def asks(self, sent):
+        """Sends the bytes of a request, and returns those of the reply."""
+        self.writes(sent)
+        head = self.reads(32)
+        _, text, _, _, body = struct.unpack("<IIQQQ", head)
+        return head + self.reads(text + body)
+
+    def calls(self, command, *fields, **more):
+        """Makes a request, and returns the fields of the reply."""
+        found = self.asks(frames.request(command, *fields, **more))
+        status, text, first, second, _ = struct.unpack_from("<IIQQQ", found)
+        return Reply(status, first, second, found[32:32 + text].decode(), found[32 + text:])
+
+    def closes(self):
+        """Closes both ends."""
+        os.close(self.to)
+        os.close(self.back)
+
+
+class Blobd:
+    """A running program, with connections over named pipes."""
+
+    def __init__(self, command, room, connections=1, shim=None, settings=None):
+        self.pipes = [[room / f"{number}.{end}" for end in ("in", "out")] for number in range(connections)]
+        for path in (path for pair in self.pipes for path in pair):
+            path.unlink(missing_ok=True)
+            os.mkfifo(path)
+        environment = {**os.environ, **(settings or {}), **({"LD_PRELOAD": str(shim)} if shim else {})}
+        words = [*command, "--", *(path for pair in self.pipes for path in pair)]
+        self.process = subprocess.Popen(words, stdin=subprocess.DEVNULL, stderr=subprocess.PIPE, env=environment)
+        self.connections = []
+
+    def opens(self):
+        """Opens the connections. Fails with `Ended` if the program ends before."""
+        for requests, replies in self.pipes:
+            back = os.open(replies, os.O_RDONLY | os.O_NONBLOCK)
+            try:
+                to = self.opened(requests)
+            except BaseException:
+                os.close(back)
+                raise
+            os.set_blocking(to, True)
+            os.set_blocking(back, True)
+            self.connections.append(Connection(to, back))
+        for connection in self.connections:
+            if not connection.greets():
+                raise Ended
+        return self.connections
+
+    def opened(self, path):
+        """Opens the writing end of a pipe as soon as the program has opened the reading end."""
+        end = time.monotonic() + PATIENCE
+        while time.monotonic() < end:
+            try:
+                return os.open(path, os.O_WRONLY | os.O_NONBLOCK)
+            except OSError as error:
+                if error.errno != errno.ENXIO:
+                    raise
+            if self.process.poll() is not None:
+                raise Ended
+            time.sleep(0.001)
+        raise TimeoutError(f"{path.name} is not opened")
+
+    def peak(self):
+        """Returns the peak of the program's memory, in KiB."""
+        lines = pathlib.Path(f"/proc/{self.process.pid}/status").read_text().splitlines()
+        return next(int(line.split()[1]) for line in lines if line.startswith("VmHWM"))
+
+    def kills(self):
+        """Kills the program, and waits for its end."""
+        self.process.send_signal(signal.SIGKILL)
+        return self.ends()
+
+    def ends(self):
+        """Closes the connections. Returns the program's status and standard error."""
+        while self.connections:
+            self.connections.pop().closes()
+        try:
+            _, text = self.process.communicate(timeout=PATIENCE)
+        except subprocess.TimeoutExpired:
+            self.process.kill()
+            self.process.communicate()
+            raise TimeoutError("the program does not end") from None
+        return self.process.returncode, text.decode(errors="replace")
