@@ -18,7 +18,7 @@ from frames import GREETING
 HERE = pathlib.Path(__file__).parent
 
 # The timeout for a start, for a reply, and for the end of the program, in seconds.
-PATIENCE = 60
+PATIENCE = 30
 
 # Lengths in docs/LOG.md, in bytes: the header, and a frame without payload.
 HEADER, MARK = 32, 40
@@ -93,6 +93,18 @@ class LogReading:
         return sum(frame.length for frame in self.frames if frame.place >= since)
 
 
+def stated_syncs(data):
+    """Returns the places up to which the frames of a log state that it was synced. Looks at the heads alone, which is fast."""
+    found, place = [], HEADER
+    while place + 32 <= len(data):
+        stated, synced, length = struct.unpack_from("<QQQ", data, place)
+        if stated != place or synced > place:
+            break
+        found.append(synced)
+        place += MARK + length
+    return found
+
+
 def build_shim(room):
     """Compiles crash_shim.c. Returns the path of the library."""
     library = room / "crash_shim.so"
@@ -107,8 +119,8 @@ class Trace:
         self.lines = [line.split() for line in path.read_text().splitlines()] if path.exists() else []
 
     def syncs(self):
-        """Returns the lengths of the log at its syncs."""
-        return [int(line[2]) for line in self.lines if line[0] == "sync" and line[1] == "log"]
+        """Returns the lengths of the log at its syncs, also while it was being made."""
+        return [int(line[2]) for line in self.lines if line[0] == "sync" and line[1] != "."]
 
 
 Reply = collections.namedtuple("Reply", "status first second digest body")
