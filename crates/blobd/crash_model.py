@@ -172,24 +172,34 @@ class Client:
         self.state = State(tenant)
         self.possible = [self.state]
         self.gone = collections.deque(maxlen=MOST_GONE)
-        self.counts = collections.Counter()
+        self.kinds = collections.Counter()
+        self.made = 0
         self.fault = None
 
     def promises_all(self):
         """Notes that all calls until now are durable."""
         self.possible = [self.state]
 
-    def plays(self, connection, step, policy):
-        """Makes the call of a step, and compares its reply."""
+    def sends(self, connection, step):
+        """Sends the request of a step."""
         if step.kind != READS:
-            self.possible.append(step.after)
             self.gone.extend(self.state.names() - step.after.names())
-        found = connection.asks(step.request)
+            self.state = step.after
+            self.possible.append(step.after)
+        connection.writes(step.request)
+
+    def receives(self, connection, step, promise):
+        """Receives the reply of a step, and compares it. `promise` is the policy under which it promises that the step is durable."""
+        found = connection.hears()
         if found != step.reply:
             raise Fault(f"{self.tenant}: the reply to {step.request[:80]!r} is {found[:80]!r}, and not {step.reply[:80]!r}")
-        self.state = step.after
-        if step.kind == CHANGE or policy == "each":
-            self.promises_all()
+        if step.kind == CHANGE or step.kind == CHUNK and promise == "each":
+            del self.possible[:self.possible.index(step.after)]
+
+    def plays(self, connection, step, promise="closes"):
+        """Makes the call of a step."""
+        self.sends(connection, step)
+        self.receives(connection, step, promise)
 
     def repository(self):
         return f"{self.tenant}/{self.rng.choice(REPOSITORIES)}"
@@ -223,8 +233,6 @@ class Client:
             return "mount", state.mounts(self.repository(), digest, rng.choice([source, ""]))
         if draw < 0.76:
             return "mount of nothing", state.mounts(self.repository(), sha256(rng.randbytes(8)), "")
-        if links and draw < 0.84:
-            return "fetch", rng.choice(state.fetches(*rng.choice(links)))
         return "start", state.starts(self.repository())
 
     def leases(self, connection):
@@ -237,22 +245,34 @@ class Client:
         if (leased.status, leased.first, read.body, back.status) != (0, len(data), data[place:place + 1001], 0):
             raise Fault(f"{self.tenant}: a read of {digest} under a lease is wrong")
 
-    def works(self, connection, policy, calls=None):
-        """Makes calls until the connection ends, or this number of them. Keeps the first fault."""
+    def some_calls(self, connection, promise):
+        """Makes a call, or sends the requests of some calls before the first reply. Returns their kinds."""
+        draw = self.rng.random()
+        if draw < 0.02 and self.state.links:
+            self.leases(connection)
+            return ["lease"]
+        if draw < 0.03:
+            connection.calls(SWEEP)
+            return ["sweep"]
+        if draw < 0.1 and self.state.links:
+            self.plays(connection, self.rng.choice(self.state.fetches(*self.rng.choice(sorted(self.state.links)))))
+            return ["fetch"]
+        sent = []
+        for _ in range(self.rng.choice([1, 1, 1, 2, 5])):
+            sent.append(self.chosen())
+            self.sends(connection, sent[-1][1])
+        for _, step in sent:
+            self.receives(connection, step, promise)
+        return [kind for kind, _ in sent]
+
+    def works(self, connection, promise, calls=None):
+        """Makes calls until the connection ends, or this number of them at least. Keeps the first fault."""
+        last = None if calls is None else self.made + calls
         try:
-            while calls is None or calls > 0:
-                draw = self.rng.random()
-                if draw < 0.02 and self.state.links:
-                    kind = "lease"
-                    self.leases(connection)
-                elif draw < 0.03:
-                    kind = "sweep"
-                    connection.calls(SWEEP)
-                else:
-                    kind, step = self.chosen()
-                    self.plays(connection, step, policy)
-                self.counts[kind] += 1
-                calls = None if calls is None else calls - 1
+            while last is None or self.made < last:
+                kinds = self.some_calls(connection, promise)
+                self.kinds.update(kinds)
+                self.made += len(kinds)
         except Ended:
             if calls is not None:
                 self.fault = f"{self.tenant}: the connection ends"
@@ -284,10 +304,10 @@ class Client:
 
     def numbers(self, connection):
         """Opens a session, whose number must be the next one, and abandons it."""
-        self.plays(connection, self.state.starts(self.repository()), "closes")
-        self.plays(connection, self.state.abandons(self.state.following - 1), "closes")
+        self.plays(connection, self.state.starts(self.repository()))
+        self.plays(connection, self.state.abandons(self.state.following - 1))
 
     def finishes(self, connection, count):
         """Closes some of the sessions that an earlier run has left. Their bytes must be those that were sent."""
         for number in sorted(self.state.sessions)[:count]:
-            self.plays(connection, self.state.closes(number, b"the last bytes"), "closes")
+            self.plays(connection, self.state.closes(number, b"the last bytes"))

@@ -157,12 +157,16 @@ class Connection:
         self.writes(GREETING)
         return self.reads(len(GREETING)) == GREETING
 
-    def asks(self, sent):
-        """Sends the bytes of a request, and returns those of the reply."""
-        self.writes(sent)
+    def hears(self):
+        """Reads the bytes of a reply."""
         head = self.reads(32)
         _, text, _, _, body = struct.unpack("<IIQQQ", head)
         return head + self.reads(text + body)
+
+    def asks(self, sent):
+        """Sends the bytes of a request, and returns those of the reply."""
+        self.writes(sent)
+        return self.hears()
 
     def calls(self, command, *fields, **more):
         """Makes a request, and returns the fields of the reply."""
