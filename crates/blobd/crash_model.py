@@ -279,7 +279,7 @@ class Client:
         except (Fault, OSError) as error:
             self.fault = str(error)
 
-    def looks(self, connection):
+    def finds(self, connection):
         """Reads all that may be there, and finds out which of the possible states it is. Returns the number of comparisons."""
         names = set(self.gone).union(*(state.names() for state in self.possible))
         runs = [state.observed(names) for state in self.possible]
@@ -289,9 +289,15 @@ class Client:
             if all(found[step.request] == step.reply for step in run):
                 self.state = state
                 self.promises_all()
-                self.numbers(connection)
-                return len(calls) + 1
+                return len(calls)
         raise Fault(f"{self.tenant}: {self.difference(found, runs[-1])}")
+
+    def looks(self, connection):
+        """Does the same, and opens and abandons a session, whose number must be the next one."""
+        count = self.finds(connection)
+        self.plays(connection, self.state.starts(self.repository()))
+        self.plays(connection, self.state.abandons(self.state.following - 1))
+        return count + 2
 
     def difference(self, found, run):
         """Describes how what was found differs from the last possible state."""
@@ -301,11 +307,6 @@ class Client:
             f"{len(wrong)} of {len(run)} replies are those of none of {len(self.possible)} possible states, such as that to "
             f"{first.request[:150]!r}: {found[first.request][:60]!r}, and not {first.reply[:60]!r}"
         )
-
-    def numbers(self, connection):
-        """Opens a session, whose number must be the next one, and abandons it."""
-        self.plays(connection, self.state.starts(self.repository()))
-        self.plays(connection, self.state.abandons(self.state.following - 1))
 
     def finishes(self, connection, count):
         """Closes some of the sessions that an earlier run has left. Their bytes must be those that were sent."""

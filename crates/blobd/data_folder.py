@@ -116,11 +116,23 @@ class Trace:
     """What the shim has written about the calls on a log."""
 
     def __init__(self, path):
-        self.lines = [line.split() for line in path.read_text().splitlines()] if path.exists() else []
+        lines = [line.split() for line in path.read_text().splitlines()] if path.exists() else []
+        self.calls = [(line[0], line[1]) for line in lines]
+        self.lengths = [int(line[2]) if line[0] == "sync" else 0 for line in lines]
+
+    def renamed(self):
+        """Returns the place of the last call that gave a new log its name, or -1."""
+        return max((place for place, call in enumerate(self.calls) if call[0] == "rename"), default=-1)
 
     def syncs(self):
-        """Returns the lengths of the log at its syncs, also while it was being made."""
-        return [int(line[2]) for line in self.lines if line[0] == "sync" and line[1] != "."]
+        """Returns the lengths at its syncs of the file that has the log's name now."""
+        last = self.renamed()
+        named = [("sync", "log.new") if place < last else ("sync", "log") for place in range(len(self.calls))]
+        return [length for call, name, length in zip(self.calls, named, self.lengths) if call == name]
+
+    def is_name_sure(self):
+        """Returns whether the folder was synced after the last rename."""
+        return ("sync", ".") in self.calls[self.renamed():] or self.renamed() < 0
 
 
 Reply = collections.namedtuple("Reply", "status first second digest body")
