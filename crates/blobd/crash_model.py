@@ -312,3 +312,12 @@ class Client:
         """Closes some of the sessions that an earlier run has left. Their bytes must be those that were sent."""
         for number in sorted(self.state.sessions)[:count]:
             self.plays(connection, self.state.closes(number, b"the last bytes"))
+
+    def empties(self, connection):
+        """Removes everything from the tenant."""
+        while self.state.sessions:
+            self.plays(connection, self.state.abandons(min(self.state.sessions)))
+        while self.state.manifests:
+            self.plays(connection, self.state.deletes_manifest(*min(self.state.manifests)))
+        while self.state.links:
+            self.plays(connection, self.state.deletes(*min(self.state.links)))
