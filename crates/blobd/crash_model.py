@@ -279,24 +279,35 @@ class Client:
         except (Fault, OSError) as error:
             self.fault = str(error)
 
-    def finds(self, connection):
-        """Reads all that may be there, and finds out which of the possible states it is. Returns the number of comparisons."""
+    def fitting(self, connection):
+        """Reads all that may be there. Returns those of the possible states that it fits, and the number of comparisons."""
         names = set(self.gone).union(*(state.names() for state in self.possible))
         runs = [state.observed(names) for state in self.possible]
         calls = list(dict.fromkeys(step.request for run in runs for step in run))
         found = {sent: connection.asks(sent) for sent in calls}
-        for state, run in reversed(list(zip(self.possible, runs))):
-            if all(found[step.request] == step.reply for step in run):
-                self.state = state
-                self.promises_all()
-                return len(calls)
-        raise Fault(f"{self.tenant}: {self.difference(found, runs[-1])}")
+        fits = [state for state, run in zip(self.possible, runs) if all(found[step.request] == step.reply for step in run)]
+        if not fits:
+            raise Fault(f"{self.tenant}: {self.difference(found, runs[-1])}")
+        return fits, len(calls)
+
+    def finds(self, connection):
+        """Finds out which of the possible states is there. Returns the number of comparisons."""
+        fits, count = self.fitting(connection)
+        self.state = fits[-1]
+        self.promises_all()
+        return count
 
     def looks(self, connection):
         """Does the same, and opens and abandons a session, whose number must be the next one."""
-        count = self.finds(connection)
-        self.plays(connection, self.state.starts(self.repository()))
-        self.plays(connection, self.state.abandons(self.state.following - 1))
+        fits, count = self.fitting(connection)
+        repository = self.repository()
+        number = connection.calls(START, repository).first
+        states = [state for state in fits if state.following == number]
+        if not states:
+            raise Fault(f"{self.tenant}: a new session is {number}, and not {fits[-1].following}")
+        self.state = states[-1].starts(repository).after
+        self.promises_all()
+        self.plays(connection, self.state.abandons(number))
         return count + 2
 
     def difference(self, found, run):
