@@ -1,0 +1,240 @@
+#!/usr/bin/env python3
+"""Measures a blobd that keeps its store in a folder: small commands and uploads with each policy and without a log, starts from long
+logs, and a push of small layers next to Debian's docker-registry.
+
+A connection is a pair of named pipes, and has a tenant of its own. bench/durable/player.c sends requests on 1, 4 and 16 of them, each
+after the reply to the one before. The library of crates/blobd/crash_shim.c counts the syncs, and can make each last longer. The folder
+is in the temporary folder (TMPDIR), whose disk matters. The output has for each number of connections and policy: requests a
+second, requests a sync, and the median and the 99th percentile of the time of a request in milliseconds.
+
+The push is measured without HTTP for blobd, since registryd does not use the log yet, and over HTTP for docker-registry. So compare the
+order of magnitude only.
+
+    bench/durable.py [--program BLOBD] [--scale F] [MEASURE..]
+
+It needs a built blobd and cc, and docker-registry for the push. With --scale 0.1 each measure has a tenth of its requests."""
+import argparse
+import http.client
+import os
+import pathlib
+import random
+import shutil
+import subprocess
+import sys
+import tempfile
+import time
+
+TOP = pathlib.Path(__file__).resolve().parent.parent
+sys.dont_write_bytecode = True
+sys.path.insert(0, str(TOP / "crates/blobd"))
+import data_folder
+import registry
+from data_folder import Blobd, Trace
+from frames import ABANDON, APPEND, CLOSE, PUT_MANIFEST, START, request, sha256
+
+MIB = 1 << 20
+QUOTA = 1 << 40
+CONNECTIONS = (1, 4, 16)
+POLICIES = (None, "never", "closes", "each")
+MAX_BLOB = 1 << 30
+
+
+def small(tenant, count):
+    """Yields requests that start and abandon sessions."""
+    for number in range(1, count // 2 + 1):
+        yield request(START, f"{tenant}/one")
+        yield request(ABANDON, f"{tenant}/one", number=number)
+
+
+def blobs(tenant, count, size):
+    """Yields requests that upload blobs in chunks of at most a MiB, the last of them with the close."""
+    rng = random.Random(tenant)
+    for number in range(1, count + 1):
+        data = rng.randbytes(size)
+        yield request(START, f"{tenant}/one")
+        last = max(len(data) - 1, 0) // MIB * MIB
+        for place in range(0, last, MIB):
+            yield request(APPEND, f"{tenant}/one", number=number, body=data[place:place + MIB])
+        yield request(CLOSE, f"{tenant}/one", sha256(data), number=number, body=data[last:])
+
+
+class Bench:
+    """The program that is measured, the tools, and a folder for all files."""
+
+    def __init__(self, program, room, scale):
+        self.program, self.room, self.scale = program, room, scale
+        self.shim = data_folder.build_shim(room)
+        self.player = room / "player"
+        subprocess.run(["cc", "-O2", "-o", self.player, TOP / "bench/durable/player.c", "-lpthread"], check=True)
+
+    def scaled(self, count):
+        """Returns a number of requests, fewer if the measure is made shorter."""
+        return max(2, int(count * self.scale))
+
+    def folder(self):
+        """Returns an empty folder for data."""
+        folder = self.room / "data"
+        shutil.rmtree(folder, ignore_errors=True)
+        folder.mkdir()
+        return folder
+
+    def blobd(self, folder, policy, connections, pause=0):
+        """Starts a program."""
+        words = [self.program] + (["--data", folder, "--sync", policy] if policy else [])
+        words += ["65536", str(MAX_BLOB), *(f"t{number}={QUOTA}" for number in range(connections))]
+        trace = self.room / "trace"
+        trace.unlink(missing_ok=True)
+        return Blobd(words, self.room, connections, self.shim, {"CRASH_TRACE": str(trace), "CRASH_SYNC_MS": str(pause)})
+
+    def plays(self, folder, policy, requests, pause=0):
+        """Plays the requests of each connection on a new program. Returns the seconds, the number of requests, the milliseconds (median,
+        99th percentile, most), and the number of syncs."""
+        words = [self.player]
+        blobd = self.blobd(folder, policy, len(requests), pause)
+        for (to, back), calls in zip(blobd.pipes, requests):
+            file = to.with_suffix(".requests")
+            file.write_bytes(b"".join(calls))
+            words += [to, back, file]
+        found = subprocess.run(words, stdout=subprocess.PIPE, text=True, check=True).stdout.split()
+        status, text = blobd.ends()
+        if status:
+            sys.exit(f"bench/durable.py: the program ended with {status}: {text}")
+        seconds, count, *times = map(float, found)
+        return seconds, count, times, len(Trace(self.room / "trace").syncs())
+
+    def table(self, title, make, count, unsynced, pause=0):
+        """Prints a table: `make` makes the requests of a tenant, of which there are `count` in all, and `unsynced` times as many without
+        a sync."""
+        print(f"\n{title}\n{'connections':12}{'policy':>8}{'a second':>12}{'a sync':>9}{'median':>10}{'p99':>10}")
+        for connections in CONNECTIONS:
+            for policy in POLICIES:
+                each = self.scaled(count * (1 if policy in ("closes", "each") else unsynced)) // connections
+                calls = [list(make(f"t{number}", each)) for number in range(connections)]
+                seconds, made, (median, late, _), syncs = self.plays(self.folder(), policy, calls, pause)
+                a_sync = f"{made / syncs:.1f}" if syncs else ""
+                print(
+                    f"{connections:<12}{policy or 'no log':>8}{made / seconds:12,.0f}{a_sync:>9}{median:10.3f}{late:10.3f}",
+                    flush=True,
+                )
+
+    def restart(self, title, policy, requests):
+        """Prints how long a start from the log of these requests takes."""
+        folder = self.folder()
+        self.plays(folder, policy, [requests])
+        size = (folder / "log").stat().st_size
+        blobd = self.blobd(folder, "closes", 1)
+        start = time.monotonic()
+        blobd.opens()
+        took = time.monotonic() - start
+        usage = pathlib.Path(f"/proc/{blobd.process.pid}/stat").read_text().rsplit(")", 1)[1].split()
+        processor = (int(usage[11]) + int(usage[12])) / registry.TICKS
+        peak = blobd.peak() / 1024
+        blobd.ends()
+        print(f"{title}: {took:.2f} s, {processor:.2f} s of processor time, {peak:,.0f} MiB, from a log of {size / MIB:,.1f} MiB", flush=True)
+
+
+def small_commands(bench):
+    bench.table("Starts and abandons", small, 4000, 10)
+
+
+def small_commands_slowly(bench):
+    bench.table("Starts and abandons with a sync of 5 ms more", small, 2000, 10, 5)
+
+
+def small_blobs(bench):
+    bench.table("Uploads of 1 KiB (start and close)", lambda tenant, count: blobs(tenant, count // 2, 1024), 4000, 5)
+
+
+def large_blobs(bench):
+    bench.table(
+        "Uploads of 12.5 MiB in chunks of a MiB, 200 MiB in all",
+        lambda tenant, count: blobs(tenant, max(1, count), 25 * MIB // 2), 16, 1,
+    )
+
+
+def restarts(bench):
+    print("\nStarts")
+    count = bench.scaled(1024)
+    bench.restart(f"{count} blobs of a MiB", "never", list(blobs("t0", count, MIB)))
+    count = bench.scaled(60_000)
+    bench.restart(f"{count} small commands", "never", list(small("t0", count)))
+
+
+def push_to_blobd(bench, layers):
+    """Returns the seconds of a push of these layers and a manifest, over a connection."""
+    calls = []
+    for number, data in enumerate(layers, 1):
+        calls += [request(START, "t0/one"), request(CLOSE, "t0/one", sha256(data), number=number, body=data)]
+    calls.append(request(PUT_MANIFEST, "t0/one", body=manifest(layers)))
+    return bench.plays(bench.folder(), "closes", [calls])[0]
+
+
+def manifest(layers):
+    """Returns a manifest whose config is the first of these contents."""
+    described = [f'{{"mediaType":"application/octet-stream","digest":"{sha256(data)}","size":{len(data)}}}' for data in layers]
+    kind = "application/vnd.oci.image.manifest.v1+json"
+    return f'{{"schemaVersion":2,"mediaType":"{kind}","config":{described[0]},"layers":[{",".join(described[1:])}]}}'.encode()
+
+
+def asks(connection, method, path, body, wanted, **headers):
+    """Makes an HTTP request, and returns the location in its response."""
+    connection.request(method, path, body, headers)
+    response = connection.getresponse()
+    response.read()
+    if response.status != wanted:
+        sys.exit(f"bench/durable.py: {method} {path}: {response.status}")
+    return response.getheader("Location")
+
+
+def push_to_docker(bench, layers):
+    """Returns the seconds of the same push over HTTP to docker-registry, which keeps its files on the same disk."""
+    server = registry.Theirs(str(bench.folder()))
+    try:
+        connection = http.client.HTTPConnection(server.address, timeout=60)
+        start = time.monotonic()
+        for data in layers:
+            place = asks(connection, "POST", "/v2/t0/one/blobs/uploads/", b"", 202)
+            sent = {"Content-Type": "application/octet-stream"}
+            asks(connection, "PUT", f"{place}&digest={sha256(data)}", data, 201, **sent)
+        kind = {"Content-Type": "application/vnd.oci.image.manifest.v1+json"}
+        asks(connection, "PUT", "/v2/t0/one/manifests/latest", manifest(layers), 201, **kind)
+        return time.monotonic() - start
+    finally:
+        server.end()
+
+
+def push(bench):
+    rng = random.Random(1)
+    layers = [rng.randbytes(8192) for _ in range(bench.scaled(100))]
+    print(f"\nA push of {len(layers)} contents of 8 KiB by one client, synced before each reply")
+    ours = push_to_blobd(bench, layers)
+    print(f"blobd, over named pipes: {ours:.2f} s", flush=True)
+    if shutil.which("docker-registry"):
+        theirs = push_to_docker(bench, layers)
+        print(f"docker-registry, over HTTP: {theirs:.2f} s; ratio {ours / theirs:.2f}")
+
+
+MEASURES = {
+    "small": small_commands,
+    "slow": small_commands_slowly,
+    "blobs": small_blobs,
+    "large": large_blobs,
+    "restarts": restarts,
+    "push": push,
+}
+
+
+def main():
+    parser = argparse.ArgumentParser(description=__doc__, formatter_class=argparse.RawDescriptionHelpFormatter)
+    parser.add_argument("--program", default=TOP / "crates/blobd/out/blobd", metavar="BLOBD")
+    parser.add_argument("--scale", type=float, default=1.0, metavar="F")
+    parser.add_argument("measures", nargs="*", metavar="MEASURE", help="of " + ", ".join(MEASURES))
+    options = parser.parse_args()
+    with tempfile.TemporaryDirectory() as room:
+        bench = Bench(pathlib.Path(options.program).absolute(), pathlib.Path(room), options.scale)
+        for name in options.measures or MEASURES:
+            MEASURES[name](bench)
+
+
+if __name__ == "__main__":
+    main()
